@@ -1,2 +1,13 @@
+pub mod Acts
+pub mod Disk
+pub mod FaultyDisk
 pub mod Fields
+pub mod Fuse
+pub mod Fused
 pub mod Geometry
+pub mod Image
+pub mod Kept
+pub mod MemDisk
+pub mod MemStreams
+pub mod Moments
+pub mod Streams

@@ -1,0 +1,30 @@
+-- A disk in memory whose calls fail where a list says so.
+use Rattle.std.specs.Prelude.{ℕ, ◌+◌, List}
+use Rattle.mg_base.specs.Disk.{Meaning}
+use Rattle.mg_base.specs.MemDisk.{mem_meaning}
+use Rattle.mg_base.specs.declared.mem_disk.MemDisk.{MemDisk}
+use Rattle.mg_base.specs.declared.faulty_disk.FaultyDisk.{FaultyDisk}
+
+abbrev pub disk_of : FaultyDisk → MemDisk
+disk_of d = d.inner
+
+-- the numbers of the calls that fail
+abbrev pub bad_of : FaultyDisk → List ℕ
+bad_of d = d.bad.items
+
+-- the calls so far
+abbrev pub calls_of : FaultyDisk → ℕ
+calls_of d = d.calls
+
+-- It tells what the disk in memory tells; its faults are those of both.
+abbrev pub faulty_meaning : Meaning FaultyDisk
+faulty_meaning = record {
+  size = λ d. mem_meaning.size d.inner;
+  count = λ d. mem_meaning.count d.inner;
+  held = λ d. mem_meaning.held d.inner;
+  tells = λ d. mem_meaning.tells d.inner;
+  moment = λ d. mem_meaning.moment d.inner;
+  left = λ d t c. mem_meaning.left d.inner t c;
+  faults = λ d. mem_meaning.faults d.inner + d.failed;
+  asked = λ d. 0
+}

@@ -1,0 +1,103 @@
+//! A disk in memory whose calls fail where a test says so.
+
+use crate::{Disk, DiskFault, MemDisk, PageNo};
+
+/// A disk in memory of which the calls with the listed numbers fail. All kinds of calls are counted
+/// together, from 1; a call that fails leaves the disk as it was.
+#[derive(Drop)]
+pub struct FaultyDisk {
+    inner: MemDisk,
+    bad: Vec<u32>,
+    calls: u32,
+    failed: u64,
+}
+
+impl FaultyDisk {
+    ghost use Rattle.std.specs.Prelude.{◌≡◌, ◌↔◌, ◌⊎◌, ◌<◌, ◌≤◌, ◌^◌, ◌-◌, ◌+◌, IsErr, Contains, min, OnErr};
+    ghost use Rattle.mg_base.specs.Disk.{Rose};
+    ghost use Rattle.mg_base.specs.FaultyDisk.{disk_of, bad_of, calls_of};
+
+    /// The disk `inner`, of which the calls with these numbers fail.
+    pub fn new(inner: MemDisk, bad: Vec<u32>) -> FaultyDisk
+        ensures inner { disk_of result ≡ inner }
+        ensures bad { bad_of result ≡ bad.items }
+        ensures calls { calls_of result ≡ 0 }
+    {
+        FaultyDisk {
+            inner,
+            bad,
+            calls: 0,
+            failed: 0,
+        }
+    }
+
+    /// The number of calls so far. It stands still at its type's end.
+    pub fn calls(&self) -> u32
+        ensures { result ≡ calls_of self.now }
+    {
+        self.calls
+    }
+
+    /// The disk in memory.
+    pub fn into_inner(self) -> MemDisk
+        ensures { result ≡ disk_of self }
+    {
+        let FaultyDisk { inner, .. } = self;
+        inner
+    }
+
+    // Counts a call, and tells whether it goes on.
+    fn admit(&mut self) -> Result<(), DiskFault>
+        ensures inner { self.new.inner ≡ self.old.inner }
+        ensures bad { self.new.bad ≡ self.old.bad }
+        ensures calls { self.new.calls ≡ min (self.old.calls + 1) (2 ^ 32 - 1) }
+        ensures listed { IsErr result ↔ Contains (bad_of self.old) (min (self.old.calls + 1) (2 ^ 32 - 1)) }
+        ensures never_falls { self.old.failed ≤ self.new.failed }
+        ensures rose { OnErr result (Rose self.old.failed self.new.failed) }
+    {
+        self.calls = self.calls.saturating_add(1);
+        if self.bad.contains(&self.calls) {
+            self.failed = self.failed.saturating_add(1);
+            return Err(DiskFault::Failed);
+        }
+        Ok(())
+    }
+}
+
+impl Disk for FaultyDisk {
+    ghost use Rattle.mg_base.specs.FaultyDisk.{faulty_meaning};
+    ghost use Rattle.mg_base.specs.MemDisk.{mem_holds, mem_counts_now, mem_counted};
+
+    ghost meaning = { faulty_meaning };
+
+    ghost holds = { λ d told. mem_holds d.inner told };
+
+    ghost counts_now = { λ d t c told le now. mem_counts_now d.inner t c told le now };
+
+    ghost counted = { λ d image n is told. mem_counted d.inner image n is told };
+
+    fn page_size(&mut self) -> Result<u32, DiskFault> {
+        self.admit()?;
+        self.inner.page_size()
+    }
+
+    fn pages(&mut self) -> Result<u32, DiskFault> {
+        self.admit()?;
+        self.inner.pages()
+    }
+
+    fn read(&mut self, page: PageNo, into: &mut [u8]) -> Result<(), DiskFault> {
+        self.admit()?;
+        self.inner.read(page, into)
+    }
+
+    fn write(&mut self, page: PageNo, bytes: &[u8]) -> Result<(), DiskFault> {
+        self.admit()?;
+        self.inner.write(page, bytes)
+    }
+
+    fn settle(&mut self) -> Result<(), DiskFault> {
+        self.admit()?;
+        self.inner.settle()
+    }
+}

@@ -1,0 +1,89 @@
+//! A disk that lets a number of page writes through and fails each later one, as a machine does that
+//! stops between two page writes.
+
+ghost use Rattle.mg_base.specs.Fuse.{IsFuse};
+
+use crate::{Disk, DiskFault, PageNo};
+
+/// Another disk, of which a number of page writes pass.
+#[derive(Drop)]
+pub struct Fused<D> {
+    inner: D,
+    most: u32,
+    passed: u32,
+    blown: u64,
+    ghost fuse: { IsFuse most passed blown },
+}
+
+impl<D> Fused<D> {
+    ghost use Rattle.std.specs.Prelude.{◌≡◌};
+    ghost use Rattle.mg_base.specs.Fused.{inner_of, most_of, passed_of, blown_of};
+
+    /// The disk `inner`, of which `most` page writes pass.
+    pub fn new(inner: D, most: u32) -> Fused<D>
+        ensures inner { inner_of result ≡ inner }
+        ensures most { most_of result ≡ most }
+        ensures passed { passed_of result ≡ 0 }
+        ensures blown { blown_of result ≡ 0 }
+    {
+        Fused {
+            inner,
+            most,
+            passed: 0,
+            blown: 0,
+        }
+    }
+
+    /// The disk itself.
+    pub fn into_inner(self) -> D
+        ensures { result ≡ inner_of self }
+    {
+        let Fused { inner, .. } = self;
+        inner
+    }
+}
+
+impl<D: Disk> Disk for Fused<D> {
+    ghost use Rattle.std.specs.Prelude.{◌≡◌, ◌<◌, ◌+◌, Some, length, IsErr};
+    ghost use Rattle.mg_base.specs.Disk.{Writes};
+    ghost use Rattle.mg_base.specs.Fused.{fused_meaning, inner_of, most_of, passed_of, blown_of, Blows, Passes};
+
+    ghost meaning = { fused_meaning D.meaning };
+
+    ghost holds = { λ d told. D.holds d.inner told };
+
+    ghost counts_now = { λ d t c told le now. D.counts_now d.inner t c told le now };
+
+    ghost counted = { λ d image n is told. D.counted d.inner image n is told };
+
+    fn page_size(&mut self) -> Result<u32, DiskFault> {
+        self.inner.page_size()
+    }
+
+    fn pages(&mut self) -> Result<u32, DiskFault> {
+        self.inner.pages()
+    }
+
+    fn read(&mut self, page: PageNo, into: &mut [u8]) -> Result<(), DiskFault> {
+        self.inner.read(page, into)
+    }
+
+    /// Exactly the first page writes pass; each later one fails, and the disk stays as it is.
+    fn write(&mut self, page: PageNo, bytes: &[u8]) -> Result<(), DiskFault>
+        requires whole { D.meaning.size (inner_of self.old) ≡ Some (length bytes.now) }
+        ensures writes { Writes (fused_meaning D.meaning) self.old self.new page.0 bytes.now result }
+        ensures passes { passed_of self.old < most_of self.old → Passes self.old self.new }
+        ensures blows { passed_of self.old ≡ most_of self.old → IsErr result × Blows self.old self.new }
+    {
+        if self.passed == self.most {
+            self.blown = self.blown.saturating_add(1);
+            return Err(DiskFault::Failed);
+        }
+        self.passed += 1;
+        self.inner.write(page, bytes)
+    }
+
+    fn settle(&mut self) -> Result<(), DiskFault> {
+        self.inner.settle()
+    }
+}
