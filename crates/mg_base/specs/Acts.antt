@@ -51,7 +51,6 @@ pub left_leaves : (size : ℕ) (acts : List Act) (t : ℕ) (c : Image) → Leave
 left_leaves size [] t c now = now
 left_leaves size (act ∷ acts) t c now = inl now
 
-
 -- time as it goes on over a list of acts
 pub record Times (size : ℕ) (old new : List Act) : Type 0 where
   pub later : length old ≤ length new
@@ -98,5 +97,6 @@ crash_write size old new n bytes is = rw is at
     split : (c : Image) → Leaves size (Write n bytes ∷ old) c → Left size old (length old) c ⊎ (Some (image_of size (Write n bytes ∷ old)) ≡ Some c)
     split c (inl before) = inl (left_leaves size old (length old) c before)
     split c (inr now) = inr (ap Some (sym now))
+
     at : (c : Image) → Left size (Write n bytes ∷ old) (length (Write n bytes ∷ old)) c → Left size old (length old) c ⊎ (Some (image_of size (Write n bytes ∷ old)) ≡ Some c)
     at c left = split c (leaves_left size (Write n bytes ∷ old) c left)

@@ -1,5 +1,6 @@
 -- A disk in memory whose calls fail where a list says so.
 use Rattle.std.specs.Prelude.{ℕ, ◌+◌, List}
+use Rattle.mg_base.specs.Calls.{IsListed}
 use Rattle.mg_base.specs.Disk.{Meaning}
 use Rattle.mg_base.specs.MemDisk.{mem_meaning}
 use Rattle.mg_base.specs.declared.mem_disk.MemDisk.{MemDisk}
@@ -16,6 +17,10 @@ bad_of d = d.bad.items
 abbrev pub calls_of : FaultyDisk → ℕ
 calls_of d = d.calls
 
+-- the next call is one of those that fail
+abbrev pub FailsNext : FaultyDisk → Type 0
+FailsNext d = IsListed (bad_of d) (calls_of d)
+
 -- It tells what the disk in memory tells; its faults are those of both.
 abbrev pub faulty_meaning : Meaning FaultyDisk
 faulty_meaning = record {
@@ -26,5 +31,5 @@ faulty_meaning = record {
   moment = λ d. mem_meaning.moment d.inner;
   left = λ d t c. mem_meaning.left d.inner t c;
   faults = λ d. mem_meaning.faults d.inner + d.failed;
-  asked = λ d. 0
+  asked = λ d. 0;
 }

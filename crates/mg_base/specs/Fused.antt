@@ -27,7 +27,7 @@ fused_meaning m = record {
   moment = λ d. m.moment d.inner;
   left = λ d t c. m.left d.inner t c;
   faults = λ d. m.faults d.inner + d.blown;
-  asked = λ d. d.passed + d.blown
+  asked = λ d. d.passed + d.blown;
 }
 
 -- one page write more has passed

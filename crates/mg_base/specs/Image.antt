@@ -39,6 +39,7 @@ page_at-written_other size image n bytes m ne =
     zeros zero m = refl
     zeros (suc k) zero = refl
     zeros (suc k) (suc m) = zeros k m
+
     padded : (image : Image) (k m : ℕ) → get_or (image ++ replicate k (blank size)) m (blank size) ≡ get_or image m (blank size)
     padded [] k m = zeros k m
     padded (x ∷ image) k zero = refl

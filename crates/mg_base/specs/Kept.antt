@@ -16,3 +16,5 @@ pub record IsKept (size : ℕ) (pages : List (List ℕ)) (used : ℕ) (obeyed : 
   pub count : length (image_of size (acts_of (take writes obeyed) settled)) ≡ used
   pub whole_pages : (k : ℕ) → k < length pages → length (get_or pages k (blank size)) ≡ size
   pub whole_entries : (k : ℕ) (d : Obeyed) → k < length obeyed → length (get_or obeyed k d).bytes ≡ size
+  -- no page of the record lies past the room
+  pub within : (k : ℕ) (d : Obeyed) → k < writes → (get_or obeyed k d).page < length pages

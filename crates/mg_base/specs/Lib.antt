@@ -1,4 +1,5 @@
 pub mod Acts
+pub mod Calls
 pub mod Disk
 pub mod FaultyDisk
 pub mod Fields

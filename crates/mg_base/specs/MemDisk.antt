@@ -1,8 +1,8 @@
 -- What a disk in memory tells.
-use Rattle.std.specs.Prelude.{◌≡◌, ◌⊎◌, ◌≤◌, ◌+◌, ℕ, true, Some, length, take, List, [], ◌∷◌}
+use Rattle.std.specs.Prelude.{◌≡◌, ◌⊎◌, ◌≤◌, ◌+◌, ℕ, true, Some, length, take, max, List, [], ◌∷◌}
 use Rattle.std.proofs.Common.{refl}
 use Rattle.mg_base.specs.Image.{Image}
-use Rattle.mg_base.specs.Acts.{Act, acts_of, image_of, Left, leaves_held, leaves_left, left_leaves}
+use Rattle.mg_base.specs.Acts.{Act, Write, acts_of, image_of, Left, leaves_held, leaves_left, left_leaves}
 use Rattle.mg_base.specs.Disk.{Meaning, MayLeave}
 use Rattle.mg_base.specs.declared.mem_disk.MemDisk.{MemDisk}
 use Rattle.mg_base.specs.declared.obeyed.Obeyed.{Obeyed}
@@ -37,8 +37,18 @@ mem_meaning = record {
   moment = λ d. length (acts_in d);
   left = λ d t c. Left d.size (acts_in d) t c;
   faults = λ d. d.faults;
-  asked = λ d. 0
+  asked = λ d. 0;
 }
+
+-- one page write more was obeyed
+pub record Obeys (old new : MemDisk) (page : ℕ) (bytes : List ℕ) : Type 0 where
+  pub acts : acts_in new ≡ Write page bytes ∷ acts_in old
+  pub writes : length (writes_of new) ≡ length (writes_of old) + 1
+  pub used : new.used ≡ max old.used (page + 1)
+  pub size : new.size ≡ old.size
+  pub room : room_of new ≡ room_of old
+  pub entries : record_of new ≡ record_of old
+  pub faults : new.faults ≡ old.faults
 
 -- The laws of a disk, for a disk in memory.
 

@@ -13,9 +13,10 @@ pub struct FaultyDisk {
 }
 
 impl FaultyDisk {
-    ghost use Rattle.std.specs.Prelude.{◌≡◌, ◌↔◌, ◌⊎◌, ◌<◌, ◌≤◌, ◌^◌, ◌-◌, ◌+◌, IsErr, Contains, min, OnErr};
+    ghost use Rattle.std.specs.Prelude.{◌≡◌, ◌↔◌, ◌≤◌, IsErr, OnErr};
     ghost use Rattle.mg_base.specs.Disk.{Rose};
-    ghost use Rattle.mg_base.specs.FaultyDisk.{disk_of, bad_of, calls_of};
+    ghost use Rattle.mg_base.specs.FaultyDisk.{disk_of, bad_of, calls_of, FailsNext};
+    ghost use Rattle.mg_base.specs.Calls.{next_call};
 
     /// The disk `inner`, of which the calls with these numbers fail.
     pub fn new(inner: MemDisk, bad: Vec<u32>) -> FaultyDisk
@@ -50,8 +51,8 @@ impl FaultyDisk {
     fn admit(&mut self) -> Result<(), DiskFault>
         ensures inner { self.new.inner ≡ self.old.inner }
         ensures bad { self.new.bad ≡ self.old.bad }
-        ensures calls { self.new.calls ≡ min (self.old.calls + 1) (2 ^ 32 - 1) }
-        ensures listed { IsErr result ↔ Contains (bad_of self.old) (min (self.old.calls + 1) (2 ^ 32 - 1)) }
+        ensures calls { self.new.calls ≡ next_call self.old.calls }
+        ensures listed { IsErr result ↔ FailsNext self.old }
         ensures never_falls { self.old.failed ≤ self.new.failed }
         ensures rose { OnErr result (Rose self.old.failed self.new.failed) }
     {
@@ -65,7 +66,12 @@ impl FaultyDisk {
 }
 
 impl Disk for FaultyDisk {
-    ghost use Rattle.mg_base.specs.FaultyDisk.{faulty_meaning};
+    ghost use Rattle.std.specs.Prelude.{◌≡◌, ◌↔◌, ◌⊎◌, ◌<◌, ℕ, true, Some, IsErr, IfOk, OnOk, length, unwrap_or};
+    ghost use Rattle.mg_base.specs.Disk.{Calm, Writes, MayLeave};
+    ghost use Rattle.mg_base.specs.Geometry.{is_page_size};
+    ghost use Rattle.mg_base.specs.Image.{Image, page_at};
+    ghost use Rattle.mg_base.specs.MemDisk.{IsOut};
+    ghost use Rattle.mg_base.specs.FaultyDisk.{faulty_meaning, disk_of, FailsNext};
     ghost use Rattle.mg_base.specs.MemDisk.{mem_holds, mem_counts_now, mem_counted};
 
     ghost meaning = { faulty_meaning };
@@ -76,27 +82,51 @@ impl Disk for FaultyDisk {
 
     ghost counted = { λ d image n is told. mem_counted d.inner image n is told };
 
-    fn page_size(&mut self) -> Result<u32, DiskFault> {
+    fn page_size(&mut self) -> Result<u32, DiskFault>
+        ensures size { IfOk result (λ n. (faulty_meaning.size self.new ≡ Some n) × (is_page_size n ≡ true)) }
+        ensures calm { Calm faulty_meaning self.old self.new result }
+        ensures fails { IsErr result ↔ FailsNext self.old }
+    {
         self.admit()?;
         self.inner.page_size()
     }
 
-    fn pages(&mut self) -> Result<u32, DiskFault> {
+    fn pages(&mut self) -> Result<u32, DiskFault>
+        ensures count { IfOk result (λ n. faulty_meaning.count self.new ≡ Some n) }
+        ensures calm { Calm faulty_meaning self.old self.new result }
+        ensures fails { IsErr result ↔ FailsNext self.old }
+    {
         self.admit()?;
         self.inner.pages()
     }
 
-    fn read(&mut self, page: PageNo, into: &mut [u8]) -> Result<(), DiskFault> {
+    fn read(&mut self, page: PageNo, into: &mut [u8]) -> Result<(), DiskFault>
+        requires whole { faulty_meaning.size self.old ≡ Some (length into.old) }
+        requires below { page.0 < unwrap_or (faulty_meaning.count self.old) 0 }
+        ensures page { OnOk result ((image : Image) → faulty_meaning.held self.old ≡ Some image
+            → into.new ≡ page_at (length into.old) image page.0) }
+        ensures calm { Calm faulty_meaning self.old self.new result }
+        ensures fails { IsErr result ↔ FailsNext self.old }
+    {
         self.admit()?;
         self.inner.read(page, into)
     }
 
-    fn write(&mut self, page: PageNo, bytes: &[u8]) -> Result<(), DiskFault> {
+    fn write(&mut self, page: PageNo, bytes: &[u8]) -> Result<(), DiskFault>
+        requires whole { faulty_meaning.size self.old ≡ Some (length bytes.now) }
+        ensures writes { Writes faulty_meaning self.old self.new page.0 bytes.now result }
+        ensures fails { IsErr result ↔ (FailsNext self.old ⊎ IsOut (disk_of self.old) page.0) }
+    {
         self.admit()?;
         self.inner.write(page, bytes)
     }
 
-    fn settle(&mut self) -> Result<(), DiskFault> {
+    fn settle(&mut self) -> Result<(), DiskFault>
+        ensures durable { OnOk result (faulty_meaning.tells self.old ≡ true → (c : Image)
+            → MayLeave faulty_meaning self.new c → faulty_meaning.held self.new ≡ Some c) }
+        ensures calm { Calm faulty_meaning self.old self.new result }
+        ensures fails { IsErr result ↔ FailsNext self.old }
+    {
         self.admit()?;
         self.inner.settle()
     }

@@ -23,8 +23,8 @@ pub use damage::{Damaged, Field};
 pub use disk::{Disk, DiskFault};
 pub use faulty_disk::FaultyDisk;
 pub use fields::{
-    COMMON, FLAGS_AT, KIND_AT, OWN_AT, OWNER_AT, SEQUENCE_AT, ZERO_AT, get_u16, get_u32, new_common,
-    put_u16, put_u32,
+    COMMON, FLAGS_AT, KIND_AT, OWN_AT, OWNER_AT, SEQUENCE_AT, ZERO_AT, get_u16, get_u32,
+    new_common, put_u16, put_u32,
 };
 pub use fused::Fused;
 pub use geometry::{GREATEST_LIMIT, Geometry, LEAST_LIMIT, is_page_size};

@@ -22,8 +22,9 @@ pub struct MemDisk {
 }
 
 impl MemDisk {
-    ghost use Rattle.std.specs.Prelude.{◌≡◌, IfOk, [], Some, true, length};
-    ghost use Rattle.mg_base.specs.MemDisk.{mem_meaning, acts_in, room_of, record_of, writes_of};
+    ghost use Rattle.std.specs.Prelude.{◌≡◌, ◌≤◌, ◌<◌, ◌+◌, ◌^◌, IfOk, [], Some, true, length, take};
+    ghost use Rattle.mg_base.specs.Acts.{image_of, acts_of};
+    ghost use Rattle.mg_base.specs.MemDisk.{mem_meaning, acts_in, room_of, record_of, writes_of, Obeys};
     ghost use Rattle.mg_base.specs.Geometry.{is_page_size};
 
     /// A disk without pages, with room for `room` of them and for a record of `writes` page writes.
@@ -36,6 +37,8 @@ impl MemDisk {
         requires { is_page_size size ≡ true }
         ensures size { IfOk result (λ d. mem_meaning.size d ≡ Some size) }
         ensures acts { IfOk result (λ d. acts_in d ≡ []) }
+        ensures writes { IfOk result (λ d. writes_of d ≡ []) }
+        ensures faults { IfOk result (λ d. mem_meaning.faults d ≡ 0) }
         ensures room { IfOk result (λ d. room_of d ≡ room) }
         ensures entries { IfOk result (λ d. record_of d ≡ writes) }
     {
@@ -58,11 +61,52 @@ impl MemDisk {
     {
         self.writes
     }
+
+    /// A disk that holds the image after the first `count` page writes of this one, as a machine finds
+    /// it after it stopped there. Nothing is pending. It has the same room, and its record has room
+    /// for `writes` page writes more.
+    ///
+    /// # Errors
+    ///
+    /// `Memory` only.
+    pub fn after(&self, alloc: Global, count: u32, writes: u32) -> Result<MemDisk, Memory>
+        requires count { count ≤ length (writes_of self.now) }
+        requires writes { count + writes < 2 ^ 32 }
+        ensures held { IfOk result (λ d. mem_meaning.held d
+            ≡ Some (image_of self.now.size (acts_of (take count (writes_of self.now)) true))) }
+        ensures settled { IfOk result (λ d. d.settled ≡ true) }
+        ensures room { IfOk result (λ d. room_of d ≡ room_of self.now) }
+        ensures entries { IfOk result (λ d. record_of d ≡ count + writes) }
+    {
+        let mut disk = MemDisk::new(alloc, self.size, self.pages.len() as u32, count + writes)?;
+        for at in 0..count as usize {
+            let entry = &self.obeyed[at];
+            disk.obey(entry.page, entry.bytes.as_slice());
+        }
+        disk.settled = true;
+        Ok(disk)
+    }
+
+    // Writes a page and keeps the write in the record.
+    fn obey(&mut self, page: u32, bytes: &[u8])
+        requires whole { length bytes.now ≡ self.old.size }
+        requires room { page < room_of self.old }
+        requires entries { length (writes_of self.old) < record_of self.old }
+        ensures { Obeys self.old self.new page bytes.now }
+    {
+        put_obeyed(&mut self.obeyed, self.writes, page, self.settled, bytes);
+        put_page(&mut self.pages, page as usize, bytes);
+        self.writes += 1;
+        self.used = self.used.max(page + 1);
+        self.settled = false;
+    }
 }
 
 impl Disk for MemDisk {
-    ghost use Rattle.std.specs.Prelude.{◌≡◌, ◌↔◌, Some, length, IsErr};
-    ghost use Rattle.mg_base.specs.Disk.{Writes};
+    ghost use Rattle.std.specs.Prelude.{◌≡◌, ◌↔◌, ◌<◌, ℕ, true, Some, length, IsErr, IsOk, IfOk, OnOk, unwrap_or};
+    ghost use Rattle.mg_base.specs.Disk.{Calm, Writes, MayLeave};
+    ghost use Rattle.mg_base.specs.Geometry.{is_page_size};
+    ghost use Rattle.mg_base.specs.Image.{Image, page_at};
     ghost use Rattle.mg_base.specs.MemDisk.{mem_meaning, mem_holds, mem_counts_now, mem_counted, IsOut};
 
     ghost meaning = { mem_meaning };
@@ -73,15 +117,30 @@ impl Disk for MemDisk {
 
     ghost counted = { mem_counted };
 
-    fn page_size(&mut self) -> Result<u32, DiskFault> {
+    fn page_size(&mut self) -> Result<u32, DiskFault>
+        ensures size { IfOk result (λ n. (mem_meaning.size self.new ≡ Some n) × (is_page_size n ≡ true)) }
+        ensures calm { Calm mem_meaning self.old self.new result }
+        ensures ok { IsOk result }
+    {
         Ok(self.size)
     }
 
-    fn pages(&mut self) -> Result<u32, DiskFault> {
+    fn pages(&mut self) -> Result<u32, DiskFault>
+        ensures count { IfOk result (λ n. mem_meaning.count self.new ≡ Some n) }
+        ensures calm { Calm mem_meaning self.old self.new result }
+        ensures ok { IsOk result }
+    {
         Ok(self.used)
     }
 
-    fn read(&mut self, page: PageNo, into: &mut [u8]) -> Result<(), DiskFault> {
+    fn read(&mut self, page: PageNo, into: &mut [u8]) -> Result<(), DiskFault>
+        requires whole { mem_meaning.size self.old ≡ Some (length into.old) }
+        requires below { page.0 < unwrap_or (mem_meaning.count self.old) 0 }
+        ensures page { OnOk result ((image : Image) → mem_meaning.held self.old ≡ Some image
+            → into.new ≡ page_at (length into.old) image page.0) }
+        ensures calm { Calm mem_meaning self.old self.new result }
+        ensures ok { IsOk result }
+    {
         into.copy_from_slice(self.pages[page.0 as usize].as_slice());
         Ok(())
     }
@@ -97,15 +156,16 @@ impl Disk for MemDisk {
             self.faults = self.faults.saturating_add(1);
             return Err(DiskFault::Failed);
         }
-        put_obeyed(&mut self.obeyed, self.writes, page.0, self.settled, bytes);
-        put_page(&mut self.pages, at, bytes);
-        self.writes += 1;
-        self.used = self.used.max(page.0 + 1);
-        self.settled = false;
+        self.obey(page.0, bytes);
         Ok(())
     }
 
-    fn settle(&mut self) -> Result<(), DiskFault> {
+    fn settle(&mut self) -> Result<(), DiskFault>
+        ensures durable { OnOk result (mem_meaning.tells self.old ≡ true → (c : Image)
+            → MayLeave mem_meaning self.new c → mem_meaning.held self.new ≡ Some c) }
+        ensures calm { Calm mem_meaning self.old self.new result }
+        ensures ok { IsOk result }
+    {
         self.settled = true;
         Ok(())
     }

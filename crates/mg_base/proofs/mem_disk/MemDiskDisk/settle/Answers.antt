@@ -14,10 +14,10 @@ returns-clause-calm c =
         tells = refl;
         time = λ told. record { later = times.later; nothing_else = times.nothing_else; keeps = times.keeps };
         never_falls = omega arith;
-        cause = λ no. absurd (let n = no in cc)
+        cause = λ no. absurd (let n = no in cc);
       };
       count = refl;
       held = ap Some (held_settle d.size (writes_of d) d.settled);
       crash = λ told. crash_settle d.size (writes_of d) d.settled;
-      asked = refl
+      asked = refl;
     }
