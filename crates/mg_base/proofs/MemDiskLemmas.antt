@@ -54,6 +54,7 @@ pages_within old writes room e below new_within each k d le = elim (cases_eq k w
   where
     at : k ≡ writes → (get_or (set old writes e) k d).page < room
     at here = rw (here, get_or-set_same old writes e d below) new_within
+
     other : k ≢ writes → (get_or (set old writes e) k d).page < room
     other ne = rw (get_or-set_other old writes k e d ne) (each k d (omega arith))
 
@@ -123,11 +124,12 @@ writes_obeys old new n bytes done obeys whole =
         time = λ told. record {
           later = later_write acts acts' n bytes obeys.acts;
           nothing_else = else_write old.size new.size acts acts' n bytes obeys.size obeys.acts;
-          keeps = keeps_write old.size new.size acts acts' n bytes obeys.size obeys.acts
+          keeps = keeps_write old.size new.size acts acts' n bytes obeys.size obeys.acts;
         };
         never_falls = let f : new.faults ≡ old.faults = obeys.faults in omega arith;
-        cause = λ no. absurd (let h = no in cc)
-      }
+        cause = λ no. absurd (let h = no in cc);
+        steady = obeys.faults;
+      };
     }
 
 -- the image of a record's front with one write more

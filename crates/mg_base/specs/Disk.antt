@@ -40,13 +40,14 @@ pub record Elapses {D : Type 0} (m : Meaning D) (old new : D) : Type 0 where
   pub nothing_else : (t : ℕ) (c : Image) → t ≤ m.moment old → m.left new t c → m.left old t c ⊎ MayLeave m new c
   pub keeps : (t : ℕ) (c : Image) → t ≤ m.moment old → m.left old t c → m.left new t c
 
--- what every call keeps, and the only cause of its fault
+-- what every call keeps, and the only cause of its fault; the count of faults rises at a fault alone
 pub record Keeps {D T E : Type 0} (m : Meaning D) (old new : D) (result : Result T E) : Type 0 where
   pub size : Stays (m.size old) (m.size new)
   pub tells : m.tells new ≡ m.tells old
   pub time : m.tells old ≡ true → Elapses m old new
   pub never_falls : m.faults old ≤ m.faults new
   pub cause : IsErr result → Rose (m.faults old) (m.faults new)
+  pub steady : OnOk result (m.faults new ≡ m.faults old)
 
 -- a call that changes nothing of the content
 pub record Calm {D T E : Type 0} (m : Meaning D) (old new : D) (result : Result T E) : Type 0 where

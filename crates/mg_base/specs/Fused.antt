@@ -1,5 +1,5 @@
 -- A disk behind a fuse.
-use Rattle.std.specs.Prelude.{◌≡◌, ◌⊎◌, ◌<◌, ◌≤◌, ◌^◌, ◌-◌, ℕ, ◌+◌}
+use Rattle.std.specs.Prelude.{◌≡◌, ℕ, ◌+◌}
 use Rattle.mg_base.specs.Disk.{Meaning, Rose}
 use Rattle.mg_base.specs.declared.fused.Fused.{Fused}
 

@@ -1,8 +1,8 @@
 -- How a disk in memory keeps its pages and its record.
-use Rattle.std.specs.Prelude.{◌≡◌, ℕ, ◌+◌, ◌-◌, ◌<◌, ◌≤◌, ◌^◌, Bool, true, List, ◌++◌, length, replicate, take}
+use Rattle.std.specs.Prelude.{◌≡◌, ℕ, ◌-◌, ◌<◌, ◌≤◌, ◌^◌, Bool, true, List, ◌++◌, length, replicate, take}
 use Rattle.std.proofs.Common.{get_or}
 use Rattle.mg_base.specs.Geometry.{is_page_size}
-use Rattle.mg_base.specs.Image.{Image, blank}
+use Rattle.mg_base.specs.Image.{blank}
 use Rattle.mg_base.specs.Acts.{acts_of, image_of}
 use Rattle.mg_base.specs.declared.obeyed.Obeyed.{Obeyed}
 

@@ -3,6 +3,7 @@ pub mod Calls
 pub mod Disk
 pub mod FaultyDisk
 pub mod Fields
+pub mod FileDisk
 pub mod Fuse
 pub mod Fused
 pub mod Geometry
@@ -12,3 +13,4 @@ pub mod MemDisk
 pub mod MemStreams
 pub mod Moments
 pub mod Streams
+pub mod StdStreams

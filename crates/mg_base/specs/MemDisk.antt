@@ -1,5 +1,5 @@
 -- What a disk in memory tells.
-use Rattle.std.specs.Prelude.{◌≡◌, ◌⊎◌, ◌≤◌, ◌+◌, ℕ, true, Some, length, take, max, List, [], ◌∷◌}
+use Rattle.std.specs.Prelude.{◌≡◌, ◌⊎◌, ◌≤◌, ◌+◌, ℕ, true, Some, length, take, max, List, ◌∷◌}
 use Rattle.std.proofs.Common.{refl}
 use Rattle.mg_base.specs.Image.{Image}
 use Rattle.mg_base.specs.Acts.{Act, Write, acts_of, image_of, Left, leaves_held, leaves_left, left_leaves}

@@ -1,8 +1,7 @@
 -- What every crash since a moment leaves, over a run of calls.
-use Rattle.std.specs.Prelude.{◌≡◌, ◌⊎◌, ℕ, ◌≤◌, List, [], ◌∷◌, true}
-use Rattle.std.proofs.Common.{inl, inr, arith}
+use Rattle.std.specs.Prelude.{◌≡◌, ◌⊎◌, ℕ, ◌≤◌, List, [], ◌∷◌}
 use Rattle.mg_base.specs.Image.{Image, written}
-use Rattle.mg_base.specs.Disk.{Meaning, MayLeave, Elapses}
+use Rattle.mg_base.specs.Disk.{Meaning}
 
 -- a crash at any moment since old leaves an image that has P
 pub record LeavesOnly {D : Type 0} (m : Meaning D) (old new : D) (P : Image → Type 0) : Type 0 where

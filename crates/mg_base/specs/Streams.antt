@@ -17,6 +17,7 @@ pub record Takes {S E : Type 0} (m : SourceMeaning S) (old new : S) (before afte
   pub failed : OnErr result (m.left new ≡ m.left old)
   pub never_falls : m.faults old ≤ m.faults new
   pub cause : IsErr result → Rose (m.faults old) (m.faults new)
+  pub steady : OnOk result (m.faults new ≡ m.faults old)
 
 pub record SinkMeaning (K : Type 0) : Type 1 where
   -- the bytes that were written
@@ -29,3 +30,4 @@ pub record Puts {K T E : Type 0} (m : SinkMeaning K) (old new : K) (piece : List
   pub failed : OnErr result ((bytes : List ℕ) → m.taken old ≡ Some bytes → (n : ℕ) × (m.taken new ≡ Some (bytes ++ take n piece)))
   pub never_falls : m.faults old ≤ m.faults new
   pub cause : IsErr result → Rose (m.faults old) (m.faults new)
+  pub steady : OnOk result (m.faults new ≡ m.faults old)

@@ -13,7 +13,7 @@ pub struct FaultyDisk {
 }
 
 impl FaultyDisk {
-    ghost use Rattle.std.specs.Prelude.{◌≡◌, ◌↔◌, ◌≤◌, IsErr, OnErr};
+    ghost use Rattle.std.specs.Prelude.{◌≡◌, ◌↔◌, ◌≤◌, IsErr, OnErr, OnOk};
     ghost use Rattle.mg_base.specs.Disk.{Rose};
     ghost use Rattle.mg_base.specs.FaultyDisk.{disk_of, bad_of, calls_of, FailsNext};
     ghost use Rattle.mg_base.specs.Calls.{next_call};
@@ -55,6 +55,7 @@ impl FaultyDisk {
         ensures listed { IsErr result ↔ FailsNext self.old }
         ensures never_falls { self.old.failed ≤ self.new.failed }
         ensures rose { OnErr result (Rose self.old.failed self.new.failed) }
+        ensures steady { OnOk result (self.new.failed ≡ self.old.failed) }
     {
         self.calls = self.calls.saturating_add(1);
         if self.bad.contains(&self.calls) {

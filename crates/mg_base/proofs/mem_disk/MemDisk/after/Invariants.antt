@@ -10,5 +10,5 @@ invariant-loop-at l = record {
   room : room_of l.disk ≡ room_of l.self;
   entries : record_of l.disk ≡ l.count + l.writes;
   writes : length (writes_of l.disk) ≡ l.at;
-  image : image_of l.self.size (acts_in l.disk) ≡ image_of l.self.size (acts_of (take l.at (writes_of l.self)) true)
+  image : image_of l.self.size (acts_in l.disk) ≡ image_of l.self.size (acts_of (take l.at (writes_of l.self)) true);
 }

@@ -1,5 +1,5 @@
 -- A page write adds one act; the pages are those of the written image.
-use Rattle.std.proofs.Common.{◌≡◌, ◌<◌, ◌≤◌, ◌+◌, ℕ, List, length, take, min, arith, refl, ap}
+use Rattle.std.proofs.Common.{◌<◌, length, arith, refl}
 use Rattle.std.proofs.lemmas.List.{length-set, length-take}
 use Rattle.mg_base.proofs.MemDiskLemmas.{kept_write, acts_after}
 use Rattle.mg_base.proofs.mem_disk.MemDisk.obey.Goals as goal
@@ -8,8 +8,10 @@ pub invariant_of-self : goal.invariant_of-self
 invariant_of-self c =
     let d = c.args.self.now in
     let entries : d.writes < length d.obeyed.items = let e = d.kept.entries in omega (arith, length-take d.writes d.obeyed.items) in
-    record { kept = rw (c.put_page.ensures, c.put_obeyed.ensures, c.max-self.ensures)
-        (kept_write d.size d.pages.items d.used d.obeyed.items d.writes d.settled c.args.page c.args.bytes.now d.kept c.requires.room entries c.requires.whole) }
+    record {
+      kept = rw (c.put_page.ensures, c.put_obeyed.ensures, c.max-self.ensures)
+          (kept_write d.size d.pages.items d.used d.obeyed.items d.writes d.settled c.args.page c.args.bytes.now d.kept c.requires.room entries c.requires.whole);
+    }
 
 pub returns : goal.returns
 returns c =
@@ -23,5 +25,5 @@ returns c =
       size = refl;
       room = rw c.put_page.ensures (length-set _ _ _);
       entries = rw c.put_obeyed.ensures (length-set _ _ _);
-      faults = refl
+      faults = refl;
     }

@@ -15,6 +15,7 @@ returns-clause-calm c =
         time = λ told. record { later = times.later; nothing_else = times.nothing_else; keeps = times.keeps };
         never_falls = omega arith;
         cause = λ no. absurd (let n = no in cc);
+        steady = refl;
       };
       count = refl;
       held = ap Some (held_settle d.size (writes_of d) d.settled);
