@@ -1,0 +1,98 @@
+-- The least free slot, and the last slot in use.
+use Rattle.std.proofs.Common.{◌≡◌, ◌≢◌, ℕ, zero, suc, ◌+◌, ◌<◌, ◌≤◌, ◌⊎◌, inl, inr, Bool, true, false, Option, None, Some, List, refl, arith, add-one, sym, subst, ◌&&◌}
+use Rattle.std.specs.Prelude.{is_some, if◌then◌else◌, ◌==◌}
+use Rattle.std.proofs.lemmas.Bool.{cases_eq, eq-eqb, ne_eqb, eqb-true}
+use Rattle.mg_slots.specs.DataPage.{Cells}
+use Rattle.mg_slots.specs.Room.{first_without, used_end}
+use Rattle.mg_slots.specs.Layout.{with_cell}
+
+pub first_without_more : (cells : Cells) (n : ℕ) → first_without cells n ≡ n → is_some (cells n) ≡ true → first_without cells (n + 1) ≡ n + 1
+first_without_more cells n all some = rw (add-one n, eq-eqb (first_without cells n) n all, some) (omega arith)
+
+pub first_without_found : (cells : Cells) (n m : ℕ) → n ≤ m → first_without cells n ≡ n → cells n ≡ None → first_without cells m ≡ n
+first_without_found cells n zero le all none = let e : n ≡ 0 = omega arith in rw e refl
+first_without_found cells n (suc m) le all none = at (cases_eq n (suc m)) (cases_eq n m) (first_without_found cells n m)
+  where
+    at : (n ≡ suc m) ⊎ (n ≢ suc m) → (n ≡ m) ⊎ (n ≢ m) → (n ≤ m → first_without cells n ≡ n → cells n ≡ None → first_without cells m ≡ n) → first_without cells (suc m) ≡ n
+    at (inl e) here ih = let P : ℕ → Type 0 = λ k. first_without cells k ≡ n in subst P e all
+    at (inr ne) (inl e) ih =
+        let all_m : first_without cells m ≡ m = (let P : ℕ → Type 0 = λ k. first_without cells k ≡ k in subst P e all) in
+        let none_m : cells m ≡ None = (let P : ℕ → Type 0 = λ k. cells k ≡ None in subst P e none) in
+        rw (all_m, eq-eqb m m refl, none_m) (sym e)
+    at (inr ne) (inr other) ih = rw (ih (omega arith) all none, ne_eqb n m other) refl
+
+pub first_without_le : (cells : Cells) (n : ℕ) → first_without cells n ≤ n
+first_without_le cells zero = omega arith
+first_without_le cells (suc n) = at (first_without cells n == n && is_some (cells n)) (first_without_le cells n)
+  where
+    at : (p : Bool) → first_without cells n ≤ n → (if p then n + 1 else first_without cells n) ≤ suc n
+    at true ih = omega arith
+    at false ih = omega arith
+
+-- each slot before the least free one has a cell
+pub first_without_before : (cells : Cells) (n s : ℕ) → s < first_without cells n → is_some (cells s) ≡ true
+first_without_before cells zero s lt = absurd (omega arith)
+first_without_before cells (suc n) s lt = at (first_without cells n == n) refl (is_some (cells n)) refl lt (cases_eq s n) (first_without_before cells n s)
+  where
+    at : (p : Bool) → (first_without cells n == n) ≡ p → (q : Bool) → is_some (cells n) ≡ q → s < (if p && q then n + 1 else first_without cells n) → (s ≡ n) ⊎ (s ≢ n)
+        → (s < first_without cells n → is_some (cells s) ≡ true) → is_some (cells s) ≡ true
+    at true all true some lt (inl e) ih = rw e some
+    at true all true some lt (inr ne) ih = ih (omega (arith, eqb-true (first_without cells n) n all))
+    at true all false none lt other ih = ih lt
+    at false all true some lt other ih = ih lt
+    at false all false none lt other ih = ih lt
+
+-- the least free one has none, if it is below the end
+pub first_without_at : (cells : Cells) (n : ℕ) → first_without cells n < n → cells (first_without cells n) ≡ None
+first_without_at cells zero lt = absurd (omega arith)
+first_without_at cells (suc n) lt = at (first_without cells n == n) refl (cells n) refl lt (first_without_at cells n)
+  where
+    at : (p : Bool) → (first_without cells n == n) ≡ p → (o : Option (List ℕ)) → cells n ≡ o → (if p && is_some o then n + 1 else first_without cells n) < suc n
+        → (first_without cells n < n → cells (first_without cells n) ≡ None) → cells (if p && is_some o then n + 1 else first_without cells n) ≡ None
+    at true all (Some cell) here lt ih = absurd (omega arith)
+    at true all None here lt ih = rw (eqb-true (first_without cells n) n all) here
+    at false all o here lt ih = ih (let le : first_without cells n ≤ n = first_without_le cells n in at_less (cases_eq (first_without cells n) n))
+      where
+        at_less : (first_without cells n ≡ n) ⊎ (first_without cells n ≢ n) → first_without cells n < n
+        at_less (inl e) = let yes : (first_without cells n == n) ≡ true = eq-eqb (first_without cells n) n e in absurd cc
+        at_less (inr ne) = omega (arith, first_without_le cells n)
+
+pub used_end_here : (cells : Cells) (n : ℕ) → is_some (cells n) ≡ true → used_end cells (n + 1) ≡ n + 1
+used_end_here cells n some = rw (add-one n, some) (omega arith)
+
+pub used_end_drop : (cells : Cells) (n : ℕ) → cells n ≡ None → used_end cells (n + 1) ≡ used_end cells n
+used_end_drop cells n none = rw (add-one n, none) refl
+
+pub used_end_le : (cells : Cells) (n : ℕ) → used_end cells n ≤ n
+used_end_le cells zero = omega arith
+used_end_le cells (suc n) = at (is_some (cells n)) (used_end_le cells n)
+  where
+    at : (p : Bool) → used_end cells n ≤ n → (if p then n + 1 else used_end cells n) ≤ suc n
+    at true ih = omega arith
+    at false ih = omega arith
+
+-- the slot before the end has a cell
+pub used_end_last : (cells : Cells) (n s : ℕ) → used_end cells n ≡ s + 1 → is_some (cells s) ≡ true
+used_end_last cells zero s e = absurd (omega arith)
+used_end_last cells (suc n) s e = at (is_some (cells n)) refl e (used_end_last cells n s)
+  where
+    at : (p : Bool) → is_some (cells n) ≡ p → (if p then n + 1 else used_end cells n) ≡ s + 1 → (used_end cells n ≡ s + 1 → is_some (cells s) ≡ true) → is_some (cells s) ≡ true
+    at true some e ih = let same : s ≡ n = omega arith in rw same some
+    at false none e ih = ih e
+
+-- none from the end on has
+pub used_end_beyond : (cells : Cells) (n s : ℕ) → used_end cells n ≤ s → s < n → cells s ≡ None
+used_end_beyond cells zero s le lt = absurd (omega arith)
+used_end_beyond cells (suc n) s le lt = at (cells n) refl le (cases_eq s n) (used_end_beyond cells n s)
+  where
+    at : (o : Option (List ℕ)) → cells n ≡ o → (if is_some o then n + 1 else used_end cells n) ≤ s → (s ≡ n) ⊎ (s ≢ n)
+        → (used_end cells n ≤ s → s < n → cells s ≡ None) → cells s ≡ None
+    at (Some cell) here le e ih = absurd (omega arith)
+    at None here le (inl e) ih = rw e here
+    at None here le (inr ne) ih = ih le (omega arith)
+
+pub with_cell_here : (cells : Cells) (slot : ℕ) (cell : Option (List ℕ)) → with_cell cells slot cell slot ≡ cell
+with_cell_here cells slot cell = rw (eq-eqb slot slot refl) refl
+
+pub with_cell_other : (cells : Cells) (slot other : ℕ) (cell : Option (List ℕ)) → other ≢ slot → with_cell cells slot cell other ≡ cells other
+with_cell_other cells slot other cell ne = rw (ne_eqb other slot ne) refl

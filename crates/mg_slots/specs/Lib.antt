@@ -1,0 +1,4 @@
+pub mod Changes
+pub mod DataPage
+pub mod Layout
+pub mod Room
