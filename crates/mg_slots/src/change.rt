@@ -32,8 +32,10 @@ pub fn put_cell(b: &mut [u8], cell: &[u8]) -> Result<u16, NoRoom>
     ensures put { OnOk result (PutsCell b.old b.new (least_free_of b.old) cell.now) }
 
     // NoRoom tells both numbers.
-    ensures no_room { IfErr result (λ e. e ≡ record { need = need_of cell.now; room = room_of b.old }) }
+    ensures no_room { IfErr result (λ e.
+        e ≡ record { need = need_of cell.now; room = room_of b.old }) }
     ensures unchanged { OnErr result (b.new ≡ b.old) }
+    ensures lawful { IsDataPage b.new }
 {
     let need = taken(cell.len()) as u32;
     let room = room(b);
@@ -60,8 +62,10 @@ pub fn replace(b: &mut [u8], slot: u16, cell: &[u8]) -> Result<(), NoRoom>
     ensures put { OnOk result (PutsCell b.old b.new slot cell.now) }
 
     // NoRoom tells both numbers.
-    ensures no_room { IfErr result (λ e. e ≡ record { need = need_of cell.now; room = room_for b.old slot }) }
+    ensures no_room { IfErr result (λ e.
+        e ≡ record { need = need_of cell.now; room = room_for b.old slot }) }
     ensures unchanged { OnErr result (b.new ≡ b.old) }
+    ensures lawful { IsDataPage b.new }
 {
     let need = taken(cell.len()) as u32;
     let room = room_in(b, slot as usize);
@@ -78,6 +82,7 @@ pub fn free(b: &mut [u8], slot: u16)
     requires { IsDataPage b.old }
     ensures used { IsSome (cell_of b.old slot) → FreesCell b.old b.new slot }
     ensures free_already { cell_of b.old slot ≡ None → b.new ≡ b.old }
+    ensures lawful { IsDataPage b.new }
 {
     let slot = slot as usize;
     if is_used(b, slot) {
@@ -137,3 +142,6 @@ fn count_without(b: &[u8], slot: usize) -> usize
     }
     count
 }
+
+#[cfg(test)]
+mod tests;
