@@ -8,8 +8,8 @@ use Rattle.mg_base.specs.Fields.{byte}
 use Rattle.mg_slots.specs.declared.page.TheConstants.{SLOTS_AT, SLOT_LEN, LEAST_SIZE, GREATEST_SIZE}
 use Rattle.mg_slots.specs.DataPage.{Cells, IsDataPage, IsLaid, HasUpTo, cell_of, slot_count, low_of, least_offset, offset_at, length_at, taken, taken_by, taken_below}
 use Rattle.mg_slots.specs.Layout.{EndsAt, PlacesBelow, PlacesCell}
-use Rattle.mg_slots.proofs.CellsLemmas.{taken_below_mono, taken_below_more}
-use Rattle.mg_slots.proofs.DataPageLemmas.{cell_past, cell_free, cell_used}
+use Rattle.mg_slots.specs.TakenLaws.{taken_below_mono, taken_below_more}
+use Rattle.mg_slots.specs.DataPageLaws.{cell_past, cell_free, cell_used}
 
 -- what a slot has stays where its fields and its cell's bytes do
 pub has_same : (b b' : List ℕ) (end slot : ℕ) (cell : Option (List ℕ)) → taken_by cell ≤ end

@@ -11,10 +11,10 @@ use Rattle.mg_slots.specs.Changes.{FreesCell, SetsCell}
 use Rattle.mg_slots.specs.DataPage.{Cells, IsDataPage, IsLaid, HasUpTo, cell_of, slot_count, low_of, taken, taken_by, taken_below, all_taken}
 use Rattle.mg_slots.specs.Layout.{EndsAt, with_cell}
 use Rattle.mg_slots.specs.Room.{least_free, rest_of, room_for, used_end}
-use Rattle.mg_slots.proofs.CellsLemmas.{taken_below_beyond, taken_below_changed, taken_below_mono, taken_below_more}
-use Rattle.mg_slots.proofs.DataPageLemmas.{cell_past, cell_used, cells_fit}
+use Rattle.mg_slots.specs.TakenLaws.{taken_below_beyond, taken_below_changed, taken_below_mono, taken_below_more}
+use Rattle.mg_slots.specs.DataPageLaws.{cell_past, cell_used, cells_fit}
 use Rattle.mg_slots.proofs.LaidLemmas.{has_same, laid_cells, laid_lawful}
-use Rattle.mg_slots.proofs.RoomLemmas.{first_without_le, used_end_beyond, used_end_last, used_end_le, with_cell_here, with_cell_other}
+use Rattle.mg_slots.specs.RoomLaws.{first_without_le, used_end_beyond, used_end_last, used_end_le, with_cell_here, with_cell_other}
 
 -- cells stay laid out where all bytes behind the fields stay
 laid_same : (b b' : List ℕ) (cells : Cells) (n : ℕ) → length b' ≡ length b → ((k : ℕ) → SLOTS_AT ≤ k → byte b' k ≡ byte b k) → SLOTS_AT + taken_below cells n ≤ length b → IsLaid b cells n → IsLaid b' cells n

@@ -37,11 +37,7 @@ pub fn put_cell(b: &mut [u8], cell: &[u8]) -> Result<u16, NoRoom>
     ensures unchanged { OnErr result (b.new ≡ b.old) }
     ensures lawful { IsDataPage b.new }
 {
-    let need = taken(cell.len()) as u32;
-    let room = room(b);
-    if need > room {
-        return Err(NoRoom { need, room });
-    }
+    check_room(cell, room(b))?;
     let slot = least_free(b);
     put(b, slot, cell);
     Ok(slot as u16)
@@ -67,11 +63,7 @@ pub fn replace(b: &mut [u8], slot: u16, cell: &[u8]) -> Result<(), NoRoom>
     ensures unchanged { OnErr result (b.new ≡ b.old) }
     ensures lawful { IsDataPage b.new }
 {
-    let need = taken(cell.len()) as u32;
-    let room = room_in(b, slot as usize);
-    if need > room {
-        return Err(NoRoom { need, room });
-    }
+    check_room(cell, room_in(b, slot as usize))?;
     put(b, slot as usize, cell);
     Ok(())
 }
@@ -88,6 +80,20 @@ pub fn free(b: &mut [u8], slot: u16)
     if is_used(b, slot) {
         let count = count_without(b, slot);
         rewrite(b, slot, None, count);
+    }
+}
+
+/// Refuses a cell that needs more than `room` bytes.
+fn check_room(cell: &[u8], room: u32) -> Result<(), NoRoom>
+    requires { length cell.now < 2 ^ 31 }
+    ensures when { IsOk result ↔ (need_of cell.now ≤ room) }
+    ensures no_room { IfErr result (λ e. e ≡ record { need = need_of cell.now; room = room }) }
+{
+    let need = taken(cell.len()) as u32;
+    if need > room {
+        Err(NoRoom { need, room })
+    } else {
+        Ok(())
     }
 }
 

@@ -46,11 +46,23 @@ fn an_empty_page_has_room_for_all_but_its_fields_and_one_slot(rt: HostRuntime) -
         assert_eq!(rt; slots(&page), 0, "at {size}");
         assert_eq!(rt; room(&page) as usize, size - 24, "at {size}");
         let refused = put_cell(&mut page, &over).err();
-        assert_eq!(rt; refused.map(|e| e.need), Some(size as u32 - 23), "at {size}");
-        assert_eq!(rt; refused.map(|e| e.room), Some(size as u32 - 24), "at {size}");
+        assert_eq!(rt;
+            refused.map(|e| e.need),
+            Some(size as u32 - 23),
+            "at {size}"
+        );
+        assert_eq!(rt;
+            refused.map(|e| e.room),
+            Some(size as u32 - 24),
+            "at {size}"
+        );
         assert_eq!(rt; put_cell(&mut page, &most), Ok(0), "at {size}");
         assert_eq!(rt; cell(&page, 0), Some(most.as_slice()), "at {size}");
-        assert_eq!(rt; put_cell(&mut page, &[]), Err(NoRoom { need: 11, room: 0 }), "at {size}");
+        assert_eq!(rt;
+            put_cell(&mut page, &[]),
+            Err(NoRoom { need: 11, room: 0 }),
+            "at {size}"
+        );
     }
     Ok(())
 }
@@ -66,7 +78,9 @@ fn a_page_of_4096_holds_92_records_of_an_anchor_and_a_version_of_25_bytes(rt: Ho
 }
 
 #[test]
-fn cells_lie_from_the_end_downward_in_the_order_of_their_slots(rt: HostRuntime) -> Result<(), Fail> {
+fn cells_lie_from_the_end_downward_in_the_order_of_their_slots(
+    rt: HostRuntime,
+) -> Result<(), Fail> {
     let mut page = [9u8; 1024];
     new_data(&mut page, PageNo(4), 3, 0);
     let front = [5u8, 0, 0, 0, 4, 0, 0, 0, 3, 0, 0, 0, 0, 0, 0, 0, 0, 0, 0, 4];

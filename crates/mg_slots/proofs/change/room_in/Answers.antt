@@ -1,5 +1,5 @@
 use Rattle.std.proofs.Common.{arith}
-use Rattle.mg_slots.proofs.DataPageLemmas.{taken_by_fits, used_below}
+use Rattle.mg_slots.specs.DataPageLaws.{taken_by_fits, used_below}
 use Rattle.mg_slots.proofs.change.room_in.Goals as goal
 
 pub taken_at-requires-clause-below : goal.taken_at-requires-clause-below

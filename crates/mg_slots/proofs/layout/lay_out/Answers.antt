@@ -2,7 +2,7 @@ use Rattle.std.proofs.Common.{◌≡◌, ◌+◌, ◌≤◌, arith, ap, ◌∙�
 use Rattle.std.specs.Option.{option_copied}
 use Rattle.mg_slots.specs.DataPage.{cell_of, taken_below, taken_by}
 use Rattle.mg_slots.specs.Layout.{PlacesBelow, with_cell}
-use Rattle.mg_slots.proofs.CellsLemmas.{taken_below_mono, taken_below_more}
+use Rattle.mg_slots.specs.TakenLaws.{taken_below_mono, taken_below_more}
 use Rattle.mg_slots.proofs.LaidLemmas.{laid_more, placed_front}
 use Rattle.mg_slots.proofs.layout.lay_out.Goals as goal
 

@@ -1,5 +1,5 @@
 use Rattle.std.proofs.Common.{arith}
-use Rattle.mg_slots.proofs.DataPageLemmas.{first_cells_fit, taken_by_fits}
+use Rattle.mg_slots.specs.DataPageLaws.{first_cells_fit, taken_by_fits}
 use Rattle.mg_slots.proofs.space.all_taken.Goals as goal
 
 pub overflow_add-sum : goal.overflow_add-sum

@@ -1,8 +1,8 @@
 use Rattle.std.proofs.Common.{◌≡◌, None, true, arith, sym, ap}
 use Rattle.std.specs.Prelude.{is_some}
 use Rattle.mg_slots.specs.DataPage.{cell_of, slot_count}
-use Rattle.mg_slots.proofs.DataPageLemmas.{cell_free, cell_used}
-use Rattle.mg_slots.proofs.RoomLemmas.{first_without_found, first_without_more}
+use Rattle.mg_slots.specs.DataPageLaws.{cell_free, cell_used}
+use Rattle.mg_slots.specs.RoomLaws.{first_without_found, first_without_more}
 use Rattle.mg_slots.proofs.space.least_free.Goals as goal
 
 pub returns-then-offset-eq0 : goal.returns-then-offset-eq0

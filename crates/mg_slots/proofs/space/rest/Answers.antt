@@ -1,5 +1,5 @@
 use Rattle.std.proofs.Common.{arith}
-use Rattle.mg_slots.proofs.DataPageLemmas.{cells_fit}
+use Rattle.mg_slots.specs.DataPageLaws.{cells_fit}
 use Rattle.mg_slots.proofs.space.rest.Goals as goal
 
 pub overflow_add-result-2 : goal.overflow_add-result-2

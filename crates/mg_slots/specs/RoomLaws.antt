@@ -1,9 +1,11 @@
 -- The least free slot, and the last slot in use.
 use Rattle.std.proofs.Common.{◌≡◌, ◌≢◌, ℕ, zero, suc, ◌+◌, ◌<◌, ◌≤◌, ◌⊎◌, inl, inr, Bool, true, false, Option, None, Some, List, refl, arith, add-one, sym, subst, ◌&&◌}
-use Rattle.std.specs.Prelude.{is_some, if◌then◌else◌, ◌==◌}
-use Rattle.std.proofs.lemmas.Bool.{cases_eq, eq-eqb, ne_eqb, eqb-true}
-use Rattle.mg_slots.specs.DataPage.{Cells}
-use Rattle.mg_slots.specs.Room.{first_without, used_end}
+use Rattle.std.specs.Prelude.{◌*◌, length, IsSome, is_some, if◌then◌else◌, ◌==◌}
+use Rattle.std.proofs.lemmas.Bool.{cases_eq, eq-eqb, ne_eqb, eqb-true, cases_lt}
+use Rattle.mg_slots.specs.declared.page.TheConstants.{SLOTS_AT, SLOT_LEN}
+use Rattle.mg_slots.specs.DataPage.{Cells, IsDataPage, all_taken, cell_of, slot_count}
+use Rattle.mg_slots.specs.DataPageLaws.{cell_past, cells_fit}
+use Rattle.mg_slots.specs.Room.{first_without, least_free, rest_of, used_end}
 use Rattle.mg_slots.specs.Layout.{with_cell}
 
 pub first_without_more : (cells : Cells) (n : ℕ) → first_without cells n ≡ n → is_some (cells n) ≡ true → first_without cells (n + 1) ≡ n + 1
@@ -96,3 +98,33 @@ with_cell_here cells slot cell = rw (eq-eqb slot slot refl) refl
 
 pub with_cell_other : (cells : Cells) (slot other : ℕ) (cell : Option (List ℕ)) → other ≢ slot → with_cell cells slot cell other ≡ cells other
 with_cell_other cells slot other cell ne = rw (ne_eqb other slot ne) refl
+
+pub first_without_all : (cells : Cells) (n : ℕ) → ((s : ℕ) → s < n → is_some (cells s) ≡ true) → first_without cells n ≡ n
+first_without_all cells zero all = refl
+first_without_all cells (suc n) all =
+    let before : first_without cells n ≡ n = first_without_all cells n (λ s lt. all s (omega arith)) in
+    let here : is_some (cells n) ≡ true = all n (omega arith) in
+    rw (eq-eqb (first_without cells n) n before, here) (omega arith)
+
+-- The same of a page.
+
+pub least_free_within : (b : List ℕ) → least_free b ≤ slot_count b
+least_free_within b = first_without_le (cell_of b) (slot_count b)
+
+pub least_free_is_free : (b : List ℕ) → cell_of b (least_free b) ≡ None
+least_free_is_free b = at (cases_lt (least_free b) (slot_count b))
+  where
+    at : (least_free b < slot_count b) ⊎ (slot_count b ≤ least_free b) → cell_of b (least_free b) ≡ None
+    at (inl below) = first_without_at (cell_of b) (slot_count b) below
+    at (inr past) = cell_past b (least_free b) past
+
+pub used_before_least_free : (b : List ℕ) (slot : ℕ) → slot < least_free b → IsSome (cell_of b slot)
+used_before_least_free b slot lt = first_without_before (cell_of b) (slot_count b) slot lt
+
+-- where each slot has a cell, a new cell gets a new slot
+pub least_free_of_full : (b : List ℕ) → ((slot : ℕ) → slot < slot_count b → IsSome (cell_of b slot)) → least_free b ≡ slot_count b
+least_free_of_full b full = first_without_all (cell_of b) (slot_count b) full
+
+-- what is left, what cells take and what slots take are the page
+pub rest_is : (b : List ℕ) → IsDataPage b → SLOTS_AT + SLOT_LEN * slot_count b + all_taken b + rest_of b ≡ length b
+rest_is b page = omega (arith, cells_fit b page)
