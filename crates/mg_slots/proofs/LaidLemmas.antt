@@ -146,21 +146,24 @@ laid_lawful b cells n least greatest laid count low room ends = record {
   slots_fit = omega arith;
   last_used = λ s last. has_used b _ s (cells s) (ends.last s (omega arith)) (omega (arith, within s (omega arith))) (laid.each s (omega arith));
   low = rw count (omega (arith, laid_least b cells n n laid (omega arith) (omega arith)));
-  free = λ s below is_free. has_free b _ s (cells s) (omega (arith, within s (omega arith))) is_free (laid.each s (omega arith));
-  after_slots = λ s below used. omega (arith, within s (omega arith), (place s (omega arith) used).0);
-  in_page = λ s below used. omega (arith, within s (omega arith), (place s (omega arith) used).0, (place s (omega arith) used).1);
-  apart = λ s t lt below used_s used_t meets.
-      omega (
+  slots = λ s below. record {
+    free = λ is_free. has_free b _ s (cells s) (omega (arith, within s (omega arith))) is_free (laid.each s (omega arith));
+    placed = λ used. record {
+      after_slots = omega (arith, within s (omega arith), (place s (omega arith) used).0);
+      in_page = omega (arith, within s (omega arith), (place s (omega arith) used).0, (place s (omega arith) used).1);
+      apart = λ e lt used_e meets. omega (
         arith,
+        within e (omega arith),
         within s (omega arith),
-        within t (omega arith),
-        (place s (omega arith) used_s).0,
-        (place s (omega arith) used_s).1,
-        (place t (omega arith) used_t).0,
-        (place t (omega arith) used_t).1,
-        taken_below_mono cells (s + 1) t (omega arith),
-        taken_below_more cells s,
+        (place e (omega arith) used_e).0,
+        (place e (omega arith) used_e).1,
+        (place s (omega arith) used).0,
+        (place s (omega arith) used).1,
+        taken_below_mono cells (e + 1) s (omega arith),
+        taken_below_more cells e,
       );
+    };
+  };
 }
   where
     within : (s : ℕ) → s < n → taken_below cells s + taken_by (cells s) ≤ taken_below cells n

@@ -25,7 +25,8 @@ taken len = max len LEAST_TAKEN
 
 -- the cell of a slot; a slot that is free or past the last one has none
 unfoldable pub cell_of : List ℕ → ℕ → Option (List ℕ)
-cell_of b slot = if nat_lt slot (slot_count b) && nat_lt 0 (offset_at b slot) then Some (take (length_at b slot) (drop (offset_at b slot) b)) else None
+cell_of b slot = if nat_lt slot (slot_count b) && nat_lt 0 (offset_at b slot)
+    then Some (take (length_at b slot) (drop (offset_at b slot) b)) else None
 
 -- what each slot has
 abbrev pub Cells : Type 0
@@ -48,37 +49,56 @@ all_taken b = taken_below (cell_of b) (slot_count b)
 -- the least offset among the slots below n that have one, the page's length where none has
 abbrev pub least_offset : List ℕ → ℕ → ℕ
 least_offset b zero = length b
-least_offset b (suc n) = if offset_at b n == 0 then least_offset b n else min (offset_at b n) (least_offset b n)
+least_offset b (suc n) = if offset_at b n == 0 then least_offset b n
+    else min (offset_at b n) (least_offset b n)
 
--- a lawful data page
+-- bytes meet no cell of this slot
+abbrev pub IsApart : List ℕ → ℕ → ℕ → ℕ → Type 0
+IsApart b slot at size = 0 < offset_at b slot → at < offset_at b slot + taken (length_at b slot)
+    → at + size ≤ offset_at b slot
+
+-- bytes lie between the slots and the page's end, and meet no cell of an earlier slot
+pub record HasPlace (b : List ℕ) (slot at size : ℕ) : Type 0 where
+  pub after_slots : SLOTS_AT + SLOT_LEN * slot_count b ≤ at
+  pub in_page : at + size ≤ length b
+  pub apart : (earlier : ℕ) → earlier < slot → IsApart b earlier at size
+
+-- a slot may have this length at its offset: 0 if it is free, else there is a place for such a cell
+pub record MayHaveLength (b : List ℕ) (slot len : ℕ) : Type 0 where
+  pub free : offset_at b slot ≡ 0 → len ≡ 0
+  pub placed : 0 < offset_at b slot → HasPlace b slot (offset_at b slot) (taken len)
+
+-- a slot is free, or its cell has its place
+abbrev pub IsSlot : List ℕ → ℕ → Type 0
+IsSlot b slot = MayHaveLength b slot (length_at b slot)
+
+-- a lawful data page: the slots fit it, the last one is in use, the lowest byte that a cell uses is
+-- named, and each slot is free or its cell has its place
 pub record IsDataPage (b : List ℕ) : Type 0 where
   pub least_size : LEAST_SIZE ≤ length b
   pub greatest_size : length b ≤ GREATEST_SIZE
-  -- the slots fit the page, and the last one is in use
   pub slots_fit : SLOTS_AT + SLOT_LEN * slot_count b ≤ length b
   pub last_used : (slot : ℕ) → slot_count b ≡ slot + 1 → 0 < offset_at b slot
   pub low : low_of b ≡ least_offset b (slot_count b)
-  -- a free slot has no length; a cell lies between the slots and the page's end; no two cells meet
-  pub free : (slot : ℕ) → slot < slot_count b → offset_at b slot ≡ 0 → length_at b slot ≡ 0
-  pub after_slots : (slot : ℕ) → slot < slot_count b → 0 < offset_at b slot → SLOTS_AT + SLOT_LEN * slot_count b ≤ offset_at b slot
-  pub in_page : (slot : ℕ) → slot < slot_count b → 0 < offset_at b slot → offset_at b slot + taken (length_at b slot) ≤ length b
-  pub apart : (earlier later : ℕ) → earlier < later → later < slot_count b → 0 < offset_at b earlier → 0 < offset_at b later
-      → offset_at b later < offset_at b earlier + taken (length_at b earlier) → offset_at b later + taken (length_at b later) ≤ offset_at b earlier
+  pub slots : (slot : ℕ) → slot < slot_count b → IsSlot b slot
 
 -- a slot's cell ends at `end`, and zero bytes follow a short one; a slot without a cell is zero
 abbrev pub HasUpTo : List ℕ → ℕ → ℕ → Option (List ℕ) → Type 0
 HasUpTo b end slot None = (offset_at b slot ≡ 0) × (length_at b slot ≡ 0)
-HasUpTo b end slot (Some cell) = (offset_at b slot + taken (length cell) ≡ end) × (length_at b slot ≡ length cell)
+HasUpTo b end slot (Some cell) = (offset_at b slot + taken (length cell) ≡ end)
+    × (length_at b slot ≡ length cell)
     × ((k : ℕ) → k < taken (length cell) → byte b (offset_at b slot + k) ≡ byte cell k)
 
--- the slots below n have these cells, one below the other from the page's end downward, and between
--- them and the lowest cell all bytes are zero
+-- the slots below n have these cells, one below the other from the page's end downward, and
+-- between them and the lowest cell all bytes are zero
 pub record IsLaid (b : List ℕ) (cells : Cells) (n : ℕ) : Type 0 where
-  pub each : (slot : ℕ) → slot < n → HasUpTo b (length b - taken_below cells slot) slot (cells slot)
-  pub blank : (k : ℕ) → SLOTS_AT + SLOT_LEN * n ≤ k → k < length b - taken_below cells n → byte b k ≡ 0
+  pub each : (slot : ℕ) → slot < n
+      → HasUpTo b (length b - taken_below cells slot) slot (cells slot)
+  pub blank : (k : ℕ) → SLOTS_AT + SLOT_LEN * n ≤ k → k < length b - taken_below cells n
+      → byte b k ≡ 0
 
--- the cells lie from the page's end downward in the order of their slots, and all other bytes behind
--- the slots are zero
+-- the cells lie from the page's end downward in the order of their slots, and all other bytes
+-- behind the slots are zero
 abbrev pub IsPacked : List ℕ → Type 0
 IsPacked b = IsLaid b (cell_of b) (slot_count b)
 

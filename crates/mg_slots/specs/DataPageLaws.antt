@@ -36,7 +36,7 @@ used_of_some b slot cell some = at (cases_lt slot (slot_count b)) (cases_eq (off
 
 pub taken_by_used : (b : List ℕ) (slot : ℕ) → IsDataPage b → slot < slot_count b → 0 < offset_at b slot → taken_by (cell_of b slot) ≡ taken (length_at b slot)
 taken_by_used b slot page below used =
-    let fits : offset_at b slot + taken (length_at b slot) ≤ length b = page.in_page slot below used in
+    let fits : offset_at b slot + taken (length_at b slot) ≤ length b = ((page.slots slot below).placed used).in_page in
     let within : length_at b slot ≤ length (drop (offset_at b slot) b) = simp length-drop (omega arith) in
     let len : length (take (length_at b slot) (drop (offset_at b slot) b)) ≡ length_at b slot = length-take-le (length_at b slot) (drop (offset_at b slot) b) within in
     rw (cell_used b slot below used, len) refl
@@ -53,11 +53,11 @@ cells_apart b page = record {
   where
     above : (s : ℕ) → s < slot_count b → 0 < taken_by (cell_of b s) → (offset_at b s ≡ 0) ⊎ (offset_at b s ≢ 0) → SLOTS_AT + SLOT_LEN * slot_count b ≤ offset_at b s
     above s lt long (inl free) = absurd (omega (arith, taken_by_free b s free))
-    above s lt long (inr used) = page.after_slots s lt (omega arith)
+    above s lt long (inr used) = ((page.slots s lt).placed (omega arith)).after_slots
 
     within : (s : ℕ) → s < slot_count b → (offset_at b s ≡ 0) ⊎ (offset_at b s ≢ 0) → offset_at b s + taken_by (cell_of b s) ≤ length b
     within s lt (inl free) = rw (taken_by_free b s free, free) (omega arith)
-    within s lt (inr used) = let used_s : 0 < offset_at b s = omega arith in rw (taken_by_used b s page lt used_s) (page.in_page s lt used_s)
+    within s lt (inr used) = let used_s : 0 < offset_at b s = omega arith in rw (taken_by_used b s page lt used_s) (((page.slots s lt).placed used_s).in_page)
 
     apart : (s t : ℕ) → s < t → t < slot_count b → offset_at b t < offset_at b s + taken_by (cell_of b s) → (offset_at b s ≡ 0) ⊎ (offset_at b s ≢ 0) → (offset_at b t ≡ 0) ⊎ (offset_at b t ≢ 0)
         → offset_at b t + taken_by (cell_of b t) ≤ offset_at b s
@@ -68,7 +68,7 @@ cells_apart b page = record {
         let has_s : 0 < offset_at b s = omega arith in
         let has_t : 0 < offset_at b t = omega arith in
         let meets_there : offset_at b t < offset_at b s + taken (length_at b s) = rw (taken_by_used b s page below_s has_s) at meets in
-        rw (taken_by_used b t page below has_t) (page.apart s t lt below has_s has_t meets_there)
+        rw (taken_by_used b t page below has_t) (((page.slots t below).placed has_t).apart s lt has_s meets_there)
 
 sum_is_taken : (cells : Cells) (n : ℕ) → sum_below (λ s. taken_by (cells s)) n ≡ taken_below cells n
 sum_is_taken cells zero = refl
@@ -93,7 +93,7 @@ taken_by_fits b slot page = at (cases_lt slot (slot_count b)) (cases_eq (offset_
     at (inl below) (inl free) = rw (cell_free b slot free) (omega arith)
     at (inl below) (inr used) =
         let has : 0 < offset_at b slot = omega arith in
-        rw (taken_by_used b slot page below has) (omega (arith, page.in_page slot below has))
+        rw (taken_by_used b slot page below has) (omega (arith, ((page.slots slot below).placed has).in_page))
 
 -- a slot that has a cell is below the count
 pub used_below : (b : List ℕ) (slot : ℕ) → is_some (cell_of b slot) ≡ true → slot < slot_count b

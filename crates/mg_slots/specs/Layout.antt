@@ -32,7 +32,8 @@ pub record PlacesCell (old new : List ℕ) (slot at : ℕ) (cell : List ℕ) : T
   pub offset : offset_at new slot ≡ at
   pub length_is : length_at new slot ≡ length cell
   pub here : (k : ℕ) → k < length cell → byte new (at + k) ≡ byte cell k
-  pub same : (k : ℕ) → (SLOTS_AT + SLOT_LEN * slot ≤ k → SLOTS_AT + SLOT_LEN * (slot + 1) ≤ k) → (at ≤ k → at + length cell ≤ k) → byte new k ≡ byte old k
+  pub same : (k : ℕ) → (SLOTS_AT + SLOT_LEN * slot ≤ k → SLOTS_AT + SLOT_LEN * (slot + 1) ≤ k)
+      → (at ≤ k → at + length cell ≤ k) → byte new k ≡ byte old k
 
 -- what a slot is to have is placed below `low`: nothing is changed where it is to have no cell
 abbrev pub PlacesBelow : List ℕ → List ℕ → ℕ → ℕ → Option (List ℕ) → Type 0

@@ -6,7 +6,8 @@ use Rattle.mg_slots.specs.DataPage.{Cells, cell_of, slot_count, taken, taken_by,
 -- the least slot without a cell, n where each slot below n has one
 abbrev pub first_without : Cells → ℕ → ℕ
 first_without cells zero = 0
-first_without cells (suc n) = if first_without cells n == n && is_some (cells n) then n + 1 else first_without cells n
+first_without cells (suc n) = if first_without cells n == n && is_some (cells n) then n + 1
+    else first_without cells n
 
 -- the least free slot, the one past the last where there is no other
 abbrev pub least_free : List ℕ → ℕ
@@ -20,9 +21,11 @@ rest_of b = length b - (SLOTS_AT + SLOT_LEN * slot_count b + all_taken b)
 abbrev pub room_of : List ℕ → ℕ
 room_of b = if nat_lt (least_free b) (slot_count b) then rest_of b else rest_of b - SLOT_LEN
 
--- how many bytes a cell may take in this slot: the old cell's are room, and a slot in use is paid for
+-- how many bytes a cell may take in this slot: the old cell's are room, and a slot in use is
+-- paid for
 abbrev pub room_for : List ℕ → ℕ → ℕ
-room_for b slot = if is_some (cell_of b slot) then rest_of b + taken_by (cell_of b slot) else room_of b
+room_for b slot = if is_some (cell_of b slot) then rest_of b + taken_by (cell_of b slot)
+    else room_of b
 
 -- how many bytes a cell needs
 abbrev pub need_of : List ℕ → ℕ

@@ -53,7 +53,8 @@ fn place_below(b: &mut [u8], slot: usize, low: usize, wanted: Option<&[u8]>) -> 
 fn wanted<'a>(old: &'a [u8], at: usize, slot: usize, new_cell: Option<&'a [u8]>) -> Option<&'a [u8]>
     requires lawful { IsDataPage old.now }
     requires below { at < 65536 }
-    ensures { option_copied result ≡ with_cell (cell_of old.now) slot (option_copied new_cell.entry) at }
+    ensures { option_copied result
+        ≡ with_cell (cell_of old.now) slot (option_copied new_cell.entry) at }
 {
     if at == slot {
         new_cell
@@ -78,7 +79,8 @@ fn lay_out(b: &mut [u8], old: &[u8], slot: usize, new_cell: Option<&[u8]>, count
     requires room { SLOTS_AT + SLOT_LEN * count
         + taken_below (with_cell (cell_of old.now) slot (option_copied new_cell)) count ≤ length b.old }
     requires blank { (k : ℕ) → SLOTS_AT ≤ k → byte b.old k ≡ 0 }
-    ensures laid { IsLaid b.new (with_cell (cell_of old.now) slot (option_copied new_cell.entry)) count }
+    ensures laid { IsLaid b.new
+        (with_cell (cell_of old.now) slot (option_copied new_cell.entry)) count }
     ensures low { result
         + taken_below (with_cell (cell_of old.now) slot (option_copied new_cell.entry)) count ≡ length b.old }
     ensures front { (k : ℕ) → k < SLOTS_AT → byte b.new k ≡ byte b.old k }

@@ -1,8 +1,8 @@
-//! The data page: a map from slot to cell. It reads and changes one page that the caller lends, and
-//! takes no memory.
+//! The data page: a map from slot to cell. It reads and changes one page that the caller lends,
+//! and takes no memory.
 //!
-//! Owns: a page of kind 5. A record is named by its page and its slot, so a slot number is kept until
-//! its cell is freed, wherever the cell is moved to.
+//! Owns: a page of kind 5. A record is named by its page and its slot, so a slot number is kept
+//! until its cell is freed, wherever the cell is moved to.
 //!
 //! | at | width | field |
 //! |---|---|---|
@@ -11,12 +11,12 @@
 //! | 18 | 2 | lowest byte that a cell uses, P where there is none |
 //! | 20 | 4 each | slots: an offset and a length, 2 bytes each, both 0 for a free slot |
 //!
-//! A cell takes its length, and at least 11 bytes, so that an anchor can replace any cell. A page
-//! of P = 4096 has 4076 bytes for slots and cells: 92 records of an anchor and a version of 25 bytes.
+//! A cell takes its length, and at least 11 bytes, so that an anchor can replace any cell. A page of
+//! P = 4096 has 4076 bytes for slots and cells: 92 records of an anchor and a version of 25 bytes.
 //!
-//! Invariant (`IsDataPage`): the last slot is in use, the cells lie between the slots and the page's
-//! end, and no two meet. After each change they lie from the end downward in the order of their
-//! slots, with zero bytes between them and the slots (`IsPacked`).
+//! Invariant (`IsDataPage`): the last slot is in use, the cells lie between the slots and the
+//! page's end, and no two meet. After each change they lie from the end downward in the order of
+//! their slots, with zero bytes between them and the slots (`IsPacked`).
 //! Below: `mg_base`, for fields. Above: `mg_heap`, which keeps a table's data pages.
 //! Not here: what a cell says, which page has room, and when a page may be written.
 #![tactic(auto)]

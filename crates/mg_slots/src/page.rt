@@ -16,7 +16,8 @@ pub const LOW_AT: usize = 18;
 pub const SLOTS_AT: usize = 20;
 /// The length of a slot: its cell's offset and its cell's length, 2 bytes each.
 pub const SLOT_LEN: usize = 4;
-/// The least number of bytes that a cell takes: the length of an anchor, which can replace any cell.
+/// The least number of bytes that a cell takes: the length of an anchor, which can replace any
+/// cell.
 pub const LEAST_TAKEN: usize = 11;
 /// The least size of a page, in bytes.
 pub const LEAST_SIZE: usize = 1024;
@@ -51,7 +52,8 @@ pub fn slots(b: &[u8]) -> u16
 #[tactic(auto, unfolding(crate::specs::DataPage::cell_of))]
 pub fn cell(b: &[u8], slot: u16) -> Option<&[u8]>
     requires { IsDataPage b.now }
-    ensures { MatchOption result (cell_of b.now slot ≡ None) (λ c. cell_of b.now slot ≡ Some c.now) }
+    ensures { MatchOption result (cell_of b.now slot ≡ None)
+        (λ c. cell_of b.now slot ≡ Some c.now) }
 {
     if slot >= slots(b) {
         return None;
