@@ -1,3 +1,4 @@
+pub mod CheckLemmas
 pub mod LaidLemmas
 pub mod NewPageLemmas
 pub mod RewriteLemmas

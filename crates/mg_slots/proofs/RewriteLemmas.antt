@@ -1,6 +1,6 @@
 -- What a page is once all its cells are laid out anew.
 use Rattle.std.proofs.Common.{◌≡◌, ◌≢◌, ℕ, ◌+◌, ◌-◌, ◌*◌, ◌<◌, ◌≤◌, ◌⊎◌, inl, inr, max, Option, None, Some, List, length, take, refl, arith, ap, ◌∙◌, sym, subst}
-use Rattle.std.specs.Prelude.{IsSome}
+use Rattle.std.specs.Prelude.{is_some, IsSome}
 use Rattle.std.proofs.Math.Path.{fun_ext}
 use Rattle.std.proofs.lemmas.Bool.{cases_eq, cases_lt, lt-ltb, le-ltb}
 use Rattle.std.proofs.lemmas.List.{length-take-le, ext_get_or, get_or-take}
@@ -14,7 +14,7 @@ use Rattle.mg_slots.specs.Room.{least_free, rest_of, room_for, used_end}
 use Rattle.mg_slots.specs.TakenLaws.{taken_below_beyond, taken_below_changed, taken_below_mono, taken_below_more}
 use Rattle.mg_slots.specs.DataPageLaws.{cell_past, cell_used, cells_fit}
 use Rattle.mg_slots.proofs.LaidLemmas.{has_same, laid_cells, laid_lawful}
-use Rattle.mg_slots.specs.RoomLaws.{first_without_le, used_end_beyond, used_end_last, used_end_le, with_cell_here, with_cell_other}
+use Rattle.mg_slots.specs.RoomLaws.{first_without_le, last_end_last, last_end_le, used_end_beyond, with_cell_here, with_cell_other}
 
 -- cells stay laid out where all bytes behind the fields stay
 laid_same : (b b' : List ℕ) (cells : Cells) (n : ℕ) → length b' ≡ length b → ((k : ℕ) → SLOTS_AT ≤ k → byte b' k ≡ byte b k) → SLOTS_AT + taken_below cells n ≤ length b → IsLaid b cells n → IsLaid b' cells n
@@ -115,7 +115,7 @@ put_ends b slot cell page = record {
 
 pub free_ends : (b : List ℕ) (slot : ℕ) → EndsAt (with_cell (cell_of b) slot None) (used_end (with_cell (cell_of b) slot None) (slot_count b))
 free_ends b slot = record {
-  last = λ s e. used_end_last (with_cell (cell_of b) slot None) (slot_count b) s e;
+  last = λ s e. last_end_last (λ s. is_some (with_cell (cell_of b) slot None s)) (slot_count b) s e;
   beyond = λ s le. beyond s le (cases_lt s (slot_count b)) (cases_eq s slot);
 }
   where
@@ -130,7 +130,7 @@ free_fits b slot page =
     let ends : EndsAt (with_cell (cell_of b) slot None) (used_end (with_cell (cell_of b) slot None) (slot_count b)) = free_ends b slot in
     let sum : taken_below (with_cell (cell_of b) slot None) (used_end (with_cell (cell_of b) slot None) (slot_count b)) + taken_by (cell_of b slot) ≡ all_taken b + 0
     = taken_with (cell_of b) slot None (slot_count b) (used_end (with_cell (cell_of b) slot None) (slot_count b)) (λ s le. cell_past b s le) ends.beyond in
-    omega (arith, cells_fit b page, used_end_le (with_cell (cell_of b) slot None) (slot_count b))
+    omega (arith, cells_fit b page, last_end_le (λ s. is_some (with_cell (cell_of b) slot None s)) (slot_count b))
 
 pub put_slot_within : (b : List ℕ) (slot : ℕ) → (cell_of b slot ≡ None → slot ≡ least_free b) → slot ≤ slot_count b
 put_slot_within b slot least = at (cases_lt slot (slot_count b))

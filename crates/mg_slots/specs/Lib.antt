@@ -1,8 +1,12 @@
 pub mod Changes
+pub mod Damage
+pub mod DamageLaws
 pub mod DataPage
 pub mod DataPageLaws
 pub mod Disjoint
 pub mod Layout
 pub mod Room
 pub mod RoomLaws
+pub mod SlotField
 pub mod TakenLaws
+pub mod Verdict

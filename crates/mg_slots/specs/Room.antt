@@ -1,5 +1,5 @@
 -- The room of a data page.
-use Rattle.std.specs.Prelude.{ℕ, zero, suc, ◌+◌, ◌-◌, ◌*◌, List, length, is_some, ◌&&◌, ◌==◌, nat_lt, if◌then◌else◌}
+use Rattle.std.specs.Prelude.{ℕ, Bool, zero, suc, ◌+◌, ◌-◌, ◌*◌, List, length, is_some, ◌&&◌, ◌==◌, nat_lt, if◌then◌else◌}
 use Rattle.mg_slots.specs.declared.page.TheConstants.{SLOTS_AT, SLOT_LEN}
 use Rattle.mg_slots.specs.DataPage.{Cells, cell_of, slot_count, taken, taken_by, all_taken}
 
@@ -31,7 +31,11 @@ room_for b slot = if is_some (cell_of b slot) then rest_of b + taken_by (cell_of
 abbrev pub need_of : List ℕ → ℕ
 need_of cell = taken (length cell)
 
+-- one past the last number below n that passes, 0 where none does
+abbrev pub last_end : (ℕ → Bool) → ℕ → ℕ
+last_end passes zero = 0
+last_end passes (suc n) = if passes n then n + 1 else last_end passes n
+
 -- the slots up to the last one that has a cell, of those below n
 abbrev pub used_end : Cells → ℕ → ℕ
-used_end cells zero = 0
-used_end cells (suc n) = if is_some (cells n) then n + 1 else used_end cells n
+used_end cells n = last_end (λ slot. is_some (cells slot)) n

@@ -1,11 +1,11 @@
 -- The least free slot, and the last slot in use.
-use Rattle.std.proofs.Common.{◌≡◌, ◌≢◌, ℕ, zero, suc, ◌+◌, ◌<◌, ◌≤◌, ◌⊎◌, inl, inr, Bool, true, false, Option, None, Some, List, refl, arith, add-one, sym, subst, ◌&&◌}
+use Rattle.std.proofs.Common.{◌≡◌, ◌≢◌, ℕ, zero, suc, ◌+◌, ◌<◌, ◌≤◌, ◌⊎◌, inl, inr, Bool, true, false, Option, None, Some, List, refl, arith, add-one, ap, sym, subst, ◌&&◌}
 use Rattle.std.specs.Prelude.{◌*◌, length, IsSome, is_some, if◌then◌else◌, ◌==◌}
 use Rattle.std.proofs.lemmas.Bool.{cases_eq, eq-eqb, ne_eqb, eqb-true, cases_lt}
 use Rattle.mg_slots.specs.declared.page.TheConstants.{SLOTS_AT, SLOT_LEN}
 use Rattle.mg_slots.specs.DataPage.{Cells, IsDataPage, all_taken, cell_of, slot_count}
 use Rattle.mg_slots.specs.DataPageLaws.{cell_past, cells_fit}
-use Rattle.mg_slots.specs.Room.{first_without, least_free, rest_of, used_end}
+use Rattle.mg_slots.specs.Room.{first_without, least_free, rest_of, last_end, used_end}
 use Rattle.mg_slots.specs.Layout.{with_cell}
 
 pub first_without_more : (cells : Cells) (n : ℕ) → first_without cells n ≡ n → is_some (cells n) ≡ true → first_without cells (n + 1) ≡ n + 1
@@ -56,42 +56,54 @@ first_without_at cells (suc n) lt = at (first_without cells n == n) refl (cells 
     at false all o here lt ih = ih (let le : first_without cells n ≤ n = first_without_le cells n in at_less (cases_eq (first_without cells n) n))
       where
         at_less : (first_without cells n ≡ n) ⊎ (first_without cells n ≢ n) → first_without cells n < n
-        at_less (inl e) = let yes : (first_without cells n == n) ≡ true = eq-eqb (first_without cells n) n e in absurd cc
+        at_less (inl e) = let passed : (first_without cells n == n) ≡ true = eq-eqb (first_without cells n) n e in absurd cc
         at_less (inr ne) = omega (arith, first_without_le cells n)
 
-pub used_end_here : (cells : Cells) (n : ℕ) → is_some (cells n) ≡ true → used_end cells (n + 1) ≡ n + 1
-used_end_here cells n some = rw (add-one n, some) (omega arith)
+pub last_end_here : (passes : ℕ → Bool) (n : ℕ) → passes n ≡ true → last_end passes (n + 1) ≡ n + 1
+last_end_here passes n passed = rw (add-one n, passed) (omega arith)
 
-pub used_end_drop : (cells : Cells) (n : ℕ) → cells n ≡ None → used_end cells (n + 1) ≡ used_end cells n
-used_end_drop cells n none = rw (add-one n, none) refl
+pub last_end_drop : (passes : ℕ → Bool) (n : ℕ) → passes n ≡ false → last_end passes (n + 1) ≡ last_end passes n
+last_end_drop passes n failed = rw (add-one n, failed) refl
 
-pub used_end_le : (cells : Cells) (n : ℕ) → used_end cells n ≤ n
-used_end_le cells zero = omega arith
-used_end_le cells (suc n) = at (is_some (cells n)) (used_end_le cells n)
+pub last_end_le : (passes : ℕ → Bool) (n : ℕ) → last_end passes n ≤ n
+last_end_le passes zero = omega arith
+last_end_le passes (suc n) = at (passes n) (last_end_le passes n)
   where
-    at : (p : Bool) → used_end cells n ≤ n → (if p then n + 1 else used_end cells n) ≤ suc n
+    at : (p : Bool) → last_end passes n ≤ n → (if p then n + 1 else last_end passes n) ≤ suc n
     at true ih = omega arith
     at false ih = omega arith
 
--- the slot before the end has a cell
-pub used_end_last : (cells : Cells) (n s : ℕ) → used_end cells n ≡ s + 1 → is_some (cells s) ≡ true
-used_end_last cells zero s e = absurd (omega arith)
-used_end_last cells (suc n) s e = at (is_some (cells n)) refl e (used_end_last cells n s)
+-- the number before the end passes
+pub last_end_last : (passes : ℕ → Bool) (n s : ℕ) → last_end passes n ≡ s + 1 → passes s ≡ true
+last_end_last passes zero s e = absurd (omega arith)
+last_end_last passes (suc n) s e = at (passes n) refl e (last_end_last passes n s)
   where
-    at : (p : Bool) → is_some (cells n) ≡ p → (if p then n + 1 else used_end cells n) ≡ s + 1 → (used_end cells n ≡ s + 1 → is_some (cells s) ≡ true) → is_some (cells s) ≡ true
-    at true some e ih = let same : s ≡ n = omega arith in rw same some
-    at false none e ih = ih e
+    at : (p : Bool) → passes n ≡ p → (if p then n + 1 else last_end passes n) ≡ s + 1 → (last_end passes n ≡ s + 1 → passes s ≡ true) → passes s ≡ true
+    at true passed e ih = let same : s ≡ n = omega arith in rw same passed
+    at false failed e ih = ih e
 
--- none from the end on has
-pub used_end_beyond : (cells : Cells) (n s : ℕ) → used_end cells n ≤ s → s < n → cells s ≡ None
-used_end_beyond cells zero s le lt = absurd (omega arith)
-used_end_beyond cells (suc n) s le lt = at (cells n) refl le (cases_eq s n) (used_end_beyond cells n s)
+-- none from the end on passes
+pub last_end_beyond : (passes : ℕ → Bool) (n s : ℕ) → last_end passes n ≤ s → s < n → passes s ≡ false
+last_end_beyond passes zero s le lt = absurd (omega arith)
+last_end_beyond passes (suc n) s le lt = at (passes n) refl le (cases_eq s n) (last_end_beyond passes n s)
   where
-    at : (o : Option (List ℕ)) → cells n ≡ o → (if is_some o then n + 1 else used_end cells n) ≤ s → (s ≡ n) ⊎ (s ≢ n)
-        → (used_end cells n ≤ s → s < n → cells s ≡ None) → cells s ≡ None
-    at (Some cell) here le e ih = absurd (omega arith)
-    at None here le (inl e) ih = rw e here
-    at None here le (inr ne) ih = ih le (omega arith)
+    at : (p : Bool) → passes n ≡ p → (if p then n + 1 else last_end passes n) ≤ s → (s ≡ n) ⊎ (s ≢ n)
+      → (last_end passes n ≤ s → s < n → passes s ≡ false) → passes s ≡ false
+    at true passed le e ih = absurd (omega arith)
+    at false failed le (inl e) ih = rw e failed
+    at false failed le (inr ne) ih = ih le (omega arith)
+
+-- the end is n where the number before n passes
+pub last_end_whole : (passes : ℕ → Bool) (n : ℕ) → ((s : ℕ) → n ≡ s + 1 → passes s ≡ true) → last_end passes n ≡ n
+last_end_whole passes zero last = refl
+last_end_whole passes (suc n) last = let here : passes n ≡ true = last n (omega arith) in rw here (omega arith)
+
+pub used_end_beyond : (cells : Cells) (n s : ℕ) → used_end cells n ≤ s → s < n → cells s ≡ None
+used_end_beyond cells n s le lt = at (cells s) refl (last_end_beyond (λ slot. is_some (cells slot)) n s le lt)
+  where
+    at : (o : Option (List ℕ)) → cells s ≡ o → is_some (cells s) ≡ false → cells s ≡ None
+    at None here failed = here
+    at (Some cell) here failed = let passed : is_some (cells s) ≡ true = ap is_some here in absurd cc
 
 pub with_cell_here : (cells : Cells) (slot : ℕ) (cell : Option (List ℕ)) → with_cell cells slot cell slot ≡ cell
 with_cell_here cells slot cell = rw (eq-eqb slot slot refl) refl

@@ -22,11 +22,13 @@
 #![tactic(auto)]
 
 mod change;
+mod check;
 mod layout;
 mod page;
 mod space;
 
 pub use change::{NoRoom, free, put_cell, replace};
+pub use check::check_data;
 pub use page::{
     COUNT_AT, DATA_KIND, GREATEST_SIZE, LEAST_SIZE, LEAST_TAKEN, LOW_AT, SLOT_LEN, SLOTS_AT, cell,
     new_data, slots,
