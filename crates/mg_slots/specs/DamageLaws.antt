@@ -1,15 +1,14 @@
 -- A data page is lawful exactly where no field of it differs.
-use Rattle.std.proofs.Common.{◌≡◌, ◌≢◌, ℕ, ◌+◌, ◌-◌, ◌*◌, ◌/◌, ◌<◌, ◌≤◌, ◌⊎◌, inl, inr, Bool, true, false, not, List, length, refl, arith, ap, ◌∙◌, sym, Result, Ok, Err, ◌↔◌}
-use Rattle.std.specs.Prelude.{◌==◌, ◌&&◌, nat_lt, IsOk, OnOk, IfErr}
+use Rattle.std.proofs.Common.{◌≡◌, ◌≢◌, ℕ, ◌+◌, ◌*◌, ◌<◌, ◌≤◌, ◌⊎◌, inl, inr, true, false, not, List, length, refl, arith, ◌∙◌, sym, Ok}
 use Rattle.std.proofs.lemmas.Bool.{cases_lt, cases_eq, eq-eqb, ne_eqb, lt-ltb, le-ltb}
 use Rattle.mg_base.specs.declared.damage.Damaged.{Damaged}
 use Rattle.mg_base.specs.declared.numbers.PageNo.{PageNo}
-use Rattle.mg_slots.specs.declared.page.TheConstants.{DATA_KIND, SLOTS_AT, SLOT_LEN, LEAST_TAKEN, LEAST_SIZE, GREATEST_SIZE}
-use Rattle.mg_slots.specs.Damage.{HasFront, IsFirstDamage, IsSlotDamage, IsNearest, MayHaveOffset, is_free, lawful_count, most_slots}
+use Rattle.mg_slots.specs.declared.page.TheConstants.{DATA_KIND, SLOTS_AT, SLOT_LEN, LEAST_SIZE, GREATEST_SIZE}
+use Rattle.mg_slots.specs.Damage.{HasFront, IsFirstDamage, IsSlotDamage, MayHaveOffset, is_free, lawful_count, most_slots}
 use Rattle.mg_slots.specs.Damage.{common, count, low, slot, offset, len}
-use Rattle.mg_slots.specs.DataPage.{IsDataPage, IsSlot, HasPlace, MayHaveLength, IsApart, slot_count, offset_at, length_at, taken}
+use Rattle.mg_slots.specs.DataPage.{IsDataPage, IsSlot, HasPlace, slot_count, offset_at, length_at, taken}
 use Rattle.mg_slots.specs.Room.{last_end}
-use Rattle.mg_slots.specs.RoomLaws.{last_end_le, last_end_last, last_end_whole}
+use Rattle.mg_slots.specs.RoomLaws.{last_end_last, last_end_whole}
 use Rattle.mg_slots.specs.Verdict.{common_verdict}
 
 -- a number of slots that is as wanted fits the page
@@ -29,22 +28,22 @@ wanted_count_last b s wanted last = at (cases_lt (most_slots b) (slot_count b))
     at : (most_slots b < slot_count b) ⊎ (slot_count b ≤ most_slots b) → not (is_free b s) ≡ true
     at (inl more) = let e : slot_count b ≡ most_slots b = rw (lt-ltb (most_slots b) (slot_count b) more) at wanted in absurd (omega arith)
     at (inr within) =
-      let e : slot_count b ≡ last_end (λ slot. not (is_free b slot)) (slot_count b) = rw (le-ltb (most_slots b) (slot_count b) within) at wanted in
-      last_end_last (λ slot. not (is_free b slot)) (slot_count b) s (sym e ∙ last)
+        let e : slot_count b ≡ last_end (λ slot. not (is_free b slot)) (slot_count b) = rw (le-ltb (most_slots b) (slot_count b) within) at wanted in
+        last_end_last (λ slot. not (is_free b slot)) (slot_count b) s (sym e ∙ last)
 
 -- the number of slots of a lawful page is as wanted
 pub count_is_wanted : (b : List ℕ) → IsDataPage b → slot_count b ≡ lawful_count b
 unfolding lawful_count
 count_is_wanted b page =
-  let within : slot_count b ≤ most_slots b = omega (arith, page.slots_fit) in
-  rw (le-ltb (most_slots b) (slot_count b) within) (sym (last_end_whole (λ slot. not (is_free b slot)) (slot_count b) (λ s last.
+    let within : slot_count b ≤ most_slots b = omega (arith, page.slots_fit) in
+    rw (le-ltb (most_slots b) (slot_count b) within) (sym (last_end_whole (λ slot. not (is_free b slot)) (slot_count b) (λ s last.
     let used : offset_at b s ≢ 0 = omega (arith, page.last_used s last) in rw (ne_eqb (offset_at b s) 0 used) refl)))
 
 -- a slot that is lawful has a lawful offset
 pub offset_of_slot : (b : List ℕ) (s : ℕ) → IsSlot b s → MayHaveOffset b s (offset_at b s)
 offset_of_slot b s lawful = λ used.
-  let placed : HasPlace b s (offset_at b s) (taken (length_at b s)) = lawful.placed used in
-  record { after_slots = placed.after_slots; in_page = omega (arith, placed.in_page); apart = λ e lt has meets. omega (arith, placed.apart e lt has meets) }
+    let placed : HasPlace b s (offset_at b s) (taken (length_at b s)) = lawful.placed used in
+    record { after_slots = placed.after_slots; in_page = omega (arith, placed.in_page); apart = λ e lt has meets. omega (arith, placed.apart e lt has meets) }
 
 -- a page whose fields are as wanted is lawful
 pub lawful_of_fields : (b : List ℕ) (page : PageNo) (owner seq : ℕ) → LEAST_SIZE ≤ length b → length b ≤ GREATEST_SIZE → HasFront b page owner seq → ((s : ℕ) → s < slot_count b → IsSlot b s) → IsDataPage b
@@ -54,7 +53,7 @@ lawful_of_fields b page owner seq least greatest front each = record {
   slots_fit = wanted_count_fits b (omega arith) front.count;
   last_used = λ s last. at s (each s (omega arith)) (wanted_count_last b s front.count last) (cases_eq (offset_at b s) 0);
   low = front.low;
-  slots = each
+  slots = each;
 }
   where
     at : (s : ℕ) → IsSlot b s → not (is_free b s) ≡ true → (offset_at b s ≡ 0) ⊎ (offset_at b s ≢ 0) → 0 < offset_at b s

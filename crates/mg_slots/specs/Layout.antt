@@ -3,11 +3,15 @@ use Rattle.std.specs.Prelude.{◌≡◌, ℕ, ◌+◌, ◌-◌, ◌*◌, ◌<◌
 use Rattle.mg_base.specs.Fields.{byte}
 use Rattle.mg_base.specs.declared.fields.TheConstants.{COMMON}
 use Rattle.mg_slots.specs.declared.page.TheConstants.{SLOTS_AT, SLOT_LEN}
-use Rattle.mg_slots.specs.DataPage.{Cells, offset_at, length_at, taken}
+use Rattle.mg_slots.specs.DataPage.{Cells, offset_at, length_at, taken, taken_below}
 
 -- the cells with another one in one slot
 abbrev pub with_cell : Cells → ℕ → Option (List ℕ) → Cells
 with_cell cells slot cell other = if other == slot then cell else cells other
+
+-- how many bytes the fields, n slots and their cells take
+abbrev pub space_of : Cells → ℕ → ℕ
+space_of cells n = SLOTS_AT + SLOT_LEN * n + taken_below cells n
 
 -- the slots end at n: the last one has a cell, and none from n on has
 pub record EndsAt (cells : Cells) (n : ℕ) : Type 0 where

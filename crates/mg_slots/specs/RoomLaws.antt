@@ -88,7 +88,7 @@ last_end_beyond passes zero s le lt = absurd (omega arith)
 last_end_beyond passes (suc n) s le lt = at (passes n) refl le (cases_eq s n) (last_end_beyond passes n s)
   where
     at : (p : Bool) → passes n ≡ p → (if p then n + 1 else last_end passes n) ≤ s → (s ≡ n) ⊎ (s ≢ n)
-      → (last_end passes n ≤ s → s < n → passes s ≡ false) → passes s ≡ false
+        → (last_end passes n ≤ s → s < n → passes s ≡ false) → passes s ≡ false
     at true passed le e ih = absurd (omega arith)
     at false failed le (inl e) ih = rw e failed
     at false failed le (inr ne) ih = ih le (omega arith)

@@ -13,18 +13,20 @@ Check = Field × ℕ × ℕ
 
 -- a page is damaged in a field
 abbrev pub damage : PageNo → Field → ℕ → ℕ → Damaged
-damage page field found wanted = record { page = page; field = field; found = found; wanted = wanted }
+damage page field found wanted =
+    record { page = page; field = field; found = found; wanted = wanted }
 
 -- the first field that differs is named
 abbrev pub verdict : PageNo → List Check → Result (Unit {0}) Damaged
 verdict page [] = Ok tt
-verdict page (c ∷ checks) = if c.1 == c.2 then verdict page checks else Err (damage page c.0 c.1 c.2)
+verdict page (c ∷ checks) = if c.1 == c.2 then verdict page checks
+    else Err (damage page c.0 c.1 c.2)
 
 -- the common part, in page order
 abbrev pub common_checks : List ℕ → PageNo → ℕ → ℕ → ℕ → List Check
 common_checks b page kind owner seq = (Kind, byte b KIND_AT, kind) ∷ (Flags, byte b FLAGS_AT, 0)
-  ∷ (Zero, u16_at b ZERO_AT, 0) ∷ (Own, u32_at b OWN_AT, page.0) ∷ (Owner, u32_at b OWNER_AT, owner)
-  ∷ (Sequence, u32_at b SEQUENCE_AT, seq) ∷ []
+    ∷ (Zero, u16_at b ZERO_AT, 0) ∷ (Own, u32_at b OWN_AT, page.0)
+    ∷ (Owner, u32_at b OWNER_AT, owner) ∷ (Sequence, u32_at b SEQUENCE_AT, seq) ∷ []
 
 -- what a test of the common part answers
 unfoldable pub common_verdict : List ℕ → PageNo → ℕ → ℕ → ℕ → Result (Unit {0}) Damaged

@@ -19,14 +19,14 @@ use mg_base::{
 
 /// Tests whether `b` is a data page with this number, owner and sequence.
 ///
-/// `page` is the number that the page was read under. The content of cells is not tested here.
+/// `page` is the number that the page was read under. What cells say is not tested here.
 ///
 /// # Errors
 ///
-/// `Damaged` at the first field that differs, in page order: the common part; `Count`, wanted the
-/// most slots that fit, or those up to the last one in use; `Offset` of the lowest byte; then of each
-/// slot `Offset` of its offset, then of its length. Of a slot the nearest lawful value is wanted, the
-/// lower one of two, judged by the fields before it.
+/// `Damaged` at the first field that differs, in page order: the common part; then `Count`, wanted
+/// the most slots that fit, or those up to the last one that isn't free; then `Offset` of the lowest
+/// byte that a cell uses; then of each slot `Offset` of its offset and of its length, wanted the
+/// nearest value that the fields before it allow, the lower one of two.
 pub fn check_data(b: &[u8], page: PageNo, owner: u32, seq: u32) -> Result<(), Damaged>
     requires least { LEAST_SIZE ≤ length b.now }
     requires greatest { length b.now ≤ GREATEST_SIZE }
@@ -50,9 +50,19 @@ fn check_front(b: &[u8], page: PageNo, owner: u32, seq: u32) -> Result<(), Damag
 {
     check_common(b, page, DATA_KIND, owner, seq)?;
     let count = lawful_count(b);
-    same(page, Field::Count, u64::from(get_u16(b, COUNT_AT)), count as u64)?;
+    same(
+        page,
+        Field::Count,
+        u64::from(get_u16(b, COUNT_AT)),
+        count as u64,
+    )?;
     let low = least_offset(b, count);
-    same(page, Field::Offset, u64::from(get_u16(b, LOW_AT)), low as u64)
+    same(
+        page,
+        Field::Offset,
+        u64::from(get_u16(b, LOW_AT)),
+        low as u64,
+    )
 }
 
 /// Passes a field that is as wanted, and names one that isn't.
@@ -80,9 +90,24 @@ fn check_common(b: &[u8], page: PageNo, kind: u8, owner: u32, seq: u32) -> Resul
     same(page, Field::Kind, u64::from(b[KIND_AT]), u64::from(kind))?;
     same(page, Field::Flags, u64::from(b[FLAGS_AT]), 0)?;
     same(page, Field::Zero, u64::from(get_u16(b, ZERO_AT)), 0)?;
-    same(page, Field::Own, u64::from(get_u32(b, OWN_AT)), u64::from(page.0))?;
-    same(page, Field::Owner, u64::from(get_u32(b, OWNER_AT)), u64::from(owner))?;
-    same(page, Field::Sequence, u64::from(get_u32(b, SEQUENCE_AT)), u64::from(seq))
+    same(
+        page,
+        Field::Own,
+        u64::from(get_u32(b, OWN_AT)),
+        u64::from(page.0),
+    )?;
+    same(
+        page,
+        Field::Owner,
+        u64::from(get_u32(b, OWNER_AT)),
+        u64::from(owner),
+    )?;
+    same(
+        page,
+        Field::Sequence,
+        u64::from(get_u32(b, SEQUENCE_AT)),
+        u64::from(seq),
+    )
 }
 
 /// The nearest lawful number of slots: the most that fit, or those up to the last one in use.
@@ -267,3 +292,6 @@ fn is_apart(b: &[u8], slot: usize, at: usize, size: usize) -> bool
     let end = start + taken(cell_len(b, slot));
     start == 0 || end <= at || at + size <= start
 }
+
+#[cfg(test)]
+mod tests;

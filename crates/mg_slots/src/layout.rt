@@ -5,7 +5,7 @@ ghost use Rattle.std.specs.Option.{option_copied};
 ghost use Rattle.mg_base.specs.Fields.{byte};
 ghost use Rattle.mg_slots.specs.Changes.{SetsCell};
 ghost use Rattle.mg_slots.specs.DataPage.{IsDataPage, IsLaid, cell_of, slot_count, taken_below, taken_by};
-ghost use Rattle.mg_slots.specs.Layout.{Clears, EndsAt, PlacesBelow, PlacesCell, WritesBytes, with_cell};
+ghost use Rattle.mg_slots.specs.Layout.{space_of, Clears, EndsAt, PlacesBelow, PlacesCell, WritesBytes, with_cell};
 
 use crate::page::{COUNT_AT, GREATEST_SIZE, LOW_AT, SLOT_LEN, SLOTS_AT, cell};
 use crate::space::taken;
@@ -76,13 +76,14 @@ fn clear(b: &mut [u8])
 fn lay_out(b: &mut [u8], old: &[u8], slot: usize, new_cell: Option<&[u8]>, count: usize) -> usize
     requires lawful { IsDataPage old.now }
     requires size { length b.old ≤ GREATEST_SIZE }
-    requires room { SLOTS_AT + SLOT_LEN * count
-        + taken_below (with_cell (cell_of old.now) slot (option_copied new_cell)) count ≤ length b.old }
+    requires room { space_of (with_cell (cell_of old.now) slot (option_copied new_cell)) count
+        ≤ length b.old }
     requires blank { (k : ℕ) → SLOTS_AT ≤ k → byte b.old k ≡ 0 }
     ensures laid { IsLaid b.new
         (with_cell (cell_of old.now) slot (option_copied new_cell.entry)) count }
     ensures low { result
-        + taken_below (with_cell (cell_of old.now) slot (option_copied new_cell.entry)) count ≡ length b.old }
+        + taken_below (with_cell (cell_of old.now) slot (option_copied new_cell.entry)) count
+        ≡ length b.old }
     ensures front { (k : ℕ) → k < SLOTS_AT → byte b.new k ≡ byte b.old k }
 {
     let mut low = b.len();
@@ -98,8 +99,8 @@ fn rewrite_from(b: &mut [u8], old: &[u8], slot: usize, new_cell: Option<&[u8]>, 
     requires copy { old.now ≡ b.old }
     requires lawful { IsDataPage b.old }
     requires ends { EndsAt (with_cell (cell_of b.old) slot (option_copied new_cell)) count }
-    requires room { SLOTS_AT + SLOT_LEN * count
-        + taken_below (with_cell (cell_of b.old) slot (option_copied new_cell)) count ≤ length b.old }
+    requires room { space_of (with_cell (cell_of b.old) slot (option_copied new_cell)) count
+        ≤ length b.old }
     ensures sets { SetsCell b.old b.new slot (option_copied new_cell.entry) }
     ensures count { slot_count b.new ≡ count }
 {
@@ -113,8 +114,8 @@ fn rewrite_from(b: &mut [u8], old: &[u8], slot: usize, new_cell: Option<&[u8]>, 
 pub(crate) fn rewrite(b: &mut [u8], slot: usize, new_cell: Option<&[u8]>, count: usize)
     requires lawful { IsDataPage b.old }
     requires ends { EndsAt (with_cell (cell_of b.old) slot (option_copied new_cell)) count }
-    requires room { SLOTS_AT + SLOT_LEN * count
-        + taken_below (with_cell (cell_of b.old) slot (option_copied new_cell)) count ≤ length b.old }
+    requires room { space_of (with_cell (cell_of b.old) slot (option_copied new_cell)) count
+        ≤ length b.old }
     ensures sets { SetsCell b.old b.new slot (option_copied new_cell.entry) }
     ensures count { slot_count b.new ≡ count }
 {

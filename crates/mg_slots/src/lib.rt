@@ -11,8 +11,9 @@
 //! | 18 | 2 | lowest byte that a cell uses, P where there is none |
 //! | 20 | 4 each | slots: an offset and a length, 2 bytes each, both 0 for a free slot |
 //!
-//! A cell takes its length, and at least 11 bytes, so that an anchor can replace any cell. A page of
-//! P = 4096 has 4076 bytes for slots and cells: 92 records of an anchor and a version of 25 bytes.
+//! A cell takes its length, and at least 11 bytes, so that an anchor can replace any cell. A page
+//! of P = 4096 has 4076 bytes for slots and cells: 92 records of an anchor and a version of 25
+//! bytes each.
 //!
 //! Invariant (`IsDataPage`): the last slot is in use, the cells lie between the slots and the
 //! page's end, and no two meet. After each change they lie from the end downward in the order of
