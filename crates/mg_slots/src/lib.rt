@@ -1,5 +1,5 @@
-//! The data page: a map from slot to cell. It reads and changes one page that the caller lends,
-//! and takes no memory.
+//! The data page: a map from slot to cell. It reads, changes and tests one page that the caller
+//! lends, and takes no memory.
 //!
 //! Owns: a page of kind 5. A record is named by its page and its slot, so a slot number is kept
 //! until its cell is freed, wherever the cell is moved to.
