@@ -5,8 +5,10 @@ pub mod DataPage
 pub mod DataPageLaws
 pub mod Disjoint
 pub mod Layout
+pub mod PackedLaws
 pub mod Room
 pub mod RoomLaws
 pub mod SlotField
 pub mod TakenLaws
 pub mod Verdict
+pub mod VerdictLaws

@@ -24,9 +24,9 @@ use mg_base::{
 /// # Errors
 ///
 /// `Damaged` at the first field that differs, in page order: the common part; then `Count`, wanted
-/// the most slots that fit, or those up to the last one that isn't free; then `Offset` of the lowest
-/// byte that a cell uses; then of each slot `Offset` of its offset and of its length, wanted the
-/// nearest value that the fields before it allow, the lower one of two.
+/// the most slots that fit, or those up to the last one that isn't free; then `Offset` of the
+/// lowest byte that a cell uses; then of each slot `Offset` of its offset and of its length, wanted
+/// the nearest value that the fields before it allow, the lower one of two.
 pub fn check_data(b: &[u8], page: PageNo, owner: u32, seq: u32) -> Result<(), Damaged>
     requires least { LEAST_SIZE ≤ length b.now }
     requires greatest { length b.now ≤ GREATEST_SIZE }

@@ -1,8 +1,9 @@
 //! A data page as it is made and read.
 
-ghost use Rattle.std.specs.Prelude.{◌≡◌, ◌+◌, ◌*◌, ◌<◌, ◌≤◌, length, None, Some, MatchOption};
+ghost use Rattle.std.specs.Prelude.{◌≡◌, ◌+◌, ◌*◌, ◌<◌, ◌≤◌, length, None, Ok, Some, MatchOption};
 ghost use Rattle.mg_base.specs.Fields.{u16_at};
 ghost use Rattle.mg_slots.specs.DataPage.{IsDataPage, IsNewPage, cell_of, length_at, offset_at, slot_count};
+ghost use Rattle.mg_slots.specs.Verdict.{common_verdict};
 
 use mg_base::{PageNo, get_u16, new_common, put_u16};
 
@@ -32,7 +33,8 @@ pub const GREATEST_SIZE: usize = 16384;
 pub fn new_data(b: &mut [u8], page: PageNo, owner: u32, seq: u32)
     requires least { LEAST_SIZE ≤ length b.old }
     requires greatest { length b.old ≤ GREATEST_SIZE }
-    ensures { IsNewPage b.new (length b.old) page.0 owner seq }
+    ensures made { IsNewPage b.new (length b.old) page.0 owner seq }
+    ensures passes { common_verdict b.new page DATA_KIND owner seq ≡ Ok tt }
 {
     new_common(b, page, DATA_KIND, owner, seq);
     let low = b.len() as u16;

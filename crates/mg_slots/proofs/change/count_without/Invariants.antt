@@ -7,7 +7,8 @@ use Rattle.mg_slots.proofs.change.count_without.Given as goal
 abbrev pub invariant-loop-count : goal.invariant-loop-count
 invariant-loop-count l = record {
   within : l.count ≤ slot_count l.b;
-  same_end : used_end (with_cell (cell_of l.b) l.slot None) l.count ≡ used_end (with_cell (cell_of l.b) l.slot None) (slot_count l.b);
+  same_end : used_end (with_cell (cell_of l.b) l.slot None) l.count ≡ used_end (with_cell
+      (cell_of l.b) l.slot None) (slot_count l.b);
 }
 
 abbrev pub decreases-loop-count : goal.decreases-loop-count

@@ -8,10 +8,13 @@ overflow_add-slot c = omega (arith, put_slot_within c.args.b.now c.args.slot c.r
 
 pub rewrite-requires-clause-ends : goal.rewrite-requires-clause-ends
 rewrite-requires-clause-ends c =
-    let count : c.max-count.result ≡ max (slot_count c.args.b.now) (c.args.slot + 1) = omega arith in
+    let count : c.max-count.result ≡ max (slot_count c.args.b.now) (c.args.slot + 1) =
+    omega arith in
     rw count (put_ends c.args.b.now c.args.slot c.args.cell.now c.requires.lawful)
 
 pub rewrite-requires-clause-room : goal.rewrite-requires-clause-room
 rewrite-requires-clause-room c =
-    let count : c.max-count.result ≡ max (slot_count c.args.b.now) (c.args.slot + 1) = omega arith in
-    rw count (put_fits c.args.b.now c.args.slot c.args.cell.now c.requires.lawful c.requires.slot c.requires.room)
+    let count : c.max-count.result ≡ max (slot_count c.args.b.now) (c.args.slot + 1) =
+    omega arith in
+    rw count (put_fits c.args.b.now c.args.slot c.args.cell.now c.requires.lawful c.requires.slot
+    c.requires.room)

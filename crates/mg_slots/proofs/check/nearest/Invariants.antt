@@ -4,4 +4,5 @@ use Rattle.mg_slots.specs.SlotField.{MayHave}
 use Rattle.mg_slots.proofs.check.nearest.Given as goal
 
 abbrev pub invariant-loop-far : goal.invariant-loop-far
-invariant-loop-far l = (other : ℕ) → MayHave l.b l.slot l.field other → l.far ≤ distance l.found other
+invariant-loop-far l = (other : ℕ) → MayHave l.b l.slot l.field other
+    → l.far ≤ distance l.found other

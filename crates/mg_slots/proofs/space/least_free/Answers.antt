@@ -7,10 +7,13 @@ use Rattle.mg_slots.proofs.space.least_free.Goals as goal
 
 pub returns-then-offset-eq0 : goal.returns-then-offset-eq0
 returns-then-offset-eq0 c =
-    let free : cell_of c.args.b.now c.loop-slot.slot ≡ None = cell_free c.args.b.now c.loop-slot.slot (omega arith) in
-    sym (first_without_found (cell_of c.args.b.now) c.loop-slot.slot (slot_count c.args.b.now) (omega arith) c.loop-slot.invariant free)
+    let free : cell_of c.args.b.now c.loop-slot.slot ≡ None =
+    cell_free c.args.b.now c.loop-slot.slot (omega arith) in
+    sym (first_without_found (cell_of c.args.b.now) c.loop-slot.slot (slot_count c.args.b.now)
+    (omega arith) c.loop-slot.invariant free)
 
 pub loop-slot-preserved : goal.loop-slot-preserved
 loop-slot-preserved c =
-    let used : is_some (cell_of c.args.b.now c.loop-slot.slot) ≡ true = ap is_some (cell_used c.args.b.now c.loop-slot.slot (omega arith) (omega arith)) in
+    let used : is_some (cell_of c.args.b.now c.loop-slot.slot) ≡ true =
+    ap is_some (cell_used c.args.b.now c.loop-slot.slot (omega arith) (omega arith)) in
     first_without_more (cell_of c.args.b.now) c.loop-slot.slot c.loop-slot.invariant used
