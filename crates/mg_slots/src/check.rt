@@ -1,21 +1,19 @@
 //! The test of a data page: the first field that differs is named, with the nearest lawful value.
 
-ghost use Rattle.std.specs.Prelude.{◌≡◌, ℕ, ◌+◌, ◌*◌, ◌<◌, ◌≤◌, ◌^◌, ◌↔◌, ◌==◌, [], ◌∷◌, IfErr, IfOk, IsOk, IsTrue, OnOk, Ok, length, min, not, if◌then◌else◌};
+ghost use Rattle.std.specs.Prelude.{◌≡◌, ℕ, ◌+◌, ◌*◌, ◌<◌, ◌≤◌, ◌^◌, ◌↔◌, ◌==◌, IfErr, IsOk, IsTrue, OnOk, Ok, length, min, not, if◌then◌else◌};
 ghost use Rattle.mg_slots.specs.Damage.{HasFront, IsFirstDamage, IsNearest, IsSlotDamage, is_free as is_free_of, lawful_count as lawful_count_of};
 ghost use Rattle.mg_slots.specs.DataPage.{HasPlace, IsApart, IsDataPage, IsSlot, MayHaveLength, least_offset as least_offset_of, length_at, offset_at, slot_count};
 ghost use Rattle.mg_slots.specs.Room.{last_end};
 ghost use Rattle.mg_slots.specs.SlotField.{MayHave};
-ghost use Rattle.mg_slots.specs.Verdict.{common_verdict, damage as damage_of, verdict};
+ghost use Rattle.mg_slots.specs.Verdict.{common_verdict, damage as damage_of};
 
 use crate::page::{
     COUNT_AT, DATA_KIND, GREATEST_SIZE, LEAST_SIZE, LEAST_TAKEN, LOW_AT, SLOT_LEN, SLOTS_AT,
     cell_len, offset,
 };
 use crate::space::taken;
-use mg_base::{
-    COMMON, Damaged, FLAGS_AT, Field, KIND_AT, OWN_AT, OWNER_AT, PageNo, SEQUENCE_AT, ZERO_AT,
-    get_u16, get_u32,
-};
+use crate::verdict::{check_common, same};
+use mg_base::{Damaged, Field, PageNo, get_u16};
 
 /// Tests whether `b` is a data page with this number, owner and sequence.
 ///
@@ -62,51 +60,6 @@ fn check_front(b: &[u8], page: PageNo, owner: u32, seq: u32) -> Result<(), Damag
         Field::Offset,
         u64::from(get_u16(b, LOW_AT)),
         low as u64,
-    )
-}
-
-/// Passes a field that is as wanted, and names one that isn't.
-fn same(page: PageNo, field: Field, found: u64, wanted: u64) -> Result<(), Damaged>
-    ensures { result ≡ verdict page ((field, found, wanted) ∷ []) }
-{
-    if found == wanted {
-        Ok(())
-    } else {
-        Err(Damaged {
-            page,
-            field,
-            found,
-            wanted,
-        })
-    }
-}
-
-/// Tests the common part, in page order.
-#[tactic(auto, unfolding(crate::specs::Verdict::common_verdict))]
-fn check_common(b: &[u8], page: PageNo, kind: u8, owner: u32, seq: u32) -> Result<(), Damaged>
-    requires { COMMON ≤ length b.now }
-    ensures { result ≡ common_verdict b.now page kind owner seq }
-{
-    same(page, Field::Kind, u64::from(b[KIND_AT]), u64::from(kind))?;
-    same(page, Field::Flags, u64::from(b[FLAGS_AT]), 0)?;
-    same(page, Field::Zero, u64::from(get_u16(b, ZERO_AT)), 0)?;
-    same(
-        page,
-        Field::Own,
-        u64::from(get_u32(b, OWN_AT)),
-        u64::from(page.0),
-    )?;
-    same(
-        page,
-        Field::Owner,
-        u64::from(get_u32(b, OWNER_AT)),
-        u64::from(owner),
-    )?;
-    same(
-        page,
-        Field::Sequence,
-        u64::from(get_u32(b, SEQUENCE_AT)),
-        u64::from(seq),
     )
 }
 

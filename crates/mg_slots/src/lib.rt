@@ -27,6 +27,7 @@ mod check;
 mod layout;
 mod page;
 mod space;
+mod verdict;
 
 pub use change::{NoRoom, free, put_cell, replace};
 pub use check::check_data;
