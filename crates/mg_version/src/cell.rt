@@ -5,7 +5,6 @@ ghost use Rattle.mg_version.specs.declared.cell.CellFault.TheVariants.{Memory as
 
 use mg_base::{Bytes, Memory, RecId, TxNo};
 use std::alloc::{AllocError, AllocFailed, Global};
-use std::fmt;
 
 /// The first byte of an anchor.
 pub const ANCHOR: u8 = 1;
@@ -149,14 +148,5 @@ impl<T: Drop> From<AllocFailed<T>> for CellFault {
 
     fn from(_: AllocFailed<T>) -> CellFault {
         CellFault::Memory
-    }
-}
-
-impl fmt::Display for CellFault {
-    fn fmt<W: fmt::Write>(&self, f: &mut fmt::Formatter<W>) -> fmt::Result {
-        match self {
-            CellFault::BadCell { at } => write!(f, "BAD CELL AT {at}"),
-            CellFault::Memory => write!(f, "OUT OF MEMORY"),
-        }
     }
 }
