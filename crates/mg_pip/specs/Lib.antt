@@ -1,0 +1,2 @@
+pub mod PipPage
+pub mod PipPageLaws
