@@ -1,0 +1,2 @@
+pub mod PointerPage
+pub mod PointerPageLaws
