@@ -1,0 +1,2 @@
+pub mod HeaderPageLemmas
+pub mod Writes

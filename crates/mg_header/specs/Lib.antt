@@ -1,0 +1,2 @@
+pub mod HeaderPage
+pub mod HeaderPageLaws
