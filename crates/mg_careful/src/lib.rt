@@ -1,0 +1,6 @@
+//! Careful write: which page has to reach the disk before which.
+#![tactic(auto)]
+
+mod links;
+
+pub use links::{Demand, Links, careful_write};

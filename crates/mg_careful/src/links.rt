@@ -1,0 +1,44 @@
+//! What one page demands of others, and the law by which ordered page writes keep it.
+
+ghost use Rattle.std.specs.Prelude.{◌≡◌, ◌++◌, OnOk, OnErr};
+ghost use Rattle.mg_careful.specs.CarefulWrite.{Demands, Meets, CarefulWrite};
+
+use mg_base::Memory;
+
+/// What is wanted of a page: that the page `target` has a thing of the kind `what`, which `a` and
+/// `b` describe further. The file's format says which kinds there are.
+#[derive(Clone, Copy, Debug, PartialEq, Eq)]
+pub struct Demand {
+    pub target: u32,
+    pub what: u8,
+    pub a: u32,
+    pub b: u32,
+}
+
+/// The links of a file format: what the things on its pages demand of other pages.
+///
+/// `b` is the content of the page that `want` names as its target, whatever its length.
+pub trait Links {
+    ghost demands_of: { Demands };
+
+    ghost meets_of: { Meets };
+
+    /// Appends to `out` what the wanted thing demands in turn, by the one definition `demands_of`.
+    ///
+    /// # Errors
+    ///
+    /// `Memory` only. `out` is then as before.
+    fn demands(b: &[u8], want: &Demand, out: &mut Vec<Demand>) -> Result<(), Memory>
+        ensures ok { OnOk result (out.new.items ≡ out.old.items ++ demands_of b.now want.now) }
+        ensures err { OnErr result (out.new.items ≡ out.old.items) };
+
+    /// Tells whether the page has what is wanted, by the one definition `meets_of`.
+    fn meets(b: &[u8], want: &Demand) -> bool
+        ensures { result ≡ meets_of b.now want.now };
+}
+
+/// The careful-write law, for the links of every file format. It does nothing: its contract is the
+/// law, so that a crate that orders its page writes can cite it.
+pub fn careful_write<L: Links>()
+    ensures { CarefulWrite L.demands_of L.meets_of }
+{}
