@@ -1,1 +1,7 @@
 mod CarefulWriteLemmas
+mod RowsLemmas
+mod ClosureLemmas
+mod ReadyLemmas
+mod PlaceLemmas
+mod GraphLemmas
+mod ReadLemmas

@@ -1,2 +1,4 @@
 pub mod Precedence
 pub mod CarefulWrite
+pub mod Rows
+pub mod Graph
