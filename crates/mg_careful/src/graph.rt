@@ -165,3 +165,6 @@ impl Graph {
         least_ready(&self.pages, &self.before, &self.after, place)
     }
 }
+
+#[cfg(test)]
+mod tests;

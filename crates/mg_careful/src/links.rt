@@ -42,3 +42,6 @@ pub trait Links {
 pub fn careful_write<L: Links>()
     ensures { CarefulWrite L.demands_of L.meets_of }
 {}
+
+#[cfg(test)]
+mod tests;
