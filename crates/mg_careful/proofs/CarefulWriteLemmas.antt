@@ -4,8 +4,8 @@ use Rattle.std.specs.Prelude.{◌≡◌, ◌≢◌, ℕ, Bool, true, false, not,
 use Rattle.std.proofs.Common.{inl, inr, sym, ◌∙◌, ap}
 use Rattle.std.proofs.lemmas.Bool.{and_parts, and_from, both_ways, not_from_false, not-true}
 use Rattle.mg_careful.specs.declared.links.Demand.{Demand}
-use Rattle.mg_careful.specs.Precedence.{Orders, Precedes, precedes_first, precedes_later}
-use Rattle.mg_careful.specs.CarefulWrite.{Pages, PageSet, Demands, Meets, Has, Keeps, IsClosed, overlay, aimed_at, three_parts, IsCareful, IsSafeOverlay, CarefulWrite}
+use Rattle.mg_careful.specs.Precedence.{Precedes, precedes_first, precedes_later}
+use Rattle.mg_careful.specs.CarefulWrite.{PageSet, Cache, Demands, Meets, Has, KeepsDemands, IsClosed, overlay, aimed_at, three_parts, IsCareful, IsSafeOverlay, CarefulWrite}
 
 has_left : (xs ys : List Demand) (d : Demand) → Has xs d → Has (xs ++ ys) d
 has_left [] ys d h = absurd h
@@ -62,84 +62,84 @@ data Comes (dirty set_ : PageSet) (of_disk of_pool : List Demand) (d : Demand) :
   clean_of_disk : dirty d.target ≡ false → Has of_disk d → Comes dirty set_ of_disk of_pool d
   clean_of_pool : dirty d.target ≡ false → Has of_pool d → Comes dirty set_ of_disk of_pool d
 
-module _ (dirty set_ : PageSet) (of_disk of_pool : List Demand) where
-  comes : (d : Demand) → Has (three_parts dirty set_ of_disk of_pool) d → Comes dirty set_ of_disk of_pool d
+module _ (cache : Cache) (set_ : PageSet) (of_disk of_pool : List Demand) where
+  comes : (d : Demand) → Has (three_parts cache set_ of_disk of_pool) d → Comes cache.dirty set_ of_disk of_pool d
   comes d h =
       elim (has_either (aimed_at set_ of_pool) _ d h) [
         | inl a ↦ let x = aimed_has set_ of_pool d a in aims_inside x.0 x.1
-        | inr b ↦ elim (has_either (aimed_at (λ p. dirty p && not (set_ p)) of_disk) _ d b) [
-          | inl a ↦ let x = aimed_has (λ p. dirty p && not (set_ p)) of_disk d a in let parts = and_parts _ _ x.0 in aims_outside (not-true _ parts.1) parts.0 x.1
-          | inr c ↦ elim (has_either (aimed_at (λ p. not (dirty p)) of_disk) _ d c) [
-            | inl a ↦ let x = aimed_has (λ p. not (dirty p)) of_disk d a in clean_of_disk (not-true _ x.0) x.1
-            | inr a ↦ let x = aimed_has (λ p. not (dirty p)) of_pool d a in clean_of_pool (not-true _ x.0) x.1
+        | inr b ↦ elim (has_either (aimed_at (λ p. cache.dirty p && not (set_ p)) of_disk) _ d b) [
+          | inl a ↦ let x = aimed_has (λ p. cache.dirty p && not (set_ p)) of_disk d a in let parts = and_parts _ _ x.0 in aims_outside (not-true _ parts.1) parts.0 x.1
+          | inr c ↦ elim (has_either (aimed_at (λ p. not (cache.dirty p)) of_disk) _ d c) [
+            | inl a ↦ let x = aimed_has (λ p. not (cache.dirty p)) of_disk d a in clean_of_disk (not-true _ x.0) x.1
+            | inr a ↦ let x = aimed_has (λ p. not (cache.dirty p)) of_pool d a in clean_of_pool (not-true _ x.0) x.1
           ]
         ]
       ]
 
-  member : (d : Demand) → Comes dirty set_ of_disk of_pool d → Has (three_parts dirty set_ of_disk of_pool) d
+  member : (d : Demand) → Comes cache.dirty set_ of_disk of_pool d → Has (three_parts cache set_ of_disk of_pool) d
   member d (aims_inside s h) = has_left (aimed_at set_ of_pool) _ d (has_aimed set_ of_pool d s h)
   member d (aims_outside s t h) =
-      has_right (aimed_at set_ of_pool) _ d (has_left (aimed_at (λ p. dirty p && not (set_ p)) of_disk) _ d (has_aimed (λ p. dirty p && not (set_ p)) of_disk d (and_from _ _ t (not_from_false _ s)) h))
+      has_right (aimed_at set_ of_pool) _ d (has_left (aimed_at (λ p. cache.dirty p && not (set_ p)) of_disk) _ d (has_aimed (λ p. cache.dirty p && not (set_ p)) of_disk d (and_from _ _ t (not_from_false _ s)) h))
   member d (clean_of_disk t h) =
-      has_right (aimed_at set_ of_pool) _ d (has_right (aimed_at (λ p. dirty p && not (set_ p)) of_disk) _ d (has_left (aimed_at (λ p. not (dirty p)) of_disk) _ d (has_aimed (λ p. not (dirty p)) of_disk d (not_from_false _ t) h)))
+      has_right (aimed_at set_ of_pool) _ d (has_right (aimed_at (λ p. cache.dirty p && not (set_ p)) of_disk) _ d (has_left (aimed_at (λ p. not (cache.dirty p)) of_disk) _ d (has_aimed (λ p. not (cache.dirty p)) of_disk d (not_from_false _ t) h)))
   member d (clean_of_pool t h) =
-      has_right (aimed_at set_ of_pool) _ d (has_right (aimed_at (λ p. dirty p && not (set_ p)) of_disk) _ d (has_right (aimed_at (λ p. not (dirty p)) of_disk) _ d (has_aimed (λ p. not (dirty p)) of_pool d (not_from_false _ t) h)))
+      has_right (aimed_at set_ of_pool) _ d (has_right (aimed_at (λ p. cache.dirty p && not (set_ p)) of_disk) _ d (has_right (aimed_at (λ p. not (cache.dirty p)) of_disk) _ d (has_aimed (λ p. not (cache.dirty p)) of_pool d (not_from_false _ t) h)))
 
 -- two pages that a test tells apart are two pages
 told_apart : (test : PageSet) (p q : ℕ) → test p ≡ false → test q ≡ true → p ≢ q
 told_apart test p q fails holds same = both_ways (test q) (ap test (sym same) ∙ fails) holds
 
-module _ (demands : Demands) (meets : Meets) (disk pool : Pages) (dirty : PageSet) (ordered : Orders) (of_disk of_pool : List Demand) (careful : IsCareful demands meets disk pool dirty ordered of_disk of_pool) (set_ : PageSet) (closed : IsClosed dirty ordered set_) where
+module _ (demands : Demands) (meets : Meets) (cache : Cache) (of_disk of_pool : List Demand) (careful : IsCareful demands meets cache of_disk of_pool) (set_ : PageSet) (closed : IsClosed cache set_) where
   -- a page outside the set has the disk's content in the overlay, and a clean one the pool's too
-  disk_there : (p : ℕ) → set_ p ≡ false → overlay disk pool set_ p ≡ disk p
+  disk_there : (p : ℕ) → set_ p ≡ false → overlay cache set_ p ≡ cache.disk p
   disk_there p fails = rw fails refl
 
-  pool_there : (p : ℕ) → set_ p ≡ true → overlay disk pool set_ p ≡ pool p
+  pool_there : (p : ℕ) → set_ p ≡ true → overlay cache set_ p ≡ cache.pool p
   pool_there p holds = rw holds refl
 
-  not_inside : (p : ℕ) → dirty p ≡ false → set_ p ≡ false
+  not_inside : (p : ℕ) → cache.dirty p ≡ false → set_ p ≡ false
   not_inside p fails = at (set_ p) refl
     where
       at : (b : Bool) → set_ p ≡ b → set_ p ≡ false
-      at true holds = absurd (both_ways (dirty p) fails (closed.only_dirty p holds))
+      at true holds = absurd (both_ways (cache.dirty p) fails (closed.only_dirty p holds))
       at false out = out
 
-  clean_there : (p : ℕ) → dirty p ≡ false → overlay disk pool set_ p ≡ pool p
+  clean_there : (p : ℕ) → cache.dirty p ≡ false → overlay cache set_ p ≡ cache.pool p
   clean_there p fails = disk_there p (not_inside p fails) ∙ sym (careful.clean p fails)
 
-  ordered_is_dirty : (p q : ℕ) → Precedes ordered p q → (dirty p ≡ true) × (dirty q ≡ true)
+  ordered_is_dirty : (p q : ℕ) → Precedes cache.ordered p q → (cache.dirty p ≡ true) × (cache.dirty q ≡ true)
   ordered_is_dirty p q order =
-      (precedes_first ordered dirty (λ a b o. (careful.only_dirty a b o).0) p q order, precedes_later ordered dirty (λ a b o. (careful.only_dirty a b o).1) p q order)
+      (precedes_first cache.ordered cache.dirty (λ a b o. (careful.only_dirty a b o).0) p q order, precedes_later cache.ordered cache.dirty (λ a b o. (careful.only_dirty a b o).1) p q order)
 
-  met : (d : Demand) → Comes dirty set_ of_disk of_pool d → meets (overlay disk pool set_ d.target) d ≡ true
+  met : (d : Demand) → Comes cache.dirty set_ of_disk of_pool d → meets (overlay cache set_ d.target) d ≡ true
   met d (aims_inside s h) = rw (pool_there d.target s) (careful.pool_keeps.met d h)
   met d (aims_outside s t h) = rw (disk_there d.target s) (careful.disk_keeps.met d h)
   met d (clean_of_disk t h) = rw (disk_there d.target (not_inside d.target t)) (careful.disk_keeps.met d h)
   met d (clean_of_pool t h) = rw (clean_there d.target t) (careful.pool_keeps.met d h)
 
   -- what a member of the pool's list makes from a page that shows the pool's content
-  of_pool_on : (d e : Demand) → Has of_pool d → Has (demands (pool d.target) d) e → ((dirty d.target ≡ true) → set_ d.target ≡ true) → Stands dirty set_ e.target → Comes dirty set_ of_disk of_pool e
+  of_pool_on : (d e : Demand) → Has of_pool d → Has (demands (cache.pool d.target) d) e → ((cache.dirty d.target ≡ true) → set_ d.target ≡ true) → Stands cache.dirty set_ e.target → Comes cache.dirty set_ of_disk of_pool e
   of_pool_on d e h made shown (inside s t) = aims_inside s (careful.pool_keeps.in_turn d e h made)
   of_pool_on d e h made shown (clean s t) = clean_of_pool t (careful.pool_keeps.in_turn d e h made)
-  of_pool_on d e h made shown (outside s t) = at (dirty d.target) refl
+  of_pool_on d e h made shown (outside s t) = at (cache.dirty d.target) refl
     where
-      apart : set_ d.target ≡ true → Comes dirty set_ of_disk of_pool e
+      apart : set_ d.target ≡ true → Comes cache.dirty set_ of_disk of_pool e
       apart holds =
           elim (careful.new d e h made (told_apart set_ e.target d.target s holds) t) [
             | inl on_disk ↦ aims_outside s t on_disk
             | inr order ↦ absurd (both_ways (set_ e.target) s (closed.before e.target d.target order t holds))
           ]
 
-      at : (b : Bool) → dirty d.target ≡ b → Comes dirty set_ of_disk of_pool e
+      at : (b : Bool) → cache.dirty d.target ≡ b → Comes cache.dirty set_ of_disk of_pool e
       at true is_dirty = apart (shown is_dirty)
       at false is_clean =
-          elim (careful.new d e h made (λ same. told_apart dirty d.target e.target is_clean t (sym same)) t) [
+          elim (careful.new d e h made (λ same. told_apart cache.dirty d.target e.target is_clean t (sym same)) t) [
             | inl on_disk ↦ aims_outside s t on_disk
-            | inr order ↦ absurd (both_ways (dirty d.target) is_clean (ordered_is_dirty e.target d.target order).1)
+            | inr order ↦ absurd (both_ways (cache.dirty d.target) is_clean (ordered_is_dirty e.target d.target order).1)
           ]
 
   -- what a member of the disk's list makes from a page that shows the disk's content
-  of_disk_on : (d e : Demand) → Has of_disk d → Has (demands (disk d.target) d) e → set_ d.target ≡ false → Stands dirty set_ e.target → Comes dirty set_ of_disk of_pool e
+  of_disk_on : (d e : Demand) → Has of_disk d → Has (demands (cache.disk d.target) d) e → set_ d.target ≡ false → Stands cache.dirty set_ e.target → Comes cache.dirty set_ of_disk of_pool e
   of_disk_on d e h made out (outside s t) = aims_outside s t (careful.disk_keeps.in_turn d e h made)
   of_disk_on d e h made out (clean s t) = clean_of_disk t (careful.disk_keeps.in_turn d e h made)
   of_disk_on d e h made out (inside s t) =
@@ -148,33 +148,33 @@ module _ (demands : Demands) (meets : Meets) (disk pool : Pages) (dirty : PageSe
         | inr order ↦ absurd (both_ways (set_ d.target) out (closed.before d.target e.target order (ordered_is_dirty d.target e.target order).0 s))
       ]
 
-  in_turn : (d e : Demand) → Comes dirty set_ of_disk of_pool d → Has (demands (overlay disk pool set_ d.target) d) e → Stands dirty set_ e.target → Comes dirty set_ of_disk of_pool e
+  in_turn : (d e : Demand) → Comes cache.dirty set_ of_disk of_pool d → Has (demands (overlay cache set_ d.target) d) e → Stands cache.dirty set_ e.target → Comes cache.dirty set_ of_disk of_pool e
   in_turn d e (aims_inside s h) made at = of_pool_on d e h (rw (pool_there d.target s) at made) (λ _. s) at
   in_turn d e (aims_outside s t h) made at = of_disk_on d e h (rw (disk_there d.target s) at made) s at
   in_turn d e (clean_of_disk t h) made at = of_disk_on d e h (rw (disk_there d.target (not_inside d.target t)) at made) (not_inside d.target t) at
-  in_turn d e (clean_of_pool t h) made at = of_pool_on d e h (rw (clean_there d.target t) at made) (λ holds. absurd (both_ways (dirty d.target) t holds)) at
+  in_turn d e (clean_of_pool t h) made at = of_pool_on d e h (rw (clean_there d.target t) at made) (λ holds. absurd (both_ways (cache.dirty d.target) t holds)) at
 
   -- a root of both lists is in the list of three parts, wherever its target stands
-  root : (d : Demand) → Has of_disk d → Has of_pool d → Stands dirty set_ d.target → Comes dirty set_ of_disk of_pool d
+  root : (d : Demand) → Has of_disk d → Has of_pool d → Stands cache.dirty set_ d.target → Comes cache.dirty set_ of_disk of_pool d
   root d x y (inside s t) = aims_inside s y
   root d x y (outside s t) = aims_outside s t x
   root d x y (clean s t) = clean_of_disk t x
 
-  overlay_keeps : Keeps demands meets (overlay disk pool set_) (three_parts dirty set_ of_disk of_pool)
+  overlay_keeps : KeepsDemands demands meets (overlay cache set_) (three_parts cache set_ of_disk of_pool)
   overlay_keeps = record {
-    met = λ d h. met d (comes dirty set_ of_disk of_pool d h);
-    in_turn = λ d e h made. member dirty set_ of_disk of_pool e (in_turn d e (comes dirty set_ of_disk of_pool d h) made (stands dirty set_ closed.only_dirty e.target));
+    met = λ d h. met d (comes cache set_ of_disk of_pool d h);
+    in_turn = λ d e h made. member cache set_ of_disk of_pool e (in_turn d e (comes cache set_ of_disk of_pool d h) made (stands cache.dirty set_ closed.only_dirty e.target));
   }
 
-  safe : IsSafeOverlay demands meets disk pool dirty set_ of_disk of_pool
+  safe : IsSafeOverlay demands meets cache set_ of_disk of_pool
   safe = record {
     keeps = overlay_keeps;
     linked = λ roots both. record {
-      list = three_parts dirty set_ of_disk of_pool;
+      list = three_parts cache set_ of_disk of_pool;
       keeps = overlay_keeps;
-      rooted = λ d h. member dirty set_ of_disk of_pool d (root d (both d h).0 (both d h).1 (stands dirty set_ closed.only_dirty d.target));
+      rooted = λ d h. member cache set_ of_disk of_pool d (root d (both d h).0 (both d h).1 (stands cache.dirty set_ closed.only_dirty d.target));
     };
   }
 
 pub law : (demands : Demands) (meets : Meets) → CarefulWrite demands meets
-law demands meets = λ disk pool dirty ordered of_disk of_pool careful set_ closed. safe demands meets disk pool dirty ordered of_disk of_pool careful set_ closed
+law demands meets = λ cache of_disk of_pool careful set_ closed. safe demands meets cache of_disk of_pool careful set_ closed
