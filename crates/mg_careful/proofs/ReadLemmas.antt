@@ -7,7 +7,7 @@ use Rattle.std.proofs.lemmas.List.Sums.{sum_by-cons}
 use Rattle.std.proofs.lemmas.List.Folds.{list_any_none}
 use Rattle.mg_careful.specs.Precedence.{Precedes, directly, through, precedes_first, precedes_later}
 use Rattle.mg_careful.specs.Rows.{bit, is_blank, is_ready_at, ready_page_at, IsLeast, IsSquare}
-use Rattle.mg_careful.specs.Graph.{is_entered, is_ordered, entered_count, room_of, IsGraph, IsReady, IsFirstReady, IsBlankGraph}
+use Rattle.mg_careful.specs.Graph.{is_entered, is_ordered, entered_count, room_of, IsGraph, IsReady, IsFirstReady, IsBlankGraph, IsAcyclic}
 use Rattle.mg_careful.proofs.RowsLemmas.{bit_inside, closure_none}
 use Rattle.mg_careful.proofs.ReadyLemmas.{start_of}
 use Rattle.mg_careful.proofs.PlaceLemmas.{graph, some_page, at_inside, entered_at, at_entered, not_entered, link_of, link_is, places_of, pages_of}
@@ -177,3 +177,9 @@ least_told pages before after row kept goal goal_page (Some page) at_goal least 
 pub least_none_told : (pages : List (Option ℕ)) (before after : List (List Bool)) (row : List Bool) (kept : IsGraph pages before after row) (goal goal_page : ℕ) (least : Option ℕ) → get_or pages goal None ≡ Some goal_page → IsLeast (ready_page_at pages before after goal) (length pages) least → IsNone least ↔ (is_entered (graph pages before) goal_page ≡ false)
 least_none_told pages before after row kept goal goal_page None at_goal least = absurd (some_ready pages before after row kept goal goal_page at_goal least)
 least_none_told pages before after row kept goal goal_page (Some page) at_goal least = (λ none. absurd (let gone : true ≡ false = none in cc), λ out. absurd (both_ways _ out (entered_at pages before goal goal_page at_goal)))
+
+-- no page precedes itself
+pub acyclic_told : (pages : List (Option ℕ)) (before after : List (List Bool)) (row : List Bool) → IsGraph pages before after row → IsAcyclic (graph pages before)
+acyclic_told pages before after row kept page chain =
+    let at = at_entered pages before page (first_entered pages before after row kept page page chain) in
+    both_ways (bit after at.0 at.0) (kept.acyclic at.0) (precedes_bit pages before after row kept at.0 at.0 page page at.1 at.1 chain)

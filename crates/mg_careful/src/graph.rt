@@ -2,7 +2,7 @@
 
 ghost use Rattle.std.specs.Prelude.{◌≡◌, ◌≢◌, ◌<◌, ◌↔◌, ◌⊎◌, true, false, IsTrue, IsNone, IfSome, IfOk};
 ghost use Rattle.mg_careful.specs.Precedence.{Precedes};
-ghost use Rattle.mg_careful.specs.Graph.{is_entered as entered_test, is_ordered, entered_count, room_of, IsBlankGraph, EntersPage, ClearsPage, AddsOrder, IsFirstReady};
+ghost use Rattle.mg_careful.specs.Graph.{is_entered as entered_test, is_ordered, entered_count, room_of, IsBlankGraph, EntersPage, ClearsPage, AddsOrder, IsFirstReady, IsAcyclic};
 
 use crate::bits::Bits;
 use crate::places::{blank_places, count_pages, find, find_free, place_of};
@@ -146,7 +146,8 @@ impl Graph {
         requires later { entered_test self.old later ≡ true }
         requires apart { first ≢ later }
         requires no_cycle { Precedes (is_ordered self.old) later first → ⊥ }
-        ensures { AddsOrder self.old self.new first later }
+        ensures adds { AddsOrder self.old self.new first later }
+        ensures acyclic { IsAcyclic self.new }
     {
         let size = self.pages.len();
         let from = place_of(&self.pages, first);

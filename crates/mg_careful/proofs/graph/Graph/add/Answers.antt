@@ -3,6 +3,7 @@ use Rattle.mg_careful.specs.Precedence.{Precedes}
 use Rattle.mg_careful.specs.Graph.{is_ordered}
 use Rattle.mg_careful.proofs.PlaceLemmas.{graph, at_entered}
 use Rattle.mg_careful.proofs.GraphLemmas.{add_kept, add_changes, square_of}
+use Rattle.mg_careful.proofs.ReadLemmas.{acyclic_told}
 use Rattle.mg_careful.proofs.graph.Graph.add.Goals as goal
 
 pub place_of-from-requires : goal.place_of-from-requires
@@ -19,9 +20,18 @@ invariant_of-self c =
     c.set_bit.new.rows.items (square_of size_is c.set_bit.ensures.square) c.set_bit.ensures.bits
     c.close.new.after.items c.close.new.row (square_of size_is c.close.ensures.square) (c.close.ensures.row ∙ size_is) c.close.ensures.bits
 
-pub returns : goal.returns
-returns c =
+pub returns-clause-adds : goal.returns-clause-adds
+returns-clause-adds c =
     let size_is : c.len-size.result ≡ length c.self.inside.pages.items = search rules in
     let no_way : Precedes (is_ordered (graph c.self.inside.pages.items c.self.inside.before.items)) c.args.later c.args.first → ⊥ = rw c.self.view_is c.requires.no_cycle in
     rw (← c.self.view_is) (add_changes _ _ _ _ c.self.invariant c.args.first c.args.later c.place_of-from.result c.place_of-to.result c.place_of-from.ensures.there c.place_of-to.ensures.there c.requires.apart no_way
     c.set_bit.new.rows.items (square_of size_is c.set_bit.ensures.square) c.set_bit.ensures.bits)
+
+pub returns-clause-acyclic : goal.returns-clause-acyclic
+returns-clause-acyclic c =
+    let size_is : c.len-size.result ≡ length c.self.inside.pages.items = search rules in
+    let no_way : Precedes (is_ordered (graph c.self.inside.pages.items c.self.inside.before.items)) c.args.later c.args.first → ⊥ = rw c.self.view_is c.requires.no_cycle in
+    acyclic_told c.self.inside.pages.items c.set_bit.new.rows.items c.close.new.after.items c.close.new.row
+    (add_kept _ _ _ _ c.self.invariant c.args.first c.args.later c.place_of-from.result c.place_of-to.result c.place_of-from.ensures.there c.place_of-to.ensures.there c.requires.apart no_way
+    c.set_bit.new.rows.items (square_of size_is c.set_bit.ensures.square) c.set_bit.ensures.bits
+    c.close.new.after.items c.close.new.row (square_of size_is c.close.ensures.square) (c.close.ensures.row ∙ size_is) c.close.ensures.bits)
