@@ -1,3 +1,4 @@
 pub mod RunLemmas
 pub mod WritingLemmas
+pub mod WriterLemmas
 pub mod ReadingLemmas

@@ -3,9 +3,12 @@
 ghost use Rattle.std.specs.Prelude.{◌≡◌, ℕ, List};
 ghost use Rattle.mg_rle.specs.Runs.{StandsFor, BreaksAt};
 
-/// A plain text has one packed text: what is packed again after unpacking is what was unpacked.
+/// A plain text has one packed text, and no more: what is packed again after unpacking is what was
+/// unpacked.
 pub fn one_packed_text()
-    ensures { (plain first second : List ℕ) → StandsFor first plain → StandsFor second plain → first ≡ second }
+    ensures some { (plain : List ℕ) → (packed : List ℕ) × StandsFor packed plain }
+    ensures one { (plain first second : List ℕ) → StandsFor first plain → StandsFor second plain
+        → first ≡ second }
 {}
 
 /// A packed text has one plain text: what is unpacked after packing is what was packed.
