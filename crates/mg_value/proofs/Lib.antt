@@ -1,0 +1,3 @@
+pub mod OrderLemmas
+pub mod PrintingLemmas
+pub mod NameLemmas
