@@ -1,7 +1,7 @@
 -- The shapes of rows, and the bytes of a row.
-use Rattle.std.specs.Prelude.{◌≡◌, ℕ, ℤ, pos, negsuc, ◌+◌, ◌-◌, ◌*◌, ◌/◌, ◌^◌, ◌≤◌, Bool, true, false, nat_le, List, [], ◌∷◌, ◌++◌, length, map, replicate, take_while, if◌then◌else◌}
+use Rattle.std.specs.Prelude.{◌≡◌, ◌≢◌, ℕ, ◌+◌, ◌-◌, ◌*◌, ◌/◌, ◌^◌, ◌≤◌, Bool, true, false, nat_le, List, [], ◌∷◌, ◌++◌, length, map, replicate, take_while, if◌then◌else◌}
 use Rattle.std.specs.List.{sum_by}
-use Rattle.std.specs.Int.{w16, w64, to_le_bytes}
+use Rattle.std.specs.Int.{w16, w64, cast_unsigned, to_le_bytes}
 use Rattle.mg_value.specs.declared.shape.Kind.{Kind}
 use Rattle.mg_value.specs.declared.shape.Kind.TheVariants as kinds
 use Rattle.mg_value.specs.declared.shape.Column.{Column}
@@ -22,17 +22,19 @@ row_len_of columns = (length columns + 7) / 8 + sum_by (λ column. width_of colu
 abbrev pub columns_of : List Column → ℕ → List Column
 columns_of columns format = take_while (λ column. nat_le column.since format) columns
 
--- a text fits a kind
-abbrev pub FitsText : Kind → List ℕ → Type 0
-FitsText kinds.Int text = ⊥
-FitsText (kinds.Text most) text = length text ≤ most
+-- a value may stand in a column of a kind: NULL in any, a number in a BIGINT, a text that is short
+-- enough in a VARCHAR
+abbrev pub FitsKind : Kind → Value → Type 0
+FitsKind kind Null = Unit {0}
+FitsKind kinds.Int (Int number) = Unit {0}
+FitsKind kinds.Int (Text text) = ⊥
+FitsKind (kinds.Text most) (Int number) = ⊥
+FitsKind (kinds.Text most) (Text text) = length text ≤ most
 
--- a value may stand in a column: NULL where it is allowed, a number in a BIGINT, a short enough text in
--- a VARCHAR
-abbrev pub FitsColumn : Column → Value → Type 0
-FitsColumn column Null = column.not_null ≡ false
-FitsColumn column (Int number) = column.kind ≡ kinds.Int
-FitsColumn column (Text text) = FitsText column.kind text
+-- a value may stand in a column: it fits the column's kind, and isn't NULL where none is allowed
+pub record FitsColumn (column : Column) (value : Value) : Type 0 where
+  pub kind : FitsKind column.kind value
+  pub allowed : column.not_null ≡ true → value ≢ Null
 
 -- a row fits a list of columns: a value for each, and each may stand in its column
 abbrev pub RowFits : List Column → List Value → Type 0
@@ -41,15 +43,10 @@ RowFits [] (value ∷ values) = ⊥
 RowFits (column ∷ columns) [] = ⊥
 RowFits (column ∷ columns) (value ∷ values) = FitsColumn column value × RowFits columns values
 
--- a number of 64 bits in two's complement
-abbrev pub complement : ℤ → ℕ
-complement (pos n) = n
-complement (negsuc n) = 2 ^ 64 - 1 - n
-
--- the bytes of a value in a column of a kind, all zero for NULL
+-- the bytes of a value in a column of a kind: all zero for NULL, and a number in two's complement
 abbrev pub value_bytes : Kind → Value → List ℕ
 value_bytes kind Null = replicate (width_of kind) 0
-value_bytes kind (Int number) = to_le_bytes w64 (complement number)
+value_bytes kind (Int number) = to_le_bytes w64 (cast_unsigned w64 number)
 value_bytes kind (Text text) = to_le_bytes w16 (length text) ++ text ++ replicate (width_of kind - 2 - length text) 0
 
 -- the bytes of the values of a row
