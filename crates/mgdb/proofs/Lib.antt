@@ -1,0 +1,5 @@
+pub mod FreshLemmas
+pub mod RecordLemmas
+pub mod ScriptLemmas
+pub mod TopLemmas
+pub mod WordsLemmas

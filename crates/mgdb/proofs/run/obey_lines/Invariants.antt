@@ -1,0 +1,18 @@
+use Rattle.std.proofs.Common.{◌≡◌, ◌≤◌, ◌+◌, Some, true, length}
+use Rattle.std.specs.Str.Lines.{lines}
+use Rattle.mgdb.specs.Script.{HasBad}
+use Rattle.mgdb.specs.declared.pages.TheConstants.{PAGE}
+use Rattle.mgdb.proofs.run.obey_lines.Given as goal
+
+-- no call failed; the lines are counted; a bad line was no good one
+abbrev pub invariant-loop-rest : goal.invariant-loop-rest
+invariant-loop-rest g l = record {
+  size : g.D.Disk.meaning.size l.disk ≡ Some PAGE;
+  disk : g.D.Disk.meaning.faults l.fn.disk ≤ g.D.Disk.meaning.faults l.disk;
+  sink : g.K.Sink.meaning.faults l.sink ≡ g.K.Sink.meaning.faults l.fn.sink;
+  bad : l.all ≡ true → HasBad (lines l.script) → HasBad (lines l.rest);
+  number : l.number + length l.rest ≤ length l.script;
+}
+
+abbrev pub decreases-loop-rest : goal.decreases-loop-rest
+decreases-loop-rest g l = length l.rest
