@@ -1,5 +1,7 @@
 pub mod Acts
 pub mod Calls
+pub mod Checks
+pub mod CheckLaws
 pub mod Disk
 pub mod FaultyDisk
 pub mod Fields

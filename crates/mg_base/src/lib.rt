@@ -23,6 +23,7 @@
 #![tactic(auto)]
 
 mod bytes;
+mod check;
 mod damage;
 mod disk;
 mod faulty_disk;
@@ -41,6 +42,7 @@ mod streams;
 mod transaction;
 
 pub use bytes::Bytes;
+pub use check::{check_common, check_field};
 pub use damage::{Damaged, Field};
 pub use disk::{Disk, DiskFault};
 pub use faulty_disk::FaultyDisk;

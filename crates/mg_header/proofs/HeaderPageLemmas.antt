@@ -2,7 +2,7 @@
 use Rattle.std.proofs.Common.{◌≡◌, ℕ, ◌+◌, ◌^◌, ◌<◌, ◌≤◌, List, [], ◌∷◌, Ok, Err, length, take, refl, ◌∙◌, lit≤, arith}
 use Rattle.mg_base.specs.Fields.{byte, u16_at, u32_at, with_u16, with_u32, byte_apart, byte_apart16, u16_again, u32_again, u16_apart, u32_apart16, length-with_u16, length-with_u32, take-with_u16, take-with_u32}
 use Rattle.mg_base.specs.declared.damage.Damaged.{Damaged}
-use Rattle.mg_tip.specs.Checks.{verdict}
+use Rattle.mg_base.specs.Checks.{verdict}
 use Rattle.mg_header.specs.declared.header.Header.{Header}
 use Rattle.mg_header.specs.declared.header.HeadFault.TheVariants as faults
 use Rattle.mg_header.specs.HeaderPage.{WritesHeader, database_checks, header_in, page_checks, reading, the_page}

@@ -5,7 +5,7 @@ use Rattle.mg_base.specs.declared.fields.TheConstants.{COMMON}
 use Rattle.mg_base.specs.declared.numbers.PageNo.{PageNo}
 use Rattle.mg_base.specs.declared.damage.Damaged.{Damaged}
 use Rattle.mg_base.specs.declared.damage.Field.TheVariants as fields
-use Rattle.mg_tip.specs.Checks.{Check, common_checks, verdict}
+use Rattle.mg_base.specs.Checks.{Check, common_checks, verdict}
 use Rattle.mg_header.specs.declared.header.TheConstants.{HEADER_KIND, MAGIC, MAJOR, GREATEST_MINOR, GREATEST_NEXT, MAGIC_AT, MAJOR_AT, MINOR_AT, PAGE_SIZE_AT, NEXT_AT, OIT_AT, OAT_AT, OST_AT, LAST_TIP_AT, INTERVAL_AT, CATALOG_AT, HEADER_END}
 use Rattle.mg_header.specs.declared.header.Header.{Header}
 use Rattle.mg_header.specs.declared.header.HeadFault.{HeadFault}

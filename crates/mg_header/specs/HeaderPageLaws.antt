@@ -3,7 +3,8 @@ use Rattle.std.specs.Prelude.{◌≡◌, ◌≤◌, ℕ, List, Result, Ok, Err, 
 use Rattle.std.proofs.Common.{refl, sym, ap, subst, ◌∙◌, lit≤, arith}
 use Rattle.mg_base.specs.Fields.{u16_at, u32_at}
 use Rattle.mg_base.specs.declared.damage.Damaged.{Damaged}
-use Rattle.mg_tip.specs.Checks.{Passes, common_checks, verdict, front_checks, passes-append, passes_from_verdict, verdict_from_passes}
+use Rattle.mg_base.specs.Checks.{PassesAll, common_checks, verdict}
+use Rattle.mg_base.specs.CheckLaws.{front_checks, passes-append, passes_from_verdict, verdict_from_passes}
 use Rattle.mg_header.specs.declared.header.TheConstants.{HEADER_KIND, GREATEST_MINOR, NEXT_AT, OIT_AT, OAT_AT, OST_AT}
 use Rattle.mg_header.specs.declared.header.Header.{Header}
 use Rattle.mg_header.specs.declared.header.HeadFault.{HeadFault}
@@ -20,7 +21,7 @@ is_nearest : (low high number : ℕ) → low ≤ number → number ≤ high → 
 is_nearest low high number above below = omega arith
 
 -- numbers of transactions that pass their tests are in order
-pub markers_from_passes : (b : List ℕ) → Passes (marker_checks b)
+pub markers_from_passes : (b : List ℕ) → PassesAll (marker_checks b)
     → AreMarkers (u32_at b OIT_AT) (u32_at b OST_AT) (u32_at b OAT_AT) (u32_at b NEXT_AT)
 unfolding marker_checks
 markers_from_passes b passes = ordered (u32_at b 28) (u32_at b 32) (u32_at b 36)
@@ -45,7 +46,7 @@ markers_from_passes b passes = ordered (u32_at b 28) (u32_at b 32) (u32_at b 36)
 
 -- and numbers in order pass them
 pub passes_from_markers : (b : List ℕ) → AreMarkers (u32_at b OIT_AT) (u32_at b OST_AT)
-    (u32_at b OAT_AT) (u32_at b NEXT_AT) → Passes (marker_checks b)
+    (u32_at b OAT_AT) (u32_at b NEXT_AT) → PassesAll (marker_checks b)
 unfolding marker_checks
 passes_from_markers b are = passing (u32_at b 28) (u32_at b 32) (u32_at b 36) (u32_at b 40) are
   where
@@ -68,15 +69,15 @@ passes_from_markers b are = passing (u32_at b 28) (u32_at b 32) (u32_at b 36) (u
 
 -- what is read was tested
 pub reading_ok : (b : List ℕ) (size : ℕ) (h : Header) → reading b size ≡ Ok h
-    → Passes (database_checks b size) × Passes (page_checks b) × (h ≡ header_in b)
+    → PassesAll (database_checks b size) × PassesAll (page_checks b) × (h ≡ header_in b)
 unfolding reading
 reading_ok b size h is = of (verdict the_page (database_checks b size)) (verdict the_page
     (page_checks b)) refl refl is
   where
     of : (file page : Result (Unit {0}) Damaged) → verdict the_page
         (database_checks b size) ≡ file → verdict the_page (page_checks b) ≡ page
-        → told file page (header_in b) ≡ ok h → Passes (database_checks b size)
-        × Passes (page_checks b) × (h ≡ header_in b)
+        → told file page (header_in b) ≡ ok h → PassesAll (database_checks b size)
+        × PassesAll (page_checks b) × (h ≡ header_in b)
     of (Err damage) page file_is page_is is = absurd cc
     of (Ok u) (Err damage) file_is page_is is = absurd cc
     of (Ok u) (Ok v) file_is page_is is = (
@@ -87,7 +88,7 @@ reading_ok b size h is = of (verdict the_page (database_checks b size)) (verdict
     )
 
 -- a page that passes its tests is read
-pub reads : (b : List ℕ) (size : ℕ) → Passes (database_checks b size) → Passes (page_checks b)
+pub reads : (b : List ℕ) (size : ℕ) → PassesAll (database_checks b size) → PassesAll (page_checks b)
     → reading b size ≡ Ok (header_in b)
 unfolding reading
 reads b size file page = rw (
@@ -98,7 +99,7 @@ reads b size file page = rw (
 
 -- what was written tells that the file is a database with pages of this size
 pub database_written : (old new : List ℕ) (h : Header) → WritesHeader old new h
-    → h.minor ≤ GREATEST_MINOR → Passes (database_checks new (length old))
+    → h.minor ≤ GREATEST_MINOR → PassesAll (database_checks new (length old))
 unfolding database_checks
 database_written old new h writes lawful =
     let minor : u16_at new 22 ≡ h.minor = ap (λ (x : Header). x.minor) writes.header in (
@@ -118,14 +119,14 @@ database_written old new h writes lawful =
 -- on a page with a sound common part, what was written is read again
 pub written_again : (old new : List ℕ) (h : Header) → WritesHeader old new h
     → h.minor ≤ GREATEST_MINOR → AreMarkers h.oit.0 h.ost.0 h.oat.0 h.next.0
-    → Passes (common_checks old 0 HEADER_KIND 0 0) → reading new (length old) ≡ Ok h
+    → PassesAll (common_checks old 0 HEADER_KIND 0 0) → reading new (length old) ≡ Ok h
 written_again old new h writes lawful are common =
     let ordered : AreMarkers (u32_at new OIT_AT) (u32_at new OST_AT) (u32_at new OAT_AT)
     (u32_at new NEXT_AT) =
     subst (λ (x : Header). AreMarkers x.oit.0 x.ost.0 x.oat.0 x.next.0) (sym writes.header) are in
     let same : common_checks old 0 HEADER_KIND 0 0 ≡ common_checks new 0 HEADER_KIND 0 0 =
     front_checks old new 0 HEADER_KIND 0 0 (sym writes.front) in
-    let front : Passes (common_checks new 0 HEADER_KIND 0 0) = subst Passes same common in
-    let page : Passes (page_checks new) = passes-append (common_checks new 0 HEADER_KIND 0 0)
+    let front : PassesAll (common_checks new 0 HEADER_KIND 0 0) = subst PassesAll same common in
+    let page : PassesAll (page_checks new) = passes-append (common_checks new 0 HEADER_KIND 0 0)
     (marker_checks new) front (passes_from_markers new ordered) in
     reads new (length old) (database_written old new h writes lawful) page ∙ ap ok writes.header

@@ -1,7 +1,7 @@
 //! A header page is tested and read.
 
 ghost use Rattle.std.specs.Prelude.{◌≡◌, ◌≤◌, length};
-ghost use Rattle.mg_tip.specs.Checks.{verdict};
+ghost use Rattle.mg_base.specs.Checks.{verdict};
 ghost use Rattle.mg_header.specs.HeaderPage.{database_checks, header_in, marker_checks, nearest as nearest_number, page_checks, reading, the_page};
 
 use crate::{
@@ -9,8 +9,7 @@ use crate::{
     INTERVAL_AT, LAST_TIP_AT, MAGIC, MAGIC_AT, MAJOR, MAJOR_AT, MINOR_AT, NEXT_AT, OAT_AT, OIT_AT,
     OST_AT, PAGE_SIZE_AT,
 };
-use mg_base::{Damaged, Field, PageNo, TxNo, get_u16, get_u32};
-use mg_tip::{check_common, check_field};
+use mg_base::{Damaged, Field, PageNo, TxNo, check_common, check_field, get_u16, get_u32};
 
 /// The number of the header page.
 const PAGE: PageNo = PageNo(0);

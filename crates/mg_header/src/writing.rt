@@ -2,7 +2,7 @@
 
 ghost use Rattle.std.specs.Prelude.{◌≡◌, ◌≤◌, ◌<◌, ◌^◌, Ok, length};
 ghost use Rattle.mg_header.specs.HeaderPage.{AreMarkers, WritesHeader, reading};
-ghost use Rattle.mg_tip.specs.Checks.{Passes, common_checks};
+ghost use Rattle.mg_base.specs.Checks.{PassesAll, common_checks};
 
 use crate::{
     CATALOG_AT, GREATEST_MINOR, HEADER_END, HEADER_KIND, Header, INTERVAL_AT, LAST_TIP_AT, MAGIC,
@@ -22,7 +22,7 @@ pub fn write_header(b: &mut [u8], h: &Header)
     ensures written { WritesHeader b.old b.new h.now }
     ensures read_again { h.now.minor ≤ GREATEST_MINOR
         → AreMarkers h.now.oit.0 h.now.ost.0 h.now.oat.0 h.now.next.0
-        → Passes (common_checks b.old 0 HEADER_KIND 0 0)
+        → PassesAll (common_checks b.old 0 HEADER_KIND 0 0)
         → reading b.new (length b.old) ≡ Ok h.now }
 {
     let size = b.len() as u32;

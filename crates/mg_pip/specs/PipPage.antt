@@ -1,7 +1,7 @@
 -- What a page inventory page means: a set of used numbers.
 use Rattle.std.specs.Prelude.{◌≡◌, ◌≢◌, ◌<◌, ◌≤◌, ◌+◌, ◌*◌, ◌/◌, ◌%◌, ◌-◌, ◌==◌, ℕ, zero, suc, Bool, true, false, List, length, take}
 use Rattle.mg_base.specs.Fields.{byte, new_page}
-use Rattle.mg_tip.specs.Checks.{Check, common_checks}
+use Rattle.mg_base.specs.Checks.{Check, common_checks}
 use Rattle.mg_pip.specs.declared.page.TheConstants.{PIP_KIND, BITS_AT}
 
 -- how many bits a page of a size has: eight to a byte

@@ -5,26 +5,10 @@ use Rattle.std.proofs.Math.ListN.{set}
 use Rattle.std.proofs.lemmas.Bool.{cases_lt}
 use Rattle.std.proofs.lemmas.List.{get_or-set_other, get_or-replicate, get_or_past, length-replicate}
 use Rattle.mg_base.specs.Fields.{byte, with_u32, new_page, byte_apart, length-new_page}
-use Rattle.mg_tip.specs.Checks.{Passes, front_checks, new_passes}
+use Rattle.mg_base.specs.Checks.{PassesAll}
+use Rattle.mg_base.specs.CheckLaws.{new_page_zero, front_checks, new_passes}
 use Rattle.mg_pip.specs.declared.page.TheConstants.{PIP_KIND, BITS_AT}
 use Rattle.mg_pip.specs.PipPage.{bit_of, used_in, pip_checks, new_pip_page}
-
--- behind the common part of a new page each byte is zero
-pub new_page_zero : (size page kind owner seq at : ℕ) → 16 ≤ at
-    → byte (new_page size page kind owner seq) at ≡ 0
-new_page_zero size page kind owner seq at behind =
-    let blank : List ℕ = replicate size 0 in
-    let kinded : List ℕ = set blank 0 kind in
-    let named : List ℕ = with_u32 kinded 4 page in
-    let owned : List ℕ = with_u32 named 8 owner in
-    let blank_at : byte blank at ≡ 0 = elim (cases_lt at size) [
-      | inl inside ↦ get_or-replicate size at 0 0 inside
-      | inr past ↦ get_or_past blank at 0 (omega (arith, length-replicate {A = ℕ} size 0))
-    ] in
-    byte_apart owned 12 seq at (omega arith) ∙
-    (byte_apart named 8 owner at (omega arith) ∙
-    (byte_apart kinded 4 page at (omega arith) ∙
-    (get_or-set_other blank 0 at kind 0 (omega arith) ∙ blank_at)))
 
 zero_bit : (place : ℕ) → bit_of 0 place ≡ 0
 zero_bit zero = refl
@@ -51,7 +35,7 @@ new_page_unused size page seq bit =
 
 -- a new page passes its tests
 pub new_page_passes : (size page seq : ℕ) → BITS_AT ≤ size → page < 2 ^ 32 → seq < 2 ^ 32
-    → Passes (pip_checks (new_pip_page size page seq) page seq)
+    → PassesAll (pip_checks (new_pip_page size page seq) page seq)
 unfolding new_pip_page
 new_page_passes size page seq fits small_page small_seq =
     new_passes size page PIP_KIND 0 seq fits small_page (omega arith) small_seq

@@ -1,11 +1,10 @@
 //! A page inventory page as a whole: how it begins, and what is tested.
 
 ghost use Rattle.std.specs.Prelude.{◌≡◌, ◌≤◌, ℕ, false, length};
-ghost use Rattle.mg_tip.specs.Checks.{Passes, verdict};
+ghost use Rattle.mg_base.specs.Checks.{PassesAll, verdict};
 ghost use Rattle.mg_pip.specs.PipPage.{new_pip_page, pip_checks, used_in};
 
-use mg_base::{Damaged, PageNo, new_common};
-use mg_tip::check_common;
+use mg_base::{Damaged, PageNo, check_common, new_common};
 
 /// The kind of a page inventory page.
 pub const PIP_KIND: u8 = 2;
@@ -20,7 +19,7 @@ pub fn new_pip(b: &mut [u8], page: PageNo, seq: u32)
     requires { BITS_AT ≤ length b.old }
     ensures page { b.new ≡ new_pip_page (length b.old) page.0 seq }
     ensures unused { (bit : ℕ) → used_in b.new bit ≡ false }
-    ensures passes { Passes (pip_checks b.new page.0 seq) }
+    ensures passes { PassesAll (pip_checks b.new page.0 seq) }
 {
     new_common(b, page, PIP_KIND, 0, seq);
 }

@@ -3,7 +3,8 @@ use Rattle.std.proofs.Common.{◌≡◌, ℕ, suc, ◌+◌, ◌*◌, ◌^◌, �
 use Rattle.mg_base.specs.Fields.{u32_at, with_u16, with_u32, byte_apart, byte_apart16, u16_again, u32_again, u16_apart32, u32_apart, u32_apart16, length-with_u16, length-with_u32, take-with_u16, take-with_u32}
 use Rattle.mg_base.specs.declared.numbers.PageNo.{PageNo}
 use Rattle.mg_base.specs.declared.damage.Damaged.{Damaged}
-use Rattle.mg_tip.specs.Checks.{verdict, common_checks, verdict-append_ok, verdict-append_err}
+use Rattle.mg_base.specs.Checks.{verdict, common_checks}
+use Rattle.mg_base.specs.CheckLaws.{verdict-append_ok, verdict-append_err}
 use Rattle.mg_pointer.specs.PointerPage.{AddsEntry, IsPointerPage, SetsNext, capacity, count_in, entries_of, first_entries, pointer_checks, rest_checks}
 use Rattle.mg_pointer.specs.PointerPageLaws.{same_entries}
 

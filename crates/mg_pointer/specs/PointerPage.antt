@@ -3,7 +3,7 @@ use Rattle.std.specs.Prelude.{◌≡◌, ◌≤◌, ◌+◌, ◌*◌, ◌/◌, �
 use Rattle.mg_base.specs.Fields.{byte, u16_at, u32_at, new_page}
 use Rattle.mg_base.specs.declared.damage.Field.TheVariants.{Count, Zero}
 use Rattle.mg_base.specs.declared.fields.TheConstants.{COMMON}
-use Rattle.mg_tip.specs.Checks.{Check, common_checks}
+use Rattle.mg_base.specs.Checks.{Check, common_checks}
 use Rattle.mg_pointer.specs.declared.page.TheConstants.{POINTER_KIND, NEXT_AT, COUNT_AT, UNUSED_AT, ENTRIES_AT, ENTRY_LEN}
 
 -- how many entries have room on a page of a size

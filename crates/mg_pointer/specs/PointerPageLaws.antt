@@ -5,26 +5,10 @@ use Rattle.std.proofs.Math.ListN.{set}
 use Rattle.std.proofs.lemmas.Bool.{cases_eq, cases_lt}
 use Rattle.std.proofs.lemmas.List.{get_or_push, get_or_append_left, length_push, get_or-set_other, get_or-replicate, get_or_past, length-replicate}
 use Rattle.mg_base.specs.Fields.{byte, u16_at, u32_at, with_u32, new_page, byte_apart, length-new_page}
-use Rattle.mg_tip.specs.Checks.{Check, Passes, common_checks, new_passes, passes-append}
+use Rattle.mg_base.specs.Checks.{Check, PassesAll, common_checks}
+use Rattle.mg_base.specs.CheckLaws.{new_page_zero, new_passes, passes-append}
 use Rattle.mg_pointer.specs.declared.page.TheConstants.{POINTER_KIND, ENTRIES_AT, ENTRY_LEN}
 use Rattle.mg_pointer.specs.PointerPage.{IsPointerPage, capacity, count_in, entries_of, first_entries, new_pointer_page, next_in, pointer_checks, rest_checks}
-
--- behind the common part of a new page each byte is zero
-pub new_page_zero : (size page kind owner seq at : ℕ) → 16 ≤ at
-    → byte (new_page size page kind owner seq) at ≡ 0
-new_page_zero size page kind owner seq at behind =
-    let blank : List ℕ = replicate size 0 in
-    let kinded : List ℕ = set blank 0 kind in
-    let named : List ℕ = with_u32 kinded 4 page in
-    let owned : List ℕ = with_u32 named 8 owner in
-    let blank_at : byte blank at ≡ 0 = elim (cases_lt at size) [
-      | inl inside ↦ get_or-replicate size at 0 0 inside
-      | inr past ↦ get_or_past blank at 0 (omega (arith, length-replicate {A = ℕ} size 0))
-    ] in
-    byte_apart owned 12 seq at (omega arith) ∙
-    (byte_apart named 8 owner at (omega arith) ∙
-    (byte_apart kinded 4 page at (omega arith) ∙
-    (get_or-set_other blank 0 at kind 0 (omega arith) ∙ blank_at)))
 
 pub length-first_entries : (page : List ℕ) (n : ℕ) → length (first_entries page n) ≡ n
 length-first_entries page zero = refl
@@ -96,7 +80,7 @@ new_page_next size page owner seq = omega (
 
 -- a new page passes its tests
 pub new_page_passes : (size page owner seq : ℕ) → ENTRIES_AT ≤ size → page < 2 ^ 32 → owner < 2 ^ 32
-    → seq < 2 ^ 32 → Passes (pointer_checks (new_pointer_page size page owner seq) page owner seq)
+    → seq < 2 ^ 32 → PassesAll (pointer_checks (new_pointer_page size page owner seq) page owner seq)
 unfolding new_pointer_page pointer_checks
 new_page_passes size page owner seq fits small_page small_owner small_seq =
     let made : List ℕ = new_page size page POINTER_KIND owner seq in
@@ -117,13 +101,13 @@ pub length-new_pointer_page : (size page owner seq : ℕ)
 unfolding new_pointer_page
 length-new_pointer_page size page owner seq = length-new_page size page POINTER_KIND owner seq
 
-passes_behind : (first others : List Check) → Passes (first ++ others) → Passes others
+passes_behind : (first others : List Check) → PassesAll (first ++ others) → PassesAll others
 passes_behind [] others passes = passes
 passes_behind (check ∷ checks) others passes = passes_behind checks others passes.1
 
 -- a page that passes its tests may be read
 pub page_that_passes : (b : List ℕ) (page owner seq : ℕ) → ENTRIES_AT ≤ length b → length b ≤ 2 ^ 16
-    → Passes (pointer_checks b page owner seq) → IsPointerPage b
+    → PassesAll (pointer_checks b page owner seq) → IsPointerPage b
 unfolding pointer_checks
 page_that_passes b page owner seq least most passes =
     let rest = passes_behind (common_checks b page POINTER_KIND owner seq) (rest_checks b) passes in

@@ -1,11 +1,10 @@
 //! A pointer page as a whole: how it begins, and what is tested.
 
 ghost use Rattle.std.specs.Prelude.{◌≡◌, ◌≤◌, ◌^◌, [], length};
-ghost use Rattle.mg_tip.specs.Checks.{Passes, verdict};
+ghost use Rattle.mg_base.specs.Checks.{PassesAll, verdict};
 ghost use Rattle.mg_pointer.specs.PointerPage.{IsPointerPage, capacity as most_entries, entries_of, new_pointer_page, next_in, pointer_checks, rest_checks};
 
-use mg_base::{Damaged, Field, PageNo, get_u16, new_common};
-use mg_tip::{check_common, check_field};
+use mg_base::{Damaged, Field, PageNo, check_common, check_field, get_u16, new_common};
 
 /// The kind of a pointer page.
 pub const POINTER_KIND: u8 = 4;
@@ -31,7 +30,7 @@ pub fn new_pointer(b: &mut [u8], page: PageNo, owner: u32, seq: u32)
     ensures page { b.new ≡ new_pointer_page (length b.old) page.0 owner seq }
     ensures entries { entries_of b.new ≡ [] }
     ensures next { next_in b.new ≡ 0 }
-    ensures passes { Passes (pointer_checks b.new page.0 owner seq) }
+    ensures passes { PassesAll (pointer_checks b.new page.0 owner seq) }
     ensures lawful { IsPointerPage b.new }
 {
     new_common(b, page, POINTER_KIND, owner, seq);

@@ -12,8 +12,8 @@ use crate::page::{
     cell_len, offset,
 };
 use crate::space::taken;
-use crate::verdict::{check_common, same};
-use mg_base::{Damaged, Field, PageNo, get_u16};
+use crate::verdict::same;
+use mg_base::{Damaged, Field, PageNo, check_common, get_u16};
 
 /// Tests whether `b` is a data page with this number, owner and sequence.
 ///

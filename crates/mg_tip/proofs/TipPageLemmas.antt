@@ -9,7 +9,8 @@ use Rattle.mg_base.specs.declared.transaction.TxState.TheVariants.{Active, Limbo
 use Rattle.mg_base.specs.declared.numbers.PageNo.{PageNo}
 use Rattle.mg_base.specs.declared.damage.Damaged.{Damaged}
 use Rattle.mg_base.specs.declared.damage.Field.TheVariants.{Link}
-use Rattle.mg_tip.specs.Checks.{verdict, common_checks, verdict-append_ok, verdict-append_err}
+use Rattle.mg_base.specs.Checks.{verdict, common_checks}
+use Rattle.mg_base.specs.CheckLaws.{verdict-append_ok, verdict-append_err}
 use Rattle.mg_tip.specs.TipPage.{prev_in, tip_checks, places, bits_of, state_of, two_bits, state_in, SetsState}
 
 state_of-bits_of : (state : TxState) → state_of (bits_of state) ≡ state

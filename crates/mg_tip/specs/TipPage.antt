@@ -5,7 +5,7 @@ use Rattle.mg_base.specs.declared.transaction.TxState.{TxState}
 use Rattle.mg_base.specs.declared.transaction.TxState.TheVariants.{Active, Limbo, Dead, Committed}
 use Rattle.mg_base.specs.declared.damage.Field.TheVariants.{Link}
 use Rattle.mg_tip.specs.declared.page.TheConstants.{TIP_KIND, PREV_AT, STATES_AT}
-use Rattle.mg_tip.specs.Checks.{Check, common_checks}
+use Rattle.mg_base.specs.Checks.{Check, common_checks}
 
 -- how many places a page of a size has: four to a byte
 abbrev pub places : ℕ → ℕ

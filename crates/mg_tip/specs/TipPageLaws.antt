@@ -8,7 +8,8 @@ use Rattle.mg_base.specs.Fields.{byte, with_u32, new_page, byte_apart, u32_again
 use Rattle.mg_base.specs.declared.transaction.TxState.TheVariants.{Active}
 use Rattle.mg_base.specs.declared.damage.Field.TheVariants.{Link}
 use Rattle.mg_tip.specs.declared.page.TheConstants.{TIP_KIND, PREV_AT, STATES_AT}
-use Rattle.mg_tip.specs.Checks.{Passes, common_checks, byte_front, front_checks, new_passes, passes-append}
+use Rattle.mg_base.specs.Checks.{PassesAll, common_checks}
+use Rattle.mg_base.specs.CheckLaws.{byte_front, front_checks, new_passes, passes-append}
 use Rattle.mg_tip.specs.TipPage.{bits_of, state_of, two_bits, state_in, prev_in, tip_checks, new_tip_page}
 
 zero_bits : (k : ℕ) → two_bits 0 k ≡ 0
@@ -58,19 +59,19 @@ new_page_prev size page seq prev fits small =
 -- a new page passes its tests, if the first of the chain is said to have none before it
 pub new_page_passes : (size page seq prev : ℕ) → STATES_AT ≤ size → page < 2 ^ 32 → seq < 2 ^ 32
     → prev < 2 ^ 32 → (seq ≡ 0 → prev ≡ 0)
-    → Passes (tip_checks (new_tip_page size page seq prev) page seq)
+    → PassesAll (tip_checks (new_tip_page size page seq prev) page seq)
 unfolding new_tip_page tip_checks
 new_page_passes size page seq prev fits small_page small_seq small_prev first =
     let made : List ℕ = new_page size page TIP_KIND 0 seq in
     let front : take 16 (with_u32 made 16 prev) ≡ take 16 made =
     take-with_u32 made 16 prev 16 (omega arith) in
-    let common : Passes (common_checks (with_u32 made 16 prev) page TIP_KIND 0 seq) =
+    let common : PassesAll (common_checks (with_u32 made 16 prev) page TIP_KIND 0 seq) =
     rw (front_checks (with_u32 made 16 prev) made page TIP_KIND 0 seq front) (new_passes size page TIP_KIND 0 seq (omega arith) small_page (omega arith) small_seq) in
     passes-append (common_checks (with_u32 made 16 prev) page TIP_KIND 0 seq) _ common
     (first_link seq (prev_in (with_u32 made 16 prev)) (λ is_first. new_page_prev size page seq prev fits small_prev ∙ first is_first))
   where
     first_link : (seq prev : ℕ) → (seq ≡ 0 → prev ≡ 0)
-        → Passes (if seq == 0 then (Link, prev, 0) ∷ [] else [])
+        → PassesAll (if seq == 0 then (Link, prev, 0) ∷ [] else [])
     first_link seq prev none = elim (cases_eq seq 0) [
       | inl is_first ↦ rw (eq-eqb seq 0 is_first) (none is_first, tt)
       | inr later ↦ rw (ne_eqb seq 0 later) tt

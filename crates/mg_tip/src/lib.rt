@@ -16,11 +16,9 @@
 //! Not here: which transaction stands at which place, and when a page may be written.
 #![tactic(auto)]
 
-mod check;
 mod page;
 mod states;
 
-pub use check::{check_common, check_field};
 pub use page::{PREV_AT, STATES_AT, TIP_KIND, check_tip, new_tip, prev_of};
 pub use states::{set_state, state_at};
 

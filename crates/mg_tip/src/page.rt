@@ -1,11 +1,12 @@
 //! A transaction inventory page as a whole: how it begins, and what is tested.
 
 ghost use Rattle.std.specs.Prelude.{◌≡◌, ◌≤◌, ℕ, length};
-ghost use Rattle.mg_tip.specs.Checks.{Passes, verdict};
+ghost use Rattle.mg_base.specs.Checks.{PassesAll, verdict};
 ghost use Rattle.mg_tip.specs.TipPage.{new_tip_page, prev_in, state_in, tip_checks};
 
-use crate::{check_common, check_field};
-use mg_base::{Damaged, Field, PageNo, TxState, get_u32, new_common, put_u32};
+use mg_base::{
+    Damaged, Field, PageNo, TxState, check_common, check_field, get_u32, new_common, put_u32,
+};
 
 /// The kind of a transaction inventory page.
 pub const TIP_KIND: u8 = 3;
@@ -24,7 +25,7 @@ pub fn new_tip(b: &mut [u8], page: PageNo, seq: u32, prev: PageNo)
     ensures page { b.new ≡ new_tip_page (length b.old) page.0 seq prev.0 }
     ensures active { (place : ℕ) → state_in b.new place ≡ TxState.Active }
     ensures prev { prev_in b.new ≡ prev.0 }
-    ensures passes { (seq ≡ 0 → prev.0 ≡ 0) → Passes (tip_checks b.new page.0 seq) }
+    ensures passes { (seq ≡ 0 → prev.0 ≡ 0) → PassesAll (tip_checks b.new page.0 seq) }
 {
     new_common(b, page, TIP_KIND, 0, seq);
     put_u32(b, PREV_AT, prev.0);

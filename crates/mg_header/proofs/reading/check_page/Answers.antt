@@ -1,6 +1,7 @@
 use Rattle.std.proofs.Common.{◌∙◌, sym}
 use Rattle.std.proofs.lemmas.Result.{err_from_is_err_and}
-use Rattle.mg_tip.specs.Checks.{common_checks, verdict-append_err, verdict-append_ok}
+use Rattle.mg_base.specs.Checks.{common_checks}
+use Rattle.mg_base.specs.CheckLaws.{verdict-append_err, verdict-append_ok}
 use Rattle.mg_header.specs.HeaderPage.{marker_checks, the_page}
 use Rattle.mg_header.proofs.reading.check_page.Goals as goal
 

@@ -1,12 +1,13 @@
 //! Tests of a page: the first field that differs, in page order.
 
 ghost use Rattle.std.specs.Prelude.{◌≡◌, ◌≤◌, [], ◌∷◌, length};
-ghost use Rattle.mg_tip.specs.Checks.{verdict, common_checks};
+ghost use Rattle.mg_base.specs.Checks.{verdict, common_checks};
 
-use mg_base::{
-    COMMON, Damaged, FLAGS_AT, Field, KIND_AT, OWN_AT, OWNER_AT, PageNo, SEQUENCE_AT, ZERO_AT,
-    get_u16, get_u32,
+use crate::damage::{Damaged, Field};
+use crate::fields::{
+    COMMON, FLAGS_AT, KIND_AT, OWN_AT, OWNER_AT, SEQUENCE_AT, ZERO_AT, get_u16, get_u32,
 };
+use crate::numbers::PageNo;
 
 /// Tests one field of a page.
 ///

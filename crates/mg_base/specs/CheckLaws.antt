@@ -1,43 +1,14 @@
--- How a page is tested: the fields in their order, and the first of them that differs.
-use Rattle.std.specs.Prelude.{◌≡◌, ℕ, ◌<◌, ◌≤◌, ◌^◌, List, [], ◌∷◌, ◌++◌, length, take, replicate, Result, Ok, Err, ◌==◌, if◌then◌else◌}
+-- Laws of tests: what several tests in a row say, and which pages pass.
+use Rattle.std.specs.Prelude.{◌≡◌, ℕ, ◌<◌, ◌≤◌, ◌^◌, List, [], ◌∷◌, ◌++◌, length, take, replicate, Ok, Err}
 use Rattle.std.proofs.Common.{get_or, refl, arith, ap, sym, ◌∙◌, inl, inr}
 use Rattle.std.proofs.Math.ListN.{set}
-use Rattle.std.proofs.lemmas.Bool.{cases_eq, eq-eqb, ne_eqb}
-use Rattle.std.proofs.lemmas.List.{get_or-take, get_or-set_same, get_or-set_other, get_or-replicate, length-set, length-replicate}
-use Rattle.mg_base.specs.Fields.{byte, u16_at, u32_at, with_u32, new_page, byte_apart, u32_apart, u32_again, length-with_u32}
-use Rattle.mg_base.specs.declared.fields.TheConstants.{KIND_AT, FLAGS_AT, ZERO_AT, OWN_AT, OWNER_AT, SEQUENCE_AT, COMMON}
+use Rattle.std.proofs.lemmas.Bool.{cases_eq, cases_lt, eq-eqb, ne_eqb}
+use Rattle.std.proofs.lemmas.List.{get_or-take, get_or-set_same, get_or-set_other, get_or-replicate, get_or_past, length-set, length-replicate}
+use Rattle.mg_base.specs.Checks.{Check, verdict, common_checks, PassesAll}
+use Rattle.mg_base.specs.Fields.{byte, u32_at, with_u32, new_page, byte_apart, u32_apart, u32_again, length-with_u32}
+use Rattle.mg_base.specs.declared.fields.TheConstants.{COMMON}
 use Rattle.mg_base.specs.declared.numbers.PageNo.{PageNo}
 use Rattle.mg_base.specs.declared.damage.Damaged.{Damaged}
-use Rattle.mg_base.specs.declared.damage.Field.{Field}
-use Rattle.mg_base.specs.declared.damage.Field.TheVariants.{Kind, Flags, Zero, Own, Owner, Sequence}
-
--- a test of a field: which one, what is found there and what is wanted
-abbrev pub Check : Type 0
-Check = Field × ℕ × ℕ
-
--- what the tests say of a page, one after another: the first difference, if there is one
-abbrev pub verdict : PageNo → List Check → Result (Unit {0}) Damaged
-verdict page [] = Ok tt
-verdict page (check ∷ checks) = if check.1 == check.2 then verdict page checks
-    else Err (record { page = page; field = check.0; found = check.1; wanted = check.2 })
-
--- the tests of the common part
-unfoldable pub common_checks : List ℕ → ℕ → ℕ → ℕ → ℕ → List Check
-common_checks b page kind owner seq =
-    (Kind, byte b KIND_AT, kind)
-    ∷ (Flags, byte b FLAGS_AT, 0)
-    ∷ (Zero, u16_at b ZERO_AT, 0)
-    ∷ (Own, u32_at b OWN_AT, page)
-    ∷ (Owner, u32_at b OWNER_AT, owner)
-    ∷ (Sequence, u32_at b SEQUENCE_AT, seq)
-    ∷ []
-
--- each test finds what is wanted
-abbrev pub Passes : List Check → Type 0
-Passes [] = Unit {0}
-Passes (check ∷ checks) = (check.1 ≡ check.2) × Passes checks
-
--- Laws of tests.
 
 -- one test more, which finds what is wanted
 verdict-same : (page : PageNo) (check : Check) (checks : List Check) → check.1 ≡ check.2
@@ -54,14 +25,14 @@ verdict-differs : (page : PageNo) (check : Check) (checks : List Check) → (che
 verdict-differs page check checks differs = rw (ne_eqb check.1 check.2 differs) refl
 
 -- a page has no damage exactly where each test finds what is wanted
-pub verdict_from_passes : (page : PageNo) (checks : List Check) → Passes checks
+pub verdict_from_passes : (page : PageNo) (checks : List Check) → PassesAll checks
     → verdict page checks ≡ Ok tt
 verdict_from_passes page [] passes = refl
 verdict_from_passes page (check ∷ checks) passes = verdict-same page check checks passes.0 ∙
     verdict_from_passes page checks passes.1
 
 pub passes_from_verdict : (page : PageNo) (checks : List Check) → verdict page checks ≡ Ok tt
-    → Passes checks
+    → PassesAll checks
 passes_from_verdict page [] ok = tt
 passes_from_verdict page (check ∷ checks) ok =
     elim (cases_eq check.1 check.2) [
@@ -95,8 +66,8 @@ verdict-append_err page (check ∷ checks) others damage err =
           (sym (verdict-differs page check checks differs) ∙ err)
     ]
 
-pub passes-append : (first others : List Check) → Passes first → Passes others
-    → Passes (first ++ others)
+pub passes-append : (first others : List Check) → PassesAll first → PassesAll others
+    → PassesAll (first ++ others)
 passes-append [] others passes also = also
 passes-append (check ∷ checks) others passes also =
     (passes.0, passes-append checks others passes.1 also)
@@ -134,7 +105,7 @@ front_checks a b page kind owner seq same =
 
 -- the common part that was made passes its tests
 pub new_passes : (size page kind owner seq : ℕ) → COMMON ≤ size → page < 2 ^ 32 → owner < 2 ^ 32
-    → seq < 2 ^ 32 → Passes (common_checks (new_page size page kind owner seq) page kind owner seq)
+    → seq < 2 ^ 32 → PassesAll (common_checks (new_page size page kind owner seq) page kind owner seq)
 unfolding common_checks
 new_passes size page kind owner seq fits small_page small_owner small_seq =
     let blank : List ℕ = replicate size 0 in
@@ -173,3 +144,20 @@ new_passes size page kind owner seq fits small_page small_owner small_seq =
     let seq_is : u32_at (with_u32 owned 12 seq) 12 ≡ seq =
     u32_again owned 12 seq (omega (arith, len_owned)) small_seq in
     (kind_is, (flags_is, (omega (arith, third, fourth), (own_is, (owner_is, (seq_is, tt))))))
+
+-- behind the common part of a new page each byte is zero
+pub new_page_zero : (size page kind owner seq at : ℕ) → 16 ≤ at
+    → byte (new_page size page kind owner seq) at ≡ 0
+new_page_zero size page kind owner seq at behind =
+    let blank : List ℕ = replicate size 0 in
+    let kinded : List ℕ = set blank 0 kind in
+    let named : List ℕ = with_u32 kinded 4 page in
+    let owned : List ℕ = with_u32 named 8 owner in
+    let blank_at : byte blank at ≡ 0 = elim (cases_lt at size) [
+      | inl inside ↦ get_or-replicate size at 0 0 inside
+      | inr past ↦ get_or_past blank at 0 (omega (arith, length-replicate {A = ℕ} size 0))
+    ] in
+    byte_apart owned 12 seq at (omega arith) ∙
+    (byte_apart named 8 owner at (omega arith) ∙
+    (byte_apart kinded 4 page at (omega arith) ∙
+    (get_or-set_other blank 0 at kind 0 (omega arith) ∙ blank_at)))
