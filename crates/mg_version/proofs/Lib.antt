@@ -1,1 +1,3 @@
-pub mod CellLemmas
+pub mod CellSpelled
+pub mod CellFronts
+pub mod CellFaults

@@ -7,7 +7,7 @@ use Rattle.mg_version.specs.declared.cell.Link.{Link}
 use Rattle.mg_version.specs.declared.cell.Version.{Version}
 use Rattle.mg_version.specs.declared.cell.Cell.{Cell}
 use Rattle.mg_version.specs.declared.cell.Cell.TheVariants as cells
-use Rattle.mg_version.specs.Cells.{IsLink, IsCell, IsSpelling, link_bytes, cell_bytes}
+use Rattle.mg_version.specs.Cells.{IsLink, IsCell, IsSpelling, cell_bytes}
 use Rattle.mg_version.specs.CellReading.{link_in, version_in}
 
 -- the cell of these fields
@@ -21,14 +21,6 @@ u16_of_bytes n = omega arith
 u32_of_bytes : (n : ℕ) → n < 2 ^ 32 → n % 256 + 256 * (n / 256 % 256) + 65536 * (n / 65536 % 256)
     + 16777216 * (n / 16777216) ≡ n
 u32_of_bytes n small = omega arith
-
--- a link is read again from its bytes
-link_again : (link : Link) → IsLink link → link_in (link_bytes link) 0 ≡ link
-link_again link fits = rw (
-  u32_of_bytes link.rec.page.0 fits.page,
-  u16_of_bytes link.rec.slot,
-  u32_of_bytes link.tx.0 fits.tx,
-) refl
 
 -- a version outside its primary slot
 moved : Bool → ℕ → ℕ → Option Link → List ℕ → Version

@@ -19,6 +19,8 @@ pub const HAS_BACK: u8 = 2;
 pub const KIND_AT: usize = 0;
 /// Where an anchor has the link to the newest version.
 pub const NEWEST_AT: usize = 1;
+/// The length of a link: page, slot and transaction.
+pub const LINK_LEN: usize = 10;
 /// The length of an anchor.
 pub const ANCHOR_LEN: usize = 11;
 

@@ -29,7 +29,7 @@ mod writing;
 
 pub use cell::{
     ANCHOR, ANCHOR_LEN, BACK_AT, BODY_AFTER_BACK, Cell, CellFault, DELETED, FLAGS_AT, FORMAT_AT,
-    HAS_BACK, KIND_AT, Link, NEWEST_AT, TX_AT, VERSION, Version,
+    HAS_BACK, KIND_AT, LINK_LEN, Link, NEWEST_AT, TX_AT, VERSION, Version,
 };
 pub use reading::read_cell;
 pub use writing::write_cell;

@@ -7,7 +7,7 @@ ghost use Rattle.mg_version.specs.CellReading.{HasVersionHead, back_in, body_at 
 
 use crate::{
     ANCHOR, ANCHOR_LEN, BACK_AT, BODY_AFTER_BACK, Cell, CellFault, DELETED, FLAGS_AT, FORMAT_AT,
-    HAS_BACK, KIND_AT, Link, NEWEST_AT, TX_AT, VERSION, Version,
+    HAS_BACK, KIND_AT, LINK_LEN, Link, NEWEST_AT, TX_AT, VERSION, Version,
 };
 use mg_base::{Bytes, PageNo, RecId, TxNo, get_u16, get_u32};
 use std::alloc::{AllocError, Global};
@@ -140,7 +140,7 @@ fn back_of(b: &[u8]) -> Option<Link>
 
 /// The link at a place.
 fn link_at(b: &[u8], at: usize) -> Link
-    requires { at + 10 ≤ length b.now }
+    requires { at + LINK_LEN ≤ length b.now }
     ensures { result ≡ link_in b.now at }
 {
     let page = PageNo(get_u32(b, at));

@@ -3,7 +3,7 @@
 ghost use Rattle.std.specs.Prelude.{◌≡◌, ◌≤◌, ◌<◌, ◌^◌, ◌++◌, [], ◌∷◌, false, length, IfSome, take, OnOk, OnErr};
 ghost use Rattle.mg_version.specs.Cells.{AreBytes, IsCell, IsLink, IsSpelling, IsVersion, IsWritable, back_bytes, cell_bytes, flags_of, head_bytes, link_bytes};
 
-use crate::{ANCHOR, Cell, DELETED, HAS_BACK, Link, VERSION, Version};
+use crate::{ANCHOR, Cell, DELETED, HAS_BACK, LINK_LEN, Link, VERSION, Version};
 use mg_base::Memory;
 
 /// Appends the spelling of a cell.
@@ -106,7 +106,7 @@ fn flags(deleted: bool, back: Option<Link>) -> u8
     deleted_flag + back_flag
 }
 
-fn link_array(link: &Link) -> [u8; 10]
+fn link_array(link: &Link) -> [u8; LINK_LEN]
     ensures bytes { result ≡ link_bytes link.now }
     ensures fits { IsLink link.now }
 {

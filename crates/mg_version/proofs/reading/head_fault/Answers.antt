@@ -1,6 +1,6 @@
 use Rattle.std.proofs.Common.{◌≤◌, ◌<◌, length, arith}
 use Rattle.mg_base.specs.Fields.{byte, u16_at}
-use Rattle.mg_version.proofs.CellLemmas.{refuses_flags, refuses_format, refuses_short_version}
+use Rattle.mg_version.proofs.CellFaults.{refuses_flags, refuses_format, refuses_short_version}
 use Rattle.mg_version.proofs.reading.head_fault.Goals as goal
 use Rattle.mg_version.proofs.reading.head_fault.Goals.{else-b-ge-TX_AT-via-then-b-ge-TX_AT+else-get_u16-eq0, else-b-ge-TX_AT-via-else-b-ge-TX_AT}
 

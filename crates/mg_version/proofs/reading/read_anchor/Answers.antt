@@ -1,5 +1,6 @@
 use Rattle.std.proofs.Common.{arith}
-use Rattle.mg_version.proofs.CellLemmas.{anchor_spelled, refuses_short_anchor, refuses_long_anchor}
+use Rattle.mg_version.proofs.CellFaults.{refuses_short_anchor, refuses_long_anchor}
+use Rattle.mg_version.proofs.CellSpelled.{anchor_spelled}
 use Rattle.mg_version.proofs.reading.read_anchor.Goals as goal
 
 pub returns-then-b-lt-ANCHOR_LEN : goal.returns-then-b-lt-ANCHOR_LEN

@@ -1,6 +1,6 @@
 use Rattle.std.proofs.Common.{arith}
 use Rattle.std.proofs.lemmas.Result.{err_from_is_err_and}
-use Rattle.mg_version.proofs.CellLemmas.{version_spelled}
+use Rattle.mg_version.proofs.CellSpelled.{version_spelled}
 use Rattle.mg_version.specs.CellReading.{version_in}
 use Rattle.mg_version.proofs.reading.version_at.Goals as goal
 
