@@ -63,8 +63,10 @@ told (Ok _) (Ok _) header = Ok header
 
 -- what reading a page with a page size answers
 unfoldable pub reading : List ℕ → ℕ → Result Header HeadFault
-reading b size = told (verdict the_page (database_checks b size)) (verdict the_page
-    (page_checks b)) (header_in b)
+reading b size = told
+    (verdict the_page (database_checks b size))
+    (verdict the_page (page_checks b))
+    (header_in b)
 
 -- the numbers of transactions are in order
 pub record AreMarkers (oit ost oat next : ℕ) : Type 0 where

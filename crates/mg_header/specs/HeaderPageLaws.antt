@@ -39,8 +39,7 @@ markers_from_passes b passes = ordered (u32_at b 28) (u32_at b 32) (u32_at b 36)
           least = oit_in.0;
           oit_ost = ost_in.0;
           ost_oat = ost_in.1;
-          oat_next =
-              oat_in.1;
+          oat_next = oat_in.1;
           greatest = next_in.1;
         }
 

@@ -19,8 +19,8 @@
 //! | 52 | 4 | first pointer page of the catalog | 3 |
 //!
 //! Invariant: 1 <= OIT <= OST <= OAT <= next <= 1,000,000,000.
-//! Below: `mg_base`, for fields, and the tests of a page. Above: `mg_txlist`, which draws numbers of
-//! transactions, and `mg_space`.
+//! Below: `mg_base`, for fields, and the tests of a page. Above: `mg_txlist`, which draws
+//! transaction numbers, and `mg_space`.
 //! Not here: when the markers move, and where the named pages lie.
 #![tactic(auto)]
 
