@@ -20,7 +20,8 @@ sets_next old next is small =
     record {
       next_set = u32_again old 16 next (omega arith) small;
       entries = ap (first_entries (with_u32 old 16 next)) count
-          ∙ same_entries (with_u32 old 16 next) old (count_in old) (λ i inside. u32_apart old 16 next (24 + 4 * i) (λ below. omega arith));
+          ∙ same_entries (with_u32 old 16 next) old (count_in old)
+          (λ i inside. u32_apart old 16 next (24 + 4 * i) (λ below. omega arith));
       len = len;
       front = take-with_u32 old 16 next 16 (omega arith);
       outside = λ at apart. byte_apart old 16 next at apart;

@@ -18,16 +18,20 @@ count_in page = u16_at page COUNT_AT
 abbrev pub next_in : List ℕ → ℕ
 next_in page = u32_at page NEXT_AT
 
+-- where an entry stands, counted from 0
+abbrev pub place_of : ℕ → ℕ
+place_of n = ENTRIES_AT + ENTRY_LEN * n
+
 -- the first entries, so many
 abbrev pub first_entries : List ℕ → ℕ → List ℕ
 first_entries page zero = []
-first_entries page (suc n) = first_entries page n ++ u32_at page (ENTRIES_AT + ENTRY_LEN * n) ∷ []
+first_entries page (suc n) = first_entries page n ++ u32_at page (place_of n) ∷ []
 
 -- the list of data pages
 unfoldable pub entries_of : List ℕ → List ℕ
 entries_of page = first_entries page (count_in page)
 
--- a page that may be read: not longer than any page is, its count within its room
+-- a page whose entries may be read: as long as a page is, its count within its room
 pub record IsPointerPage (page : List ℕ) : Type 0 where
   pub least : ENTRIES_AT ≤ length page
   pub most : length page ≤ 2 ^ 16
@@ -41,8 +45,7 @@ pub record AddsEntry (old new : List ℕ) (entry : ℕ) : Type 0 where
   pub len : length new ≡ length old
   pub front : take COMMON new ≡ take COMMON old
   pub outside : (at : ℕ) → (COUNT_AT ≤ at → COUNT_AT + 2 ≤ at)
-      → (ENTRIES_AT + ENTRY_LEN * count_in old ≤ at
-      → ENTRIES_AT + ENTRY_LEN * count_in old + ENTRY_LEN ≤ at)
+      → (place_of (count_in old) ≤ at → place_of (count_in old) + ENTRY_LEN ≤ at)
       → byte new at ≡ byte old at
   pub page : IsPointerPage new
 
@@ -57,8 +60,10 @@ pub record SetsNext (old new : List ℕ) (next : ℕ) : Type 0 where
 
 -- the tests behind the common part: a count within the room, and two zero bytes
 abbrev pub rest_checks : List ℕ → List Check
-rest_checks b = (Count, count_in b, min (count_in b) (capacity (length b))) ∷
-    (Zero, u16_at b UNUSED_AT, 0) ∷ []
+rest_checks b =
+    (Count, count_in b, min (count_in b) (capacity (length b)))
+    ∷ (Zero, u16_at b UNUSED_AT, 0)
+    ∷ []
 
 -- the tests of the page
 unfoldable pub pointer_checks : List ℕ → ℕ → ℕ → ℕ → List Check

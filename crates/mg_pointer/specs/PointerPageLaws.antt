@@ -93,7 +93,8 @@ new_page_passes size page owner seq fits small_page small_owner small_seq =
       new_page_zero size page POINTER_KIND owner seq 22 (omega arith),
       new_page_zero size page POINTER_KIND owner seq 23 (omega arith),
     ) in
-    passes-append (common_checks made page POINTER_KIND owner seq) (rest_checks made) common (count_fits, (unused, tt))
+    passes-append (common_checks made page POINTER_KIND owner seq) (rest_checks made) common
+    (count_fits, (unused, tt))
 
 -- a new page has the size that was asked for
 pub length-new_pointer_page : (size page owner seq : ℕ)

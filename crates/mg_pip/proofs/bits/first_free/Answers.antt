@@ -10,9 +10,12 @@ returns-in_err-at c = rw c.from_residual.ensures
 pub returns-then-bit-below : goal.returns-then-bit-below
 returns-then-bit-below c = first_free_is c.args.b.now c.args.below (16
     + (c.args.below
-    + 7) / 8) c.in_ok-at.at c.first_open_bit.result c.in_ok-at.ensures c.first_open_bit.ensures.inside c.first_open_bit.ensures.clear c.first_open_bit.ensures.least c.if-bit-below.true
+    + 7) / 8) c.in_ok-at.at c.first_open_bit.result c.in_ok-at.ensures
+    c.first_open_bit.ensures.inside c.first_open_bit.ensures.clear
+    c.first_open_bit.ensures.least c.if-bit-below.true
 
 pub returns-else-bit-below : goal.returns-else-bit-below
 returns-else-bit-below c = λ bit inside.
     least_used c.args.b.now (16 + (c.args.below
-    + 7) / 8) c.in_ok-at.at c.first_open_bit.result c.in_ok-at.ensures c.first_open_bit.ensures.least c.first_open_bit.ensures.inside bit (omega arith)
+    + 7) / 8) c.in_ok-at.at c.first_open_bit.result c.in_ok-at.ensures
+    c.first_open_bit.ensures.least c.first_open_bit.ensures.inside bit (omega arith)

@@ -6,9 +6,11 @@ use Rattle.mg_pointer.proofs.page.check_pointer.Goals as goal
 pub returns-in_err-check_common : goal.returns-in_err-check_common
 returns-in_err-check_common c =
     let p = err_from_is_err_and c.from_residual.result c.from_residual.ensures.1 in
-    rw (p.1, p.2) (sym (pointer_damaged c.args.page c.args.b.now c.args.owner c.args.seq _ (sym (c.in_err-check_common.ensures))))
+    rw (p.1, p.2) (sym (pointer_damaged c.args.page c.args.b.now c.args.owner c.args.seq _ (sym
+    (c.in_err-check_common.ensures))))
 
 pub returns : goal.returns
 returns c =
     c.check_rest.ensures ∙
-    sym (pointer_rest c.args.page c.args.b.now c.args.owner c.args.seq (sym (c.in_ok-check_common.ensures)))
+    sym (pointer_rest c.args.page c.args.b.now c.args.owner c.args.seq (sym
+    (c.in_ok-check_common.ensures)))
