@@ -1,5 +1,6 @@
 -- What a graph of pages says: which pages are entered, and which is ordered before which.
-use Rattle.std.specs.Prelude.{◌≡◌, ℕ, ◌+◌, ◌≤◌, Bool, true, false, ◌||◌, ◌&&◌, ◌==◌, nat_lt, not, ◌⊎◌, List, [], ◌∷◌, length, Option, Some, None, is_some, count_by, slice_index_or, if◌then◌else◌}
+use Rattle.std.specs.Prelude.{◌≡◌, ℕ, ◌+◌, ◌≤◌, Bool, true, false, ◌||◌, ◌&&◌, ◌==◌, nat_lt, not, ◌⊎◌}
+use Rattle.std.specs.Prelude.{List, [], ◌∷◌, length, Option, Some, None, is_some, count_by, slice_index_or, if◌then◌else◌}
 use Rattle.std.proofs.lemmas.Bool.{and_parts}
 use Rattle.mg_careful.specs.Precedence.{Orders, Precedes, precedes_first, precedes_later}
 use Rattle.mg_careful.specs.Rows.{bit, IsSquare, IsClosure, with_order}
@@ -26,7 +27,9 @@ is_entered g page = nat_lt (place_of g.pages page) (length g.pages)
 
 -- whether one entered page is ordered directly before another
 unfoldable pub is_ordered : PageGraph → Orders
-is_ordered g first later = is_entered g first && (is_entered g later && bit g.before (place_of g.pages later) (place_of g.pages first))
+is_ordered g first later =
+    is_entered g first
+    && (is_entered g later && bit g.before (place_of g.pages later) (place_of g.pages first))
 
 -- how many pages are entered
 unfoldable pub entered_count : PageGraph → ℕ
@@ -47,14 +50,17 @@ pub record IsBlankGraph (g : PageGraph) (most : ℕ) : Type 0 where
 pub record EntersPage (old new : PageGraph) (page : ℕ) : Type 0 where
   pub entered : (p : ℕ) → is_entered new p ≡ (is_entered old p || p == page)
   pub ordered : (a b : ℕ) → is_ordered new a b ≡ is_ordered old a b
-  pub count : entered_count new ≡ (if is_entered old page then entered_count old else (entered_count old + 1))
+  pub count : entered_count new
+      ≡ (if is_entered old page then entered_count old else (entered_count old + 1))
   pub room : room_of new ≡ room_of old
 
 -- one page is no longer entered, and its orders are gone; all others stay
 pub record ClearsPage (old new : PageGraph) (page : ℕ) : Type 0 where
   pub entered : (p : ℕ) → is_entered new p ≡ (is_entered old p && not (p == page))
-  pub ordered : (a b : ℕ) → is_ordered new a b ≡ (is_ordered old a b && (not (a == page) && not (b == page)))
-  pub count : entered_count old ≡ (if is_entered old page then (entered_count new + 1) else entered_count new)
+  pub ordered : (a b : ℕ) → is_ordered new a b
+      ≡ (is_ordered old a b && (not (a == page) && not (b == page)))
+  pub count : entered_count old
+      ≡ (if is_entered old page then (entered_count new + 1) else entered_count new)
   pub room : room_of new ≡ room_of old
 
 -- one direct order more; the entered pages stay
@@ -80,8 +86,10 @@ pub record IsGraph (pages : List (Option ℕ)) (before after : List (List Bool))
   pub before_square : IsSquare (length pages) before
   pub after_square : IsSquare (length pages) after
   pub row_long : length row ≡ length pages
-  pub once : (i j page : ℕ) → slice_index_or pages i None ≡ Some page → slice_index_or pages j None ≡ Some page → i ≡ j
-  pub used : (a b : ℕ) → bit before b a ≡ true → (is_some (slice_index_or pages a None) ≡ true) × (is_some (slice_index_or pages b None) ≡ true)
+  pub once : (i j page : ℕ) → slice_index_or pages i None ≡ Some page
+      → slice_index_or pages j None ≡ Some page → i ≡ j
+  pub used : (a b : ℕ) → bit before b a ≡ true
+      → (is_some (slice_index_or pages a None) ≡ true) × (is_some (slice_index_or pages b None) ≡ true)
   pub closure : IsClosure (λ a b. bit before b a) (bit after)
   pub acyclic : (a : ℕ) → bit after a a ≡ false
 
@@ -91,12 +99,16 @@ IsAcyclic g = (page : ℕ) → Precedes (is_ordered g) page page → ⊥
 
 -- Laws for callers: only entered pages are ordered.
 
-pub ordered_entered : (g : PageGraph) (a b : ℕ) → is_ordered g a b ≡ true → (is_entered g a ≡ true) × (is_entered g b ≡ true)
+pub ordered_entered : (g : PageGraph) (a b : ℕ) → is_ordered g a b ≡ true
+    → (is_entered g a ≡ true) × (is_entered g b ≡ true)
 unfolding is_ordered
 ordered_entered g a b ordered =
     let parts = and_parts (is_entered g a) _ ordered in
     (parts.0, (and_parts (is_entered g b) _ parts.1).0)
 
-pub precedes_entered : (g : PageGraph) (a b : ℕ) → Precedes (is_ordered g) a b → (is_entered g a ≡ true) × (is_entered g b ≡ true)
-precedes_entered g a b chain =
-    (precedes_first (is_ordered g) (is_entered g) (λ x y o. (ordered_entered g x y o).0) a b chain, precedes_later (is_ordered g) (is_entered g) (λ x y o. (ordered_entered g x y o).1) a b chain)
+pub precedes_entered : (g : PageGraph) (a b : ℕ) → Precedes (is_ordered g) a b
+    → (is_entered g a ≡ true) × (is_entered g b ≡ true)
+precedes_entered g a b chain = (
+  precedes_first (is_ordered g) (is_entered g) (λ x y o. (ordered_entered g x y o).0) a b chain,
+  precedes_later (is_ordered g) (is_entered g) (λ x y o. (ordered_entered g x y o).1) a b chain,
+)

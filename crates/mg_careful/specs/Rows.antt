@@ -28,7 +28,8 @@ with_order ordered first later a b = ordered a b || (a == first && b == later)
 -- a closure, with what one more order closes: whatever is or precedes the first one now precedes
 -- whatever is the later one or is preceded by it
 abbrev pub with_closed : Orders → ℕ → ℕ → Orders
-with_closed after first later a b = after a b || ((a == first || after a first) && (b == later || after later b))
+with_closed after first later a b =
+    after a b || ((a == first || after a first) && (b == later || after later b))
 
 -- the orders, without those of one member
 abbrev pub without : Orders → ℕ → Orders
@@ -40,11 +41,13 @@ orders_until before later first a b = bit before b a && (nat_lt b later || (b ==
 
 -- whether a member is the goal or leads to it, and nothing is ordered before it
 abbrev pub is_ready_at : List (List Bool) → List (List Bool) → ℕ → ℕ → Bool
-is_ready_at before after goal place = (place == goal || bit after place goal) && is_blank (slice_index_or before place [])
+is_ready_at before after goal place =
+    (place == goal || bit after place goal) && is_blank (slice_index_or before place [])
 
 -- the page at a place that is ready, none elsewhere
 abbrev pub ready_page_at : List (Option ℕ) → List (List Bool) → List (List Bool) → ℕ → ℕ → Option ℕ
-ready_page_at pages before after goal place = if is_ready_at before after goal place then slice_index_or pages place None else None
+ready_page_at pages before after goal place =
+    if is_ready_at before after goal place then slice_index_or pages place None else None
 
 -- the lesser of two numbers, where there are two
 abbrev pub lesser_of : Option ℕ → Option ℕ → Option ℕ

@@ -71,7 +71,8 @@ impl Bits {
     pub fn join(&mut self, other: &Bits)
         requires { length other.now ≡ length self.old }
         ensures len { length self.new ≡ length self.old }
-        ensures bits { (i : ℕ) → slice_index_or self.new i false ≡ (slice_index_or self.old i false || slice_index_or other.now i false) }
+        ensures bits { (i : ℕ) → slice_index_or self.new i false
+            ≡ (slice_index_or self.old i false || slice_index_or other.now i false) }
     {
         for i in 0..self.items.len() {
             self.items[i] = self.items[i] | other.items[i];

@@ -2,7 +2,8 @@
 
 ghost use Rattle.std.specs.Prelude.{◌≡◌, ◌≢◌, ◌<◌, ◌↔◌, ◌⊎◌, true, false, IsTrue, IsNone, IfSome, IfOk};
 ghost use Rattle.mg_careful.specs.Precedence.{Precedes};
-ghost use Rattle.mg_careful.specs.Graph.{is_entered as entered_test, is_ordered, entered_count, room_of, IsBlankGraph, EntersPage, ClearsPage, AddsOrder, IsFirstReady, IsAcyclic};
+ghost use Rattle.mg_careful.specs.Graph.{is_entered as entered_test, is_ordered, entered_count, room_of};
+ghost use Rattle.mg_careful.specs.Graph.{IsBlankGraph, EntersPage, ClearsPage, AddsOrder, IsFirstReady, IsAcyclic};
 
 use crate::bits::Bits;
 use crate::places::{blank_places, count_pages, find, find_free, place_of};
@@ -96,7 +97,8 @@ impl Graph {
 
     /// Enters a page without orders. An entered page stays as it is.
     pub fn enter(&mut self, page: u32)
-        requires room { entered_test self.old page ≡ false → entered_count self.old < room_of self.old }
+        requires room { entered_test self.old page ≡ false
+            → entered_count self.old < room_of self.old }
         ensures { EntersPage self.old self.new page }
     {
         if find(&self.pages, page).is_some() {

@@ -18,7 +18,8 @@ pub fn blank_places(alloc: Global, size: usize) -> Result<Vec<Option<u32>>, Memo
 
 /// The place of a page.
 pub fn find(pages: &Vec<Option<u32>>, page: u32) -> Option<usize>
-    ensures found { IfSome result (λ i. (i < length pages.now.items) × (slice_index_or pages.now.items i None ≡ Some page)) }
+    ensures found { IfSome result (λ i. (i < length pages.now.items)
+        × (slice_index_or pages.now.items i None ≡ Some page)) }
     ensures absent { IfNone result ((i : ℕ) → slice_index_or pages.now.items i None ≢ Some page) }
 {
     for (i, at) in pages.iter().enumerate() {
@@ -31,8 +32,10 @@ pub fn find(pages: &Vec<Option<u32>>, page: u32) -> Option<usize>
 
 /// A place that has no page.
 pub fn find_free(pages: &Vec<Option<u32>>) -> Option<usize>
-    ensures found { IfSome result (λ i. (i < length pages.now.items) × (slice_index_or pages.now.items i (Some 0) ≡ None)) }
-    ensures absent { IfNone result ((i : ℕ) → i < length pages.now.items → slice_index_or pages.now.items i None ≢ None) }
+    ensures found { IfSome result (λ i. (i < length pages.now.items)
+        × (slice_index_or pages.now.items i (Some 0) ≡ None)) }
+    ensures absent { IfNone result ((i : ℕ) → i < length pages.now.items
+        → slice_index_or pages.now.items i None ≢ None) }
 {
     for (i, at) in pages.iter().enumerate() {
         if at.is_none() {

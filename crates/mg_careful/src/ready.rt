@@ -17,7 +17,8 @@ pub fn least_ready(
     requires before { IsSquare (length pages.now.items) before.now.items }
     requires after { IsSquare (length pages.now.items) after.now.items }
     requires goal { goal < length pages.now.items }
-    ensures { IsLeast (ready_page_at pages.now.items before.now.items after.now.items goal) (length pages.now.items) result }
+    ensures { IsLeast (ready_page_at pages.now.items before.now.items after.now.items goal)
+        (length pages.now.items) result }
 {
     let mut least = None;
     for i in 0..pages.len() {

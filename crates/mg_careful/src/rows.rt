@@ -41,7 +41,8 @@ pub fn close(after: &mut Vec<Bits>, row: &mut Bits, size: usize, first: usize, l
     requires later { later < size }
     ensures square { IsSquare size after.new.items }
     ensures row { length row.new ≡ size }
-    ensures bits { (a b : ℕ) → bit after.new.items a b ≡ with_closed (bit after.old.items) first later a b }
+    ensures bits { (a b : ℕ) → bit after.new.items a b
+        ≡ with_closed (bit after.old.items) first later a b }
 {
     row.overwrite(&after[later]);
     row.put(later, true);
@@ -54,7 +55,8 @@ fn join_into(after: &mut Vec<Bits>, row: &Bits, size: usize, first: usize)
     requires row { length row.now ≡ size }
     requires first { first < size }
     ensures square { IsSquare size after.new.items }
-    ensures bits { (a b : ℕ) → bit after.new.items a b ≡ (bit after.old.items a b || ((a == first || bit after.old.items a first) && slice_index_or row.now b false)) }
+    ensures bits { (a b : ℕ) → bit after.new.items a b ≡ (bit after.old.items a b
+        || ((a == first || bit after.old.items a first) && slice_index_or row.now b false)) }
 {
     for i in 0..size {
         if is_or_leads(after, size, i, first) {
@@ -80,7 +82,8 @@ pub fn set_bit(rows: &mut Vec<Bits>, size: usize, row: usize, column: usize)
     requires row { row < size }
     requires column { column < size }
     ensures square { IsSquare size rows.new.items }
-    ensures bits { (a b : ℕ) → bit rows.new.items a b ≡ (bit rows.old.items a b || (b == column && a == row)) }
+    ensures bits { (a b : ℕ) → bit rows.new.items a b
+        ≡ (bit rows.old.items a b || (b == column && a == row)) }
 {
     let row = &mut rows[row];
     row.put(column, true);

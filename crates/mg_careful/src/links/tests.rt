@@ -11,7 +11,8 @@ use std::test::Fail;
 struct Chain;
 
 impl Links for Chain {
-    ghost demands_of = { λ b want. if byte b 1 == 0 then [] else (record { target = byte b 1; what = 0; a = 0; b = 0 } ∷ []) };
+    ghost demands_of = { λ b want. if byte b 1 == 0 then []
+        else (record { target = byte b 1; what = 0; a = 0; b = 0 } ∷ []) };
 
     ghost meets_of = { λ b want. byte b 0 == want.target };
 
