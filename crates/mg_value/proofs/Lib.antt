@@ -1,3 +1,4 @@
 pub mod OrderLemmas
 pub mod PrintingLemmas
 pub mod NameLemmas
+pub mod ShapeLemmas

@@ -20,6 +20,7 @@
 
 mod comparing;
 mod fault;
+mod fitting;
 mod key;
 mod name;
 mod printing;
@@ -31,11 +32,14 @@ mod value;
 
 pub use comparing::{compare, order, values_are_ordered};
 pub use fault::ValueFault;
+pub use fitting::row_fits;
 pub use key::Key;
 pub use name::{MOST_NAME, Name, RESERVED};
 pub use printing::print;
 pub use row::Row;
-pub use shape::{Column, Columns, Kind, MOST_COLUMNS, NUMBER_WIDTH, Shape, row_len};
+pub use shape::{
+    Column, Columns, GREATEST_WIDTH, Kind, MOST_COLUMNS, NUMBER_WIDTH, Shape, columns_len, row_len,
+};
 pub use text::Txt;
 pub use truth::Truth;
 pub use value::Value;

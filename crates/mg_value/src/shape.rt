@@ -1,6 +1,6 @@
 //! The shape of a table: its columns, and the length of its rows.
 
-ghost use Rattle.std.specs.Prelude.{◌≡◌, ◌≤◌, IfOk, length, take};
+ghost use Rattle.std.specs.Prelude.{◌≡◌, All, ◌^◌, ◌<◌, ◌≤◌, IfOk, length, take};
 ghost use Rattle.mg_value.specs.Rows.{width_of, row_len_of};
 
 use crate::Name;
@@ -13,6 +13,9 @@ pub const MOST_COLUMNS: usize = 64;
 
 /// A BIGINT takes this many bytes in a row.
 pub const NUMBER_WIDTH: usize = 8;
+
+/// A value takes at most this many bytes in a row: 2 for the length of a text, and the text.
+pub const GREATEST_WIDTH: usize = 65_537;
 
 /// The kind of a column.
 #[derive(Clone, Copy, Debug, PartialEq, Eq)]
@@ -27,7 +30,7 @@ impl Kind {
     /// How many bytes a value of the kind takes in a row.
     pub fn width(self) -> usize
         ensures width { result ≡ width_of self }
-        ensures most { result ≤ 65537 }
+        ensures most { result ≤ GREATEST_WIDTH }
     {
         match self {
             Kind::Int => NUMBER_WIDTH,
@@ -113,15 +116,24 @@ impl Shape {
     }
 }
 
+/// How many bytes a row of these columns has.
+pub fn columns_len(columns: &[Column]) -> usize
+    requires { length columns.now ≤ MOST_COLUMNS }
+    ensures len { result ≡ row_len_of columns.now }
+    ensures most { result < 2 ^ 32 }
+    ensures kinds { All (λ column. width_of column.kind ≤ GREATEST_WIDTH) columns.now }
+{
+    let mut len = columns.len().div_ceil(8);
+    for column in columns {
+        len += column.kind.width();
+    }
+    len
+}
+
 /// How many bytes a row of the shape has, in the format that has all its columns.
 pub fn row_len(s: &Shape) -> u32
     requires { length s.now.columns ≤ MOST_COLUMNS }
     ensures { result ≡ row_len_of s.now.columns }
 {
-    let columns = s.columns.as_slice();
-    let mut len = columns.len().div_ceil(8);
-    for column in columns {
-        len += column.kind.width();
-    }
-    len as u32
+    columns_len(s.columns.as_slice()) as u32
 }

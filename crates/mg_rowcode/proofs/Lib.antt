@@ -1,0 +1,4 @@
+pub mod BitLemmas
+pub mod NullLemmas
+pub mod ValueLemmas
+pub mod RowLemmas
