@@ -17,3 +17,6 @@ mod row;
 pub use encoding::encode_row;
 pub use fault::RowFault;
 pub use row::decode_row;
+
+#[cfg(test)]
+mod tests;
