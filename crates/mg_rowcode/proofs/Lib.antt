@@ -2,3 +2,4 @@ pub mod BitLemmas
 pub mod NullLemmas
 pub mod ValueLemmas
 pub mod RowLemmas
+pub mod LawLemmas

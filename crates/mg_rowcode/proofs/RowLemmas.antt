@@ -117,7 +117,7 @@ length_row [] (value ∷ row) fits = absurd fits
 length_row (column ∷ columns) [] fits = absurd fits
 length_row (column ∷ columns) (value ∷ row) fits = ap suc (length_row columns row fits.1)
 
-nulls_len : (columns : List Column) (row : List Value) → RowFits columns row → length (bytes_of_bits (map is_null row)) ≡ (length columns + 7) / 8
+pub nulls_len : (columns : List Column) (row : List Value) → RowFits columns row → length (bytes_of_bits (map is_null row)) ≡ (length columns + 7) / 8
 nulls_len columns row fits = omega (arith, length-bytes_of_bits (length (map is_null row)) (map is_null row) (omega arith), length-map row is_null, length_row columns row fits)
 
 pub length-row_bytes : (columns : List Column) (row : List Value) → RowFits columns row → length (row_bytes columns row) ≡ row_len_of columns

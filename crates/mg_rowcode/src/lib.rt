@@ -12,10 +12,12 @@
 mod decoding;
 mod encoding;
 mod fault;
+mod laws;
 mod row;
 
 pub use encoding::encode_row;
 pub use fault::RowFault;
+pub use laws::one_row;
 pub use row::decode_row;
 
 #[cfg(test)]
