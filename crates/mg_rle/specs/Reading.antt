@@ -45,7 +45,8 @@ pub record Announces (control : Control) (rest : List ℕ) : Type 0 where
 
 -- no run of a lawful length is the first thing in a packed text
 abbrev pub BeginsWithNone : List ℕ → Type 0
-BeginsWithNone rest = (run : Run) (more : List ℕ) → IsSized run → rest ≡ bytes_of_run run ++ more → ⊥
+BeginsWithNone rest = (run : Run) (more : List ℕ)
+    → IsSized run → rest ≡ bytes_of_run run ++ more → ⊥
 
 -- a run may come next
 abbrev pub Allows : Next → Run → Type 0
@@ -76,19 +77,21 @@ pub record SomeTriple (bytes : List ℕ) (from end : ℕ) : Type 0 where
 abbrev pub NoTriple : List ℕ → ℕ → ℕ → Type 0
 NoTriple bytes from end = (at : ℕ) → from ≤ at → at + 2 < end → TripleAt bytes at → ⊥
 
--- the place behind the last byte before which three equal bytes can have come up with a run, where len
--- bytes stand before it
+-- the place behind the last byte before which three equal bytes can have come up with a run, where
+-- len bytes stand before it
 abbrev pub end_of_new : Control → ℕ → ℕ
 end_of_new (controls.Literal count) len = len + count
 end_of_new (controls.Repeat count) len = len + 2
 
 -- the reader behind one more run, where len bytes are unpacked before it
 abbrev pub reader_after : Reader → Run → ℕ → Reader
-reader_after reader (Literal bytes) len = record reader { at = reader.at + 1 + length bytes; next = next_after (Literal bytes) }
-reader_after reader (Repeat count same) len = record reader { at = reader.at + 2; next = next_after (Repeat count same); literals = len + count }
+reader_after reader (Literal bytes) len =
+    record reader { at = reader.at + 1 + length bytes; next = next_after (Literal bytes) }
+reader_after reader (Repeat count same) len =
+    record reader { at = reader.at + 2; next = next_after (Repeat count same); literals = len + count }
 
--- The packed text is read up to a place, and what was read is accepted and stands behind what was in
--- the list before.
+-- The packed text is read up to a place, and what was read is accepted and stands behind what was
+-- in the list before.
 pub record HasRead (packed : List ℕ) (reader : Reader) (out : List ℕ) : Type 0 where
   pub runs : List Run
   pub rest : List ℕ
@@ -102,5 +105,7 @@ pub record HasRead (packed : List ℕ) (reader : Reader) (out : List ℕ) : Type
   pub low : reader.start ≤ reader.literals
   pub high : reader.literals ≤ length out
   -- of the last two bytes those from `literals` on are bytes of literals, and no others
-  pub are_literals : (at : ℕ) → at < length (plain_text runs) → length (plain_text runs) ≤ at + 2 → reader.literals ≤ reader.start + at → get_or (literal_marks runs) at false ≡ true
-  pub no_others : (at : ℕ) → at < length (plain_text runs) → length (plain_text runs) ≤ at + 2 → get_or (literal_marks runs) at false ≡ true → reader.literals ≤ reader.start + at
+  pub are_literals : (at : ℕ) → at < length (plain_text runs) → length (plain_text runs) ≤ at + 2
+      → reader.literals ≤ reader.start + at → get_or (literal_marks runs) at false ≡ true
+  pub no_others : (at : ℕ) → at < length (plain_text runs) → length (plain_text runs) ≤ at + 2
+      → get_or (literal_marks runs) at false ≡ true → reader.literals ≤ reader.start + at

@@ -65,10 +65,12 @@ abbrev pub AreInOrder : List Run → Type 0
 AreInOrder [] = Unit {0}
 AreInOrder (run ∷ later) = IsSized run × MayPrecedeAll run later × AreInOrder later
 
--- the rule: the runs are in order, and at no byte of a literal three equal bytes of the plain text begin
+-- the rule: the runs are in order, and at no byte of a literal three equal bytes of the plain text
+-- begin
 pub record IsAccepted (runs : List Run) : Type 0 where
   pub in_order : AreInOrder runs
-  pub no_triple : (at : ℕ) → get_or (literal_marks runs) at false ≡ true → TripleAt (plain_text runs) at → ⊥
+  pub no_triple : (at : ℕ) → get_or (literal_marks runs) at false ≡ true
+      → TripleAt (plain_text runs) at → ⊥
 
 -- a packed text is accepted, and stands for this plain text
 pub record StandsFor (packed plain : List ℕ) : Type 0 where
@@ -86,4 +88,5 @@ pub record BreaksAt (packed : List ℕ) (at : ℕ) : Type 0 where
   pub place : at ≡ length (packed_text before)
   pub accepted : IsAccepted before
   pub some : 0 < length rest
-  pub breaks : (run : Run) (more : List ℕ) → rest ≡ bytes_of_run run ++ more → IsAccepted (before ++ run ∷ []) → ⊥
+  pub breaks : (run : Run) (more : List ℕ) → rest ≡ bytes_of_run run ++ more
+      → IsAccepted (before ++ run ∷ []) → ⊥

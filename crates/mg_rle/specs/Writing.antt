@@ -16,8 +16,13 @@ KeepsFront old new = take (length old) new ≡ old
 
 -- The writer's rule: with which run it begins, where rest is what the run leaves of the plain text.
 abbrev pub IsFirstRun : Run → List ℕ → Type 0
-IsFirstRun (Literal bytes) rest = (0 < length bytes) × (length bytes ≤ MOST_LITERAL) × ((at : ℕ) → at < length bytes → TripleAt (bytes ++ rest) at → ⊥) × (length bytes < MOST_LITERAL → 0 < length rest → TripleAt rest 0)
-IsFirstRun (Repeat count same) rest = (LEAST_REPEAT ≤ count) × (count ≤ MOST_REPEAT) × (count < MOST_REPEAT → 0 < length rest → byte rest 0 ≢ same)
+IsFirstRun (Literal bytes) rest =
+    (0 < length bytes) × (length bytes ≤ MOST_LITERAL)
+    × ((at : ℕ) → at < length bytes → TripleAt (bytes ++ rest) at → ⊥)
+    × (length bytes < MOST_LITERAL → 0 < length rest → TripleAt rest 0)
+IsFirstRun (Repeat count same) rest =
+    (LEAST_REPEAT ≤ count) × (count ≤ MOST_REPEAT)
+    × (count < MOST_REPEAT → 0 < length rest → byte rest 0 ≢ same)
 
 -- as many equal bytes stand at the front, and no more, unless they are as many as a repeat takes
 pub record IsFrontRepeat (plain : List ℕ) (count : ℕ) : Type 0 where

@@ -6,11 +6,11 @@
 //! | control byte | behind it | stands for |
 //! |---|---|---|
 //! | 1 to 127 | that many bytes | these bytes |
-//! | 128 to 253 | 1 byte | that byte, 256 less the control byte times: 128 times for 128, 3 times for 253 |
+//! | 128 to 253 | 1 byte | that byte so many times: 256 less the control byte, so 128 to 3 |
 //! | 0, 254, 255 | | nothing: refused |
 //!
-//! The writer goes from the left. Where three equal bytes begin it writes a repeat of as many as follow,
-//! at most 128; else it writes a literal up to the next such place, at most 127 bytes.
+//! The writer goes from the left. Where three equal bytes begin it writes a repeat of as many as
+//! follow, at most 128; else it writes a literal up to the next such place, at most 127 bytes.
 //!
 //! Invariant: a text is accepted exactly where it is what the writer writes (`IsAccepted`).
 //! Below: `mg_base`, for `Memory`. Above: `mg_rowcode`, which packs the bytes of a row.

@@ -1,6 +1,6 @@
 //! What a reader of packed texts knows between two runs.
 
-/// What a control byte says: the kind of its run, and for how many bytes of the plain text it stands.
+/// What a control byte says: the kind of its run, and for how many bytes of plain text it stands.
 #[derive(Clone, Copy, Debug, PartialEq, Eq)]
 pub(crate) enum Control {
     Literal(usize),

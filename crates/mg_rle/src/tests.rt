@@ -3,7 +3,7 @@ use std::alloc::Global;
 use std::process::Abort;
 use std::test::Fail;
 
-/// Packs `plain` behind a byte that is there before, wants `packed` behind it, and unpacks it again.
+/// Packs `plain` behind a byte that is there, wants `packed` behind it, and unpacks it again.
 fn packs_to(rt: &impl Abort, alloc: Global, plain: &[u8], packed: &[u8]) -> Result<(), Fail> {
     let mut out = [7].to_vec(alloc)?;
     assert_eq!(rt; pack(plain, &mut out), Ok(()), "{plain:?}");

@@ -53,7 +53,8 @@ fn append_front(bytes: &[u8], count: usize, out: &mut Vec<u8>) -> Result<(), Run
 /// Appends what the run at the front stands for.
 fn append_run(control: Control, rest: &[u8], out: &mut Vec<u8>) -> Result<(), RunFault>
     requires { Announces control rest.now }
-    ensures ok { OnOk result (out.new.items ≡ out.old.items ++ plain_of_run (run_in control rest.now)) }
+    ensures ok { OnOk result
+        (out.new.items ≡ out.old.items ++ plain_of_run (run_in control rest.now)) }
     ensures err { OnErr result (out.new.items ≡ out.old.items) }
     ensures memory { IfErr result (λ fault. fault ≡ RunFault.Memory) }
 {
@@ -82,12 +83,14 @@ fn has_triple(bytes: &[u8], from: usize, end: usize) -> bool
 
 /// Tells whether three equal bytes that begin in a literal have come up with the last run.
 ///
-/// `out` has the bytes of the run at its end, and had `len` bytes before. Of the bytes before the run
-/// only the last two can be the first of three that weren't all there.
+/// `out` has the bytes of the run at its end, and had `len` bytes before. Of the bytes before the
+/// run only the last two can be the first of three that weren't all there.
 fn breaks_literal(reader: &Reader, control: Control, len: usize, out: &[u8]) -> bool
     requires { end_of_new control len ≤ length out.now }
-    ensures yes { OnTrue result (SomeTriple out.now (max reader.now.literals (len - 2)) (end_of_new control len)) }
-    ensures no { OnFalse result (NoTriple out.now (max reader.now.literals (len - 2)) (end_of_new control len)) }
+    ensures yes { OnTrue result
+        (SomeTriple out.now (max reader.now.literals (len - 2)) (end_of_new control len)) }
+    ensures no { OnFalse result
+        (NoTriple out.now (max reader.now.literals (len - 2)) (end_of_new control len)) }
 {
     let from = reader.literals.max(len.saturating_sub(2));
     match control {
@@ -180,8 +183,8 @@ fn read_runs(packed: &[u8], out: &mut Vec<u8>) -> Result<(), RunFault>
 ///
 /// # Errors
 ///
-/// `BadRun` exactly where `packed` is no packed text, with the place in it of the first run that breaks
-/// the rule; or `Memory`. Then `out` is as before.
+/// `BadRun` exactly where `packed` is no packed text, with the place in it of the first run that
+/// breaks the rule; or `Memory`. Then `out` is as before.
 pub fn unpack(packed: &[u8], out: &mut Vec<u8>) -> Result<(), RunFault>
     requires { length packed.now < 2 ^ 31 }
     ensures ok { OnOk result (AppendsPlain out.old.items out.new.items packed.now) }

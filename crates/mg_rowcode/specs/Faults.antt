@@ -8,7 +8,7 @@ use Rattle.mg_value.specs.Rows.{columns_of, row_bytes, RowFits}
 use Rattle.mg_rowcode.specs.declared.fault.RowFault.{RowFault}
 use Rattle.mg_rowcode.specs.declared.fault.RowFault.TheVariants as faults
 
--- The packed text is that of a row of the format, and this is the row with NULL in the later columns.
+-- The packed text is that of a row of the format; this is the row with NULL in the later columns.
 pub record DecodesTo (columns : List Column) (format : ℕ) (packed : List ℕ) (row : List Value) : Type 0 where
   pub values : List Value
   pub fits : RowFits (columns_of columns format) values
@@ -27,11 +27,12 @@ pub record BeginsRow (columns : List Column) (bytes : List ℕ) : Type 0 where
   pub fits : RowFits columns row
   pub goes_on : bytes ++ more ≡ row_bytes columns row
 
--- The bytes are those of no row of these columns, and so many of them begin those of one, but no more.
+-- The bytes are those of no row of these columns, and so many of them begin those of one, no more.
 pub record BreaksRowAt (columns : List Column) (bytes : List ℕ) (at : ℕ) : Type 0 where
   pub inside : at ≤ length bytes
   pub begins : BeginsRow columns (take at bytes)
-  pub longest : (count : ℕ) → count ≤ length bytes → BeginsRow columns (take count bytes) → count ≤ at
+  pub longest : (count : ℕ) → count ≤ length bytes → BeginsRow columns (take count bytes)
+      → count ≤ at
   pub refused : (row : List Value) → IsRowOf columns bytes row → ⊥
 
 -- why bytes are no row

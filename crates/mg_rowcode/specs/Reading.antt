@@ -16,17 +16,21 @@ at_length len bytes = take len bytes ++ replicate (len - length (take len bytes)
 -- which of up to eight columns a byte says to be NULL, where they may be
 abbrev pub flags_of_byte : List Column → ℕ → List Bool
 flags_of_byte [] bits = []
-flags_of_byte (column ∷ columns) bits = (if column.not_null then false else bits % 2 == 1) ∷ flags_of_byte columns (bits / 2)
+flags_of_byte (column ∷ columns) bits =
+    (if column.not_null then false else bits % 2 == 1) ∷ flags_of_byte columns (bits / 2)
 
 -- which columns the bytes say to be NULL
 abbrev pub flags_of : List Column → List ℕ → List Bool
-flags_of (a ∷ b ∷ c ∷ d ∷ e ∷ f ∷ g ∷ h ∷ columns) bytes = flags_of_byte (a ∷ b ∷ c ∷ d ∷ e ∷ f ∷ g ∷ h ∷ []) (byte bytes 0) ++ flags_of columns (drop 1 bytes)
+flags_of (a ∷ b ∷ c ∷ d ∷ e ∷ f ∷ g ∷ h ∷ columns) bytes =
+    flags_of_byte (a ∷ b ∷ c ∷ d ∷ e ∷ f ∷ g ∷ h ∷ []) (byte bytes 0) ++ flags_of columns (drop 1 bytes)
 flags_of [] bytes = []
 flags_of (a ∷ columns) bytes = flags_of_byte (a ∷ columns) (byte bytes 0)
 
--- the length of a text of at most so many bytes: as its two bytes say, or else as the first one says
+-- the length of a text of at most so many bytes: as its two bytes say, else as the first one says
 abbrev pub text_len : ℕ → List ℕ → ℕ
-text_len most bytes = if nat_le (from_le_bytes w16 (take 2 bytes)) most then from_le_bytes w16 (take 2 bytes) else (if nat_le (byte bytes 0) most then byte bytes 0 else 0)
+text_len most bytes =
+    if nat_le (from_le_bytes w16 (take 2 bytes)) most then from_le_bytes w16 (take 2 bytes)
+    else (if nat_le (byte bytes 0) most then byte bytes 0 else 0)
 
 -- the value of a kind that stands at the front of the bytes
 abbrev pub value_in : Kind → Bool → List ℕ → Value
@@ -38,11 +42,15 @@ value_in (kinds.Text most) false bytes = Text (take (text_len most bytes) (drop 
 abbrev pub values_in : List Column → List Bool → List ℕ → List Value
 values_in [] flags bytes = []
 values_in (column ∷ columns) [] bytes = []
-values_in (column ∷ columns) (flag ∷ flags) bytes = value_in column.kind flag (take (width_of column.kind) bytes) ∷ values_in columns flags (drop (width_of column.kind) bytes)
+values_in (column ∷ columns) (flag ∷ flags) bytes =
+    value_in column.kind flag (take (width_of column.kind) bytes)
+    ∷ values_in columns flags (drop (width_of column.kind) bytes)
 
 -- the row nearest to bytes that are as long as a row of these columns
 abbrev pub nearest_row : List Column → List ℕ → List Value
-nearest_row columns bytes = values_in columns (flags_of columns (take ((length columns + 7) / 8) bytes)) (drop ((length columns + 7) / 8) bytes)
+nearest_row columns bytes =
+    values_in columns (flags_of columns (take ((length columns + 7) / 8) bytes))
+    (drop ((length columns + 7) / 8) bytes)
 
 -- the row nearest to any bytes
 abbrev pub near_to : List Column → List ℕ → List Value

@@ -1,5 +1,5 @@
-//! Decoding: the row nearest to the unpacked bytes is read, and its bytes are compared with them. So the
-//! first byte that differs is the place where no row goes on as the bytes do.
+//! Decoding: the row nearest to the unpacked bytes is read, and its bytes are compared with them. So
+//! the first byte that differs is the place where no row goes on as the bytes do.
 
 ghost use Rattle.std.specs.Prelude.{◌≡◌, ◌^◌, ◌<◌, ◌≤◌, ◌++◌, ◌+◌, ◌-◌, ◌/◌, length, replicate, drop, take, IfOk, IfErr, OnOk};
 ghost use Rattle.std.specs.List.{sum_by};

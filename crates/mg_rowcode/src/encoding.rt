@@ -30,7 +30,8 @@ fn null_byte(values: &[Value]) -> u8
 
 /// Appends a bit for each value.
 fn put_nulls(values: &[Value], out: &mut Vec<u8>) -> Result<(), Memory>
-    ensures { OnOk result (out.new.items ≡ out.old.items ++ bytes_of_bits (map is_null values.now)) }
+    ensures { OnOk result
+        (out.new.items ≡ out.old.items ++ bytes_of_bits (map is_null values.now)) }
 {
     let mut rest = values;
     while !rest.is_empty() {
@@ -108,7 +109,8 @@ pub(crate) fn plain_row(
 /// `Memory` only. Then `out` is as before.
 pub fn encode_row(s: &Shape, r: &Row, out: &mut Vec<u8>) -> Result<(), Memory>
     requires { RowFits s.now.columns r.now }
-    ensures ok { OnOk result (AppendsPacked out.old.items out.new.items (row_bytes s.now.columns r.now)) }
+    ensures ok { OnOk result
+        (AppendsPacked out.old.items out.new.items (row_bytes s.now.columns r.now)) }
     ensures err { OnErr result (out.new.items ≡ out.old.items) }
 {
     let plain = plain_row(*out.allocator(), s.columns.as_slice(), r.as_slice())?;

@@ -13,8 +13,8 @@ use std::fmt;
 pub enum RowFault {
     /// It is no packed text: the first run that breaks the rule begins at this byte of it.
     BadRun { at: u32 },
-    /// Unpacked it is no row: so many of the unpacked bytes begin some row of the shape and the format,
-    /// and no more.
+    /// Unpacked it is no row: so many of the unpacked bytes begin some row of the shape and the
+    /// format, and no more.
     BadRow { at: u32 },
     Memory,
 }

@@ -52,9 +52,9 @@ fn push_nulls(values: &mut Vec<Value>, count: usize) -> Result<(), Memory>
 ///
 /// # Errors
 ///
-/// `BadRun` exactly where the text is no packed text, with the place of the first run that breaks the
-/// rule; else `BadRow` exactly where no row of the shape and the format has the unpacked bytes, with the
-/// length of their longest front with which some such row begins; or `Memory`.
+/// `BadRun` exactly where the text is no packed text, with the place of the first run that breaks
+/// the rule; else `BadRow` exactly where no row of the shape and the format has the unpacked bytes,
+/// with the length of their longest front with which some such row begins; or `Memory`.
 pub fn decode_row(alloc: Global, s: &Shape, format: u16, packed: &[u8]) -> Result<Row, RowFault>
     requires columns { length s.now.columns ≤ MOST_COLUMNS }
     requires len { length packed.now < 2 ^ 31 }

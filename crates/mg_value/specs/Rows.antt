@@ -47,13 +47,15 @@ RowFits (column ∷ columns) (value ∷ values) = FitsColumn column value × Row
 abbrev pub value_bytes : Kind → Value → List ℕ
 value_bytes kind Null = replicate (width_of kind) 0
 value_bytes kind (Int number) = to_le_bytes w64 (cast_unsigned w64 number)
-value_bytes kind (Text text) = to_le_bytes w16 (length text) ++ text ++ replicate (width_of kind - 2 - length text) 0
+value_bytes kind (Text text) =
+    to_le_bytes w16 (length text) ++ text ++ replicate (width_of kind - 2 - length text) 0
 
 -- the bytes of the values of a row
 abbrev pub values_bytes : List Column → List Value → List ℕ
 values_bytes [] values = []
 values_bytes (column ∷ columns) [] = []
-values_bytes (column ∷ columns) (value ∷ values) = value_bytes column.kind value ++ values_bytes columns values
+values_bytes (column ∷ columns) (value ∷ values) =
+    value_bytes column.kind value ++ values_bytes columns values
 
 -- whether a value is NULL
 abbrev pub is_null : Value → Bool
@@ -68,7 +70,8 @@ number_of_bits (bit ∷ bits) = (if bit then 1 else 0) + 2 * number_of_bits bits
 
 -- bits as bytes, eight to a byte, the lowest first; the unused bits of the last byte are 0
 abbrev pub bytes_of_bits : List Bool → List ℕ
-bytes_of_bits (a ∷ b ∷ c ∷ d ∷ e ∷ f ∷ g ∷ h ∷ bits) = number_of_bits (a ∷ b ∷ c ∷ d ∷ e ∷ f ∷ g ∷ h ∷ []) ∷ bytes_of_bits bits
+bytes_of_bits (a ∷ b ∷ c ∷ d ∷ e ∷ f ∷ g ∷ h ∷ bits) =
+    number_of_bits (a ∷ b ∷ c ∷ d ∷ e ∷ f ∷ g ∷ h ∷ []) ∷ bytes_of_bits bits
 bytes_of_bits [] = []
 bytes_of_bits (a ∷ bits) = number_of_bits (a ∷ bits) ∷ []
 

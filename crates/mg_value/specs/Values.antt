@@ -28,7 +28,9 @@ bytes_of (Text text) = text
 
 -- the order of values: by kind, NULL least; numbers as numbers, and texts by their bytes
 abbrev pub value_cmp : Value → Value → Ordering
-value_cmp a b = ordering_then (nat_cmp (kind_of a) (kind_of b)) (ordering_then (int_cmp (number_of a) (number_of b)) (slice_cmp nat_cmp (bytes_of a) (bytes_of b)))
+value_cmp a b =
+    ordering_then (nat_cmp (kind_of a) (kind_of b))
+    (ordering_then (int_cmp (number_of a) (number_of b)) (slice_cmp nat_cmp (bytes_of a) (bytes_of b)))
 
 -- what comparing two values in an expression gives: unknown with NULL, else their order
 abbrev pub comparison : Value → Value → Option Ordering

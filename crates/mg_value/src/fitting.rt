@@ -30,7 +30,7 @@ fn column_takes(column: &Column, value: &Value) -> bool
     kind_takes(column.kind, value)
 }
 
-/// Tells whether the row has a value for each column of the shape, and each may stand in its column.
+/// Tells whether the row has a value for each column of the shape that may stand in the column.
 pub fn row_fits(s: &Shape, r: &Row) -> bool
     ensures { IsTrue result ↔ RowFits s.now.columns r.now }
 {

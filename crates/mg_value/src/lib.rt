@@ -1,8 +1,8 @@
-//! Values, rows and the shapes of tables: what they are, how values are ordered and printed, and which
-//! bytes a row has.
+//! Values, rows and the shapes of tables: what they are, how values are ordered and printed, and
+//! which bytes a row has.
 //!
-//! Owns: `Value` with its order and its printed text, and the lengths of rows. The bytes of a row of n
-//! columns, as `specs/Rows.antt` defines them:
+//! Owns: `Value` with its order and its printed text, and the lengths of rows. The bytes of a row of
+//! n columns, as `specs/Rows.antt` defines them:
 //!
 //! | at | width | field |
 //! |---|---|---|
@@ -10,8 +10,8 @@
 //! | behind it, per column | 8 for BIGINT | the number in two's complement, the low byte first |
 //! | | 2 + m for VARCHAR(m) | the length, the low byte first, and the bytes, with zeros up to m |
 //!
-//! A column that is NULL is all zero. A column that came after the row's format is NULL, and has neither
-//! a bit nor bytes.
+//! A column that is NULL is all zero. A column that came after the row's format is NULL, and has
+//! neither a bit nor bytes.
 //!
 //! Invariant: a `Key` is no NULL, a `Name` is a name in capitals and no word of the grammar.
 //! Below: `mg_base`. Above: the codings of rows and keys, expressions, and all that speaks of rows.

@@ -112,8 +112,8 @@ fn is_name(bytes: &[u8]) -> bool
     !is_reserved(bytes)
 }
 
-/// The name of a table, a column, an index or a savepoint: 1 to 31 bytes, which are capital letters,
-/// digits, `_` and `$`, the first one a letter, and no word of the grammar.
+/// The name of a table, a column, an index or a savepoint: 1 to 31 bytes, which are capital
+/// letters, digits, `_` and `$`, the first one a letter, and no word of the grammar.
 ///
 /// Source: Firebird, regular identifiers.
 #[derive(Clone, Copy, Debug, PartialEq, Eq)]
@@ -133,12 +133,16 @@ impl Model for Name {
     ghost view = { λ name. take name.len name.bytes };
 
     // Behind the name stand zeros, so equal names are equal bytes.
-    ghost invariant = { λ name. (name.len ≤ 31) × (length name.bytes ≡ 31) × (name.bytes ≡ take name.len name.bytes ++ replicate (31 - name.len) 0) × IsName (take name.len name.bytes) };
+    ghost invariant = { λ name. (name.len ≤ 31) × (length name.bytes ≡ 31)
+        × (name.bytes ≡ take name.len name.bytes ++ replicate (31 - name.len) 0)
+        × IsName (take name.len name.bytes) };
 
-    ghost inverse = { λ bytes. record { bytes = bytes ++ replicate (31 - length bytes) 0; len = length bytes } };
+    ghost inverse = { λ bytes.
+        record { bytes = bytes ++ replicate (31 - length bytes) 0; len = length bytes } };
 
     ghost inverse_ok = { λ name h i. record {
-      bytes = (ap (λ (n : ℕ). take name.len name.bytes ++ replicate (31 - n) 0) (length-take-le name.len name.bytes (omega (arith, h.0, h.1))) ∙ sym h.2) i;
+      bytes = (ap (λ (n : ℕ). take name.len name.bytes ++ replicate (31 - n) 0)
+          (length-take-le name.len name.bytes (omega (arith, h.0, h.1))) ∙ sym h.2) i;
       len = length-take-le name.len name.bytes (omega (arith, h.0, h.1)) i;
     } };
 }

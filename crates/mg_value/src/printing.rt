@@ -63,8 +63,8 @@ fn put_value(v: &Value, out: &mut Vec<u8>) -> Result<(), Memory>
     }
 }
 
-/// Appends the value as it prints: a number in decimal digits, `NULL`, or a text in single quotes with
-/// each quote in it doubled.
+/// Appends the value as it prints: a number in decimal digits, `NULL`, or a text in single quotes
+/// with each quote in it doubled.
 ///
 /// # Errors
 ///

@@ -174,3 +174,44 @@ fn a_row_lends_copies_and_gives_back_its_values(rt: HostRuntime) -> Result<(), F
     assert!(rt; values[1].is_null());
     Ok(())
 }
+
+#[test]
+fn a_row_fits_where_each_value_may_stand_in_its_column(rt: HostRuntime) -> Result<(), Fail> {
+    let alloc = rt.alloc();
+    let name = Name::new(b"C").ok_or("C is a name")?;
+    let number = Column {
+        name,
+        kind: Kind::Int,
+        not_null: true,
+        since: 1,
+    };
+    let note = Column {
+        name,
+        kind: Kind::Text(2),
+        not_null: false,
+        since: 1,
+    };
+    let s = Shape {
+        columns: Columns::new(vec![in alloc; number, note]?),
+        key: 0,
+    };
+    let good = [
+        vec![in alloc; Value::Int(1), Value::Null]?,
+        vec![in alloc; Value::Int(1), text(alloc, b"ab")?]?,
+    ];
+    for values in good {
+        assert!(rt; row_fits(&s, &Row::new(values)));
+    }
+    let bad = [
+        vec![in alloc; Value::Null, Value::Null]?,
+        vec![in alloc; Value::Int(1), text(alloc, b"abc")?]?,
+        vec![in alloc; Value::Int(1), Value::Int(1)]?,
+        vec![in alloc; text(alloc, b"a")?, Value::Null]?,
+        vec![in alloc; Value::Int(1)]?,
+        vec![in alloc; Value::Int(1), Value::Null, Value::Null]?,
+    ];
+    for values in bad {
+        assert!(rt; !row_fits(&s, &Row::new(values)));
+    }
+    Ok(())
+}
