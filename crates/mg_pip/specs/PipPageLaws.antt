@@ -1,10 +1,7 @@
 -- Laws of a page inventory page, for those who stand above it.
-use Rattle.std.specs.Prelude.{◌≡◌, ◌<◌, ◌≤◌, ◌+◌, ◌/◌, ◌%◌, ◌^◌, ℕ, zero, suc, false, List, length, take, replicate}
-use Rattle.std.proofs.Common.{refl, ◌∙◌, arith, inl, inr}
-use Rattle.std.proofs.Math.ListN.{set}
-use Rattle.std.proofs.lemmas.Bool.{cases_lt}
-use Rattle.std.proofs.lemmas.List.{get_or-set_other, get_or-replicate, get_or_past, length-replicate}
-use Rattle.mg_base.specs.Fields.{byte, with_u32, new_page, byte_apart, length-new_page}
+use Rattle.std.specs.Prelude.{◌≡◌, ◌<◌, ◌≤◌, ◌+◌, ◌/◌, ◌%◌, ◌^◌, ℕ, zero, suc, false, List, length, take}
+use Rattle.std.proofs.Common.{refl, arith}
+use Rattle.mg_base.specs.Fields.{byte, new_page, length-new_page}
 use Rattle.mg_base.specs.Checks.{PassesAll}
 use Rattle.mg_base.specs.CheckLaws.{new_page_zero, front_checks, new_passes}
 use Rattle.mg_pip.specs.declared.page.TheConstants.{PIP_KIND, BITS_AT}

@@ -1,10 +1,9 @@
 -- Laws of a pointer page, for those who stand above it.
-use Rattle.std.specs.Prelude.{◌≡◌, ◌<◌, ◌≤◌, ◌+◌, ◌*◌, ◌^◌, ℕ, zero, suc, List, [], ◌∷◌, ◌++◌, length, min, replicate, slice_index}
+use Rattle.std.specs.Prelude.{◌≡◌, ◌<◌, ◌≤◌, ◌+◌, ◌*◌, ◌^◌, ℕ, zero, suc, List, [], ◌∷◌, ◌++◌, length, min, slice_index}
 use Rattle.std.proofs.Common.{get_or, refl, sym, ap, ◌∙◌, arith, inl, inr}
-use Rattle.std.proofs.Math.ListN.{set}
-use Rattle.std.proofs.lemmas.Bool.{cases_eq, cases_lt}
-use Rattle.std.proofs.lemmas.List.{get_or_push, get_or_append_left, length_push, get_or-set_other, get_or-replicate, get_or_past, length-replicate}
-use Rattle.mg_base.specs.Fields.{byte, u16_at, u32_at, with_u32, new_page, byte_apart, length-new_page}
+use Rattle.std.proofs.lemmas.Bool.{cases_eq}
+use Rattle.std.proofs.lemmas.List.{get_or_push, get_or_append_left, length_push}
+use Rattle.mg_base.specs.Fields.{u16_at, u32_at, new_page, length-new_page}
 use Rattle.mg_base.specs.Checks.{Check, PassesAll, common_checks}
 use Rattle.mg_base.specs.CheckLaws.{new_page_zero, new_passes, passes-append}
 use Rattle.mg_pointer.specs.declared.page.TheConstants.{POINTER_KIND, ENTRIES_AT, ENTRY_LEN}
