@@ -117,6 +117,7 @@ writes_obeys old new n bytes done obeys whole =
       stored = stored_write old.size new.size acts acts' n bytes obeys.size whole obeys.acts;
       failed = tt;
       crash = λ told. crash_of_write old.size new.size acts acts' n bytes obeys.size obeys.acts;
+      untold = λ none. absurd cc;
       asked = omega arith;
       keeps = record {
         size = ap Some obeys.size;

@@ -64,5 +64,7 @@ pub record Writes {D T E : Type 0} (m : Meaning D) (old new : D) (page : ℕ) (b
   pub stored : OnOk result ((image : Image) → m.held old ≡ Some image → m.held new ≡ Some (written (length bytes) image page bytes))
   pub failed : OnErr result ((image : Image) → m.held old ≡ Some image → (m.held new ≡ Some image) ⊎ (m.held new ≡ Some (written (length bytes) image page bytes)))
   pub crash : m.tells old ≡ true → (c : Image) → MayLeave m new c → MayLeave m old c ⊎ (m.held new ≡ Some c)
+  -- a disk that does not tell what it holds goes on so
+  pub untold : m.held old ≡ None → m.held new ≡ None
   pub asked : m.asked new ≤ m.asked old + 1
   pub keeps : Keeps m old new result
