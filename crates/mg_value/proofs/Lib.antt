@@ -1,4 +1,3 @@
-pub mod OrderLemmas
 pub mod PrintingLemmas
 pub mod NameLemmas
 pub mod ShapeLemmas

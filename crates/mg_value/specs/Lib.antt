@@ -2,3 +2,4 @@ pub mod Texts
 pub mod Values
 pub mod Names
 pub mod Rows
+pub mod OrderLaws

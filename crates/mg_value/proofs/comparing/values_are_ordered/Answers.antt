@@ -1,4 +1,4 @@
-use Rattle.mg_value.proofs.OrderLemmas.{value_cmp_total, same_from_value_cmp}
+use Rattle.mg_value.specs.OrderLaws.{value_cmp_total, same_from_value_cmp}
 use Rattle.mg_value.proofs.comparing.values_are_ordered.Goals as goal
 
 pub returns-clause-total : goal.returns-clause-total
