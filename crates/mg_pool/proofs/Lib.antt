@@ -1,0 +1,11 @@
+mod DirtyLemmas
+mod LeastLemmas
+mod PoolLemmas
+mod RunLemmas
+mod ChangeLemmas
+mod TestLemmas
+mod LawLemmas
+mod OrderLemmas
+mod BatchLemmas
+mod PutLemmas
+mod OutsideLemmas

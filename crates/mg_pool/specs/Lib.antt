@@ -1,0 +1,7 @@
+pub mod Batch
+pub mod Change
+pub mod Dirty
+pub mod Fault
+pub mod Law
+pub mod Pool
+pub mod Run

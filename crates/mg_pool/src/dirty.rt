@@ -1,0 +1,234 @@
+//! The table of dirty pages. All its memory is taken when it is made.
+
+ghost use Rattle.std.specs.Prelude.{◌≡◌, ◌≢◌, ◌<◌, ◌↔◌, ℕ, IsTrue, IfOk, IsSome, IfSome, IfNone, Some, None, length, [], map, slice_index_or, vec_capacity, ◌≤◌, true, not, ◌&&◌};
+ghost use Rattle.std.specs.Option.{option_copied};
+ghost use Rattle.mg_pool.specs.Dirty.{content_of, is_dirty as dirty_test, PutsContent, TakesOut, IsSpare, IsLeastPage, MarksAll, is_marked, marked_in, with_mark};
+ghost use Rattle.mg_pool.specs.Batch.{is_in, outside_in, dirty_with};
+ghost use Rattle.mg_careful.specs.Rows.{lesser_of};
+ghost use Rattle.mg_pool.specs.declared.dirty_page.DirtyPage.{DirtyPage};
+
+use crate::batch::{BatchPage, has_page};
+use crate::dirty_page::{DirtyPage, MARKERS};
+use crate::reserved::append;
+use mg_base::{Bytes, Memory};
+use std::alloc::Global;
+use std::marker::Model;
+
+/// The dirty pages, each with its content, and buffers for as many more as there is room for.
+#[derive(Drop)]
+pub struct DirtyTable {
+    size: usize,
+    room: usize,
+    pages: Vec<DirtyPage>,
+    spare: Vec<Bytes>,
+}
+
+impl Model for DirtyTable {
+    ghost use Rattle.std.specs.Prelude.{◌≡◌, ◌+◌, ◌≤◌, length, vec_capacity};
+    ghost use Rattle.mg_pool.specs.Dirty.{DirtyPages, IsTable, IsSpare};
+
+    ghost Value = { DirtyPages };
+
+    ghost view = { λ t. record { size = t.size; room = t.room; pages = t.pages.items } };
+
+    ghost invariant = { λ t. IsTable t.size t.pages.items × IsSpare t.size t.spare.items
+        × (length t.pages.items + length t.spare.items ≡ t.room)
+        × (t.room ≤ vec_capacity t.pages) × (t.room ≤ vec_capacity t.spare) };
+}
+
+impl DirtyTable {
+    /// A table without pages, with room for this many.
+    ///
+    /// # Errors
+    ///
+    /// `Memory` only.
+    pub fn new(alloc: Global, size: usize, room: usize) -> Result<DirtyTable, Memory>
+        ensures size { IfOk result (λ t. t.size ≡ size) }
+        ensures room { IfOk result (λ t. t.room ≡ room) }
+        ensures pages { IfOk result (λ t. t.pages ≡ []) }
+    {
+        Ok(DirtyTable {
+            size,
+            room,
+            pages: Vec::with_capacity(alloc, room)?,
+            spare: buffers(alloc, size, room)?,
+        })
+    }
+
+    pub fn len(&self) -> usize
+        ensures { result ≡ length self.now.pages }
+    {
+        self.pages.len()
+    }
+
+    /// Tells whether the table has room for one page more.
+    pub fn has_room(&self) -> bool
+        ensures { IsTrue result ↔ (length self.now.pages < self.now.room) }
+    {
+        self.pages.len() < self.room
+    }
+
+    /// The content of a dirty page.
+    pub fn content(&self, page: u32) -> Option<&[u8]>
+        ensures content { option_copied result ≡ content_of self.now page }
+        ensures whole { IfSome result (λ b. length b.now ≡ self.now.size) }
+    {
+        let place = find(&self.pages, page)?;
+        Some(self.pages[place].bytes.as_slice())
+    }
+
+    /// Puts a content, one page long, into a page's place, without memory. A page that wasn't dirty
+    /// takes a place of its own and has no mark.
+    pub fn put(&mut self, page: u32, bytes: &[u8])
+        requires whole { length bytes.now ≡ self.old.size }
+        requires room { content_of self.old page ≡ None → length self.old.pages < self.old.room }
+        ensures { PutsContent self.old self.new page bytes.now }
+    {
+        if let Some(place) = find(&self.pages, page) {
+            let entry = &mut self.pages[place];
+            entry.bytes.overwrite(bytes);
+            return;
+        }
+        if let Some(mut buffer) = self.spare.pop() {
+            buffer.overwrite(bytes);
+            append(&mut self.pages, DirtyPage::new(page, buffer));
+        }
+    }
+
+    /// Takes a page out of the table. Its buffer waits for another one.
+    pub fn take_out(&mut self, page: u32)
+        requires { dirty_test self.old page ≡ true }
+        ensures taken { TakesOut self.old self.new page }
+        ensures room { length self.new.pages < self.new.room }
+    {
+        if let Some(place) = find(&self.pages, page) {
+            let entry = self.pages.remove(place);
+            append(&mut self.spare, entry.bytes);
+        }
+    }
+}
+
+impl DirtyTable {
+    /// The dirty page of least number, none where no page is dirty.
+    pub fn least(&self) -> Option<u32>
+        ensures { IsLeastPage (dirty_test self.now) result }
+    {
+        let mut least = None;
+        for i in 0..self.pages.len() {
+            least = lesser(least, Some(self.pages[i].page));
+        }
+        least
+    }
+
+    /// The page of least number that `who` has marked, none where there is none.
+    pub fn least_marked(&self, who: usize) -> Option<u32>
+        requires { who < MARKERS }
+        ensures { IsLeastPage (λ page. is_marked self.now page who) result }
+    {
+        let mut least = None;
+        for i in 0..self.pages.len() {
+            least = lesser(least, marked_page(&self.pages, i, who));
+        }
+        least
+    }
+
+    /// The dirty page of least number that isn't in a batch, none where there is none.
+    pub fn least_outside(&self, batch: &Vec<BatchPage>) -> Option<u32>
+        ensures least { IsLeastPage
+            (λ page. dirty_test self.now page && not (is_in batch.now.items page)) result }
+        ensures some { length batch.now.items < dirty_with self.now batch.now.items
+            → IsSome result }
+    {
+        let mut least = None;
+        for i in 0..self.pages.len() {
+            least = lesser(least, page_outside(&self.pages, i, batch));
+        }
+        least
+    }
+
+    /// Gives every dirty page the mark of `who`.
+    pub fn mark(&mut self, who: usize)
+        requires { who < MARKERS }
+        ensures { MarksAll self.old self.new who }
+    {
+        mark_all(&mut self.pages, who);
+    }
+}
+
+/// Gives every entry the mark of `who`.
+fn mark_all(pages: &mut Vec<DirtyPage>, who: usize)
+    requires { who < MARKERS }
+    ensures items { pages.new.items ≡ map (with_mark who) pages.old.items }
+    ensures capacity { vec_capacity pages.new ≡ vec_capacity pages.old }
+{
+    for i in 0..pages.len() {
+        let entry = &mut pages[i];
+        entry.marks[who] = true;
+    }
+}
+
+/// The page at a place, if it isn't in a batch.
+fn page_outside(pages: &Vec<DirtyPage>, place: usize, batch: &Vec<BatchPage>) -> Option<u32>
+    requires place { place < length pages.now.items }
+    ensures { (d : DirtyPage) → result ≡ outside_in batch.now.items
+        (slice_index_or pages.now.items place d) }
+{
+    let page = pages[place].page;
+    if has_page(batch, page) {
+        None
+    } else {
+        Some(page)
+    }
+}
+
+/// The page at a place, if `who` has marked it.
+fn marked_page(pages: &Vec<DirtyPage>, place: usize, who: usize) -> Option<u32>
+    requires place { place < length pages.now.items }
+    requires who { who < MARKERS }
+    ensures { (d : DirtyPage) → result ≡ marked_in who (slice_index_or pages.now.items place d) }
+{
+    if pages[place].marks[who] {
+        Some(pages[place].page)
+    } else {
+        None
+    }
+}
+
+/// The lesser of two numbers, where there are two.
+fn lesser(a: Option<u32>, b: Option<u32>) -> Option<u32>
+    ensures { result ≡ lesser_of a b }
+{
+    match (a, b) {
+        (None, _) => b,
+        (_, None) => a,
+        (Some(m), Some(n)) => Some(if m < n { m } else { n }),
+    }
+}
+
+/// As many buffers, each of one page.
+fn buffers(alloc: Global, size: usize, room: usize) -> Result<Vec<Bytes>, Memory>
+    ensures len { IfOk result (λ spare. length spare.items ≡ room) }
+    ensures whole { IfOk result (λ spare. IsSpare size spare.items) }
+    ensures capacity { IfOk result (λ spare. room ≤ vec_capacity spare) }
+{
+    let mut spare = Vec::with_capacity(alloc, room)?;
+    for _ in 0..room {
+        spare.push(Bytes::zeroed(alloc, size)?)?;
+    }
+    Ok(spare)
+}
+
+/// The place of a page in the table.
+fn find(pages: &Vec<DirtyPage>, page: u32) -> Option<usize>
+    ensures found { IfSome result (λ i. (i < length pages.now.items)
+        × ((d : DirtyPage) → (slice_index_or pages.now.items i d).page ≡ page)) }
+    ensures absent { IfNone result ((i : ℕ) (d : DirtyPage) → i < length pages.now.items
+        → (slice_index_or pages.now.items i d).page ≢ page) }
+{
+    for (i, d) in pages.iter().enumerate() {
+        if d.page == page {
+            return Some(i);
+        }
+    }
+    None
+}

@@ -1,0 +1,14 @@
+//! What a call of the pool can be refused for.
+
+/// The fault of a pool. A count is that of the faults of the disk that the pool met so far.
+#[derive(Clone, Copy, Debug, PartialEq, Eq)]
+pub enum PoolFault {
+    DiskRead { faults: u64 },
+    /// A page write or a settle failed. From then on every call answers `Offline`.
+    DiskWrite { faults: u64 },
+    /// An earlier call answered `DiskWrite`, with this count.
+    Offline { faults: u64 },
+    /// The page is neither dirty nor on the disk, which has this number of pages.
+    Absent { pages: u32 },
+    Memory,
+}

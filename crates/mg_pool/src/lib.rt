@@ -1,0 +1,33 @@
+//! The cache of pages over a disk: it keeps changed pages, and writes them in an order that a crash
+//! cannot cut to harm.
+//! A change says which page has to reach the disk before which; the cache writes no page before
+//! those that precede it.
+//!
+//! Owns: no bytes of the file. It owns the dirty pages until they are written.
+//!
+//! A page is dirty from its change to its next page write. At most 512 pages are dirty: their
+//! buffers and the graph of their orders are taken at once, so a change of one page, a page write
+//! and a settle take no memory. Where one more page would be dirty, or an order would close a
+//! cycle, the change first writes pages with their old content, and in no other case. Clean pages
+//! are kept in an ordered map without a bound.
+//!
+//! Invariant: exactly the dirty pages stand in the graph of orders, orders have no cycle, each
+//! content is one page long, and a clean page is as on the disk. After a page write or a settle has
+//! failed, every call is refused.
+//! Below: `mg_base` for the disk, `mg_careful` for the graph and the law. Above: whatever reads and
+//! changes pages.
+//! Not here: what is on a page, and which orders its change needs.
+#![tactic(auto)]
+
+mod batch;
+mod dirty;
+mod dirty_page;
+mod fault;
+mod law;
+mod pool;
+mod reserved;
+
+pub use batch::{Batch, BatchPage};
+pub use fault::PoolFault;
+pub use law::stays_careful;
+pub use pool::Pool;

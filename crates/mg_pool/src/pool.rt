@@ -1,0 +1,304 @@
+//! The cache of pages over a disk.
+
+ghost use Rattle.std.specs.Option.{option_copied};
+ghost use Rattle.std.specs.Prelude.{◌≡◌, ◌≢◌, ◌⊎◌, ◌<◌, ◌≤◌, ◌+◌, ◌-◌, ◌^◌, min, Err, None, [], ℕ, length, unwrap_or, IfOk, IfSome, IsSome, true, false, Some, OnOk, OnErr, IfErr};
+ghost use Rattle.mg_base.specs.Image.{Image, page_at};
+ghost use Rattle.mg_base.specs.Disk.{MayLeave, Calm};
+ghost use Rattle.mg_careful.specs.Graph.{IsFirstReady};
+ghost use Rattle.mg_pool.specs.Dirty.{is_dirty as dirty_test, is_marked, IsLeastPage, MarksAll};
+ghost use Rattle.mg_pool.specs.Fault.{TellsFault, OnlyWrites, OnlyRefuses};
+ghost use Rattle.mg_pool.specs.Run.{HasWritten, WritesPage};
+ghost use Rattle.mg_pool.specs.Pool.{IsPool, IsOnDisk, LeavesClosed, resident, SamePages, KeepsContent, KeepsPages, number_of, shown, LeavesOverlays};
+
+use crate::dirty::DirtyTable;
+use crate::dirty_page::MARKERS;
+use crate::fault::PoolFault;
+use mg_base::{Bytes, Disk, DiskFault, Geometry, PageNo};
+use mg_careful::{Graph, Links};
+use std::alloc::Global;
+use std::collections::BTreeMap;
+use std::marker::PhantomData;
+
+/// The cache of pages over a disk.
+#[derive(Drop)]
+pub struct Pool<D, L> {
+    disk: D,
+    geometry: Geometry,
+    dirty: DirtyTable,
+    graph: Graph,
+    clean: BTreeMap<u32, Bytes>,
+    alloc: Global,
+    faults: u64,
+    offline: Option<u64>,
+    links: PhantomData<L>,
+}
+
+/// How many pages may be dirty at a time.
+pub const DIRTY_PAGES: u32 = 512;
+
+mod change;
+mod change_one;
+mod orders;
+#[cfg(test)]
+mod tests;
+mod write;
+
+impl<D: Disk, L: Links> Pool<D, L> {
+    /// A pool over a disk, without a dirty page. It takes the room for all dirty pages here.
+    ///
+    /// The size of `geometry` is the one that the disk's `page_size` gave.
+    ///
+    /// # Errors
+    ///
+    /// `Memory` only. The disk comes back.
+    pub fn new(alloc: Global, disk: D, geometry: Geometry) -> Result<Pool<D, L>, (D, PoolFault)>
+        requires { D.meaning.size disk ≡ Some geometry.size }
+        ensures pool { IfOk result (λ pool. IsPool D.meaning pool) }
+        ensures disk { IfOk result (λ pool. pool.disk ≡ disk) }
+        ensures geometry { IfOk result (λ pool. pool.geometry ≡ geometry) }
+        ensures dirty { IfOk result (λ pool. pool.dirty.pages ≡ []) }
+        ensures online { IfOk result (λ pool. pool.offline ≡ None) }
+        ensures err { IfErr result (λ both. (both.0 ≡ disk) × (both.1 ≡ PoolFault.Memory)) }
+    {
+        let dirty = match DirtyTable::new(alloc, geometry.size as usize, DIRTY_PAGES as usize) {
+            Ok(dirty) => dirty,
+            Err(_) => return Err((disk, PoolFault::Memory)),
+        };
+        let graph = match Graph::new(alloc, DIRTY_PAGES) {
+            Ok(graph) => graph,
+            Err(_) => return Err((disk, PoolFault::Memory)),
+        };
+        Ok(Pool {
+            disk,
+            geometry,
+            dirty,
+            graph,
+            clean: BTreeMap::new(alloc),
+            alloc,
+            faults: 0,
+            offline: None,
+            links: PhantomData,
+        })
+    }
+
+    /// The geometry that the pool was made with.
+    pub fn geometry(&self) -> Geometry
+        ensures { result ≡ self.now.geometry }
+    {
+        self.geometry
+    }
+
+    /// The disk, with what was written to it.
+    pub fn into_disk(self) -> D
+        ensures { result ≡ self.disk }
+    {
+        let Pool { disk, .. } = self;
+        disk
+    }
+
+    /// Tells whether a page is dirty: changed since it was last written.
+    pub fn is_dirty(&self, page: PageNo) -> bool
+        ensures { result ≡ dirty_test self.now.dirty page.0 }
+    {
+        self.dirty.content(page.0).is_some()
+    }
+
+    /// The dirty page of least number, none where no page is dirty.
+    pub fn least_dirty(&self) -> Option<PageNo>
+        ensures { IsLeastPage (dirty_test self.now.dirty) (number_of result) }
+    {
+        match self.dirty.least() {
+            Some(page) => Some(PageNo(page)),
+            None => None,
+        }
+    }
+
+    /// Gives every dirty page the mark of `who`, and takes it from every other page. It takes no
+    /// memory.
+    pub fn mark(&mut self, who: u8)
+        requires pool { IsPool D.meaning self.old }
+        requires who { who < MARKERS }
+        ensures pool { IsPool D.meaning self.new }
+        ensures marks { MarksAll self.old.dirty self.new.dirty who }
+        ensures same { self.new ≡ record self.old { dirty = self.new.dirty } }
+    {
+        self.dirty.mark(who as usize);
+    }
+
+    /// The page of least number that `who` has marked and that wasn't written since, none where
+    /// there is none.
+    pub fn least_marked(&self, who: u8) -> Option<PageNo>
+        requires { who < MARKERS }
+        ensures { IsLeastPage (λ page. is_marked self.now.dirty page who) (number_of result) }
+    {
+        match self.dirty.least_marked(who as usize) {
+            Some(page) => Some(PageNo(page)),
+            None => None,
+        }
+    }
+
+    /// The content of a resident page. Every dirty page is resident.
+    pub fn bytes(&self, page: PageNo) -> Option<&[u8]>
+        requires { IsPool D.meaning self.now }
+        ensures resident { option_copied result ≡ resident self.now page.0 }
+        ensures last { D.meaning.tells self.now.disk ≡ true → (image : Image)
+            → D.meaning.held self.now.disk ≡ Some image
+            → IfSome result (λ b. b.now ≡ shown self.now.dirty image page.0) }
+    {
+        match self.dirty.content(page.0) {
+            Some(bytes) => Some(bytes),
+            None => match self.clean.get(&page.0) {
+                Some(bytes) => Some(bytes.as_slice()),
+                None => None,
+            },
+        }
+    }
+
+    /// Writes one dirty page, without memory: of the goal and the pages that precede it, the one of
+    /// least number that no page precedes. The answer is its number.
+    ///
+    /// # Errors
+    ///
+    /// `Offline` exactly where an earlier call answered `DiskWrite`; `DiskWrite` only where the
+    /// disk's count of faults rose in this call. The pages are then as before.
+    pub fn write_one(&mut self, goal: PageNo) -> Result<PageNo, PoolFault>
+        requires pool { IsPool D.meaning self.old }
+        requires dirty { dirty_test self.old.dirty goal.0 ≡ true }
+
+        ensures pool { IsPool D.meaning self.new }
+        ensures fault { TellsFault D.meaning self.old self.new result }
+        ensures own { OnlyWrites result }
+        ensures kept { KeepsPages D.meaning self.old self.new }
+        ensures least { IfOk result (λ page. IsFirstReady self.old.graph goal.0 page.0) }
+        ensures written { IfOk result (λ page. WritesPage D.meaning self.old self.new page.0) }
+        ensures run { OnOk result (HasWritten D.meaning self.old self.new) }
+        ensures same { OnErr result (self.new.dirty ≡ self.old.dirty) }
+        ensures crash { LeavesOverlays D.meaning self.old self.new }
+    {
+        self.online()?;
+        let page = self.graph.first_ready(goal.0).unwrap();
+        self.write_out(page)?;
+        Ok(PageNo(page))
+    }
+
+    /// Makes what was written stay: after it a crash leaves what the disk holds, and nothing else.
+    /// It writes no page.
+    ///
+    /// # Errors
+    ///
+    /// `Offline` exactly where an earlier call answered `DiskWrite`; `DiskWrite` only where the
+    /// disk's count of faults rose in this call.
+    pub fn settle(&mut self) -> Result<(), PoolFault>
+        requires pool { IsPool D.meaning self.old }
+
+        ensures pool { IsPool D.meaning self.new }
+        ensures same { SamePages self.old self.new }
+        ensures fault { TellsFault D.meaning self.old self.new result }
+        ensures durable { OnOk result (D.meaning.tells self.old.disk ≡ true → (image : Image)
+            → MayLeave D.meaning self.new.disk image → D.meaning.held self.new.disk ≡ Some image) }
+        ensures own { OnlyWrites result }
+        ensures disk { KeepsContent D.meaning self.old.disk self.new.disk }
+    {
+        self.online()?;
+        match self.disk.settle() {
+            Ok(()) => Ok(()),
+            Err(_) => {
+                let faults = count_fault(&mut self.faults);
+                self.offline = Some(faults);
+                Err(PoolFault::DiskWrite { faults })
+            }
+        }
+    }
+
+    /// Makes a page resident: `bytes` gives its content then. No dirty page leaves; nothing is
+    /// promised of other clean pages.
+    ///
+    /// # Errors
+    ///
+    /// `Offline` exactly where an earlier call answered `DiskWrite`; `DiskRead` only where the
+    /// disk's count of faults rose in this call; `Absent` exactly where the page is neither dirty
+    /// nor on the disk; `Memory`.
+    pub fn fetch(&mut self, page: PageNo) -> Result<(), PoolFault>
+        requires pool { IsPool D.meaning self.old }
+
+        ensures pool { IsPool D.meaning self.new }
+        ensures geometry { self.new.geometry ≡ self.old.geometry }
+        ensures dirty { self.new.dirty ≡ self.old.dirty }
+        ensures graph { self.new.graph ≡ self.old.graph }
+        ensures resident { OnOk result (IsSome (resident self.new page.0)) }
+        ensures fault { TellsFault D.meaning self.old self.new result }
+        ensures present { OnOk result ((dirty_test self.old.dirty page.0 ≡ true)
+            ⊎ IsOnDisk D.meaning self.new.disk page.0) }
+        ensures absent { (pages : ℕ) → result ≡ Err (PoolFault.Absent pages)
+            → (dirty_test self.old.dirty page.0 ≡ false)
+            × (D.meaning.count self.new.disk ≡ Some pages) × (pages ≤ page.0) }
+        ensures never_written { (faults : ℕ) → result ≢ Err (PoolFault.DiskWrite faults) }
+        ensures disk { KeepsContent D.meaning self.old.disk self.new.disk }
+    {
+        self.online()?;
+        if self.bytes(page).is_some() {
+            return Ok(());
+        }
+        let pages = match self.disk.pages() {
+            Ok(pages) => pages,
+            Err(_) => return Err(self.read_fault()),
+        };
+        if page.0 >= pages {
+            return Err(PoolFault::Absent { pages });
+        }
+        let mut buffer = match vec![in self.alloc; 0u8; self.geometry.size as usize] {
+            Ok(buffer) => buffer,
+            Err(_) => return Err(PoolFault::Memory),
+        };
+        match read_into(&mut self.disk, page, &mut buffer) {
+            Ok(()) => {}
+            Err(_) => return Err(self.read_fault()),
+        }
+        match self.clean.insert(page.0, Bytes::new(buffer)) {
+            Ok(_) => Ok(()),
+            Err(_) => Err(PoolFault::Memory),
+        }
+    }
+
+    /// Counts a fault of the disk in a reading call.
+    fn read_fault(&mut self) -> PoolFault
+        ensures same { self.new ≡ record self.old { faults = self.new.faults } }
+        ensures count { self.new.faults ≡ min (self.old.faults + 1) (2 ^ 64 - 1) }
+        ensures fault { result ≡ PoolFault.DiskRead self.new.faults }
+    {
+        let faults = count_fault(&mut self.faults);
+        PoolFault::DiskRead { faults }
+    }
+
+    /// Refuses every call after one that answered `DiskWrite`.
+    fn online(&self) -> Result<(), PoolFault>
+        ensures fault { TellsFault D.meaning self.now self.now result }
+        ensures refusal { OnlyRefuses result }
+    {
+        match self.offline {
+            Some(faults) => Err(PoolFault::Offline { faults }),
+            None => Ok(()),
+        }
+    }
+}
+
+/// Counts one fault more. The count stands still at the end of its type.
+pub(crate) fn count_fault(faults: &mut u64) -> u64
+    ensures count { faults.new ≡ min (faults.old + 1) (2 ^ 64 - 1) }
+    ensures told { result ≡ faults.new }
+{
+    *faults = faults.saturating_add(1);
+    *faults
+}
+
+/// Reads a page of the disk into a buffer of its size.
+fn read_into<D: Disk>(disk: &mut D, page: PageNo, buffer: &mut Vec<u8>) -> Result<(), DiskFault>
+    requires whole { D.meaning.size disk.old ≡ Some (length buffer.old.items) }
+    requires below { page.0 < unwrap_or (D.meaning.count disk.old) 0 }
+    ensures len { length buffer.new.items ≡ length buffer.old.items }
+    ensures page { OnOk result ((image : Image) → D.meaning.held disk.old ≡ Some image
+        → buffer.new.items ≡ page_at (length buffer.old.items) image page.0) }
+    ensures calm { Calm D.meaning disk.old disk.new result }
+{
+    disk.read(page, buffer)
+}
