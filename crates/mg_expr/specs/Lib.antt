@@ -1,0 +1,10 @@
+pub mod Trees
+pub mod TreeLaws
+pub mod Meaning
+pub mod Typing
+pub mod Outcomes
+pub mod Examples
+pub mod MeaningLaws
+pub mod TypingLaws
+pub mod Filters
+pub mod FilterLaws

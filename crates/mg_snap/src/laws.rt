@@ -1,0 +1,16 @@
+//! What holds over any run of calls: the laws stand in `specs/LiveLaws.antt`.
+
+ghost use Rattle.mg_snap.specs.Live.{OthersChangeNothing, EndsByLeaving, BaseSeesWhatHasEnded};
+
+/// A base stays as it was taken: other transactions that enter and leave change nothing of what it
+/// sees.
+pub fn others_change_nothing()
+    ensures { OthersChangeNothing }
+{}
+
+/// A base sees exactly what had ended when it was taken: each transaction that left before, and
+/// none that entered or left after.
+pub fn a_base_sees_what_had_ended()
+    ensures base { BaseSeesWhatHasEnded }
+    ensures ends { EndsByLeaving }
+{}

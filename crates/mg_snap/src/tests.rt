@@ -1,0 +1,33 @@
+use super::*;
+use mg_base::TxNo;
+use std::process::Abort;
+use std::test::Fail;
+
+/// Wants t to see exactly those of 1 to 7 that are named.
+fn sees_just(rt: &impl Abort, live: &Live, t: u32, seen: &[u32]) {
+    for by in 1..8u32 {
+        let sees = live.sees(TxNo(t), TxNo(by));
+        assert_eq!(rt; sees, seen.contains(&by), "{t} and {by}");
+    }
+}
+
+#[test]
+fn a_base_sees_what_had_ended_when_it_was_taken(rt: HostRuntime) -> Result<(), Fail> {
+    let mut live = Live::new(rt.alloc(), TxNo(4));
+    live.enter(TxNo(2))?;
+    sees_just(&rt, &live, 2, &[1, 3]);
+    live.enter(TxNo(4))?;
+    live.enter(TxNo(5))?;
+    sees_just(&rt, &live, 5, &[1, 3]);
+    live.leave(TxNo(2));
+    live.leave(TxNo(4));
+    sees_just(&rt, &live, 5, &[1, 3]);
+    live.enter(TxNo(6))?;
+    sees_just(&rt, &live, 6, &[1, 2, 3, 4]);
+    live.leave(TxNo(5));
+    sees_just(&rt, &live, 6, &[1, 2, 3, 4]);
+    live.enter(TxNo(7))?;
+    sees_just(&rt, &live, 7, &[1, 2, 3, 4, 5]);
+    sees_just(&rt, &live, 5, &[]);
+    Ok(())
+}
