@@ -1,0 +1,9 @@
+mod LookupLemmas
+mod WaitLemmas
+mod RowLemmas
+mod KeyLemmas
+mod AnswerLemmas
+mod TakenBackLemmas
+mod StandsLemmas
+mod AnsweredLemmas
+mod FirstLemmas
