@@ -1,7 +1,7 @@
 -- Lemmas on data pages as they are tested.
-use Rattle.std.proofs.Common.{◌≡◌, ◌+◌, ◌<◌, ◌≤◌, ◌^◌, ℕ, refl, sym, ap, ◌∙◌, List, [], ◌∷◌, ◌++◌, length, take, get_or, Some, arith, length-take-le}
+use Rattle.std.proofs.Common.{◌≡◌, ◌+◌, ◌<◌, ◌≤◌, ◌^◌, ℕ, ap, List, length, take, get_or, Some, arith, length-take-le}
 use Rattle.std.proofs.lemmas.List.{take_more}
-use Rattle.mg_slots.specs.DataPage.{IsDataPage, cell_of, slot_count, taken_by}
+use Rattle.mg_slots.specs.DataPage.{IsDataPage, cell_of, taken_by}
 use Rattle.mg_slots.specs.DataPageLaws.{taken_by_fits}
 use Rattle.mg_image.specs.ChainLaws.{each_push}
 use Rattle.mg_image.specs.Tables.{EachFrom}

@@ -1,13 +1,13 @@
 -- Lemmas on slots as they are read one after another.
-use Rattle.std.proofs.Common.{◌≡◌, ◌≢◌, ◌⊎◌, ◌+◌, ◌<◌, ◌≤◌, inl, inr, refl, sym, ap, ◌∙◌, ℕ, List, [], ◌∷◌, ◌++◌, length, take, get_or, arith}
-use Rattle.std.proofs.lemmas.Bool.{cases_eq, cases_lt}
+use Rattle.std.proofs.Common.{◌≡◌, ◌≢◌, ◌⊎◌, ◌+◌, ◌<◌, inl, inr, sym, ◌∙◌, ℕ, List, [], ◌∷◌, ◌++◌, length, take, get_or, arith}
+use Rattle.std.proofs.lemmas.Bool.{cases_eq}
 use Rattle.std.proofs.lemmas.List.{take_more}
 use Rattle.mg_base.specs.declared.numbers.RecId.{RecId}
 use Rattle.mg_slots.specs.DataPage.{slot_count}
 use Rattle.mg_image.specs.declared.found.Found.{Found}
 use Rattle.mg_image.specs.declared.image.Image.{Image}
 use Rattle.mg_image.specs.declared.rows.RowCoding.{RowCoding}
-use Rattle.mg_image.specs.declared.table.Table.{Table}
+use Rattle.mg_model.specs.declared.table.Table.{Table}
 use Rattle.mg_image.specs.Found.{AreFound, IsFound, KeepsRead, PagesRead, SlotsRead, WasRead}
 use Rattle.mg_image.specs.ImageView.{pages_in}
 use Rattle.mg_image.specs.Tables.{Has}

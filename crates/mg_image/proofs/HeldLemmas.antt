@@ -1,10 +1,10 @@
 -- Tables as they are read one after another.
-use Rattle.std.proofs.Common.{◌≡◌, ◌+◌, ◌<◌, ℕ, refl, sym, List, [], ◌∷◌, ◌++◌, length, take, get_or}
+use Rattle.std.proofs.Common.{◌≡◌, ◌+◌, ◌<◌, ℕ, sym, List, [], ◌∷◌, ◌++◌, length, take, get_or}
 use Rattle.std.proofs.lemmas.List.{take_more}
 use Rattle.mg_image.specs.declared.held.TableRows.{TableRows}
 use Rattle.mg_image.specs.declared.image.Image.{Image}
 use Rattle.mg_image.specs.declared.rows.RowCoding.{RowCoding}
-use Rattle.mg_image.specs.declared.table.Table.{Table}
+use Rattle.mg_model.specs.declared.table.Table.{Table}
 use Rattle.mg_image.specs.HeldTable.{AreHeld, IsTableHeld}
 
 held_push : (coding : RowCoding) (image : Image) (ts : List Table) (hs : List TableRows) (t : Table)

@@ -1,23 +1,23 @@
 -- What was read of the slots of a table is a lawful reading.
-use Rattle.std.proofs.Common.{◌≡◌, ◌≢◌, ◌⊎◌, ◌<◌, ◌≤◌, inl, inr, refl, sym, ap, ◌∙◌, ℕ, Bool, true, false, List, [], ◌∷◌, Option, None, Some, arith}
+use Rattle.std.proofs.Common.{◌≡◌, ◌≢◌, ◌⊎◌, ◌<◌, ◌≤◌, inl, inr, refl, sym, ◌∙◌, ℕ, Bool, true, false, List, [], ◌∷◌, None, Some}
 use Rattle.std.proofs.lemmas.Bool.{cases_eq, cases_lt, ne_eqb}
 use Rattle.mg_base.specs.declared.numbers.RecId.{RecId}
-use Rattle.mg_slots.specs.DataPage.{cell_of, slot_count}
+use Rattle.mg_slots.specs.DataPage.{slot_count}
 use Rattle.mg_slots.specs.DataPageLaws.{cell_past}
 use Rattle.mg_image.specs.Codings.{coding_of}
 use Rattle.mg_image.specs.declared.entry.Entry.{Entry}
 use Rattle.mg_image.specs.declared.found.Found.{Found}
 use Rattle.mg_image.specs.declared.image.Image.{Image}
 use Rattle.mg_image.specs.declared.rows.RowCoding.{RowCoding}
-use Rattle.mg_image.specs.declared.table.Table.{Table}
+use Rattle.mg_model.specs.declared.table.Table.{Table}
 use Rattle.mg_image.specs.Found.{AreApart, AreFound, HasNoCellOf, HasNoKeyOf, HaveKeys, IsFound, PagesRead, WasRead, image_facts, reading_of}
 use Rattle.mg_image.specs.ImageView.{pages_in}
 use Rattle.mg_image.specs.OneTable.{stand_with, table_facts}
 use Rattle.mg_image.specs.RecordRules.{AreRecords, IsRecord, TakesKey, table_in}
-use Rattle.mg_image.specs.Records.{Chain, Stands, cells_of, ended, newest_of, record_key, slot_cell}
+use Rattle.mg_image.specs.Records.{Chain, Stands, cells_of, ended, newest_of, record_key}
 use Rattle.mg_image.specs.StepLaws.{cases_place, same_place}
 use Rattle.mg_image.specs.Tables.{Has, has, table_at}
-use Rattle.mg_image.proofs.RecordLemmas.{has_true, table_at_one}
+use Rattle.mg_image.proofs.RecordLemmas.{table_at_one}
 
 -- a page that the table is found at is one of its own
 page_of_table : (table other : Table) (ns : List ℕ) (n : ℕ)

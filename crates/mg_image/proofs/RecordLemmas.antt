@@ -1,5 +1,5 @@
 -- Lemmas on records as they are read.
-use Rattle.std.proofs.Common.{◌≡◌, ◌≢◌, ◌⊎◌, inl, inr, refl, sym, ap, ◌∙◌, ◌==◌, ◌||◌, ℕ, Bool, true, false, List, [], ◌∷◌, Option, None, Some}
+use Rattle.std.proofs.Common.{◌≡◌, ◌≢◌, ◌⊎◌, inl, inr, refl, sym, ◌∙◌, ◌==◌, ◌||◌, ℕ, Bool, true, false, List, [], ◌∷◌, Option, None, Some}
 use Rattle.mg_version.specs.declared.cell.Link.{Link}
 use Rattle.std.proofs.lemmas.Bool.{eq-eqb}
 use Rattle.std.proofs.Common.{◌+◌, ◌<◌, ◌++◌, length, take, get_or}
@@ -12,7 +12,7 @@ use Rattle.mg_image.specs.RecordRules.{Each, Facts, IsVersion}
 use Rattle.mg_image.specs.Records.{Stands, key_of}
 use Rattle.mg_image.specs.RunLaws.{each_version_push}
 use Rattle.mg_image.specs.StepLaws.{cases_place, same_place}
-use Rattle.mg_image.specs.declared.table.Table.{Table}
+use Rattle.mg_model.specs.declared.table.Table.{Table}
 use Rattle.mg_image.specs.OneTable.{stand_with}
 use Rattle.mg_image.specs.Tables.{Has, has, table_at}
 

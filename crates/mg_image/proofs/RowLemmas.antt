@@ -1,5 +1,5 @@
 -- Lemmas on rows as they are decoded.
-use Rattle.std.proofs.Common.{◌≡◌, ℕ, refl, sym, ap, ◌∙◌, List, [], ◌∷◌, ◌++◌, take, get_or, Result, Ok, Err, ◌+◌, ◌<◌, length}
+use Rattle.std.proofs.Common.{◌≡◌, ℕ, sym, List, [], ◌∷◌, ◌++◌, take, get_or, Result, Ok, Err, ◌+◌, ◌<◌, length}
 use Rattle.std.specs.Prelude.{IfOk}
 use Rattle.std.proofs.lemmas.List.{take_more}
 use Rattle.mg_rle.specs.Runs.{StandsFor}
@@ -8,7 +8,6 @@ use Rattle.mg_rowcode.specs.Faults.{DecodesTo}
 use Rattle.mg_rowcode.specs.Storable.{AreStorable, IsStorable}
 use Rattle.mg_value.specs.declared.shape.Column.{Column}
 use Rattle.mg_value.specs.declared.value.Value.{Value}
-use Rattle.mg_value.specs.declared.value.Value.TheVariants.{Null}
 use Rattle.mg_value.specs.Rows.{columns_of, row_bytes}
 use Rattle.mg_image.specs.Form.{IsPlainRow, Row}
 use Rattle.mg_image.specs.declared.point.ReadFault.{ReadFault}

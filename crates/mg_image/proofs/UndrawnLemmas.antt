@@ -1,5 +1,6 @@
 -- Places of transactions on the last transaction inventory page.
-use Rattle.std.proofs.Common.{◌≡◌, ◌+◌, ◌*◌, ◌/◌, ◌%◌, ◌<◌, ◌≤◌, ℕ, refl, sym, ap, ◌∙◌, arith}
+use Rattle.std.proofs.Common.{◌≡◌, ◌+◌, ◌*◌, ◌/◌, ◌%◌, ◌<◌, ◌≤◌, ℕ, sym, subst, arith}
+use Rattle.std.proofs.lemmas.Nat.{div-mul-add, mod-mul-add}
 use Rattle.mg_tip.specs.TipPage.{places, state_in}
 use Rattle.mg_image.specs.Form.{Pages}
 use Rattle.mg_image.specs.Inventory.{last_sequence, next_of, tip_page}
@@ -24,3 +25,16 @@ none_undrawn size pages some all = λ t past on.
 
     placed : (t p last : ℕ) → 0 < p → t / p ≡ last → last * p + t % p ≡ t
     placed t p last some on = rw (sym on) (omega arith)
+
+-- what is undrawn on an image is so at each place of the last page
+pub undrawn_at : (size : ℕ) (pages : Pages) (place : ℕ) → place < places size
+    → HasNoneUndrawn size pages → next_of pages ≤ last_sequence size pages * places size + place
+    → IsUndrawn (state_in (pages (tip_page size pages (last_sequence size pages))) place)
+undrawn_at size pages place inside none past =
+    let on = div-mul-add (last_sequence size pages) (places size) place inside in
+    let here = mod-mul-add (last_sequence size pages) (places size) place inside in
+    subst (λ (k : ℕ). IsUndrawn (state_in (pages (tip_page size pages (last_sequence size pages))) k))
+    here
+    (subst (λ (s : ℕ). IsUndrawn (state_in (pages (tip_page size pages s))
+    ((last_sequence size pages * places size + place) % places size))) on
+    (none (last_sequence size pages * places size + place) past on))

@@ -1,10 +1,9 @@
 -- Tests of pages, and what they say.
 use Rattle.std.proofs.Common.{◌≡◌, ◌≢◌, ◌+◌, [], ◌∷◌, ◌++◌, ◌↔◌, ◌<◌, ◌≤◌, ◌⊎◌, inl, inr, refl, sym, ap, ◌∙◌, ℕ, Bool, true, false, List, length, IsTrue, Result, Ok, Err, arith}
 use Rattle.std.specs.Prelude.{is_ok}
-use Rattle.std.proofs.Common.{get_or}
 use Rattle.std.proofs.lemmas.Bool.{cases_lt}
 use Rattle.std.proofs.lemmas.List.{get_or_past, length-replicate}
-use Rattle.mg_base.specs.Checks.{Check, PassesAll, verdict}
+use Rattle.mg_base.specs.Checks.{Check, verdict}
 use Rattle.mg_base.specs.CheckLaws.{passes_from_verdict, verdict_from_passes}
 use Rattle.mg_base.specs.Image.{blank, page_at}
 use Rattle.mg_base.specs.declared.damage.Damaged.{Damaged}
@@ -12,7 +11,7 @@ use Rattle.mg_base.specs.declared.geometry.TheConstants.{GREATEST_LIMIT}
 use Rattle.mg_base.specs.declared.numbers.PageNo.{PageNo}
 use Rattle.mg_header.specs.declared.header.Header.{Header}
 use Rattle.mg_header.specs.declared.header.HeadFault.{HeadFault}
-use Rattle.mg_header.specs.HeaderPage.{header_in, reading}
+use Rattle.mg_header.specs.HeaderPage.{reading}
 use Rattle.mg_header.specs.HeaderPageLaws.{reading_ok, reads}
 use Rattle.mg_image.specs.Form.{Pages}
 use Rattle.mg_image.specs.Inventory.{is_used}

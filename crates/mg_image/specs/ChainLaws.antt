@@ -1,5 +1,5 @@
 -- Laws of chains of pages as they are followed.
-use Rattle.std.proofs.Common.{◌≡◌, ◌≢◌, ◌+◌, ℕ, suc, refl, sym, ap, ◌∙◌, List, [], ◌∷◌, ◌++◌, length, append_assoc, add-one, arith, append-nil}
+use Rattle.std.proofs.Common.{◌≡◌, ◌≢◌, ◌+◌, ℕ, suc, refl, sym, List, [], ◌∷◌, ◌++◌, length, append_assoc, arith, append-nil}
 use Rattle.mg_pointer.specs.PointerPage.{entries_of}
 use Rattle.mg_image.specs.Form.{Pages}
 use Rattle.mg_image.specs.Tables.{EachFrom, LinkChain, ended, entries_in, goes}

@@ -5,7 +5,6 @@ use Rattle.mg_value.specs.declared.value.Value.{Value}
 use Rattle.mg_value.specs.declared.value.Value.TheVariants.{Null}
 use Rattle.mg_value.specs.Rows.{columns_of, row_bytes, RowFits}
 use Rattle.mg_rowcode.specs.Faults.{DecodesTo}
-use Rattle.mg_image.specs.declared.table.Table.{Table}
 
 -- the pages of an image by their numbers; a page past the end reads as zero
 abbrev pub Pages : Type 0
@@ -18,10 +17,6 @@ Row = List Value
 -- rows by their keys
 abbrev pub Rows : Type 0
 Rows = Value → Option Row
-
--- what the catalog's rows say: they are lawful, and name these tables
-abbrev pub Naming : Type 1
-Naming = Rows → List Table → Type 0
 
 -- How rows stand in versions.
 pub record Coding : Type 1 where
@@ -37,7 +32,6 @@ pub record Form : Type 1 where
   pub in_primary : Bool
   -- a page, under its number, is one of a sequence
   pub sequence_page : List ℕ → ℕ → Type 0
-  pub naming : Naming
 
 -- a body is the bytes of a row of the format, as they are; this is the row with NULL in the later
 -- columns
@@ -65,19 +59,17 @@ abbrev pub NoSequence : List ℕ → ℕ → Type 0
 NoSequence page number = ⊥
 
 -- the form with plain rows
-abbrev pub plain_form : Naming → Form
-plain_form naming = record {
+abbrev pub plain_form : Form
+plain_form = record {
   coding = plain_coding;
   in_primary = false;
   sequence_page = NoSequence;
-  naming = naming;
 }
 
 -- the form with packed rows
-abbrev pub packed_form : Naming → Form
-packed_form naming = record {
+abbrev pub packed_form : Form
+packed_form = record {
   coding = packed_coding;
   in_primary = false;
   sequence_page = NoSequence;
-  naming = naming;
 }

@@ -3,11 +3,10 @@ use Rattle.std.specs.Prelude.{◌≡◌, ◌⊎◌, ◌<◌, ℕ, Bool, List, []
 use Rattle.mg_base.specs.declared.numbers.RecId.{RecId}
 use Rattle.mg_slots.specs.DataPage.{slot_count}
 use Rattle.mg_image.specs.Codings.{coding_of}
-use Rattle.mg_image.specs.declared.entry.Entry.{Entry}
 use Rattle.mg_image.specs.declared.found.Found.{Found}
 use Rattle.mg_image.specs.declared.image.Image.{Image}
 use Rattle.mg_image.specs.declared.rows.RowCoding.{RowCoding}
-use Rattle.mg_image.specs.declared.table.Table.{Table}
+use Rattle.mg_model.specs.declared.table.Table.{Table}
 use Rattle.mg_image.specs.ImageView.{pages_in}
 use Rattle.mg_image.specs.Inventory.{next_of, oldest_of, state_at}
 use Rattle.mg_image.specs.OneTable.{table_facts}
@@ -21,8 +20,8 @@ abbrev pub committed_of : Image → ℕ → Bool
 committed_of image t = is_committed (state_at image.size (pages_in image) t)
 
 -- What was read of a slot is what its cell leads to, and is a lawful record of the table.
-pub record IsFound (coding : RowCoding) (image : Image) (table : Table) (ns : List ℕ) (found : Found)
-    : Type 0 where
+pub record IsFound (coding : RowCoding) (image : Image) (table : Table) (ns : List ℕ)
+    (found : Found) : Type 0 where
   pub placed : Has ns found.at.page.0
   pub chain : Chain (cells_of (pages_in image))
       (newest_of found.at (cells_of (pages_in image) found.at)) found.entries.items

@@ -1,6 +1,6 @@
 -- What an image holds: the rows that its records show, by table and key, and the changes of its
 -- limbo transactions.
-use Rattle.std.specs.Prelude.{◌≡◌, ◌⊎◌, ◌==◌, ℕ, Bool, pos, List, ◌∷◌, codes, Option, Some, IsSome, if◌then◌else◌}
+use Rattle.std.specs.Prelude.{◌≡◌, ◌⊎◌, ◌==◌, ℕ, Bool, pos, List, ◌∷◌, Option, Some, IsSome, if◌then◌else◌}
 use Rattle.std.proofs.Common.{get_or}
 use Rattle.std.proofs.Math.ListN.{set}
 use Rattle.std.specs.Str.{bytes_eq}
@@ -8,10 +8,11 @@ use Rattle.mg_base.specs.Fields.{byte}
 use Rattle.mg_base.specs.declared.numbers.RecId.{RecId}
 use Rattle.mg_base.specs.declared.transaction.TxState.TheVariants.{Limbo}
 use Rattle.mg_value.specs.declared.value.Value.{Value}
-use Rattle.mg_value.specs.declared.value.Value.TheVariants.{Null, Int, Text}
+use Rattle.mg_value.specs.declared.value.Value.TheVariants.{Null, Int}
 use Rattle.mg_value.specs.Values.{bytes_of}
+use Rattle.mg_model.specs.Catalog.{catalog_name, table_key}
 use Rattle.mg_image.specs.declared.entry.Entry.{Entry}
-use Rattle.mg_image.specs.declared.table.Table.{Table}
+use Rattle.mg_model.specs.declared.table.Table.{Table}
 use Rattle.mg_image.specs.Form.{Row, Rows}
 use Rattle.mg_image.specs.Records.{Change, Erases, Puts, Reading, change_in, key_of, shown, writer}
 use Rattle.mg_image.specs.RecordRules.{Facts, table_in}
@@ -24,14 +25,6 @@ Database = List ℕ → Rows
 abbrev pub Changes : Type 0
 Changes = ℕ → List ℕ → Value → Option Change
 
--- the name of the catalog
-abbrev pub CATALOG : List ℕ
-CATALOG = codes "MG$CATALOG"
-
--- the key of a table's row in the catalog
-abbrev pub table_key : List ℕ → Value
-table_key name = Text (84 ∷ name)
-
 -- a row of the catalog that begins with this letter, with each page number in it read as 0: A and C
 -- of a table's row, A of an index's row
 abbrev pub without_pages : ℕ → Row → Row
@@ -42,7 +35,8 @@ without_pages letter row =
 -- a row as a database has it: page numbers of the catalog's rows do not count
 abbrev pub told_row : Table → Row → Row
 told_row table row =
-    if bytes_eq table.name CATALOG then without_pages (byte (bytes_of (get_or row 0 Null)) 0) row
+    if bytes_eq table.name catalog_name
+    then without_pages (byte (bytes_of (get_or row 0 Null)) 0) row
     else row
 
 -- a change as it is told
@@ -66,7 +60,7 @@ pub record AreRows (f : Facts) (committed : ℕ → Bool) (r : Reading) (table :
 
 -- a database has a table: the catalog, or one that has its row in the catalog
 abbrev pub HasTable : Database → List ℕ → Type 0
-HasTable db name = (name ≡ CATALOG) ⊎ IsSome (db CATALOG (table_key name))
+HasTable db name = (name ≡ catalog_name) ⊎ IsSome (db catalog_name (table_key name))
 
 -- A record shows this row of a database.
 pub record IsHeldAt (f : Facts) (committed : ℕ → Bool) (r : Reading) (name : List ℕ) (key : Value)

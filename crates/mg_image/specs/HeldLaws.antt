@@ -1,13 +1,12 @@
 -- What is held depends on what the records show alone.
-use Rattle.std.proofs.Common.{◌≡◌, ◌≢◌, ◌⊎◌, inl, inr, refl, sym, ap, ◌∙◌, ℕ, Bool, List, Option, None, Some}
+use Rattle.std.proofs.Common.{◌≡◌, sym, ◌∙◌, ℕ, Bool, List, Some}
 use Rattle.mg_base.specs.declared.numbers.RecId.{RecId}
 use Rattle.mg_value.specs.declared.value.Value.{Value}
-use Rattle.mg_image.specs.declared.entry.Entry.{Entry}
-use Rattle.mg_image.specs.declared.table.Table.{Table}
+use Rattle.mg_model.specs.declared.table.Table.{Table}
 use Rattle.mg_image.specs.Form.{Row, Rows}
-use Rattle.mg_image.specs.Held.{AreChanges, AreRows, Changes, Database, HasLimbo, HasTable, IsChangedAt, IsHeld, IsHeldAt, Shows, told_change, told_row}
+use Rattle.mg_image.specs.Held.{AreRows, Database, IsHeld, IsHeldAt, Shows}
 use Rattle.mg_image.specs.RecordRules.{Facts, table_in}
-use Rattle.mg_image.specs.Records.{Change, Reading, change_in, key_of, shown, writer}
+use Rattle.mg_image.specs.Records.{Reading, key_of, shown}
 
 -- Of each slot two images show the same row of the same table.
 pub record ShowsSame (f g : Facts) (old new : ℕ → Bool) (r s : Reading) : Type 0 where
@@ -15,7 +14,8 @@ pub record ShowsSame (f g : Facts) (old new : ℕ → Bool) (r s : Reading) : Ty
   pub rows : (p : RecId) → shown new (s p) ≡ shown old (r p)
 
 shows_on : (f g : Facts) (old new : ℕ → Bool) (r s : Reading) → ShowsSame f g old new r s
-    → (p : RecId) (table : Table) (row : Row) → Shows f old r p table row → Shows g new s p table row
+    → (p : RecId) (table : Table) (row : Row) → Shows f old r p table row
+    → Shows g new s p table row
 shows_on f g old new r s same p table row shows = record {
   of_table = same.tables p ∙ shows.of_table;
   row_shown = same.rows p ∙ shows.row_shown;
@@ -32,7 +32,8 @@ shows_back f g old new r s same = record {
 pub same_rows : (f g : Facts) (old new : ℕ → Bool) (r s : Reading) (table : Table) (rows : Rows)
     → ShowsSame f g old new r s → AreRows f old r table rows → AreRows g new s table rows
 same_rows f g old new r s table rows same are = record {
-  there = λ p row shows. are.there p row (shows_on g f new old s r (shows_back f g old new r s same) p
+  there = λ p row shows.
+      are.there p row (shows_on g f new old s r (shows_back f g old new r s same) p
       table row shows);
   whole = λ key row is. whole key row is (are.whole key row is);
 }

@@ -5,7 +5,7 @@ use Rattle.mg_image.specs.declared.found.Found.{Found}
 use Rattle.mg_image.specs.declared.held.TableRows.{TableRows}
 use Rattle.mg_image.specs.declared.image.Image.{Image}
 use Rattle.mg_image.specs.declared.rows.RowCoding.{RowCoding}
-use Rattle.mg_image.specs.declared.table.Table.{Table}
+use Rattle.mg_model.specs.declared.table.Table.{Table}
 use Rattle.mg_image.specs.Form.{Row}
 use Rattle.mg_image.specs.Found.{committed_of, reading_of}
 use Rattle.mg_image.specs.ImageView.{pages_in}

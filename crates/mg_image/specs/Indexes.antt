@@ -6,7 +6,7 @@ use Rattle.mg_value.specs.declared.value.Value.TheVariants.{Null}
 use Rattle.mg_node.specs.declared.entry.Entry.{Entry}
 use Rattle.mg_node.specs.NodePage.{IsAtLeast, IsBelow, IsNodePage, count_in, entries_of, has_high, has_low, high_of, level_in, low_of, node_checks, right_in}
 use Rattle.mg_sortkey.specs.KeyBytes.{key_bytes}
-use Rattle.mg_image.specs.declared.table.Index.{Index}
+use Rattle.mg_model.specs.declared.table.Index.{Index}
 use Rattle.mg_image.specs.Form.{Pages, Row}
 use Rattle.mg_image.specs.Reached.{IsAsWanted}
 use Rattle.mg_image.specs.Tables.{Has, LinkChain}

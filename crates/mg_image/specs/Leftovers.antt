@@ -9,8 +9,8 @@ use Rattle.mg_node.specs.declared.entry.Entry.{Entry}
 use Rattle.mg_node.specs.NodePage.{entries_of, level_in}
 use Rattle.mg_version.specs.declared.cell.Cell.TheVariants as cells
 use Rattle.mg_version.specs.declared.cell.Version.{Version}
-use Rattle.mg_image.specs.declared.table.Index.{Index}
-use Rattle.mg_image.specs.declared.table.Table.{Table}
+use Rattle.mg_model.specs.declared.table.Index.{Index}
+use Rattle.mg_model.specs.declared.table.Table.{Table}
 use Rattle.mg_image.specs.Form.{Pages}
 use Rattle.mg_image.specs.Indexes.{index_entry}
 use Rattle.mg_image.specs.Inventory.{is_used, state_at}

@@ -9,6 +9,8 @@ pub mod Held
 pub mod Catalog
 pub mod Sound
 pub mod Opening
+pub mod Histories
+pub mod HistoryLaws
 pub mod Leftovers
 pub mod StepLaws
 pub mod ReadingLaws
@@ -20,4 +22,5 @@ pub mod Codings
 pub mod OneTable
 pub mod RunLaws
 pub mod Found
+pub mod FirstBroken
 pub mod HeldTable

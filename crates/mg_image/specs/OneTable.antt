@@ -6,7 +6,7 @@ use Rattle.mg_image.specs.Codings.{coding_of}
 use Rattle.mg_image.specs.declared.entry.Entry.{Entry}
 use Rattle.mg_image.specs.declared.image.Image.{Image}
 use Rattle.mg_image.specs.declared.rows.RowCoding.{RowCoding}
-use Rattle.mg_image.specs.declared.table.Table.{Table}
+use Rattle.mg_model.specs.declared.table.Table.{Table}
 use Rattle.mg_image.specs.ImageView.{pages_in}
 use Rattle.mg_image.specs.Inventory.{next_of, oldest_of, state_at}
 use Rattle.mg_image.specs.RecordRules.{Facts, IsVersion}

@@ -1,5 +1,5 @@
 -- An image has one reading at most, and a reading holds one database at most.
-use Rattle.std.proofs.Common.{◌≡◌, ◌≢◌, ◌⊎◌, inl, inr, refl, sym, ap, subst, ◌∙◌, ℕ, Bool, true, false, List, [], ◌∷◌, Option, None, Some}
+use Rattle.std.proofs.Common.{◌≡◌, inl, inr, refl, sym, ap, ◌∙◌, ℕ, Bool, List, [], ◌∷◌, Option, None, Some}
 use Rattle.std.specs.Prelude.{IsSome}
 use Rattle.mg_base.specs.declared.numbers.RecId.{RecId}
 use Rattle.mg_rowcode.specs.Storable.{AreStorable}
@@ -7,12 +7,12 @@ use Rattle.mg_value.specs.declared.shape.Column.{Column}
 use Rattle.mg_value.specs.declared.value.Value.{Value}
 use Rattle.mg_version.specs.declared.cell.Link.{Link}
 use Rattle.mg_version.specs.declared.cell.Version.{Version}
-use Rattle.mg_version.specs.declared.cell.Cell.{Cell}
 use Rattle.mg_version.specs.declared.cell.Cell.TheVariants as cells
 use Rattle.mg_image.specs.declared.entry.Entry.{Entry}
-use Rattle.mg_image.specs.declared.table.Table.{Table}
+use Rattle.mg_model.specs.declared.table.Table.{Table}
 use Rattle.mg_image.specs.Form.{Coding, Row}
-use Rattle.mg_image.specs.Held.{CATALOG, Database, HasTable, IsHeld, IsHeldAt, Shows, table_key, told_row}
+use Rattle.mg_model.specs.Catalog.{catalog_name, table_key}
+use Rattle.mg_image.specs.Held.{Database, HasTable, IsHeld, IsHeldAt, told_row}
 use Rattle.mg_image.specs.RecordRules.{AreRecords, Each, Facts, IsVersion, columns_for, table_in}
 use Rattle.mg_image.specs.Records.{Cells, Chain, Reading, ended, goes, key_of, newest_of, record_key}
 
@@ -46,7 +46,8 @@ same_entry coding one f table h k m d e at is_d is_e of_d of_e =
     let version : d.version ≡ e.version =
     same_version d.version e.version (sym is_d ∙ (ap h at ∙ is_e)) in
     let row : d.row ≡ e.row = one (columns_for table e.version.deleted) e.version.format
-    e.version.body d.row e.row (rw version at of_d.spelled) of_e.spelled of_d.storable of_e.storable in
+    e.version.body d.row e.row (rw version at of_d.spelled) of_e.spelled of_d.storable
+    of_e.storable in
     λ i. record { at = at i; version = version i; row = row i }
 
 -- the versions from a link on are one list at most
@@ -69,7 +70,8 @@ chain_once coding one f table h k m l es fs (goes n e rest to is tx more) also e
         → Each (IsVersion coding f table m) gs → rest ≡ gs) → e ∷ rest ≡ fs
     at [] o all go = absurd o
     at (d ∷ gs) o all go =
-        let same : e ≡ d = same_entry coding one f table h k m e d (to ∙ sym o.0) is o.1 each.0 all.0 in
+        let same : e ≡ d =
+        same_entry coding one f table h k m e d (to ∙ sym o.0) is o.1 each.0 all.0 in
         let others : rest ≡ gs = go d.version gs (ap (λ (x : Entry). x.version) same) o.3 all.1 in
         λ i. same i ∷ others i
 
@@ -86,12 +88,14 @@ reading_once coding one f h r s are also p = at (table_in f p) refl
 
 -- a database that is held has what another one has
 held_has : (f : Facts) (committed : ℕ → Bool) (r : Reading) (db other : Database)
-    → IsHeld f committed r db → IsHeld f committed r other → (name : List ℕ) (key : Value) (row : Row)
+    → IsHeld f committed r db → IsHeld f committed r other
+    → (name : List ℕ) (key : Value) (row : Row)
     → HasTable other name → db name key ≡ Some row → other name key ≡ Some row
 held_has f committed r db other held also name key row has is =
     let at : IsHeldAt f committed r name key row = held.whole name key row is in
     let named : HasTable other at.table.name = rw at.named has in
-    let there : other at.table.name (key_of at.table at.stored) ≡ Some (told_row at.table at.stored) =
+    let there : other at.table.name (key_of at.table at.stored)
+    ≡ Some (told_row at.table at.stored) =
     also.there at.place at.table at.stored at.shows named in
     ap (λ (n : List ℕ). other n key) (sym at.named) ∙
     (ap (other at.table.name) (sym at.keyed) ∙ (there ∙ ap Some at.told))
@@ -102,12 +106,13 @@ table_of_both : (f : Facts) (committed : ℕ → Bool) (r : Reading) (db other :
     → HasTable other name
 table_of_both f committed r db other held also name (inl is) = inl is
 table_of_both f committed r db other held also name (inr some) =
-    inr (at (db CATALOG (table_key name)) refl some)
+    inr (at (db catalog_name (table_key name)) refl some)
   where
-    at : (row : Option Row) → db CATALOG (table_key name) ≡ row → IsSome row
-        → IsSome (other CATALOG (table_key name))
+    at : (row : Option Row) → db catalog_name (table_key name) ≡ row → IsSome row
+        → IsSome (other catalog_name (table_key name))
     at None is nothing = absurd cc
-    at (Some row) is something = rw (held_has f committed r db other held also CATALOG (table_key name)
+    at (Some row) is something = rw (held_has f committed r db other held also catalog_name
+        (table_key name)
         row (inl refl) is) refl
 
 -- a reading holds one database at most

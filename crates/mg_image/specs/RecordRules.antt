@@ -10,7 +10,7 @@ use Rattle.mg_value.specs.declared.value.Value.{Value}
 use Rattle.mg_value.specs.declared.value.Value.TheVariants.{Null}
 use Rattle.mg_rowcode.specs.Storable.{AreStorable}
 use Rattle.mg_image.specs.declared.entry.Entry.{Entry}
-use Rattle.mg_image.specs.declared.table.Table.{Table}
+use Rattle.mg_model.specs.declared.table.Table.{Table}
 use Rattle.mg_image.specs.Form.{Coding, Row}
 use Rattle.mg_image.specs.Records.{Cells, Chain, Reading, Stands, key_of, newest_of, record_key, shown, writer}
 

@@ -5,16 +5,15 @@ use Rattle.mg_base.specs.declared.numbers.RecId.{RecId}
 use Rattle.mg_base.specs.Fields.{byte}
 use Rattle.mg_slots.specs.DataPage.{cell_of}
 use Rattle.mg_version.specs.declared.cell.Link.{Link}
-use Rattle.mg_version.specs.declared.cell.Version.{Version}
 use Rattle.mg_version.specs.declared.cell.Cell.{Cell}
 use Rattle.mg_version.specs.declared.cell.Cell.TheVariants as cells
 use Rattle.mg_version.specs.CellReading.{version_in}
 use Rattle.mg_version.specs.CellLaws.{cell_in}
 use Rattle.mg_value.specs.declared.value.Value.{Value}
 use Rattle.mg_value.specs.declared.value.Value.TheVariants.{Null}
-use Rattle.mg_image.specs.declared.table.TheConstants.{PRIMARY_VERSION}
+use Rattle.mg_image.specs.declared.entry.TheConstants.{PRIMARY_VERSION}
 use Rattle.mg_image.specs.declared.entry.Entry.{Entry}
-use Rattle.mg_image.specs.declared.table.Table.{Table}
+use Rattle.mg_model.specs.declared.table.Table.{Table}
 use Rattle.mg_image.specs.Form.{Pages, Row}
 
 -- the cells of an image by their places

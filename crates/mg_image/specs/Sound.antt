@@ -20,9 +20,9 @@ use Rattle.mg_version.specs.declared.cell.Cell.TheVariants as cells
 use Rattle.mg_version.specs.declared.cell.TheConstants.{VERSION}
 use Rattle.mg_version.specs.declared.cell.Version.{Version}
 use Rattle.mg_version.specs.Cells.{IsSpelling}
-use Rattle.mg_image.specs.declared.table.TheConstants.{PRIMARY_VERSION}
+use Rattle.mg_image.specs.declared.entry.TheConstants.{PRIMARY_VERSION}
 use Rattle.mg_image.specs.declared.entry.Entry.{Entry}
-use Rattle.mg_image.specs.declared.table.Table.{Table}
+use Rattle.mg_model.specs.declared.table.Table.{Table}
 use Rattle.mg_image.specs.Form.{Form, Pages, Row}
 use Rattle.mg_image.specs.Catalog.{HasNames, catalog_table}
 use Rattle.mg_image.specs.Held.{HasLimbo, Shows}
@@ -73,6 +73,10 @@ HasNoneUndrawn size pages = (t : ℕ) → next_of pages ≤ t
 pub record HasTransactions (size : ℕ) (pages : Pages) : Type 0 where
   pub each : HasTips size pages
   pub undrawn : HasNoneUndrawn size pages
+
+-- no transaction below the oldest interesting one is in limbo
+abbrev pub HasNoOldLimbo : ℕ → Pages → Type 0
+HasNoOldLimbo size pages = (t : ℕ) → t < oldest_of pages → state_at size pages t ≢ Limbo
 
 -- the page inventory page of a region is blank, or as wanted
 abbrev pub HasRegion : ℕ → Pages → ℕ → ℕ → Type 0
@@ -138,7 +142,7 @@ pub record IsSound (form : Form) (size : ℕ) (pages : Pages) (layout : Layout) 
   pub catalog : layout.catalog.table ≡ catalog_table (header_of pages).catalog.0
   pub tables : EachStand (HasTablePages form.in_primary size pages) (stands_of layout)
   pub sequences : EachPage (λ n. form.sequence_page (pages n) n) layout.sequences
-  pub names : HasNames form (facts_of size pages layout) r layout.catalog.table
+  pub names : HasNames (facts_of size pages layout) r layout.catalog.table
       (map (λ stand. stand.table) layout.tables)
   -- 4. no page is reached twice; that no cell is is a rule of records, levels and fences are rules
   -- of trees
@@ -147,6 +151,6 @@ pub record IsSound (form : Form) (size : ℕ) (pages : Pages) (layout : Layout) 
   -- no key is taken twice
   pub records : AreRecords form.coding (facts_of size pages layout) (cells_of pages) r
   -- 6. no limbo transaction lies below the oldest interesting one
-  pub limbo : (t : ℕ) → state_at size pages t ≡ Limbo → oldest_of pages ≤ t
+  pub limbo : HasNoOldLimbo size pages
   -- 9. rows are found in the indexes
   pub indexed : IsIndexed (facts_of size pages layout) pages r

@@ -1,12 +1,12 @@
 -- One cell changes, and one record gets another list of versions: what is sound stays so.
-use Rattle.std.proofs.Common.{◌≡◌, ◌≢◌, ◌⊎◌, inl, inr, refl, sym, ap, ◌∙◌, ◌==◌, ◌&&◌, Bool, true, false, List, [], ◌∷◌, Option, None, Some}
+use Rattle.std.proofs.Common.{◌≡◌, ◌≢◌, ◌⊎◌, inl, inr, refl, sym, ap, ◌∙◌, ◌==◌, ◌&&◌, Bool, true, false, List, [], Option, None, Some}
 use Rattle.std.specs.Prelude.{if◌then◌else◌}
 use Rattle.std.proofs.lemmas.Bool.{cases_eq, eq-eqb, ne_eqb}
 use Rattle.mg_base.specs.declared.numbers.RecId.{RecId}
 use Rattle.mg_version.specs.declared.cell.Link.{Link}
 use Rattle.mg_version.specs.declared.cell.Cell.{Cell}
 use Rattle.mg_image.specs.declared.entry.Entry.{Entry}
-use Rattle.mg_image.specs.declared.table.Table.{Table}
+use Rattle.mg_model.specs.declared.table.Table.{Table}
 use Rattle.mg_image.specs.Form.{Coding}
 use Rattle.mg_image.specs.RecordRules.{AreRecords, Facts, IsRecord, TakesKey, table_in}
 use Rattle.mg_image.specs.Records.{Cells, Chain, Changes, Reading, Stands, ended, goes, newest_of, record_key}
@@ -16,14 +16,24 @@ abbrev pub same_place : RecId → RecId → Bool
 same_place a b = a.page.0 == b.page.0 && a.slot == b.slot
 
 -- two places are one, or they differ
-pub cases_place : (a b : RecId) → ((a ≡ b) × (same_place a b ≡ true)) ⊎ ((a ≢ b) × (same_place a b ≡ false))
+pub cases_place : (a b : RecId)
+    → ((a ≡ b) × (same_place a b ≡ true)) ⊎ ((a ≢ b) × (same_place a b ≡ false))
 cases_place a b = at (cases_eq a.page.0 b.page.0) (cases_eq a.slot b.slot)
   where
     at : (a.page.0 ≡ b.page.0) ⊎ (a.page.0 ≢ b.page.0) → (a.slot ≡ b.slot) ⊎ (a.slot ≢ b.slot)
         → ((a ≡ b) × (same_place a b ≡ true)) ⊎ ((a ≢ b) × (same_place a b ≡ false))
-    at (inl e) (inl f) = inl (λ i. record { page = record { 0 = e i }; slot = f i }, rw (eq-eqb a.page.0 b.page.0 e, eq-eqb a.slot b.slot f) refl)
-    at (inl e) (inr n) = inr (λ g. n (ap (λ (x : RecId). x.slot) g), rw (eq-eqb a.page.0 b.page.0 e, ne_eqb a.slot b.slot n) refl)
-    at (inr n) same = inr (λ g. n (ap (λ (x : RecId). x.page.0) g), rw (ne_eqb a.page.0 b.page.0 n) refl)
+    at (inl e) (inl f) = inl (
+      λ i. record { page = record { 0 = e i }; slot = f i },
+      rw (eq-eqb a.page.0 b.page.0 e, eq-eqb a.slot b.slot f) refl,
+    )
+    at (inl e) (inr n) = inr (
+      λ g. n (ap (λ (x : RecId). x.slot) g),
+      rw (eq-eqb a.page.0 b.page.0 e, ne_eqb a.slot b.slot n) refl,
+    )
+    at (inr n) same = inr (
+      λ g. n (ap (λ (x : RecId). x.page.0) g),
+      rw (ne_eqb a.page.0 b.page.0 n) refl,
+    )
 
 -- another list of versions is read of one slot
 abbrev pub put_reading : Reading → RecId → List Entry → Reading
@@ -34,7 +44,8 @@ pub put_cases : (r : Reading) (p : RecId) (es : List Entry) (P : RecId → List 
     → P p es → ((q : RecId) → q ≢ p → P q (r q)) → (q : RecId) → P q (put_reading r p es q)
 put_cases r p es P here others q = at (cases_place q p)
   where
-    at : ((q ≡ p) × (same_place q p ≡ true)) ⊎ ((q ≢ p) × (same_place q p ≡ false)) → P q (put_reading r p es q)
+    at : ((q ≡ p) × (same_place q p ≡ true)) ⊎ ((q ≢ p) × (same_place q p ≡ false))
+        → P q (put_reading r p es q)
     at (inl (e, is)) = rw is (rw e here)
     at (inr (n, is)) = rw is (others q n)
 
@@ -47,7 +58,8 @@ chain_stays old new x cell change l es (goes m e fs at is tx more) out =
     (chain_stays old new x cell change e.version.back fs more (λ i. out (inr i)))
 
 -- What one record's new list of versions owes, where the cell at x is changed.
-pub record IsStep (coding : Coding) (f : Facts) (r : Reading) (new : Cells) (x p : RecId) (table : Table)
+pub record IsStep (coding : Coding) (f : Facts) (r : Reading) (new : Cells) (x p : RecId)
+    (table : Table)
     (es : List Entry) : Type 0 where
   pub of_table : table_in f p ≡ Some table
   pub reads : Chain new (newest_of p (new p)) es
@@ -62,7 +74,8 @@ pub record IsStep (coding : Coding) (f : Facts) (r : Reading) (new : Cells) (x p
       → record_key table es ≡ record_key table (r q) → ⊥
 
 -- two tables of one place are one
-pub one_table : (f : Facts) (p : RecId) (a b : Table) → table_in f p ≡ Some a → table_in f p ≡ Some b
+pub one_table : (f : Facts) (p : RecId) (a b : Table) → table_in f p ≡ Some a
+    → table_in f p ≡ Some b
     → a ≡ b
 one_table f p a b is also = cc
 
@@ -127,7 +140,8 @@ step_sound coding f old new r x cell p table es s change step = record {
         → record_key t (r a) ≡ record_key t (put_reading r p es b) → a ≡ b
     keys_other a na b t is = put_cases r p es (λ c gs. table_in f c ≡ Some t → TakesKey f (r a)
         → TakesKey f gs → record_key t (r a) ≡ record_key t gs → a ≡ c)
-        (λ of i j same. sym (keys_here a t of is j (rw (other a na) i) (rw (other a na) (sym same))))
+        (λ of i j same. sym (keys_here a t of is j (rw (other a na) i)
+        (rw (other a na) (sym same))))
         (λ c ne of. s.keys a c t is of) b
       where
         other : (c : RecId) → c ≢ p → put_reading r p es c ≡ r c

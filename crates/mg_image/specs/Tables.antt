@@ -2,7 +2,7 @@
 use Rattle.std.specs.Prelude.{◌≡◌, ◌≢◌, ◌⊎◌, ◌==◌, ◌||◌, ℕ, suc, Bool, false, List, [], ◌∷◌, ◌++◌, Option, None, Some, if◌then◌else◌}
 use Rattle.std.specs.List.{flat_map}
 use Rattle.mg_pointer.specs.PointerPage.{entries_of, next_in}
-use Rattle.mg_image.specs.declared.table.Table.{Table}
+use Rattle.mg_model.specs.declared.table.Table.{Table}
 use Rattle.mg_image.specs.Form.{Pages}
 
 -- the pages from one on, each followed by the one that it names as the next, until 0 is named

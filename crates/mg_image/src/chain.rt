@@ -42,7 +42,8 @@ pub fn table_pages(alloc: Global, image: &Image, owner: u32) -> Result<TablePage
     ensures chain { IfOk result (λ table.
         PointerChain (pages_in image.now) owner table.pointers.items) }
     ensures wanted { IfOk result (λ table.
-        EachFrom (IsTablePointer image.now.size (pages_in image.now) owner) 0 table.pointers.items) }
+        EachFrom (IsTablePointer image.now.size (pages_in image.now) owner) 0
+        table.pointers.items) }
     ensures entries { IfOk result (λ table.
         table.data_pages.items ≡ entries_in (pages_in image.now) table.pointers.items) }
 {

@@ -4,6 +4,9 @@ use mg_base::RecId;
 use mg_value::Row;
 use mg_version::Version;
 
+/// The first byte of a version that stands in its record's primary slot.
+pub const PRIMARY_VERSION: u8 = 3;
+
 /// A version of a record.
 #[derive(Debug, Drop)]
 pub struct Entry {

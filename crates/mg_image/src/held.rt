@@ -1,19 +1,20 @@
 //! What an image holds: the rows of each of its tables.
 
-ghost use Rattle.std.specs.Prelude.{◌≡◌, ◌≤◌, IfOk, OnOk, length};
+ghost use Rattle.std.specs.Prelude.{◌≡◌, ◌≤◌, IfErr, IfOk, OnOk, length};
+ghost use Rattle.mg_image.specs.FirstBroken.{IsFirstBroken};
 ghost use Rattle.mg_image.specs.Found.{committed_of};
 ghost use Rattle.mg_image.specs.HeldTable.{AreHeld, IsTableHeld, rows_shown};
 ghost use Rattle.mg_image.specs.ImageView.{pages_in};
-ghost use Rattle.mg_image.specs.Sound.{HasHeader, HasInventory, HasTransactions};
+ghost use Rattle.mg_image.specs.Sound.{HasHeader, HasInventory, HasNoOldLimbo, HasTransactions};
 
 use crate::found::Found;
 use crate::image::Image;
 use crate::point::{ReadFault, Rule};
 use crate::reading::shown;
 use crate::rows::RowCoding;
-use crate::table::Table;
 use crate::table_reading::read_table;
 use mg_base::Memory;
+use mg_model::Table;
 use mg_value::{MOST_COLUMNS, Row};
 use std::alloc::Global;
 
@@ -38,8 +39,8 @@ fn shown_rows(alloc: Global, image: &Image, found: &[Found]) -> Result<Vec<Row>,
     Ok(rows)
 }
 
-/// Tests the rules that speak of an image as a whole: its header, its transactions, and which of its
-/// pages are used.
+/// Tests the rules that speak of an image as a whole: its header, its transactions, and which of
+/// its pages are used.
 ///
 /// # Errors
 ///
@@ -48,6 +49,8 @@ pub fn check_image(image: &Image) -> Result<(), ReadFault>
     ensures header { OnOk result (HasHeader image.now.size (pages_in image.now)) }
     ensures transactions { OnOk result (HasTransactions image.now.size (pages_in image.now)) }
     ensures inventory { OnOk result (HasInventory image.now.size (pages_in image.now)) }
+    ensures broken { IfErr result (λ fault.
+        IsFirstBroken image.now.size (pages_in image.now) fault) }
 {
     if !image.has_header() {
         return Err(ReadFault::Broken(Rule::Header));
@@ -96,6 +99,7 @@ pub fn holds(
     ensures transactions { IfOk result (λ held.
         HasTransactions image.now.size (pages_in image.now)) }
     ensures inventory { IfOk result (λ held. HasInventory image.now.size (pages_in image.now)) }
+    ensures limbo { IfOk result (λ held. HasNoOldLimbo image.now.size (pages_in image.now)) }
     ensures tables { IfOk result (λ held. AreHeld coding image.now tables.now held.items) }
 {
     check_image(image)?;
@@ -105,6 +109,9 @@ pub fn holds(
             return Err(ReadFault::Broken(Rule::Pages));
         }
         held.push(table_rows(alloc, image, table, coding)?)?;
+    }
+    if !image.has_no_old_limbo() {
+        return Err(ReadFault::Broken(Rule::Drawn));
     }
     Ok(held)
 }

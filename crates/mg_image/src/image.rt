@@ -26,8 +26,8 @@ fn are_whole(pages: &[Bytes], size: u32) -> bool
 impl Image {
     ghost use Rattle.mg_image.specs.ImageView.{pages_in};
 
-    /// The image of these pages: None exactly where the page size is none of the five, or a page has
-    /// another size.
+    /// The image of these pages: None exactly where the page size is none of the five, or a page
+    /// has another size.
     ///
     /// # Errors
     ///

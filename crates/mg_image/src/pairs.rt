@@ -11,8 +11,8 @@ use crate::found::Found;
 use crate::image::Image;
 use crate::reading::shown;
 use crate::record::stands;
-use crate::table::Table;
 use mg_base::TxState;
+use mg_model::Table;
 use mg_value::{order, values_are_ordered};
 use std::cmp::Ordering;
 

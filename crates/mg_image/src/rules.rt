@@ -3,13 +3,15 @@
 ghost use Rattle.std.specs.Prelude.{◌≡◌, ◌↔◌, ◌<◌, ◌≤◌, true, List, IsTrue, length, replicate};
 ghost use Rattle.mg_base.specs.Checks.{Check, verdict};
 ghost use Rattle.mg_base.specs.declared.geometry.TheConstants.{GREATEST_LIMIT};
+ghost use Rattle.mg_base.specs.declared.transaction.TxState.TheVariants.{Limbo};
 ghost use Rattle.mg_pip.specs.PipPage.{pip_checks};
 ghost use Rattle.mg_pointer.specs.PointerPage.{IsPointerPage};
 ghost use Rattle.mg_tip.specs.TipPage.{tip_checks};
 ghost use Rattle.mg_image.specs.ImageView.{pages_in};
 ghost use Rattle.mg_image.specs.Inventory.{is_used as used_in};
+ghost use Rattle.mg_image.specs.Opening.{IsBlank};
 ghost use Rattle.mg_image.specs.Reached.{IsAsWanted};
-ghost use Rattle.mg_image.specs.Sound.{HasHeader, HasInventory, HasNoneUndrawn, HasRegion, HasTips, HasTransactions, IsTablePointer, IsUndrawn};
+ghost use Rattle.mg_image.specs.Sound.{HasHeader, HasInventory, HasNoOldLimbo, HasNoneUndrawn, HasRegion, HasTips, HasTransactions, IsTablePointer, IsUndrawn};
 
 use crate::image::Image;
 use mg_base::{Damaged, GREATEST_LIMIT, PageNo, TxState};
@@ -83,7 +85,7 @@ impl Image {
     /// Whether on the last transaction inventory page no transaction from Next on has become
     /// anything.
     fn has_none_undrawn(&self) -> bool
-        ensures { IsTrue result → HasNoneUndrawn self.now.size (pages_in self.now) }
+        ensures { IsTrue result ↔ HasNoneUndrawn self.now.size (pages_in self.now) }
     {
         let places = 4 * (self.size() - 20);
         let last = self.last_sequence();
@@ -99,9 +101,21 @@ impl Image {
 
     /// Whether each drawn transaction has its bits, and no other has become anything.
     pub fn has_transactions(&self) -> bool
-        ensures { IsTrue result → HasTransactions self.now.size (pages_in self.now) }
+        ensures { IsTrue result ↔ HasTransactions self.now.size (pages_in self.now) }
     {
         self.has_tips() && self.has_none_undrawn()
+    }
+
+    /// Whether no transaction below the oldest interesting one is in limbo.
+    pub fn has_no_old_limbo(&self) -> bool
+        ensures { IsTrue result ↔ HasNoOldLimbo self.now.size (pages_in self.now) }
+    {
+        for t in 0..self.oldest() {
+            if is_limbo(self.state(t)) {
+                return false;
+            }
+        }
+        true
     }
 
     /// Whether the page inventory page of a region is blank, or as wanted.
@@ -123,11 +137,39 @@ impl Image {
         }
         true
     }
+
+    /// Whether the image is blank: it is then a database that was not made yet.
+    pub fn is_blank(&self) -> bool
+        ensures { IsTrue result ↔ IsBlank self.now.size (pages_in self.now) }
+    {
+        let bits = 8 * (self.size() - 16);
+        if !is_zero(self.page(0)) {
+            return false;
+        }
+        for region in 1..(GREATEST_LIMIT - 2) / bits + 1 {
+            if !is_zero(self.page(region * bits + 1)) {
+                return false;
+            }
+        }
+        true
+    }
+}
+
+/// Whether a state is limbo.
+fn is_limbo(state: TxState) -> bool
+    ensures { IsTrue result ↔ (state ≡ Limbo) }
+{
+    match state {
+        TxState::Limbo => true,
+        TxState::Active => false,
+        TxState::Dead => false,
+        TxState::Committed => false,
+    }
 }
 
 /// Whether bits are those of a transaction that was not drawn yet.
 fn is_undrawn(bits: TxState) -> bool
-    ensures { IsTrue result → IsUndrawn bits }
+    ensures { IsTrue result ↔ IsUndrawn bits }
 {
     match bits {
         TxState::Active => true,

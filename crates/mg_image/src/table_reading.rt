@@ -18,7 +18,7 @@ use crate::pairs::{are_apart, have_keys};
 use crate::point::{ReadFault, Rule};
 use crate::reading::read_records;
 use crate::rows::RowCoding;
-use crate::table::Table;
+use mg_model::Table;
 use mg_value::MOST_COLUMNS;
 use std::alloc::Global;
 
@@ -54,8 +54,8 @@ fn table_records(
     Ok(found)
 }
 
-/// Reads a table of an image, and tests each rule of a sound image that speaks of its pointer pages,
-/// its data pages and its records. Its indexes are not read.
+/// Reads a table of an image, and tests each rule of a sound image that speaks of its pointer
+/// pages, its data pages and its records. Its indexes are not read.
 ///
 /// # Errors
 ///

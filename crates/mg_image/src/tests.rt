@@ -6,6 +6,7 @@ ghost use Rattle.mg_slots.specs.DataPage.{IsDataPage};
 use super::*;
 use mg_base::{Bytes, PageNo, TxNo, TxState, new_common};
 use mg_header::{HEADER_KIND, Header, write_header};
+use mg_model::{CATALOG, Indexes, Table};
 use mg_pip::{new_pip, set_used};
 use mg_pointer::{add_entry, new_pointer};
 use mg_slots::{new_data, put_cell};
@@ -24,8 +25,8 @@ const DONE: TxState = TxState::Committed;
 
 const HELD: TxState = TxState::Limbo;
 
-// A database with the table KV alone: its header, what became of transactions 1 to 3, and the cells of
-// its data page 6, in the order of their slots.
+// A database with the table KV alone: its header, what became of transactions 1 to 3, and the cells
+// of the catalog's data page 4 and of its data page 6, in the order of their slots.
 #[derive(Drop)]
 struct Made {
     next: u32,
@@ -33,6 +34,7 @@ struct Made {
     states: [TxState; 3],
     used: u32,
     entries: u32,
+    catalog: Vec<Vec<u8>>,
     cells: Vec<Vec<u8>>,
 }
 
@@ -75,23 +77,23 @@ fn transactions(b: &mut [u8], states: &[TxState; 3])
     set_state(b, 3, states[2]);
 }
 
-// Makes the pointer page of the table, with its one data page so many times.
-fn pointers(b: &mut [u8], entries: u32)
+// Makes the pointer page of a table, with its one data page behind it so many times.
+fn pointers(b: &mut [u8], page: u32, entries: u32)
     requires { length b.old ≡ SIZE }
 {
-    new_pointer(b, PageNo(5), 5, 0);
+    new_pointer(b, PageNo(page), page, 0);
     for _ in 0..entries {
-        add_entry(b, PageNo(6));
+        add_entry(b, PageNo(page.saturating_add(1)));
     }
 }
 
-// Makes the data page of the table.
-fn rows(b: &mut [u8], cells: &[Vec<u8>]) -> Result<(), Fail>
+// Makes the data page of the table of an owner.
+fn rows(b: &mut [u8], page: u32, owner: u32, cells: &[Vec<u8>]) -> Result<(), Fail>
     requires { length b.old ≡ SIZE }
 {
-    new_data(b, PageNo(6), 5, 0);
+    new_data(b, PageNo(page), owner, 0);
     for cell in cells {
-        if cell.len() > 100 || put_cell(b, cell).is_err() {
+        if cell.len() > 200 || put_cell(b, cell).is_err() {
             return Err("no room")?;
         }
     }
@@ -107,8 +109,10 @@ fn image_of(alloc: Global, made: &Made) -> Result<Image, Fail> {
             0 => header(&mut page, made),
             1 => inventory(&mut page, made.used),
             2 => transactions(&mut page, &made.states),
-            5 => pointers(&mut page, made.entries),
-            6 => rows(&mut page, &made.cells)?,
+            3 => pointers(&mut page, 3, 1),
+            4 => rows(&mut page, 4, 3, &made.catalog)?,
+            5 => pointers(&mut page, 5, made.entries),
+            6 => rows(&mut page, 6, 5, &made.cells)?,
             _ => {}
         }
         pages.push(Bytes::new(page.to_vec(alloc)?))?;
@@ -119,21 +123,26 @@ fn image_of(alloc: Global, made: &Made) -> Result<Image, Fail> {
     }
 }
 
-// The table KV (K BIGINT PRIMARY KEY, V BIGINT).
-fn table(alloc: Global) -> Result<Table, Fail> {
+// A table from a pointer page on, whose first column is the key.
+fn table_of(
+    alloc: Global,
+    bytes: &[u8],
+    pointer: u32,
+    described: &[(&'static [u8], Kind, bool)],
+) -> Result<Table, Fail> {
     let mut columns = Vec::new(alloc);
-    for (bytes, not_null) in [(b"K", true), (b"V", false)] {
+    for (bytes, kind, not_null) in described {
         let Some(name) = Name::new(bytes) else {
             return Err("no name")?;
         };
         columns.push(Column {
             name,
-            kind: Kind::Int,
-            not_null,
+            kind: *kind,
+            not_null: *not_null,
             since: 1,
         })?;
     }
-    let Some(name) = Name::new(b"KV") else {
+    let Some(name) = Name::new(bytes) else {
         return Err("no name")?;
     };
     Ok(Table {
@@ -142,9 +151,70 @@ fn table(alloc: Global) -> Result<Table, Fail> {
             columns: Columns::new(columns),
             key: 0,
         },
-        pointer: PageNo(5),
+        pointer: PageNo(pointer),
         indexes: Indexes::new(Vec::new(alloc)),
     })
+}
+
+// The table KV (K BIGINT PRIMARY KEY, V BIGINT).
+fn table(alloc: Global) -> Result<Table, Fail> {
+    let columns: [(&'static [u8], Kind, bool); 2] = [
+        (b"K", Kind::Int, true),
+        (b"V", Kind::Int, false),
+    ];
+    table_of(alloc, b"KV", 5, &columns)
+}
+
+// The catalog.
+fn catalog(alloc: Global) -> Result<Table, Fail> {
+    let columns: [(&'static [u8], Kind, bool); 6] = [
+        (b"K", Kind::Text(40), true),
+        (b"NAME", Kind::Text(31), false),
+        (b"A", Kind::Int, false),
+        (b"B", Kind::Int, false),
+        (b"C", Kind::Int, false),
+        (b"D", Kind::Int, false),
+    ];
+    table_of(alloc, CATALOG, 3, &columns)
+}
+
+// Appends a text, with as many zero bytes as a column of this width needs.
+fn put_text(bytes: &mut Vec<u8>, text: &[u8], width: usize) -> Result<(), Fail> {
+    bytes.extend_from_slice(&[text.len() as u8, 0])?;
+    bytes.extend_from_slice(text)?;
+    for _ in text.len()..width {
+        bytes.push(0)?;
+    }
+    Ok(())
+}
+
+// A version of a row of the catalog by transaction 0; a name without letters is NULL.
+fn catalog_version(
+    alloc: Global,
+    key: &[u8],
+    name: &[u8],
+    numbers: &[u8; 4],
+) -> Result<Vec<u8>, Fail> {
+    let nulls = if name.is_empty() { 2 } else { 0 };
+    let mut bytes = [2, 0, 1, 0, 0, 0, 0, 0, nulls].to_vec(alloc)?;
+    put_text(&mut bytes, key, 40)?;
+    put_text(&mut bytes, name, 31)?;
+    for number in numbers {
+        bytes.extend_from_slice(&[*number, 0, 0, 0, 0, 0, 0, 0])?;
+    }
+    Ok(bytes)
+}
+
+// The catalog's cells in a new database.
+fn new_catalog(alloc: Global) -> Result<Vec<Vec<u8>>, Fail> {
+    let mut cells = Vec::new(alloc);
+    cells.push([1, 4, 0, 0, 0, 1, 0, 0, 0, 0, 0].to_vec(alloc)?)?;
+    cells.push(catalog_version(alloc, b"CKV.00", b"K", &[0, 3, 1, 0])?)?;
+    cells.push([1, 4, 0, 0, 0, 3, 0, 0, 0, 0, 0].to_vec(alloc)?)?;
+    cells.push(catalog_version(alloc, b"CKV.01", b"V", &[0, 0, 1, 1])?)?;
+    cells.push([1, 4, 0, 0, 0, 5, 0, 0, 0, 0, 0].to_vec(alloc)?)?;
+    cells.push(catalog_version(alloc, b"TKV", b"", &[5, 2, 0, 0])?)?;
+    Ok(cells)
 }
 
 // An anchor to a slot of page 6.
@@ -179,6 +249,7 @@ fn database(cells: Vec<Vec<u8>>) -> Made {
         states: [DONE, DONE, DONE],
         used: 7,
         entries: 1,
+        catalog: Vec::new(*cells.allocator()),
         cells,
     }
 }
@@ -301,6 +372,8 @@ fn each_broken_rule_is_named(rt: HostRuntime) -> Result<(), Fail> {
     image.states = [DONE, GONE, DONE];
     image.oit = 3;
     expect_broken(alloc, &image, Rule::Drawn, "a dead version below OIT")?;
+    image.states = [DONE, HELD, DONE];
+    expect_broken(alloc, &image, Rule::Drawn, "a limbo transaction below OIT")?;
     image.oit = 1;
     image.states = [GONE, DONE, DONE];
     expect_broken(
@@ -376,5 +449,47 @@ fn each_broken_record_is_told_by_its_rule(rt: HostRuntime) -> Result<(), Fail> {
         Rule::Once,
         "a chain that comes back",
     )?;
+    Ok(())
+}
+
+#[test]
+fn a_file_that_was_not_made_yet_is_blank(rt: HostRuntime) -> Result<(), Fail> {
+    let alloc = rt.alloc();
+    let Some(blank) = Image::new(alloc, 1024, Vec::new(alloc))? else {
+        return Err("no image")?;
+    };
+    if !blank.is_blank() {
+        return Err("an empty file")?;
+    }
+    if image_of(alloc, &database(Vec::new(alloc)))?.is_blank() {
+        return Err("a database")?;
+    }
+    Ok(())
+}
+
+#[test]
+fn a_new_database_has_its_catalog_and_an_empty_table(rt: HostRuntime) -> Result<(), Fail> {
+    let alloc = rt.alloc();
+    let mut made = database(Vec::new(alloc));
+    made.next = 1;
+    made.states = [LIVE, LIVE, LIVE];
+    made.catalog = new_catalog(alloc)?;
+    let mut tables = Vec::new(alloc);
+    tables.push(catalog(alloc)?)?;
+    tables.push(table(alloc)?)?;
+    let Ok(held) = holds(alloc, &image_of(alloc, &made)?, &tables, RowCoding::Plain) else {
+        return Err("a new database is refused")?;
+    };
+    let (Some(first), Some(second)) = (held.first(), held.get(1)) else {
+        return Err("two tables")?;
+    };
+    if first.rows.len() != 3 || !second.rows.is_empty() {
+        return Err("the numbers of rows")?;
+    }
+    for (row, wanted) in first.rows.iter().zip(&[3, 0, 2]) {
+        if number(row.as_slice(), 3) != *wanted {
+            return Err("a row of the catalog")?;
+        }
+    }
     Ok(())
 }

@@ -1,4 +1,4 @@
-use Rattle.std.proofs.Common.{◌≡◌, ◌∙◌, ◌++◌, ap, sym, refl, List, ℕ, arith, rules}
+use Rattle.std.proofs.Common.{◌∙◌, ◌++◌, ap, refl, List, ℕ, arith, rules}
 use Rattle.mg_pointer.specs.PointerPage.{entries_of, next_in}
 use Rattle.mg_image.specs.ChainLaws.{run_ends}
 use Rattle.mg_image.specs.ImageView.{pages_in}

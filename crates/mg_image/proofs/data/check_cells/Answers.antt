@@ -1,4 +1,4 @@
-use Rattle.std.proofs.Common.{◌≡◌, ◌<◌, arith, rules}
+use Rattle.std.proofs.Common.{arith, rules}
 use Rattle.mg_slots.specs.DataPageLaws.{used_of_some}
 use Rattle.mg_image.proofs.DataLemmas.{cell_short}
 use Rattle.mg_image.proofs.data.check_cells.Goals as goal

@@ -1,4 +1,3 @@
-use Rattle.std.proofs.Common.{◌≡◌}
 use Rattle.mg_image.proofs.FoundLemmas.{read_more, read_none}
 use Rattle.mg_image.proofs.reading.read_page.Goals as goal
 

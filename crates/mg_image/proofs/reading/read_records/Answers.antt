@@ -1,4 +1,4 @@
-use Rattle.std.proofs.Common.{◌≡◌, arith, refl, rules}
+use Rattle.std.proofs.Common.{arith, refl}
 use Rattle.mg_image.proofs.FoundLemmas.{pages_more}
 use Rattle.mg_image.proofs.reading.read_records.Goals as goal
 

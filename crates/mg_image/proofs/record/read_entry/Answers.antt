@@ -1,4 +1,4 @@
-use Rattle.std.proofs.Common.{◌≡◌, refl}
+use Rattle.std.proofs.Common.{refl}
 use Rattle.mg_image.proofs.RecordLemmas.{table_at_one}
 use Rattle.mg_image.proofs.record.read_entry.Goals as goal
 

@@ -1,4 +1,3 @@
-use Rattle.std.proofs.Common.{◌≡◌, refl}
 use Rattle.mg_image.specs.ImageView.{pages_in}
 use Rattle.mg_image.specs.OneTable.{IsLawful}
 use Rattle.mg_image.specs.Records.{cells_of}

@@ -1,4 +1,4 @@
-use Rattle.std.proofs.Common.{◌≡◌, arith, rules}
+use Rattle.std.proofs.Common.{arith}
 use Rattle.mg_image.proofs.RecordLemmas.{places_differ, stands_more}
 use Rattle.mg_image.proofs.record.stands.Goals as goal
 

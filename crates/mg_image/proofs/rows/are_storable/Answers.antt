@@ -1,4 +1,4 @@
-use Rattle.std.proofs.Common.{arith, refl, rules}
+use Rattle.std.proofs.Common.{arith, refl}
 use Rattle.mg_image.proofs.RowLemmas.{storable_take}
 use Rattle.mg_image.proofs.rows.are_storable.Goals as goal
 

@@ -1,4 +1,3 @@
-use Rattle.std.proofs.Common.{◌≡◌, ◌∙◌, rules}
 use Rattle.mg_image.proofs.RowLemmas.{plain_row_is}
 use Rattle.mg_image.proofs.rows.plain_row.Goals as goal
 

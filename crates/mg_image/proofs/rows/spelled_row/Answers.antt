@@ -1,4 +1,3 @@
-use Rattle.std.proofs.Common.{◌≡◌}
 use Rattle.mg_image.proofs.rows.spelled_row.Goals as goal
 
 pub returns-in-Plain : goal.returns-in-Plain

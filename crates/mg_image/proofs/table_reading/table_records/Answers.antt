@@ -1,4 +1,4 @@
-use Rattle.std.proofs.Common.{◌≡◌, refl}
+use Rattle.std.proofs.Common.{refl}
 use Rattle.mg_image.proofs.ReadingLemmas.{records_read}
 use Rattle.mg_image.proofs.table_reading.table_records.Goals as goal
 

@@ -1,4 +1,4 @@
-use Rattle.std.proofs.Common.{◌≡◌, refl, false}
+use Rattle.std.proofs.Common.{refl, false}
 use Rattle.mg_image.specs.ImageView.{pages_in}
 use Rattle.mg_image.proofs.CellLemmas.{data_lawful}
 use Rattle.mg_image.proofs.versions.cell_at.Goals as goal

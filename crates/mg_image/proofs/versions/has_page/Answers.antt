@@ -1,4 +1,4 @@
-use Rattle.std.proofs.Common.{◌≡◌, ◌≢◌, refl, arith, rules}
+use Rattle.std.proofs.Common.{refl, arith, rules}
 use Rattle.mg_image.proofs.CellLemmas.{has_at, none_more}
 use Rattle.mg_image.proofs.versions.has_page.Goals as goal
 

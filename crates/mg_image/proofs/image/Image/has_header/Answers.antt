@@ -1,4 +1,4 @@
-use Rattle.std.proofs.Common.{◌≡◌, ◌∙◌, sym}
+use Rattle.std.proofs.Common.{◌∙◌, sym}
 use Rattle.mg_header.specs.HeaderPage.{reading}
 use Rattle.mg_image.proofs.WantedLemmas.{header_unread, header_where_read}
 use Rattle.mg_image.proofs.image.Image.has_header.Goals as goal

@@ -1,5 +1,3 @@
-use Rattle.std.proofs.Common.{◌≡◌, ◌∙◌, sym, IsTrue, true}
-use Rattle.std.specs.Prelude.{is_ok}
 use Rattle.mg_image.specs.ImageView.{pages_in}
 use Rattle.mg_image.proofs.WantedLemmas.{wanted_where_ok}
 use Rattle.mg_image.proofs.image.Image.is_as_wanted.Goals as goal

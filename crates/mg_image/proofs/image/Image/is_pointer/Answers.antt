@@ -1,4 +1,4 @@
-use Rattle.std.proofs.Common.{◌≡◌, ◌∙◌, ◌≤◌, length}
+use Rattle.std.proofs.Common.{◌∙◌}
 use Rattle.mg_base.specs.Checks.{verdict}
 use Rattle.mg_pointer.specs.PointerPage.{pointer_checks}
 use Rattle.mg_image.specs.ImageView.{pages_in}
