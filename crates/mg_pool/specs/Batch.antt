@@ -82,7 +82,8 @@ abbrev pub IsOrPrecedes : Orders → ℕ → ℕ → Type 0
 IsOrPrecedes ordered page goal = (page ≡ goal) ⊎ Precedes ordered page goal
 
 -- a page is, or precedes, the first page of an order that is due
-pub record LeadsToDue (graph : PageGraph) (orders : List Order) (due : List Bool) (page : ℕ) : Type 0 where
+pub record LeadsToDue (graph : PageGraph) (orders : List Order) (due : List Bool) (page : ℕ)
+    : Type 0 where
   pub place : ℕ
   pub inside : place < length orders
   pub is_due : slice_index_or due place false ≡ true
@@ -94,7 +95,8 @@ Leads graph orders due page goal =
     IsOrPrecedes (is_ordered graph) page goal ⊎ LeadsToDue graph orders due page
 
 -- those of the first orders of a list are due whose first page precedes the goal
-pub record IsDue (graph : PageGraph) (orders : List Order) (count goal : ℕ) (due : List Bool) : Type 0 where
+pub record IsDue (graph : PageGraph) (orders : List Order) (count goal : ℕ) (due : List Bool)
+    : Type 0 where
   pub as_long : length due ≡ length orders
   pub sound : (i : ℕ) → slice_index_or due i false ≡ true
       → (i < count) × Precedes (joint graph (take count orders)) (order_at orders i).first goal

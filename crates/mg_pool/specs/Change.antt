@@ -21,7 +21,8 @@ IsOpen graph orders k =
 
 -- What is written towards a goal: what precedes it, and what is or precedes the first page of an
 -- order that is due.
-pub record WritesDue {D L : Type 0} (orders : List Order) (due : List Bool) (goal : ℕ) (before after : Pool D L) : Type 0 where
+pub record WritesDue {D L : Type 0} (orders : List Order) (due : List Bool) (goal : ℕ)
+    (before after : Pool D L) : Type 0 where
   pub ready : (page : ℕ) → is_ordered after.graph page goal ≡ false
   pub due_out : (i : ℕ) → i < length orders → slice_index_or due i false ≡ true
       → is_dirty after.dirty (order_at orders i).first ≡ false
@@ -30,7 +31,8 @@ pub record WritesDue {D L : Type 0} (orders : List Order) (due : List Bool) (goa
 
 -- What is written for one order of a batch. Where it would close a cycle with the orders of the
 -- pool and the earlier ones of the batch, every dirty page that precedes its first page; else none.
-pub record SettlesOrder {D L : Type 0} (earlier : List Order) (o : Order) (before after : Pool D L) : Type 0 where
+pub record SettlesOrder {D L : Type 0} (earlier : List Order) (o : Order) (before after : Pool D L)
+    : Type 0 where
   pub written : Precedes (joint before.graph earlier) o.later o.first
       → (page : ℕ) → Precedes (joint before.graph earlier) page o.first
       → is_dirty after.dirty page ≡ false
@@ -39,7 +41,8 @@ pub record SettlesOrder {D L : Type 0} (earlier : List Order) (o : Order) (befor
       × Precedes (joint before.graph earlier) page o.first
 
 -- what is written for the first orders of a batch, one order after another
-pub data SettlesOrders {D L : Type 0} (orders : List Order) (start : Pool D L) : ℕ → Pool D L → Type 0 where
+pub data SettlesOrders {D L : Type 0} (orders : List Order) (start : Pool D L) : ℕ → Pool D L
+    → Type 0 where
   no_order : SettlesOrders orders start 0 start
   one_more : {k : ℕ} {before : Pool D L} (after : Pool D L) → SettlesOrders orders start k before
       → SettlesOrder (take k orders) (order_at orders k) before after
@@ -47,12 +50,13 @@ pub data SettlesOrders {D L : Type 0} (orders : List Order) (start : Pool D L) :
 
 -- what is written for the room of a batch: as long as more than 512 pages would be dirty, the least
 -- dirty page outside it with those that precede it
-pub data MakesRoom {D L : Type 0} (pages : List BatchPage) (start : Pool D L) : Pool D L → Type 0 where
-  no_page : MakesRoom pages start start
-  one_with : {before : Pool D L} (goal : ℕ) (after : Pool D L) → MakesRoom pages start before
-      → 512 < dirty_with before.dirty pages
-      → IsLeastPage (λ page. is_dirty before.dirty page && not (is_in pages page)) (Some goal)
-      → WritesWith goal before after → MakesRoom pages start after
+pub data MakesRoom {D L : Type 0} (pages : List BatchPage) (start : Pool D L) : Pool D L → Type 0
+  where
+    no_page : MakesRoom pages start start
+    one_with : {before : Pool D L} (goal : ℕ) (after : Pool D L) → MakesRoom pages start before
+        → 512 < dirty_with before.dirty pages
+        → IsLeastPage (λ page. is_dirty before.dirty page && not (is_in pages page)) (Some goal)
+        → WritesWith goal before after → MakesRoom pages start after
 
 -- the content that a batch puts on a page, else the one that it has
 abbrev pub or_else : Option (List ℕ) → Option (List ℕ) → Option (List ℕ)
@@ -60,7 +64,8 @@ or_else None other = other
 or_else (Some bytes) other = Some bytes
 
 -- pages have new contents, none where a page has none, and nothing else has changed
-pub record PutsPages {D L : Type 0} (m : Meaning D) (new : ℕ → Option (List ℕ)) (before after : Pool D L) : Type 0 where
+pub record PutsPages {D L : Type 0} (m : Meaning D) (new : ℕ → Option (List ℕ))
+    (before after : Pool D L) : Type 0 where
   pub pool : IsPool m after
   pub contents : (page : ℕ)
       → content_of after.dirty page ≡ or_else (new page) (content_of before.dirty page)
@@ -73,7 +78,8 @@ pub record PutsPages {D L : Type 0} (m : Meaning D) (new : ℕ → Option (List 
   pub faults : after.faults ≡ before.faults
 
 -- those orders of a list were entered whose first page is dirty, and nothing else has changed
-pub record EntersOrders {D L : Type 0} (m : Meaning D) (orders : List Order) (before after : Pool D L) : Type 0 where
+pub record EntersOrders {D L : Type 0} (m : Meaning D) (orders : List Order)
+    (before after : Pool D L) : Type 0 where
   pub pool : IsPool m after
   pub ordered : (a b : ℕ) → is_ordered after.graph a b
       ≡ (is_ordered before.graph a b || (lists orders a b && is_dirty before.dirty a))
@@ -85,7 +91,8 @@ pub record EntersOrders {D L : Type 0} (m : Meaning D) (orders : List Order) (be
 
 -- A batch was changed. First pages were written out with their old content, for its orders and then
 -- for its room and in no other case. Then its pages were put and its orders entered.
-pub record Changes {D L : Type 0} (m : Meaning D) (old new : Pool D L) (pages : List BatchPage) (orders : List Order) : Type 0 where
+pub record Changes {D L : Type 0} (m : Meaning D) (old new : Pool D L) (pages : List BatchPage)
+    (orders : List Order) : Type 0 where
   pub settled : Pool D L
   pub ready : Pool D L
   pub for_orders : SettlesOrders orders old (length orders) settled
@@ -104,7 +111,9 @@ set_before dirty gone set_ page = gone page || (set_ page && is_dirty dirty page
 -- the batch have their new content, and no other page another one. The overlay of a closed set is
 -- the overlay of a set that was closed before, with the batch's pages of the set at their new
 -- content.
-pub record ChangesPages (old_dirty new_dirty : DirtyPages) (old_graph new_graph : PageGraph) (old_image new_image : Image) (gone : PageSet) (batch : ℕ → Option (List ℕ)) (orders : List Order) : Type 0 where
+pub record ChangesPages (old_dirty new_dirty : DirtyPages) (old_graph new_graph : PageGraph)
+    (old_image new_image : Image) (gone : PageSet) (batch : ℕ → Option (List ℕ))
+    (orders : List Order) : Type 0 where
   pub shown_new : (page : ℕ) → shown new_dirty new_image page
       ≡ unwrap_or (batch page) (shown old_dirty old_image page)
   pub closed : (set_ : PageSet) → IsClosed (cache_of new_dirty new_graph new_image) set_
@@ -119,7 +128,8 @@ pub record ChangesPages (old_dirty new_dirty : DirtyPages) (old_graph new_graph 
       → set_ a ≡ true
 
 -- the frame of a change, where the disk tells its images
-abbrev pub ChangesOverlays : {D L : Type 0} → Meaning D → (ℕ → Option (List ℕ)) → List Order → Pool D L → Pool D L → Type 0
+abbrev pub ChangesOverlays : {D L : Type 0} → Meaning D → (ℕ → Option (List ℕ)) → List Order
+    → Pool D L → Pool D L → Type 0
 ChangesOverlays m batch orders old new = m.tells old.disk ≡ true → (i j : Image)
     → m.held old.disk ≡ Some i → m.held new.disk ≡ Some j → (gone : PageSet)
     × ChangesPages old.dirty new.dirty old.graph new.graph i j gone batch orders

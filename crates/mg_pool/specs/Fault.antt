@@ -16,7 +16,8 @@ Counts m old new n = (new.faults ≡ n) × (n ≡ min (old.faults + 1) (2 ^ 64 -
 
 -- Offline comes exactly where an earlier call answered DiskWrite, with the count that was told
 -- then. DiskRead and DiskWrite come only where the disk's count of faults rose in the call.
-abbrev pub TellsFault : {D L T : Type 0} → Meaning D → Pool D L → Pool D L → Result T PoolFault → Type 0
+abbrev pub TellsFault : {D L T : Type 0} → Meaning D → Pool D L → Pool D L → Result T PoolFault
+    → Type 0
 TellsFault m old new (Ok x) = StaysOnline old new
 TellsFault m old new (Err (DiskRead n)) =
     (old.offline ≡ None) × (new.offline ≡ None) × Counts m old new n

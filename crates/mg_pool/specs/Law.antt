@@ -12,7 +12,8 @@ use Rattle.mg_pool.specs.Run.{HasWritten}
 
 -- What a writer owes for a cache: the disk's image keeps one list of demands, the pool's image
 -- another, and the orders bear what is not yet on the disk.
-pub record BearsDemands (demands : Demands) (meets : Meets) (cache : Cache) (of_disk of_pool : List Demand) : Type 0 where
+pub record BearsDemands (demands : Demands) (meets : Meets) (cache : Cache)
+    (of_disk of_pool : List Demand) : Type 0 where
   pub disk_keeps : KeepsDemands demands meets cache.disk of_disk
   pub pool_keeps : KeepsDemands demands meets cache.pool of_pool
   -- what a page of the pool demands of another dirty page is kept on the disk already, or that
@@ -32,7 +33,8 @@ since changed now set_ page = taken_out changed.dirty now.dirty page || set_ pag
 
 -- The overlay of a set now is that of the set with the pages written since, over the cache as it
 -- was at the change, and there it is safe.
-pub record IsSafeSince {D L : Type 0} (demands : Demands) (meets : Meets) (changed now : Pool D L) (i j : Image) (of_disk of_pool : List Demand) (set_ : PageSet) : Type 0 where
+pub record IsSafeSince {D L : Type 0} (demands : Demands) (meets : Meets) (changed now : Pool D L)
+    (i j : Image) (of_disk of_pool : List Demand) (set_ : PageSet) : Type 0 where
   pub safe : IsSafeOverlay demands meets (cache_of changed.dirty changed.graph i)
       (since changed now set_) of_disk of_pool
   pub same : (page : ℕ) → overlay (cache_of now.dirty now.graph j) set_ page

@@ -31,7 +31,8 @@ pub record IsTied (dirty : DirtyPages) (graph : PageGraph) : Type 0 where
 
 -- an image is the overlay of a set of dirty pages: these have the pool's content, all others the
 -- disk's, and it is as long as the disk's image and these pages need
-pub record IsOverlay (dirty : DirtyPages) (graph : PageGraph) (disk : Image) (set_ : PageSet) (image : Image) : Type 0 where
+pub record IsOverlay (dirty : DirtyPages) (graph : PageGraph) (disk : Image) (set_ : PageSet)
+    (image : Image) : Type 0 where
   pub pages : (page : ℕ) → page_at dirty.size image page
       ≡ overlay (cache_of dirty graph disk) set_ page
   pub as_long : length disk ≤ length image
@@ -40,10 +41,11 @@ pub record IsOverlay (dirty : DirtyPages) (graph : PageGraph) (disk : Image) (se
       → ((page : ℕ) → end ≤ page → set_ page ≡ false) → length image ≤ end
 
 -- an image is the overlay of some closed set
-pub record IsClosedOverlay (dirty : DirtyPages) (graph : PageGraph) (disk image : Image) : Type 0 where
-  pub set_ : PageSet
-  pub closed : IsClosed (cache_of dirty graph disk) set_
-  pub is : IsOverlay dirty graph disk set_ image
+pub record IsClosedOverlay (dirty : DirtyPages) (graph : PageGraph) (disk image : Image) : Type 0
+  where
+    pub set_ : PageSet
+    pub closed : IsClosed (cache_of dirty graph disk) set_
+    pub is : IsOverlay dirty graph disk set_ image
 
 -- a set, and one page besides
 abbrev pub with_page : PageSet → ℕ → PageSet
@@ -51,7 +53,8 @@ with_page set_ page p = p == page || set_ p
 
 -- A page was written out. The closed sets are then those that were closed with it, and their
 -- overlays are the same.
-pub record WritesOut (old_dirty new_dirty : DirtyPages) (old_graph new_graph : PageGraph) (old_image new_image : Image) (page : ℕ) : Type 0 where
+pub record WritesOut (old_dirty new_dirty : DirtyPages) (old_graph new_graph : PageGraph)
+    (old_image new_image : Image) (page : ℕ) : Type 0 where
   pub size : new_dirty.size ≡ old_dirty.size
   pub image : IsOverlay old_dirty old_graph old_image (λ p. p == page) new_image
   pub shown_same : (p : ℕ) → shown new_dirty new_image p ≡ shown old_dirty old_image p
@@ -120,7 +123,8 @@ number_of (Some page) = Some page.0
 
 -- Several pages were written out, each after those that precede it. The closed sets are then those
 -- that were closed with these pages, and their overlays are the same.
-pub record WritesSet (old_dirty new_dirty : DirtyPages) (old_graph new_graph : PageGraph) (old_image new_image : Image) (gone : PageSet) : Type 0 where
+pub record WritesSet (old_dirty new_dirty : DirtyPages) (old_graph new_graph : PageGraph)
+    (old_image new_image : Image) (gone : PageSet) : Type 0 where
   pub size : new_dirty.size ≡ old_dirty.size
   pub image : IsOverlay old_dirty old_graph old_image gone new_image
   pub shown_same : (p : ℕ) → shown new_dirty new_image p ≡ shown old_dirty old_image p
