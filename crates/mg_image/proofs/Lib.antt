@@ -1,6 +1,7 @@
 pub mod WantedLemmas
 pub mod DataLemmas
 pub mod RowLemmas
+pub mod OneRowLemmas
 pub mod CellLemmas
 pub mod RecordLemmas
 pub mod FoundLemmas

@@ -1,12 +1,13 @@
 -- The catalog as a table, and the tables that its rows name.
 use Rattle.std.specs.Prelude.{◌&&◌, ◌||◌, ℕ, Bool, true, List, []}
 use Rattle.mg_model.specs.declared.table.Table.{Table}
+use Rattle.mg_model.specs.Answers.{is_committed}
 use Rattle.mg_model.specs.Catalog.{catalog_name, catalog_shape}
 use Rattle.mg_model.specs.CatalogRules.{AreTables}
 use Rattle.mg_model.specs.Legal.{is_limbo}
 use Rattle.mg_image.specs.Form.{Rows}
 use Rattle.mg_image.specs.Held.{AreRows}
-use Rattle.mg_image.specs.RecordRules.{Facts, is_committed}
+use Rattle.mg_image.specs.RecordRules.{Facts}
 use Rattle.mg_image.specs.Records.{Reading}
 
 -- the catalog as a table, from its first pointer page on

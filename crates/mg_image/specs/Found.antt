@@ -7,10 +7,11 @@ use Rattle.mg_image.specs.declared.found.Found.{Found}
 use Rattle.mg_image.specs.declared.image.Image.{Image}
 use Rattle.mg_image.specs.declared.rows.RowCoding.{RowCoding}
 use Rattle.mg_model.specs.declared.table.Table.{Table}
+use Rattle.mg_model.specs.Answers.{is_committed}
 use Rattle.mg_image.specs.ImageView.{pages_in}
 use Rattle.mg_image.specs.Inventory.{next_of, oldest_of, state_at}
 use Rattle.mg_image.specs.OneTable.{table_facts}
-use Rattle.mg_image.specs.RecordRules.{Facts, IsRecord, TakesKey, is_committed}
+use Rattle.mg_image.specs.RecordRules.{Facts, IsRecord, TakesKey}
 use Rattle.mg_image.specs.Records.{Chain, Reading, Stands, cells_of, newest_of, record_key}
 use Rattle.mg_image.specs.StepLaws.{same_place}
 use Rattle.mg_image.specs.Tables.{Has}

@@ -13,6 +13,7 @@ pub mod Histories
 pub mod HistoryLaws
 pub mod Leftovers
 pub mod StepLaws
+pub mod PageLaws
 pub mod ReadingLaws
 pub mod HeldLaws
 pub mod Kept

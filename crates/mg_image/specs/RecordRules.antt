@@ -4,13 +4,14 @@ use Rattle.std.specs.Prelude.{◌≡◌, ◌≢◌, ◌⊎◌, ◌<◌, ◌≤�
 use Rattle.std.proofs.Common.{get_or}
 use Rattle.mg_base.specs.declared.numbers.RecId.{RecId}
 use Rattle.mg_base.specs.declared.transaction.TxState.{TxState}
-use Rattle.mg_base.specs.declared.transaction.TxState.TheVariants.{Active, Limbo, Dead, Committed}
+use Rattle.mg_base.specs.declared.transaction.TxState.TheVariants.{Limbo, Dead, Committed}
 use Rattle.mg_value.specs.declared.shape.Column.{Column}
 use Rattle.mg_value.specs.declared.value.Value.{Value}
 use Rattle.mg_value.specs.declared.value.Value.TheVariants.{Null}
 use Rattle.mg_rowcode.specs.Storable.{AreStorable}
 use Rattle.mg_image.specs.declared.entry.Entry.{Entry}
 use Rattle.mg_model.specs.declared.table.Table.{Table}
+use Rattle.mg_model.specs.Answers.{is_committed}
 use Rattle.mg_image.specs.Form.{Coding, Row}
 use Rattle.mg_image.specs.Records.{Cells, Chain, Reading, Stands, key_of, newest_of, record_key, shown, writer}
 
@@ -23,13 +24,6 @@ pub record Facts : Type 0 where
   pub oldest : ℕ
   -- the table that a page is a data page of
   pub table_of : ℕ → Option Table
-
--- whether a state is committed
-abbrev pub is_committed : TxState → Bool
-is_committed Committed = true
-is_committed Active = false
-is_committed Limbo = false
-is_committed Dead = false
 
 -- whether a transaction is committed
 abbrev pub committed_in : Facts → ℕ → Bool

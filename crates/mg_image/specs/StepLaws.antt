@@ -59,8 +59,7 @@ chain_stays old new x cell change l es (goes m e fs at is tx more) out =
 
 -- What one record's new list of versions owes, where the cell at x is changed.
 pub record IsStep (coding : Coding) (f : Facts) (r : Reading) (new : Cells) (x p : RecId)
-    (table : Table)
-    (es : List Entry) : Type 0 where
+    (table : Table) (es : List Entry) : Type 0 where
   pub of_table : table_in f p ≡ Some table
   pub reads : Chain new (newest_of p (new p)) es
   -- the changed cell is that record's slot, or it is as what is read of it wants
