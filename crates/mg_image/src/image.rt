@@ -1,7 +1,7 @@
 //! An image: its pages as they are read.
 
-ghost use Rattle.std.specs.Prelude.{◌≡◌, ◌↔◌, ℕ, List, EachIndex, IsTrue, get_or, ◌≤◌, ◌*◌, ◌+◌, ◌<◌, ◌^◌, IfOk, IfNone, length};
-ghost use Rattle.mg_image.specs.Kept.{IsKept};
+ghost use Rattle.std.specs.Prelude.{◌≡◌, ◌↔◌, ℕ, List, EachIndex, IsTrue, get_or, ◌≤◌, ◌*◌, ◌+◌, ◌<◌, ◌^◌, IfOk, IfNone, IfSome, IsSome, length};
+ghost use Rattle.mg_image.specs.Kept.{AreWhole, IsKept};
 
 use mg_base::{Bytes, Memory, PageNo, is_page_size};
 use std::alloc::Global;
@@ -32,7 +32,11 @@ impl Image {
     /// # Errors
     ///
     /// `Memory` only.
-    pub fn new(alloc: Global, size: u32, pages: Vec<Bytes>) -> Result<Option<Image>, Memory> {
+    pub fn new(alloc: Global, size: u32, pages: Vec<Bytes>) -> Result<Option<Image>, Memory>
+        ensures pages { IfOk result (λ made. IfSome made (λ image.
+            (image.size ≡ size) × (image.pages.items ≡ pages.items))) }
+        ensures some { IfOk result (λ made. IsSome made ↔ AreWhole size pages.items) }
+    {
         if !is_page_size(size) || !are_whole(&pages, size) {
             return Ok(None);
         }
