@@ -180,6 +180,9 @@ fn catalog(alloc: Global) -> Result<Table, Fail> {
 
 // Appends a text, with as many zero bytes as a column of this width needs.
 fn put_text(bytes: &mut Vec<u8>, text: &[u8], width: usize) -> Result<(), Fail> {
+    if text.len() > 40 {
+        return Err("a long text")?;
+    }
     bytes.extend_from_slice(&[text.len() as u8, 0])?;
     bytes.extend_from_slice(text)?;
     for _ in text.len()..width {
