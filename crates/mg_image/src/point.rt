@@ -17,7 +17,8 @@ pub enum Rule {
     Once,
     /// Each link meets a version of the transaction that it names.
     Links,
-    /// Each version's transaction is drawn, and interesting where it is dead.
+    /// Each version's transaction is drawn, and not below the oldest interesting one where it is
+    /// dead; nor is any transaction in limbo.
     Drawn,
     /// Each back version is committed.
     Backs,

@@ -55,6 +55,7 @@ impl DirtyTable {
         })
     }
 
+    /// How many pages are dirty.
     pub fn len(&self) -> usize
         ensures { result ≡ length self.now.pages }
     {

@@ -69,12 +69,14 @@ impl Entry {
         }
     }
 
+    /// The number of the transaction.
     pub fn number(&self) -> u32
         ensures { result ≡ self.now.number }
     {
         self.number
     }
 
+    /// Whether this is that transaction's entry.
     pub fn is_of(&self, t: TxNo) -> bool
         ensures { result ≡ (self.now.number == t.0) }
     {
