@@ -1,0 +1,3 @@
+pub mod FirstImage
+pub mod KvTable
+pub mod Puts
