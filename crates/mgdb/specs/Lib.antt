@@ -1,6 +1,11 @@
 pub mod Causes
+pub mod Crashes
 pub mod Fresh
+pub mod Headline
 pub mod Script
+pub mod ScriptHistory
+pub mod Serial
 pub mod Stops
 pub mod Top
+pub mod Transcript
 pub mod Words
