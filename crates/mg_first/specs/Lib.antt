@@ -1,3 +1,4 @@
 pub mod FirstImage
 pub mod KvTable
+pub mod NewDatabase
 pub mod Puts
