@@ -13,11 +13,15 @@
 
 mod new;
 mod pages;
+mod record;
+mod rows;
 
 pub use new::{
     catalog_page, catalog_rows_page, header_page, inventory_page, kv_page, kv_rows_page,
     transaction_page,
 };
+pub use record::AddFault;
+pub use rows::store;
 pub use pages::{
     CATALOG, CATALOG_ROWS, HEADER, INVENTORY, KV, KV_ROWS, LAST, PAGE, PAGE_LEN, PAGES,
     SWEEP_INTERVAL, TRANSACTIONS,

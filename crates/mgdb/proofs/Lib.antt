@@ -1,5 +1,4 @@
 pub mod FreshLemmas
-pub mod RecordLemmas
 pub mod ScriptLemmas
 pub mod TopLemmas
 pub mod WordsLemmas

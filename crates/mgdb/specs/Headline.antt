@@ -51,7 +51,8 @@ pub record IsEntry {D : Type 0} (m : Meaning D) (disk : D) (size : ℕ) (o : Ope
 -- the line that is printed of a fault outside the lines; of one within a line, the transcript has it
 abbrev pub fault_line : Option Stop → List ℕ
 fault_line None = []
-fault_line (Some (DiskRead place)) = codes "mgdb: DISK READ FAULT" ++ 10 ∷ []
+fault_line (Some (DiskRead places.Run)) = codes "mgdb: DISK READ FAULT" ++ 10 ∷ []
+fault_line (Some (DiskRead places.Put)) = []
 fault_line (Some (DiskWriteStop places.Run)) = codes "mgdb: DISK WRITE FAULT" ++ 10 ∷ []
 fault_line (Some (DiskWriteStop places.Put)) = []
 fault_line (Some UnknownImage) = codes "mgdb: UNKNOWN IMAGE" ++ 10 ∷ []
@@ -106,12 +107,12 @@ status_by (Some stop) ok = (status_of stop).0
 -- the end after all that were acknowledged.
 pub record Headline {D K : Type 0} (m : Meaning D) (n : SinkMeaning K) (size : ℕ) (o : Opening)
     (script : List ℕ) (old new : D) (before after : K) (status : ℕ) : Type 0 where
-  pub lines_ : List Line
-  pub are_lines : AreLines (lines script) lines_
   -- the lines up to the fault that stopped the run; all, where none did
+  pub texts : List (List ℕ)
+  pub rest : List (List ℕ)
+  pub front : lines script ≡ texts ++ rest
   pub met : List Line
-  pub rest : List Line
-  pub front : lines_ ≡ met ++ rest
+  pub are_lines : AreLines texts met
   pub stop : Option Stop
   pub all_met : stop ≡ None → rest ≡ []
   -- the entries, the oldest first

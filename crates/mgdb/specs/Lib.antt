@@ -5,6 +5,7 @@ pub mod Headline
 pub mod Script
 pub mod ScriptHistory
 pub mod Serial
+pub mod Serving
 pub mod Stops
 pub mod Top
 pub mod Transcript

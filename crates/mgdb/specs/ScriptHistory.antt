@@ -98,19 +98,21 @@ AreLines [] (line ∷ lines) = ⊥
 AreLines (text ∷ texts) [] = ⊥
 AreLines (text ∷ texts) (line ∷ lines) = IsLine text line × AreLines texts lines
 
--- these entries, the oldest first, are those of the lines obeyed so far; a line that is no put has
--- none
+-- what a line adds to a history; a line that is no put adds nothing
+pub data LineGives (o : Opening) (h : Entries) : Line → List Entry → Type 0 where
+  silent : LineGives o h Silent []
+  bad : LineGives o h Bad []
+  put : (k v : ℤ) (new : List Entry) → PutGives o h k v new → LineGives o h (Put k v) new
+
+-- these entries, the oldest first, are those of the lines obeyed so far
 pub data Obeys (o : Opening) : List Line → List Entry → Type 0 where
   nothing : Obeys o [] []
-  silent : (lines : List Line) (es : List Entry) → Obeys o lines es
-      → Obeys o (lines ++ Silent ∷ []) es
-  bad : (lines : List Line) (es : List Entry) → Obeys o lines es → Obeys o (lines ++ Bad ∷ []) es
-  put : (lines : List Line) (es : List Entry) (k v : ℤ) (new : List Entry) → Obeys o lines es
-      → PutGives o (onto [] es) k v new → Obeys o (lines ++ Put k v ∷ []) (es ++ new)
+  more : (lines : List Line) (es : List Entry) (line : Line) (new : List Entry) → Obeys o lines es
+      → LineGives o (onto [] es) line new → Obeys o (lines ++ line ∷ []) (es ++ new)
 
 -- these entries are those of the lines met, of which the last may have ended the run
 pub data Meets (o : Opening) : List Line → List Entry → Type 0 where
-  all_obeyed : (lines : List Line) (es : List Entry) → Obeys o lines es → Meets o lines es
-  last_ended : (lines : List Line) (es : List Entry) (k v : ℤ) (new : List Entry)
+  obeyed : (lines : List Line) (es : List Entry) → Obeys o lines es → Meets o lines es
+  ended : (lines : List Line) (es : List Entry) (k v : ℤ) (new : List Entry)
       → Obeys o lines es → PutEnds o (onto [] es) k v new
       → Meets o (lines ++ Put k v ∷ []) (es ++ new)

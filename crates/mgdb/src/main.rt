@@ -7,13 +7,11 @@
 //! Not here: what a page of any kind means.
 #![tactic(auto)]
 
+mod answer;
 mod fresh;
 mod kv;
 mod number;
 mod page_writes;
-mod pages;
-mod record;
-mod rows;
 mod run;
 mod script;
 mod script_source;

@@ -1,8 +1,8 @@
 -- The anchor's slot stays in use while the version is put.
 use Rattle.std.proofs.Common.{◌≡◌, Some, ap, ◌∙◌}
 use Rattle.mg_slots.specs.DataPage.{cell_of}
-use Rattle.mgdb.proofs.RecordLemmas.{still_used, may_replace}
-use Rattle.mgdb.proofs.record.add_record.Goals as goal
+use Rattle.mg_first.proofs.RecordLemmas.{still_used, may_replace}
+use Rattle.mg_first.proofs.record.add_record.Goals as goal
 
 pub replace-requires-clause-slot : goal.replace-requires-clause-slot
 replace-requires-clause-slot c =
