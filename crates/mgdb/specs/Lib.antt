@@ -1,6 +1,9 @@
 pub mod Causes
 pub mod Fresh
 pub mod Script
+pub mod Serial
+pub mod SerialEndLaws
+pub mod SerialLaws
 pub mod Stops
 pub mod Top
 pub mod Words
