@@ -2,8 +2,10 @@ pub mod Causes
 pub mod Fresh
 pub mod Script
 pub mod Serial
+pub mod SerialDurableLaws
 pub mod SerialEndLaws
 pub mod SerialLaws
+pub mod SerialScenarios
 pub mod Stops
 pub mod Top
 pub mod Words

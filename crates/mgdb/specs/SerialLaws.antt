@@ -247,7 +247,7 @@ module _ (o : Opening) (h : Entries) (quiet : IsQuiet o h) where
     alone = begun_alone o h quiet;
   }
 
-  -- the write is fine: a new row where the table has none with the key, and another row where it has
+  -- the write is fine: a new row where the table has none with the key, else another row for it
   pub write_answer : (found : Option Cells) (k v : ℤ)
       → row_at (database o h) kv_name (Int k) ≡ found
       → answer o (begun o h) (writes found (next_number o h) k v) ≡ Fine
