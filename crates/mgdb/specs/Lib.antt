@@ -5,6 +5,10 @@ pub mod Headline
 pub mod Script
 pub mod ScriptHistory
 pub mod Serial
+pub mod SerialDurableLaws
+pub mod SerialEndLaws
+pub mod SerialLaws
+pub mod SerialScenarios
 pub mod Serving
 pub mod Stops
 pub mod Top
