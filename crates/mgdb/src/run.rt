@@ -15,6 +15,7 @@ ghost use Rattle.mgdb.specs.Stops.{DiskSteps, SinkSteps, IsObeyingStop, IsSaying
 ghost use Rattle.mgdb.specs.declared.script_source.TheConstants.{SCRIPT_MOST};
 
 use crate::answer::{Answer, LineText, bad_line};
+use crate::fresh::{check_fresh, write_new};
 use crate::kv::Kv;
 use crate::script::{Line, first_line, read_line};
 use crate::script_source::read_script;
