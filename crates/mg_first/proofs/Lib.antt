@@ -1,1 +1,2 @@
+pub mod NewPages
 pub mod RecordLemmas

@@ -1,4 +1,6 @@
 pub mod FirstImage
 pub mod KvTable
+pub mod NewCatalogLaws
 pub mod NewDatabase
+pub mod NewReadingLaws
 pub mod Puts

@@ -17,7 +17,6 @@ use Rattle.mg_value.specs.Rows.{row_bytes}
 use Rattle.mg_value.specs.declared.value.Value.{Value}
 use Rattle.mg_value.specs.declared.value.Value.TheVariants.{Null, Text}
 use Rattle.mg_version.specs.Cells.{cell_bytes}
-use Rattle.mg_version.specs.declared.cell.Cell.{Cell}
 use Rattle.mg_version.specs.declared.cell.Cell.TheVariants as cells
 use Rattle.mg_version.specs.declared.cell.Link.{Link}
 use Rattle.mg_version.specs.declared.cell.Version.{Version}

@@ -1,12 +1,12 @@
 //! The seven pages of a new database, one by one.
 
-ghost use Rattle.std.specs.Prelude.{◌≡◌, ◌≤◌, ◌<◌, ◌+◌, ◌++◌, ℕ, pos, length, replicate, IfOk, OnOk};
+ghost use Rattle.std.specs.Prelude.{◌≡◌, ◌≤◌, ◌+◌, ◌++◌, false, pos, [], ◌∷◌, length, replicate, IfOk, OnOk};
 ghost use Rattle.mg_header.specs.declared.header.TheConstants.{GREATEST_NEXT};
 ghost use Rattle.mg_model.specs.CatalogRules.{catalog_row};
 ghost use Rattle.mg_slots.specs.Changes.{PutsCell};
 ghost use Rattle.mg_slots.specs.DataPage.{IsDataPage, slot_count, taken};
 ghost use Rattle.mg_slots.specs.Room.{least_free, need_of, room_of};
-ghost use Rattle.mg_value.specs.Rows.{value_bytes};
+ghost use Rattle.mg_value.specs.Rows.{is_null, number_of_bits, value_bytes};
 ghost use Rattle.mg_value.specs.declared.shape.Kind.TheVariants.{Int as IntKind, Text as TextKind};
 ghost use Rattle.mg_value.specs.declared.value.Value.TheVariants.{Int as IntValue, Text as TextValue};
 ghost use Rattle.mg_first.specs.NewDatabase.{AddsRecord, IsDataOf, IsHeaderPage, IsInventoryPage, IsPointerTo, IsTransactionPage, anchor_bytes, catalog_bytes, catalog_cells, name_value, no_cell, version_bytes};
@@ -119,23 +119,14 @@ pub fn catalog_rows_page(alloc: Global, b: &mut [u8]) -> Result<(), Memory>
 
 /// The bytes of a row of the catalog: K VARCHAR(40), NAME VARCHAR(31), and A, B, C, D of BIGINT. An
 /// empty name stands for NULL.
-fn row(
-    alloc: Global,
-    key: &[u8],
-    name: &[u8],
-    a: u8,
-    b: u8,
-    c: u8,
-    d: u8,
-) -> Result<Bytes, Memory>
+fn row(alloc: Global, key: &[u8], name: &[u8], a: u8, b: u8, c: u8, d: u8) -> Result<Bytes, Memory>
     requires key { length key.now ≤ 40 }
     requires name { length name.now ≤ 31 }
     ensures { IfOk result (λ bytes. bytes
         ≡ catalog_bytes (catalog_row (TextValue key.now) (name_value name.now) a b c d)) }
 {
     let mut bytes = Vec::new(alloc);
-    // The bit of the second column: NAME is NULL.
-    bytes.push(if name.is_empty() { 2 } else { 0 })?;
+    bytes.push(null_bits(name))?;
     put_text(key, 40, &mut bytes)?;
     put_text(name, 31, &mut bytes)?;
     put_number(a, &mut bytes)?;
@@ -143,6 +134,13 @@ fn row(
     put_number(c, &mut bytes)?;
     put_number(d, &mut bytes)?;
     Ok(Bytes::new(bytes))
+}
+
+/// The byte whose bits tell which values of a row of the catalog are NULL: none but the name.
+fn null_bits(name: &[u8]) -> u8
+    ensures { result ≡ number_of_bits (false ∷ is_null (name_value name.now) ∷ []) }
+{
+    if name.is_empty() { 2 } else { 0 }
 }
 
 /// Appends the bytes of a text of a VARCHAR of at most so many bytes.
