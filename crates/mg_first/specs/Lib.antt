@@ -1,3 +1,4 @@
 pub mod FirstImage
 pub mod KvTable
+pub mod OtherPages
 pub mod Puts
