@@ -3,9 +3,14 @@ use Rattle.std.proofs.Common.{◌≡◌, ◌≢◌, ◌⊎◌, inl, inr, refl, s
 use Rattle.std.proofs.lemmas.Bool.{cases_eq}
 use Rattle.std.specs.Prelude.{IfSome, ◌==◌, if◌then◌else◌}
 use Rattle.mg_base.specs.CheckLaws.{front_checks}
-use Rattle.mg_base.specs.Checks.{Check, common_checks}
+use Rattle.mg_base.specs.Checks.{PassesAll, common_checks}
+use Rattle.mg_base.specs.declared.numbers.PageNo.{PageNo}
 use Rattle.mg_base.specs.declared.numbers.RecId.{RecId}
+use Rattle.mg_base.specs.declared.transaction.TxState.TheVariants.{Dead}
+use Rattle.mg_header.specs.HeaderPage.{database_checks, page_checks}
 use Rattle.mg_header.specs.declared.header.Header.{Header}
+use Rattle.mg_model.specs.CatalogRules.{AreTables}
+use Rattle.mg_model.specs.declared.table.Index.{Index}
 use Rattle.mg_model.specs.declared.table.Table.{Table}
 use Rattle.mg_pip.specs.PipPage.{pip_checks}
 use Rattle.mg_pointer.specs.PointerPage.{entries_of, next_in, pointer_checks}
@@ -13,23 +18,25 @@ use Rattle.mg_slots.specs.DataPage.{IsDataPage, cell_of, slot_count}
 use Rattle.mg_slots.specs.DataPageLaws.{used_of_some}
 use Rattle.mg_slots.specs.declared.page.TheConstants.{DATA_KIND}
 use Rattle.mg_tip.specs.TipPage.{tip_checks}
+use Rattle.mg_value.specs.declared.value.Value.{Value}
+use Rattle.mg_value.specs.declared.value.Value.TheVariants.{Int}
 use Rattle.mg_version.specs.CellLaws.{cell_again}
 use Rattle.mg_version.specs.Cells.{IsCell, IsLink, IsSpelling, cell_bytes}
 use Rattle.mg_version.specs.declared.cell.Cell.{Cell}
 use Rattle.mg_version.specs.declared.cell.Cell.TheVariants as cells
 use Rattle.mg_version.specs.declared.cell.Link.{Link}
-use Rattle.mg_image.specs.Catalog.{HasNames, catalog_table}
+use Rattle.mg_image.specs.Catalog.{HasNames, catalog_table, committed_with}
 use Rattle.mg_image.specs.Form.{Pages, Row, Rows, plain_coding, plain_form}
 use Rattle.mg_image.specs.Held.{AreRows, Shows}
 use Rattle.mg_image.specs.HeldLaws.{ShowsSame, same_rows}
 use Rattle.mg_image.specs.Indexes.{AreTrees, IsFoundIn}
 use Rattle.mg_image.specs.Inventory.{header_of, inventory_page, next_of, state_at, tip_page}
 use Rattle.mg_image.specs.Reached.{IsAsWanted, linked_pages}
-use Rattle.mg_image.specs.RecordRules.{AreRecords, Each, Facts, committed_in, table_in}
-use Rattle.mg_image.specs.Records.{Reading, cell_spelled, cells_of, shown, slot_cell, writer}
+use Rattle.mg_image.specs.RecordRules.{AreRecords, Each, Facts, TakesKey, committed_in, table_in}
+use Rattle.mg_image.specs.Records.{Reading, cell_spelled, cells_of, key_of, record_key, shown, slot_cell, writer}
 use Rattle.mg_image.specs.Sound.{HasHeader, HasInventory, HasRegion, HasTablePages, HasTransactions, IsCellOf, IsIndexed, IsSound, IsTableData, IsTablePointer, IsUndrawn}
 use Rattle.mg_image.specs.StepLaws.{cases_place, put_cases, put_reading, same_place}
-use Rattle.mg_image.specs.Tables.{Has, Stand, stands_of}
+use Rattle.mg_image.specs.Tables.{Has, IsOnce}
 use Rattle.mg_image.specs.declared.entry.Entry.{Entry}
 use Rattle.mg_first.specs.FirstImage.{AllCommitted, IsCommittedRow, IsKv, kv_committed, kv_facts}
 use Rattle.mg_first.specs.KvRowLaws.{row_of_bytes}
@@ -222,3 +229,314 @@ table_pages_stay pages new only table pointer data_page ne has trees data_has = 
     same : (m : ℕ) → Has (pointer ∷ []) m → next_in (new m) ≡ next_in (pages m)
     same m (inl e) = ap next_in (only m (λ is. ne (sym e ∙ is)))
     same m (inr none) = absurd none
+
+-- the header and the transactions
+header_has : (pages new : Pages) → OnlyPage pages new KV_ROWS.0
+    → length (new KV_ROWS.0) ≡ length (pages KV_ROWS.0) → HasHeader PAGE pages
+    → HasHeader PAGE new
+header_has pages new only len has = record {
+  lawful_size = has.lawful_size;
+  whole = λ n. whole n (cases_eq n KV_ROWS.0);
+  database = subst (λ (page : List ℕ). PassesAll (database_checks page PAGE)) (sym first)
+      has.database;
+  fields = subst (λ (page : List ℕ). PassesAll (page_checks page)) (sym first) has.fields;
+  used = used_stays pages new only 0 ∙ has.used;
+}
+  where
+    first : new 0 ≡ pages 0
+    first = only 0 (λ e. omega arith)
+
+    whole : (n : ℕ) → (n ≡ KV_ROWS.0) ⊎ (n ≢ KV_ROWS.0) → length (new n) ≡ PAGE
+    whole n (inl e) = ap (λ (k : ℕ). length (new k)) e ∙ (len ∙ has.whole KV_ROWS.0)
+    whole n (inr ne) = ap (λ (page : List ℕ). length page) (only n ne) ∙ has.whole n
+
+transactions_have : (pages new : Pages) → ChangesRows pages new → HasTransactions PAGE pages
+    → HasTransactions PAGE new
+transactions_have pages new change has = record {
+  each = λ sequence within. tip sequence (has.each sequence
+      (omega (arith, last_sequence_stays pages new change.others)));
+  undrawn = λ t past on_last. subst IsUndrawn (sym (bits_stay pages new change t))
+      (has.undrawn t (omega (arith, next_stays pages new change.others))
+      (on_last ∙ last_sequence_stays pages new change.others));
+}
+  where
+    tip : (sequence : ℕ) → IsAsWanted PAGE pages (tip_page PAGE pages sequence)
+        (tip_checks (pages (tip_page PAGE pages sequence)) (tip_page PAGE pages sequence) sequence)
+        → IsAsWanted PAGE new (tip_page PAGE new sequence)
+        (tip_checks (new (tip_page PAGE new sequence)) (tip_page PAGE new sequence) sequence)
+    tip sequence wanted =
+        let same : tip_page PAGE new sequence ≡ tip_page PAGE pages sequence =
+        tip_stays pages new change sequence in
+        let bytes : new (tip_page PAGE new sequence) ≡ pages (tip_page PAGE pages sequence) =
+        tip_bytes_stay pages new change sequence in
+        let there : IsAsWanted PAGE new (tip_page PAGE pages sequence)
+        (tip_checks (pages (tip_page PAGE pages sequence)) (tip_page PAGE pages sequence) sequence)
+        = wanted_stays pages new change.others (tip_page PAGE pages sequence)
+        (tip_checks (pages (tip_page PAGE pages sequence)) (tip_page PAGE pages sequence) sequence)
+        wanted in
+        let moved : IsAsWanted PAGE new (tip_page PAGE pages sequence)
+        (tip_checks (new (tip_page PAGE new sequence)) (tip_page PAGE pages sequence) sequence) =
+        subst (λ (page : List ℕ). IsAsWanted PAGE new (tip_page PAGE pages sequence)
+        (tip_checks page (tip_page PAGE pages sequence) sequence)) (sym bytes) there in
+        subst (λ (n : ℕ). IsAsWanted PAGE new n
+        (tip_checks (new (tip_page PAGE new sequence)) n sequence)) (sym same) moved
+
+inventory_has : (pages new : Pages) → OnlyPage pages new KV_ROWS.0 → HasInventory PAGE pages
+    → HasInventory PAGE new
+inventory_has pages new only has region within = at (has region within)
+  where
+    same : new (inventory_page PAGE region) ≡ pages (inventory_page PAGE region)
+    same = only (inventory_page PAGE region) (inventory_elsewhere region)
+
+    at : HasRegion PAGE pages (inventory_page PAGE region) region
+        → HasRegion PAGE new (inventory_page PAGE region) region
+    at (inl is_blank) = inl (same ∙ is_blank)
+    at (inr wanted) = inr (subst (λ (page : List ℕ). IsAsWanted PAGE new
+        (inventory_page PAGE region) (pip_checks page (inventory_page PAGE region) region))
+        (sym same) (wanted_stays pages new only (inventory_page PAGE region)
+        (pip_checks (pages (inventory_page PAGE region)) (inventory_page PAGE region) region)
+        wanted))
+
+-- ---- the rows
+
+-- where a table's pointer page is, 0 where there is no table
+abbrev pointer_of : Option Table → ℕ
+pointer_of None = 0
+pointer_of (Some table) = table.pointer.0
+
+-- no slot of KV is one of the catalog
+not_of_catalog : (pages : Pages) (p : RecId) (slot : ℕ)
+    → table_in (kv_facts pages) p ≡ Some (catalog_table CATALOG.0) → p ≢ kv_slot slot
+not_of_catalog pages p slot is e =
+    let pointers : CATALOG.0 ≡ KV.0 =
+    ap pointer_of (sym is ∙ ap (table_in (kv_facts pages)) e) in
+    absurd (omega arith)
+
+-- the catalog's rows stay, whatever is read of a slot of KV
+catalog_stays : (pages : Pages) (committed : ℕ → Bool) (r : Reading) (slot : ℕ) (es : List Entry)
+    (rows : Rows) → AreRows (kv_facts pages) committed r (catalog_table CATALOG.0) rows
+    → AreRows (kv_facts pages) committed (put_reading r (kv_slot slot) es)
+    (catalog_table CATALOG.0) rows
+catalog_stays pages committed r slot es rows are = record {
+  there = λ p row shows. are.there p row (record {
+    of_table = shows.of_table;
+    row_shown = ap (shown committed) (sym (same p shows.of_table)) ∙ shows.row_shown;
+  });
+  whole = λ key row is. whole key row (are.whole key row is);
+}
+  where
+    same : (p : RecId) → table_in (kv_facts pages) p ≡ Some (catalog_table CATALOG.0)
+        → put_reading r (kv_slot slot) es p ≡ r p
+    same p is = put_cases r (kv_slot slot) es (λ q fs. q ≢ kv_slot slot → fs ≡ r q)
+        (λ ne. absurd (ne refl)) (λ q ne _. refl) p (not_of_catalog pages p slot is)
+
+    whole : (key : Value) (row : Row)
+        → (p : RecId) × Shows (kv_facts pages) committed r p (catalog_table CATALOG.0) row
+        × (key_of (catalog_table CATALOG.0) row ≡ key)
+        → (p : RecId) × Shows (kv_facts pages) committed (put_reading r (kv_slot slot) es) p
+        (catalog_table CATALOG.0) row × (key_of (catalog_table CATALOG.0) row ≡ key)
+    whole key row (p, shows, keyed) = (p, record {
+      of_table = shows.of_table;
+      row_shown = ap (shown committed) (same p shows.of_table) ∙ shows.row_shown;
+    }, keyed)
+
+names_stay : (pages : Pages) (r : Reading) (slot : ℕ) (es : List Entry) (tables : List Table)
+    → HasNames (kv_facts pages) r (catalog_table CATALOG.0) tables
+    → HasNames (kv_facts pages) (put_reading r (kv_slot slot) es) (catalog_table CATALOG.0) tables
+names_stay pages r slot es tables has = record {
+  lawful = λ chosen. lawful chosen (has.lawful chosen);
+  named = named has.named;
+}
+  where
+    lawful : (chosen : ℕ → Bool) → (rows : Rows)
+        × AreRows (kv_facts pages) (committed_with (kv_facts pages) chosen) r
+        (catalog_table CATALOG.0) rows
+        × ((named : List Table) × AreTables rows named)
+        → (rows : Rows)
+        × AreRows (kv_facts pages) (committed_with (kv_facts pages) chosen)
+        (put_reading r (kv_slot slot) es) (catalog_table CATALOG.0) rows
+        × ((named : List Table) × AreTables rows named)
+    lawful chosen (rows, are, names) = (rows, catalog_stays pages
+        (committed_with (kv_facts pages) chosen) r slot es rows are, names)
+
+    named : (rows : Rows)
+        × AreRows (kv_facts pages) (committed_with (kv_facts pages) (λ t. true)) r
+        (catalog_table CATALOG.0) rows × AreTables rows tables
+        → (rows : Rows)
+        × AreRows (kv_facts pages) (committed_with (kv_facts pages) (λ t. true))
+        (put_reading r (kv_slot slot) es) (catalog_table CATALOG.0) rows × AreTables rows tables
+    named (rows, are, names) = (rows, catalog_stays pages
+        (committed_with (kv_facts pages) (λ t. true)) r slot es rows are, names)
+
+-- neither table has an index
+no_index : (pages : Pages) (p : RecId) (table : Table)
+    → table_in (kv_facts pages) p ≡ Some table → table.indexes ≡ []
+no_index pages p table = at (p.page.0 == CATALOG_ROWS.0) (p.page.0 == KV_ROWS.0)
+  where
+    some : (known : Table) → known.indexes ≡ [] → Some known ≡ Some table → table.indexes ≡ []
+    some known none is = let same : known ≡ table = cc in
+        ap (λ (t : Table). t.indexes) (sym same) ∙ none
+
+    at : (a b : Bool) → (if a || false then Some (catalog_table CATALOG.0)
+        else (if b || false then Some kv_table else None)) ≡ Some table → table.indexes ≡ []
+    at true b is = some (catalog_table CATALOG.0) refl is
+    at false true is = some kv_table refl is
+    at false false is = absurd cc
+
+found_in_none : (pages : Pages) (indexes : List Index) (p : RecId) (row : Row) → indexes ≡ []
+    → IsFoundIn pages indexes p row
+found_in_none pages indexes p row none = rw none tt
+
+-- what the records show of KV stays until the transaction is committed
+rows_stay : (pages : Pages) (r : Reading) (n : ℕ) (kvs : Rows) (t : ℕ) (key value : ℤ)
+    (slot at : ℕ) (back : Option Link) → IsKv pages r n kvs → IsPutting pages t key value
+    → AreRows (kv_facts pages) (kv_committed pages) (reading_with r t at back key value slot)
+    kv_table kvs
+rows_stay pages r n kvs t key value slot at back kv putting =
+    same_rows (kv_facts pages) (kv_facts pages) (kv_committed pages) (kv_committed pages) r
+    (reading_with r t at back key value slot) kv_table kvs (record {
+      tables = λ p. refl;
+      rows = put_cases r (kv_slot slot) (put_entry t at back key value ∷ r (kv_slot slot))
+          (λ q es. shown (kv_committed pages) es ≡ shown (kv_committed pages) (r q))
+          not_shown (λ q ne. refl);
+    }) kv.rows
+  where
+    not_shown : shown (kv_committed pages) (put_entry t at back key value ∷ r (kv_slot slot))
+        ≡ shown (kv_committed pages) (r (kv_slot slot))
+    not_shown = let dead : state_at PAGE pages t ≡ Dead = putting.dead in rw dead refl
+
+-- ---- all together
+
+-- the pages are sound
+put_is_sound : (pages new : Pages) (r : Reading) (n : ℕ) (kvs : Rows) (t : ℕ) (key value : ℤ)
+    (slot at : ℕ) (back : Option Link) → IsKv pages r n kvs → AllCommitted pages r
+    → IsPutting pages t key value → IsPlaceFor (pages KV_ROWS.0) r kvs key slot back
+    → ChangesRows pages new
+    → PutsVersion (pages KV_ROWS.0) (new KV_ROWS.0) t key value slot at back
+    → IsSound plain_form PAGE new kv_layout (reading_with r t at back key value slot)
+put_is_sound pages new r n kvs t key value slot at back kv all putting place_for change puts =
+    record {
+      header = header_has pages new change.others puts.len kv.sound.header;
+      transactions = transactions_have pages new change kv.sound.transactions;
+      inventory = inventory_has pages new change.others kv.sound.inventory;
+      catalog = kv.sound.catalog ∙ ap (λ (h : Header). catalog_table h.catalog.0)
+          (sym (header_stays pages new change.others));
+      tables = (
+        table_pages_stay pages new change.others (catalog_table CATALOG.0) CATALOG.0 CATALOG_ROWS.0
+            (λ e. omega arith) kv.sound.tables.0 tt
+            (data_stays pages new change.others CATALOG.0 0 CATALOG_ROWS.0 (λ e. omega arith)
+            (kv.sound.tables.0).data_pages.0),
+        (
+          table_pages_stay pages new change.others kv_table KV.0 KV_ROWS.0 (λ e. omega arith)
+              kv.sound.tables.1.0 tt
+              (kv_data_stays pages new r n kvs t key value slot at back kv putting place_for
+              change.others puts),
+          tt,
+        ),
+      );
+      sequences = tt;
+      names = subst (λ (f : Facts). HasNames f (reading_with r t at back key value slot)
+          (catalog_table CATALOG.0) (kv_table ∷ [])) (sym (facts_stay pages new change))
+          (names_stay pages r slot (put_entry t at back key value ∷ r (kv_slot slot))
+          (kv_table ∷ []) kv.sound.names);
+      once = subst IsOnce (sym (linked_stay pages new change)) kv.sound.once;
+      records = subst (λ (f : Facts). AreRecords plain_coding f (cells_of new)
+          (reading_with r t at back key value slot)) (sym (facts_stay pages new change))
+          (put_records pages (cells_of new) r n kvs t key value slot at back kv all putting
+          place_for (cells_put pages new r n kvs t key value slot at back kv putting place_for
+          change.others puts));
+      limbo = λ u old is. kv.limbo u (sym (state_stays pages new change u) ∙ is);
+      indexed = record {
+        committed = λ p table row shows. found_in_none new table.indexes p row
+            (no_index new p table shows.of_table);
+        limbo = λ p table e has alive. found_in_none new table.indexes p e.row
+            (no_index new p table has.of_table);
+      };
+    }
+
+-- with the same rows of KV
+put_holds_same : (pages new : Pages) (r : Reading) (n : ℕ) (kvs : Rows) (t : ℕ) (key value : ℤ)
+    (slot at : ℕ) (back : Option Link) → IsKv pages r n kvs → AllCommitted pages r
+    → IsPutting pages t key value → IsPlaceFor (pages KV_ROWS.0) r kvs key slot back
+    → ChangesRows pages new
+    → PutsVersion (pages KV_ROWS.0) (new KV_ROWS.0) t key value slot at back
+    → IsKv new (reading_with r t at back key value slot) n kvs
+put_holds_same pages new r n kvs t key value slot at back kv all putting place_for change puts =
+    record {
+      sound = put_is_sound pages new r n kvs t key value slot at back kv all putting place_for
+          change puts;
+      next = next_stays pages new change.others ∙ kv.next;
+      last = kv.last;
+      oldest = omega (arith, oldest_stays pages new change.others, kv.oldest);
+      one_tip = ap (λ (h : Header). h.last_tip) (header_stays pages new change.others) ∙ kv.one_tip;
+      limbo = λ u is. kv.limbo u (sym (state_stays pages new change u) ∙ is);
+      catalog = subst (λ (f : Facts). AreRows f (committed_in f)
+          (reading_with r t at back key value slot) (catalog_table CATALOG.0) catalog_rows)
+          (sym (facts_stay pages new change))
+          (catalog_stays pages (kv_committed pages) r slot
+          (put_entry t at back key value ∷ r (kv_slot slot)) catalog_rows kv.catalog);
+      rows = subst (λ (f : Facts). AreRows f (committed_in f)
+          (reading_with r t at back key value slot) kv_table kvs)
+          (sym (facts_stay pages new change))
+          (rows_stay pages r n kvs t key value slot at back kv putting);
+    }
+
+-- committed rows stay so
+committed_stay : (pages new : Pages) → ChangesRows pages new → (es : List Entry)
+    → Each (IsCommittedRow pages) es → Each (IsCommittedRow new) es
+committed_stay pages new change [] each = tt
+committed_stay pages new change (e ∷ es) each = (record {
+  committed = state_stays pages new change (writer e) ∙ each.0.committed;
+  alive = each.0.alive;
+}, committed_stay pages new change es each.1)
+
+-- and the transaction is pending
+put_is_pending : (pages new : Pages) (r : Reading) (n : ℕ) (kvs : Rows) (t : ℕ) (key value : ℤ)
+    (slot at : ℕ) (back : Option Link) → IsKv pages r n kvs → AllCommitted pages r
+    → IsPlaceFor (pages KV_ROWS.0) r kvs key slot back → ChangesRows pages new
+    → IsPending new (reading_with r t at back key value slot) t key value slot
+put_is_pending pages new r n kvs t key value slot at back kv all place_for change = record {
+  newest = put_entry t at back key value;
+  older = r (kv_slot slot);
+  record_ = put_cases r (kv_slot slot) put (λ q es. q ≡ kv_slot slot → es ≡ put) (λ e. refl)
+      (λ q ne e. absurd (ne e)) (kv_slot slot) refl;
+  by = refl;
+  alive = refl;
+  row = refl;
+  older_committed = committed_stay pages new change (r (kv_slot slot)) (all (kv_slot slot));
+  others_committed = put_cases r (kv_slot slot) put
+      (λ q es. q ≢ kv_slot slot → Each (IsCommittedRow new) es) (λ ne. absurd (ne refl))
+      (λ q ne _. committed_stay pages new change (r q) (all q));
+  alone = put_cases r (kv_slot slot) put
+      (λ q es. q ≢ kv_slot slot → q.page ≡ KV_ROWS → TakesKey (kv_facts new) es
+      → record_key kv_table es ≢ Int key) (λ ne. absurd (ne refl))
+      (λ q ne _ of takes. key_is_free pages r n kvs key slot back kv all place_for q ne
+      (of_kv q of)
+      (subst (λ (f : Facts). TakesKey f (r q)) (facts_stay pages new change) takes));
+}
+  where
+    put : List Entry
+    put = put_entry t at back key value ∷ r (kv_slot slot)
+
+    of_kv : (q : RecId) → q.page ≡ KV_ROWS → table_in (kv_facts pages) q ≡ Some kv_table
+    of_kv q of = ap (λ (p : PageNo). (kv_facts pages).table_of p.0) of
+
+-- where a row is put by a transaction that is not committed yet, the pages are sound and hold the
+-- same rows, and the transaction is pending
+pub put_is_kv : (pages new : Pages) (r : Reading) (n : ℕ) (kvs : Rows) (t : ℕ) (key value : ℤ)
+    (slot at : ℕ) (back : Option Link) → IsKv pages r n kvs → AllCommitted pages r
+    → IsPutting pages t key value → IsPlaceFor (pages KV_ROWS.0) r kvs key slot back
+    → OnlyPage pages new KV_ROWS.0
+    → PutsVersion (pages KV_ROWS.0) (new KV_ROWS.0) t key value slot at back
+    → IsKv new (reading_with r t at back key value slot) n kvs
+    × IsPending new (reading_with r t at back key value slot) t key value slot
+put_is_kv pages new r n kvs t key value slot at back kv all putting place_for only puts =
+    let change : ChangesRows pages new = record {
+      others = only;
+      one_tip = kv.one_tip;
+      last = omega (arith, kv.next, kv.last);
+    } in
+    (
+      put_holds_same pages new r n kvs t key value slot at back kv all putting place_for change puts,
+      put_is_pending pages new r n kvs t key value slot at back kv all place_for change,
+    )
