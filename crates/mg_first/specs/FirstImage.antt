@@ -6,7 +6,7 @@ use Rattle.mg_image.specs.Catalog.{catalog_table}
 use Rattle.mg_image.specs.declared.entry.Entry.{Entry}
 use Rattle.mg_image.specs.Form.{Pages, Rows, plain_form}
 use Rattle.mg_image.specs.Held.{AreRows}
-use Rattle.mg_image.specs.Inventory.{header_of, next_of, state_at}
+use Rattle.mg_image.specs.Inventory.{header_of, next_of, oldest_of, state_at}
 use Rattle.mg_image.specs.Opening.{Opened}
 use Rattle.mg_image.specs.RecordRules.{Each, Facts, committed_in}
 use Rattle.mg_image.specs.Records.{Reading, writer}
@@ -22,12 +22,13 @@ kv_facts pages = facts_of PAGE pages kv_layout
 abbrev pub kv_committed : Pages → ℕ → Bool
 kv_committed pages = committed_in (kv_facts pages)
 
--- These pages are sound, with the next number n, nobody in limbo, the catalog of a new database,
--- and these rows of KV, which these records show.
+-- These pages are sound, with the next number n, each transaction interesting, nobody in limbo, the
+-- catalog of a new database, and these rows of KV, which these records show.
 pub record IsKv (pages : Pages) (r : Reading) (n : ℕ) (kvs : Rows) : Type 0 where
   pub sound : IsSound plain_form PAGE pages kv_layout r
   pub next : next_of pages ≡ n
   pub last : n ≤ LAST.0
+  pub oldest : oldest_of pages ≤ 1
   pub one_tip : (header_of pages).last_tip ≡ TRANSACTIONS
   pub limbo : (t : ℕ) → state_at PAGE pages t ≢ Limbo
   pub catalog : AreRows (kv_facts pages) (kv_committed pages) r (catalog_table CATALOG.0)

@@ -1,6 +1,10 @@
 pub mod FirstImage
+pub mod KvRowLaws
 pub mod KvTable
 pub mod NewCatalogLaws
 pub mod NewDatabase
 pub mod NewReadingLaws
+pub mod OtherPages
+pub mod PutLaws
+pub mod PutRecords
 pub mod Puts
