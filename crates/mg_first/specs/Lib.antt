@@ -3,7 +3,6 @@ pub mod KvRowLaws
 pub mod KvTable
 pub mod NewCatalogLaws
 pub mod NewDatabase
-pub mod NewReadingLaws
 pub mod OtherPages
 pub mod PutLaws
 pub mod PutRecords

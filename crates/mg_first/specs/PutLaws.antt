@@ -1,5 +1,5 @@
 -- A row is put on the data page of KV: the pages are sound, and a transaction is pending.
-use Rattle.std.proofs.Common.{◌≡◌, ◌≢◌, ◌⊎◌, inl, inr, refl, sym, ap, ◌∙◌, subst, arith, ℕ, ◌+◌, ◌<◌, ◌≤◌, ◌^◌, ℤ, Bool, true, false, ◌||◌, List, [], ◌∷◌, ◌++◌, length, Option, None, Some}
+use Rattle.std.proofs.Common.{◌≡◌, ◌≢◌, ◌⊎◌, inl, inr, refl, sym, ap, ◌∙◌, subst, arith, ℕ, ◌<◌, ◌^◌, ℤ, Bool, true, false, ◌||◌, List, [], ◌∷◌, ◌++◌, length, Option, None, Some}
 use Rattle.std.proofs.lemmas.Bool.{cases_eq}
 use Rattle.std.specs.Prelude.{IfSome, ◌==◌, if◌then◌else◌}
 use Rattle.mg_base.specs.CheckLaws.{front_checks}
@@ -28,23 +28,23 @@ use Rattle.mg_version.specs.declared.cell.Link.{Link}
 use Rattle.mg_image.specs.Catalog.{HasNames, catalog_table, committed_with}
 use Rattle.mg_image.specs.Form.{Pages, Row, Rows, plain_coding, plain_form}
 use Rattle.mg_image.specs.Held.{AreRows, Shows}
-use Rattle.mg_image.specs.HeldLaws.{ShowsSame, same_rows}
+use Rattle.mg_image.specs.HeldLaws.{same_rows}
 use Rattle.mg_image.specs.Indexes.{AreTrees, IsFoundIn}
-use Rattle.mg_image.specs.Inventory.{header_of, inventory_page, next_of, state_at, tip_page}
-use Rattle.mg_image.specs.Reached.{IsAsWanted, linked_pages}
+use Rattle.mg_image.specs.Inventory.{inventory_page, state_at, tip_page}
+use Rattle.mg_image.specs.Reached.{IsAsWanted}
 use Rattle.mg_image.specs.RecordRules.{AreRecords, Each, Facts, TakesKey, committed_in, table_in}
 use Rattle.mg_image.specs.Records.{Reading, cell_spelled, cells_of, key_of, record_key, shown, slot_cell, writer}
-use Rattle.mg_image.specs.Sound.{HasHeader, HasInventory, HasRegion, HasTablePages, HasTransactions, IsCellOf, IsIndexed, IsSound, IsTableData, IsTablePointer, IsUndrawn}
-use Rattle.mg_image.specs.StepLaws.{cases_place, put_cases, put_reading, same_place}
+use Rattle.mg_image.specs.Sound.{HasHeader, HasInventory, HasRegion, HasTablePages, HasTransactions, IsCellOf, IsSound, IsTableData, IsTablePointer, IsUndrawn}
+use Rattle.mg_image.specs.StepLaws.{put_cases, put_reading}
 use Rattle.mg_image.specs.Tables.{Has, IsOnce}
 use Rattle.mg_image.specs.declared.entry.Entry.{Entry}
 use Rattle.mg_first.specs.FirstImage.{AllCommitted, IsCommittedRow, IsKv, kv_committed, kv_facts}
 use Rattle.mg_first.specs.KvRowLaws.{row_of_bytes}
-use Rattle.mg_first.specs.KvTable.{catalog_rows, kv_layout, kv_row, kv_table, stands_on}
+use Rattle.mg_first.specs.KvTable.{catalog_rows, kv_layout, kv_table, stands_on}
 use Rattle.mg_first.specs.OtherPages.{ChangesRows, chain_stays_over, facts_stay, header_stays, inventory_elsewhere, last_sequence_stays, linked_stay, next_stays, oldest_stays, bits_stay, state_stays, tip_bytes_stay, tip_stays, used_stays, wanted_stays}
 use Rattle.mg_first.specs.PutRecords.{IsPutting, PutsCells, put_entry, put_records, reading_with, key_is_free}
 use Rattle.mg_first.specs.Puts.{IsPending, IsPlaceFor, OnlyPage, PutsVersion, fresh, kv_link, kv_slot, kv_version, over}
-use Rattle.mg_first.specs.declared.pages.TheConstants.{CATALOG, CATALOG_ROWS, KV, KV_ROWS, LAST, PAGE}
+use Rattle.mg_first.specs.declared.pages.TheConstants.{CATALOG, CATALOG_ROWS, KV, KV_ROWS, PAGE}
 
 -- ---- the cells of KV's page
 

@@ -1,13 +1,10 @@
 -- A row is put: the records of KV are lawful before and after it.
-use Rattle.std.proofs.Common.{◌≡◌, ◌≢◌, ◌⊎◌, inl, inr, refl, sym, ap, ◌∙◌, subst, arith, ℕ, ◌<◌, ◌≤◌, ℤ, Bool, true, false, List, [], ◌∷◌, Option, None, Some}
+use Rattle.std.proofs.Common.{◌≡◌, ◌≢◌, ◌⊎◌, inl, inr, refl, sym, ap, ◌∙◌, subst, arith, ℕ, ◌<◌, ℤ, true, false, List, [], ◌∷◌, Option, None, Some}
 use Rattle.std.specs.Prelude.{FitsSigned, if◌then◌else◌}
 use Rattle.std.specs.Int.{w64}
 use Rattle.mg_base.specs.declared.numbers.RecId.{RecId}
-use Rattle.mg_base.specs.declared.transaction.TxState.{TxState}
-use Rattle.mg_base.specs.declared.transaction.TxState.TheVariants.{Committed, Dead, Limbo}
-use Rattle.mg_model.specs.Answers.{is_committed}
+use Rattle.mg_base.specs.declared.transaction.TxState.TheVariants.{Committed, Dead}
 use Rattle.mg_model.specs.declared.table.Table.{Table}
-use Rattle.mg_slots.specs.DataPage.{cell_of}
 use Rattle.mg_value.specs.declared.value.Value.{Value}
 use Rattle.mg_value.specs.declared.value.Value.TheVariants.{Int}
 use Rattle.mg_version.specs.declared.cell.Cell.{Cell}
@@ -15,12 +12,12 @@ use Rattle.mg_version.specs.declared.cell.Cell.TheVariants as cells
 use Rattle.mg_version.specs.declared.cell.Link.{Link}
 use Rattle.mg_version.specs.declared.cell.Version.{Version}
 use Rattle.mg_image.specs.declared.entry.Entry.{Entry}
-use Rattle.mg_image.specs.Form.{Coding, Pages, Row, Rows, plain_coding}
-use Rattle.mg_image.specs.Inventory.{next_of, oldest_of, state_at}
+use Rattle.mg_image.specs.Form.{Coding, Pages, Rows, plain_coding}
+use Rattle.mg_image.specs.Inventory.{next_of, state_at}
 use Rattle.mg_image.specs.ReadingLaws.{Opens, chain_opens}
-use Rattle.mg_image.specs.RecordRules.{AreRecords, Each, Facts, IsRecord, IsVersion, TakesKey, committed_in, table_in}
+use Rattle.mg_image.specs.RecordRules.{AreRecords, Each, Facts, IsRecord, IsVersion, TakesKey, table_in}
 use Rattle.mg_image.specs.Records.{Cells, Chain, Changes, Reading, Stands, cells_of, ended, goes, newest_of, record_key, shown, slot_cell, writer}
-use Rattle.mg_image.specs.StepLaws.{IsStep, cases_place, chain_stays, put_reading, same_place, step_sound, unread_sound}
+use Rattle.mg_image.specs.StepLaws.{cases_place, chain_stays, put_reading, same_place, step_sound, unread_sound}
 use Rattle.mg_first.specs.FirstImage.{AllCommitted, IsCommittedRow, IsKv, kv_committed, kv_facts}
 use Rattle.mg_first.specs.KvRowLaws.{row_is_plain, row_is_storable}
 use Rattle.mg_first.specs.KvTable.{kv_row, kv_table}

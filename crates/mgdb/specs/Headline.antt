@@ -1,7 +1,7 @@
 -- What the program promises of a run, in the terms of one history.
 use Rattle.std.specs.Prelude.{◌≡◌, ◌≤◌, ◌+◌, ℕ, true, false, Bool, List, [], ◌∷◌, ◌++◌, take, Option, None, Some, codes}
 use Rattle.std.specs.Str.Lines.{lines}
-use Rattle.mg_base.specs.Disk.{MayLeave, Meaning}
+use Rattle.mg_base.specs.Disk.{MayLeave, Meaning, Rose}
 use Rattle.mg_base.specs.Image.{Image, page_at}
 use Rattle.mg_base.specs.Moments.{LeavesOnly}
 use Rattle.mg_base.specs.Streams.{SinkMeaning}
@@ -61,12 +61,12 @@ fault_line (Some (Memory places.Run)) = codes "mgdb: OUT OF MEMORY" ++ 10 ∷ []
 fault_line (Some (Memory places.Put)) = []
 fault_line (Some ScriptTooLong) = codes "mgdb: SCRIPT TOO LONG" ++ 10 ∷ []
 
--- The sink took these bytes, or a prefix of them where it failed.
+-- The sink took these bytes, or a prefix of them where its count of faults rose.
 pub record IsPrinted {K : Type 0} (m : SinkMeaning K) (old new : K) (bytes : List ℕ) : Type 0 where
   pub prefix : (before : List ℕ) → m.taken old ≡ Some before
       → (n : ℕ) × (m.taken new ≡ Some (before ++ take n bytes))
-  pub whole : m.faults new ≡ m.faults old → (before : List ℕ) → m.taken old ≡ Some before
-      → m.taken new ≡ Some (before ++ bytes)
+  pub whole : (Rose (m.faults old) (m.faults new) → ⊥) → (before : List ℕ)
+      → m.taken old ≡ Some before → m.taken new ≡ Some (before ++ bytes)
 
 -- ---- the page writes that are asked
 
