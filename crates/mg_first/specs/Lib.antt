@@ -1,3 +1,5 @@
 pub mod FirstImage
 pub mod KvTable
 pub mod Puts
+pub mod PlaceLaws
+pub mod StepLaws

@@ -1,5 +1,6 @@
 -- The same records under other facts, or over other cells.
-use Rattle.std.proofs.Common.{◌≡◌, ◌≢◌, ◌⊎◌, inl, inr, refl, sym, ◌∙◌, ◌≤◌, arith, ℕ, Bool, true, List, [], ◌∷◌, Option, Some}
+use Rattle.std.specs.Prelude.{if◌then◌else◌}
+use Rattle.std.proofs.Common.{◌≡◌, ◌≢◌, ◌⊎◌, inl, inr, refl, sym, ◌∙◌, ◌≤◌, arith, ℕ, Bool, true, List, [], ◌∷◌, Option, None, Some, ap, false}
 use Rattle.std.proofs.Math.Path.{fun_ext}
 use Rattle.std.proofs.lemmas.Bool.{cases_eq}
 use Rattle.mg_base.specs.declared.numbers.RecId.{RecId}
@@ -250,3 +251,20 @@ same_names f g r s catalog tables same names = record {
         → (rows : Rows) × AreRows g (committed_with g (λ t. true)) s catalog rows
         × AreTables rows tables
     moved_names (rows, are, named) = (rows, rows_are (λ t. true) rows are, named)
+
+-- the row that is shown has the key of its versions
+pub shown_keyed : (coding : Coding) (f : Facts) (table : Table) (key : Value)
+    (committed : ℕ → Bool) (es : List Entry) (row : Row) → Each (IsVersion coding f table key) es
+    → shown committed es ≡ Some row → key_of table row ≡ key
+shown_keyed coding f table key committed [] row each is = absurd cc
+shown_keyed coding f table key committed (e ∷ es) row each is =
+    at (committed (writer e)) e.version.deleted
+    (shown_keyed coding f table key committed es row each.1) is
+  where
+    at : (counts deleted : Bool) → (shown committed es ≡ Some row → key_of table row ≡ key)
+        → (if counts then (if deleted then None else Some e.row) else shown committed es)
+        ≡ Some row → key_of table row ≡ key
+    at true true older is = absurd cc
+    at true false older is =
+        let same : e.row ≡ row = cc in ap (key_of table) (sym same) ∙ each.0.keyed
+    at false deleted older is = older is
