@@ -3,3 +3,4 @@ pub mod KvTable
 pub mod Puts
 pub mod PlaceLaws
 pub mod StepLaws
+pub mod CommitLaws

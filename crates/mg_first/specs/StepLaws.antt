@@ -1,42 +1,34 @@
 -- The next number is raised, and a transaction that has put a row is committed: what the image is
 -- then.
-use Rattle.std.proofs.Common.{◌≡◌, ◌≢◌, ◌⊎◌, inl, inr, refl, sym, ap, ◌∙◌, ◌+◌, ◌-◌, ◌*◌, ◌/◌, ◌%◌, ◌<◌, ◌≤◌, arith, ℕ, ℤ, zero, suc, ◌==◌, ◌||◌, nat_lt, Bool, true, false, List, [], ◌∷◌, Option, None, Some, length, eq-eqb, ne_eqb, le-ltb, lt-ltb}
-use Rattle.std.specs.Prelude.{if◌then◌else◌, ◌++◌, ◌&&◌}
+use Rattle.std.proofs.Common.{◌≡◌, ◌≢◌, ◌⊎◌, inl, inr, refl, sym, ap, ◌∙◌, ◌+◌, ◌/◌, ◌%◌, ◌<◌, ◌≤◌, arith, ℕ, ◌||◌, Bool, false, List, [], ◌∷◌, Some, length, le-ltb, lt-ltb}
+use Rattle.std.specs.Prelude.{◌&&◌}
 use Rattle.std.proofs.Math.Path.{fun_ext}
 use Rattle.std.proofs.lemmas.Bool.{cases_eq, cases_lt}
-use Rattle.mg_base.specs.Checks.{PassesAll}
-use Rattle.mg_base.specs.Image.{blank}
 use Rattle.mg_base.specs.declared.numbers.PageNo.{PageNo}
 use Rattle.mg_base.specs.declared.numbers.RecId.{RecId}
 use Rattle.mg_base.specs.declared.transaction.TxState.{TxState}
 use Rattle.mg_base.specs.declared.transaction.TxState.TheVariants.{Active, Limbo, Dead, Committed}
-use Rattle.mg_base.specs.declared.geometry.TheConstants.{GREATEST_LIMIT}
-use Rattle.mg_header.specs.HeaderPage.{database_checks, page_checks}
 use Rattle.mg_header.specs.declared.header.Header.{Header}
 use Rattle.mg_model.specs.declared.table.Table.{Table}
 use Rattle.mg_model.specs.Answers.{is_committed}
 use Rattle.mg_model.specs.Legal.{is_limbo}
 use Rattle.mg_pip.specs.PipPage.{pip_checks}
 use Rattle.mg_slots.specs.DataPage.{cell_of}
-use Rattle.mg_tip.specs.TipPage.{SetsState, places, state_in, tip_checks}
-use Rattle.mg_tip.specs.TipPageLaws.{same_tests}
-use Rattle.mg_image.specs.declared.entry.Entry.{Entry}
+use Rattle.mg_tip.specs.TipPage.{places, state_in, tip_checks}
 use Rattle.mg_image.specs.Catalog.{catalog_table, committed_with}
-use Rattle.mg_image.specs.FactLaws.{each_has, shown_alike, shown_keyed, still_committed, CommitsFacts, GrowsFacts, KeepsFacts, KeysOnce, ShowsSameOf, records_grow, records_on_same_cells, records_commit, same_names, same_rows_of}
+use Rattle.mg_image.specs.FactLaws.{each_has, GrowsFacts, ShowsSameOf, records_grow, records_on_same_cells, same_names, same_rows_of}
 use Rattle.mg_image.specs.Form.{Pages, Row, Rows, plain_coding, plain_form}
-use Rattle.mg_image.specs.Held.{AreRows, HasLimbo, Shows}
 use Rattle.mg_image.specs.Indexes.{IsFoundIn}
-use Rattle.mg_image.specs.Inventory.{header_of, inventory_page, is_used, last_sequence, next_of, oldest_of, settled, state_at, tip_page}
-use Rattle.mg_image.specs.KeptPageLaws.{KeepsTablePages, table_pages_kept, wanted_kept}
-use Rattle.mg_image.specs.Reached.{IsAsWanted, linked_pages}
-use Rattle.mg_image.specs.RecordRules.{AreRecords, Each, Facts, TakesKey, committed_in, table_in}
-use Rattle.mg_image.specs.Records.{Reading, cells_of, record_key, shown, slot_cell, writer}
-use Rattle.mg_image.specs.Sound.{HasHeader, HasInventory, HasNoneUndrawn, HasRegion, HasTablePages, HasTips, HasTransactions, IsIndexed, IsSound, IsUndrawn, facts_of}
-use Rattle.mg_image.specs.Tables.{EachStand, Has, IsOnce, Stand, stands_of, table_at}
+use Rattle.mg_image.specs.Inventory.{header_of, inventory_page, settled, state_at}
+use Rattle.mg_image.specs.KeptPageLaws.{table_pages_kept, wanted_kept}
+use Rattle.mg_image.specs.RecordRules.{AreRecords, table_in}
+use Rattle.mg_image.specs.Records.{Reading, cells_of, shown, slot_cell, writer}
+use Rattle.mg_image.specs.Sound.{HasHeader, HasRegion, HasTablePages, HasTransactions, IsIndexed, IsSound, IsUndrawn}
+use Rattle.mg_image.specs.Tables.{Has}
 use Rattle.mg_first.specs.FirstImage.{AllCommitted, IsCommittedRow, IsKv, kv_committed, kv_facts}
-use Rattle.mg_first.specs.KvTable.{catalog_rows, kv_layout, kv_row, kv_table, stands_on, with_row_at}
-use Rattle.mg_first.specs.PlaceLaws.{HasOneTip, KeepsRest, inventory_apart, kv_linked, linked_are, no_index, rows_apart, state_by, none_of, state_is, tip_of, transactions_from, used_kept}
-use Rattle.mg_first.specs.Puts.{CommitsBits, IsPending, OnlyPage, RaisesNext, kv_slot}
+use Rattle.mg_first.specs.KvTable.{catalog_rows, kv_layout, kv_table, stands_on}
+use Rattle.mg_first.specs.PlaceLaws.{HasOneTip, KeepsRest, inventory_apart, linked_are, no_index, rows_apart, state_by, none_of, state_is, tip_of, transactions_from, used_kept}
+use Rattle.mg_first.specs.Puts.{RaisesNext}
 use Rattle.mg_first.specs.declared.pages.TheConstants.{CATALOG, CATALOG_ROWS, KV, KV_ROWS, LAST, PAGE, TRANSACTIONS}
 
 -- ---- a write of the header, or of the bits of transactions
