@@ -4,3 +4,4 @@ pub mod Puts
 pub mod PlaceLaws
 pub mod StepLaws
 pub mod CommitLaws
+pub mod HoldsLaws

@@ -41,7 +41,8 @@ kv_place n = at (cases_eq n CATALOG_ROWS.0) (cases_eq n KV_ROWS.0)
     at (inr out) (inr past) =
         outside (rw (ne_eqb n CATALOG_ROWS.0 out, ne_eqb n KV_ROWS.0 past) refl)
 
-some_once : (table other : Table) (it : Option Table) → it ≡ Some table → it ≡ Some other
+-- a place is of one table
+pub some_once : (table other : Table) (it : Option Table) → it ≡ Some table → it ≡ Some other
     → table ≡ other
 some_once table other it is also = cc
 
