@@ -186,8 +186,8 @@ kv_holds pages r n rows kv = sound_image (record {
 -- the catalog is that of a new database, in which page numbers do not count
 pub new_catalog_told : (key : Value)
     → told_of (catalog_table CATALOG.0) (catalog_rows key) ≡ new_row catalog_name key
-new_catalog_told key = at (same_key (column_key kv_name 0) key) (same_key (column_key kv_name 1) key)
-    (same_key (table_key kv_name) key) refl refl refl
+new_catalog_told key = at (same_key (column_key kv_name 0) key)
+    (same_key (column_key kv_name 1) key) (same_key (table_key kv_name) key) refl refl refl
   where
     at : (a b c : Bool) → same_key (column_key kv_name 0) key ≡ a
         → same_key (column_key kv_name 1) key ≡ b → same_key (table_key kv_name) key ≡ c

@@ -84,8 +84,8 @@ not_indexed pages r = record {
     found p table row of = rw (no_index p.page.0 table of) tt
 
 -- the image is sound
-pub quiet_sound : (old new : Pages) (r : Reading) (m n : ℕ) → IsSound plain_form PAGE old kv_layout r
-    → HasOneTip old m → IsQuiet old new r n → IsSound plain_form PAGE new kv_layout r
+pub quiet_sound : (old new : Pages) (r : Reading) (m n : ℕ)
+    → IsSound plain_form PAGE old kv_layout r → HasOneTip old m → IsQuiet old new r n → IsSound plain_form PAGE new kv_layout r
 quiet_sound old new r m n sound has quiet = record {
   header = quiet.header;
   transactions = quiet.transactions;
@@ -177,8 +177,8 @@ pub raised_state : (old new : Pages) (n : ℕ) → HasOneTip old n → HasTransa
     → n < LAST.0 → RaisesNext old new → (t : ℕ) → state_at PAGE new t ≡ state_at PAGE old t
 raised_state old new n has transactions below raises t =
     state_is new (n + 1) (raised_tip old new n has below raises) t ∙
-    (ap (λ (page : List ℕ). state_by (n + 1) page t) (raises.others TRANSACTIONS.0 (λ z. omega (arith, z)))
-    ∙ (drawn_dead n (old TRANSACTIONS.0)
+    (ap (λ (page : List ℕ). state_by (n + 1) page t)
+    (raises.others TRANSACTIONS.0 (λ z. omega (arith, z))) ∙ (drawn_dead n (old TRANSACTIONS.0)
     (none_of old n has transactions n (omega arith) (first_places n below)) t
     ∙ sym (state_is old n has t)))
 
