@@ -85,7 +85,8 @@ not_indexed pages r = record {
 
 -- the image is sound
 pub quiet_sound : (old new : Pages) (r : Reading) (m n : ℕ)
-    → IsSound plain_form PAGE old kv_layout r → HasOneTip old m → IsQuiet old new r n → IsSound plain_form PAGE new kv_layout r
+    → IsSound plain_form PAGE old kv_layout r → HasOneTip old m → IsQuiet old new r n
+    → IsSound plain_form PAGE new kv_layout r
 quiet_sound old new r m n sound has quiet = record {
   header = quiet.header;
   transactions = quiet.transactions;
