@@ -7,3 +7,7 @@ pub mod OtherPages
 pub mod PutLaws
 pub mod PutRecords
 pub mod Puts
+pub mod PlaceLaws
+pub mod StepLaws
+pub mod CommitLaws
+pub mod HoldsLaws
