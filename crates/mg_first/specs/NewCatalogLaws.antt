@@ -1,14 +1,13 @@
 -- The catalog of a new database is lawful, and names the table KV alone.
-use Rattle.std.proofs.Common.{◌≡◌, ◌≢◌, ◌⊎◌, ◌<◌, ◌≤◌, ◌+◌, ◌/◌, ◌%◌, ◌==◌, ◌&&◌, inl, inr, refl, sym, ap, subst, ◌∙◌, lit≤, lit<, arith, get_or, ℕ, zero, suc, Bool, true, false, List, [], ◌∷◌, ◌++◌, length, Option, None, Some}
-use Rattle.std.specs.Prelude.{IsTrue, codes, map, if◌then◌else◌}
+use Rattle.std.proofs.Common.{◌≡◌, ◌⊎◌, ◌<◌, ◌≤◌, ◌+◌, ◌/◌, ◌%◌, ◌==◌, ◌&&◌, inl, inr, refl, sym, ap, ◌∙◌, lit≤, lit<, arith, get_or, ℕ, zero, suc, Bool, true, false, List, [], ◌∷◌, length, Option, None, Some}
+use Rattle.std.specs.Prelude.{codes, map, if◌then◌else◌}
 use Rattle.mg_base.specs.Fields.{byte}
 use Rattle.mg_value.specs.Names.{IsName, IsReserved}
 use Rattle.mg_value.specs.Values.{bytes_of}
 use Rattle.mg_value.specs.declared.name.TheConstants.{RESERVED}
 use Rattle.mg_value.specs.declared.value.Value.{Value}
-use Rattle.mg_value.specs.declared.value.Value.TheVariants.{Null, Int, Text}
-use Rattle.mg_model.specs.Catalog.{catalog_shape, column_key, index_key, key_of, said_a, said_b, said_c, said_d, said_name, table_key}
-use Rattle.mg_model.specs.CatalogRules.{AreIndexes, AreTables, HasTableOf, IsCatalog, IsCatalogRow, IsColumnRow, IsKeyColumn, IsTable, IsTableRow}
+use Rattle.mg_model.specs.Catalog.{column_key, index_key, said_b, said_c, said_name, table_key}
+use Rattle.mg_model.specs.CatalogRules.{AreIndexes, AreTables, IsCatalog, IsCatalogRow, IsColumnRow, IsKeyColumn, IsTable, IsTableRow}
 use Rattle.mg_model.specs.Changes.{same_key}
 use Rattle.mg_model.specs.NewDatabase.{kv_name}
 use Rattle.mg_model.specs.RowLaws.{same_from_same_key}

@@ -1,34 +1,30 @@
 -- What is read of a new database: its records are lawful, and show the catalog's rows alone.
-use Rattle.std.proofs.Common.{◌≡◌, ◌≢◌, ◌⊎◌, ◌<◌, ◌≤◌, ◌+◌, ◌-◌, ◌==◌, inl, inr, refl, sym, ap, subst, ◌∙◌, lit≤, lit<, arith, get_or, ℕ, zero, suc, Bool, true, false, List, [], ◌∷◌, ◌++◌, length, Option, None, Some}
+use Rattle.std.proofs.Common.{◌≡◌, ◌≢◌, ◌⊎◌, ◌<◌, ◌-◌, ◌==◌, inl, inr, refl, sym, ap, subst, ◌∙◌, lit≤, lit<, arith, ℕ, zero, suc, Bool, true, [], ◌∷◌, ◌++◌, length, Option, None, Some}
 use Rattle.std.specs.Int.{w64}
-use Rattle.std.specs.Prelude.{FitsSigned, codes, ◌^◌, pos, if◌then◌else◌, replicate}
+use Rattle.std.specs.Prelude.{FitsSigned, ◌^◌, pos, if◌then◌else◌, replicate}
 use Rattle.std.proofs.lemmas.Bool.{cases_eq, ne_eqb}
 use Rattle.mg_base.specs.Fields.{byte}
 use Rattle.mg_base.specs.declared.numbers.RecId.{RecId}
-use Rattle.mg_base.specs.declared.transaction.TxState.{TxState}
-use Rattle.mg_base.specs.declared.transaction.TxState.TheVariants.{Committed, Dead, Limbo}
-use Rattle.mg_value.specs.Rows.{FitsColumn, RowFits}
-use Rattle.mg_value.specs.declared.shape.Kind.TheVariants as kinds
+use Rattle.mg_base.specs.declared.transaction.TxState.TheVariants.{Committed}
+use Rattle.mg_value.specs.Rows.{RowFits}
 use Rattle.mg_value.specs.Values.{bytes_of}
 use Rattle.mg_value.specs.declared.value.Value.{Value}
-use Rattle.mg_value.specs.declared.value.Value.TheVariants.{Null, Int, Text}
+use Rattle.mg_value.specs.declared.value.Value.TheVariants.{Null, Text}
 use Rattle.mg_rowcode.specs.Storable.{AreStorable}
 use Rattle.mg_version.specs.Cells.{cell_bytes}
-use Rattle.mg_version.specs.declared.cell.Cell.TheVariants as cells
 use Rattle.mg_model.specs.declared.table.Table.{Table}
-use Rattle.mg_model.specs.Catalog.{catalog_column, catalog_shape, column_key, table_key}
+use Rattle.mg_model.specs.Catalog.{catalog_shape, column_key, table_key}
 use Rattle.mg_model.specs.CatalogRules.{catalog_row}
 use Rattle.mg_model.specs.NewDatabase.{kv_name}
-use Rattle.mg_image.specs.declared.entry.Entry.{Entry}
 use Rattle.mg_image.specs.Catalog.{catalog_table}
-use Rattle.mg_image.specs.Form.{IsPlainRow, Row, Rows, plain_coding}
+use Rattle.mg_image.specs.Form.{Row, plain_coding}
 use Rattle.mg_image.specs.Held.{AreRows, Shows}
-use Rattle.mg_image.specs.RecordRules.{AreRecords, Each, EachBack, Facts, IsRecord, IsVersion, TakesKey, committed_in, table_in}
-use Rattle.mg_image.specs.Records.{Cells, Chain, Reading, Stands, ended, goes, key_of, newest_of, record_key, shown, slot_cell, writer}
+use Rattle.mg_image.specs.RecordRules.{AreRecords, Facts, IsRecord, IsVersion, TakesKey, table_in}
+use Rattle.mg_image.specs.Records.{Cells, Chain, Stands, ended, goes, key_of, newest_of, record_key, shown, slot_cell}
 use Rattle.mg_image.specs.Tables.{stands_of, table_at}
 use Rattle.mg_first.specs.KvTable.{catalog_rows, kv_layout, kv_table, no_rows}
 use Rattle.mg_first.specs.NewCatalogLaws.{catalog_cases}
-use Rattle.mg_first.specs.NewDatabase.{catalog_bytes, catalog_cells, catalog_entries, catalog_slot, key_row, new_reading, system_entry, table_row, value_row}
+use Rattle.mg_first.specs.NewDatabase.{catalog_cells, catalog_entries, catalog_slot, key_row, new_reading, system_entry, table_row, value_row}
 
 -- What the records of a new database need to know of its pages, and the cells that it has.
 pub record IsNewImage (f : Facts) (h : Cells) : Type 0 where
@@ -44,7 +40,7 @@ abbrev cat : Table
 cat = catalog_table 3
 
 -- a place is a slot of the catalog's data page, or is read as no record
-by_place : (P : RecId → Type 0) → ((slot : ℕ) → P (catalog_slot slot))
+pub by_place : (P : RecId → Type 0) → ((slot : ℕ) → P (catalog_slot slot))
     → ((p : RecId) → p.page.0 ≢ 4 → new_reading p ≡ [] → P p) → (p : RecId) → P p
 by_place P here elsewhere p = at (cases_eq p.page.0 4)
   where
@@ -66,7 +62,7 @@ one_of a b e = ap (value cat) (sym e)
     value table (Some other) = other
 
 -- the table of a slot of the catalog's data page is the catalog
-catalog_of : (f : Facts) (h : Cells) → IsNewImage f h → (slot : ℕ) (table : Table)
+pub catalog_of : (f : Facts) (h : Cells) → IsNewImage f h → (slot : ℕ) (table : Table)
     → table_in f (catalog_slot slot) ≡ Some table → table ≡ cat
 catalog_of f h new slot table is = one_of cat table (sym (new.tables 4) ∙ is)
 
@@ -135,7 +131,7 @@ table_row_fits = (
 
 column_row_fits : (digit name : ℕ) (a b c d : ℕ)
     → RowFits catalog_shape.columns (catalog_row (Text (67 ∷ 75 ∷ 86 ∷ 46 ∷ 48 ∷ digit ∷ []))
-        (Text (name ∷ [])) a b c d)
+    (Text (name ∷ [])) a b c d)
 column_row_fits digit name a b c d = (
   record { kind = lit≤ tt; allowed = λ on is. absurd cc },
   (
