@@ -1,5 +1,5 @@
--- A new database is sound, holds the catalog's rows and no row of KV, and each version in it is of a
--- committed transaction. Another header page raises the next number.
+-- A new database is sound, holds the catalog's rows and no row of KV, and each version in it is of
+-- a committed transaction. Another header page raises the next number.
 use Rattle.std.proofs.Common.{◌≡◌, ◌≢◌, ◌⊎◌, ◌+◌, inl, inr, refl, sym, ap, ◌∙◌, lit≤, lit<, arith, ℕ, zero, suc, Bool, true, false, List, [], ◌∷◌, Option, None, Some}
 use Rattle.std.proofs.lemmas.Bool.{cases_eq, ne_eqb}
 use Rattle.mg_base.specs.declared.numbers.RecId.{RecId}

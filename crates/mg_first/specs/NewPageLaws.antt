@@ -15,6 +15,7 @@ use Rattle.mg_tip.specs.TipPage.{state_in, tip_checks}
 use Rattle.mg_value.specs.declared.shape.Shape.{Shape}
 use Rattle.mg_version.specs.Cells.{AreBytes, IsSpelling}
 use Rattle.mg_version.specs.declared.cell.Cell.TheVariants as cells
+use Rattle.mg_model.specs.declared.table.Table.{Table}
 use Rattle.mg_image.specs.Form.{Pages}
 use Rattle.mg_image.specs.Inventory.{bits_state, header_of, inventory_page, is_used, last_sequence, next_of, settled, state_at, tip_before, tip_page}
 use Rattle.mg_image.specs.Reached.{IsAsWanted, linked_pages, tips_below, tips_of}
@@ -56,7 +57,9 @@ pub none_in_limbo : (pages : Pages) → IsNewPages pages → (t : ℕ) → state
 none_in_limbo pages new t limbo = at (cases_eq t 0)
   where
     at : (t ≡ 0) ⊎ (t ≢ 0) → ⊥
-    at (inl e) = let is : state_at 4096 pages t ≡ Committed = ap (state_at 4096 pages) e ∙ system_committed pages in absurd cc
+    at (inl e) =
+        let is : state_at 4096 pages t ≡ Committed =
+        ap (state_at 4096 pages) e ∙ system_committed pages in absurd cc
     at (inr ne) = let is = others_dead pages new t ne in absurd cc
 
 -- ---- the header, and which pages are used
@@ -77,7 +80,8 @@ new_lengths pages new (suc (suc (suc (suc zero)))) = new.catalog_rows.len
 new_lengths pages new (suc (suc (suc (suc (suc zero))))) = new.kv.len
 new_lengths pages new (suc (suc (suc (suc (suc (suc zero)))))) = new.kv_rows.len
 new_lengths pages new (suc (suc (suc (suc (suc (suc (suc n))))))) =
-    ap (λ (x : List ℕ). length x) (new.later (suc (suc (suc (suc (suc (suc (suc n))))))) (omega arith)) ∙
+    ap (λ (x : List ℕ). length x)
+    (new.later (suc (suc (suc (suc (suc (suc (suc n))))))) (omega arith)) ∙
     length-replicate {A = ℕ} 4096 0
 
 pub new_has_header : (pages : Pages) → IsNewPages pages → HasHeader 4096 pages
@@ -143,7 +147,8 @@ not_has (m ∷ ms) n no_ (inr there) = not_has ms n (behind (n == m) (has ms n) 
 
 pub new_once : (pages : Pages) → IsNewPages pages → IsOnce (linked_pages 4096 pages kv_layout)
 new_once pages new = subst (λ (first : List ℕ).
-    IsOnce (first ++ flat_map pages_of (stands_of kv_layout) ++ kv_layout.sequences)) (sym tips) once
+    IsOnce (first ++ flat_map pages_of (stands_of kv_layout) ++ kv_layout.sequences))
+    (sym tips) once
   where
     tips : tips_of 4096 pages ≡ 2 ∷ []
     tips = ap (λ (n : ℕ). tips_below 4096 pages (n + 1)) (last_is pages new) ∙
@@ -236,13 +241,17 @@ catalog_spelled slot bytes is = at slot bytes is
         version (catalog_bytes value_row) bytes (are_bytes (catalog_bytes value_row) refl) is
     at (suc (suc (suc (suc (suc (suc slot)))))) bytes is = absurd cc
 
--- a table without indexes, whose pointer page names one data page
+-- a table without indexes
+abbrev plain_table : List ℕ → Shape → ℕ → Table
+plain_table name shape n =
+    record { name = name; shape = shape; pointer = record { 0 = n }; indexes = [] }
+
+-- its pages, where its pointer page names one data page
 pub new_table_pages : (pages : Pages) → IsNewPages pages → (name : List ℕ) (shape : Shape) (n e : ℕ)
     (cell : ℕ → Option (List ℕ)) → n ≢ 0 → n < 7 → e < 7 → IsPointerTo (pages n) n e
     → IsDataOf (pages e) e n cell
     → ((slot : ℕ) (bytes : List ℕ) → cell slot ≡ Some bytes → IsCellOf false bytes)
-    → HasTablePages false 4096 pages
-    (stands_on (record { name = name; shape = shape; pointer = record { 0 = n }; indexes = [] }) n e)
+    → HasTablePages false 4096 pages (stands_on (plain_table name shape n) n e)
 new_table_pages pages new name shape n e cell some below_n below_e pointer data_ spelled = record {
   first = some;
   chain = goes n [] some

@@ -79,7 +79,8 @@ not_catalog f h new p other = at (cases_eq p.page.0 6)
 -- ---- chains
 
 reads_catalog : (f : Facts) (h : Cells) → IsNewImage f h → (slot : ℕ)
-    → Chain h (newest_of (catalog_slot slot) (slot_cell (catalog_cells slot))) (catalog_entries slot)
+    → Chain h (newest_of (catalog_slot slot) (slot_cell (catalog_cells slot)))
+    (catalog_entries slot)
 unfolding cell_bytes
 reads_catalog f h new zero =
     goes _ (system_entry 1 table_row) [] refl (new.catalog 1) refl ended
@@ -234,10 +235,12 @@ owner_is : (x p : RecId) → Stands (new_reading p) x → p ≡ catalog_slot (x.
 owner_is x = by_place (λ p. Stands (new_reading p) x → p ≡ catalog_slot (x.slot - 1)) here
     (λ p other none stands. absurd (rw none at stands))
   where
-    before : (slot : ℕ) → catalog_slot slot ≡ x → catalog_slot (slot - 1) ≡ catalog_slot (x.slot - 1)
+    before : (slot : ℕ) → catalog_slot slot ≡ x
+        → catalog_slot (slot - 1) ≡ catalog_slot (x.slot - 1)
     before slot e = ap (λ (y : RecId). catalog_slot (y.slot - 1)) e
 
-    here : (slot : ℕ) → Stands (catalog_entries slot) x → catalog_slot slot ≡ catalog_slot (x.slot - 1)
+    here : (slot : ℕ) → Stands (catalog_entries slot) x
+        → catalog_slot slot ≡ catalog_slot (x.slot - 1)
     here zero (inl e) = before 1 e
     here zero (inr none) = absurd none
     here (suc zero) none = absurd none
@@ -261,7 +264,8 @@ key_place : (f : Facts) (h : Cells) → IsNewImage f h → (p : RecId) (table : 
     → table_in f p ≡ Some table → TakesKey f (new_reading p)
     → p ≡ catalog_slot (slot_of_key (record_key table (new_reading p)))
 key_place f h new = by_place (λ p. (table : Table) → table_in f p ≡ Some table
-    → TakesKey f (new_reading p) → p ≡ catalog_slot (slot_of_key (record_key table (new_reading p))))
+    → TakesKey f (new_reading p)
+    → p ≡ catalog_slot (slot_of_key (record_key table (new_reading p))))
     (λ slot table is takes. rw (catalog_of f h new slot table is) (here slot takes))
     (λ p other none table is takes. absurd (takes_none f (rw none at takes)))
   where
