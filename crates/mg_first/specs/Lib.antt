@@ -5,3 +5,4 @@ pub mod OtherPages
 pub mod PutLaws
 pub mod PutRecords
 pub mod Puts
+pub mod Storing

@@ -12,6 +12,7 @@
 #![tactic(auto)]
 
 mod pages;
+mod record;
 
 pub use pages::{
     CATALOG, CATALOG_ROWS, HEADER, INVENTORY, KV, KV_ROWS, LAST, PAGE, PAGE_LEN, PAGES,
