@@ -1,4 +1,5 @@
 pub mod FirstImage
+pub mod KeyLaws
 pub mod KvRowLaws
 pub mod KvTable
 pub mod OtherPages

@@ -18,6 +18,7 @@ use Rattle.mg_first.specs.Puts.{IsPlaceFor, PutsVersion, kv_version}
 use Rattle.mg_first.specs.declared.pages.TheConstants.{KV_ROWS}
 use Rattle.mg_first.specs.declared.record.AddFault.{AddFault}
 use Rattle.mg_first.specs.declared.record.AddFault.TheVariants.{NoRoom, Memory}
+use Rattle.mg_first.specs.declared.record.Record.{Record}
 use Rattle.mg_first.specs.declared.record.TheConstants.{RECORD_COST, VERSION_COST}
 
 -- the bytes of a row of KV
@@ -59,9 +60,9 @@ pub record IsKeyed (page : List ℕ) (key : ℤ) (slot : ℕ) (newest : Link) : 
   pub keyed : HasKey version.body key
 
 -- the record with a key, or that there is none
-abbrev pub Finds : List ℕ → ℤ → Option (ℕ × Link) → Type 0
+abbrev pub Finds : List ℕ → ℤ → Option Record → Type 0
 Finds page key None = (slot : ℕ) (newest : Link) → IsKeyed page key slot newest → ⊥
-Finds page key (Some found) = IsKeyed page key found.0 found.1
+Finds page key (Some found) = IsKeyed page key found.slot found.newest
 
 -- ---- what is stored
 

@@ -13,6 +13,7 @@
 
 mod pages;
 mod record;
+mod rows;
 
 pub use pages::{
     CATALOG, CATALOG_ROWS, HEADER, INVENTORY, KV, KV_ROWS, LAST, PAGE, PAGE_LEN, PAGES,
