@@ -2,6 +2,8 @@ pub mod Causes
 pub mod Crashes
 pub mod Fresh
 pub mod Headline
+pub mod PutImages
+pub mod PutRows
 pub mod Script
 pub mod ScriptHistory
 pub mod Serial
@@ -10,6 +12,7 @@ pub mod SerialEndLaws
 pub mod SerialLaws
 pub mod SerialScenarios
 pub mod Serving
+pub mod Stages
 pub mod Stops
 pub mod Top
 pub mod Transcript

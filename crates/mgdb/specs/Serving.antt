@@ -52,6 +52,7 @@ pub record IsServed (kv : Kv) (pages : Pages) (o : Opening) (h : Entries) : Type
   pub quiet : IsQuiet o h
   pub limit : o.limit ≡ LAST
   pub drawn : next_number o h ≡ kv.next.0
+  pub first : 1 ≤ kv.next.0
   pub same : (key : Value) → rows key ≡ row_at (database o h) kv_name key
   -- no other table has changed since the database was new
   pub others : (name : List ℕ) (key : Value) → same_name name kv_name ≡ false

@@ -22,6 +22,7 @@ pub struct Kv {
     pub(crate) rows: [u8; PAGE_LEN],
     pub(crate) next: TxNo,
     ghost lawful: { IsDataPage rows },
+    ghost drawn: { 1 ≤ next.0 },
     ghost numbered: { next.0 ≤ LAST.0 },
 }
 

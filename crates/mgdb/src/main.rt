@@ -16,6 +16,7 @@ mod page_writes;
 mod run;
 mod script;
 mod script_source;
+mod scratch;
 mod serial;
 mod status;
 mod top;
@@ -23,6 +24,7 @@ mod words;
 
 use mg_base::{FileDisk, StdSink, StdSource};
 pub use run::run;
+pub use scratch::scratch;
 pub use serial::puts_in_turn;
 pub use status::Status;
 use std::alloc::AllocError;
