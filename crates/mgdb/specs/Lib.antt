@@ -2,6 +2,7 @@ pub mod Causes
 pub mod Crashes
 pub mod Fresh
 pub mod Headline
+pub mod ObeyLaws
 pub mod Script
 pub mod ScriptHistory
 pub mod Serial
