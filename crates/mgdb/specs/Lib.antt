@@ -1,4 +1,5 @@
 pub mod Causes
+pub mod CrashLaws
 pub mod Crashes
 pub mod Fresh
 pub mod Headline
