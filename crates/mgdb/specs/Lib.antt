@@ -4,6 +4,7 @@ pub mod Crashes
 pub mod Fresh
 pub mod Headline
 pub mod ObeyLaws
+pub mod PrintLaws
 pub mod Script
 pub mod ScriptHistory
 pub mod Serial
@@ -16,3 +17,4 @@ pub mod Stops
 pub mod Top
 pub mod Transcript
 pub mod Words
+pub mod WriteLaws
