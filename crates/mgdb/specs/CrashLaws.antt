@@ -1,20 +1,22 @@
 -- Laws of what a crash leaves: entries more take nothing away, and neither does a commit that is
 -- taken as effective.
-use Rattle.std.specs.Prelude.{◌≡◌, ◌≤◌, ◌+◌, ◌&&◌, ℕ, nat_lt, Bool, true, false, List, [], ◌∷◌, ◌++◌, cond, refl}
+use Rattle.std.specs.Prelude.{◌≡◌, ◌≤◌, ◌+◌, ◌&&◌, ℕ, ℤ, nat_lt, Bool, true, false, List, [], ◌∷◌, ◌++◌, cond, refl}
 use Rattle.std.proofs.Common.{sym, ◌∙◌, ap, arith}
 use Rattle.std.proofs.lemmas.Bool.{false≢true, le-ltb}
+use Rattle.mg_base.specs.Disk.{Meaning}
 use Rattle.mg_base.specs.Image.{Image, page_at}
+use Rattle.mg_base.specs.Moments.{LeavesOnly, joined, leaves_as}
 use Rattle.mg_value.specs.declared.value.Value.{Value}
 use Rattle.mg_model.specs.declared.answer.Answer.{Answer}
 use Rattle.mg_model.specs.declared.answer.Answer.TheVariants.{Fine, No}
 use Rattle.mg_model.specs.declared.event.Event.{Event}
 use Rattle.mg_model.specs.declared.event.Event.TheVariants.{Commit}
 use Rattle.mg_model.specs.declared.opening.Opening.{Opening}
-use Rattle.mg_model.specs.declared.refusal.Refusal.TheVariants.{DiskWrite}
+use Rattle.mg_model.specs.declared.refusal.Refusal.TheVariants.{DiskWrite, Memory}
 use Rattle.mg_model.specs.Changes.{row_at}
 use Rattle.mg_model.specs.History.{Entries, Entry, entry}
 use Rattle.mg_model.specs.Legal.{after_durable, durable_count, is_durable, is_limbo}
-use Rattle.mg_model.specs.Machine.{database, own, state_of}
+use Rattle.mg_model.specs.Machine.{database, next_number, own, state_of}
 use Rattle.mg_model.specs.NewDatabase.{new_opening}
 use Rattle.mg_image.specs.Form.{Form, Pages, plain_form}
 use Rattle.mg_image.specs.Histories.{HoldsDurable, newest_at}
@@ -23,7 +25,9 @@ use Rattle.mg_image.specs.Opening.{IsBlank, sound_image}
 use Rattle.mg_first.specs.declared.pages.TheConstants.{LAST}
 use Rattle.mgdb.specs.Crashes.{HoldsAll, HoldsAt, HoldsSome, asked}
 use Rattle.mgdb.specs.Headline.{IsOpeningOf, of_blank, of_sound}
-use Rattle.mgdb.specs.ScriptHistory.{onto}
+use Rattle.mgdb.specs.ScriptHistory.{PutEnds, found, no_commit, no_memory, no_number, no_row, onto}
+use Rattle.mgdb.specs.Serial.{commits, committed, refused, written}
+use Rattle.mgdb.specs.SerialDurableLaws.{unwritten_lasts, written_lasts}
 
 -- ---- entries more
 
@@ -172,3 +176,68 @@ opening_holds_some size image o (of_sound opened start is opening begins limit) 
 pub some_is_all : (size : ℕ) (o : Opening) (image : Image) → HoldsSome size o [] image
     → HoldsAll size o [] (asked []) image
 some_is_all size o image some = record { some = some; all = omega arith }
+
+-- ---- after a put
+
+-- it does after any of the history's durable events
+pub at_is_some : (size : ℕ) (o : Opening) (h : Entries) (k : ℕ) (image : Image)
+    → k ≤ durable_count h → HoldsAt size o h k image → HoldsSome size o h image
+at_is_some size o h k image most holds = record { k = k; within = most; holds = holds }
+
+pub last_is_all : (size : ℕ) (o : Opening) (h : Entries) (image : Image)
+    → HoldsAt size o h (durable_count h) image → HoldsAll size o h (asked h) image
+last_is_all size o h image holds = record {
+  some = record {
+    k = durable_count h;
+    within = asked_counts h;
+    holds = holds_asked size o h (durable_count h) image (omega arith) holds;
+  };
+  all = omega arith;
+}
+
+-- a put that ended the run acknowledged nothing
+pub ends_counts : (o : Opening) (h : Entries) (k v : ℤ) (new : List Entry) → PutEnds o h k v new
+    → durable_count (onto h new) ≡ durable_count h
+ends_counts o h k v new (no_number faults below) = refl
+ends_counts o h k v new (no_memory below) = (unwritten_lasts o h (found o h k) k v Memory).count
+ends_counts o h k v new (no_row faults below room) =
+    (unwritten_lasts o h (found o h k) k v (DiskWrite faults)).count
+ends_counts o h k v new (no_commit faults below room) = (written_lasts o h (found o h k) k v).count
+
+-- so what holds all before it does so after it
+pub ends_all : (size : ℕ) (o : Opening) (h : Entries) (k v : ℤ) (new : List Entry) (image : Image)
+    → PutEnds o h k v new → HoldsAt size o h (durable_count h) image
+    → HoldsAll size o (onto h new) (asked (onto h new)) image
+ends_all size o h k v new image ends holds = record {
+  some = record {
+    k = durable_count h;
+    within = durable_grows_asked h new;
+    holds = holds_asked_longer size o h new (durable_count h) image (omega arith) holds;
+  };
+  all = let same = ends_counts o h k v new ends in omega arith;
+}
+
+-- and what holds the put whose commit failed
+pub failed_commit_all : (size : ℕ) (o : Opening) (h : Entries) (k v : ℤ) (faults : ℕ)
+    (image : Image)
+    → HoldsAt size o (committed o h (found o h k) k v) (durable_count h + 1) image
+    → HoldsAll size o (refused (commits (next_number o h)) (DiskWrite faults)
+    (written o h (found o h k) k v)) (committed o h (found o h k) k v) image
+failed_commit_all size o h k v faults image holds = record {
+  some = record {
+    k = durable_count h + 1;
+    within = let same = (written_lasts o h (found o h k) k v).count in omega arith;
+    holds = holds;
+  };
+  all = let same = (written_lasts o h (found o h k) k v).count in omega arith;
+}
+
+-- a run goes on with entries more
+pub run_goes_on : {D : Type 0} (m : Meaning D) (old mid new : D) (size : ℕ) (o : Opening)
+    (h : Entries) (es : List Entry) → LeavesOnly m old mid (HoldsSome size o h)
+    → LeavesOnly m mid new (HoldsSome size o (asked (onto h es)))
+    → LeavesOnly m old new (HoldsSome size o (asked (onto h es)))
+run_goes_on m old mid new size o h es run later =
+    joined m old mid new (HoldsSome size o (asked (onto h es)))
+    (leaves_as m old mid (HoldsSome size o h) (HoldsSome size o (asked (onto h es)))
+    (λ c some. some_asked_longer size o h es c some) run) later
