@@ -1,6 +1,6 @@
 -- Laws of what is printed: pieces one after another, and the line of a fault.
 use Rattle.std.specs.Prelude.{◌≡◌, ◌≤◌, ◌<◌, ◌⊎◌, ◌+◌, ◌^◌, ℕ, List, [], ◌++◌, length, min, take, Some, Result, Ok, Err, OnOk, refl}
-use Rattle.std.proofs.Common.{sym, ◌∙◌, ap, arith, append-nil, append_assoc}
+use Rattle.std.proofs.Common.{sym, ◌∙◌, ap, arith, inl, inr, append-nil, append_assoc}
 use Rattle.std.proofs.Math.Seq.{take-append-add}
 use Rattle.std.proofs.lemmas.List.{length-take, take-append-le, take_all, take_min}
 use Rattle.mg_base.specs.Disk.{Rose}
@@ -89,6 +89,35 @@ printed_failed n old new xs ys rose printed = record {
     at before (k, is) = (min k (length xs), is ∙ ap (λ taken. Some (before ++ taken))
         (sym (take-append-le (min k (length xs)) xs ys (omega arith) ∙ take_min k xs)))
 
+-- nothing more
+pub printed_then_nothing : {K : Type 0} (n : SinkMeaning K) (a b c : K) (xs : List ℕ)
+    → IsPrinted n a b xs → n.faults b ≤ n.faults c → IsPrinted n b c []
+    → IsPrinted n a c (xs ++ [])
+printed_then_nothing n a b c xs first grows next = record {
+  prefix = λ before is. at before (first.prefix before is);
+  whole = λ steady before is.
+      unchanged (before ++ xs) (first.whole (λ rose. steady (rose_on rose)) before is)
+      ∙ ap (λ taken. Some (before ++ taken)) (sym (append-nil xs));
+}
+  where
+    rose_on : Rose (n.faults a) (n.faults b) → Rose (n.faults a) (n.faults c)
+    rose_on (inl more) = inl (omega arith)
+    rose_on (inr most) = inr (omega arith)
+
+    same : (taken : List ℕ) → (j : ℕ) × (n.taken c ≡ Some (taken ++ take j []))
+        → n.taken c ≡ Some taken
+    same taken (j, is) = is
+        ∙ ap (λ rest. Some (taken ++ rest)) (take_all j [] (omega arith))
+        ∙ ap Some (append-nil taken)
+
+    unchanged : (taken : List ℕ) → n.taken b ≡ Some taken → n.taken c ≡ Some taken
+    unchanged taken is = same taken (next.prefix taken is)
+
+    at : (before : List ℕ) → (k : ℕ) × (n.taken b ≡ Some (before ++ take k xs))
+        → (k : ℕ) × (n.taken c ≡ Some (before ++ take k (xs ++ [])))
+    at before (k, is) = (k, unchanged (before ++ take k xs) is
+        ∙ ap (λ taken. Some (before ++ take k taken)) (sym (append-nil xs)))
+
 -- where the count of faults did not rise, all was taken
 pub whole_unless_rose : {K : Type 0} (n : SinkMeaning K) (old new : K) (bytes : List ℕ)
     → (Rose (n.faults old) (n.faults new) → ⊥) → n.faults new ≡ n.faults old
@@ -108,3 +137,26 @@ no_fault_line Stream is = refl
 no_fault_line (Memory places.Run) is = absurd is
 no_fault_line (Memory places.Put) is = refl
 no_fault_line ScriptTooLong is = absurd is
+
+-- what the lines print, with the line of the fault that stopped the run: of a fault outside the
+-- lines it comes behind all that they print
+pub printed_stopped : {K : Type 0} (n : SinkMeaning K) (a b c : K) (xs : List ℕ) (stop : Stop)
+    → IsPrinted n a b xs → ((IsObeyingStop stop → ⊥) → IsPrintedWhole n a b xs)
+    → n.faults b ≤ n.faults c → IsPrinted n b c (fault_line (Some stop))
+    → IsPrinted n a c (xs ++ fault_line (Some stop))
+printed_stopped n a b c xs (DiskRead place) printed whole grows line =
+    printed_behind n a b c xs (fault_line (Some (DiskRead place))) (whole (λ is. is)) line
+printed_stopped n a b c xs (DiskWrite places.Run) printed whole grows line =
+    printed_behind n a b c xs (fault_line (Some (DiskWrite places.Run))) (whole (λ is. is)) line
+printed_stopped n a b c xs (DiskWrite places.Put) printed whole grows line =
+    printed_then_nothing n a b c xs printed grows line
+printed_stopped n a b c xs UnknownImage printed whole grows line =
+    printed_behind n a b c xs (fault_line (Some UnknownImage)) (whole (λ is. is)) line
+printed_stopped n a b c xs Stream printed whole grows line =
+    printed_then_nothing n a b c xs printed grows line
+printed_stopped n a b c xs (Memory places.Run) printed whole grows line =
+    printed_behind n a b c xs (fault_line (Some (Memory places.Run))) (whole (λ is. is)) line
+printed_stopped n a b c xs (Memory places.Put) printed whole grows line =
+    printed_then_nothing n a b c xs printed grows line
+printed_stopped n a b c xs ScriptTooLong printed whole grows line =
+    printed_behind n a b c xs (fault_line (Some ScriptTooLong)) (whole (λ is. is)) line
