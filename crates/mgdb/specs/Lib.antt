@@ -3,6 +3,7 @@ pub mod CrashLaws
 pub mod Crashes
 pub mod Fresh
 pub mod Headline
+pub mod LineLaws
 pub mod LoopLaws
 pub mod ObeyLaws
 pub mod PrintLaws

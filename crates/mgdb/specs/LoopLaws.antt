@@ -85,3 +85,82 @@ so_far_line m n old mid new kv later before middle after o script rest behind te
       writes = let first = so.writes in let next = done.writes in
           omega (arith, writes_more so.entries done.entries);
     }
+
+-- ---- a line ends them
+
+meets_line : (o : Opening) (met : List Line) (es : List Entry) (line : Line) (new : List Entry)
+    → Obeys o met es → LineGives o (onto [] es) line new ⊎ EndsLine o (onto [] es) line new
+    → Meets o (met ++ line ∷ []) (es ++ new)
+meets_line o met es line new obeys (inl gives) =
+    obeyed (met ++ line ∷ []) (es ++ new) (more met es line new obeys gives)
+meets_line o met es line new obeys (inr ends) = at line new ends
+  where
+    at : (line : Line) (new : List Entry) → EndsLine o (onto [] es) line new
+        → Meets o (met ++ line ∷ []) (es ++ new)
+    at line new (put k v entries ends) = ended met es k v entries obeys ends
+
+pub lines_stopped : {D K : Type 0} (m : Meaning D) (n : SinkMeaning K) (old mid new : D)
+    (kv later : Kv) (before middle after : K) (o : Opening) (script rest behind text : List ℕ)
+    (number : ℕ) (all : Bool) (stop : Stop)
+    (so : SoFar m n old mid kv before middle o script rest number all)
+    → lines rest ≡ text ∷ lines behind → IsObeyingStop stop
+    → LineDone m n mid new later middle after o (onto [] so.entries) (number + 1) text (Err stop)
+    → LinesDone m n old new before after PAGE 0 o script (Err stop)
+lines_stopped m n old mid new kv later before middle after o script rest behind text number all
+    stop so first is done =
+    let whole = onto_more [] so.entries done.entries in
+    record {
+      texts = so.texts ++ text ∷ [];
+      rest = lines behind;
+      front = front_more so.texts text (lines script) (lines rest) (lines behind) so.front first;
+      met = so.met ++ done.line ∷ [];
+      are_lines = lines_more so.texts so.met text done.line so.are_lines done.is_line;
+      all_met = tt;
+      entries = so.entries ++ done.entries;
+      meets = meets_line o so.met so.entries done.line done.entries so.obeys done.gives;
+      ok = tt;
+      legal = rw whole done.legal;
+      printed = rw (transcript_line o so.met so.entries so.obeys 1 done.line done.entries)
+          (printed_behind n before middle after (transcript 1 so.met so.entries)
+          (line_text (1 + length so.met) done.line done.entries) so.printed
+          (subst (λ count. IsPrinted n middle after (line_text count done.line done.entries))
+          (let counted = so.counted in omega arith) done.printed));
+      whole = λ other. absurd (other is);
+      crash = rw whole
+          (run_goes_on m old mid new PAGE o (onto [] so.entries) done.entries so.crash done.crash);
+      exit = rw whole done.exit;
+      writes = let first = so.writes in let next = done.writes in
+          omega (arith, writes_more so.entries done.entries);
+    }
+
+-- ---- the script ends
+
+pub lines_ended : {D K : Type 0} (m : Meaning D) (n : SinkMeaning K) (old new : D) (kv : Kv)
+    (before after : K) (o : Opening) (script rest : List ℕ) (number : ℕ) (all : Bool)
+    (so : SoFar m n old new kv before after o script rest number all) → lines rest ≡ []
+    → LinesDone m n old new before after PAGE 0 o script (Ok all)
+lines_ended m n old new kv before after o script rest number all so none =
+    let settled : asked (onto [] so.entries) ≡ onto [] so.entries =
+        asked_obeyed o so.met so.entries so.obeys in
+    record {
+      texts = so.texts;
+      rest = [];
+      front = so.front ∙ ap (λ behind. so.texts ++ behind) none;
+      met = so.met;
+      are_lines = so.are_lines;
+      all_met = refl;
+      entries = so.entries;
+      meets = obeyed so.met so.entries so.obeys;
+      ok = so.all;
+      legal = so.serves.served.quiet.legal;
+      printed = printed_whole n before after (transcript 1 so.met so.entries) so.printed;
+      whole = λ other. so.printed;
+      crash = rw settled so.crash;
+      exit = λ c left. last_is_all PAGE o (onto [] so.entries) c (so.serves.now c left);
+      writes = let writes = so.writes in omega arith;
+    }
+
+-- an empty rest has no lines
+pub no_lines : (rest : List ℕ) → length rest ≡ 0 → lines rest ≡ []
+no_lines [] none = refl
+no_lines (x ∷ rest) none = absurd (omega arith)
