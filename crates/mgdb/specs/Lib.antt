@@ -7,6 +7,7 @@ pub mod LineLaws
 pub mod LoopLaws
 pub mod ObeyLaws
 pub mod PrintLaws
+pub mod RunLaws
 pub mod Script
 pub mod ScriptHistory
 pub mod Serial

@@ -119,6 +119,7 @@ lines_stopped m n old mid new kv later before middle after o script rest behind 
       entries = so.entries ++ done.entries;
       meets = meets_line o so.met so.entries done.line done.entries so.obeys done.gives;
       ok = tt;
+      told = tt;
       legal = rw whole done.legal;
       printed = rw (transcript_line o so.met so.entries so.obeys 1 done.line done.entries)
           (printed_behind n before middle after (transcript 1 so.met so.entries)
@@ -152,6 +153,7 @@ lines_ended m n old new kv before after o script rest number all so none =
       entries = so.entries;
       meets = obeyed so.met so.entries so.obeys;
       ok = so.all;
+      told = so.serves.told;
       legal = so.serves.served.quiet.legal;
       printed = printed_whole n before after (transcript 1 so.met so.entries) so.printed;
       whole = λ other. so.printed;

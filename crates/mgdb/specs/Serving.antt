@@ -150,6 +150,7 @@ pub record LinesDone {D K : Type 0} (m : Meaning D) (n : SinkMeaning K) (old new
   pub entries : List Entry
   pub meets : Meets o met entries
   pub ok : IfOk result (λ ok. ok ≡ all_ok met entries)
+  pub told : OnOk result (m.tells new ≡ true)
   pub legal : IsLegal o (onto [] entries)
   pub printed : IsPrinted n before after (transcript 1 met entries)
   -- all of it, unless a line ended the run
