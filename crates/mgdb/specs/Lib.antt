@@ -1,9 +1,15 @@
 pub mod Causes
+pub mod CrashLaws
 pub mod Crashes
 pub mod Fresh
 pub mod Headline
+pub mod LineLaws
+pub mod LoopLaws
+pub mod ObeyLaws
+pub mod PrintLaws
 pub mod PutImages
 pub mod PutRows
+pub mod RunLaws
 pub mod Script
 pub mod ScriptHistory
 pub mod Serial
@@ -17,3 +23,4 @@ pub mod Stops
 pub mod Top
 pub mod Transcript
 pub mod Words
+pub mod WriteLaws

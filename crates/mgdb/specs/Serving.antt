@@ -1,5 +1,5 @@
 -- What the program keeps of a database that it serves, and what a put does.
-use Rattle.std.specs.Prelude.{◌≡◌, ◌≤◌, ◌+◌, ◌⊎◌, ℕ, ℤ, Bool, true, false, List, [], ◌∷◌, ◌++◌, length, codes, decimal, Result, OnOk, OnErr, IfOk, IfErr, Some}
+use Rattle.std.specs.Prelude.{◌≡◌, ◌≤◌, ◌+◌, ◌⊎◌, ℕ, ℤ, Bool, true, false, List, [], ◌∷◌, ◌++◌, length, codes, decimal, Result, OnOk, OnErr, IfOk, IfErr, IsErrAnd, Some}
 use Rattle.mg_base.specs.Disk.{Elapses, MayLeave, Meaning}
 use Rattle.mg_base.specs.Image.{Image, page_at}
 use Rattle.mg_base.specs.Moments.{LeavesOnly}
@@ -31,8 +31,10 @@ use Rattle.mgdb.specs.declared.status.Stop.TheVariants.{DiskWrite, Memory}
 use Rattle.mgdb.specs.declared.status.Place.TheVariants as places
 use Rattle.mgdb.specs.Crashes.{HoldsAll, HoldsAt, HoldsSome, asked}
 use Rattle.mgdb.specs.Headline.{IsPrinted, NEW_WRITES, writes_of}
+use Rattle.mgdb.specs.PrintLaws.{IsPrintedWhole}
 use Rattle.mgdb.specs.ScriptHistory.{AreLines, LineGives, Meets, Obeys, PutEnds, PutGives, ROOM, onto, taken}
 use Rattle.mgdb.specs.Serial.{IsQuiet}
+use Rattle.mgdb.specs.Stops.{IsObeyingStop}
 use Rattle.mgdb.specs.Transcript.{all_ok, is_stored, line_ok, line_text, put_text, transcript}
 
 -- The pages on the disk hold what the history has, and the program keeps those that change.
@@ -130,6 +132,7 @@ pub record LineDone {D K : Type 0} (m : Meaning D) (n : SinkMeaning K) (old new 
   pub serves : OnOk result (Serves m kv new o (onto h entries))
   pub legal : IsLegal o (onto h entries)
   pub printed : IsPrinted n before after (line_text number line entries)
+  pub whole : OnOk result (IsPrintedWhole n before after (line_text number line entries))
   pub crash : LeavesOnly m old new (HoldsSome PAGE o (asked (onto h entries)))
   pub exit : (c : Image) → MayLeave m new c
       → HoldsAll PAGE o (onto h entries) (asked (onto h entries)) c
@@ -148,8 +151,12 @@ pub record LinesDone {D K : Type 0} (m : Meaning D) (n : SinkMeaning K) (old new
   pub entries : List Entry
   pub meets : Meets o met entries
   pub ok : IfOk result (λ ok. ok ≡ all_ok met entries)
+  pub told : OnOk result (m.tells new ≡ true)
   pub legal : IsLegal o (onto [] entries)
   pub printed : IsPrinted n before after (transcript 1 met entries)
+  -- all of it, unless a line ended the run
+  pub whole : (IsErrAnd result IsObeyingStop → ⊥)
+      → IsPrintedWhole n before after (transcript 1 met entries)
   pub crash : LeavesOnly m old new (HoldsSome size o (asked (onto [] entries)))
   pub exit : (c : Image) → MayLeave m new c
       → HoldsAll size o (onto [] entries) (asked (onto [] entries)) c
@@ -168,7 +175,7 @@ pub record SoFar {D K : Type 0} (m : Meaning D) (n : SinkMeaning K) (old new : D
   pub obeys : Obeys o met entries
   pub all : ok ≡ all_ok met entries
   pub serves : Serves m kv new o (onto [] entries)
-  pub printed : IsPrinted n before after (transcript 1 met entries)
+  pub printed : IsPrintedWhole n before after (transcript 1 met entries)
   pub crash : LeavesOnly m old new (HoldsSome PAGE o (onto [] entries))
   pub writes : m.asked new ≤ m.asked old + writes_of entries
 
@@ -213,6 +220,8 @@ pub record PutLineDone {D K : Type 0} (m : Meaning D) (n : SinkMeaning K) (old n
   pub serves : OnOk result (Serves m kv new o (onto h entries))
   pub legal : IsLegal o (onto h entries)
   pub printed : IsPrinted n before after (codes "@put: " ++ put_text entries ++ 10 ∷ [])
+  pub whole : OnOk result
+      (IsPrintedWhole n before after (codes "@put: " ++ put_text entries ++ 10 ∷ []))
   pub crash : LeavesOnly m old new (HoldsSome PAGE o (asked (onto h entries)))
   pub exit : (c : Image) → MayLeave m new c
       → HoldsAll PAGE o (onto h entries) (asked (onto h entries)) c
