@@ -20,8 +20,8 @@ use Rattle.mg_slots.specs.Room.{least_free, rest_of}
 use Rattle.mg_first.specs.FirstImage.{AllCommitted, IsKv}
 use Rattle.mg_first.specs.NewDatabase.{IsHeaderPage}
 use Rattle.mg_first.specs.declared.pages.TheConstants.{HEADER, KV_ROWS, LAST, PAGE, PAGES, TRANSACTIONS}
-use Rattle.mgdb.specs.declared.kv.Answer.{Answer}
-use Rattle.mgdb.specs.declared.kv.Answer.TheVariants.{DatabaseFull, Stored, TransactionLimit}
+use Rattle.mgdb.specs.declared.answer.Answer.{Answer}
+use Rattle.mgdb.specs.declared.answer.Answer.TheVariants.{DatabaseFull, Stored, TransactionLimit}
 use Rattle.mgdb.specs.declared.kv.Kv.{Kv}
 use Rattle.mgdb.specs.declared.script.Line.{Line}
 use Rattle.mgdb.specs.declared.script.Line.TheVariants.{Put}
