@@ -1,2 +1,4 @@
 pub mod NewPages
-pub mod RecordLemmas
+pub mod RowLemmas
+pub mod StoreLemmas
+pub mod StoredLemmas

@@ -140,8 +140,8 @@ column_cases : (place : ℕ) (row : Row) → catalog_rows (column_key kv_name pl
     → ((place ≡ 0) × (row ≡ key_row)) ⊎ ((place ≡ 1) × (row ≡ value_row))
 column_cases place row is = at (catalog_cases (column_key kv_name place) row is)
   where
-    number : (n : ℕ) → column_key kv_name place ≡ column_key kv_name n → 48 + place / 10 ≡ 48 + n / 10
-        → 48 + place % 10 ≡ 48 + n % 10 → place ≡ n
+    number : (n : ℕ) → column_key kv_name place ≡ column_key kv_name n
+        → 48 + place / 10 ≡ 48 + n / 10 → 48 + place % 10 ≡ 48 + n % 10 → place ≡ n
     number n e tens ones = omega arith
 
     at : ((column_key kv_name place ≡ column_key kv_name 0) × (row ≡ key_row))

@@ -98,8 +98,8 @@ pub fn kv_rows_page(b: &mut [u8])
     new_data(b, KV_ROWS, KV.0, 0);
 }
 
-/// Makes the catalog's data page: the rows of the table KV and of its columns K and V, each a record
-/// made by transaction 0.
+/// Makes the catalog's data page: the rows of the table KV and of its columns K and V, each a
+/// record made by transaction 0.
 ///
 /// # Errors
 ///
