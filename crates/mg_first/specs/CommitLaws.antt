@@ -424,6 +424,7 @@ committed old new r n rows t key value slot kv below pending done = record {
   next = tip.next;
   last = tip.last;
   one_tip = tip.one_tip;
+  oldest = omega (arith, ap (λ (h : Header). h.oit.0) (same_header old new t done), kv.oldest);
   limbo = committed_limbo old new n t commits;
   catalog = same_rows_of (kv_facts old) (kv_facts new) (kv_committed old) (kv_committed new) r r
       (catalog_table CATALOG.0) catalog_rows

@@ -1,5 +1,5 @@
 -- Which record of KV has a key: what the page says, and what the image reads of it.
-use Rattle.std.proofs.Common.{◌≡◌, ◌≢◌, ◌⊎◌, inl, inr, refl, sym, ap, ◌∙◌, subst, arith, ℕ, ◌+◌, ◌<◌, ◌^◌, ℤ, Bool, true, false, ◌||◌, List, [], ◌∷◌, ◌++◌, take, drop, length, get_or, ◌-◌, Option, None, Some, to_z, of_z}
+use Rattle.std.proofs.Common.{◌≡◌, inl, inr, refl, sym, ap, ◌∙◌, subst, arith, ℕ, ◌<◌, ◌^◌, ℤ, Bool, true, false, ◌||◌, List, [], ◌∷◌, ◌++◌, take, drop, length, get_or, ◌-◌, Option, None, Some}
 use Rattle.std.proofs.lemmas.Bool.{eqb-true}
 use Rattle.std.proofs.Math.Facts.{Fits-of_z}
 use Rattle.std.proofs.lemmas.Int.{to_z-of_z}
@@ -15,7 +15,7 @@ use Rattle.mg_value.specs.Rows.{RowFits, is_null, number_of_bits, row_bytes, val
 use Rattle.mg_value.specs.declared.shape.Kind.TheVariants as kinds
 use Rattle.mg_value.specs.declared.value.Value.{Value}
 use Rattle.mg_value.specs.declared.value.Value.TheVariants.{Null, Int, Text}
-use Rattle.mg_version.specs.Cells.{IsSpelling, cell_bytes}
+use Rattle.mg_version.specs.Cells.{IsSpelling}
 use Rattle.mg_version.specs.declared.cell.Cell.{Cell}
 use Rattle.mg_version.specs.declared.cell.Cell.TheVariants as cells
 use Rattle.mg_version.specs.declared.cell.Link.{Link}
@@ -28,13 +28,13 @@ use Rattle.mg_image.specs.RecordRules.{Each, IsVersion, columns_for, table_in}
 use Rattle.mg_image.specs.Records.{Chain, Reading, cell_spelled, cells_of, key_of, newest_of, record_key, shown, slot_cell}
 use Rattle.mg_image.specs.Sound.{IsCellOf}
 use Rattle.mg_image.specs.declared.entry.Entry.{Entry}
-use Rattle.mg_first.specs.FirstImage.{AllCommitted, IsCommittedRow, IsKv, kv_committed, kv_facts}
+use Rattle.mg_first.specs.FirstImage.{IsCommittedRow, IsKv, kv_committed, kv_facts}
 use Rattle.mg_first.specs.KvTable.{kv_columns, kv_table}
 use Rattle.mg_first.specs.PutLaws.{kv_data, spelled_again}
 use Rattle.mg_first.specs.PutRecords.{newest_shown}
-use Rattle.mg_first.specs.Puts.{IsPlaceFor, fresh, kv_slot, over}
+use Rattle.mg_first.specs.Puts.{IsPlaceFor, kv_slot, over}
 use Rattle.mg_first.specs.Storing.{HasCell, HasKey, IsKeyed, IsKvPage}
-use Rattle.mg_first.specs.declared.pages.TheConstants.{CATALOG, CATALOG_ROWS, KV, KV_ROWS, PAGE}
+use Rattle.mg_first.specs.declared.pages.TheConstants.{CATALOG, CATALOG_ROWS, KV, KV_ROWS}
 
 -- ---- the key of a row
 

@@ -129,6 +129,7 @@ new_is_kv pages new = record {
   next = new_next pages new;
   last = lit≤ tt;
   one_tip = ap (λ (x : Header). x.last_tip) new.header.header;
+  oldest = omega (arith, ap (λ (x : Header). x.oit.0) new.header.header);
   limbo = none_in_limbo pages new;
   catalog = new_catalog_rows (kv_facts pages) (cells_of pages) (new_image pages new) _
       (ap is_committed (system_committed pages));

@@ -238,6 +238,7 @@ raised old new r n rows kv below raises = record {
   next = tip.next;
   last = tip.last;
   one_tip = tip.one_tip;
+  oldest = omega (arith, ap (λ (h : Header). h.oit.0) raises.header, kv.oldest);
   limbo = limbo;
   catalog = same_rows_of (kv_facts old) (kv_facts new) (kv_committed old) (kv_committed new) r r
       (catalog_table CATALOG.0) catalog_rows

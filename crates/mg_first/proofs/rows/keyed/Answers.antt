@@ -1,10 +1,10 @@
-use Rattle.std.proofs.Common.{◌≡◌, sym, ap, ◌∙◌, subst, ℕ, ℤ, false, true, Some, List, w64, to_z, of_z}
+use Rattle.std.proofs.Common.{sym, subst, ℕ, ℤ, List, w64, to_z, of_z}
 use Rattle.std.proofs.lemmas.Int.{to_z-of_z}
 use Rattle.std.specs.Prelude.{IsTrue}
 use Rattle.mg_version.specs.declared.cell.Cell.TheVariants as cells
 use Rattle.mg_version.specs.declared.cell.Link.{Link}
 use Rattle.mg_version.specs.declared.cell.Version.{Version}
-use Rattle.mg_first.specs.Storing.{HasCell, HasKey, IsKeyed}
+use Rattle.mg_first.specs.Storing.{HasCell, HasKey}
 use Rattle.mg_first.proofs.RowLemmas.{leads_nowhere, other_key}
 use Rattle.mg_first.proofs.StoredLemmas.{match_none, match_some}
 use Rattle.mg_first.proofs.rows.keyed.Goals as goal
