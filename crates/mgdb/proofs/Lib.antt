@@ -1,4 +1,6 @@
+pub mod CrashLemmas
 pub mod FreshLemmas
+pub mod NewImageLemmas
 pub mod ScriptLemmas
 pub mod TopLemmas
 pub mod WordsLemmas
