@@ -84,7 +84,7 @@ pub write_failed : {D T E : Type 0} (m : Meaning D) (old mid new : D) (P : Image
     → P (written size image page bytes) → Writes {T = T} {E = E} m mid new page bytes (Err e)
     → IsSafe m old new P (count + 1)
 write_failed {D} {T} {E} m old mid new P count image size page bytes e so_far len fits writes =
-    safe_after {D} {T} {E} m old mid new P count page bytes (Err e) so_far.safe writes
+    safe_after m old mid new P count page bytes (Err e) so_far.safe writes
     (λ c is. at c is (writes.failed image so_far.held))
   where
     whole : m.held new ≡ Some (written (length bytes) image page bytes)

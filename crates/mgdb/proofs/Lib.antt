@@ -1,5 +1,6 @@
 pub mod CrashLemmas
 pub mod FreshLemmas
+pub mod NewDoneLemmas
 pub mod NewImageLemmas
 pub mod ScriptLemmas
 pub mod TopLemmas

@@ -116,14 +116,14 @@ has_seven size image b0 b1 b2 b3 b4 b5 b6 few =
     (one_page size _ 6 b6) (one_page size _ 0 b0)
 
 -- The seven pages are those of a new database.
-pub record AreNew (b0 b1 b2 b3 b4 b5 b6 : List ℕ) : Type 0 where
-  pub header : IsHeaderPage b0 1
-  pub inventory : IsInventoryPage b1
-  pub transactions : IsTransactionPage b2
-  pub catalog : IsPointerTo b3 3 4
-  pub catalog_rows : IsDataOf b4 4 3 catalog_cells
-  pub kv : IsPointerTo b5 5 6
-  pub kv_rows : IsDataOf b6 6 5 no_cell
+record AreNew (b0 b1 b2 b3 b4 b5 b6 : List ℕ) : Type 0 where
+  header : IsHeaderPage b0 1
+  inventory : IsInventoryPage b1
+  transactions : IsTransactionPage b2
+  catalog : IsPointerTo b3 3 4
+  catalog_rows : IsDataOf b4 4 3 catalog_cells
+  kv : IsPointerTo b5 5 6
+  kv_rows : IsDataOf b6 6 5 no_cell
 
 new_pages : (pages : Pages) (b0 b1 b2 b3 b4 b5 b6 : List ℕ) → AreNew b0 b1 b2 b3 b4 b5 b6
     → pages 0 ≡ b0 → pages 1 ≡ b1 → pages 2 ≡ b2 → pages 3 ≡ b3 → pages 4 ≡ b4 → pages 5 ≡ b5
@@ -138,6 +138,27 @@ new_pages pages b0 b1 b2 b3 b4 b5 b6 new p0 p1 p2 p3 p4 p5 p6 later = record {
   kv_rows = subst (λ b. IsDataOf b 6 5 no_cell) (sym p6) new.kv_rows;
   later = later;
 }
+
+-- the image then has the pages of a new database
+pub all_new : {next : ℕ} {b0 b1 b2 b3 b4 b5 b6 : List ℕ} (image : Image) → length image ≤ 7
+    → IsInventoryPage b1 → IsTransactionPage b2 → IsPointerTo b3 3 4
+    → IsDataOf b4 4 3 catalog_cells → IsPointerTo b5 5 6 → IsDataOf b6 6 5 no_cell
+    → IsHeaderPage b0 next → next ≡ 1
+    → IsNewPages (page_at PAGE (with_seven PAGE image b0 b1 b2 b3 b4 b5 b6))
+all_new {next} {b0} {b1} {b2} {b3} {b4} {b5} {b6} image few inventory transactions catalog
+    catalog_rows kv kv_rows header first =
+    let has = has_seven PAGE image b0 b1 b2 b3 b4 b5 b6 few in
+    new_pages (page_at PAGE (with_seven PAGE image b0 b1 b2 b3 b4 b5 b6)) b0 b1 b2 b3 b4 b5 b6
+    (record {
+      header = subst (IsHeaderPage b0) first header;
+      inventory = inventory;
+      transactions = transactions;
+      catalog = catalog;
+      catalog_rows = catalog_rows;
+      kv = kv;
+      kv_rows = kv_rows;
+    })
+    has.page0 has.page1 has.page2 has.page3 has.page4 has.page5 has.page6 has.later
 
 -- ---- what the new database holds
 
@@ -171,7 +192,8 @@ no_slot b page none = at (slot_count b) refl
         let some = cell_used b n (omega arith) (page.last_used n (omega arith)) in
         let no = none n in absurd cc
 
-no_rest : (b : List ℕ) → IsDataPage b → slot_count b ≡ 0 → length b ≡ PAGE → rest_of b ≡ 4076
+no_rest : (b : List ℕ) → IsDataPage b → slot_count b ≡ 0 → length b ≡ PAGE
+    → rest_of b + 0 ≡ 4076
 no_rest b page empty len =
     let nothing : all_taken b ≡ 0 = ap (taken_below (cell_of b)) empty in
     omega (arith, rest_is b page)
@@ -199,3 +221,16 @@ new_served kv pages new next bits page rows = record {
   where
     empty : slot_count kv.rows ≡ 0
     empty = no_slot kv.rows rows.lawful rows.cells
+
+-- and serves that history with the pages that are kept
+pub all_served : {b0 b1 b3 b4 b5 : List ℕ} (kv : Kv) (image : Image) → length image ≤ 7
+    → IsInventoryPage b1 → IsTransactionPage kv.transactions → IsPointerTo b3 3 4
+    → IsDataOf b4 4 3 catalog_cells → IsPointerTo b5 5 6 → IsDataOf kv.rows 6 5 no_cell
+    → IsHeaderPage b0 kv.next.0 → kv.next.0 ≡ 1 → IsServed kv
+    (page_at PAGE (with_seven PAGE image b0 b1 kv.transactions b3 b4 b5 kv.rows)) new_history []
+all_served {b0} {b1} {b3} {b4} {b5} kv image few inventory transactions catalog catalog_rows
+    pointer rows header first =
+    let has = has_seven PAGE image b0 b1 kv.transactions b3 b4 b5 kv.rows few in
+    new_served kv (page_at PAGE (with_seven PAGE image b0 b1 kv.transactions b3 b4 b5 kv.rows))
+    (all_new image few inventory transactions catalog catalog_rows pointer rows header first) first
+    has.page2 has.page6 rows
