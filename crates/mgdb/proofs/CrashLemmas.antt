@@ -1,7 +1,7 @@
 -- What is known of a disk while page writes are asked one after another.
 use Rattle.std.proofs.Common.{◌≡◌, ◌≤◌, ◌+◌, ◌⊎◌, inl, inr, ◌∙◌, sym, subst, arith, ℕ, true, List, length, Some}
 use Rattle.std.specs.Prelude.{Result, Ok, Err}
-use Rattle.mg_base.specs.Disk.{Calm, Elapses, MayLeave, Meaning, Writes}
+use Rattle.mg_base.specs.Disk.{Calm, MayLeave, Meaning, Writes}
 use Rattle.mg_base.specs.Image.{Image, written}
 use Rattle.mg_base.specs.Moments.{LeavesOnly, goes_on, started}
 
@@ -68,11 +68,11 @@ pub written_ok : {D T E : Type 0} (m : Meaning D) (old mid new : D) (P : Image �
     → Holding m old new P (count + 1) (written size image page bytes)
 written_ok {D} {T} {E} m old mid new P count image size page bytes x so_far len fits writes =
     record {
-  safe = safe_after m old mid new P count page bytes (Ok x) so_far.safe writes
-      (λ c is. has_held m new P (written size image page bytes) c stored fits is);
-  held = stored;
-  fits = fits;
-}
+      safe = safe_after m old mid new P count page bytes (Ok x) so_far.safe writes
+          (λ c is. has_held m new P (written size image page bytes) c stored fits is);
+      held = stored;
+      fits = fits;
+    }
   where
     stored : m.held new ≡ Some (written size image page bytes)
     stored = rw len at (writes.stored image so_far.held)

@@ -1,12 +1,12 @@
 -- What the writing of a new database does, from its page writes.
-use Rattle.std.proofs.Common.{◌≡◌, ◌≤◌, ◌+◌, sym, ap, subst, arith, lit≤, ◌∙◌, refl, ℕ, true, false, Bool, List, [], length, Some}
+use Rattle.std.proofs.Common.{◌≡◌, ◌≤◌, ◌+◌, sym, subst, arith, lit≤, ◌∙◌, refl, ℕ, true, false, List, [], length, Some}
 use Rattle.std.specs.Prelude.{Result, Ok, Err, IsErr, OnOk, is_err}
 use Rattle.mg_base.specs.Disk.{Calm, MayLeave, Meaning, Writes}
 use Rattle.mg_base.specs.Image.{Image, page_at, written}
-use Rattle.mg_first.specs.NewDatabase.{IsDataOf, IsNewPages, no_cell}
+use Rattle.mg_first.specs.NewDatabase.{IsNewPages}
 use Rattle.mg_first.specs.declared.pages.TheConstants.{PAGE}
 use Rattle.mgdb.proofs.CrashLemmas.{Holding, IsSafe, calm_after, holding, write_failed, written_ok}
-use Rattle.mgdb.proofs.NewImageLemmas.{IsStillBlank, blank_some, new_holds, new_served, still_blank}
+use Rattle.mgdb.proofs.NewImageLemmas.{IsStillBlank, blank_some, new_holds, still_blank}
 use Rattle.mgdb.specs.Crashes.{HoldsAt, HoldsSome}
 use Rattle.mgdb.specs.Serving.{IsFreshDisk, IsServed, NewDone, Serves, new_history}
 use Rattle.mgdb.specs.declared.kv.Kv.{Kv}
@@ -43,10 +43,10 @@ pub new_wrote : {D T E : Type 0} {m : Meaning D} {old mid new : D} {count : ℕ}
     → NewSoFar m old new (count + 1) (written PAGE image page bytes)
 new_wrote {D} {T} {E} {m} {old} {mid} {new} {count} {image} {page} {bytes} {x} so_far len behind
     within writes = record {
-  holds = written_ok m old mid new HoldsNew count image PAGE page bytes x so_far.holds len
-      (blank_some (written PAGE image page bytes) is_blank) writes;
-  is_blank = is_blank;
-}
+      holds = written_ok m old mid new HoldsNew count image PAGE page bytes x so_far.holds len
+          (blank_some (written PAGE image page bytes) is_blank) writes;
+      is_blank = is_blank;
+    }
   where
     is_blank : IsStillBlank PAGE (written PAGE image page bytes)
     is_blank = still_blank PAGE image page bytes behind within so_far.is_blank
@@ -112,10 +112,10 @@ pub header_wrote : {D T E : Type 0} {m : Meaning D} {old mid new : D} {image : I
     → AllWritten m old new (written PAGE image 0 bytes)
 header_wrote {D} {T} {E} {m} {old} {mid} {new} {image} {bytes} {x} so_far len pages writes =
     record {
-  holds = written_ok m old mid new HoldsNew 6 image PAGE 0 bytes x so_far.holds len
-      (some_new (written PAGE image 0 bytes) pages) writes;
-  pages = pages;
-}
+      holds = written_ok m old mid new HoldsNew 6 image PAGE 0 bytes x so_far.holds len
+          (some_new (written PAGE image 0 bytes) pages) writes;
+      pages = pages;
+    }
 
 -- they could not be settled
 pub settle_failed : {D T E : Type 0} {m : Meaning D} {old mid new : D} {image : Image}
@@ -135,18 +135,18 @@ pub settled : {D T E : Type 0} {m : Meaning D} {old mid new : D} {image : Image}
     (x : Unit {0}) → IsServed kv (page_at PAGE image) new_history [] → NewDone m old new kv (Ok x)
 settled {D} {T} {E} {m} {old} {mid} {new} {image} {settled} all calm durable kv x served =
     record {
-  serves = record {
-    told = done.safe.told;
-    image = image;
-    held = done.held;
-    served = served;
-    now = λ c may. subst (HoldsAt PAGE new_history [] 0) (same c (durable all.holds.safe.told c may))
-        (new_holds image all.pages);
-  };
-  crash = done.safe.crash;
-  exit = done.safe.now;
-  writes = done.safe.asked;
-}
+      serves = record {
+        told = done.safe.told;
+        image = image;
+        held = done.held;
+        served = served;
+        now = λ c may. subst (HoldsAt PAGE new_history [] 0)
+            (same c (durable all.holds.safe.told c may)) (new_holds image all.pages);
+      };
+      crash = done.safe.crash;
+      exit = done.safe.now;
+      writes = done.safe.asked;
+    }
   where
     done : Holding m old new HoldsNew 7 image
     done = calm_after m old mid new HoldsNew 7 image settled all.holds calm

@@ -1,24 +1,21 @@
 -- The images of a disk while the seven pages of a new database are written.
-use Rattle.std.proofs.Common.{◌≡◌, ◌≢◌, ◌≤◌, ◌<◌, ◌+◌, ◌*◌, ◌∙◌, refl, sym, ap, subst, arith, add-one, lit≤, ℕ, zero, suc, Bool, true, false, List, [], Option, Some, None, length}
+use Rattle.std.proofs.Common.{◌≡◌, ◌≢◌, ◌≤◌, ◌+◌, ◌∙◌, refl, sym, ap, subst, arith, lit≤, ℕ, zero, suc, Bool, true, false, List, [], None, length}
 use Rattle.std.specs.Cmp.Lexicographic.{same_text}
 use Rattle.std.proofs.lemmas.List.{get_or_past}
 use Rattle.mg_base.specs.Image.{Image, blank, length-written, page_at, page_at-written_other, page_at-written_same, written}
-use Rattle.mg_value.specs.declared.value.Value.{Value}
 use Rattle.mg_model.specs.Catalog.{catalog_name}
 use Rattle.mg_model.specs.Changes.{same_name}
-use Rattle.mg_model.specs.NewDatabase.{kv_name}
 use Rattle.mg_image.specs.Form.{Pages, plain_form}
 use Rattle.mg_image.specs.HistoryLaws.{blank_holds}
-use Rattle.mg_image.specs.Opening.{IsBlank}
 use Rattle.mg_slots.specs.DataPage.{IsDataPage, all_taken, cell_of, slot_count, taken_below}
 use Rattle.mg_slots.specs.DataPageLaws.{cell_used}
-use Rattle.mg_slots.specs.Room.{least_free, rest_of}
+use Rattle.mg_slots.specs.Room.{rest_of}
 use Rattle.mg_slots.specs.RoomLaws.{least_free_of_full, rest_is}
 use Rattle.mg_first.specs.HoldsLaws.{IsDurable, kv_durable, new_others}
 use Rattle.mg_first.specs.KvTable.{no_rows}
 use Rattle.mg_first.specs.NewDatabase.{IsDataOf, IsHeaderPage, IsInventoryPage, IsNewPages, IsPointerTo, IsTransactionPage, catalog_cells, new_reading, no_cell}
 use Rattle.mg_first.specs.NewDatabaseLaws.{new_all_committed, new_is_kv}
-use Rattle.mg_first.specs.declared.pages.TheConstants.{CATALOG, CATALOG_ROWS, INVENTORY, KV, KV_ROWS, LAST, PAGE, PAGES, TRANSACTIONS}
+use Rattle.mg_first.specs.declared.pages.TheConstants.{KV_ROWS, LAST, PAGE, TRANSACTIONS}
 use Rattle.mgdb.proofs.FreshLemmas.{few_blank}
 use Rattle.mgdb.specs.Crashes.{HoldsAt, HoldsSome}
 use Rattle.mgdb.specs.SerialLaws.{new_is_quiet}
@@ -178,7 +175,8 @@ new_durable = record {
   limbo = λ t. (new_is_quiet LAST.0).no_limbo 0 t;
 }
 
-pub new_holds : (image : Image) → IsNewPages (page_at PAGE image) → HoldsAt PAGE new_history [] 0 image
+pub new_holds : (image : Image) → IsNewPages (page_at PAGE image)
+    → HoldsAt PAGE new_history [] 0 image
 new_holds image new = kv_durable (page_at PAGE image) new_reading 1 no_rows new_history [] 0
     (new_is_kv (page_at PAGE image) new) new_durable
 
