@@ -7,6 +7,7 @@ pub mod LineLaws
 pub mod LoopLaws
 pub mod ObeyLaws
 pub mod PrintLaws
+pub mod PutCases
 pub mod PutImages
 pub mod PutRows
 pub mod RunLaws

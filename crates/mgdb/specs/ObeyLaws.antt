@@ -1,19 +1,16 @@
 -- Laws of the lines that are obeyed one after another: their entries, what they print, and whether
 -- each answered Ok.
-use Rattle.std.specs.Prelude.{◌≡◌, ◌+◌, ℕ, ℤ, Bool, true, false, ◌&&◌, List, [], ◌∷◌, ◌++◌, length, Option, None, Some, refl}
+use Rattle.std.specs.Prelude.{◌≡◌, ◌+◌, ℕ, ℤ, Bool, true, false, ◌&&◌, List, [], ◌∷◌, ◌++◌, length, refl}
 use Rattle.std.proofs.Common.{sym, ◌∙◌, ap, arith, append_assoc, append-nil, length-append}
-use Rattle.mg_model.specs.declared.answer.Answer.{Answer}
 use Rattle.mg_model.specs.declared.opening.Opening.{Opening}
-use Rattle.mg_model.specs.Changes.{Cells}
-use Rattle.mg_model.specs.History.{Entries, Entry, entry}
+use Rattle.mg_model.specs.History.{Entries, Entry}
 use Rattle.mgdb.specs.Crashes.{asked}
-use Rattle.mgdb.specs.Headline.{writes_for, writes_of}
+use Rattle.mgdb.specs.Headline.{writes_of}
 use Rattle.mgdb.specs.Script.{IsLine}
-use Rattle.mgdb.specs.ScriptHistory.{AreLines, LineGives, Obeys, PutEnds, PutGives, bad, full, more, no_commit, no_memory, no_number, no_row, nothing, onto, put, silent, stored, undrawn}
-use Rattle.mgdb.specs.Serial.{writes}
-use Rattle.mgdb.specs.Transcript.{all_ok, behind, is_stored, line_ok, line_text, put_text, transcript}
+use Rattle.mgdb.specs.ScriptHistory.{AreLines, LineGives, Obeys, PutGives, bad, full, more, nothing, onto, put, silent, stored, undrawn}
+use Rattle.mgdb.specs.Transcript.{all_ok, behind, is_stored, line_ok, line_text, transcript}
 use Rattle.mgdb.specs.declared.script.Line.{Line}
-use Rattle.mgdb.specs.declared.script.Line.TheVariants.{Bad, Put, Silent}
+use Rattle.mgdb.specs.declared.script.Line.TheVariants.{Put}
 
 -- ---- entries one after another
 

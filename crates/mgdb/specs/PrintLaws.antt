@@ -1,8 +1,8 @@
 -- Laws of what is printed: pieces one after another, and the line of a fault.
-use Rattle.std.specs.Prelude.{◌≡◌, ◌≤◌, ◌<◌, ◌⊎◌, ◌+◌, ◌^◌, ℕ, List, [], ◌++◌, length, min, take, Some, Result, Ok, Err, OnOk, refl}
+use Rattle.std.specs.Prelude.{◌≡◌, ◌≤◌, ◌+◌, ℕ, List, [], ◌++◌, length, min, take, Some, Result, Ok, Err, OnOk, refl}
 use Rattle.std.proofs.Common.{sym, ◌∙◌, ap, arith, inl, inr, append-nil, append_assoc}
 use Rattle.std.proofs.Math.Seq.{take-append-add}
-use Rattle.std.proofs.lemmas.List.{length-take, take-append-le, take_all, take_min}
+use Rattle.std.proofs.lemmas.List.{take-append-le, take_all, take_min}
 use Rattle.mg_base.specs.Disk.{Rose}
 use Rattle.mg_base.specs.Streams.{Puts, SinkMeaning}
 use Rattle.mgdb.specs.Headline.{IsPrinted, fault_line}

@@ -3,6 +3,7 @@ use Rattle.std.proofs.Common.{◌≡◌, ◌≢◌, ◌<◌, ◌+◌, ◌∙◌,
 use Rattle.mg_base.specs.Image.{Image, page_at, page_at-written_other, page_at-written_same, written}
 use Rattle.mg_image.specs.Form.{Form, Pages, Rows, plain_form}
 use Rattle.mg_image.specs.Histories.{HoldsDurable, newest_at}
+use Rattle.mg_image.specs.Inventory.{state_at}
 use Rattle.mg_image.specs.Opening.{new_row}
 use Rattle.mg_image.specs.Records.{Reading}
 use Rattle.mg_model.specs.declared.opening.Opening.{Opening}
@@ -19,7 +20,8 @@ use Rattle.mg_first.specs.HoldsLaws.{KvName, kv_durable, kv_named, new_others, o
 use Rattle.mg_first.specs.NewDatabase.{IsHeaderPage}
 use Rattle.mg_first.specs.NewDatabaseLaws.{header_raises}
 use Rattle.mg_first.specs.Puts.{OnlyPage, RaisesNext}
-use Rattle.mg_first.specs.StepLaws.{raised, raised_committed}
+use Rattle.mg_first.specs.StepLaws.{kv_tip}
+use Rattle.mg_first.specs.StepLaws.{raised, raised_committed, raised_state}
 use Rattle.mg_first.specs.declared.pages.TheConstants.{LAST, PAGE}
 use Rattle.mgdb.specs.declared.kv.Kv.{Kv}
 use Rattle.mgdb.specs.Serial.{IsQuiet}
@@ -121,3 +123,10 @@ pub drawn_holds : (kv : Kv) (old new : Pages) (o : Opening) (h : Entries)
 drawn_holds kv old new o h served drawn = pages_hold new served.reading (kv.next.0 + 1) served.rows
     o h drawn.is_kv served.quiet served.same served.others
 
+-- and no transaction's state has changed
+pub drawn_states : (kv : Kv) (old new : Pages) (o : Opening) (h : Entries)
+    (served : IsServed kv old o h) → kv.next.0 < LAST.0 → Drawn kv old new o h served → (t : ℕ)
+    → state_at PAGE new t ≡ state_at PAGE old t
+drawn_states kv old new o h served below drawn = raised_state old new kv.next.0
+    (kv_tip old served.reading kv.next.0 served.rows served.is_kv) served.is_kv.sound.transactions
+    below (header_raises old new kv.next.0 served.header drawn.header drawn.others)

@@ -1,5 +1,5 @@
 -- What the images hold once a put's row is written, and once its transaction is committed.
-use Rattle.std.proofs.Common.{◌≡◌, ◌≢◌, ◌≤◌, ◌<◌, ◌+◌, ◌∙◌, ◌==◌, ℕ, ℤ, FitsSigned, true, false, Bool, sym, refl, ap, arith, List, Some, None, Option, cond, subst, eq-eqb, ne_eqb, le-ltb, if◌then◌else◌}
+use Rattle.std.proofs.Common.{◌≡◌, ◌≢◌, ◌≤◌, ◌<◌, ◌+◌, ◌∙◌, ℕ, ℤ, FitsSigned, true, false, Bool, sym, refl, ap, arith, List, Some, None, Option, cond, ne_eqb, le-ltb, if◌then◌else◌}
 use Rattle.std.proofs.lemmas.Bool.{false≢true}
 use Rattle.std.specs.Int.{w64}
 use Rattle.mg_base.specs.declared.numbers.TxNo.{TxNo}
@@ -21,18 +21,18 @@ use Rattle.mg_slots.specs.DataPage.{slot_count}
 use Rattle.mg_slots.specs.Room.{least_free, rest_of}
 use Rattle.mg_tip.specs.TipPage.{SetsState}
 use Rattle.mg_first.specs.CommitLaws.{all_committed, committed as commit_law}
-use Rattle.mg_first.specs.FirstImage.{AllCommitted, IsKv}
+use Rattle.mg_first.specs.FirstImage.{IsKv}
 use Rattle.mg_first.specs.KvTable.{kv_row, with_row_at}
 use Rattle.mg_first.specs.NewDatabase.{IsHeaderPage}
 use Rattle.mg_first.specs.PutLaws.{put_is_kv}
 use Rattle.mg_first.specs.PutRecords.{IsPutting, reading_with}
 use Rattle.mg_first.specs.Puts.{CommitsBits, IsPending, IsPlaceFor, OnlyPage, PutsVersion}
-use Rattle.mg_first.specs.Storing.{IsKvPage, Stores, StoresIn, cost_of, cost_over}
+use Rattle.mg_first.specs.Storing.{Stores, StoresIn, cost_of, cost_over}
 use Rattle.mg_first.specs.declared.pages.TheConstants.{HEADER, KV_ROWS, LAST, PAGE, TRANSACTIONS}
 use Rattle.mgdb.specs.declared.kv.Kv.{Kv}
-use Rattle.mgdb.specs.PutImages.{Drawn, pages_hold, served_holds}
+use Rattle.mgdb.specs.PutImages.{Drawn, pages_hold}
 use Rattle.mgdb.specs.ScriptHistory.{ROOM, need, taken, took}
-use Rattle.mgdb.specs.Serial.{IsQuiet, committed, put_change, row_of, writes, written}
+use Rattle.mgdb.specs.Serial.{committed, put_change, row_of, writes}
 use Rattle.mgdb.specs.SerialEndLaws.{committed_is_quiet, committed_next, committed_row, committed_row_else}
 use Rattle.mgdb.specs.Serving.{IsServed}
 
@@ -130,11 +130,11 @@ wrote_holds kv old new o h served page k v wrote = pages_hold new wrote.reading 
 -- ---- once it is committed
 
 -- what a write took is what it needs
-took_writes : (found : Option Cells) (t : ℕ) (k v : ℤ) → took (writes found t k v) Fine ≡ need found
+pub took_writes : (found : Option Cells) (t : ℕ) (k v : ℤ) → took (writes found t k v) Fine ≡ need found
 took_writes None t k v = refl
 took_writes (Some row) t k v = refl
 
-cost_is_need : (found : Option Cells) → cost_over found ≡ need found
+pub cost_is_need : (found : Option Cells) → cost_over found ≡ need found
 cost_is_need None = refl
 cost_is_need (Some row) = refl
 
@@ -198,5 +198,3 @@ committed_served kv after old two new o h served page bits k v found is_found be
         at true = refl
         at false = served.same key
 
-abbrev pub Dummy : Type 0
-Dummy = Unit {0}

@@ -13,6 +13,7 @@ use Rattle.mg_model.specs.History.{Entries, Entry, entry}
 use Rattle.mg_model.specs.Machine.{next_number, view}
 use Rattle.mg_model.specs.NewDatabase.{kv_name}
 use Rattle.mg_value.specs.declared.value.Value.TheVariants.{Int}
+use Rattle.mg_first.specs.declared.pages.TheConstants.{PAGES}
 use Rattle.mgdb.specs.Script.{IsLine}
 use Rattle.mgdb.specs.Serial.{begins, begun, commits, rolls_back, writes}
 use Rattle.mgdb.specs.declared.script.Line.{Line}
@@ -69,7 +70,7 @@ pub data PutGives (o : Opening) (h : Entries) (k v : ℤ) : List Entry → Type 
       ∷ entry (commits (next_number o h)) Fine ∷ [])
   -- there is no room for it
   full : next_number o h ≢ o.limit.0 → ROOM < taken h + need (found o h k)
-      → PutGives o h k v (began o h (drawn_number o h) ∷ wrote o h k v (No (DatabaseFull 7))
+      → PutGives o h k v (began o h (drawn_number o h) ∷ wrote o h k v (No (DatabaseFull PAGES))
       ∷ entry (rolls_back (next_number o h)) Fine ∷ [])
   -- there is no number left
   undrawn : next_number o h ≡ o.limit.0

@@ -72,7 +72,7 @@ pub record Serves {D : Type 0} (m : Meaning D) (kv : Kv) (disk : D) (o : Opening
 -- what a put that is answered prints
 abbrev pub answer_text : Answer → List ℕ
 answer_text (Stored tx) = codes "OK TX " ++ decimal tx.0
-answer_text DatabaseFull = codes "DATABASE FULL LIMIT 7"
+answer_text DatabaseFull = codes "DATABASE FULL LIMIT " ++ decimal PAGES
 answer_text TransactionLimit = codes "TRANSACTION LIMIT"
 
 -- whether it is Ok

@@ -7,6 +7,7 @@ ghost use Rattle.mgdb.specs.Serving.{answer_text};
 use arrayvec::ArrayString;
 use itoa::Buffer;
 use mg_base::TxNo;
+use mg_first::PAGES;
 
 /// No line has more bytes.
 const LINE_MOST: usize = 64;
@@ -37,7 +38,10 @@ impl Answer {
                 line.push_str("OK TX ");
                 push_number(&mut line, tx.0);
             }
-            Answer::DatabaseFull => line.push_str("DATABASE FULL LIMIT 7"),
+            Answer::DatabaseFull => {
+                line.push_str("DATABASE FULL LIMIT ");
+                push_number(&mut line, PAGES);
+            }
             Answer::TransactionLimit => line.push_str("TRANSACTION LIMIT"),
         }
         line.push_str("\n");

@@ -1,6 +1,6 @@
 //! Scratch.
 
-ghost use Rattle.mgdb.specs.PutRows.{Dummy};
+ghost use Rattle.mgdb.specs.PutCases.{Dummy};
 
 pub fn scratch()
     ensures { Dummy }
