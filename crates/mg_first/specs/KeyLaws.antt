@@ -30,8 +30,8 @@ use Rattle.mg_image.specs.Sound.{IsCellOf}
 use Rattle.mg_image.specs.declared.entry.Entry.{Entry}
 use Rattle.mg_first.specs.FirstImage.{AllCommitted, IsCommittedRow, IsKv, kv_committed, kv_facts}
 use Rattle.mg_first.specs.KvTable.{kv_columns, kv_table}
-use Rattle.mg_first.specs.PutLaws.{kv_data, spelled_again}
-use Rattle.mg_first.specs.PutRecords.{newest_shown}
+use Rattle.mg_first.specs.PutCells.{kv_data, spelled_again}
+use Rattle.mg_first.specs.KvRecords.{newest_shown}
 use Rattle.mg_first.specs.Puts.{IsPlaceFor, fresh, kv_slot, over}
 use Rattle.mg_first.specs.Storing.{HasCell, HasKey, IsKeyed, IsKvPage}
 use Rattle.mg_first.specs.declared.pages.TheConstants.{CATALOG, CATALOG_ROWS, KV, KV_ROWS, PAGE}

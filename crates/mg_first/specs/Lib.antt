@@ -1,9 +1,14 @@
 pub mod FirstImage
 pub mod KeyLaws
+pub mod KvRecords
 pub mod KvRowLaws
 pub mod KvTable
 pub mod OtherPages
+pub mod PutCells
 pub mod PutLaws
+pub mod PutPages
 pub mod PutRecords
+pub mod PutRows
 pub mod Puts
+pub mod StoredLaws
 pub mod Storing

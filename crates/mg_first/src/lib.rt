@@ -19,3 +19,5 @@ pub use pages::{
     CATALOG, CATALOG_ROWS, HEADER, INVENTORY, KV, KV_ROWS, LAST, PAGE, PAGE_LEN, PAGES,
     TRANSACTIONS,
 };
+pub use record::{AddFault, RECORD_COST, VERSION_COST};
+pub use rows::store;
