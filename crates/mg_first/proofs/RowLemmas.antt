@@ -1,5 +1,5 @@
 -- What a slot of KV's page says of keys.
-use Rattle.std.proofs.Common.{◌≡◌, ◌⊎◌, inl, inr, sym, ap, ◌∙◌, subst, arith, ℕ, ◌+◌, ◌<◌, ◌≤◌, ◌^◌, ℤ, Bool, true, false, List, length, Option, None, Some}
+use Rattle.std.proofs.Common.{◌≡◌, sym, ◌∙◌, subst, arith, ℕ, ◌<◌, ◌≤◌, ◌^◌, ℤ, List, length, Some}
 use Rattle.mg_slots.specs.DataPage.{IsDataPage, cell_of, slot_count}
 use Rattle.mg_slots.specs.DataPageLaws.{taken_by_fits, used_of_some}
 use Rattle.mg_version.specs.CellLaws.{one_spelling}

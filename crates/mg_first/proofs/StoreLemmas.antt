@@ -1,8 +1,8 @@
 -- What cells that are put on a page, each of whose slots is in use, leave of its room.
-use Rattle.std.proofs.Common.{◌≡◌, ◌≢◌, refl, sym, ap, ◌∙◌, arith, ℕ, ◌+◌, ◌-◌, ◌*◌, ◌<◌, ◌≤◌, ◌^◌, ◌⊎◌, inl, inr, ℤ, Bool, true, false, List, [], ◌∷◌, ◌++◌, length, Option, None, Some, Result, Ok, Err}
+use Rattle.std.proofs.Common.{◌≡◌, ◌≢◌, refl, sym, ap, ◌∙◌, arith, ℕ, ◌+◌, ◌-◌, ◌<◌, ◌≤◌, ◌^◌, ◌⊎◌, inl, inr, ℤ, true, false, List, [], ◌++◌, length, Option, None, Some, Result, Ok, Err}
 use Rattle.std.proofs.Common.{to_z, of_z, w64}
 use Rattle.std.proofs.lemmas.Int.{to_z-of_z}
-use Rattle.std.specs.Prelude.{FitsSigned, IfErr, IsErrAnd, is_some, if◌then◌else◌}
+use Rattle.std.specs.Prelude.{FitsSigned, IfErr, IsErrAnd}
 use Rattle.std.proofs.lemmas.Bool.{cases_lt, le-ltb}
 use Rattle.mg_slots.specs.ChangeLaws.{full_after_put, rest_after}
 use Rattle.mg_slots.specs.Changes.{PutsCell}
@@ -12,14 +12,13 @@ use Rattle.mg_slots.specs.Room.{least_free, need_of, rest_of, room_for, room_of}
 use Rattle.mg_slots.specs.RoomLaws.{least_free_is_free, least_free_within}
 use Rattle.mg_slots.specs.declared.page.TheConstants.{SLOT_LEN}
 use Rattle.mg_version.specs.CellLaws.{length_of_anchor, length_of_version}
-use Rattle.mg_version.specs.Cells.{IsSpelling, cell_bytes}
+use Rattle.mg_version.specs.Cells.{cell_bytes}
 use Rattle.mg_version.specs.declared.cell.Cell.TheVariants as cells
 use Rattle.mg_version.specs.declared.cell.Link.{Link}
-use Rattle.mg_first.specs.Puts.{PutsVersion, kv_link, kv_version}
+use Rattle.mg_first.specs.Puts.{kv_link, kv_version}
 use Rattle.mg_first.specs.Storing.{AddsRecord, AddsVersion, HasCell, IfNoRoom, IsFull, kv_bytes, kv_version_bytes}
 use Rattle.mg_first.specs.declared.record.AddFault.{AddFault}
-use Rattle.mg_first.specs.declared.record.AddFault.TheVariants.{NoRoom, Memory}
-use Rattle.mg_first.specs.declared.record.TheConstants.{RECORD_COST, VERSION_COST}
+use Rattle.mg_first.specs.declared.record.AddFault.TheVariants.{NoRoom}
 
 -- ---- lengths
 
@@ -86,8 +85,12 @@ takes_slot old new cell page full puts =
     record {
       full = full_after_put old new (least_free old) cell full (least_free_within old) puts;
       count = count;
-      rest = omega (arith, rest_after old new (least_free old) (Some cell) page puts.sets, none,
-          count);
+      rest = omega (
+        arith,
+        rest_after old new (least_free old) (Some cell) page puts.sets,
+        none,
+        count,
+      );
     }
 
 -- A cell is put in the place of another.

@@ -1,15 +1,13 @@
 -- A row that is stored on the page is stored in every image that has the page.
-use Rattle.std.proofs.Common.{◌≡◌, refl, sym, ap, ◌∙◌, subst, arith, ℕ, ◌+◌, ◌<◌, ◌≤◌, ℤ, List, Option, None, Some, Result, Ok, Err}
+use Rattle.std.proofs.Common.{◌≡◌, ap, subst, arith, ℕ, ◌<◌, ℤ, List, Option, None, Some, Result, Ok, Err}
 use Rattle.std.specs.Prelude.{FitsSigned, IfErr, MatchOption, OnOk}
 use Rattle.std.specs.Int.{w64}
 use Rattle.mg_slots.specs.Room.{rest_of}
 use Rattle.mg_value.specs.declared.value.Value.TheVariants.{Int}
 use Rattle.mg_version.specs.declared.cell.Link.{Link}
-use Rattle.mg_image.specs.Form.{Pages, Row, Rows}
-use Rattle.mg_image.specs.Records.{Reading}
-use Rattle.mg_first.specs.KeyLaws.{HasPlace, keyed_has_place, none_keyed}
+use Rattle.mg_first.specs.PlaceLaws.{HasPlace, keyed_has_place, none_keyed}
 use Rattle.mg_first.specs.Puts.{fresh}
-use Rattle.mg_first.specs.Storing.{AddsRecord, AddsVersion, Finds, HasNoRoomFor, IfNoRoom, IsFull, IsKeyed, IsKvPage, Stores, StoresIn, cost_of, cost_over}
+use Rattle.mg_first.specs.Storing.{AddsRecord, AddsVersion, Finds, HasNoRoomFor, IfNoRoom, IsFull, IsKeyed, StoresIn, cost_of, cost_over}
 use Rattle.mg_first.specs.declared.record.AddFault.{AddFault}
 use Rattle.mg_first.specs.declared.record.AddFault.TheVariants.{NoRoom, Memory}
 use Rattle.mg_first.specs.declared.record.Record.{Record}

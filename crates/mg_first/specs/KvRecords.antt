@@ -1,30 +1,22 @@
 -- The records of KV: what their chains come to, and what they show where all are committed.
-use Rattle.std.proofs.Common.{◌≡◌, ◌≢◌, ◌⊎◌, inl, inr, refl, sym, ap, ◌∙◌, subst, arith, ℕ, ◌<◌, ◌≤◌, ℤ, Bool, true, false, List, [], ◌∷◌, Option, None, Some}
-use Rattle.std.specs.Prelude.{FitsSigned, if◌then◌else◌}
-use Rattle.std.specs.Int.{w64}
+use Rattle.std.proofs.Common.{◌≡◌, ◌≢◌, inl, inr, refl, sym, ap, ◌∙◌, subst, ℕ, ℤ, false, List, [], ◌∷◌, Option, None, Some}
 use Rattle.mg_base.specs.declared.numbers.RecId.{RecId}
-use Rattle.mg_base.specs.declared.transaction.TxState.{TxState}
-use Rattle.mg_base.specs.declared.transaction.TxState.TheVariants.{Committed, Dead, Limbo}
-use Rattle.mg_model.specs.Answers.{is_committed}
+use Rattle.mg_base.specs.declared.transaction.TxState.TheVariants.{Committed}
 use Rattle.mg_model.specs.declared.table.Table.{Table}
-use Rattle.mg_slots.specs.DataPage.{cell_of}
-use Rattle.mg_value.specs.declared.value.Value.{Value}
 use Rattle.mg_value.specs.declared.value.Value.TheVariants.{Int}
 use Rattle.mg_version.specs.declared.cell.Cell.{Cell}
 use Rattle.mg_version.specs.declared.cell.Cell.TheVariants as cells
 use Rattle.mg_version.specs.declared.cell.Link.{Link}
 use Rattle.mg_version.specs.declared.cell.Version.{Version}
 use Rattle.mg_image.specs.declared.entry.Entry.{Entry}
-use Rattle.mg_image.specs.Form.{Coding, Pages, Row, Rows, plain_coding}
-use Rattle.mg_image.specs.Inventory.{next_of, oldest_of, state_at}
+use Rattle.mg_image.specs.Form.{Coding, Pages, Rows}
+use Rattle.mg_image.specs.Inventory.{state_at}
 use Rattle.mg_image.specs.ReadingLaws.{Opens, chain_opens}
-use Rattle.mg_image.specs.RecordRules.{AreRecords, Each, Facts, IsRecord, IsVersion, TakesKey, committed_in, table_in}
-use Rattle.mg_image.specs.Records.{Cells, Chain, Changes, Reading, Stands, cells_of, ended, goes, newest_of, record_key, shown, slot_cell, writer}
-use Rattle.mg_image.specs.StepLaws.{IsStep, cases_place, chain_stays, put_reading, same_place, step_sound, unread_sound}
+use Rattle.mg_image.specs.RecordRules.{AreRecords, Each, Facts, TakesKey, table_in}
+use Rattle.mg_image.specs.Records.{Cells, Chain, Reading, Stands, ended, goes, newest_of, record_key, shown, writer}
 use Rattle.mg_first.specs.FirstImage.{AllCommitted, IsCommittedRow, IsKv, kv_committed, kv_facts}
-use Rattle.mg_first.specs.KvRowLaws.{row_is_plain, row_is_storable}
-use Rattle.mg_first.specs.KvTable.{kv_row, kv_table}
-use Rattle.mg_first.specs.Puts.{IsPlaceFor, fresh, kv_link, kv_slot, kv_version, over}
+use Rattle.mg_first.specs.KvTable.{kv_table}
+use Rattle.mg_first.specs.Puts.{IsPlaceFor, fresh, kv_slot, over}
 use Rattle.mg_first.specs.declared.pages.TheConstants.{KV_ROWS, PAGE}
 
 -- ---- what a chain comes to
@@ -135,4 +127,3 @@ key_is_free pages r n kvs key slot back kv all (over l e es is parts keyed_) q n
     inl (e.row, ap (shown (kv_committed pages)) parts ∙ newest_shown pages e es each) in
     ne (kv.sound.records.keys q (kv_slot slot) kv_table of refl takes takes_too
     (keyed ∙ sym (ap (record_key kv_table) parts ∙ keyed_)))
-

@@ -1,9 +1,11 @@
 pub mod FirstImage
 pub mod KeyLaws
+pub mod KvCellLaws
 pub mod KvRecords
 pub mod KvRowLaws
 pub mod KvTable
 pub mod OtherPages
+pub mod PlaceLaws
 pub mod PutCells
 pub mod PutLaws
 pub mod PutPages

@@ -1,7 +1,7 @@
 -- What the data page of KV does not change: all that other pages say.
-use Rattle.std.proofs.Common.{◌≡◌, ◌≢◌, ◌⊎◌, inl, inr, refl, sym, ap, ◌∙◌, arith, ℕ, zero, suc, ◌+◌, ◌-◌, ◌*◌, ◌/◌, ◌%◌, ◌<◌, ◌≤◌, List, [], ◌∷◌, ◌++◌, length}
+use Rattle.std.proofs.Common.{◌≡◌, ◌≢◌, inl, inr, refl, sym, ap, ◌∙◌, arith, ℕ, zero, suc, ◌+◌, ◌-◌, ◌/◌, ◌%◌, ◌≤◌, List, ◌∷◌, ◌++◌}
 use Rattle.std.proofs.Math.Path.{fun_ext}
-use Rattle.std.specs.Prelude.{◌==◌, Bool, nat_lt, if◌then◌else◌}
+use Rattle.std.specs.Prelude.{◌==◌, nat_lt, if◌then◌else◌}
 use Rattle.std.specs.List.{flat_map}
 use Rattle.mg_base.specs.Checks.{Check}
 use Rattle.mg_base.specs.declared.numbers.PageNo.{PageNo}
@@ -10,13 +10,10 @@ use Rattle.mg_base.specs.declared.transaction.TxState.TheVariants.{Committed, De
 use Rattle.mg_header.specs.declared.header.Header.{Header}
 use Rattle.mg_header.specs.HeaderPage.{header_in}
 use Rattle.mg_pip.specs.PipPage.{bits, used_in}
-use Rattle.mg_pointer.specs.PointerPage.{entries_of, next_in}
 use Rattle.mg_tip.specs.TipPage.{places, state_in}
 use Rattle.mg_image.specs.Form.{Pages}
 use Rattle.mg_image.specs.Inventory.{bits_state, header_of, inventory_page, is_used, last_sequence, next_of, oldest_of, settled, state_at, tip_page}
 use Rattle.mg_image.specs.Reached.{IsAsWanted, linked_pages, tips_below, tips_of}
-use Rattle.mg_image.specs.RecordRules.{Facts}
-use Rattle.mg_image.specs.Sound.{facts_of}
 use Rattle.mg_image.specs.Tables.{Has, LinkChain, ended, goes, pages_of, stands_of}
 use Rattle.mg_first.specs.FirstImage.{kv_facts}
 use Rattle.mg_first.specs.KvTable.{kv_layout}
@@ -82,7 +79,7 @@ pub state_stays : (old new : Pages) → ChangesRows old new → (t : ℕ)
 unfolding state_at
 state_stays old new change t =
     let P : ℕ → TxState → TxState = λ n s. if t == 0 then Committed
-        else (if nat_lt t n then settled s else Dead) in
+    else (if nat_lt t n then settled s else Dead) in
     ap (λ (n : ℕ). P n (bits_state PAGE new t)) (next_stays old new change.others)
     ∙ ap (λ (s : TxState). P (next_of old) s) (bits_stay old new change t)
 

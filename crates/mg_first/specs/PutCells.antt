@@ -1,51 +1,23 @@
 -- A row is put: the two cells that its version and its anchor are.
-use Rattle.std.proofs.Common.{◌≡◌, ◌≢◌, ◌⊎◌, inl, inr, refl, sym, ap, ◌∙◌, subst, arith, ℕ, ◌+◌, ◌<◌, ◌≤◌, ◌^◌, ℤ, Bool, true, false, ◌||◌, List, [], ◌∷◌, ◌++◌, length, Option, None, Some}
+use Rattle.std.proofs.Common.{◌≡◌, ◌≢◌, ◌⊎◌, inl, inr, refl, sym, ap, ◌∙◌, subst, arith, ℕ, ◌<◌, ◌^◌, ℤ, false, List, Option, None, Some}
 use Rattle.std.proofs.lemmas.Bool.{cases_eq}
-use Rattle.std.specs.Prelude.{IfSome, ◌==◌, if◌then◌else◌}
-use Rattle.mg_base.specs.CheckLaws.{front_checks}
-use Rattle.mg_base.specs.Checks.{PassesAll, common_checks}
-use Rattle.mg_base.specs.declared.numbers.PageNo.{PageNo}
+use Rattle.std.specs.Prelude.{IfSome}
 use Rattle.mg_base.specs.declared.numbers.RecId.{RecId}
-use Rattle.mg_base.specs.declared.transaction.TxState.TheVariants.{Dead}
-use Rattle.mg_header.specs.HeaderPage.{database_checks, page_checks}
-use Rattle.mg_header.specs.declared.header.Header.{Header}
-use Rattle.mg_model.specs.CatalogRules.{AreTables}
-use Rattle.mg_model.specs.declared.table.Index.{Index}
-use Rattle.mg_model.specs.declared.table.Table.{Table}
-use Rattle.mg_pip.specs.PipPage.{pip_checks}
-use Rattle.mg_pointer.specs.PointerPage.{entries_of, next_in, pointer_checks}
-use Rattle.mg_slots.specs.DataPage.{IsDataPage, cell_of, slot_count}
+use Rattle.mg_slots.specs.DataPage.{cell_of, slot_count}
 use Rattle.mg_slots.specs.DataPageLaws.{used_of_some}
-use Rattle.mg_slots.specs.declared.page.TheConstants.{DATA_KIND}
-use Rattle.mg_tip.specs.TipPage.{tip_checks}
-use Rattle.mg_value.specs.declared.value.Value.{Value}
-use Rattle.mg_value.specs.declared.value.Value.TheVariants.{Int}
 use Rattle.mg_version.specs.CellLaws.{cell_again}
 use Rattle.mg_version.specs.Cells.{IsCell, IsLink, IsSpelling, cell_bytes}
 use Rattle.mg_version.specs.declared.cell.Cell.{Cell}
 use Rattle.mg_version.specs.declared.cell.Cell.TheVariants as cells
 use Rattle.mg_version.specs.declared.cell.Link.{Link}
-use Rattle.mg_image.specs.Catalog.{HasNames, catalog_table, committed_with}
-use Rattle.mg_image.specs.Form.{Pages, Row, Rows, plain_coding, plain_form}
-use Rattle.mg_image.specs.Held.{AreRows, Shows}
-use Rattle.mg_image.specs.HeldLaws.{ShowsSame, same_rows}
-use Rattle.mg_image.specs.Indexes.{AreTrees, IsFoundIn}
-use Rattle.mg_image.specs.Inventory.{header_of, inventory_page, next_of, state_at, tip_page}
-use Rattle.mg_image.specs.Reached.{IsAsWanted, linked_pages}
-use Rattle.mg_image.specs.RecordRules.{AreRecords, Each, Facts, TakesKey, committed_in, table_in}
-use Rattle.mg_image.specs.Records.{Reading, cell_spelled, cells_of, key_of, record_key, shown, slot_cell, writer}
-use Rattle.mg_image.specs.Sound.{HasHeader, HasInventory, HasRegion, HasTablePages, HasTransactions, IsCellOf, IsIndexed, IsSound, IsTableData, IsTablePointer, IsUndrawn}
-use Rattle.mg_image.specs.StepLaws.{cases_place, put_cases, put_reading, same_place}
-use Rattle.mg_image.specs.Tables.{Has, IsOnce}
-use Rattle.mg_image.specs.declared.entry.Entry.{Entry}
-use Rattle.mg_first.specs.FirstImage.{AllCommitted, IsCommittedRow, IsKv, kv_committed, kv_facts}
+use Rattle.mg_image.specs.Form.{Pages, Rows}
+use Rattle.mg_image.specs.Records.{Reading, cell_spelled, cells_of, slot_cell}
+use Rattle.mg_image.specs.Sound.{IsCellOf, IsTableData}
+use Rattle.mg_first.specs.FirstImage.{IsKv}
 use Rattle.mg_first.specs.KvRowLaws.{row_of_bytes}
-use Rattle.mg_first.specs.KvTable.{catalog_rows, kv_layout, kv_row, kv_table, stands_on}
-use Rattle.mg_first.specs.OtherPages.{ChangesRows, chain_stays_over, facts_stay, header_stays, inventory_elsewhere, last_sequence_stays, linked_stay, next_stays, oldest_stays, bits_stay, state_stays, tip_bytes_stay, tip_stays, used_stays, wanted_stays}
-use Rattle.mg_first.specs.PutRecords.{IsPutting, PutsCells, put_entry, put_records, reading_with}
-use Rattle.mg_first.specs.KvRecords.{key_is_free}
-use Rattle.mg_first.specs.Puts.{IsPending, IsPlaceFor, OnlyPage, PutsVersion, fresh, kv_link, kv_slot, kv_version, over}
-use Rattle.mg_first.specs.declared.pages.TheConstants.{CATALOG, CATALOG_ROWS, KV, KV_ROWS, LAST, PAGE}
+use Rattle.mg_first.specs.PutRecords.{IsPutting, PutsCells}
+use Rattle.mg_first.specs.Puts.{IsPlaceFor, OnlyPage, PutsVersion, fresh, kv_link, kv_slot, kv_version, over}
+use Rattle.mg_first.specs.declared.pages.TheConstants.{KV, KV_ROWS, PAGE}
 
 -- a cell is read of its spelling
 pub spelled_again : (cell : Cell) → IsCell cell → cell_spelled (cell_bytes cell) ≡ cell
@@ -149,4 +121,3 @@ cells_put pages new r n kvs t key value slot at back kv putting place_for only p
         (λ s. not_anchor (λ i. record { page = record { 0 = e i }; slot = s i }))
         (λ s. not_version (λ i. record { page = record { 0 = e i }; slot = s i })))
         ∙ ap (λ (k : ℕ). slot_cell (cell_of (pages k) x.slot)) (sym e))
-

@@ -1,51 +1,26 @@
 -- A row is put on the data page of KV: the pages are sound, and a transaction is pending.
-use Rattle.std.proofs.Common.{◌≡◌, ◌≢◌, ◌⊎◌, inl, inr, refl, sym, ap, ◌∙◌, subst, arith, ℕ, ◌+◌, ◌<◌, ◌≤◌, ◌^◌, ℤ, Bool, true, false, ◌||◌, List, [], ◌∷◌, ◌++◌, length, Option, None, Some}
-use Rattle.std.proofs.lemmas.Bool.{cases_eq}
-use Rattle.std.specs.Prelude.{IfSome, ◌==◌, if◌then◌else◌}
-use Rattle.mg_base.specs.CheckLaws.{front_checks}
-use Rattle.mg_base.specs.Checks.{PassesAll, common_checks}
+use Rattle.std.proofs.Common.{◌≡◌, ◌≢◌, refl, sym, ap, ◌∙◌, subst, arith, ℕ, ℤ, List, [], ◌∷◌, Option, Some}
 use Rattle.mg_base.specs.declared.numbers.PageNo.{PageNo}
 use Rattle.mg_base.specs.declared.numbers.RecId.{RecId}
-use Rattle.mg_base.specs.declared.transaction.TxState.TheVariants.{Dead}
-use Rattle.mg_header.specs.HeaderPage.{database_checks, page_checks}
 use Rattle.mg_header.specs.declared.header.Header.{Header}
-use Rattle.mg_model.specs.CatalogRules.{AreTables}
-use Rattle.mg_model.specs.declared.table.Index.{Index}
-use Rattle.mg_model.specs.declared.table.Table.{Table}
-use Rattle.mg_pip.specs.PipPage.{pip_checks}
-use Rattle.mg_pointer.specs.PointerPage.{entries_of, next_in, pointer_checks}
-use Rattle.mg_slots.specs.DataPage.{IsDataPage, cell_of, slot_count}
-use Rattle.mg_slots.specs.DataPageLaws.{used_of_some}
-use Rattle.mg_slots.specs.declared.page.TheConstants.{DATA_KIND}
-use Rattle.mg_tip.specs.TipPage.{tip_checks}
-use Rattle.mg_value.specs.declared.value.Value.{Value}
 use Rattle.mg_value.specs.declared.value.Value.TheVariants.{Int}
-use Rattle.mg_version.specs.CellLaws.{cell_again}
-use Rattle.mg_version.specs.Cells.{IsCell, IsLink, IsSpelling, cell_bytes}
-use Rattle.mg_version.specs.declared.cell.Cell.{Cell}
-use Rattle.mg_version.specs.declared.cell.Cell.TheVariants as cells
 use Rattle.mg_version.specs.declared.cell.Link.{Link}
-use Rattle.mg_image.specs.Catalog.{HasNames, catalog_table, committed_with}
-use Rattle.mg_image.specs.Form.{Pages, Row, Rows, plain_coding, plain_form}
-use Rattle.mg_image.specs.Held.{AreRows, Shows}
-use Rattle.mg_image.specs.HeldLaws.{ShowsSame, same_rows}
-use Rattle.mg_image.specs.Indexes.{AreTrees, IsFoundIn}
-use Rattle.mg_image.specs.Inventory.{header_of, inventory_page, next_of, state_at, tip_page}
-use Rattle.mg_image.specs.Reached.{IsAsWanted, linked_pages}
+use Rattle.mg_image.specs.Catalog.{HasNames, catalog_table}
+use Rattle.mg_image.specs.Form.{Pages, Rows, plain_coding, plain_form}
+use Rattle.mg_image.specs.Held.{AreRows}
 use Rattle.mg_image.specs.RecordRules.{AreRecords, Each, Facts, TakesKey, committed_in, table_in}
-use Rattle.mg_image.specs.Records.{Reading, cell_spelled, cells_of, key_of, record_key, shown, slot_cell, writer}
-use Rattle.mg_image.specs.Sound.{HasHeader, HasInventory, HasRegion, HasTablePages, HasTransactions, IsCellOf, IsIndexed, IsSound, IsTableData, IsTablePointer, IsUndrawn}
-use Rattle.mg_image.specs.StepLaws.{cases_place, put_cases, put_reading, same_place}
-use Rattle.mg_image.specs.Tables.{Has, IsOnce}
+use Rattle.mg_image.specs.Records.{Reading, cells_of, record_key, writer}
+use Rattle.mg_image.specs.Sound.{IsSound}
+use Rattle.mg_image.specs.StepLaws.{put_cases}
+use Rattle.mg_image.specs.Tables.{IsOnce}
 use Rattle.mg_image.specs.declared.entry.Entry.{Entry}
 use Rattle.mg_first.specs.FirstImage.{AllCommitted, IsCommittedRow, IsKv, kv_committed, kv_facts}
-use Rattle.mg_first.specs.KvRowLaws.{row_of_bytes}
-use Rattle.mg_first.specs.KvTable.{catalog_rows, kv_layout, kv_row, kv_table, stands_on}
-use Rattle.mg_first.specs.OtherPages.{ChangesRows, chain_stays_over, facts_stay, header_stays, inventory_elsewhere, last_sequence_stays, linked_stay, next_stays, oldest_stays, bits_stay, state_stays, tip_bytes_stay, tip_stays, used_stays, wanted_stays}
-use Rattle.mg_first.specs.PutRecords.{IsPutting, PutsCells, put_entry, put_records, reading_with}
+use Rattle.mg_first.specs.KvTable.{catalog_rows, kv_layout, kv_table}
+use Rattle.mg_first.specs.OtherPages.{ChangesRows, facts_stay, header_stays, linked_stay, next_stays, oldest_stays, state_stays}
+use Rattle.mg_first.specs.PutRecords.{IsPutting, put_entry, put_records, reading_with}
 use Rattle.mg_first.specs.KvRecords.{key_is_free}
-use Rattle.mg_first.specs.Puts.{IsPending, IsPlaceFor, OnlyPage, PutsVersion, fresh, kv_link, kv_slot, kv_version, over}
-use Rattle.mg_first.specs.declared.pages.TheConstants.{CATALOG, CATALOG_ROWS, KV, KV_ROWS, LAST, PAGE}
+use Rattle.mg_first.specs.Puts.{IsPending, IsPlaceFor, OnlyPage, PutsVersion, kv_slot}
+use Rattle.mg_first.specs.declared.pages.TheConstants.{CATALOG, CATALOG_ROWS, KV, KV_ROWS, PAGE}
 use Rattle.mg_first.specs.PutCells.{cells_put}
 use Rattle.mg_first.specs.PutPages.{data_stays, header_has, inventory_has, kv_data_stays, table_pages_stay, transactions_have}
 use Rattle.mg_first.specs.PutRows.{catalog_stays, found_in_none, names_stay, no_index, rows_stay}
@@ -128,10 +103,13 @@ put_holds_same pages new r n kvs t key value slot at back kv all putting place_f
 committed_stay : (pages new : Pages) → ChangesRows pages new → (es : List Entry)
     → Each (IsCommittedRow pages) es → Each (IsCommittedRow new) es
 committed_stay pages new change [] each = tt
-committed_stay pages new change (e ∷ es) each = (record {
-  committed = state_stays pages new change (writer e) ∙ each.0.committed;
-  alive = each.0.alive;
-}, committed_stay pages new change es each.1)
+committed_stay pages new change (e ∷ es) each = (
+  record {
+    committed = state_stays pages new change (writer e) ∙ each.0.committed;
+    alive = each.0.alive;
+  },
+  committed_stay pages new change es each.1,
+)
 
 -- and the transaction is pending
 put_is_pending : (pages new : Pages) (r : Reading) (n : ℕ) (kvs : Rows) (t : ℕ) (key value : ℤ)
@@ -178,8 +156,8 @@ put_is_kv pages new r n kvs t key value slot at back kv all putting place_for on
       others = only;
       one_tip = kv.one_tip;
       last = omega (arith, kv.next, kv.last);
-    } in
-    (
-      put_holds_same pages new r n kvs t key value slot at back kv all putting place_for change puts,
+    } in (
+      put_holds_same pages new r n kvs t key value slot at back kv all putting place_for change
+          puts,
       put_is_pending pages new r n kvs t key value slot at back kv all place_for change,
     )

@@ -1,51 +1,31 @@
 -- A row is put: the pages pass their tests still.
-use Rattle.std.proofs.Common.{◌≡◌, ◌≢◌, ◌⊎◌, inl, inr, refl, sym, ap, ◌∙◌, subst, arith, ℕ, ◌+◌, ◌<◌, ◌≤◌, ◌^◌, ℤ, Bool, true, false, ◌||◌, List, [], ◌∷◌, ◌++◌, length, Option, None, Some}
+use Rattle.std.proofs.Common.{◌≡◌, ◌≢◌, ◌⊎◌, inl, inr, sym, ap, ◌∙◌, subst, arith, ℕ, ℤ, false, List, [], ◌∷◌, ◌++◌, length, Option, Some}
 use Rattle.std.proofs.lemmas.Bool.{cases_eq}
-use Rattle.std.specs.Prelude.{IfSome, ◌==◌, if◌then◌else◌}
 use Rattle.mg_base.specs.CheckLaws.{front_checks}
 use Rattle.mg_base.specs.Checks.{PassesAll, common_checks}
-use Rattle.mg_base.specs.declared.numbers.PageNo.{PageNo}
-use Rattle.mg_base.specs.declared.numbers.RecId.{RecId}
-use Rattle.mg_base.specs.declared.transaction.TxState.TheVariants.{Dead}
 use Rattle.mg_header.specs.HeaderPage.{database_checks, page_checks}
-use Rattle.mg_header.specs.declared.header.Header.{Header}
-use Rattle.mg_model.specs.CatalogRules.{AreTables}
-use Rattle.mg_model.specs.declared.table.Index.{Index}
 use Rattle.mg_model.specs.declared.table.Table.{Table}
 use Rattle.mg_pip.specs.PipPage.{pip_checks}
 use Rattle.mg_pointer.specs.PointerPage.{entries_of, next_in, pointer_checks}
-use Rattle.mg_slots.specs.DataPage.{IsDataPage, cell_of, slot_count}
-use Rattle.mg_slots.specs.DataPageLaws.{used_of_some}
+use Rattle.mg_slots.specs.DataPage.{IsDataPage, cell_of}
 use Rattle.mg_slots.specs.declared.page.TheConstants.{DATA_KIND}
 use Rattle.mg_tip.specs.TipPage.{tip_checks}
-use Rattle.mg_value.specs.declared.value.Value.{Value}
-use Rattle.mg_value.specs.declared.value.Value.TheVariants.{Int}
-use Rattle.mg_version.specs.CellLaws.{cell_again}
-use Rattle.mg_version.specs.Cells.{IsCell, IsLink, IsSpelling, cell_bytes}
-use Rattle.mg_version.specs.declared.cell.Cell.{Cell}
+use Rattle.mg_version.specs.Cells.{cell_bytes}
 use Rattle.mg_version.specs.declared.cell.Cell.TheVariants as cells
 use Rattle.mg_version.specs.declared.cell.Link.{Link}
-use Rattle.mg_image.specs.Catalog.{HasNames, catalog_table, committed_with}
-use Rattle.mg_image.specs.Form.{Pages, Row, Rows, plain_coding, plain_form}
-use Rattle.mg_image.specs.Held.{AreRows, Shows}
-use Rattle.mg_image.specs.HeldLaws.{ShowsSame, same_rows}
-use Rattle.mg_image.specs.Indexes.{AreTrees, IsFoundIn}
-use Rattle.mg_image.specs.Inventory.{header_of, inventory_page, next_of, state_at, tip_page}
-use Rattle.mg_image.specs.Reached.{IsAsWanted, linked_pages}
-use Rattle.mg_image.specs.RecordRules.{AreRecords, Each, Facts, TakesKey, committed_in, table_in}
-use Rattle.mg_image.specs.Records.{Reading, cell_spelled, cells_of, key_of, record_key, shown, slot_cell, writer}
-use Rattle.mg_image.specs.Sound.{HasHeader, HasInventory, HasRegion, HasTablePages, HasTransactions, IsCellOf, IsIndexed, IsSound, IsTableData, IsTablePointer, IsUndrawn}
-use Rattle.mg_image.specs.StepLaws.{cases_place, put_cases, put_reading, same_place}
-use Rattle.mg_image.specs.Tables.{Has, IsOnce}
-use Rattle.mg_image.specs.declared.entry.Entry.{Entry}
-use Rattle.mg_first.specs.FirstImage.{AllCommitted, IsCommittedRow, IsKv, kv_committed, kv_facts}
-use Rattle.mg_first.specs.KvRowLaws.{row_of_bytes}
-use Rattle.mg_first.specs.KvTable.{catalog_rows, kv_layout, kv_row, kv_table, stands_on}
-use Rattle.mg_first.specs.OtherPages.{ChangesRows, chain_stays_over, facts_stay, header_stays, inventory_elsewhere, last_sequence_stays, linked_stay, next_stays, oldest_stays, bits_stay, state_stays, tip_bytes_stay, tip_stays, used_stays, wanted_stays}
-use Rattle.mg_first.specs.PutRecords.{IsPutting, PutsCells, put_entry, put_records, reading_with}
-use Rattle.mg_first.specs.KvRecords.{key_is_free}
-use Rattle.mg_first.specs.Puts.{IsPending, IsPlaceFor, OnlyPage, PutsVersion, fresh, kv_link, kv_slot, kv_version, over}
-use Rattle.mg_first.specs.declared.pages.TheConstants.{CATALOG, CATALOG_ROWS, KV, KV_ROWS, LAST, PAGE}
+use Rattle.mg_image.specs.Form.{Pages, Rows}
+use Rattle.mg_image.specs.Indexes.{AreTrees}
+use Rattle.mg_image.specs.Inventory.{inventory_page, tip_page}
+use Rattle.mg_image.specs.Reached.{IsAsWanted}
+use Rattle.mg_image.specs.Records.{Reading}
+use Rattle.mg_image.specs.Sound.{HasHeader, HasInventory, HasRegion, HasTablePages, HasTransactions, IsCellOf, IsTableData, IsTablePointer, IsUndrawn}
+use Rattle.mg_image.specs.Tables.{Has}
+use Rattle.mg_first.specs.FirstImage.{IsKv}
+use Rattle.mg_first.specs.KvTable.{stands_on}
+use Rattle.mg_first.specs.OtherPages.{ChangesRows, chain_stays_over, inventory_elsewhere, last_sequence_stays, next_stays, bits_stay, tip_bytes_stay, tip_stays, used_stays, wanted_stays}
+use Rattle.mg_first.specs.PutRecords.{IsPutting}
+use Rattle.mg_first.specs.Puts.{IsPlaceFor, OnlyPage, PutsVersion, kv_link, kv_version}
+use Rattle.mg_first.specs.declared.pages.TheConstants.{KV, KV_ROWS, PAGE}
 use Rattle.mg_first.specs.PutCells.{kv_data, put_link, put_version}
 
 -- a pointer page is as wanted still
@@ -90,16 +70,22 @@ kv_data_stays pages new r n kvs t key value slot at back kv putting place_for on
 
     cell : (s : ℕ) (bytes : List ℕ) → cell_of (new KV_ROWS.0) s ≡ Some bytes
         → (s ≡ slot) ⊎ (s ≢ slot) → (s ≡ at) ⊎ (s ≢ at) → IsCellOf false bytes
-    cell s bytes is (inl e) other = inl (cells.Anchor (kv_link at t), record {
-      is_cell = put_link pages new r n kvs t key value slot at back kv putting puts;
-      spelled = same bytes (cell_bytes (cells.Anchor (kv_link at t)))
-          (sym is ∙ (ap (cell_of (new KV_ROWS.0)) e ∙ puts.anchor));
-    })
-    cell s bytes is (inr ne) (inl e) = inl (cells.Version (kv_version t back key value), record {
-      is_cell = put_version pages r n kvs t key value slot back kv putting place_for;
-      spelled = same bytes (cell_bytes (cells.Version (kv_version t back key value)))
-          (sym is ∙ (ap (cell_of (new KV_ROWS.0)) e ∙ puts.version));
-    })
+    cell s bytes is (inl e) other = inl (
+      cells.Anchor (kv_link at t),
+      record {
+        is_cell = put_link pages new r n kvs t key value slot at back kv putting puts;
+        spelled = same bytes (cell_bytes (cells.Anchor (kv_link at t)))
+            (sym is ∙ (ap (cell_of (new KV_ROWS.0)) e ∙ puts.anchor));
+      },
+    )
+    cell s bytes is (inr ne) (inl e) = inl (
+      cells.Version (kv_version t back key value),
+      record {
+        is_cell = put_version pages r n kvs t key value slot back kv putting place_for;
+        spelled = same bytes (cell_bytes (cells.Version (kv_version t back key value)))
+            (sym is ∙ (ap (cell_of (new KV_ROWS.0)) e ∙ puts.version));
+      },
+    )
     cell s bytes is (inr ne) (inr other) = (kv_data pages r n kvs kv).cells s bytes
         (sym (puts.others s ne other) ∙ is)
 
@@ -191,4 +177,3 @@ inventory_has pages new only has region within = at (has region within)
         (sym same) (wanted_stays pages new only (inventory_page PAGE region)
         (pip_checks (pages (inventory_page PAGE region)) (inventory_page PAGE region) region)
         wanted))
-

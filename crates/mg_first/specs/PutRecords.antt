@@ -1,13 +1,9 @@
 -- A row is put: the records of KV are lawful before and after it.
-use Rattle.std.proofs.Common.{◌≡◌, ◌≢◌, ◌⊎◌, inl, inr, refl, sym, ap, ◌∙◌, subst, arith, ℕ, ◌<◌, ◌≤◌, ℤ, Bool, true, false, List, [], ◌∷◌, Option, None, Some}
+use Rattle.std.proofs.Common.{◌≡◌, ◌≢◌, ◌⊎◌, inl, inr, refl, sym, ap, ◌∙◌, subst, arith, ℕ, ◌<◌, ℤ, true, false, List, [], ◌∷◌, Option, None, Some}
 use Rattle.std.specs.Prelude.{FitsSigned, if◌then◌else◌}
 use Rattle.std.specs.Int.{w64}
 use Rattle.mg_base.specs.declared.numbers.RecId.{RecId}
-use Rattle.mg_base.specs.declared.transaction.TxState.{TxState}
-use Rattle.mg_base.specs.declared.transaction.TxState.TheVariants.{Committed, Dead, Limbo}
-use Rattle.mg_model.specs.Answers.{is_committed}
-use Rattle.mg_model.specs.declared.table.Table.{Table}
-use Rattle.mg_slots.specs.DataPage.{cell_of}
+use Rattle.mg_base.specs.declared.transaction.TxState.TheVariants.{Committed, Dead}
 use Rattle.mg_value.specs.declared.value.Value.{Value}
 use Rattle.mg_value.specs.declared.value.Value.TheVariants.{Int}
 use Rattle.mg_version.specs.declared.cell.Cell.{Cell}
@@ -15,13 +11,12 @@ use Rattle.mg_version.specs.declared.cell.Cell.TheVariants as cells
 use Rattle.mg_version.specs.declared.cell.Link.{Link}
 use Rattle.mg_version.specs.declared.cell.Version.{Version}
 use Rattle.mg_image.specs.declared.entry.Entry.{Entry}
-use Rattle.mg_image.specs.Form.{Coding, Pages, Row, Rows, plain_coding}
-use Rattle.mg_image.specs.Inventory.{next_of, oldest_of, state_at}
-use Rattle.mg_image.specs.ReadingLaws.{Opens, chain_opens}
-use Rattle.mg_image.specs.RecordRules.{AreRecords, Each, Facts, IsRecord, IsVersion, TakesKey, committed_in, table_in}
-use Rattle.mg_image.specs.Records.{Cells, Chain, Changes, Reading, Stands, cells_of, ended, goes, newest_of, record_key, shown, slot_cell, writer}
-use Rattle.mg_image.specs.StepLaws.{IsStep, cases_place, chain_stays, put_reading, same_place, step_sound, unread_sound}
-use Rattle.mg_first.specs.FirstImage.{AllCommitted, IsCommittedRow, IsKv, kv_committed, kv_facts}
+use Rattle.mg_image.specs.Form.{Pages, Rows, plain_coding}
+use Rattle.mg_image.specs.Inventory.{next_of, state_at}
+use Rattle.mg_image.specs.RecordRules.{AreRecords, Each, Facts, IsRecord, IsVersion, table_in}
+use Rattle.mg_image.specs.Records.{Cells, Chain, Changes, Reading, Stands, cells_of, ended, goes, newest_of, record_key, slot_cell, writer}
+use Rattle.mg_image.specs.StepLaws.{cases_place, chain_stays, put_reading, same_place, step_sound, unread_sound}
+use Rattle.mg_first.specs.FirstImage.{AllCommitted, IsCommittedRow, IsKv, kv_facts}
 use Rattle.mg_first.specs.KvRowLaws.{row_is_plain, row_is_storable}
 use Rattle.mg_first.specs.KvTable.{kv_row, kv_table}
 use Rattle.mg_first.specs.Puts.{IsPlaceFor, fresh, kv_link, kv_slot, kv_version, over}
@@ -191,10 +186,15 @@ abbrev pub reading_with : Reading → ℕ → ℕ → Option Link → ℤ → �
 reading_with r t at back key value slot =
     put_reading r (kv_slot slot) (put_entry t at back key value ∷ r (kv_slot slot))
 
--- the cells once the version stands
+-- the cell of the version
 abbrev version_cell : ℕ → Option Link → ℤ → ℤ → Option Cell
 version_cell t back key value = Some (cells.Version (kv_version t back key value))
 
+-- the cell of the anchor
+abbrev anchor_cell : ℕ → ℕ → Option Cell
+anchor_cell at t = Some (cells.Anchor (kv_link at t))
+
+-- the cells once the version stands
 abbrev mid_cells : Pages → ℕ → ℤ → ℤ → ℕ → Option Link → Cells
 mid_cells pages t key value at back =
     with_cell_at (cells_of pages) (kv_slot at) (version_cell t back key value)
@@ -207,8 +207,8 @@ pub put_records : (pages : Pages) (new : Cells) (r : Reading) (n : ℕ) (kvs : R
     → PutsCells (cells_of pages) new t key value slot at back
     → AreRecords plain_coding (kv_facts pages) new (reading_with r t at back key value slot)
 put_records pages new r n kvs t key value slot at back kv all putting place_for puts =
-    step_sound plain_coding (kv_facts pages) (mid_cells pages t key value at back) new r (kv_slot slot) (Some (cells.Anchor (kv_link at t)))
-    (kv_slot slot) kv_table (put_entry t at back key value ∷ r (kv_slot slot)) stood anchored
+    step_sound plain_coding (kv_facts pages) (mid_cells pages t key value at back) new r
+    (kv_slot slot) (anchor_cell at t) (kv_slot slot) kv_table (put_entry t at back key value ∷ r (kv_slot slot)) stood anchored
     (record {
       of_table = refl;
       reads = rw puts.anchor (goes (kv_link at t) (put_entry t at back key value)
@@ -223,28 +223,27 @@ put_records pages new r n kvs t key value slot at back kv all putting place_for 
     })
   where
     stood : AreRecords plain_coding (kv_facts pages) (mid_cells pages t key value at back) r
-    stood = version_stands (kv_facts pages) (cells_of pages) r (kv_slot at) (kv_version t back key value)
-        kv.sound.records refl puts.free refl
+    stood = version_stands (kv_facts pages) (cells_of pages) r (kv_slot at)
+        (kv_version t back key value) kv.sound.records refl puts.free refl
 
-    anchored : Changes (mid_cells pages t key value at back) new (kv_slot slot) (Some (cells.Anchor (kv_link at t)))
+    anchored : Changes (mid_cells pages t key value at back) new (kv_slot slot) (anchor_cell at t)
     anchored = then_anchor (cells_of pages) new t key value slot at back puts
 
     behind : Chain new back (r (kv_slot slot))
-    behind = chain_stays (mid_cells pages t key value at back) new (kv_slot slot) (Some (cells.Anchor (kv_link at t))) anchored back
-        (r (kv_slot slot))
+    behind = chain_stays (mid_cells pages t key value at back) new (kv_slot slot)
+        (anchor_cell at t) anchored back (r (kv_slot slot))
         (chain_stays (cells_of pages) (mid_cells pages t key value at back) (kv_slot at)
         (version_cell t back key value)
-        (changes_at (cells_of pages) (kv_slot at)
-        (version_cell t back key value)) back (r (kv_slot slot))
-        (chain_behind pages r n kvs key slot back kv place_for)
-        (free_unread plain_coding (kv_facts pages) (cells_of pages) r kv.sound.records (kv_slot at) puts.free
-        (kv_slot slot)))
+        (changes_at (cells_of pages) (kv_slot at) (version_cell t back key value)) back
+        (r (kv_slot slot)) (chain_behind pages r n kvs key slot back kv place_for)
+        (free_unread plain_coding (kv_facts pages) (cells_of pages) r kv.sound.records
+        (kv_slot at) puts.free (kv_slot slot)))
         (slot_unread pages r n kvs key slot back kv place_for (kv_slot slot))
 
     apart : (q y : RecId) → q ≢ kv_slot slot
         → Stands (put_entry t at back key value ∷ r (kv_slot slot)) y → Stands (r q) y → ⊥
     apart q y ne (inl same) there =
-        free_unread plain_coding (kv_facts pages) (cells_of pages) r kv.sound.records (kv_slot at) puts.free q
-        (rw same there)
+        free_unread plain_coding (kv_facts pages) (cells_of pages) r kv.sound.records
+        (kv_slot at) puts.free q (rw same there)
     apart q y ne (inr stands) there =
         ne (kv.sound.records.apart q (kv_slot slot) y there stands)

@@ -1,51 +1,28 @@
 -- A row is put: the rows that are shown stay.
-use Rattle.std.proofs.Common.{◌≡◌, ◌≢◌, ◌⊎◌, inl, inr, refl, sym, ap, ◌∙◌, subst, arith, ℕ, ◌+◌, ◌<◌, ◌≤◌, ◌^◌, ℤ, Bool, true, false, ◌||◌, List, [], ◌∷◌, ◌++◌, length, Option, None, Some}
-use Rattle.std.proofs.lemmas.Bool.{cases_eq}
-use Rattle.std.specs.Prelude.{IfSome, ◌==◌, if◌then◌else◌}
-use Rattle.mg_base.specs.CheckLaws.{front_checks}
-use Rattle.mg_base.specs.Checks.{PassesAll, common_checks}
-use Rattle.mg_base.specs.declared.numbers.PageNo.{PageNo}
+use Rattle.std.proofs.Common.{◌≡◌, ◌≢◌, refl, sym, ap, ◌∙◌, arith, ℕ, ℤ, Bool, true, false, ◌||◌, List, [], ◌∷◌, Option, None, Some}
+use Rattle.std.specs.Prelude.{◌==◌, if◌then◌else◌}
 use Rattle.mg_base.specs.declared.numbers.RecId.{RecId}
 use Rattle.mg_base.specs.declared.transaction.TxState.TheVariants.{Dead}
-use Rattle.mg_header.specs.HeaderPage.{database_checks, page_checks}
-use Rattle.mg_header.specs.declared.header.Header.{Header}
 use Rattle.mg_model.specs.CatalogRules.{AreTables}
 use Rattle.mg_model.specs.declared.table.Index.{Index}
 use Rattle.mg_model.specs.declared.table.Table.{Table}
-use Rattle.mg_pip.specs.PipPage.{pip_checks}
-use Rattle.mg_pointer.specs.PointerPage.{entries_of, next_in, pointer_checks}
-use Rattle.mg_slots.specs.DataPage.{IsDataPage, cell_of, slot_count}
-use Rattle.mg_slots.specs.DataPageLaws.{used_of_some}
-use Rattle.mg_slots.specs.declared.page.TheConstants.{DATA_KIND}
-use Rattle.mg_tip.specs.TipPage.{tip_checks}
 use Rattle.mg_value.specs.declared.value.Value.{Value}
-use Rattle.mg_value.specs.declared.value.Value.TheVariants.{Int}
-use Rattle.mg_version.specs.CellLaws.{cell_again}
-use Rattle.mg_version.specs.Cells.{IsCell, IsLink, IsSpelling, cell_bytes}
-use Rattle.mg_version.specs.declared.cell.Cell.{Cell}
-use Rattle.mg_version.specs.declared.cell.Cell.TheVariants as cells
 use Rattle.mg_version.specs.declared.cell.Link.{Link}
 use Rattle.mg_image.specs.Catalog.{HasNames, catalog_table, committed_with}
-use Rattle.mg_image.specs.Form.{Pages, Row, Rows, plain_coding, plain_form}
+use Rattle.mg_image.specs.Form.{Pages, Row, Rows}
 use Rattle.mg_image.specs.Held.{AreRows, Shows}
-use Rattle.mg_image.specs.HeldLaws.{ShowsSame, same_rows}
-use Rattle.mg_image.specs.Indexes.{AreTrees, IsFoundIn}
-use Rattle.mg_image.specs.Inventory.{header_of, inventory_page, next_of, state_at, tip_page}
-use Rattle.mg_image.specs.Reached.{IsAsWanted, linked_pages}
-use Rattle.mg_image.specs.RecordRules.{AreRecords, Each, Facts, TakesKey, committed_in, table_in}
-use Rattle.mg_image.specs.Records.{Reading, cell_spelled, cells_of, key_of, record_key, shown, slot_cell, writer}
-use Rattle.mg_image.specs.Sound.{HasHeader, HasInventory, HasRegion, HasTablePages, HasTransactions, IsCellOf, IsIndexed, IsSound, IsTableData, IsTablePointer, IsUndrawn}
-use Rattle.mg_image.specs.StepLaws.{cases_place, put_cases, put_reading, same_place}
-use Rattle.mg_image.specs.Tables.{Has, IsOnce}
+use Rattle.mg_image.specs.HeldLaws.{same_rows}
+use Rattle.mg_image.specs.Indexes.{IsFoundIn}
+use Rattle.mg_image.specs.Inventory.{state_at}
+use Rattle.mg_image.specs.RecordRules.{table_in}
+use Rattle.mg_image.specs.Records.{Reading, key_of, shown}
+use Rattle.mg_image.specs.StepLaws.{put_cases, put_reading}
 use Rattle.mg_image.specs.declared.entry.Entry.{Entry}
-use Rattle.mg_first.specs.FirstImage.{AllCommitted, IsCommittedRow, IsKv, kv_committed, kv_facts}
-use Rattle.mg_first.specs.KvRowLaws.{row_of_bytes}
-use Rattle.mg_first.specs.KvTable.{catalog_rows, kv_layout, kv_row, kv_table, stands_on}
-use Rattle.mg_first.specs.OtherPages.{ChangesRows, chain_stays_over, facts_stay, header_stays, inventory_elsewhere, last_sequence_stays, linked_stay, next_stays, oldest_stays, bits_stay, state_stays, tip_bytes_stay, tip_stays, used_stays, wanted_stays}
-use Rattle.mg_first.specs.PutRecords.{IsPutting, PutsCells, put_entry, put_records, reading_with}
-use Rattle.mg_first.specs.KvRecords.{key_is_free}
-use Rattle.mg_first.specs.Puts.{IsPending, IsPlaceFor, OnlyPage, PutsVersion, fresh, kv_link, kv_slot, kv_version, over}
-use Rattle.mg_first.specs.declared.pages.TheConstants.{CATALOG, CATALOG_ROWS, KV, KV_ROWS, LAST, PAGE}
+use Rattle.mg_first.specs.FirstImage.{IsKv, kv_committed, kv_facts}
+use Rattle.mg_first.specs.KvTable.{kv_table}
+use Rattle.mg_first.specs.PutRecords.{IsPutting, put_entry, reading_with}
+use Rattle.mg_first.specs.Puts.{kv_slot}
+use Rattle.mg_first.specs.declared.pages.TheConstants.{CATALOG, CATALOG_ROWS, KV, KV_ROWS, PAGE}
 
 -- where a table's pointer page is, 0 where there is no table
 abbrev pointer_of : Option Table → ℕ
@@ -61,8 +38,8 @@ not_of_catalog pages p slot is e =
     absurd (omega arith)
 
 -- the catalog's rows stay, whatever is read of a slot of KV
-pub catalog_stays : (pages : Pages) (committed : ℕ → Bool) (r : Reading) (slot : ℕ) (es : List Entry)
-    (rows : Rows) → AreRows (kv_facts pages) committed r (catalog_table CATALOG.0) rows
+pub catalog_stays : (pages : Pages) (committed : ℕ → Bool) (r : Reading) (slot : ℕ)
+    (es : List Entry) (rows : Rows) → AreRows (kv_facts pages) committed r (catalog_table CATALOG.0) rows
     → AreRows (kv_facts pages) committed (put_reading r (kv_slot slot) es)
     (catalog_table CATALOG.0) rows
 catalog_stays pages committed r slot es rows are = record {
@@ -83,10 +60,14 @@ catalog_stays pages committed r slot es rows are = record {
         × (key_of (catalog_table CATALOG.0) row ≡ key)
         → (p : RecId) × Shows (kv_facts pages) committed (put_reading r (kv_slot slot) es) p
         (catalog_table CATALOG.0) row × (key_of (catalog_table CATALOG.0) row ≡ key)
-    whole key row (p, shows, keyed) = (p, record {
-      of_table = shows.of_table;
-      row_shown = ap (shown committed) (same p shows.of_table) ∙ shows.row_shown;
-    }, keyed)
+    whole key row (p, shows, keyed) = (
+      p,
+      record {
+        of_table = shows.of_table;
+        row_shown = ap (shown committed) (same p shows.of_table) ∙ shows.row_shown;
+      },
+      keyed,
+    )
 
 pub names_stay : (pages : Pages) (r : Reading) (slot : ℕ) (es : List Entry) (tables : List Table)
     → HasNames (kv_facts pages) r (catalog_table CATALOG.0) tables
@@ -104,8 +85,12 @@ names_stay pages r slot es tables has = record {
         × AreRows (kv_facts pages) (committed_with (kv_facts pages) chosen)
         (put_reading r (kv_slot slot) es) (catalog_table CATALOG.0) rows
         × ((named : List Table) × AreTables rows named)
-    lawful chosen (rows, are, names) = (rows, catalog_stays pages
-        (committed_with (kv_facts pages) chosen) r slot es rows are, names)
+    lawful chosen (rows, are, names) = (
+      rows,
+      catalog_stays pages
+          (committed_with (kv_facts pages) chosen) r slot es rows are,
+      names,
+    )
 
     named : (rows : Rows)
         × AreRows (kv_facts pages) (committed_with (kv_facts pages) (λ t. true)) r
@@ -113,8 +98,12 @@ names_stay pages r slot es tables has = record {
         → (rows : Rows)
         × AreRows (kv_facts pages) (committed_with (kv_facts pages) (λ t. true))
         (put_reading r (kv_slot slot) es) (catalog_table CATALOG.0) rows × AreTables rows tables
-    named (rows, are, names) = (rows, catalog_stays pages
-        (committed_with (kv_facts pages) (λ t. true)) r slot es rows are, names)
+    named (rows, are, names) = (
+      rows,
+      catalog_stays pages
+          (committed_with (kv_facts pages) (λ t. true)) r slot es rows are,
+      names,
+    )
 
 -- neither table has an index
 pub no_index : (pages : Pages) (p : RecId) (table : Table)
@@ -152,4 +141,3 @@ rows_stay pages r n kvs t key value slot at back kv putting =
     not_shown : shown (kv_committed pages) (put_entry t at back key value ∷ r (kv_slot slot))
         ≡ shown (kv_committed pages) (r (kv_slot slot))
     not_shown = let dead : state_at PAGE pages t ≡ Dead = putting.dead in rw dead refl
-

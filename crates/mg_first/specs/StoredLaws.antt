@@ -1,5 +1,5 @@
 -- A row that is stored: the image with the new page is sound, and the transaction is pending.
-use Rattle.std.proofs.Common.{◌≡◌, sym, ap, ◌∙◌, subst, ℕ, ℤ, List}
+use Rattle.std.proofs.Common.{sym, subst, ℕ, ℤ, List}
 use Rattle.mg_image.specs.Form.{Pages, Rows}
 use Rattle.mg_image.specs.Records.{Reading}
 use Rattle.mg_first.specs.FirstImage.{IsKv}

@@ -1,7 +1,7 @@
 -- What storing a row does to KV's page, and what a page says of keys.
-use Rattle.std.specs.Prelude.{◌≡◌, ◌<◌, ◌+◌, ℕ, ℤ, List, ◌∷◌, ◌++◌, length, Option, None, Some}
+use Rattle.std.specs.Prelude.{◌≡◌, ◌<◌, ◌+◌, ℕ, ℤ, List, ◌∷◌, ◌++◌, Option, None, Some}
 use Rattle.std.specs.Int.{w64, cast_unsigned, to_le_bytes}
-use Rattle.mg_slots.specs.DataPage.{IsDataPage, cell_of, slot_count}
+use Rattle.mg_slots.specs.DataPage.{cell_of, slot_count}
 use Rattle.mg_slots.specs.Room.{least_free, rest_of}
 use Rattle.mg_value.specs.Rows.{row_bytes}
 use Rattle.mg_value.specs.declared.value.Value.TheVariants.{Int}

@@ -1,10 +1,10 @@
-use Rattle.std.proofs.Common.{◌≡◌, ◌<◌, ◌≤◌, ◌∙◌, sym, ℕ, false, true, Some, None, arith, length, w64, to_z, of_z}
+use Rattle.std.proofs.Common.{◌≡◌, ◌<◌, ◌∙◌, sym, Some, None, arith, length, w64, to_z, of_z}
 use Rattle.mg_slots.specs.DataPage.{cell_of}
-use Rattle.mg_slots.specs.Room.{need_of, room_for, room_of, rest_of}
+use Rattle.mg_slots.specs.Room.{rest_of}
 use Rattle.mg_first.specs.Puts.{kv_link}
 use Rattle.mg_first.specs.Storing.{IsFull, kv_version_bytes}
 use Rattle.mg_first.specs.declared.record.TheConstants.{RECORD_COST}
-use Rattle.mg_first.proofs.StoreLemmas.{TakesSlot, adds_record, anchor_length, anchor_stays, first_length, may_replace, no_room_exit, numbers_again, replace_fits, short_anchor, short_first, slot_refused, takes_slot, used_stays}
+use Rattle.mg_first.proofs.StoreLemmas.{TakesSlot, adds_record, anchor_length, anchor_stays, first_length, may_replace, no_room_exit, numbers_again, replace_fits, short_anchor, short_first, slot_refused, takes_slot}
 use Rattle.mg_first.proofs.record.add_record.Goals as goal
 
 pub put_cell-requires-clause-length : goal.put_cell-requires-clause-length
@@ -16,10 +16,13 @@ returns-in_err-primary-clause-no_room c = no_room_exit _
     (IsFull c.args.b.now → rest_of c.args.b.now < RECORD_COST)
     c.from_residual-in_err-primary.ensures.1
     (λ full. let less : rest_of c.args.b.now < 15 =
-    omega (arith, slot_refused c.args.b.now c.as_slice.result.now full
-    c.in_err-primary.ensures.when.1,
-    anchor_length c.as_slice.result.now (kv_link 0 c.args.tx.0)
-    (c.as_slice.ensures.value ∙ c.in_ok-unknown.ensures)) in omega arith)
+    omega (
+      arith,
+      slot_refused c.args.b.now c.as_slice.result.now full
+          c.in_err-primary.ensures.when.1,
+      anchor_length c.as_slice.result.now (kv_link 0 c.args.tx.0)
+          (c.as_slice.ensures.value ∙ c.in_ok-unknown.ensures),
+    ) in omega arith)
 
 pub put_cell-requires-2-clause-length : goal.put_cell-requires-2-clause-length
 put_cell-requires-2-clause-length c = short_first _ _ c.args.tx.0 (to_z w64 (of_z w64 c.args.key))

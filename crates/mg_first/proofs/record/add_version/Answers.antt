@@ -1,4 +1,4 @@
-use Rattle.std.proofs.Common.{◌≡◌, ◌<◌, ◌≤◌, ◌∙◌, sym, ℕ, Some, arith, length, w64, to_z, of_z}
+use Rattle.std.proofs.Common.{◌≡◌, ◌<◌, ◌∙◌, sym, Some, arith, length, w64, to_z, of_z}
 use Rattle.mg_slots.specs.DataPage.{cell_of}
 use Rattle.mg_slots.specs.Room.{rest_of}
 use Rattle.mg_first.specs.Puts.{kv_link}

@@ -1,4 +1,4 @@
-use Rattle.std.proofs.Common.{◌≡◌, ◌≤◌, subst, arith, below_more, ℕ, ℤ, w64, to_z, of_z}
+use Rattle.std.proofs.Common.{◌≤◌, subst, arith, below_more, ℕ, ℤ, w64, to_z, of_z}
 use Rattle.std.proofs.lemmas.Int.{to_z-of_z}
 use Rattle.mg_slots.specs.DataPage.{slot_count}
 use Rattle.mg_version.specs.declared.cell.Link.{Link}

@@ -1,10 +1,10 @@
-use Rattle.std.proofs.Common.{◌≡◌, sym, ap, ◌∙◌, subst, ℕ, ℤ, false, true, Some, List, w64, to_z, of_z}
+use Rattle.std.proofs.Common.{sym, subst, ℕ, ℤ, List, w64, to_z, of_z}
 use Rattle.std.proofs.lemmas.Int.{to_z-of_z}
 use Rattle.std.specs.Prelude.{IsTrue}
 use Rattle.mg_version.specs.declared.cell.Cell.TheVariants as cells
 use Rattle.mg_version.specs.declared.cell.Link.{Link}
 use Rattle.mg_version.specs.declared.cell.Version.{Version}
-use Rattle.mg_first.specs.Storing.{HasCell, HasKey, IsKeyed}
+use Rattle.mg_first.specs.Storing.{HasCell, HasKey}
 use Rattle.mg_first.proofs.RowLemmas.{leads_nowhere, other_key}
 use Rattle.mg_first.proofs.StoredLemmas.{match_none, match_some}
 use Rattle.mg_first.proofs.rows.keyed.Goals as goal
@@ -35,7 +35,7 @@ returns-then-not-has_key c = other_key c.args.rows.now c.args.slot c.args.key c.
     c.in_ok-version.field-0 c.in-Some-2.version c.in_ok-version.ensures c.in-Some-2.is)
     (λ has.
     let every : HasKey c.as_slice.result.now (to_z w64 (of_z w64 c.args.key))
-        → IsTrue c.has_key.result = c.has_key.ensures.every in
+    → IsTrue c.has_key.result = c.has_key.ensures.every in
     let there : HasKey c.as_slice.result.now c.args.key =
     subst (λ (b : List ℕ). HasKey b c.args.key) (sym c.as_slice.ensures) has in
     let given : HasKey c.as_slice.result.now (to_z w64 (of_z w64 c.args.key)) =

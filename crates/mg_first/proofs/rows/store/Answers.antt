@@ -1,9 +1,8 @@
-use Rattle.std.proofs.Common.{◌≡◌, ◌<◌, refl, sym, ℕ, ℤ, Option, Some, None, Result, w64, to_z, of_z}
+use Rattle.std.proofs.Common.{◌<◌, ℕ, w64, to_z, of_z}
 use Rattle.std.proofs.lemmas.Int.{to_z-of_z}
-use Rattle.std.specs.Prelude.{IfErr, OnOk}
 use Rattle.mg_slots.specs.Room.{rest_of}
 use Rattle.mg_version.specs.declared.cell.Link.{Link}
-use Rattle.mg_first.specs.Storing.{AddsRecord, AddsVersion, Finds, HasNoRoomFor, IfNoRoom, IsFull, IsKeyed, StoresIn}
+use Rattle.mg_first.specs.Storing.{AddsRecord, AddsVersion, HasNoRoomFor, IsFull, IsKeyed, StoresIn}
 use Rattle.mg_first.specs.declared.record.TheConstants.{RECORD_COST, VERSION_COST}
 use Rattle.mg_first.proofs.StoredLemmas.{finds_none, finds_some, on_no_room, on_ok, record_has_no_room, record_is_stored, version_has_no_room, version_is_stored}
 use Rattle.mg_first.proofs.rows.store.Goals as goal
