@@ -1,12 +1,13 @@
 -- A row that is stored: the image with the new page is sound, and the transaction is pending.
-use Rattle.std.proofs.Common.{sym, subst, ℕ, ℤ, List}
+use Rattle.std.proofs.Common.{◌≤◌, arith, sym, subst, ℕ, ℤ, List}
+use Rattle.mg_slots.specs.Room.{rest_of}
 use Rattle.mg_image.specs.Form.{Pages, Rows}
 use Rattle.mg_image.specs.Records.{Reading}
 use Rattle.mg_first.specs.FirstImage.{IsKv}
 use Rattle.mg_first.specs.PutLaws.{put_is_kv}
 use Rattle.mg_first.specs.PutRecords.{IsPutting, reading_with}
 use Rattle.mg_first.specs.Puts.{IsPending, IsPlaceFor, OnlyPage, PutsVersion}
-use Rattle.mg_first.specs.Storing.{IsKvPage, Stores}
+use Rattle.mg_first.specs.Storing.{IsKvPage, Stores, cost_of}
 use Rattle.mg_first.specs.declared.pages.TheConstants.{KV_ROWS}
 
 -- Pages hold these rows, and a transaction that puts one more is pending.
@@ -37,3 +38,8 @@ stored_is_kv page pages new r n kvs t key value known putting only stores =
       kv = put.0;
       pending = put.1;
     }
+
+-- a row is stored only where there is the room: with `HasNoRoomFor`, exactly there
+pub stored_has_room : (old new : List ℕ) (r : Reading) (kvs : Rows) (t : ℕ) (key value : ℤ)
+    → Stores old new r kvs t key value → cost_of kvs key ≤ rest_of old
+stored_has_room old new r kvs t key value stores = omega (arith, stores.rest)
