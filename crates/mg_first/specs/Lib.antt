@@ -5,7 +5,7 @@ pub mod KvRecords
 pub mod KvRowLaws
 pub mod KvTable
 pub mod OtherPages
-pub mod PlaceLaws
+pub mod KeyedLaws
 pub mod PutCells
 pub mod PutLaws
 pub mod PutPages
