@@ -1,3 +1,4 @@
-pub mod StoreLemmas
+pub mod NewPages
 pub mod RowLemmas
+pub mod StoreLemmas
 pub mod StoredLemmas

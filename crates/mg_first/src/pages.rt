@@ -24,6 +24,10 @@ pub const KV: PageNo = PageNo(5);
 /// The data page of the table KV.
 pub const KV_ROWS: PageNo = PageNo(6);
 
+/// How many transactions apart the oldest interesting and the oldest snapshot transaction make a
+/// sweep due.
+pub const SWEEP_INTERVAL: u32 = 20_000;
+
 /// The number at which no transaction is drawn any more: the one transaction inventory page has
 /// places for those below it.
 pub const LAST: TxNo = TxNo(16_304);

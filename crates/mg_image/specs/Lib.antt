@@ -14,6 +14,8 @@ pub mod HistoryLaws
 pub mod Leftovers
 pub mod StepLaws
 pub mod PageLaws
+pub mod FactLaws
+pub mod KeptPageLaws
 pub mod ReadingLaws
 pub mod HeldLaws
 pub mod Kept

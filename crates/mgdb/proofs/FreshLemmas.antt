@@ -3,8 +3,9 @@ use Rattle.std.proofs.Common.{◌≡◌, ◌≤◌, ◌+◌, ◌*◌, ℕ, List,
 use Rattle.std.proofs.lemmas.List.{get_or_past}
 use Rattle.mg_base.specs.Image.{Image, page_at, blank}
 use Rattle.mg_base.specs.Disk.{Stays}
-use Rattle.mgdb.specs.Fresh.{IsBlank, IsFresh, region}
-use Rattle.mgdb.specs.declared.pages.TheConstants.{PAGE, PAGES}
+use Rattle.mgdb.specs.Fresh.{IsFresh}
+use Rattle.mg_image.specs.Opening.{IsBlank}
+use Rattle.mg_first.specs.declared.pages.TheConstants.{PAGE, PAGES}
 
 -- what was known stays
 pub stays_known : (before now : Option ℕ) (n : ℕ) → Stays before now → before ≡ Some n → now ≡ Some n
@@ -12,10 +13,10 @@ stays_known None now n stays known = absurd cc
 stays_known (Some m) now n stays known = stays ∙ known
 
 -- an image of at most seven pages whose page 0 is zero is blank
-pub few_blank : (image : Image) → length image ≤ PAGES → page_at PAGE image 0 ≡ blank PAGE → IsBlank PAGE image
+pub few_blank : (image : Image) → length image ≤ PAGES → page_at PAGE image 0 ≡ blank PAGE → IsBlank PAGE (page_at PAGE image)
 few_blank image few zero_header = record {
   header = zero_header;
-  inventories = λ s one. get_or_past image (s * region PAGE + 1) (blank PAGE) (omega arith);
+  inventory = λ region one below. get_or_past image (region * 32640 + 1) (blank PAGE) (omega arith);
 }
 
 -- a disk whose page 0 was read as zero is fresh, and no other one is

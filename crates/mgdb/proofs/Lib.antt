@@ -1,5 +1,7 @@
+pub mod CrashLemmas
 pub mod FreshLemmas
-pub mod RecordLemmas
+pub mod NewDoneLemmas
+pub mod NewImageLemmas
 pub mod ScriptLemmas
 pub mod TopLemmas
 pub mod WordsLemmas

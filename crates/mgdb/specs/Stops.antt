@@ -3,6 +3,7 @@ use Rattle.std.specs.Prelude.{◌≡◌, ◌≤◌, Result, OnOk, IsErrAnd}
 use Rattle.mg_base.specs.Disk.{Meaning, Stays, Rose}
 use Rattle.mg_base.specs.Streams.{SourceMeaning, SinkMeaning}
 use Rattle.mgdb.specs.declared.status.Status.{Status}
+use Rattle.mgdb.specs.declared.status.Place.TheVariants as places
 use Rattle.mgdb.specs.declared.status.Stop.{Stop}
 use Rattle.mgdb.specs.declared.status.Stop.TheVariants.{DiskRead, DiskWrite, UnknownImage, Stream, Memory, ScriptTooLong}
 
@@ -33,22 +34,26 @@ IsOpeningStop Stream = ⊥
 IsOpeningStop (Memory place) = ⊥
 IsOpeningStop ScriptTooLong = ⊥
 
--- the disk could not be written, or memory ran out
+-- outside the lines the disk could not be written, or memory ran out
 abbrev pub IsWritingStop : Stop → Type 0
 IsWritingStop (DiskRead place) = ⊥
-IsWritingStop (DiskWrite place) = Unit {0}
+IsWritingStop (DiskWrite places.Run) = Unit {0}
+IsWritingStop (DiskWrite places.Put) = ⊥
 IsWritingStop UnknownImage = ⊥
 IsWritingStop Stream = ⊥
-IsWritingStop (Memory place) = Unit {0}
+IsWritingStop (Memory places.Run) = Unit {0}
+IsWritingStop (Memory places.Put) = ⊥
 IsWritingStop ScriptTooLong = ⊥
 
--- the same, or the sink failed
+-- within a line the disk could not be written, or memory ran out; or the sink failed
 abbrev pub IsObeyingStop : Stop → Type 0
 IsObeyingStop (DiskRead place) = ⊥
-IsObeyingStop (DiskWrite place) = Unit {0}
+IsObeyingStop (DiskWrite places.Run) = ⊥
+IsObeyingStop (DiskWrite places.Put) = Unit {0}
 IsObeyingStop UnknownImage = ⊥
 IsObeyingStop Stream = Unit {0}
-IsObeyingStop (Memory place) = Unit {0}
+IsObeyingStop (Memory places.Run) = ⊥
+IsObeyingStop (Memory places.Put) = Unit {0}
 IsObeyingStop ScriptTooLong = ⊥
 
 -- any of these, or the disk could not be read or is not fresh
@@ -60,13 +65,13 @@ IsDiskOrSinkStop Stream = Unit {0}
 IsDiskOrSinkStop (Memory place) = Unit {0}
 IsDiskOrSinkStop ScriptTooLong = ⊥
 
--- the sink failed, or memory ran out
+-- the sink failed
 abbrev pub IsSayingStop : Stop → Type 0
 IsSayingStop (DiskRead place) = ⊥
 IsSayingStop (DiskWrite place) = ⊥
 IsSayingStop UnknownImage = ⊥
 IsSayingStop Stream = Unit {0}
-IsSayingStop (Memory place) = Unit {0}
+IsSayingStop (Memory place) = ⊥
 IsSayingStop ScriptTooLong = ⊥
 
 -- the source failed, memory ran out, or the script is too long

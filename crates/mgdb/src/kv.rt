@@ -1,53 +1,50 @@
-//! The table KV on its one data page, and the transactions that store in it.
+//! The table KV as the program keeps it, and the transactions that put rows into it.
 
 ghost use Rattle.std.specs.Prelude.{◌≤◌};
 ghost use Rattle.mg_slots.specs.DataPage.{IsDataPage};
+ghost use Rattle.mg_first.specs.declared.pages.TheConstants.{LAST};
 
+use crate::answer::Answer;
 use crate::page_writes::write_page;
-use crate::pages::{self, HEADER, KV_ROWS, PAGE_LEN, TRANSACTIONS};
-use crate::record::AddFault;
-use crate::rows::store;
 use crate::status::{Place, Stop};
 use mg_base::{Disk, TxNo, TxState};
+use mg_first::{
+    AddFault, HEADER, KV_ROWS, LAST, PAGE_LEN, TRANSACTIONS, header_page, kv_rows_page, store,
+    transaction_page,
+};
 use mg_tip::set_state;
 use std::alloc::Global;
-
-/// The number at which no transaction is drawn any more: the one transaction inventory page of 4096
-/// bytes has places for those below it.
-const LAST: u32 = 16_304;
-
-/// What a put answers.
-#[derive(Clone, Copy, Debug, PartialEq, Eq)]
-pub enum Answer {
-    /// The row is stored and committed by this transaction.
-    Stored(TxNo),
-    /// The row's cells do not fit the page. The transaction is dead.
-    DatabaseFull,
-    /// No number is left. None was drawn.
-    TransactionLimit,
-}
 
 /// The pages of the table that change, as they are on the disk, and the next transaction's number.
 #[derive(Drop)]
 pub struct Kv {
-    transactions: [u8; PAGE_LEN],
-    rows: [u8; PAGE_LEN],
-    next: TxNo,
+    pub(crate) transactions: [u8; PAGE_LEN],
+    pub(crate) rows: [u8; PAGE_LEN],
+    pub(crate) next: TxNo,
     ghost lawful: { IsDataPage rows },
-    ghost numbered: { next.0 ≤ 16304 },
+    ghost drawn: { 1 ≤ next.0 },
+    ghost numbered: { next.0 ≤ LAST.0 },
 }
 
 impl Kv {
-    ghost use Rattle.std.specs.Prelude.{◌≡◌, Some, IfErr};
-    ghost use Rattle.mgdb.specs.Stops.{DiskSteps, IsWritingStop};
-    ghost use Rattle.mgdb.specs.declared.pages.TheConstants.{PAGE};
+    ghost use Rattle.std.specs.Prelude.{◌≡◌, ℕ, Some, IfErr};
+    ghost use Rattle.mg_model.specs.History.{Entries};
+    ghost use Rattle.mg_model.specs.declared.opening.Opening.{Opening};
+    ghost use Rattle.mg_first.specs.NewDatabase.{IsDataOf, IsTransactionPage, no_cell};
+    ghost use Rattle.mg_first.specs.declared.pages.TheConstants.{PAGE};
+    ghost use Rattle.mgdb.specs.Serving.{IsPutStop, PutDone, Serves};
+    ghost use Rattle.mgdb.specs.Stops.{DiskSteps};
 
     /// The table of a new database.
-    pub fn new() -> Kv {
+    pub fn new() -> Kv
+        ensures transactions { IsTransactionPage result.transactions }
+        ensures rows { IsDataOf result.rows 6 5 no_cell }
+        ensures next { result.next.0 ≡ 1 }
+    {
         let mut transactions = [0u8; PAGE_LEN];
         let mut rows = [0u8; PAGE_LEN];
-        pages::transaction_page(&mut transactions);
-        pages::kv_rows_page(&mut rows);
+        transaction_page(&mut transactions);
+        kv_rows_page(&mut rows);
         Kv {
             transactions,
             rows,
@@ -73,16 +70,18 @@ impl Kv {
     ) -> Result<Answer, Stop>
         requires { D.meaning.size disk.old ≡ Some PAGE }
         ensures sized { D.meaning.size disk.new ≡ Some PAGE }
-        ensures stops { IfErr result IsWritingStop }
+        ensures stops { IfErr result IsPutStop }
         ensures steps { DiskSteps D.meaning disk.old disk.new result }
+        ensures done { (o : Opening) (h : Entries) → Serves D.meaning self.old disk.old o h
+            → PutDone D.meaning disk.old disk.new self.new o h key value result }
     {
-        if self.next.0 == LAST {
+        if self.next == LAST {
             return Ok(Answer::TransactionLimit);
         }
         let tx = self.next;
         self.next = TxNo(tx.0 + 1);
         let mut header = [0u8; PAGE_LEN];
-        pages::header_page(&mut header, self.next);
+        header_page(&mut header, self.next);
         write_page(disk, HEADER, &header, Place::Put)?;
         let mut rows = self.rows;
         match store(alloc, &mut rows, tx, key, value) {

@@ -3,26 +3,29 @@
 //! Owns: the words of a command line, the script and its lines, the statuses and the fault lines, and
 //! the private parts that make a new database of seven pages and put rows on its one data page.
 //!
-//! Below: `mg_base` for the outside, `mg_tip`, `mg_slots` and `mg_version` for pages and cells.
+//! Below: `mg_base` for the outside, `mg_tip`, `mg_slots` and `mg_version` for pages and cells, and
+//! `mg_model` for the histories of puts, which `specs/Serial` has with their laws.
 //! Not here: what a page of any kind means.
 #![tactic(auto)]
 
+mod answer;
 mod fresh;
 mod kv;
 mod number;
 mod page_writes;
-mod pages;
-mod record;
-mod rows;
 mod run;
 mod script;
 mod script_source;
+mod scratch;
+mod serial;
 mod status;
 mod top;
 mod words;
 
 use mg_base::{FileDisk, StdSink, StdSource};
 pub use run::run;
+pub use scratch::scratch;
+pub use serial::puts_in_turn;
 pub use status::Status;
 use std::alloc::AllocError;
 use std::env;

@@ -1,22 +1,27 @@
 //! The command `run`: it obeys a script on a disk, line by line.
 
-ghost use Rattle.std.specs.Prelude.{◌≡◌, ◌≢◌, ◌≤◌, ◌<◌, length, List, ℕ, Some, true, false, Ok, IfOk, IfErr, OnOk, IsErrOf};
+ghost use Rattle.std.specs.Prelude.{◌≡◌, ◌≢◌, ◌≤◌, ◌<◌, length, List, [], ℕ, Some, true, false, Ok, IfOk, IfErr, OnOk, IsErrOf};
 ghost use Rattle.std.specs.Str.Lines.{lines};
 ghost use Rattle.mg_base.specs.Image.{Image};
+ghost use Rattle.mg_model.specs.History.{Entries};
+ghost use Rattle.mg_model.specs.declared.opening.Opening.{Opening};
+ghost use Rattle.mg_first.specs.declared.pages.TheConstants.{PAGE};
 ghost use Rattle.mgdb.specs.Causes.{DiskCauses, StreamCauses, ScriptCauses};
 ghost use Rattle.mgdb.specs.Fresh.{IsFresh};
+ghost use Rattle.mgdb.specs.Headline.{Headline, IsEntry, IsPrinted, NEW_WRITES, fault_line};
 ghost use Rattle.mgdb.specs.Script.{IsBad, HasBad};
+ghost use Rattle.mgdb.specs.Serving.{LineDone, LinesDone, PutLineDone, Serves};
 ghost use Rattle.mgdb.specs.Stops.{DiskSteps, SinkSteps, IsObeyingStop, IsSayingStop, IsDiskOrSinkStop, status_of};
-ghost use Rattle.mgdb.specs.declared.pages.TheConstants.{PAGE};
 ghost use Rattle.mgdb.specs.declared.script_source.TheConstants.{SCRIPT_MOST};
 
+use crate::answer::{Answer, LineText, bad_line};
 use crate::fresh::{check_fresh, write_new};
-use crate::kv::{Answer, Kv};
+use crate::kv::Kv;
 use crate::script::{Line, first_line, read_line};
 use crate::script_source::read_script;
 use crate::status::{Place, Status, Stop};
 use mg_base::{Disk, Sink, Source};
-use std::alloc::{AllocError, Global};
+use std::alloc::Global;
 
 /// Obeys the script that the source gives, on a fresh disk, and answers into the sink.
 ///
@@ -33,6 +38,9 @@ pub fn run<D: Disk, S: Source, K: Sink>(
     ensures script { ScriptCauses S.meaning source.old result.0 }
     ensures not_asked { result.0 ≡ 7 → disk.new ≡ disk.old }
     ensures range { (result.0 < 8) × (result.0 ≢ 2) }
+    ensures headline { (size : ℕ) (o : Opening) (script : List ℕ) → IsEntry D.meaning disk.old size o
+        → S.meaning.left source.old ≡ Some script
+        → Headline D.meaning K.meaning size o script disk.old disk.new sink.old sink.new result.0 }
 {
     let script = match read_script(alloc, source) {
         Ok(script) => script,
@@ -48,6 +56,7 @@ pub fn run<D: Disk, S: Source, K: Sink>(
 // Says why the run stopped. A sink that fails at this line leaves the status as it is.
 fn stopped<K: Sink>(sink: &mut K, stop: Stop) -> Status
     ensures status { result ≡ status_of stop }
+    ensures printed { IsPrinted K.meaning sink.old sink.new (fault_line (Some stop)) }
     ensures never_falls { K.meaning.faults sink.old ≤ K.meaning.faults sink.new }
 {
     let line = stop.line();
@@ -73,10 +82,14 @@ fn obey_script<D: Disk, K: Sink>(
     ensures stops { IfErr result IsDiskOrSinkStop }
     ensures disk { DiskSteps D.meaning disk.old disk.new result }
     ensures sink { SinkSteps K.meaning sink.old sink.new result }
+    ensures done { (size : ℕ) (o : Opening) → IsEntry D.meaning disk.old size o
+        → LinesDone D.meaning K.meaning disk.old disk.new sink.old sink.new size NEW_WRITES o
+        script.now result }
 {
     check_fresh(disk)?;
-    write_new(alloc, disk)?;
-    let all = obey_lines(alloc, disk, sink, script)?;
+    let mut kv = Kv::new();
+    write_new(alloc, disk, &kv)?;
+    let all = obey_lines(alloc, &mut kv, disk, sink, script)?;
     match disk.settle() {
         Ok(()) => Ok(all),
         Err(_) => Err(Stop::DiskWrite(Place::Run)),
@@ -86,6 +99,7 @@ fn obey_script<D: Disk, K: Sink>(
 // Obeys the lines of a script on a new database, and tells whether every one answered Ok.
 fn obey_lines<D: Disk, K: Sink>(
     alloc: Global,
+    kv: &mut Kv,
     disk: &mut D,
     sink: &mut K,
     script: &[u8],
@@ -97,22 +111,24 @@ fn obey_lines<D: Disk, K: Sink>(
     ensures stops { IfErr result IsObeyingStop }
     ensures disk { DiskSteps D.meaning disk.old disk.new result }
     ensures sink { SinkSteps K.meaning sink.old sink.new result }
+    ensures done { (o : Opening) → Serves D.meaning kv.old disk.old o []
+        → LinesDone D.meaning K.meaning disk.old disk.new sink.old sink.new PAGE 0 o script.now
+        result }
 {
-    let mut kv = Kv::new();
     let mut all = true;
     let mut number = 0u32;
     let mut rest = script;
     while !rest.is_empty() {
         let (line, after) = first_line(rest);
         number += 1;
-        let ok = obey(alloc, &mut kv, disk, sink, number, line)?;
+        let ok = obey(alloc, kv, disk, sink, number, line)?;
         all = all && ok;
         rest = after;
     }
     Ok(all)
 }
 
-// Obeys one line, and tells whether it answered Ok.
+// Obeys one line, and tells whether it answered Ok. A fault within a put is told in its line.
 fn obey<D: Disk, K: Sink>(
     alloc: Global,
     kv: &mut Kv,
@@ -127,46 +143,58 @@ fn obey<D: Disk, K: Sink>(
     ensures stops { IfErr result IsObeyingStop }
     ensures disk { DiskSteps D.meaning disk.old disk.new result }
     ensures sink { SinkSteps K.meaning sink.old sink.new result }
+    ensures done { (o : Opening) (h : Entries) → Serves D.meaning kv.old disk.old o h
+        → LineDone D.meaning K.meaning disk.old disk.new kv.new sink.old sink.new o h number line.now
+        result }
 {
     match read_line(line) {
         Line::Silent => Ok(true),
         Line::Bad => {
-            say(
-                sink,
-                Place::Run,
-                format!(in alloc; "line {number}: BAD LINE\n"),
-            )?;
+            say(sink, &bad_line(number))?;
             Ok(false)
         }
-        Line::Put(key, value) => {
-            let answer = kv.put(alloc, disk, key, value)?;
-            say(sink, Place::Put, answer_line(alloc, answer))?;
-            Ok(matches!(answer, Answer::Stored(_)))
-        }
+        Line::Put(key, value) => obey_put(alloc, kv, disk, sink, key, value),
     }
 }
 
-// The line that tells what a put answered.
-fn answer_line(alloc: Global, answer: Answer) -> Result<String, AllocError> {
-    match answer {
-        Answer::Stored(tx) => {
-            let tx = tx.0;
-            format!(in alloc; "@put: OK TX {tx}\n")
+// Obeys a line `@put K V`.
+fn obey_put<D: Disk, K: Sink>(
+    alloc: Global,
+    kv: &mut Kv,
+    disk: &mut D,
+    sink: &mut K,
+    key: i64,
+    value: i64,
+) -> Result<bool, Stop>
+    requires { D.meaning.size disk.old ≡ Some PAGE }
+    ensures sized { D.meaning.size disk.new ≡ Some PAGE }
+    ensures stops { IfErr result IsObeyingStop }
+    ensures disk { DiskSteps D.meaning disk.old disk.new result }
+    ensures sink { SinkSteps K.meaning sink.old sink.new result }
+    ensures done { (o : Opening) (h : Entries) → Serves D.meaning kv.old disk.old o h
+        → PutLineDone D.meaning K.meaning disk.old disk.new kv.new sink.old sink.new o h key value
+        result }
+{
+    match kv.put(alloc, disk, key, value) {
+        Ok(answer) => {
+            say(sink, &answer.line())?;
+            Ok(matches!(answer, Answer::Stored(_)))
         }
-        Answer::DatabaseFull => String::from_str(alloc, "@put: DATABASE FULL LIMIT 7\n"),
-        Answer::TransactionLimit => String::from_str(alloc, "@put: TRANSACTION LIMIT\n"),
+        Err(stop) => {
+            // A sink that fails at this line leaves the status as it is.
+            let _ = sink.put(stop.put_line());
+            Err(stop)
+        }
     }
 }
 
 // Puts a line into the sink.
-fn say<K: Sink>(sink: &mut K, place: Place, line: Result<String, AllocError>) -> Result<(), Stop>
+fn say<K: Sink>(sink: &mut K, line: &LineText) -> Result<(), Stop>
     ensures stops { IfErr result IsSayingStop }
     ensures sink { SinkSteps K.meaning sink.old sink.new result }
+    ensures printed { IsPrinted K.meaning sink.old sink.new line.now.bytes }
 {
-    let Ok(line) = line else {
-        return Err(Stop::Memory(place));
-    };
-    match sink.put(line.as_bytes()) {
+    match sink.put(line.as_str().as_bytes()) {
         Ok(()) => Ok(()),
         Err(_) => Err(Stop::Stream),
     }

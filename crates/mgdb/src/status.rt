@@ -1,6 +1,8 @@
 //! How a run ends: its status, and the line that says why.
 
-ghost use Rattle.std.specs.Prelude.{◌≡◌};
+ghost use Rattle.std.specs.Prelude.{◌≡◌, ◌∷◌, ◌++◌, [], Some, codes};
+ghost use Rattle.mgdb.specs.Headline.{fault_line};
+ghost use Rattle.mgdb.specs.Serving.{IsPutStop, stop_text};
 ghost use Rattle.mgdb.specs.Stops.{status_of};
 
 /// The status of the program.
@@ -64,18 +66,32 @@ impl Stop {
         }
     }
 
-    /// The line that says why, with its end. A failed stream has none.
-    pub fn line(self) -> &'static [u8] {
+    /// The line that says why, with its end, of a fault outside the lines of the script. A failed
+    /// stream has none.
+    pub fn line(self) -> &'static [u8]
+        ensures { result.now ≡ fault_line (Some self) }
+    {
         match self {
             Stop::DiskRead(Place::Run) => b"mgdb: DISK READ FAULT\n",
-            Stop::DiskRead(Place::Put) => b"@put: DISK READ FAULT\n",
             Stop::DiskWrite(Place::Run) => b"mgdb: DISK WRITE FAULT\n",
-            Stop::DiskWrite(Place::Put) => b"@put: DISK WRITE FAULT\n",
             Stop::UnknownImage => b"mgdb: UNKNOWN IMAGE\n",
-            Stop::Stream => b"",
             Stop::Memory(Place::Run) => b"mgdb: OUT OF MEMORY\n",
-            Stop::Memory(Place::Put) => b"@put: OUT OF MEMORY\n",
             Stop::ScriptTooLong => b"mgdb: SCRIPT TOO LONG\n",
+            Stop::DiskRead(Place::Put)
+            | Stop::DiskWrite(Place::Put)
+            | Stop::Memory(Place::Put)
+            | Stop::Stream => b"",
+        }
+    }
+
+    /// What a line `@put` prints that this fault ended.
+    pub fn put_line(self) -> &'static [u8]
+        requires { IsPutStop self }
+        ensures { result.now ≡ codes "@put: " ++ stop_text self ++ 10 ∷ [] }
+    {
+        match self {
+            Stop::DiskWrite(_) => b"@put: DISK WRITE FAULT\n",
+            _ => b"@put: OUT OF MEMORY\n",
         }
     }
 }

@@ -5,8 +5,8 @@ ghost use Rattle.mg_base.specs.Geometry.{is_page_size};
 ghost use Rattle.mgdb.specs.Words.{texts, IsRun, IsPath};
 
 use crate::number;
-use crate::pages::PAGE;
 use mg_base::is_page_size;
+use mg_first::PAGE;
 
 /// What a command line asks for: `run DB`, or `run DB --stop N`.
 #[derive(Clone, Copy, Debug, PartialEq, Eq)]

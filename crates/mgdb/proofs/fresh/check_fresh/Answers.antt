@@ -1,6 +1,6 @@
 -- What was read of page 0 decides.
 use Rattle.std.proofs.Common.{◌≡◌, ◌∙◌, sym, ap, ℕ, Some, length, replicate, arith, refl}
-use Rattle.mgdb.specs.declared.pages.TheConstants.{PAGE}
+use Rattle.mg_first.specs.declared.pages.TheConstants.{PAGE}
 use Rattle.mgdb.proofs.FreshLemmas.{fresh_of_zero, not_fresh, stays_known}
 use Rattle.mgdb.proofs.fresh.check_fresh.Goals as goal
 

@@ -1,7 +1,7 @@
 use Rattle.std.proofs.Common.{◌≡◌, ◌≤◌, ◌+◌, Some, true, length}
 use Rattle.std.specs.Str.Lines.{lines}
 use Rattle.mgdb.specs.Script.{HasBad}
-use Rattle.mgdb.specs.declared.pages.TheConstants.{PAGE}
+use Rattle.mg_first.specs.declared.pages.TheConstants.{PAGE}
 use Rattle.mgdb.proofs.run.obey_lines.Given as goal
 
 -- no call failed; the lines are counted; a bad line was no good one

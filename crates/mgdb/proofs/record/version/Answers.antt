@@ -1,5 +1,0 @@
-use Rattle.mgdb.proofs.RecordLemmas.{version_is_short}
-use Rattle.mgdb.proofs.record.version.Goals as goal
-
-pub returns : goal.returns
-returns c = rw (c.in_ok-write_cell.ensures.written, c.new-bytes.ensures.items) (version_is_short _ c.requires)

@@ -1,0 +1,162 @@
+-- Laws of what is printed: pieces one after another, and the line of a fault.
+use Rattle.std.specs.Prelude.{◌≡◌, ◌≤◌, ◌<◌, ◌⊎◌, ◌+◌, ◌^◌, ℕ, List, [], ◌++◌, length, min, take, Some, Result, Ok, Err, OnOk, refl}
+use Rattle.std.proofs.Common.{sym, ◌∙◌, ap, arith, inl, inr, append-nil, append_assoc}
+use Rattle.std.proofs.Math.Seq.{take-append-add}
+use Rattle.std.proofs.lemmas.List.{length-take, take-append-le, take_all, take_min}
+use Rattle.mg_base.specs.Disk.{Rose}
+use Rattle.mg_base.specs.Streams.{Puts, SinkMeaning}
+use Rattle.mgdb.specs.Headline.{IsPrinted, fault_line}
+use Rattle.mgdb.specs.Stops.{IsObeyingStop}
+use Rattle.mgdb.specs.declared.status.Stop.{Stop}
+use Rattle.mgdb.specs.declared.status.Stop.TheVariants.{DiskRead, DiskWrite, Memory, ScriptTooLong, Stream, UnknownImage}
+use Rattle.mgdb.specs.declared.status.Place.TheVariants as places
+
+-- The sink took all these bytes, and did not fail.
+pub record IsPrintedWhole {K : Type 0} (n : SinkMeaning K) (old new : K) (bytes : List ℕ)
+    : Type 0 where
+  pub all : (before : List ℕ) → n.taken old ≡ Some before → n.taken new ≡ Some (before ++ bytes)
+  pub steady : n.faults new ≡ n.faults old
+
+-- ---- pieces that were taken whole
+
+pub whole_nothing : {K : Type 0} (n : SinkMeaning K) (sink : K) → IsPrintedWhole n sink sink []
+whole_nothing n sink = record {
+  all = λ before is. is ∙ ap Some (sym (append-nil before));
+  steady = refl;
+}
+
+pub whole_by_puts : {K T E : Type 0} (n : SinkMeaning K) (old new : K) (piece : List ℕ)
+    (result : Result T E) → Puts n old new piece result
+    → OnOk result (IsPrintedWhole n old new piece)
+whole_by_puts n old new piece (Ok x) puts = record { all = puts.written; steady = puts.steady }
+whole_by_puts n old new piece (Err e) puts = tt
+
+pub whole_more : {K : Type 0} (n : SinkMeaning K) (a b c : K) (xs ys : List ℕ)
+    → IsPrintedWhole n a b xs → IsPrintedWhole n b c ys → IsPrintedWhole n a c (xs ++ ys)
+whole_more n a b c xs ys first next = record {
+  all = λ before is. next.all (before ++ xs) (first.all before is)
+      ∙ ap Some (append_assoc before xs ys);
+  steady = next.steady ∙ first.steady;
+}
+
+pub printed_whole : {K : Type 0} (n : SinkMeaning K) (old new : K) (bytes : List ℕ)
+    → IsPrintedWhole n old new bytes → IsPrinted n old new bytes
+printed_whole n old new bytes whole = record {
+  prefix = λ before is. (length bytes, whole.all before is
+      ∙ ap (λ taken. Some (before ++ taken)) (sym (take_all (length bytes) bytes (omega arith))));
+  whole = λ steady before is. whole.all before is;
+}
+
+-- ---- a piece of which perhaps a prefix was taken
+
+pub printed_nothing : {K : Type 0} (n : SinkMeaning K) (sink : K) → IsPrinted n sink sink []
+printed_nothing n sink = printed_whole n sink sink [] (whole_nothing n sink)
+
+pub printed_by_puts : {K T E : Type 0} (n : SinkMeaning K) (old new : K) (piece : List ℕ)
+    (result : Result T E) → Puts n old new piece result → IsPrinted n old new piece
+printed_by_puts n old new piece (Ok x) puts =
+    printed_whole n old new piece (record { all = puts.written; steady = puts.steady })
+printed_by_puts n old new piece (Err e) puts = record {
+  prefix = puts.failed;
+  whole = λ steady before is. absurd (steady (puts.cause refl));
+}
+
+-- behind bytes that were taken whole
+pub printed_behind : {K : Type 0} (n : SinkMeaning K) (a b c : K) (xs ys : List ℕ)
+    → IsPrintedWhole n a b xs → IsPrinted n b c ys → IsPrinted n a c (xs ++ ys)
+printed_behind n a b c xs ys first next = record {
+  prefix = λ before is. at before (next.prefix (before ++ xs) (first.all before is));
+  whole = λ steady before is. next.whole
+      (λ rose. steady (rw (sym first.steady) rose)) (before ++ xs) (first.all before is)
+      ∙ ap Some (append_assoc before xs ys);
+}
+  where
+    at : (before : List ℕ) → (k : ℕ) × (n.taken c ≡ Some ((before ++ xs) ++ take k ys))
+        → (k : ℕ) × (n.taken c ≡ Some (before ++ take k (xs ++ ys)))
+    at before (k, is) = (length xs + k, is ∙ ap Some (append_assoc before xs (take k ys)
+        ∙ ap (λ taken. before ++ taken) (sym (take-append-add xs ys k))))
+
+-- where a call failed, what was to come behind is not taken
+pub printed_failed : {K : Type 0} (n : SinkMeaning K) (old new : K) (xs ys : List ℕ)
+    → Rose (n.faults old) (n.faults new) → IsPrinted n old new xs → IsPrinted n old new (xs ++ ys)
+printed_failed n old new xs ys rose printed = record {
+  prefix = λ before is. at before (printed.prefix before is);
+  whole = λ steady before is. absurd (steady rose);
+}
+  where
+    at : (before : List ℕ) → (k : ℕ) × (n.taken new ≡ Some (before ++ take k xs))
+        → (k : ℕ) × (n.taken new ≡ Some (before ++ take k (xs ++ ys)))
+    at before (k, is) = (min k (length xs), is ∙ ap (λ taken. Some (before ++ taken))
+        (sym (take-append-le (min k (length xs)) xs ys (omega arith) ∙ take_min k xs)))
+
+-- nothing more
+pub printed_then_nothing : {K : Type 0} (n : SinkMeaning K) (a b c : K) (xs : List ℕ)
+    → IsPrinted n a b xs → n.faults b ≤ n.faults c → IsPrinted n b c []
+    → IsPrinted n a c (xs ++ [])
+printed_then_nothing n a b c xs first grows next = record {
+  prefix = λ before is. at before (first.prefix before is);
+  whole = λ steady before is.
+      unchanged (before ++ xs) (first.whole (λ rose. steady (rose_on rose)) before is)
+      ∙ ap (λ taken. Some (before ++ taken)) (sym (append-nil xs));
+}
+  where
+    rose_on : Rose (n.faults a) (n.faults b) → Rose (n.faults a) (n.faults c)
+    rose_on (inl more) = inl (omega arith)
+    rose_on (inr most) = inr (omega arith)
+
+    same : (taken : List ℕ) → (j : ℕ) × (n.taken c ≡ Some (taken ++ take j []))
+        → n.taken c ≡ Some taken
+    same taken (j, is) = is
+        ∙ ap (λ rest. Some (taken ++ rest)) (take_all j [] (omega arith))
+        ∙ ap Some (append-nil taken)
+
+    unchanged : (taken : List ℕ) → n.taken b ≡ Some taken → n.taken c ≡ Some taken
+    unchanged taken is = same taken (next.prefix taken is)
+
+    at : (before : List ℕ) → (k : ℕ) × (n.taken b ≡ Some (before ++ take k xs))
+        → (k : ℕ) × (n.taken c ≡ Some (before ++ take k (xs ++ [])))
+    at before (k, is) = (k, unchanged (before ++ take k xs) is
+        ∙ ap (λ taken. Some (before ++ take k taken)) (sym (append-nil xs)))
+
+-- where the count of faults did not rise, all was taken
+pub whole_unless_rose : {K : Type 0} (n : SinkMeaning K) (old new : K) (bytes : List ℕ)
+    → (Rose (n.faults old) (n.faults new) → ⊥) → n.faults new ≡ n.faults old
+    → IsPrinted n old new bytes → IsPrintedWhole n old new bytes
+whole_unless_rose n old new bytes calm steady printed =
+    record { all = printed.whole calm; steady = steady }
+
+-- ---- the line of a fault
+
+-- of a fault within a line the transcript tells, and of a sink that failed nothing does
+pub no_fault_line : (stop : Stop) → IsObeyingStop stop → fault_line (Some stop) ≡ []
+no_fault_line (DiskRead place) is = absurd is
+no_fault_line (DiskWrite places.Run) is = absurd is
+no_fault_line (DiskWrite places.Put) is = refl
+no_fault_line UnknownImage is = absurd is
+no_fault_line Stream is = refl
+no_fault_line (Memory places.Run) is = absurd is
+no_fault_line (Memory places.Put) is = refl
+no_fault_line ScriptTooLong is = absurd is
+
+-- what the lines print, with the line of the fault that stopped the run: of a fault outside the
+-- lines it comes behind all that they print
+pub printed_stopped : {K : Type 0} (n : SinkMeaning K) (a b c : K) (xs : List ℕ) (stop : Stop)
+    → IsPrinted n a b xs → ((IsObeyingStop stop → ⊥) → IsPrintedWhole n a b xs)
+    → n.faults b ≤ n.faults c → IsPrinted n b c (fault_line (Some stop))
+    → IsPrinted n a c (xs ++ fault_line (Some stop))
+printed_stopped n a b c xs (DiskRead place) printed whole grows line =
+    printed_behind n a b c xs (fault_line (Some (DiskRead place))) (whole (λ is. is)) line
+printed_stopped n a b c xs (DiskWrite places.Run) printed whole grows line =
+    printed_behind n a b c xs (fault_line (Some (DiskWrite places.Run))) (whole (λ is. is)) line
+printed_stopped n a b c xs (DiskWrite places.Put) printed whole grows line =
+    printed_then_nothing n a b c xs printed grows line
+printed_stopped n a b c xs UnknownImage printed whole grows line =
+    printed_behind n a b c xs (fault_line (Some UnknownImage)) (whole (λ is. is)) line
+printed_stopped n a b c xs Stream printed whole grows line =
+    printed_then_nothing n a b c xs printed grows line
+printed_stopped n a b c xs (Memory places.Run) printed whole grows line =
+    printed_behind n a b c xs (fault_line (Some (Memory places.Run))) (whole (λ is. is)) line
+printed_stopped n a b c xs (Memory places.Put) printed whole grows line =
+    printed_then_nothing n a b c xs printed grows line
+printed_stopped n a b c xs ScriptTooLong printed whole grows line =
+    printed_behind n a b c xs (fault_line (Some ScriptTooLong)) (whole (λ is. is)) line

@@ -1,0 +1,274 @@
+-- Laws of a whole run: the disk is read, a new database is made, the lines are obeyed, the disk is
+-- settled; and what the program promises of it, wherever it stops.
+use Rattle.std.specs.Prelude.{◌≡◌, ◌≤◌, ◌+◌, ◌++◌, [], ℕ, Bool, true, List, None, Some, Result, Ok, Err, refl}
+use Rattle.std.proofs.Common.{sym, ◌∙◌, ap, arith, append-nil, subst}
+use Rattle.std.specs.Str.Lines.{lines}
+use Rattle.mg_base.specs.Disk.{Calm, MayLeave, Meaning}
+use Rattle.mg_base.specs.Image.{Image, page_at}
+use Rattle.mg_base.specs.Moments.{LeavesOnly, goes_on, joined, leaves_as, started}
+use Rattle.mg_base.specs.Streams.{SinkMeaning}
+use Rattle.mg_model.specs.declared.opening.Opening.{Opening}
+use Rattle.mg_image.specs.Opening.{IsBlank}
+use Rattle.mg_first.specs.declared.pages.TheConstants.{PAGE}
+use Rattle.mgdb.specs.declared.kv.Kv.{Kv}
+use Rattle.mgdb.specs.declared.status.Stop.{Stop}
+use Rattle.mgdb.specs.CrashLaws.{opening_holds_some, some_asked_longer, some_is_all}
+use Rattle.mgdb.specs.Crashes.{HoldsSome, asked}
+use Rattle.mgdb.specs.Fresh.{IsFresh}
+use Rattle.mgdb.specs.Headline.{Headline, IsEntry, IsOpeningOf, IsPrinted, NEW_WRITES, ending, fault_line, of_blank, of_sound}
+use Rattle.mgdb.specs.PrintLaws.{printed_nothing, printed_stopped, whole_nothing}
+use Rattle.mgdb.specs.ScriptHistory.{nothing, obeyed, onto}
+use Rattle.mgdb.specs.Serving.{IsFreshDisk, LinesDone, NewDone, Reads, new_history}
+use Rattle.mgdb.specs.Stops.{IsObeyingStop, status_of}
+use Rattle.mgdb.specs.Transcript.{transcript}
+use Rattle.mgdb.specs.WriteLaws.{sound_is_not_blank}
+
+-- ---- the disk is read
+
+-- a blank image is the beginning of a new database
+pub blank_opening : (size : ℕ) (image : Image) (o : Opening) → IsOpeningOf size image o
+    → IsBlank size (page_at size image) → o ≡ new_history
+blank_opening size image o (of_blank same) blank = refl
+blank_opening size image o (of_sound opened start is opening begins limit) blank =
+    absurd (sound_is_not_blank size (page_at size image) opened is blank.header)
+
+pub entry_leaves : {D : Type 0} (m : Meaning D) (disk : D) (size : ℕ) (o : Opening)
+    → IsEntry m disk size o → (c : Image) → MayLeave m disk c → HoldsSome size o [] c
+entry_leaves m disk size o entry c left = subst (HoldsSome size o [])
+    (sym (entry.settled c left)) (opening_holds_some size entry.image o entry.opening)
+
+pub entry_reads : {D : Type 0} (m : Meaning D) (old new : D) (size : ℕ) (o : Opening)
+    → IsEntry m old size o → Reads m old new → LeavesOnly m old new (HoldsSome size o [])
+entry_reads m old new size o entry reads = goes_on m old old new (HoldsSome size o [])
+    (started m old (HoldsSome size o []) (entry_leaves m old size o entry))
+    (reads.time entry.told)
+    (λ c left. entry_leaves m old size o entry c (reads.crash entry.told c left))
+
+pub entry_fresh : {D : Type 0} (m : Meaning D) (old new : D) (size : ℕ) (o : Opening)
+    (entry : IsEntry m old size o) → Reads m old new → IsFresh (m.size new) entry.image
+    → IsFreshDisk m new entry.image
+entry_fresh m old new size o entry reads fresh = record {
+  told = reads.told ∙ entry.told;
+  held = reads.held ∙ entry.held;
+  few = fresh.few;
+  blank_image = fresh.blank_image;
+  settled = λ c left. entry.settled c (reads.crash entry.told c left);
+}
+
+-- a disk that is not fresh, or could not be read
+pub script_unread : {D K : Type 0} (m : Meaning D) (n : SinkMeaning K) (old new : D) (sink : K)
+    (size : ℕ) (o : Opening) (script : List ℕ) (stop : Stop) → IsEntry m old size o
+    → Reads m old new
+    → LinesDone m n old new sink sink size NEW_WRITES o script (Err stop)
+script_unread m n old new sink size o script stop entry reads = record {
+  texts = [];
+  rest = lines script;
+  front = refl;
+  met = [];
+  are_lines = tt;
+  all_met = tt;
+  entries = [];
+  meets = obeyed [] [] nothing;
+  ok = tt;
+  told = tt;
+  legal = tt;
+  printed = printed_nothing n sink;
+  whole = λ other. whole_nothing n sink;
+  crash = entry_reads m old new size o entry reads;
+  exit = λ c left. some_is_all size o c
+      (entry_leaves m old size o entry c (reads.crash entry.told c left));
+  writes = let same = reads.asked in omega arith;
+}
+
+-- ---- a new database is made
+
+pub script_unmade : {D K : Type 0} (m : Meaning D) (n : SinkMeaning K) (old mid new : D) (kv : Kv)
+    (sink : K) (script : List ℕ) (stop : Stop)
+    → LeavesOnly m old mid (HoldsSome PAGE new_history []) → m.asked mid ≡ m.asked old
+    → NewDone m mid new kv (Err stop)
+    → LinesDone m n old new sink sink PAGE NEW_WRITES new_history script (Err stop)
+script_unmade m n old mid new kv sink script stop run asked_ made = record {
+  texts = [];
+  rest = lines script;
+  front = refl;
+  met = [];
+  are_lines = tt;
+  all_met = tt;
+  entries = [];
+  meets = obeyed [] [] nothing;
+  ok = tt;
+  told = tt;
+  legal = tt;
+  printed = printed_nothing n sink;
+  whole = λ other. whole_nothing n sink;
+  crash = joined m old mid new (HoldsSome PAGE new_history []) run made.crash;
+  exit = λ c left. some_is_all PAGE new_history c (made.exit c left);
+  writes = let more = made.writes in omega arith;
+}
+
+pub script_done : {D K : Type 0} (m : Meaning D) (n : SinkMeaning K) (old mid ready new : D)
+    (kv : Kv) (made_ : Result (Unit {0}) Stop) (before after : K) (script : List ℕ)
+    (result : Result Bool Stop) → LeavesOnly m old mid (HoldsSome PAGE new_history [])
+    → m.asked mid ≡ m.asked old → NewDone m mid ready kv made_
+    → LinesDone m n ready new before after PAGE 0 new_history script result
+    → LinesDone m n old new before after PAGE NEW_WRITES new_history script result
+script_done m n old mid ready new kv made_ before after script result run asked_ made done = record {
+  texts = done.texts;
+  rest = done.rest;
+  front = done.front;
+  met = done.met;
+  are_lines = done.are_lines;
+  all_met = done.all_met;
+  entries = done.entries;
+  meets = done.meets;
+  ok = done.ok;
+  told = done.told;
+  legal = done.legal;
+  printed = done.printed;
+  whole = done.whole;
+  crash = joined m old ready new (HoldsSome PAGE new_history (asked (onto [] done.entries)))
+      (leaves_as m old ready (HoldsSome PAGE new_history [])
+      (HoldsSome PAGE new_history (asked (onto [] done.entries)))
+      (λ c some. some_asked_longer PAGE new_history [] done.entries c some)
+      (joined m old mid ready (HoldsSome PAGE new_history []) run made.crash))
+      done.crash;
+  exit = done.exit;
+  writes = let first = made.writes in let next = done.writes in omega arith;
+}
+
+-- ---- the disk is settled
+
+settled_leaves : {D K T E : Type 0} (m : Meaning D) (n : SinkMeaning K) (old mid new : D)
+    (before after : K) (size first : ℕ) (o : Opening) (script : List ℕ) (all : Bool)
+    (settled : Result T E)
+    (done : LinesDone m n old mid before after size first o script (Ok all))
+    → Calm m mid new settled
+    → LeavesOnly m old new (HoldsSome size o (asked (onto [] done.entries)))
+settled_leaves m n old mid new before after size first o script all settled done calm =
+    goes_on m old mid new (HoldsSome size o (asked (onto [] done.entries))) done.crash
+    (calm.keeps.time done.told)
+    (λ c left. (done.exit c (calm.crash done.told c left)).some)
+
+pub script_settled : {D K T E : Type 0} (m : Meaning D) (n : SinkMeaning K) (old mid new : D)
+    (before after : K) (size first : ℕ) (o : Opening) (script : List ℕ) (all : Bool)
+    (settled : Result T E)
+    → LinesDone m n old mid before after size first o script (Ok all)
+    → Calm m mid new settled
+    → LinesDone m n old new before after size first o script (Ok all)
+script_settled m n old mid new before after size first o script all settled done calm = record {
+  texts = done.texts;
+  rest = done.rest;
+  front = done.front;
+  met = done.met;
+  are_lines = done.are_lines;
+  all_met = done.all_met;
+  entries = done.entries;
+  meets = done.meets;
+  ok = done.ok;
+  told = calm.keeps.tells ∙ done.told;
+  legal = done.legal;
+  printed = done.printed;
+  whole = done.whole;
+  crash = settled_leaves m n old mid new before after size first o script all settled done calm;
+  exit = λ c left. done.exit c (calm.crash done.told c left);
+  writes = let writes = done.writes in let same = calm.asked in omega arith;
+}
+
+-- where that failed, outside the lines
+pub script_unsettled : {D K T E : Type 0} (m : Meaning D) (n : SinkMeaning K) (old mid new : D)
+    (before after : K) (size first : ℕ) (o : Opening) (script : List ℕ) (all : Bool)
+    (settled : Result T E) (stop : Stop)
+    → LinesDone m n old mid before after size first o script (Ok all)
+    → Calm m mid new settled
+    → LinesDone m n old new before after size first o script (Err stop)
+script_unsettled m n old mid new before after size first o script all settled stop done calm = record {
+  texts = done.texts;
+  rest = done.rest;
+  front = done.front;
+  met = done.met;
+  are_lines = done.are_lines;
+  all_met = tt;
+  entries = done.entries;
+  meets = done.meets;
+  ok = tt;
+  told = tt;
+  legal = done.legal;
+  printed = done.printed;
+  whole = λ other. done.whole (λ is. is);
+  crash = settled_leaves m n old mid new before after size first o script all settled done calm;
+  exit = λ c left. done.exit c (calm.crash done.told c left);
+  writes = let writes = done.writes in let same = calm.asked in omega arith;
+}
+
+-- ---- what the program promises
+
+-- the script could not be read, and the disk was not asked
+pub headline_unread : {D K : Type 0} (m : Meaning D) (n : SinkMeaning K) (size : ℕ) (o : Opening)
+    (script : List ℕ) (disk : D) (before after : K) (stop : Stop) (status : ℕ)
+    → IsEntry m disk size o → IsPrinted n before after (fault_line (Some stop))
+    → status ≡ (status_of stop).0
+    → Headline m n size o script disk disk before after status
+headline_unread m n size o script disk before after stop status entry printed is = record {
+  texts = [];
+  rest = lines script;
+  front = refl;
+  met = [];
+  are_lines = tt;
+  stop = Some stop;
+  all_met = λ none. absurd cc;
+  entries = [];
+  meets = obeyed [] [] nothing;
+  legal = tt;
+  printed = printed;
+  ends = is;
+  crash = started m disk (HoldsSome size o []) (entry_leaves m disk size o entry);
+  exit = λ c left. some_is_all size o c (entry_leaves m disk size o entry c left);
+  writes = omega arith;
+}
+
+pub headline_done : {D K : Type 0} (m : Meaning D) (n : SinkMeaning K) (size : ℕ) (o : Opening)
+    (script : List ℕ) (old new : D) (before after : K) (ok : Bool) (status : ℕ)
+    → LinesDone m n old new before after size NEW_WRITES o script (Ok ok) → status ≡ ending ok
+    → Headline m n size o script old new before after status
+headline_done m n size o script old new before after ok status done is = record {
+  texts = done.texts;
+  rest = done.rest;
+  front = done.front;
+  met = done.met;
+  are_lines = done.are_lines;
+  stop = None;
+  all_met = λ none. done.all_met;
+  entries = done.entries;
+  meets = done.meets;
+  legal = done.legal;
+  printed = rw (append-nil (transcript 1 done.met done.entries)) done.printed;
+  ends = is ∙ ap ending done.ok;
+  crash = done.crash;
+  exit = done.exit;
+  writes = done.writes;
+}
+
+pub headline_stopped : {D K : Type 0} (m : Meaning D) (n : SinkMeaning K) (size : ℕ) (o : Opening)
+    (script : List ℕ) (old new : D) (before middle after : K) (stop : Stop) (status : ℕ)
+    → LinesDone m n old new before middle size NEW_WRITES o script (Err stop)
+    → n.faults middle ≤ n.faults after → IsPrinted n middle after (fault_line (Some stop))
+    → status ≡ (status_of stop).0
+    → Headline m n size o script old new before after status
+headline_stopped m n size o script old new before middle after stop status done grows line is = record {
+  texts = done.texts;
+  rest = done.rest;
+  front = done.front;
+  met = done.met;
+  are_lines = done.are_lines;
+  stop = Some stop;
+  all_met = λ none. absurd cc;
+  entries = done.entries;
+  meets = done.meets;
+  legal = done.legal;
+  printed = printed_stopped n before middle after (transcript 1 done.met done.entries) stop
+      done.printed done.whole grows line;
+  ends = is;
+  crash = done.crash;
+  exit = done.exit;
+  writes = done.writes;
+}
