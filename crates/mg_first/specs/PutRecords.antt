@@ -208,7 +208,8 @@ pub put_records : (pages : Pages) (new : Cells) (r : Reading) (n : ℕ) (kvs : R
     → AreRecords plain_coding (kv_facts pages) new (reading_with r t at back key value slot)
 put_records pages new r n kvs t key value slot at back kv all putting place_for puts =
     step_sound plain_coding (kv_facts pages) (mid_cells pages t key value at back) new r
-    (kv_slot slot) (anchor_cell at t) (kv_slot slot) kv_table (put_entry t at back key value ∷ r (kv_slot slot)) stood anchored
+    (kv_slot slot) (anchor_cell at t) (kv_slot slot) kv_table
+    (put_entry t at back key value ∷ r (kv_slot slot)) stood anchored
     (record {
       of_table = refl;
       reads = rw puts.anchor (goes (kv_link at t) (put_entry t at back key value)

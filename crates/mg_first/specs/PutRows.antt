@@ -39,7 +39,8 @@ not_of_catalog pages p slot is e =
 
 -- the catalog's rows stay, whatever is read of a slot of KV
 pub catalog_stays : (pages : Pages) (committed : ℕ → Bool) (r : Reading) (slot : ℕ)
-    (es : List Entry) (rows : Rows) → AreRows (kv_facts pages) committed r (catalog_table CATALOG.0) rows
+    (es : List Entry) (rows : Rows)
+    → AreRows (kv_facts pages) committed r (catalog_table CATALOG.0) rows
     → AreRows (kv_facts pages) committed (put_reading r (kv_slot slot) es)
     (catalog_table CATALOG.0) rows
 catalog_stays pages committed r slot es rows are = record {
