@@ -85,8 +85,12 @@ takes_slot old new cell page full puts =
     record {
       full = full_after_put old new (least_free old) cell full (least_free_within old) puts;
       count = count;
-      rest = omega (arith, rest_after old new (least_free old) (Some cell) page puts.sets, none,
-          count);
+      rest = omega (
+        arith,
+        rest_after old new (least_free old) (Some cell) page puts.sets,
+        none,
+        count,
+      );
     }
 
 -- A cell is put in the place of another.

@@ -5,7 +5,7 @@ use Rattle.std.specs.Int.{w64}
 use Rattle.mg_slots.specs.Room.{rest_of}
 use Rattle.mg_value.specs.declared.value.Value.TheVariants.{Int}
 use Rattle.mg_version.specs.declared.cell.Link.{Link}
-use Rattle.mg_first.specs.KeyLaws.{HasPlace, keyed_has_place, none_keyed}
+use Rattle.mg_first.specs.KeyedLaws.{HasPlace, keyed_has_place, none_keyed}
 use Rattle.mg_first.specs.Puts.{fresh}
 use Rattle.mg_first.specs.Storing.{AddsRecord, AddsVersion, Finds, HasNoRoomFor, IfNoRoom, IsFull, IsKeyed, StoresIn, cost_of, cost_over}
 use Rattle.mg_first.specs.declared.record.AddFault.{AddFault}

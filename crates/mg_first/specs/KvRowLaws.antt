@@ -1,5 +1,5 @@
 -- A row of KV and its bytes.
-use Rattle.std.proofs.Common.{◌≡◌, refl, arith, ℕ, zero, suc, ◌<◌, ℤ, List, [], ◌∷◌, ◌++◌, length}
+use Rattle.std.proofs.Common.{refl, arith, ℕ, zero, suc, ◌<◌, ℤ, List, [], ◌∷◌, ◌++◌}
 use Rattle.std.specs.Prelude.{FitsSigned}
 use Rattle.std.specs.Int.{w64, byte_at, bytes_low_first, cast_unsigned, to_le_bytes}
 use Rattle.mg_base.specs.Fields.{byte}
@@ -8,10 +8,6 @@ use Rattle.mg_value.specs.Rows.{row_bytes}
 use Rattle.mg_version.specs.Cells.{AreBytes}
 use Rattle.mg_image.specs.Form.{IsPlainRow}
 use Rattle.mg_first.specs.KvTable.{kv_columns, kv_row}
-
--- the number of bytes of a row of KV: null bits, K and V
-abbrev pub ROW_LEN : ℕ
-ROW_LEN = 17
 
 bytes_append : (a b : List ℕ) → AreBytes a → AreBytes b → AreBytes (a ++ b)
 bytes_append [] b first second = second
@@ -48,18 +44,18 @@ row_of_bytes key value =
     let v : List ℕ = to_le_bytes w64 (cast_unsigned w64 value) ++ [] in
     let k : List ℕ = to_le_bytes w64 (cast_unsigned w64 key) in
     let of_v : AreBytes v = bytes_append (to_le_bytes w64 (cast_unsigned w64 value)) []
-        (number_bytes value) (λ i. omega arith) in
+    (number_bytes value) (λ i. omega arith) in
     bytes_append (0 ∷ []) (k ++ v) zero_byte (bytes_append k v (number_bytes key) of_v)
-
-pub length_of_row : (key value : ℤ) → length (row_bytes kv_columns (kv_row key value)) ≡ ROW_LEN
-length_of_row key value = refl
 
 -- and code that row
 pub row_is_plain : (key value : ℤ)
     → IsPlainRow kv_columns 1 (row_bytes kv_columns (kv_row key value)) (kv_row key value)
 row_is_plain key value = record {
   values = kv_row key value;
-  fits = (record { kind = tt; allowed = λ _ e. cc }, (record { kind = tt; allowed = λ e _. cc }, tt));
+  fits = (
+    record { kind = tt; allowed = λ _ e. cc },
+    (record { kind = tt; allowed = λ e _. cc }, tt),
+  );
   spelled = refl;
   whole = refl;
 }

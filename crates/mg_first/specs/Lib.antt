@@ -2,6 +2,9 @@ pub mod CommitLaws
 pub mod FirstImage
 pub mod HoldsLaws
 pub mod KeyLaws
+pub mod KeyedLaws
+pub mod KvCellLaws
+pub mod KvRecords
 pub mod KvRowLaws
 pub mod KvTable
 pub mod NewCatalogLaws
@@ -11,8 +14,12 @@ pub mod NewPageLaws
 pub mod NewReadingLaws
 pub mod OtherPages
 pub mod PlaceLaws
+pub mod PutCells
 pub mod PutLaws
+pub mod PutPages
 pub mod PutRecords
+pub mod PutRows
 pub mod Puts
 pub mod StepLaws
+pub mod StoredLaws
 pub mod Storing

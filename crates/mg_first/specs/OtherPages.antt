@@ -79,7 +79,7 @@ pub state_stays : (old new : Pages) → ChangesRows old new → (t : ℕ)
 unfolding state_at
 state_stays old new change t =
     let P : ℕ → TxState → TxState = λ n s. if t == 0 then Committed
-        else (if nat_lt t n then settled s else Dead) in
+    else (if nat_lt t n then settled s else Dead) in
     ap (λ (n : ℕ). P n (bits_state PAGE new t)) (next_stays old new change.others)
     ∙ ap (λ (s : TxState). P (next_of old) s) (bits_stay old new change t)
 

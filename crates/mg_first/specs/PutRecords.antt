@@ -4,7 +4,6 @@ use Rattle.std.specs.Prelude.{FitsSigned, if◌then◌else◌}
 use Rattle.std.specs.Int.{w64}
 use Rattle.mg_base.specs.declared.numbers.RecId.{RecId}
 use Rattle.mg_base.specs.declared.transaction.TxState.TheVariants.{Committed, Dead}
-use Rattle.mg_model.specs.declared.table.Table.{Table}
 use Rattle.mg_value.specs.declared.value.Value.{Value}
 use Rattle.mg_value.specs.declared.value.Value.TheVariants.{Int}
 use Rattle.mg_version.specs.declared.cell.Cell.{Cell}
@@ -12,126 +11,17 @@ use Rattle.mg_version.specs.declared.cell.Cell.TheVariants as cells
 use Rattle.mg_version.specs.declared.cell.Link.{Link}
 use Rattle.mg_version.specs.declared.cell.Version.{Version}
 use Rattle.mg_image.specs.declared.entry.Entry.{Entry}
-use Rattle.mg_image.specs.Form.{Coding, Pages, Rows, plain_coding}
+use Rattle.mg_image.specs.Form.{Pages, Rows, plain_coding}
 use Rattle.mg_image.specs.Inventory.{next_of, state_at}
-use Rattle.mg_image.specs.ReadingLaws.{Opens, chain_opens}
-use Rattle.mg_image.specs.RecordRules.{AreRecords, Each, Facts, IsRecord, IsVersion, TakesKey, table_in}
-use Rattle.mg_image.specs.Records.{Cells, Chain, Changes, Reading, Stands, cells_of, ended, goes, newest_of, record_key, shown, slot_cell, writer}
+use Rattle.mg_image.specs.RecordRules.{AreRecords, Each, Facts, IsRecord, IsVersion, table_in}
+use Rattle.mg_image.specs.Records.{Cells, Chain, Changes, Reading, Stands, cells_of, ended, goes, newest_of, record_key, slot_cell, writer}
 use Rattle.mg_image.specs.StepLaws.{cases_place, chain_stays, put_reading, same_place, step_sound, unread_sound}
-use Rattle.mg_first.specs.FirstImage.{AllCommitted, IsCommittedRow, IsKv, kv_committed, kv_facts}
+use Rattle.mg_first.specs.FirstImage.{AllCommitted, IsCommittedRow, IsKv, kv_facts}
 use Rattle.mg_first.specs.KvRowLaws.{row_is_plain, row_is_storable}
 use Rattle.mg_first.specs.KvTable.{kv_row, kv_table}
 use Rattle.mg_first.specs.Puts.{IsPlaceFor, fresh, kv_link, kv_slot, kv_version, over}
 use Rattle.mg_first.specs.declared.pages.TheConstants.{KV_ROWS, PAGE}
-
--- ---- what a chain comes to
-
--- a chain comes to versions alone
-pub chain_meets : (h : Cells) (l : Option Link) (es : List Entry) (x : RecId) → Chain h l es
-    → Stands es x → (v : Version) × (h x ≡ Some (cells.Version v))
-chain_meets h l es x ended none = absurd none
-chain_meets h l es x (goes m e fs at is tx more) (inl same) =
-    (e.version, ap h (sym same) ∙ is)
-chain_meets h l es x (goes m e fs at is tx more) (inr later) =
-    chain_meets h e.version.back fs x more later
-
--- a record that is read comes to versions alone
-pub record_meets : (coding : Coding) (f : Facts) (h : Cells) (r : Reading) → AreRecords coding f h r
-    → (q x : RecId) → Stands (r q) x → (v : Version) × (h x ≡ Some (cells.Version v))
-record_meets coding f h r are q x stands = at (table_in f q) refl
-  where
-    at : (t : Option Table) → table_in f q ≡ t → (v : Version) × (h x ≡ Some (cells.Version v))
-    at None none = absurd (rw (are.outside q none) at stands)
-    at (Some table) some =
-        chain_meets h (newest_of q (h q)) (r q) x (are.reads q table some) stands
-
--- no record comes to a slot that is free
-pub free_unread : (coding : Coding) (f : Facts) (h : Cells) (r : Reading) → AreRecords coding f h r
-    → (x : RecId) → h x ≡ None → (q : RecId) → Stands (r q) x → ⊥
-free_unread coding f h r are x free q stands = at (record_meets coding f h r are q x stands)
-  where
-    at : (v : Version) × (h x ≡ Some (cells.Version v)) → ⊥
-    at (v, is) = cc
-
--- nor to an anchor
-pub anchor_unread : (coding : Coding) (f : Facts) (h : Cells) (r : Reading)
-    → AreRecords coding f h r → (x : RecId) (l : Link) → h x ≡ Some (cells.Anchor l) → (q : RecId)
-    → Stands (r q) x → ⊥
-anchor_unread coding f h r are x l anchor q stands =
-    at (record_meets coding f h r are q x stands)
-  where
-    at : (v : Version) × (h x ≡ Some (cells.Version v)) → ⊥
-    at (v, is) = cc
-
-chain_of_none : (h : Cells) (es : List Entry) → Chain h None es → es ≡ []
-chain_of_none h es chain = at es (chain_opens h None es chain)
-  where
-    at : (es : List Entry) → Opens h None es → es ≡ []
-    at [] o = refl
-    at (e ∷ es) o = absurd o
-
--- nothing is read of a free slot
-pub free_reads_none : (coding : Coding) (f : Facts) (h : Cells) (r : Reading)
-    → AreRecords coding f h r → (x : RecId) (table : Table) → table_in f x ≡ Some table
-    → h x ≡ None → r x ≡ []
-free_reads_none coding f h r are x table is free =
-    let chain : Chain h None (r x) =
-    subst (λ (c : Option Cell). Chain h (newest_of x c) (r x)) free (are.reads x table is) in
-    chain_of_none h (r x) chain
-
--- ---- what is known of the rows before a put
-
--- What a record shows: its newest version's row.
-pub record ShowsNewest (kvs : Rows) (es : List Entry) : Type 0 where
-  pub newest : Entry
-  pub older : List Entry
-  pub parts : es ≡ newest ∷ older
-  pub row : kvs (record_key kv_table es) ≡ Some newest.row
-
--- a committed row that is alive is shown
-pub newest_shown : (pages : Pages) (e : Entry) (es : List Entry)
-    → Each (IsCommittedRow pages) (e ∷ es) → shown (kv_committed pages) (e ∷ es) ≡ Some e.row
-newest_shown pages e es each =
-    let committed : state_at PAGE pages (writer e) ≡ Committed = each.0.committed in
-    let alive : e.version.deleted ≡ false = each.0.alive in
-    rw (committed, alive) refl
-
--- where each version is committed, a record of KV that takes a key shows its newest version
-pub taker_shows : (pages : Pages) (r : Reading) (n : ℕ) (kvs : Rows) → IsKv pages r n kvs
-    → AllCommitted pages r → (q : RecId) → table_in (kv_facts pages) q ≡ Some kv_table
-    → TakesKey (kv_facts pages) (r q) → ShowsNewest kvs (r q)
-taker_shows pages r n kvs kv all q of takes = at (r q) refl takes (all q)
-  where
-    at : (es : List Entry) → r q ≡ es → TakesKey (kv_facts pages) es
-        → Each (IsCommittedRow pages) es → ShowsNewest kvs es
-    at [] is (inl (row, none)) each = absurd cc
-    at [] is (inr none) each = absurd none
-    at (e ∷ es) is takes_ each = record {
-      newest = e;
-      older = es;
-      parts = refl;
-      row = kv.rows.there q e.row (record {
-        of_table = of;
-        row_shown = ap (shown (kv_committed pages)) is ∙ newest_shown pages e es each;
-      });
-    }
-
--- no other record of KV takes the key for which there is this place
-pub key_is_free : (pages : Pages) (r : Reading) (n : ℕ) (kvs : Rows) (key : ℤ) (slot : ℕ)
-    (back : Option Link) → IsKv pages r n kvs → AllCommitted pages r
-    → IsPlaceFor (pages KV_ROWS.0) r kvs key slot back → (q : RecId) → q ≢ kv_slot slot
-    → table_in (kv_facts pages) q ≡ Some kv_table → TakesKey (kv_facts pages) (r q)
-    → record_key kv_table (r q) ≢ Int key
-key_is_free pages r n kvs key slot back kv all (fresh none free) q ne of takes keyed =
-    let shows : ShowsNewest kvs (r q) = taker_shows pages r n kvs kv all q of takes in
-    let some : kvs (Int key) ≡ Some shows.newest.row = ap kvs (sym keyed) ∙ shows.row in
-    cc
-key_is_free pages r n kvs key slot back kv all (over l e es is parts keyed_) q ne of takes keyed =
-    let each : Each (IsCommittedRow pages) (e ∷ es) = rw parts at (all (kv_slot slot)) in
-    let takes_too : TakesKey (kv_facts pages) (r (kv_slot slot)) =
-    inl (e.row, ap (shown (kv_committed pages)) parts ∙ newest_shown pages e es each) in
-    ne (kv.sound.records.keys q (kv_slot slot) kv_table of refl takes takes_too
-    (keyed ∙ sym (ap (record_key kv_table) parts ∙ keyed_)))
+use Rattle.mg_first.specs.KvRecords.{anchor_unread, free_reads_none, free_unread, key_is_free}
 
 -- ---- the cells that a put changes
 
@@ -296,10 +186,15 @@ abbrev pub reading_with : Reading → ℕ → ℕ → Option Link → ℤ → �
 reading_with r t at back key value slot =
     put_reading r (kv_slot slot) (put_entry t at back key value ∷ r (kv_slot slot))
 
--- the cells once the version stands
+-- the cell of the version
 abbrev version_cell : ℕ → Option Link → ℤ → ℤ → Option Cell
 version_cell t back key value = Some (cells.Version (kv_version t back key value))
 
+-- the cell of the anchor
+abbrev anchor_cell : ℕ → ℕ → Option Cell
+anchor_cell at t = Some (cells.Anchor (kv_link at t))
+
+-- the cells once the version stands
 abbrev mid_cells : Pages → ℕ → ℤ → ℤ → ℕ → Option Link → Cells
 mid_cells pages t key value at back =
     with_cell_at (cells_of pages) (kv_slot at) (version_cell t back key value)
@@ -312,8 +207,9 @@ pub put_records : (pages : Pages) (new : Cells) (r : Reading) (n : ℕ) (kvs : R
     → PutsCells (cells_of pages) new t key value slot at back
     → AreRecords plain_coding (kv_facts pages) new (reading_with r t at back key value slot)
 put_records pages new r n kvs t key value slot at back kv all putting place_for puts =
-    step_sound plain_coding (kv_facts pages) (mid_cells pages t key value at back) new r (kv_slot slot) (Some (cells.Anchor (kv_link at t)))
-    (kv_slot slot) kv_table (put_entry t at back key value ∷ r (kv_slot slot)) stood anchored
+    step_sound plain_coding (kv_facts pages) (mid_cells pages t key value at back) new r
+    (kv_slot slot) (anchor_cell at t) (kv_slot slot) kv_table
+    (put_entry t at back key value ∷ r (kv_slot slot)) stood anchored
     (record {
       of_table = refl;
       reads = rw puts.anchor (goes (kv_link at t) (put_entry t at back key value)
@@ -328,28 +224,27 @@ put_records pages new r n kvs t key value slot at back kv all putting place_for 
     })
   where
     stood : AreRecords plain_coding (kv_facts pages) (mid_cells pages t key value at back) r
-    stood = version_stands (kv_facts pages) (cells_of pages) r (kv_slot at) (kv_version t back key value)
-        kv.sound.records refl puts.free refl
+    stood = version_stands (kv_facts pages) (cells_of pages) r (kv_slot at)
+        (kv_version t back key value) kv.sound.records refl puts.free refl
 
-    anchored : Changes (mid_cells pages t key value at back) new (kv_slot slot) (Some (cells.Anchor (kv_link at t)))
+    anchored : Changes (mid_cells pages t key value at back) new (kv_slot slot) (anchor_cell at t)
     anchored = then_anchor (cells_of pages) new t key value slot at back puts
 
     behind : Chain new back (r (kv_slot slot))
-    behind = chain_stays (mid_cells pages t key value at back) new (kv_slot slot) (Some (cells.Anchor (kv_link at t))) anchored back
-        (r (kv_slot slot))
+    behind = chain_stays (mid_cells pages t key value at back) new (kv_slot slot)
+        (anchor_cell at t) anchored back (r (kv_slot slot))
         (chain_stays (cells_of pages) (mid_cells pages t key value at back) (kv_slot at)
         (version_cell t back key value)
-        (changes_at (cells_of pages) (kv_slot at)
-        (version_cell t back key value)) back (r (kv_slot slot))
-        (chain_behind pages r n kvs key slot back kv place_for)
-        (free_unread plain_coding (kv_facts pages) (cells_of pages) r kv.sound.records (kv_slot at) puts.free
-        (kv_slot slot)))
+        (changes_at (cells_of pages) (kv_slot at) (version_cell t back key value)) back
+        (r (kv_slot slot)) (chain_behind pages r n kvs key slot back kv place_for)
+        (free_unread plain_coding (kv_facts pages) (cells_of pages) r kv.sound.records
+        (kv_slot at) puts.free (kv_slot slot)))
         (slot_unread pages r n kvs key slot back kv place_for (kv_slot slot))
 
     apart : (q y : RecId) → q ≢ kv_slot slot
         → Stands (put_entry t at back key value ∷ r (kv_slot slot)) y → Stands (r q) y → ⊥
     apart q y ne (inl same) there =
-        free_unread plain_coding (kv_facts pages) (cells_of pages) r kv.sound.records (kv_slot at) puts.free q
-        (rw same there)
+        free_unread plain_coding (kv_facts pages) (cells_of pages) r kv.sound.records
+        (kv_slot at) puts.free q (rw same there)
     apart q y ne (inr stands) there =
         ne (kv.sound.records.apart q (kv_slot slot) y there stands)

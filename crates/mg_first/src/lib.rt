@@ -20,9 +20,9 @@ pub use new::{
     catalog_page, catalog_rows_page, header_page, inventory_page, kv_page, kv_rows_page,
     transaction_page,
 };
-pub use record::AddFault;
-pub use rows::store;
 pub use pages::{
     CATALOG, CATALOG_ROWS, HEADER, INVENTORY, KV, KV_ROWS, LAST, PAGE, PAGE_LEN, PAGES,
     SWEEP_INTERVAL, TRANSACTIONS,
 };
+pub use record::{AddFault, RECORD_COST, VERSION_COST};
+pub use rows::store;

@@ -16,10 +16,13 @@ returns-in_err-primary-clause-no_room c = no_room_exit _
     (IsFull c.args.b.now → rest_of c.args.b.now < RECORD_COST)
     c.from_residual-in_err-primary.ensures.1
     (λ full. let less : rest_of c.args.b.now < 15 =
-    omega (arith, slot_refused c.args.b.now c.as_slice.result.now full
-    c.in_err-primary.ensures.when.1,
-    anchor_length c.as_slice.result.now (kv_link 0 c.args.tx.0)
-    (c.as_slice.ensures.value ∙ c.in_ok-unknown.ensures)) in omega arith)
+    omega (
+      arith,
+      slot_refused c.args.b.now c.as_slice.result.now full
+          c.in_err-primary.ensures.when.1,
+      anchor_length c.as_slice.result.now (kv_link 0 c.args.tx.0)
+          (c.as_slice.ensures.value ∙ c.in_ok-unknown.ensures),
+    ) in omega arith)
 
 pub put_cell-requires-2-clause-length : goal.put_cell-requires-2-clause-length
 put_cell-requires-2-clause-length c = short_first _ _ c.args.tx.0 (to_z w64 (of_z w64 c.args.key))

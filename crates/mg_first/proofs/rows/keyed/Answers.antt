@@ -35,7 +35,7 @@ returns-then-not-has_key c = other_key c.args.rows.now c.args.slot c.args.key c.
     c.in_ok-version.field-0 c.in-Some-2.version c.in_ok-version.ensures c.in-Some-2.is)
     (λ has.
     let every : HasKey c.as_slice.result.now (to_z w64 (of_z w64 c.args.key))
-        → IsTrue c.has_key.result = c.has_key.ensures.every in
+    → IsTrue c.has_key.result = c.has_key.ensures.every in
     let there : HasKey c.as_slice.result.now c.args.key =
     subst (λ (b : List ℕ). HasKey b c.args.key) (sym c.as_slice.ensures) has in
     let given : HasKey c.as_slice.result.now (to_z w64 (of_z w64 c.args.key)) =
