@@ -21,8 +21,8 @@ returns-in_err-write_page-2-clause-done g c = λ image fresh.
     let at1 = new_wrote at0 c.inventory_page.ensures.len (lit≤ tt) (lit≤ tt)
     c.in_ok-write_page.ensures.writes in
     new_failed at1 c.requires.transactions.len (lit≤ tt) (lit≤ tt)
-    c.in_err-write_page-2.ensures.writes (lit≤ tt) c.args.kv.now c.from_residual-in_err-write_page-2.result
-    c.from_residual-in_err-write_page-2.ensures.0
+    c.in_err-write_page-2.ensures.writes (lit≤ tt) c.args.kv.now
+    c.from_residual-in_err-write_page-2.result c.from_residual-in_err-write_page-2.ensures.0
 
 pub returns-in_err-write_page-3-clause-done : goal.returns-in_err-write_page-3-clause-done
 returns-in_err-write_page-3-clause-done g c = λ image fresh.
@@ -32,8 +32,8 @@ returns-in_err-write_page-3-clause-done g c = λ image fresh.
     let at2 = new_wrote at1 c.requires.transactions.len (lit≤ tt) (lit≤ tt)
     c.in_ok-write_page-2.ensures.writes in
     new_failed at2 c.catalog_page.ensures.len (lit≤ tt) (lit≤ tt)
-    c.in_err-write_page-3.ensures.writes (lit≤ tt) c.args.kv.now c.from_residual-in_err-write_page-3.result
-    c.from_residual-in_err-write_page-3.ensures.0
+    c.in_err-write_page-3.ensures.writes (lit≤ tt) c.args.kv.now
+    c.from_residual-in_err-write_page-3.result c.from_residual-in_err-write_page-3.ensures.0
 
 pub returns-in_err-write_page-4-clause-done : goal.returns-in_err-write_page-4-clause-done
 returns-in_err-write_page-4-clause-done g c = λ image fresh.
@@ -47,8 +47,8 @@ returns-in_err-write_page-4-clause-done g c = λ image fresh.
     let rows = was_ok c.catalog_rows_page.result _ c.if-is_err.ensures.value
     c.catalog_rows_page.ensures in
     new_failed at3 rows.len (lit≤ tt) (lit≤ tt)
-    c.in_err-write_page-4.ensures.writes (lit≤ tt) c.args.kv.now c.from_residual-in_err-write_page-4.result
-    c.from_residual-in_err-write_page-4.ensures.0
+    c.in_err-write_page-4.ensures.writes (lit≤ tt) c.args.kv.now
+    c.from_residual-in_err-write_page-4.result c.from_residual-in_err-write_page-4.ensures.0
 
 pub returns-in_err-write_page-5-clause-done : goal.returns-in_err-write_page-5-clause-done
 returns-in_err-write_page-5-clause-done g c = λ image fresh.
@@ -64,8 +64,8 @@ returns-in_err-write_page-5-clause-done g c = λ image fresh.
     let at4 = new_wrote at3 rows.len (lit≤ tt) (lit≤ tt)
     c.in_ok-write_page-4.ensures.writes in
     new_failed at4 c.kv_page.ensures.len (lit≤ tt) (lit≤ tt)
-    c.in_err-write_page-5.ensures.writes (lit≤ tt) c.args.kv.now c.from_residual-in_err-write_page-5.result
-    c.from_residual-in_err-write_page-5.ensures.0
+    c.in_err-write_page-5.ensures.writes (lit≤ tt) c.args.kv.now
+    c.from_residual-in_err-write_page-5.result c.from_residual-in_err-write_page-5.ensures.0
 
 pub returns-in_err-write_page-6-clause-done : goal.returns-in_err-write_page-6-clause-done
 returns-in_err-write_page-6-clause-done g c = λ image fresh.
@@ -83,8 +83,8 @@ returns-in_err-write_page-6-clause-done g c = λ image fresh.
     let at5 = new_wrote at4 c.kv_page.ensures.len (lit≤ tt) (lit≤ tt)
     c.in_ok-write_page-5.ensures.writes in
     new_failed at5 c.requires.rows.len (lit≤ tt) (lit≤ tt)
-    c.in_err-write_page-6.ensures.writes (lit≤ tt) c.args.kv.now c.from_residual-in_err-write_page-6.result
-    c.from_residual-in_err-write_page-6.ensures.0
+    c.in_err-write_page-6.ensures.writes (lit≤ tt) c.args.kv.now
+    c.from_residual-in_err-write_page-6.result c.from_residual-in_err-write_page-6.ensures.0
 
 pub returns-in_err-write_page-7-clause-done : goal.returns-in_err-write_page-7-clause-done
 returns-in_err-write_page-7-clause-done g c = λ image fresh.
@@ -107,7 +107,8 @@ returns-in_err-write_page-7-clause-done g c = λ image fresh.
     c.catalog_page.ensures rows c.kv_page.ensures c.requires.rows c.header_page.ensures
     c.requires.next in
     header_failed at6 c.header_page.ensures.len new c.in_err-write_page-7.ensures.writes
-    c.args.kv.now c.from_residual-in_err-write_page-7.result c.from_residual-in_err-write_page-7.ensures.0
+    c.args.kv.now c.from_residual-in_err-write_page-7.result
+    c.from_residual-in_err-write_page-7.ensures.0
 
 pub returns-in-Ok-clause-done : goal.returns-in-Ok-clause-done
 returns-in-Ok-clause-done g c = λ image fresh.
@@ -129,7 +130,8 @@ returns-in-Ok-clause-done g c = λ image fresh.
     let new = all_new image fresh.few c.inventory_page.ensures c.requires.transactions
     c.catalog_page.ensures rows c.kv_page.ensures c.requires.rows c.header_page.ensures
     c.requires.next in
-    let all = header_wrote at6 c.header_page.ensures.len new c.in_ok-write_page-7.ensures.writes in
+    let all = header_wrote at6 c.header_page.ensures.len new
+    c.in_ok-write_page-7.ensures.writes in
     settled all c.in-Ok.ensures.calm c.in-Ok.ensures.durable c.args.kv.now tt
     (all_served c.args.kv.now image fresh.few c.inventory_page.ensures c.requires.transactions
     c.catalog_page.ensures rows c.kv_page.ensures c.requires.rows c.header_page.ensures
@@ -155,5 +157,6 @@ returns-in-Err-clause-done g c = λ image fresh.
     let new = all_new image fresh.few c.inventory_page.ensures c.requires.transactions
     c.catalog_page.ensures rows c.kv_page.ensures c.requires.rows c.header_page.ensures
     c.requires.next in
-    let all = header_wrote at6 c.header_page.ensures.len new c.in_ok-write_page-7.ensures.writes in
+    let all = header_wrote at6 c.header_page.ensures.len new
+    c.in_ok-write_page-7.ensures.writes in
     settle_failed all c.in-Err.ensures.calm c.args.kv.now _
