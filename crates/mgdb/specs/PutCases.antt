@@ -1,7 +1,8 @@
 -- What a put does, by how far it comes.
-use Rattle.std.proofs.Common.{◌≡◌, ◌≢◌, ◌≤◌, ◌<◌, ◌+◌, ◌∙◌, ◌⊎◌, inl, inr, ℕ, ℤ, FitsSigned, sym, refl, ap, arith, List, [], ◌∷◌, length, Some, None, Option, Ok, Err, Result}
+use Rattle.std.proofs.Common.{◌≡◌, ◌≢◌, ◌≤◌, ◌<◌, ◌+◌, ◌∙◌, ◌⊎◌, inl, inr, ℕ, ℤ, FitsSigned, sym, refl, ap, arith, List, [], ◌∷◌, length, Some, None, Option, Ok, Err, Result, false, true, IsErr, IsErrAnd, nat_eq, ne_eqb, eq-eqb}
+use Rattle.std.proofs.lemmas.Bool.{cases_eq, false≢true}
 use Rattle.std.specs.Int.{w64}
-use Rattle.mg_base.specs.Disk.{MayLeave, Meaning, Writes}
+use Rattle.mg_base.specs.Disk.{Calm, MayLeave, Meaning, Rose, Writes}
 use Rattle.mg_base.specs.Image.{Image, page_at, written as written_image}
 use Rattle.mg_base.specs.Moments.{LeavesOnly, leaves_as}
 use Rattle.mg_base.specs.declared.numbers.TxNo.{TxNo}
@@ -41,7 +42,8 @@ use Rattle.mgdb.specs.SerialDurableLaws.{rolled_back_lasts}
 use Rattle.mgdb.specs.SerialEndLaws.{committed_count, committed_is_quiet, rolled_back_is_quiet, unwritten_is_legal}
 use Rattle.mgdb.specs.SerialLaws.{begun_reads, unbegun_is_quiet, written_is_legal}
 use Rattle.mgdb.specs.Serving.{IsServed, PutDone, Says, Serves, stop_text}
-use Rattle.mgdb.specs.Stages.{Stage, stage_as, stage_first, stage_write}
+use Rattle.mgdb.specs.Stages.{Stage, stage_as, stage_calm, stage_first, stage_write}
+use Rattle.mgdb.specs.Stops.{DiskSteps}
 use Rattle.mgdb.specs.Transcript.{put_text}
 
 -- ---- what a put makes of an answer
@@ -229,17 +231,17 @@ module _ {D : Type 0} (m : Meaning D) (old : D) (kv : Kv) (o : Opening) (h : Ent
             (rw (here_written s.image HEADER.0 bytes) header)
 
     header_stage : {T E : Type 0} (new : D) (bytes : List ℕ) (result : Result T E)
-        → length bytes ≡ PAGE → IsHeaderPage bytes (kv.next.0 + 1)
+        → IsHeaderPage bytes (kv.next.0 + 1)
         → Writes m old new HEADER.0 bytes result → Stage m old new (Before o h) 1
-    header_stage new bytes result long header wrote_ = stage_write m old old new (Before o h) 0
-        s.image HEADER.0 bytes result start s.held wrote_ at_start (header_holds bytes long header)
+    header_stage new bytes result header wrote_ = stage_write m old old new (Before o h) 0
+        s.image HEADER.0 bytes result start s.held wrote_ at_start (header_holds bytes header.len header)
 
     -- the header could not be written
     pub case_no_number : {T E : Type 0} (new : D) (after : Kv) (bytes : List ℕ) (e : E)
-        → length bytes ≡ PAGE → IsHeaderPage bytes (kv.next.0 + 1)
+        → IsHeaderPage bytes (kv.next.0 + 1)
         → Writes {T = T} {E = E} m old new HEADER.0 bytes (Err e)
         → PutDone m old new after o h k v (Err (DiskWrite places.Put))
-    case_no_number new after bytes e long header wrote_ = put_stops m old new after o h k v es
+    case_no_number new after bytes e header wrote_ = put_stops m old new after o h k v es
         (DiskWrite places.Put) ends refl (inr refl, s.served.quiet.legal)
         (before_crash m old new o h es 1 stage)
         (λ c left. ends_all PAGE o h k v es c ends (stage.leaves c left)) stage.asked
@@ -251,7 +253,7 @@ module _ {D : Type 0} (m : Meaning D) (old : D) (kv : Kv) (o : Opening) (h : Ent
         ends = no_number 0 more
 
         stage : Stage m old new (Before o h) 1
-        stage = header_stage new bytes (Err e) long header wrote_
+        stage = header_stage new bytes (Err e) header wrote_
 
     -- ---- the header is written
 
@@ -265,16 +267,17 @@ module _ {D : Type 0} (m : Meaning D) (old : D) (kv : Kv) (o : Opening) (h : Ent
       pub stage : Stage m old mid (Before o h) 1
       pub holds : Before o h image
 
-    pub headed : {T E : Type 0} (mid : D) (bytes : List ℕ) (x : T) → length bytes ≡ PAGE
+    pub headed : {T E : Type 0} (mid : D) (bytes : List ℕ) (x : T)
         → IsHeaderPage bytes (kv.next.0 + 1)
         → Writes {T = T} {E = E} m old mid HEADER.0 bytes (Ok x) → Headed mid
-    headed mid bytes x long header wrote_ = record {
+    headed mid bytes x header wrote_ = record {
       image = written_image PAGE s.image HEADER.0 bytes;
-      held = rw (sym long) (wrote_.stored s.image s.held);
+      held = wrote_.stored s.image s.held
+          ∙ ap (λ (n : ℕ). Some (written_image n s.image HEADER.0 bytes)) header.len;
       drawn = drawn;
       states = drawn_states kv (page_at PAGE s.image)
           (page_at PAGE (written_image PAGE s.image HEADER.0 bytes)) o h s.served below drawn;
-      stage = header_stage mid bytes (Ok x) long header wrote_;
+      stage = header_stage mid bytes (Ok x) header wrote_;
       holds = drawn_holds kv (page_at PAGE s.image)
           (page_at PAGE (written_image PAGE s.image HEADER.0 bytes)) o h s.served drawn;
     }
@@ -353,7 +356,13 @@ module _ {D : Type 0} (m : Meaning D) (old : D) (kv : Kv) (o : Opening) (h : Ent
       -- ---- the row is stored
 
       module _ (page : List ℕ) (stores : StoresIn kv.rows page kv.next.0 k v)
-          (k_fits : FitsSigned w64 k) (v_fits : FitsSigned w64 v) (long : length page ≡ PAGE) where
+          (k_fits : FitsSigned w64 k) (v_fits : FitsSigned w64 v) where
+        long : length page ≡ PAGE
+        long = (stores_drawn kv (page_at PAGE s.image) (page_at PAGE head.image) o h s.served page k v
+            head.drawn stores).puts.len
+            ∙ (ap (λ (b : List ℕ). length b) (sym s.served.page)
+            ∙ s.served.is_kv.sound.header.whole KV_ROWS.0)
+
         fits : taken h + need (found o h k) ≤ ROOM
         fits = let r = (stores_drawn kv (page_at PAGE s.image) (page_at PAGE head.image) o h
             s.served page k v head.drawn stores).rest in
@@ -403,10 +412,15 @@ module _ {D : Type 0} (m : Meaning D) (old : D) (kv : Kv) (o : Opening) (h : Ent
         abbrev pub done : Entries
         done = committed o h (found o h k) k v
 
-        module _ (two : D) (after : Kv) (bits : List ℕ) (held : m.held two ≡ Some image_with)
-            (stage : Stage m old two (Before o h) 2)
+        module _ {T E : Type 0} (two : D) (x : T)
+            (wrote_ : Writes {T = T} {E = E} m mid two KV_ROWS.0 page (Ok x)) (after : Kv)
+            (bits : List ℕ)
             (sets : SetsState kv.transactions bits kv.next.0 Committed)
-            (keeps : Keeps kv after page bits) (bits_long : length bits ≡ PAGE) where
+            (keeps : Keeps kv after page bits) where
+          bits_long : length bits ≡ PAGE
+          bits_long = sets.len ∙ (ap (λ (b : List ℕ). length b) (sym s.served.bits)
+              ∙ s.served.is_kv.sound.header.whole TRANSACTIONS.0)
+
           abbrev pub image_done : Image
           image_done = written_image PAGE image_with TRANSACTIONS.0 bits
 
@@ -422,11 +436,18 @@ module _ {D : Type 0} (m : Meaning D) (old : D) (kv : Kv) (o : Opening) (h : Ent
           abbrev pub Either : Image → Type 0
           Either c = Before o h c ⊎ HoldsAt PAGE o done (durable_count done) c
 
+          held : m.held two ≡ Some image_with
+          held = wrote_.stored head.image head.held
+              ∙ ap (λ (n : ℕ). Some (written_image n head.image KV_ROWS.0 page)) long
+
+          stage : Stage m old two (Before o h) 2
+          stage = row_stage two (Ok x) wrote_
+
           bits_stage : {T E : Type 0} (new : D) (result : Result T E)
               → Writes m two new TRANSACTIONS.0 bits result → Stage m old new Either 3
-          bits_stage new result wrote_ = stage_write m old two new Either 2 image_with
+          bits_stage new result writes_ = stage_write m old two new Either 2 image_with
               TRANSACTIONS.0 bits result
-              (stage_as m old two (Before o h) Either 2 (λ c holds. inl holds) stage) held wrote_
+              (stage_as m old two (Before o h) Either 2 (λ c holds. inl holds) stage) held writes_
               (inl row_holds) (rw bits_long (inr done_holds))
 
           abbrev pub stored_es : List Entry
@@ -454,9 +475,9 @@ module _ {D : Type 0} (m : Meaning D) (old : D) (kv : Kv) (o : Opening) (h : Ent
               (rw (sym (committed_count o h s.served.quiet (found o h k) k v)) holds)
 
           -- the bits could not be written, or not settled
-          pub case_no_commit : (new : D) → Stage m old new Either 3
+          no_commit_after : (new : D) → Stage m old new Either 3
               → PutDone m old new after o h k v (Err (DiskWrite places.Put))
-          case_no_commit new last = put_stops m old new after o h k v failed_es
+          no_commit_after new last = put_stops m old new after o h k v failed_es
               (DiskWrite places.Put) ends refl
               (inr refl, written_is_legal o h s.served.quiet more (found o h k) k v is_found)
               (leaves_as m old new Either (HoldsSome PAGE o done) either_some last.crash)
@@ -465,10 +486,10 @@ module _ {D : Type 0} (m : Meaning D) (old : D) (kv : Kv) (o : Opening) (h : Ent
               let w = fine_writes (found o h k) (next_number o h) k v in omega (arith, a, w))
 
           -- the row is stored
-          pub case_stored : (new : D) → Stage m old new Either 3 → m.held new ≡ Some image_done
+          stored_after : (new : D) → Stage m old new Either 3 → m.held new ≡ Some image_done
               → ((c : Image) → MayLeave m new c → c ≡ image_done)
               → PutDone m old new after o h k v (Ok (Stored kv.next))
-          case_stored new last held_last settled = put_given m old new after o h k v stored_es
+          stored_after new last held_last settled = put_given m old new after o h k v stored_es
               (Stored kv.next) gives (record {
                 text = rw s.served.drawn refl;
                 ok = refl;
@@ -486,5 +507,72 @@ module _ {D : Type 0} (m : Meaning D) (old : D) (kv : Kv) (o : Opening) (h : Ent
               quiet : IsQuiet o done
               quiet = committed_is_quiet o h s.served.quiet more (found o h k) k v is_found
 
-abbrev pub Dummy : Type 0
-Dummy = Unit {0}
+          -- the bits could not be written
+          pub case_no_bits : {T E : Type 0} (new : D) (e : E)
+              → Writes {T = T} {E = E} m two new TRANSACTIONS.0 bits (Err e)
+              → PutDone m old new after o h k v (Err (DiskWrite places.Put))
+          case_no_bits new e writes_ = no_commit_after new (bits_stage new (Err e) writes_)
+
+          module _ {U F : Type 0} (three : D) (y : U)
+              (writes_ : Writes {T = U} {E = F} m two three TRANSACTIONS.0 bits (Ok y)) where
+            -- the disk could not be settled
+            pub case_unsettled : {V G : Type 0} (new : D) (result : Result V G)
+                → Calm m three new result
+                → PutDone m old new after o h k v (Err (DiskWrite places.Put))
+            case_unsettled new result calm = no_commit_after new
+                (stage_calm m old three new Either 3 result (bits_stage three (Ok y) writes_) calm)
+
+            -- the row is stored
+            pub case_stored : {V G : Type 0} (new : D) (result : Result V G) → Calm m three new result
+                → (m.tells three ≡ true → (c : Image) → MayLeave m new c → m.held new ≡ Some c)
+                → PutDone m old new after o h k v (Ok (Stored kv.next))
+            case_stored new result calm durable = stored_after new
+                (stage_calm m old three new Either 3 result last calm) held_new
+                (λ c left. same c (sym (durable last.told c left) ∙ held_new))
+              where
+                last : Stage m old three Either 3
+                last = bits_stage three (Ok y) writes_
+
+                held_new : m.held new ≡ Some image_done
+                held_new = calm.held ∙ (writes_.stored image_with held
+                    ∙ ap (λ (n : ℕ). Some (written_image n image_with TRANSACTIONS.0 bits)) bits_long)
+
+                same : (c : Image) → Some c ≡ Some image_done → c ≡ image_done
+                same c is = cc
+
+-- a number that is not the last is below it
+pub below_last : (n : ℕ) → n ≤ LAST.0 → false ≡ nat_eq n LAST.0 → n < LAST.0
+below_last n most other = at (cases_eq n LAST.0)
+  where
+    at : (n ≡ LAST.0) ⊎ (n ≢ LAST.0) → n < LAST.0
+    at (inl is) = absurd (false≢true (other ∙ eq-eqb n LAST.0 is))
+    at (inr ne) = omega (arith, most, ne)
+
+pub last_is : (n : ℕ) → true ≡ nat_eq n LAST.0 → n ≡ LAST.0
+last_is n is = at (cases_eq n LAST.0)
+  where
+    at : (n ≡ LAST.0) ⊎ (n ≢ LAST.0) → n ≡ LAST.0
+    at (inl same) = same
+    at (inr ne) = absurd (false≢true (sym (is ∙ ne_eqb n LAST.0 ne)))
+
+-- a fault that is handed on is the one that came
+pub is_fault : (result : Result Answer Stop) (stop : Stop) → IsErr result
+    → IsErrAnd result (λ given. given ≡ stop) → stop ≡ DiskWrite places.Put
+    → result ≡ Err (DiskWrite places.Put)
+is_fault (Ok x) stop err same is = absurd (false≢true err)
+is_fault (Err given) stop err same is = ap (λ (s : Stop). Err s) (same ∙ is)
+
+-- a fault that comes after other calls of a disk
+pub steps_ended : {D T : Type 0} (m : Meaning D) (old mid new : D) (stop : Stop)
+    → m.size old ≡ Some PAGE → m.size new ≡ Some PAGE → m.faults old ≤ m.faults mid
+    → m.faults mid ≤ m.faults new → Rose (m.faults mid) (m.faults new)
+    → DiskSteps {T = T} m old new (Err stop)
+steps_ended m old mid new stop was is first next rose = record {
+  size = rw was is;
+  never_falls = omega (arith, first, next);
+  cause = λ _. later rose;
+}
+  where
+    later : Rose (m.faults mid) (m.faults new) → Rose (m.faults old) (m.faults new)
+    later (inl rises) = inl (omega (arith, first, rises))
+    later (inr end) = inr end

@@ -16,7 +16,6 @@ mod page_writes;
 mod run;
 mod script;
 mod script_source;
-mod scratch;
 mod serial;
 mod status;
 mod top;
@@ -24,7 +23,6 @@ mod words;
 
 use mg_base::{FileDisk, StdSink, StdSource};
 pub use run::run;
-pub use scratch::scratch;
 pub use serial::puts_in_turn;
 pub use status::Status;
 use std::alloc::AllocError;

@@ -1,7 +1,0 @@
-//! Scratch.
-
-ghost use Rattle.mgdb.specs.PutCases.{Dummy};
-
-pub fn scratch()
-    ensures { Dummy }
-{}
