@@ -1,9 +1,9 @@
 -- Laws of a whole run: the disk is read, a new database is made, the lines are obeyed, the disk is
 -- settled; and what the program promises of it, wherever it stops.
-use Rattle.std.specs.Prelude.{◌≡◌, ◌≤◌, ◌+◌, ◌++◌, [], ℕ, Bool, true, List, None, Some, Result, Ok, Err, refl}
+use Rattle.std.specs.Prelude.{◌≡◌, ◌≤◌, ◌+◌, ◌++◌, [], ℕ, Bool, true, List, None, Option, Some, Result, Ok, Err, IsErrAnd, refl}
 use Rattle.std.proofs.Common.{sym, ◌∙◌, ap, arith, append-nil, subst}
 use Rattle.std.specs.Str.Lines.{lines}
-use Rattle.mg_base.specs.Disk.{Calm, MayLeave, Meaning}
+use Rattle.mg_base.specs.Disk.{Calm, MayLeave, Meaning, Stays}
 use Rattle.mg_base.specs.Image.{Image, page_at}
 use Rattle.mg_base.specs.Moments.{LeavesOnly, goes_on, joined, leaves_as, started}
 use Rattle.mg_base.specs.Streams.{SinkMeaning}
@@ -18,7 +18,7 @@ use Rattle.mgdb.specs.Fresh.{IsFresh}
 use Rattle.mgdb.specs.Headline.{Headline, IsEntry, IsOpeningOf, IsPrinted, NEW_WRITES, ending, fault_line, of_blank, of_sound}
 use Rattle.mgdb.specs.PrintLaws.{printed_nothing, printed_stopped, whole_nothing}
 use Rattle.mgdb.specs.ScriptHistory.{nothing, obeyed, onto}
-use Rattle.mgdb.specs.Serving.{IsFreshDisk, LinesDone, NewDone, Reads, new_history}
+use Rattle.mgdb.specs.Serving.{IsFreshDisk, LinesDone, NewDone, Reads, Serves, new_history}
 use Rattle.mgdb.specs.Stops.{IsObeyingStop, status_of}
 use Rattle.mgdb.specs.Transcript.{transcript}
 use Rattle.mgdb.specs.WriteLaws.{sound_is_not_blank}
@@ -272,3 +272,76 @@ headline_stopped m n size o script old new before middle after stop status done 
   exit = done.exit;
   writes = done.writes;
 }
+
+-- ---- a run from its entry
+
+-- a fresh disk has pages of 4096 bytes, and what its history begins with is a new database
+pub entry_is_new : {D : Type 0} (m : Meaning D) (old mid : D) (size : ℕ) (o : Opening)
+    (entry : IsEntry m old size o) → Stays (m.size old) (m.size mid) → m.size mid ≡ Some PAGE
+    → IsFresh (m.size mid) entry.image → (size ≡ PAGE) × (o ≡ new_history)
+entry_is_new m old mid size o entry stays sized fresh =
+    let same = subst (λ (was : Option ℕ). Stays was (m.size mid)) entry.sized stays in
+    let page : size ≡ PAGE = same_size size PAGE (sym same ∙ sized) in
+    (page, blank_opening size entry.image o entry.opening (rw page fresh.blank_image))
+  where
+    same_size : (a b : ℕ) → Some a ≡ Some b → a ≡ b
+    same_size a b is = cc
+
+new_run : {D : Type 0} (m : Meaning D) (old mid : D) (size : ℕ) (o : Opening) → size ≡ PAGE
+    → o ≡ new_history → LeavesOnly m old mid (HoldsSome size o [])
+    → LeavesOnly m old mid (HoldsSome PAGE new_history [])
+new_run m old mid size o page is run =
+    subst (λ (s : ℕ). LeavesOnly m old mid (HoldsSome s new_history [])) page
+    (subst (λ (p : Opening). LeavesOnly m old mid (HoldsSome size p [])) is run)
+
+of_new : {D K : Type 0} (m : Meaning D) (n : SinkMeaning K) (old new : D) (before after : K)
+    (size : ℕ) (o : Opening) (script : List ℕ) (result : Result Bool Stop) → size ≡ PAGE
+    → o ≡ new_history
+    → LinesDone m n old new before after PAGE NEW_WRITES new_history script result
+    → LinesDone m n old new before after size NEW_WRITES o script result
+of_new m n old new before after size o script result page is done = rw (page, is) done
+
+-- the new database could not be made
+pub entry_unmade : {D K : Type 0} (m : Meaning D) (n : SinkMeaning K) (old mid new : D) (kv : Kv)
+    (sink : K) (size : ℕ) (o : Opening) (script : List ℕ) (stop : Stop)
+    → IsEntry m old size o → Reads m old mid → Stays (m.size old) (m.size mid)
+    → m.size mid ≡ Some PAGE
+    → ((image : Image) → m.held old ≡ Some image → IsFresh (m.size mid) image)
+    → ((image : Image) → IsFreshDisk m mid image → NewDone m mid new kv (Err stop))
+    → LinesDone m n old new sink sink size NEW_WRITES o script (Err stop)
+entry_unmade m n old mid new kv sink size o script stop entry reads stays sized fresh made =
+    let its = fresh entry.image entry.held in
+    let is = entry_is_new m old mid size o entry stays sized its in
+    of_new m n old new sink sink size o script (Err stop) is.0 is.1
+    (script_unmade m n old mid new kv sink script stop
+    (new_run m old mid size o is.0 is.1 (entry_reads m old mid size o entry reads)) reads.asked
+    (made entry.image (entry_fresh m old mid size o entry reads its)))
+
+-- it was made, and the lines were obeyed as far as they were
+pub entry_lines : {D K : Type 0} (m : Meaning D) (n : SinkMeaning K) (old mid ready new : D)
+    (kv : Kv) (made_ : Unit {0}) (before after : K) (size : ℕ) (o : Opening) (script : List ℕ)
+    (result : Result Bool Stop) → IsEntry m old size o → Reads m old mid
+    → Stays (m.size old) (m.size mid) → m.size mid ≡ Some PAGE
+    → ((image : Image) → m.held old ≡ Some image → IsFresh (m.size mid) image)
+    → ((image : Image) → IsFreshDisk m mid image → NewDone m mid ready kv (Ok made_))
+    → ((p : Opening) → Serves m kv ready p []
+    → LinesDone m n ready new before after PAGE 0 p script result)
+    → LinesDone m n old new before after size NEW_WRITES o script result
+entry_lines m n old mid ready new kv made_ before after size o script result entry reads stays sized
+    fresh made lines_ =
+    let its = fresh entry.image entry.held in
+    let is = entry_is_new m old mid size o entry stays sized its in
+    let done = made entry.image (entry_fresh m old mid size o entry reads its) in
+    of_new m n old new before after size o script result is.0 is.1
+    (script_done m n old mid ready new kv (Ok made_) before after script result
+    (new_run m old mid size o is.0 is.1 (entry_reads m old mid size o entry reads)) reads.asked
+    done (lines_ new_history done.serves))
+
+-- an exit hands on the stop that it met
+pub stop_on : {D K : Type 0} (m : Meaning D) (n : SinkMeaning K) (old new : D) (before after : K)
+    (size first : ℕ) (o : Opening) (script : List ℕ) (stop : Stop) (result : Result Bool Stop)
+    → IsErrAnd result (λ other. other ≡ stop)
+    → LinesDone m n old new before after size first o script (Err stop)
+    → LinesDone m n old new before after size first o script result
+stop_on m n old new before after size first o script stop (Ok ok) same done = absurd same
+stop_on m n old new before after size first o script stop (Err other) same done = rw same done

@@ -9,6 +9,7 @@ ghost use Rattle.mg_first.specs.declared.pages.TheConstants.{PAGE};
 ghost use Rattle.mgdb.specs.Causes.{DiskCauses, StreamCauses, ScriptCauses};
 ghost use Rattle.mgdb.specs.Fresh.{IsFresh};
 ghost use Rattle.mgdb.specs.Headline.{Headline, IsEntry, IsPrinted, NEW_WRITES, fault_line};
+ghost use Rattle.mgdb.specs.PrintLaws.{IsPrintedWhole};
 ghost use Rattle.mgdb.specs.Script.{IsBad, HasBad};
 ghost use Rattle.mgdb.specs.Serving.{LineDone, LinesDone, PutLineDone, Serves};
 ghost use Rattle.mgdb.specs.Stops.{DiskSteps, SinkSteps, IsObeyingStop, IsSayingStop, IsDiskOrSinkStop, status_of};
@@ -193,6 +194,7 @@ fn say<K: Sink>(sink: &mut K, line: &LineText) -> Result<(), Stop>
     ensures stops { IfErr result IsSayingStop }
     ensures sink { SinkSteps K.meaning sink.old sink.new result }
     ensures printed { IsPrinted K.meaning sink.old sink.new line.now.bytes }
+    ensures whole { OnOk result (IsPrintedWhole K.meaning sink.old sink.new line.now.bytes) }
 {
     match sink.put(line.as_str().as_bytes()) {
         Ok(()) => Ok(()),
