@@ -16,12 +16,3 @@ pub mod StepLaws
 pub mod PageLaws
 pub mod ReadingLaws
 pub mod HeldLaws
-pub mod Kept
-pub mod ImageView
-pub mod ChainLaws
-pub mod Codings
-pub mod OneTable
-pub mod RunLaws
-pub mod Found
-pub mod FirstBroken
-pub mod HeldTable

@@ -1,0 +1,7 @@
+use Rattle.std.proofs.Common.{arith, refl}
+use Rattle.mg_reading.proofs.RowLemmas.{storable_take}
+use Rattle.mg_reading.proofs.rows.are_storable.Goals as goal
+
+pub loop-value-preserved : goal.loop-value-preserved
+loop-value-preserved c = storable_take c.args.values.now c.loop-value.value-index c.value-item.result
+    (omega arith) c.value-item.is c.loop-value.invariant (c.if-not-is_storable.ensures refl)
