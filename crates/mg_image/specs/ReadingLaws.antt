@@ -43,7 +43,7 @@ same_version : (v w : Version) → Some (cells.Version v) ≡ Some (cells.Versio
 same_version v w same = cc
 
 -- two versions of one cell are one, as their rows are
-same_entry : (coding : Coding) → RowsAreOne coding → (f : Facts) (table : Table) (h : Cells)
+pub same_entry : (coding : Coding) → RowsAreOne coding → (f : Facts) (table : Table) (h : Cells)
     (k m : Value) (d e : Entry) → d.at ≡ e.at → h d.at ≡ Some (cells.Version d.version)
     → h e.at ≡ Some (cells.Version e.version) → IsVersion coding f table k d
     → IsVersion coding f table m e → d ≡ e

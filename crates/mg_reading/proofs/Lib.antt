@@ -7,3 +7,8 @@ pub mod FoundLemmas
 pub mod ReadingLemmas
 pub mod UndrawnLemmas
 pub mod HeldLemmas
+pub mod RefusalLemmas
+pub mod OneVersionLemmas
+pub mod VersionsLemmas
+pub mod CountLemmas
+pub mod TableLemmas

@@ -1,6 +1,6 @@
 -- What was read of the slots of a table is a lawful reading.
-use Rattle.std.proofs.Common.{◌≡◌, ◌≢◌, ◌⊎◌, ◌<◌, ◌≤◌, inl, inr, refl, sym, ◌∙◌, ℕ, Bool, true, false, List, [], ◌∷◌, None, Some}
-use Rattle.std.proofs.lemmas.Bool.{cases_eq, cases_lt, ne_eqb}
+use Rattle.std.proofs.Common.{◌≡◌, ◌≢◌, ◌⊎◌, ◌<◌, ◌≤◌, inl, inr, refl, sym, ◌∙◌, ℕ, true, false, List, [], ◌∷◌, None, Some}
+use Rattle.std.proofs.lemmas.Bool.{cases_lt}
 use Rattle.mg_base.specs.declared.numbers.RecId.{RecId}
 use Rattle.mg_slots.specs.DataPage.{slot_count}
 use Rattle.mg_slots.specs.DataPageLaws.{cell_past}
@@ -10,33 +10,15 @@ use Rattle.mg_reading.specs.declared.found.Found.{Found}
 use Rattle.mg_reading.specs.declared.image.Image.{Image}
 use Rattle.mg_reading.specs.declared.rows.RowCoding.{RowCoding}
 use Rattle.mg_model.specs.declared.table.Table.{Table}
-use Rattle.mg_reading.specs.Found.{AreApart, AreFound, HasNoCellOf, HasNoKeyOf, HaveKeys, IsFound, PagesRead, WasRead, image_facts, reading_of}
+use Rattle.mg_reading.specs.Found.{AreApart, AreFound, HasNoCellOf, HasNoKeyOf, HasOwnKey, HaveKeys, IsApart, IsFound, PagesRead, TakeOneKey, WasRead, image_facts, reading_of}
 use Rattle.mg_reading.specs.ImageView.{pages_in}
-use Rattle.mg_reading.specs.OneTable.{stand_with, table_facts}
-use Rattle.mg_image.specs.RecordRules.{AreRecords, IsRecord, TakesKey, table_in}
+use Rattle.mg_reading.specs.OneTable.{table_facts}
+use Rattle.mg_image.specs.RecordRules.{AreRecords, IsRecord, table_in}
 use Rattle.mg_image.specs.Records.{Chain, Stands, cells_of, ended, newest_of, record_key}
+use Rattle.mg_reading.specs.Readable.{HasReading, HasRecord}
 use Rattle.mg_image.specs.StepLaws.{cases_place, same_place}
-use Rattle.mg_image.specs.Tables.{Has, has, table_at}
-use Rattle.mg_reading.proofs.RecordLemmas.{table_at_one}
-
--- a page that the table is found at is one of its own
-page_of_table : (table other : Table) (ns : List ℕ) (n : ℕ)
-    → table_at (stand_with table ns ∷ []) n ≡ Some other → (other ≡ table) × (has ns n ≡ true)
-page_of_table table other ns n is = at (has ns n) refl is
-  where
-    at : (b : Bool) → has ns n ≡ b → table_at (stand_with table ns ∷ []) n ≡ Some other
-        → (other ≡ table) × (has ns n ≡ true)
-    at true e is = let same : Some table ≡ Some other = rw e at is in (cc, e)
-    at false e is = let no_ : None ≡ Some other = rw e at is in absurd cc
-
--- what a test of a list finds is in it
-has_back : (ns : List ℕ) (n : ℕ) → has ns n ≡ true → Has ns n
-has_back [] n is = absurd cc
-has_back (m ∷ ms) n is = at (cases_eq n m) (λ e. has_back ms n e)
-  where
-    at : (n ≡ m) ⊎ (n ≢ m) → (has ms n ≡ true → Has ms n) → Has (m ∷ ms) n
-    at (inl same) later = inl same
-    at (inr other) later = inr (later (rw (ne_eqb n m other) at is))
+use Rattle.mg_image.specs.Tables.{Has}
+use Rattle.mg_reading.proofs.RecordLemmas.{has_back, page_of_table, table_at_one}
 
 -- a slot was read, and this is what was read of it
 pub record IsReadAt (coding : RowCoding) (image : Image) (table : Table) (ns : List ℕ) (p : RecId)
@@ -75,15 +57,15 @@ was_read coding image table ns (f ∷ fs) are p =
         not_read other none (inl same) = other same
         not_read other none (inr later) = none later
 
--- a record that shares no cell with these shares none with what is read of them
+-- a record that shares a cell with what is read of these is that one
 no_cell : (f : Found) (fs : List Found) → HasNoCellOf f fs → (q x : RecId)
-    → Stands f.entries.items x → Stands (reading_of fs q) x → ⊥
-no_cell f [] none q x i j = j
+    → Stands f.entries.items x → Stands (reading_of fs q) x → f.at ≡ q
+no_cell f [] none q x i j = absurd j
 no_cell f (g ∷ gs) none q x i j = at (cases_place g.at q) (λ k. no_cell f gs none.1 q x i k)
   where
     at : ((g.at ≡ q) × (same_place g.at q ≡ true)) ⊎ ((g.at ≢ q) × (same_place g.at q ≡ false))
-        → (Stands (reading_of gs q) x → ⊥) → ⊥
-    at (inl (same, is)) later = none.0 x i (rw is at j)
+        → (Stands (reading_of gs q) x → f.at ≡ q) → f.at ≡ q
+    at (inl (same, is)) later = none.0 (x, i, rw is at j) ∙ same
     at (inr (other, is)) later = later (rw is at j)
 
 apart_of : (found : List Found) → AreApart found → (p q x : RecId) → Stands (reading_of found p) x
@@ -97,49 +79,47 @@ apart_of (f ∷ fs) apart p q x i j = at (cases_place f.at p) (cases_place f.at 
         → (Stands (reading_of fs p) x → Stands (reading_of fs q) x → p ≡ q) → p ≡ q
     at (inl (one, is)) (inl (also, is_also)) later = sym one ∙ also
     at (inl (one, is)) (inr (other, is_other)) later =
-        absurd (no_cell f fs apart.0 q x (rw is at i) (rw is_other at j))
+        sym one ∙ no_cell f fs apart.0 q x (rw is at i) (rw is_other at j)
     at (inr (other, is_other)) (inl (one, is)) later =
-        absurd (no_cell f fs apart.0 p x (rw is at j) (rw is_other at i))
+        sym (sym one ∙ no_cell f fs apart.0 p x (rw is at j) (rw is_other at i))
     at (inr (other, is)) (inr (also, is_also)) later = later (rw is at i) (rw is_also at j)
 
 -- the same of keys
-abbrev SameKey : Image → Table → List Entry → List Entry → Type 0
-SameKey image table a b = TakesKey (image_facts image) a × TakesKey (image_facts image) b
-    × (record_key table a ≡ record_key table b)
-
 no_key : (image : Image) (table : Table) (f : Found) (fs : List Found)
     → HasNoKeyOf (image_facts image) table f fs → (q : RecId)
-    → SameKey image table f.entries.items (reading_of fs q) → ⊥
-no_key image table f [] none q (i, inl (row, is), same) = let no_ : None ≡ Some row = is in cc
-no_key image table f [] none q (i, inr limbo, same) = limbo
+    → TakeOneKey (image_facts image) table f.entries.items (reading_of fs q) → f.at ≡ q
+no_key image table f [] none q (i, inl (row, is), same) =
+    let no_ : None ≡ Some row = is in absurd cc
+no_key image table f [] none q (i, inr limbo, same) = absurd limbo
 no_key image table f (g ∷ gs) none q keys =
     at (cases_place g.at q) (λ k. no_key image table f gs none.1 q k)
   where
     at : ((g.at ≡ q) × (same_place g.at q ≡ true)) ⊎ ((g.at ≢ q) × (same_place g.at q ≡ false))
-        → (SameKey image table f.entries.items (reading_of gs q) → ⊥) → ⊥
-    at (inl (same, is)) later = let there = rw is at keys in none.0 there.0 there.1 there.2
+        → (TakeOneKey (image_facts image) table f.entries.items (reading_of gs q) → f.at ≡ q)
+        → f.at ≡ q
+    at (inl (same, is)) later = none.0 (rw is at keys) ∙ same
     at (inr (other, is)) later = later (rw is at keys)
 
 keys_of : (image : Image) (table : Table) (found : List Found)
     → HaveKeys (image_facts image) table found → (p q : RecId)
-    → SameKey image table (reading_of found p) (reading_of found q) → p ≡ q
+    → TakeOneKey (image_facts image) table (reading_of found p) (reading_of found q) → p ≡ q
 keys_of image table [] have p q (inl (row, is), j, same) =
     let no_ : None ≡ Some row = is in absurd cc
 keys_of image table [] have p q (inr limbo, j, same) = absurd limbo
 keys_of image table (f ∷ fs) have p q keys = at (cases_place f.at p) (cases_place f.at q)
     (λ k. keys_of image table fs have.1 p q k)
   where
-    swapped : (a b : List Entry) → SameKey image table a b → SameKey image table b a
+    swapped : (a b : List Entry) → TakeOneKey (image_facts image) table a b → TakeOneKey (image_facts image) table b a
     swapped a b (i, j, same) = (j, i, sym same)
 
     at : ((f.at ≡ p) × (same_place f.at p ≡ true)) ⊎ ((f.at ≢ p) × (same_place f.at p ≡ false))
         → ((f.at ≡ q) × (same_place f.at q ≡ true)) ⊎ ((f.at ≢ q) × (same_place f.at q ≡ false))
-        → (SameKey image table (reading_of fs p) (reading_of fs q) → p ≡ q) → p ≡ q
+        → (TakeOneKey (image_facts image) table (reading_of fs p) (reading_of fs q) → p ≡ q) → p ≡ q
     at (inl (one, is)) (inl (also, is_also)) later = sym one ∙ also
     at (inl (one, is)) (inr (other, is_other)) later =
-        absurd (no_key image table f fs have.0 q (rw (is, is_other) at keys))
-    at (inr (other, is_other)) (inl (one, is)) later = absurd (no_key image table f fs have.0 p
-        (swapped (reading_of fs p) f.entries.items (rw (is_other, is) at keys)))
+        sym one ∙ no_key image table f fs have.0 q (rw (is, is_other) at keys)
+    at (inr (other, is_other)) (inl (one, is)) later = sym (sym one ∙ no_key image table f fs have.0
+        p (swapped (reading_of fs p) f.entries.items (rw (is_other, is) at keys)))
     at (inr (other, is)) (inr (also, is_also)) later = later (rw (is, is_also) at keys)
 
 -- all slots were read, no cell and no key is taken twice: the records are lawful
@@ -197,3 +177,72 @@ records_read coding image table ns found are all apart have = record {
         → IsRecord (coding_of coding) (table_facts image table ns) t (reading_of found p)
     each p t is (inl read) = rw ((page_of_table table t ns p.page.0 is).0) (read.lawful)
     each p t is (inr (none, empty)) = rw empty (record { once = tt; each = tt; backs = tt })
+
+-- the place of a slot of a page
+abbrev pub place_at : ℕ → ℕ → RecId
+place_at n slot = record { page = record { 0 = n }; slot = slot }
+
+-- what lawful records have at a slot
+pub reading_record : (coding : RowCoding) (image : Image) (table : Table) (ns : List ℕ) (p : RecId)
+    → Has ns p.page.0 → HasReading coding image table ns
+    → HasRecord coding image table ns (newest_of p (cells_of (pages_in image) p))
+reading_record coding image table ns p placed (r, are) =
+    let mine = table_at_one table ns p.page.0 placed in
+    (r p, record { chain = are.reads p table mine; lawful = are.each p table mine })
+
+-- what was read is what lawful records have
+found_once : (coding : RowCoding) (image : Image) (table : Table) (ns : List ℕ) (f : Found)
+    → IsFound coding image table ns f → (has_ : HasReading coding image table ns)
+    → has_.0 f.at ≡ f.entries.items
+found_once coding image table ns f is (r, are) =
+    let mine = table_at_one table ns f.at.page.0 is.placed in
+    is.only (r f.at) (record {
+      chain = are.reads f.at table mine;
+      lawful = are.each f.at table mine;
+    })
+
+-- so records with a cell in common are one
+apart_must : (coding : RowCoding) (image : Image) (table : Table) (ns : List ℕ) (f g : Found)
+    → IsFound coding image table ns f → IsFound coding image table ns g
+    → HasReading coding image table ns → IsApart f g
+apart_must coding image table ns f g is as_ (r, are) (x, i, j) = are.apart f.at g.at x
+    (rw (found_once coding image table ns f is (r, are)) i)
+    (rw (found_once coding image table ns g as_ (r, are)) j)
+
+pub apart_all : (coding : RowCoding) (image : Image) (table : Table) (ns : List ℕ)
+    (found : List Found) → AreFound coding image table ns found
+    → HasReading coding image table ns → AreApart found
+apart_all coding image table ns [] are reads = tt
+apart_all coding image table ns (f ∷ fs) are reads =
+    (none fs are.1, apart_all coding image table ns fs are.1 reads)
+  where
+    none : (gs : List Found) → AreFound coding image table ns gs → HasNoCellOf f gs
+    none [] also = tt
+    none (g ∷ gs) also =
+        (apart_must coding image table ns f g are.0 also.0 reads, none gs also.1)
+
+-- and so are those that take one key
+own_must : (coding : RowCoding) (image : Image) (table : Table) (ns : List ℕ) (f g : Found)
+    → IsFound coding image table ns f → IsFound coding image table ns g
+    → HasReading coding image table ns → HasOwnKey (image_facts image) table f g
+own_must coding image table ns f g is as_ (r, are) (i, j, same) = are.keys f.at g.at table
+    (table_at_one table ns f.at.page.0 is.placed) (table_at_one table ns g.at.page.0 as_.placed)
+    (rw (found_once coding image table ns f is (r, are)) i)
+    (rw (found_once coding image table ns g as_ (r, are)) j)
+    (rw (
+      found_once coding image table ns f is (r, are),
+      found_once coding image table ns g as_ (r, are),
+    ) same)
+
+pub keys_all : (coding : RowCoding) (image : Image) (table : Table) (ns : List ℕ)
+    (found : List Found) → AreFound coding image table ns found
+    → HasReading coding image table ns → HaveKeys (image_facts image) table found
+keys_all coding image table ns [] are reads = tt
+keys_all coding image table ns (f ∷ fs) are reads =
+    (none fs are.1, keys_all coding image table ns fs are.1 reads)
+  where
+    none : (gs : List Found) → AreFound coding image table ns gs
+        → HasNoKeyOf (image_facts image) table f gs
+    none [] also = tt
+    none (g ∷ gs) also =
+        (own_must coding image table ns f g are.0 also.0 reads, none gs also.1)

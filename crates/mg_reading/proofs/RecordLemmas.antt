@@ -1,7 +1,7 @@
 -- Lemmas on records as they are read.
 use Rattle.std.proofs.Common.{◌≡◌, ◌≢◌, ◌⊎◌, inl, inr, refl, sym, ◌∙◌, ◌==◌, ◌||◌, ℕ, Bool, true, false, List, [], ◌∷◌, Option, None, Some}
 use Rattle.mg_version.specs.declared.cell.Link.{Link}
-use Rattle.std.proofs.lemmas.Bool.{eq-eqb}
+use Rattle.std.proofs.lemmas.Bool.{cases_eq, eq-eqb, ne_eqb}
 use Rattle.std.proofs.Common.{◌+◌, ◌<◌, ◌++◌, length, take, get_or}
 use Rattle.std.proofs.lemmas.List.{take_more}
 use Rattle.mg_base.specs.declared.numbers.RecId.{RecId}
@@ -26,6 +26,25 @@ has_true [] n none = absurd none
 has_true (m ∷ ms) n (inl is) = rw (eq-eqb n m is) refl
 has_true (m ∷ ms) n (inr later) = rw (has_true ms n later) (or_true (n == m))
 
+-- what a test of a list finds is in it
+pub has_back : (ns : List ℕ) (n : ℕ) → has ns n ≡ true → Has ns n
+has_back [] n is = absurd cc
+has_back (m ∷ ms) n is = at (cases_eq n m) (λ e. has_back ms n e)
+  where
+    at : (n ≡ m) ⊎ (n ≢ m) → (has ms n ≡ true → Has ms n) → Has (m ∷ ms) n
+    at (inl same) later = inl same
+    at (inr other) later = inr (later (rw (ne_eqb n m other) at is))
+
+-- a page that the table is found at is one of its own
+pub page_of_table : (table other : Table) (ns : List ℕ) (n : ℕ)
+    → table_at (stand_with table ns ∷ []) n ≡ Some other → (other ≡ table) × (has ns n ≡ true)
+page_of_table table other ns n is = at (has ns n) refl is
+  where
+    at : (b : Bool) → has ns n ≡ b → table_at (stand_with table ns ∷ []) n ≡ Some other
+        → (other ≡ table) × (has ns n ≡ true)
+    at true e is = let same : Some table ≡ Some other = rw e at is in (cc, e)
+    at false e is = let no_ : None ≡ Some other = rw e at is in absurd cc
+
 -- a page of a table belongs to it
 pub table_at_one : (table : Table) (ns : List ℕ) (n : ℕ) → Has ns n
     → table_at (stand_with table ns ∷ []) n ≡ Some table
@@ -36,7 +55,7 @@ pub none_of : (link : Option Link) → ((l : Link) → link ≡ Some l → ⊥) 
 none_of None none = refl
 none_of (Some l) none = absurd (none l refl)
 
-stands_push : (es : List Entry) (e : Entry) (x : RecId) → Stands (es ++ e ∷ []) x
+pub stands_push : (es : List Entry) (e : Entry) (x : RecId) → Stands (es ++ e ∷ []) x
     → Stands es x ⊎ (e.at ≡ x)
 stands_push [] e x (inl is) = inr is
 stands_push [] e x (inr none) = absurd none

@@ -1,5 +1,17 @@
 -- Tests of pages, and what they say.
-use Rattle.std.proofs.Common.{◌≡◌, ◌≢◌, ◌+◌, [], ◌∷◌, ◌++◌, ◌↔◌, ◌<◌, ◌≤◌, ◌⊎◌, inl, inr, refl, sym, ap, ◌∙◌, ℕ, Bool, true, false, List, length, IsTrue, Result, Ok, Err, arith}
+use Rattle.std.specs.Prelude.{IsOk}
+use Rattle.mg_base.specs.Checks.{PassesAll, common_checks}
+use Rattle.mg_base.specs.Fields.{u32_at}
+use Rattle.mg_base.specs.declared.fields.TheConstants.{SEQUENCE_AT}
+use Rattle.mg_pointer.specs.declared.page.TheConstants.{POINTER_KIND}
+use Rattle.mg_pointer.specs.PointerPage.{pointer_checks, rest_checks}
+use Rattle.mg_slots.specs.DataPage.{IsDataPage}
+use Rattle.mg_slots.specs.Verdict.{common_verdict}
+use Rattle.mg_slots.specs.declared.page.TheConstants.{DATA_KIND}
+use Rattle.mg_image.specs.Tables.{LinkChain}
+use Rattle.mg_reading.specs.ChainLaws.{page_opens}
+use Rattle.mg_reading.specs.Readable.{HasPointers, HasSlots}
+use Rattle.std.proofs.Common.{suc, ◌≡◌, ◌≢◌, ◌+◌, [], ◌∷◌, ◌++◌, ◌↔◌, ◌<◌, ◌≤◌, ◌⊎◌, inl, inr, refl, sym, ap, ◌∙◌, ℕ, Bool, true, false, List, length, IsTrue, Result, Ok, Err, arith}
 use Rattle.std.specs.Prelude.{is_ok}
 use Rattle.std.proofs.lemmas.Bool.{cases_lt}
 use Rattle.std.proofs.lemmas.List.{get_or_past, length-replicate}
@@ -108,3 +120,75 @@ followed_more size pages owner ns ds ms es n at next follows some at_is wanted e
   where
     place : at ≡ 0 + length ns
     place = omega arith
+
+-- a test that says no, where there is nothing
+pub neither : (P : Type 0) → (P → ⊥) → IsTrue false ↔ P
+neither P none = (λ passed. absurd cc, λ is. absurd (none is))
+
+common_at : (b : List ℕ) (page kind owner at : ℕ) (rest : List Check)
+    → PassesAll (common_checks b page kind owner at ++ rest) → u32_at b SEQUENCE_AT ≡ at
+unfolding common_checks
+common_at b page kind owner at rest passes = passes.1.1.1.1.1.0
+
+common_alone : (b : List ℕ) (page kind owner at : ℕ)
+    → PassesAll (common_checks b page kind owner at) → u32_at b SEQUENCE_AT ≡ at
+unfolding common_checks
+common_alone b page kind owner at passes = passes.1.1.1.1.1.0
+
+-- a pointer page names its place
+pub pointer_at : (size : ℕ) (pages : Pages) (owner at n : ℕ)
+    → IsTablePointer size pages owner at n → u32_at (pages n) SEQUENCE_AT ≡ at
+unfolding pointer_checks
+pointer_at size pages owner at n is =
+    common_at (pages n) n POINTER_KIND owner at (rest_checks (pages n)) is.fields
+
+-- a data page names its place
+pub slots_at : (size : ℕ) (pages : Pages) (owner at n : ℕ) → HasSlots size pages owner at n
+    → u32_at (pages n) SEQUENCE_AT ≡ at
+slots_at size pages owner at n is = common_alone (pages n) n DATA_KIND owner at is.0.fields
+
+-- a page that is as wanted for a data page has lawful slots exactly where the test has passed
+pub slots_where_ok : (size : ℕ) (pages : Pages) (owner at n : ℕ) (page : List ℕ)
+    → page ≡ pages n
+    → IsAsWanted size pages n (common_checks (pages n) n DATA_KIND owner at)
+    → (r : Result (Unit {0}) Damaged)
+    → (IsOk r ↔ ((common_verdict page (record { 0 = n }) DATA_KIND owner at ≡ Ok tt)
+    × IsDataPage page)) → (b : Bool) → b ≡ is_ok r → IsTrue b ↔ HasSlots size pages owner at n
+slots_where_ok size pages owner at n page same wanted r when b is = (
+  λ passed. (wanted, rw same at ((when.0 (sym is ∙ passed)).1)),
+  λ has. is ∙ when.1 (rw same (
+    verdict_from_passes (record { 0 = n })
+        (common_checks (pages n) n DATA_KIND owner at) wanted.fields,
+    has.1,
+  )),
+)
+
+each_at : (P : ℕ → ℕ → Type 0) (at : ℕ) (ns : List ℕ) (n : ℕ) (later : List ℕ)
+    → EachFrom P at (ns ++ n ∷ later) → P (at + length ns) n
+each_at P at [] n later each = rw (nothing at) each.0
+  where
+    nothing : (at : ℕ) → at + 0 ≡ at
+    nothing at = omega arith
+each_at P at (m ∷ ms) n later each =
+    rw (further at (length ms)) (each_at P (suc at) ms n later each.1)
+  where
+    further : (at k : ℕ) → at + suc k ≡ suc at + k
+    further at k = omega arith
+
+-- where the page that follows is not as wanted, there are no pointer pages of the owner
+pub no_pointers : (size : ℕ) (pages : Pages) (owner : ℕ) (ns : List ℕ) (n : ℕ)
+    (place : ℕ) → IsRun (λ k. next_in (pages k)) owner ns n → n ≢ 0 → place ≡ length ns
+    → (IsTablePointer size pages owner place n → ⊥) → HasPointers size pages owner → ⊥
+no_pointers size pages owner ns n place run some is_place none (all, chain, each) =
+    let begun = run.begins all chain in
+    at begun.0 begun.1 (page_opens (λ k. next_in (pages k)) n begun.0 begun.2)
+  where
+    place_is : (len : ℕ) → place ≡ len → place ≡ 0 + len
+    place_is len same = omega arith
+
+    at : (rest : List ℕ) → all ≡ ns ++ rest
+        → ((n ≡ 0) × (rest ≡ [])) ⊎ ((later : List ℕ) × (rest ≡ n ∷ later)
+        × LinkChain (λ k. next_in (pages k)) (next_in (pages n)) later) → ⊥
+    at rest is (inl (zero_, empty)) = some zero_
+    at rest is (inr (later, opens, more)) = none (rw (place_is (length ns) is_place)
+        (each_at (IsTablePointer size pages owner) 0 ns n later (rw (is, opens) at each)))

@@ -7,3 +7,5 @@ pub mod RunLaws
 pub mod Found
 pub mod FirstBroken
 pub mod HeldTable
+pub mod LongTexts
+pub mod Readable

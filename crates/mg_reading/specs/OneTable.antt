@@ -1,5 +1,6 @@
 -- An image as one of its tables sees it.
-use Rattle.std.specs.Prelude.{◌≡◌, ℕ, List, [], ◌∷◌, Some}
+use Rattle.std.specs.Prelude.{◌≡◌, ◌<◌, ◌^◌, ℕ, List, [], ◌∷◌, Some}
+use Rattle.mg_base.specs.declared.geometry.TheConstants.{GREATEST_LIMIT}
 use Rattle.mg_version.specs.declared.cell.Cell.TheVariants as cells
 use Rattle.mg_version.specs.declared.cell.Link.{Link}
 use Rattle.mg_reading.specs.Codings.{coding_of}
@@ -32,6 +33,10 @@ pub record IsLinked (image : Image) (link : Link) (e : Entry) : Type 0 where
   pub at : e.at ≡ link.rec
   pub cell : cells_of (pages_in image) e.at ≡ Some (cells.Version e.version)
   pub tx : e.version.tx ≡ link.tx
+
+-- the place of a version's cell is one of an image
+abbrev pub IsPlaced : Entry → Type 0
+IsPlaced e = (e.at.page.0 < GREATEST_LIMIT) × (e.at.slot < 2 ^ 16)
 
 -- a version is lawful by itself
 abbrev pub IsLawful : RowCoding → Image → Table → List ℕ → Entry → Type 0

@@ -1,15 +1,15 @@
 //! The pages of a table: its pointer pages and their entries.
 
-ghost use Rattle.std.specs.Prelude.{◌≡◌, ◌≤◌, ◌++◌, IfOk, OnOk, length};
-ghost use Rattle.mg_base.specs.declared.geometry.TheConstants.{GREATEST_LIMIT};
+ghost use Rattle.std.specs.Prelude.{◌≡◌, ◌≤◌, ◌++◌, IfErr, IfOk, OnOk, length};
 ghost use Rattle.mg_pointer.specs.PointerPage.{IsPointerPage, entries_of};
 ghost use Rattle.mg_reading.specs.ImageView.{pages_in};
+ghost use Rattle.mg_reading.specs.Readable.{HasPointers, Refutes};
 ghost use Rattle.mg_image.specs.Sound.{IsTablePointer};
 ghost use Rattle.mg_image.specs.Tables.{EachFrom, PointerChain, entries_in};
 
 use crate::image::Image;
 use crate::point::{ReadFault, Rule};
-use mg_base::{GREATEST_LIMIT, Memory, get_u16, get_u32};
+use mg_base::{Memory, get_u16, get_u32};
 use mg_pointer::{COUNT_AT, ENTRIES_AT, ENTRY_LEN, next_of};
 use std::alloc::Global;
 
@@ -36,8 +36,7 @@ fn add_entries(page: &[u8], data_pages: &mut Vec<u32>) -> Result<(), Memory>
 ///
 /// # Errors
 ///
-/// `Broken`: a page of the chain is not as wanted, or the chain has more pages than the image;
-/// `Memory`.
+/// `Broken` only where a page of the chain is not as wanted; `Memory`.
 pub fn table_pages(alloc: Global, image: &Image, owner: u32) -> Result<TablePages, ReadFault>
     ensures chain { IfOk result (λ table.
         PointerChain (pages_in image.now) owner table.pointers.items) }
@@ -46,16 +45,14 @@ pub fn table_pages(alloc: Global, image: &Image, owner: u32) -> Result<TablePage
         table.pointers.items) }
     ensures entries { IfOk result (λ table.
         table.data_pages.items ≡ entries_in (pages_in image.now) table.pointers.items) }
+    ensures broken { IfErr result (Refutes
+        (HasPointers image.now.size (pages_in image.now) owner)) }
 {
     let mut pointers = Vec::new(alloc);
     let mut data_pages = Vec::new(alloc);
     let mut n = owner;
     while n != 0 {
-        let at = pointers.len();
-        if at >= GREATEST_LIMIT as usize {
-            return Err(ReadFault::Broken(Rule::Once));
-        }
-        if !image.is_pointer(n, owner, at as u32) {
+        if !image.is_pointer(n, owner, pointers.len()) {
             return Err(ReadFault::Broken(Rule::Pages));
         }
         add_entries(image.page(n), &mut data_pages)?;

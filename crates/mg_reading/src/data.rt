@@ -1,15 +1,15 @@
 //! The data pages of a table, and their cells.
 
-ghost use Rattle.std.specs.Prelude.{◌≡◌, ℕ, false, ◌<◌, ◌^◌, List, OnOk, Some, length};
-ghost use Rattle.mg_slots.specs.DataPage.{IsDataPage, cell_of};
+ghost use Rattle.std.specs.Prelude.{false, ◌<◌, ◌^◌, IfErr, OnOk, length};
+ghost use Rattle.mg_slots.specs.DataPage.{IsDataPage};
+ghost use Rattle.mg_reading.specs.Readable.{HasCells, Refutes};
 ghost use Rattle.mg_reading.specs.ImageView.{pages_in};
 ghost use Rattle.mg_image.specs.Sound.{IsCellOf, IsTableData};
 ghost use Rattle.mg_image.specs.Tables.{EachFrom};
 
 use crate::image::Image;
 use crate::point::{ReadFault, Rule};
-use mg_base::{GREATEST_LIMIT, PageNo, check_common};
-use mg_slots::{DATA_KIND, cell, check_data, slots};
+use mg_slots::{cell, slots};
 use mg_version::{CellFault, read_cell};
 use std::alloc::Global;
 
@@ -17,10 +17,11 @@ use std::alloc::Global;
 ///
 /// # Errors
 ///
-/// `Broken` where they spell none; `Memory`.
+/// `Broken` only where they spell none; `Memory`.
 fn check_cell(alloc: Global, bytes: &[u8]) -> Result<(), ReadFault>
     requires { length bytes.now < 2 ^ 31 }
-    ensures { OnOk result (IsCellOf false bytes.now) }
+    ensures cell { OnOk result (IsCellOf false bytes.now) }
+    ensures broken { IfErr result (Refutes (IsCellOf false bytes.now)) }
 {
     match read_cell(alloc, bytes) {
         Ok(_) => Ok(()),
@@ -33,11 +34,11 @@ fn check_cell(alloc: Global, bytes: &[u8]) -> Result<(), ReadFault>
 ///
 /// # Errors
 ///
-/// `Broken` where some bytes spell no cell; `Memory`.
+/// `Broken` only where some bytes spell no cell; `Memory`.
 fn check_cells(alloc: Global, page: &[u8]) -> Result<(), ReadFault>
     requires { IsDataPage page.now }
-    ensures { OnOk result ((slot : ℕ) (bytes : List ℕ) → cell_of page.now slot ≡ Some bytes
-        → IsCellOf false bytes) }
+    ensures cells { OnOk result (HasCells page.now) }
+    ensures broken { IfErr result (Refutes (HasCells page.now)) }
 {
     for slot in 0..slots(page) {
         if let Some(bytes) = cell(page, slot) {
@@ -51,37 +52,36 @@ fn check_cells(alloc: Global, page: &[u8]) -> Result<(), ReadFault>
 ///
 /// # Errors
 ///
-/// `Broken` where the page or a cell of it is not as wanted; `Memory`.
-fn check_page(alloc: Global, image: &Image, owner: u32, at: u32, n: u32) -> Result<(), ReadFault>
-    ensures { OnOk result (IsTableData false image.now.size (pages_in image.now) owner at n) }
+/// `Broken` only where the page or a cell of it is not as wanted; `Memory`.
+fn check_page(alloc: Global, image: &Image, owner: u32, at: usize, n: u32) -> Result<(), ReadFault>
+    ensures data { OnOk result (IsTableData false image.now.size (pages_in image.now) owner at n) }
+    ensures broken { IfErr result (Refutes
+        (IsTableData false image.now.size (pages_in image.now) owner at n)) }
 {
-    let page = image.page(n);
-    let common = check_common(page, PageNo(n), DATA_KIND, owner, at);
-    if !image.is_as_wanted(n, common) || check_data(page, PageNo(n), owner, at).is_err() {
+    if !image.is_data(n, owner, at) {
         return Err(ReadFault::Broken(Rule::Pages));
     }
-    check_cells(alloc, page)
+    check_cells(alloc, image.page(n))
 }
 
 /// Tests the data pages of an owner, in the order of their places.
 ///
 /// # Errors
 ///
-/// `Broken` where one is not as wanted, or there are more than the image has pages; `Memory`.
+/// `Broken` only where one is not as wanted; `Memory`.
 pub fn check_data_pages(
     alloc: Global,
     image: &Image,
     owner: u32,
     data_pages: &[u32],
 ) -> Result<(), ReadFault>
-    ensures { OnOk result
+    ensures data { OnOk result
         (EachFrom (IsTableData false image.now.size (pages_in image.now) owner) 0 data_pages.now) }
+    ensures broken { IfErr result (Refutes
+        (EachFrom (IsTableData false image.now.size (pages_in image.now) owner) 0 data_pages.now)) }
 {
     for (at, n) in data_pages.iter().enumerate() {
-        if at >= GREATEST_LIMIT as usize {
-            return Err(ReadFault::Broken(Rule::Once));
-        }
-        check_page(alloc, image, owner, at as u32, *n)?;
+        check_page(alloc, image, owner, at, *n)?;
     }
     Ok(())
 }

@@ -41,7 +41,8 @@ pub(crate) fn erased_shape(alloc: Global, shape: &Shape) -> Result<Shape, Memory
 
 /// Whether a row has NULL in each column but the key.
 pub(crate) fn is_key_alone(values: &[Value], key: usize) -> bool
-    ensures { IsTrue result → (i : ℕ) → i ≢ key → get_or values.now i NoValue ≡ NoValue }
+    ensures { IsTrue result
+        ↔ ((i : ℕ) → i ≢ key → get_or values.now i NoValue ≡ NoValue) }
 {
     for (at, value) in values.iter().enumerate() {
         if at != key && !value.is_null() {

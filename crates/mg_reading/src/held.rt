@@ -5,6 +5,7 @@ ghost use Rattle.mg_reading.specs.FirstBroken.{IsFirstBroken};
 ghost use Rattle.mg_reading.specs.Found.{committed_of};
 ghost use Rattle.mg_reading.specs.HeldTable.{AreHeld, IsTableHeld, rows_shown};
 ghost use Rattle.mg_reading.specs.ImageView.{pages_in};
+ghost use Rattle.mg_reading.specs.Readable.{IsReadable, IsReadableImage, Refutes};
 ghost use Rattle.mg_image.specs.Sound.{HasHeader, HasInventory, HasNoOldLimbo, HasTransactions};
 
 use crate::found::Found;
@@ -68,7 +69,7 @@ pub fn check_image(image: &Image) -> Result<(), ReadFault>
 ///
 /// # Errors
 ///
-/// `Broken` with the first rule found broken; `Memory`.
+/// `Broken` only where a rule is broken, with the first one found so; `Memory`.
 pub fn table_rows(
     alloc: Global,
     image: &Image,
@@ -76,7 +77,8 @@ pub fn table_rows(
     coding: RowCoding,
 ) -> Result<TableRows, ReadFault>
     requires { length table.now.shape.columns ≤ MOST_COLUMNS }
-    ensures { IfOk result (λ held. IsTableHeld coding image.now table.now held.rows.items) }
+    ensures held { IfOk result (λ held. IsTableHeld coding image.now table.now held.rows.items) }
+    ensures broken { IfErr result (Refutes (IsReadable coding image.now table.now)) }
 {
     let read = read_table(alloc, image, table, coding)?;
     let rows = shown_rows(alloc, image, &read.found)?;
@@ -88,7 +90,7 @@ pub fn table_rows(
 ///
 /// # Errors
 ///
-/// `Broken` with the first rule found broken; `Memory`.
+/// `Broken` only where a rule is broken, with the first one found so; `Memory`.
 pub fn holds(
     alloc: Global,
     image: &Image,
@@ -101,6 +103,7 @@ pub fn holds(
     ensures inventory { IfOk result (λ held. HasInventory image.now.size (pages_in image.now)) }
     ensures limbo { IfOk result (λ held. HasNoOldLimbo image.now.size (pages_in image.now)) }
     ensures tables { IfOk result (λ held. AreHeld coding image.now tables.now held.items) }
+    ensures broken { IfErr result (Refutes (IsReadableImage coding image.now tables.now)) }
 {
     check_image(image)?;
     let mut held = Vec::new(alloc);

@@ -1,5 +1,8 @@
 //! Why an image is refused: the rule of a sound image that it breaks first.
 
+ghost use Rattle.std.specs.Prelude.{◌≡◌};
+ghost use Rattle.mg_reading.specs.declared.point.ReadFault.TheVariants as faults;
+
 use mg_base::Memory;
 use std::alloc::{AllocError, AllocFailed};
 use std::fmt;
@@ -53,18 +56,24 @@ impl fmt::Display for Rule {
 }
 
 impl From<Memory> for ReadFault {
+    ghost from_gives = { λ _ fault. fault ≡ faults.Memory };
+
     fn from(_: Memory) -> ReadFault {
         ReadFault::Memory
     }
 }
 
 impl From<AllocError> for ReadFault {
+    ghost from_gives = { λ _ fault. fault ≡ faults.Memory };
+
     fn from(_: AllocError) -> ReadFault {
         ReadFault::Memory
     }
 }
 
 impl<T: Drop> From<AllocFailed<T>> for ReadFault {
+    ghost from_gives = { λ _ fault. fault ≡ faults.Memory };
+
     fn from(_: AllocFailed<T>) -> ReadFault {
         ReadFault::Memory
     }

@@ -1,12 +1,13 @@
 //! The records of a table: what is read of each primary slot, and the rows that are shown.
 
-ghost use Rattle.std.specs.Prelude.{◌≡◌, ◌≤◌, false, IfOk, MatchOption, None, OnOk, Some, length};
+ghost use Rattle.std.specs.Prelude.{◌≡◌, ◌≤◌, false, IfErr, IfOk, MatchOption, None, OnOk, Some, length};
 ghost use Rattle.mg_slots.specs.DataPage.{slot_count};
 ghost use Rattle.mg_reading.specs.Found.{AreFound, IsFound, KeepsRead, PagesRead, SlotsRead, committed_of};
 ghost use Rattle.mg_reading.specs.ImageView.{pages_in};
-ghost use Rattle.mg_image.specs.Records.{newest_of, shown as shown_by};
+ghost use Rattle.mg_image.specs.Records.{cells_of, newest_of, shown as shown_by};
+ghost use Rattle.mg_reading.specs.Readable.{HasReading, HasRecord, Refutes};
 ghost use Rattle.mg_image.specs.Sound.{IsTableData};
-ghost use Rattle.mg_image.specs.Tables.{EachFrom};
+ghost use Rattle.mg_image.specs.Tables.{EachFrom, Has};
 
 use crate::found::Found;
 use crate::image::Image;
@@ -74,8 +75,12 @@ fn read_slot(
     requires columns { length table.now.shape.columns ≤ MOST_COLUMNS }
     requires tested { EachFrom (IsTableData false image.now.size (pages_in image.now)
         table.now.pointer.0) 0 data_pages.now }
+    requires placed { Has data_pages.now p.page.0 }
     ensures found { IfOk result (IsFound coding image.now table.now data_pages.now) }
     ensures at { IfOk result (λ found. found.at ≡ p) }
+    ensures broken { IfErr result (Refutes
+        (HasRecord coding image.now table.now data_pages.now
+        (newest_of p (cells_of (pages_in image.now) p)))) }
 {
     let cell = cell_at(alloc, image, table.pointer.0, data_pages, p)?;
     let entries = read_record(alloc, image, table, coding, data_pages, newest(p, &cell))?;
@@ -95,11 +100,14 @@ fn read_page(
     requires columns { length table.now.shape.columns ≤ MOST_COLUMNS }
     requires tested { EachFrom (IsTableData false image.now.size (pages_in image.now)
         table.now.pointer.0) 0 data_pages.now }
+    requires placed { Has data_pages.now n }
     ensures found { OnOk result (AreFound coding image.now table.now data_pages.now found.old.items
         → AreFound coding image.now table.now data_pages.now found.new.items) }
     ensures slots { OnOk result
         (SlotsRead found.new.items n (slot_count (pages_in image.now n))) }
     ensures before { OnOk result (KeepsRead found.old.items found.new.items) }
+    ensures broken { IfErr result (Refutes
+        (HasReading coding image.now table.now data_pages.now)) }
 {
     for slot in 0..get_u16(image.page(n), COUNT_AT) {
         let p = RecId {
@@ -115,7 +123,7 @@ fn read_page(
 ///
 /// # Errors
 ///
-/// `Broken` where a record breaks a rule; `Memory`.
+/// `Broken` only where the records are not lawful; `Memory`.
 pub fn read_records(
     alloc: Global,
     image: &Image,
@@ -129,6 +137,8 @@ pub fn read_records(
     ensures found { IfOk result (λ found.
         AreFound coding image.now table.now data_pages.now found.items) }
     ensures all { IfOk result (λ found. PagesRead image.now found.items data_pages.now) }
+    ensures broken { IfErr result (Refutes
+        (HasReading coding image.now table.now data_pages.now)) }
 {
     let mut found = Vec::new(alloc);
     for n in data_pages {

@@ -1,15 +1,15 @@
 //! A record of a table: its versions, the newest first, each tested.
 
-ghost use Rattle.std.specs.Prelude.{◌≡◌, ◌≤◌, false, IfOk, IsTrue, OnOk, length};
-ghost use Rattle.mg_reading.specs.Codings.{coding_of};
+ghost use Rattle.std.specs.Prelude.{◌≡◌, ◌≤◌, ◌↔◌, false, IfErr, IfOk, IsTrue, OnOk, length};
 ghost use Rattle.mg_base.specs.declared.transaction.TxState.TheVariants.{Committed};
 ghost use Rattle.std.proofs.Common.{get_or};
 ghost use Rattle.mg_value.specs.declared.value.Value.TheVariants.{Null as NoValue};
 ghost use Rattle.mg_reading.specs.ImageView.{pages_in};
 ghost use Rattle.mg_image.specs.Inventory.{state_at};
-ghost use Rattle.mg_reading.specs.OneTable.{IsLawful, IsLinked, table_facts};
-ghost use Rattle.mg_image.specs.RecordRules.{AreOnce, Each, EachBack, IsRecord};
-ghost use Rattle.mg_image.specs.Records.{Chain, Stands, cells_of, key_of, record_key, writer};
+ghost use Rattle.mg_reading.specs.OneTable.{IsLawful, IsLinked, IsPlaced};
+ghost use Rattle.mg_reading.specs.Readable.{AreBacksCommitted, HasEntry, HasRecord, HaveOneKey, IsOnlyRecord, IsRecordFrom, Refutes};
+ghost use Rattle.mg_image.specs.RecordRules.{AreOnce, Each};
+ghost use Rattle.mg_image.specs.Records.{Chain, Stands, cells_of, key_of, writer};
 ghost use Rattle.mg_image.specs.Sound.{IsTableData};
 ghost use Rattle.mg_image.specs.Tables.{EachFrom};
 
@@ -18,21 +18,18 @@ use crate::point::{ReadFault, Rule};
 use crate::rows::RowCoding;
 use crate::versions::{is_drawn, version_at, version_row};
 use mg_base::{RecId, TxState};
-use mg_image::Entry;
+use mg_image::{Entry, one_reading};
 use mg_model::Table;
 use mg_value::{MOST_COLUMNS, Value, order, values_are_ordered};
 use mg_version::Link;
 use std::alloc::Global;
 use std::cmp::Ordering;
 
-/// More versions than any image has cells.
-const MOST_VERSIONS: usize = 1 << 31;
-
 /// The version that a link leads to, with its row, tested by itself.
 ///
 /// # Errors
 ///
-/// `Broken` where there is none, or it breaks a rule; `Memory`.
+/// `Broken` only where there is none that is lawful; `Memory`.
 fn read_entry(
     alloc: Global,
     image: &Image,
@@ -46,6 +43,9 @@ fn read_entry(
         table.now.pointer.0) 0 data_pages.now }
     ensures linked { IfOk result (IsLinked image.now link) }
     ensures lawful { IfOk result (IsLawful coding image.now table.now data_pages.now) }
+    ensures placed { IfOk result IsPlaced }
+    ensures broken { IfErr result (Refutes
+        (HasEntry coding image.now table.now data_pages.now link)) }
 {
     let version = version_at(alloc, image, table.pointer.0, data_pages, link)?;
     if !is_drawn(image, version.tx.0) {
@@ -66,7 +66,7 @@ fn read_entry(
 ///
 /// # Errors
 ///
-/// `Broken` where a link meets no version, or a version breaks a rule; `Memory`.
+/// `Broken` only where there is no lawful record of these versions; `Memory`.
 fn read_versions(
     alloc: Global,
     image: &Image,
@@ -81,11 +81,17 @@ fn read_versions(
     ensures chain { IfOk result (λ es. Chain (cells_of (pages_in image.now)) newest es.items) }
     ensures lawful { IfOk result (λ es.
         Each (IsLawful coding image.now table.now data_pages.now) es.items) }
+    ensures once { IfOk result (λ es. AreOnce es.items) }
+    ensures only { IfOk result (λ es.
+        IsOnlyRecord coding image.now table.now data_pages.now newest es.items) }
+    ensures broken { IfErr result (Refutes
+        (HasRecord coding image.now table.now data_pages.now newest)) }
 {
+    one_reading();
     let mut entries = Vec::new(alloc);
     let mut next = newest;
     while let Some(link) = next {
-        if entries.len() >= MOST_VERSIONS || stands(&entries, link.rec) {
+        if stands(&entries, link.rec) {
             return Err(ReadFault::Broken(Rule::Once));
         }
         let entry = read_entry(alloc, image, table, coding, data_pages, link)?;
@@ -97,33 +103,21 @@ fn read_versions(
 
 /// Whether a cell is one of those of these versions.
 pub(crate) fn stands(entries: &[Entry], x: RecId) -> bool
-    ensures { Stands entries.now x → IsTrue result }
+    ensures { IsTrue result ↔ Stands entries.now x }
 {
-    for entry in entries {
+    let mut rest = entries;
+    while let Some((entry, older)) = rest.split_first() {
         if entry.at == x {
             return true;
         }
+        rest = older;
     }
     false
 }
 
-/// Whether no cell stands twice among these versions.
-fn are_once(entries: &[Entry]) -> bool
-    ensures { IsTrue result → AreOnce entries.now }
-{
-    let mut rest = entries;
-    while let Some((entry, older)) = rest.split_first() {
-        if stands(older, entry.at) {
-            return false;
-        }
-        rest = older;
-    }
-    true
-}
-
-/// The value at a place of a row, NULL past its end.
+/// Whether a row has this value at a place, NULL past its end.
 fn has_value(values: &[Value], at: usize, key: &Value) -> bool
-    ensures { IsTrue result → get_or values.now at NoValue ≡ key.now }
+    ensures { IsTrue result ↔ (get_or values.now at NoValue ≡ key.now) }
 {
     values_are_ordered();
     match values.get(at) {
@@ -132,27 +126,42 @@ fn has_value(values: &[Value], at: usize, key: &Value) -> bool
     }
 }
 
-/// Whether the rows of these versions have this key.
-fn have_key(table: &Table, entries: &[Entry], key: &Value) -> bool
-    ensures { IsTrue result → Each (λ e. key_of table.now e.row ≡ key.now) entries.now }
+/// Whether two rows have the same value at a place, NULL past their ends.
+pub(crate) fn have_same_value(a: &[Value], b: &[Value], at: usize) -> bool
+    ensures { IsTrue result ↔ (get_or a.now at NoValue ≡ get_or b.now at NoValue) }
 {
-    for entry in entries {
-        if !has_value(entry.row.as_slice(), usize::from(table.shape.key), key) {
+    match b.get(at) {
+        Some(value) => has_value(a, at, value),
+        None => has_value(a, at, &Value::Null),
+    }
+}
+
+/// Whether the rows of these versions have the key that a row has.
+fn have_key(table: &Table, entries: &[Entry], row: &[Value]) -> bool
+    ensures { IsTrue result ↔ Each (λ e. key_of table.now e.row ≡ key_of table.now row.now)
+        entries.now }
+{
+    let mut rest = entries;
+    while let Some((entry, older)) = rest.split_first() {
+        if !have_same_value(entry.row.as_slice(), row, usize::from(table.shape.key)) {
             return false;
         }
+        rest = older;
     }
     true
 }
 
 /// Whether each of these versions is of a committed transaction.
 fn are_committed(image: &Image, entries: &[Entry]) -> bool
-    ensures { IsTrue result → Each (λ e.
+    ensures { IsTrue result ↔ Each (λ e.
         state_at image.now.size (pages_in image.now) (writer e) ≡ Committed) entries.now }
 {
-    for entry in entries {
+    let mut rest = entries;
+    while let Some((entry, older)) = rest.split_first() {
         if image.state(entry.version.tx.0) != TxState::Committed {
             return false;
         }
+        rest = older;
     }
     true
 }
@@ -161,27 +170,20 @@ fn are_committed(image: &Image, entries: &[Entry]) -> bool
 ///
 /// # Errors
 ///
-/// `Broken` where a cell stands twice, a back version is not committed, or two keys differ.
+/// `Broken` only where a back version is not committed, or two keys differ.
 fn check_versions(image: &Image, table: &Table, entries: &[Entry]) -> Result<(), ReadFault>
-    ensures once { OnOk result (AreOnce entries.now) }
-    ensures backs { OnOk result (EachBack (λ e.
-        state_at image.now.size (pages_in image.now) (writer e) ≡ Committed) entries.now) }
-    ensures keys { OnOk result
-        (Each (λ e. key_of table.now e.row ≡ record_key table.now entries.now) entries.now) }
+    ensures backs { OnOk result (AreBacksCommitted image.now entries.now) }
+    ensures keys { OnOk result (HaveOneKey table.now entries.now) }
+    ensures broken { IfErr result (Refutes
+        (AreBacksCommitted image.now entries.now × HaveOneKey table.now entries.now)) }
 {
     let Some((newest, older)) = entries.split_first() else {
         return Ok(());
     };
-    if !are_once(entries) {
-        return Err(ReadFault::Broken(Rule::Once));
-    }
     if !are_committed(image, older) {
         return Err(ReadFault::Broken(Rule::Backs));
     }
-    let Some(key) = newest.row.as_slice().get(usize::from(table.shape.key)) else {
-        return Err(ReadFault::Broken(Rule::Pages));
-    };
-    if !have_key(table, entries, key) {
+    if !have_key(table, entries, newest.row.as_slice()) {
         return Err(ReadFault::Broken(Rule::Keys));
     }
     Ok(())
@@ -191,7 +193,7 @@ fn check_versions(image: &Image, table: &Table, entries: &[Entry]) -> Result<(),
 ///
 /// # Errors
 ///
-/// `Broken` where they are not those of a lawful record of the table; `Memory`.
+/// `Broken` only where there is no lawful record of these versions; `Memory`.
 pub fn read_record(
     alloc: Global,
     image: &Image,
@@ -203,9 +205,12 @@ pub fn read_record(
     requires columns { length table.now.shape.columns ≤ MOST_COLUMNS }
     requires tested { EachFrom (IsTableData false image.now.size (pages_in image.now)
         table.now.pointer.0) 0 data_pages.now }
-    ensures chain { IfOk result (λ es. Chain (cells_of (pages_in image.now)) newest es.items) }
-    ensures lawful { IfOk result (λ es. IsRecord (coding_of coding)
-        (table_facts image.now table.now data_pages.now) table.now es.items) }
+    ensures record { IfOk result (λ es.
+        IsRecordFrom coding image.now table.now data_pages.now newest es.items) }
+    ensures only { IfOk result (λ es.
+        IsOnlyRecord coding image.now table.now data_pages.now newest es.items) }
+    ensures broken { IfErr result (Refutes
+        (HasRecord coding image.now table.now data_pages.now newest)) }
 {
     let entries = read_versions(alloc, image, table, coding, data_pages, newest)?;
     check_versions(image, table, &entries)?;

@@ -1,15 +1,17 @@
 //! The rows of versions: how they are coded, and under which columns.
 
-ghost use Rattle.std.specs.Prelude.{◌≡◌, ◌<◌, ◌≤◌, ◌^◌, IfOk, IsTrue, length};
+ghost use Rattle.std.specs.Prelude.{◌≡◌, ◌<◌, ◌≤◌, ◌^◌, false, IfErr, IfOk, IsTrue, length};
 ghost use Rattle.mg_rowcode.specs.Faults.{DecodesTo};
 ghost use Rattle.mg_rowcode.specs.Storable.{AreStorable, IsStorable};
 ghost use Rattle.mg_image.specs.Form.{IsPlainRow};
 ghost use Rattle.mg_reading.specs.Codings.{RowSpelled};
+ghost use Rattle.mg_reading.specs.LongTexts.{HasLongText, IsLongText};
+ghost use Rattle.mg_reading.specs.Readable.{CodesRow, Refutes};
 
 use crate::point::{ReadFault, Rule};
-use mg_rle::{one_plain_text, pack};
+use mg_rle::{one_plain_text, one_verdict, pack};
 use mg_rowcode::{RowFault, decode_row};
-use mg_value::{MOST_COLUMNS, Row, Shape, Value};
+use mg_value::{MOST_COLUMNS, Row, Shape, Value, columns_len};
 use std::alloc::Global;
 
 /// How rows stand in versions.
@@ -25,8 +27,12 @@ pub enum RowCoding {
 fn packed_row(alloc: Global, shape: &Shape, format: u16, body: &[u8]) -> Result<Row, ReadFault>
     requires columns { length shape.now.columns ≤ MOST_COLUMNS }
     requires len { length body.now < 2 ^ 31 }
-    ensures { IfOk result (λ row. DecodesTo shape.now.columns format body.now row) }
+    ensures row { IfOk result (λ row. DecodesTo shape.now.columns format body.now row) }
+    ensures broken { IfErr result (Refutes
+        (CodesRow (RowCoding.Packed) shape.now.columns format body.now)) }
 {
+    one_plain_text();
+    one_verdict();
     match decode_row(alloc, shape, format, body) {
         Ok(row) => Ok(row),
         Err(RowFault::Memory) => Err(ReadFault::Memory),
@@ -38,13 +44,13 @@ fn packed_row(alloc: Global, shape: &Shape, format: u16, body: &[u8]) -> Result<
 /// The row that plain bytes are: they are packed, and that is decoded.
 fn plain_row(alloc: Global, shape: &Shape, format: u16, body: &[u8]) -> Result<Row, ReadFault>
     requires columns { length shape.now.columns ≤ MOST_COLUMNS }
-    ensures { IfOk result (λ row. IsPlainRow shape.now.columns format body.now row) }
+    requires len { length body.now < 2 ^ 30 }
+    ensures row { IfOk result (λ row. IsPlainRow shape.now.columns format body.now row) }
+    ensures broken { IfErr result (Refutes
+        (CodesRow (RowCoding.Plain) shape.now.columns format body.now)) }
 {
     let mut packed = Vec::new(alloc);
     pack(body, &mut packed)?;
-    if packed.len() >= 1 << 31 {
-        return Err(ReadFault::Broken(Rule::Pages));
-    }
     one_plain_text();
     packed_row(alloc, shape, format, &packed)
 }
@@ -58,8 +64,10 @@ fn spelled_row(
     body: &[u8],
 ) -> Result<Row, ReadFault>
     requires columns { length shape.now.columns ≤ MOST_COLUMNS }
-    requires len { length body.now < 2 ^ 31 }
-    ensures { IfOk result (λ row. RowSpelled coding shape.now.columns format body.now row) }
+    requires len { length body.now < 2 ^ 30 }
+    ensures row { IfOk result (λ row. RowSpelled coding shape.now.columns format body.now row) }
+    ensures broken { IfErr result (Refutes
+        (CodesRow coding shape.now.columns format body.now)) }
 {
     match coding {
         RowCoding::Plain => plain_row(alloc, shape, format, body),
@@ -70,7 +78,8 @@ fn spelled_row(
 /// Whether the program has such a value: it has every number of 64 bits, and no longer text than a
 /// column may allow.
 fn is_storable(value: &Value) -> bool
-    ensures { IsTrue result → IsStorable value.now }
+    ensures storable { IsTrue result → IsStorable value.now }
+    ensures long { result ≡ false → IsLongText value.now }
 {
     match value {
         Value::Null => true,
@@ -84,7 +93,8 @@ fn is_storable(value: &Value) -> bool
 
 /// Whether the program has such values.
 fn are_storable(values: &[Value]) -> bool
-    ensures { IsTrue result → AreStorable values.now }
+    ensures storable { IsTrue result → AreStorable values.now }
+    ensures long { result ≡ false → HasLongText values.now }
 {
     for value in values {
         if !is_storable(value) {
@@ -98,7 +108,7 @@ fn are_storable(values: &[Value]) -> bool
 ///
 /// # Errors
 ///
-/// `Broken` where it codes none; `Memory`.
+/// `Broken` only where it codes none; `Memory`.
 pub fn row_of(
     alloc: Global,
     coding: RowCoding,
@@ -107,10 +117,13 @@ pub fn row_of(
     body: &[u8],
 ) -> Result<Row, ReadFault>
     requires columns { length shape.now.columns ≤ MOST_COLUMNS }
-    requires len { length body.now < 2 ^ 31 }
+    requires len { length body.now < 2 ^ 30 }
     ensures spelled { IfOk result (λ row. RowSpelled coding shape.now.columns format body.now row) }
     ensures storable { IfOk result AreStorable }
+    ensures broken { IfErr result (Refutes
+        (CodesRow coding shape.now.columns format body.now)) }
 {
+    columns_len(shape.columns.as_slice());
     let row = spelled_row(alloc, coding, shape, format, body)?;
     if !are_storable(row.as_slice()) {
         return Err(ReadFault::Broken(Rule::Pages));

@@ -1,6 +1,6 @@
 //! The rules of a sound image that speak of the header, of transactions and of used pages.
 
-ghost use Rattle.std.specs.Prelude.{◌≡◌, ◌↔◌, ◌<◌, ◌≤◌, true, List, IsTrue, length, replicate};
+ghost use Rattle.std.specs.Prelude.{◌≡◌, ◌↔◌, ◌<◌, ◌≤◌, ◌^◌, true, List, IsTrue, length, replicate};
 ghost use Rattle.mg_base.specs.Checks.{Check, verdict};
 ghost use Rattle.mg_base.specs.declared.geometry.TheConstants.{GREATEST_LIMIT};
 ghost use Rattle.mg_base.specs.declared.transaction.TxState.TheVariants.{Limbo};
@@ -8,13 +8,15 @@ ghost use Rattle.mg_pip.specs.PipPage.{pip_checks};
 ghost use Rattle.mg_pointer.specs.PointerPage.{IsPointerPage};
 ghost use Rattle.mg_tip.specs.TipPage.{tip_checks};
 ghost use Rattle.mg_reading.specs.ImageView.{pages_in};
+ghost use Rattle.mg_reading.specs.Readable.{HasSlots};
 ghost use Rattle.mg_image.specs.Inventory.{is_used as used_in};
 ghost use Rattle.mg_image.specs.Opening.{IsBlank};
 ghost use Rattle.mg_image.specs.Reached.{IsAsWanted};
 ghost use Rattle.mg_image.specs.Sound.{HasHeader, HasInventory, HasNoOldLimbo, HasNoneUndrawn, HasRegion, HasTips, HasTransactions, IsTablePointer, IsUndrawn};
 
 use crate::image::Image;
-use mg_base::{Damaged, GREATEST_LIMIT, PageNo, TxState};
+use mg_base::{Damaged, GREATEST_LIMIT, PageNo, SEQUENCE_AT, TxState, check_common, get_u32};
+use mg_slots::{DATA_KIND, check_data};
 
 impl Image {
     /// Whether the header's fields are lawful.
@@ -50,8 +52,9 @@ impl Image {
         self.is_as_wanted(n, mg_tip::check_tip(self.page(n), PageNo(n), sequence))
     }
 
-    /// Whether a page is as wanted for a pointer page of an owner, at a place of its chain.
-    pub fn is_pointer(&self, n: u32, owner: u32, at: u32) -> bool
+    /// Whether a page is as wanted for a pointer page of an owner, at the place of its chain that
+    /// it names itself.
+    fn is_pointer_there(&self, n: u32, owner: u32, at: u32) -> bool
         ensures wanted { IsTrue result
             ↔ IsTablePointer self.now.size (pages_in self.now) owner at n }
         ensures lawful { IsTrue result → IsPointerPage (pages_in self.now n) }
@@ -60,6 +63,44 @@ impl Image {
             n,
             mg_pointer::check_pointer(self.page(n), PageNo(n), owner, at),
         )
+    }
+
+    /// Whether a page is as wanted for a pointer page of an owner, at a place of its chain.
+    pub fn is_pointer(&self, n: u32, owner: u32, at: usize) -> bool
+        ensures wanted { IsTrue result
+            ↔ IsTablePointer self.now.size (pages_in self.now) owner at n }
+        ensures lawful { IsTrue result → IsPointerPage (pages_in self.now n) }
+        ensures small { IsTrue result → at < 2 ^ 32 }
+    {
+        let place = get_u32(self.page(n), SEQUENCE_AT);
+        if place as usize != at {
+            return false;
+        }
+        self.is_pointer_there(n, owner, place)
+    }
+
+    /// Whether the common part of a page is as wanted for a data page of an owner, at the place of
+    /// the entries that it names itself, and its slots are lawful.
+    fn is_data_there(&self, n: u32, owner: u32, at: u32) -> bool
+        ensures { IsTrue result
+            ↔ HasSlots self.now.size (pages_in self.now) owner at n }
+    {
+        let page = self.page(n);
+        let common = check_common(page, PageNo(n), DATA_KIND, owner, at);
+        self.is_as_wanted(n, common) && check_data(page, PageNo(n), owner, at).is_ok()
+    }
+
+    /// Whether the common part of a page is as wanted for a data page of an owner, at a place of
+    /// the entries, and its slots are lawful.
+    pub(crate) fn is_data(&self, n: u32, owner: u32, at: usize) -> bool
+        ensures { IsTrue result
+            ↔ HasSlots self.now.size (pages_in self.now) owner at n }
+    {
+        let place = get_u32(self.page(n), SEQUENCE_AT);
+        if place as usize != at {
+            return false;
+        }
+        self.is_data_there(n, owner, place)
     }
 
     /// Whether a page is as wanted for the page inventory page of a region.

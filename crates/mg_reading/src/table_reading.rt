@@ -1,10 +1,11 @@
 //! One table of an image, whole.
 
-ghost use Rattle.std.specs.Prelude.{◌≡◌, ◌≤◌, false, IfOk, length};
+ghost use Rattle.std.specs.Prelude.{◌≡◌, ◌≤◌, false, IfErr, IfOk, length};
 ghost use Rattle.mg_reading.specs.Codings.{coding_of};
 ghost use Rattle.mg_reading.specs.Found.{reading_of};
 ghost use Rattle.mg_reading.specs.ImageView.{pages_in};
 ghost use Rattle.mg_reading.specs.OneTable.{table_facts};
+ghost use Rattle.mg_reading.specs.Readable.{HasReading, IsReadable, Refutes};
 ghost use Rattle.mg_image.specs.RecordRules.{AreRecords};
 ghost use Rattle.mg_image.specs.Records.{cells_of};
 ghost use Rattle.mg_image.specs.Sound.{IsTableData, IsTablePointer};
@@ -40,9 +41,11 @@ fn table_records(
     requires columns { length table.now.shape.columns ≤ MOST_COLUMNS }
     requires tested { EachFrom (IsTableData false image.now.size (pages_in image.now)
         table.now.pointer.0) 0 data_pages.now }
-    ensures { IfOk result (λ found. AreRecords (coding_of coding)
+    ensures records { IfOk result (λ found. AreRecords (coding_of coding)
         (table_facts image.now table.now data_pages.now) (cells_of (pages_in image.now))
         (reading_of found.items)) }
+    ensures broken { IfErr result (Refutes
+        (HasReading coding image.now table.now data_pages.now)) }
 {
     let found = read_records(alloc, image, table, coding, data_pages)?;
     if !are_apart(&found) {
@@ -59,7 +62,7 @@ fn table_records(
 ///
 /// # Errors
 ///
-/// `Broken` with the first rule found broken; `Memory`.
+/// `Broken` only where a rule is broken, with the first one found so; `Memory`.
 pub fn read_table(
     alloc: Global,
     image: &Image,
@@ -78,6 +81,7 @@ pub fn read_table(
     ensures records { IfOk result (λ read. AreRecords (coding_of coding)
         (table_facts image.now table.now read.pages.data_pages.items)
         (cells_of (pages_in image.now)) (reading_of read.found.items)) }
+    ensures broken { IfErr result (Refutes (IsReadable coding image.now table.now)) }
 {
     let pages = table_pages(alloc, image, table.pointer.0)?;
     check_data_pages(alloc, image, table.pointer.0, &pages.data_pages)?;

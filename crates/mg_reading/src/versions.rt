@@ -1,17 +1,13 @@
 //! The versions of a record, as back pointers lead to them.
 
-ghost use Rattle.std.specs.Prelude.{◌≡◌, ◌↔◌, ◌≤◌, ◌<◌, ◌^◌, ℕ, true, false, IfOk, IsTrue, Some, length};
+ghost use Rattle.std.specs.Prelude.{◌≡◌, ◌↔◌, ◌≤◌, ◌<◌, ◌^◌, false, IfErr, IfOk, IsTrue, length};
 ghost use Rattle.mg_base.specs.declared.transaction.TxState.TheVariants.{Dead};
-ghost use Rattle.mg_rowcode.specs.Storable.{AreStorable};
 ghost use Rattle.mg_slots.specs.DataPage.{IsDataPage, cell_of};
-ghost use Rattle.mg_version.specs.declared.cell.Cell.TheVariants as cells;
-ghost use Rattle.mg_reading.specs.Codings.{RowSpelled};
 ghost use Rattle.mg_reading.specs.ImageView.{pages_in};
 ghost use Rattle.mg_image.specs.Inventory.{next_of, oldest_of, state_at};
-ghost use Rattle.mg_reading.specs.OneTable.{IsLawful, IsLinked};
-ghost use Rattle.mg_image.specs.RecordRules.{IsKeyAlone, columns_for};
-ghost use Rattle.mg_image.specs.Records.{Chain, cell_spelled, cells_of, slot_cell as slot_cell_of};
-ghost use Rattle.mg_image.specs.Sound.{IsTableData};
+ghost use Rattle.mg_reading.specs.Readable.{HasCells, HasVersion, HasVersionRow, IsVersionAt, IsVersionRow, Refutes};
+ghost use Rattle.mg_image.specs.Records.{cell_spelled, cells_of, slot_cell as slot_cell_of};
+ghost use Rattle.mg_image.specs.Sound.{IsCellOf, IsTableData};
 ghost use Rattle.mg_image.specs.Tables.{EachFrom, Has};
 
 use crate::erased::{erased_shape, is_key_alone};
@@ -19,6 +15,7 @@ use crate::image::Image;
 use crate::point::{ReadFault, Rule};
 use crate::rows::{RowCoding, row_of};
 use mg_base::{RecId, TxState};
+use mg_image::one_reading;
 use mg_model::Table;
 use mg_value::{MOST_COLUMNS, Row};
 use mg_version::{Cell, CellFault, Link, Version, read_cell};
@@ -39,7 +36,8 @@ fn has_page(pages: &[u32], n: u32) -> bool
 /// The cell that bytes spell.
 fn spelled_cell(alloc: Global, bytes: &[u8]) -> Result<Cell, ReadFault>
     requires { length bytes.now < 2 ^ 31 }
-    ensures { IfOk result (λ cell. cell ≡ cell_spelled bytes.now) }
+    ensures cell { IfOk result (λ cell. cell ≡ cell_spelled bytes.now) }
+    ensures broken { IfErr result (Refutes (IsCellOf false bytes.now)) }
 {
     match read_cell(alloc, bytes) {
         Ok(cell) => Ok(cell),
@@ -50,8 +48,10 @@ fn spelled_cell(alloc: Global, bytes: &[u8]) -> Result<Cell, ReadFault>
 
 /// The cell of a slot of a data page.
 fn slot_cell(alloc: Global, page: &[u8], slot: u16) -> Result<Option<Cell>, ReadFault>
-    requires { IsDataPage page.now }
-    ensures { IfOk result (λ cell. cell ≡ slot_cell_of (cell_of page.now slot)) }
+    requires lawful { IsDataPage page.now }
+    requires cells { HasCells page.now }
+    ensures cell { IfOk result (λ cell. cell ≡ slot_cell_of (cell_of page.now slot)) }
+    ensures memory { IfErr result (λ fault. fault ≡ ReadFault.Memory) }
 {
     match mg_slots::cell(page, slot) {
         None => Ok(None),
@@ -63,7 +63,7 @@ fn slot_cell(alloc: Global, page: &[u8], slot: u16) -> Result<Option<Cell>, Read
 ///
 /// # Errors
 ///
-/// `Broken` where the place is on none of them; `Memory`.
+/// `Broken` only where the place is on none of them; `Memory`.
 pub(crate) fn cell_at(
     alloc: Global,
     image: &Image,
@@ -75,6 +75,7 @@ pub(crate) fn cell_at(
         data_pages.now }
     ensures cell { IfOk result (λ cell. cell ≡ cells_of (pages_in image.now) x) }
     ensures placed { IfOk result (λ cell. Has data_pages.now x.page.0) }
+    ensures broken { IfErr result (Refutes (Has data_pages.now x.page.0)) }
 {
     if !has_page(data_pages, x.page.0) {
         return Err(ReadFault::Broken(Rule::Once));
@@ -86,7 +87,7 @@ pub(crate) fn cell_at(
 ///
 /// # Errors
 ///
-/// `Broken` where the link meets no version of the transaction that it names; `Memory`.
+/// `Broken` only where the link meets no version of the transaction that it names; `Memory`.
 pub(crate) fn version_at(
     alloc: Global,
     image: &Image,
@@ -96,10 +97,9 @@ pub(crate) fn version_at(
 ) -> Result<Version, ReadFault>
     requires { EachFrom (IsTableData false image.now.size (pages_in image.now) owner) 0
         data_pages.now }
-    ensures cell { IfOk result (λ v.
-        cells_of (pages_in image.now) link.rec ≡ Some (cells.Version v)) }
-    ensures tx { IfOk result (λ v. v.tx ≡ link.tx) }
-    ensures placed { IfOk result (λ v. Has data_pages.now link.rec.page.0) }
+    ensures version { IfOk result (IsVersionAt image.now data_pages.now link) }
+    ensures short { IfOk result (λ v. length v.body < 2 ^ 30) }
+    ensures broken { IfErr result (Refutes (HasVersion image.now data_pages.now link)) }
 {
     let Some(cell) = cell_at(alloc, image, owner, data_pages, link.rec)? else {
         return Err(ReadFault::Broken(Rule::Links));
@@ -118,9 +118,9 @@ pub(crate) fn version_at(
 
 /// Whether a transaction is drawn, and interesting where it is dead.
 pub(crate) fn is_drawn(image: &Image, t: u32) -> bool
-    ensures drawn { IsTrue result → t < next_of (pages_in image.now) }
-    ensures dead { IsTrue result → state_at image.now.size (pages_in image.now) t ≡ Dead
-        → oldest_of (pages_in image.now) ≤ t }
+    ensures { IsTrue result ↔ ((t < next_of (pages_in image.now))
+        × (state_at image.now.size (pages_in image.now) t ≡ Dead
+        → oldest_of (pages_in image.now) ≤ t)) }
 {
     t < image.next() && (t >= image.oldest() || image.state(t) != TxState::Dead)
 }
@@ -129,24 +129,21 @@ pub(crate) fn is_drawn(image: &Image, t: u32) -> bool
 ///
 /// # Errors
 ///
-/// `Broken` where its body codes no row of the table, or it is a deletion with more than its key;
-/// `Memory`.
+/// `Broken` only where its body codes no row of the table, or it is a deletion with more than its
+/// key; `Memory`.
 pub(crate) fn version_row(
     alloc: Global,
     table: &Table,
     coding: RowCoding,
     version: &Version,
 ) -> Result<Row, ReadFault>
-    requires { length table.now.shape.columns ≤ MOST_COLUMNS }
-    ensures spelled { IfOk result (λ row. RowSpelled coding
-        (columns_for table.now version.now.deleted) version.now.format version.now.body row) }
-    ensures storable { IfOk result AreStorable }
-    ensures erased { IfOk result (λ row. version.now.deleted ≡ true → IsKeyAlone table.now row) }
+    requires columns { length table.now.shape.columns ≤ MOST_COLUMNS }
+    requires len { length version.now.body < 2 ^ 30 }
+    ensures row { IfOk result (IsVersionRow coding table.now version.now) }
+    ensures broken { IfErr result (Refutes (HasVersionRow coding table.now version.now)) }
 {
+    one_reading();
     let body = version.body.as_slice();
-    if body.len() >= 1 << 31 {
-        return Err(ReadFault::Broken(Rule::Pages));
-    }
     if !version.deleted {
         return row_of(alloc, coding, &table.shape, version.format, body);
     }

@@ -1,5 +1,4 @@
-use Rattle.std.proofs.Common.{◌≡◌, ◌-◌, length}
-use Rattle.mg_base.specs.declared.geometry.TheConstants.{GREATEST_LIMIT}
+use Rattle.std.proofs.Common.{◌≡◌, ◌-◌, ◌^◌, length}
 use Rattle.mg_pointer.specs.PointerPage.{next_in}
 use Rattle.mg_reading.specs.ChainLaws.{IsRun}
 use Rattle.mg_reading.specs.ImageView.{pages_in}
@@ -14,4 +13,4 @@ invariant-loop-n l =
     × (l.data_pages.items ≡ entries_in (pages_in l.image) l.pointers.items)
 
 abbrev pub decreases-loop-n : goal.decreases-loop-n
-decreases-loop-n l = GREATEST_LIMIT - length l.pointers.items
+decreases-loop-n l = 2 ^ 32 - length l.pointers.items
