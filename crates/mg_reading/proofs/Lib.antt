@@ -12,3 +12,4 @@ pub mod OneVersionLemmas
 pub mod VersionsLemmas
 pub mod CountLemmas
 pub mod TableLemmas
+pub mod SoundLemmas

@@ -9,3 +9,4 @@ pub mod FirstBroken
 pub mod HeldTable
 pub mod LongTexts
 pub mod Readable
+pub mod SoundTables
