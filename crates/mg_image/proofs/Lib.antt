@@ -1,10 +1,1 @@
-pub mod WantedLemmas
-pub mod DataLemmas
-pub mod RowLemmas
 pub mod OneRowLemmas
-pub mod CellLemmas
-pub mod RecordLemmas
-pub mod FoundLemmas
-pub mod ReadingLemmas
-pub mod UndrawnLemmas
-pub mod HeldLemmas

@@ -6,9 +6,7 @@ use Rattle.mg_value.specs.declared.shape.Column.{Column}
 use Rattle.mg_value.specs.declared.value.Value.{Value}
 use Rattle.mg_value.specs.declared.value.Value.TheVariants.{Null}
 use Rattle.mg_value.specs.Rows.{RowFits, columns_of, row_bytes}
-use Rattle.mg_image.specs.declared.rows.RowCoding.{RowCoding}
-use Rattle.mg_image.specs.declared.rows.RowCoding.TheVariants.{Plain, Packed}
-use Rattle.mg_image.specs.Codings.{coding_of}
+use Rattle.mg_image.specs.Form.{packed_coding, plain_coding}
 use Rattle.mg_image.specs.ReadingLaws.{RowsAreOne}
 
 -- rows of the same columns with the same bytes are one
@@ -40,11 +38,13 @@ whole_one one columns stored a b row other fits also same is as_ here there =
     is ∙ (ap (λ (xs : List Value). xs ++ replicate (length columns - length xs) Null) values
     ∙ sym as_)
 
-pub rows_one : (coding : RowCoding) → OneRow → OnePlain → RowsAreOne (coding_of coding)
-rows_one Plain one plain columns format body row other a b here there =
+pub plain_one : OneRow → RowsAreOne plain_coding
+plain_one one columns format body row other a b here there =
     whole_one one columns (columns_of columns format) a.values b.values row other a.fits b.fits
     (sym a.spelled ∙ b.spelled) a.whole b.whole here there
-rows_one Packed one plain columns format body row other a b here there =
+
+pub packed_one : OneRow → OnePlain → RowsAreOne packed_coding
+packed_one one plain columns format body row other a b here there =
     whole_one one columns (columns_of columns format) a.values b.values row other a.fits b.fits
     (plain body (row_bytes (columns_of columns format) a.values)
     (row_bytes (columns_of columns format) b.values) a.stands b.stands) a.whole b.whole here there

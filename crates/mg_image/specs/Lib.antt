@@ -18,12 +18,3 @@ pub mod FactLaws
 pub mod KeptPageLaws
 pub mod ReadingLaws
 pub mod HeldLaws
-pub mod Kept
-pub mod ImageView
-pub mod ChainLaws
-pub mod Codings
-pub mod OneTable
-pub mod RunLaws
-pub mod Found
-pub mod FirstBroken
-pub mod HeldTable

@@ -22,6 +22,11 @@ RowsAreOne coding = (columns : List Column) (format : ℕ) (body : List ℕ) (ro
     → coding.row_spelled columns format body row → coding.row_spelled columns format body other
     → AreStorable row → AreStorable other → row ≡ other
 
+-- the cells of an image have one reading at most
+abbrev pub HasOneReading : Coding → Type 0
+HasOneReading coding = (f : Facts) (h : Cells) (r s : Reading) → AreRecords coding f h r
+    → AreRecords coding f h s → (p : RecId) → r p ≡ s p
+
 -- what a chain says of its first version
 abbrev pub Opens : Cells → Option Link → List Entry → Type 0
 Opens h None [] = Unit {0}
@@ -38,7 +43,7 @@ same_version : (v w : Version) → Some (cells.Version v) ≡ Some (cells.Versio
 same_version v w same = cc
 
 -- two versions of one cell are one, as their rows are
-same_entry : (coding : Coding) → RowsAreOne coding → (f : Facts) (table : Table) (h : Cells)
+pub same_entry : (coding : Coding) → RowsAreOne coding → (f : Facts) (table : Table) (h : Cells)
     (k m : Value) (d e : Entry) → d.at ≡ e.at → h d.at ≡ Some (cells.Version d.version)
     → h e.at ≡ Some (cells.Version e.version) → IsVersion coding f table k d
     → IsVersion coding f table m e → d ≡ e
@@ -75,9 +80,8 @@ chain_once coding one f table h k m l es fs (goes n e rest to is tx more) also e
         let others : rest ≡ gs = go d.version gs (ap (λ (x : Entry). x.version) same) o.3 all.1 in
         λ i. same i ∷ others i
 
--- the cells of an image have one reading at most
-pub reading_once : (coding : Coding) → RowsAreOne coding → (f : Facts) (h : Cells) (r s : Reading)
-    → AreRecords coding f h r → AreRecords coding f h s → (p : RecId) → r p ≡ s p
+-- where a body codes one row, the cells of an image have one reading
+pub reading_once : (coding : Coding) → RowsAreOne coding → HasOneReading coding
 reading_once coding one f h r s are also p = at (table_in f p) refl
   where
     at : (t : Option Table) → table_in f p ≡ t → r p ≡ s p

@@ -1,9 +1,0 @@
-use Rattle.std.proofs.Common.{length}
-use Rattle.mg_image.specs.Found.{HasNoCellOf}
-use Rattle.mg_image.proofs.pairs.has_no_cell_of.Given as goal
-
-abbrev pub invariant-loop-other : goal.invariant-loop-other
-invariant-loop-other l = HasNoCellOf l.found l.rest → HasNoCellOf l.found l.others
-
-abbrev pub decreases-loop-other : goal.decreases-loop-other
-decreases-loop-other l = length l.rest

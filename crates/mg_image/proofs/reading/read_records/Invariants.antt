@@ -1,7 +1,0 @@
-use Rattle.std.proofs.Common.{take}
-use Rattle.mg_image.specs.Found.{AreFound, PagesRead}
-use Rattle.mg_image.proofs.reading.read_records.Given as goal
-
-abbrev pub invariant-loop-n : goal.invariant-loop-n
-invariant-loop-n l = AreFound l.coding l.image l.table l.data_pages l.found.items
-    × PagesRead l.image l.found.items (take l.n-index l.data_pages)

@@ -1,7 +1,0 @@
-use Rattle.std.proofs.Common.{arith, refl}
-use Rattle.mg_image.proofs.RowLemmas.{storable_take}
-use Rattle.mg_image.proofs.rows.are_storable.Goals as goal
-
-pub loop-value-preserved : goal.loop-value-preserved
-loop-value-preserved c = storable_take c.args.values.now c.loop-value.value-index c.value-item.result
-    (omega arith) c.value-item.is c.loop-value.invariant (c.if-not-is_storable.ensures refl)

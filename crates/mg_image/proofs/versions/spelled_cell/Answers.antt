@@ -1,5 +1,0 @@
-use Rattle.mg_image.proofs.CellLemmas.{spelled_is}
-use Rattle.mg_image.proofs.versions.spelled_cell.Goals as goal
-
-pub returns-in-Ok : goal.returns-in-Ok
-returns-in-Ok c = spelled_is c.args.bytes.now c.in-Ok.cell c.in-Ok.ensures.spelled

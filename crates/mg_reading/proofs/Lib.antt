@@ -1,0 +1,15 @@
+pub mod WantedLemmas
+pub mod DataLemmas
+pub mod RowLemmas
+pub mod CellLemmas
+pub mod RecordLemmas
+pub mod FoundLemmas
+pub mod ReadingLemmas
+pub mod UndrawnLemmas
+pub mod HeldLemmas
+pub mod RefusalLemmas
+pub mod OneVersionLemmas
+pub mod VersionsLemmas
+pub mod CountLemmas
+pub mod TableLemmas
+pub mod SoundLemmas

@@ -1,0 +1,12 @@
+pub mod Kept
+pub mod ImageView
+pub mod ChainLaws
+pub mod Codings
+pub mod OneTable
+pub mod RunLaws
+pub mod Found
+pub mod FirstBroken
+pub mod HeldTable
+pub mod LongTexts
+pub mod Readable
+pub mod SoundTables

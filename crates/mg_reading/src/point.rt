@@ -1,0 +1,80 @@
+//! Why an image is refused: the rule of a sound image that it breaks first.
+
+ghost use Rattle.std.specs.Prelude.{◌≡◌};
+ghost use Rattle.mg_reading.specs.declared.point.ReadFault.TheVariants as faults;
+
+use mg_base::Memory;
+use std::alloc::{AllocError, AllocFailed};
+use std::fmt;
+
+/// A rule of a sound image, in the order in which they are tested.
+#[derive(Clone, Copy, Debug, PartialEq, Eq)]
+pub enum Rule {
+    /// The header's fields are lawful.
+    Header,
+    /// Each drawn transaction has its bits, and no other has become anything.
+    Transactions,
+    /// Each reached page, cell and row is as wanted.
+    Pages,
+    /// No page and no cell is reached twice, and a version stands on a data page of its table.
+    Once,
+    /// Each link meets a version of the transaction that it names.
+    Links,
+    /// Each version's transaction is drawn, and not below the oldest interesting one where it is
+    /// dead; nor is any transaction in limbo.
+    Drawn,
+    /// Each back version is committed.
+    Backs,
+    /// A record has one key, and no key is taken twice.
+    Keys,
+    /// Each row is found in the indexes of its table.
+    Indexed,
+}
+
+/// Why nothing is read of an image.
+#[derive(Clone, Copy, Debug, PartialEq, Eq)]
+pub enum ReadFault {
+    /// A rule is broken.
+    Broken(Rule),
+    Memory,
+}
+
+impl fmt::Display for Rule {
+    fn fmt<W: fmt::Write>(&self, f: &mut fmt::Formatter<W>) -> fmt::Result {
+        match self {
+            Rule::Header => write!(f, "HEADER"),
+            Rule::Transactions => write!(f, "TRANSACTIONS"),
+            Rule::Pages => write!(f, "PAGES"),
+            Rule::Once => write!(f, "ONCE"),
+            Rule::Links => write!(f, "LINKS"),
+            Rule::Drawn => write!(f, "DRAWN"),
+            Rule::Backs => write!(f, "BACKS"),
+            Rule::Keys => write!(f, "KEYS"),
+            Rule::Indexed => write!(f, "INDEXED"),
+        }
+    }
+}
+
+impl From<Memory> for ReadFault {
+    ghost from_gives = { λ _ fault. fault ≡ faults.Memory };
+
+    fn from(_: Memory) -> ReadFault {
+        ReadFault::Memory
+    }
+}
+
+impl From<AllocError> for ReadFault {
+    ghost from_gives = { λ _ fault. fault ≡ faults.Memory };
+
+    fn from(_: AllocError) -> ReadFault {
+        ReadFault::Memory
+    }
+}
+
+impl<T: Drop> From<AllocFailed<T>> for ReadFault {
+    ghost from_gives = { λ _ fault. fault ≡ faults.Memory };
+
+    fn from(_: AllocFailed<T>) -> ReadFault {
+        ReadFault::Memory
+    }
+}
