@@ -213,6 +213,7 @@ new_served kv pages new next bits page rows = record {
   quiet = new_is_quiet LAST.0;
   limit = refl;
   drawn = sym next;
+  first = omega (arith, next);
   same = λ key. refl;
   others = λ name key other. refl;
 }

@@ -125,4 +125,9 @@ pub record Headline {D K : Type 0} (m : Meaning D) (n : SinkMeaning K) (size : �
   pub crash : LeavesOnly m old new (HoldsSome size o (asked (onto [] entries)))
   pub exit : (c : Image) → MayLeave m new c
       → HoldsAll size o (onto [] entries) (asked (onto [] entries)) c
-  pub writes : m.asked new ≤ m.asked old + (NEW_WRITES + writes_of entries)
+
+-- The same, with how many page writes the disk was asked for.
+pub record Counted {D K : Type 0} (m : Meaning D) (n : SinkMeaning K) (size : ℕ) (o : Opening)
+    (script : List ℕ) (old new : D) (before after : K) (status : ℕ) : Type 0 where
+  pub line : Headline m n size o script old new before after status
+  pub writes : m.asked new ≤ m.asked old + (NEW_WRITES + writes_of line.entries)

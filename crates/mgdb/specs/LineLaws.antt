@@ -1,8 +1,8 @@
 -- Laws of one line: a line that is no put, and what a put's line does where its answer is said, where
 -- the sink fails, and where a fault ends it.
-use Rattle.std.specs.Prelude.{◌≡◌, ◌+◌, ◌++◌, ◌∷◌, [], ℕ, ℤ, Bool, true, false, List, Result, Ok, Err, codes, refl}
+use Rattle.std.specs.Prelude.{◌≡◌, ◌++◌, ◌∷◌, [], ℕ, ℤ, Bool, true, false, List, Result, Ok, Err, codes, refl}
 use Rattle.std.proofs.Common.{sym, ◌∙◌, ap, arith, inl, inr, ◌⊎◌, subst}
-use Rattle.mg_base.specs.Disk.{MayLeave, Meaning}
+use Rattle.mg_base.specs.Disk.{Meaning}
 use Rattle.mg_base.specs.Moments.{LeavesOnly, started}
 use Rattle.mg_base.specs.Streams.{SinkMeaning}
 use Rattle.mg_model.specs.declared.opening.Opening.{Opening}
@@ -14,7 +14,7 @@ use Rattle.mgdb.specs.declared.kv.Kv.{Kv}
 use Rattle.mgdb.specs.declared.script.Line.TheVariants.{Bad, Put, Silent}
 use Rattle.mgdb.specs.declared.status.Stop.{Stop}
 use Rattle.mgdb.specs.CrashLaws.{at_is_some, last_is_all, some_asked}
-use Rattle.mgdb.specs.Crashes.{HoldsAll, HoldsSome, asked}
+use Rattle.mgdb.specs.Crashes.{HoldsSome, asked}
 use Rattle.mgdb.specs.Headline.{IsPrinted}
 use Rattle.mgdb.specs.PrintLaws.{IsPrintedWhole, printed_whole, whole_nothing}
 use Rattle.mgdb.specs.Script.{IsBad, IsPut, IsSilent}

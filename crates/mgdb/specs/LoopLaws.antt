@@ -1,27 +1,26 @@
 -- Laws of the lines of a script, obeyed one after another: what is known before the first, after one
 -- more, and where a line or the end of the script ends them.
-use Rattle.std.specs.Prelude.{◌≡◌, ◌≤◌, ◌+◌, ◌&&◌, ◌++◌, ◌∷◌, [], ℕ, Bool, true, List, length, Result, Ok, Err, refl}
-use Rattle.std.proofs.Common.{sym, ◌∙◌, ap, arith, inl, inr, ◌⊎◌, append_assoc, append-nil, length-append, subst}
+use Rattle.std.specs.Prelude.{◌≡◌, ◌+◌, ◌&&◌, ◌++◌, ◌∷◌, [], ℕ, Bool, true, List, length, Ok, Err, refl}
+use Rattle.std.proofs.Common.{sym, ◌∙◌, ap, arith, inl, inr, ◌⊎◌, append_assoc, length-append, subst}
 use Rattle.std.specs.Str.Lines.{lines}
-use Rattle.mg_base.specs.Disk.{MayLeave, Meaning}
+use Rattle.mg_base.specs.Disk.{Meaning}
 use Rattle.mg_base.specs.Moments.{LeavesOnly, started}
 use Rattle.mg_base.specs.Streams.{SinkMeaning}
 use Rattle.mg_model.specs.declared.opening.Opening.{Opening}
 use Rattle.mg_model.specs.History.{Entry}
-use Rattle.mg_model.specs.Legal.{durable_count}
 use Rattle.mg_first.specs.declared.pages.TheConstants.{PAGE}
 use Rattle.mgdb.specs.declared.kv.Kv.{Kv}
 use Rattle.mgdb.specs.declared.script.Line.{Line}
 use Rattle.mgdb.specs.declared.status.Stop.{Stop}
-use Rattle.mgdb.specs.CrashLaws.{at_is_some, last_is_all, run_goes_on, some_asked_longer}
-use Rattle.mgdb.specs.Crashes.{HoldsAll, HoldsAt, HoldsSome, asked}
-use Rattle.mgdb.specs.Headline.{IsPrinted, writes_of}
+use Rattle.mgdb.specs.CrashLaws.{at_is_some, last_is_all, run_goes_on}
+use Rattle.mgdb.specs.Crashes.{HoldsSome, asked}
+use Rattle.mgdb.specs.Headline.{IsPrinted}
 use Rattle.mgdb.specs.ObeyLaws.{all_ok_line, asked_obeyed, line_asked, lines_more, onto_more, transcript_line, writes_more}
 use Rattle.mgdb.specs.PrintLaws.{IsPrintedWhole, printed_behind, printed_whole, whole_more, whole_nothing}
 use Rattle.mgdb.specs.ScriptHistory.{LineGives, Meets, Obeys, ended, more, nothing, obeyed, onto}
 use Rattle.mgdb.specs.Serving.{EndsLine, LineDone, LinesDone, Serves, SoFar, put}
 use Rattle.mgdb.specs.Stops.{IsObeyingStop}
-use Rattle.mgdb.specs.Transcript.{all_ok, line_ok, line_text, transcript}
+use Rattle.mgdb.specs.Transcript.{all_ok, line_text, transcript}
 
 -- ---- before the first line
 

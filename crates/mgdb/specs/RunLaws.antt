@@ -1,6 +1,6 @@
 -- Laws of a whole run: the disk is read, a new database is made, the lines are obeyed, the disk is
 -- settled; and what the program promises of it, wherever it stops.
-use Rattle.std.specs.Prelude.{◌≡◌, ◌≤◌, ◌+◌, ◌++◌, [], ℕ, Bool, true, List, None, Option, Some, Result, Ok, Err, IsErrAnd, refl}
+use Rattle.std.specs.Prelude.{◌≡◌, ◌≤◌, [], ℕ, Bool, List, None, Option, Some, Result, Ok, Err, IsErrAnd, refl}
 use Rattle.std.proofs.Common.{sym, ◌∙◌, ap, arith, append-nil, subst}
 use Rattle.std.specs.Str.Lines.{lines}
 use Rattle.mg_base.specs.Disk.{Calm, MayLeave, Meaning, Stays}
@@ -15,11 +15,11 @@ use Rattle.mgdb.specs.declared.status.Stop.{Stop}
 use Rattle.mgdb.specs.CrashLaws.{opening_holds_some, some_asked_longer, some_is_all}
 use Rattle.mgdb.specs.Crashes.{HoldsSome, asked}
 use Rattle.mgdb.specs.Fresh.{IsFresh}
-use Rattle.mgdb.specs.Headline.{Headline, IsEntry, IsOpeningOf, IsPrinted, NEW_WRITES, ending, fault_line, of_blank, of_sound}
+use Rattle.mgdb.specs.Headline.{Counted, IsEntry, IsOpeningOf, IsPrinted, NEW_WRITES, ending, fault_line, of_blank, of_sound}
 use Rattle.mgdb.specs.PrintLaws.{printed_nothing, printed_stopped, whole_nothing}
 use Rattle.mgdb.specs.ScriptHistory.{nothing, obeyed, onto}
 use Rattle.mgdb.specs.Serving.{IsFreshDisk, LinesDone, NewDone, Reads, Serves, new_history}
-use Rattle.mgdb.specs.Stops.{IsObeyingStop, status_of}
+use Rattle.mgdb.specs.Stops.{status_of}
 use Rattle.mgdb.specs.Transcript.{transcript}
 use Rattle.mgdb.specs.WriteLaws.{sound_is_not_blank}
 
@@ -207,44 +207,48 @@ pub headline_unread : {D K : Type 0} (m : Meaning D) (n : SinkMeaning K) (size :
     (script : List ℕ) (disk : D) (before after : K) (stop : Stop) (status : ℕ)
     → IsEntry m disk size o → IsPrinted n before after (fault_line (Some stop))
     → status ≡ (status_of stop).0
-    → Headline m n size o script disk disk before after status
+    → Counted m n size o script disk disk before after status
 headline_unread m n size o script disk before after stop status entry printed is = record {
-  texts = [];
-  rest = lines script;
-  front = refl;
-  met = [];
-  are_lines = tt;
-  stop = Some stop;
-  all_met = λ none. absurd cc;
-  entries = [];
-  meets = obeyed [] [] nothing;
-  legal = tt;
-  printed = printed;
-  ends = is;
-  crash = started m disk (HoldsSome size o []) (entry_leaves m disk size o entry);
-  exit = λ c left. some_is_all size o c (entry_leaves m disk size o entry c left);
+  line = record {
+    texts = [];
+    rest = lines script;
+    front = refl;
+    met = [];
+    are_lines = tt;
+    stop = Some stop;
+    all_met = λ none. absurd cc;
+    entries = [];
+    meets = obeyed [] [] nothing;
+    legal = tt;
+    printed = printed;
+    ends = is;
+    crash = started m disk (HoldsSome size o []) (entry_leaves m disk size o entry);
+    exit = λ c left. some_is_all size o c (entry_leaves m disk size o entry c left);
+  };
   writes = omega arith;
 }
 
 pub headline_done : {D K : Type 0} (m : Meaning D) (n : SinkMeaning K) (size : ℕ) (o : Opening)
     (script : List ℕ) (old new : D) (before after : K) (ok : Bool) (status : ℕ)
     → LinesDone m n old new before after size NEW_WRITES o script (Ok ok) → status ≡ ending ok
-    → Headline m n size o script old new before after status
+    → Counted m n size o script old new before after status
 headline_done m n size o script old new before after ok status done is = record {
-  texts = done.texts;
-  rest = done.rest;
-  front = done.front;
-  met = done.met;
-  are_lines = done.are_lines;
-  stop = None;
-  all_met = λ none. done.all_met;
-  entries = done.entries;
-  meets = done.meets;
-  legal = done.legal;
-  printed = rw (append-nil (transcript 1 done.met done.entries)) done.printed;
-  ends = is ∙ ap ending done.ok;
-  crash = done.crash;
-  exit = done.exit;
+  line = record {
+    texts = done.texts;
+    rest = done.rest;
+    front = done.front;
+    met = done.met;
+    are_lines = done.are_lines;
+    stop = None;
+    all_met = λ none. done.all_met;
+    entries = done.entries;
+    meets = done.meets;
+    legal = done.legal;
+    printed = rw (append-nil (transcript 1 done.met done.entries)) done.printed;
+    ends = is ∙ ap ending done.ok;
+    crash = done.crash;
+    exit = done.exit;
+  };
   writes = done.writes;
 }
 
@@ -253,23 +257,25 @@ pub headline_stopped : {D K : Type 0} (m : Meaning D) (n : SinkMeaning K) (size 
     → LinesDone m n old new before middle size NEW_WRITES o script (Err stop)
     → n.faults middle ≤ n.faults after → IsPrinted n middle after (fault_line (Some stop))
     → status ≡ (status_of stop).0
-    → Headline m n size o script old new before after status
+    → Counted m n size o script old new before after status
 headline_stopped m n size o script old new before middle after stop status done grows line is = record {
-  texts = done.texts;
-  rest = done.rest;
-  front = done.front;
-  met = done.met;
-  are_lines = done.are_lines;
-  stop = Some stop;
-  all_met = λ none. absurd cc;
-  entries = done.entries;
-  meets = done.meets;
-  legal = done.legal;
-  printed = printed_stopped n before middle after (transcript 1 done.met done.entries) stop
-      done.printed done.whole grows line;
-  ends = is;
-  crash = done.crash;
-  exit = done.exit;
+  line = record {
+    texts = done.texts;
+    rest = done.rest;
+    front = done.front;
+    met = done.met;
+    are_lines = done.are_lines;
+    stop = Some stop;
+    all_met = λ none. absurd cc;
+    entries = done.entries;
+    meets = done.meets;
+    legal = done.legal;
+    printed = printed_stopped n before middle after (transcript 1 done.met done.entries) stop
+        done.printed done.whole grows line;
+    ends = is;
+    crash = done.crash;
+    exit = done.exit;
+  };
   writes = done.writes;
 }
 

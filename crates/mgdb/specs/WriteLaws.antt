@@ -1,7 +1,7 @@
 -- Laws of a call of a disk: what a crash may leave after it, what the disk then holds, and which
 -- page of the image differs.
-use Rattle.std.specs.Prelude.{◌≡◌, ◌⊎◌, ◌+◌, ◌*◌, ◌≤◌, ℕ, zero, suc, true, List, Some, length, replicate, Result, Ok, Err, OnOk, OnErr, get_or, refl}
-use Rattle.std.proofs.Common.{sym, ◌∙◌, ap, arith, inl, inr, subst}
+use Rattle.std.specs.Prelude.{◌≡◌, ◌⊎◌, ℕ, zero, suc, true, List, Some, length, Result, Ok, Err, OnOk, get_or, refl}
+use Rattle.std.proofs.Common.{◌∙◌, ap, arith, inl, inr, subst}
 use Rattle.mg_base.specs.Disk.{Calm, MayLeave, Meaning, Writes}
 use Rattle.mg_base.specs.Fields.{u32_at}
 use Rattle.mg_base.specs.Image.{Image, blank, page_at, page_at-written_other, page_at-written_same, written}
@@ -12,7 +12,6 @@ use Rattle.mg_image.specs.Form.{Pages, plain_form}
 use Rattle.mg_image.specs.Opening.{IsOpened, Opened}
 use Rattle.mg_image.specs.Sound.{HasHeader}
 use Rattle.mg_first.specs.Puts.{OnlyPage}
-use Rattle.mg_first.specs.declared.pages.TheConstants.{PAGE}
 
 -- ---- a call that changes nothing
 

@@ -1,8 +1,9 @@
 //! What a put answers, and the lines of the transcript. A line is made on the stack, so no memory can
 //! be wanting once an answer is known.
 
-ghost use Rattle.std.specs.Prelude.{◌≡◌, ◌∷◌, ◌++◌, [], codes, decimal};
+ghost use Rattle.std.specs.Prelude.{◌≡◌, ◌≤◌, ◌+◌, ◌∷◌, ◌++◌, [], codes, decimal, length};
 ghost use Rattle.mgdb.specs.Serving.{answer_text};
+ghost use Rattle.mgdb.specs.declared.answer.TheConstants.{LINE_MOST};
 
 use arrayvec::ArrayString;
 use itoa::Buffer;
@@ -10,7 +11,7 @@ use mg_base::TxNo;
 use mg_first::PAGES;
 
 /// No line has more bytes.
-const LINE_MOST: usize = 64;
+const LINE_MOST: usize = 72;
 
 /// A line of the transcript.
 pub type LineText = ArrayString<LINE_MOST>;
@@ -62,7 +63,9 @@ pub fn bad_line(number: u32) -> LineText
 
 // Appends the digits of a number.
 fn push_number(line: &mut LineText, number: u32)
-    ensures { line.new.bytes ≡ line.old.bytes ++ decimal number }
+    requires { length line.old.bytes + 40 ≤ LINE_MOST }
+    ensures len { length line.new.bytes ≤ length line.old.bytes + 40 }
+    ensures digits { line.new.bytes ≡ line.old.bytes ++ decimal number }
 {
     let mut digits = Buffer::new();
     line.push_str(digits.format(number));

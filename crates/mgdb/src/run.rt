@@ -8,7 +8,7 @@ ghost use Rattle.mg_model.specs.declared.opening.Opening.{Opening};
 ghost use Rattle.mg_first.specs.declared.pages.TheConstants.{PAGE};
 ghost use Rattle.mgdb.specs.Causes.{DiskCauses, StreamCauses, ScriptCauses};
 ghost use Rattle.mgdb.specs.Fresh.{IsFresh};
-ghost use Rattle.mgdb.specs.Headline.{Headline, IsEntry, IsPrinted, NEW_WRITES, fault_line};
+ghost use Rattle.mgdb.specs.Headline.{Counted, IsEntry, IsPrinted, NEW_WRITES, fault_line};
 ghost use Rattle.mgdb.specs.PrintLaws.{IsPrintedWhole};
 ghost use Rattle.mgdb.specs.Script.{IsBad, HasBad};
 ghost use Rattle.mgdb.specs.Serving.{LineDone, LinesDone, PutLineDone, Serves};
@@ -41,7 +41,7 @@ pub fn run<D: Disk, S: Source, K: Sink>(
     ensures range { (result.0 < 8) × (result.0 ≢ 2) }
     ensures headline { (size : ℕ) (o : Opening) (script : List ℕ) → IsEntry D.meaning disk.old size o
         → S.meaning.left source.old ≡ Some script
-        → Headline D.meaning K.meaning size o script disk.old disk.new sink.old sink.new result.0 }
+        → Counted D.meaning K.meaning size o script disk.old disk.new sink.old sink.new result.0 }
 {
     let script = match read_script(alloc, source) {
         Ok(script) => script,

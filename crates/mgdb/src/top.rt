@@ -1,7 +1,9 @@
 //! The top call: the whole program, over any disk and any streams.
 
-ghost use Rattle.std.specs.Prelude.{◌≡◌, ◌↔◌, ◌<◌, ℕ, Option, None, Some};
-ghost use Rattle.mgdb.specs.Top.{ShelfCauses, IsStopped};
+ghost use Rattle.std.specs.Prelude.{◌≡◌, ◌↔◌, ◌<◌, ℕ, List, Option, None, Some};
+ghost use Rattle.mg_model.specs.declared.opening.Opening.{Opening};
+ghost use Rattle.mgdb.specs.Headline.{Headline, IsEntry};
+ghost use Rattle.mgdb.specs.Top.{Completes, ShelfCauses, IsStopped};
 ghost use Rattle.mgdb.specs.Causes.{StreamCauses, ScriptCauses};
 ghost use Rattle.mgdb.specs.Words.{texts, IsRun};
 
@@ -37,6 +39,13 @@ pub fn mgdb<R: AllocGlobal + Drop, D: Disk + Send + 'static, S: Source, K: Sink>
     ensures script { ScriptCauses S.meaning source.old result.0.0 }
     ensures not_asked { result.0.0 ≡ 7 → result.1.first ≡ shelf.first }
     ensures range { result.0.0 < 8 }
+    ensures headline { (stop : Option ℕ) (size : ℕ) (o : Opening) (script : List ℕ)
+        → IsRun (texts words.now) stop → IsEntry D.meaning shelf.first size o
+        → S.meaning.left source.old ≡ Some script
+        → Headline D.meaning K.meaning size o script shelf.first result.1.first sink.old sink.new
+        result.0.0 }
+    ensures complete { Completes D.meaning S.meaning K.meaning (texts words.now) shelf.first
+        result.1.first source.old source.new sink.old sink.new result.0.0 }
 {
     let Some(asked) = read_words(words) else {
         // A sink that fails at this line leaves the status as it is.

@@ -1,4 +1,4 @@
-use Rattle.std.proofs.Common.{◌≡◌, ◌+◌, ◌&&◌, sym, ◌∙◌, ap, subst, rules, arith, inl, inr, ◌⊎◌, List, ◌∷◌, [], ℕ, Bool, true, false, Result, Ok, Err, IsErrAnd, length}
+use Rattle.std.proofs.Common.{◌≡◌, ◌+◌, ◌&&◌, sym, ◌∙◌, ap, subst, rules, arith, inl, inr, ◌⊎◌, List, ◌∷◌, [], ℕ, Bool, Result, Ok, Err, IsErrAnd, length}
 use Rattle.std.proofs.lemmas.Bool.{eqb-true}
 use Rattle.std.specs.Str.Lines.{lines}
 use Rattle.mg_base.specs.Disk.{Meaning}

@@ -3,17 +3,17 @@ use Rattle.mg_base.specs.Disk.{Meaning}
 use Rattle.mg_base.specs.Streams.{SinkMeaning}
 use Rattle.mg_model.specs.declared.opening.Opening.{Opening}
 use Rattle.mgdb.specs.declared.status.Status.{Status}
-use Rattle.mgdb.specs.Headline.{Headline, ending}
+use Rattle.mgdb.specs.Headline.{Counted, ending}
 use Rattle.mgdb.specs.RunLaws.{headline_done, headline_stopped, headline_unread}
 use Rattle.mgdb.proofs.run.run.Goals as goal
 
 -- the script that was read is the one that the source had
 of_script : {D K : Type 0} (m : Meaning D) (n : SinkMeaning K) (size : ℕ) (o : Opening)
     (read items script : List ℕ) (old new : D) (before after : K) (status : ℕ) → read ≡ items
-    → items ≡ script → Headline m n size o read old new before after status
-    → Headline m n size o script old new before after status
+    → items ≡ script → Counted m n size o read old new before after status
+    → Counted m n size o script old new before after status
 of_script m n size o read items script old new before after status is same =
-    subst (λ (bytes : List ℕ). Headline m n size o bytes old new before after status) (is ∙ same)
+    subst (λ (bytes : List ℕ). Counted m n size o bytes old new before after status) (is ∙ same)
 
 pub returns-in-Err-clause-headline : goal.returns-in-Err-clause-headline
 returns-in-Err-clause-headline g c = λ size o script entry left.

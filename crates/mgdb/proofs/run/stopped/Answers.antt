@@ -1,4 +1,4 @@
-use Rattle.std.proofs.Common.{◌≡◌, sym, length, List, [], ◌∷◌, ℕ, Bool, true, arith, subst}
+use Rattle.std.proofs.Common.{◌≡◌, sym, length, List, [], ◌∷◌, ℕ, true, arith, subst}
 use Rattle.std.specs.Prelude.{◌==◌, Some}
 use Rattle.std.proofs.lemmas.Bool.{eqb-true}
 use Rattle.mg_base.specs.Streams.{SinkMeaning}

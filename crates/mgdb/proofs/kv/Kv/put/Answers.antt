@@ -1,5 +1,5 @@
 -- Each return of a put, by how far it came.
-use Rattle.std.proofs.Common.{◌≡◌, ◌<◌, refl, arith}
+use Rattle.std.proofs.Common.{◌<◌, refl, arith}
 use Rattle.std.proofs.lemmas.Int.{to_z-of_z}
 use Rattle.std.specs.Int.{w64}
 use Rattle.mgdb.specs.declared.status.Place.TheVariants as places
