@@ -18,7 +18,7 @@ use Rattle.mg_first.specs.NewDatabaseLaws.{new_all_committed, new_is_kv}
 use Rattle.mg_first.specs.declared.pages.TheConstants.{KV_ROWS, LAST, PAGE, TRANSACTIONS}
 use Rattle.mgdb.proofs.FreshLemmas.{few_blank}
 use Rattle.mgdb.specs.Crashes.{HoldsAt, HoldsSome}
-use Rattle.mgdb.specs.SerialLaws.{new_is_quiet}
+use Rattle.mgdb.proofs.SerialLaws.{new_is_quiet}
 use Rattle.mgdb.specs.Serving.{IsServed, new_history}
 use Rattle.mgdb.specs.declared.kv.Kv.{Kv}
 

@@ -68,6 +68,12 @@ pub record IsPrinted {K : Type 0} (m : SinkMeaning K) (old new : K) (bytes : Lis
   pub whole : (Rose (m.faults old) (m.faults new) → ⊥) → (before : List ℕ)
       → m.taken old ≡ Some before → m.taken new ≡ Some (before ++ bytes)
 
+-- The sink took all these bytes, and did not fail.
+pub record IsPrintedWhole {K : Type 0} (n : SinkMeaning K) (old new : K) (bytes : List ℕ)
+    : Type 0 where
+  pub all : (before : List ℕ) → n.taken old ≡ Some before → n.taken new ≡ Some (before ++ bytes)
+  pub steady : n.faults new ≡ n.faults old
+
 -- ---- the page writes that are asked
 
 -- an event is asked for no page write, or for one: of the header, of the rows' page, of the bits

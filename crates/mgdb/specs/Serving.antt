@@ -30,8 +30,7 @@ use Rattle.mgdb.specs.declared.status.Stop.{Stop}
 use Rattle.mgdb.specs.declared.status.Stop.TheVariants.{DiskWrite, Memory}
 use Rattle.mgdb.specs.declared.status.Place.TheVariants as places
 use Rattle.mgdb.specs.Crashes.{HoldsAll, HoldsAt, HoldsSome, asked}
-use Rattle.mgdb.specs.Headline.{IsPrinted, NEW_WRITES, writes_of}
-use Rattle.mgdb.specs.PrintLaws.{IsPrintedWhole}
+use Rattle.mgdb.specs.Headline.{IsPrintedWhole, IsPrinted, NEW_WRITES, writes_of}
 use Rattle.mgdb.specs.ScriptHistory.{AreLines, LineGives, Meets, Obeys, PutEnds, PutGives, ROOM, onto, taken}
 use Rattle.mgdb.specs.Serial.{IsQuiet}
 use Rattle.mgdb.specs.Stops.{IsObeyingStop}

@@ -9,7 +9,7 @@ ghost use Rattle.mg_first.specs.declared.pages.TheConstants.{PAGE};
 ghost use Rattle.mgdb.specs.Causes.{DiskCauses, StreamCauses, ScriptCauses};
 ghost use Rattle.mgdb.specs.Fresh.{IsFresh};
 ghost use Rattle.mgdb.specs.Headline.{Counted, IsEntry, IsPrinted, NEW_WRITES, fault_line};
-ghost use Rattle.mgdb.specs.PrintLaws.{IsPrintedWhole};
+ghost use Rattle.mgdb.specs.Headline.{IsPrintedWhole};
 ghost use Rattle.mgdb.specs.Script.{IsBad, HasBad};
 ghost use Rattle.mgdb.specs.Serving.{LineDone, LinesDone, PutLineDone, Serves};
 ghost use Rattle.mgdb.specs.Stops.{DiskSteps, SinkSteps, IsObeyingStop, IsSayingStop, IsDiskOrSinkStop, status_of};

@@ -8,9 +8,8 @@ use Rattle.mg_model.specs.History.{Entries}
 use Rattle.mgdb.specs.declared.kv.Kv.{Kv}
 use Rattle.mgdb.specs.declared.script.Line.TheVariants.{Bad}
 use Rattle.mgdb.specs.declared.status.Stop.{Stop}
-use Rattle.mgdb.specs.Headline.{IsPrinted}
-use Rattle.mgdb.specs.LineLaws.{bad_line, bad_line_unsaid, put_line, silent_line}
-use Rattle.mgdb.specs.PrintLaws.{IsPrintedWhole}
+use Rattle.mgdb.specs.Headline.{IsPrintedWhole, IsPrinted}
+use Rattle.mgdb.proofs.LineLaws.{bad_line, bad_line_unsaid, put_line, silent_line}
 use Rattle.mgdb.specs.Script.{IsBad}
 use Rattle.mgdb.specs.Serving.{LineDone, PutLineDone, Serves}
 use Rattle.mgdb.specs.Transcript.{line_text}

@@ -7,7 +7,7 @@ use Rattle.mg_model.specs.declared.opening.Opening.{Opening}
 use Rattle.mg_first.specs.declared.pages.TheConstants.{PAGE}
 use Rattle.mgdb.specs.declared.kv.Kv.{Kv}
 use Rattle.mgdb.specs.declared.status.Stop.{Stop}
-use Rattle.mgdb.specs.LoopLaws.{lines_ended, lines_stopped, no_lines, so_far_line, so_far_nothing}
+use Rattle.mgdb.proofs.LoopLaws.{lines_ended, lines_stopped, no_lines, so_far_line, so_far_nothing}
 use Rattle.mgdb.specs.Script.{HasBad, IsBad}
 use Rattle.mgdb.specs.ScriptHistory.{onto}
 use Rattle.mgdb.specs.Serving.{LineDone, LinesDone, SoFar}

@@ -12,8 +12,8 @@ use Rattle.mgdb.specs.declared.answer.Answer.TheVariants.{DatabaseFull, Stored, 
 use Rattle.mgdb.specs.declared.kv.Kv.{Kv}
 use Rattle.mgdb.specs.declared.status.Stop.{Stop}
 use Rattle.mgdb.specs.Headline.{IsPrinted}
-use Rattle.mgdb.specs.LineLaws.{put_ended, put_said, put_unsaid}
-use Rattle.mgdb.specs.PrintLaws.{printed_by_puts}
+use Rattle.mgdb.proofs.LineLaws.{put_ended, put_said, put_unsaid}
+use Rattle.mgdb.proofs.PrintLaws.{printed_by_puts}
 use Rattle.mgdb.specs.Serving.{PutDone, PutLineDone, answer_text, is_ok}
 use Rattle.mgdb.proofs.run.obey_put.Goals as goal
 

@@ -1,5 +1,5 @@
 use Rattle.mgdb.specs.Headline.{NEW_WRITES}
-use Rattle.mgdb.specs.RunLaws.{entry_lines, entry_unmade, script_settled, script_unread, script_unsettled, stop_on}
+use Rattle.mgdb.proofs.RunLaws.{entry_lines, entry_unmade, script_settled, script_unread, script_unsettled, stop_on}
 use Rattle.mgdb.specs.declared.status.Place.TheVariants as places
 use Rattle.mgdb.specs.declared.status.Stop.TheVariants.{DiskWrite}
 use Rattle.std.proofs.Common.{Err, Ok}

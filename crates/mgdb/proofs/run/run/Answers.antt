@@ -4,7 +4,7 @@ use Rattle.mg_base.specs.Streams.{SinkMeaning}
 use Rattle.mg_model.specs.declared.opening.Opening.{Opening}
 use Rattle.mgdb.specs.declared.status.Status.{Status}
 use Rattle.mgdb.specs.Headline.{Counted, ending}
-use Rattle.mgdb.specs.RunLaws.{headline_done, headline_stopped, headline_unread}
+use Rattle.mgdb.proofs.RunLaws.{headline_done, headline_stopped, headline_unread}
 use Rattle.mgdb.proofs.run.run.Goals as goal
 
 -- the script that was read is the one that the source had

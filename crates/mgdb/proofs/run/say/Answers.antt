@@ -1,5 +1,6 @@
 use Rattle.std.proofs.Common.{◌∙◌, subst, List, ℕ}
-use Rattle.mgdb.specs.PrintLaws.{IsPrintedWhole, printed_whole}
+use Rattle.mgdb.specs.Headline.{IsPrintedWhole}
+use Rattle.mgdb.proofs.PrintLaws.{printed_whole}
 use Rattle.mgdb.proofs.run.say.Goals as goal
 
 pub returns-in-Ok-clause-whole : goal.returns-in-Ok-clause-whole

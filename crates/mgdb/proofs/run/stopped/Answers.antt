@@ -3,7 +3,7 @@ use Rattle.std.specs.Prelude.{◌==◌, Some}
 use Rattle.std.proofs.lemmas.Bool.{eqb-true}
 use Rattle.mg_base.specs.Streams.{SinkMeaning}
 use Rattle.mgdb.specs.Headline.{IsPrinted, fault_line}
-use Rattle.mgdb.specs.PrintLaws.{printed_by_puts, printed_nothing}
+use Rattle.mgdb.proofs.PrintLaws.{printed_by_puts, printed_nothing}
 use Rattle.mgdb.proofs.run.stopped.Goals as goal
 use Rattle.mgdb.proofs.run.stopped.Goals.{then-not-is_empty, else-not-is_empty}
 

@@ -5,7 +5,7 @@ use Rattle.std.specs.Int.{w64}
 use Rattle.mgdb.specs.declared.status.Place.TheVariants as places
 use Rattle.mgdb.specs.declared.status.Stop.TheVariants.{DiskWrite}
 use Rattle.mg_first.specs.declared.pages.TheConstants.{LAST}
-use Rattle.mgdb.specs.PutCases.{below_last, case_full, case_no_bits, case_no_memory, case_no_number, case_no_row, case_stored, case_undrawn, case_unsettled, headed, is_fault, last_is, steps_ended}
+use Rattle.mgdb.proofs.PutCases.{below_last, case_full, case_no_bits, case_no_memory, case_no_number, case_no_row, case_stored, case_undrawn, case_unsettled, headed, is_fault, last_is, steps_ended}
 use Rattle.mgdb.proofs.FreshLemmas.{stays_known}
 use Rattle.mgdb.proofs.kv.Kv.put.Goals as goal
 

@@ -30,10 +30,10 @@ use Rattle.mg_first.specs.Puts.{CommitsBits, IsPending, IsPlaceFor, OnlyPage, Pu
 use Rattle.mg_first.specs.Storing.{Stores, StoresIn, cost_of, cost_over}
 use Rattle.mg_first.specs.declared.pages.TheConstants.{HEADER, KV_ROWS, LAST, PAGE, TRANSACTIONS}
 use Rattle.mgdb.specs.declared.kv.Kv.{Kv}
-use Rattle.mgdb.specs.PutImages.{Drawn, pages_hold}
+use Rattle.mgdb.proofs.PutImages.{Drawn, pages_hold}
 use Rattle.mgdb.specs.ScriptHistory.{ROOM, need, taken, took}
 use Rattle.mgdb.specs.Serial.{committed, put_change, row_of, writes}
-use Rattle.mgdb.specs.SerialEndLaws.{committed_is_quiet, committed_next, committed_row, committed_row_else}
+use Rattle.mgdb.proofs.SerialEndLaws.{committed_is_quiet, committed_next, committed_row, committed_row_else}
 use Rattle.mgdb.specs.Serving.{IsServed}
 
 -- a number that is not drawn is dead in an image

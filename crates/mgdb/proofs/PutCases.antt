@@ -29,20 +29,20 @@ use Rattle.mgdb.specs.declared.kv.Kv.{Kv}
 use Rattle.mgdb.specs.declared.status.Place.TheVariants as places
 use Rattle.mgdb.specs.declared.status.Stop.{Stop}
 use Rattle.mgdb.specs.declared.status.Stop.TheVariants.{DiskWrite, Memory}
-use Rattle.mgdb.specs.CrashLaws.{at_is_some, ends_all, failed_commit_all, holds_longer, last_is_all, some_asked_longer}
+use Rattle.mgdb.proofs.CrashLaws.{at_is_some, ends_all, failed_commit_all, holds_longer, last_is_all, some_asked_longer}
 use Rattle.mgdb.specs.Crashes.{HoldsAll, HoldsAt, HoldsSome, asked}
 use Rattle.mgdb.specs.Headline.{writes_for, writes_of}
-use Rattle.mgdb.specs.ObeyLaws.{put_asked}
-use Rattle.mgdb.specs.PutImages.{Drawn, drawn_holds, drawn_pages, drawn_states, here_written, only_written, served_holds}
-use Rattle.mgdb.specs.PutRows.{Keeps, Wrote, committed_served, cost_is_need, stores_drawn, wrote_holds, wrote_pages}
+use Rattle.mgdb.proofs.ObeyLaws.{put_asked}
+use Rattle.mgdb.proofs.PutImages.{Drawn, drawn_holds, drawn_pages, drawn_states, here_written, only_written, served_holds}
+use Rattle.mgdb.proofs.PutRows.{Keeps, Wrote, committed_served, cost_is_need, stores_drawn, wrote_holds, wrote_pages}
 use Rattle.mgdb.specs.ScriptHistory.{PutEnds, PutGives, ROOM, began, drawn_number, found, need, onto, taken, took, wrote}
 use Rattle.mgdb.specs.ScriptHistory.{full, no_commit, no_memory, no_number, no_row, stored, undrawn}
 use Rattle.mgdb.specs.Serial.{IsQuiet, commits, committed, rolled_back, rolls_back, unbegun, writes}
-use Rattle.mgdb.specs.SerialDurableLaws.{rolled_back_lasts}
-use Rattle.mgdb.specs.SerialEndLaws.{committed_count, committed_is_quiet, rolled_back_is_quiet, unwritten_is_legal}
-use Rattle.mgdb.specs.SerialLaws.{begun_reads, unbegun_is_quiet, written_is_legal}
+use Rattle.mgdb.proofs.SerialDurableLaws.{rolled_back_lasts}
+use Rattle.mgdb.proofs.SerialEndLaws.{committed_count, committed_is_quiet, rolled_back_is_quiet, unwritten_is_legal}
+use Rattle.mgdb.proofs.SerialLaws.{begun_reads, unbegun_is_quiet, written_is_legal}
 use Rattle.mgdb.specs.Serving.{IsServed, PutDone, Says, Serves, stop_text}
-use Rattle.mgdb.specs.Stages.{Stage, stage_as, stage_calm, stage_first, stage_write}
+use Rattle.mgdb.proofs.Stages.{Stage, stage_as, stage_calm, stage_first, stage_write}
 use Rattle.mgdb.specs.Stops.{DiskSteps}
 use Rattle.mgdb.specs.Transcript.{put_text}
 

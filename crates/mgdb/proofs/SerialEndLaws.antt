@@ -19,7 +19,7 @@ use Rattle.mg_model.specs.Legal.{is_outer, IsLegal, durable_count, after_durable
 use Rattle.mg_model.specs.RowLaws.{same_from_same_key}
 use Rattle.mg_model.specs.ReadLaws.{is_at_itself}
 use Rattle.mgdb.specs.Serial.{row_of, put_change, writes, commits, rolls_back, begun, written, committed, unwritten, rolled_back, IsQuiet}
-use Rattle.mgdb.specs.SerialLaws.{refused_is_legal, begun_is_legal, begun_active, written_is_legal, written_own}
+use Rattle.mgdb.proofs.SerialLaws.{refused_is_legal, begun_is_legal, begun_active, written_is_legal, written_own}
 
 -- what was closed stays so where a transaction begins and ends
 closed_after : (its : Bool) (end old : TxState) → is_open end ≡ false → is_open old ≡ false

@@ -5,17 +5,12 @@ use Rattle.std.proofs.Math.Seq.{take-append-add}
 use Rattle.std.proofs.lemmas.List.{take-append-le, take_all, take_min}
 use Rattle.mg_base.specs.Disk.{Rose}
 use Rattle.mg_base.specs.Streams.{Puts, SinkMeaning}
-use Rattle.mgdb.specs.Headline.{IsPrinted, fault_line}
+use Rattle.mgdb.specs.Headline.{IsPrintedWhole, IsPrinted, fault_line}
 use Rattle.mgdb.specs.Stops.{IsObeyingStop}
 use Rattle.mgdb.specs.declared.status.Stop.{Stop}
 use Rattle.mgdb.specs.declared.status.Stop.TheVariants.{DiskRead, DiskWrite, Memory, ScriptTooLong, Stream, UnknownImage}
 use Rattle.mgdb.specs.declared.status.Place.TheVariants as places
 
--- The sink took all these bytes, and did not fail.
-pub record IsPrintedWhole {K : Type 0} (n : SinkMeaning K) (old new : K) (bytes : List ℕ)
-    : Type 0 where
-  pub all : (before : List ℕ) → n.taken old ≡ Some before → n.taken new ≡ Some (before ++ bytes)
-  pub steady : n.faults new ≡ n.faults old
 
 -- ---- pieces that were taken whole
 

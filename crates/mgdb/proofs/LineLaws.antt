@@ -13,10 +13,10 @@ use Rattle.mgdb.specs.declared.answer.Answer.{Answer}
 use Rattle.mgdb.specs.declared.kv.Kv.{Kv}
 use Rattle.mgdb.specs.declared.script.Line.TheVariants.{Bad, Put, Silent}
 use Rattle.mgdb.specs.declared.status.Stop.{Stop}
-use Rattle.mgdb.specs.CrashLaws.{at_is_some, last_is_all, some_asked}
+use Rattle.mgdb.proofs.CrashLaws.{at_is_some, last_is_all, some_asked}
 use Rattle.mgdb.specs.Crashes.{HoldsSome, asked}
-use Rattle.mgdb.specs.Headline.{IsPrinted}
-use Rattle.mgdb.specs.PrintLaws.{IsPrintedWhole, printed_whole, whole_nothing}
+use Rattle.mgdb.specs.Headline.{IsPrintedWhole, IsPrinted}
+use Rattle.mgdb.proofs.PrintLaws.{printed_whole, whole_nothing}
 use Rattle.mgdb.specs.Script.{IsBad, IsPut, IsSilent}
 use Rattle.mgdb.specs.ScriptHistory.{LineGives, PutEnds, PutGives, bad, put as gives_put, silent}
 use Rattle.mgdb.specs.Serving.{EndsLine, LineDone, PutDone, PutLineDone, Serves, answer_text, is_ok, put as ends_put, stop_text}

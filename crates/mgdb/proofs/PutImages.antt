@@ -39,23 +39,6 @@ here_written image n bytes = page_at-written_same PAGE image n bytes
 
 -- ---- what is held, by histories
 
--- what is held after a durable event depends on the history up to it alone
-pub durable_same : (form : Form) (size : ℕ) (pages : Pages) (o : Opening) (h g : Entries) (j k : ℕ)
-    → after_durable g k ≡ after_durable h j → HoldsDurable form size pages o h j
-    → HoldsDurable form size pages o g k
-durable_same form size pages o h g j k is x = record {
-  opened = x.opened;
-  holds = x.holds;
-  rows = λ name key. x.rows name key
-      ∙ sym (ap (λ (cut : Entries). row_at (database o cut) name key) is);
-  limbo = λ t below. x.limbo t below
-      ∙ sym (ap (λ (cut : Entries). is_limbo (state_of o cut t)) is);
-  undrawn = λ t above. ap (λ (cut : Entries). is_limbo (state_of o cut t)) is ∙ x.undrawn t above;
-  changes = λ t name key in_limbo. x.changes t name key
-      (sym (ap (λ (cut : Entries). is_limbo (state_of o cut t)) is) ∙ in_limbo)
-      ∙ sym (ap (λ (cut : Entries). newest_at (own o cut t) name key) is);
-}
-
 apart_of_kv : (name : List ℕ) → name ≢ catalog_name → name ≢ kv_name
     → (same_name name catalog_name ≡ false) × (same_name name kv_name ≡ false)
 apart_of_kv name not_catalog not_kv = at (kv_named name)

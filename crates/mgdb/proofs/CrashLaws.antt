@@ -26,7 +26,7 @@ use Rattle.mgdb.specs.Crashes.{HoldsAll, HoldsAt, HoldsSome, asked}
 use Rattle.mgdb.specs.Headline.{IsOpeningOf, of_blank, of_sound}
 use Rattle.mgdb.specs.ScriptHistory.{PutEnds, found, no_commit, no_memory, no_number, no_row, onto}
 use Rattle.mgdb.specs.Serial.{commits, committed, refused, written}
-use Rattle.mgdb.specs.SerialDurableLaws.{unwritten_lasts, written_lasts}
+use Rattle.mgdb.proofs.SerialDurableLaws.{unwritten_lasts, written_lasts}
 
 -- ---- entries more
 

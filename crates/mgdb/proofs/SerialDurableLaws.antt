@@ -13,7 +13,7 @@ use Rattle.mg_model.specs.Answers.{number}
 use Rattle.mg_model.specs.Legal.{is_lasting, is_durable, durable_count, after_durable, is_limbo, durable_database, durable_limbo}
 use Rattle.mg_model.specs.DurableLaws.{durable_is_database}
 use Rattle.mgdb.specs.Serial.{put_change, begins, writes, commits, rolls_back, begun, written, committed, refused, unwritten, rolled_back, IsQuiet, LastsAs}
-use Rattle.mgdb.specs.SerialEndLaws.{committed_database, committed_count}
+use Rattle.mgdb.proofs.SerialEndLaws.{committed_database, committed_count}
 
 -- ---- more entries that are not durable
 

@@ -12,11 +12,11 @@ use Rattle.mg_first.specs.declared.pages.TheConstants.{PAGE}
 use Rattle.mgdb.specs.declared.kv.Kv.{Kv}
 use Rattle.mgdb.specs.declared.script.Line.{Line}
 use Rattle.mgdb.specs.declared.status.Stop.{Stop}
-use Rattle.mgdb.specs.CrashLaws.{at_is_some, last_is_all, run_goes_on}
+use Rattle.mgdb.proofs.CrashLaws.{at_is_some, last_is_all, run_goes_on}
 use Rattle.mgdb.specs.Crashes.{HoldsSome, asked}
-use Rattle.mgdb.specs.Headline.{IsPrinted}
-use Rattle.mgdb.specs.ObeyLaws.{all_ok_line, asked_obeyed, line_asked, lines_more, onto_more, transcript_line, writes_more}
-use Rattle.mgdb.specs.PrintLaws.{IsPrintedWhole, printed_behind, printed_whole, whole_more, whole_nothing}
+use Rattle.mgdb.specs.Headline.{IsPrintedWhole, IsPrinted}
+use Rattle.mgdb.proofs.ObeyLaws.{all_ok_line, asked_obeyed, line_asked, lines_more, onto_more, transcript_line, writes_more}
+use Rattle.mgdb.proofs.PrintLaws.{printed_behind, printed_whole, whole_more, whole_nothing}
 use Rattle.mgdb.specs.ScriptHistory.{LineGives, Meets, Obeys, ended, more, nothing, obeyed, onto}
 use Rattle.mgdb.specs.Serving.{EndsLine, LineDone, LinesDone, Serves, SoFar, put}
 use Rattle.mgdb.specs.Stops.{IsObeyingStop}

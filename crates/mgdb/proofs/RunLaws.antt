@@ -12,16 +12,16 @@ use Rattle.mg_image.specs.Opening.{IsBlank}
 use Rattle.mg_first.specs.declared.pages.TheConstants.{PAGE}
 use Rattle.mgdb.specs.declared.kv.Kv.{Kv}
 use Rattle.mgdb.specs.declared.status.Stop.{Stop}
-use Rattle.mgdb.specs.CrashLaws.{opening_holds_some, some_asked_longer, some_is_all}
+use Rattle.mgdb.proofs.CrashLaws.{opening_holds_some, some_asked_longer, some_is_all}
 use Rattle.mgdb.specs.Crashes.{HoldsSome, asked}
 use Rattle.mgdb.specs.Fresh.{IsFresh}
 use Rattle.mgdb.specs.Headline.{Counted, IsEntry, IsOpeningOf, IsPrinted, NEW_WRITES, ending, fault_line, of_blank, of_sound}
-use Rattle.mgdb.specs.PrintLaws.{printed_nothing, printed_stopped, whole_nothing}
+use Rattle.mgdb.proofs.PrintLaws.{printed_nothing, printed_stopped, whole_nothing}
 use Rattle.mgdb.specs.ScriptHistory.{nothing, obeyed, onto}
 use Rattle.mgdb.specs.Serving.{IsFreshDisk, LinesDone, NewDone, Reads, Serves, new_history}
 use Rattle.mgdb.specs.Stops.{status_of}
 use Rattle.mgdb.specs.Transcript.{transcript}
-use Rattle.mgdb.specs.WriteLaws.{sound_is_not_blank}
+use Rattle.mgdb.proofs.WriteLaws.{sound_is_not_blank}
 
 -- ---- the disk is read
 
