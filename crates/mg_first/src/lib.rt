@@ -26,3 +26,6 @@ pub use pages::{
 };
 pub use record::{AddFault, RECORD_COST, VERSION_COST};
 pub use rows::store;
+
+#[cfg(test)]
+mod tests;
