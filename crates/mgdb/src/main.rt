@@ -1,10 +1,12 @@
 //! The program: `mgdb run FILE` obeys a script of lines `@put K V` on one file of pages.
 //!
-//! Owns: the words of a command line, the script and its lines, the statuses and the fault lines, and
-//! the private parts that make a new database of seven pages and put rows on its one data page.
+//! Owns: the words of a command line, the script and its lines, the transcript, the statuses and the
+//! fault lines, the history of a script, and the order of page writes in a put.
 //!
-//! Below: `mg_base` for the outside, `mg_tip`, `mg_slots` and `mg_version` for pages and cells, and
-//! `mg_model` for the histories of puts, which `specs/Serial` has with their laws.
+//! Invariant: between two puts the pages on the disk are a sound database that holds what the history
+//! has, and the program keeps those that change as they are there (`specs/Serving`).
+//! Below: `mg_base` for the outside; `mg_first` for the pages and the rows on them; `mg_model` for
+//! histories and `mg_image` for what pages hold, which the promise cites.
 //! Not here: what a page of any kind means.
 #![tactic(auto)]
 
