@@ -1,5 +1,6 @@
 pub mod CrashLaws
 pub mod CrashLemmas
+pub mod EntryLemmas
 pub mod FreshLemmas
 pub mod LineLaws
 pub mod LoopLaws

@@ -1,8 +1,8 @@
 -- What the images hold between the page writes of a put.
 use Rattle.std.proofs.Common.{◌≡◌, ◌≢◌, ◌<◌, ◌+◌, ◌∙◌, ℕ, false, sym, refl, ap, List}
 use Rattle.mg_base.specs.Image.{Image, page_at, page_at-written_other, page_at-written_same, written}
-use Rattle.mg_image.specs.Form.{Form, Pages, Rows, plain_form}
-use Rattle.mg_image.specs.Histories.{HoldsDurable, newest_at}
+use Rattle.mg_image.specs.Form.{Pages, Rows, plain_form}
+use Rattle.mg_image.specs.Histories.{HoldsDurable}
 use Rattle.mg_image.specs.Inventory.{state_at}
 use Rattle.mg_image.specs.Opening.{new_row}
 use Rattle.mg_image.specs.Records.{Reading}
@@ -11,8 +11,8 @@ use Rattle.mg_model.specs.Catalog.{catalog_name}
 use Rattle.mg_model.specs.Changes.{row_at, same_name}
 use Rattle.mg_model.specs.DurableLaws.{durable_is_database}
 use Rattle.mg_model.specs.History.{Entries}
-use Rattle.mg_model.specs.Legal.{after_durable, durable_count, durable_database, is_limbo}
-use Rattle.mg_model.specs.Machine.{database, own, state_of}
+use Rattle.mg_model.specs.Legal.{durable_count, durable_database}
+use Rattle.mg_model.specs.Machine.{database}
 use Rattle.mg_model.specs.NewDatabase.{kv_name}
 use Rattle.mg_value.specs.declared.value.Value.{Value}
 use Rattle.mg_first.specs.FirstImage.{AllCommitted, IsKv}

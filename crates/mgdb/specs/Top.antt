@@ -1,8 +1,13 @@
 -- What the status of the program says of its first disk.
 use Rattle.std.specs.declared.alloc.Global.{Global}
-use Rattle.std.specs.Prelude.{◌≡◌, ◌≤◌, ◌⊎◌, ℕ, List, String, None, Some, length}
+use Rattle.std.specs.Prelude.{◌≡◌, ◌≤◌, ◌⊎◌, ℕ, List, [], String, None, Some, length}
 use Rattle.mg_base.specs.Image.{Image}
 use Rattle.mg_base.specs.Disk.{Meaning, Rose}
+use Rattle.mg_base.specs.MemDisk.{acts_in, mem_meaning}
+use Rattle.mg_base.specs.declared.mem_disk.MemDisk.{MemDisk}
+use Rattle.mg_model.specs.NewDatabase.{new_opening}
+use Rattle.mg_first.specs.declared.pages.TheConstants.{LAST, PAGE}
+use Rattle.mgdb.specs.Headline.{IsEntry}
 use Rattle.mg_base.specs.Streams.{SinkMeaning, SourceMeaning}
 use Rattle.mgdb.specs.Causes.{IsWhole}
 use Rattle.mgdb.specs.declared.script_source.TheConstants.{SCRIPT_MOST}
@@ -28,3 +33,8 @@ Completes m n k words old new source source' sink sink' status =
     → IsFresh (m.size new) image → n.left source ≡ Some script → length script ≤ SCRIPT_MOST
     → (Rose (m.faults old) (m.faults new) → ⊥) → (Rose (n.faults source) (n.faults source') → ⊥)
     → (Rose (k.faults sink) (k.faults sink') → ⊥) → IsWhole status ⊎ (status ≡ 6)
+
+-- a blank disk in memory, with pages of 4096 bytes, is an entry of a new database
+abbrev pub BlankIsEntry : Type 0
+BlankIsEntry = (disk : MemDisk) → acts_in disk ≡ [] → mem_meaning.size disk ≡ Some PAGE
+    → IsEntry mem_meaning disk PAGE (new_opening LAST.0)

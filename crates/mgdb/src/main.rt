@@ -13,6 +13,7 @@
 mod answer;
 mod fresh;
 mod kv;
+mod laws;
 mod number;
 mod page_writes;
 mod run;
@@ -24,6 +25,7 @@ mod top;
 mod words;
 
 use mg_base::{FileDisk, StdSink, StdSource};
+pub use laws::blank_disks_are_entries;
 pub use run::run;
 pub use serial::puts_in_turn;
 pub use status::Status;
