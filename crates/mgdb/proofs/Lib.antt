@@ -1,3 +1,4 @@
+pub mod BlankLemmas
 pub mod CrashLaws
 pub mod CrashLemmas
 pub mod EntryLemmas
@@ -19,4 +20,3 @@ pub mod SerialLaws
 pub mod Stages
 pub mod TopLemmas
 pub mod WordsLemmas
-pub mod WriteLaws

@@ -5,7 +5,8 @@ use Rattle.mg_base.specs.Disk.{Calm, MayLeave, Meaning, Writes}
 use Rattle.mg_base.specs.Image.{Image, page_at, written}
 use Rattle.mg_first.specs.NewDatabase.{IsNewPages}
 use Rattle.mg_first.specs.declared.pages.TheConstants.{PAGE}
-use Rattle.mgdb.proofs.CrashLemmas.{Holding, IsSafe, calm_after, holding, write_failed, written_ok}
+use Rattle.mgdb.proofs.CrashLemmas.{Holding, calm_after, holding, write_failed, written_ok}
+use Rattle.mgdb.proofs.Stages.{Stage}
 use Rattle.mgdb.proofs.NewImageLemmas.{IsStillBlank, blank_some, new_holds, still_blank}
 use Rattle.mgdb.specs.Crashes.{HoldsAt, HoldsSome}
 use Rattle.mgdb.specs.Serving.{IsFreshDisk, IsServed, NewDone, Serves, new_history}
@@ -57,12 +58,12 @@ no_ok (Err e) P is = tt
 
 -- a fault ends the writing
 pub new_stopped : {D : Type 0} (m : Meaning D) (old new : D) (count : ℕ) (kv : Kv)
-    (result : Result (Unit {0}) Stop) → IsSafe m old new HoldsNew count → count ≤ 7
+    (result : Result (Unit {0}) Stop) → Stage m old new HoldsNew count → count ≤ 7
     → IsErr result → NewDone m old new kv result
 new_stopped m old new count kv result safe few is_err = record {
   serves = no_ok result (Serves m kv new new_history []) is_err;
   crash = safe.crash;
-  exit = safe.now;
+  exit = safe.leaves;
   writes = let asked = safe.asked in omega arith;
 }
 
@@ -70,7 +71,7 @@ new_stopped m old new count kv result safe few is_err = record {
 pub nothing_done : {D : Type 0} {m : Meaning D} {old new : D} {image : Image}
     → NewSoFar m old new 0 image → (kv : Kv) (stop : Stop) → NewDone m old new kv (Err stop)
 nothing_done {D} {m} {old} {new} {image} so_far kv stop =
-    new_stopped m old new 0 kv (Err stop) so_far.holds.safe (lit≤ tt) refl
+    new_stopped m old new 0 kv (Err stop) so_far.holds.stage (lit≤ tt) refl
 
 -- a page write behind page 0 failed
 pub new_failed : {D T E : Type 0} {m : Meaning D} {old mid new : D} {count : ℕ} {image : Image}
@@ -123,7 +124,7 @@ pub settle_failed : {D T E : Type 0} {m : Meaning D} {old mid new : D} {image : 
     (stop : Stop) → NewDone m old new kv (Err stop)
 settle_failed {D} {T} {E} {m} {old} {mid} {new} {image} {settled} all calm kv stop =
     new_stopped m old new 7 kv (Err stop)
-    (calm_after m old mid new HoldsNew 7 image settled all.holds calm).safe (lit≤ tt) refl
+    (calm_after m old mid new HoldsNew 7 image settled all.holds calm).stage (lit≤ tt) refl
 
 some_image : (i c : Image) → Some i ≡ Some c → i ≡ c
 some_image i c same = cc
@@ -136,16 +137,16 @@ pub settled : {D T E : Type 0} {m : Meaning D} {old mid new : D} {image : Image}
 settled {D} {T} {E} {m} {old} {mid} {new} {image} {settled} all calm durable kv x served =
     record {
       serves = record {
-        told = done.safe.told;
+        told = done.stage.told;
         image = image;
         held = done.held;
         served = served;
         now = λ c may. subst (HoldsAt PAGE new_history [] 0)
-            (same c (durable all.holds.safe.told c may)) (new_holds image all.pages);
+            (same c (durable all.holds.stage.told c may)) (new_holds image all.pages);
       };
-      crash = done.safe.crash;
-      exit = done.safe.now;
-      writes = done.safe.asked;
+      crash = done.stage.crash;
+      exit = done.stage.leaves;
+      writes = done.stage.asked;
     }
   where
     done : Holding m old new HoldsNew 7 image

@@ -1,8 +1,8 @@
 -- Laws of what is printed: pieces one after another, and the line of a fault.
-use Rattle.std.specs.Prelude.{◌≡◌, ◌≤◌, ◌+◌, ℕ, List, [], ◌++◌, length, min, take, Some, Result, Ok, Err, OnOk, refl}
+use Rattle.std.specs.Prelude.{◌≡◌, ◌≤◌, ◌+◌, ℕ, List, [], ◌++◌, length, take, Some, Result, Ok, Err, OnOk, refl}
 use Rattle.std.proofs.Common.{sym, ◌∙◌, ap, arith, inl, inr, append-nil, append_assoc}
 use Rattle.std.proofs.Math.Seq.{take-append-add}
-use Rattle.std.proofs.lemmas.List.{take-append-le, take_all, take_min}
+use Rattle.std.proofs.lemmas.List.{take_all}
 use Rattle.mg_base.specs.Disk.{Rose}
 use Rattle.mg_base.specs.Streams.{Puts, SinkMeaning}
 use Rattle.mgdb.specs.Headline.{IsPrintedWhole, IsPrinted, fault_line}
@@ -10,7 +10,6 @@ use Rattle.mgdb.specs.Stops.{IsObeyingStop}
 use Rattle.mgdb.specs.declared.status.Stop.{Stop}
 use Rattle.mgdb.specs.declared.status.Stop.TheVariants.{DiskRead, DiskWrite, Memory, ScriptTooLong, Stream, UnknownImage}
 use Rattle.mgdb.specs.declared.status.Place.TheVariants as places
-
 
 -- ---- pieces that were taken whole
 
@@ -37,8 +36,11 @@ whole_more n a b c xs ys first next = record {
 pub printed_whole : {K : Type 0} (n : SinkMeaning K) (old new : K) (bytes : List ℕ)
     → IsPrintedWhole n old new bytes → IsPrinted n old new bytes
 printed_whole n old new bytes whole = record {
-  prefix = λ before is. (length bytes, whole.all before is
-      ∙ ap (λ taken. Some (before ++ taken)) (sym (take_all (length bytes) bytes (omega arith))));
+  prefix = λ before is. (
+    length bytes,
+    whole.all before is
+        ∙ ap (λ taken. Some (before ++ taken)) (sym (take_all (length bytes) bytes (omega arith))),
+  );
   whole = λ steady before is. whole.all before is;
 }
 
@@ -68,21 +70,11 @@ printed_behind n a b c xs ys first next = record {
   where
     at : (before : List ℕ) → (k : ℕ) × (n.taken c ≡ Some ((before ++ xs) ++ take k ys))
         → (k : ℕ) × (n.taken c ≡ Some (before ++ take k (xs ++ ys)))
-    at before (k, is) = (length xs + k, is ∙ ap Some (append_assoc before xs (take k ys)
-        ∙ ap (λ taken. before ++ taken) (sym (take-append-add xs ys k))))
-
--- where a call failed, what was to come behind is not taken
-pub printed_failed : {K : Type 0} (n : SinkMeaning K) (old new : K) (xs ys : List ℕ)
-    → Rose (n.faults old) (n.faults new) → IsPrinted n old new xs → IsPrinted n old new (xs ++ ys)
-printed_failed n old new xs ys rose printed = record {
-  prefix = λ before is. at before (printed.prefix before is);
-  whole = λ steady before is. absurd (steady rose);
-}
-  where
-    at : (before : List ℕ) → (k : ℕ) × (n.taken new ≡ Some (before ++ take k xs))
-        → (k : ℕ) × (n.taken new ≡ Some (before ++ take k (xs ++ ys)))
-    at before (k, is) = (min k (length xs), is ∙ ap (λ taken. Some (before ++ taken))
-        (sym (take-append-le (min k (length xs)) xs ys (omega arith) ∙ take_min k xs)))
+    at before (k, is) = (
+      length xs + k,
+      is ∙ ap Some (append_assoc before xs (take k ys)
+          ∙ ap (λ taken. before ++ taken) (sym (take-append-add xs ys k))),
+    )
 
 -- nothing more
 pub printed_then_nothing : {K : Type 0} (n : SinkMeaning K) (a b c : K) (xs : List ℕ)
@@ -110,15 +102,11 @@ printed_then_nothing n a b c xs first grows next = record {
 
     at : (before : List ℕ) → (k : ℕ) × (n.taken b ≡ Some (before ++ take k xs))
         → (k : ℕ) × (n.taken c ≡ Some (before ++ take k (xs ++ [])))
-    at before (k, is) = (k, unchanged (before ++ take k xs) is
-        ∙ ap (λ taken. Some (before ++ take k taken)) (sym (append-nil xs)))
-
--- where the count of faults did not rise, all was taken
-pub whole_unless_rose : {K : Type 0} (n : SinkMeaning K) (old new : K) (bytes : List ℕ)
-    → (Rose (n.faults old) (n.faults new) → ⊥) → n.faults new ≡ n.faults old
-    → IsPrinted n old new bytes → IsPrintedWhole n old new bytes
-whole_unless_rose n old new bytes calm steady printed =
-    record { all = printed.whole calm; steady = steady }
+    at before (k, is) = (
+      k,
+      unchanged (before ++ take k xs) is
+          ∙ ap (λ taken. Some (before ++ take k taken)) (sym (append-nil xs)),
+    )
 
 -- ---- the line of a fault
 

@@ -21,7 +21,7 @@ use Rattle.mgdb.specs.ScriptHistory.{nothing, obeyed, onto}
 use Rattle.mgdb.specs.Serving.{IsFreshDisk, LinesDone, NewDone, Reads, Serves, new_history}
 use Rattle.mgdb.specs.Stops.{status_of}
 use Rattle.mgdb.specs.Transcript.{transcript}
-use Rattle.mgdb.proofs.WriteLaws.{sound_is_not_blank}
+use Rattle.mgdb.proofs.BlankLemmas.{sound_is_not_blank}
 
 -- ---- the disk is read
 

@@ -1,14 +1,13 @@
 -- What a run on a disk behind a fuse says of the disk.
-use Rattle.std.proofs.Common.{◌≡◌, ◌<◌, ◌⊎◌, inl, inr, ℕ, zero, suc, List, [], ◌∷◌, None, Some, sym, refl, arith, subst}
-use Rattle.mg_base.specs.Disk.{Meaning, Rose}
-use Rattle.mg_base.specs.Streams.{SinkMeaning, SourceMeaning}
+use Rattle.std.proofs.Common.{◌≡◌, inr, ℕ, List, sym, subst}
+use Rattle.mg_base.specs.Disk.{Meaning}
+use Rattle.mg_base.specs.Streams.{SinkMeaning}
 use Rattle.mg_model.specs.declared.opening.Opening.{Opening}
 use Rattle.mg_base.specs.Fused.{fused_meaning, inner_of}
 use Rattle.mg_base.specs.declared.fused.Fused.{Fused}
-use Rattle.mgdb.specs.Causes.{DiskCauses, IsWhole, ScriptCauses, StreamCauses}
+use Rattle.mgdb.specs.Causes.{DiskCauses}
 use Rattle.mgdb.specs.Headline.{Headline, IsEntry}
-use Rattle.mgdb.specs.Top.{Completes, ShelfCauses}
-use Rattle.mgdb.specs.Words.{IsRun}
+use Rattle.mgdb.specs.Top.{ShelfCauses}
 
 pub shelf_of_fused : {D : Type 0} (m : Meaning D) (stopped : Type 0) (first result : D) (old new : Fused D) (status : ℕ) → inner_of old ≡ first → result ≡ inner_of new → stopped
     → DiskCauses (fused_meaning m) old new status → ShelfCauses m stopped first result status
@@ -64,51 +63,3 @@ line_of_fused m n size o script first result old new before after status was is 
       };
       exit = line.exit;
     }
-
--- ---- completeness
-
--- no command line is both
-pub not_both : (words : List (List ℕ)) (n : ℕ) → IsRun words None → IsRun words (Some n) → ⊥
-not_both [] n run also = run
-not_both (a ∷ []) n run also = run
-not_both (a ∷ b ∷ []) n run also = run
-not_both (a ∷ b ∷ c ∷ []) n run also = also
-not_both (a ∷ b ∷ c ∷ d ∷ []) n run also = run
-not_both (a ∷ b ∷ c ∷ d ∷ e ∷ []) n run also = run
-not_both (a ∷ b ∷ c ∷ d ∷ e ∷ f ∷ words) n run also = run
-
--- what is none of the causes is the end of the script, or want of memory
-pub by_causes : (status : ℕ) → status < 8 → (status ≡ 2 → ⊥) → (status ≡ 3 → ⊥)
-    → (status ≡ 4 → ⊥) → (status ≡ 5 → ⊥) → (status ≡ 7 → ⊥) → IsWhole status ⊎ (status ≡ 6)
-by_causes zero below no2 no3 no4 no5 no7 = inl (inl refl)
-by_causes (suc zero) below no2 no3 no4 no5 no7 = inl (inr refl)
-by_causes (suc (suc zero)) below no2 no3 no4 no5 no7 = absurd (no2 refl)
-by_causes (suc (suc (suc zero))) below no2 no3 no4 no5 no7 = absurd (no3 refl)
-by_causes (suc (suc (suc (suc zero)))) below no2 no3 no4 no5 no7 = absurd (no4 refl)
-by_causes (suc (suc (suc (suc (suc zero))))) below no2 no3 no4 no5 no7 = absurd (no5 refl)
-by_causes (suc (suc (suc (suc (suc (suc zero)))))) below no2 no3 no4 no5 no7 = inr refl
-by_causes (suc (suc (suc (suc (suc (suc (suc zero))))))) below no2 no3 no4 no5 no7 =
-    absurd (no7 refl)
-by_causes (suc (suc (suc (suc (suc (suc (suc (suc n)))))))) below no2 no3 no4 no5 no7 =
-    absurd (omega (arith, below))
-
--- the causes of a run without a fuse
-pub completes : {D S K : Type 0} (m : Meaning D) (n : SourceMeaning S) (k : SinkMeaning K)
-    (words : List (List ℕ)) (stopped : Type 0) (old new : D) (source source' : S) (sink sink' : K)
-    (status : ℕ) → status < 8 → (status ≡ 2 → IsRun words None → ⊥)
-    → ShelfCauses m stopped old new status → (stopped → IsRun words None → ⊥)
-    → StreamCauses n k source source' sink sink' status → ScriptCauses n source status
-    → Completes m n k words old new source source' sink sink' status
-completes m n k words stopped old new source source' sink sink' status below no_usage disk no_stop
-    streams script image text run held fresh left short disk_ok source_ok sink_ok =
-    by_causes status below (λ is. no_usage is run) (λ is. failed (disk.failed is))
-    (λ is. disk.unknown is image held fresh) (λ is. stream (streams.failed is))
-    (λ is. let long = script.too_long is text left in absurd (omega (arith, long, short)))
-  where
-    failed : Rose (m.faults old) (m.faults new) ⊎ stopped → ⊥
-    failed (inl rose) = disk_ok rose
-    failed (inr given) = no_stop given run
-
-    stream : Rose (n.faults source) (n.faults source') ⊎ Rose (k.faults sink) (k.faults sink') → ⊥
-    stream (inl rose) = source_ok rose
-    stream (inr rose) = sink_ok rose

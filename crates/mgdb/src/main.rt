@@ -24,8 +24,8 @@ mod status;
 mod top;
 mod words;
 
-use mg_base::{FileDisk, StdSink, StdSource};
 pub use laws::blank_disks_are_entries;
+use mg_base::{FileDisk, StdSink, StdSource};
 pub use run::run;
 pub use serial::puts_in_turn;
 pub use status::Status;
