@@ -35,7 +35,8 @@ pub fn run<D: Disk, S: Source, K: Sink>(
     sink: &mut K,
 ) -> Status
     ensures disk { DiskCauses D.meaning disk.old disk.new result.0 }
-    ensures streams { StreamCauses S.meaning K.meaning source.old source.new sink.old sink.new result.0 }
+    ensures streams { StreamCauses S.meaning K.meaning source.old source.new sink.old sink.new
+        result.0 }
     ensures script { ScriptCauses S.meaning source.old result.0 }
     ensures not_asked { result.0 ≡ 7 → disk.new ≡ disk.old }
     ensures range { (result.0 < 8) × (result.0 ≢ 2) }
