@@ -102,7 +102,7 @@ pub put_said : {D K : Type 0} (m : Meaning D) (n : SinkMeaning K) (old new : D) 
     → PutLineDone m n old new kv before after o h k v (Ok ok)
 put_said m n old new kv before after o h k v answer bytes ok done is said same =
     let text = is
-        ∙ ap (λ (told : List ℕ). codes "@put: " ++ told ++ 10 ∷ []) (sym done.says.text) in
+    ∙ ap (λ (told : List ℕ). codes "@put: " ++ told ++ 10 ∷ []) (sym done.says.text) in
     let whole = subst (λ (line : List ℕ). IsPrintedWhole n before after line) text said in
     record {
       entries = done.entries;
@@ -126,7 +126,7 @@ pub put_unsaid : {D K : Type 0} (m : Meaning D) (n : SinkMeaning K) (old new : D
     → PutLineDone m n old new kv before after o h k v (Err stop)
 put_unsaid m n old new kv before after o h k v answer bytes stop done is printed =
     let text = is
-        ∙ ap (λ (told : List ℕ). codes "@put: " ++ told ++ 10 ∷ []) (sym done.says.text) in
+    ∙ ap (λ (told : List ℕ). codes "@put: " ++ told ++ 10 ∷ []) (sym done.says.text) in
     record {
       entries = done.entries;
       gives = inl done.gives;
@@ -149,7 +149,7 @@ pub put_ended : {D K : Type 0} (m : Meaning D) (n : SinkMeaning K) (old new : D)
     → PutLineDone m n old new kv before after o h k v (Err stop)
 put_ended m n old new kv before after o h k v stop bytes done is printed =
     let text = is
-        ∙ ap (λ (told : List ℕ). codes "@put: " ++ told ++ 10 ∷ []) (sym done.tells) in
+    ∙ ap (λ (told : List ℕ). codes "@put: " ++ told ++ 10 ∷ []) (sym done.tells) in
     record {
       entries = done.entries;
       gives = inr done.ends;

@@ -141,7 +141,7 @@ pub lines_ended : {D K : Type 0} (m : Meaning D) (n : SinkMeaning K) (old new : 
     → LinesDone m n old new before after PAGE 0 o script (Ok all)
 lines_ended m n old new kv before after o script rest number all so none =
     let settled : asked (onto [] so.entries) ≡ onto [] so.entries =
-        asked_obeyed o so.met so.entries so.obeys in
+    asked_obeyed o so.met so.entries so.obeys in
     record {
       texts = so.texts;
       rest = [];

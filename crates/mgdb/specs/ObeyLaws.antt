@@ -105,17 +105,17 @@ transcript_more o met es nothing n later rest =
 transcript_more o met es (more lines before line new obeys gives) n later rest =
     let tells = line_tells o (onto [] before) line new gives in
     let whole : transcript n ((lines ++ line ∷ []) ++ later) ((before ++ new) ++ rest)
-        ≡ transcript n lines before ++ (line_text (n + length lines) line new
-        ++ transcript (n + length lines + 1) later rest) =
+    ≡ transcript n lines before ++ (line_text (n + length lines) line new
+    ++ transcript (n + length lines + 1) later rest) =
     rw (append_assoc lines (line ∷ []) later, append_assoc before new rest)
-        (transcript_more o lines before obeys n (line ∷ later) (new ++ rest)
-        ∙ ap (λ text. transcript n lines before
-        ++ (text ++ transcript (n + length lines + 1) later (behind line (new ++ rest))))
-        (tells.text (n + length lines) rest)
-        ∙ ap (λ left. transcript n lines before ++ (line_text (n + length lines) line new
-        ++ transcript (n + length lines + 1) later left)) (tells.left rest)) in
+    (transcript_more o lines before obeys n (line ∷ later) (new ++ rest)
+    ∙ ap (λ text. transcript n lines before
+    ++ (text ++ transcript (n + length lines + 1) later (behind line (new ++ rest))))
+    (tells.text (n + length lines) rest)
+    ∙ ap (λ left. transcript n lines before ++ (line_text (n + length lines) line new
+    ++ transcript (n + length lines + 1) later left)) (tells.left rest)) in
     let front : transcript n (lines ++ line ∷ []) (before ++ new)
-        ≡ transcript n lines before ++ (line_text (n + length lines) line new ++ []) =
+    ≡ transcript n lines before ++ (line_text (n + length lines) line new ++ []) =
     transcript_more o lines before obeys n (line ∷ []) new in
     whole ∙ joined (transcript n lines before) (line_text (n + length lines) line new)
     (n + length lines + 1) (n + length (lines ++ line ∷ [])) (one_further n lines line)
@@ -129,15 +129,15 @@ all_ok_more o met es nothing later rest = refl
 all_ok_more o met es (more lines before line new obeys gives) later rest =
     let tells = line_tells o (onto [] before) line new gives in
     let whole : all_ok ((lines ++ line ∷ []) ++ later) ((before ++ new) ++ rest)
-        ≡ (all_ok lines before && (line_ok line new && all_ok later rest)) =
+    ≡ (all_ok lines before && (line_ok line new && all_ok later rest)) =
     rw (append_assoc lines (line ∷ []) later, append_assoc before new rest)
-        (all_ok_more o lines before obeys (line ∷ later) (new ++ rest)
-        ∙ ap (λ ok. all_ok lines before
-        && (ok && all_ok later (behind line (new ++ rest)))) (tells.ok rest)
-        ∙ ap (λ left. all_ok lines before && (line_ok line new && all_ok later left))
-        (tells.left rest)) in
+    (all_ok_more o lines before obeys (line ∷ later) (new ++ rest)
+    ∙ ap (λ ok. all_ok lines before
+    && (ok && all_ok later (behind line (new ++ rest)))) (tells.ok rest)
+    ∙ ap (λ left. all_ok lines before && (line_ok line new && all_ok later left))
+    (tells.left rest)) in
     let front : all_ok (lines ++ line ∷ []) (before ++ new)
-        ≡ (all_ok lines before && (line_ok line new && true)) =
+    ≡ (all_ok lines before && (line_ok line new && true)) =
     all_ok_more o lines before obeys (line ∷ []) new in
     whole ∙ conjoined (all_ok lines before) (line_ok line new) (all_ok later rest)
     ∙ ap (λ ok. ok && all_ok later rest) (sym front)

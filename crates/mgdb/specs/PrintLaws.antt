@@ -42,8 +42,11 @@ whole_more n a b c xs ys first next = record {
 pub printed_whole : {K : Type 0} (n : SinkMeaning K) (old new : K) (bytes : List ℕ)
     → IsPrintedWhole n old new bytes → IsPrinted n old new bytes
 printed_whole n old new bytes whole = record {
-  prefix = λ before is. (length bytes, whole.all before is
-      ∙ ap (λ taken. Some (before ++ taken)) (sym (take_all (length bytes) bytes (omega arith))));
+  prefix = λ before is. (
+    length bytes,
+    whole.all before is
+        ∙ ap (λ taken. Some (before ++ taken)) (sym (take_all (length bytes) bytes (omega arith))),
+  );
   whole = λ steady before is. whole.all before is;
 }
 
@@ -73,8 +76,11 @@ printed_behind n a b c xs ys first next = record {
   where
     at : (before : List ℕ) → (k : ℕ) × (n.taken c ≡ Some ((before ++ xs) ++ take k ys))
         → (k : ℕ) × (n.taken c ≡ Some (before ++ take k (xs ++ ys)))
-    at before (k, is) = (length xs + k, is ∙ ap Some (append_assoc before xs (take k ys)
-        ∙ ap (λ taken. before ++ taken) (sym (take-append-add xs ys k))))
+    at before (k, is) = (
+      length xs + k,
+      is ∙ ap Some (append_assoc before xs (take k ys)
+          ∙ ap (λ taken. before ++ taken) (sym (take-append-add xs ys k))),
+    )
 
 -- where a call failed, what was to come behind is not taken
 pub printed_failed : {K : Type 0} (n : SinkMeaning K) (old new : K) (xs ys : List ℕ)
@@ -86,8 +92,11 @@ printed_failed n old new xs ys rose printed = record {
   where
     at : (before : List ℕ) → (k : ℕ) × (n.taken new ≡ Some (before ++ take k xs))
         → (k : ℕ) × (n.taken new ≡ Some (before ++ take k (xs ++ ys)))
-    at before (k, is) = (min k (length xs), is ∙ ap (λ taken. Some (before ++ taken))
-        (sym (take-append-le (min k (length xs)) xs ys (omega arith) ∙ take_min k xs)))
+    at before (k, is) = (
+      min k (length xs),
+      is ∙ ap (λ taken. Some (before ++ taken))
+          (sym (take-append-le (min k (length xs)) xs ys (omega arith) ∙ take_min k xs)),
+    )
 
 -- nothing more
 pub printed_then_nothing : {K : Type 0} (n : SinkMeaning K) (a b c : K) (xs : List ℕ)
@@ -115,8 +124,11 @@ printed_then_nothing n a b c xs first grows next = record {
 
     at : (before : List ℕ) → (k : ℕ) × (n.taken b ≡ Some (before ++ take k xs))
         → (k : ℕ) × (n.taken c ≡ Some (before ++ take k (xs ++ [])))
-    at before (k, is) = (k, unchanged (before ++ take k xs) is
-        ∙ ap (λ taken. Some (before ++ take k taken)) (sym (append-nil xs)))
+    at before (k, is) = (
+      k,
+      unchanged (before ++ take k xs) is
+          ∙ ap (λ taken. Some (before ++ take k taken)) (sym (append-nil xs)),
+    )
 
 -- where the count of faults did not rise, all was taken
 pub whole_unless_rose : {K : Type 0} (n : SinkMeaning K) (old new : K) (bytes : List ℕ)

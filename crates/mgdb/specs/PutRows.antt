@@ -152,25 +152,25 @@ pub committed_served : (kv after : Kv) (old two new : Pages) (o : Opening) (h : 
     → IsServed after new o (committed o h found k v)
 committed_served kv after old two new o h served page bits k v found is_found below wrote sets only
     is keeps = record {
-  reading = wrote.reading;
-  rows = with_row_at served.rows (Int k) (kv_row k v);
-  is_kv = rw keeps.next (commit_law two new wrote.reading (kv.next.0 + 1) served.rows kv.next.0 k v
-      wrote.slot wrote.is_kv (omega arith) wrote.pending commits);
-  committed = all_committed two new wrote.reading (kv.next.0 + 1) served.rows kv.next.0 k v
-      wrote.slot wrote.is_kv (omega arith) wrote.pending commits;
-  header = rw (keeps.next, only HEADER.0 (λ z. omega (arith, z))) wrote.header;
-  bits = is ∙ sym keeps.transactions;
-  page = only KV_ROWS.0 (λ z. omega (arith, z)) ∙ (wrote.here ∙ sym keeps.rows);
-  no_free = rw keeps.rows wrote.full;
-  rest = rw keeps.rows room;
-  quiet = committed_is_quiet o h served.quiet more found k v is_found;
-  limit = served.limit;
-  drawn = committed_next o h served.quiet found k v ∙ (rw keeps.next (let d = served.drawn in omega (arith, d)));
-  first = let n = keeps.next in omega (arith, n);
-  same = λ key. rows_same key ∙ sym (committed_row o h served.quiet found k v kv_name key);
-  others = λ name key apart. committed_row_else o h served.quiet found k v name key
-      (λ same_ _. other_name name apart same_) ∙ served.others name key apart;
-}
+      reading = wrote.reading;
+      rows = with_row_at served.rows (Int k) (kv_row k v);
+      is_kv = rw keeps.next (commit_law two new wrote.reading (kv.next.0 + 1) served.rows kv.next.0 k v
+          wrote.slot wrote.is_kv (omega arith) wrote.pending commits);
+      committed = all_committed two new wrote.reading (kv.next.0 + 1) served.rows kv.next.0 k v
+          wrote.slot wrote.is_kv (omega arith) wrote.pending commits;
+      header = rw (keeps.next, only HEADER.0 (λ z. omega (arith, z))) wrote.header;
+      bits = is ∙ sym keeps.transactions;
+      page = only KV_ROWS.0 (λ z. omega (arith, z)) ∙ (wrote.here ∙ sym keeps.rows);
+      no_free = rw keeps.rows wrote.full;
+      rest = rw keeps.rows room;
+      quiet = committed_is_quiet o h served.quiet more found k v is_found;
+      limit = served.limit;
+      drawn = committed_next o h served.quiet found k v ∙ (rw keeps.next (let d = served.drawn in omega (arith, d)));
+      first = let n = keeps.next in omega (arith, n);
+      same = λ key. rows_same key ∙ sym (committed_row o h served.quiet found k v kv_name key);
+      others = λ name key apart. committed_row_else o h served.quiet found k v name key
+          (λ same_ _. other_name name apart same_) ∙ served.others name key apart;
+    }
   where
     commits : CommitsBits two new kv.next.0
     commits = record { bits = rw (wrote.bits, is) sets; others = only }
@@ -197,4 +197,3 @@ committed_served kv after old two new o h served page bits k v found is_found be
             ≡ cond b (Some (row_of k v)) (row_at (database o h) kv_name key)
         at true = refl
         at false = served.same key
-

@@ -75,4 +75,3 @@ stage_calm m start old new P k result stage calm = record {
   where
     leaves : (c : Image) → MayLeave m new c → P c
     leaves c left = stage.leaves c (calm.crash stage.told c left)
-

@@ -66,9 +66,9 @@ returns-in_default g c = record {
       put_said g.D.Disk.meaning g.K.Sink.meaning c.args.disk.now c.put.new.disk c.put.new.self
       c.args.sink.now c.say.new.sink o h c.args.key c.args.value c.in-Ok.answer
       c.line.result.bytes false (same_put g.D.Disk.meaning c.args.disk.now c.put.new.disk c.put.new.self o h
-    c.args.key (to_z w64 (of_z w64 c.args.key)) c.args.value (to_z w64 (of_z w64 c.args.value))
-    (Ok c.in-Ok.answer) (to_z-of_z w64 c.args.key c.ranges.key)
-    (to_z-of_z w64 c.args.value c.ranges.value) (c.in-Ok.ensures.done o h serves)) c.line.ensures
+      c.args.key (to_z w64 (of_z w64 c.args.key)) c.args.value (to_z w64 (of_z w64 c.args.value))
+      (Ok c.in-Ok.answer) (to_z-of_z w64 c.args.key c.ranges.key)
+      (to_z-of_z w64 c.args.value c.ranges.value) (c.in-Ok.ensures.done o h serves)) c.line.ensures
       c.in_ok-say-in-Ok.ensures.whole (not_stored c.in-Ok.answer c.in_default.not-Stored);
 }
 

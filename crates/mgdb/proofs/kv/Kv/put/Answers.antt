@@ -32,7 +32,7 @@ returns-in-Err-NoRoom-clause-done g c = λ o h s.
     below c.write_page.new.disk c.header_page.new.b c.in_ok-write_page.field-0
     c.header_page.ensures c.in_ok-write_page.ensures.writes in
     case_full g.D.Disk.meaning c.args.disk.now c.args.self.now o h c.args.key c.args.value s below
-    c.write_page.new.disk head _ refl refl refl 
+    c.write_page.new.disk head _ refl refl refl
     (rw (c.in-Err-NoRoom.field-0-is, to_z-of_z w64 c.args.key c.ranges.key) at
     c.in-Err-NoRoom.ensures.no_room)
 
