@@ -1,5 +1,9 @@
 //! What no clause shows: whole outputs, the order of page writes, and each call that fails in turn.
 
+mod crashes;
+mod limits;
+mod reading;
+
 use super::*;
 use mg_base::{Disk, FaultyDisk, MemDisk, MemSink, MemSource, PageNo};
 use std::test::Fail;
@@ -188,54 +192,6 @@ fn scripts_answer_line_by_line(rt: HostRuntime) -> Result<(), Fail> {
 }
 
 #[test]
-fn a_run_that_is_stopped_says_where(rt: HostRuntime) -> Result<(), Fail> {
-    let whole = "@put: OK TX 1\n@put: OK TX 2\n";
-    for stop in 0u32..15 {
-        let line = format!(in rt.alloc(); "run db --stop {stop}")?;
-        let mut made = call(&rt, line.as_str(), blank(&rt)?, b"@put 1 10\n@put 1 20\n")?;
-        let (status, printed) = match stop {
-            0..=6 => (3, "mgdb: DISK WRITE FAULT\n"),
-            7..=9 => (3, "@put: DISK WRITE FAULT\n"),
-            10..=12 => (3, "@put: OK TX 1\n@put: DISK WRITE FAULT\n"),
-            _ => (0, whole),
-        };
-        assert_eq!(rt; made.status, status, "--stop {stop}");
-        assert_eq!(rt; made.printed.as_str(), printed, "--stop {stop}");
-        let wanted_writes = if stop < 13 { stop as usize } else { 13 };
-        assert_eq!(rt; made.disk.writes(), wanted_writes, "--stop {stop}");
-        // The image is blank until page 0 is written; then the bits tell what is committed.
-        let header = byte(&mut made.disk, 0, 0);
-        let bits = byte(&mut made.disk, 2, 20);
-        match stop {
-            0 => assert_eq!(rt; header, None),
-            1..=6 => assert_eq!(rt; header, Some(0), "--stop {stop}"),
-            7..=9 => assert_eq!(rt; bits, Some(0x03), "--stop {stop}"),
-            10..=12 => assert_eq!(rt; bits, Some(0x0f), "--stop {stop}"),
-            _ => assert_eq!(rt; bits, Some(0x3f), "--stop {stop}"),
-        }
-    }
-    Ok(())
-}
-
-#[test]
-fn ninety_two_records_fill_the_page(rt: HostRuntime) -> Result<(), Fail> {
-    let mut script = String::new(rt.alloc());
-    let mut wanted = String::new(rt.alloc());
-    for key in 1..94 {
-        script.push_str(format!(in rt.alloc(); "@put {key} 10\n")?.as_str())?;
-        if key < 93 {
-            wanted.push_str(format!(in rt.alloc(); "@put: OK TX {key}\n")?.as_str())?;
-        }
-    }
-    wanted.push_str("@put: DATABASE FULL LIMIT 7\n")?;
-    let made = call(&rt, "run db", blank(&rt)?, script.as_bytes())?;
-    assert_eq!(rt; made.printed.as_str(), wanted.as_str());
-    assert_eq!(rt; made.status, 1);
-    assert_eq!(rt; made.disk.writes(), 7 + 92 * 3 + 1);
-    Ok(())
-}
-
-#[test]
 fn words_outside_the_grammar_are_told_the_usage(rt: HostRuntime) -> Result<(), Fail> {
     for line in [
         "",
@@ -288,54 +244,6 @@ fn a_script_past_its_limit_leaves_the_disk_unasked(rt: HostRuntime) -> Result<()
     assert_eq!(rt; made.printed.as_str(), "mgdb: SCRIPT TOO LONG\n");
     assert_eq!(rt; made.status, 7);
     assert_eq!(rt; made.disk.calls(), 0);
-    Ok(())
-}
-
-#[test]
-fn a_stream_that_fails_ends_the_run_with_status_5(rt: HostRuntime) -> Result<(), Fail> {
-    let script = b"@put 1 10\n@put 1 20\n";
-    // The source is asked twice: for the script, and for its end.
-    for call_number in [1, 2] {
-        let made = call_with(&rt, "run db", blank(&rt)?, script, &[call_number], &[])?;
-        assert_eq!(rt; made.status, 5, "take {call_number}");
-        assert_eq!(rt; made.printed.as_str(), "", "take {call_number}");
-        assert_eq!(rt; made.disk.writes(), 0, "take {call_number}");
-    }
-    // What was committed before a line was refused by the sink stays.
-    for (call_number, printed, writes) in [(1, "", 10), (2, "@put: OK TX 1\n", 13)] {
-        let made = call_with(&rt, "run db", blank(&rt)?, script, &[], &[call_number])?;
-        assert_eq!(rt; made.status, 5, "put {call_number}");
-        assert_eq!(rt; made.printed.as_str(), printed, "put {call_number}");
-        assert_eq!(rt; made.disk.writes(), writes, "put {call_number}");
-    }
-    // A sink that fails at the line of another status leaves that status.
-    let made = call_with(&rt, "run db --stop 0", blank(&rt)?, script, &[], &[1])?;
-    assert_eq!(rt; made.status, 3);
-    let made = call_with(&rt, "walk", blank(&rt)?, script, &[], &[1])?;
-    assert_eq!(rt; made.status, 2);
-    Ok(())
-}
-
-#[test]
-fn each_call_of_the_disk_that_fails_is_told(rt: HostRuntime) -> Result<(), Fail> {
-    // The disk is asked for its page size and its pages, takes seven page writes and a settle, three
-    // writes and a settle, and a settle at the end.
-    for bad in 1u32..16 {
-        let disk = FaultyDisk::new(blank(&rt)?, vec![in rt.alloc(); bad]?);
-        let made = call(&rt, "run db", disk, b"@put 1 10\n")?;
-        let (status, printed) = match bad {
-            1..=2 => (3, "mgdb: DISK READ FAULT\n"),
-            3..=10 => (3, "mgdb: DISK WRITE FAULT\n"),
-            11..=14 => (3, "@put: DISK WRITE FAULT\n"),
-            _ => (3, "@put: OK TX 1\nmgdb: DISK WRITE FAULT\n"),
-        };
-        assert_eq!(rt; made.printed.as_str(), printed, "call {bad}");
-        assert_eq!(rt; made.status, status, "call {bad}");
-    }
-    let disk = FaultyDisk::new(blank(&rt)?, vec![in rt.alloc(); 16]?);
-    let made = call(&rt, "run db", disk, b"@put 1 10\n")?;
-    assert_eq!(rt; made.disk.calls(), 15);
-    assert_eq!(rt; made.status, 0);
     Ok(())
 }
 
