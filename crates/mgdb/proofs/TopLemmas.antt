@@ -1,29 +1,36 @@
--- What a run on a disk behind a fuse says of the disk.
-use Rattle.std.proofs.Common.{◌≡◌, inr, ℕ, List, sym, subst}
-use Rattle.mg_base.specs.Disk.{Meaning}
-use Rattle.mg_base.specs.Streams.{SinkMeaning}
+-- What a run on a disk of a stopped run says of the disk.
+use Rattle.std.proofs.Common.{◌≡◌, ◌≢◌, ◌≤◌, ◌<◌, ◌+◌, ◌^◌, ◌⊎◌, inl, inr, ℕ, zero, suc, List, [], ◌∷◌, ◌∙◌, ap, Option, Some, None, sym, refl, arith, subst}
+use Rattle.std.proofs.lemmas.Bool.{cases_eq}
+use Rattle.std.proofs.lemmas.Fmt.{decimal_injective}
+use Rattle.mg_base.specs.Disk.{MayLeave, Meaning, Rose}
+use Rattle.mg_base.specs.Image.{Image}
+use Rattle.mg_base.specs.Moments.{LeavesOnly}
+use Rattle.mg_base.specs.Streams.{SinkMeaning, SourceMeaning}
 use Rattle.mg_model.specs.declared.opening.Opening.{Opening}
-use Rattle.mg_base.specs.Fused.{fused_meaning, inner_of}
-use Rattle.mg_base.specs.declared.fused.Fused.{Fused}
-use Rattle.mgdb.specs.Causes.{DiskCauses}
-use Rattle.mgdb.specs.Headline.{Headline, IsEntry}
-use Rattle.mgdb.specs.Top.{ShelfCauses}
+use Rattle.mgdb.specs.Stopped.{IsUnused, inner_of, stopped_meaning}
+use Rattle.mgdb.specs.declared.stopped.Stopped.{Stopped}
+use Rattle.mgdb.specs.Causes.{DiskCauses, IsWhole, ScriptCauses, StreamCauses}
+use Rattle.mgdb.specs.Crashes.{HoldsAll, HoldsSome, asked}
+use Rattle.mgdb.specs.ScriptHistory.{onto}
+use Rattle.mgdb.specs.Headline.{Headline, IsEntry, NEW_WRITES, writes_of}
+use Rattle.mgdb.specs.Top.{IsPast, Promise, ShelfCauses}
+use Rattle.mgdb.specs.Words.{IsRun}
 
-pub shelf_of_fused : {D : Type 0} (m : Meaning D) (stopped : Type 0) (first result : D) (old new : Fused D) (status : ℕ) → inner_of old ≡ first → result ≡ inner_of new → stopped
-    → DiskCauses (fused_meaning m) old new status → ShelfCauses m stopped first result status
-shelf_of_fused m stopped first result old new status was is given causes =
+pub shelf_of_stopped : {D : Type 0} (m : Meaning D) (stopped : Type 0) (first result : D) (old new : Stopped D) (status : ℕ) → inner_of old ≡ first → result ≡ inner_of new → stopped
+    → DiskCauses (stopped_meaning m) old new status → ShelfCauses m stopped first result status
+shelf_of_stopped m stopped first result old new status was is given causes =
     rw (← was, is) (record { failed = λ three. inr given; unknown = causes.unknown; fresh = causes.fresh })
 
--- ---- the headline, of a disk behind a fuse
+-- ---- the headline, of a disk of a stopped run
 
--- a disk behind a fuse is entered as the disk itself is
-pub entry_of_fused : {D : Type 0} (m : Meaning D) (first : D) (old : Fused D) (size : ℕ)
+-- a disk of a stopped run is entered as the disk itself is
+pub entry_of_stopped : {D : Type 0} (m : Meaning D) (first : D) (old : Stopped D) (size : ℕ)
     (o : Opening) → inner_of old ≡ first → IsEntry m first size o
-    → IsEntry (fused_meaning m) old size o
-entry_of_fused {D} m first old size o was entry =
+    → IsEntry (stopped_meaning m) old size o
+entry_of_stopped {D} m first old size o was entry =
     from (subst (λ (d : D). IsEntry m d size o) (sym was) entry)
   where
-    from : IsEntry m (inner_of old) size o → IsEntry (fused_meaning m) old size o
+    from : IsEntry m (inner_of old) size o → IsEntry (stopped_meaning m) old size o
     from e = record {
       told = e.told;
       sized = e.sized;
@@ -33,33 +40,139 @@ entry_of_fused {D} m first old size o was entry =
       opening = e.opening;
     }
 
+-- what a crash leaves of it, it leaves of the disk itself
+pub leaves_of_stopped : {D : Type 0} (m : Meaning D) (first result : D) (old new : Stopped D)
+    (P : Image → Type 0) → inner_of old ≡ first → result ≡ inner_of new
+    → LeavesOnly (stopped_meaning m) old new P → LeavesOnly m first result P
+leaves_of_stopped m first result old new P was is run = rw (← was, is) (record {
+  later = run.later;
+  each = run.each;
+  before = run.before;
+})
+
+pub exit_of_stopped : {D : Type 0} (m : Meaning D) (result : D) (new : Stopped D) (P : Image → Type 0)
+    → result ≡ inner_of new → ((c : Image) → MayLeave (stopped_meaning m) new c → P c)
+    → (c : Image) → MayLeave m result c → P c
+exit_of_stopped m result new P is exit = rw is exit
+
 -- and what is promised of it is promised of the disk itself
-pub line_of_fused : {D K : Type 0} (m : Meaning D) (n : SinkMeaning K) (size : ℕ) (o : Opening)
-    (script : List ℕ) (first result : D) (old new : Fused D) (before after : K) (status : ℕ)
-    → inner_of old ≡ first → result ≡ inner_of new
-    → Headline (fused_meaning m) n size o script old new before after status
+abbrev pub line_of_stopped : {D K : Type 0} (m : Meaning D) (n : SinkMeaning K) (size : ℕ)
+    (o : Opening) (script : List ℕ) (first result : D) (old new : Stopped D) (before after : K)
+    (status : ℕ) → inner_of old ≡ first → result ≡ inner_of new
+    → Headline (stopped_meaning m) n size o script old new before after status
     → Headline m n size o script first result before after status
-line_of_fused m n size o script first result old new before after status was is line =
-    rw (sym was, is) inner
+line_of_stopped m n size o script first result old new before after status was is line = record {
+  texts = line.texts;
+  rest = line.rest;
+  front = line.front;
+  met = line.met;
+  are_lines = line.are_lines;
+  stop = line.stop;
+  all_met = line.all_met;
+  entries = line.entries;
+  meets = line.meets;
+  legal = line.legal;
+  printed = line.printed;
+  ends = line.ends;
+  crash = leaves_of_stopped m first result old new
+      (HoldsSome size o (asked (onto [] line.entries))) was is line.crash;
+  exit = exit_of_stopped m result new
+      (HoldsAll size o (onto [] line.entries) (asked (onto [] line.entries))) is line.exit;
+}
+
+-- it failed where the disk itself did, or where more page writes were asked for than may pass
+pub past_of_stopped : {D : Type 0} (m : Meaning D) (first result : D) (old new : Stopped D)
+    (most asked : ℕ) → inner_of old ≡ first → result ≡ inner_of new → IsUnused old most
+    → most < 2 ^ 32
+    → (stopped_meaning m).asked new ≤ (stopped_meaning m).asked old + asked
+    → Rose ((stopped_meaning m).faults old) ((stopped_meaning m).faults new)
+    → Rose (m.faults first) (m.faults result) ⊎ (most < asked)
+past_of_stopped m first result old new most asked was is unused small writes rose =
+    at (cases_eq new.blown 0) (rw (← was, is) rose)
   where
-    inner : Headline m n size o script (inner_of old) (inner_of new) before after status
-    inner = record {
-      texts = line.texts;
-      rest = line.rest;
-      front = line.front;
-      met = line.met;
-      are_lines = line.are_lines;
-      stop = line.stop;
-      all_met = line.all_met;
-      entries = line.entries;
-      meets = line.meets;
-      legal = line.legal;
-      printed = line.printed;
-      ends = line.ends;
-      crash = record {
-        later = line.crash.later;
-        each = line.crash.each;
-        before = line.crash.before;
-      };
-      exit = line.exit;
+    at : (new.blown ≡ 0) ⊎ (new.blown ≢ 0)
+        → Rose (m.faults first + old.blown) (m.faults result + new.blown)
+        → Rose (m.faults first) (m.faults result) ⊎ (most < asked)
+    at (inl none) (inl rises) =
+        let b = unused.blown in inl (inl (omega (arith, none, b, rises)))
+    at (inl none) (inr end) = inl (inr (omega (arith, none, end)))
+    at (inr some) r =
+        let spent = new.fuse.spent (omega (arith, some)) in
+        let b = unused.blown in let p = unused.passed in let l = unused.limit in
+        inr (omega (arith, some, spent, b, p, l, small, writes))
+
+-- what is none of the causes is the end of the script, or want of memory
+by_causes : (status : ℕ) → status < 8 → status ≢ 2 → (status ≡ 3 → ⊥) → (status ≡ 4 → ⊥)
+    → (status ≡ 5 → ⊥) → (status ≡ 7 → ⊥) → IsWhole status ⊎ (status ≡ 6)
+by_causes zero below no2 no3 no4 no5 no7 = inl (inl refl)
+by_causes (suc zero) below no2 no3 no4 no5 no7 = inl (inr refl)
+by_causes (suc (suc zero)) below no2 no3 no4 no5 no7 = absurd (no2 refl)
+by_causes (suc (suc (suc zero))) below no2 no3 no4 no5 no7 = absurd (no3 refl)
+by_causes (suc (suc (suc (suc zero)))) below no2 no3 no4 no5 no7 = absurd (no4 refl)
+by_causes (suc (suc (suc (suc (suc zero))))) below no2 no3 no4 no5 no7 = absurd (no5 refl)
+by_causes (suc (suc (suc (suc (suc (suc zero)))))) below no2 no3 no4 no5 no7 = inr refl
+by_causes (suc (suc (suc (suc (suc (suc (suc zero))))))) below no2 no3 no4 no5 no7 =
+    absurd (no7 refl)
+by_causes (suc (suc (suc (suc (suc (suc (suc (suc n)))))))) below no2 no3 no4 no5 no7 =
+    absurd (omega (arith, below))
+
+-- the promise, from the headline and the causes
+pub promised : {D S K : Type 0} (m : Meaning D) (n : SourceMeaning S) (k : SinkMeaning K)
+    (stop : Option ℕ) (stopped : Type 0) (size : ℕ) (o : Opening) (script : List ℕ) (old new : D)
+    (source source' : S) (sink sink' : K) (status : ℕ)
+    (line : Headline m k size o script old new sink sink' status)
+    → (status ≡ 3 → Rose (m.faults old) (m.faults new)
+    ⊎ IsPast stop (NEW_WRITES + writes_of line.entries))
+    → n.left source ≡ Some script → (status < 8) × (status ≢ 2)
+    → ShelfCauses m stopped old new status → StreamCauses n k source source' sink sink' status
+    → ScriptCauses n source status
+    → Promise m n k stop size o script old new source source' sink sink' status
+promised m n k stop stopped size o script old new source source' sink sink' status line failed left
+    range disk streams texts = record {
+      line = line;
+      failed = failed;
+      complete = λ image held fresh short disk_ok source_ok sink_ok passes.
+          by_causes status range.0 range.1 (λ is. neither (failed is) disk_ok passes)
+          (λ is. disk.unknown is image held fresh) (λ is. stream (streams.failed is) source_ok sink_ok)
+          (λ is. let long = texts.too_long is script left in absurd (omega (arith, long, short)));
     }
+  where
+    neither : Rose (m.faults old) (m.faults new) ⊎ IsPast stop (NEW_WRITES + writes_of line.entries)
+        → (Rose (m.faults old) (m.faults new) → ⊥)
+        → (IsPast stop (NEW_WRITES + writes_of line.entries) → ⊥) → ⊥
+    neither (inl rose) disk_ok passes = disk_ok rose
+    neither (inr past) disk_ok passes = passes past
+
+    stream : Rose (n.faults source) (n.faults source') ⊎ Rose (k.faults sink) (k.faults sink')
+        → (Rose (n.faults source) (n.faults source') → ⊥)
+        → (Rose (k.faults sink) (k.faults sink') → ⊥) → ⊥
+    stream (inl rose) source_ok sink_ok = source_ok rose
+    stream (inr rose) source_ok sink_ok = sink_ok rose
+
+-- a command line asks for one number of page writes
+pub stop_is : (words : List (List ℕ)) (stop : Option ℕ) (most : ℕ) → IsRun words stop
+    → IsRun words (Some most) → (stop ≡ Some most) × (most < 2 ^ 32)
+stop_is (a ∷ b ∷ c ∷ d ∷ e ∷ []) (Some n) most run also = (
+  ap (λ (k : ℕ). Some k) (decimal_injective n most (let x = run.4 in omega (arith, x))
+      (let x = also.4 in omega (arith, x)) (sym run.3 ∙ also.3)),
+  also.4,
+)
+stop_is (a ∷ b ∷ c ∷ d ∷ e ∷ []) None most run also = absurd run
+stop_is [] stop most run also = absurd also
+stop_is (a ∷ []) stop most run also = absurd also
+stop_is (a ∷ b ∷ []) stop most run also = absurd also
+stop_is (a ∷ b ∷ c ∷ []) stop most run also = absurd also
+stop_is (a ∷ b ∷ c ∷ d ∷ []) stop most run also = absurd also
+stop_is (a ∷ b ∷ c ∷ d ∷ e ∷ f ∷ words) stop most run also = absurd also
+
+-- so a number past what may pass is past what it asks for
+pub past_is : (words : List (List ℕ)) (stop : Option ℕ) (most asked : ℕ) → IsRun words stop
+    → IsRun words (Some most) → most < asked → IsPast stop asked
+past_is words stop most asked run also past =
+    subst (λ (s : Option ℕ). IsPast s asked) (sym (stop_is words stop most run also).0) past
+
+pub failed_past : {A : Type 0} (words : List (List ℕ)) (stop : Option ℕ) (most asked : ℕ)
+    → IsRun words stop → IsRun words (Some most) → A ⊎ (most < asked) → A ⊎ IsPast stop asked
+failed_past words stop most asked run also (inl rose) = inl rose
+failed_past words stop most asked run also (inr past) =
+    inr (past_is words stop most asked run also past)

@@ -7,6 +7,7 @@ pub mod ScriptHistory
 pub mod Serial
 pub mod SerialScenarios
 pub mod Serving
+pub mod Stopped
 pub mod Stops
 pub mod Top
 pub mod Transcript

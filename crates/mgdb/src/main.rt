@@ -21,6 +21,7 @@ mod script;
 mod script_source;
 mod serial;
 mod status;
+mod stopped;
 mod top;
 mod words;
 

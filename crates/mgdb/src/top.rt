@@ -2,15 +2,16 @@
 
 ghost use Rattle.std.specs.Prelude.{◌≡◌, ◌↔◌, ◌<◌, ℕ, List, Option, None, Some};
 ghost use Rattle.mg_model.specs.declared.opening.Opening.{Opening};
-ghost use Rattle.mgdb.specs.Headline.{Headline, IsEntry};
-ghost use Rattle.mgdb.specs.Top.{Completes, ShelfCauses, IsStopped};
+ghost use Rattle.mgdb.specs.Headline.{IsEntry};
+ghost use Rattle.mgdb.specs.Top.{IsStopped, Promise, ShelfCauses};
 ghost use Rattle.mgdb.specs.Causes.{StreamCauses, ScriptCauses};
 ghost use Rattle.mgdb.specs.Words.{texts, IsRun};
 
 use crate::run::run;
 use crate::status::Status;
+use crate::stopped::Stopped;
 use crate::words::read_words;
-use mg_base::{Disk, Fused, Sink, Source};
+use mg_base::{Disk, Sink, Source};
 
 /// The disks that a command line names.
 #[derive(Drop)]
@@ -43,10 +44,8 @@ pub fn mgdb<R: AllocGlobal + Drop, D: Disk + Send + 'static, S: Source, K: Sink>
     ensures headline { (stop : Option ℕ) (size : ℕ) (o : Opening) (script : List ℕ)
         → IsRun (texts words.now) stop → IsEntry D.meaning shelf.first size o
         → S.meaning.left source.old ≡ Some script
-        → Headline D.meaning K.meaning size o script shelf.first result.1.first sink.old sink.new
-        result.0.0 }
-    ensures complete { Completes D.meaning S.meaning K.meaning (texts words.now) shelf.first
-        result.1.first source.old source.new sink.old sink.new result.0.0 }
+        → Promise D.meaning S.meaning K.meaning stop size o script shelf.first result.1.first
+        source.old source.new sink.old sink.new result.0.0 }
 {
     let Some(asked) = read_words(words) else {
         // A sink that fails at this line leaves the status as it is.
@@ -60,9 +59,9 @@ pub fn mgdb<R: AllocGlobal + Drop, D: Disk + Send + 'static, S: Source, K: Sink>
             (status, Shelf { first, second })
         }
         Some(most) => {
-            let mut fused = Fused::new(first, most);
-            let status = run(rt.alloc(), &mut fused, source, sink);
-            let first = fused.into_inner();
+            let mut stopped = Stopped::new(first, most);
+            let status = run(rt.alloc(), &mut stopped, source, sink);
+            let first = stopped.into_inner();
             (status, Shelf { first, second })
         }
     }
