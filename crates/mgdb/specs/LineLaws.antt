@@ -1,5 +1,5 @@
--- Laws of one line: a line that is no put, and what a put's line does where its answer is said, where
--- the sink fails, and where a fault ends it.
+-- Laws of one line: a line that is no put, and what a put's line does where its answer is said,
+-- where the sink fails, and where a fault ends it.
 use Rattle.std.specs.Prelude.{◌≡◌, ◌++◌, ◌∷◌, [], ℕ, ℤ, Bool, true, false, List, Result, Ok, Err, codes, refl}
 use Rattle.std.proofs.Common.{sym, ◌∙◌, ap, arith, inl, inr, ◌⊎◌, subst}
 use Rattle.mg_base.specs.Disk.{Meaning}

@@ -181,24 +181,25 @@ pub script_unsettled : {D K T E : Type 0} (m : Meaning D) (n : SinkMeaning K) (o
     → LinesDone m n old mid before after size first o script (Ok all)
     → Calm m mid new settled
     → LinesDone m n old new before after size first o script (Err stop)
-script_unsettled m n old mid new before after size first o script all settled stop done calm = record {
-  texts = done.texts;
-  rest = done.rest;
-  front = done.front;
-  met = done.met;
-  are_lines = done.are_lines;
-  all_met = tt;
-  entries = done.entries;
-  meets = done.meets;
-  ok = tt;
-  told = tt;
-  legal = done.legal;
-  printed = done.printed;
-  whole = λ other. done.whole (λ is. is);
-  crash = settled_leaves m n old mid new before after size first o script all settled done calm;
-  exit = λ c left. done.exit c (calm.crash done.told c left);
-  writes = let writes = done.writes in let same = calm.asked in omega arith;
-}
+script_unsettled m n old mid new before after size first o script all settled stop done calm =
+    record {
+      texts = done.texts;
+      rest = done.rest;
+      front = done.front;
+      met = done.met;
+      are_lines = done.are_lines;
+      all_met = tt;
+      entries = done.entries;
+      meets = done.meets;
+      ok = tt;
+      told = tt;
+      legal = done.legal;
+      printed = done.printed;
+      whole = λ other. done.whole (λ is. is);
+      crash = settled_leaves m n old mid new before after size first o script all settled done calm;
+      exit = λ c left. done.exit c (calm.crash done.told c left);
+      writes = let writes = done.writes in let same = calm.asked in omega arith;
+    }
 
 -- ---- what the program promises
 
@@ -258,26 +259,27 @@ pub headline_stopped : {D K : Type 0} (m : Meaning D) (n : SinkMeaning K) (size 
     → n.faults middle ≤ n.faults after → IsPrinted n middle after (fault_line (Some stop))
     → status ≡ (status_of stop).0
     → Counted m n size o script old new before after status
-headline_stopped m n size o script old new before middle after stop status done grows line is = record {
-  line = record {
-    texts = done.texts;
-    rest = done.rest;
-    front = done.front;
-    met = done.met;
-    are_lines = done.are_lines;
-    stop = Some stop;
-    all_met = λ none. absurd cc;
-    entries = done.entries;
-    meets = done.meets;
-    legal = done.legal;
-    printed = printed_stopped n before middle after (transcript 1 done.met done.entries) stop
-        done.printed done.whole grows line;
-    ends = is;
-    crash = done.crash;
-    exit = done.exit;
-  };
-  writes = done.writes;
-}
+headline_stopped m n size o script old new before middle after stop status done grows line is =
+    record {
+      line = record {
+        texts = done.texts;
+        rest = done.rest;
+        front = done.front;
+        met = done.met;
+        are_lines = done.are_lines;
+        stop = Some stop;
+        all_met = λ none. absurd cc;
+        entries = done.entries;
+        meets = done.meets;
+        legal = done.legal;
+        printed = printed_stopped n before middle after (transcript 1 done.met done.entries) stop
+            done.printed done.whole grows line;
+        ends = is;
+        crash = done.crash;
+        exit = done.exit;
+      };
+      writes = done.writes;
+    }
 
 -- ---- a run from its entry
 

@@ -1,7 +1,7 @@
 //! The program: `mgdb run FILE` obeys a script of lines `@put K V` on one file of pages.
 //!
-//! Owns: the words of a command line, the script and its lines, the statuses and the fault lines, and
-//! the private parts that make a new database of seven pages and put rows on its one data page.
+//! Owns: the words of a command line, the script and its lines, the statuses and the fault lines,
+//! and the private parts that make a new database of seven pages and put rows on its one data page.
 //!
 //! Below: `mg_base` for the outside, `mg_tip`, `mg_slots` and `mg_version` for pages and cells, and
 //! `mg_model` for the histories of puts, which `specs/Serial` has with their laws.

@@ -1,5 +1,5 @@
-//! Numbers as a script and a command line spell them: decimal digits without a leading zero, and `-`
-//! before a negative one.
+//! Numbers as a script and a command line spell them: decimal digits without a leading zero, and
+//! `-` before a negative one.
 
 ghost use Rattle.std.specs.Prelude.{◌≡◌, ◌≢◌, ◌<◌, ◌^◌, ℕ, ℤ, decimal, MatchOption, FitsSigned};
 ghost use Rattle.std.specs.Int.{w64};
@@ -10,7 +10,8 @@ use std::str;
 
 /// The number of at most 32 bits that a text spells, if it spells one.
 pub fn unsigned(text: &[u8]) -> Option<u32>
-    ensures { MatchOption result ((n : ℕ) → n < 2 ^ 32 → decimal n ≢ text.now) (λ n. (n < 2 ^ 32) × (decimal n ≡ text.now)) }
+    ensures { MatchOption result ((n : ℕ) → n < 2 ^ 32 → decimal n ≢ text.now)
+        (λ n. (n < 2 ^ 32) × (decimal n ≡ text.now)) }
 {
     let Ok(spelled) = str::from_utf8(text) else {
         return None;
@@ -28,7 +29,8 @@ pub fn unsigned(text: &[u8]) -> Option<u32>
 
 /// The signed number of 64 bits that a text spells, if it spells one.
 pub fn signed(text: &[u8]) -> Option<i64>
-    ensures { MatchOption result ((z : ℤ) → FitsSigned w64 z → signed_decimal z ≢ text.now) (λ z. FitsSigned w64 z × (signed_decimal z ≡ text.now)) }
+    ensures { MatchOption result ((z : ℤ) → FitsSigned w64 z → signed_decimal z ≢ text.now)
+        (λ z. FitsSigned w64 z × (signed_decimal z ≡ text.now)) }
 {
     let Ok(spelled) = str::from_utf8(text) else {
         return None;

@@ -32,7 +32,8 @@ pub fn read_line(text: &[u8]) -> Line
 
 // The key and the value of a line `@put K V`.
 fn read_put(text: &[u8]) -> Option<(i64, i64)>
-    ensures { MatchOption result ((key value : ℤ) → IsPut text.now key value → ⊥) (λ both. IsPut text.now both.0 both.1) }
+    ensures { MatchOption result ((key value : ℤ) → IsPut text.now key value → ⊥)
+        (λ both. IsPut text.now both.0 both.1) }
 {
     let Some(numbers) = text.strip_prefix(b"@put ") else {
         return None;

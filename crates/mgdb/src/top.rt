@@ -35,7 +35,8 @@ pub fn mgdb<R: AllocGlobal + Drop, D: Disk + Send + 'static, S: Source, K: Sink>
     ensures untouched { result.0.0 ≡ 2 → (result.1 ≡ shelf) × (source.new ≡ source.old) }
     ensures disk { ShelfCauses D.meaning (IsStopped words.now) shelf.first result.1.first result.0.0 }
     ensures second { result.1.second ≡ shelf.second }
-    ensures streams { StreamCauses S.meaning K.meaning source.old source.new sink.old sink.new result.0.0 }
+    ensures streams { StreamCauses S.meaning K.meaning source.old source.new sink.old sink.new
+        result.0.0 }
     ensures script { ScriptCauses S.meaning source.old result.0.0 }
     ensures not_asked { result.0.0 ≡ 7 → result.1.first ≡ shelf.first }
     ensures range { result.0.0 < 8 }

@@ -17,7 +17,8 @@ pub struct Run {
 
 // Whether a command and a path begin the command line `run DB`.
 fn is_run(command: &String, path: &String) -> bool
-    ensures { IsTrue result ↔ ((string_bytes command.now ≡ codes "run") × IsPath (string_bytes path.now)) }
+    ensures { IsTrue result ↔ ((string_bytes command.now ≡ codes "run")
+        × IsPath (string_bytes path.now)) }
 {
     command.as_str() == "run" && path.as_bytes().first() != Some(&b'-')
 }
