@@ -112,29 +112,30 @@ pub script_done : {D K : Type 0} (m : Meaning D) (n : SinkMeaning K) (old mid re
     → m.asked mid ≡ m.asked old → NewDone m mid ready kv made_
     → LinesDone m n ready new before after PAGE 0 new_history script result
     → LinesDone m n old new before after PAGE NEW_WRITES new_history script result
-script_done m n old mid ready new kv made_ before after script result run asked_ made done = record {
-  texts = done.texts;
-  rest = done.rest;
-  front = done.front;
-  met = done.met;
-  are_lines = done.are_lines;
-  all_met = done.all_met;
-  entries = done.entries;
-  meets = done.meets;
-  ok = done.ok;
-  told = done.told;
-  legal = done.legal;
-  printed = done.printed;
-  whole = done.whole;
-  crash = joined m old ready new (HoldsSome PAGE new_history (asked (onto [] done.entries)))
-      (leaves_as m old ready (HoldsSome PAGE new_history [])
-      (HoldsSome PAGE new_history (asked (onto [] done.entries)))
-      (λ c some. some_asked_longer PAGE new_history [] done.entries c some)
-      (joined m old mid ready (HoldsSome PAGE new_history []) run made.crash))
-      done.crash;
-  exit = done.exit;
-  writes = let first = made.writes in let next = done.writes in omega arith;
-}
+script_done m n old mid ready new kv made_ before after script result run asked_
+    made done = record {
+      texts = done.texts;
+      rest = done.rest;
+      front = done.front;
+      met = done.met;
+      are_lines = done.are_lines;
+      all_met = done.all_met;
+      entries = done.entries;
+      meets = done.meets;
+      ok = done.ok;
+      told = done.told;
+      legal = done.legal;
+      printed = done.printed;
+      whole = done.whole;
+      crash = joined m old ready new (HoldsSome PAGE new_history (asked (onto [] done.entries)))
+          (leaves_as m old ready (HoldsSome PAGE new_history [])
+          (HoldsSome PAGE new_history (asked (onto [] done.entries)))
+          (λ c some. some_asked_longer PAGE new_history [] done.entries c some)
+          (joined m old mid ready (HoldsSome PAGE new_history []) run made.crash))
+          done.crash;
+      exit = done.exit;
+      writes = let first = made.writes in let next = done.writes in omega arith;
+    }
 
 -- ---- the disk is settled
 
