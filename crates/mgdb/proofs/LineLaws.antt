@@ -1,5 +1,5 @@
--- Laws of one line: a line that is no put, and what a put's line does where its answer is said, where
--- the sink fails, and where a fault ends it.
+-- Laws of one line: a line that is no put, and what a put's line does where its answer is said,
+-- where the sink fails, and where a fault ends it.
 use Rattle.std.specs.Prelude.{◌≡◌, ◌++◌, ◌∷◌, [], ℕ, ℤ, Bool, true, false, List, Result, Ok, Err, codes, refl}
 use Rattle.std.proofs.Common.{sym, ◌∙◌, ap, arith, inl, inr, ◌⊎◌, subst}
 use Rattle.mg_base.specs.Disk.{Meaning}
@@ -185,21 +185,22 @@ put_line m n old new kv before after o h k v number text (Ok ok) is done = recor
   exit = done.exit;
   writes = done.writes;
 }
-put_line {D = D} {K = K} m n old new kv before after o h k v number text (Err stop) is done = record {
-  line = Put k v;
-  is_line = is;
-  entries = done.entries;
-  gives = at done.gives;
-  obeyed = tt;
-  ok = tt;
-  serves = tt;
-  legal = done.legal;
-  printed = done.printed;
-  whole = tt;
-  crash = done.crash;
-  exit = done.exit;
-  writes = done.writes;
-}
+put_line {D = D} {K = K} m n old new kv before after o h k v number text (Err stop) is
+    done = record {
+      line = Put k v;
+      is_line = is;
+      entries = done.entries;
+      gives = at done.gives;
+      obeyed = tt;
+      ok = tt;
+      serves = tt;
+      legal = done.legal;
+      printed = done.printed;
+      whole = tt;
+      crash = done.crash;
+      exit = done.exit;
+      writes = done.writes;
+    }
   where
     at : PutGives o h k v done.entries ⊎ PutEnds o h k v done.entries
         → LineGives o h (Put k v) done.entries ⊎ EndsLine o h (Put k v) done.entries

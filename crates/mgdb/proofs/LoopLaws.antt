@@ -1,5 +1,5 @@
--- Laws of the lines of a script, obeyed one after another: what is known before the first, after one
--- more, and where a line or the end of the script ends them.
+-- Laws of the lines of a script, obeyed one after another: what is known before the first, after
+-- one more, and where a line or the end of the script ends them.
 use Rattle.std.specs.Prelude.{◌≡◌, ◌+◌, ◌&&◌, ◌++◌, ◌∷◌, [], ℕ, Bool, true, List, length, Ok, Err, refl}
 use Rattle.std.proofs.Common.{sym, ◌∙◌, ap, arith, inl, inr, ◌⊎◌, append_assoc, length-append, subst}
 use Rattle.std.specs.Str.Lines.{lines}

@@ -234,7 +234,8 @@ module _ {D : Type 0} (m : Meaning D) (old : D) (kv : Kv) (o : Opening) (h : Ent
         → IsHeaderPage bytes (kv.next.0 + 1)
         → Writes m old new HEADER.0 bytes result → Stage m old new (Before o h) 1
     header_stage new bytes result header wrote_ = stage_write m old old new (Before o h) 0
-        s.image HEADER.0 bytes result start s.held wrote_ at_start (header_holds bytes header.len header)
+        s.image HEADER.0 bytes result start s.held wrote_ at_start (header_holds bytes header.len
+        header)
 
     -- the header could not be written
     pub case_no_number : {T E : Type 0} (new : D) (after : Kv) (bytes : List ℕ) (e : E)
@@ -358,7 +359,8 @@ module _ {D : Type 0} (m : Meaning D) (old : D) (kv : Kv) (o : Opening) (h : Ent
       module _ (page : List ℕ) (stores : StoresIn kv.rows page kv.next.0 k v)
           (k_fits : FitsSigned w64 k) (v_fits : FitsSigned w64 v) where
         long : length page ≡ PAGE
-        long = (stores_drawn kv (page_at PAGE s.image) (page_at PAGE head.image) o h s.served page k v
+        long = (stores_drawn kv (page_at PAGE s.image) (page_at PAGE head.image) o h s.served page k
+            v
             head.drawn stores).puts.len
             ∙ (ap (λ (b : List ℕ). length b) (sym s.served.page)
             ∙ s.served.is_kv.sound.header.whole KV_ROWS.0)
@@ -465,8 +467,10 @@ module _ {D : Type 0} (m : Meaning D) (old : D) (kv : Kv) (o : Opening) (h : Ent
           ends = no_commit 0 more fits
 
           either_some : (c : Image) → Either c → HoldsSome PAGE o done c
-          either_some c (inl holds) = rw (sym (put_asked o h k v stored_es gives)) (before_some o h stored_es c holds)
-          either_some c (inr holds) = at_is_some PAGE o done (durable_count done) c (omega arith) holds
+          either_some c (inl holds) = rw (sym (put_asked o h k v stored_es gives)) (before_some o h
+              stored_es c holds)
+          either_some c (inr holds) = at_is_some PAGE o done (durable_count done) c (omega arith)
+              holds
 
           either_all : (c : Image) → Either c
               → HoldsAll PAGE o (onto h failed_es) (asked (onto h failed_es)) c
@@ -523,7 +527,8 @@ module _ {D : Type 0} (m : Meaning D) (old : D) (kv : Kv) (o : Opening) (h : Ent
                 (stage_calm m old three new Either 3 result (bits_stage three (Ok y) writes_) calm)
 
             -- the row is stored
-            pub case_stored : {V G : Type 0} (new : D) (result : Result V G) → Calm m three new result
+            pub case_stored : {V G : Type 0} (new : D) (result : Result V G)
+                → Calm m three new result
                 → (m.tells three ≡ true → (c : Image) → MayLeave m new c → m.held new ≡ Some c)
                 → PutDone m old new after o h k v (Ok (Stored kv.next))
             case_stored new result calm durable = stored_after new
@@ -535,7 +540,8 @@ module _ {D : Type 0} (m : Meaning D) (old : D) (kv : Kv) (o : Opening) (h : Ent
 
                 held_new : m.held new ≡ Some image_done
                 held_new = calm.held ∙ (writes_.stored image_with held
-                    ∙ ap (λ (n : ℕ). Some (written_image n image_with TRANSACTIONS.0 bits)) bits_long)
+                    ∙ ap (λ (n : ℕ). Some (written_image n image_with TRANSACTIONS.0 bits))
+                    bits_long)
 
                 same : (c : Image) → Some c ≡ Some image_done → c ≡ image_done
                 same c is = cc

@@ -130,7 +130,8 @@ wrote_holds kv old new o h served page k v wrote = pages_hold new wrote.reading 
 -- ---- once it is committed
 
 -- what a write took is what it needs
-pub took_writes : (found : Option Cells) (t : ℕ) (k v : ℤ) → took (writes found t k v) Fine ≡ need found
+pub took_writes : (found : Option Cells) (t : ℕ) (k v : ℤ)
+    → took (writes found t k v) Fine ≡ need found
 took_writes None t k v = refl
 took_writes (Some row) t k v = refl
 
@@ -154,7 +155,8 @@ committed_served kv after old two new o h served page bits k v found is_found be
     is keeps = record {
       reading = wrote.reading;
       rows = with_row_at served.rows (Int k) (kv_row k v);
-      is_kv = rw keeps.next (commit_law two new wrote.reading (kv.next.0 + 1) served.rows kv.next.0 k v
+      is_kv = rw keeps.next (commit_law two new wrote.reading (kv.next.0 + 1) served.rows kv.next.0
+          k v
           wrote.slot wrote.is_kv (omega arith) wrote.pending commits);
       committed = all_committed two new wrote.reading (kv.next.0 + 1) served.rows kv.next.0 k v
           wrote.slot wrote.is_kv (omega arith) wrote.pending commits;
@@ -165,7 +167,8 @@ committed_served kv after old two new o h served page bits k v found is_found be
       rest = rw keeps.rows room;
       quiet = committed_is_quiet o h served.quiet more found k v is_found;
       limit = served.limit;
-      drawn = committed_next o h served.quiet found k v ∙ (rw keeps.next (let d = served.drawn in omega (arith, d)));
+      drawn = committed_next o h served.quiet found k v
+          ∙ (rw keeps.next (let d = served.drawn in omega (arith, d)));
       first = let n = keeps.next in omega (arith, n);
       same = λ key. rows_same key ∙ sym (committed_row o h served.quiet found k v kv_name key);
       others = λ name key apart. committed_row_else o h served.quiet found k v name key
@@ -176,7 +179,10 @@ committed_served kv after old two new o h served page bits k v found is_found be
     commits = record { bits = rw (wrote.bits, is) sets; others = only }
 
     more : next_number o h ≢ o.limit.0
-    more same = let d = served.drawn in let l = ap (λ (t : TxNo). t.0) served.limit in omega (arith, d, l, same)
+    more same =
+        let d = served.drawn in
+        let l = ap (λ (t : TxNo). t.0) served.limit in
+        omega (arith, d, l, same)
 
     row_found : served.rows (Int k) ≡ found
     row_found = served.same (Int k) ∙ is_found

@@ -112,29 +112,30 @@ pub script_done : {D K : Type 0} (m : Meaning D) (n : SinkMeaning K) (old mid re
     → m.asked mid ≡ m.asked old → NewDone m mid ready kv made_
     → LinesDone m n ready new before after PAGE 0 new_history script result
     → LinesDone m n old new before after PAGE NEW_WRITES new_history script result
-script_done m n old mid ready new kv made_ before after script result run asked_ made done = record {
-  texts = done.texts;
-  rest = done.rest;
-  front = done.front;
-  met = done.met;
-  are_lines = done.are_lines;
-  all_met = done.all_met;
-  entries = done.entries;
-  meets = done.meets;
-  ok = done.ok;
-  told = done.told;
-  legal = done.legal;
-  printed = done.printed;
-  whole = done.whole;
-  crash = joined m old ready new (HoldsSome PAGE new_history (asked (onto [] done.entries)))
-      (leaves_as m old ready (HoldsSome PAGE new_history [])
-      (HoldsSome PAGE new_history (asked (onto [] done.entries)))
-      (λ c some. some_asked_longer PAGE new_history [] done.entries c some)
-      (joined m old mid ready (HoldsSome PAGE new_history []) run made.crash))
-      done.crash;
-  exit = done.exit;
-  writes = let first = made.writes in let next = done.writes in omega arith;
-}
+script_done m n old mid ready new kv made_ before after script result run asked_
+    made done = record {
+      texts = done.texts;
+      rest = done.rest;
+      front = done.front;
+      met = done.met;
+      are_lines = done.are_lines;
+      all_met = done.all_met;
+      entries = done.entries;
+      meets = done.meets;
+      ok = done.ok;
+      told = done.told;
+      legal = done.legal;
+      printed = done.printed;
+      whole = done.whole;
+      crash = joined m old ready new (HoldsSome PAGE new_history (asked (onto [] done.entries)))
+          (leaves_as m old ready (HoldsSome PAGE new_history [])
+          (HoldsSome PAGE new_history (asked (onto [] done.entries)))
+          (λ c some. some_asked_longer PAGE new_history [] done.entries c some)
+          (joined m old mid ready (HoldsSome PAGE new_history []) run made.crash))
+          done.crash;
+      exit = done.exit;
+      writes = let first = made.writes in let next = done.writes in omega arith;
+    }
 
 -- ---- the disk is settled
 
@@ -181,24 +182,25 @@ pub script_unsettled : {D K T E : Type 0} (m : Meaning D) (n : SinkMeaning K) (o
     → LinesDone m n old mid before after size first o script (Ok all)
     → Calm m mid new settled
     → LinesDone m n old new before after size first o script (Err stop)
-script_unsettled m n old mid new before after size first o script all settled stop done calm = record {
-  texts = done.texts;
-  rest = done.rest;
-  front = done.front;
-  met = done.met;
-  are_lines = done.are_lines;
-  all_met = tt;
-  entries = done.entries;
-  meets = done.meets;
-  ok = tt;
-  told = tt;
-  legal = done.legal;
-  printed = done.printed;
-  whole = λ other. done.whole (λ is. is);
-  crash = settled_leaves m n old mid new before after size first o script all settled done calm;
-  exit = λ c left. done.exit c (calm.crash done.told c left);
-  writes = let writes = done.writes in let same = calm.asked in omega arith;
-}
+script_unsettled m n old mid new before after size first o script all settled stop done calm =
+    record {
+      texts = done.texts;
+      rest = done.rest;
+      front = done.front;
+      met = done.met;
+      are_lines = done.are_lines;
+      all_met = tt;
+      entries = done.entries;
+      meets = done.meets;
+      ok = tt;
+      told = tt;
+      legal = done.legal;
+      printed = done.printed;
+      whole = λ other. done.whole (λ is. is);
+      crash = settled_leaves m n old mid new before after size first o script all settled done calm;
+      exit = λ c left. done.exit c (calm.crash done.told c left);
+      writes = let writes = done.writes in let same = calm.asked in omega arith;
+    }
 
 -- ---- what the program promises
 
@@ -258,26 +260,27 @@ pub headline_stopped : {D K : Type 0} (m : Meaning D) (n : SinkMeaning K) (size 
     → n.faults middle ≤ n.faults after → IsPrinted n middle after (fault_line (Some stop))
     → status ≡ (status_of stop).0
     → Counted m n size o script old new before after status
-headline_stopped m n size o script old new before middle after stop status done grows line is = record {
-  line = record {
-    texts = done.texts;
-    rest = done.rest;
-    front = done.front;
-    met = done.met;
-    are_lines = done.are_lines;
-    stop = Some stop;
-    all_met = λ none. absurd cc;
-    entries = done.entries;
-    meets = done.meets;
-    legal = done.legal;
-    printed = printed_stopped n before middle after (transcript 1 done.met done.entries) stop
-        done.printed done.whole grows line;
-    ends = is;
-    crash = done.crash;
-    exit = done.exit;
-  };
-  writes = done.writes;
-}
+headline_stopped m n size o script old new before middle after stop status done grows line is =
+    record {
+      line = record {
+        texts = done.texts;
+        rest = done.rest;
+        front = done.front;
+        met = done.met;
+        are_lines = done.are_lines;
+        stop = Some stop;
+        all_met = λ none. absurd cc;
+        entries = done.entries;
+        meets = done.meets;
+        legal = done.legal;
+        printed = printed_stopped n before middle after (transcript 1 done.met done.entries) stop
+            done.printed done.whole grows line;
+        ends = is;
+        crash = done.crash;
+        exit = done.exit;
+      };
+      writes = done.writes;
+    }
 
 -- ---- a run from its entry
 

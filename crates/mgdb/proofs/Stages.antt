@@ -37,12 +37,13 @@ pub stage_write : {D T E : Type 0} (m : Meaning D) (start old new : D) (P : Imag
     (image : Image) (page : ℕ) (bytes : List ℕ) (result : Result T E) → Stage m start old P k
     → m.held old ≡ Some image → Writes m old new page bytes result → P image
     → P (written (length bytes) image page bytes) → Stage m start new P (k + 1)
-stage_write {D} {T} {E} m start old new P k image page bytes result stage held writes before after = record {
-  told = writes.keeps.tells ∙ stage.told;
-  leaves = leaves;
-  crash = goes_on m start old new P stage.crash (writes.keeps.time stage.told) leaves;
-  asked = let first = stage.asked in let more = writes.asked in omega arith;
-}
+stage_write {D} {T} {E} m start old new P k image page bytes result stage held writes before after =
+    record {
+      told = writes.keeps.tells ∙ stage.told;
+      leaves = leaves;
+      crash = goes_on m start old new P stage.crash (writes.keeps.time stage.told) leaves;
+      asked = let first = stage.asked in let more = writes.asked in omega arith;
+    }
   where
     same : (a b : Image) → Some a ≡ Some b → a ≡ b
     same a b is = cc

@@ -15,18 +15,25 @@ IsWhole status = (status ≡ 0) ⊎ (status ≡ 1)
 -- 3 comes only where the disk failed, and 4 exactly where it is not fresh
 pub record DiskCauses {D : Type 0} (m : Meaning D) (old new : D) (status : ℕ) : Type 0 where
   pub failed : status ≡ 3 → Rose (m.faults old) (m.faults new)
-  pub unknown : status ≡ 4 → (image : Image) → m.held old ≡ Some image → IsFresh (m.size new) image → ⊥
-  pub fresh : IsWhole status → (image : Image) → m.held old ≡ Some image → IsFresh (m.size new) image
+  pub unknown : status ≡ 4 → (image : Image) → m.held old ≡ Some image
+      → IsFresh (m.size new) image → ⊥
+  pub fresh : IsWhole status → (image : Image) → m.held old ≡ Some image
+      → IsFresh (m.size new) image
 
--- 5 comes exactly where the source or the sink failed before any other cause came: the source's count rises at 5 alone,
--- and the sink's at 5, or at the line that names another cause
-pub record StreamCauses {S K : Type 0} (m : SourceMeaning S) (n : SinkMeaning K) (source source' : S) (sink sink' : K) (status : ℕ) : Type 0 where
-  pub failed : status ≡ 5 → Rose (m.faults source) (m.faults source') ⊎ Rose (n.faults sink) (n.faults sink')
+-- 5 comes exactly where the source or the sink failed before any other cause came: the source's
+-- count rises at 5 alone, and the sink's at 5, or at the line that names another cause
+pub record StreamCauses {S K : Type 0} (m : SourceMeaning S) (n : SinkMeaning K)
+    (source source' : S) (sink sink' : K) (status : ℕ) : Type 0 where
+  pub failed : status ≡ 5 → Rose (m.faults source) (m.faults source')
+      ⊎ Rose (n.faults sink) (n.faults sink')
   pub source_steady : status ≢ 5 → m.faults source' ≡ m.faults source
   pub sink_steady : IsWhole status → n.faults sink' ≡ n.faults sink
 
--- 7 comes exactly where the script is longer than 1,048,576 bytes; 0 comes only where no line of it is bad
+-- 7 comes exactly where the script is longer than 1,048,576 bytes; 0 comes only where no line of it
+-- is bad
 pub record ScriptCauses {S : Type 0} (m : SourceMeaning S) (source : S) (status : ℕ) : Type 0 where
-  pub too_long : status ≡ 7 → (script : List ℕ) → m.left source ≡ Some script → SCRIPT_MOST < length script
-  pub short : (IsWhole status ⊎ (status ≡ 3) ⊎ (status ≡ 4)) → (script : List ℕ) → m.left source ≡ Some script → length script ≤ SCRIPT_MOST
+  pub too_long : status ≡ 7 → (script : List ℕ) → m.left source ≡ Some script
+      → SCRIPT_MOST < length script
+  pub short : (IsWhole status ⊎ (status ≡ 3) ⊎ (status ≡ 4)) → (script : List ℕ)
+      → m.left source ≡ Some script → length script ≤ SCRIPT_MOST
   pub bad : status ≡ 0 → (script : List ℕ) → m.left source ≡ Some script → HasBad (lines script) → ⊥

@@ -12,8 +12,8 @@ use Rattle.mg_model.specs.Legal.{durable_count, with_asked}
 use Rattle.mg_image.specs.Form.{plain_form}
 use Rattle.mg_image.specs.Histories.{HoldsDurable}
 
--- the history with the commit taken as effective that ended in a fault of the disk, if there is one:
--- its bits may have reached the disk
+-- the history with the commit taken as effective that ended in a fault of the disk, if there is
+-- one: its bits may have reached the disk
 abbrev pub asked : Entries → Entries
 asked [] = []
 asked (e ∷ h) = by e.event e.answer

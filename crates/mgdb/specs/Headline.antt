@@ -48,7 +48,8 @@ pub record IsEntry {D : Type 0} (m : Meaning D) (disk : D) (size : ℕ) (o : Ope
 
 -- ---- what is printed
 
--- the line that is printed of a fault outside the lines; of one within a line, the transcript has it
+-- the line that is printed of a fault outside the lines; of one within a line, the transcript has
+-- it
 abbrev pub fault_line : Option Stop → List ℕ
 fault_line None = []
 fault_line (Some (DiskRead places.Run)) = codes "mgdb: DISK READ FAULT" ++ 10 ∷ []

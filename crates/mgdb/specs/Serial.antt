@@ -100,8 +100,8 @@ unbegun h = refused begins TransactionLimit h
 
 -- ---- between two puts
 
--- a history is legal, each transaction has come to its end, none was ever in limbo, and the table is
--- there
+-- a history is legal, each transaction has come to its end, none was ever in limbo, and the table
+-- is there
 pub record IsQuiet (o : Opening) (h : Entries) : Type 0 where
   pub opening : IsOpening o
   pub legal : IsLegal o h

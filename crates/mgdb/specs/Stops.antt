@@ -93,18 +93,21 @@ IsStream (Memory place) = ⊥
 IsStream ScriptTooLong = ⊥
 
 -- what calls of a disk keep, one after another: a fault of the disk comes only where its count rose
-pub record DiskSteps {D T : Type 0} (m : Meaning D) (old new : D) (result : Result T Stop) : Type 0 where
+pub record DiskSteps {D T : Type 0} (m : Meaning D) (old new : D) (result : Result T Stop) :
+    Type 0 where
   pub size : Stays (m.size old) (m.size new)
   pub never_falls : m.faults old ≤ m.faults new
   pub cause : IsErrAnd result IsDiskFault → Rose (m.faults old) (m.faults new)
 
 -- what calls of a sink keep
-pub record SinkSteps {K T : Type 0} (m : SinkMeaning K) (old new : K) (result : Result T Stop) : Type 0 where
+pub record SinkSteps {K T : Type 0} (m : SinkMeaning K) (old new : K) (result : Result T Stop) :
+    Type 0 where
   pub never_falls : m.faults old ≤ m.faults new
   pub cause : IsErrAnd result IsStream → Rose (m.faults old) (m.faults new)
   pub steady : OnOk result (m.faults new ≡ m.faults old)
 
 -- what calls of a source keep
-pub record SourceSteps {S T : Type 0} (m : SourceMeaning S) (old new : S) (result : Result T Stop) : Type 0 where
+pub record SourceSteps {S T : Type 0} (m : SourceMeaning S) (old new : S) (result : Result T Stop) :
+    Type 0 where
   pub cause : IsErrAnd result IsStream → Rose (m.faults old) (m.faults new)
   pub steady : (IsErrAnd result IsStream → ⊥) → m.faults new ≡ m.faults old

@@ -19,11 +19,15 @@ use Rattle.mgdb.specs.Words.{texts, IsRun}
 abbrev pub IsStopped : List (String Global) → Type 0
 IsStopped words = (n : ℕ) × IsRun (texts words) (Some n)
 
--- 3 comes only where the disk's own count of faults rose or `--stop` was given, and 4 exactly where it is not fresh
-pub record ShelfCauses {D : Type 0} (m : Meaning D) (stopped : Type 0) (old new : D) (status : ℕ) : Type 0 where
+-- 3 comes only where the disk's own count of faults rose or `--stop` was given, and 4 exactly where
+-- it is not fresh
+pub record ShelfCauses {D : Type 0} (m : Meaning D) (stopped : Type 0) (old new : D) (status : ℕ) :
+    Type 0 where
   pub failed : status ≡ 3 → Rose (m.faults old) (m.faults new) ⊎ stopped
-  pub unknown : status ≡ 4 → (image : Image) → m.held old ≡ Some image → IsFresh (m.size new) image → ⊥
-  pub fresh : IsWhole status → (image : Image) → m.held old ≡ Some image → IsFresh (m.size new) image
+  pub unknown : status ≡ 4 → (image : Image) → m.held old ≡ Some image
+      → IsFresh (m.size new) image → ⊥
+  pub fresh : IsWhole status → (image : Image) → m.held old ≡ Some image
+      → IsFresh (m.size new) image
 
 -- `--stop` lets fewer page writes pass than this
 abbrev pub IsPast : Option ℕ → ℕ → Type 0

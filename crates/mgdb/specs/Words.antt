@@ -14,5 +14,6 @@ IsPath path = slice_index path 0 ≢ 45
 abbrev pub IsRun : List (List ℕ) → Option ℕ → Type 0
 IsRun (name ∷ command ∷ path ∷ []) None = (command ≡ codes "run") × IsPath path
 IsRun (name ∷ command ∷ path ∷ option ∷ number ∷ []) (Some n) =
-    (command ≡ codes "run") × IsPath path × (option ≡ codes "--stop") × (number ≡ decimal n) × (n < 2 ^ 32)
+    (command ≡ codes "run") × IsPath path × (option ≡ codes "--stop") × (number ≡ decimal n)
+    × (n < 2 ^ 32)
 IsRun words stop = ⊥

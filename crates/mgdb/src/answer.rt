@@ -1,5 +1,5 @@
-//! What a put answers, and the lines of the transcript. A line is made on the stack, so no memory can
-//! be wanting once an answer is known.
+//! What a put answers, and the lines of the transcript. A line is made on the stack, so no memory
+//! can be wanting once an answer is known.
 
 ghost use Rattle.std.specs.Prelude.{◌≡◌, ◌≤◌, ◌+◌, ◌∷◌, ◌++◌, [], codes, decimal, length};
 ghost use Rattle.mgdb.specs.Serving.{answer_text};

@@ -18,8 +18,8 @@ use mg_first::{
 };
 use std::alloc::Global;
 
-/// Tests that a disk is fresh: its pages have 4096 bytes, there are at most seven of them, and it is
-/// blank, so page 0 is all zero if it is there.
+/// Tests that a disk is fresh: its pages have 4096 bytes, there are at most seven of them, and it
+/// is blank, so page 0 is all zero if it is there.
 ///
 /// # Errors
 ///
@@ -61,8 +61,8 @@ fn is_zero(page: &[u8]) -> bool
     page.iter().all(|byte| *byte == 0)
 }
 
-/// Writes a new database of seven pages and settles it. Page 0 goes last, so a disk on which this was
-/// stopped is still blank. The table's pages that change are those kept in memory.
+/// Writes a new database of seven pages and settles it. Page 0 goes last, so a disk on which this
+/// was stopped is still blank. The table's pages that change are those kept in memory.
 ///
 /// # Errors
 ///

@@ -54,9 +54,9 @@ impl Kv {
 
     /// Stores a row in a transaction of its own and commits it.
     ///
-    /// The header with the higher number goes out first, then the row's page, then the transaction's
-    /// bits: a crash between two of them leaves the row unseen, since its transaction is not
-    /// committed. The row is stored once the disk is settled.
+    /// The header with the higher number goes out first, then the row's page, then the
+    /// transaction's bits: a crash between two of them leaves the row unseen, since its transaction
+    /// is not committed. The row is stored once the disk is settled.
     ///
     /// # Errors
     ///

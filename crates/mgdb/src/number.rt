@@ -1,5 +1,5 @@
-//! Numbers as a script and a command line spell them: decimal digits without a leading zero, and `-`
-//! before a negative one.
+//! Numbers as a script and a command line spell them: decimal digits without a leading zero, and
+//! `-` before a negative one.
 
 ghost use Rattle.std.specs.Prelude.{◌≡◌, ◌≢◌, ◌<◌, ◌^◌, ℕ, ℤ, decimal, MatchOption, FitsSigned};
 ghost use Rattle.std.specs.Int.{w64};

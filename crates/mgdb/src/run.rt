@@ -26,8 +26,8 @@ use std::alloc::Global;
 
 /// Obeys the script that the source gives, on a fresh disk, and answers into the sink.
 ///
-/// The script is read whole before the disk is first asked. A commit's line goes into the sink after
-/// the disk was settled.
+/// The script is read whole before the disk is first asked. A commit's line goes into the sink
+/// after the disk was settled.
 pub fn run<D: Disk, S: Source, K: Sink>(
     alloc: Global,
     disk: &mut D,
@@ -40,7 +40,8 @@ pub fn run<D: Disk, S: Source, K: Sink>(
     ensures script { ScriptCauses S.meaning source.old result.0 }
     ensures not_asked { result.0 ≡ 7 → disk.new ≡ disk.old }
     ensures range { (result.0 < 8) × (result.0 ≢ 2) }
-    ensures headline { (size : ℕ) (o : Opening) (script : List ℕ) → IsEntry D.meaning disk.old size o
+    ensures headline { (size : ℕ) (o : Opening) (script : List ℕ)
+        → IsEntry D.meaning disk.old size o
         → S.meaning.left source.old ≡ Some script
         → Counted D.meaning K.meaning size o script disk.old disk.new sink.old sink.new result.0 }
 {
@@ -146,7 +147,8 @@ fn obey<D: Disk, K: Sink>(
     ensures disk { DiskSteps D.meaning disk.old disk.new result }
     ensures sink { SinkSteps K.meaning sink.old sink.new result }
     ensures done { (o : Opening) (h : Entries) → Serves D.meaning kv.old disk.old o h
-        → LineDone D.meaning K.meaning disk.old disk.new kv.new sink.old sink.new o h number line.now
+        → LineDone D.meaning K.meaning disk.old disk.new kv.new sink.old sink.new o h number
+        line.now
         result }
 {
     match read_line(line) {

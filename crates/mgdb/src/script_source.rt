@@ -17,8 +17,8 @@ const PIECE: usize = 16_384;
 ///
 /// # Errors
 ///
-/// `Stream` where the source failed; `ScriptTooLong` exactly where more than 1,048,576 bytes are left;
-/// `Memory`.
+/// `Stream` where the source failed; `ScriptTooLong` exactly where more than 1,048,576 bytes are
+/// left; `Memory`.
 pub fn read_script<S: Source>(alloc: Global, source: &mut S) -> Result<Vec<u8>, Stop>
     ensures whole { IfOk result (λ script. (bytes : List ℕ) → S.meaning.left source.old ≡ Some bytes
         → script.items ≡ bytes) }

@@ -34,7 +34,8 @@ pub fn mgdb<R: AllocGlobal + Drop, D: Disk + Send + 'static, S: Source, K: Sink>
 ) -> (Status, Shelf<D>)
     ensures usage { (result.0.0 ≡ 2) ↔ ((stop : Option ℕ) → IsRun (texts words.now) stop → ⊥) }
     ensures untouched { result.0.0 ≡ 2 → (result.1 ≡ shelf) × (source.new ≡ source.old) }
-    ensures disk { ShelfCauses D.meaning (IsStopped words.now) shelf.first result.1.first result.0.0 }
+    ensures disk { ShelfCauses D.meaning (IsStopped words.now) shelf.first result.1.first
+        result.0.0 }
     ensures second { result.1.second ≡ shelf.second }
     ensures streams { StreamCauses S.meaning K.meaning source.old source.new sink.old sink.new
         result.0.0 }

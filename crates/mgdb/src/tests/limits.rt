@@ -43,7 +43,8 @@ fn one_key_takes_104_versions_and_the_numbers_end_at_16303(rt: HostRuntime) -> R
         "another transcript"
     );
     assert_eq!(rt; made.status, 1);
-    // A put that the page has no room for writes the header alone; one without a number writes none.
+    // A put that the page has no room for writes the header alone; one without a number writes
+    // none.
     assert_eq!(rt; made.disk.writes(), 7 + 104 * 3 + 16_199);
     assert_eq!(rt; kv_of(rt.alloc(), &mut made.disk)?, Held::Row(1, 1));
     Ok(())
