@@ -1,9 +1,7 @@
 -- Histories of a program that runs one transaction at a time, each of which puts a row into KV.
-use Rattle.std.specs.Prelude.{◌≡◌, ℕ, ℤ, Bool, true, false, List, [], ◌∷◌, codes, Option, Some, None}
+pub use Rattle.mg_first.specs.KvTable.{kv_column, kv_shape}
+use Rattle.std.specs.Prelude.{◌≡◌, ℕ, ℤ, true, false, [], ◌∷◌, Option, Some, None}
 use Rattle.mg_value.specs.declared.value.Value.TheVariants.{Int}
-use Rattle.mg_value.specs.declared.shape.Kind.TheVariants as kinds
-use Rattle.mg_value.specs.declared.shape.Column.{Column}
-use Rattle.mg_value.specs.declared.shape.Shape.{Shape}
 use Rattle.mg_model.specs.declared.answer.Answer.TheVariants.{Fine, Tx, No}
 use Rattle.mg_model.specs.declared.refusal.Refusal.{Refusal}
 use Rattle.mg_model.specs.declared.refusal.Refusal.TheVariants.{TransactionLimit}
@@ -20,18 +18,7 @@ use Rattle.mg_model.specs.Machine.{next_number, state_of, database}
 use Rattle.mg_model.specs.Answers.{is_open, number}
 use Rattle.mg_model.specs.Legal.{IsOpening, IsLegal, durable_count, after_durable, durable_limbo}
 
--- ---- the table and its rows
-
--- a column of KV
-abbrev pub kv_column : List ℕ → Bool → Column
-kv_column name not_null = record { name = name; kind = kinds.Int; not_null = not_null; since = 1 }
-
--- its shape: K, which is the key and not NULL, and V
-abbrev pub kv_shape : Shape
-kv_shape = record {
-  columns = kv_column (codes "K") true ∷ kv_column (codes "V") false ∷ [];
-  key = 0;
-}
+-- ---- rows
 
 -- the row with a key and a value
 abbrev pub row_of : ℤ → ℤ → Cells
