@@ -18,5 +18,6 @@ pub mod SerialDurableLaws
 pub mod SerialEndLaws
 pub mod SerialLaws
 pub mod Stages
+pub mod StopLemmas
 pub mod TopLemmas
 pub mod WordsLemmas

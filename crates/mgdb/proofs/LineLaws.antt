@@ -1,7 +1,7 @@
 -- Laws of one line: a line that is no put, and what a put's line does where its answer is said,
 -- where the sink fails, and where a fault ends it.
 use Rattle.std.specs.Prelude.{◌≡◌, ◌++◌, ◌∷◌, [], ℕ, ℤ, Bool, true, false, List, Result, Ok, Err, codes, refl}
-use Rattle.std.proofs.Common.{sym, ◌∙◌, ap, arith, inl, inr, ◌⊎◌, subst}
+use Rattle.std.proofs.Common.{sym, ◌∙◌, ap, arith, inl, inr, ◌⊎◌, subst, true, false, Some, refl}
 use Rattle.mg_base.specs.Disk.{Meaning}
 use Rattle.mg_base.specs.Moments.{LeavesOnly, started}
 use Rattle.mg_base.specs.Streams.{SinkMeaning}
@@ -20,6 +20,7 @@ use Rattle.mgdb.proofs.PrintLaws.{printed_whole, whole_nothing}
 use Rattle.mgdb.specs.Script.{IsBad, IsPut, IsSilent}
 use Rattle.mgdb.specs.ScriptHistory.{LineGives, PutEnds, PutGives, bad, put as gives_put, silent}
 use Rattle.mgdb.specs.Serving.{EndsLine, LineDone, PutDone, PutLineDone, Serves, answer_text, is_ok, put as ends_put, stop_text}
+use Rattle.mgdb.specs.Stops.{is_within}
 use Rattle.mgdb.specs.Transcript.{line_text}
 
 -- ---- a line that is no put
@@ -39,7 +40,7 @@ silent_line m n disk kv sink o h number text is serves = record {
   line = Silent;
   is_line = is;
   entries = [];
-  gives = inl silent;
+  gives = inl (refl, silent);
   obeyed = silent;
   ok = refl;
   serves = serves;
@@ -59,7 +60,7 @@ bad_line m n disk kv before after o h number text is serves said = record {
   line = Bad;
   is_line = is;
   entries = [];
-  gives = inl bad;
+  gives = inl (refl, bad);
   obeyed = bad;
   ok = refl;
   serves = serves;
@@ -74,13 +75,13 @@ bad_line m n disk kv before after o h number text is serves said = record {
 -- where the sink failed
 pub bad_line_unsaid : {D K : Type 0} (m : Meaning D) (n : SinkMeaning K) (disk : D) (kv : Kv)
     (before after : K) (o : Opening) (h : Entries) (number : ℕ) (text : List ℕ) (stop : Stop)
-    → IsBad text → Serves m kv disk o h → IsPrinted n before after (line_text number Bad [])
+    → is_within (Some stop) ≡ false → IsBad text → Serves m kv disk o h → IsPrinted n before after (line_text number Bad [])
     → LineDone m n disk disk kv before after o h number text (Err stop)
-bad_line_unsaid m n disk kv before after o h number text stop is serves printed = record {
+bad_line_unsaid m n disk kv before after o h number text stop out is serves printed = record {
   line = Bad;
   is_line = is;
   entries = [];
-  gives = inl bad;
+  gives = inl (out, bad);
   obeyed = tt;
   ok = tt;
   serves = tt;
@@ -106,7 +107,7 @@ put_said m n old new kv before after o h k v answer bytes ok done is said same =
     let whole = subst (λ (line : List ℕ). IsPrintedWhole n before after line) text said in
     record {
       entries = done.entries;
-      gives = inl done.gives;
+      gives = inl (refl, done.gives);
       obeyed = done.gives;
       ok = same ∙ sym done.says.ok;
       serves = done.serves;
@@ -121,15 +122,15 @@ put_said m n old new kv before after o h k v answer bytes ok done is said same =
 -- where the sink failed
 pub put_unsaid : {D K : Type 0} (m : Meaning D) (n : SinkMeaning K) (old new : D) (kv : Kv)
     (before after : K) (o : Opening) (h : Entries) (k v : ℤ) (answer : Answer) (bytes : List ℕ)
-    (stop : Stop) → PutDone m old new kv o h k v (Ok answer)
+    (stop : Stop) → is_within (Some stop) ≡ false → PutDone m old new kv o h k v (Ok answer)
     → bytes ≡ codes "@put: " ++ answer_text answer ++ 10 ∷ [] → IsPrinted n before after bytes
     → PutLineDone m n old new kv before after o h k v (Err stop)
-put_unsaid m n old new kv before after o h k v answer bytes stop done is printed =
+put_unsaid m n old new kv before after o h k v answer bytes stop out done is printed =
     let text = is
     ∙ ap (λ (told : List ℕ). codes "@put: " ++ told ++ 10 ∷ []) (sym done.says.text) in
     record {
       entries = done.entries;
-      gives = inl done.gives;
+      gives = inl (out, done.gives);
       obeyed = tt;
       ok = tt;
       serves = tt;
@@ -144,15 +145,15 @@ put_unsaid m n old new kv before after o h k v answer bytes stop done is printed
 -- where a fault ended it
 pub put_ended : {D K : Type 0} (m : Meaning D) (n : SinkMeaning K) (old new : D) (kv : Kv)
     (before after : K) (o : Opening) (h : Entries) (k v : ℤ) (stop : Stop) (bytes : List ℕ)
-    → PutDone m old new kv o h k v (Err stop)
+    → is_within (Some stop) ≡ true → PutDone m old new kv o h k v (Err stop)
     → bytes ≡ codes "@put: " ++ stop_text stop ++ 10 ∷ [] → IsPrinted n before after bytes
     → PutLineDone m n old new kv before after o h k v (Err stop)
-put_ended m n old new kv before after o h k v stop bytes done is printed =
+put_ended m n old new kv before after o h k v stop bytes within done is printed =
     let text = is
     ∙ ap (λ (told : List ℕ). codes "@put: " ++ told ++ 10 ∷ []) (sym done.tells) in
     record {
       entries = done.entries;
-      gives = inr done.ends;
+      gives = inr (within, done.ends);
       obeyed = tt;
       ok = tt;
       serves = tt;
@@ -174,7 +175,7 @@ put_line m n old new kv before after o h k v number text (Ok ok) is done = recor
   line = Put k v;
   is_line = is;
   entries = done.entries;
-  gives = inl (gives_put k v done.entries done.obeyed);
+  gives = inl (refl, gives_put k v done.entries done.obeyed);
   obeyed = gives_put k v done.entries done.obeyed;
   ok = done.ok;
   serves = done.serves;
@@ -202,7 +203,9 @@ put_line {D = D} {K = K} m n old new kv before after o h k v number text (Err st
       writes = done.writes;
     }
   where
-    at : PutGives o h k v done.entries ⊎ PutEnds o h k v done.entries
-        → LineGives o h (Put k v) done.entries ⊎ EndsLine o h (Put k v) done.entries
-    at (inl gives) = inl (gives_put k v done.entries gives)
-    at (inr ends) = inr (ends_put k v done.entries ends)
+    at : ((is_within (Some stop) ≡ false) × PutGives o h k v done.entries)
+        ⊎ ((is_within (Some stop) ≡ true) × PutEnds o h k v done.entries)
+        → ((is_within (Some stop) ≡ false) × LineGives o h (Put k v) done.entries)
+        ⊎ ((is_within (Some stop) ≡ true) × EndsLine o h (Put k v) done.entries)
+    at (inl (out, gives)) = inl (out, gives_put k v done.entries gives)
+    at (inr (within, ends)) = inr (within, ends_put k v done.entries ends)

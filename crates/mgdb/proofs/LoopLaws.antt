@@ -1,7 +1,7 @@
 -- Laws of the lines of a script, obeyed one after another: what is known before the first, after
 -- one more, and where a line or the end of the script ends them.
 use Rattle.std.specs.Prelude.{◌≡◌, ◌+◌, ◌&&◌, ◌++◌, ◌∷◌, [], ℕ, Bool, true, List, length, Ok, Err, refl}
-use Rattle.std.proofs.Common.{sym, ◌∙◌, ap, arith, inl, inr, ◌⊎◌, append_assoc, length-append, subst}
+use Rattle.std.proofs.Common.{sym, ◌∙◌, ap, arith, inl, inr, ◌⊎◌, append_assoc, length-append, subst, true, false, Some, Option, refl}
 use Rattle.std.specs.Str.Lines.{lines}
 use Rattle.mg_base.specs.Disk.{Meaning}
 use Rattle.mg_base.specs.Moments.{LeavesOnly, started}
@@ -9,6 +9,7 @@ use Rattle.mg_base.specs.Streams.{SinkMeaning}
 use Rattle.mg_model.specs.declared.opening.Opening.{Opening}
 use Rattle.mg_model.specs.History.{Entry}
 use Rattle.mg_first.specs.declared.pages.TheConstants.{PAGE}
+use Rattle.mgdb.specs.Stops.{is_within}
 use Rattle.mgdb.specs.declared.kv.Kv.{Kv}
 use Rattle.mgdb.specs.declared.script.Line.{Line}
 use Rattle.mgdb.specs.declared.status.Stop.{Stop}
@@ -87,16 +88,18 @@ so_far_line m n old mid new kv later before middle after o script rest behind te
 
 -- ---- a line ends them
 
-meets_line : (o : Opening) (met : List Line) (es : List Entry) (line : Line) (new : List Entry)
-    → Obeys o met es → LineGives o (onto [] es) line new ⊎ EndsLine o (onto [] es) line new
-    → Meets o (met ++ line ∷ []) (es ++ new)
-meets_line o met es line new obeys (inl gives) =
-    obeyed (met ++ line ∷ []) (es ++ new) (more met es line new obeys gives)
-meets_line o met es line new obeys (inr ends) = at line new ends
+meets_line : (o : Opening) (stop : Option Stop) (met : List Line) (es : List Entry) (line : Line)
+    (new : List Entry) → Obeys o met es
+    → ((is_within stop ≡ false) × LineGives o (onto [] es) line new)
+    ⊎ ((is_within stop ≡ true) × EndsLine o (onto [] es) line new)
+    → Meets o stop (met ++ line ∷ []) (es ++ new)
+meets_line o stop met es line new obeys (inl (out, gives)) =
+    obeyed (met ++ line ∷ []) (es ++ new) out (more met es line new obeys gives)
+meets_line o stop met es line new obeys (inr (within, ends)) = at line new ends
   where
     at : (line : Line) (new : List Entry) → EndsLine o (onto [] es) line new
-        → Meets o (met ++ line ∷ []) (es ++ new)
-    at line new (put k v entries ends) = ended met es k v entries obeys ends
+        → Meets o stop (met ++ line ∷ []) (es ++ new)
+    at line new (put k v entries ends) = ended met es k v entries within obeys ends
 
 pub lines_stopped : {D K : Type 0} (m : Meaning D) (n : SinkMeaning K) (old mid new : D)
     (kv later : Kv) (before middle after : K) (o : Opening) (script rest behind text : List ℕ)
@@ -116,7 +119,8 @@ lines_stopped m n old mid new kv later before middle after o script rest behind 
       are_lines = lines_more so.texts so.met text done.line so.are_lines done.is_line;
       all_met = tt;
       entries = so.entries ++ done.entries;
-      meets = meets_line o so.met so.entries done.line done.entries so.obeys done.gives;
+      meets = meets_line o (Some stop) so.met so.entries done.line done.entries so.obeys
+          done.gives;
       ok = tt;
       told = tt;
       legal = rw whole done.legal;
@@ -150,7 +154,7 @@ lines_ended m n old new kv before after o script rest number all so none =
       are_lines = so.are_lines;
       all_met = refl;
       entries = so.entries;
-      meets = obeyed so.met so.entries so.obeys;
+      meets = obeyed so.met so.entries refl so.obeys;
       ok = so.all;
       told = so.serves.told;
       legal = so.serves.served.quiet.legal;

@@ -1,7 +1,7 @@
 -- Laws of a whole run: the disk is read, a new database is made, the lines are obeyed, the disk is
 -- settled; and what the program promises of it, wherever it stops.
 use Rattle.std.specs.Prelude.{◌≡◌, ◌≤◌, [], ℕ, Bool, List, None, Option, Some, Result, Ok, Err, IsErrAnd, refl}
-use Rattle.std.proofs.Common.{sym, ◌∙◌, ap, arith, append-nil, subst}
+use Rattle.std.proofs.Common.{sym, ◌∙◌, ap, arith, append-nil, subst, false, Some, None, List, refl}
 use Rattle.std.specs.Str.Lines.{lines}
 use Rattle.mg_base.specs.Disk.{Calm, MayLeave, Meaning, Stays}
 use Rattle.mg_base.specs.Image.{Image, page_at}
@@ -10,6 +10,10 @@ use Rattle.mg_base.specs.Streams.{SinkMeaning}
 use Rattle.mg_model.specs.declared.opening.Opening.{Opening}
 use Rattle.mg_image.specs.Opening.{IsBlank}
 use Rattle.mg_first.specs.declared.pages.TheConstants.{PAGE}
+use Rattle.std.proofs.lemmas.Bool.{false≢true}
+use Rattle.mgdb.specs.Stops.{is_within}
+use Rattle.mgdb.specs.declared.script.Line.{Line}
+use Rattle.mg_model.specs.History.{Entry}
 use Rattle.mgdb.specs.declared.kv.Kv.{Kv}
 use Rattle.mgdb.specs.declared.status.Stop.{Stop}
 use Rattle.mgdb.proofs.CrashLaws.{opening_holds_some, some_asked_longer, some_is_all}
@@ -17,7 +21,7 @@ use Rattle.mgdb.specs.Crashes.{HoldsSome, asked}
 use Rattle.mgdb.specs.Fresh.{IsFresh}
 use Rattle.mgdb.specs.Headline.{Counted, IsEntry, IsOpeningOf, IsPrinted, NEW_WRITES, ending, fault_line, of_blank, of_sound}
 use Rattle.mgdb.proofs.PrintLaws.{printed_nothing, printed_stopped, whole_nothing}
-use Rattle.mgdb.specs.ScriptHistory.{nothing, obeyed, onto}
+use Rattle.mgdb.specs.ScriptHistory.{Meets, ended, nothing, obeyed, onto}
 use Rattle.mgdb.specs.Serving.{IsFreshDisk, LinesDone, NewDone, Reads, Serves, new_history}
 use Rattle.mgdb.specs.Stops.{status_of}
 use Rattle.mgdb.specs.Transcript.{transcript}
@@ -57,10 +61,11 @@ entry_fresh m old new size o entry reads fresh = record {
 
 -- a disk that is not fresh, or could not be read
 pub script_unread : {D K : Type 0} (m : Meaning D) (n : SinkMeaning K) (old new : D) (sink : K)
-    (size : ℕ) (o : Opening) (script : List ℕ) (stop : Stop) → IsEntry m old size o
+    (size : ℕ) (o : Opening) (script : List ℕ) (stop : Stop)
+    → is_within (Some stop) ≡ false → IsEntry m old size o
     → Reads m old new
     → LinesDone m n old new sink sink size NEW_WRITES o script (Err stop)
-script_unread m n old new sink size o script stop entry reads = record {
+script_unread m n old new sink size o script stop out entry reads = record {
   texts = [];
   rest = lines script;
   front = refl;
@@ -68,7 +73,7 @@ script_unread m n old new sink size o script stop entry reads = record {
   are_lines = tt;
   all_met = tt;
   entries = [];
-  meets = obeyed [] [] nothing;
+  meets = obeyed [] [] out nothing;
   ok = tt;
   told = tt;
   legal = tt;
@@ -83,11 +88,11 @@ script_unread m n old new sink size o script stop entry reads = record {
 -- ---- a new database is made
 
 pub script_unmade : {D K : Type 0} (m : Meaning D) (n : SinkMeaning K) (old mid new : D) (kv : Kv)
-    (sink : K) (script : List ℕ) (stop : Stop)
+    (sink : K) (script : List ℕ) (stop : Stop) → is_within (Some stop) ≡ false
     → LeavesOnly m old mid (HoldsSome PAGE new_history []) → m.asked mid ≡ m.asked old
     → NewDone m mid new kv (Err stop)
     → LinesDone m n old new sink sink PAGE NEW_WRITES new_history script (Err stop)
-script_unmade m n old mid new kv sink script stop run asked_ made = record {
+script_unmade m n old mid new kv sink script stop out run asked_ made = record {
   texts = [];
   rest = lines script;
   front = refl;
@@ -95,7 +100,7 @@ script_unmade m n old mid new kv sink script stop run asked_ made = record {
   are_lines = tt;
   all_met = tt;
   entries = [];
-  meets = obeyed [] [] nothing;
+  meets = obeyed [] [] out nothing;
   ok = tt;
   told = tt;
   legal = tt;
@@ -139,6 +144,13 @@ script_done m n old mid ready new kv made_ before after script result run asked_
 
 -- ---- the disk is settled
 
+-- what was obeyed whole was so where a fault came outside the lines
+meets_outside : (o : Opening) (stop : Stop) (met : List Line) (es : List Entry)
+    → is_within (Some stop) ≡ false → Meets o None met es → Meets o (Some stop) met es
+meets_outside o stop _ _ out (obeyed met es none obeys) = obeyed met es out obeys
+meets_outside o stop _ _ out (ended met es k v new within obeys ends) =
+    absurd (false≢true within)
+
 settled_leaves : {D K T E : Type 0} (m : Meaning D) (n : SinkMeaning K) (old mid new : D)
     (before after : K) (size first : ℕ) (o : Opening) (script : List ℕ) (all : Bool)
     (settled : Result T E)
@@ -178,11 +190,11 @@ script_settled m n old mid new before after size first o script all settled done
 -- where that failed, outside the lines
 pub script_unsettled : {D K T E : Type 0} (m : Meaning D) (n : SinkMeaning K) (old mid new : D)
     (before after : K) (size first : ℕ) (o : Opening) (script : List ℕ) (all : Bool)
-    (settled : Result T E) (stop : Stop)
+    (settled : Result T E) (stop : Stop) → is_within (Some stop) ≡ false
     → LinesDone m n old mid before after size first o script (Ok all)
     → Calm m mid new settled
     → LinesDone m n old new before after size first o script (Err stop)
-script_unsettled m n old mid new before after size first o script all settled stop done calm =
+script_unsettled m n old mid new before after size first o script all settled stop out done calm =
     record {
       texts = done.texts;
       rest = done.rest;
@@ -191,7 +203,7 @@ script_unsettled m n old mid new before after size first o script all settled st
       are_lines = done.are_lines;
       all_met = tt;
       entries = done.entries;
-      meets = done.meets;
+      meets = meets_outside o stop done.met done.entries out done.meets;
       ok = tt;
       told = tt;
       legal = done.legal;
@@ -207,10 +219,10 @@ script_unsettled m n old mid new before after size first o script all settled st
 -- the script could not be read, and the disk was not asked
 pub headline_unread : {D K : Type 0} (m : Meaning D) (n : SinkMeaning K) (size : ℕ) (o : Opening)
     (script : List ℕ) (disk : D) (before after : K) (stop : Stop) (status : ℕ)
-    → IsEntry m disk size o → IsPrinted n before after (fault_line (Some stop))
+    → is_within (Some stop) ≡ false → IsEntry m disk size o → IsPrinted n before after (fault_line (Some stop))
     → status ≡ (status_of stop).0
     → Counted m n size o script disk disk before after status
-headline_unread m n size o script disk before after stop status entry printed is = record {
+headline_unread m n size o script disk before after stop status out entry printed is = record {
   line = record {
     texts = [];
     rest = lines script;
@@ -220,7 +232,7 @@ headline_unread m n size o script disk before after stop status entry printed is
     stop = Some stop;
     all_met = λ none. absurd cc;
     entries = [];
-    meets = obeyed [] [] nothing;
+    meets = obeyed [] [] out nothing;
     legal = tt;
     printed = printed;
     ends = is;
@@ -313,16 +325,16 @@ of_new m n old new before after size o script result page is done = rw (page, is
 -- the new database could not be made
 pub entry_unmade : {D K : Type 0} (m : Meaning D) (n : SinkMeaning K) (old mid new : D) (kv : Kv)
     (sink : K) (size : ℕ) (o : Opening) (script : List ℕ) (stop : Stop)
-    → IsEntry m old size o → Reads m old mid → Stays (m.size old) (m.size mid)
+    → is_within (Some stop) ≡ false → IsEntry m old size o → Reads m old mid → Stays (m.size old) (m.size mid)
     → m.size mid ≡ Some PAGE
     → ((image : Image) → m.held old ≡ Some image → IsFresh (m.size mid) image)
     → ((image : Image) → IsFreshDisk m mid image → NewDone m mid new kv (Err stop))
     → LinesDone m n old new sink sink size NEW_WRITES o script (Err stop)
-entry_unmade m n old mid new kv sink size o script stop entry reads stays sized fresh made =
+entry_unmade m n old mid new kv sink size o script stop out entry reads stays sized fresh made =
     let its = fresh entry.image entry.held in
     let is = entry_is_new m old mid size o entry stays sized its in
     of_new m n old new sink sink size o script (Err stop) is.0 is.1
-    (script_unmade m n old mid new kv sink script stop
+    (script_unmade m n old mid new kv sink script stop out
     (new_run m old mid size o is.0 is.1 (entry_reads m old mid size o entry reads)) reads.asked
     (made entry.image (entry_fresh m old mid size o entry reads its)))
 

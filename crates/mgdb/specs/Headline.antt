@@ -124,7 +124,7 @@ pub record Headline {D K : Type 0} (m : Meaning D) (n : SinkMeaning K) (size : �
   pub all_met : stop ≡ None → rest ≡ []
   -- the entries, the oldest first
   pub entries : List Entry
-  pub meets : Meets o met entries
+  pub meets : Meets o stop met entries
   pub legal : IsLegal o (onto [] entries)
   pub printed : IsPrinted n before after (transcript 1 met entries ++ fault_line stop)
   pub ends : status ≡ status_by stop (all_ok met entries)

@@ -1,6 +1,6 @@
 -- The history of a script: which events each line gives, and how they are answered. No page is
 -- here, and no cell; only how much room the rows take is told.
-use Rattle.std.specs.Prelude.{◌≡◌, ◌≢◌, ◌≤◌, ◌<◌, ◌+◌, ℕ, ℤ, List, [], ◌∷◌, ◌++◌, Option, None, Some}
+use Rattle.std.specs.Prelude.{◌≡◌, ◌≢◌, ◌≤◌, ◌<◌, ◌+◌, ℕ, ℤ, List, [], ◌∷◌, ◌++◌, Option, None, Some, true, false}
 use Rattle.mg_model.specs.declared.answer.Answer.{Answer}
 use Rattle.mg_model.specs.declared.answer.Answer.TheVariants.{Fine, No, Tx}
 use Rattle.mg_model.specs.declared.event.Event.{Event}
@@ -16,6 +16,8 @@ use Rattle.mg_value.specs.declared.value.Value.TheVariants.{Int}
 use Rattle.mg_first.specs.declared.pages.TheConstants.{PAGES}
 use Rattle.mgdb.specs.Script.{IsLine}
 use Rattle.mgdb.specs.Serial.{begins, begun, commits, rolls_back, writes}
+use Rattle.mgdb.specs.Stops.{is_within}
+use Rattle.mgdb.specs.declared.status.Stop.{Stop}
 use Rattle.mgdb.specs.declared.script.Line.{Line}
 use Rattle.mgdb.specs.declared.script.Line.TheVariants.{Bad, Put, Silent}
 
@@ -111,9 +113,11 @@ pub data Obeys (o : Opening) : List Line → List Entry → Type 0 where
   more : (lines : List Line) (es : List Entry) (line : Line) (new : List Entry) → Obeys o lines es
       → LineGives o (onto [] es) line new → Obeys o (lines ++ line ∷ []) (es ++ new)
 
--- these entries are those of the lines met, of which the last may have ended the run
-pub data Meets (o : Opening) : List Line → List Entry → Type 0 where
-  obeyed : (lines : List Line) (es : List Entry) → Obeys o lines es → Meets o lines es
+-- these entries are those of the lines met: where a fault within a line stopped the run, the last of
+-- them ended by it, else each was obeyed
+pub data Meets (o : Opening) (stop : Option Stop) : List Line → List Entry → Type 0 where
+  obeyed : (lines : List Line) (es : List Entry) → is_within stop ≡ false → Obeys o lines es
+      → Meets o stop lines es
   ended : (lines : List Line) (es : List Entry) (k v : ℤ) (new : List Entry)
-      → Obeys o lines es → PutEnds o (onto [] es) k v new
-      → Meets o (lines ++ Put k v ∷ []) (es ++ new)
+      → is_within stop ≡ true → Obeys o lines es → PutEnds o (onto [] es) k v new
+      → Meets o stop (lines ++ Put k v ∷ []) (es ++ new)

@@ -34,6 +34,7 @@ use Rattle.mgdb.specs.Headline.{IsPrintedWhole, IsPrinted, NEW_WRITES, writes_of
 use Rattle.mgdb.specs.ScriptHistory.{AreLines, LineGives, Meets, Obeys, PutEnds, PutGives, ROOM, onto, taken}
 use Rattle.mgdb.specs.Serial.{IsQuiet}
 use Rattle.mgdb.specs.Stops.{IsObeyingStop}
+use Rattle.mgdb.specs.Stops.{is_within, stopped_by}
 use Rattle.mgdb.specs.Transcript.{all_ok, is_stored, line_ok, line_text, put_text, transcript}
 
 -- The pages on the disk hold what the history has, and the program keeps those that change.
@@ -125,7 +126,8 @@ pub record LineDone {D K : Type 0} (m : Meaning D) (n : SinkMeaning K) (old new 
   pub line : Line
   pub is_line : IsLine text line
   pub entries : List Entry
-  pub gives : LineGives o h line entries ⊎ EndsLine o h line entries
+  pub gives : ((is_within (stopped_by result) ≡ false) × LineGives o h line entries)
+      ⊎ ((is_within (stopped_by result) ≡ true) × EndsLine o h line entries)
   pub obeyed : OnOk result (LineGives o h line entries)
   pub ok : IfOk result (λ ok. ok ≡ line_ok line entries)
   pub serves : OnOk result (Serves m kv new o (onto h entries))
@@ -148,7 +150,7 @@ pub record LinesDone {D K : Type 0} (m : Meaning D) (n : SinkMeaning K) (old new
   pub are_lines : AreLines texts met
   pub all_met : OnOk result (rest ≡ [])
   pub entries : List Entry
-  pub meets : Meets o met entries
+  pub meets : Meets o (stopped_by result) met entries
   pub ok : IfOk result (λ ok. ok ≡ all_ok met entries)
   pub told : OnOk result (m.tells new ≡ true)
   pub legal : IsLegal o (onto [] entries)
@@ -213,7 +215,8 @@ pub record PutLineDone {D K : Type 0} (m : Meaning D) (n : SinkMeaning K) (old n
     (before after : K) (o : Opening) (h : Entries) (k v : ℤ) (result : Result Bool Stop)
     : Type 0 where
   pub entries : List Entry
-  pub gives : PutGives o h k v entries ⊎ PutEnds o h k v entries
+  pub gives : ((is_within (stopped_by result) ≡ false) × PutGives o h k v entries)
+      ⊎ ((is_within (stopped_by result) ≡ true) × PutEnds o h k v entries)
   pub obeyed : OnOk result (PutGives o h k v entries)
   pub ok : IfOk result (λ ok. ok ≡ is_stored entries)
   pub serves : OnOk result (Serves m kv new o (onto h entries))

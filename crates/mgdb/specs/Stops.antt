@@ -1,5 +1,5 @@
 -- Why a run stops, and what each cause says of the outside.
-use Rattle.std.specs.Prelude.{◌≡◌, ◌≤◌, Result, OnOk, IsErrAnd}
+use Rattle.std.specs.Prelude.{◌≡◌, ◌≤◌, Result, OnOk, IsErrAnd, Bool, true, false, Option, None, Some, Ok, Err}
 use Rattle.mg_base.specs.Disk.{Meaning, Stays, Rose}
 use Rattle.mg_base.specs.Streams.{SourceMeaning, SinkMeaning}
 use Rattle.mgdb.specs.declared.status.Status.{Status}
@@ -15,6 +15,23 @@ status_of UnknownImage = record { 0 = 4 }
 status_of Stream = record { 0 = 5 }
 status_of (Memory place) = record { 0 = 6 }
 status_of ScriptTooLong = record { 0 = 7 }
+
+-- a fault came within a line of the script
+abbrev pub is_within : Option Stop → Bool
+is_within None = false
+is_within (Some (DiskRead place)) = false
+is_within (Some (DiskWrite places.Run)) = false
+is_within (Some (DiskWrite places.Put)) = true
+is_within (Some UnknownImage) = false
+is_within (Some Stream) = false
+is_within (Some (Memory places.Run)) = false
+is_within (Some (Memory places.Put)) = true
+is_within (Some ScriptTooLong) = false
+
+-- the fault that stopped a call, if one did
+abbrev pub stopped_by : {T : Type 0} → Result T Stop → Option Stop
+stopped_by (Ok x) = None
+stopped_by (Err stop) = Some stop
 
 -- the disk failed
 abbrev pub IsDiskFault : Stop → Type 0
@@ -80,7 +97,8 @@ IsReadingStop (DiskRead place) = ⊥
 IsReadingStop (DiskWrite place) = ⊥
 IsReadingStop UnknownImage = ⊥
 IsReadingStop Stream = Unit {0}
-IsReadingStop (Memory place) = Unit {0}
+IsReadingStop (Memory places.Run) = Unit {0}
+IsReadingStop (Memory places.Put) = ⊥
 IsReadingStop ScriptTooLong = Unit {0}
 
 -- a source or a sink failed

@@ -1,10 +1,12 @@
-use Rattle.std.proofs.Common.{◌≡◌, sym, List, ℕ, Bool, Result, Ok, Err, IsErr, subst, [], ℤ}
+use Rattle.std.proofs.Common.{◌≡◌, sym, List, ℕ, Bool, Result, Ok, Err, subst, [], ℤ, IsErrAnd}
 use Rattle.std.proofs.lemmas.Int.{to_z-of_z}
 use Rattle.std.proofs.Common.{of_z, to_z, w64}
 use Rattle.mg_base.specs.Disk.{Meaning}
 use Rattle.mg_base.specs.Streams.{SinkMeaning}
 use Rattle.mg_model.specs.declared.opening.Opening.{Opening}
 use Rattle.mg_model.specs.History.{Entries}
+use Rattle.mgdb.proofs.StopLemmas.{saying_outside}
+use Rattle.mgdb.specs.Stops.{IsSayingStop}
 use Rattle.mgdb.specs.declared.kv.Kv.{Kv}
 use Rattle.mgdb.specs.declared.script.Line.TheVariants.{Bad}
 use Rattle.mgdb.specs.declared.status.Stop.{Stop}
@@ -17,12 +19,15 @@ use Rattle.mgdb.proofs.run.obey.Goals as goal
 
 unsaid : {D K : Type 0} (m : Meaning D) (n : SinkMeaning K) (disk : D) (kv : Kv)
     (before after : K) (o : Opening) (h : Entries) (number : ℕ) (text bytes : List ℕ)
-    (result : Result Bool Stop) → IsErr result → IsBad text → Serves m kv disk o h
+    (result : Result Bool Stop) (stop : Stop) → IsErrAnd result (λ given. given ≡ stop)
+    → IsSayingStop stop → IsBad text → Serves m kv disk o h
     → bytes ≡ line_text number Bad [] → IsPrinted n before after bytes
     → LineDone m n disk disk kv before after o h number text result
-unsaid m n disk kv before after o h number text bytes (Ok ok) err bad serves is printed = absurd cc
-unsaid m n disk kv before after o h number text bytes (Err stop) err bad serves is printed =
-    bad_line_unsaid m n disk kv before after o h number text stop bad serves
+unsaid m n disk kv before after o h number text bytes (Ok ok) stop same says bad serves is printed =
+    absurd same
+unsaid m n disk kv before after o h number text bytes (Err given) stop same says bad serves is
+    printed = bad_line_unsaid m n disk kv before after o h number text given
+    (rw same (saying_outside stop says)) bad serves
     (subst (IsPrinted n before after) is printed)
 
 same_put : {D K : Type 0} (m : Meaning D) (n : SinkMeaning K) (old new : D) (kv : Kv)
@@ -36,7 +41,8 @@ pub returns-in_err-say-in-Bad-clause-done : goal.returns-in_err-say-in-Bad-claus
 returns-in_err-say-in-Bad-clause-done g c = λ o h serves.
     unsaid g.D.Disk.meaning g.K.Sink.meaning c.args.disk.now c.args.kv.now c.args.sink.now
     c.say.new.sink o h c.args.number c.args.line.now c.bad_line.result.bytes
-    c.from_residual.result c.from_residual.ensures.0 c.in-Bad.ensures serves c.bad_line.ensures
+    c.from_residual.result c.in_err-say-in-Bad.field-0.0 c.from_residual.ensures.1
+    c.in_err-say-in-Bad.ensures.stops c.in-Bad.ensures serves c.bad_line.ensures
     c.say.ensures.printed
 
 pub returns-in-Silent-clause-done : goal.returns-in-Silent-clause-done

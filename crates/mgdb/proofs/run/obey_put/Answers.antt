@@ -1,4 +1,4 @@
-use Rattle.std.proofs.Common.{◌≡◌, sym, ap, rules, List, ℕ, Bool, true, false, Result, Ok, Err, IsErr, refl, ◌++◌, ◌∷◌, [], ℤ}
+use Rattle.std.proofs.Common.{◌≡◌, sym, ap, rules, List, ℕ, Bool, true, false, Result, Ok, Err, refl, ◌++◌, ◌∷◌, [], ℤ, IsErrAnd}
 use Rattle.std.proofs.lemmas.Int.{to_z-of_z}
 use Rattle.std.proofs.Common.{of_z, to_z, w64}
 use Rattle.std.specs.Prelude.{codes}
@@ -7,6 +7,8 @@ use Rattle.mg_base.specs.Streams.{SinkMeaning}
 use Rattle.mg_base.specs.declared.numbers.TxNo.{TxNo}
 use Rattle.mg_model.specs.declared.opening.Opening.{Opening}
 use Rattle.mg_model.specs.History.{Entries}
+use Rattle.mgdb.proofs.StopLemmas.{put_within, saying_outside}
+use Rattle.mgdb.specs.Stops.{IsSayingStop}
 use Rattle.mgdb.specs.declared.answer.Answer.{Answer}
 use Rattle.mgdb.specs.declared.answer.Answer.TheVariants.{DatabaseFull, Stored, TransactionLimit}
 use Rattle.mgdb.specs.declared.kv.Kv.{Kv}
@@ -19,12 +21,15 @@ use Rattle.mgdb.proofs.run.obey_put.Goals as goal
 
 unsaid : {D K : Type 0} (m : Meaning D) (n : SinkMeaning K) (old new : D) (kv : Kv)
     (before after : K) (o : Opening) (h : Entries) (k v : ℤ) (answer : Answer) (bytes : List ℕ)
-    (result : Result Bool Stop) → IsErr result → PutDone m old new kv o h k v (Ok answer)
+    (result : Result Bool Stop) (stop : Stop) → IsErrAnd result (λ given. given ≡ stop)
+    → IsSayingStop stop → PutDone m old new kv o h k v (Ok answer)
     → bytes ≡ codes "@put: " ++ answer_text answer ++ 10 ∷ [] → IsPrinted n before after bytes
     → PutLineDone m n old new kv before after o h k v result
-unsaid m n old new kv before after o h k v answer bytes (Ok ok) err done is printed = absurd cc
-unsaid m n old new kv before after o h k v answer bytes (Err stop) err done is printed =
-    put_unsaid m n old new kv before after o h k v answer bytes stop done is printed
+unsaid m n old new kv before after o h k v answer bytes (Ok ok) stop same says done is printed =
+    absurd same
+unsaid m n old new kv before after o h k v answer bytes (Err given) stop same says done is printed =
+    put_unsaid m n old new kv before after o h k v answer bytes given
+    (rw same (saying_outside stop says)) done is printed
 
 same_put : {D : Type 0} (m : Meaning D) (old new : D) (kv : Kv) (o : Opening) (h : Entries)
     (k k' v v' : ℤ) (result : Result Answer Stop) → k' ≡ k → v' ≡ v
@@ -40,7 +45,8 @@ pub returns-in_err-say-in-Ok-clause-done : goal.returns-in_err-say-in-Ok-clause-
 returns-in_err-say-in-Ok-clause-done g c = λ o h serves.
     unsaid g.D.Disk.meaning g.K.Sink.meaning c.args.disk.now c.put.new.disk c.put.new.self
     c.args.sink.now c.say.new.sink o h c.args.key c.args.value c.in-Ok.answer c.line.result.bytes
-    c.from_residual.result c.from_residual.ensures.0 (same_put g.D.Disk.meaning c.args.disk.now c.put.new.disk c.put.new.self o h
+    c.from_residual.result c.in_err-say-in-Ok.field-0.0 c.from_residual.ensures.1
+    c.in_err-say-in-Ok.ensures.stops (same_put g.D.Disk.meaning c.args.disk.now c.put.new.disk c.put.new.self o h
     c.args.key (to_z w64 (of_z w64 c.args.key)) c.args.value (to_z w64 (of_z w64 c.args.value))
     (Ok c.in-Ok.answer) (to_z-of_z w64 c.args.key c.ranges.key)
     (to_z-of_z w64 c.args.value c.ranges.value) (c.in-Ok.ensures.done o h serves))
@@ -76,7 +82,7 @@ pub returns-in-Err-clause-done : goal.returns-in-Err-clause-done
 returns-in-Err-clause-done g c = λ o h serves.
     put_ended g.D.Disk.meaning g.K.Sink.meaning c.args.disk.now c.put.new.disk c.put.new.self
     c.args.sink.now c.put-in-Err.new.self o h c.args.key c.args.value c.in-Err.stop
-    c.put_line.result.now (same_put g.D.Disk.meaning c.args.disk.now c.put.new.disk c.put.new.self o h
+    c.put_line.result.now (put_within c.in-Err.stop c.in-Err.ensures.stops) (same_put g.D.Disk.meaning c.args.disk.now c.put.new.disk c.put.new.self o h
     c.args.key (to_z w64 (of_z w64 c.args.key)) c.args.value (to_z w64 (of_z w64 c.args.value))
     (Err c.in-Err.stop) (to_z-of_z w64 c.args.key c.ranges.key)
     (to_z-of_z w64 c.args.value c.ranges.value) (c.in-Err.ensures.done o h serves)) c.put_line.ensures

@@ -2,6 +2,7 @@ use Rattle.std.proofs.Common.{◌≡◌, sym, ◌∙◌, ap, subst, List, ℕ}
 use Rattle.mg_base.specs.Disk.{Meaning}
 use Rattle.mg_base.specs.Streams.{SinkMeaning}
 use Rattle.mg_model.specs.declared.opening.Opening.{Opening}
+use Rattle.mgdb.proofs.StopLemmas.{reading_outside}
 use Rattle.mgdb.specs.declared.status.Status.{Status}
 use Rattle.mgdb.specs.Headline.{Counted, ending}
 use Rattle.mgdb.proofs.RunLaws.{headline_done, headline_stopped, headline_unread}
@@ -18,7 +19,8 @@ of_script m n size o read items script old new before after status is same =
 pub returns-in-Err-clause-headline : goal.returns-in-Err-clause-headline
 returns-in-Err-clause-headline g c = λ size o script entry left.
     headline_unread g.D.Disk.meaning g.K.Sink.meaning size o script c.args.disk.now
-    c.args.sink.now c.stopped.new.sink c.in-Err.stop c.stopped.result.0 entry
+    c.args.sink.now c.stopped.new.sink c.in-Err.stop c.stopped.result.0
+    (reading_outside c.in-Err.stop c.in-Err.ensures.stops) entry
     c.stopped.ensures.printed (ap (λ (status : Status). status.0) c.stopped.ensures.status)
 
 pub returns-in-Ok-true-clause-headline : goal.returns-in-Ok-true-clause-headline
