@@ -27,3 +27,6 @@ mod tables;
 
 pub use fault::CatFault;
 pub use tables::tables_of;
+
+#[cfg(test)]
+mod tests;
