@@ -8,3 +8,4 @@ pub mod NameLaws
 pub mod IndexLaws
 pub mod LawfulLaws
 pub mod TableLaws
+pub mod RowsSaid

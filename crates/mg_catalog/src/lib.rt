@@ -1,4 +1,5 @@
-//! The rows of the catalog, read into tables: a slow program whose contract is the definition.
+//! The rows of the catalog, read into tables: a slow program whose contract is the definition. And
+//! the rows that say a table.
 //!
 //! Owns: nothing that lasts. It is lent the rows of the catalog, tests that each is lawful among the
 //! others, and makes the tables that they name. The first row that is not lawful is its one fault.
@@ -21,11 +22,13 @@ mod index_row;
 mod indexes;
 mod keys;
 mod names;
+mod said;
 mod spelling;
 mod table_row;
 mod tables;
 
 pub use fault::CatFault;
+pub use said::rows_of;
 pub use tables::tables_of;
 
 #[cfg(test)]

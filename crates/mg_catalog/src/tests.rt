@@ -3,8 +3,9 @@
 use super::*;
 use mg_base::Memory;
 use mg_model::Table;
-use mg_value::{Kind, Row, Txt, Value};
+use mg_value::{Kind, Row, Txt, Value, order};
 use std::alloc::Global;
+use std::cmp::Ordering;
 use std::test::Fail;
 
 // A row of the catalog; no name is NULL.
@@ -263,6 +264,41 @@ fn a_row_that_breaks_a_rule_is_named(rt: HostRuntime) -> Result<(), Fail> {
             said[place] = Said { key, name, numbers };
         }
         expect_bad(alloc, &said, bad, what)?;
+    }
+    Ok(())
+}
+
+// Compares the rows that say a table with these.
+fn expect_said(alloc: Global, table: &Table, wanted: &[Said]) -> Result<(), Fail> {
+    if table.shape.columns.as_slice().len() > 64 || table.indexes.as_slice().len() > 64 {
+        return Err("a great table")?;
+    }
+    let found = match rows_of(alloc, table) {
+        Ok(found) => found,
+        Err(_) => return Err("no memory")?,
+    };
+    if found.len() != wanted.len() {
+        return Err("other rows")?;
+    }
+    for (found, said) in found.iter().zip(wanted) {
+        let wanted = row(alloc, said)?;
+        if found.as_slice().len() != wanted.as_slice().len() {
+            return Err("another row")?;
+        }
+        for (a, b) in found.as_slice().iter().zip(wanted.as_slice()) {
+            if order(a, b) != Ordering::Equal {
+                return Err("another value")?;
+            }
+        }
+    }
+    Ok(())
+}
+
+#[test]
+fn a_table_is_said_by_the_rows_that_it_was_read_from(rt: HostRuntime) -> Result<(), Fail> {
+    let alloc = rt.alloc();
+    for table in &tables(alloc, &KV)? {
+        expect_said(alloc, table, &KV)?;
     }
     Ok(())
 }
