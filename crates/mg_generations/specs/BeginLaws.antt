@@ -1,0 +1,95 @@
+-- The versions that a history begins with.
+use Rattle.std.specs.Prelude.{◌≡◌, ℕ, ◌==◌, Bool, true, false, List, [], ◌∷◌, ◌++◌, Option, Some, None, refl}
+use Rattle.std.proofs.Common.{sym, ◌∙◌, ap, subst}
+use Rattle.std.proofs.lemmas.Bool.{false≢true, both_ways, eq-eqb, eqb-true}
+use Rattle.mg_base.specs.declared.transaction.TxState.{TxState}
+use Rattle.mg_base.specs.declared.transaction.TxState.TheVariants.{Active, Limbo, Dead, Committed}
+use Rattle.mg_value.specs.declared.value.Value.{Value}
+use Rattle.mg_model.specs.declared.opening.Opening.{Opening}
+use Rattle.mg_model.specs.History.{Entries}
+use Rattle.mg_model.specs.Changes.{has_change, row_at}
+use Rattle.mg_model.specs.Machine.{opening_state, database, state_of, steps, own}
+use Rattle.mg_model.specs.Answers.{is_committed, is_open, changes_key, newest_by}
+use Rattle.mg_model.specs.LegalLaws.{found_passes}
+use Rattle.mg_model.specs.HinderLaws.{none_hinders}
+use Rattle.mg_generations.specs.Generations.{Generation, shown_by, first_writer, EachGeneration, EachOlder, is_newest_by, PassesNews, AreGenerations, AreFirst}
+use Rattle.mg_generations.specs.ListLaws.{each_as, nobody_first}
+use Rattle.mg_generations.specs.StepLaws.{newest_has}
+
+-- the newest, where it passes, is the first that passes
+newest_is_first : (who : ℕ → Bool) (u : ℕ) (gs : List Generation) → is_newest_by u gs ≡ true
+    → who u ≡ true → first_writer who gs ≡ Some u
+newest_is_first who u [] its passes = absurd (false≢true its)
+newest_is_first who u (g ∷ gs) its passes =
+    let same : g.writer ≡ u = eqb-true g.writer u its in
+    let here : who g.writer ≡ true = ap who same ∙ passes in
+    rw here (ap Some same)
+
+nothing_before : (since before : Entries) → [] ≡ since ++ before → [] ≡ before
+nothing_before [] before is = is
+nothing_before (x ∷ since) before is = absurd cc
+
+module _ (o : Opening) (table : List ℕ) (key : Value) where
+  first_newest : (gs : List Generation) → AreFirst o table key gs → (who : ℕ → Bool)
+      → PassesNews o [] who
+      → newest_by who (changes_key table key) (steps o []) ≡ first_writer who gs
+  first_newest gs it who news = at (newest_by who (changes_key table key) (steps o [])) refl
+    where
+      passes_open : (u : ℕ) → who u ≡ true → (s : TxState) → opening_state o u ≡ s
+          → is_open (opening_state o u) ≡ true
+      passes_open u passes Active is = ap is_open is
+      passes_open u passes Limbo is = ap is_open is
+      passes_open u passes Dead is = absurd (both_ways (who u) (news.dead u is) passes)
+      passes_open u passes Committed is = absurd (both_ways (who u) (news.old u is) passes)
+
+      older : (gs : List Generation)
+          → EachGeneration (λ g. opening_state o g.writer ≡ Committed) gs
+          → EachGeneration (λ g. who g.writer ≡ false) gs
+      older gs each =
+          each_as (λ g. opening_state o g.writer ≡ Committed) (λ g. who g.writer ≡ false) gs
+          (λ g is. news.old g.writer is) each
+
+      nobody : (gs : List Generation)
+          → EachOlder (λ g. opening_state o g.writer ≡ Committed) gs
+          → ((t : ℕ) → is_open (opening_state o t) ≡ true
+          → has_change (own o [] t) table key ≡ is_newest_by t gs)
+          → newest_by who (changes_key table key) (steps o []) ≡ None
+          → EachGeneration (λ g. who g.writer ≡ false) gs
+      nobody [] backs open_ none = tt
+      nobody (g ∷ gs) backs open_ none = (newest (who g.writer) refl, older gs backs)
+        where
+          newest : (b : Bool) → who g.writer ≡ b → b ≡ false
+          newest false off = refl
+          newest true passes =
+              let itself : (g.writer == g.writer) ≡ true = eq-eqb g.writer g.writer refl in
+              let has : has_change (own o [] g.writer) table key ≡ true =
+              open_ g.writer (passes_open g.writer passes (opening_state o g.writer) refl)
+              ∙ itself in
+              sym passes ∙ none_hinders who table key (steps o []) g.writer none has
+
+      at : (found : Option ℕ)
+          → newest_by who (changes_key table key) (steps o []) ≡ found
+          → found ≡ first_writer who gs
+      at None is = sym (nobody_first who gs (nobody gs it.backs it.open_ is))
+      at (Some u) is =
+          let passes : who u ≡ true =
+          found_passes who (changes_key table key) (steps o []) u is in
+          let its : is_newest_by u gs ≡ true =
+          sym (it.open_ u (passes_open u passes (opening_state o u) refl))
+          ∙ newest_has table key who (steps o []) u is in
+          sym (newest_is_first who u gs its passes)
+
+  -- what an opening says of a key are its versions when the history begins
+  pub generations_begin : (gs : List Generation) → AreFirst o table key gs
+      → AreGenerations o [] table key gs
+  generations_begin gs it = record {
+    alive = it.alive;
+    backs = it.backs;
+    open_ = it.open_;
+    gives = it.gives;
+    shows = λ since before is.
+        let P : Entries → Type 0 = λ g. row_at (database o g) table key
+        ≡ shown_by (λ u. is_committed (state_of o g u)) gs in
+        subst P (nothing_before since before is) it.shows;
+    newest = first_newest gs it;
+  }

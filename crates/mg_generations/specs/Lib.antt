@@ -1,0 +1,17 @@
+pub mod Generations
+pub mod ListLaws
+pub mod CommittedLaws
+pub mod WriterLaws
+pub mod StepLaws
+pub mod BeginLaws
+pub mod OnwardLaws
+pub mod WriteLaws
+pub mod DeadLaws
+pub mod AfterLaws
+pub mod UndoneLaws
+pub mod ShowLaws
+pub mod Tables
+pub mod TableLaws
+pub mod CaseLaws
+pub mod Laws
+pub mod Scenarios

@@ -1,0 +1,51 @@
+//! The laws of versions. Each function does nothing: its contract is a law, so that another crate
+//! can cite it.
+
+ghost use Rattle.mg_generations.specs.Laws.{VersionsBegin, VersionsGoOn, OthersLeaveVersions};
+ghost use Rattle.mg_generations.specs.Laws.{GivenIsInFront, MadeIsInFront, DeadLeaves};
+ghost use Rattle.mg_generations.specs.Laws.{UndoneLeavesVersions, UndoneLeavesAll};
+ghost use Rattle.mg_generations.specs.Laws.{VersionsShowViews, VersionsShowDatabase};
+ghost use Rattle.mg_generations.specs.Laws.{VersionsShowDurables, CommitShowsNewest};
+ghost use Rattle.mg_generations.specs.Laws.{ObstacleIsWriter, OldTableHindersNot};
+ghost use Rattle.mg_generations.specs.Laws.{OthersLeaveTable, LeftTableStands};
+ghost use Rattle.mg_generations.specs.Laws.{LeftTableHindersNot, LeftCatalogStands};
+ghost use Rattle.mg_generations.specs.Laws.{LeftCatalogHindersNot};
+
+/// How versions come about, and what each entry makes of them.
+pub fn versions_go_on()
+    ensures begin { VersionsBegin }
+    ensures onward { VersionsGoOn }
+    ensures others { OthersLeaveVersions }
+    ensures given { GivenIsInFront }
+    ensures made { MadeIsInFront }
+    ensures dead { DeadLeaves }
+{}
+
+/// A mark that is taken back with nothing done since leaves all as it was.
+pub fn marks_are_undone()
+    ensures versions { UndoneLeavesVersions }
+    ensures all { UndoneLeavesAll }
+{}
+
+/// What versions show.
+pub fn versions_show()
+    ensures views { VersionsShowViews }
+    ensures database { VersionsShowDatabase }
+    ensures durables { VersionsShowDurables }
+    ensures commit { CommitShowsNewest }
+{}
+
+/// Who of their writers is in the way of a write.
+pub fn obstacles_are_writers()
+    ensures writer { ObstacleIsWriter }
+    ensures old { OldTableHindersNot }
+{}
+
+/// A table that no entry writes stays as it was.
+pub fn tables_are_left()
+    ensures others { OthersLeaveTable }
+    ensures stands { LeftTableStands }
+    ensures hinders { LeftTableHindersNot }
+    ensures catalog { LeftCatalogStands }
+    ensures tables { LeftCatalogHindersNot }
+{}
