@@ -13,7 +13,7 @@ use Rattle.mg_model.specs.Answers.{is_committed, is_open, changes_key, newest_by
 use Rattle.mg_model.specs.LegalLaws.{found_passes}
 use Rattle.mg_model.specs.HinderLaws.{none_hinders}
 use Rattle.mg_generations.specs.Generations.{Generation, shown_by, first_writer, EachGeneration, EachOlder, is_newest_by, PassesNews, AreGenerations, AreFirst}
-use Rattle.mg_generations.specs.ListLaws.{each_as, nobody_first}
+use Rattle.mg_generations.specs.ListLaws.{older_as, order_of_older, each_as, nobody_first}
 use Rattle.mg_generations.specs.StepLaws.{newest_has}
 
 -- the newest, where it passes, is the first that passes
@@ -91,5 +91,9 @@ module _ (o : Opening) (table : List ℕ) (key : Value) where
         let P : Entries → Type 0 = λ g. row_at (database o g) table key
         ≡ shown_by (λ u. is_committed (state_of o g u)) gs in
         subst P (nothing_before since before is) it.shows;
+    order = order_of_older (λ t u. is_committed (opening_state o u)) gs
+        (older_as (λ g. opening_state o g.writer ≡ Committed)
+        (λ g. (t : ℕ) → is_committed (opening_state o g.writer) ≡ true) gs
+        (λ g was t. ap is_committed was) it.backs);
     newest = first_newest gs it;
   }

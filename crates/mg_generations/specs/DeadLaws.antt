@@ -9,12 +9,12 @@ use Rattle.mg_model.specs.declared.opening.Opening.{Opening}
 use Rattle.mg_model.specs.History.{Entry, Entries}
 use Rattle.mg_model.specs.Changes.{has_change, row_at}
 use Rattle.mg_model.specs.Machine.{state_of, changes_by, steps, database, own}
-use Rattle.mg_model.specs.Answers.{is_committed, is_open, changes_key, newest_by}
+use Rattle.mg_model.specs.Answers.{told, is_committed, is_open, changes_key, newest_by}
 use Rattle.mg_model.specs.Legal.{IsOpening, IsLegal}
 use Rattle.mg_generations.specs.Generations.{Generation, EachGeneration, EachOlder, is_newest_by, newest_row, without_newest_by, AreGenerations}
-use Rattle.mg_generations.specs.ListLaws.{each_as, each_with, each_without, older_as, older_without, without_other, shown_without, first_without}
+use Rattle.mg_generations.specs.ListLaws.{order_without, each_as, each_with, each_without, older_as, older_without, without_other, shown_without, first_without}
 use Rattle.mg_generations.specs.CommittedLaws.{not_both, open_was_not_committed}
-use Rattle.mg_generations.specs.OnwardLaws.{committed_is_still, shows_on, shows_here, newest_on}
+use Rattle.mg_generations.specs.OnwardLaws.{order_on, committed_is_still, shows_on, shows_here, newest_on}
 
 -- a committed writer is not one that has not ended
 apart : (state : ℕ → TxState) (n t : ℕ) → state n ≡ Committed → is_open (state t) ≡ true
@@ -140,6 +140,8 @@ module _ (o : Opening) (opening : IsOpening o) (h : Entries) (e : Entry) (legal 
         (ap is_committed dies)))
         (λ since before is. sym (shown_without (λ u. is_committed (state_of o before u)) t gs
         (open_was_not_committed o opening h legal.1 t opened since before is)));
+    order = order_without (told o (e ∷ h)).saw t gs
+        (order_on o opening h e legal table key gs it);
     newest = λ who news.
         ap (newest_by who (changes_key table key)) more
         ∙ newest_on o opening h e legal table key gs it who news

@@ -47,6 +47,18 @@ abbrev pub newest_row : List Generation → Option Cells
 newest_row [] = None
 newest_row (g ∷ gs) = g.row
 
+-- the newest writer of these, where it passes a test
+abbrev pub newest_writer_if : (ℕ → Bool) → List Generation → Option ℕ
+newest_writer_if who [] = None
+newest_writer_if who (g ∷ gs) = if who g.writer then Some g.writer else None
+
+-- the writer of each of these versions had seen the older ones committed; `saw t u` says that u was
+-- committed when t took its base
+abbrev pub AreSeenInOrder : (ℕ → ℕ → Bool) → List Generation → Type 0
+AreSeenInOrder saw [] = Unit {0}
+AreSeenInOrder saw (g ∷ gs) =
+    EachGeneration (λ older. saw g.writer older.writer ≡ true) gs × AreSeenInOrder saw gs
+
 -- a test passes nobody who is dead, and nobody who was committed when the history began
 pub record PassesNews (o : Opening) (h : Entries) (who : ℕ → Bool) : Type 0 where
   pub dead : (u : ℕ) → state_of o h u ≡ Dead → who u ≡ false
@@ -69,6 +81,8 @@ pub record AreGenerations (o : Opening) (h : Entries) (table : List ℕ) (key : 
   pub shows : (since before : Entries) → h ≡ since ++ before
       → row_at (database o before) table key
       ≡ shown_by (λ u. is_committed (state_of o before u)) gs
+  -- each was written over older ones that its writer saw
+  pub order : AreSeenInOrder (told o h).saw gs
   -- who wrote the key last is the newest of them
   pub newest : (who : ℕ → Bool) → PassesNews o h who
       → newest_by who (changes_key table key) (steps o h) ≡ first_writer who gs

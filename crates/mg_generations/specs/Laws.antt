@@ -9,7 +9,7 @@ use Rattle.mg_model.specs.History.{Entry, Entries, Makes, Gives, Ends, effect_of
 use Rattle.mg_model.specs.Machine.{opening_rows, state_of, steps, database, view}
 use Rattle.mg_model.specs.Answers.{told, is_committed, is_open, can_hinder, catalog_of, obstacle, table_obstacle}
 use Rattle.mg_model.specs.Legal.{IsOpening, IsLegal, after_durable, durable_database}
-use Rattle.mg_generations.specs.Generations.{Generation, shown_by, first_writer, is_newest_by, newest_row, without_newest_by, put, key_made, generations_after, takes_back, leaves_versions, IsUndone, sees, AreFirst, AreGenerations}
+use Rattle.mg_generations.specs.Generations.{Generation, shown_by, first_writer, newest_writer_if, is_newest_by, newest_row, without_newest_by, put, key_made, generations_after, takes_back, leaves_versions, IsUndone, sees, AreFirst, AreGenerations}
 use Rattle.mg_generations.specs.Tables.{AreOld, asks_to_write, LeavesTable, opening_catalog}
 
 -- ---- how they come about
@@ -105,6 +105,12 @@ abbrev pub ObstacleIsWriter : Type 0
 ObstacleIsWriter = (o : Opening) (h : Entries) (t : ℕ) (table : List ℕ) (key : Value)
     (gs : List Generation) → IsOpening o → IsLegal o h → AreGenerations o h table key gs
     → obstacle (told o h) t table key ≡ first_writer (can_hinder (told o h) t) gs
+
+-- it is the writer of the newest version, if that one can be in the way, and else there is none
+abbrev pub ObstacleIsNewest : Type 0
+ObstacleIsNewest = (o : Opening) (h : Entries) (t : ℕ) (table : List ℕ) (key : Value)
+    (gs : List Generation) → IsOpening o → IsLegal o h → AreGenerations o h table key gs
+    → obstacle (told o h) t table key ≡ newest_writer_if (can_hinder (told o h) t) gs
 
 -- where the versions of a table's own row in the catalog are old, the table has no obstacle
 abbrev pub OldTableHindersNot : Type 0

@@ -13,5 +13,6 @@ pub mod ShowLaws
 pub mod Tables
 pub mod TableLaws
 pub mod CaseLaws
+pub mod NewestLaws
 pub mod Laws
 pub mod Scenarios

@@ -3,7 +3,7 @@ use Rattle.std.specs.Prelude.{◌≡◌, ℕ, ◌==◌, Bool, true, false, List,
 use Rattle.std.proofs.Common.{◌∙◌, ap}
 use Rattle.std.proofs.lemmas.Bool.{false≢true, eqb-true}
 use Rattle.mg_model.specs.Changes.{Cells}
-use Rattle.mg_generations.specs.Generations.{Generation, shown_by, first_writer, EachGeneration, EachOlder, is_newest_by, newest_row, without_newest_by, put}
+use Rattle.mg_generations.specs.Generations.{Generation, shown_by, first_writer, EachGeneration, EachOlder, is_newest_by, newest_row, without_newest_by, put, AreSeenInOrder}
 
 -- ---- each of them
 
@@ -47,6 +47,18 @@ pub nobody_first : (who : ℕ → Bool) (gs : List Generation)
     → EachGeneration (λ g. who g.writer ≡ false) gs → first_writer who gs ≡ None
 nobody_first who [] none = refl
 nobody_first who (g ∷ gs) none = rw none.0 (nobody_first who gs none.1)
+
+pub none_passes : (who : ℕ → Bool) (gs : List Generation) → first_writer who gs ≡ None
+    → EachGeneration (λ g. who g.writer ≡ false) gs
+none_passes who [] none = tt
+none_passes who (g ∷ gs) none = at (who g.writer) refl (none_passes who gs) none
+  where
+    at : (b : Bool) → who g.writer ≡ b
+        → (first_writer who gs ≡ None → EachGeneration (λ g. who g.writer ≡ false) gs)
+        → cond b (Some g.writer) (first_writer who gs) ≡ None
+        → EachGeneration (λ g. who g.writer ≡ false) (g ∷ gs)
+    at true passes more none = absurd cc
+    at false off more none = (off, more none)
 
 -- ---- without the newest of a transaction
 
@@ -129,3 +141,44 @@ pub wrote_none : (t : ℕ) (gs : List Generation) → is_newest_by t gs ≡ fals
     → EachGeneration (λ g. (g.writer == t) ≡ false) gs
 wrote_none t [] other older = tt
 wrote_none t (g ∷ gs) other older = (other, older)
+
+-- ---- who saw whom
+
+pub order_as : (saw now : ℕ → ℕ → Bool) (gs : List Generation)
+    → ((t u : ℕ) → saw t u ≡ true → now t u ≡ true) → AreSeenInOrder saw gs
+    → AreSeenInOrder now gs
+order_as saw now [] from order = tt
+order_as saw now (g ∷ gs) from order = (
+  each_as (λ older. saw g.writer older.writer ≡ true)
+      (λ older. now g.writer older.writer ≡ true) gs
+      (λ older. from g.writer older.writer) order.0,
+  order_as saw now gs from order.1,
+)
+
+pub order_without : (saw : ℕ → ℕ → Bool) (t : ℕ) (gs : List Generation) → AreSeenInOrder saw gs
+    → AreSeenInOrder saw (without_newest_by t gs)
+order_without saw t [] order = tt
+order_without saw t (g ∷ gs) order = at (g.writer == t)
+  where
+    at : (b : Bool) → AreSeenInOrder saw (cond b gs (g ∷ gs))
+    at true = order.1
+    at false = order
+
+-- what each saw is in order
+pub order_of_seen : (saw : ℕ → ℕ → Bool) (gs : List Generation)
+    → EachGeneration (λ g. (t : ℕ) → saw t g.writer ≡ true) gs → AreSeenInOrder saw gs
+order_of_seen saw [] seen = tt
+order_of_seen saw (g ∷ gs) seen = (
+  each_as (λ older. (t : ℕ) → saw t older.writer ≡ true)
+      (λ older. saw g.writer older.writer ≡ true) gs (λ older all. all g.writer) seen.1,
+  order_of_seen saw gs seen.1,
+)
+
+pub order_of_older : (saw : ℕ → ℕ → Bool) (gs : List Generation)
+    → EachOlder (λ g. (t : ℕ) → saw t g.writer ≡ true) gs → AreSeenInOrder saw gs
+order_of_older saw [] seen = tt
+order_of_older saw (g ∷ gs) seen = (
+  each_as (λ older. (t : ℕ) → saw t older.writer ≡ true)
+      (λ older. saw g.writer older.writer ≡ true) gs (λ older all. all g.writer) seen,
+  order_of_seen saw gs seen,
+)

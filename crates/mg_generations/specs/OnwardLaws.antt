@@ -10,12 +10,13 @@ use Rattle.mg_model.specs.declared.opening.Opening.{Opening}
 use Rattle.mg_model.specs.History.{Entry, Entries}
 use Rattle.mg_model.specs.Changes.{has_change, row_at}
 use Rattle.mg_model.specs.Machine.{next_number, state_of, changes_in, steps, database, own}
-use Rattle.mg_model.specs.Answers.{is_committed, is_open, changes_key, newest_by}
+use Rattle.mg_model.specs.Answers.{told, is_committed, is_open, changes_key, newest_by}
 use Rattle.mg_model.specs.Legal.{IsOpening, IsLegal}
 use Rattle.mg_model.specs.HinderLaws.{stands}
+use Rattle.mg_model.specs.OverlapLaws.{saw_goes_on}
 use Rattle.mg_model.specs.NumberLaws.{undrawn_has_no_deeds, committed_stays, dead_stays}
-use Rattle.mg_generations.specs.Generations.{Generation, shown_by, first_writer, EachGeneration, is_newest_by, PassesNews, AreGenerations}
-use Rattle.mg_generations.specs.ListLaws.{each_as, older_as, shown_as, first_as}
+use Rattle.mg_generations.specs.Generations.{AreSeenInOrder, Generation, shown_by, first_writer, EachGeneration, is_newest_by, PassesNews, AreGenerations}
+use Rattle.mg_generations.specs.ListLaws.{order_as, each_as, older_as, shown_as, first_as}
 use Rattle.mg_generations.specs.StepLaws.{SayTheSame, newest_as}
 
 -- a dead transaction wrote none of the versions that are alive
@@ -99,6 +100,11 @@ module _ (o : Opening) (opening : IsOpening o) (h : Entries) (e : Entry) (legal 
         (λ g. is_committed (state_of o (e ∷ h) g.writer) ≡ is_committed (state_of o h g.writer)) gs
         (λ g. committed g.writer) it.alive))
 
+    -- who saw whom goes on to have seen it
+    pub order_on : AreSeenInOrder (told o (e ∷ h)).saw gs
+    order_on = order_as (told o h).saw (told o (e ∷ h)).saw gs
+        (saw_goes_on o opening h e legal.1) it.order
+
     -- who passes, of those that stand
     abbrev standing : (ℕ → Bool) → ℕ → Bool
     standing who u = who u && stands (state_of o h u)
@@ -166,5 +172,6 @@ module _ (o : Opening) (opening : IsOpening o) (h : Entries) (e : Entry) (legal 
             (dead_is_not_newest (state_of o h) t gs it.alive none.0) newest)
       ];
       shows = shows_on gs here (λ since before is. refl);
+      order = order_on;
       newest = λ who news. say.newest who ∙ newest_on who news;
     }

@@ -13,11 +13,13 @@ use Rattle.mg_model.specs.Changes.{is_at, has_change, row_at}
 use Rattle.mg_model.specs.Machine.{state_of, deeds_by, changes_in, changes_by, step, steps, database}
 use Rattle.mg_model.specs.Answers.{told, is_committed, is_open, can_hinder, changes_key, newest_by, obstacle}
 use Rattle.mg_model.specs.Legal.{IsOpening, IsLegal}
+use Rattle.mg_model.specs.OverlapLaws.{saw_goes_on}
+use Rattle.mg_model.specs.HinderLaws.{stands, saw_from_unhindered}
 use Rattle.mg_generations.specs.Generations.{Generation, first_writer, EachGeneration, EachOlder, is_newest_by, without_newest_by, put, PassesNews, AreGenerations}
-use Rattle.mg_generations.specs.ListLaws.{each_as, shown_put, first_without}
-use Rattle.mg_generations.specs.CommittedLaws.{open_was_not_committed}
+use Rattle.mg_generations.specs.ListLaws.{each_without, each_with, none_passes, order_without, each_as, shown_put, first_without}
+use Rattle.mg_generations.specs.CommittedLaws.{not_both, open_was_not_committed}
 use Rattle.mg_generations.specs.WriterLaws.{obstacle_is_writer}
-use Rattle.mg_generations.specs.OnwardLaws.{shows_on, shows_here, newest_on}
+use Rattle.mg_generations.specs.OnwardLaws.{order_on, shows_on, shows_here, newest_on}
 
 -- ---- what has no obstacle
 
@@ -57,6 +59,26 @@ others_are_settled o opening h legal t table key gs it none =
               (first_writer (can_hinder (told o h) t) gs) none),
           backs,
         )
+
+-- and it saw them committed
+pub others_are_seen : (o : Opening) (opening : IsOpening o) (h : Entries) (legal : IsLegal o h)
+    (t : ℕ) (table : List ℕ) (key : Value) (gs : List Generation) → AreGenerations o h table key gs
+    → is_open (state_of o h t) ≡ true → obstacle (told o h) t table key ≡ None
+    → EachGeneration (λ g. (told o h).saw t g.writer ≡ true) (without_newest_by t gs)
+others_are_seen o opening h legal t table key gs it opened none =
+    each_with (λ g. state_of o h g.writer ≡ Committed)
+    (λ g. can_hinder (told o h) t g.writer ≡ false) (λ g. (told o h).saw t g.writer ≡ true)
+    (without_newest_by t gs)
+    (λ g was free. saw_from_unhindered (state_of o h g.writer) (not (g.writer == t))
+    ((told o h).saw t g.writer) (apart g.writer was) (ap stands was) free)
+    (others_are_settled o opening h legal t table key gs it none)
+    (each_without (λ g. can_hinder (told o h) t g.writer ≡ false) t gs
+    (none_passes (can_hinder (told o h) t) gs
+    (sym (obstacle_is_writer o opening h legal t table key gs it) ∙ none)))
+  where
+    apart : (n : ℕ) → state_of o h n ≡ Committed → not (n == t) ≡ true
+    apart n was = ap not (ne_eqb n t (λ same. not_both (state_of o h t) opened
+        (ap is_committed (ap (state_of o h) (sym same) ∙ was))))
 
 -- another open transaction is then no writer
 not_newest_other : (state : ℕ → TxState) (t u : ℕ) (gs : List Generation)
@@ -143,6 +165,13 @@ module _ (o : Opening) (opening : IsOpening o) (h : Entries) (e : Entry) (legal 
             (ap is_committed (states t ∙ active))))
             (λ since before is. sym (shown_put (λ u. is_committed (state_of o before u)) t c.row gs
             (never since before is)));
+        order = (
+          each_as (λ g. (told o h).saw t g.writer ≡ true)
+              (λ g. (told o (e ∷ h)).saw t g.writer ≡ true) (without_newest_by t gs)
+              (λ g. saw_goes_on o opening h e legal.1 t g.writer)
+              (others_are_seen o opening h legal.1 t table key gs it (ap is_open active) none),
+          order_without (told o (e ∷ h)).saw t gs (order_on o opening h e legal table key gs it),
+        );
         newest = λ who news.
             ap (newest_by who (changes_key table key)) more ∙ write_newest who news;
       }

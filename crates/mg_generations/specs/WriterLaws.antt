@@ -19,7 +19,7 @@ dead_is_no_hindrance : (its saw : Bool) (s : TxState) → s ≡ Dead
 dead_is_no_hindrance true saw s dead = refl
 dead_is_no_hindrance false saw s dead = rw dead refl
 
-seen_is_no_hindrance : (its saw : Bool) (s : TxState) → is_committed s ≡ true → saw ≡ true
+pub seen_is_no_hindrance : (its saw : Bool) (s : TxState) → is_committed s ≡ true → saw ≡ true
     → (not its && (is_open s || (is_committed s && not saw))) ≡ false
 seen_is_no_hindrance true saw s was seen = refl
 seen_is_no_hindrance false saw Active was seen = absurd (false≢true was)

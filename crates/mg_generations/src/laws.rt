@@ -6,7 +6,7 @@ ghost use Rattle.mg_generations.specs.Laws.{GivenIsInFront, MadeIsInFront, DeadL
 ghost use Rattle.mg_generations.specs.Laws.{UndoneLeavesVersions, UndoneLeavesAll};
 ghost use Rattle.mg_generations.specs.Laws.{VersionsShowViews, VersionsShowDatabase};
 ghost use Rattle.mg_generations.specs.Laws.{VersionsShowDurables, CommitShowsNewest};
-ghost use Rattle.mg_generations.specs.Laws.{ObstacleIsWriter, OldTableHindersNot};
+ghost use Rattle.mg_generations.specs.Laws.{ObstacleIsWriter, ObstacleIsNewest, OldTableHindersNot};
 ghost use Rattle.mg_generations.specs.Laws.{OthersLeaveTable, LeftTableStands};
 ghost use Rattle.mg_generations.specs.Laws.{LeftTableHindersNot, LeftCatalogStands};
 ghost use Rattle.mg_generations.specs.Laws.{LeftCatalogHindersNot};
@@ -38,6 +38,7 @@ pub fn versions_show()
 /// Who of their writers is in the way of a write.
 pub fn obstacles_are_writers()
     ensures writer { ObstacleIsWriter }
+    ensures newest { ObstacleIsNewest }
     ensures old { OldTableHindersNot }
 {}
 
