@@ -20,7 +20,8 @@ use Rattle.mg_model.specs.Legal.{IsOpening, IsLegal}
 use Rattle.mg_model.specs.RowLaws.{row_at-append, same_from_same_key}
 use Rattle.mg_model.specs.LegalLaws.{IsAllowed, lawful_is_allowed}
 use Rattle.mg_model.specs.NumberLaws.{undrawn_is_dead}
-use Rattle.mg_generations.specs.Generations.{Generation, shown_by, EachOlder, is_newest_by, put, key_made, after_end, generations_after, takes_back, AreGenerations}
+use Rattle.mg_generations.specs.Generations.{Generation, shown_by, EachOlder, is_newest_by, put, AreGenerations}
+use Rattle.mg_generations.specs.After.{key_made, after_end, generations_after, takes_back}
 use Rattle.mg_generations.specs.ListLaws.{each_as, shown_as, newest_is_shown, wrote_none, older_as}
 use Rattle.mg_generations.specs.CommittedLaws.{not_both, open_is_not_committed}
 use Rattle.mg_generations.specs.StepLaws.{SayTheSame, same_itself, same_along, same_after_step}

@@ -11,9 +11,11 @@ use Rattle.mg_model.specs.Changes.{has_change, row_at}
 use Rattle.mg_model.specs.Machine.{opening_state, database, state_of, steps, own}
 use Rattle.mg_model.specs.Answers.{is_committed, is_open, changes_key, newest_by}
 use Rattle.mg_model.specs.LegalLaws.{found_passes}
-use Rattle.mg_model.specs.HinderLaws.{none_hinders}
-use Rattle.mg_generations.specs.Generations.{Generation, shown_by, first_writer, EachGeneration, EachOlder, is_newest_by, PassesNews, AreGenerations, AreFirst}
+use Rattle.mg_model.specs.Legal.{IsOpening}
+use Rattle.mg_model.specs.HinderLaws.{stands, none_hinders}
+use Rattle.mg_generations.specs.Generations.{are_on_top, Generation, shown_by, first_writer, EachGeneration, EachOlder, is_newest_by, PassesNews, AreGenerations, AreFirst}
 use Rattle.mg_generations.specs.ListLaws.{older_as, order_of_older, each_as, nobody_first}
+use Rattle.mg_generations.specs.TopLaws.{none_is_on_top, only_is_on_top}
 use Rattle.mg_generations.specs.StepLaws.{newest_has}
 
 -- the newest, where it passes, is the first that passes
@@ -79,10 +81,22 @@ module _ (o : Opening) (table : List ℕ) (key : Value) where
           ∙ newest_has table key who (steps o []) u is in
           sym (newest_is_first who u gs its passes)
 
+  -- a transaction in limbo that has changed the key is the only one
+  first_top : (who : ℕ → Bool) (t : ℕ) → IsOpening o
+      → are_on_top who table key t (steps o []) ≡ true
+  first_top who t opening = at (has_change (own o [] t) table key) refl
+    where
+      at : (b : Bool) → has_change (own o [] t) table key ≡ b
+          → are_on_top who table key t (steps o []) ≡ true
+      at false none = none_is_on_top table key who t (steps o []) none
+      at true has =
+          only_is_on_top table key who t (steps o [])
+          (λ u its. eq-eqb u t (opening.one_writer u t table key its has))
+
   -- what an opening says of a key are its versions when the history begins
-  pub generations_begin : (gs : List Generation) → AreFirst o table key gs
+  pub generations_begin : (gs : List Generation) → IsOpening o → AreFirst o table key gs
       → AreGenerations o [] table key gs
-  generations_begin gs it = record {
+  generations_begin gs opening it = record {
     alive = it.alive;
     backs = it.backs;
     open_ = it.open_;
@@ -95,5 +109,6 @@ module _ (o : Opening) (table : List ℕ) (key : Value) where
         (older_as (λ g. opening_state o g.writer ≡ Committed)
         (λ g. (t : ℕ) → is_committed (opening_state o g.writer) ≡ true) gs
         (λ g was t. ap is_committed was) it.backs);
+    top = λ t opened. first_top (λ u. stands (opening_state o u)) t opening;
     newest = first_newest gs it;
   }

@@ -11,7 +11,8 @@ use Rattle.mg_model.specs.History.{Entry, Entries, Effect, Makes, Gives, TakesBa
 use Rattle.mg_model.specs.Answers.{told, catalog_of}
 use Rattle.mg_model.specs.Legal.{IsOpening, IsLegal}
 use Rattle.mg_model.specs.ReadLaws.{is_at_itself}
-use Rattle.mg_generations.specs.Generations.{Generation, without_newest_by, put, key_made, generations_after, takes_back, leaves_versions, AreGenerations}
+use Rattle.mg_generations.specs.Generations.{Generation, without_newest_by, put, AreGenerations}
+use Rattle.mg_generations.specs.After.{key_made, generations_after, takes_back, leaves_versions}
 use Rattle.mg_generations.specs.AfterLaws.{generations_go_on}
 
 left_takes_not_back : (f : Effect) → leaves_versions f ≡ true → takes_back f ≡ false

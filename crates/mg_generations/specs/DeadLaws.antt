@@ -11,10 +11,11 @@ use Rattle.mg_model.specs.Changes.{has_change, row_at}
 use Rattle.mg_model.specs.Machine.{state_of, changes_by, steps, database, own}
 use Rattle.mg_model.specs.Answers.{told, is_committed, is_open, changes_key, newest_by}
 use Rattle.mg_model.specs.Legal.{IsOpening, IsLegal}
-use Rattle.mg_generations.specs.Generations.{Generation, EachGeneration, EachOlder, is_newest_by, newest_row, without_newest_by, AreGenerations}
+use Rattle.mg_model.specs.HinderLaws.{stands}
+use Rattle.mg_generations.specs.Generations.{are_on_top, Generation, EachGeneration, EachOlder, is_newest_by, newest_row, without_newest_by, AreGenerations}
 use Rattle.mg_generations.specs.ListLaws.{order_without, each_as, each_with, each_without, older_as, older_without, without_other, shown_without, first_without}
 use Rattle.mg_generations.specs.CommittedLaws.{not_both, open_was_not_committed}
-use Rattle.mg_generations.specs.OnwardLaws.{order_on, committed_is_still, shows_on, shows_here, newest_on}
+use Rattle.mg_generations.specs.OnwardLaws.{top_on, order_on, committed_is_still, shows_on, shows_here, newest_on}
 
 -- a committed writer is not one that has not ended
 apart : (state : ℕ → TxState) (n t : ℕ) → state n ≡ Committed → is_open (state t) ≡ true
@@ -25,7 +26,7 @@ apart state n t was opened =
 
 module _ (state : ℕ → TxState) where
   -- without its newest, none of the versions is of a transaction that has not ended
-  left_are_others : (t : ℕ) (gs : List Generation)
+  pub left_are_others : (t : ℕ) (gs : List Generation)
       → EachOlder (λ g. state g.writer ≡ Committed) gs → is_open (state t) ≡ true
       → EachGeneration (λ g. (g.writer == t) ≡ false) (without_newest_by t gs)
   left_are_others t [] backs opened = tt
@@ -41,7 +42,7 @@ module _ (state : ℕ → TxState) where
       at false other = (other, older)
 
   -- the newest of another one that has not ended is so without it
-  newest_without : (t u : ℕ) (gs : List Generation)
+  pub newest_without : (t u : ℕ) (gs : List Generation)
       → EachOlder (λ g. state g.writer ≡ Committed) gs → (t == u) ≡ false
       → is_open (state u) ≡ true
       → is_newest_by u (without_newest_by t gs) ≡ is_newest_by u gs
@@ -59,11 +60,26 @@ module _ (state : ℕ → TxState) where
           none gs backs ∙ sym (ap (λ n. n == u) (eqb-true g.writer t its) ∙ other)
       at false not_its = refl
 
-both_newest : (t u : ℕ) (gs : List Generation) → is_newest_by t gs ≡ true
+pub both_newest : (t u : ℕ) (gs : List Generation) → is_newest_by t gs ≡ true
     → is_newest_by u gs ≡ true → (t == u) ≡ true
 both_newest t u [] one other = absurd (false≢true one)
 both_newest t u (g ∷ gs) one other =
     ap (λ n. n == u) (sym (eqb-true g.writer t one)) ∙ other
+
+-- what another one that has not ended gives, it gives without the newest of t
+pub gives_without : (o : Opening) (h : Entries) (table : List ℕ) (key : Value)
+    (gs : List Generation) → AreGenerations o h table key gs → (t u : ℕ) → (t == u) ≡ false
+    → is_open (state_of o h u) ≡ true → is_newest_by u (without_newest_by t gs) ≡ true
+    → row_at (own o h u) table key ≡ newest_row (without_newest_by t gs)
+gives_without o h table key gs it t u other opened newest = at (is_newest_by t gs) refl
+  where
+    first : is_newest_by u gs ≡ true
+    first = sym (newest_without (state_of o h) t u gs it.backs other opened) ∙ newest
+
+    at : (b : Bool) → is_newest_by t gs ≡ b
+        → row_at (own o h u) table key ≡ newest_row (without_newest_by t gs)
+    at true its = absurd (both_ways (t == u) other (both_newest t u gs its first))
+    at false not_its = it.gives u opened first ∙ ap newest_row (sym (without_other t gs not_its))
 
 module _ (o : Opening) (opening : IsOpening o) (h : Entries) (e : Entry) (legal : IsLegal o (e ∷ h))
     (table : List ℕ) (key : Value) (gs : List Generation) (it : AreGenerations o h table key gs)
@@ -102,21 +118,6 @@ module _ (o : Opening) (opening : IsOpening o) (h : Entries) (e : Entry) (legal 
           closed (is_committed (state_of o h t)) refl
           ∙ ap (λ n. is_committed (state_of o h n)) (eqb-true t u its)
 
-  dead_gives : (u : ℕ) → is_open (state_of o (e ∷ h) u) ≡ true
-      → is_newest_by u (without_newest_by t gs) ≡ true
-      → row_at (own o h u) table key ≡ newest_row (without_newest_by t gs)
-  dead_gives u now newest = at (is_newest_by t gs) refl
-    where
-      first : is_newest_by u gs ≡ true
-      first = sym (newest_without (state_of o h) t u gs it.backs (other_open u now) (was u now))
-          ∙ newest
-
-      at : (b : Bool) → is_newest_by t gs ≡ b
-          → row_at (own o h u) table key ≡ newest_row (without_newest_by t gs)
-      at true its =
-          absurd (both_ways (t == u) (other_open u now) (both_newest t u gs its first))
-      at false other = it.gives u (was u now) first ∙ ap newest_row (sym (without_other t gs other))
-
   -- a transaction that comes to be dead takes its version along
   pub go_on_dead : AreGenerations o (e ∷ h) table key (without_newest_by t gs)
   go_on_dead = record {
@@ -133,13 +134,17 @@ module _ (o : Opening) (opening : IsOpening o) (h : Entries) (e : Entry) (legal 
         ap (λ all. has_change (changes_by u all) table key) more ∙ it.open_ u (was u now)
         ∙ sym (newest_without (state_of o h) t u gs it.backs (other_open u now) (was u now));
     gives = λ u now newest.
-        ap (λ all. row_at (changes_by u all) table key) more ∙ dead_gives u now newest;
+        ap (λ all. row_at (changes_by u all) table key) more
+        ∙ gives_without o h table key gs it t u (other_open u now) (was u now) newest;
     shows = shows_on o opening h e legal table key gs it (without_newest_by t gs)
         (shows_here o opening h e legal table key gs it same (λ u alive. nobody_new u)
         ∙ sym (shown_without (λ u. is_committed (state_of o (e ∷ h) u)) t gs
         (ap is_committed dies)))
         (λ since before is. sym (shown_without (λ u. is_committed (state_of o before u)) t gs
         (open_was_not_committed o opening h legal.1 t opened since before is)));
+    top = λ u now.
+        ap (are_on_top (λ v. stands (state_of o (e ∷ h) v)) table key u) more
+        ∙ top_on o opening h e legal table key gs it u (was u now);
     order = order_without (told o (e ∷ h)).saw t gs
         (order_on o opening h e legal table key gs it);
     newest = λ who news.

@@ -2,14 +2,16 @@
 use Rattle.std.specs.Prelude.{◌≡◌, ℕ, true, false, List, [], ◌∷◌, ◌++◌, Option, Some, None}
 use Rattle.mg_base.specs.declared.transaction.TxState.TheVariants.{Dead, Committed}
 use Rattle.mg_value.specs.declared.value.Value.{Value}
+use Rattle.mg_model.specs.declared.change.Point.{Point}
 use Rattle.mg_model.specs.declared.opening.Opening.{Opening}
 use Rattle.mg_model.specs.Catalog.{catalog_name, table_key, shape_in, key_in}
 use Rattle.mg_model.specs.Changes.{Cells, row_at}
-use Rattle.mg_model.specs.History.{Entry, Entries, Makes, Gives, Ends, effect_of}
-use Rattle.mg_model.specs.Machine.{opening_rows, state_of, steps, database, view}
+use Rattle.mg_model.specs.History.{Entry, Entries, Makes, Gives, TakesBack, Ends, effect_of}
+use Rattle.mg_model.specs.Machine.{opening_rows, state_of, steps, own, database, view}
 use Rattle.mg_model.specs.Answers.{told, is_committed, is_open, can_hinder, catalog_of, obstacle, table_obstacle}
 use Rattle.mg_model.specs.Legal.{IsOpening, IsLegal, after_durable, durable_database}
-use Rattle.mg_generations.specs.Generations.{Generation, shown_by, first_writer, newest_writer_if, is_newest_by, newest_row, without_newest_by, put, key_made, generations_after, takes_back, leaves_versions, IsUndone, sees, AreFirst, AreGenerations}
+use Rattle.mg_generations.specs.Generations.{Generation, shown_by, first_writer, newest_writer_if, is_newest_by, newest_row, without_newest_by, put, sees, AreFirst, AreGenerations}
+use Rattle.mg_generations.specs.After.{key_made, generations_after, takes_back, generations_back, leaves_versions, IsUndone}
 use Rattle.mg_generations.specs.Tables.{AreOld, asks_to_write, LeavesTable, opening_catalog}
 
 -- ---- how they come about
@@ -17,7 +19,7 @@ use Rattle.mg_generations.specs.Tables.{AreOld, asks_to_write, LeavesTable, open
 -- a history begins with the versions of which its opening says the rows and the open changes
 abbrev pub VersionsBegin : Type 0
 VersionsBegin = (o : Opening) (table : List ℕ) (key : Value) (gs : List Generation)
-    → AreFirst o table key gs → AreGenerations o [] table key gs
+    → IsOpening o → AreFirst o table key gs → AreGenerations o [] table key gs
 
 -- an entry of a legal history that takes nothing back makes of them what its effect says
 abbrev pub VersionsGoOn : Type 0
@@ -54,6 +56,14 @@ DeadLeaves = (o : Opening) (h : Entries) (e : Entry) (table : List ℕ) (key : V
     (gs : List Generation) (t : ℕ) → IsOpening o → IsLegal o (e ∷ h)
     → AreGenerations o h table key gs → effect_of e ≡ Ends t Dead
     → AreGenerations o (e ∷ h) table key (without_newest_by t gs)
+
+-- a transaction that takes back has the version that its changes give which it has left, if one of
+-- them is of the key
+abbrev pub TakenBackLeaves : Type 0
+TakenBackLeaves = (o : Opening) (h : Entries) (e : Entry) (table : List ℕ) (key : Value)
+    (gs : List Generation) (t : ℕ) (point : Point) → IsOpening o → IsLegal o (e ∷ h)
+    → AreGenerations o h table key gs → effect_of e ≡ TakesBack t point
+    → AreGenerations o (e ∷ h) table key (generations_back (own o (e ∷ h) t) t table key gs)
 
 -- a mark that is taken back with nothing done since leaves them
 abbrev pub UndoneLeavesVersions : Type 0

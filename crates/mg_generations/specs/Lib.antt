@@ -1,13 +1,17 @@
 pub mod Generations
+pub mod After
 pub mod ListLaws
 pub mod CommittedLaws
 pub mod WriterLaws
 pub mod StepLaws
+pub mod TopLaws
+pub mod ThinLaws
 pub mod BeginLaws
 pub mod OnwardLaws
 pub mod WriteLaws
 pub mod DeadLaws
 pub mod AfterLaws
+pub mod TakenBackLaws
 pub mod UndoneLaws
 pub mod ShowLaws
 pub mod Tables

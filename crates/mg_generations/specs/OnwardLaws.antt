@@ -15,8 +15,9 @@ use Rattle.mg_model.specs.Legal.{IsOpening, IsLegal}
 use Rattle.mg_model.specs.HinderLaws.{stands}
 use Rattle.mg_model.specs.OverlapLaws.{saw_goes_on}
 use Rattle.mg_model.specs.NumberLaws.{undrawn_has_no_deeds, committed_stays, dead_stays}
-use Rattle.mg_generations.specs.Generations.{AreSeenInOrder, Generation, shown_by, first_writer, EachGeneration, is_newest_by, PassesNews, AreGenerations}
+use Rattle.mg_generations.specs.Generations.{are_on_top, AreSeenInOrder, Generation, shown_by, first_writer, EachGeneration, is_newest_by, PassesNews, AreGenerations}
 use Rattle.mg_generations.specs.ListLaws.{order_as, each_as, older_as, shown_as, first_as}
+use Rattle.mg_generations.specs.TopLaws.{none_is_on_top, on_top_as}
 use Rattle.mg_generations.specs.StepLaws.{SayTheSame, newest_as}
 
 -- a dead transaction wrote none of the versions that are alive
@@ -137,6 +138,23 @@ module _ (o : Opening) (opening : IsOpening o) (h : Entries) (e : Entry) (legal 
             let off : who u ≡ false = news.dead u (dead_with_change u has is) in
             off ∙ sym (and_left (who u) false off)
 
+    -- whose changes were the newest has the newest of those who stand still
+    pub top_on : (t : ℕ) → is_open (state_of o h t) ≡ true
+        → are_on_top (λ u. stands (state_of o (e ∷ h) u)) table key t (steps o h) ≡ true
+    top_on t was =
+        on_top_as table key (λ u. stands (state_of o h u)) (λ u. stands (state_of o (e ∷ h) u)) t
+        (steps o h) stood (it.top t was)
+      where
+        stood : (u : ℕ) → has_change (own o h u) table key ≡ true
+            → stands (state_of o (e ∷ h) u) ≡ true → stands (state_of o h u) ≡ true
+        stood u has now = at (state_of o h u) refl
+          where
+            at : (s : TxState) → state_of o h u ≡ s → stands s ≡ true
+            at Active is = refl
+            at Limbo is = refl
+            at Committed is = refl
+            at Dead is = sym (ap stands (dead_with_change u has is)) ∙ now
+
     -- who wrote the key last, of all that pass, is the first of them
     pub newest_on : (who : ℕ → Bool) → PassesNews o (e ∷ h) who
         → newest_by who (changes_key table key) (steps o h) ≡ first_writer who gs
@@ -172,6 +190,11 @@ module _ (o : Opening) (opening : IsOpening o) (h : Entries) (e : Entry) (legal 
             (dead_is_not_newest (state_of o h) t gs it.alive none.0) newest)
       ];
       shows = shows_on gs here (λ since before is. refl);
+      top = λ t now. elim (was_open t now) [
+        | inl was ↦ say.top (λ u. stands (state_of o (e ∷ h) u)) t ∙ top_on t was
+        | inr none ↦ none_is_on_top table key (λ u. stands (state_of o (e ∷ h) u)) t (steps o (e ∷ h))
+            (say.changes t ∙ none.1)
+      ];
       order = order_on;
       newest = λ who news. say.newest who ∙ newest_on who news;
     }

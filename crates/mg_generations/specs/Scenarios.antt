@@ -8,7 +8,8 @@ use Rattle.mg_model.specs.History.{Entries, effect_of}
 use Rattle.mg_model.specs.Answers.{Told, told, is_committed, can_hinder}
 use Rattle.mg_model.specs.NewDatabase.{new_opening, kv_name}
 use Rattle.mg_model.specs.Scenarios.{run, first, begins, row, gives, erases, commits, rolls_back}
-use Rattle.mg_generations.specs.Generations.{Generation, generation, shown_by, first_writer, key_made, generations_after, sees}
+use Rattle.mg_generations.specs.Generations.{Generation, generation, shown_by, first_writer, sees}
+use Rattle.mg_generations.specs.After.{key_made, generations_after}
 
 -- the versions of a key after a history in which nothing is taken back, of a table that has no row
 -- when it begins

@@ -10,8 +10,10 @@ use Rattle.mg_model.specs.Changes.{is_at, has_change, row_at}
 use Rattle.mg_model.specs.Machine.{deeds_by, changes_in, changes_by, step}
 use Rattle.mg_model.specs.Answers.{changes_key, newest_by}
 use Rattle.mg_model.specs.LegalLaws.{found_passes}
+use Rattle.mg_generations.specs.Generations.{are_on_top}
 
--- steps say the same of a key as others do: whose changes have it, which rows, and who was last
+-- steps say the same of a key as others do: whose changes have it, which rows, who was last, and
+-- whose are the newest
 pub record SayTheSame (all others : List Step) (table : List ℕ) (key : Value) : Type 0 where
   pub changes : (t : ℕ)
       → has_change (changes_by t all) table key ≡ has_change (changes_by t others) table key
@@ -19,10 +21,17 @@ pub record SayTheSame (all others : List Step) (table : List ℕ) (key : Value) 
       → row_at (changes_by t all) table key ≡ row_at (changes_by t others) table key
   pub newest : (who : ℕ → Bool)
       → newest_by who (changes_key table key) all ≡ newest_by who (changes_key table key) others
+  pub top : (who : ℕ → Bool) (t : ℕ)
+      → are_on_top who table key t all ≡ are_on_top who table key t others
 
 module _ (table : List ℕ) (key : Value) where
   pub same_itself : (all : List Step) → SayTheSame all all table key
-  same_itself all = record { changes = λ t. refl; rows = λ t. refl; newest = λ who. refl }
+  same_itself all = record {
+    changes = λ t. refl;
+    rows = λ t. refl;
+    newest = λ who. refl;
+    top = λ who t. refl;
+  }
 
   pub same_back : (all others : List Step) → SayTheSame all others table key
       → SayTheSame others all table key
@@ -30,6 +39,7 @@ module _ (table : List ℕ) (key : Value) where
     changes = λ t. sym (it.changes t);
     rows = λ t. sym (it.rows t);
     newest = λ who. sym (it.newest who);
+    top = λ who t. sym (it.top who t);
   }
 
   pub same_along : (all others old : List Step) → all ≡ others → SayTheSame others old table key
@@ -44,6 +54,7 @@ module _ (table : List ℕ) (key : Value) where
     changes = λ t. changed d other t (u == t);
     rows = λ t. given d other t (u == t);
     newest = λ who. rw (other, and_right (who u) false refl) refl;
+    top = λ who t. rw other refl;
   }
     where
       changed : (d : Deed) → changes_key table key d ≡ false → (t : ℕ) (b : Bool)
@@ -64,7 +75,7 @@ module _ (table : List ℕ) (key : Value) where
 
   -- ---- who changed the key last
 
-  front_has : (s : Step) (all : List Step) → changes_key table key s.deed ≡ true
+  pub front_has : (s : Step) (all : List Step) → changes_key table key s.deed ≡ true
       → has_change (changes_by s.by.0 (s ∷ all)) table key ≡ true
   front_has s all is =
       let its : (s.by.0 == s.by.0) ≡ true = eq-eqb s.by.0 s.by.0 refl in rw its (at s.deed is)
@@ -75,7 +86,7 @@ module _ (table : List ℕ) (key : Value) where
       at Marked is = absurd (false≢true is)
       at (Saved name) is = absurd (false≢true is)
 
-  behind_has : (s : Step) (all : List Step) (u : ℕ)
+  pub behind_has : (s : Step) (all : List Step) (u : ℕ)
       → has_change (changes_by u all) table key ≡ true
       → has_change (changes_by u (s ∷ all)) table key ≡ true
   behind_has s all u has = at s.deed (s.by.0 == u)

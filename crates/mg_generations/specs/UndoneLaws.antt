@@ -13,7 +13,8 @@ use Rattle.mg_model.specs.History.{Entry, Entries, Effect, Marks, Nothing, effec
 use Rattle.mg_model.specs.Machine.{state_after, state_of, changes_by, step, taken_back, steps_after, steps, database_after, database, base, own}
 use Rattle.mg_model.specs.Answers.{is_committed}
 use Rattle.mg_model.specs.Legal.{IsOpening, IsLegal}
-use Rattle.mg_generations.specs.Generations.{Generation, key_made, generations_after, takes_back, IsUndone, DoNothing, AreGenerations}
+use Rattle.mg_generations.specs.Generations.{Generation, AreGenerations}
+use Rattle.mg_generations.specs.After.{key_made, generations_after, takes_back, IsUndone, DoNothing}
 use Rattle.mg_generations.specs.StepLaws.{same_back, same_along, same_after_step}
 use Rattle.mg_generations.specs.OnwardLaws.{shows_here, go_on_same}
 use Rattle.mg_generations.specs.AfterLaws.{generations_go_on}

@@ -10,16 +10,17 @@ use Rattle.mg_model.specs.declared.change.Deed.TheVariants.{Changed}
 use Rattle.mg_model.specs.declared.opening.Opening.{Opening}
 use Rattle.mg_model.specs.History.{Entry, Entries}
 use Rattle.mg_model.specs.Changes.{is_at, has_change, row_at}
-use Rattle.mg_model.specs.Machine.{state_of, deeds_by, changes_in, changes_by, step, steps, database}
+use Rattle.mg_model.specs.Machine.{own, state_of, deeds_by, changes_in, changes_by, step, steps, database}
 use Rattle.mg_model.specs.Answers.{told, is_committed, is_open, can_hinder, changes_key, newest_by, obstacle}
 use Rattle.mg_model.specs.Legal.{IsOpening, IsLegal}
 use Rattle.mg_model.specs.OverlapLaws.{saw_goes_on}
 use Rattle.mg_model.specs.HinderLaws.{stands, saw_from_unhindered}
-use Rattle.mg_generations.specs.Generations.{Generation, first_writer, EachGeneration, EachOlder, is_newest_by, without_newest_by, put, PassesNews, AreGenerations}
+use Rattle.mg_generations.specs.Generations.{are_on_top, Generation, first_writer, EachGeneration, EachOlder, is_newest_by, without_newest_by, put, PassesNews, AreGenerations}
 use Rattle.mg_generations.specs.ListLaws.{each_without, each_with, none_passes, order_without, each_as, shown_put, first_without}
 use Rattle.mg_generations.specs.CommittedLaws.{not_both, open_was_not_committed}
 use Rattle.mg_generations.specs.WriterLaws.{obstacle_is_writer}
-use Rattle.mg_generations.specs.OnwardLaws.{order_on, shows_on, shows_here, newest_on}
+use Rattle.mg_generations.specs.TopLaws.{none_is_on_top}
+use Rattle.mg_generations.specs.OnwardLaws.{top_on, order_on, shows_on, shows_here, newest_on}
 
 -- ---- what has no obstacle
 
@@ -126,6 +127,31 @@ module _ (o : Opening) (opening : IsOpening o) (h : Entries) (e : Entry) (legal 
       write_gives u true its = rw here refl
       write_gives u false its = absurd (false≢true its)
 
+      write_top : (u : ℕ) → is_open (state_of o h u) ≡ true → (b : Bool) → (t == u) ≡ b
+          → are_on_top (λ v. stands (state_of o (e ∷ h) v)) table key u
+          (step t (Changed c) ∷ steps o h)
+          ≡ true
+      write_top u opened true its = rw (here, its) (at (stands (state_of o (e ∷ h) t)))
+        where
+          older : are_on_top (λ v. stands (state_of o (e ∷ h) v)) table key u (steps o h) ≡ true
+          older = top_on o opening h e legal table key gs it u opened
+
+          at : (b : Bool) → cond (b && false) (not (has_change (own o h u) table key))
+              (are_on_top (λ v. stands (state_of o (e ∷ h) v)) table key u (steps o h)) ≡ true
+          at true = older
+          at false = older
+      write_top u opened false other = rw (here, other) (at (stands (state_of o (e ∷ h) t)))
+        where
+          without : has_change (own o h u) table key ≡ false
+          without = it.open_ u opened
+              ∙ not_newest_other (state_of o h) t u gs settled other opened
+
+          at : (b : Bool) → cond (b && true) (not (has_change (own o h u) table key))
+              (are_on_top (λ v. stands (state_of o (e ∷ h) v)) table key u (steps o h)) ≡ true
+          at true = ap not without
+          at false =
+              none_is_on_top table key (λ v. stands (state_of o (e ∷ h) v)) u (steps o h) without
+
       write_newest : (who : ℕ → Bool) → PassesNews o (e ∷ h) who
           → newest_by who (changes_key table key) (step t (Changed c) ∷ steps o h)
           ≡ first_writer who (put t c.row gs)
@@ -165,6 +191,9 @@ module _ (o : Opening) (opening : IsOpening o) (h : Entries) (e : Entry) (legal 
             (ap is_committed (states t ∙ active))))
             (λ since before is. sym (shown_put (λ u. is_committed (state_of o before u)) t c.row gs
             (never since before is)));
+        top = λ u now.
+            ap (are_on_top (λ v. stands (state_of o (e ∷ h) v)) table key u) more
+            ∙ write_top u (sym (ap is_open (states u)) ∙ now) (t == u) refl;
         order = (
           each_as (λ g. (told o h).saw t g.writer ≡ true)
               (λ g. (told o (e ∷ h)).saw t g.writer ≡ true) (without_newest_by t gs)

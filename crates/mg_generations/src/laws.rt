@@ -2,7 +2,7 @@
 //! can cite it.
 
 ghost use Rattle.mg_generations.specs.Laws.{VersionsBegin, VersionsGoOn, OthersLeaveVersions};
-ghost use Rattle.mg_generations.specs.Laws.{GivenIsInFront, MadeIsInFront, DeadLeaves};
+ghost use Rattle.mg_generations.specs.Laws.{GivenIsInFront, MadeIsInFront, DeadLeaves, TakenBackLeaves};
 ghost use Rattle.mg_generations.specs.Laws.{UndoneLeavesVersions, UndoneLeavesAll};
 ghost use Rattle.mg_generations.specs.Laws.{VersionsShowViews, VersionsShowDatabase};
 ghost use Rattle.mg_generations.specs.Laws.{VersionsShowDurables, CommitShowsNewest};
@@ -19,6 +19,7 @@ pub fn versions_go_on()
     ensures given { GivenIsInFront }
     ensures made { MadeIsInFront }
     ensures dead { DeadLeaves }
+    ensures taken_back { TakenBackLeaves }
 {}
 
 /// A mark that is taken back with nothing done since leaves all as it was.

@@ -1,6 +1,7 @@
 use Rattle.mg_generations.specs.BeginLaws.{generations_begin}
 use Rattle.mg_generations.specs.AfterLaws.{generations_go_on}
 use Rattle.mg_generations.specs.CaseLaws.{generations_left, generations_given, generations_made, generations_dead}
+use Rattle.mg_generations.specs.TakenBackLaws.{generations_taken_back}
 use Rattle.mg_generations.proofs.laws.versions_go_on.Goals as goal
 
 pub returns-clause-begin : goal.returns-clause-begin
@@ -25,3 +26,7 @@ returns-clause-made c = λ o h e table key gs t row opening legal it.
 pub returns-clause-dead : goal.returns-clause-dead
 returns-clause-dead c = λ o h e table key gs t opening legal it.
     generations_dead o opening h e legal table key gs it t
+
+pub returns-clause-taken_back : goal.returns-clause-taken_back
+returns-clause-taken_back c = λ o h e table key gs t point opening legal it.
+    generations_taken_back o opening h e legal table key gs it t point
