@@ -11,6 +11,7 @@ use Rattle.mg_model.specs.Answers.{catalog_of, told}
 use Rattle.mg_model.specs.Changes.{same_name, same_key, has_change, row_at}
 use Rattle.mg_model.specs.Catalog.{key_in}
 use Rattle.mg_model.specs.History.{Entry, Entries, Effect, Begins, Looks, Makes, Gives, Marks, Saves, TakesBack, Ends, Nothing, effect_of}
+use Rattle.mg_model.specs.Machine.{own}
 use Rattle.mg_generations.specs.Generations.{Generation, without_newest_by, put}
 
 -- the key that an effect makes a row with, if it makes one
@@ -32,32 +33,41 @@ after_end t Limbo gs = gs
 after_end t Dead gs = without_newest_by t gs
 after_end t Committed gs = gs
 
--- the versions of a key of a table after an effect that takes nothing back; `made` is the key that
--- it makes a row with
-abbrev pub generations_after : Effect → Value → List ℕ → Value → List Generation → List Generation
-generations_after (Makes t named row) made table key gs =
-    if same_name named table && same_key made key then put t (Some row) gs else gs
-generations_after (Gives t named given row) made table key gs =
-    if same_name named table && same_key given key then put t row gs else gs
-generations_after (Ends t end) made table key gs = after_end t end gs
-generations_after (Begins t mode) made table key gs = gs
-generations_after (Looks t) made table key gs = gs
-generations_after (Marks t) made table key gs = gs
-generations_after (Saves t name) made table key gs = gs
-generations_after (TakesBack t point) made table key gs = gs
-generations_after Nothing made table key gs = gs
+-- the versions of a key after a transaction takes back some of its changes; `left` are the own
+-- changes that it has left
+abbrev pub generations_back : List Change → ℕ → List ℕ → Value → List Generation → List Generation
+generations_back left t table key gs =
+    if has_change left table key then put t (row_at left table key) gs
+    else without_newest_by t gs
 
--- an effect takes steps back
-abbrev pub takes_back : Effect → Bool
-takes_back (TakesBack t point) = true
-takes_back (Begins t mode) = false
-takes_back (Looks t) = false
-takes_back (Makes t table row) = false
-takes_back (Gives t table key row) = false
-takes_back (Marks t) = false
-takes_back (Saves t name) = false
-takes_back (Ends t end) = false
-takes_back Nothing = false
+-- the versions of a key of a table after an effect; `made` is the key that it makes a row with, and
+-- `own` the own changes of each transaction after it
+abbrev pub generations_after : Effect → Value → (ℕ → List Change) → List ℕ → Value
+    → List Generation → List Generation
+generations_after (Makes t named row) made own table key gs =
+    if same_name named table && same_key made key then put t (Some row) gs else gs
+generations_after (Gives t named given row) made own table key gs =
+    if same_name named table && same_key given key then put t row gs else gs
+generations_after (TakesBack t point) made own table key gs =
+    generations_back (own t) t table key gs
+generations_after (Ends t end) made own table key gs = after_end t end gs
+generations_after (Begins t mode) made own table key gs = gs
+generations_after (Looks t) made own table key gs = gs
+generations_after (Marks t) made own table key gs = gs
+generations_after (Saves t name) made own table key gs = gs
+generations_after Nothing made own table key gs = gs
+
+-- the versions of a key of a table after an entry
+abbrev pub generations_with : Opening → Entries → Entry → List ℕ → Value → List Generation
+    → List Generation
+generations_with o h e table key gs =
+    generations_after (effect_of e) (key_made o h (effect_of e)) (own o (e ∷ h)) table key gs
+
+-- the versions of a key of a table after a history that begins with these
+abbrev pub generations_of : Opening → List Generation → Entries → List ℕ → Value → List Generation
+generations_of o first [] table key = first
+generations_of o first (e ∷ h) table key =
+    generations_with o h e table key (generations_of o first h table key)
 
 -- a transaction that comes to this state takes none of its versions along
 abbrev pub is_survived : TxState → Bool
@@ -77,13 +87,6 @@ leaves_versions (Looks t) = true
 leaves_versions (Marks t) = true
 leaves_versions (Saves t name) = true
 leaves_versions Nothing = true
-
--- the versions of a key after a transaction takes back some of its changes; `left` are the own
--- changes that it has left
-abbrev pub generations_back : List Change → ℕ → List ℕ → Value → List Generation → List Generation
-generations_back left t table key gs =
-    if has_change left table key then put t (row_at left table key) gs
-    else without_newest_by t gs
 
 -- ---- a mark that is taken back with nothing done since
 

@@ -20,13 +20,15 @@ use Rattle.mg_model.specs.Legal.{IsOpening, IsLegal}
 use Rattle.mg_model.specs.RowLaws.{row_at-append, same_from_same_key}
 use Rattle.mg_model.specs.LegalLaws.{IsAllowed, lawful_is_allowed}
 use Rattle.mg_model.specs.NumberLaws.{undrawn_is_dead}
-use Rattle.mg_generations.specs.Generations.{Generation, shown_by, EachOlder, is_newest_by, put, AreGenerations}
-use Rattle.mg_generations.specs.After.{key_made, after_end, generations_after, takes_back}
+use Rattle.mg_generations.specs.Generations.{Generation, shown_by, EachOlder, is_newest_by, put, AreFirst, AreGenerations}
+use Rattle.mg_generations.specs.After.{key_made, after_end, generations_after, generations_with, generations_of}
 use Rattle.mg_generations.specs.ListLaws.{each_as, shown_as, newest_is_shown, wrote_none, older_as}
 use Rattle.mg_generations.specs.CommittedLaws.{not_both, open_is_not_committed}
 use Rattle.mg_generations.specs.StepLaws.{SayTheSame, same_itself, same_along, same_after_step}
 use Rattle.mg_generations.specs.OnwardLaws.{shows_here, go_on_same}
 use Rattle.mg_generations.specs.WriteLaws.{go_on_write}
+use Rattle.mg_generations.specs.BeginLaws.{generations_begin}
+use Rattle.mg_generations.specs.TakenBackLaws.{generations_taken_back}
 use Rattle.mg_generations.specs.DeadLaws.{go_on_dead}
 
 module _ (o : Opening) (opening : IsOpening o) (h : Entries) (e : Entry) (legal : IsLegal o (e ∷ h))
@@ -51,11 +53,13 @@ module _ (o : Opening) (opening : IsOpening o) (h : Entries) (e : Entry) (legal 
       -- nobody's state changes, nor the database, and the steps say the same of the key
       still : ((u : ℕ) → state_of o (e ∷ h) u ≡ state_of o h u)
           → database o (e ∷ h) ≡ database o h
-          → SayTheSame (steps o (e ∷ h)) (steps o h) table key → AreGenerations o (e ∷ h) table key gs
+          → SayTheSame (steps o (e ∷ h)) (steps o h) table key
+          → AreGenerations o (e ∷ h) table key gs
       still states same say =
           go_on_same o opening h e legal table key gs it
           (λ u alive dead. alive (sym (states u) ∙ dead)) say
-          (shows_here o opening h e legal table key gs it same (λ u alive. ap is_committed (states u)))
+          (shows_here o opening h e legal table key gs it same
+          (λ u alive. ap is_committed (states u)))
 
       all_same : (others : List Step) → steps o (e ∷ h) ≡ others → others ≡ steps o h
           → SayTheSame (steps o (e ∷ h)) (steps o h) table key
@@ -114,7 +118,8 @@ module _ (o : Opening) (opening : IsOpening o) (h : Entries) (e : Entry) (legal 
               let free : obstacle (told o h) t table key ≡ None =
               ap (obstacle (told o h) t table) (sym one_key)
               ∙ ap (λ n. obstacle (told o h) t n given) (sym name) ∙ none in
-              go_on_write o opening h e legal table key gs it t change active free is states same more
+              go_on_write o opening h e legal table key gs it t change active free is states same
+              more
 
       ended : (t : ℕ) (end : TxState) → Does (Ends t end) → IsAllowed o h (Ends t end)
           → AreGenerations o (e ∷ h) table key (after_end t end gs)
@@ -141,7 +146,8 @@ module _ (o : Opening) (opening : IsOpening o) (h : Entries) (e : Entry) (legal 
           (λ u alive dead. at_other (t == u) Committed (state_of o h u) (λ its is. cc)
           (sym (did.states u) ∙ dead) alive)
           (all_same (steps o h) did.all refl)
-          (ap (λ cs. row_at cs table key) did.rows ∙ row_at-append (own o h t) (database o h) table key
+          (ap (λ cs. row_at cs table key) did.rows
+          ∙ row_at-append (own o h t) (database o h) table key
           ∙ at (has_change (own o h t) table key) refl)
         where
           now : ℕ → Bool
@@ -156,10 +162,12 @@ module _ (o : Opening) (opening : IsOpening o) (h : Entries) (e : Entry) (legal 
           as_before u other =
               let apart : (t == u) ≡ false =
               ne_eqb t u (λ is. both_ways (u == t) other (eq-eqb u t (sym is))) in
-              sym (ap is_committed (did.states u ∙ ap (λ b. cond b Committed (state_of o h u)) apart))
+              sym (ap is_committed (did.states u
+              ∙ ap (λ b. cond b Committed (state_of o h u)) apart))
 
           older : EachOlder (λ g. (g.writer == t) ≡ false) gs
-          older = older_as (λ g. state_of o h g.writer ≡ Committed) (λ g. (g.writer == t) ≡ false) gs
+          older = older_as (λ g. state_of o h g.writer ≡ Committed)
+              (λ g. (g.writer == t) ≡ false) gs
               (λ g was. ne_eqb g.writer t (λ is. not_both (state_of o h t) allowed.0
               (ap is_committed (ap (state_of o h) (sym is) ∙ was)))) it.backs
 
@@ -177,32 +185,45 @@ module _ (o : Opening) (opening : IsOpening o) (h : Entries) (e : Entry) (legal 
               (λ g. is_committed (state_of o h g.writer) ≡ now g.writer) gs
               (λ g. as_before g.writer) (wrote_none t gs other older))
 
-      by_effect : (f : Effect) → Does f → IsAllowed o h f → takes_back f ≡ false
-          → AreGenerations o (e ∷ h) table key (generations_after f (key_made o h f) table key gs)
-      by_effect (Begins t mode) did allowed on = begun t mode did allowed
-      by_effect (Looks t) did allowed on =
+      by_effect : (f : Effect) → effect_of e ≡ f → Does f → IsAllowed o h f
+          → AreGenerations o (e ∷ h) table key
+          (generations_after f (key_made o h f) (own o (e ∷ h)) table key gs)
+      by_effect (Begins t mode) is did allowed = begun t mode did allowed
+      by_effect (Looks t) is did allowed =
           still did.states did.rows (all_same (steps o h) did.all refl)
-      by_effect (Makes t named row) did allowed on =
-          written t named (key_in (catalog_of (told o h) t) named row) (Some row) allowed.0 allowed.1
+      by_effect (Makes t named row) is did allowed =
+          written t named (key_in (catalog_of (told o h) t) named row) (Some row) allowed.0
+          allowed.1
           did.states did.rows did.all
-      by_effect (Gives t named given row) did allowed on =
+      by_effect (Gives t named given row) is did allowed =
           written t named given row allowed.0 allowed.1 did.states did.rows did.all
-      by_effect (Marks t) did allowed on =
+      by_effect (Marks t) is did allowed =
           still did.states did.rows (same_along table key (steps o (e ∷ h))
           (step t Marked ∷ steps o h) (steps o h) did.all
           (same_after_step table key t Marked (steps o h) refl))
-      by_effect (Saves t name) did allowed on =
+      by_effect (Saves t name) is did allowed =
           still did.states did.rows (same_along table key (steps o (e ∷ h))
           (step t (Saved name) ∷ steps o h) (steps o h) did.all
           (same_after_step table key t (Saved name) (steps o h) refl))
-      by_effect (TakesBack t point) did allowed on = absurd (false≢true (sym on))
-      by_effect (Ends t end) did allowed on = ended t end did allowed
-      by_effect Nothing did allowed on =
+      by_effect (TakesBack t point) is did allowed =
+          generations_taken_back o opening h e legal table key gs it t point is
+      by_effect (Ends t end) is did allowed = ended t end did allowed
+      by_effect Nothing is did allowed =
           still did.states did.rows (all_same (steps o h) did.all refl)
 
-      -- an entry that takes nothing back makes of the versions what its effect makes of them
-      pub generations_go_on : takes_back (effect_of e) ≡ false
-          → AreGenerations o (e ∷ h) table key
-          (generations_after (effect_of e) (key_made o h (effect_of e)) table key gs)
-      generations_go_on on =
-          by_effect (effect_of e) (does (effect_of e) refl) (lawful_is_allowed o h e legal.0) on
+      -- an entry makes of the versions what its effect says
+      pub generations_go_on : AreGenerations o (e ∷ h) table key
+          (generations_with o h e table key gs)
+      generations_go_on =
+          by_effect (effect_of e) refl (does (effect_of e) refl)
+          (lawful_is_allowed o h e legal.0)
+
+-- a legal history that begins with these versions of a key has these
+pub generations_come : (o : Opening) → IsOpening o → (table : List ℕ) (key : Value)
+    (first : List Generation) → AreFirst o table key first → (h : Entries) → IsLegal o h
+    → AreGenerations o h table key (generations_of o first h table key)
+generations_come o opening table key first begin [] legal =
+    generations_begin o table key first opening begin
+generations_come o opening table key first begin (e ∷ h) legal =
+    generations_go_on o opening h e legal table key (generations_of o first h table key)
+    (generations_come o opening table key first begin h legal.1)

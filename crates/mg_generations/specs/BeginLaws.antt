@@ -1,19 +1,19 @@
 -- The versions that a history begins with.
 use Rattle.std.specs.Prelude.{◌≡◌, ℕ, ◌==◌, Bool, true, false, List, [], ◌∷◌, ◌++◌, Option, Some, None, refl}
 use Rattle.std.proofs.Common.{sym, ◌∙◌, ap, subst}
-use Rattle.std.proofs.lemmas.Bool.{false≢true, both_ways, eq-eqb, eqb-true}
+use Rattle.std.proofs.lemmas.Bool.{ne_eqb, false≢true, both_ways, eq-eqb, eqb-true}
 use Rattle.mg_base.specs.declared.transaction.TxState.{TxState}
 use Rattle.mg_base.specs.declared.transaction.TxState.TheVariants.{Active, Limbo, Dead, Committed}
 use Rattle.mg_value.specs.declared.value.Value.{Value}
 use Rattle.mg_model.specs.declared.opening.Opening.{Opening}
 use Rattle.mg_model.specs.History.{Entries}
-use Rattle.mg_model.specs.Changes.{has_change, row_at}
-use Rattle.mg_model.specs.Machine.{opening_state, database, state_of, steps, own}
+use Rattle.mg_model.specs.Changes.{Cells, has_change, row_at}
+use Rattle.mg_model.specs.Machine.{opening_rows, opening_state, database, state_of, steps, own}
 use Rattle.mg_model.specs.Answers.{is_committed, is_open, changes_key, newest_by}
 use Rattle.mg_model.specs.LegalLaws.{found_passes}
 use Rattle.mg_model.specs.Legal.{IsOpening}
 use Rattle.mg_model.specs.HinderLaws.{stands, none_hinders}
-use Rattle.mg_generations.specs.Generations.{are_on_top, Generation, shown_by, first_writer, EachGeneration, EachOlder, is_newest_by, PassesNews, AreGenerations, AreFirst}
+use Rattle.mg_generations.specs.Generations.{are_on_top, Generation, shown_by, first_writer, EachGeneration, EachOlder, is_newest_by, PassesNews, AreGenerations, AreFirst, versions_of_row}
 use Rattle.mg_generations.specs.ListLaws.{older_as, order_of_older, each_as, nobody_first}
 use Rattle.mg_generations.specs.TopLaws.{none_is_on_top, only_is_on_top}
 use Rattle.mg_generations.specs.StepLaws.{newest_has}
@@ -112,3 +112,34 @@ module _ (o : Opening) (table : List ℕ) (key : Value) where
     top = λ t opened. first_top (λ u. stands (opening_state o u)) t opening;
     newest = first_newest gs it;
   }
+
+-- ---- a key that no transaction in limbo has changed
+
+-- the system is no transaction that has not ended
+not_the_system : (o : Opening) (t : ℕ) → is_open (opening_state o t) ≡ true → (0 == t) ≡ false
+not_the_system o t opened =
+    ne_eqb 0 t (λ is. both_ways (is_open (opening_state o t))
+    (ap is_open (ap (opening_state o) (sym is))) opened)
+
+-- the row of a key that no transaction in limbo has changed is its version
+pub row_begins : (o : Opening) (table : List ℕ) (key : Value)
+    → ((t : ℕ) → has_change (own o [] t) table key ≡ false)
+    → AreFirst o table key (versions_of_row (row_at (opening_rows o) table key))
+row_begins o table key none = at (row_at (opening_rows o) table key) refl
+  where
+    at : (row : Option Cells) → row_at (opening_rows o) table key ≡ row
+        → AreFirst o table key (versions_of_row row)
+    at None is = record {
+      alive = tt;
+      backs = tt;
+      open_ = λ t opened. none t;
+      gives = λ t opened newest. absurd (false≢true newest);
+      shows = is;
+    }
+    at (Some row) is = record {
+      alive = (λ dead. absurd cc, tt);
+      backs = tt;
+      open_ = λ t opened. none t ∙ sym (not_the_system o t opened);
+      gives = λ t opened newest. absurd (both_ways (0 == t) (not_the_system o t opened) newest);
+      shows = is;
+    }

@@ -84,7 +84,7 @@ pub record AreGenerations (o : Opening) (h : Entries) (table : List ℕ) (key : 
       → has_change (own o h t) table key ≡ is_newest_by t gs
   pub gives : (t : ℕ) → is_open (state_of o h t) ≡ true → is_newest_by t gs ≡ true
       → row_at (own o h t) table key ≡ newest_row gs
-  -- at each moment of the history the database had the row that they show, by who was committed then
+  -- at each moment of the history the database had the row that they show by who was committed
   pub shows : (since before : Entries) → h ≡ since ++ before
       → row_at (database o before) table key
       ≡ shown_by (λ u. is_committed (state_of o before u)) gs
@@ -111,10 +111,16 @@ pub record AreFirst (o : Opening) (table : List ℕ) (key : Value) (gs : List Ge
     pub shows : row_at (opening_rows o) table key
         ≡ shown_by (λ u. is_committed (opening_state o u)) gs
 
--- ---- after a write
-
 abbrev pub generation : ℕ → Option Cells → Generation
 generation writer row = record { writer = writer; row = row }
+
+-- the versions of a key with this row, if it is one, that no known transaction wrote: the system's,
+-- whose number is 0
+abbrev pub versions_of_row : Option Cells → List Generation
+versions_of_row None = []
+versions_of_row (Some row) = generation 0 (Some row) ∷ []
+
+-- ---- after a write
 
 -- the versions without the newest, where that is a transaction's
 abbrev pub without_newest_by : ℕ → List Generation → List Generation

@@ -5,13 +5,13 @@ use Rattle.mg_value.specs.declared.value.Value.{Value}
 use Rattle.mg_model.specs.declared.change.Point.{Point}
 use Rattle.mg_model.specs.declared.opening.Opening.{Opening}
 use Rattle.mg_model.specs.Catalog.{catalog_name, table_key, shape_in, key_in}
-use Rattle.mg_model.specs.Changes.{Cells, row_at}
+use Rattle.mg_model.specs.Changes.{Cells, has_change, row_at}
 use Rattle.mg_model.specs.History.{Entry, Entries, Makes, Gives, TakesBack, Ends, effect_of}
 use Rattle.mg_model.specs.Machine.{opening_rows, state_of, steps, own, database, view}
 use Rattle.mg_model.specs.Answers.{told, is_committed, is_open, can_hinder, catalog_of, obstacle, table_obstacle}
 use Rattle.mg_model.specs.Legal.{IsOpening, IsLegal, after_durable, durable_database}
-use Rattle.mg_generations.specs.Generations.{Generation, shown_by, first_writer, newest_writer_if, is_newest_by, newest_row, without_newest_by, put, sees, AreFirst, AreGenerations}
-use Rattle.mg_generations.specs.After.{key_made, generations_after, takes_back, generations_back, leaves_versions, IsUndone}
+use Rattle.mg_generations.specs.Generations.{versions_of_row, Generation, shown_by, first_writer, newest_writer_if, is_newest_by, newest_row, without_newest_by, put, sees, AreFirst, AreGenerations}
+use Rattle.mg_generations.specs.After.{generations_with, generations_of, generations_back, leaves_versions, IsUndone}
 use Rattle.mg_generations.specs.Tables.{AreOld, asks_to_write, LeavesTable, opening_catalog}
 
 -- ---- how they come about
@@ -21,13 +21,23 @@ abbrev pub VersionsBegin : Type 0
 VersionsBegin = (o : Opening) (table : List ℕ) (key : Value) (gs : List Generation)
     → IsOpening o → AreFirst o table key gs → AreGenerations o [] table key gs
 
--- an entry of a legal history that takes nothing back makes of them what its effect says
+-- a key that no transaction in limbo has changed begins with its row, as the system's
+abbrev pub RowBegins : Type 0
+RowBegins = (o : Opening) (table : List ℕ) (key : Value)
+    → ((t : ℕ) → has_change (own o [] t) table key ≡ false)
+    → AreFirst o table key (versions_of_row (row_at (opening_rows o) table key))
+
+-- an entry of a legal history makes of them what its effect says
 abbrev pub VersionsGoOn : Type 0
 VersionsGoOn = (o : Opening) (h : Entries) (e : Entry) (table : List ℕ) (key : Value)
     (gs : List Generation) → IsOpening o → IsLegal o (e ∷ h) → AreGenerations o h table key gs
-    → takes_back (effect_of e) ≡ false
-    → AreGenerations o (e ∷ h) table key
-    (generations_after (effect_of e) (key_made o h (effect_of e)) table key gs)
+    → AreGenerations o (e ∷ h) table key (generations_with o h e table key gs)
+
+-- so each legal history has versions of each key, with those that it begins with
+abbrev pub VersionsCome : Type 0
+VersionsCome = (o : Opening) (table : List ℕ) (key : Value) (first : List Generation) (h : Entries)
+    → IsOpening o → IsLegal o h → AreFirst o table key first
+    → AreGenerations o h table key (generations_of o first h table key)
 
 -- one that writes nothing, lets nobody die and takes nothing back leaves them
 abbrev pub OthersLeaveVersions : Type 0

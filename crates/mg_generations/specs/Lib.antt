@@ -11,6 +11,7 @@ pub mod OnwardLaws
 pub mod WriteLaws
 pub mod DeadLaws
 pub mod AfterLaws
+pub mod LeftLaws
 pub mod TakenBackLaws
 pub mod UndoneLaws
 pub mod ShowLaws

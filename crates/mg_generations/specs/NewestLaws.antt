@@ -1,4 +1,4 @@
--- The obstacle of a key is the writer of its newest version, or none: no older version is looked at.
+-- The obstacle of a key is the writer of its newest version, or none: no older one is looked at.
 use Rattle.std.specs.Prelude.{◌≡◌, ◌≢◌, ℕ, ◌==◌, not, Bool, true, false, List, [], ◌∷◌, ◌++◌, Some, None, cond, refl}
 use Rattle.std.proofs.Common.{sym, ◌∙◌, ap}
 use Rattle.std.proofs.lemmas.Bool.{eqb-true}

@@ -192,7 +192,8 @@ module _ (o : Opening) (opening : IsOpening o) (h : Entries) (e : Entry) (legal 
       shows = shows_on gs here (λ since before is. refl);
       top = λ t now. elim (was_open t now) [
         | inl was ↦ say.top (λ u. stands (state_of o (e ∷ h) u)) t ∙ top_on t was
-        | inr none ↦ none_is_on_top table key (λ u. stands (state_of o (e ∷ h) u)) t (steps o (e ∷ h))
+        | inr none ↦ none_is_on_top table key (λ u. stands (state_of o (e ∷ h) u)) t
+            (steps o (e ∷ h))
             (say.changes t ∙ none.1)
       ];
       order = order_on;

@@ -1,30 +1,20 @@
 -- Small histories of the table KV in which the versions of a key are computed.
-use Rattle.std.specs.Prelude.{◌≡◌, ℕ, pos, List, [], ◌∷◌, Some, None}
-use Rattle.mg_value.specs.declared.value.Value.{Value}
+use Rattle.std.specs.Prelude.{◌≡◌, pos, List, [], ◌∷◌, Some, None}
 use Rattle.mg_value.specs.declared.value.Value.TheVariants.{Int}
 use Rattle.mg_model.specs.declared.event.Event.{Event}
-use Rattle.mg_model.specs.declared.opening.Opening.{Opening}
-use Rattle.mg_model.specs.History.{Entries, effect_of}
+use Rattle.mg_model.specs.History.{Entries}
 use Rattle.mg_model.specs.Answers.{Told, told, is_committed, can_hinder}
 use Rattle.mg_model.specs.NewDatabase.{new_opening, kv_name}
-use Rattle.mg_model.specs.Scenarios.{run, first, begins, row, gives, erases, commits, rolls_back}
+use Rattle.mg_model.specs.Scenarios.{run, first, begins, row, gives, erases, commits, rolls_back, marks, undoes, saves, goes_back}
 use Rattle.mg_generations.specs.Generations.{Generation, generation, shown_by, first_writer, sees}
-use Rattle.mg_generations.specs.After.{key_made, generations_after}
-
--- the versions of a key after a history in which nothing is taken back, of a table that has no row
--- when it begins
-abbrev pub generations_of : Opening → Entries → List ℕ → Value → List Generation
-generations_of o [] table key = []
-generations_of o (e ∷ h) table key =
-    generations_after (effect_of e) (key_made o h (effect_of e)) table key
-    (generations_of o h table key)
+use Rattle.mg_generations.specs.After.{generations_of}
 
 -- the history of a new database with these events, and the versions of the key 1 after it
 abbrev pub history : List Event → Entries
 history events = run (new_opening 100) [] events
 
 abbrev pub versions_after : List Event → List Generation
-versions_after events = generations_of (new_opening 100) (history events) kv_name (Int (pos 1))
+versions_after events = generations_of (new_opening 100) [] (history events) kv_name (Int (pos 1))
 
 -- the transaction 1 inserts the value 10; 2 and 3 begin, and 2 writes it twice; the write of 3 is
 -- refused until 2 rolls back
@@ -81,3 +71,14 @@ CommittedIsShown =
 
     now : Told
     now = told (new_opening 100) (history events)
+
+-- a mark that is taken back leaves the row from before it; a savepoint before the first write
+-- leaves the committed row alone
+abbrev pub TakenBackIsGone : Type 0
+TakenBackIsGone =
+    (versions_after (first (begins ∷ saves 2 ∷ gives 2 1 20 ∷ marks 2 ∷ gives 2 1 21 ∷ undoes 2
+    ∷ []))
+    ≡ generation 2 (Some (row 1 20)) ∷ generation 1 (Some (row 1 10)) ∷ [])
+    × (versions_after (first (begins ∷ saves 2 ∷ gives 2 1 20 ∷ marks 2 ∷ gives 2 1 21 ∷ undoes 2
+    ∷ goes_back 2 ∷ []))
+    ≡ generation 1 (Some (row 1 10)) ∷ [])

@@ -86,7 +86,8 @@ module _ (o : Opening) (table : List ℕ) where
       → has_change (changes_by t (steps_after f catalog all)) table key ≡ false
   left_by_effect (Makes u named row) catalog all t key other none =
       (same_after_step table key u (changed named (key_in (catalog u) named row) (Some row)) all
-      (and_left (same_name named table) (same_key (key_in (catalog u) named row) key) other)).changes
+      (and_left (same_name named table) (same_key (key_in (catalog u) named row) key)
+      other)).changes
       t ∙ none
   left_by_effect (Gives u named given row) catalog all t key other none =
       (same_after_step table key u (changed named given row) all

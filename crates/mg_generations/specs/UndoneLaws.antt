@@ -1,6 +1,6 @@
 -- A mark that is taken back with nothing done since leaves the versions of each key.
 use Rattle.std.specs.Prelude.{◌≡◌, ℕ, ◌==◌, true, List, [], ◌∷◌, ◌++◌, refl}
-use Rattle.std.proofs.Common.{sym, ◌∙◌, ap, subst}
+use Rattle.std.proofs.Common.{sym, ◌∙◌, ap}
 use Rattle.std.proofs.lemmas.Bool.{eq-eqb}
 use Rattle.mg_value.specs.declared.value.Value.{Value}
 use Rattle.mg_model.specs.declared.change.Deed.TheVariants.{Marked}
@@ -9,15 +9,15 @@ use Rattle.mg_model.specs.declared.change.Point.TheVariants.{LastMark}
 use Rattle.mg_model.specs.declared.opening.Opening.{Opening}
 use Rattle.mg_model.specs.Catalog.{catalog_name}
 use Rattle.mg_model.specs.Changes.{row_at}
-use Rattle.mg_model.specs.History.{Entry, Entries, Effect, Marks, Nothing, effect_of}
+use Rattle.mg_model.specs.History.{Entry, Entries, Marks, Nothing, effect_of}
 use Rattle.mg_model.specs.Machine.{state_after, state_of, changes_by, step, taken_back, steps_after, steps, database_after, database, base, own}
 use Rattle.mg_model.specs.Answers.{is_committed}
 use Rattle.mg_model.specs.Legal.{IsOpening, IsLegal}
 use Rattle.mg_generations.specs.Generations.{Generation, AreGenerations}
-use Rattle.mg_generations.specs.After.{key_made, generations_after, takes_back, IsUndone, DoNothing}
+use Rattle.mg_generations.specs.After.{leaves_versions, DoNothing, IsUndone}
 use Rattle.mg_generations.specs.StepLaws.{same_back, same_along, same_after_step}
 use Rattle.mg_generations.specs.OnwardLaws.{shows_here, go_on_same}
-use Rattle.mg_generations.specs.AfterLaws.{generations_go_on}
+use Rattle.mg_generations.specs.CaseLaws.{generations_left}
 
 -- ---- entries that do nothing
 
@@ -81,9 +81,7 @@ module _ (o : Opening) (opening : IsOpening o) (table : List ℕ) (key : Value)
   idle_go_on : (h : Entries) (e : Entry) → IsLegal o (e ∷ h) → effect_of e ≡ Nothing
       → AreGenerations o h table key gs → AreGenerations o (e ∷ h) table key gs
   idle_go_on h e legal is it =
-      let P : Effect → Type 0 = λ f. AreGenerations o (e ∷ h) table key
-      (generations_after f (key_made o h f) table key gs) in
-      subst P is (generations_go_on o opening h e legal table key gs it (ap takes_back is))
+      generations_left o opening h e legal table key gs it (ap leaves_versions is)
 
   pub idle_entries : (h since : Entries) → IsLegal o (since ++ h) → DoNothing since
       → AreGenerations o h table key gs → AreGenerations o (since ++ h) table key gs
@@ -99,9 +97,7 @@ module _ (o : Opening) (opening : IsOpening o) (table : List ℕ) (key : Value)
   mark_goes_on : (h : Entries) (e : Entry) (t : ℕ) → IsLegal o (e ∷ h) → effect_of e ≡ Marks t
       → AreGenerations o h table key gs → AreGenerations o (e ∷ h) table key gs
   mark_goes_on h e t legal is it =
-      let P : Effect → Type 0 = λ f. AreGenerations o (e ∷ h) table key
-      (generations_after f (key_made o h f) table key gs) in
-      subst P is (generations_go_on o opening h e legal table key gs it (ap takes_back is))
+      generations_left o opening h e legal table key gs it (ap leaves_versions is)
 
   -- a mark that is taken back with nothing done since leaves the versions
   pub generations_undone : (h : Entries) (t : ℕ) (sets : Entry) (since : Entries) (undoes : Entry)

@@ -186,7 +186,8 @@ module _ (o : Opening) (opening : IsOpening o) (h : Entries) (e : Entry) (legal 
         gives = λ u now newest.
             ap (λ all. row_at (changes_by u all) table key) more ∙ write_gives u (t == u) newest;
         shows = shows_on o opening h e legal table key gs it (put t c.row gs)
-            (shows_here o opening h e legal table key gs it same (λ u alive. ap is_committed (states u))
+            (shows_here o opening h e legal table key gs it same
+            (λ u alive. ap is_committed (states u))
             ∙ sym (shown_put (λ u. is_committed (state_of o (e ∷ h) u)) t c.row gs
             (ap is_committed (states t ∙ active))))
             (λ since before is. sym (shown_put (λ u. is_committed (state_of o before u)) t c.row gs

@@ -1,7 +1,8 @@
 //! The laws of versions. Each function does nothing: its contract is a law, so that another crate
 //! can cite it.
 
-ghost use Rattle.mg_generations.specs.Laws.{VersionsBegin, VersionsGoOn, OthersLeaveVersions};
+ghost use Rattle.mg_generations.specs.Laws.{VersionsBegin, RowBegins};
+ghost use Rattle.mg_generations.specs.Laws.{VersionsGoOn, VersionsCome, OthersLeaveVersions};
 ghost use Rattle.mg_generations.specs.Laws.{GivenIsInFront, MadeIsInFront, DeadLeaves, TakenBackLeaves};
 ghost use Rattle.mg_generations.specs.Laws.{UndoneLeavesVersions, UndoneLeavesAll};
 ghost use Rattle.mg_generations.specs.Laws.{VersionsShowViews, VersionsShowDatabase};
@@ -14,7 +15,9 @@ ghost use Rattle.mg_generations.specs.Laws.{LeftCatalogHindersNot};
 /// How versions come about, and what each entry makes of them.
 pub fn versions_go_on()
     ensures begin { VersionsBegin }
+    ensures row { RowBegins }
     ensures onward { VersionsGoOn }
+    ensures come { VersionsCome }
     ensures others { OthersLeaveVersions }
     ensures given { GivenIsInFront }
     ensures made { MadeIsInFront }

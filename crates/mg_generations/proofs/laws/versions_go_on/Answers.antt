@@ -1,15 +1,23 @@
-use Rattle.mg_generations.specs.BeginLaws.{generations_begin}
-use Rattle.mg_generations.specs.AfterLaws.{generations_go_on}
+use Rattle.mg_generations.specs.BeginLaws.{generations_begin, row_begins}
+use Rattle.mg_generations.specs.AfterLaws.{generations_go_on, generations_come}
 use Rattle.mg_generations.specs.CaseLaws.{generations_left, generations_given, generations_made, generations_dead}
 use Rattle.mg_generations.specs.TakenBackLaws.{generations_taken_back}
 use Rattle.mg_generations.proofs.laws.versions_go_on.Goals as goal
 
 pub returns-clause-begin : goal.returns-clause-begin
-returns-clause-begin c = generations_begin
+returns-clause-begin c = λ o table key gs opening it.
+    generations_begin o table key gs opening it
+
+pub returns-clause-row : goal.returns-clause-row
+returns-clause-row c = row_begins
 
 pub returns-clause-onward : goal.returns-clause-onward
 returns-clause-onward c = λ o h e table key gs opening legal it.
     generations_go_on o opening h e legal table key gs it
+
+pub returns-clause-come : goal.returns-clause-come
+returns-clause-come c = λ o table key first h opening legal begin.
+    generations_come o opening table key first begin h legal
 
 pub returns-clause-others : goal.returns-clause-others
 returns-clause-others c = λ o h e table key gs opening legal it.
