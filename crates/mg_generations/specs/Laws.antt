@@ -1,16 +1,16 @@
 -- The laws of versions, each for every opening, history, table and key.
-use Rattle.std.specs.Prelude.{◌≡◌, ℕ, true, false, List, [], ◌∷◌, ◌++◌, Option, Some, None}
+use Rattle.std.specs.Prelude.{◌≡◌, ℕ, ◌&&◌, true, false, List, [], ◌∷◌, ◌++◌, Option, Some, None}
 use Rattle.mg_base.specs.declared.transaction.TxState.TheVariants.{Dead, Committed}
 use Rattle.mg_value.specs.declared.value.Value.{Value}
 use Rattle.mg_model.specs.declared.change.Point.{Point}
 use Rattle.mg_model.specs.declared.opening.Opening.{Opening}
 use Rattle.mg_model.specs.Catalog.{catalog_name, table_key, shape_in, key_in}
-use Rattle.mg_model.specs.Changes.{Cells, has_change, row_at}
+use Rattle.mg_model.specs.Changes.{Cells, same_name, same_key, has_change, row_at}
 use Rattle.mg_model.specs.History.{Entry, Entries, Makes, Gives, TakesBack, Ends, effect_of}
 use Rattle.mg_model.specs.Machine.{opening_rows, state_of, steps, own, database, view}
 use Rattle.mg_model.specs.Answers.{told, is_committed, is_open, can_hinder, catalog_of, obstacle, table_obstacle}
 use Rattle.mg_model.specs.Legal.{IsOpening, IsLegal, after_durable, durable_database}
-use Rattle.mg_generations.specs.Generations.{versions_of_row, Generation, shown_by, first_writer, newest_writer_if, is_newest_by, newest_row, without_newest_by, put, sees, AreFirst, AreGenerations}
+use Rattle.mg_generations.specs.Generations.{Generation, shown_by, first_writer, is_newest_by, newest_row, newest_writer_if, versions_of_row, without_newest_by, put, sees, AreFirst, AreGenerations}
 use Rattle.mg_generations.specs.After.{generations_with, generations_of, generations_back, leaves_versions, IsUndone}
 use Rattle.mg_generations.specs.Tables.{AreOld, asks_to_write, LeavesTable, opening_catalog}
 
@@ -59,6 +59,18 @@ MadeIsInFront = (o : Opening) (h : Entries) (e : Entry) (table : List ℕ) (key 
     → AreGenerations o h table key gs → effect_of e ≡ Makes t table row
     → key_in (catalog_of (told o h) t) table row ≡ key
     → AreGenerations o (e ∷ h) table key (put t (Some row) gs)
+
+-- where another key is given a row or none, or the key of a row that is made is another one, they
+-- are left
+abbrev pub OtherKeysAreLeft : Type 0
+OtherKeysAreLeft = (o : Opening) (h : Entries) (e : Entry) (table : List ℕ) (key : Value)
+    (gs : List Generation) (t : ℕ) (named : List ℕ) → IsOpening o → IsLegal o (e ∷ h)
+    → AreGenerations o h table key gs
+    → ((given : Value) (row : Option Cells) → effect_of e ≡ Gives t named given row
+    → (same_name named table && same_key given key) ≡ false → AreGenerations o (e ∷ h) table key gs)
+    × ((row : Cells) → effect_of e ≡ Makes t named row
+    → (same_name named table && same_key (key_in (catalog_of (told o h) t) named row) key) ≡ false
+    → AreGenerations o (e ∷ h) table key gs)
 
 -- a transaction that comes to be dead takes its version along
 abbrev pub DeadLeaves : Type 0

@@ -3,7 +3,8 @@
 
 ghost use Rattle.mg_generations.specs.Laws.{VersionsBegin, RowBegins};
 ghost use Rattle.mg_generations.specs.Laws.{VersionsGoOn, VersionsCome, OthersLeaveVersions};
-ghost use Rattle.mg_generations.specs.Laws.{GivenIsInFront, MadeIsInFront, DeadLeaves, TakenBackLeaves};
+ghost use Rattle.mg_generations.specs.Laws.{GivenIsInFront, MadeIsInFront, OtherKeysAreLeft};
+ghost use Rattle.mg_generations.specs.Laws.{DeadLeaves, TakenBackLeaves};
 ghost use Rattle.mg_generations.specs.Laws.{UndoneLeavesVersions, UndoneLeavesAll};
 ghost use Rattle.mg_generations.specs.Laws.{VersionsShowViews, VersionsShowDatabase};
 ghost use Rattle.mg_generations.specs.Laws.{VersionsShowDurables, CommitShowsNewest};
@@ -12,22 +13,27 @@ ghost use Rattle.mg_generations.specs.Laws.{OthersLeaveTable, LeftTableStands};
 ghost use Rattle.mg_generations.specs.Laws.{LeftTableHindersNot, LeftCatalogStands};
 ghost use Rattle.mg_generations.specs.Laws.{LeftCatalogHindersNot};
 
-/// How versions come about, and what each entry makes of them.
-pub fn versions_go_on()
+/// How versions come about.
+pub fn versions_begin()
     ensures begin { VersionsBegin }
     ensures row { RowBegins }
-    ensures onward { VersionsGoOn }
     ensures come { VersionsCome }
+{}
+
+/// What each entry of a legal history makes of them.
+pub fn versions_go_on()
+    ensures onward { VersionsGoOn }
     ensures others { OthersLeaveVersions }
     ensures given { GivenIsInFront }
     ensures made { MadeIsInFront }
+    ensures elsewhere { OtherKeysAreLeft }
     ensures dead { DeadLeaves }
-    ensures taken_back { TakenBackLeaves }
 {}
 
-/// A mark that is taken back with nothing done since leaves all as it was.
-pub fn marks_are_undone()
-    ensures versions { UndoneLeavesVersions }
+/// What is left of them once a transaction takes back.
+pub fn versions_taken_back()
+    ensures left { TakenBackLeaves }
+    ensures undone { UndoneLeavesVersions }
     ensures all { UndoneLeavesAll }
 {}
 

@@ -4,8 +4,8 @@
 //!
 //! Owns: the definitions of these lists, what each entry of a history makes of them, and the laws
 //! that they tell what a transaction sees of the key, who is its obstacle, what the database has
-//! and what outlasts a crash. There is no program here: each function does nothing, and its contract
-//! is a law.
+//! and what outlasts a crash. There is no program here: each function does nothing, and its
+//! contract is a law.
 //!
 //! The definitions stand in `specs/`: `Generations` (lists of versions, and which are those of a
 //! history), `After` (what each entry makes of them), `Tables` (tables that a history leaves).
@@ -22,6 +22,7 @@ mod laws;
 mod scenarios;
 
 pub use laws::{
-    marks_are_undone, obstacles_are_writers, tables_are_left, versions_go_on, versions_show,
+    obstacles_are_writers, tables_are_left, versions_begin, versions_go_on, versions_show,
+    versions_taken_back,
 };
 pub use scenarios::{a_transaction_takes_back, two_transactions_write};
