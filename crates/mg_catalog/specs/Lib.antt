@@ -9,3 +9,4 @@ pub mod IndexLaws
 pub mod LawfulLaws
 pub mod TableLaws
 pub mod RowsSaid
+pub mod RowsSaidLaws

@@ -36,6 +36,6 @@ names_from letter [] names = names
 names_from letter (row ∷ rows) names =
     names_from letter rows (with_name letter (row_key row) names)
 
--- the names of all indexes that have a row
+-- the names of all indexes that have a row: 73 is the letter I
 abbrev pub all_indexes : List Cells → List (List ℕ)
 all_indexes rows = names_from 73 rows []

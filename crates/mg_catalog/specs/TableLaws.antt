@@ -41,10 +41,10 @@ table_equal s t names shapes pointers indexes k = record {
   indexes = indexes k;
 }
 
-some_shape : (a b : Shape) → Some a ≡ Some b → a ≡ b
+pub some_shape : (a b : Shape) → Some a ≡ Some b → a ≡ b
 some_shape a b e = cc
 
-some_row : (a b : Cells) → Some a ≡ Some b → a ≡ b
+pub some_row : (a b : Cells) → Some a ≡ Some b → a ≡ b
 some_row a b e = cc
 
 -- two tables of one name that the rows say are one
@@ -141,7 +141,7 @@ columns_all rows name place (suc count) each =
     here (column, there) later = rw there (ap (λ (n : ℕ). suc n) later)
 
 -- a table has as many columns as its row says
-columns_count : (rows : CatalogRows) (t : Table) → IsCatalog rows → (is : IsTable rows t)
+pub columns_count : (rows : CatalogRows) (t : Table) → IsCatalog rows → (is : IsTable rows t)
     → length t.shape.columns ≡ said_b is.row
 columns_count rows t catalog is = at (table_lawful rows catalog t.name is.row is.there)
   where

@@ -31,6 +31,7 @@ fn text_of(alloc: Global, bytes: &[u8]) -> Result<Value, Memory>
 {
     match Txt::new(alloc, bytes, MOST_TEXT) {
         Ok(text) => Ok(Value::Text(text)),
+        // The text is not too long, so memory is what was wanting.
         Err(_) => Err(Memory),
     }
 }
