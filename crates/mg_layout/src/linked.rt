@@ -29,7 +29,7 @@ pub(crate) fn has_page(pages: &[u32], n: u32) -> bool
 }
 
 /// Whether no page stands twice among these.
-pub fn are_once(pages: &[u32]) -> bool
+pub(crate) fn are_once(pages: &[u32]) -> bool
     ensures { IsTrue result ↔ IsOnce pages.now }
 {
     let mut rest = pages;

@@ -52,6 +52,7 @@ impl Levels {
 
 ghost use Rattle.std.specs.Prelude.{ℕ, List, IfOk, IfErr};
 ghost use Rattle.mg_image.specs.Indexes.{IsTree};
+ghost use Rattle.mg_image.specs.Sound.{HasHeader};
 ghost use Rattle.mg_reading.specs.ImageView.{pages_in};
 ghost use Rattle.mg_reading.specs.Readable.{Refutes};
 
@@ -60,6 +61,7 @@ use std::alloc::Global;
 
 /// Stub.
 pub fn read_tree(alloc: Global, image: &Image, owner: u32, root: u32) -> Result<Levels, ReadFault>
+    requires { HasHeader image.now.size (pages_in image.now) }
     ensures tree { IfOk result (λ tree. IsTree image.now.size (pages_in image.now) owner root tree) }
     ensures broken { IfErr result (Refutes ((levels : List (List ℕ)) × IsTree image.now.size (pages_in image.now) owner root levels)) }
 {
