@@ -22,7 +22,6 @@ mod layout;
 mod linked;
 mod place;
 mod standing;
-mod stub;
 
 pub use laws::one_layout;
 pub use layout::layout_of;

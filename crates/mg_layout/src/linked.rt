@@ -8,9 +8,9 @@ ghost use Rattle.mg_image.specs.Tables.{Has, IsOnce, has, pages_of, tree_pages};
 ghost use Rattle.mg_layout.specs.Standing.{layout_in, stand_in, stands_in};
 
 use crate::standing::{Standing, TableStand};
-use crate::stub::{Level, Levels};
 use mg_base::Memory;
 use mg_reading::Image;
+use mg_trees::{Level, Levels};
 use std::alloc::Global;
 
 /// Whether a page is one of these.

@@ -11,9 +11,9 @@ ghost use Rattle.mg_layout.specs.Refusals.{CanAllStand, CanStand, HasTrees};
 ghost use Rattle.mg_layout.specs.Standing.{stand_in, stands_in};
 
 use crate::standing::TableStand;
-use crate::stub::{Levels, read_tree};
 use mg_model::{Index, Table};
 use mg_reading::{Image, ReadFault, Rule, check_data_pages, table_pages};
+use mg_trees::{Levels, read_tree};
 use std::alloc::Global;
 
 /// The levels of each of these indexes of the table of an owner.
