@@ -38,7 +38,7 @@ pub use point::{ReadFault, Rule};
 pub use reading::{read_records, shown};
 pub use record::read_record;
 pub use rows::{RowCoding, row_of};
-pub use table_reading::{TableReading, read_table};
+pub use table_reading::{TableReading, read_table, table_records};
 
 #[cfg(test)]
 mod tests;
