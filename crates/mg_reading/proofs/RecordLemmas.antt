@@ -5,11 +5,9 @@ use Rattle.std.proofs.lemmas.Bool.{cases_eq, eq-eqb, ne_eqb}
 use Rattle.std.proofs.Common.{◌+◌, ◌<◌, ◌++◌, length, take, get_or}
 use Rattle.std.proofs.lemmas.List.{take_more}
 use Rattle.mg_base.specs.declared.numbers.RecId.{RecId}
-use Rattle.mg_value.specs.declared.value.Value.{Value}
 use Rattle.mg_image.specs.declared.entry.Entry.{Entry}
-use Rattle.mg_image.specs.Form.{Coding}
-use Rattle.mg_image.specs.RecordRules.{Each, Facts, IsVersion}
-use Rattle.mg_image.specs.Records.{Stands, key_of}
+use Rattle.mg_image.specs.RecordRules.{Each}
+use Rattle.mg_image.specs.Records.{Stands}
 use Rattle.mg_reading.specs.RunLaws.{each_version_push}
 use Rattle.mg_image.specs.StepLaws.{cases_place, same_place}
 use Rattle.mg_model.specs.declared.table.Table.{Table}
@@ -82,16 +80,6 @@ pub each_version_take : (P : Entry → Type 0) (es : List Entry) (i : ℕ) (e : 
     → e ≡ get_or es i e → Each P (take i es) → P e → Each P (take (i + 1) es)
 each_version_take P es i e below is each here =
     rw (take_more es i e below) (each_version_push P (take i es) (get_or es i e) each (rw (sym is) here))
-
--- lawful versions with one key are those of a record
-pub each_with_key : (coding : Coding) (f : Facts) (table : Table) (key : Value) (es : List Entry)
-    → Each (λ e. IsVersion coding f table (key_of table e.row) e) es
-    → Each (λ e. key_of table e.row ≡ key) es → Each (IsVersion coding f table key) es
-each_with_key coding f table key [] lawful same = tt
-each_with_key coding f table key (e ∷ es) lawful same = (
-  rw (same.0) at (lawful.0),
-  each_with_key coding f table key es lawful.1 same.1,
-)
 
 -- two places that differ in a test
 pub places_differ : (a b : RecId) → false ≡ same_place a b → a ≡ b → ⊥

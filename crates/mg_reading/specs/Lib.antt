@@ -2,6 +2,8 @@ pub mod Kept
 pub mod ImageView
 pub mod ChainLaws
 pub mod Codings
+pub mod RecordParts
+pub mod PartLaws
 pub mod OneTable
 pub mod RunLaws
 pub mod Found
