@@ -38,7 +38,7 @@ pub use parts::{are_backs_committed, are_drawn, have_own_keys, read_versions};
 pub use point::{ReadFault, Rule};
 pub use reading::shown;
 pub use rows::{RowCoding, row_of};
-pub use table_reading::{TableReading, read_table};
+pub use table_reading::{TableReading, read_table, table_records};
 
 #[cfg(test)]
 mod tests;

@@ -2,7 +2,7 @@
 
 ghost use Rattle.std.specs.Prelude.{◌≡◌, ◌≤◌, false, IfErr, IfOk, length};
 ghost use Rattle.mg_reading.specs.Codings.{coding_of};
-ghost use Rattle.mg_reading.specs.Found.{reading_of};
+ghost use Rattle.mg_reading.specs.Found.{AreFound, reading_of};
 ghost use Rattle.mg_reading.specs.ImageView.{pages_in};
 ghost use Rattle.mg_reading.specs.OneTable.{table_facts};
 ghost use Rattle.mg_reading.specs.Readable.{HasReading, IsReadable, Refutes};
@@ -29,8 +29,12 @@ pub struct TableReading {
     pub found: Vec<Found>,
 }
 
-/// The records of a table, by its tested data pages.
-fn table_records(
+/// The records of a table, by its tested data pages: what was read of each of their slots.
+///
+/// # Errors
+///
+/// `Broken` only where the records are not lawful; `Memory`.
+pub fn table_records(
     alloc: Global,
     image: &Image,
     table: &Table,
@@ -40,6 +44,8 @@ fn table_records(
     requires columns { length table.now.shape.columns ≤ MOST_COLUMNS }
     requires tested { EachFrom (IsTableData false image.now.size (pages_in image.now)
         table.now.pointer.0) 0 data_pages.now }
+    ensures found { IfOk result (λ found.
+        AreFound coding image.now table.now data_pages.now found.items) }
     ensures records { IfOk result (λ found. AreRecords (coding_of coding)
         (table_facts image.now table.now data_pages.now) (cells_of (pages_in image.now))
         (reading_of found.items)) }

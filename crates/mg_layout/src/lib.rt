@@ -1,0 +1,10 @@
+//! Where the tables of an image stand: a slow program that follows the catalog to each table's
+//! pages, and tests whether a page is reached twice.
+#![tactic(auto)]
+
+mod linked;
+mod standing;
+mod stub;
+
+pub use linked::{are_once, are_pages_once};
+pub use standing::{Standing, TableStand};

@@ -1,0 +1,50 @@
+//! Stub.
+
+ghost use Rattle.std.specs.Prelude.{◌≡◌};
+use std::marker::Model;
+
+/// A level.
+#[derive(Debug, Drop)]
+pub struct Level {
+    pages: Vec<u32>,
+}
+
+impl Model for Level {
+    ghost use Rattle.std.specs.Prelude.{ℕ, List};
+
+    ghost Value = { List ℕ };
+
+    ghost view = { λ level. level.pages.items };
+}
+
+impl Level {
+    /// Its pages.
+    pub fn as_slice(&self) -> &[u32]
+        ensures { result.now ≡ self.now }
+    {
+        &self.pages
+    }
+}
+
+/// Levels.
+#[derive(Debug, Drop)]
+pub struct Levels {
+    levels: Vec<Level>,
+}
+
+impl Model for Levels {
+    ghost use Rattle.std.specs.Prelude.{ℕ, List};
+
+    ghost Value = { List (List ℕ) };
+
+    ghost view = { λ levels. levels.levels.items };
+}
+
+impl Levels {
+    /// Its levels.
+    pub fn as_slice(&self) -> &[Level]
+        ensures { result.now ≡ self.now }
+    {
+        &self.levels
+    }
+}
