@@ -18,7 +18,7 @@ use Rattle.mg_reading.specs.declared.image.Image.{Image}
 use Rattle.mg_reading.specs.ImageView.{pages_in}
 use Rattle.mg_reading.specs.OneTable.{IsLinked, IsStoredIn}
 use Rattle.mg_reading.specs.Readable.{HasEntry, HasVersion, HasVersionRow, IsVersionAt}
-use Rattle.mg_reading.proofs.RecordLemmas.{has_back, page_of_table}
+use Rattle.mg_reading.specs.StandLaws.{has_back, page_of_table}
 
 -- a body codes one row in either coding
 pub one_row_of : (coding : RowCoding) → RowsAreOne plain_coding → RowsAreOne packed_coding

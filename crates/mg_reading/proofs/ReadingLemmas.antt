@@ -21,7 +21,7 @@ use Rattle.mg_reading.specs.RecordParts.{AreVersions}
 use Rattle.mg_version.specs.declared.cell.Link.{Link}
 use Rattle.mg_image.specs.StepLaws.{cases_place, same_place}
 use Rattle.mg_image.specs.Tables.{Has}
-use Rattle.mg_reading.proofs.RecordLemmas.{has_back, page_of_table, table_at_one}
+use Rattle.mg_reading.specs.StandLaws.{has_back, page_of_table, table_at_one}
 
 -- a slot was read, and this is what was read of it
 pub record IsReadAt (coding : RowCoding) (image : Image) (table : Table) (ns : List ℕ) (p : RecId)

@@ -1,10 +1,10 @@
 -- The records of one table, from the parts of the rules and back.
-use Rattle.std.proofs.Common.{◌≡◌, inl, inr, refl, subst, ℕ, List, [], Option, None, Some}
+use Rattle.std.proofs.Common.{◌≡◌, refl, subst, ℕ, List, [], Option, None, Some}
 use Rattle.std.proofs.Math.Path.{fun_ext}
 use Rattle.mg_base.specs.declared.numbers.RecId.{RecId}
 use Rattle.mg_image.specs.declared.entry.Entry.{Entry}
 use Rattle.mg_model.specs.declared.table.Table.{Table}
-use Rattle.mg_image.specs.RecordRules.{AreRecords, TakesKey, table_in}
+use Rattle.mg_image.specs.RecordRules.{AreRecords, table_in}
 use Rattle.mg_image.specs.Records.{Reading, cells_of}
 use Rattle.mg_reading.specs.declared.found.Found.{Found}
 use Rattle.mg_reading.specs.declared.image.Image.{Image}
@@ -13,11 +13,11 @@ use Rattle.mg_reading.specs.Codings.{coding_of}
 use Rattle.mg_reading.specs.Found.{image_facts, reading_of}
 use Rattle.mg_reading.specs.ImageView.{pages_in}
 use Rattle.mg_reading.specs.OneTable.{table_facts}
-use Rattle.mg_reading.specs.PartLaws.{backs_of, drawn_of, keys_of, records_of, versions_of}
+use Rattle.mg_reading.specs.PartLaws.{backs_of, drawn_of, keys_of, records_of, takes_none, versions_of}
 use Rattle.mg_reading.specs.Readable.{HasReading, HasTableVersions, HasVersionReading, IsOnlyReading}
 use Rattle.mg_reading.specs.RecordParts.{AreBacks, AreBacksCommitted, AreDrawn, AreKeyed, HaveOneKey, HaveOwnKeys, IsDrawn, TakeOneKey}
 use Rattle.mg_image.specs.RecordRules.{Each}
-use Rattle.mg_reading.proofs.RecordLemmas.{page_of_table}
+use Rattle.mg_reading.specs.StandLaws.{page_of_table}
 
 -- the keys of one table are all keys there are
 own_keys : (image : Image) (table : Table) (ns : List ℕ) (r : Reading)
@@ -71,11 +71,6 @@ backs_must coding image table ns found only (r, are) p =
     (same_read coding image table ns found only (r, are) p)
     (backs_of (coding_of coding) (table_facts image table ns) (cells_of (pages_in image)) r are p)
 
--- nothing takes no key
-takes_none : (image : Image) → TakesKey (image_facts image) [] → ⊥
-takes_none image (inl (row, is)) = let no_ : None ≡ Some row = is in absurd cc
-takes_none image (inr limbo) = limbo
-
 -- where nothing else is read, all keys are those of the table
 keyed_of : (image : Image) (table : Table) (ns : List ℕ) (r : Reading)
     → ((p : RecId) → table_in (table_facts image table ns) p ≡ None → r p ≡ [])
@@ -95,9 +90,9 @@ keyed_of image table ns r outside keys = record {
     own : (p q : RecId) → TakeOneKey (image_facts image) table (r p) (r q)
         → (t u : Option Table) → table_in (table_facts image table ns) p ≡ t
         → table_in (table_facts image table ns) q ≡ u → p ≡ q
-    own p q both None u at_p at_q = absurd (takes_none image (rw (outside p at_p) at both.0))
+    own p q both None u at_p at_q = absurd (takes_none (image_facts image) (rw (outside p at_p) at both.0))
     own p q both (Some t) None at_p at_q =
-        absurd (takes_none image (rw (outside q at_q) at both.1))
+        absurd (takes_none (image_facts image) (rw (outside q at_q) at both.1))
     own p q both (Some t) (Some u) at_p at_q = keys.own p q table
         (rw (page_of_table table t ns p.page.0 at_p).0 at at_p)
         (rw (page_of_table table u ns q.page.0 at_q).0 at at_q) both

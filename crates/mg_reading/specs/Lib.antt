@@ -12,3 +12,5 @@ pub mod HeldTable
 pub mod LongTexts
 pub mod Readable
 pub mod SoundTables
+pub mod StandLaws
+pub mod AloneLaws

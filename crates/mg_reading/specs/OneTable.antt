@@ -29,6 +29,15 @@ table_facts image table ns = record {
   table_of = table_at (stand_with table ns ∷ []);
 }
 
+-- what the records of an image need to know of its other pages, where its tables stand so
+abbrev pub stands_facts : Image → List Stand → Facts
+stands_facts image ss = record {
+  state = state_at image.size (pages_in image);
+  next = next_of (pages_in image);
+  oldest = oldest_of (pages_in image);
+  table_of = table_at ss;
+}
+
 -- A link leads to a version of an image, and this is it.
 pub record IsLinked (image : Image) (link : Link) (e : Entry) : Type 0 where
   pub at : e.at ≡ link.rec

@@ -1,10 +1,10 @@
 -- The parts of the rules of records are the rules of records.
-use Rattle.std.proofs.Common.{◌≡◌, refl, List, [], ◌∷◌, Option, None, Some}
+use Rattle.std.proofs.Common.{◌≡◌, inl, inr, refl, List, [], ◌∷◌, Option, None, Some}
 use Rattle.mg_value.specs.declared.value.Value.{Value}
 use Rattle.mg_model.specs.declared.table.Table.{Table}
 use Rattle.mg_image.specs.declared.entry.Entry.{Entry}
 use Rattle.mg_image.specs.Form.{Coding}
-use Rattle.mg_image.specs.RecordRules.{AreRecords, Each, Facts, IsVersion, table_in}
+use Rattle.mg_image.specs.RecordRules.{AreRecords, Each, Facts, IsVersion, TakesKey, table_in}
 use Rattle.mg_image.specs.Records.{Cells, Reading, key_of, record_key}
 use Rattle.mg_reading.specs.RecordParts.{AreBacks, AreBacksCommitted, AreDrawn, HasVersions, HaveOwnKeys, IsDrawn, IsStored}
 
@@ -110,3 +110,8 @@ keys_of coding f h r are = record {
       ((are.each p table is).each);
   own = λ p q table at_p at_q both. are.keys p q table at_p at_q both.0 both.1 both.2;
 }
+
+-- nothing takes no key
+pub takes_none : (f : Facts) → TakesKey f [] → ⊥
+takes_none f (inl (row, is)) = let no_ : None ≡ Some row = is in absurd cc
+takes_none f (inr limbo) = limbo

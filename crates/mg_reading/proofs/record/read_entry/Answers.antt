@@ -2,7 +2,7 @@ use Rattle.mg_reading.specs.ImageView.{pages_in}
 use Rattle.mg_reading.specs.Readable.{HasEntry, HasVersion, HasVersionRow}
 use Rattle.mg_reading.proofs.CellLemmas.{placed_at}
 use Rattle.mg_reading.proofs.OneVersionLemmas.{entry_format, entry_row, entry_version}
-use Rattle.mg_reading.proofs.RecordLemmas.{table_at_one}
+use Rattle.mg_reading.specs.StandLaws.{table_at_one}
 use Rattle.mg_reading.proofs.RefusalLemmas.{passed_on}
 use Rattle.mg_reading.proofs.record.read_entry.Goals as goal
 
