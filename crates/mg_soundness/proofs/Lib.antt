@@ -1,0 +1,4 @@
+pub mod JoinLemmas
+pub mod RuleLemmas
+pub mod FaultLemmas
+pub mod ReadLemmas
