@@ -203,6 +203,8 @@ kv_row_lawful = record {
   most = lit≤ tt;
   columns = column;
   key = (0, lit< tt, (key_row, refl, refl), alone);
+  pointer = lit< tt;
+  root = lit< tt;
   indexes = ([], no_indexes, refl);
 }
   where
@@ -228,6 +230,7 @@ key_row_lawful = record {
   short = lit≤ tt;
   flags = inr (inr refl);
   since = lit≤ tt;
+  format = lit< tt;
   apart = λ other column is same. apart other column same (column_cases other column is);
   later = λ other column before is. later column (column_cases other column is);
 }
@@ -253,6 +256,7 @@ value_row_lawful = record {
   short = lit≤ tt;
   flags = inl refl;
   since = lit≤ tt;
+  format = lit< tt;
   apart = λ other column is same. apart other column same (column_cases other column is);
   later = λ other column before is. later column (column_cases other column is);
 }

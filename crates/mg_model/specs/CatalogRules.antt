@@ -1,5 +1,5 @@
 -- Which rows of a catalog are lawful, and which tables they name.
-use Rattle.std.specs.Prelude.{◌≡◌, ◌≢◌, ◌⊎◌, ◌<◌, ◌≤◌, ℕ, ◌==◌, pos, List, [], ◌∷◌, ◌++◌, length, Some, if◌then◌else◌}
+use Rattle.std.specs.Prelude.{◌≡◌, ◌≢◌, ◌⊎◌, ◌<◌, ◌≤◌, ◌^◌, ℕ, ◌==◌, pos, List, [], ◌∷◌, ◌++◌, length, Some, if◌then◌else◌}
 use Rattle.std.specs.Cmp.Lexicographic.{slice_cmp}
 use Rattle.std.specs.Ordering.{nat_cmp}
 use Rattle.std.specs.declared.cmp.Ordering.TheVariants.{Less}
@@ -81,6 +81,9 @@ pub record IsTableRow (rows : CatalogRows) (name : List ℕ) (row : Cells) : Typ
   -- exactly one is the primary key's
   pub key : (place : ℕ) × (place < said_b row) × IsKeyColumn rows name place
       × ((other : ℕ) → IsKeyColumn rows name other → other ≡ place)
+  -- its first pointer page and its root are page numbers
+  pub pointer : said_a row < 2 ^ 32
+  pub root : said_c row < 2 ^ 32
   -- it counts the other indexes
   pub indexes : (others : List Index) × AreIndexes rows name others × (length others ≡ said_d row)
 
@@ -94,7 +97,9 @@ pub record IsColumnRow (rows : CatalogRows) (table : List ℕ) (place : ℕ) (ro
   pub short : said_a row ≤ 1000
   -- it may be NULL, or not, or is the primary key's
   pub flags : (said_b row ≡ 0) ⊎ (said_b row ≡ 1) ⊎ (said_b row ≡ 3)
+  -- the record format from which on it is there, a number of two bytes
   pub since : 1 ≤ said_c row
+  pub format : said_c row < 2 ^ 16
   -- no other column of the table has the name, and none before it came later
   pub apart : (other : ℕ) (column : Cells) → rows (column_key table other) ≡ Some column
       → said_name column ≡ said_name row → other ≡ place
@@ -106,6 +111,8 @@ pub record IsIndexRow (rows : CatalogRows) (name : List ℕ) (row : Cells) : Typ
   pub named : IsName name
   pub spelled : row
       ≡ catalog_row (index_key name) (Text (said_name row)) (said_a row) (said_b row) 0 0
+  -- its root is a page number
+  pub root : said_a row < 2 ^ 32
   pub of_table : (t : Cells) × (rows (table_key (said_name row)) ≡ Some t) × (said_b row < said_b t)
 
 -- a row is lawful under its key: that of a table, of a column or of an index

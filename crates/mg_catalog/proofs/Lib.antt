@@ -1,0 +1,3 @@
+pub mod AllowLemmas
+pub mod RowLemmas
+pub mod CatalogLemmas

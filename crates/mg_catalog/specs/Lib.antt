@@ -1,0 +1,10 @@
+pub mod ByKey
+pub mod FirstBad
+pub mod Names
+pub mod RowRules
+pub mod TableIndexes
+pub mod KeyLaws
+pub mod NameLaws
+pub mod IndexLaws
+pub mod LawfulLaws
+pub mod TableLaws
