@@ -1,1 +1,4 @@
+pub mod RefusalLemmas
 pub mod TipLemmas
+pub mod HasLemmas
+pub mod ChoiceLemmas

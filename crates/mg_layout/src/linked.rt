@@ -4,7 +4,7 @@ ghost use Rattle.std.specs.Prelude.{◌≡◌, ◌↔◌, ◌++◌, ℕ, List, I
 ghost use Rattle.std.specs.List.{flat_map};
 ghost use Rattle.mg_reading.specs.ImageView.{pages_in};
 ghost use Rattle.mg_image.specs.Reached.{linked_pages, tips_of};
-ghost use Rattle.mg_image.specs.Tables.{Has, IsOnce, pages_of, tree_pages};
+ghost use Rattle.mg_image.specs.Tables.{Has, IsOnce, has, pages_of, tree_pages};
 ghost use Rattle.mg_layout.specs.Standing.{layout_in, stand_in, stands_in};
 
 use crate::standing::{Standing, TableStand};
@@ -14,8 +14,9 @@ use mg_reading::Image;
 use std::alloc::Global;
 
 /// Whether a page is one of these.
-fn has_page(pages: &[u32], n: u32) -> bool
-    ensures { IsTrue result ↔ Has pages.now n }
+pub(crate) fn has_page(pages: &[u32], n: u32) -> bool
+    ensures has { IsTrue result ↔ Has pages.now n }
+    ensures test { result ≡ has pages.now n }
 {
     let mut rest = pages;
     while let Some((page, later)) = rest.split_first() {

@@ -48,3 +48,29 @@ impl Levels {
         &self.levels
     }
 }
+
+ghost use Rattle.std.specs.Prelude.{◌<◌, ◌≤◌, ◌^◌, length, IfOk, IfErr};
+ghost use Rattle.mg_model.specs.CatalogRules.{AreTables};
+ghost use Rattle.mg_layout.specs.ByKeyStub.{by_key};
+ghost use Rattle.mg_layout.specs.FirstBadStub.{IsFirstBad};
+use mg_base::Memory;
+use mg_model::Table;
+use mg_value::Row;
+use std::alloc::Global;
+
+/// Why the rows of a catalog name no tables.
+#[derive(Clone, Copy, Debug, PartialEq, Eq)]
+pub enum CatFault {
+    /// The row at this place of the list is not lawful among the others.
+    BadTable { at: u32 },
+    Memory,
+}
+
+/// Stub.
+pub fn tables_of(alloc: Global, rows: &[Row]) -> Result<Vec<Table>, CatFault>
+    requires { length rows.now < 2 ^ 31 }
+    ensures tables { IfOk result (λ tables. AreTables (by_key rows.now) tables.items) }
+    ensures bad { IfErr result (λ fault. IsFirstBad rows.now fault) }
+{
+    Err(CatFault::Memory)
+}
