@@ -1,1 +1,2 @@
 pub mod NodePage
+pub mod NodeReading

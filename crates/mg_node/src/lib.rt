@@ -22,13 +22,21 @@
 //! and record 0, 0.
 //! Below: `mg_base`, for fields, and the tests of a page. Above: the index trees, and the plain
 //! reading of an image.
-//! Not here: whether a child or a neighbour leads to a page of the index. The calls are not written
-//! yet.
+//! Not here: whether a child or a neighbour leads to a page of the index. A page that is not lawful
+//! is refused as a whole: which field is damaged is not said yet.
 #![tactic(auto)]
 
 mod entry;
+mod lawful;
+mod node;
+mod placed;
 
 pub use entry::{
     CHILD_LEN, CONTENT_AT, COUNT_AT, END_AT, Entry, FENCES_AT, KEY_AT, LEVEL_AT, NODE_KIND,
     RECORD_LEN, RIGHT_AT,
 };
+pub use lawful::{have_same_place, is_below, is_up_to, order};
+pub use node::{Node, check_node_common, read_node};
+
+#[cfg(test)]
+mod tests;

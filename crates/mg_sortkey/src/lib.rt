@@ -12,9 +12,14 @@
 //! The longest key has 9 bytes for a BIGINT, and 2 * m + 3 for VARCHAR(m).
 //!
 //! Below: `mg_value`. Above: the indexes, and the plain reading of an image.
-//! Not here: where a key stands on a page. The calls that make key bytes are not written yet.
+//! Not here: where a key stands on a page.
 #![tactic(auto)]
 
+mod key;
 mod tags;
 
+pub use key::{key_bytes, key_most};
 pub use tags::{ESCAPE, INT_TAG, NULL_TAG, TEXT_TAG};
+
+#[cfg(test)]
+mod tests;
