@@ -1,6 +1,7 @@
 -- Which rule of all is the first that is broken, from the rules of the records of a layout.
 use Rattle.std.proofs.Common.{◌≡◌, subst}
 use Rattle.mg_image.specs.Records.{Reading}
+use Rattle.mg_image.specs.Sound.{HasHeader, HasTransactions}
 use Rattle.mg_image.specs.Tables.{Layout}
 use Rattle.mg_layout.specs.HasPages.{HasPages}
 use Rattle.mg_reading.specs.declared.image.Image.{Image}
@@ -8,7 +9,8 @@ use Rattle.mg_reading.specs.declared.point.ReadFault.{ReadFault}
 use Rattle.mg_reading.specs.declared.point.ReadFault.TheVariants.{Broken, Memory}
 use Rattle.mg_reading.specs.declared.point.Rule.TheVariants.{Header, Transactions, Pages as RulePages, Once, Links, Drawn, Backs, Keys, Indexed}
 use Rattle.mg_reading.specs.declared.rows.RowCoding.{RowCoding}
-use Rattle.mg_soundness.specs.Ladder.{IsFirstBroken, IsOnceLinked, IsStanding, MeetsRecords}
+use Rattle.mg_reading.specs.ImageView.{pages_in}
+use Rattle.mg_soundness.specs.Ladder.{IsFirstBroken, IsOnceLinked, IsStanding, MeetsPages, MeetsRecords}
 use Rattle.mg_soundness.specs.Rungs.{HasReadingOf, IsFirstBrokenOf, MeetsBacks, MeetsDrawn, MeetsIndexed, MeetsKeys, MeetsLinks}
 
 -- what the records of the layout meet, the image meets
@@ -54,10 +56,17 @@ first_of_records coding image layout is (Broken Indexed) first = (
 )
 first_of_records coding image layout is Memory first = tt
 
--- where the pages do not stand once, the rule of that is the first broken
-pub once_broken : (coding : RowCoding) (image : Image) (layout : Layout)
+-- where a page is reached twice, that rule is the first broken
+pub once_first : (coding : RowCoding) (image : Image) (layout : Layout)
+    → HasHeader image.size (pages_in image) → HasTransactions image.size (pages_in image)
+    → HasPages coding image layout
     → ((other : Layout) → HasPages coding image other → other ≡ layout)
-    → (IsOnceLinked image layout → ⊥) → (other : Layout) → HasPages coding image other
-    → IsOnceLinked image other → ⊥
-once_broken coding image layout only none other pages once =
-    none (subst (λ (l : Layout). IsOnceLinked image l) (only other pages) once)
+    → (IsOnceLinked image layout → ⊥) → IsFirstBroken coding image (Broken Once)
+once_first coding image layout header transactions pages only none = (
+  ((header, transactions), (layout, pages, tt)),
+  λ met. twice met,
+)
+  where
+    twice : MeetsPages coding image (IsOnceLinked image) → ⊥
+    twice (rules, (other, also, once)) =
+        none (subst (λ (l : Layout). IsOnceLinked image l) (only other also) once)

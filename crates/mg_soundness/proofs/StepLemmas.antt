@@ -16,6 +16,7 @@ use Rattle.mg_reading.specs.RecordParts.{AreBacks, AreBacksCommitted, AreDrawn, 
 use Rattle.mg_soundness.specs.IndexRule.{IsRecordIndexed, IsTableIndexed}
 use Rattle.mg_soundness.specs.Joined.{AreSettled, AreTested, EachRead, EachTable, IsKeyed, IsTableRead, joined}
 use Rattle.mg_soundness.specs.Rungs.{HasReadingOf, MeetsBacks, MeetsDrawn, MeetsIndexed, MeetsKeys, MeetsLinks, layout_facts}
+use Rattle.mg_soundness.proofs.IndexLemmas.{none_indexed}
 use Rattle.mg_soundness.proofs.JoinLemmas.{join_versions, joined_only}
 use Rattle.mg_soundness.proofs.RuleLemmas.{every_place, have_tables, join_keys, keys_alone, read_tables, tables_have, tables_read}
 
@@ -99,6 +100,7 @@ keys_all coding image layout fs read keyed =
 pub indexed_all : (coding : RowCoding) (image : Image) (layout : Layout) (fs : List (List Found))
     → AreRead coding image layout fs → EachTable (IsTableIndexed image) (stands_of layout) fs
     → IsIndexed (layout_facts image layout) (pages_in image) (reading_in layout fs)
+unfolding IsTableIndexed
 indexed_all coding image layout fs read indexed = record {
   committed = λ p table row shows. (here p table shows.of_table).committed row shows.row_shown;
   limbo = λ p table e newest live. (here p table newest.of_table).limbo e newest.older
@@ -110,16 +112,11 @@ indexed_all coding image layout fs read indexed = record {
     here = tables_have (λ t p es. IsRecordIndexed image t p es) image (stands_of layout) fs
         read.tested indexed
 
-none_indexed : (image : Image) (t : Table) (p : RecId) → IsRecordIndexed image t p []
-none_indexed image t p = record {
-  committed = λ row shows. let no_ : None ≡ Some row = shows in absurd cc;
-  limbo = λ e older newest limbo live. absurd cc;
-}
-
 indexed_each : (coding : RowCoding) (image : Image) (layout : Layout) (fs : List (List Found))
     → AreRead coding image layout fs
     → IsIndexed (layout_facts image layout) (pages_in image) (reading_in layout fs)
     → EachTable (IsTableIndexed image) (stands_of layout) fs
+unfolding IsTableIndexed
 indexed_each coding image layout fs read indexed = have_tables
     (λ t p es. IsRecordIndexed image t p es) (none_indexed image) coding image (stands_of layout) fs
     read.tested read.each (λ p t is. record {

@@ -2,3 +2,4 @@ pub mod Joined
 pub mod IndexRule
 pub mod Rungs
 pub mod Ladder
+pub mod Stub

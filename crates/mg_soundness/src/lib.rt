@@ -2,8 +2,10 @@
 //! is not, which rule is the first that it breaks.
 #![tactic(auto)]
 
+mod check;
+mod indexed;
 mod records;
+mod stub;
 
-pub use records::{
-    TableRecords, are_all_backs_committed, are_all_drawn, have_all_own_keys, read_tables,
-};
+pub use check::check_soundness;
+pub use records::TableRecords;
