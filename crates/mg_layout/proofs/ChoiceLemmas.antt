@@ -1,9 +1,8 @@
 -- Lemmas on choices of limbo transactions.
-use Rattle.std.proofs.Common.{◌≡◌, ◌≢◌, ◌⊎◌, ◌&&◌, ◌||◌, inl, inr, refl, sym, ap, ◌∙◌, subst, ℕ, ◌<◌, Bool, true, false, List, [], ◌∷◌, ◌++◌, length, Option, None, Some, arith, if◌then◌else◌}
+use Rattle.std.proofs.Common.{◌≡◌, ◌⊎◌, ◌&&◌, ◌||◌, inl, inr, refl, sym, ap, ◌∙◌, subst, ℕ, Bool, true, false, List, [], ◌∷◌, ◌++◌, length, Option, None, Some, arith, if◌then◌else◌}
 use Rattle.std.specs.Prelude.{slice_index_or}
 use Rattle.mg_base.specs.declared.transaction.TxState.{TxState}
 use Rattle.mg_base.specs.declared.transaction.TxState.TheVariants.{Active, Limbo, Dead, Committed}
-use Rattle.mg_model.specs.declared.table.Table.{Table}
 use Rattle.mg_model.specs.Answers.{is_committed}
 use Rattle.mg_model.specs.CatalogRules.{AreTables}
 use Rattle.mg_model.specs.Legal.{is_limbo}
@@ -14,11 +13,11 @@ use Rattle.mg_image.specs.RecordRules.{Each, EachBack, Facts}
 use Rattle.mg_image.specs.Records.{shown, writer}
 use Rattle.mg_image.specs.Tables.{Has, has}
 use Rattle.mg_reading.specs.declared.found.Found.{Found}
-use Rattle.mg_reading.specs.HeldTable.{rows_shown, with_row}
-use Rattle.mg_layout.specs.ByKeyStub.{by_key}
-use Rattle.mg_layout.specs.Choices.{AreAlwaysLawful, AreDecided, AreLawful, AreLawfulFrom, HasWriter, HasWriters, HaveCommittedBacks, IsCatalogFound, IsChoice, IsDecided, Names, rows_with}
-use Rattle.mg_layout.specs.FirstBadStub.{IsFirstBad}
-use Rattle.mg_layout.specs.declared.stub.CatFault.TheVariants.{BadTable}
+use Rattle.mg_reading.specs.HeldTable.{with_row}
+use Rattle.mg_catalog.specs.ByKey.{by_key}
+use Rattle.mg_layout.specs.Choices.{AreAlwaysLawful, AreDecided, AreLawful, AreLawfulFrom, HasWriter, HasWriters, HaveCommittedBacks, IsCatalogFound, IsChoice, IsDecided, rows_with}
+use Rattle.mg_catalog.specs.FirstBad.{IsFirstBad}
+use Rattle.mg_catalog.specs.declared.fault.CatFault.TheVariants.{BadTable}
 use Rattle.mg_layout.proofs.HasLemmas.{has_false, has_last, has_more, has_pushed, has_true}
 
 -- ---- the limbo transactions that wrote newest versions

@@ -2,3 +2,8 @@ pub mod RefusalLemmas
 pub mod TipLemmas
 pub mod HasLemmas
 pub mod ChoiceLemmas
+pub mod CatalogLemmas
+pub mod NameLemmas
+pub mod NamesLemmas
+pub mod PlaceLemmas
+pub mod LayoutLemmas

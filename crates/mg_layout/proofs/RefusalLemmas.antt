@@ -1,6 +1,6 @@
 -- What a refusal rules out, carried from one call to the next.
 use Rattle.std.proofs.Common.{◌≡◌, Result, Ok, Err}
-use Rattle.std.specs.Prelude.{IfErr, OnOk}
+use Rattle.std.specs.Prelude.{IfErr, IfOk, OnOk}
 use Rattle.std.specs.Result.{IsErrAnd}
 use Rattle.mg_reading.specs.declared.point.ReadFault.{ReadFault}
 use Rattle.mg_reading.specs.declared.point.ReadFault.TheVariants.{Broken, Memory}
@@ -28,3 +28,9 @@ passed_on P Q gives (Err x) fault is none = rw is (refutes_more P Q gives fault 
 pub on_success : {A E : Type 0} (P Q : Type 0) → (P → Q) → (r : Result A E) → OnOk r P → OnOk r Q
 on_success P Q gives (Ok x) p = gives p
 on_success P Q gives (Err e) p = tt
+
+-- what follows from what a call gives
+pub on_given : {A E : Type 0} (P Q : A → Type 0) → ((x : A) → P x → Q x) → (r : Result A E)
+    → IfOk r P → IfOk r Q
+on_given P Q gives (Ok x) p = gives x p
+on_given P Q gives (Err e) p = tt

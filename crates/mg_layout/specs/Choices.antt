@@ -1,18 +1,17 @@
 -- The catalog's rows under a choice of the limbo transactions that are committed.
-use Rattle.std.specs.Prelude.{◌≡◌, ◌⊎◌, ◌<◌, ◌≤◌, ℕ, Bool, true, false, List, [], ◌∷◌, length, Some, slice_index_or}
+use Rattle.std.specs.Prelude.{◌≡◌, ◌⊎◌, ◌<◌, ℕ, Bool, true, false, List, [], ◌∷◌, length, Some, slice_index_or}
 use Rattle.mg_base.specs.declared.transaction.TxState.TheVariants.{Limbo, Committed}
 use Rattle.mg_model.specs.declared.table.Table.{Table}
-use Rattle.mg_model.specs.Catalog.{CatalogRows}
 use Rattle.mg_model.specs.CatalogRules.{AreTables}
 use Rattle.mg_image.specs.declared.entry.Entry.{Entry}
 use Rattle.mg_image.specs.Catalog.{committed_with}
 use Rattle.mg_image.specs.Form.{Row}
-use Rattle.mg_image.specs.RecordRules.{EachBack, Facts, IsInLimbo}
+use Rattle.mg_image.specs.RecordRules.{EachBack, Facts}
 use Rattle.mg_image.specs.Records.{writer}
 use Rattle.mg_image.specs.Tables.{Has}
 use Rattle.mg_reading.specs.declared.found.Found.{Found}
 use Rattle.mg_reading.specs.HeldTable.{rows_shown}
-use Rattle.mg_layout.specs.ByKeyStub.{by_key, row_key}
+use Rattle.mg_catalog.specs.ByKey.{by_key, row_key}
 
 -- the rows that these records show, where the chosen limbo transactions are committed
 abbrev pub rows_with : Facts → List Found → (ℕ → Bool) → List Row

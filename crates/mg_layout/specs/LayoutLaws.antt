@@ -1,29 +1,26 @@
 -- An image has one layout at most.
-use Rattle.std.proofs.Common.{◌≡◌, ◌≢◌, ◌⊎◌, ◌+◌, ◌*◌, ◌<◌, inl, inr, refl, sym, ap, ◌∙◌, subst, ℕ, Bool, true, false, List, [], ◌∷◌, Option, None, Some, arith}
-use Rattle.std.specs.Prelude.{map}
+use Rattle.std.proofs.Common.{◌≡◌, ◌≢◌, refl, sym, ap, ◌∙◌, subst, ℕ, Bool, true, false, List, [], ◌∷◌, Option, None, Some, arith}
 use Rattle.std.proofs.Math.Path.{fun_ext}
-use Rattle.mg_base.specs.declared.numbers.RecId.{RecId}
-use Rattle.mg_base.specs.Checks.{PassesAll}
-use Rattle.mg_base.specs.Fields.{byte, u16_at, u32_at}
+use Rattle.mg_base.specs.Fields.{u16_at, u32_at}
 use Rattle.mg_header.specs.HeaderPage.{database_checks}
 use Rattle.mg_value.specs.declared.value.Value.{Value}
 use Rattle.mg_model.specs.declared.table.Table.{Table}
-use Rattle.mg_model.specs.CatalogRules.{AreTables}
 use Rattle.mg_node.specs.NodePage.{right_in}
 use Rattle.mg_pointer.specs.PointerPage.{next_in}
-use Rattle.mg_image.specs.Catalog.{HasNames, committed_with}
+use Rattle.mg_image.specs.Catalog.{committed_with}
 use Rattle.mg_image.specs.Form.{Pages, Row, Rows}
-use Rattle.mg_image.specs.Held.{AreRows, Shows}
+use Rattle.mg_image.specs.Held.{AreRows}
 use Rattle.mg_image.specs.ReadingLaws.{HasOneReading}
 use Rattle.mg_image.specs.RecordRules.{Facts}
-use Rattle.mg_image.specs.Records.{Reading, cells_of, key_of}
+use Rattle.mg_image.specs.Records.{Reading, cells_of}
 use Rattle.mg_image.specs.Sound.{HasHeader, HasTablePages}
-use Rattle.mg_image.specs.Tables.{EachStand, Layout, PointerChain, Stand, entries_in, stands_of}
+use Rattle.mg_image.specs.Tables.{EachStand, Layout, PointerChain, Stand, entries_in}
 use Rattle.mg_reading.specs.declared.image.Image.{Image}
 use Rattle.mg_reading.specs.declared.rows.RowCoding.{RowCoding}
 use Rattle.mg_reading.specs.ChainLaws.{link_once}
 use Rattle.mg_reading.specs.Codings.{coding_of}
 use Rattle.mg_reading.specs.ImageView.{pages_in}
+use Rattle.mg_catalog.specs.TableLaws.{tables_once}
 use Rattle.mg_layout.specs.HasPages.{HasPages, IsStand, NamesTables, stand_facts, tables_in}
 use Rattle.mg_layout.specs.TreeLaws.{trees_once}
 
@@ -32,15 +29,11 @@ abbrev pub HasOneLayout : RowCoding → Type 0
 HasOneLayout coding = (image : Image) (a b : Layout) → HasHeader image.size (pages_in image)
     → HasPages coding image a → HasPages coding image b → a ≡ b
 
--- rows name one list of tables at most
-abbrev pub TablesAreOne : Type 0
-TablesAreOne = (rows : Rows) (a b : List Table) → AreTables rows a → AreTables rows b → a ≡ b
-
 low_bytes : (page : List ℕ) → u32_at page 20 ≡ 0 → u16_at page 20 ≡ 0
 low_bytes page none = omega arith
 
 -- a header page is no page of a tree
-header_right : (size : ℕ) (pages : Pages) → HasHeader size pages → right_in (pages 0) ≢ 0
+pub header_right : (size : ℕ) (pages : Pages) → HasHeader size pages → right_in (pages 0) ≢ 0
 unfolding database_checks
 header_right size pages has none =
     let major = has.database.1.0 in omega (arith, major, low_bytes (pages 0) none)
@@ -102,10 +95,10 @@ rows_once f committed r table rows other are also =
     at key None (Some row) is as_ =
         has_row f committed r table other rows also are key row as_ ∙ sym as_
 
-pub names_once : (coding : RowCoding) → HasOneReading (coding_of coding) → TablesAreOne
+pub names_once : (coding : RowCoding) → HasOneReading (coding_of coding)
     → (image : Image) (stand : Stand) (ts us : List Table) → NamesTables coding image stand ts
     → NamesTables coding image stand us → ts ≡ us
-names_once coding one tables image stand ts us first second =
+names_once coding one image stand ts us first second =
     let same : first.reading ≡ second.reading = fun_ext (one (stand_facts image stand)
     (cells_of (pages_in image)) first.reading second.reading first.records second.records) in
     let (rows, are, named) = first.names.named in
@@ -113,11 +106,11 @@ names_once coding one tables image stand ts us first second =
     let one_rows : rows ≡ others = rows_once (stand_facts image stand)
     (committed_with (stand_facts image stand) (λ t. true)) second.reading stand.table rows others
     (rw (sym same) are) also in
-    tables others ts us (rw (sym one_rows) named) named_also
+    tables_once others ts us (rw (sym one_rows) named) named_also
 
-pub layout_once : (coding : RowCoding) → HasOneReading (coding_of coding) → TablesAreOne
+pub layout_once : (coding : RowCoding) → HasOneReading (coding_of coding)
     → HasOneLayout coding
-layout_once coding one tables image a b header first second = λ i. record {
+layout_once coding one image a b header first second = λ i. record {
   catalog = catalog i;
   tables = others i;
   sequences = sequences i;
@@ -131,7 +124,7 @@ layout_once coding one tables image a b header first second = λ i. record {
         second.tables.0 (first.catalog ∙ sym second.catalog)
 
     named : tables_in a.tables ≡ tables_in b.tables
-    named = names_once coding one tables image b.catalog (tables_in a.tables) (tables_in b.tables)
+    named = names_once coding one image b.catalog (tables_in a.tables) (tables_in b.tables)
         (subst (λ (s : Stand). NamesTables coding image s (tables_in a.tables)) catalog first.names)
         second.names
 

@@ -1,7 +1,6 @@
-pub mod ByKeyStub
 pub mod Choices
-pub mod FirstBadStub
 pub mod HasPages
 pub mod LayoutLaws
+pub mod Refusals
 pub mod Standing
 pub mod TreeLaws

@@ -10,8 +10,8 @@ ghost use Rattle.mg_image.specs.Tables.{Has, has};
 ghost use Rattle.mg_layout.specs.Choices.{AreAlwaysLawful, AreLawful, AreLawfulFrom, HasWriter, HasWriters, IsCatalogFound, Names, rows_with};
 
 use crate::linked::has_page;
-use crate::stub::{CatFault, tables_of};
 use mg_base::{Memory, TxState};
+use mg_catalog::{CatFault, tables_of};
 use mg_image::Entry;
 use mg_model::Table;
 use mg_reading::{Found, Image, ReadFault, Rule};

@@ -2,19 +2,18 @@
 //! pages, and tests whether a page is reached twice.
 #![tactic(auto)]
 
+mod catalog;
 mod choices;
+mod laws;
+mod layout;
 mod linked;
+mod place;
 mod standing;
 mod stub;
 
+pub use catalog::{catalog_at, catalog_table, named_tables};
+pub use laws::one_layout;
+pub use layout::layout_of;
 pub use linked::{are_once, are_pages_once};
+pub use place::{stand_of, stands_of};
 pub use standing::{Standing, TableStand};
-
-ghost use Rattle.mg_layout.specs.LayoutLaws.{HasOneLayout};
-ghost use Rattle.std.specs.Prelude.{◌≡◌};
-use mg_reading::RowCoding;
-/// scratch
-pub fn scratch(coding: RowCoding, a: u32)
-    ensures { HasOneLayout coding → a ≡ a }
-{
-}

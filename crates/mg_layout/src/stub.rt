@@ -1,6 +1,7 @@
 //! Stub.
 
 ghost use Rattle.std.specs.Prelude.{◌≡◌};
+
 use std::marker::Model;
 
 /// A level.
@@ -49,28 +50,18 @@ impl Levels {
     }
 }
 
-ghost use Rattle.std.specs.Prelude.{◌<◌, ◌≤◌, ◌^◌, length, IfOk, IfErr};
-ghost use Rattle.mg_model.specs.CatalogRules.{AreTables};
-ghost use Rattle.mg_layout.specs.ByKeyStub.{by_key};
-ghost use Rattle.mg_layout.specs.FirstBadStub.{IsFirstBad};
-use mg_base::Memory;
-use mg_model::Table;
-use mg_value::Row;
+ghost use Rattle.std.specs.Prelude.{ℕ, List, IfOk, IfErr};
+ghost use Rattle.mg_image.specs.Indexes.{IsTree};
+ghost use Rattle.mg_reading.specs.ImageView.{pages_in};
+ghost use Rattle.mg_reading.specs.Readable.{Refutes};
+
+use mg_reading::{Image, ReadFault};
 use std::alloc::Global;
 
-/// Why the rows of a catalog name no tables.
-#[derive(Clone, Copy, Debug, PartialEq, Eq)]
-pub enum CatFault {
-    /// The row at this place of the list is not lawful among the others.
-    BadTable { at: u32 },
-    Memory,
-}
-
 /// Stub.
-pub fn tables_of(alloc: Global, rows: &[Row]) -> Result<Vec<Table>, CatFault>
-    requires { length rows.now < 2 ^ 31 }
-    ensures tables { IfOk result (λ tables. AreTables (by_key rows.now) tables.items) }
-    ensures bad { IfErr result (λ fault. IsFirstBad rows.now fault) }
+pub fn read_tree(alloc: Global, image: &Image, owner: u32, root: u32) -> Result<Levels, ReadFault>
+    ensures tree { IfOk result (λ tree. IsTree image.now.size (pages_in image.now) owner root tree) }
+    ensures broken { IfErr result (Refutes ((levels : List (List ℕ)) × IsTree image.now.size (pages_in image.now) owner root levels)) }
 {
-    Err(CatFault::Memory)
+    Err(ReadFault::Memory)
 }

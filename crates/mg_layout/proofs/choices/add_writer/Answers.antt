@@ -1,4 +1,3 @@
-use Rattle.std.proofs.Common.{refl}
 use Rattle.mg_reading.specs.Found.{image_facts}
 use Rattle.mg_layout.proofs.ChoiceLemmas.{writer_added}
 use Rattle.mg_layout.proofs.HasLemmas.{has_more}
