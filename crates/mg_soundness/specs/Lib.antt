@@ -2,4 +2,3 @@ pub mod Joined
 pub mod IndexRule
 pub mod Rungs
 pub mod Ladder
-pub mod Stub

@@ -11,9 +11,8 @@ ghost use Rattle.mg_soundness.specs.Rungs.{HasReadingOf, IsFirstBrokenOf, MeetsI
 
 use crate::indexed::are_all_indexed;
 use crate::records::{are_all_backs_committed, are_all_drawn, have_all_own_keys, read_tables};
-use crate::stub::layout_of;
 use mg_image::one_reading;
-use mg_layout::{Standing, are_pages_once};
+use mg_layout::{Standing, are_pages_once, layout_of};
 use mg_reading::{Image, ReadFault, RowCoding, Rule};
 use std::alloc::Global;
 

@@ -5,7 +5,6 @@
 mod check;
 mod indexed;
 mod records;
-mod stub;
 
 pub use check::check_soundness;
 pub use records::TableRecords;
