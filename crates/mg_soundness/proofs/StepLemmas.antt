@@ -1,5 +1,5 @@
 -- What was read of the tables of a layout, against the rules of records.
-use Rattle.std.proofs.Common.{◌≡◌, subst, List, [], None, Some}
+use Rattle.std.proofs.Common.{◌≡◌, subst, List, Some}
 use Rattle.std.proofs.Math.Path.{fun_ext}
 use Rattle.mg_base.specs.declared.numbers.RecId.{RecId}
 use Rattle.mg_model.specs.declared.table.Table.{Table}

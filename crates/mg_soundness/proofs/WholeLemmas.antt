@@ -1,8 +1,7 @@
 -- The test of soundness as a whole, from the rules of the records of a layout.
-use Rattle.std.proofs.Common.{◌≡◌, ◌≤◌, lit≤, List, [], ◌∷◌, length, Result, Ok, Err}
-use Rattle.std.specs.Prelude.{IfErr, OnOk, map}
+use Rattle.std.proofs.Common.{◌≤◌, lit≤, List, [], ◌∷◌, length, Result, Ok, Err}
+use Rattle.std.specs.Prelude.{IfErr, OnOk}
 use Rattle.mg_value.specs.declared.shape.TheConstants.{MOST_COLUMNS}
-use Rattle.mg_model.specs.declared.table.Table.{Table}
 use Rattle.mg_model.specs.CatalogRules.{EachTable}
 use Rattle.mg_catalog.specs.TableLaws.{tables_are_small}
 use Rattle.mg_image.specs.Form.{packed_coding, plain_coding}

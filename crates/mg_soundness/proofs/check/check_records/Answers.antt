@@ -2,7 +2,6 @@ use Rattle.std.proofs.Common.{refl}
 use Rattle.mg_image.specs.Tables.{stands_of}
 use Rattle.mg_layout.specs.Standing.{layout_in}
 use Rattle.mg_soundness.specs.Joined.{founds_in}
-use Rattle.mg_soundness.specs.Rungs.{HasReadingOf, MeetsLinks}
 use Rattle.mg_soundness.proofs.StepLemmas.{are_settled, backs_all, backs_must, drawn_all, drawn_must, indexed_all, indexed_must, keys_all, keys_must, meets_links, reading_in}
 use Rattle.mg_soundness.proofs.check.check_records.Goals as goal
 

@@ -1,4 +1,3 @@
-use Rattle.std.proofs.Common.{◌↔◌, IsTrue}
 use Rattle.mg_layout.specs.Standing.{stand_in}
 use Rattle.mg_soundness.proofs.IndexLemmas.{table_indexed}
 use Rattle.mg_soundness.proofs.indexed.is_table_indexed.Goals as goal
