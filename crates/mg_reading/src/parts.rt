@@ -51,7 +51,7 @@ pub fn read_versions(
 {
     let found = read_slots(alloc, image, table, coding, data_pages)?;
     if !are_apart(&found) {
-        return Err(ReadFault::Broken(Rule::Once));
+        return Err(ReadFault::Broken(Rule::Links));
     }
     Ok(found)
 }

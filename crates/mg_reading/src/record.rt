@@ -51,7 +51,7 @@ fn read_entry(
 {
     let version = version_at(alloc, image, table.pointer.0, data_pages, link)?;
     if version.format != 1 {
-        return Err(ReadFault::Broken(Rule::Pages));
+        return Err(ReadFault::Broken(Rule::Links));
     }
     let row = version_row(alloc, table, coding, &version)?;
     Ok(Entry {
@@ -89,7 +89,7 @@ pub(crate) fn read_record(
     let mut next = newest;
     while let Some(link) = next {
         if stands(&entries, link.rec) {
-            return Err(ReadFault::Broken(Rule::Once));
+            return Err(ReadFault::Broken(Rule::Links));
         }
         let entry = read_entry(alloc, image, table, coding, data_pages, link)?;
         next = entry.version.back;
