@@ -109,20 +109,24 @@ no_sequences image (n ∷ ns) each = absurd each.0
 -- an image that meets all rules is sound
 pub meets_sound : (coding : RowCoding) → HasOneReading (coding_of coding) → (image : Image)
     → Meets coding image Indexed → IsSoundImage coding image
-meets_sound coding one image (rules, (layout, pages, (once, (r, met)))) = (layout, r, record {
-  header = rules.0;
-  transactions = rules.1;
-  inventory = pages.inventory;
-  catalog = pages.catalog;
-  tables = pages.tables;
-  sequences = rw pages.sequences tt;
-  names = names_among image (stands_of layout) layout.catalog r pages.names.reading is same
-      (tables_in layout.tables) pages.names.names;
-  once = once;
-  records = records;
-  limbo = met.0.0.0.2;
-  indexed = met.1;
-})
+meets_sound coding one image (rules, (layout, pages, (once, (r, met)))) = (
+  layout,
+  r,
+  record {
+    header = rules.0;
+    transactions = rules.1;
+    inventory = pages.inventory;
+    catalog = pages.catalog;
+    tables = pages.tables;
+    sequences = rw pages.sequences tt;
+    names = names_among image (stands_of layout) layout.catalog r pages.names.reading is same
+        (tables_in layout.tables) pages.names.names;
+    once = once;
+    records = records;
+    limbo = met.0.0.0.2;
+    indexed = met.1;
+  },
+)
   where
     records : AreRecords (coding_of coding) (layout_facts image layout)
         (cells_of (pages_in image)) r

@@ -1,7 +1,7 @@
 -- The rules of a sound image in the order in which they are tested, and which is the first that an
 -- image breaks. A rule holds where there are a layout and a reading for which it does, with all
 -- rules before it.
-use Rattle.std.specs.Prelude.{◌≡◌}
+use Rattle.std.specs.Prelude.{◌≡◌, ◌↔◌}
 use Rattle.mg_image.specs.Reached.{linked_pages}
 use Rattle.mg_image.specs.Records.{Reading}
 use Rattle.mg_image.specs.Sound.{HasHeader, HasTransactions, IsSound}
@@ -83,3 +83,7 @@ pub record IsStanding (coding : RowCoding) (image : Image) (layout : Layout) : T
 abbrev pub IsSoundImage : RowCoding → Image → Type 0
 IsSoundImage coding image = (layout : Layout) × (r : Reading)
     × IsSound (form_of coding) image.size (pages_in image) layout r
+
+-- an image meets the last rule exactly where it is sound
+abbrev pub LastIsSound : RowCoding → Type 0
+LastIsSound coding = (image : Image) → Meets coding image Indexed ↔ IsSoundImage coding image
