@@ -16,6 +16,7 @@ use Rattle.mg_image.specs.RecordRules.{AreRecords, Each, Facts, IsRecord, IsVers
 use Rattle.mg_image.specs.Records.{cells_of, key_of, record_key, shown, writer}
 use Rattle.mg_image.specs.StepLaws.{cases_place, same_place}
 use Rattle.mg_image.specs.Tables.{Has, table_at}
+use Rattle.mg_reading.specs.PartLaws.{versions_of}
 use Rattle.mg_reading.specs.declared.found.Found.{Found}
 use Rattle.mg_reading.specs.declared.image.Image.{Image}
 use Rattle.mg_reading.specs.declared.rows.RowCoding.{RowCoding}
@@ -184,8 +185,19 @@ reading_at coding image table ns found g are there =
     let placed = table_at_one table ns g.at.page.0 is.placed in
     is.only (reading_of found g.at) (record {
       chain = are.records.reads g.at table placed;
-      lawful = are.records.each g.at table placed;
+      versions = (versions_of (coding_of coding) (table_facts image table ns)
+          (cells_of (pages_in image)) (reading_of found) are.records).each g.at table placed;
     })
+
+-- the versions of a slot that was read are those of a lawful record
+lawful_at : (coding : RowCoding) (image : Image) (table : Table) (ns : List ℕ)
+    (found : List Found) (g : Found) → IsTableFound coding image table ns found
+    → HasFound found g
+    → IsRecord (coding_of coding) (table_facts image table ns) table g.entries.items
+lawful_at coding image table ns found g are there =
+    let is = is_found coding image table ns found g are.each there in
+    rw (reading_at coding image table ns found g are there) at
+    (are.records.each g.at table (table_at_one table ns g.at.page.0 is.placed))
 
 -- of each slot something was read, or nothing
 was_found : (found : List Found) (p : RecId)
@@ -214,14 +226,14 @@ one_of_key coding image table ns found chosen g h row other are there also shows
     are.records.keys g.at h.at table (table_at_one table ns g.at.page.0 is.placed)
     (table_at_one table ns h.at.page.0 is_also.placed)
     (rw reads (shown_takes (coding_of coding) (table_facts image table ns) table chosen
-    g.entries.items row is.lawful shows))
+    g.entries.items row lawful shows))
     (rw reads_also (shown_takes (coding_of coding) (table_facts image table ns) table chosen
-    h.entries.items other is_also.lawful shows_also))
+    h.entries.items other lawful_also shows_also))
     (rw (reads, reads_also) (sym (shown_key (coding_of coding) (table_facts image table ns) table
     (committed_with (table_facts image table ns) chosen) (record_key table g.entries.items)
-    g.entries.items row is.lawful.each shows) ∙ (same ∙ shown_key (coding_of coding)
+    g.entries.items row lawful.each shows) ∙ (same ∙ shown_key (coding_of coding)
     (table_facts image table ns) table (committed_with (table_facts image table ns) chosen)
-    (record_key table h.entries.items) h.entries.items other is_also.lawful.each shows_also)))
+    (record_key table h.entries.items) h.entries.items other lawful_also.each shows_also)))
   where
     is : IsFound coding image table ns g
     is = is_found coding image table ns found g are.each there
@@ -234,6 +246,12 @@ one_of_key coding image table ns found chosen g h row other are there also shows
 
     reads_also : reading_of found h.at ≡ h.entries.items
     reads_also = reading_at coding image table ns found h are also
+
+    lawful : IsRecord (coding_of coding) (table_facts image table ns) table g.entries.items
+    lawful = lawful_at coding image table ns found g are there
+
+    lawful_also : IsRecord (coding_of coding) (table_facts image table ns) table h.entries.items
+    lawful_also = lawful_at coding image table ns found h are also
 
 -- the key of a row is its first value
 first_key : (table : Table) (row : Row) → table.shape.key ≡ 0 → key_of table row ≡ row_key row
@@ -271,18 +289,21 @@ rows_own coding image table ns found chosen first are = λ at below.
     (row_at (rows_with (image_facts image) found chosen) at below)
 
 -- back versions are committed
-backs_of : (coding : RowCoding) (image : Image) (table : Table) (ns : List ℕ) (found : List Found)
-    → AreFound coding image table ns found
+backs_of : (coding : RowCoding) (image : Image) (table : Table) (ns : List ℕ)
+    (all found : List Found) → IsTableFound coding image table ns all
+    → ((g : Found) → HasFound found g → HasFound all g)
     → HaveCommittedBacks (image_facts image) found
-backs_of coding image table ns [] are = tt
-backs_of coding image table ns (f ∷ fs) are =
-    (are.0.lawful.backs, backs_of coding image table ns fs are.1)
+backs_of coding image table ns all [] are within = tt
+backs_of coding image table ns all (f ∷ fs) are within = (
+  (lawful_at coding image table ns all f are (within f (inl refl))).backs,
+  backs_of coding image table ns all fs are (λ g there. within g (inr there)),
+)
 
 pub catalog_found : (coding : RowCoding) (image : Image) (table : Table) (ns : List ℕ)
     (found : List Found) → table.shape.key ≡ 0 → IsTableFound coding image table ns found
     → IsCatalogFound (image_facts image) found
 catalog_found coding image table ns found first are = record {
-  backs = backs_of coding image table ns found are.each;
+  backs = backs_of coding image table ns found found are (λ g there. there);
   own = λ chosen. rows_own coding image table ns found chosen first are;
 }
 

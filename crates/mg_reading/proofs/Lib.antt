@@ -5,6 +5,8 @@ pub mod CellLemmas
 pub mod RecordLemmas
 pub mod FoundLemmas
 pub mod ReadingLemmas
+pub mod PartLemmas
+pub mod WholeLemmas
 pub mod UndrawnLemmas
 pub mod HeldLemmas
 pub mod RefusalLemmas

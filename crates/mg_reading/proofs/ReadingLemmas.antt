@@ -1,5 +1,5 @@
--- What was read of the slots of a table is a lawful reading.
-use Rattle.std.proofs.Common.{◌≡◌, ◌≢◌, ◌⊎◌, ◌<◌, ◌≤◌, inl, inr, refl, sym, ◌∙◌, ℕ, true, false, List, [], ◌∷◌, None, Some}
+-- What was read of the slots of a table is a reading of it.
+use Rattle.std.proofs.Common.{◌≡◌, ◌≢◌, ◌⊎◌, ◌<◌, ◌≤◌, inl, inr, refl, sym, ap, ◌∙◌, ℕ, true, false, List, [], ◌∷◌, Option, None, Some}
 use Rattle.std.proofs.lemmas.Bool.{cases_lt}
 use Rattle.mg_base.specs.declared.numbers.RecId.{RecId}
 use Rattle.mg_slots.specs.DataPage.{slot_count}
@@ -10,29 +10,32 @@ use Rattle.mg_reading.specs.declared.found.Found.{Found}
 use Rattle.mg_reading.specs.declared.image.Image.{Image}
 use Rattle.mg_reading.specs.declared.rows.RowCoding.{RowCoding}
 use Rattle.mg_model.specs.declared.table.Table.{Table}
-use Rattle.mg_reading.specs.Found.{AreApart, AreFound, HasNoCellOf, HasNoKeyOf, HasOwnKey, HaveKeys, IsApart, IsFound, PagesRead, TakeOneKey, WasRead, image_facts, reading_of}
+use Rattle.mg_reading.specs.Found.{AreApart, AreFound, AreOf, HasNoCellOf, IsApart, IsFound, PagesRead, WasRead, reading_of}
 use Rattle.mg_reading.specs.ImageView.{pages_in}
 use Rattle.mg_reading.specs.OneTable.{table_facts}
-use Rattle.mg_image.specs.RecordRules.{AreRecords, IsRecord, table_in}
-use Rattle.mg_image.specs.Records.{Chain, Stands, cells_of, ended, newest_of, record_key}
-use Rattle.mg_reading.specs.Readable.{HasReading, HasRecord}
+use Rattle.mg_image.specs.RecordRules.{table_in}
+use Rattle.mg_image.specs.Records.{Cells, Chain, Reading, Stands, cells_of, ended, newest_of}
+use Rattle.mg_image.specs.ReadingLaws.{Opens, chain_opens}
+use Rattle.mg_reading.specs.Readable.{HasRecord, HasTableVersions, HasVersionReading, IsOnlyReading}
+use Rattle.mg_reading.specs.RecordParts.{AreVersions}
+use Rattle.mg_version.specs.declared.cell.Link.{Link}
 use Rattle.mg_image.specs.StepLaws.{cases_place, same_place}
 use Rattle.mg_image.specs.Tables.{Has}
-use Rattle.mg_reading.proofs.RecordLemmas.{has_back, page_of_table, table_at_one}
+use Rattle.mg_reading.specs.StandLaws.{has_back, page_of_table, table_at_one}
 
 -- a slot was read, and this is what was read of it
 pub record IsReadAt (coding : RowCoding) (image : Image) (table : Table) (ns : List ℕ) (p : RecId)
     (es : List Entry) : Type 0 where
   pub placed : Has ns p.page.0
   pub chain : Chain (cells_of (pages_in image)) (newest_of p (cells_of (pages_in image) p)) es
-  pub lawful : IsRecord (coding_of coding) (table_facts image table ns) table es
+  pub versions : AreVersions (coding_of coding) (table_facts image table ns) table es
 
 read_at : (coding : RowCoding) (image : Image) (table : Table) (ns : List ℕ) (f : Found) (p : RecId)
     → f.at ≡ p → IsFound coding image table ns f → IsReadAt coding image table ns p f.entries.items
 read_at coding image table ns f p same is = rw (sym same) (record {
   placed = is.placed;
   chain = is.chain;
-  lawful = is.lawful;
+  versions = is.versions;
 })
 
 -- of each slot something was read, or nothing
@@ -84,64 +87,17 @@ apart_of (f ∷ fs) apart p q x i j = at (cases_place f.at p) (cases_place f.at 
         sym (sym one ∙ no_cell f fs apart.0 p x (rw is at j) (rw is_other at i))
     at (inr (other, is)) (inr (also, is_also)) later = later (rw is at i) (rw is_also at j)
 
--- the same of keys
-no_key : (image : Image) (table : Table) (f : Found) (fs : List Found)
-    → HasNoKeyOf (image_facts image) table f fs → (q : RecId)
-    → TakeOneKey (image_facts image) table f.entries.items (reading_of fs q) → f.at ≡ q
-no_key image table f [] none q (i, inl (row, is), same) =
-    let no_ : None ≡ Some row = is in absurd cc
-no_key image table f [] none q (i, inr limbo, same) = absurd limbo
-no_key image table f (g ∷ gs) none q keys =
-    at (cases_place g.at q) (λ k. no_key image table f gs none.1 q k)
-  where
-    at : ((g.at ≡ q) × (same_place g.at q ≡ true)) ⊎ ((g.at ≢ q) × (same_place g.at q ≡ false))
-        → (TakeOneKey (image_facts image) table f.entries.items (reading_of gs q) → f.at ≡ q)
-        → f.at ≡ q
-    at (inl (same, is)) later = none.0 (rw is at keys) ∙ same
-    at (inr (other, is)) later = later (rw is at keys)
-
-keys_of : (image : Image) (table : Table) (found : List Found)
-    → HaveKeys (image_facts image) table found → (p q : RecId)
-    → TakeOneKey (image_facts image) table (reading_of found p) (reading_of found q) → p ≡ q
-keys_of image table [] have p q (inl (row, is), j, same) =
-    let no_ : None ≡ Some row = is in absurd cc
-keys_of image table [] have p q (inr limbo, j, same) = absurd limbo
-keys_of image table (f ∷ fs) have p q keys = at (cases_place f.at p) (cases_place f.at q)
-    (λ k. keys_of image table fs have.1 p q k)
-  where
-    swapped : (a b : List Entry) → TakeOneKey (image_facts image) table a b → TakeOneKey (image_facts image) table b a
-    swapped a b (i, j, same) = (j, i, sym same)
-
-    at : ((f.at ≡ p) × (same_place f.at p ≡ true)) ⊎ ((f.at ≢ p) × (same_place f.at p ≡ false))
-        → ((f.at ≡ q) × (same_place f.at q ≡ true)) ⊎ ((f.at ≢ q) × (same_place f.at q ≡ false))
-        → (TakeOneKey (image_facts image) table (reading_of fs p) (reading_of fs q) → p ≡ q) → p ≡ q
-    at (inl (one, is)) (inl (also, is_also)) later = sym one ∙ also
-    at (inl (one, is)) (inr (other, is_other)) later =
-        sym one ∙ no_key image table f fs have.0 q (rw (is, is_other) at keys)
-    at (inr (other, is_other)) (inl (one, is)) later = sym (sym one ∙ no_key image table f fs have.0
-        p (swapped (reading_of fs p) f.entries.items (rw (is_other, is) at keys)))
-    at (inr (other, is)) (inr (also, is_also)) later = later (rw (is, is_also) at keys)
-
--- all slots were read, no cell and no key is taken twice: the records are lawful
-pub records_read : (coding : RowCoding) (image : Image) (table : Table) (ns : List ℕ)
+-- all slots were read, and no cell is one of two records: the records have their versions
+pub versions_read : (coding : RowCoding) (image : Image) (table : Table) (ns : List ℕ)
     (found : List Found) → AreFound coding image table ns found → PagesRead image found ns
-    → AreApart found → HaveKeys (image_facts image) table found
-    → AreRecords (coding_of coding) (table_facts image table ns) (cells_of (pages_in image))
-    (reading_of found)
-records_read coding image table ns found are all apart have = record {
+    → AreApart found → HasTableVersions coding image table ns (reading_of found)
+versions_read coding image table ns found are all apart = record {
   reads = λ p t is. reads p t is (was_read coding image table ns found are p);
   outside = λ p is. outside p is (was_read coding image table ns found are p);
   each = λ p t is. each p t is (was_read coding image table ns found are p);
   apart = apart_of found apart;
-  keys = λ p q t at_p at_q i j same. keys_of image table found have p q
-      (i, j, keyed p q t at_p same);
 }
   where
-    keyed : (p q : RecId) (t : Table) → table_in (table_facts image table ns) p ≡ Some t
-        → record_key t (reading_of found p) ≡ record_key t (reading_of found q)
-        → record_key table (reading_of found p) ≡ record_key table (reading_of found q)
-    keyed p q t at_p same = rw ((page_of_table table t ns p.page.0 at_p).0) at same
-
     past : (p : RecId) → Has ns p.page.0 → (WasRead found p → ⊥)
         → newest_of p (cells_of (pages_in image) p) ≡ None
     past p placed none = at (cases_lt p.slot (slot_count (pages_in image p.page.0)))
@@ -174,75 +130,109 @@ records_read coding image table ns found are all apart have = record {
     each : (p : RecId) (t : Table) → table_in (table_facts image table ns) p ≡ Some t
         → IsReadAt coding image table ns p (reading_of found p)
         ⊎ ((WasRead found p → ⊥) × (reading_of found p ≡ []))
-        → IsRecord (coding_of coding) (table_facts image table ns) t (reading_of found p)
-    each p t is (inl read) = rw ((page_of_table table t ns p.page.0 is).0) (read.lawful)
-    each p t is (inr (none, empty)) = rw empty (record { once = tt; each = tt; backs = tt })
+        → AreVersions (coding_of coding) (table_facts image table ns) t (reading_of found p)
+    each p t is (inl read) = rw ((page_of_table table t ns p.page.0 is).0) (read.versions)
+    each p t is (inr (none, empty)) = rw empty (record { once = tt; each = tt })
 
 -- the place of a slot of a page
 abbrev pub place_at : ℕ → ℕ → RecId
 place_at n slot = record { page = record { 0 = n }; slot = slot }
 
--- what lawful records have at a slot
+-- what a reading has at a slot of the table
 pub reading_record : (coding : RowCoding) (image : Image) (table : Table) (ns : List ℕ) (p : RecId)
-    → Has ns p.page.0 → HasReading coding image table ns
+    → Has ns p.page.0 → HasVersionReading coding image table ns
     → HasRecord coding image table ns (newest_of p (cells_of (pages_in image) p))
 reading_record coding image table ns p placed (r, are) =
     let mine = table_at_one table ns p.page.0 placed in
-    (r p, record { chain = are.reads p table mine; lawful = are.each p table mine })
+    (r p, record { chain = are.reads p table mine; versions = are.each p table mine })
 
--- what was read is what lawful records have
+-- what was read is what any reading of the table has
 found_once : (coding : RowCoding) (image : Image) (table : Table) (ns : List ℕ) (f : Found)
-    → IsFound coding image table ns f → (has_ : HasReading coding image table ns)
-    → has_.0 f.at ≡ f.entries.items
-found_once coding image table ns f is (r, are) =
+    → IsFound coding image table ns f → (r : Reading)
+    → HasTableVersions coding image table ns r → r f.at ≡ f.entries.items
+found_once coding image table ns f is r are =
     let mine = table_at_one table ns f.at.page.0 is.placed in
     is.only (r f.at) (record {
       chain = are.reads f.at table mine;
-      lawful = are.each f.at table mine;
+      versions = are.each f.at table mine;
     })
 
+pub found_of : (coding : RowCoding) (image : Image) (table : Table) (ns : List ℕ)
+    (found : List Found) → AreFound coding image table ns found → (r : Reading)
+    → HasTableVersions coding image table ns r → AreOf r found
+found_of coding image table ns [] are r has_ = tt
+found_of coding image table ns (f ∷ fs) are r has_ =
+    (found_once coding image table ns f are.0 r has_, found_of coding image table ns fs are.1 r has_)
+
 -- so records with a cell in common are one
-apart_must : (coding : RowCoding) (image : Image) (table : Table) (ns : List ℕ) (f g : Found)
-    → IsFound coding image table ns f → IsFound coding image table ns g
-    → HasReading coding image table ns → IsApart f g
-apart_must coding image table ns f g is as_ (r, are) (x, i, j) = are.apart f.at g.at x
-    (rw (found_once coding image table ns f is (r, are)) i)
-    (rw (found_once coding image table ns g as_ (r, are)) j)
+apart_must : (r : Reading) (f g : Found) → ((p q x : RecId) → Stands (r p) x → Stands (r q) x → p ≡ q)
+    → r f.at ≡ f.entries.items → r g.at ≡ g.entries.items → IsApart f g
+apart_must r f g apart is as_ (x, i, j) = apart f.at g.at x (rw is i) (rw as_ j)
+
+apart_each : (r : Reading) (found : List Found)
+    → ((p q x : RecId) → Stands (r p) x → Stands (r q) x → p ≡ q) → AreOf r found → AreApart found
+apart_each r [] apart of_ = tt
+apart_each r (f ∷ fs) apart of_ = (none fs of_.1, apart_each r fs apart of_.1)
+  where
+    none : (gs : List Found) → AreOf r gs → HasNoCellOf f gs
+    none [] also = tt
+    none (g ∷ gs) also = (apart_must r f g apart of_.0 also.0, none gs also.1)
 
 pub apart_all : (coding : RowCoding) (image : Image) (table : Table) (ns : List ℕ)
     (found : List Found) → AreFound coding image table ns found
-    → HasReading coding image table ns → AreApart found
-apart_all coding image table ns [] are reads = tt
-apart_all coding image table ns (f ∷ fs) are reads =
-    (none fs are.1, apart_all coding image table ns fs are.1 reads)
-  where
-    none : (gs : List Found) → AreFound coding image table ns gs → HasNoCellOf f gs
-    none [] also = tt
-    none (g ∷ gs) also =
-        (apart_must coding image table ns f g are.0 also.0 reads, none gs also.1)
+    → HasVersionReading coding image table ns → AreApart found
+apart_all coding image table ns found are (r, has_) =
+    apart_each r found has_.apart (found_of coding image table ns found are r has_)
 
--- and so are those that take one key
-own_must : (coding : RowCoding) (image : Image) (table : Table) (ns : List ℕ) (f g : Found)
-    → IsFound coding image table ns f → IsFound coding image table ns g
-    → HasReading coding image table ns → HasOwnKey (image_facts image) table f g
-own_must coding image table ns f g is as_ (r, are) (i, j, same) = are.keys f.at g.at table
-    (table_at_one table ns f.at.page.0 is.placed) (table_at_one table ns g.at.page.0 as_.placed)
-    (rw (found_once coding image table ns f is (r, are)) i)
-    (rw (found_once coding image table ns g as_ (r, are)) j)
-    (rw (
-      found_once coding image table ns f is (r, are),
-      found_once coding image table ns g as_ (r, are),
-    ) same)
-
-pub keys_all : (coding : RowCoding) (image : Image) (table : Table) (ns : List ℕ)
-    (found : List Found) → AreFound coding image table ns found
-    → HasReading coding image table ns → HaveKeys (image_facts image) table found
-keys_all coding image table ns [] are reads = tt
-keys_all coding image table ns (f ∷ fs) are reads =
-    (none fs are.1, keys_all coding image table ns fs are.1 reads)
+-- what was read of a place is what a reading has there, or nothing
+at_place : (r : Reading) (found : List Found) → AreOf r found → (p : RecId)
+    → (reading_of found p ≡ r p) ⊎ (reading_of found p ≡ [])
+at_place r [] of_ p = inr refl
+at_place r (f ∷ fs) of_ p = at (cases_place f.at p) (at_place r fs of_.1 p)
   where
-    none : (gs : List Found) → AreFound coding image table ns gs
-        → HasNoKeyOf (image_facts image) table f gs
-    none [] also = tt
-    none (g ∷ gs) also =
-        (own_must coding image table ns f g are.0 also.0 reads, none gs also.1)
+    at : ((f.at ≡ p) × (same_place f.at p ≡ true)) ⊎ ((f.at ≢ p) × (same_place f.at p ≡ false))
+        → (reading_of fs p ≡ r p) ⊎ (reading_of fs p ≡ [])
+        → (reading_of (f ∷ fs) p ≡ r p) ⊎ (reading_of (f ∷ fs) p ≡ [])
+    at (inl (same, is)) rest = inl (rw is (sym of_.0 ∙ ap r same))
+    at (inr (other, is)) (inl there) = inl (rw is there)
+    at (inr (other, is)) (inr empty) = inr (rw is empty)
+
+pub read_of : (coding : RowCoding) (image : Image) (table : Table) (ns : List ℕ)
+    (found : List Found) → AreFound coding image table ns found → PagesRead image found ns
+    → AreApart found → AreOf (reading_of found) found
+read_of coding image table ns found are all apart = found_of coding image table ns found are
+    (reading_of found) (versions_read coding image table ns found are all apart)
+
+-- where nothing is read, the cell leads nowhere, and nothing else is read either
+empty_chain : (h : Cells) (l : Option Link) (es : List Entry) → Chain h l [] → Chain h l es
+    → es ≡ []
+empty_chain h l es none chain = at l es (chain_opens h l [] none) (chain_opens h l es chain)
+  where
+    at : (l : Option Link) (es : List Entry) → Opens h l [] → Opens h l es → es ≡ []
+    at None [] none opens = refl
+    at None (e ∷ es) none opens = absurd opens
+    at (Some k) es none opens = absurd none
+
+-- and there is no other reading
+pub read_only : (coding : RowCoding) (image : Image) (table : Table) (ns : List ℕ)
+    (found : List Found) → AreFound coding image table ns found → PagesRead image found ns
+    → AreApart found → IsOnlyReading coding image table ns (reading_of found)
+read_only coding image table ns found are all apart other has_ p =
+    at (table_in (table_facts image table ns) p) refl
+  where
+    mine : HasTableVersions coding image table ns (reading_of found)
+    mine = versions_read coding image table ns found are all apart
+
+    on : (t : Table) → table_in (table_facts image table ns) p ≡ Some t
+        → (reading_of found p ≡ other p) ⊎ (reading_of found p ≡ [])
+        → other p ≡ reading_of found p
+    on t is (inl same) = sym same
+    on t is (inr empty) = empty_chain (cells_of (pages_in image))
+        (newest_of p (cells_of (pages_in image) p)) (other p)
+        (rw empty at (mine.reads p t is)) (has_.reads p t is) ∙ sym empty
+
+    at : (t : Option Table) → table_in (table_facts image table ns) p ≡ t
+        → other p ≡ reading_of found p
+    at None none = has_.outside p none ∙ sym (mine.outside p none)
+    at (Some t) some = on t some
+        (at_place other found (found_of coding image table ns found are other has_) p)

@@ -3,28 +3,26 @@ use Rattle.std.proofs.Common.{◌≡◌, ◌⊎◌, inl, inr, ◌∙◌, ap, ref
 use Rattle.mg_base.specs.declared.numbers.RecId.{RecId}
 use Rattle.mg_model.specs.declared.table.Table.{Table}
 use Rattle.mg_version.specs.declared.cell.Link.{Link}
-use Rattle.mg_value.specs.declared.value.Value.{Value}
 use Rattle.mg_image.specs.declared.entry.Entry.{Entry}
 use Rattle.mg_image.specs.Form.{packed_coding, plain_coding}
-use Rattle.mg_image.specs.ReadingLaws.{Opens, RowsAreOne, chain_opens, same_entry}
-use Rattle.mg_image.specs.RecordRules.{AreOnce, Each, IsVersion}
-use Rattle.mg_image.specs.Records.{Chain, Stands, cells_of, key_of, record_key}
+use Rattle.mg_image.specs.ReadingLaws.{Opens, RowsAreOne, chain_opens}
+use Rattle.mg_image.specs.RecordRules.{AreOnce, Each}
+use Rattle.mg_image.specs.Records.{Chain, Stands, cells_of}
 use Rattle.mg_reading.specs.declared.image.Image.{Image}
 use Rattle.mg_reading.specs.declared.rows.RowCoding.{RowCoding}
-use Rattle.mg_reading.specs.Codings.{coding_of}
 use Rattle.mg_reading.specs.ImageView.{pages_in}
-use Rattle.mg_reading.specs.OneTable.{IsLawful, IsLinked, IsPlaced, table_facts}
-use Rattle.mg_reading.specs.Readable.{AreBacksCommitted, HasEntry, HasRecord, HaveOneKey, IsOnlyRecord, IsRecordFrom}
+use Rattle.mg_reading.specs.OneTable.{IsLinked, IsPlaced, IsStoredIn}
+use Rattle.mg_reading.specs.Readable.{HasEntry, HasRecord, IsOnlyRecord, IsRecordFrom}
 use Rattle.mg_reading.specs.RunLaws.{IsVersionRun, each_version_push, version_run_more, version_run_none}
-use Rattle.mg_reading.proofs.OneVersionLemmas.{one_row_of}
+use Rattle.mg_reading.proofs.OneVersionLemmas.{same_stored}
 use Rattle.mg_reading.proofs.RecordLemmas.{stands_push}
 
--- What the loop over the versions of a record keeps: those read are lawful, and any lawful record
--- begins with them.
+-- What the loop over the versions of a record keeps: those read are stored in the table, and any
+-- record begins with them.
 pub record IsReading (coding : RowCoding) (image : Image) (table : Table) (ns : List ℕ)
     (newest : Option Link) (es : List Entry) (next : Option Link) : Type 0 where
   pub run : IsVersionRun (cells_of (pages_in image)) newest es next
-  pub lawful : Each (IsLawful coding image table ns) es
+  pub stored : Each (IsStoredIn coding image table ns) es
   pub once : AreOnce es
   pub placed : Each IsPlaced es
   pub begins : (all : List Entry) → IsRecordFrom coding image table ns newest all
@@ -34,7 +32,7 @@ pub reading_none : (coding : RowCoding) (image : Image) (table : Table) (ns : Li
     (newest : Option Link) → IsReading coding image table ns newest [] newest
 reading_none coding image table ns newest = record {
   run = version_run_none (cells_of (pages_in image)) newest;
-  lawful = tt;
+  stored = tt;
   once = tt;
   placed = tt;
   begins = λ all is. (all, refl, is.chain);
@@ -57,28 +55,14 @@ each_in : (P : Entry → Type 0) (es : List Entry) (d : Entry) (more : List Entr
 each_in P [] d more each = each.0
 each_in P (e ∷ es) d more each = each_in P es d more each.1
 
-lawful_of : (coding : RowCoding) (image : Image) (table : Table) (ns : List ℕ) (key : Value)
-    (e : Entry) → IsVersion (coding_of coding) (table_facts image table ns) table key e
-    → IsLawful coding image table ns e
-lawful_of coding image table ns key e is = record {
-  placed = is.placed;
-  drawn = is.drawn;
-  dead = is.dead;
-  format = is.format;
-  spelled = is.spelled;
-  storable = is.storable;
-  erased = is.erased;
-  keyed = refl;
-}
-
--- what the version that a link leads to is in a lawful record
+-- what the version that a link leads to is in a record
 record IsNext (coding : RowCoding) (image : Image) (table : Table) (ns : List ℕ) (l : Link)
     (all es : List Entry) : Type 0 where
   d : Entry
   more : List Entry
   whole : all ≡ es ++ d ∷ more
   linked : IsLinked image l d
-  lawful : IsLawful coding image table ns d
+  stored : IsStoredIn coding image table ns d
   chain : Chain (cells_of (pages_in image)) d.version.back more
 
 next_of_record : (coding : RowCoding) (image : Image) (table : Table) (ns : List ℕ)
@@ -98,11 +82,8 @@ next_of_record coding image table ns newest es l read all is =
       more = rest;
       whole = whole;
       linked = record { at = opens.0; cell = opens.1; tx = opens.2 };
-      lawful = lawful_of coding image table ns (record_key table all) e
-          (each_in (IsVersion (coding_of coding) (table_facts image table ns) table
-          (record_key table all)) es e rest
-          (subst (Each (IsVersion (coding_of coding) (table_facts image table ns) table
-          (record_key table all))) whole is.lawful.each));
+      stored = each_in (IsStoredIn coding image table ns) es e rest
+          (subst (Each (IsStoredIn coding image table ns)) whole is.versions.each);
       chain = opens.3;
     }
 
@@ -110,13 +91,13 @@ next_of_record coding image table ns newest es l read all is =
 pub reading_more : (coding : RowCoding) → RowsAreOne plain_coding → RowsAreOne packed_coding
     → (image : Image) (table : Table) (ns : List ℕ) (newest : Option Link) (es : List Entry)
     (l : Link) (e : Entry) → IsReading coding image table ns newest es (Some l)
-    → (Stands es l.rec → ⊥) → IsLinked image l e → IsLawful coding image table ns e
+    → (Stands es l.rec → ⊥) → IsLinked image l e → IsStoredIn coding image table ns e
     → IsPlaced e → IsReading coding image table ns newest (es ++ e ∷ []) e.version.back
-reading_more coding plain packed image table ns newest es l e read none linked lawful placed =
+reading_more coding plain packed image table ns newest es l e read none linked stored placed =
     record {
       run = version_run_more (cells_of (pages_in image)) newest es l e read.run linked.at
           linked.cell linked.tx;
-      lawful = each_version_push (IsLawful coding image table ns) es e read.lawful lawful;
+      stored = each_version_push (IsStoredIn coding image table ns) es e read.stored stored;
       once = once_push es e read.once (λ stands. none (rw linked.at at stands));
       placed = each_version_push IsPlaced es e read.placed placed;
       begins = λ all is.
@@ -127,10 +108,8 @@ reading_more coding plain packed image table ns newest es l e read none linked l
         → (rest : List Entry) × (all ≡ (es ++ e ∷ []) ++ rest)
         × Chain (cells_of (pages_in image)) e.version.back rest
     goes_on all next =
-        let same : next.d ≡ e = same_entry (coding_of coding) (one_row_of coding plain packed)
-        (table_facts image table ns) table (cells_of (pages_in image)) (key_of table next.d.row)
-        (key_of table e.row) next.d e (next.linked.at ∙ sym linked.at) next.linked.cell linked.cell
-        next.lawful lawful in (
+        let same : next.d ≡ e = same_stored coding plain packed image table ns l next.d e
+        next.linked linked next.stored stored in (
           next.more,
           next.whole ∙ (ap (λ (x : Entry). es ++ x ∷ next.more) same
               ∙ sym (append_assoc es (e ∷ []) next.more)),
@@ -149,24 +128,24 @@ once_apart [] d more once stands = stands
 once_apart (e ∷ es) d more once (inl same) = once.0 (stands_mid es d more e.at (sym same))
 once_apart (e ∷ es) d more once (inr later) = once_apart es d more once.1 later
 
--- where a link comes back to a cell, there is no lawful record
+-- where a link comes back to a cell, there is no record
 pub reading_twice : (coding : RowCoding) (image : Image) (table : Table) (ns : List ℕ)
     (newest : Option Link) (es : List Entry) (l : Link)
     → IsReading coding image table ns newest es (Some l) → Stands es l.rec
     → HasRecord coding image table ns newest → ⊥
 reading_twice coding image table ns newest es l read stands (all, is) =
     let next = next_of_record coding image table ns newest es l read all is in
-    once_apart es next.d next.more (subst AreOnce next.whole is.lawful.once)
+    once_apart es next.d next.more (subst AreOnce next.whole is.versions.once)
     (rw next.linked.at stands)
 
--- a lawful record has a lawful version where the link leads
+-- a record has a version of the table where the link leads
 pub reading_entry : (coding : RowCoding) (image : Image) (table : Table) (ns : List ℕ)
     (newest : Option Link) (es : List Entry) (l : Link)
     → IsReading coding image table ns newest es (Some l)
     → HasRecord coding image table ns newest → HasEntry coding image table ns l
 reading_entry coding image table ns newest es l read (all, is) =
     let next = next_of_record coding image table ns newest es l read all is in
-    (next.d, next.linked, next.lawful)
+    (next.d, next.linked, next.stored)
 
 -- at the end the versions are the only ones
 pub reading_only : (coding : RowCoding) (image : Image) (table : Table) (ns : List ℕ)
@@ -182,20 +161,3 @@ reading_only coding image table ns newest es next read none others is =
         → Opens (cells_of (pages_in image)) None rest → others ≡ es
     at [] whole opens = rw append-nil at whole
     at (e ∷ rest) whole opens = absurd opens
-
-each_keyed : (coding : RowCoding) (image : Image) (table : Table) (ns : List ℕ) (key : Value)
-    (es : List Entry)
-    → Each (IsVersion (coding_of coding) (table_facts image table ns) table key) es
-    → Each (λ e. key_of table e.row ≡ key) es
-each_keyed coding image table ns key [] each = tt
-each_keyed coding image table ns key (e ∷ es) each =
-    (each.0.keyed, each_keyed coding image table ns key es each.1)
-
--- the rules that speak of the versions of a record together
-pub record_together : (coding : RowCoding) (image : Image) (table : Table) (ns : List ℕ)
-    (newest : Option Link) (es : List Entry) → IsOnlyRecord coding image table ns newest es
-    → HasRecord coding image table ns newest
-    → AreBacksCommitted image es × HaveOneKey table es
-record_together coding image table ns newest es only (all, is) =
-    subst (λ (xs : List Entry). AreBacksCommitted image xs × HaveOneKey table xs) (only all is)
-    (is.lawful.backs, each_keyed coding image table ns (record_key table all) all is.lawful.each)

@@ -13,8 +13,9 @@ use Rattle.mg_image.specs.Inventory.{next_of, oldest_of, state_at}
 use Rattle.mg_image.specs.declared.entry.Entry.{Entry}
 use Rattle.mg_reading.specs.OneTable.{table_facts}
 use Rattle.mg_reading.specs.Readable.{IsOnlyRecord}
-use Rattle.mg_image.specs.RecordRules.{Facts, IsRecord, TakesKey, committed_in}
-use Rattle.mg_image.specs.Records.{Chain, Reading, Stands, cells_of, newest_of, record_key, shown}
+use Rattle.mg_reading.specs.RecordParts.{AreVersions, TakeOneKey}
+use Rattle.mg_image.specs.RecordRules.{Facts, committed_in}
+use Rattle.mg_image.specs.Records.{Chain, Reading, Stands, cells_of, newest_of, shown}
 use Rattle.mg_image.specs.Form.{Row}
 use Rattle.mg_image.specs.StepLaws.{same_place}
 use Rattle.mg_image.specs.Tables.{Has}
@@ -23,14 +24,15 @@ use Rattle.mg_image.specs.Tables.{Has}
 abbrev pub committed_of : Image → ℕ → Bool
 committed_of image t = is_committed (state_at image.size (pages_in image) t)
 
--- What was read of a slot is what its cell leads to, and is a lawful record of the table, the only
--- one.
+-- What was read of a slot is what its cell leads to, and these are the versions of a record of the
+-- table, the only ones.
 pub record IsFound (coding : RowCoding) (image : Image) (table : Table) (ns : List ℕ)
     (found : Found) : Type 0 where
   pub placed : Has ns found.at.page.0
   pub chain : Chain (cells_of (pages_in image))
       (newest_of found.at (cells_of (pages_in image) found.at)) found.entries.items
-  pub lawful : IsRecord (coding_of coding) (table_facts image table ns) table found.entries.items
+  pub versions : AreVersions (coding_of coding) (table_facts image table ns) table
+      found.entries.items
   pub only : IsOnlyRecord coding image table ns
       (newest_of found.at (cells_of (pages_in image) found.at)) found.entries.items
 
@@ -59,6 +61,16 @@ abbrev pub reading_of : List Found → Reading
 reading_of [] p = []
 reading_of (found ∷ more) p =
     if same_place found.at p then found.entries.items else reading_of more p
+
+-- each of these is what a reading has at its place
+abbrev pub AreOf : Reading → List Found → Type 0
+AreOf r [] = Unit {0}
+AreOf r (found ∷ more) = (r found.at ≡ found.entries.items) × AreOf r more
+
+-- the versions of each of these records have a property
+abbrev pub EachFound : (List Entry → Type 0) → List Found → Type 0
+EachFound P [] = Unit {0}
+EachFound P (found ∷ more) = P found.entries.items × EachFound P more
 
 -- two records have a cell in common
 abbrev pub SharesCell : List Entry → List Entry → Type 0
@@ -90,10 +102,6 @@ image_facts image = record {
 -- a record shows a row
 abbrev pub ShowsRow : Facts → List Entry → Type 0
 ShowsRow f es = (row : Row) × (shown (committed_in f) es ≡ Some row)
-
--- two records take one key
-abbrev pub TakeOneKey : Facts → Table → List Entry → List Entry → Type 0
-TakeOneKey f table a b = TakesKey f a × TakesKey f b × (record_key table a ≡ record_key table b)
 
 -- records that take one key are one
 abbrev pub HasOwnKey : Facts → Table → Found → Found → Type 0

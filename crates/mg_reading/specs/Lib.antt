@@ -2,6 +2,8 @@ pub mod Kept
 pub mod ImageView
 pub mod ChainLaws
 pub mod Codings
+pub mod RecordParts
+pub mod PartLaws
 pub mod OneTable
 pub mod RunLaws
 pub mod Found
@@ -10,3 +12,5 @@ pub mod HeldTable
 pub mod LongTexts
 pub mod Readable
 pub mod SoundTables
+pub mod StandLaws
+pub mod AloneLaws

@@ -10,10 +10,9 @@ use Rattle.mg_version.specs.declared.cell.Version.{Version}
 use Rattle.mg_model.specs.declared.table.Table.{Table}
 use Rattle.mg_image.specs.declared.entry.Entry.{Entry}
 use Rattle.mg_image.specs.Form.{Pages, Row}
-use Rattle.mg_image.specs.RecordRules.{AreRecords, Each, EachBack, IsKeyAlone, IsRecord, columns_for}
-use Rattle.mg_base.specs.declared.transaction.TxState.TheVariants.{Committed}
-use Rattle.mg_image.specs.Inventory.{state_at}
-use Rattle.mg_image.specs.Records.{Chain, Reading, cells_of, key_of, record_key, writer}
+use Rattle.mg_image.specs.RecordRules.{AreRecords, IsKeyAlone, columns_for}
+use Rattle.mg_base.specs.declared.numbers.RecId.{RecId}
+use Rattle.mg_image.specs.Records.{Chain, Reading, cells_of}
 use Rattle.mg_base.specs.Checks.{common_checks}
 use Rattle.mg_slots.specs.declared.page.TheConstants.{DATA_KIND}
 use Rattle.mg_slots.specs.DataPage.{IsDataPage, cell_of}
@@ -26,7 +25,8 @@ use Rattle.mg_reading.specs.declared.point.ReadFault.TheVariants.{Broken, Memory
 use Rattle.mg_reading.specs.declared.rows.RowCoding.{RowCoding}
 use Rattle.mg_reading.specs.Codings.{RowSpelled, coding_of}
 use Rattle.mg_reading.specs.ImageView.{pages_in}
-use Rattle.mg_reading.specs.OneTable.{IsLawful, IsLinked, table_facts}
+use Rattle.mg_reading.specs.OneTable.{IsLinked, IsStoredIn, table_facts}
+use Rattle.mg_reading.specs.RecordParts.{AreVersions, HasVersions}
 
 -- a fault that says a rule broken rules this out; want of memory says nothing
 abbrev pub Refutes : Type 0 → ReadFault → Type 0
@@ -68,18 +68,18 @@ pub record IsVersionAt (image : Image) (ns : List ℕ) (link : Link) (v : Versio
 abbrev pub HasVersion : Image → List ℕ → Link → Type 0
 HasVersion image ns link = (v : Version) × IsVersionAt image ns link v
 
--- a link leads to a lawful version of a table
+-- a link leads to a version that is stored as a table wants it
 abbrev pub HasEntry : RowCoding → Image → Table → List ℕ → Link → Type 0
 HasEntry coding image table ns link =
-    (e : Entry) × IsLinked image link e × IsLawful coding image table ns e
+    (e : Entry) × IsLinked image link e × IsStoredIn coding image table ns e
 
--- These are the versions from a link on, and they are those of a lawful record of a table.
+-- These are the versions from a link on, and they are those of a record of a table.
 pub record IsRecordFrom (coding : RowCoding) (image : Image) (table : Table) (ns : List ℕ)
     (newest : Option Link) (es : List Entry) : Type 0 where
   pub chain : Chain (cells_of (pages_in image)) newest es
-  pub lawful : IsRecord (coding_of coding) (table_facts image table ns) table es
+  pub versions : AreVersions (coding_of coding) (table_facts image table ns) table es
 
--- a link begins a lawful record of a table
+-- a link begins a record of a table
 abbrev pub HasRecord : RowCoding → Image → Table → List ℕ → Option Link → Type 0
 HasRecord coding image table ns newest =
     (es : List Entry) × IsRecordFrom coding image table ns newest es
@@ -88,15 +88,6 @@ HasRecord coding image table ns newest =
 abbrev pub IsOnlyRecord : RowCoding → Image → Table → List ℕ → Option Link → List Entry → Type 0
 IsOnlyRecord coding image table ns newest es = (others : List Entry)
     → IsRecordFrom coding image table ns newest others → others ≡ es
-
--- back versions are committed
-abbrev pub AreBacksCommitted : Image → List Entry → Type 0
-AreBacksCommitted image es =
-    EachBack (λ e. state_at image.size (pages_in image) (writer e) ≡ Committed) es
-
--- all versions have the key of the newest
-abbrev pub HaveOneKey : Table → List Entry → Type 0
-HaveOneKey table es = Each (λ e. key_of table e.row ≡ record_key table es) es
 
 -- there are pointer pages of an owner, each as wanted at its place
 abbrev pub HasPointers : ℕ → Pages → ℕ → Type 0
@@ -107,6 +98,21 @@ HasPointers size pages owner =
 abbrev pub HasReading : RowCoding → Image → Table → List ℕ → Type 0
 HasReading coding image table ns = (r : Reading) × AreRecords (coding_of coding)
     (table_facts image table ns) (cells_of (pages_in image)) r
+
+-- each record of a table with these data pages has its versions
+abbrev pub HasTableVersions : RowCoding → Image → Table → List ℕ → Reading → Type 0
+HasTableVersions coding image table ns = HasVersions (coding_of coding)
+    (table_facts image table ns) (cells_of (pages_in image))
+
+-- there is such a reading
+abbrev pub HasVersionReading : RowCoding → Image → Table → List ℕ → Type 0
+HasVersionReading coding image table ns =
+    (r : Reading) × HasTableVersions coding image table ns r
+
+-- there is no other
+abbrev pub IsOnlyReading : RowCoding → Image → Table → List ℕ → Reading → Type 0
+IsOnlyReading coding image table ns r = (other : Reading)
+    → HasTableVersions coding image table ns other → (p : RecId) → other p ≡ r p
 
 -- The pages and the records of a table are lawful.
 pub record IsReadable (coding : RowCoding) (image : Image) (table : Table) : Type 0 where

@@ -1,7 +1,8 @@
 //! What no two records of a table may have in common: a cell, and a key.
 
 ghost use Rattle.std.specs.Prelude.{◌≡◌, ◌<◌, ◌↔◌, IsTrue, length};
-ghost use Rattle.mg_reading.specs.Found.{AreApart, HasNoCellOf, HasNoKeyOf, HasOwnKey, HaveKeys, IsApart, SharesCell, ShowsRow, TakeOneKey, image_facts};
+ghost use Rattle.mg_reading.specs.Found.{AreApart, HasNoCellOf, HasNoKeyOf, HasOwnKey, HaveKeys, IsApart, SharesCell, ShowsRow, image_facts};
+ghost use Rattle.mg_reading.specs.RecordParts.{TakeOneKey};
 ghost use Rattle.mg_image.specs.RecordRules.{IsInLimbo, TakesKey};
 ghost use Rattle.mg_image.specs.Records.{record_key};
 
@@ -52,7 +53,7 @@ fn has_no_cell_of(found: &Found, others: &[Found]) -> bool
 }
 
 /// Whether no two of these records have a cell in common.
-pub fn are_apart(found: &[Found]) -> bool
+pub(crate) fn are_apart(found: &[Found]) -> bool
     ensures { IsTrue result ↔ AreApart found.now }
 {
     let mut rest = found;
@@ -146,7 +147,7 @@ fn has_no_key_of(image: &Image, table: &Table, found: &Found, others: &[Found]) 
 }
 
 /// Whether no two of these records take one key.
-pub fn have_keys(image: &Image, table: &Table, found: &[Found]) -> bool
+pub(crate) fn have_keys(image: &Image, table: &Table, found: &[Found]) -> bool
     ensures { IsTrue result ↔ HaveKeys (image_facts image.now) table.now found.now }
 {
     let mut rest = found;

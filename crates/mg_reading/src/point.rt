@@ -14,11 +14,12 @@ pub enum Rule {
     Header,
     /// Each drawn transaction has its bits, and no other has become anything.
     Transactions,
-    /// Each reached page, cell and row is as wanted.
+    /// Each reached page and each cell of it is as wanted, and the catalog's rows are lawful.
     Pages,
-    /// No page and no cell is reached twice, and a version stands on a data page of its table.
+    /// No page is reached twice.
     Once,
-    /// Each link meets a version of the transaction that it names.
+    /// Each link meets a version of the transaction that it names, on a data page of its table and
+    /// with a row of the table, and no cell is met twice.
     Links,
     /// Each version's transaction is drawn, and not below the oldest interesting one where it is
     /// dead; nor is any transaction in limbo.

@@ -1,11 +1,11 @@
-//! The records of a table: what is read of each primary slot, and the rows that are shown.
+//! The slots of a table: what is read of each, and the rows that are shown.
 
 ghost use Rattle.std.specs.Prelude.{◌≡◌, ◌≤◌, false, IfErr, IfOk, MatchOption, None, OnOk, Some, length};
 ghost use Rattle.mg_slots.specs.DataPage.{slot_count};
 ghost use Rattle.mg_reading.specs.Found.{AreFound, IsFound, KeepsRead, PagesRead, SlotsRead, committed_of};
 ghost use Rattle.mg_reading.specs.ImageView.{pages_in};
 ghost use Rattle.mg_image.specs.Records.{cells_of, newest_of, shown as shown_by};
-ghost use Rattle.mg_reading.specs.Readable.{HasReading, HasRecord, Refutes};
+ghost use Rattle.mg_reading.specs.Readable.{HasRecord, HasVersionReading, Refutes};
 ghost use Rattle.mg_image.specs.Sound.{IsTableData};
 ghost use Rattle.mg_image.specs.Tables.{EachFrom, Has};
 
@@ -107,7 +107,7 @@ fn read_page(
         (SlotsRead found.new.items n (slot_count (pages_in image.now n))) }
     ensures before { OnOk result (KeepsRead found.old.items found.new.items) }
     ensures broken { IfErr result (Refutes
-        (HasReading coding image.now table.now data_pages.now)) }
+        (HasVersionReading coding image.now table.now data_pages.now)) }
 {
     for slot in 0..get_u16(image.page(n), COUNT_AT) {
         let p = RecId {
@@ -123,8 +123,8 @@ fn read_page(
 ///
 /// # Errors
 ///
-/// `Broken` only where the records are not lawful; `Memory`.
-pub fn read_records(
+/// `Broken` only where the records do not have their versions; `Memory`.
+pub(crate) fn read_slots(
     alloc: Global,
     image: &Image,
     table: &Table,
@@ -138,7 +138,7 @@ pub fn read_records(
         AreFound coding image.now table.now data_pages.now found.items) }
     ensures all { IfOk result (λ found. PagesRead image.now found.items data_pages.now) }
     ensures broken { IfErr result (Refutes
-        (HasReading coding image.now table.now data_pages.now)) }
+        (HasVersionReading coding image.now table.now data_pages.now)) }
 {
     let mut found = Vec::new(alloc);
     for n in data_pages {

@@ -1,15 +1,17 @@
-//! A record of a table: its versions, the newest first, each tested.
+//! A record of a table: its versions, the newest first, and the tests of them.
 
-ghost use Rattle.std.specs.Prelude.{◌≡◌, ◌≤◌, ◌↔◌, false, IfErr, IfOk, IsTrue, OnOk, length};
+ghost use Rattle.std.specs.Prelude.{◌≡◌, ◌≤◌, ◌↔◌, false, IfErr, IfOk, IsTrue, length};
 ghost use Rattle.mg_base.specs.declared.transaction.TxState.TheVariants.{Committed};
 ghost use Rattle.std.proofs.Common.{get_or};
 ghost use Rattle.mg_value.specs.declared.value.Value.TheVariants.{Null as NoValue};
 ghost use Rattle.mg_reading.specs.ImageView.{pages_in};
 ghost use Rattle.mg_image.specs.Inventory.{state_at};
-ghost use Rattle.mg_reading.specs.OneTable.{IsLawful, IsLinked, IsPlaced};
-ghost use Rattle.mg_reading.specs.Readable.{AreBacksCommitted, HasEntry, HasRecord, HaveOneKey, IsOnlyRecord, IsRecordFrom, Refutes};
-ghost use Rattle.mg_image.specs.RecordRules.{AreOnce, Each};
-ghost use Rattle.mg_image.specs.Records.{Chain, Stands, cells_of, key_of, writer};
+ghost use Rattle.mg_reading.specs.Found.{image_facts};
+ghost use Rattle.mg_reading.specs.OneTable.{IsLinked, IsPlaced, IsStoredIn};
+ghost use Rattle.mg_reading.specs.Readable.{HasEntry, HasRecord, IsOnlyRecord, IsRecordFrom, Refutes};
+ghost use Rattle.mg_reading.specs.RecordParts.{AreBacksCommitted, HaveOneKey, IsDrawn};
+ghost use Rattle.mg_image.specs.RecordRules.{Each};
+ghost use Rattle.mg_image.specs.Records.{Stands, key_of, writer};
 ghost use Rattle.mg_image.specs.Sound.{IsTableData};
 ghost use Rattle.mg_image.specs.Tables.{EachFrom};
 
@@ -25,11 +27,11 @@ use mg_version::Link;
 use std::alloc::Global;
 use std::cmp::Ordering;
 
-/// The version that a link leads to, with its row, tested by itself.
+/// The version that a link leads to, with its row.
 ///
 /// # Errors
 ///
-/// `Broken` only where there is none that is lawful; `Memory`.
+/// `Broken` only where there is none whose body codes a row of the table; `Memory`.
 fn read_entry(
     alloc: Global,
     image: &Image,
@@ -42,17 +44,14 @@ fn read_entry(
     requires tested { EachFrom (IsTableData false image.now.size (pages_in image.now)
         table.now.pointer.0) 0 data_pages.now }
     ensures linked { IfOk result (IsLinked image.now link) }
-    ensures lawful { IfOk result (IsLawful coding image.now table.now data_pages.now) }
+    ensures stored { IfOk result (IsStoredIn coding image.now table.now data_pages.now) }
     ensures placed { IfOk result IsPlaced }
     ensures broken { IfErr result (Refutes
         (HasEntry coding image.now table.now data_pages.now link)) }
 {
     let version = version_at(alloc, image, table.pointer.0, data_pages, link)?;
-    if !is_drawn(image, version.tx.0) {
-        return Err(ReadFault::Broken(Rule::Drawn));
-    }
     if version.format != 1 {
-        return Err(ReadFault::Broken(Rule::Pages));
+        return Err(ReadFault::Broken(Rule::Links));
     }
     let row = version_row(alloc, table, coding, &version)?;
     Ok(Entry {
@@ -62,12 +61,12 @@ fn read_entry(
     })
 }
 
-/// The versions from a link on.
+/// The versions of a record, from the link that its primary slot has on.
 ///
 /// # Errors
 ///
-/// `Broken` only where there is no lawful record of these versions; `Memory`.
-fn read_versions(
+/// `Broken` only where the link begins no record of the table; `Memory`.
+pub(crate) fn read_record(
     alloc: Global,
     image: &Image,
     table: &Table,
@@ -78,10 +77,8 @@ fn read_versions(
     requires columns { length table.now.shape.columns ≤ MOST_COLUMNS }
     requires tested { EachFrom (IsTableData false image.now.size (pages_in image.now)
         table.now.pointer.0) 0 data_pages.now }
-    ensures chain { IfOk result (λ es. Chain (cells_of (pages_in image.now)) newest es.items) }
-    ensures lawful { IfOk result (λ es.
-        Each (IsLawful coding image.now table.now data_pages.now) es.items) }
-    ensures once { IfOk result (λ es. AreOnce es.items) }
+    ensures record { IfOk result (λ es.
+        IsRecordFrom coding image.now table.now data_pages.now newest es.items) }
     ensures only { IfOk result (λ es.
         IsOnlyRecord coding image.now table.now data_pages.now newest es.items) }
     ensures broken { IfErr result (Refutes
@@ -92,7 +89,7 @@ fn read_versions(
     let mut next = newest;
     while let Some(link) = next {
         if stands(&entries, link.rec) {
-            return Err(ReadFault::Broken(Rule::Once));
+            return Err(ReadFault::Broken(Rule::Links));
         }
         let entry = read_entry(alloc, image, table, coding, data_pages, link)?;
         next = entry.version.back;
@@ -166,53 +163,37 @@ fn are_committed(image: &Image, entries: &[Entry]) -> bool
     true
 }
 
-/// Tests the versions of a record together.
-///
-/// # Errors
-///
-/// `Broken` only where a back version is not committed, or two keys differ.
-fn check_versions(image: &Image, table: &Table, entries: &[Entry]) -> Result<(), ReadFault>
-    ensures backs { OnOk result (AreBacksCommitted image.now entries.now) }
-    ensures keys { OnOk result (HaveOneKey table.now entries.now) }
-    ensures broken { IfErr result (Refutes
-        (AreBacksCommitted image.now entries.now × HaveOneKey table.now entries.now)) }
+/// Whether each of these versions is of a drawn transaction, and of an interesting one where it is
+/// dead.
+pub(crate) fn are_versions_drawn(image: &Image, entries: &[Entry]) -> bool
+    ensures { IsTrue result ↔ Each (IsDrawn (image_facts image.now)) entries.now }
 {
-    let Some((newest, older)) = entries.split_first() else {
-        return Ok(());
-    };
-    if !are_committed(image, older) {
-        return Err(ReadFault::Broken(Rule::Backs));
+    let mut rest = entries;
+    while let Some((entry, older)) = rest.split_first() {
+        if !is_drawn(image, entry.version.tx.0) {
+            return false;
+        }
+        rest = older;
     }
-    if !have_key(table, entries, newest.row.as_slice()) {
-        return Err(ReadFault::Broken(Rule::Keys));
-    }
-    Ok(())
+    true
 }
 
-/// The versions of a record, from the link that its primary slot has on.
-///
-/// # Errors
-///
-/// `Broken` only where there is no lawful record of these versions; `Memory`.
-pub fn read_record(
-    alloc: Global,
-    image: &Image,
-    table: &Table,
-    coding: RowCoding,
-    data_pages: &[u32],
-    newest: Option<Link>,
-) -> Result<Vec<Entry>, ReadFault>
-    requires columns { length table.now.shape.columns ≤ MOST_COLUMNS }
-    requires tested { EachFrom (IsTableData false image.now.size (pages_in image.now)
-        table.now.pointer.0) 0 data_pages.now }
-    ensures record { IfOk result (λ es.
-        IsRecordFrom coding image.now table.now data_pages.now newest es.items) }
-    ensures only { IfOk result (λ es.
-        IsOnlyRecord coding image.now table.now data_pages.now newest es.items) }
-    ensures broken { IfErr result (Refutes
-        (HasRecord coding image.now table.now data_pages.now newest)) }
+/// Whether each back version of a record is committed.
+pub(crate) fn are_back_versions_committed(image: &Image, entries: &[Entry]) -> bool
+    ensures { IsTrue result ↔ AreBacksCommitted (image_facts image.now) entries.now }
 {
-    let entries = read_versions(alloc, image, table, coding, data_pages, newest)?;
-    check_versions(image, table, &entries)?;
-    Ok(entries)
+    let Some((_, older)) = entries.split_first() else {
+        return true;
+    };
+    are_committed(image, older)
+}
+
+/// Whether all versions of a record have the key of the newest.
+pub(crate) fn have_one_key(table: &Table, entries: &[Entry]) -> bool
+    ensures { IsTrue result ↔ HaveOneKey table.now entries.now }
+{
+    let Some((newest, _)) = entries.split_first() else {
+        return true;
+    };
+    have_key(table, entries, newest.row.as_slice())
 }

@@ -36,8 +36,8 @@ fn packed_row(alloc: Global, shape: &Shape, format: u16, body: &[u8]) -> Result<
     match decode_row(alloc, shape, format, body) {
         Ok(row) => Ok(row),
         Err(RowFault::Memory) => Err(ReadFault::Memory),
-        Err(RowFault::BadRun { .. }) => Err(ReadFault::Broken(Rule::Pages)),
-        Err(RowFault::BadRow { .. }) => Err(ReadFault::Broken(Rule::Pages)),
+        Err(RowFault::BadRun { .. }) => Err(ReadFault::Broken(Rule::Links)),
+        Err(RowFault::BadRow { .. }) => Err(ReadFault::Broken(Rule::Links)),
     }
 }
 
@@ -126,7 +126,7 @@ pub fn row_of(
     columns_len(shape.columns.as_slice());
     let row = spelled_row(alloc, coding, shape, format, body)?;
     if !are_storable(row.as_slice()) {
-        return Err(ReadFault::Broken(Rule::Pages));
+        return Err(ReadFault::Broken(Rule::Links));
     }
     Ok(row)
 }

@@ -15,9 +15,8 @@ use crate::chain::{TablePages, table_pages};
 use crate::data::check_data_pages;
 use crate::found::Found;
 use crate::image::Image;
-use crate::pairs::{are_apart, have_keys};
+use crate::parts::{are_backs_committed, are_drawn, have_own_keys, read_versions};
 use crate::point::{ReadFault, Rule};
-use crate::reading::read_records;
 use crate::rows::RowCoding;
 use mg_model::Table;
 use mg_value::MOST_COLUMNS;
@@ -53,11 +52,14 @@ pub fn table_records(
     ensures broken { IfErr result (Refutes
         (HasReading coding image.now table.now data_pages.now)) }
 {
-    let found = read_records(alloc, image, table, coding, data_pages)?;
-    if !are_apart(&found) {
-        return Err(ReadFault::Broken(Rule::Once));
+    let found = read_versions(alloc, image, table, coding, data_pages)?;
+    if !are_drawn(image, &found) {
+        return Err(ReadFault::Broken(Rule::Drawn));
     }
-    if !have_keys(image, table, &found) {
+    if !are_backs_committed(image, &found) {
+        return Err(ReadFault::Broken(Rule::Backs));
+    }
+    if !have_own_keys(image, table, &found) {
         return Err(ReadFault::Broken(Rule::Keys));
     }
     Ok(found)

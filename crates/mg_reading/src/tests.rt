@@ -415,7 +415,12 @@ fn each_broken_record_is_told_by_its_rule(rt: HostRuntime) -> Result<(), Fail> {
     )?;
     let mut cells = two_versions(alloc)?;
     cells.push(anchor(alloc, 1, 1)?)?;
-    expect_broken(alloc, &database(cells), Rule::Once, "a cell of two records")?;
+    expect_broken(
+        alloc,
+        &database(cells),
+        Rule::Links,
+        "a cell of two records",
+    )?;
     let mut cells = two_versions(alloc)?;
     cells.push(anchor(alloc, 5, 3)?)?;
     expect_broken(
@@ -449,7 +454,7 @@ fn each_broken_record_is_told_by_its_rule(rt: HostRuntime) -> Result<(), Fail> {
     expect_broken(
         alloc,
         &database(cells),
-        Rule::Once,
+        Rule::Links,
         "a chain that comes back",
     )?;
     Ok(())

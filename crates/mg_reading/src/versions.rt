@@ -78,7 +78,7 @@ pub(crate) fn cell_at(
     ensures broken { IfErr result (Refutes (Has data_pages.now x.page.0)) }
 {
     if !has_page(data_pages, x.page.0) {
-        return Err(ReadFault::Broken(Rule::Once));
+        return Err(ReadFault::Broken(Rule::Links));
     }
     slot_cell(alloc, image.page(x.page.0), x.slot)
 }
@@ -150,7 +150,7 @@ pub(crate) fn version_row(
     let shape = erased_shape(alloc, &table.shape)?;
     let row = row_of(alloc, coding, &shape, version.format, body)?;
     if !is_key_alone(row.as_slice(), usize::from(table.shape.key)) {
-        return Err(ReadFault::Broken(Rule::Pages));
+        return Err(ReadFault::Broken(Rule::Links));
     }
     Ok(row)
 }

@@ -1,6 +1,6 @@
 use Rattle.mg_image.specs.Records.{cells_of, newest_of}
 use Rattle.mg_reading.specs.ImageView.{pages_in}
-use Rattle.mg_reading.specs.Readable.{HasReading, HasRecord}
+use Rattle.mg_reading.specs.Readable.{HasVersionReading, HasRecord}
 use Rattle.mg_reading.proofs.ReadingLemmas.{place_at, reading_record}
 use Rattle.mg_reading.proofs.RefusalLemmas.{passed_on}
 use Rattle.mg_reading.proofs.FoundLemmas.{read_more, read_none}
@@ -21,7 +21,7 @@ returns-in_err-read_slot-clause-broken c = passed_on
     (HasRecord c.args.coding c.args.image.now c.args.table.now c.args.data_pages.now
     (newest_of (place_at c.args.n c.loop-slot.slot)
     (cells_of (pages_in c.args.image.now) (place_at c.args.n c.loop-slot.slot))))
-    (HasReading c.args.coding c.args.image.now c.args.table.now c.args.data_pages.now)
+    (HasVersionReading c.args.coding c.args.image.now c.args.table.now c.args.data_pages.now)
     (reading_record c.args.coding c.args.image.now c.args.table.now c.args.data_pages.now
     (place_at c.args.n c.loop-slot.slot) c.requires.placed)
     c.from_residual.result c.in_err-read_slot.field-0.0 c.from_residual.ensures.1

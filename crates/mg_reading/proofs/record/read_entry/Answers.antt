@@ -1,23 +1,19 @@
-use Rattle.std.proofs.Common.{refl}
 use Rattle.mg_reading.specs.ImageView.{pages_in}
 use Rattle.mg_reading.specs.Readable.{HasEntry, HasVersion, HasVersionRow}
 use Rattle.mg_reading.proofs.CellLemmas.{placed_at}
-use Rattle.mg_reading.proofs.OneVersionLemmas.{entry_drawn, entry_format, entry_row, entry_version}
-use Rattle.mg_reading.proofs.RecordLemmas.{table_at_one}
+use Rattle.mg_reading.proofs.OneVersionLemmas.{entry_format, entry_row, entry_version}
+use Rattle.mg_reading.specs.StandLaws.{table_at_one}
 use Rattle.mg_reading.proofs.RefusalLemmas.{passed_on}
 use Rattle.mg_reading.proofs.record.read_entry.Goals as goal
 
-pub returns-clause-lawful : goal.returns-clause-lawful
-returns-clause-lawful c = record {
+pub returns-clause-stored : goal.returns-clause-stored
+returns-clause-stored c = record {
   placed = table_at_one c.args.table.now c.args.data_pages.now c.args.link.rec.page.0
       c.in_ok-version.ensures.version.placed;
-  drawn = (c.if-not-is_drawn.ensures.0 refl).0;
-  dead = (c.if-not-is_drawn.ensures.0 refl).1;
   format = c.if-version-ne1.false;
   spelled = c.in_ok-row.ensures.row.spelled;
   storable = c.in_ok-row.ensures.row.storable;
   erased = c.in_ok-row.ensures.row.erased;
-  keyed = refl;
 }
 
 pub returns-clause-placed : goal.returns-clause-placed
@@ -33,12 +29,6 @@ returns-in_err-version-clause-broken c = passed_on
     c.args.link)
     c.from_residual.result c.in_err-version.field-0.0 c.from_residual.ensures.1
     c.in_err-version.ensures.broken
-
-pub returns-then-not-is_drawn-clause-broken : goal.returns-then-not-is_drawn-clause-broken
-returns-then-not-is_drawn-clause-broken c = λ has. absurd (let passed =
-    c.if-not-is_drawn.ensures.1 (entry_drawn c.args.coding c.args.image.now c.args.table.now
-    c.args.data_pages.now c.args.link c.in_ok-version.version c.in_ok-version.ensures.version has)
-    in cc)
 
 pub returns-then-version-ne1-clause-broken : goal.returns-then-version-ne1-clause-broken
 returns-then-version-ne1-clause-broken c = λ has. c.if-version-ne1.true (entry_format

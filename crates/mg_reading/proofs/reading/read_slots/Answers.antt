@@ -1,7 +1,7 @@
 use Rattle.mg_reading.proofs.CellLemmas.{has_at}
 use Rattle.std.proofs.Common.{arith, refl}
 use Rattle.mg_reading.proofs.FoundLemmas.{pages_more}
-use Rattle.mg_reading.proofs.reading.read_records.Goals as goal
+use Rattle.mg_reading.proofs.reading.read_slots.Goals as goal
 
 pub loop-n-preserved : goal.loop-n-preserved
 loop-n-preserved c = (

@@ -1,6 +1,6 @@
 use Rattle.std.proofs.Common.{take}
 use Rattle.mg_reading.specs.Found.{AreFound, PagesRead}
-use Rattle.mg_reading.proofs.reading.read_records.Given as goal
+use Rattle.mg_reading.proofs.reading.read_slots.Given as goal
 
 abbrev pub invariant-loop-n : goal.invariant-loop-n
 invariant-loop-n l = AreFound l.coding l.image l.table l.data_pages l.found.items

@@ -1,0 +1,12 @@
+use Rattle.std.proofs.Common.{length}
+use Rattle.std.specs.Prelude.{◌↔◌}
+use Rattle.mg_image.specs.RecordRules.{Each}
+use Rattle.mg_reading.specs.Found.{EachFound, image_facts}
+use Rattle.mg_reading.specs.RecordParts.{IsDrawn}
+use Rattle.mg_reading.proofs.parts.are_drawn.Given as goal
+
+abbrev pub invariant-loop-first : goal.invariant-loop-first
+invariant-loop-first l = EachFound (Each (IsDrawn (image_facts l.image))) l.found ↔ EachFound (Each (IsDrawn (image_facts l.image))) l.rest
+
+abbrev pub decreases-loop-first : goal.decreases-loop-first
+decreases-loop-first l = length l.rest

@@ -1,0 +1,9 @@
+pub mod JoinLemmas
+pub mod RuleLemmas
+pub mod FaultLemmas
+pub mod ReadLemmas
+pub mod IndexLemmas
+pub mod StepLemmas
+pub mod LadderLemmas
+pub mod SoundLemmas
+pub mod WholeLemmas

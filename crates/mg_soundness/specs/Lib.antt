@@ -1,0 +1,4 @@
+pub mod Joined
+pub mod IndexRule
+pub mod Rungs
+pub mod Ladder

@@ -1,0 +1,27 @@
+//! The test of soundness: a slow program that says of an image whether it is sound, and of one that
+//! is not, which rule is the first that it breaks.
+//!
+//! Owns: the rules of a sound image in the order in which they are tested (`specs/Ladder.antt`), the
+//! reading of all tables together, and the test as a whole (`check_soundness`).
+//!
+//! A sound image has a layout and a reading. A rule is met where there are a layout and a reading
+//! that meet it with all rules before it, so "the first rule that is broken" speaks of the image
+//! alone. That the program can refuse it rests on there being one layout and one reading at most.
+//!
+//! Invariant: none, it keeps no state.
+//! Below: `mg_layout`, for where the tables stand; `mg_reading`, for the records of one table;
+//! `mg_trees`, for index trees. Above: the program's checks of a database file.
+//! Not here: the place of a fault within an image, and repair.
+#![tactic(auto)]
+
+mod check;
+mod indexed;
+mod laws;
+mod records;
+
+pub use check::check_soundness;
+pub use laws::the_last_rule_is_soundness;
+pub use records::TableRecords;
+
+#[cfg(test)]
+mod tests;

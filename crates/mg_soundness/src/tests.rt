@@ -1,0 +1,401 @@
+//! Images of a small database made by hand: sound ones, and for each rule some that break it first.
+
+ghost use Rattle.std.specs.Prelude.{◌≡◌, length};
+ghost use Rattle.mg_slots.specs.DataPage.{IsDataPage};
+
+use super::*;
+use mg_base::{Bytes, PageNo, TxNo, TxState, new_common};
+use mg_header::{HEADER_KIND, Header, write_header};
+use mg_pip::{new_pip, set_used};
+use mg_pointer::{add_entry, new_pointer};
+use mg_reading::{Image, ReadFault, RowCoding, Rule};
+use mg_slots::{new_data, put_cell};
+use mg_tip::{new_tip, set_state};
+use std::alloc::Global;
+use std::test::Fail;
+
+const SIZE: usize = 1024;
+
+const LIVE: TxState = TxState::Active;
+
+const GONE: TxState = TxState::Dead;
+
+const DONE: TxState = TxState::Committed;
+
+const HELD: TxState = TxState::Limbo;
+
+// A row of the catalog: its key, its name, and the numbers A to D. Transaction 0 wrote it.
+type Said = (&'static [u8], &'static [u8], [u8; 4]);
+
+// The table KV from page 5 on, whose primary index has its root on page 7.
+const KV: [Said; 3] = [
+    (b"CKV.00", b"K", [0, 3, 1, 0]),
+    (b"CKV.01", b"V", [0, 0, 1, 1]),
+    (b"TKV", b"", [5, 2, 7, 0]),
+];
+
+// The same, and a table T that begins on the page of KV.
+const SHARED: [Said; 5] = [
+    (b"CKV.00", b"K", [0, 3, 1, 0]),
+    (b"CKV.01", b"V", [0, 0, 1, 1]),
+    (b"CT.00", b"K", [0, 3, 1, 0]),
+    (b"TKV", b"", [5, 2, 7, 0]),
+    (b"TT", b"", [5, 1, 0, 0]),
+];
+
+// A cell of KV's data page 6: an anchor to a slot and a transaction; a version by a transaction of a
+// row; one over that of a slot and a transaction; a deletion of a key over such a one.
+#[derive(Clone, Copy)]
+enum Laid {
+    Anchor(u8, u8),
+    First(u8, u8, u8),
+    Over(u8, (u8, u8), u8, u8),
+    Erased(u8, (u8, u8), u8),
+}
+
+// A database: its header, what became of transactions 1 to 3, how many pages are used, the rows of
+// its catalog, the cells of KV in the order of their slots, and the keys in its index, each with the
+// slot of its record.
+#[derive(Clone, Copy)]
+struct Made {
+    next: u32,
+    oit: u32,
+    states: [TxState; 3],
+    used: u32,
+    catalog: &'static [Said],
+    cells: &'static [Laid],
+    keys: &'static [(u8, u8)],
+}
+
+// Transaction 1 wrote the row 1, and transaction 2 another version of it.
+const TWO: [Laid; 3] = [
+    Laid::Anchor(2, 2),
+    Laid::First(1, 1, 10),
+    Laid::Over(2, (1, 1), 1, 20),
+];
+
+// A sound database.
+fn sound() -> Made {
+    Made {
+        next: 4,
+        oit: 1,
+        states: [DONE, DONE, DONE],
+        used: 8,
+        catalog: &KV,
+        cells: &TWO,
+        keys: &[(1, 0)],
+    }
+}
+
+// Makes the header page.
+fn header(b: &mut [u8], made: &Made)
+    requires { length b.old ≡ SIZE }
+{
+    new_common(b, PageNo(0), HEADER_KIND, 0, 0);
+    let header = Header {
+        minor: 0,
+        next: TxNo(made.next),
+        oit: TxNo(made.oit),
+        oat: TxNo(made.next),
+        ost: TxNo(made.oit),
+        last_tip: PageNo(2),
+        interval: 20_000,
+        catalog: PageNo(3),
+    };
+    write_header(b, &header);
+}
+
+// Makes the page inventory page.
+fn inventory(b: &mut [u8], used: u32)
+    requires { length b.old ≡ SIZE }
+{
+    new_pip(b, PageNo(1), 0);
+    for bit in 0..16 {
+        set_used(b, bit, bit < used);
+    }
+}
+
+// Makes the transaction inventory page.
+fn transactions(b: &mut [u8], states: &[TxState; 3])
+    requires { length b.old ≡ SIZE }
+{
+    new_tip(b, PageNo(2), 0, PageNo(0));
+    set_state(b, 0, DONE);
+    set_state(b, 1, states[0]);
+    set_state(b, 2, states[1]);
+    set_state(b, 3, states[2]);
+}
+
+// Makes the pointer page of a table, with a data page behind it.
+fn pointers(b: &mut [u8], page: u32, data_page: u32)
+    requires { length b.old ≡ SIZE }
+{
+    new_pointer(b, PageNo(page), page, 0);
+    add_entry(b, PageNo(data_page));
+}
+
+// Makes the data page of the table of an owner.
+fn data(b: &mut [u8], page: u32, owner: u32, cells: &[Vec<u8>]) -> Result<(), Fail>
+    requires { length b.old ≡ SIZE }
+{
+    new_data(b, PageNo(page), owner, 0);
+    for cell in cells {
+        if cell.len() > 200 || put_cell(b, cell).is_err() {
+            return Err("no room")?;
+        }
+    }
+    Ok(())
+}
+
+// Appends a text, with as many zero bytes as a column of this width needs.
+fn put_text(bytes: &mut Vec<u8>, text: &[u8], width: usize) -> Result<(), Fail> {
+    if text.len() > 40 {
+        return Err("a long text")?;
+    }
+    bytes.extend_from_slice(&[text.len() as u8, 0])?;
+    bytes.extend_from_slice(text)?;
+    for _ in text.len()..width {
+        bytes.push(0)?;
+    }
+    Ok(())
+}
+
+// The version of a row of the catalog; a name without letters is NULL.
+fn said_version(alloc: Global, said: &Said) -> Result<Vec<u8>, Fail> {
+    let nulls = if said.1.is_empty() { 2 } else { 0 };
+    let mut bytes = [2, 0, 1, 0, 0, 0, 0, 0, nulls].to_vec(alloc)?;
+    put_text(&mut bytes, said.0, 40)?;
+    put_text(&mut bytes, said.1, 31)?;
+    for number in &said.2 {
+        bytes.extend_from_slice(&[*number, 0, 0, 0, 0, 0, 0, 0])?;
+    }
+    Ok(bytes)
+}
+
+// The cells of the catalog: for each row an anchor, and its one version behind it.
+fn catalog_cells(alloc: Global, rows: &[Said]) -> Result<Vec<Vec<u8>>, Fail> {
+    let mut cells = Vec::new(alloc);
+    for said in rows {
+        if cells.len() > 100 {
+            return Err("many cells")?;
+        }
+        let slot = cells.len() as u8 + 1;
+        cells.push([1, 4, 0, 0, 0, slot, 0, 0, 0, 0, 0].to_vec(alloc)?)?;
+        cells.push(said_version(alloc, said)?)?;
+    }
+    Ok(cells)
+}
+
+// The bytes of a cell of KV.
+fn cell_of(alloc: Global, cell: Laid) -> Result<Vec<u8>, Fail> {
+    let bytes = match cell {
+        Laid::Anchor(slot, tx) => [1, 6, 0, 0, 0, slot, 0, tx, 0, 0, 0].to_vec(alloc)?,
+        Laid::First(tx, k, v) => [
+            2, 0, 1, 0, tx, 0, 0, 0, 0, k, 0, 0, 0, 0, 0, 0, 0, v, 0, 0, 0, 0, 0, 0, 0,
+        ]
+        .to_vec(alloc)?,
+        Laid::Over(tx, back, k, v) => [
+            2, 2, 1, 0, tx, 0, 0, 0, 6, 0, 0, 0, back.0, 0, back.1, 0, 0, 0, 0, k, 0, 0, 0, 0, 0,
+            0, 0, v, 0, 0, 0, 0, 0, 0, 0,
+        ]
+        .to_vec(alloc)?,
+        Laid::Erased(tx, back, k) => [
+            2, 3, 1, 0, tx, 0, 0, 0, 6, 0, 0, 0, back.0, 0, back.1, 0, 0, 0, 2, k, 0, 0, 0, 0, 0,
+            0, 0, 0, 0, 0, 0, 0, 0, 0, 0,
+        ]
+        .to_vec(alloc)?,
+    };
+    Ok(bytes)
+}
+
+// The cells of KV.
+fn cells_of(alloc: Global, laid: &[Laid]) -> Result<Vec<Vec<u8>>, Fail> {
+    let mut cells = Vec::new(alloc);
+    for cell in laid {
+        cells.push(cell_of(alloc, *cell)?)?;
+    }
+    Ok(cells)
+}
+
+// The root of KV's index, a leaf with these keys, each of the record of a slot of page 6.
+fn index(alloc: Global, keys: &[(u8, u8)]) -> Result<Vec<u8>, Fail> {
+    if keys.len() > 10 {
+        return Err("many keys")?;
+    }
+    let count = keys.len() as u8;
+    let mut bytes = [7, 0, 0, 0, 7, 0, 0, 0, 5, 0, 0, 0, 0, 0, 0, 0].to_vec(alloc)?;
+    bytes.extend_from_slice(&[0, 0, count, 0, 0, 0, 0, 0, 28 + 17 * count, 0, 0, 0])?;
+    for (key, slot) in keys {
+        bytes.extend_from_slice(&[9, 0, 1, 128, 0, 0, 0, 0, 0, 0, *key, 6, 0, 0, 0, *slot, 0])?;
+    }
+    for _ in bytes.len()..SIZE {
+        bytes.push(0)?;
+    }
+    Ok(bytes)
+}
+
+// A page of a database but for the root of its index.
+fn page_of(alloc: Global, made: &Made, n: u32) -> Result<Vec<u8>, Fail> {
+    let mut page = [0u8; SIZE];
+    match n {
+        0 => header(&mut page, made),
+        1 => inventory(&mut page, made.used),
+        2 => transactions(&mut page, &made.states),
+        3 => pointers(&mut page, 3, 4),
+        4 => data(&mut page, 4, 3, &catalog_cells(alloc, made.catalog)?)?,
+        5 => pointers(&mut page, 5, 6),
+        6 => data(&mut page, 6, 5, &cells_of(alloc, made.cells)?)?,
+        _ => {}
+    }
+    Ok(page.to_vec(alloc)?)
+}
+
+// The image of a database.
+fn image_of(alloc: Global, made: &Made) -> Result<Image, Fail> {
+    let mut pages = Vec::new(alloc);
+    for n in 0..7 {
+        pages.push(Bytes::new(page_of(alloc, made, n)?))?;
+    }
+    pages.push(Bytes::new(index(alloc, made.keys)?))?;
+    match Image::new(alloc, 1024, pages) {
+        Ok(Some(image)) => Ok(image),
+        _ => Err("no image")?,
+    }
+}
+
+// Looks that an image is sound.
+fn expect_sound(alloc: Global, made: &Made, what: &'static str) -> Result<(), Fail> {
+    match check_soundness(alloc, &image_of(alloc, made)?, RowCoding::Plain) {
+        Ok(()) => Ok(()),
+        Err(_) => Err(what)?,
+    }
+}
+
+// Looks that this rule is the first that an image breaks.
+fn expect_broken(alloc: Global, made: &Made, rule: Rule, what: &'static str) -> Result<(), Fail> {
+    match check_soundness(alloc, &image_of(alloc, made)?, RowCoding::Plain) {
+        Err(ReadFault::Broken(found)) if found == rule => Ok(()),
+        _ => Err(what)?,
+    }
+}
+
+#[test]
+fn sound_images_pass(rt: HostRuntime) -> Result<(), Fail> {
+    let alloc = rt.alloc();
+    let mut made = sound();
+    expect_sound(alloc, &made, "two versions")?;
+    made.states = [DONE, HELD, DONE];
+    expect_sound(alloc, &made, "a limbo version")?;
+    made.states = [DONE, GONE, DONE];
+    expect_sound(alloc, &made, "a dead version")?;
+    made.states = [DONE, LIVE, DONE];
+    expect_sound(alloc, &made, "an active version")?;
+    made.states = [DONE, DONE, DONE];
+    made.cells = &[
+        Laid::Anchor(2, 2),
+        Laid::First(1, 1, 10),
+        Laid::Erased(2, (1, 1), 1),
+        Laid::First(3, 9, 90),
+    ];
+    made.keys = &[];
+    expect_sound(alloc, &made, "a deletion, and a cell that nothing leads to")?;
+    made.keys = &[(5, 0)];
+    expect_sound(alloc, &made, "an entry too many")
+}
+
+#[test]
+fn the_rules_of_pages_are_named(rt: HostRuntime) -> Result<(), Fail> {
+    let alloc = rt.alloc();
+    let mut made = sound();
+    made.oit = 5;
+    expect_broken(alloc, &made, Rule::Header, "OIT past Next")?;
+    made = sound();
+    made.next = 3;
+    expect_broken(alloc, &made, Rule::Transactions, "bits from Next on")?;
+    made = sound();
+    made.used = 7;
+    expect_broken(alloc, &made, Rule::Pages, "a root that is not used")?;
+    made = sound();
+    made.catalog = &[];
+    expect_sound(alloc, &made, "an empty catalog")?;
+    made.catalog = &[(b"TT", b"", [5, 1, 0, 0])];
+    expect_broken(alloc, &made, Rule::Pages, "a table without columns")?;
+    made.catalog = &SHARED;
+    expect_broken(alloc, &made, Rule::Once, "a page of two tables")
+}
+
+#[test]
+fn the_rule_of_links_is_named(rt: HostRuntime) -> Result<(), Fail> {
+    let alloc = rt.alloc();
+    let mut made = sound();
+    made.cells = &[Laid::Anchor(5, 3)];
+    expect_broken(alloc, &made, Rule::Links, "an anchor to a free slot")?;
+    made.cells = &[Laid::Anchor(1, 2), Laid::First(1, 1, 10)];
+    expect_broken(
+        alloc,
+        &made,
+        Rule::Links,
+        "an anchor to another transaction",
+    )?;
+    made.cells = &[Laid::Anchor(1, 2), Laid::Over(2, (0, 2), 1, 10)];
+    expect_broken(alloc, &made, Rule::Links, "a back pointer to an anchor")?;
+    made.cells = &[Laid::Anchor(1, 1), Laid::Over(1, (1, 1), 1, 10)];
+    expect_broken(alloc, &made, Rule::Links, "a chain that comes back")?;
+    made.cells = &[
+        Laid::Anchor(1, 1),
+        Laid::First(1, 1, 10),
+        Laid::Anchor(1, 1),
+    ];
+    expect_broken(alloc, &made, Rule::Links, "a cell of two records")
+}
+
+#[test]
+fn the_rules_of_transactions_are_named(rt: HostRuntime) -> Result<(), Fail> {
+    let alloc = rt.alloc();
+    let mut made = sound();
+    made.next = 2;
+    made.states = [DONE, LIVE, LIVE];
+    expect_broken(alloc, &made, Rule::Drawn, "a version from Next on")?;
+    made = sound();
+    made.oit = 3;
+    made.states = [DONE, GONE, DONE];
+    expect_broken(alloc, &made, Rule::Drawn, "a dead version below OIT")?;
+    made.states = [DONE, HELD, DONE];
+    expect_broken(alloc, &made, Rule::Drawn, "limbo below OIT")?;
+    made = sound();
+    made.states = [GONE, DONE, DONE];
+    expect_broken(alloc, &made, Rule::Backs, "a dead back version")
+}
+
+#[test]
+fn the_rules_of_keys_are_named(rt: HostRuntime) -> Result<(), Fail> {
+    let alloc = rt.alloc();
+    let mut made = sound();
+    made.cells = &[
+        Laid::Anchor(1, 1),
+        Laid::First(1, 1, 10),
+        Laid::Anchor(3, 2),
+        Laid::First(2, 1, 20),
+    ];
+    expect_broken(alloc, &made, Rule::Keys, "two records of one key")?;
+    made.states = [DONE, HELD, DONE];
+    expect_broken(alloc, &made, Rule::Keys, "a row and a limbo version")?;
+    made.states = [DONE, GONE, DONE];
+    expect_sound(alloc, &made, "a row and a dead version")?;
+    made = sound();
+    made.cells = &[
+        Laid::Anchor(2, 2),
+        Laid::First(1, 1, 10),
+        Laid::Over(2, (1, 1), 2, 20),
+    ];
+    expect_broken(alloc, &made, Rule::Keys, "two keys in one record")?;
+    made = sound();
+    made.keys = &[(1, 4)];
+    expect_broken(alloc, &made, Rule::Indexed, "the entry of another record")?;
+    made.keys = &[(2, 0)];
+    expect_broken(alloc, &made, Rule::Indexed, "the entry of another key")?;
+    made.keys = &[];
+    expect_broken(alloc, &made, Rule::Indexed, "a row without entry")?;
+    made.states = [GONE, DONE, DONE];
+    expect_broken(alloc, &made, Rule::Backs, "a dead back version comes first")
+}
