@@ -119,7 +119,8 @@ pub(crate) fn read_fence(
     requires at { at ≤ length page.now }
     requires most { length page.now ≤ 16384 }
     ensures some { IfOk result (λ read. IfSome read (IsFence there page.now at)) }
-    ensures none { IfOk result (λ read. IfNone read ((there ≡ true → IsWithin false page.now at) → ⊥)) }
+    ensures none { IfOk result (λ read. IfNone read
+        ((there ≡ true → IsWithin false page.now at) → ⊥)) }
 {
     if !there {
         return Ok(Some(Fence {

@@ -1,5 +1,5 @@
 -- The search for an entry: along a level, in a leaf, and down.
-use Rattle.std.proofs.Common.{◌≡◌, ◌≢◌, ◌⊎◌, inl, inr, ◌∙◌, ◌↔◌, ap, refl, sym, subst, ℕ, suc, Bool, true, false, List, [], ◌∷◌, Option, Some, None, IsTrue, ◌==◌, length, arith, eq-eqb}
+use Rattle.std.proofs.Common.{◌≡◌, ◌≢◌, ◌⊎◌, inl, inr, ◌∙◌, ◌↔◌, ap, refl, sym, subst, ℕ, suc, Bool, true, false, List, [], ◌∷◌, ◌++◌, Option, Some, None, IsTrue, ◌==◌, length, arith, eq-eqb}
 use Rattle.std.specs.Prelude.{IfOk, IfSome, Result, Ok, Err, if◌then◌else◌, not}
 use Rattle.std.proofs.lemmas.Bool.{cases_eq, ne_eqb}
 use Rattle.mg_base.specs.declared.memory.Memory.{Memory}
@@ -8,14 +8,15 @@ use Rattle.mg_node.specs.declared.node.Node.{Node}
 use Rattle.mg_node.specs.NodePage.{IsAtLeast, IsBelow, IsNodePage, entries_of, entry_at, has_high, has_low, high_at, high_of, level_in, low_of, right_in}
 use Rattle.mg_node.specs.NodeReading.{IsNodeOf}
 use Rattle.mg_image.specs.Form.{Pages}
-use Rattle.mg_image.specs.Indexes.{AreNodes, EachPage, Finds, HasChildren, HasEntry, IsNode, LevelChain, Levels, above, as_fence, down, first_level, here, lowest, right}
+use Rattle.mg_image.specs.Indexes.{AreNodes, EachPage, Finds, HasChildren, HasEntry, IsLastUpTo, IsNode, LevelChain, Levels, above, as_fence, down, first_level, here, lowest, right}
 use Rattle.mg_image.specs.Sound.{HasHeader}
 use Rattle.mg_image.specs.Tables.{Has, LinkChain, ended, goes}
 use Rattle.mg_reading.specs.ChainLaws.{page_opens}
 use Rattle.mg_trees.specs.Searches.{AreChained, IsAlong, IsFrom, IsPageFor, IsSearched, IsTreeOf, first_page, last_child, pages_from}
 use Rattle.mg_trees.proofs.EntryLemmas.{between_has, child_among, last_child_is, last_exists}
 use Rattle.mg_trees.proofs.PageLemmas.{length-entries_of}
-use Rattle.mg_trees.proofs.TreeLemmas.{each_has, levels_open, root_is_some}
+use Rattle.mg_trees.specs.TreeLaws.{levels_open, root_is_some}
+use Rattle.mg_trees.proofs.TreeLemmas.{each_has}
 
 -- an entry lies below a fence, if there is one
 abbrev IsUpTo : Entry → Option Entry → Type 0
@@ -181,6 +182,39 @@ pub record IsDown (pages : Pages) (e : Entry) (ns next : List ℕ) (child : ℕ)
   pub reached : IsFrom pages e child
   pub same : Finds pages e (first_page ns) ↔ Finds pages e child
 
+-- it is that of the last entry up to the one that is looked for
+down_by : (size : ℕ) (pages : Pages) (e : Entry) (ns next : List ℕ) (owner level : ℕ)
+    (node : Node) (child : ℕ) (there : IsPageFor pages e ns node) (last : Entry) → level ≢ 0
+    → IsNode size pages owner level next there.page
+    → IsLastUpTo (entries_of (pages there.page)) e last
+    → child ≡ last_child e 0 node.entries.items → IsDown pages e ns next child
+down_by size pages e ns next owner level node child there last some one up child_is =
+    let level_is = one.on_level in
+    let inner : level_in (pages there.page) ≢ 0 = omega arith in
+    let found : last_child e 0 (entries_of (pages there.page)) ≡ last.child.0 =
+    last_child_is (entries_of (pages there.page)) e last up 0 in
+    let child_last : child ≡ last.child.0 =
+    child_is ∙ (ap (last_child e 0) there.node_of.entries ∙ found) in
+    let children : HasChildren pages next (low_of (pages there.page)) (up.before ++ last ∷ up.after) =
+    subst (HasChildren pages next (low_of (pages there.page))) up.parts
+    (one.children (omega arith)) in
+    let among = child_among pages next (low_of (pages there.page)) up.before up.after last children in
+    record {
+      has = rw child_last among.0;
+      reached = rw child_last (reached among.1);
+      same = rw child_last (
+        λ finds. subst (Finds pages e) found
+            (down_only pages e there.page inner there.before (there.same.0 finds)),
+        λ finds. there.same.1 (down there.page last inner there.before up finds),
+      );
+    }
+  where
+    reached : (low_of (pages last.child.0) ≡ Some (as_fence last))
+        ⊎ (low_of (pages last.child.0) ≡ low_of (pages there.page)) → IsFrom pages e last.child.0
+    reached (inl low) = subst (λ (x : Option Entry). IfSome x (λ f. IsAtLeast e f)) (sym low) up.up_to
+    reached (inr low) =
+        subst (λ (x : Option Entry). IfSome x (λ f. IsAtLeast e f)) (sym low) there.reached
+
 pub down_of : (size : ℕ) (pages : Pages) (e : Entry) (ns next : List ℕ)
     (lower : List (List ℕ)) (node : Node) (child : ℕ) → IsSearched size pages e ns (next ∷ lower)
     → IsPageFor pages e ns node → child ≡ last_child e 0 node.entries.items
@@ -193,29 +227,8 @@ down_of size pages e ns next lower node child is there child_is =
     let two = one.two (omega arith) in
     let count = length-entries_of (pages there.page) in
     let last = last_exists (pages there.page) e one.lawful inner (omega arith) there.reached in
-    let child_last : child ≡ last.0.child.0 =
-    child_is ∙ (ap (last_child e 0) there.node_of.entries
-    ∙ last_child_is (entries_of (pages there.page)) e last.0 last.1 0) in
-    let among = child_among pages next (low_of (pages there.page)) last.1.before last.1.after last.0
-    (subst (HasChildren pages next (low_of (pages there.page))) last.1.parts
-    (one.children (omega arith))) in
-    record {
-      has = rw child_last among.0;
-      reached = rw child_last (reached last.0 last.1.up_to there.reached among.1);
-      same = rw child_last (
-        λ finds. subst (Finds pages e) (last_child_is (entries_of (pages there.page)) e last.0 last.1
-            0) (down_only pages e there.page inner there.before (there.same.0 finds)),
-        λ finds. there.same.1 (down there.page last.0 inner there.before last.1 finds),
-      );
-    }
-  where
-    reached : (last : Entry) → IsAtLeast e last → IsFrom pages e there.page
-        → (low_of (pages last.child.0) ≡ Some (as_fence last))
-        ⊎ (low_of (pages last.child.0) ≡ low_of (pages there.page)) → IsFrom pages e last.child.0
-    reached last up from (inl low) =
-        subst (λ (x : Option Entry). IfSome x (λ f. IsAtLeast e f)) (sym low) up
-    reached last up from (inr low) =
-        subst (λ (x : Option Entry). IfSome x (λ f. IsAtLeast e f)) (sym low) from
+    down_by size pages e ns next is.owner (suc (length lower)) node child there last.0 (omega arith)
+    one last.1 child_is
 
 from_first : (n : ℕ) (ns : List ℕ) → Has ns n → first_page (pages_from n ns) ≡ n
 from_first n [] has = absurd has

@@ -1,14 +1,13 @@
 -- The levels of a tree, one from the other.
 use Rattle.std.proofs.Common.{◌≡◌, ◌≢◌, inl, inr, ◌∙◌, ap, refl, sym, subst, ◌<◌, ◌-◌, ℕ, suc, false, List, [], ◌∷◌, Option, length, arith}
 use Rattle.mg_node.specs.declared.entry.Entry.{Entry}
-use Rattle.mg_node.specs.NodePage.{IsNodePage, entries_of, has_low, level_in, low_of, right_in}
+use Rattle.mg_node.specs.NodePage.{IsNodePage, entries_of, has_low, low_of, right_in}
 use Rattle.mg_image.specs.Form.{Pages}
 use Rattle.mg_image.specs.Indexes.{AreNodes, EachPage, HasChildren, IsNode, IsTree, LevelChain, Levels, above, first_child, first_level, lowest}
-use Rattle.mg_header.specs.HeaderPage.{database_checks}
-use Rattle.mg_image.specs.Sound.{HasHeader}
-use Rattle.mg_image.specs.Tables.{Has, LinkChain, ended, goes}
+use Rattle.mg_image.specs.Tables.{Has, ended, goes}
 use Rattle.mg_reading.specs.ChainLaws.{link_once}
-use Rattle.mg_trees.specs.Trees.{AreLawful, AreLevelsFrom, HasLevelFrom, HasLevelsFrom, HasTree, IsBounded, IsLevelFrom, IsLevelPage}
+use Rattle.mg_trees.specs.Trees.{AreLawful, AreLevelsFrom, HasLevelFrom, HasLevelsFrom, IsBounded, IsLevelFrom, IsLevelPage}
+use Rattle.mg_trees.specs.TreeLaws.{first_has, levels_open}
 use Rattle.mg_trees.proofs.PageLemmas.{length-entries_of}
 
 each_as : (P Q : ℕ → Type 0) → ((n : ℕ) → P n → Q n) → (ns : List ℕ) → EachPage P ns
@@ -29,12 +28,6 @@ lawful_level size pages owner level first ns is =
     each_as (IsLevelPage size pages owner level) (λ n. IsNodePage (pages n)) (λ n page. page.lawful) ns
     is.each
 
--- the page that a level begins with has a property of all
-pub first_has : (P : ℕ → Type 0) (next : ℕ → ℕ) (first : ℕ) (ns : List ℕ) → LinkChain next first ns
-    → EachPage P ns → first ≢ 0 → P first
-first_has P next first ns ended each some = absurd (some refl)
-first_has P next first ns (goes n ms other more) each some = each.0
-
 -- the right neighbour of each page of a level is a lawful page
 pub bounded_level : (size : ℕ) (pages : Pages) (owner level first : ℕ) (ns : List ℕ)
     → IsLevelFrom size pages owner level first ns → EachPage (IsBounded size pages owner level) ns
@@ -52,31 +45,6 @@ bounded_level size pages owner level first ns is = at first ns is.chain is.each
       },
       at (right_in (pages n)) ms more each.1,
     )
-
--- the levels from a page on begin with its level, and go on below it
-pub record Opened (pages : Pages) (n : ℕ) (levels : List (List ℕ)) : Type 0 where
-  pub level : List ℕ
-  pub below : List (List ℕ)
-  pub is : levels ≡ level ∷ below
-  pub chain : LevelChain pages n level
-  pub more : 0 < length below → Levels pages (first_child (entries_of (pages n))) below
-
-pub levels_open : (pages : Pages) (n : ℕ) (levels : List (List ℕ)) → Levels pages n levels
-    → Opened pages n levels
-levels_open pages n levels (lowest m level chain) = record {
-  level = level;
-  below = [];
-  is = refl;
-  chain = chain;
-  more = λ some. absurd (omega arith);
-}
-levels_open pages n levels (above m level next below chain more) = record {
-  level = level;
-  below = next ∷ below;
-  is = refl;
-  chain = chain;
-  more = λ some. more;
-}
 
 level_page : (size : ℕ) (pages : Pages) (owner level : ℕ) (below : List ℕ) (n : ℕ)
     → IsNode size pages owner level below n → IsLevelPage size pages owner level n
@@ -233,23 +201,6 @@ levels_more size pages owner level first ns below lower levels some chain next n
       count = omega (arith, count);
     })
 
--- the levels of a tree are levels from its root on
-pub levels_of_tree : (size : ℕ) (pages : Pages) (owner root : ℕ) → root ≢ 0
-    → HasTree size pages owner root
-    → HasLevelsFrom size pages owner (level_in (pages root)) root
-levels_of_tree size pages owner root some has =
-    let opens = levels_open pages root has.0 has.1.levels_from in
-    let nodes = subst (AreNodes size pages owner) opens.is has.1.nodes in
-    let node = first_has (IsNode size pages owner (length opens.below) (first_level opens.below))
-    (λ k. right_in (pages k)) root opens.level opens.chain nodes.0 some in (
-      has.0,
-      record {
-        levels_from = has.1.levels_from;
-        nodes = has.1.nodes;
-        count = ap length opens.is ∙ ap suc (sym node.on_level);
-      },
-    )
-
 -- levels from a root on that stands alone are a tree
 pub tree_of_levels : (size : ℕ) (pages : Pages) (owner level root : ℕ) (levels : List (List ℕ))
     → has_low (pages root) ≡ false → right_in (pages root) ≡ 0
@@ -260,11 +211,3 @@ tree_of_levels size pages owner level root levels low right are = record {
   root_low = low;
   root_right = right;
 }
-
--- the header page is no root: it has a right neighbour
-pub root_is_some : (size : ℕ) (pages : Pages) (root : ℕ) → HasHeader size pages
-    → right_in (pages root) ≡ 0 → root ≢ 0
-unfolding database_checks
-root_is_some size pages root header right zero_ =
-    let major = header.database.1.0 in
-    let none : right_in (pages 0) ≡ 0 = rw zero_ at right in omega arith

@@ -21,8 +21,8 @@ const SIZE: usize = 1024;
 const OWNER: u8 = 3;
 
 // An index page: its level, right neighbour, where its entries end, its fences, and its entries
-// with their children. A letter stands for the key of the text of that letter alone, with the record
-// of page 6 and of a slot of its number; 0 for no fence, and for the least entry.
+// with their children. A letter stands for the key of the text of that letter alone, with the
+// record of page 6 and of a slot of its number; 0 for no fence, and for the least entry.
 #[derive(Clone, Copy)]
 struct Made {
     level: u8,
@@ -33,7 +33,7 @@ struct Made {
     entries: &'static [(u8, u8)],
 }
 
-// An index page in one line.
+// An index page of these parts.
 fn index_page(
     level: u8,
     right: u8,
@@ -142,7 +142,7 @@ fn image_of(alloc: Global, nodes: &[Made]) -> Result<Image, Fail> {
     }
 }
 
-// The tree from a root on, and whether the letter's row is found in it, by one index.
+// The tree from a root on, of an image with a lawful header.
 fn read(alloc: Global, image: &Image, root: u32) -> Result<Levels, ReadFault> {
     if !image.has_header() {
         return Err(ReadFault::Broken(Rule::Header));

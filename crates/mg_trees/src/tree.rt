@@ -89,7 +89,8 @@ fn level_at(image: &Image, n: u32) -> u16
 
 /// Reads the tree of an index of a table, from its root on.
 ///
-/// `owner` is the number of the table's first pointer page.
+/// `owner` is the number of the table's first pointer page. The header is lawful (`has_header` tests
+/// it), so that page 0 is no root. There is one tree at most (`tree_once` of `specs/TreeLaws.antt`).
 ///
 /// # Errors
 ///

@@ -3,8 +3,9 @@ use Rattle.mg_node.specs.NodePage.{right_in}
 use Rattle.mg_image.specs.Indexes.{EachPage, IsNode}
 use Rattle.mg_reading.specs.ImageView.{pages_in}
 use Rattle.mg_trees.specs.Trees.{HasLevelFrom, HasLevelsFrom, IsLevelPage}
+use Rattle.mg_trees.specs.TreeLaws.{first_has}
 use Rattle.mg_trees.proofs.RefusalLemmas.{passed_on}
-use Rattle.mg_trees.proofs.TreeLemmas.{bounded_level, child_there, first_has, lawful_level, level_of_levels, levels_below, levels_lowest, levels_more, nodes_above, nodes_lowest}
+use Rattle.mg_trees.proofs.TreeLemmas.{bounded_level, child_there, lawful_level, level_of_levels, levels_below, levels_lowest, levels_more, nodes_above, nodes_lowest}
 use Rattle.mg_trees.proofs.tree.+read_levels.Goals as goal
 
 pub check_pages-requires-clause-pages : goal.check_pages-requires-clause-pages

@@ -1,7 +1,8 @@
 use Rattle.mg_reading.specs.ImageView.{pages_in}
 use Rattle.mg_trees.specs.Trees.{HasLevelFrom, HasLevelsFrom, HasTree}
 use Rattle.mg_trees.proofs.RefusalLemmas.{passed_on}
-use Rattle.mg_trees.proofs.TreeLemmas.{level_of_levels, levels_of_tree, root_is_some}
+use Rattle.mg_trees.specs.TreeLaws.{levels_of_tree, root_is_some}
+use Rattle.mg_trees.proofs.TreeLemmas.{level_of_levels}
 use Rattle.mg_trees.proofs.tree.read_tree.Goals as goal
 
 pub returns-then-root-eq0-clause-broken : goal.returns-then-root-eq0-clause-broken
