@@ -4,8 +4,9 @@ ghost use Rattle.std.specs.Prelude.{◌≡◌, ◌<◌, ◌≤◌, length};
 ghost use Rattle.mg_slots.specs.DataPage.{IsDataPage};
 
 use super::*;
-use mg_base::{Bytes, PageNo, TxNo, TxState, new_common};
+use mg_base::{Bytes, PageNo, TxNo, TxState, new_common, put_u16};
 use mg_header::{HEADER_KIND, Header, write_header};
+use mg_node::{CONTENT_AT, END_AT, NODE_KIND};
 use mg_pip::{new_pip, set_used};
 use mg_pointer::{add_entry, new_pointer};
 use mg_reading::{Image, ReadFault, RowCoding, Rule};
@@ -98,6 +99,14 @@ fn data(b: &mut [u8], page: u32, owner: u32, cells: &[Vec<u8>]) -> Result<(), Fa
     Ok(())
 }
 
+// Makes an index page of KV that is a leaf without entries.
+fn leaf(b: &mut [u8], page: u32)
+    requires { length b.old ≡ SIZE }
+{
+    new_common(b, PageNo(page), NODE_KIND, 5, 0);
+    put_u16(b, END_AT, CONTENT_AT as u16);
+}
+
 // Appends a text, with as many zero bytes as a column of this width needs.
 fn put_text(bytes: &mut Vec<u8>, text: &[u8], width: usize) -> Result<(), Fail> {
     if text.len() > 40 {
@@ -159,10 +168,11 @@ fn database(alloc: Global, first: &[Said], more: &[Said]) -> Result<Made, Fail> 
     })
 }
 
-// The image of a database: the catalog on pages 3 and 4, KV on 5 and 6, a second table on 7 and 8.
+// The image of a database: the catalog on pages 3 and 4, KV on 5 and 6, a second table on 7 and 8,
+// and the root of an index of KV on 9.
 fn image_of(alloc: Global, made: &Made) -> Result<Image, Fail> {
     let mut pages = Vec::new(alloc);
-    for n in 0..9 {
+    for n in 0..10 {
         let mut page = [0u8; SIZE];
         match n {
             0 => header(&mut page, made.catalog),
@@ -174,6 +184,7 @@ fn image_of(alloc: Global, made: &Made) -> Result<Image, Fail> {
             6 => data(&mut page, 6, 5, &[])?,
             7 => pointers(&mut page, 7, made.second),
             8 => data(&mut page, 8, 7, &[])?,
+            9 => leaf(&mut page, 9),
             _ => {}
         }
         pages.push(Bytes::new(page.to_vec(alloc)?))?;
@@ -270,7 +281,13 @@ fn a_page_of_two_tables_is_reached_twice(rt: HostRuntime) -> Result<(), Fail> {
         (b"TT", b"", [5, 1, 0, 0], 1),
     ];
     let made = database(alloc, &NEW, &rows)?;
-    expect_tables(alloc, &made, &[(b"KV", 5), (b"T", 5)], false, "one first page")?;
+    expect_tables(
+        alloc,
+        &made,
+        &[(b"KV", 5), (b"T", 5)],
+        false,
+        "one first page",
+    )?;
     let mut made = database(alloc, &NEW, &SECOND)?;
     made.second = 6;
     expect_refused(alloc, &made, "a data page of another owner")
@@ -281,10 +298,19 @@ fn a_row_of_the_catalog_that_is_not_lawful_is_refused(rt: HostRuntime) -> Result
     let alloc = rt.alloc();
     let rows: [(Said, &'static str); 7] = [
         ((b"TT", b"", [7, 1, 0, 0], 0), "a table without its column"),
-        ((b"CT.00", b"K", [0, 3, 1, 0], 0), "a column without its table"),
+        (
+            (b"CT.00", b"K", [0, 3, 1, 0], 0),
+            "a column without its table",
+        ),
         ((b"IX", b"T", [9, 0, 0, 0], 0), "an index without its table"),
-        ((b"CKV.02", b"W", [0, 0, 1, 2], 0), "more columns than the table counts"),
-        ((b"IX", b"KV", [9, 1, 0, 0], 0), "an index that the table does not count"),
+        (
+            (b"CKV.02", b"W", [0, 0, 1, 2], 0),
+            "more columns than the table counts",
+        ),
+        (
+            (b"IX", b"KV", [9, 1, 0, 0], 0),
+            "an index that the table does not count",
+        ),
         ((b"CKV.01", b"V", [0, 0, 1, 1], 0), "two rows of one key"),
         ((b"QKV", b"", [0, 0, 0, 0], 0), "a row of no kind"),
     ];
@@ -300,7 +326,7 @@ fn a_table_stands_on_its_own_pages(rt: HostRuntime) -> Result<(), Fail> {
     let pointers: [(u8, &'static str); 4] = [
         (0, "no first page"),
         (6, "a data page as the first page"),
-        (9, "a page that is zero"),
+        (10, "a page that is zero"),
         (12, "a page that is not used"),
     ];
     for (pointer, what) in &pointers {
@@ -338,4 +364,33 @@ fn each_choice_of_limbo_transactions_has_to_be_lawful(rt: HostRuntime) -> Result
     expect_refused(alloc, &made, "one of two limbo transactions")?;
     made.states = [GONE, GONE, DONE];
     expect_tables(alloc, &made, &[(b"KV", 5)], true, "both dead")
+}
+
+#[test]
+fn an_index_stands_from_its_root(rt: HostRuntime) -> Result<(), Fail> {
+    let alloc = rt.alloc();
+    for (root, stands) in [(9, true), (0, false), (5, false), (10, false)] {
+        let rows: [Said; 2] = [
+            (b"TKV", b"", [5, 2, 0, 1], 0),
+            (b"IX", b"KV", [root, 1, 0, 0], 0),
+        ];
+        let made = database(alloc, &[NEW[0], NEW[1]], &rows)?;
+        if stands {
+            expect_tables(alloc, &made, &[(b"KV", 5)], true, "an empty index")?;
+        } else {
+            expect_refused(alloc, &made, "a root that is none")?;
+        }
+    }
+    let rows: [Said; 2] = [
+        (b"TKV", b"", [5, 2, 9, 1], 0),
+        (b"IX", b"KV", [9, 1, 0, 0], 0),
+    ];
+    let made = database(alloc, &[NEW[0], NEW[1]], &rows)?;
+    expect_tables(
+        alloc,
+        &made,
+        &[(b"KV", 5)],
+        false,
+        "one root of two indexes",
+    )
 }
