@@ -49,7 +49,7 @@ fn columns(alloc: Global) -> Result<Columns, Memory>
 }
 
 /// The catalog as a table, from its first pointer page on.
-pub fn catalog_table(alloc: Global, pointer: u32) -> Result<Table, Memory>
+pub(crate) fn catalog_table(alloc: Global, pointer: u32) -> Result<Table, Memory>
     ensures { IfOk result (λ table. table ≡ catalog_from pointer) }
 {
     Ok(Table {
@@ -64,7 +64,7 @@ pub fn catalog_table(alloc: Global, pointer: u32) -> Result<Table, Memory>
 }
 
 /// The first pointer page of the catalog.
-pub fn catalog_at(image: &Image) -> u32
+pub(crate) fn catalog_at(image: &Image) -> u32
     ensures { result ≡ (header_of (pages_in image.now)).catalog.0 }
 {
     get_u32(image.page(0), CATALOG_AT)
@@ -79,7 +79,7 @@ pub fn catalog_at(image: &Image) -> u32
 ///
 /// `Broken` only where the catalog's records are not lawful, or its rows are not under some choice;
 /// `Memory`.
-pub fn named_tables(
+pub(crate) fn named_tables(
     alloc: Global,
     image: &Image,
     coding: RowCoding,

@@ -1,5 +1,18 @@
-//! Where the tables of an image stand: a slow program that follows the catalog to each table's
-//! pages, and tests whether a page is reached twice.
+//! Where the tables of an image stand: a slow program that follows the catalog to the pages of each
+//! table, and tests whether a page is reached twice. Its contract is the definition.
+//!
+//! Owns: the layout of an image as a program has it (`Standing`), and what it is for an image to have
+//! one (`HasPages`): the pages of the catalog and of each table are as wanted, the catalog's records
+//! are lawful, and its rows name the tables, whichever limbo transactions are committed. An image
+//! with a lawful header has one layout at most.
+//!
+//! The catalog's rows are tested under each choice of the limbo transactions that changed the
+//! catalog, so the time doubles with each of them.
+//!
+//! Invariant: none, it keeps no state.
+//! Below: `mg_reading`, for the pages and the records of one table; `mg_catalog`, for the tables that
+//! rows name; `mg_trees`, for the pages of an index. Above: the test of soundness as a whole.
+//! Not here: the records of other tables than the catalog, and whether rows are found in indexes.
 #![tactic(auto)]
 
 mod catalog;
@@ -9,11 +22,11 @@ mod layout;
 mod linked;
 mod place;
 mod standing;
-mod stub;
 
-pub use catalog::{catalog_at, catalog_table, named_tables};
 pub use laws::one_layout;
 pub use layout::layout_of;
-pub use linked::{are_once, are_pages_once};
-pub use place::{stand_of, stands_of};
+pub use linked::are_pages_once;
 pub use standing::{Standing, TableStand};
+
+#[cfg(test)]
+mod tests;

@@ -8,9 +8,9 @@ ghost use Rattle.mg_image.specs.Tables.{Has, IsOnce, has, pages_of, tree_pages};
 ghost use Rattle.mg_layout.specs.Standing.{layout_in, stand_in, stands_in};
 
 use crate::standing::{Standing, TableStand};
-use crate::stub::{Level, Levels};
 use mg_base::Memory;
 use mg_reading::Image;
+use mg_trees::{Level, Levels};
 use std::alloc::Global;
 
 /// Whether a page is one of these.
@@ -29,7 +29,7 @@ pub(crate) fn has_page(pages: &[u32], n: u32) -> bool
 }
 
 /// Whether no page stands twice among these.
-pub fn are_once(pages: &[u32]) -> bool
+pub(crate) fn are_once(pages: &[u32]) -> bool
     ensures { IsTrue result ↔ IsOnce pages.now }
 {
     let mut rest = pages;

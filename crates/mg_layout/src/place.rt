@@ -4,15 +4,16 @@ ghost use Rattle.std.specs.Prelude.{◌≡◌, IfErr, IfOk};
 ghost use Rattle.mg_reading.specs.ImageView.{pages_in};
 ghost use Rattle.mg_reading.specs.Readable.{Refutes};
 ghost use Rattle.mg_image.specs.Indexes.{AreTrees};
+ghost use Rattle.mg_image.specs.Sound.{HasHeader};
 ghost use Rattle.mg_image.specs.Tables.{EachStand};
 ghost use Rattle.mg_layout.specs.HasPages.{IsStand, tables_in};
 ghost use Rattle.mg_layout.specs.Refusals.{CanAllStand, CanStand, HasTrees};
 ghost use Rattle.mg_layout.specs.Standing.{stand_in, stands_in};
 
 use crate::standing::TableStand;
-use crate::stub::{Levels, read_tree};
 use mg_model::{Index, Table};
 use mg_reading::{Image, ReadFault, Rule, check_data_pages, table_pages};
+use mg_trees::{Levels, read_tree};
 use std::alloc::Global;
 
 /// The levels of each of these indexes of the table of an owner.
@@ -26,6 +27,7 @@ fn read_trees(
     owner: u32,
     indexes: &[Index],
 ) -> Result<Vec<Levels>, ReadFault>
+    requires { HasHeader image.now.size (pages_in image.now) }
     ensures trees { IfOk result (λ trees.
         AreTrees image.now.size (pages_in image.now) owner indexes.now trees.items) }
     ensures broken { IfErr result (Refutes (HasTrees image.now owner indexes.now)) }
@@ -44,7 +46,8 @@ fn read_trees(
 /// # Errors
 ///
 /// `Broken` only where one of its pages is not as wanted; `Memory`.
-pub fn stand_of(alloc: Global, image: &Image, table: Table) -> Result<TableStand, ReadFault>
+pub(crate) fn stand_of(alloc: Global, image: &Image, table: Table) -> Result<TableStand, ReadFault>
+    requires { HasHeader image.now.size (pages_in image.now) }
     ensures stand { IfOk result (λ stand. IsStand image.now (stand_in stand)) }
     ensures table { IfOk result (λ stand. stand.table ≡ table) }
     ensures broken { IfErr result (Refutes (CanStand image.now table)) }
@@ -68,11 +71,12 @@ pub fn stand_of(alloc: Global, image: &Image, table: Table) -> Result<TableStand
 /// # Errors
 ///
 /// `Broken` only where a page of one is not as wanted; `Memory`.
-pub fn stands_of(
+pub(crate) fn stands_of(
     alloc: Global,
     image: &Image,
     tables: Vec<Table>,
 ) -> Result<Vec<TableStand>, ReadFault>
+    requires { HasHeader image.now.size (pages_in image.now) }
     ensures stands { IfOk result (λ stands.
         EachStand (IsStand image.now) (stands_in stands.items)) }
     ensures tables { IfOk result (λ stands. tables_in (stands_in stands.items) ≡ tables.items) }

@@ -1,8 +1,8 @@
 //! Where the catalog and the tables stand, as it is found.
 
-use crate::stub::Levels;
 use mg_model::Table;
 use mg_reading::TablePages;
+use mg_trees::Levels;
 
 /// A table of an image, and where it stands.
 #[derive(Debug, Drop)]
