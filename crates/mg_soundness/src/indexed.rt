@@ -13,6 +13,7 @@ use crate::records::TableRecords;
 use mg_base::{Memory, RecId, TxState};
 use mg_layout::{Standing, TableStand};
 use mg_reading::{Found, Image, shown};
+use mg_trees::is_found_in;
 use mg_value::Value;
 use std::alloc::Global;
 
@@ -29,7 +30,8 @@ fn is_row_found(
     ensures { IfOk result (λ found.
         IsTrue found ↔ IsFoundIn (pages_in image.now) stand.now.table.indexes p row.now) }
 {
-    Err(Memory)
+    let indexes = stand.table.indexes.as_slice();
+    is_found_in(alloc, image, indexes, &stand.trees, p, row)
 }
 
 /// Whether the row that a record shows is found in the indexes of its table.
