@@ -1,0 +1,4 @@
+pub mod Fate
+pub mod PageLaws
+pub mod SlotLaws
+pub mod Slots
