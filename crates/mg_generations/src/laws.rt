@@ -1,0 +1,62 @@
+//! The laws of versions. Each function does nothing: its contract is a law, so that another crate
+//! can cite it.
+
+ghost use Rattle.mg_generations.specs.Laws.{VersionsBegin, RowBegins};
+ghost use Rattle.mg_generations.specs.Laws.{VersionsGoOn, VersionsCome, OthersLeaveVersions};
+ghost use Rattle.mg_generations.specs.Laws.{GivenIsInFront, MadeIsInFront, OtherKeysAreLeft};
+ghost use Rattle.mg_generations.specs.Laws.{DeadLeaves, TakenBackLeaves};
+ghost use Rattle.mg_generations.specs.Laws.{UndoneLeavesVersions, UndoneLeavesAll};
+ghost use Rattle.mg_generations.specs.Laws.{VersionsShowViews, VersionsShowDatabase};
+ghost use Rattle.mg_generations.specs.Laws.{VersionsShowDurables, CommitShowsNewest};
+ghost use Rattle.mg_generations.specs.Laws.{ObstacleIsWriter, ObstacleIsNewest, OldTableHindersNot};
+ghost use Rattle.mg_generations.specs.Laws.{OthersLeaveTable, LeftTableStands};
+ghost use Rattle.mg_generations.specs.Laws.{LeftTableHindersNot, LeftCatalogStands};
+ghost use Rattle.mg_generations.specs.Laws.{LeftCatalogHindersNot};
+
+/// How versions come about.
+pub fn versions_begin()
+    ensures begin { VersionsBegin }
+    ensures row { RowBegins }
+    ensures come { VersionsCome }
+{}
+
+/// What each entry of a legal history makes of them.
+pub fn versions_go_on()
+    ensures onward { VersionsGoOn }
+    ensures others { OthersLeaveVersions }
+    ensures given { GivenIsInFront }
+    ensures made { MadeIsInFront }
+    ensures elsewhere { OtherKeysAreLeft }
+    ensures dead { DeadLeaves }
+{}
+
+/// What is left of them once a transaction takes back.
+pub fn versions_taken_back()
+    ensures left { TakenBackLeaves }
+    ensures undone { UndoneLeavesVersions }
+    ensures all { UndoneLeavesAll }
+{}
+
+/// What versions show.
+pub fn versions_show()
+    ensures views { VersionsShowViews }
+    ensures database { VersionsShowDatabase }
+    ensures durables { VersionsShowDurables }
+    ensures commit { CommitShowsNewest }
+{}
+
+/// Who of their writers is in the way of a write.
+pub fn obstacles_are_writers()
+    ensures writer { ObstacleIsWriter }
+    ensures newest { ObstacleIsNewest }
+    ensures old { OldTableHindersNot }
+{}
+
+/// A table that no entry writes stays as it was.
+pub fn tables_are_left()
+    ensures others { OthersLeaveTable }
+    ensures stands { LeftTableStands }
+    ensures hinders { LeftTableHindersNot }
+    ensures catalog { LeftCatalogStands }
+    ensures tables { LeftCatalogHindersNot }
+{}
