@@ -2,3 +2,4 @@ pub mod Fate
 pub mod PageLaws
 pub mod SlotLaws
 pub mod Slots
+pub mod Versions
