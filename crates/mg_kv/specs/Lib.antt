@@ -1,5 +1,10 @@
 pub mod Fate
+pub mod KeyTestLaws
 pub mod PageLaws
+pub mod ReadSlotLaws
+pub mod SlotCellLaws
 pub mod SlotLaws
 pub mod Slots
+pub mod TakenOutLaws
 pub mod Versions
+pub mod VersionsLaws
