@@ -1,10 +1,16 @@
+pub mod CleanedLaws
 pub mod Fate
 pub mod KeyTestLaws
+pub mod OwnOverLaws
 pub mod PageLaws
+pub mod PutOverLaws
 pub mod ReadSlotLaws
 pub mod SlotCellLaws
 pub mod SlotLaws
 pub mod Slots
 pub mod TakenOutLaws
+pub mod TakerLaws
 pub mod Versions
 pub mod VersionsLaws
+pub mod WriteOverLaws
+pub mod WrittenLaws

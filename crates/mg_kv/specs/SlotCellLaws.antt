@@ -1,5 +1,5 @@
 -- The cells of an image by the slots of KV's page, and what a change of a slot makes of them.
-use Rattle.std.proofs.Common.{◌≡◌, ◌≢◌, ◌⊎◌, inl, inr, refl, sym, ap, ◌∙◌, subst, ℕ, ◌≤◌, Bool, true, false, Option, None, Some}
+use Rattle.std.proofs.Common.{◌≡◌, ◌≢◌, ◌⊎◌, inl, inr, refl, ap, ◌∙◌, ℕ, ◌≤◌, Bool, true, false, Option, None, Some}
 use Rattle.std.specs.Prelude.{◌==◌, if◌then◌else◌, length}
 use Rattle.std.proofs.Math.Path.{fun_ext}
 use Rattle.std.proofs.lemmas.Bool.{cases_eq, eq-eqb, eqb-true, ne_eqb}
@@ -31,6 +31,18 @@ cells_with_slots old new slots here others = fun_ext (λ x. at x (cases_eq x.pag
         (ap new (place_of_slot x e) ∙ here x.slot)
     at x (inr ne) = rw (ne_eqb x.page.0 KV_ROWS.0 ne) (others x ne)
 
+-- at a place that is off KV's page, or whose slot stays, the cell stays
+pub cell_stays : (h : Cells) (old new : Slots) (y : RecId)
+    → (y.page.0 ≡ KV_ROWS.0 → cell_in_slot new y.slot ≡ cell_in_slot old y.slot)
+    → with_slots h new y ≡ with_slots h old y
+cell_stays h old new y same = at (y.page.0 == KV_ROWS.0) refl
+  where
+    at : (b : Bool) → (y.page.0 == KV_ROWS.0) ≡ b
+        → (if b then cell_in_slot new y.slot else h y)
+        ≡ (if b then cell_in_slot old y.slot else h y)
+    at true is = same (eqb-true y.page.0 KV_ROWS.0 is)
+    at false is = refl
+
 -- one slot has another cell
 pub slot_changes : (h : Cells) (old new : Slots) (n : ℕ) (cell : Option Cell)
     → cell_in_slot new n ≡ cell
@@ -38,15 +50,9 @@ pub slot_changes : (h : Cells) (old new : Slots) (n : ℕ) (cell : Option Cell)
     → Changes (with_slots h old) (with_slots h new) (kv_slot n) cell
 slot_changes h old new n cell here others = record {
   here = here;
-  others = λ y ne. at y ne (y.page.0 == KV_ROWS.0) refl;
+  others = λ y ne. cell_stays h old new y (λ page. others y.slot (λ e. ne
+      (place_of_slot y page ∙ ap kv_slot e)));
 }
-  where
-    at : (y : RecId) → y ≢ kv_slot n → (b : Bool) → (y.page.0 == KV_ROWS.0) ≡ b
-        → (if b then cell_in_slot new y.slot else h y)
-        ≡ (if b then cell_in_slot old y.slot else h y)
-    at y ne true is = others y.slot (λ e. ne (place_of_slot y (eqb-true y.page.0 KV_ROWS.0 is)
-        ∙ ap kv_slot e))
-    at y ne false is = refl
 
 -- a cell is put into a slot
 pub put_changes : (h : Cells) (slots : Slots) (n : ℕ) (cell : Cell) → n ≤ length slots

@@ -1,12 +1,11 @@
 -- A dead newest version is taken out of its record: each key has the versions that it had.
-use Rattle.std.proofs.Common.{◌≡◌, ◌≢◌, ◌⊎◌, inl, inr, refl, sym, ap, ◌∙◌, subst, arith, ℕ, ◌<◌, ◌≤◌, ℤ, Bool, true, false, List, [], ◌∷◌, Option, None, Some}
-use Rattle.std.specs.Prelude.{if◌then◌else◌, length, FitsSigned}
+use Rattle.std.proofs.Common.{◌≡◌, ◌≢◌, ◌⊎◌, inl, inr, refl, sym, ap, ◌∙◌, subst, arith, ℕ, ◌≤◌, ℤ, List, [], ◌∷◌, Option, None, Some}
+use Rattle.std.specs.Prelude.{length, FitsSigned}
 use Rattle.std.specs.Int.{w64}
 use Rattle.std.proofs.lemmas.Bool.{cases_eq}
 use Rattle.mg_base.specs.declared.numbers.RecId.{RecId}
 use Rattle.mg_base.specs.declared.transaction.TxState.{TxState}
 use Rattle.mg_base.specs.declared.transaction.TxState.TheVariants.{Limbo, Dead, Committed}
-use Rattle.mg_model.specs.Answers.{is_committed}
 use Rattle.mg_model.specs.declared.table.Table.{Table}
 use Rattle.mg_value.specs.declared.value.Value.{Value}
 use Rattle.mg_version.specs.declared.cell.Cell.{Cell}
@@ -15,9 +14,9 @@ use Rattle.mg_version.specs.declared.cell.Link.{Link}
 use Rattle.mg_version.specs.declared.cell.Version.{Version}
 use Rattle.mg_generations.specs.Generations.{Generation}
 use Rattle.mg_image.specs.declared.entry.Entry.{Entry}
-use Rattle.mg_image.specs.Form.{Coding, Row, plain_coding}
-use Rattle.mg_image.specs.RecordRules.{AreRecords, Each, EachBack, Facts, IsInLimbo, IsRecord, IsVersion, TakesKey, committed_in, table_in}
-use Rattle.mg_image.specs.Records.{Cells, Chain, Changes, Reading, Stands, key_of, newest_of, record_key, shown, writer}
+use Rattle.mg_image.specs.Form.{Coding, plain_coding}
+use Rattle.mg_image.specs.RecordRules.{AreRecords, Each, Facts, IsRecord, IsVersion, TakesKey}
+use Rattle.mg_image.specs.Records.{Cells, Chain, Changes, Reading, Stands, newest_of, record_key, writer}
 use Rattle.mg_image.specs.StepLaws.{chain_stays, put_cases, put_reading, step_sound, unread_sound}
 use Rattle.mg_first.specs.KvRecords.{anchor_unread}
 use Rattle.mg_first.specs.KvTable.{kv_table}
@@ -25,11 +24,11 @@ use Rattle.mg_first.specs.Puts.{kv_slot}
 use Rattle.mg_first.specs.declared.pages.TheConstants.{KV_ROWS}
 use Rattle.mg_kv.specs.declared.newest.Newest.{Newest}
 use Rattle.mg_kv.specs.ReadSlotLaws.{AreMoved, AreSlotRecords, IsNewest, ReadsKeyed, ReadsNewest, anchor_moved, freed_moved, newest_reads, put_moved, reads_nothing, used_within}
-use Rattle.mg_kv.specs.SlotCellLaws.{freed_changes, put_changes, slot_changes, with_slots}
+use Rattle.mg_kv.specs.SlotCellLaws.{slot_changes, with_slots}
 use Rattle.mg_kv.specs.SlotLaws.{freed_here, freed_others, put_here, put_others}
-use Rattle.mg_kv.specs.Slots.{Slots, backed, cell_in_slot, freed, put_in, taken_out}
+use Rattle.mg_kv.specs.Slots.{Slots, backed, cell_in_slot, freed, taken_out}
 use Rattle.mg_kv.specs.Versions.{AreVersions, kept, living}
-use Rattle.mg_kv.specs.VersionsLaws.{TakesAlike, TakesItsKey, others_are_read, put_is_read, versions_stay}
+use Rattle.mg_kv.specs.VersionsLaws.{TakesAlike, others_are_read, versions_stay}
 
 -- ---- versions without the newest
 
@@ -84,8 +83,7 @@ pub dead_in_front : (coding : Coding) (f : Facts) (key : ℤ) (e : Entry) (es : 
     → TakesAlike f (e ∷ es) es key
 dead_in_front coding f key e es is dead = record {
   forth = λ it.
-      let takes : TakesKey f es = taken_before f e es dead it.takes in
-      (
+      let takes : TakesKey f es = taken_before f e es dead it.takes in (
         record { takes = takes; keyed = keyed_behind coding f e es is takes ∙ it.keyed },
         living_behind coding f e es is dead,
       );
@@ -187,10 +185,14 @@ anchor_goes_back f state h slots r key n known is reads back dead =
         (kv_slot n.slot) (anchor_to n.version.back)
     change = slot_changes h slots (backed slots n.slot n.version.back) n.slot
         (anchor_to n.version.back)
-        (backed_here slots n.slot n.version.back (omega (arith,
-        used_within slots n.slot (cells.Anchor n.link) is.anchor)))
-        (λ m ne. backed_others slots n.slot n.version.back m (omega (arith,
-        used_within slots n.slot (cells.Anchor n.link) is.anchor)) ne)
+        (backed_here slots n.slot n.version.back (omega (
+          arith,
+          used_within slots n.slot (cells.Anchor n.link) is.anchor,
+        )))
+        (λ m ne. backed_others slots n.slot n.version.back m (omega (
+          arith,
+          used_within slots n.slot (cells.Anchor n.link) is.anchor,
+        )) ne)
 
     unread : (q : RecId) → Stands (r q) (kv_slot n.slot) → ⊥
     unread = anchor_unread plain_coding f (with_slots h slots) r known.records (kv_slot n.slot)
@@ -223,8 +225,11 @@ taken_out_changes h slots key n is = slot_changes h (backed slots n.slot n.versi
     within = omega (arith, used_within slots n.slot (cells.Anchor n.link) is.anchor)
 
     within_freed : n.slot ≤ length (freed n.link.rec.slot slots)
-    within_freed = omega (arith, used_within (freed n.link.rec.slot slots) n.slot
-        (cells.Anchor n.link) (freed_others n.link.rec.slot slots n.slot apart ∙ is.anchor))
+    within_freed = omega (
+      arith,
+      used_within (freed n.link.rec.slot slots) n.slot
+          (cells.Anchor n.link) (freed_others n.link.rec.slot slots n.slot apart ∙ is.anchor),
+    )
 
     here : cell_in_slot (taken_out n slots) n.link.rec.slot ≡ None
     here = backed_others (freed n.link.rec.slot slots) n.slot n.version.back n.link.rec.slot
@@ -242,9 +247,12 @@ taken_out_changes h slots key n is = slot_changes h (backed slots n.slot n.versi
 taken_out_moved : (slots : Slots) (key : ℤ) (n : Newest) → IsNewest key slots n → AreMoved slots
     → AreMoved (taken_out n slots)
 taken_out_moved slots key n is moved = backed_moved (freed n.link.rec.slot slots) n.slot
-    n.version.back (omega (arith, used_within (freed n.link.rec.slot slots) n.slot
-    (cells.Anchor n.link) (freed_others n.link.rec.slot slots n.slot
-    (apart_slots key slots n is) ∙ is.anchor))) (freed_moved n.link.rec.slot slots moved)
+    n.version.back (omega (
+      arith,
+      used_within (freed n.link.rec.slot slots) n.slot
+          (cells.Anchor n.link) (freed_others n.link.rec.slot slots n.slot
+          (apart_slots key slots n is) ∙ is.anchor),
+    )) (freed_moved n.link.rec.slot slots moved)
 
 -- a slot of KV's page is on it
 pub not_a_slot : (p : RecId) (slot : ℕ) → p.page.0 ≢ KV_ROWS.0 → p ≢ kv_slot slot
