@@ -1,10 +1,15 @@
 pub mod CleanedLaws
+pub mod EndedVersionsLaws
 pub mod Fate
 pub mod KeyTestLaws
 pub mod OwnOverLaws
 pub mod PageLaws
 pub mod PutOverLaws
 pub mod ReadSlotLaws
+pub mod RecordLaws
+pub mod SettledVersionsLaws
+pub mod SettlingLaws
+pub mod ShownRowsLaws
 pub mod SlotCellLaws
 pub mod SlotLaws
 pub mod Slots

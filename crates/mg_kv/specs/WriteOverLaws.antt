@@ -162,14 +162,19 @@ free_is_place f state h slots r key slot known none free = record {
 
 -- ---- the row is written
 
--- nobody is in the way: the newest version of the record is the transaction's own, or committed
-abbrev pub IsFree : (ℕ → TxState) → ℕ → Option Newest → Type 0
-IsFree state t None = Unit {0}
-IsFree state t (Some n) = (n.version.tx.0 ≡ t) ⊎ (state n.version.tx.0 ≡ Committed)
+-- the writer of the newest version of a record
+abbrev pub writer_of : Option Newest → Option ℕ
+writer_of None = None
+writer_of (Some n) = Some n.version.tx.0
+
+-- this writer, if there is one, is in nobody's way: it is the transaction itself, or committed
+abbrev pub IsNoObstacle : (ℕ → TxState) → ℕ → Option ℕ → Type 0
+IsNoObstacle state t None = Unit {0}
+IsNoObstacle state t (Some u) = (u ≡ t) ⊎ (state u ≡ Committed)
 
 pub writes_over : (f : Facts) (state : ℕ → TxState) (h : Cells) (slots : Slots) (r : Reading)
     (t : ℕ) (key value : ℤ) → AreSlotRecords f state h slots r → IsWriting f state t key value
-    → IsFree state t (taker state key slots)
+    → IsNoObstacle state t (writer_of (taker state key slots))
     → WritesRow f state h (written_over t key value (taker state key slots) slots) r t key value
 writes_over f state h slots r t key value known writing free =
     at (taker state key slots) refl free
@@ -200,7 +205,7 @@ writes_over f state h slots r t key value known writing free =
         not_own same =
             let both : Committed ≡ Active = sym was ∙ (ap state same ∙ writing.active) in absurd cc
 
-    at : (o : Option Newest) → taker state key slots ≡ o → IsFree state t o
+    at : (o : Option Newest) → taker state key slots ≡ o → IsNoObstacle state t (writer_of o)
         → WritesRow f state h (written_over t key value o slots) r t key value
     at None none free = made none (make_puts slots t key value known.moved)
     at (Some n) some (inl is) = own n (taker_is state key slots n some) is

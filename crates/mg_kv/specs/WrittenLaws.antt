@@ -1,6 +1,6 @@
 -- What a write makes of the records: its key has the row in front of its other versions, or in place
 -- of the transaction's own, and every other key has what it had.
-use Rattle.std.proofs.Common.{◌≡◌, ◌≢◌, ◌⊎◌, inr, refl, sym, ap, ◌∙◌, subst, ℕ, ℤ, true, false, List, [], ◌∷◌, Option, None, Some}
+use Rattle.std.proofs.Common.{◌≡◌, ◌≢◌, inr, refl, sym, ap, ◌∙◌, subst, ℕ, ℤ, true, false, List, [], ◌∷◌, Option, None, Some}
 use Rattle.std.specs.Prelude.{◌&&◌, not, map, if◌then◌else◌, FitsSigned}
 use Rattle.std.specs.Int.{w64}
 use Rattle.mg_base.specs.declared.numbers.RecId.{RecId}
@@ -11,12 +11,15 @@ use Rattle.mg_version.specs.declared.cell.Cell.TheVariants as cells
 use Rattle.mg_version.specs.declared.cell.Version.{Version}
 use Rattle.mg_generations.specs.Generations.{Generation, put}
 use Rattle.mg_image.specs.declared.entry.Entry.{Entry}
-use Rattle.mg_image.specs.Form.{plain_coding}
+use Rattle.mg_image.specs.Form.{Pages, plain_coding}
 use Rattle.mg_image.specs.RecordRules.{AreRecords, Facts, TakesKey}
-use Rattle.mg_image.specs.Records.{Cells, Reading, writer}
+use Rattle.mg_image.specs.Records.{Cells, Reading, cells_of, slot_cell, writer}
 use Rattle.mg_first.specs.KvTable.{kv_row}
-use Rattle.mg_first.specs.Puts.{kv_slot}
+use Rattle.mg_first.specs.Puts.{OnlyPage, kv_slot}
+use Rattle.mg_first.specs.KvCellLaws.{there_is_read}
 use Rattle.mg_first.specs.Storing.{HasCell}
+use Rattle.mg_slots.specs.DataPage.{cell_of}
+use Rattle.mg_version.specs.declared.cell.Cell.{Cell}
 use Rattle.mg_first.specs.declared.pages.TheConstants.{KV_ROWS}
 use Rattle.mg_kv.specs.declared.newest.Newest.{Newest}
 use Rattle.mg_kv.specs.CleanedLaws.{CleansAll, IsClean, cleans_all}
@@ -24,17 +27,17 @@ use Rattle.mg_kv.specs.PutOverLaws.{IsWriting, WritesRow}
 use Rattle.mg_kv.specs.ReadSlotLaws.{AreMoved, AreSlotRecords, ReadsKeyed, newest_reads}
 use Rattle.mg_kv.specs.SlotCellLaws.{cells_with_slots, with_slots}
 use Rattle.mg_kv.specs.Slots.{HasSlots, Slots, cell_in_slot, cleaned, is_dead, taker, written, written_over}
-use Rattle.mg_kv.specs.TakerLaws.{IsTaker, committed_shows, taker_is}
+use Rattle.mg_kv.specs.TakerLaws.{nobody_takes, IsTaker, committed_shows, taker_is}
 use Rattle.mg_kv.specs.Versions.{AreLive, AreVersions, generation_of, kept, living}
-use Rattle.mg_kv.specs.VersionsLaws.{TakesItsKey, versions_of_taker}
-use Rattle.mg_kv.specs.WriteOverLaws.{IsFree, writes_over}
+use Rattle.mg_kv.specs.VersionsLaws.{versions_of_nobody, TakesItsKey, versions_of_taker}
+use Rattle.mg_kv.specs.WriteOverLaws.{IsNoObstacle, writer_of, writes_over}
 
--- ---- who is in the way
+-- ---- who may be in the way
 
--- nobody is in the way: the newest of these versions is the transaction's own, or committed
-abbrev pub AreFree : (ℕ → TxState) → ℕ → List Generation → Type 0
-AreFree state t [] = Unit {0}
-AreFree state t (g ∷ gs) = (g.writer ≡ t) ⊎ (state g.writer ≡ Committed)
+-- the writer of the newest of these versions
+abbrev pub newest_writer : List Generation → Option ℕ
+newest_writer [] = None
+newest_writer (g ∷ gs) = Some g.writer
 
 -- a record whose newest version is not dead takes its key as its slot says
 living_takes : (f : Facts) (state : ℕ → TxState) (e : Entry) (es : List Entry) → AreLive f state
@@ -49,29 +52,27 @@ living_takes f state e es live takes_it alive = at (state (writer e)) refl
     at Committed was = committed_shows f state e es live (live.states (writer e) ∙ ap kept was) was
         takes_it
 
-living_free : (f : Facts) (state : ℕ → TxState) (t : ℕ) (e : Entry) (es : List Entry)
-    → f.state (writer e) ≢ Dead → AreFree state t (living f.state (e ∷ es))
-    → (writer e ≡ t) ⊎ (state (writer e) ≡ Committed)
-living_free f state t e es alive = at (f.state (writer e)) refl
+living_writer : (f : Facts) (e : Entry) (es : List Entry) → f.state (writer e) ≢ Dead
+    → newest_writer (living f.state (e ∷ es)) ≡ Some (writer e)
+living_writer f e es alive = at (f.state (writer e)) refl
   where
     at : (s : TxState) → f.state (writer e) ≡ s
-        → AreFree state t (if is_dead s then map generation_of es else map generation_of (e ∷ es))
-        → (writer e ≡ t) ⊎ (state (writer e) ≡ Committed)
-    at Dead is free = absurd (alive is)
-    at Active is free = free
-    at Limbo is free = free
-    at Committed is free = free
+        → newest_writer (if is_dead s then map generation_of es else map generation_of (e ∷ es))
+        ≡ Some (writer e)
+    at Dead is = absurd (alive is)
+    at Active is = refl
+    at Limbo is = refl
+    at Committed is = refl
 
 -- the newest version of the record that takes a key is the newest of the versions of the key
-free_in_slots : (f : Facts) (state : ℕ → TxState) (h : Cells) (slots : Slots) (r : Reading) (t : ℕ)
+taker_writes : (f : Facts) (state : ℕ → TxState) (h : Cells) (slots : Slots) (r : Reading)
     (key : ℤ) (gs : List Generation) (n : Newest) → AreSlotRecords f state h slots r
     → ((m : ℕ) → IsClean f key (r (kv_slot m))) → AreVersions f r key gs
     → IsTaker state key slots n → ReadsKeyed f (with_slots h slots) r key n
-    → AreFree state t gs → IsFree state t (Some n)
-free_in_slots f state h slots r t key gs n known clean are it found free =
-    subst (λ (v : Version). (v.tx.0 ≡ t) ⊎ (state v.tx.0 ≡ Committed)) found.version
-    (living_free f state t found.reads.first found.reads.older alive
-    (subst (AreFree state t) same free))
+    → newest_writer gs ≡ Some n.version.tx.0
+taker_writes f state h slots r key gs n known clean are it found =
+    ap newest_writer same ∙ (living_writer f found.reads.first found.reads.older alive
+    ∙ ap (λ (v : Version). Some v.tx.0) found.version)
   where
     alive : f.state (writer found.reads.first) ≢ Dead
     alive = subst (IsClean f key) found.reads.parts (clean n.slot) found.keyed
@@ -88,34 +89,36 @@ free_in_slots f state h slots r t key gs n known clean are it found free =
     same = versions_of_taker plain_coding f (with_slots h slots) r key gs (kv_slot n.slot)
         known.records are known.live.here taken ∙ ap (living f.state) found.reads.parts
 
--- where nobody is in the way among the versions of the key, nobody is on the cleaned page
-pub free_once_clean : (f : Facts) (state : ℕ → TxState) (h : Cells) (slots : Slots) (r : Reading)
-    (t : ℕ) (key : ℤ) (gs : List Generation) → AreSlotRecords f state h slots r
-    → FitsSigned w64 key → AreVersions f r key gs → AreFree state t gs
-    → IsFree state t (taker state key (cleaned state key slots))
-free_once_clean f state h slots r t key gs known fits are free =
+-- the record that takes a key on the cleaned page has the newest of the versions of the key
+pub taker_is_newest : (f : Facts) (state : ℕ → TxState) (h : Cells) (slots : Slots) (r : Reading)
+    (key : ℤ) (gs : List Generation) → AreSlotRecords f state h slots r → FitsSigned w64 key
+    → AreVersions f r key gs
+    → newest_writer gs ≡ writer_of (taker state key (cleaned state key slots))
+taker_is_newest f state h slots r key gs known fits are =
     by (cleans_all f state h slots r key known fits)
   where
     by : CleansAll f state h slots r key
-        → IsFree state t (taker state key (cleaned state key slots))
+        → newest_writer gs ≡ writer_of (taker state key (cleaned state key slots))
     by done = at (taker state key (cleaned state key slots)) refl
       where
         at : (o : Option Newest) → taker state key (cleaned state key slots) ≡ o
-            → IsFree state t o
-        at None none = tt
+            → newest_writer gs ≡ writer_of o
+        at None none = ap newest_writer (versions_of_nobody f done.reading key gs
+            (done.keeps.versions key gs are) (nobody_takes f state h (cleaned state key slots)
+            done.reading key done.records none))
         at (Some n) some =
             let it : IsTaker state key (cleaned state key slots) n =
             taker_is state key (cleaned state key slots) n some in
-            free_in_slots f state h (cleaned state key slots) done.reading t key gs n done.records
+            taker_writes f state h (cleaned state key slots) done.reading key gs n done.records
             done.clean (done.keeps.versions key gs are) it
             (newest_reads f state h (cleaned state key slots) done.reading key n done.records fits
-            it.is) free
+            it.is)
 
 -- ---- a row is written
 
 pub writes_row : (f : Facts) (state : ℕ → TxState) (h : Cells) (slots : Slots) (r : Reading)
     (t : ℕ) (key value : ℤ) → AreSlotRecords f state h slots r → IsWriting f state t key value
-    → IsFree state t (taker state key (cleaned state key slots))
+    → IsNoObstacle state t (writer_of (taker state key (cleaned state key slots)))
     → WritesRow f state h (written state t key value slots) r t key value
 unfolding written
 writes_row f state h slots r t key value known writing free =
@@ -141,22 +144,22 @@ writes_row f state h slots r t key value known writing free =
     by done = then_ done (writes_over f state h (cleaned state key slots) done.reading t key value
         done.records writing free)
 
--- the cells of a page have no version in a primary slot
-pub page_is_moved : (page : List ℕ) (slots : Slots) → HasSlots page slots → AreMoved slots
-page_is_moved page slots has n v is = at (has.some n (cells.Version v) is)
-  where
-    at : HasCell page n (cells.Version v) → v.primary ≡ false
-    at there = there.spelled.is_cell.moved
+-- ---- by the cells of an image
+
+-- KV's page has these slots in an image, and no version stands in its record's primary slot
+pub record HasKvSlots (h : Cells) (slots : Slots) : Type 0 where
+  pub each : (n : ℕ) → h (kv_slot n) ≡ cell_in_slot slots n
+  pub moved : AreMoved slots
 
 -- The cells of an image, before and after a row is written on KV's page.
 pub record WritesCells (old new : Cells) (state : ℕ → TxState) (t : ℕ) (key value : ℤ)
     (slots : Slots) : Type 0 where
-  pub before : (n : ℕ) → old (kv_slot n) ≡ cell_in_slot slots n
+  pub before : HasKvSlots old slots
   pub after : (n : ℕ) → new (kv_slot n) ≡ cell_in_slot (written state t key value slots) n
   pub off : (x : RecId) → x.page.0 ≢ KV_ROWS.0 → new x ≡ old x
-  pub moved : AreMoved slots
 
--- The records once a row is written.
+-- The records once a row is written: its key has the row in front of its other versions, or in place
+-- of the transaction's own, each other key has what it had, and off KV's page the same is read.
 pub record WrittenRecords (f : Facts) (new : Cells) (r : Reading) (t : ℕ) (key value : ℤ)
     : Type 0 where
   pub reading : Reading
@@ -167,24 +170,26 @@ pub record WrittenRecords (f : Facts) (new : Cells) (r : Reading) (t : ℕ) (key
   pub elsewhere : (other : ℤ) (gs : List Generation) → other ≢ key → AreVersions f r other gs
       → AreVersions f reading other gs
 
+slot_records : (f : Facts) (state : ℕ → TxState) (h : Cells) (slots : Slots) (r : Reading)
+    → AreLive f state → AreRecords plain_coding f h r → HasKvSlots h slots
+    → AreSlotRecords f state h slots r
+slot_records f state h slots r live are has = record {
+  live = live;
+  records = subst (λ (cs : Cells). AreRecords plain_coding f cs r)
+      (cells_with_slots h h slots has.each (λ x off. refl)) are;
+  moved = has.moved;
+}
+
 -- a row is written where nobody is in the way
 pub written_records : (f : Facts) (state : ℕ → TxState) (old new : Cells) (slots : Slots)
-    (r : Reading) (t : ℕ) (key value : ℤ) (gs : List Generation) → AreLive f state
-    → AreRecords plain_coding f old r → WritesCells old new state t key value slots
-    → IsWriting f state t key value → AreVersions f r key gs → AreFree state t gs
+    (r : Reading) (t : ℕ) (key value : ℤ) → AreLive f state → AreRecords plain_coding f old r
+    → WritesCells old new state t key value slots → IsWriting f state t key value
+    → IsNoObstacle state t (writer_of (taker state key (cleaned state key slots)))
     → WrittenRecords f new r t key value
-written_records f state old new slots r t key value gs live are writes writing versions free =
-    by (writes_row f state old slots r t key value known writing
-    (free_once_clean f state old slots r t key gs known writing.key_fits versions free))
+written_records f state old new slots r t key value live are writes writing free =
+    by (writes_row f state old slots r t key value
+    (slot_records f state old slots r live are writes.before) writing free)
   where
-    known : AreSlotRecords f state old slots r
-    known = record {
-      live = live;
-      records = subst (λ (h : Cells). AreRecords plain_coding f h r)
-          (cells_with_slots old old slots writes.before (λ x off. refl)) are;
-      moved = writes.moved;
-    }
-
     by : WritesRow f state old (written state t key value slots) r t key value
         → WrittenRecords f new r t key value
     by row = record {
@@ -196,3 +201,42 @@ written_records f state old new slots r t key value gs live are writes writing v
       here = row.here;
       elsewhere = row.elsewhere;
     }
+
+-- who may be in the way is the writer of the newest version of the key
+pub obstacle_is_newest : (f : Facts) (state : ℕ → TxState) (h : Cells) (slots : Slots)
+    (r : Reading) (key : ℤ) (gs : List Generation) → AreLive f state
+    → AreRecords plain_coding f h r → HasKvSlots h slots → FitsSigned w64 key
+    → AreVersions f r key gs
+    → newest_writer gs ≡ writer_of (taker state key (cleaned state key slots))
+obstacle_is_newest f state h slots r key gs live are has fits =
+    taker_is_newest f state h slots r key gs (slot_records f state h slots r live are has) fits
+
+-- ---- by the pages of an image
+
+-- the cells of KV's page are those in its slots
+pub page_has_slots : (pages : Pages) (slots : Slots) → HasSlots (pages KV_ROWS.0) slots
+    → HasKvSlots (cells_of pages) slots
+page_has_slots pages slots has = record {
+  each = λ n. at n (cell_in_slot slots n) refl;
+  moved = λ n v is. moved n v (has.some n (cells.Version v) is);
+}
+  where
+    at : (n : ℕ) (c : Option Cell) → cell_in_slot slots n ≡ c
+        → cells_of pages (kv_slot n) ≡ cell_in_slot slots n
+    at n None is = ap slot_cell (has.none n is) ∙ sym is
+    at n (Some cell) is = there_is_read pages n cell (has.some n cell is) ∙ sym is
+
+    moved : (n : ℕ) (v : Version) → HasCell (pages KV_ROWS.0) n (cells.Version v)
+        → v.primary ≡ false
+    moved n v there = there.spelled.is_cell.moved
+
+-- where KV's page alone is changed as a write does, its cells are
+pub pages_write_cells : (old new : Pages) (state : ℕ → TxState) (t : ℕ) (key value : ℤ)
+    (slots : Slots) → HasSlots (old KV_ROWS.0) slots
+    → HasSlots (new KV_ROWS.0) (written state t key value slots) → OnlyPage old new KV_ROWS.0
+    → WritesCells (cells_of old) (cells_of new) state t key value slots
+pages_write_cells old new state t key value slots has also only = record {
+  before = page_has_slots old slots has;
+  after = (page_has_slots new (written state t key value slots) also).each;
+  off = λ x ne. ap (λ (b : List ℕ). slot_cell (cell_of b x.slot)) (only x.page.0 ne);
+}

@@ -12,9 +12,11 @@
 
 mod cells;
 mod fates;
+mod laws;
 mod newest;
 mod writing;
 
 pub use fates::Fates;
+pub use laws::{rows_are_written, transactions_end, versions_are_shown};
 pub use newest::Newest;
 pub use writing::write;

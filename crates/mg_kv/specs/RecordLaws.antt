@@ -1,0 +1,90 @@
+-- The laws of the records of KV while the program works on them.
+use Rattle.std.specs.Prelude.{◌≡◌, ◌≤◌, ℕ, ℤ, true, List, FitsSigned}
+use Rattle.std.specs.Int.{w64}
+use Rattle.mg_base.specs.declared.numbers.RecId.{RecId}
+use Rattle.mg_base.specs.declared.transaction.TxState.{TxState}
+use Rattle.mg_base.specs.declared.transaction.TxState.TheVariants.{Dead, Committed}
+use Rattle.mg_model.specs.declared.table.Table.{Table}
+use Rattle.mg_generations.specs.Generations.{Generation, is_newest_by, without_newest_by}
+use Rattle.mg_image.specs.declared.entry.Entry.{Entry}
+use Rattle.mg_image.specs.Form.{plain_coding}
+use Rattle.mg_image.specs.Held.{AreChanges, AreRows, HasLimbo}
+use Rattle.mg_image.specs.RecordRules.{AreRecords, Facts, committed_in}
+use Rattle.mg_image.specs.Records.{Cells, Reading}
+use Rattle.mg_first.specs.KvTable.{kv_table}
+use Rattle.mg_kv.specs.EndedVersionsLaws.{DrawsNumber, EndsAlone}
+use Rattle.mg_kv.specs.PutOverLaws.{IsWriting}
+use Rattle.mg_kv.specs.SettledVersionsLaws.{GivesCommitted, GivesRow, without_dead_newest}
+use Rattle.mg_kv.specs.SettlingLaws.{SettlesFacts}
+use Rattle.mg_kv.specs.ShownRowsLaws.{limbo_changes, shown_rows}
+use Rattle.mg_kv.specs.Slots.{Slots, cleaned, taker}
+use Rattle.mg_kv.specs.Versions.{AreLive, AreVersions}
+use Rattle.mg_kv.specs.WriteOverLaws.{IsNoObstacle, writer_of}
+use Rattle.mg_kv.specs.WrittenLaws.{HasKvSlots, WritesCells, WrittenRecords, newest_writer}
+
+-- ---- a row is written
+
+-- where nobody is in the way, a write puts the row in front of the versions of its key
+abbrev pub RowIsWritten : Type 0
+RowIsWritten = (f : Facts) (state : ℕ → TxState) (old new : Cells) (slots : Slots) (r : Reading)
+    (t : ℕ) (key value : ℤ) → AreLive f state → AreRecords plain_coding f old r
+    → WritesCells old new state t key value slots → IsWriting f state t key value
+    → IsNoObstacle state t (writer_of (taker state key (cleaned state key slots)))
+    → WrittenRecords f new r t key value
+
+-- who may be in the way is the writer of the newest version of the key
+abbrev pub ObstacleIsNewest : Type 0
+ObstacleIsNewest = (f : Facts) (state : ℕ → TxState) (h : Cells) (slots : Slots) (r : Reading)
+    (key : ℤ) (gs : List Generation) → AreLive f state → AreRecords plain_coding f h r
+    → HasKvSlots h slots → FitsSigned w64 key → AreVersions f r key gs
+    → newest_writer gs ≡ writer_of (taker state key (cleaned state key slots))
+
+-- ---- transactions end
+
+-- the records stay lawful
+abbrev pub RecordsSettle : Type 0
+RecordsSettle = (f g : Facts) (h : Cells) (r : Reading) → SettlesFacts f g r
+    → AreRecords plain_coding f h r → AreRecords plain_coding g h r
+
+-- a key has the versions that it had, without that of a transaction that is dead now; the newest
+-- that is left gives a row, where it is committed
+abbrev pub VersionsSettle : Type 0
+VersionsSettle = (f g : Facts) (h : Cells) (r : Reading) (key : ℤ) (gs : List Generation)
+    → SettlesFacts f g r → AreRecords plain_coding f h r → AreVersions f r key gs
+    → GivesCommitted g.state (without_dead_newest g.state gs)
+    → AreVersions g r key (without_dead_newest g.state gs)
+
+-- where one transaction is rolled back, its own version is gone
+abbrev pub DeadIsGone : Type 0
+DeadIsGone = (f g : Facts) (h : Cells) (r : Reading) (t : ℕ) (key : ℤ) (gs : List Generation)
+    → EndsAlone f g t → g.state t ≡ Dead → g.oldest ≤ t → AreRecords plain_coding f h r
+    → AreVersions f r key gs → (is_newest_by t gs ≡ true → GivesRow (without_newest_by t gs))
+    → AreVersions g r key (without_newest_by t gs)
+
+-- where one transaction is committed, its own version stays
+abbrev pub CommittedStays : Type 0
+CommittedStays = (f g : Facts) (h : Cells) (r : Reading) (t : ℕ) (key : ℤ) (gs : List Generation)
+    → EndsAlone f g t → g.state t ≡ Committed → AreRecords plain_coding f h r
+    → AreVersions f r key gs → (is_newest_by t gs ≡ true → GivesRow gs)
+    → AreVersions g r key gs
+
+-- a number that is drawn changes nothing
+abbrev pub DrawnChangesNothing : Type 0
+DrawnChangesNothing = (f g : Facts) (h : Cells) (r : Reading) (u : ℕ) (key : ℤ)
+    (gs : List Generation) → DrawsNumber f g u → AreRecords plain_coding f h r
+    → AreVersions f r key gs → AreVersions g r key gs
+
+-- ---- what is shown
+
+-- the versions of all keys say which rows the records show
+abbrev pub RowsAreShown : Type 0
+RowsAreShown = (f : Facts) (h : Cells) (r : Reading) (versions : ℤ → List Generation)
+    → AreRecords plain_coding f h r → ((key : ℤ) → AreVersions f r key (versions key))
+    → AreRows f (committed_in f) r kv_table (shown_rows (committed_in f) versions)
+
+-- and which changes of limbo transactions, where only KV has any
+abbrev pub LimboIsShown : Type 0
+LimboIsShown = (f : Facts) (h : Cells) (r : Reading) (versions : ℤ → List Generation)
+    → AreRecords plain_coding f h r → ((key : ℤ) → AreVersions f r key (versions key))
+    → ((p : RecId) (table : Table) (e : Entry) → HasLimbo f r p table e → table ≡ kv_table)
+    → AreChanges f r (limbo_changes f.state versions)

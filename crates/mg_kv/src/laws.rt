@@ -1,0 +1,28 @@
+//! The laws of the records of KV. Each function does nothing: its contract is a law, so that
+//! another crate can cite it.
+
+ghost use Rattle.mg_kv.specs.RecordLaws.{RowIsWritten, ObstacleIsNewest};
+ghost use Rattle.mg_kv.specs.RecordLaws.{RecordsSettle, VersionsSettle};
+ghost use Rattle.mg_kv.specs.RecordLaws.{DeadIsGone, CommittedStays, DrawnChangesNothing};
+ghost use Rattle.mg_kv.specs.RecordLaws.{RowsAreShown, LimboIsShown};
+
+/// What a write makes of the records.
+pub fn rows_are_written()
+    ensures written { RowIsWritten }
+    ensures obstacle { ObstacleIsNewest }
+{}
+
+/// What becomes of them where transactions end.
+pub fn transactions_end()
+    ensures records { RecordsSettle }
+    ensures versions { VersionsSettle }
+    ensures dead { DeadIsGone }
+    ensures committed { CommittedStays }
+    ensures drawn { DrawnChangesNothing }
+{}
+
+/// What they show.
+pub fn versions_are_shown()
+    ensures rows { RowsAreShown }
+    ensures limbo { LimboIsShown }
+{}
