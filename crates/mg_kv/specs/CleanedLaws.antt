@@ -1,5 +1,5 @@
--- The dead newest versions with a key are taken out of all records: each key has the versions that it
--- had, and of the records with the key none has a dead newest version.
+-- The dead newest versions with a key are taken out of all records: each key has the versions that
+-- it had, and of the records with the key none has a dead newest version.
 use Rattle.std.proofs.Common.{◌≡◌, ◌≢◌, ◌⊎◌, inl, inr, refl, sym, ap, ◌∙◌, arith, ℕ, zero, suc, ◌<◌, ◌≤◌, ℤ, Bool, true, false, List, [], ◌∷◌, Option, None, Some}
 use Rattle.std.specs.Prelude.{length, FitsSigned}
 use Rattle.std.specs.Int.{w64}

@@ -2,6 +2,8 @@ pub mod CleanedLaws
 pub mod EndedVersionsLaws
 pub mod Fate
 pub mod KeyTestLaws
+pub mod LimboShownLaws
+pub mod OlderVersionsLaws
 pub mod OwnOverLaws
 pub mod PageLaws
 pub mod PutOverLaws

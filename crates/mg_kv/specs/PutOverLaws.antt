@@ -25,7 +25,8 @@ use Rattle.mg_first.specs.declared.pages.TheConstants.{KV_ROWS}
 use Rattle.mg_kv.specs.ReadSlotLaws.{AreMoved, AreSlotRecords}
 use Rattle.mg_kv.specs.SlotCellLaws.{cell_stays, place_of_slot, with_slots}
 use Rattle.mg_kv.specs.Slots.{Slots, cell_in_slot}
-use Rattle.mg_kv.specs.TakenOutLaws.{not_a_slot, nothing_taken}
+use Rattle.mg_kv.specs.OlderVersionsLaws.{nothing_taken}
+use Rattle.mg_kv.specs.TakenOutLaws.{not_a_slot}
 use Rattle.mg_kv.specs.Versions.{AreVersions, generation_of, kept, living}
 use Rattle.mg_kv.specs.VersionsLaws.{TakesItsKey, others_are_read, put_is_read, takes_neither, versions_are, versions_stay}
 
@@ -38,8 +39,8 @@ pub record IsWriting (f : Facts) (state : ℕ → TxState) (t : ℕ) (key value 
   pub key_fits : FitsSigned w64 key
   pub value_fits : FitsSigned w64 value
 
--- A row is written: its key has the version in front of the others, or in place of the transaction's
--- own; each other key has what it had, and off KV's page the same is read.
+-- A row is written: its key has the version in front of the others, or in place of the
+-- transaction's own; each other key has what it had, and off KV's page the same is read.
 pub record WritesRow (f : Facts) (state : ℕ → TxState) (h : Cells) (new : Slots) (r : Reading)
     (t : ℕ) (key value : ℤ) : Type 0 where
   pub reading : Reading
@@ -50,8 +51,8 @@ pub record WritesRow (f : Facts) (state : ℕ → TxState) (h : Cells) (new : Sl
   pub elsewhere : (other : ℤ) (gs : List Generation) → other ≢ key → AreVersions f r other gs
       → AreVersions f reading other gs
 
--- A slot is the place for a row with a key: all that is read of it is committed and has the key, and
--- no other record takes it.
+-- A slot is the place for a row with a key: all that is read of it is committed and has the key,
+-- and no other record takes it.
 pub record IsPlace (f : Facts) (h : Cells) (slots : Slots) (r : Reading) (key : ℤ) (slot : ℕ)
     (back : Option Link) : Type 0 where
   pub unread : (q : RecId) → Stands (r q) (kv_slot slot) → ⊥

@@ -179,7 +179,8 @@ pub newest_reads : (f : Facts) (state : ℕ → TxState) (h : Cells) (slots : Sl
     (key : ℤ) (n : Newest) → AreSlotRecords f state h slots r → FitsSigned w64 key
     → IsNewest key slots n → ReadsKeyed f (with_slots h slots) r key n
 newest_reads f state h slots r key n known fits is =
-    by (anchor_reads f state (with_slots h slots) r n.slot n.link known.live known.records is.anchor)
+    by (anchor_reads f state (with_slots h slots) r n.slot n.link known.live known.records
+    is.anchor)
   where
     same : (v w : Version) → Some (cells.Version v) ≡ Some (cells.Version w) → v ≡ w
     same v w e = cc

@@ -16,7 +16,8 @@ use Rattle.mg_kv.specs.EndedVersionsLaws.{DrawsNumber, EndsAlone}
 use Rattle.mg_kv.specs.PutOverLaws.{IsWriting}
 use Rattle.mg_kv.specs.SettledVersionsLaws.{GivesCommitted, GivesRow, without_dead_newest}
 use Rattle.mg_kv.specs.SettlingLaws.{SettlesFacts}
-use Rattle.mg_kv.specs.ShownRowsLaws.{limbo_changes, shown_rows}
+use Rattle.mg_kv.specs.LimboShownLaws.{limbo_changes}
+use Rattle.mg_kv.specs.ShownRowsLaws.{shown_rows}
 use Rattle.mg_kv.specs.Slots.{Slots, cleaned, taker}
 use Rattle.mg_kv.specs.Versions.{AreLive, AreVersions}
 use Rattle.mg_kv.specs.WriteOverLaws.{IsNoObstacle, writer_of}

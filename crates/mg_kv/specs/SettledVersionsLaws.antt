@@ -15,7 +15,7 @@ use Rattle.mg_image.specs.Records.{Cells, Reading, record_key, shown, writer}
 use Rattle.mg_first.specs.KvTable.{kv_table}
 use Rattle.mg_kv.specs.SettlingLaws.{Ends, SettlesFacts, commits, dies, each_committed, record_ends, shown_same, stays, took_key}
 use Rattle.mg_kv.specs.Slots.{is_dead}
-use Rattle.mg_kv.specs.TakenOutLaws.{nothing_taken, taken_before}
+use Rattle.mg_kv.specs.OlderVersionsLaws.{nothing_taken, taken_before}
 use Rattle.mg_kv.specs.Versions.{AreVersions, generation_of, living, none, some}
 
 -- ---- versions without a dead newest one

@@ -10,7 +10,7 @@ use Rattle.mg_image.specs.FactLaws.{shown_alike}
 use Rattle.mg_image.specs.Form.{Coding}
 use Rattle.mg_image.specs.RecordRules.{AreRecords, Each, EachBack, Facts, IsRecord, IsVersion, TakesKey, committed_in, table_in}
 use Rattle.mg_image.specs.Records.{Cells, Reading, record_key, shown, writer}
-use Rattle.mg_kv.specs.TakenOutLaws.{nothing_taken}
+use Rattle.mg_kv.specs.OlderVersionsLaws.{nothing_taken}
 
 -- ---- what becomes of transactions
 
@@ -120,7 +120,8 @@ committed_alike f g (e ∷ es) was is =
     (ap is_committed (is.0 ∙ sym was.0), committed_alike f g es was.1 is.1)
 
 -- where the newest writer's state stays, the same is shown
-pub shown_same : (f g : Facts) (e : Entry) (es : List Entry) → g.state (writer e) ≡ f.state (writer e)
+pub shown_same : (f g : Facts) (e : Entry) (es : List Entry)
+    → g.state (writer e) ≡ f.state (writer e)
     → Each (λ d. Ends f g (writer d)) es → Each (λ d. f.state (writer d) ≡ Committed) es
     → shown (committed_in g) (e ∷ es) ≡ shown (committed_in f) (e ∷ es)
 shown_same f g e es same ends backs = shown_alike (committed_in f) (committed_in g) (e ∷ es)

@@ -5,17 +5,15 @@ use Rattle.std.specs.Int.{w64}
 use Rattle.std.proofs.lemmas.Bool.{cases_eq}
 use Rattle.mg_base.specs.declared.numbers.RecId.{RecId}
 use Rattle.mg_base.specs.declared.transaction.TxState.{TxState}
-use Rattle.mg_base.specs.declared.transaction.TxState.TheVariants.{Limbo, Dead, Committed}
-use Rattle.mg_model.specs.declared.table.Table.{Table}
-use Rattle.mg_value.specs.declared.value.Value.{Value}
+use Rattle.mg_base.specs.declared.transaction.TxState.TheVariants.{Dead, Committed}
 use Rattle.mg_version.specs.declared.cell.Cell.{Cell}
 use Rattle.mg_version.specs.declared.cell.Cell.TheVariants as cells
 use Rattle.mg_version.specs.declared.cell.Link.{Link}
 use Rattle.mg_version.specs.declared.cell.Version.{Version}
 use Rattle.mg_generations.specs.Generations.{Generation}
 use Rattle.mg_image.specs.declared.entry.Entry.{Entry}
-use Rattle.mg_image.specs.Form.{Coding, plain_coding}
-use Rattle.mg_image.specs.RecordRules.{AreRecords, Each, Facts, IsRecord, IsVersion, TakesKey}
+use Rattle.mg_image.specs.Form.{plain_coding}
+use Rattle.mg_image.specs.RecordRules.{AreRecords, Each, Facts, TakesKey}
 use Rattle.mg_image.specs.Records.{Cells, Chain, Changes, Reading, Stands, newest_of, record_key, writer}
 use Rattle.mg_image.specs.StepLaws.{chain_stays, put_cases, put_reading, step_sound, unread_sound}
 use Rattle.mg_first.specs.KvRecords.{anchor_unread}
@@ -27,71 +25,9 @@ use Rattle.mg_kv.specs.ReadSlotLaws.{AreMoved, AreSlotRecords, IsNewest, ReadsKe
 use Rattle.mg_kv.specs.SlotCellLaws.{slot_changes, with_slots}
 use Rattle.mg_kv.specs.SlotLaws.{freed_here, freed_others, put_here, put_others}
 use Rattle.mg_kv.specs.Slots.{Slots, backed, cell_in_slot, freed, taken_out}
-use Rattle.mg_kv.specs.Versions.{AreVersions, kept, living}
+use Rattle.mg_kv.specs.Versions.{AreVersions, kept}
 use Rattle.mg_kv.specs.VersionsLaws.{TakesAlike, others_are_read, versions_stay}
-
--- ---- versions without the newest
-
--- the older versions of a record are those of a lawful one
-pub older_lawful : (coding : Coding) (f : Facts) (table : Table) (e : Entry) (es : List Entry)
-    → IsRecord coding f table (e ∷ es) → IsRecord coding f table es
-older_lawful coding f table e [] is = record { once = tt; each = tt; backs = tt }
-older_lawful coding f table e (d ∷ es) is = record {
-  once = is.once.1;
-  each = subst (λ (k : Value). Each (IsVersion coding f table k) (d ∷ es))
-      (sym is.each.1.0.keyed) is.each.1;
-  backs = is.backs.1;
-}
-
--- no versions take no key
-pub nothing_taken : (f : Facts) → TakesKey f [] → ⊥
-nothing_taken f (inl (row, is)) = absurd cc
-nothing_taken f (inr limbo) = limbo
-
--- what older versions take, a record with a dead newest one takes
-pub taken_behind : (coding : Coding) (f : Facts) (e : Entry) (es : List Entry)
-    → IsRecord coding f kv_table (e ∷ es) → f.state (writer e) ≡ Dead → TakesKey f es
-    → TakesKey f (e ∷ es)
-taken_behind coding f e [] is dead takes = absurd (nothing_taken f takes)
-taken_behind coding f e (d ∷ es) is dead (inl (row, shows)) = inl (row, rw dead shows)
-taken_behind coding f e (d ∷ es) is dead (inr limbo) =
-    let both : Committed ≡ Limbo = sym is.backs.0 ∙ limbo in absurd cc
-
--- and back
-pub taken_before : (f : Facts) (e : Entry) (es : List Entry) → f.state (writer e) ≡ Dead
-    → TakesKey f (e ∷ es) → TakesKey f es
-taken_before f e es dead (inl (row, shows)) = inl (row, rw dead at shows)
-taken_before f e es dead (inr limbo) =
-    let both : Dead ≡ Limbo = sym dead ∙ limbo in absurd cc
-
--- with one key
-pub keyed_behind : (coding : Coding) (f : Facts) (e : Entry) (es : List Entry)
-    → IsRecord coding f kv_table (e ∷ es) → TakesKey f es
-    → record_key kv_table es ≡ record_key kv_table (e ∷ es)
-keyed_behind coding f e [] is takes = absurd (nothing_taken f takes)
-keyed_behind coding f e (d ∷ es) is takes = is.each.1.0.keyed
-
-living_behind : (coding : Coding) (f : Facts) (e : Entry) (es : List Entry)
-    → IsRecord coding f kv_table (e ∷ es) → f.state (writer e) ≡ Dead
-    → living f.state es ≡ living f.state (e ∷ es)
-living_behind coding f e [] is dead = rw dead refl
-living_behind coding f e (d ∷ es) is dead = rw (dead, is.backs.0) refl
-
--- a record with a dead newest version takes its key as it does without it
-pub dead_in_front : (coding : Coding) (f : Facts) (key : ℤ) (e : Entry) (es : List Entry)
-    → IsRecord coding f kv_table (e ∷ es) → f.state (writer e) ≡ Dead
-    → TakesAlike f (e ∷ es) es key
-dead_in_front coding f key e es is dead = record {
-  forth = λ it.
-      let takes : TakesKey f es = taken_before f e es dead it.takes in (
-        record { takes = takes; keyed = keyed_behind coding f e es is takes ∙ it.keyed },
-        living_behind coding f e es is dead,
-      );
-  back = λ it. record {
-    takes = taken_behind coding f e es is dead it.takes;
-    keyed = sym (keyed_behind coding f e es is it.takes) ∙ it.keyed;
-  };
-}
+use Rattle.mg_kv.specs.OlderVersionsLaws.{dead_in_front, keyed_behind, older_lawful, taken_behind}
 
 -- ---- the cells
 

@@ -16,7 +16,7 @@ use Rattle.mg_first.specs.Puts.{kv_slot}
 use Rattle.mg_kv.specs.declared.newest.Newest.{Newest}
 use Rattle.mg_kv.specs.ReadSlotLaws.{AreSlotRecords, IsFoundAt, IsNewest, keyed_is_found, newest_is, place_of_kv, used_within}
 use Rattle.mg_kv.specs.Slots.{Slots, first_of, newest_at, taker, taker_below, takes, taking}
-use Rattle.mg_kv.specs.TakenOutLaws.{nothing_taken}
+use Rattle.mg_kv.specs.OlderVersionsLaws.{nothing_taken}
 use Rattle.mg_kv.specs.Versions.{AreLive, kept}
 use Rattle.mg_kv.specs.VersionsLaws.{TakesItsKey}
 

@@ -1,5 +1,5 @@
--- What a write makes of the records: its key has the row in front of its other versions, or in place
--- of the transaction's own, and every other key has what it had.
+-- What a write makes of the records: its key has the row in front of its other versions, or in
+-- place of the transaction's own, and every other key has what it had.
 use Rattle.std.proofs.Common.{◌≡◌, ◌≢◌, inr, refl, sym, ap, ◌∙◌, subst, ℕ, ℤ, true, false, List, [], ◌∷◌, Option, None, Some}
 use Rattle.std.specs.Prelude.{◌&&◌, not, map, if◌then◌else◌, FitsSigned}
 use Rattle.std.specs.Int.{w64}
@@ -158,8 +158,9 @@ pub record WritesCells (old new : Cells) (state : ℕ → TxState) (t : ℕ) (ke
   pub after : (n : ℕ) → new (kv_slot n) ≡ cell_in_slot (written state t key value slots) n
   pub off : (x : RecId) → x.page.0 ≢ KV_ROWS.0 → new x ≡ old x
 
--- The records once a row is written: its key has the row in front of its other versions, or in place
--- of the transaction's own, each other key has what it had, and off KV's page the same is read.
+-- The records once a row is written: its key has the row in front of its other versions, or in
+-- place of the transaction's own, each other key has what it had, and off KV's page the same is
+-- read.
 pub record WrittenRecords (f : Facts) (new : Cells) (r : Reading) (t : ℕ) (key value : ℤ)
     : Type 0 where
   pub reading : Reading

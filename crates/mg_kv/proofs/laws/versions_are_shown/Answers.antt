@@ -1,4 +1,5 @@
-use Rattle.mg_kv.specs.ShownRowsLaws.{limbo_is_shown, rows_are_shown}
+use Rattle.mg_kv.specs.LimboShownLaws.{limbo_is_shown}
+use Rattle.mg_kv.specs.ShownRowsLaws.{rows_are_shown}
 use Rattle.mg_kv.proofs.laws.versions_are_shown.Goals as goal
 
 pub returns-clause-rows : goal.returns-clause-rows
