@@ -62,11 +62,11 @@ pub versions_without_dead : (coding : Coding) (f g : Facts) (h : Cells) (r : Rea
     → (is_newest_by t gs ≡ true → GivesRow (without_newest_by t gs))
     → AreVersions g r key (without_newest_by t gs)
 versions_without_dead coding f g h r t key gs alone dead above are versions gives =
-    subst (AreVersions g r key) (same gs (newest_lives f h coding r key gs are versions))
+    subst (AreVersions g r key) (same gs (newest_lives coding f h r key gs are versions))
     (versions_settle coding f g h r key gs (dead_settles f g r t alone dead above) are versions
     (subst (GivesCommitted g.state) (sym (same gs
-    (newest_lives f h coding r key gs are versions)))
-    (given gs (newest_gives f h coding r key gs are versions) gives)))
+    (newest_lives coding f h r key gs are versions)))
+    (given gs (newest_gives coding f h r key gs are versions) gives)))
   where
     same : (gs : List Generation) → without_dead_newest f.state gs ≡ gs
         → without_dead_newest g.state gs ≡ without_newest_by t gs
@@ -97,11 +97,11 @@ pub versions_with_committed : (coding : Coding) (f g : Facts) (h : Cells) (r : R
     → AreRecords coding f h r → AreVersions f r key gs
     → (is_newest_by t gs ≡ true → GivesRow gs) → AreVersions g r key gs
 versions_with_committed coding f g h r t key gs alone is are versions gives =
-    subst (AreVersions g r key) (same gs (newest_lives f h coding r key gs are versions))
+    subst (AreVersions g r key) (same gs (newest_lives coding f h r key gs are versions))
     (versions_settle coding f g h r key gs (commit_settles f g r t alone is) are versions
     (subst (GivesCommitted g.state) (sym (same gs
-    (newest_lives f h coding r key gs are versions)))
-    (given gs (newest_gives f h coding r key gs are versions) gives)))
+    (newest_lives coding f h r key gs are versions)))
+    (given gs (newest_gives coding f h r key gs are versions) gives)))
   where
     same : (gs : List Generation) → without_dead_newest f.state gs ≡ gs
         → without_dead_newest g.state gs ≡ gs

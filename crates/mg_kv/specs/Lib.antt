@@ -1,11 +1,15 @@
 pub mod CleanedLaws
 pub mod EndedVersionsLaws
 pub mod Fate
+pub mod FoundVersionsLaws
+pub mod GivenRowsLaws
 pub mod KeyTestLaws
 pub mod LimboShownLaws
+pub mod LiveFactsLaws
 pub mod OlderVersionsLaws
 pub mod OwnOverLaws
 pub mod PageLaws
+pub mod PageSlotsLaws
 pub mod PutOverLaws
 pub mod ReadSlotLaws
 pub mod RecordLaws

@@ -1,5 +1,5 @@
 -- The laws of the records of KV while the program works on them.
-use Rattle.std.specs.Prelude.{◌≡◌, ◌≤◌, ℕ, ℤ, true, List, FitsSigned}
+use Rattle.std.specs.Prelude.{◌≡◌, ◌≤◌, ℕ, ℤ, true, List, length, FitsSigned}
 use Rattle.std.specs.Int.{w64}
 use Rattle.mg_base.specs.declared.numbers.RecId.{RecId}
 use Rattle.mg_base.specs.declared.transaction.TxState.{TxState}
@@ -16,12 +16,32 @@ use Rattle.mg_kv.specs.EndedVersionsLaws.{DrawsNumber, EndsAlone}
 use Rattle.mg_kv.specs.PutOverLaws.{IsWriting}
 use Rattle.mg_kv.specs.SettledVersionsLaws.{GivesCommitted, GivesRow, without_dead_newest}
 use Rattle.mg_kv.specs.SettlingLaws.{SettlesFacts}
+use Rattle.mg_kv.specs.FoundVersionsLaws.{versions_below}
+use Rattle.mg_kv.specs.GivenRowsLaws.{AreLawful}
 use Rattle.mg_kv.specs.LimboShownLaws.{limbo_changes}
 use Rattle.mg_kv.specs.ShownRowsLaws.{shown_rows}
 use Rattle.mg_kv.specs.Slots.{Slots, cleaned, taker}
 use Rattle.mg_kv.specs.Versions.{AreLive, AreVersions}
 use Rattle.mg_kv.specs.WriteOverLaws.{IsNoObstacle, writer_of}
 use Rattle.mg_kv.specs.WrittenLaws.{HasKvSlots, WritesCells, WrittenRecords, newest_writer}
+
+-- ---- each key has versions
+
+-- those that are found in the slots of KV's page
+abbrev pub EachKeyHasVersions : Type 0
+EachKeyHasVersions = (f : Facts) (state : ℕ → TxState) (h : Cells) (slots : Slots) (r : Reading)
+    (key : ℤ) → AreLive f state → AreRecords plain_coding f h r → HasKvSlots h slots
+    → AreVersions f r key (versions_below f r key (length slots))
+
+-- nobody who is dead has written them, and all but the newest are committed
+abbrev pub VersionsAreLawful : Type 0
+VersionsAreLawful = (f : Facts) (h : Cells) (r : Reading) (key : ℤ) (gs : List Generation)
+    → AreRecords plain_coding f h r → AreVersions f r key gs → AreLawful f.state gs
+
+-- the newest gives a row where it is committed
+abbrev pub NewestGives : Type 0
+NewestGives = (f : Facts) (h : Cells) (r : Reading) (key : ℤ) (gs : List Generation)
+    → AreRecords plain_coding f h r → AreVersions f r key gs → GivesCommitted f.state gs
 
 -- ---- a row is written
 

@@ -150,11 +150,11 @@ versions_settle coding f g h r key gs settles are (some p of takes keyed) gives 
 -- ---- the newest of the versions of a key
 
 -- it is not dead
-pub newest_lives : (f : Facts) (h : Cells) (coding : Coding) (r : Reading) (key : ℤ)
+pub newest_lives : (coding : Coding) (f : Facts) (h : Cells) (r : Reading) (key : ℤ)
     (gs : List Generation) → AreRecords coding f h r → AreVersions f r key gs
     → without_dead_newest f.state gs ≡ gs
-newest_lives f h coding r key gs are (none no_) = refl
-newest_lives f h coding r key gs are (some p of takes keyed) =
+newest_lives coding f h r key gs are (none no_) = refl
+newest_lives coding f h r key gs are (some p of takes keyed) =
     at (r p) (are.each p kv_table of).backs
   where
     by : (e : Entry) (es : List Entry) → Each (λ d. f.state (writer d) ≡ Committed) es
@@ -171,11 +171,11 @@ newest_lives f h coding r key gs are (some p of takes keyed) =
     at (e ∷ es) backs = by e es backs (f.state (writer e)) refl
 
 -- it gives a row where it is committed
-pub newest_gives : (f : Facts) (h : Cells) (coding : Coding) (r : Reading) (key : ℤ)
+pub newest_gives : (coding : Coding) (f : Facts) (h : Cells) (r : Reading) (key : ℤ)
     (gs : List Generation) → AreRecords coding f h r → AreVersions f r key gs
     → GivesCommitted f.state gs
-newest_gives f h coding r key gs are (none no_) = tt
-newest_gives f h coding r key gs are (some p of takes keyed) =
+newest_gives coding f h r key gs are (none no_) = tt
+newest_gives coding f h r key gs are (some p of takes keyed) =
     at (r p) (are.each p kv_table of).backs takes
   where
     shows : (e : Entry) (es : List Entry) (row : Row) → f.state (writer e) ≡ Committed

@@ -1,10 +1,18 @@
 //! The laws of the records of KV. Each function does nothing: its contract is a law, so that
 //! another crate can cite it.
 
+ghost use Rattle.mg_kv.specs.RecordLaws.{EachKeyHasVersions, VersionsAreLawful, NewestGives};
 ghost use Rattle.mg_kv.specs.RecordLaws.{RowIsWritten, ObstacleIsNewest};
 ghost use Rattle.mg_kv.specs.RecordLaws.{RecordsSettle, VersionsSettle};
 ghost use Rattle.mg_kv.specs.RecordLaws.{DeadIsGone, CommittedStays, DrawnChangesNothing};
 ghost use Rattle.mg_kv.specs.RecordLaws.{RowsAreShown, LimboIsShown};
+
+/// Which versions each key has.
+pub fn keys_have_versions()
+    ensures exist { EachKeyHasVersions }
+    ensures lawful { VersionsAreLawful }
+    ensures gives { NewestGives }
+{}
 
 /// What a write makes of the records.
 pub fn rows_are_written()
