@@ -22,7 +22,7 @@ use Rattle.mg_kv.specs.SlotLaws.{past_is_none}
 use Rattle.mg_kv.specs.Slots.{Slots}
 use Rattle.mg_kv.specs.Versions.{AreLive, AreVersions, living, none, some}
 use Rattle.mg_kv.specs.VersionsLaws.{TakesItsKey}
-use Rattle.mg_kv.specs.WrittenLaws.{HasKvSlots}
+use Rattle.mg_kv.specs.WrittenRecordsLaws.{HasKvSlots}
 
 -- ---- whether versions take a key
 

@@ -25,3 +25,4 @@ pub mod Versions
 pub mod VersionsLaws
 pub mod WriteOverLaws
 pub mod WrittenLaws
+pub mod WrittenRecordsLaws

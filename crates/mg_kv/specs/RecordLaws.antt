@@ -23,7 +23,8 @@ use Rattle.mg_kv.specs.ShownRowsLaws.{shown_rows}
 use Rattle.mg_kv.specs.Slots.{Slots, cleaned, taker}
 use Rattle.mg_kv.specs.Versions.{AreLive, AreVersions}
 use Rattle.mg_kv.specs.WriteOverLaws.{IsNoObstacle, writer_of}
-use Rattle.mg_kv.specs.WrittenLaws.{HasKvSlots, WritesCells, WrittenRecords, newest_writer}
+use Rattle.mg_kv.specs.WrittenLaws.{newest_writer}
+use Rattle.mg_kv.specs.WrittenRecordsLaws.{HasKvSlots, WritesCells, WrittenRecords, written_versions}
 
 -- ---- each key has versions
 
@@ -52,6 +53,13 @@ RowIsWritten = (f : Facts) (state : ℕ → TxState) (old new : Cells) (slots : 
     → WritesCells old new state t key value slots → IsWriting f state t key value
     → IsNoObstacle state t (writer_of (taker state key (cleaned state key slots)))
     → WrittenRecords f new r t key value
+
+-- so the versions of all keys are what they were, but for those of the row's key
+abbrev pub AllAreWritten : Type 0
+AllAreWritten = (f : Facts) (new : Cells) (r : Reading) (t : ℕ) (key value : ℤ)
+    (versions : ℤ → List Generation) → (written : WrittenRecords f new r t key value)
+    → ((other : ℤ) → AreVersions f r other (versions other)) → (other : ℤ)
+    → AreVersions f written.reading other (written_versions t key value versions other)
 
 -- who may be in the way is the writer of the newest version of the key
 abbrev pub ObstacleIsNewest : Type 0
