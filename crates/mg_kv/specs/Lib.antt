@@ -13,6 +13,7 @@ pub mod PageSlotsLaws
 pub mod PutOverLaws
 pub mod ReadSlotLaws
 pub mod RecordLaws
+pub mod RowsPageLaws
 pub mod SettledVersionsLaws
 pub mod SettlingLaws
 pub mod ShownRowsLaws
@@ -23,6 +24,7 @@ pub mod TakenOutLaws
 pub mod TakerLaws
 pub mod Versions
 pub mod VersionsLaws
+pub mod WorkLaws
 pub mod WriteOverLaws
 pub mod WrittenLaws
 pub mod WrittenRecordsLaws

@@ -7,12 +7,13 @@ use Rattle.mg_base.specs.declared.transaction.TxState.TheVariants.{Dead, Committ
 use Rattle.mg_model.specs.declared.table.Table.{Table}
 use Rattle.mg_generations.specs.Generations.{Generation, is_newest_by, without_newest_by}
 use Rattle.mg_image.specs.declared.entry.Entry.{Entry}
-use Rattle.mg_image.specs.Form.{plain_coding}
+use Rattle.mg_image.specs.Form.{Pages, plain_coding}
 use Rattle.mg_image.specs.Held.{AreChanges, AreRows, HasLimbo}
 use Rattle.mg_image.specs.RecordRules.{AreRecords, Facts, committed_in}
 use Rattle.mg_image.specs.Records.{Cells, Reading}
 use Rattle.mg_first.specs.KvTable.{kv_table}
 use Rattle.mg_kv.specs.EndedVersionsLaws.{DrawsNumber, EndsAlone}
+use Rattle.mg_kv.specs.LiveFactsLaws.{live_facts}
 use Rattle.mg_kv.specs.PutOverLaws.{IsWriting}
 use Rattle.mg_kv.specs.SettledVersionsLaws.{GivesCommitted, GivesRow, without_dead_newest}
 use Rattle.mg_kv.specs.SettlingLaws.{SettlesFacts}
@@ -22,6 +23,7 @@ use Rattle.mg_kv.specs.LimboShownLaws.{limbo_changes}
 use Rattle.mg_kv.specs.ShownRowsLaws.{shown_rows}
 use Rattle.mg_kv.specs.Slots.{Slots, cleaned, taker}
 use Rattle.mg_kv.specs.Versions.{AreLive, AreVersions}
+use Rattle.mg_kv.specs.WorkLaws.{IsAtWork, WorksOn, WritesPage}
 use Rattle.mg_kv.specs.WriteOverLaws.{IsNoObstacle, writer_of}
 use Rattle.mg_kv.specs.WrittenLaws.{newest_writer}
 use Rattle.mg_kv.specs.WrittenRecordsLaws.{HasKvSlots, WritesCells, WrittenRecords, written_versions}
@@ -67,6 +69,14 @@ ObstacleIsNewest = (f : Facts) (state : ℕ → TxState) (h : Cells) (slots : Sl
     (key : ℤ) (gs : List Generation) → AreLive f state → AreRecords plain_coding f h r
     → HasKvSlots h slots → FitsSigned w64 key → AreVersions f r key gs
     → newest_writer gs ≡ writer_of (taker state key (cleaned state key slots))
+
+-- and so the program works on, with a sound image
+abbrev pub WorkGoesOn : Type 0
+WorkGoesOn = (old new : Pages) (state : ℕ → TxState) (r : Reading) (t : ℕ) (key value : ℤ)
+    (slots : Slots) → IsAtWork old state r → WritesPage old new state t key value slots
+    → IsWriting (live_facts old state) state t key value
+    → IsNoObstacle state t (writer_of (taker state key (cleaned state key slots)))
+    → WorksOn old new state r t key value
 
 -- ---- transactions end
 

@@ -2,7 +2,7 @@
 //! another crate can cite it.
 
 ghost use Rattle.mg_kv.specs.RecordLaws.{EachKeyHasVersions, VersionsAreLawful, NewestGives};
-ghost use Rattle.mg_kv.specs.RecordLaws.{RowIsWritten, AllAreWritten, ObstacleIsNewest};
+ghost use Rattle.mg_kv.specs.RecordLaws.{RowIsWritten, AllAreWritten, ObstacleIsNewest, WorkGoesOn};
 ghost use Rattle.mg_kv.specs.RecordLaws.{RecordsSettle, VersionsSettle};
 ghost use Rattle.mg_kv.specs.RecordLaws.{DeadIsGone, CommittedStays, DrawnChangesNothing};
 ghost use Rattle.mg_kv.specs.RecordLaws.{RowsAreShown, LimboIsShown};
@@ -19,6 +19,7 @@ pub fn rows_are_written()
     ensures written { RowIsWritten }
     ensures all { AllAreWritten }
     ensures obstacle { ObstacleIsNewest }
+    ensures work { WorkGoesOn }
 {}
 
 /// What becomes of them where transactions end.

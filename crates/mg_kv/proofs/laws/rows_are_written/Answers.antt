@@ -1,3 +1,4 @@
+use Rattle.mg_kv.specs.WorkLaws.{work_goes_on}
 use Rattle.mg_kv.specs.WrittenRecordsLaws.{obstacle_is_newest, written_records, all_written}
 use Rattle.mg_kv.proofs.laws.rows_are_written.Goals as goal
 
@@ -9,3 +10,6 @@ returns-clause-all c = all_written
 
 pub returns-clause-obstacle : goal.returns-clause-obstacle
 returns-clause-obstacle c = obstacle_is_newest
+
+pub returns-clause-work : goal.returns-clause-work
+returns-clause-work c = work_goes_on
