@@ -13,6 +13,7 @@ pub mod PageSlotsLaws
 pub mod PutOverLaws
 pub mod ReadSlotLaws
 pub mod RecordLaws
+pub mod RestLaws
 pub mod RowsPageLaws
 pub mod SettledVersionsLaws
 pub mod SettlingLaws
@@ -24,7 +25,10 @@ pub mod TakenOutLaws
 pub mod TakerLaws
 pub mod Versions
 pub mod VersionsLaws
+pub mod WorkBeginLaws
+pub mod WorkCommitLaws
 pub mod WorkLaws
+pub mod WorkStepLaws
 pub mod WriteOverLaws
 pub mod WrittenLaws
 pub mod WrittenRecordsLaws

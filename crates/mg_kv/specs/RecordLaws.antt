@@ -1,5 +1,5 @@
 -- The laws of the records of KV while the program works on them.
-use Rattle.std.specs.Prelude.{◌≡◌, ◌≤◌, ℕ, ℤ, true, List, length, FitsSigned}
+use Rattle.std.specs.Prelude.{◌≡◌, ◌≤◌, ℕ, ℤ, true, List, [], length, FitsSigned}
 use Rattle.std.specs.Int.{w64}
 use Rattle.mg_base.specs.declared.numbers.RecId.{RecId}
 use Rattle.mg_base.specs.declared.transaction.TxState.{TxState}
@@ -12,6 +12,9 @@ use Rattle.mg_image.specs.Held.{AreChanges, AreRows, HasLimbo}
 use Rattle.mg_image.specs.RecordRules.{AreRecords, Facts, committed_in}
 use Rattle.mg_image.specs.Records.{Cells, Reading}
 use Rattle.mg_first.specs.KvTable.{kv_table}
+use Rattle.mg_first.specs.declared.pages.TheConstants.{PAGE, TRANSACTIONS}
+use Rattle.mg_tip.specs.TipPage.{state_in}
+use Rattle.mg_kv.specs.Fate.{fate_in}
 use Rattle.mg_kv.specs.EndedVersionsLaws.{DrawsNumber, EndsAlone}
 use Rattle.mg_kv.specs.LiveFactsLaws.{live_facts}
 use Rattle.mg_kv.specs.PutOverLaws.{IsWriting}
@@ -23,6 +26,10 @@ use Rattle.mg_kv.specs.LimboShownLaws.{limbo_changes}
 use Rattle.mg_kv.specs.ShownRowsLaws.{shown_rows}
 use Rattle.mg_kv.specs.Slots.{Slots, cleaned, taker}
 use Rattle.mg_kv.specs.Versions.{AreLive, AreVersions}
+use Rattle.mg_kv.specs.RestLaws.{IsAtRest}
+use Rattle.mg_kv.specs.WorkBeginLaws.{Draws}
+use Rattle.mg_kv.specs.WorkCommitLaws.{CommitsWork}
+use Rattle.mg_kv.specs.WorkStepLaws.{RollsBack}
 use Rattle.mg_kv.specs.WorkLaws.{IsAtWork, WorksOn, WritesPage}
 use Rattle.mg_kv.specs.WriteOverLaws.{IsNoObstacle, writer_of}
 use Rattle.mg_kv.specs.WrittenLaws.{newest_writer}
@@ -77,6 +84,34 @@ WorkGoesOn = (old new : Pages) (state : ℕ → TxState) (r : Reading) (t : ℕ)
     → IsWriting (live_facts old state) state t key value
     → IsNoObstacle state t (writer_of (taker state key (cleaned state key slots)))
     → WorksOn old new state r t key value
+
+-- ---- the program works
+
+-- it starts on pages at rest, by the bits of the page of transactions
+abbrev pub WorkStarts : Type 0
+WorkStarts = (pages : Pages) (r : Reading) → IsAtRest pages r
+    → length (pages TRANSACTIONS.0) ≡ PAGE → state_in (pages TRANSACTIONS.0) 0 ≡ Committed
+    → IsAtWork pages (fate_in (pages TRANSACTIONS.0) []) r
+
+-- a number is drawn
+abbrev pub WorkBegins : Type 0
+WorkBegins = (old new : Pages) (before after : ℕ → TxState) (r : Reading) (u : ℕ)
+    → IsAtWork old before r → Draws old new before after u → IsAtWork new after r
+
+-- a transaction is committed
+abbrev pub WorkCommits : Type 0
+WorkCommits = (old new : Pages) (before after : ℕ → TxState) (r : Reading) (t : ℕ)
+    → IsAtWork old before r → CommitsWork old new before after t → IsAtWork new after r
+
+-- a transaction is rolled back
+abbrev pub WorkRollsBack : Type 0
+WorkRollsBack = (pages : Pages) (before after : ℕ → TxState) (r : Reading) (t : ℕ)
+    → IsAtWork pages before r → RollsBack before after t → IsAtWork pages after r
+
+-- whenever it stops, the pages are at rest
+abbrev pub WorkStops : Type 0
+WorkStops = (pages : Pages) (state : ℕ → TxState) (r : Reading) → IsAtWork pages state r
+    → IsAtRest pages r
 
 -- ---- transactions end
 

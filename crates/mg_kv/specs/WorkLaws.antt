@@ -1,24 +1,28 @@
 -- The pages of a database while the program works on them: a row is written on KV's page.
-use Rattle.std.proofs.Common.{◌≡◌, sym, ap, ◌∙◌, subst, arith, ℕ, ◌≤◌, ℤ, length}
-use Rattle.std.specs.Prelude.{take}
+use Rattle.std.proofs.Common.{◌≡◌, ◌≢◌, refl, sym, ap, ◌∙◌, subst, arith, ℕ, ◌≤◌, ◌<◌, ℤ, Some}
+use Rattle.std.specs.Prelude.{take, length}
 use Rattle.mg_base.specs.declared.fields.TheConstants.{COMMON}
+use Rattle.mg_base.specs.declared.numbers.RecId.{RecId}
 use Rattle.mg_base.specs.declared.transaction.TxState.{TxState}
+use Rattle.mg_base.specs.declared.transaction.TxState.TheVariants.{Limbo, Committed}
 use Rattle.mg_header.specs.declared.header.Header.{Header}
 use Rattle.mg_slots.specs.DataPage.{IsDataPage}
+use Rattle.mg_image.specs.Catalog.{catalog_table}
 use Rattle.mg_image.specs.Form.{Pages, plain_coding, plain_form}
-use Rattle.mg_image.specs.Inventory.{header_of, next_of}
-use Rattle.mg_image.specs.RecordRules.{AreRecords, Facts}
-use Rattle.mg_image.specs.Records.{Reading, cells_of}
+use Rattle.mg_image.specs.Inventory.{next_of, oldest_of}
+use Rattle.mg_image.specs.RecordRules.{AreRecords, Each, Facts, table_in}
+use Rattle.mg_image.specs.Records.{Reading, cells_of, writer}
 use Rattle.mg_image.specs.Sound.{IsSound}
 use Rattle.mg_first.specs.FirstImage.{kv_facts}
 use Rattle.mg_first.specs.KvTable.{kv_layout}
 use Rattle.mg_first.specs.OtherPages.{ChangesRows, facts_stay, header_stays, next_stays, oldest_stays, state_stays}
+use Rattle.mg_first.specs.PlaceLaws.{HasOneTip}
 use Rattle.mg_first.specs.Puts.{OnlyPage}
-use Rattle.mg_first.specs.declared.pages.TheConstants.{KV_ROWS, LAST, PAGE, TRANSACTIONS}
+use Rattle.mg_first.specs.declared.pages.TheConstants.{CATALOG, KV_ROWS, PAGE}
 use Rattle.mg_kv.specs.LiveFactsLaws.{HasBits, facts_are_live, live_facts, records_at_stop}
 use Rattle.mg_kv.specs.PageSlotsLaws.{slots_are_cells}
 use Rattle.mg_kv.specs.PutOverLaws.{IsWriting}
-use Rattle.mg_kv.specs.RowsPageLaws.{rows_page_sound}
+use Rattle.mg_kv.specs.RowsPageLaws.{catalog_is_off, rows_page_sound}
 use Rattle.mg_kv.specs.Slots.{HasSlots, Slots, cleaned, taker, written}
 use Rattle.mg_kv.specs.WriteOverLaws.{IsNoObstacle, writer_of}
 use Rattle.mg_kv.specs.WrittenRecordsLaws.{WrittenRecords, pages_write_cells, written_records}
@@ -30,8 +34,14 @@ pub record IsAtWork (pages : Pages) (state : ℕ → TxState) (r : Reading) : Ty
   pub sound : IsSound plain_form PAGE pages kv_layout r
   pub records : AreRecords plain_coding (live_facts pages state) (cells_of pages) r
   pub bits : HasBits pages state
-  pub one_tip : (header_of pages).last_tip ≡ TRANSACTIONS
-  pub last : next_of pages ≤ LAST.0
+  pub tip : HasOneTip pages (next_of pages)
+  -- each transaction is interesting, and there is one
+  pub oldest : oldest_of pages ≤ 1
+  pub drawn : 0 < next_of pages
+  -- nobody is prepared, and the catalog is committed
+  pub limbo : (u : ℕ) → state u ≢ Limbo
+  pub catalog : (p : RecId) → table_in (kv_facts pages) p ≡ Some (catalog_table CATALOG.0)
+      → Each (λ e. state (writer e) ≡ Committed) (r p)
 
 -- A row is written on KV's page, and no other page is changed.
 pub record WritesPage (old new : Pages) (state : ℕ → TxState) (t : ℕ) (key value : ℤ)
@@ -70,7 +80,7 @@ work_goes_on old new state r t key value slots work writes writing free =
     writing free)
   where
     change : ChangesRows old new
-    change = record { others = writes.only; one_tip = work.one_tip; last = work.last }
+    change = record { others = writes.only; one_tip = work.tip.one_tip; last = work.tip.last }
 
     by : WrittenRecords (live_facts old state) (cells_of new) r t key value
         → WorksOn old new state r t key value
@@ -95,9 +105,17 @@ work_goes_on old new state r t key value slots work writes writing free =
             work.bits.interesting u active,
           );
         };
-        one_tip = ap (λ (h : Header). h.last_tip) (header_stays old new writes.only)
-            ∙ work.one_tip;
-        last = omega (arith, next_stays old new writes.only, work.last);
+        tip = record {
+          next = refl;
+          last = omega (arith, next_stays old new writes.only, work.tip.last);
+          one_tip = ap (λ (h : Header). h.last_tip) (header_stays old new writes.only)
+              ∙ work.tip.one_tip;
+        };
+        oldest = omega (arith, oldest_stays old new writes.only, work.oldest);
+        drawn = omega (arith, next_stays old new writes.only, work.drawn);
+        limbo = work.limbo;
+        catalog = λ p of. subst (Each (λ e. state (writer e) ≡ Committed))
+            (sym (records.others p (catalog_is_off old p of))) (work.catalog p of);
       };
       facts = live_stays old new state change;
     }

@@ -3,6 +3,7 @@
 
 ghost use Rattle.mg_kv.specs.RecordLaws.{EachKeyHasVersions, VersionsAreLawful, NewestGives};
 ghost use Rattle.mg_kv.specs.RecordLaws.{RowIsWritten, AllAreWritten, ObstacleIsNewest, WorkGoesOn};
+ghost use Rattle.mg_kv.specs.RecordLaws.{WorkStarts, WorkBegins, WorkCommits, WorkRollsBack, WorkStops};
 ghost use Rattle.mg_kv.specs.RecordLaws.{RecordsSettle, VersionsSettle};
 ghost use Rattle.mg_kv.specs.RecordLaws.{DeadIsGone, CommittedStays, DrawnChangesNothing};
 ghost use Rattle.mg_kv.specs.RecordLaws.{RowsAreShown, LimboIsShown};
@@ -20,6 +21,15 @@ pub fn rows_are_written()
     ensures all { AllAreWritten }
     ensures obstacle { ObstacleIsNewest }
     ensures work { WorkGoesOn }
+{}
+
+/// The pages while the program works on them, from its start to its stop.
+pub fn program_works()
+    ensures starts { WorkStarts }
+    ensures begins { WorkBegins }
+    ensures commits { WorkCommits }
+    ensures rolls_back { WorkRollsBack }
+    ensures stops { WorkStops }
 {}
 
 /// What becomes of them where transactions end.
