@@ -1,0 +1,4 @@
+pub mod CellLemmas
+pub mod NewestLemmas
+pub mod RowLemmas
+pub mod WritingLemmas
