@@ -13,8 +13,10 @@
 mod cells;
 mod fates;
 mod newest;
+mod reading;
 mod writing;
 
 pub use fates::Fates;
 pub use newest::Newest;
+pub use reading::{Given, KvVersion, generations};
 pub use writing::write;
