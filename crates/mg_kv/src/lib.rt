@@ -20,3 +20,6 @@ pub use fates::Fates;
 pub use newest::Newest;
 pub use reading::{Given, KvVersion, generations};
 pub use writing::write;
+
+#[cfg(test)]
+mod tests;
