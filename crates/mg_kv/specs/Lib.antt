@@ -12,6 +12,7 @@ pub mod PageLaws
 pub mod PageSlotsLaws
 pub mod PutOverLaws
 pub mod ReadSlotLaws
+pub mod Reading
 pub mod RecordLaws
 pub mod RestLaws
 pub mod RowsPageLaws
