@@ -1,3 +1,4 @@
 pub mod Given
 pub mod Lines
+pub mod Spelling
 pub mod Transcript

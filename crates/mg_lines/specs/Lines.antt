@@ -19,10 +19,11 @@ statement_text statements.Begin = codes "SET TRANSACTION NO WAIT"
 statement_text statements.Commit = codes "COMMIT"
 statement_text statements.Rollback = codes "ROLLBACK"
 statement_text (statements.Insert key value) =
-    codes "INSERT INTO KV VALUES (" ++ signed_decimal key ++ codes ", " ++ signed_decimal value
-    ++ codes ")"
+    codes "INSERT INTO KV VALUES ("
+    ++ ((signed_decimal key ++ (codes ", " ++ signed_decimal value)) ++ codes ")")
 statement_text (statements.Update key value) =
-    codes "UPDATE KV SET V = " ++ signed_decimal value ++ codes " WHERE K = " ++ signed_decimal key
+    codes "UPDATE KV SET V = "
+    ++ (signed_decimal value ++ (codes " WHERE K = " ++ signed_decimal key))
 statement_text (statements.Select key) =
     codes "SELECT V FROM KV WHERE K = " ++ signed_decimal key
 
@@ -39,7 +40,7 @@ StatementFits (statements.Select key) = FitsSigned w64 key
 pub record IsPut (text : List ℕ) (key value : ℤ) : Type 0 where
   pub key_fits : FitsSigned w64 key
   pub value_fits : FitsSigned w64 value
-  pub spelled : text ≡ codes "@put " ++ signed_decimal key ++ 32 ∷ signed_decimal value
+  pub spelled : text ≡ codes "@put " ++ (signed_decimal key ++ (32 ∷ signed_decimal value))
 
 -- `@get K`
 pub record IsGet (text : List ℕ) (key : ℤ) : Type 0 where
@@ -51,7 +52,7 @@ pub record IsStatement (text : List ℕ) (session : Session) (statement : Statem
     : Type 0 where
   pub lettered : session.0 < SESSIONS
   pub fits : StatementFits statement
-  pub spelled : text ≡ letter session ∷ codes ": " ++ statement_text statement
+  pub spelled : text ≡ letter session ∷ (codes ": " ++ statement_text statement)
 
 -- an empty line, or a comment
 abbrev pub IsSilent : List ℕ → Type 0

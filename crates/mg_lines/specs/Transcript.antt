@@ -1,10 +1,10 @@
 -- The transcript: what a script prints, by its lines and the entries that each gave.
-use Rattle.std.specs.Prelude.{◌+◌, ◌==◌, ◌&&◌, not, ℕ, Bool, true, false, List, [], ◌∷◌, ◌++◌, length, codes, decimal, Option, None, Some, if◌then◌else◌}
+use Rattle.std.specs.Prelude.{◌+◌, ◌&&◌, ℕ, Bool, true, false, List, [], ◌∷◌, ◌++◌, length, codes, decimal, Option, None, Some}
 use Rattle.std.proofs.Common.{get_or}
 use Rattle.mg_value.specs.declared.value.Value.TheVariants.{Null}
 use Rattle.mg_value.specs.Values.{printed}
 use Rattle.mg_model.specs.declared.answer.Answer.{Answer}
-use Rattle.mg_model.specs.declared.answer.Answer.TheVariants.{Fine, No, Rows, Tx}
+use Rattle.mg_model.specs.declared.answer.Answer.TheVariants.{No, Rows, Tx}
 use Rattle.mg_model.specs.declared.refusal.Refusal.{Refusal}
 use Rattle.mg_model.specs.declared.refusal.Refusal.TheVariants.{DatabaseFull, DiskWrite, DuplicateKey, InLimbo, LockConflict, Memory, TransactionLimit, UpdateConflict}
 use Rattle.mg_model.specs.Changes.{Cells}

@@ -10,5 +10,11 @@
 #![tactic(auto)]
 
 mod line;
+pub mod number;
+mod reading;
 
 pub use line::{Line, SESSIONS, Session, Statement};
+pub use reading::{first_line, read_line};
+
+#[cfg(test)]
+mod tests;
