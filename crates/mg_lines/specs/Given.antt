@@ -1,6 +1,6 @@
 -- Which events a line gives to a history, and how they are answered. No page is here: `has_room`
 -- tells whether the row that a transaction writes with a key has room after a history.
-use Rattle.std.specs.Prelude.{◌≡◌, ◌≢◌, ◌==◌, ℕ, ℤ, Bool, true, false, List, [], ◌∷◌, ◌++◌, Option, None, Some, if◌then◌else◌}
+use Rattle.std.specs.Prelude.{◌≡◌, ◌≢◌, ◌<◌, ◌==◌, ℕ, ℤ, Bool, true, false, List, [], ◌∷◌, ◌++◌, Option, None, Some, if◌then◌else◌}
 use Rattle.mg_value.specs.declared.value.Value.TheVariants.{Int}
 use Rattle.mg_expr.specs.declared.expr.Expr.{Expr}
 use Rattle.mg_expr.specs.declared.expr.Sign.TheVariants as signs
@@ -23,6 +23,7 @@ use Rattle.mg_lines.specs.declared.line.Line.TheVariants.{Put, Get, Of, Silent, 
 use Rattle.mg_lines.specs.declared.line.Session.{Session}
 use Rattle.mg_lines.specs.declared.line.Statement.{Statement}
 use Rattle.mg_lines.specs.declared.line.Statement.TheVariants as statements
+use Rattle.mg_lines.specs.declared.line.TheConstants.{SESSIONS}
 
 -- a history with some entries more, of which the oldest comes first
 abbrev pub onto : Entries → List Entry → Entries
@@ -169,7 +170,7 @@ pub data LineGives (has_room : HasRoom) (o : Opening) (h : Entries) : Line → L
   silent : LineGives has_room o h Silent []
   bad : LineGives has_room o h Bad []
   -- a session begins a transaction; one that has one does not
-  begins : (s : Session) → transaction_of o h s.0 ≡ None
+  begins : (s : Session) → s.0 < SESSIONS → transaction_of o h s.0 ≡ None
       → LineGives has_room o h (Of s statements.Begin) (said o h (Begin s.0 writing) ∷ [])
   begins_not : (s : Session) (t : ℕ) → transaction_of o h s.0 ≡ Some t
       → LineGives has_room o h (Of s statements.Begin) []

@@ -1,4 +1,12 @@
+pub mod BeginningLaws
+pub mod ClosingLaws
 pub mod Given
+pub mod Laws
+pub mod LineLaws
 pub mod Lines
+pub mod SessionLaws
 pub mod Spelling
+pub mod Steady
+pub mod SteadyLaws
 pub mod Transcript
+pub mod TurnLaws

@@ -9,10 +9,12 @@
 //! Not here: SQL. The lines are taken letter for letter, but for the session and the numbers.
 #![tactic(auto)]
 
+mod laws;
 mod line;
 pub mod number;
 mod reading;
 
+pub use laws::{lines_go_on, sessions_differ};
 pub use line::{Line, SESSIONS, Session, Statement};
 pub use reading::{first_line, read_line};
 

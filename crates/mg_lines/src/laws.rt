@@ -1,0 +1,19 @@
+//! The laws of a script's lines. Each function does nothing: its contract is a law, so that another
+//! crate can cite it.
+
+ghost use Rattle.mg_lines.specs.Laws.{NewIsClosed, LinesGoOn, LinesEndLegally, ClosingCloses};
+ghost use Rattle.mg_lines.specs.Laws.{SessionsBegan, SessionsDiffer};
+
+/// What the lines of a script give to a history leaves it legal.
+pub fn lines_go_on()
+    ensures begin { NewIsClosed }
+    ensures line { LinesGoOn }
+    ensures end { LinesEndLegally }
+    ensures closing { ClosingCloses }
+{}
+
+/// Each session has a transaction of its own.
+pub fn sessions_differ()
+    ensures began { SessionsBegan }
+    ensures differ { SessionsDiffer }
+{}
