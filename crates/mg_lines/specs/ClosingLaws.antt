@@ -87,7 +87,7 @@ module _ (o : Opening) (h : Entries) (steady : IsSteady o h) where
       not_again : (s u : ℕ) → suc n ≤ s → transaction_of o h s ≡ Some u → t ≡ u → ⊥
       not_again s u from_on its same =
           let one : n ≡ s =
-          is_of_one_session o h steady.legal n s t some (its ∙ ap (λ v. Some v) (sym same)) in
+          is_of_one_session o h steady.kv.legal n s t some (its ∙ ap (λ v. Some v) (sym same)) in
           absurd (omega arith)
 
       later : (u : ℕ) (b : Bool) → (t == u) ≡ b → cond b Dead (state_of o now u) ≡ Active

@@ -1,10 +1,16 @@
+pub mod AnswerLaws
 pub mod BeginningLaws
 pub mod ClosingLaws
+pub mod Found
 pub mod Given
+pub mod KeyTests
 pub mod Laws
 pub mod LineLaws
 pub mod Lines
+pub mod OwnKeyLaws
+pub mod OwnKeys
 pub mod SessionLaws
+pub mod Shape
 pub mod Spelling
 pub mod Steady
 pub mod SteadyLaws

@@ -19,6 +19,7 @@ use Rattle.mg_model.specs.Machine.{state_after, state_of}
 use Rattle.mg_generations.specs.Tables.{asks_to_write}
 use Rattle.mg_lines.specs.Given.{HasRoom, StatementGives, Writes, changes, commit, commits, done, finds, full, insert, inserts, looks, marks, onto, refused, rollback, rolls_back, said, select, undoes, undone_after, update, update_none}
 use Rattle.mg_lines.specs.declared.line.Statement.{Statement}
+use Rattle.mg_lines.specs.OwnKeys.{GivesOwnKey}
 use Rattle.mg_lines.specs.SessionLaws.{is_begin}
 use Rattle.mg_lines.specs.Steady.{IsSteadyBy, SessionRule}
 use Rattle.mg_lines.specs.SteadyLaws.{steady_on}
@@ -68,44 +69,44 @@ module _ (rule : SessionRule) (o : Opening) (t : ℕ) where
   -- it goes on with an entry that is no end
   goes_on : (h : Entries) → Runs h → (event : Event) (answered : Answer)
       → IsLawful o h (entry event answered) → leaves_states event ≡ true
-      → is_begin event ≡ false → asks_to_write event catalog_name ≡ false
+      → is_begin event ≡ false → asks_to_write event catalog_name ≡ false → GivesOwnKey event
       → Runs (entry event answered ∷ h)
-  goes_on h runs event answered lawful leaves other apart = record {
-    steady = steady_on rule o h runs.steady (entry event answered) lawful other apart;
+  goes_on h runs event answered lawful leaves other apart gives = record {
+    steady = steady_on rule o h runs.steady (entry event answered) lawful other apart gives;
     active = same_state o h event answered t leaves ∙ runs.active;
   }
 
   -- with one that is done without more, as long as it is active
   goes_on_fine : (h : Entries) → Runs h → (event : Event)
       → (state_of o h t ≡ Active → answer o h event ≡ Fine) → leaves_states event ≡ true
-      → is_begin event ≡ false → asks_to_write event catalog_name ≡ false
+      → is_begin event ≡ false → asks_to_write event catalog_name ≡ false → GivesOwnKey event
       → Runs (entry event Fine ∷ h)
   goes_on_fine h runs event fine = goes_on h runs event Fine (inl (sym (fine runs.active)))
 
   pub looked : (h : Entries) → Runs h → Runs (entry (looks t) Fine ∷ h)
-  looked h runs = goes_on_fine h runs (looks t) (λ active. rw active refl) refl refl refl
+  looked h runs = goes_on_fine h runs (looks t) (λ active. rw active refl) refl refl refl tt
 
   pub marked : (h : Entries) → Runs h → Runs (entry (marks t) Fine ∷ h)
-  marked h runs = goes_on_fine h runs (marks t) (λ active. rw active refl) refl refl refl
+  marked h runs = goes_on_fine h runs (marks t) (λ active. rw active refl) refl refl refl tt
 
   pub undone : (h : Entries) → Runs h → Runs (entry (undoes t) Fine ∷ h)
-  undone h runs = goes_on_fine h runs (undoes t) (λ active. rw active refl) refl refl refl
+  undone h runs = goes_on_fine h runs (undoes t) (λ active. rw active refl) refl refl refl tt
 
   pub found : (h : Entries) → Runs h → (test : Expr) → Runs (said o h (finds t test) ∷ h)
   found h runs test =
-      goes_on h runs (finds t test) (answer o h (finds t test)) (inl refl) refl refl refl
+      goes_on h runs (finds t test) (answer o h (finds t test)) (inl refl) refl refl refl tt
 
   -- a write of it, done or not
   module _ (has_room : HasRoom) (h : Entries) (key value : ℤ) (event : Event)
       (leaves : leaves_states event ≡ true) (other : is_begin event ≡ false)
-      (apart : asks_to_write event catalog_name ≡ false) where
+      (apart : asks_to_write event catalog_name ≡ false) (gives : GivesOwnKey event) where
     pub written : Runs h → (answered : Answer) → Writes has_room o h t key value event answered
         → Runs (entry event answered ∷ h)
-    written runs answered (done is room) = goes_on h runs event Fine (inl (sym is)) leaves other apart
+    written runs answered (done is room) = goes_on h runs event Fine (inl (sym is)) leaves other apart gives
     written runs answered (refused why is) =
-        goes_on h runs event (No why) (inl (sym is)) leaves other apart
+        goes_on h runs event (No why) (inl (sym is)) leaves other apart gives
     written runs answered (full is room) =
-        goes_on h runs event (No (DatabaseFull 7)) (inr refl) leaves other apart
+        goes_on h runs event (No (DatabaseFull 7)) (inr refl) leaves other apart gives
 
   -- and what follows it
   pub after_write : (h : Entries) → (answered : Answer) → Runs h
@@ -117,16 +118,16 @@ module _ (rule : SessionRule) (o : Opening) (t : ℕ) where
 
   -- its end
   pub ended : (h : Entries) → Runs h → (event : Event) → (state_of o h t ≡ Active → answer o h event ≡ Fine)
-      → is_begin event ≡ false → asks_to_write event catalog_name ≡ false
+      → is_begin event ≡ false → asks_to_write event catalog_name ≡ false → GivesOwnKey event
       → IsSteadyBy rule o (entry event Fine ∷ h)
   ended h runs event fine =
       steady_on rule o h runs.steady (entry event Fine) (inl (sym (fine runs.active)))
 
   pub committed : (h : Entries) → Runs h → IsSteadyBy rule o (entry (commits t) Fine ∷ h)
-  committed h runs = ended h runs (commits t) (λ active. rw active refl) refl refl
+  committed h runs = ended h runs (commits t) (λ active. rw active refl) refl refl tt
 
   pub rolled : (h : Entries) → Runs h → IsSteadyBy rule o (entry (rolls_back t) Fine ∷ h)
-  rolled h runs = ended h runs (rolls_back t) (λ active. rw active refl) refl refl
+  rolled h runs = ended h runs (rolls_back t) (λ active. rw active refl) refl refl tt
 
   -- ---- one statement
 
@@ -140,7 +141,7 @@ module _ (rule : SessionRule) (o : Opening) (t : ℕ) where
   statement_goes_on has_room h statement new runs (insert key value answered writes) =
       let ready = marked (entry (looks t) Fine ∷ h) (looked h runs) in
       let wrote = written has_room (entry (marks t) Fine ∷ entry (looks t) Fine ∷ h) key value
-      (inserts t key value) refl refl refl ready answered writes in
+      (inserts t key value) refl refl refl tt ready answered writes in
       (after_write (entry (inserts t key value) answered ∷ entry (marks t) Fine
       ∷ entry (looks t) Fine ∷ h) answered wrote).steady
   statement_goes_on has_room h statement new runs (update_none key value test is none) =
@@ -150,6 +151,6 @@ module _ (rule : SessionRule) (o : Opening) (t : ℕ) where
       let look : Entries = entry (looks t) Fine ∷ h in
       let ready = marked (said o look (finds t test) ∷ look) (found look (looked h runs) test) in
       let wrote = written has_room (entry (marks t) Fine ∷ said o look (finds t test) ∷ look)
-      key value (changes t key value) refl refl refl ready answered writes in
+      key value (changes t key value) refl refl refl refl ready answered writes in
       (after_write (entry (changes t key value) answered ∷ entry (marks t) Fine
       ∷ said o look (finds t test) ∷ look) answered wrote).steady

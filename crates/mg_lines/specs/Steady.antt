@@ -1,9 +1,6 @@
 -- Histories between two lines of a script.
-use Rattle.std.specs.Prelude.{◌≡◌, ◌⊎◌, ℕ, ◌<◌, Bool, true, false, List, [], ◌∷◌, codes, Some}
+use Rattle.std.specs.Prelude.{◌≡◌, ◌⊎◌, ℕ, ◌<◌, Some}
 use Rattle.mg_base.specs.declared.transaction.TxState.TheVariants.{Active}
-use Rattle.mg_value.specs.declared.shape.Column.{Column}
-use Rattle.mg_value.specs.declared.shape.Kind.TheVariants as kinds
-use Rattle.mg_value.specs.declared.shape.Shape.{Shape}
 use Rattle.mg_model.specs.declared.event.Mode.{Mode}
 use Rattle.mg_model.specs.declared.opening.Opening.{Opening}
 use Rattle.mg_model.specs.Catalog.{catalog_name, shape_in}
@@ -13,21 +10,9 @@ use Rattle.mg_model.specs.Machine.{mode_of, state_of}
 use Rattle.mg_model.specs.NewDatabase.{kv_name}
 use Rattle.mg_generations.specs.Tables.{LeavesTable, opening_catalog}
 use Rattle.mg_lines.specs.Given.{SHORTHAND, transaction_of, writing}
+use Rattle.mg_lines.specs.OwnKeys.{KeepsOwnKeys}
+use Rattle.mg_lines.specs.Shape.{kv_shape}
 use Rattle.mg_lines.specs.declared.line.TheConstants.{SESSIONS}
-
--- ---- the shape of KV
-
--- a BIGINT column that came with the table
-abbrev pub kv_column : List ℕ → Bool → Column
-kv_column name not_null =
-    record { name = name; kind = kinds.Int; not_null = not_null; since = 1 }
-
--- K BIGINT PRIMARY KEY, V BIGINT
-abbrev pub kv_shape : Shape
-kv_shape = record {
-  columns = kv_column (codes "K") true ∷ kv_column (codes "V") false ∷ [];
-  key = 0;
-}
 
 -- ---- whose the active transactions are
 
@@ -51,13 +36,17 @@ pub record IsOfSession (rule : SessionRule) (o : Opening) (h : Entries) (t : ℕ
 
 -- ---- steady histories
 
--- a history is legal, KV has its shape, nothing writes the catalog, and each active transaction is
--- that of a session under a rule
-pub record IsSteadyBy (rule : SessionRule) (o : Opening) (h : Entries) : Type 0 where
+-- a history is legal, KV has its shape and rows with their keys, and nothing writes the catalog
+pub record KeepsKv (o : Opening) (h : Entries) : Type 0 where
   pub opening : IsOpening o
   pub legal : IsLegal o h
   pub has_kv : shape_in (opening_catalog o) kv_name ≡ Some kv_shape
   pub catalog_stands : LeavesTable o catalog_name h
+  pub own_keys : KeepsOwnKeys o h
+
+-- and each active transaction is that of a session under a rule
+pub record IsSteadyBy (rule : SessionRule) (o : Opening) (h : Entries) : Type 0 where
+  pub kv : KeepsKv o h
   pub sessions : (t : ℕ) → state_of o h t ≡ Active → IsOfSession rule o h t
 
 -- so are the histories between two lines of a script

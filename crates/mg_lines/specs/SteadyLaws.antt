@@ -18,13 +18,26 @@ use Rattle.mg_model.specs.Machine.{mode_of, next_number, state_after, state_of}
 use Rattle.mg_generations.specs.TableLaws.{leaves_by_event}
 use Rattle.mg_generations.specs.Tables.{asks_to_write}
 use Rattle.mg_lines.specs.Given.{begun_by, last_begun, said, transaction_of}
+use Rattle.mg_lines.specs.OwnKeyLaws.{own_keys_on}
+use Rattle.mg_lines.specs.OwnKeys.{GivesOwnKey}
 use Rattle.mg_lines.specs.SessionLaws.{begins_one, active_is_found, begins_none, begun_by_none, found_active, is_begin, same_mode, was_active}
-use Rattle.mg_lines.specs.Steady.{IsOfSession, IsSteadyBy, SessionRule}
+use Rattle.mg_lines.specs.Steady.{IsOfSession, IsSteadyBy, KeepsKv, SessionRule}
+
+-- an entry that writes no catalog, and gives no key another's row
+pub kv_on : (o : Opening) (h : Entries) → KeepsKv o h → (e : Entry) → IsLawful o h e
+    → asks_to_write e.event catalog_name ≡ false → GivesOwnKey e.event → KeepsKv o (e ∷ h)
+kv_on o h keeps e lawful apart gives = record {
+  opening = keeps.opening;
+  legal = (lawful, keeps.legal);
+  has_kv = keeps.has_kv;
+  catalog_stands = (leaves_by_event e catalog_name apart, keeps.catalog_stands);
+  own_keys = own_keys_on o h keeps.own_keys keeps.has_kv keeps.catalog_stands e gives;
+}
 
 module _ (rule : SessionRule) (o : Opening) (h : Entries) (steady : IsSteadyBy rule o h) where
   -- an entry of another kind than a beginning, which writes no catalog
   module _ (e : Entry) (lawful : IsLawful o h e) (other : is_begin e.event ≡ false)
-      (apart : asks_to_write e.event catalog_name ≡ false) where
+      (apart : asks_to_write e.event catalog_name ≡ false) (gives : GivesOwnKey e.event) where
     none : begins_one (effect_of e) ≡ false
     none = begins_none e.event e.answer other
 
@@ -44,10 +57,7 @@ module _ (rule : SessionRule) (o : Opening) (h : Entries) (steady : IsSteadyBy r
 
     pub steady_on : IsSteadyBy rule o (e ∷ h)
     steady_on = record {
-      opening = steady.opening;
-      legal = (lawful, steady.legal);
-      has_kv = steady.has_kv;
-      catalog_stands = (leaves_by_event e catalog_name apart, steady.catalog_stands);
+      kv = kv_on o h steady.kv e lawful apart gives;
       sessions = λ t active. of_session t active (steady.sessions t (active_before t active));
     }
 
@@ -59,10 +69,7 @@ module _ (rule : SessionRule) (o : Opening) (h : Entries) (steady : IsSteadyBy r
   pub steady_on_unbegun : answer o h (Begin s mode) ≡ No TransactionLimit
       → IsSteadyBy rule o (entry (Begin s mode) (No TransactionLimit) ∷ h)
   steady_on_unbegun is = record {
-    opening = steady.opening;
-    legal = (inl (sym is), steady.legal);
-    has_kv = steady.has_kv;
-    catalog_stands = (refl, steady.catalog_stands);
+    kv = kv_on o h steady.kv (entry (Begin s mode) (No TransactionLimit)) (inl (sym is)) refl tt;
     sessions = λ t active. of_session (steady.sessions t active);
   }
     where
@@ -121,10 +128,7 @@ module _ (rule : SessionRule) (o : Opening) (h : Entries) (steady : IsSteadyBy r
 
   steady_on_begun : answer o h (Begin s mode) ≡ Tx (number next) → IsSteadyBy rule o (begun ∷ h)
   steady_on_begun is = record {
-    opening = steady.opening;
-    legal = (inl (sym is), steady.legal);
-    has_kv = steady.has_kv;
-    catalog_stands = (refl, steady.catalog_stands);
+    kv = kv_on o h steady.kv begun (inl (sym is)) refl tt;
     sessions = begun_of_session;
   }
 

@@ -25,6 +25,7 @@ use Rattle.mg_lines.specs.declared.line.Line.{Line}
 use Rattle.mg_lines.specs.declared.line.TheConstants.{SESSIONS}
 use Rattle.mg_value.specs.declared.value.Value.TheVariants.{Int}
 use Rattle.mg_model.specs.NewDatabase.{kv_name}
+use Rattle.mg_lines.specs.OwnKeys.{GivesOwnKey}
 use Rattle.mg_lines.specs.SessionLaws.{begun_by_none, found_active, is_begin, is_of_one_session}
 use Rattle.mg_lines.specs.Steady.{Between, IsOfSession, IsSteady, IsSteadyBy, Within}
 use Rattle.mg_lines.specs.SteadyLaws.{begun_is_active, begun_is_last, limit_answer, steady_on_begin, steady_on_unbegun}
@@ -41,16 +42,13 @@ shorthand_is_idle o h steady = at (transaction_of o h SHORTHAND) refl
         let active = (found_active (state_of o h) (last_begun h SHORTHAND) t is).1 in
         let of = steady.sessions t active in
         let same : of.session ≡ SHORTHAND =
-        is_of_one_session o h steady.legal of.session SHORTHAND t of.its is in
+        is_of_one_session o h steady.kv.legal of.session SHORTHAND t of.its is in
         absurd (let below : of.session < SESSIONS = of.by_rule.0 in omega arith)
 
 -- so it may begin one
 widened : (o : Opening) (h : Entries) → IsSteady o h → IsSteadyBy Within o h
 widened o h steady = record {
-  opening = steady.opening;
-  legal = steady.legal;
-  has_kv = steady.has_kv;
-  catalog_stands = steady.catalog_stands;
+  kv = steady.kv;
   sessions = λ t active. of_session (steady.sessions t active);
 }
   where
@@ -61,10 +59,7 @@ widened o h steady = record {
 narrowed : (o : Opening) (h : Entries) → IsSteadyBy Within o h
     → transaction_of o h SHORTHAND ≡ None → IsSteady o h
 narrowed o h steady idle = record {
-  opening = steady.opening;
-  legal = steady.legal;
-  has_kv = steady.has_kv;
-  catalog_stands = steady.catalog_stands;
+  kv = steady.kv;
   sessions = λ t active. of_session t (steady.sessions t active);
 }
   where
@@ -134,6 +129,10 @@ module _ (has_room : HasRoom) (o : Opening) (h : Entries) (steady : IsSteady o h
   put_is_apart None t key value = refl
   put_is_apart (Some row) t key value = refl
 
+  put_gives : (row : Option Cells) (t : ℕ) (key value : ℤ) → GivesOwnKey (puts row t key value)
+  put_gives None t key value = tt
+  put_gives (Some row) t key value = refl
+
   -- what follows the write of a put ends it
   put_ends : (t : ℕ) (h : Entries) (answered : Answer) → Runs Within o t h
       → last_begun h SHORTHAND ≡ Some t → (answered ≡ Fine) ⊎ IsRefusal answered
@@ -174,7 +173,7 @@ module _ (has_room : HasRoom) (o : Opening) (h : Entries) (steady : IsSteady o h
       let row : Option Cells = row_at (view o begun t) kv_name (Int key) in
       let event : Event = puts row t key value in
       let wrote = written Within o t has_room begun key value event (put_leaves row t key value)
-      (put_begins_none row t key value) (put_is_apart row t key value)
+      (put_begins_none row t key value) (put_is_apart row t key value) (put_gives row t key value)
       (shorthand_runs writing left) answered writes in
       put_ends t (entry event answered ∷ begun) answered wrote
       (begun_by_none event answered SHORTHAND (last_begun begun SHORTHAND)
@@ -228,5 +227,5 @@ pub line_ends_legally : (has_room : HasRoom) (o : Opening) (h : Entries) → IsS
 line_ends_legally has_room o h steady line es (fails before e after why gives may) =
     legal_last o h before (entry e.event (No why))
     (legal_front o h before (e ∷ after)
-    (line_goes_on has_room o h steady line (before ++ e ∷ after) gives).legal)
+    (line_goes_on has_room o h steady line (before ++ e ∷ after) gives).kv.legal)
     (failing_is_outer e.event why may)

@@ -14,7 +14,7 @@ mod line;
 pub mod number;
 mod reading;
 
-pub use laws::{lines_go_on, sessions_differ};
+pub use laws::{keys_are_found, lines_are_answered, lines_go_on, sessions_differ};
 pub use line::{Line, SESSIONS, Session, Statement};
 pub use reading::{first_line, read_line};
 
