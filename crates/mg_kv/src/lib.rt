@@ -18,7 +18,9 @@ mod reading;
 mod writing;
 
 pub use fates::Fates;
-pub use laws::{keys_have_versions, program_works, rows_are_written, transactions_end, versions_are_shown};
+pub use laws::{
+    keys_have_versions, program_works, rows_are_written, transactions_end, versions_are_shown,
+};
 pub use newest::Newest;
 pub use reading::{Given, KvVersion, generations};
 pub use writing::write;
