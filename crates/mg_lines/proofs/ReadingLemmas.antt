@@ -102,7 +102,7 @@ number_apart b low (negsuc n) fits =
 module _ (text separator : List ℕ) (some : 0 < length separator)
     (apart : get_or separator 0 0 < 45) where
   -- behind the first number the separator's first byte stands
-  seam : (first second : List ℕ) (separator : List ℕ) → 0 < length separator
+  pub seam : (first second : List ℕ) (separator : List ℕ) → 0 < length separator
       → get_or (first ++ (separator ++ second)) (length first) 0 ≡ get_or separator 0 0
   seam first second [] some = absurd (omega arith)
   seam first second (s ∷ more) some = get_or-append_seam first s (more ++ second) 0

@@ -1,7 +1,8 @@
 -- The transcript: what a script prints, by its lines and the entries that each gave.
-use Rattle.std.specs.Prelude.{◌+◌, ◌&&◌, ℕ, Bool, true, false, List, [], ◌∷◌, ◌++◌, length, codes, decimal, Option, None, Some}
+use Rattle.std.specs.Prelude.{◌+◌, ◌&&◌, ℕ, ℤ, Bool, true, false, List, [], ◌∷◌, ◌++◌, length, codes, decimal, Option, None, Some}
 use Rattle.std.proofs.Common.{get_or}
-use Rattle.mg_value.specs.declared.value.Value.TheVariants.{Null}
+use Rattle.mg_value.specs.declared.value.Value.{Value}
+use Rattle.mg_value.specs.declared.value.Value.TheVariants.{Int, Null}
 use Rattle.mg_value.specs.Values.{printed}
 use Rattle.mg_model.specs.declared.answer.Answer.{Answer}
 use Rattle.mg_model.specs.declared.answer.Answer.TheVariants.{No, Rows, Tx}
@@ -70,6 +71,11 @@ rows_found (e ∷ es) = rows_or e.answer (rows_found es)
 abbrev pub value_text : Cells → List ℕ
 value_text row = printed (get_or row 1 Null)
 
+-- a number, or NULL where there is none
+abbrev pub number_or_null : Option ℤ → Value
+number_or_null None = Null
+number_or_null (Some number) = Int number
+
 -- the lines of the rows that a session reads
 abbrev pub row_lines : Session → List Cells → List ℕ
 row_lines session [] = []
@@ -132,13 +138,24 @@ get_text es = by (first_refusal es)
     by (Some why) = refusal_text why
     by None = found_text (rows_found es)
 
+-- the line of a put, and that of a get
+abbrev pub put_answer : List ℕ → List ℕ
+put_answer text = codes "@put: " ++ text ++ 10 ∷ []
+
+abbrev pub get_answer : List ℕ → List ℕ
+get_answer text = codes "@get: " ++ text ++ 10 ∷ []
+
+-- the line of a bad line with this number
+abbrev pub bad_line_text : ℕ → List ℕ
+bad_line_text n = codes "line " ++ decimal n ++ codes ": BAD LINE" ++ 10 ∷ []
+
 -- a line of the transcript, or several; the number is that of the line in the script
 abbrev pub line_text : ℕ → Line → List Entry → List ℕ
-line_text n (Put key value) es = codes "@put: " ++ put_text es ++ 10 ∷ []
-line_text n (Get key) es = codes "@get: " ++ get_text es ++ 10 ∷ []
+line_text n (Put key value) es = put_answer (put_text es)
+line_text n (Get key) es = get_answer (get_text es)
 line_text n (Of session statement) es = session_text session statement es
 line_text n Silent es = []
-line_text n Bad es = codes "line " ++ decimal n ++ codes ": BAD LINE" ++ 10 ∷ []
+line_text n Bad es = bad_line_text n
 
 -- what these lines print, of which the first one has this number
 abbrev pub transcript : ℕ → List Turn → List ℕ

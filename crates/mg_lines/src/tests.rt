@@ -1,6 +1,8 @@
-//! What no clause shows: that the words of a line are those of the script's rules.
+//! What no clause shows: that the words of lines are those of the script's rules.
 
 use super::*;
+use mg_base::TxNo;
+use mg_model::Refusal;
 use std::process::Abort;
 use std::test::Fail;
 
@@ -95,5 +97,108 @@ fn an_empty_line_and_a_comment_ask_for_nothing(rt: HostRuntime) -> Result<(), Fa
     reads(&rt, "-- @put 1 2", Line::Silent);
     reads(&rt, "- @put 1 2", Line::Bad);
     reads(&rt, " ", Line::Bad);
+    Ok(())
+}
+
+/// Wants a line to print as this text.
+fn prints(rt: &impl Abort, line: LineText, text: &str) {
+    assert_eq!(rt; line.as_str(), text);
+}
+
+#[test]
+fn a_session_says_what_came_of_its_statement(rt: HostRuntime) -> Result<(), Fail> {
+    prints(&rt, begun_line(Session(0), TxNo(7)), "A: OK TX 7\n");
+    prints(&rt, ok_line(Session(15)), "P: OK\n");
+    prints(&rt, number_line(Session(1), 0), "B: OK 0\n");
+    prints(&rt, number_line(Session(1), 1), "B: OK 1\n");
+    prints(
+        &rt,
+        idle_line(Session(2), Statement::Begin),
+        "C: IN TRANSACTION\n",
+    );
+    prints(
+        &rt,
+        idle_line(Session(2), Statement::Commit),
+        "C: NO TRANSACTION\n",
+    );
+    prints(
+        &rt,
+        idle_line(Session(2), Statement::Select { key: 1 }),
+        "C: NO TRANSACTION\n",
+    );
+    prints(&rt, row_line(Session(3), Some(-5)), "D| -5\n");
+    prints(
+        &rt,
+        row_line(Session(3), Some(i64::MIN)),
+        "D| -9223372036854775808\n",
+    );
+    prints(&rt, row_line(Session(3), None), "D| NULL\n");
+    Ok(())
+}
+
+#[test]
+fn a_refusal_names_its_cause(rt: HostRuntime) -> Result<(), Fail> {
+    let by = TxNo(4294967295);
+    let session = Session(4);
+    prints(
+        &rt,
+        refusal_line(session, Refusal::UpdateConflict { by }),
+        "E: UPDATE CONFLICT BY 4294967295\n",
+    );
+    prints(
+        &rt,
+        refusal_line(session, Refusal::LockConflict { by: TxNo(3) }),
+        "E: LOCK CONFLICT BY 3\n",
+    );
+    prints(
+        &rt,
+        refusal_line(session, Refusal::InLimbo { by: TxNo(3) }),
+        "E: IN LIMBO 3\n",
+    );
+    prints(
+        &rt,
+        refusal_line(session, Refusal::DuplicateKey),
+        "E: DUPLICATE KEY\n",
+    );
+    prints(
+        &rt,
+        refusal_line(session, Refusal::DatabaseFull { limit: 7 }),
+        "E: DATABASE FULL LIMIT 7\n",
+    );
+    prints(
+        &rt,
+        refusal_line(session, Refusal::TransactionLimit),
+        "E: TRANSACTION LIMIT\n",
+    );
+    prints(
+        &rt,
+        refusal_line(session, Refusal::DiskWrite { faults: 2 }),
+        "E: DISK WRITE FAULT\n",
+    );
+    prints(
+        &rt,
+        refusal_line(session, Refusal::Memory),
+        "E: OUT OF MEMORY\n",
+    );
+    Ok(())
+}
+
+#[test]
+fn a_put_and_a_get_say_what_came_of_them(rt: HostRuntime) -> Result<(), Fail> {
+    prints(&rt, put_line(TxNo(12)), "@put: OK TX 12\n");
+    prints(
+        &rt,
+        put_refusal_line(Refusal::TransactionLimit),
+        "@put: TRANSACTION LIMIT\n",
+    );
+    prints(&rt, get_line(Some(8)), "@get: 8\n");
+    prints(&rt, get_line(None), "@get: NULL\n");
+    prints(&rt, get_none_line(), "@get: NONE\n");
+    prints(
+        &rt,
+        get_refusal_line(Refusal::TransactionLimit),
+        "@get: TRANSACTION LIMIT\n",
+    );
+    prints(&rt, bad_line(12), "line 12: BAD LINE\n");
     Ok(())
 }
