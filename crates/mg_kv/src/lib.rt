@@ -17,6 +17,8 @@ mod newest;
 mod writing;
 
 pub use fates::Fates;
-pub use laws::{keys_have_versions, program_works, rows_are_written, transactions_end, versions_are_shown};
+pub use laws::{
+    keys_have_versions, program_works, rows_are_written, transactions_end, versions_are_shown,
+};
 pub use newest::Newest;
 pub use writing::write;
