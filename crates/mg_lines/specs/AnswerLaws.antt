@@ -122,7 +122,7 @@ module _ (o : Opening) (h : Entries) (keeps : KeepsKv o h) (t : ℕ) where
         there_is_kv
         ∙ ap (λ (rows : List Cells). Rows rows) (passing test key (rows_of (view o h t) kv_name) is
         (rows_of_ascend (view o h t) kv_name)
-        (own_rows (view o h t) (own_view o h keeps.own_keys keeps.has_kv keeps.catalog_stands t))
+        (own_rows (view o h t) (own_view o h keeps.own_keys keeps.has_kv keeps.catalog_stands t active))
         ∙ ap rows_with (row_in-rows_of (view o h t) kv_name (Int key)))
       where
         find_at : (s : TxState) (there : Bool) (rows : List Cells) → s ≡ Active → there ≡ true

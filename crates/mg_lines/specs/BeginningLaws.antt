@@ -14,7 +14,7 @@ new_is_closed limit = record {
       legal = tt;
       has_kv = refl;
       catalog_stands = λ t key. refl;
-      own_keys = own_keys_begin (new_opening limit) refl tt;
+      own_keys = own_keys_begin (new_opening limit) (new_is_opening limit) refl;
     };
     sessions = λ t active. absurd (ended (t == 0) (nat_lt t 1) active);
   };

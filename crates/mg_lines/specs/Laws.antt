@@ -55,7 +55,8 @@ SessionsDiffer = (o : Opening) (h : Entries) (s u t : ℕ) → IsLegal o h
 
 -- ---- what lines are answered
 
--- an entry that writes no catalog, and gives no key of KV another's row, leaves KV as it is kept
+-- an entry that writes no catalog, decides nobody in limbo, and gives no key of KV another's row,
+-- leaves KV as it is kept
 abbrev pub KvStands : Type 0
 KvStands = (o : Opening) (h : Entries) (e : Entry) → KeepsKv o h → IsLawful o h e
     → asks_to_write e.event catalog_name ≡ false → GivesOwnKey e.event → KeepsKv o (e ∷ h)

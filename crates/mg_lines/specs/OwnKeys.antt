@@ -1,17 +1,18 @@
 -- Rows of KV that have their key in their first column.
-use Rattle.std.specs.Prelude.{◌≡◌, ℕ, true, List, [], ◌∷◌, Some, get_or}
+use Rattle.std.specs.Prelude.{◌≡◌, ◌≢◌, ℕ, true, List, [], ◌∷◌, Some, get_or}
+use Rattle.mg_base.specs.declared.transaction.TxState.{TxState}
+use Rattle.mg_base.specs.declared.transaction.TxState.TheVariants.{Limbo}
 use Rattle.mg_value.specs.declared.value.Value.TheVariants.{Null}
 use Rattle.mg_model.specs.declared.change.Change.{Change as AnyChange}
 use Rattle.mg_model.specs.declared.change.Deed.{Deed}
 use Rattle.mg_model.specs.declared.change.Deed.TheVariants.{Changed, Marked, Saved}
 use Rattle.mg_model.specs.declared.change.Step.{Step}
 use Rattle.mg_model.specs.declared.event.Event.{Event}
-use Rattle.mg_model.specs.declared.event.Event.TheVariants.{Change}
-use Rattle.mg_model.specs.declared.opening.LimboChange.{LimboChange}
+use Rattle.mg_model.specs.declared.event.Event.TheVariants.{Change, Decide}
 use Rattle.mg_model.specs.declared.opening.Opening.{Opening}
 use Rattle.mg_model.specs.Changes.{Cells, KeyedRows, same_name}
 use Rattle.mg_model.specs.History.{Entries}
-use Rattle.mg_model.specs.Machine.{base, database, steps}
+use Rattle.mg_model.specs.Machine.{base, database, state_of, steps}
 use Rattle.mg_model.specs.NewDatabase.{kv_name}
 
 -- each row has its key in its first column
@@ -35,24 +36,21 @@ IsDeedOwnKeyed (Changed c) = IsOwnKeyed c
 IsDeedOwnKeyed Marked = Unit {0}
 IsDeedOwnKeyed (Saved name) = Unit {0}
 
--- each of these steps that is one does
-abbrev pub AreStepsOwnKeyed : List Step → Type 0
-AreStepsOwnKeyed [] = Unit {0}
-AreStepsOwnKeyed (s ∷ all) = IsDeedOwnKeyed s.deed × AreStepsOwnKeyed all
-
--- each change of a transaction in limbo does
-abbrev pub IsLimboOwnKeyed : List LimboChange → Type 0
-IsLimboOwnKeyed [] = Unit {0}
-IsLimboOwnKeyed (c ∷ cs) =
-    IsOwnKeyed (record { table = c.table; key = c.key; row = c.row }) × IsLimboOwnKeyed cs
+-- each of these steps that is one does, but for those of transactions in limbo
+abbrev pub AreStepsOwnKeyed : (ℕ → TxState) → List Step → Type 0
+AreStepsOwnKeyed state [] = Unit {0}
+AreStepsOwnKeyed state (s ∷ all) =
+    (state s.by.0 ≢ Limbo → IsDeedOwnKeyed s.deed) × AreStepsOwnKeyed state all
 
 -- so does each in the database, in the steps that stand, and in each base
 pub record KeepsOwnKeys (o : Opening) (h : Entries) : Type 0 where
   pub in_database : AreOwnKeyed (database o h)
-  pub in_steps : AreStepsOwnKeyed (steps o h)
+  pub in_steps : AreStepsOwnKeyed (state_of o h) (steps o h)
   pub in_bases : (t : ℕ) → AreOwnKeyed (base o h t)
 
--- an event gives a key of a table another row, if it does, with the key in the first column
+-- an event gives a key of a table another row, if it does, with the key in the first column; and it
+-- decides nobody in limbo, whose changes may be others
 abbrev pub GivesOwnKey : Event → Type 0
 GivesOwnKey (Change t table key row) = get_or row 0 Null ≡ key
+GivesOwnKey (Decide t commit) = ⊥
 GivesOwnKey event = Unit {0}

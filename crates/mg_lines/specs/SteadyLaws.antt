@@ -23,7 +23,7 @@ use Rattle.mg_lines.specs.OwnKeys.{GivesOwnKey}
 use Rattle.mg_lines.specs.SessionLaws.{begins_one, active_is_found, begins_none, begun_by_none, found_active, is_begin, same_mode, was_active}
 use Rattle.mg_lines.specs.Steady.{IsOfSession, IsSteadyBy, KeepsKv, SessionRule}
 
--- an entry that writes no catalog, and gives no key another's row
+-- an entry that writes no catalog, decides nobody in limbo, and gives no key another's row
 pub kv_on : (o : Opening) (h : Entries) → KeepsKv o h → (e : Entry) → IsLawful o h e
     → asks_to_write e.event catalog_name ≡ false → GivesOwnKey e.event → KeepsKv o (e ∷ h)
 kv_on o h keeps e lawful apart gives = record {
@@ -31,7 +31,8 @@ kv_on o h keeps e lawful apart gives = record {
   legal = (lawful, keeps.legal);
   has_kv = keeps.has_kv;
   catalog_stands = (leaves_by_event e catalog_name apart, keeps.catalog_stands);
-  own_keys = own_keys_on o h keeps.own_keys keeps.has_kv keeps.catalog_stands e gives;
+  own_keys = own_keys_on o h keeps.own_keys keeps.has_kv keeps.catalog_stands keeps.opening
+      keeps.legal e lawful gives;
 }
 
 module _ (rule : SessionRule) (o : Opening) (h : Entries) (steady : IsSteadyBy rule o h) where
