@@ -4,8 +4,8 @@ use Rattle.std.specs.Bool.{OnTrue}
 use Rattle.std.specs.Prelude.{IsOk, IsTrue, OnOk, Result, Err}
 use Rattle.std.proofs.lemmas.Bool.{cases_eq, le-ltb}
 use Rattle.mg_base.specs.Checks.{PassesAll, common_checks}
-use Rattle.mg_base.specs.CheckLaws.{front_checks, new_passes, passes-append, passes_from_verdict}
-use Rattle.mg_base.specs.Fields.{byte, length-new_page, new_page, u16_at}
+use Rattle.mg_base.specs.CheckLaws.{front_checks, new_page_zero, new_passes, passes-append, passes_from_verdict}
+use Rattle.mg_base.specs.Fields.{byte, byte_apart16, length-new_page, new_page, u16_at}
 use Rattle.mg_base.specs.declared.numbers.PageNo.{PageNo}
 use Rattle.mg_base.specs.declared.transaction.TxState.TheVariants.{Active, Committed}
 use Rattle.mg_header.specs.HeaderPage.{AreMarkers, WritesHeader, database_checks, reading}
@@ -14,10 +14,10 @@ use Rattle.mg_header.specs.declared.header.TheConstants.{GREATEST_NEXT, HEADER_K
 use Rattle.mg_pip.specs.PipPage.{SetsUsed, new_pip_page, pip_checks, used_in}
 use Rattle.mg_pip.specs.PipPageLaws.{length-new_pip_page, same_tests as same_pip_tests}
 use Rattle.mg_pointer.specs.PointerPage.{AddsEntry, capacity, count_in, entries_of, new_pointer_page, next_in, pointer_checks, rest_checks}
-use Rattle.mg_pointer.specs.PointerPageLaws.{length-new_pointer_page}
+use Rattle.mg_pointer.specs.PointerPageLaws.{length-entries_of, length-new_pointer_page}
 use Rattle.mg_slots.specs.Changes.{PutsCell}
 use Rattle.mg_slots.specs.ChangeLaws.{full_after_put, rest_after, room_after_new_slot}
-use Rattle.mg_slots.specs.DataPage.{IsDataPage, IsNewPage, cell_of, slot_count, taken, taken_by}
+use Rattle.mg_slots.specs.DataPage.{IsDataPage, IsNewPage, IsPacked, cell_of, slot_count, taken, taken_by}
 use Rattle.mg_slots.specs.DataPageLaws.{new_page_room}
 use Rattle.mg_slots.specs.Room.{least_free, need_of, rest_of, room_for, room_of}
 use Rattle.mg_slots.specs.RoomLaws.{least_free_within}
@@ -66,6 +66,8 @@ header_made old made new next len least greatest made_is writes =
       database = subst (λ (size : ℕ). PassesAll (database_checks new size)) len_made tests.0;
       fields = tests.1;
       len = writes.len ∙ len_made;
+      behind = λ at past. writes.behind at past ∙ (ap (λ (x : List ℕ). byte x at) made_is ∙
+          new_page_zero (length old) 0 1 0 0 at (omega (arith, past)));
     }
 
 -- ---- the page inventory
@@ -143,6 +145,12 @@ unfolding pointer_checks
 passes_whole b page owner seq common rest =
     passes-append (common_checks b page 4 owner seq) (rest_checks b) common rest
 
+-- a new page has no byte behind the common part
+pointer_zero : (size page owner seq at : ℕ) → 16 ≤ at
+    → byte (new_pointer_page size page owner seq) at ≡ 0
+unfolding new_pointer_page
+pointer_zero size page owner seq at past = new_page_zero size page 4 owner seq at past
+
 pub has_entry_room : (old made : List ℕ) (page : ℕ) → length old ≡ 4096
     → made ≡ new_pointer_page (length old) page page 0 → entries_of made ≡ []
     → length (entries_of made) < capacity (length made)
@@ -165,6 +173,8 @@ pointer_made old made new page entry len is empty no_next passes adds =
     let zero_after : u16_at new 22 ≡ 0 = omega (arith, before_22, before_23, zero_before) in
     let count : count_in new ≡ min (count_in new) (capacity (length new)) =
     omega (arith, adds.page.count) in
+    let no_entries : count_in made ≡ 0 =
+    sym (length-entries_of made) ∙ ap (λ (x : List ℕ). length x) empty in
     let common : PassesAll (common_checks new page 4 page 0) = subst PassesAll
     (sym (front_checks new made page 4 page 0 adds.front)) (common_part made page page 0 passes) in
     record {
@@ -173,9 +183,21 @@ pointer_made old made new page entry len is empty no_next passes adds =
       next = adds.next ∙ no_next;
       len = adds.len ∙ (ap (λ (x : List ℕ). length x) is ∙
           (length-new_pointer_page (length old) page page 0 ∙ len));
+      behind = λ at past. adds.outside at (λ h. omega (arith, past)) (λ h.
+          omega (arith, past, no_entries)) ∙ (ap (λ (x : List ℕ). byte x at) is ∙
+          pointer_zero (length old) page page 0 at (omega (arith, past)));
     }
 
 -- ---- a data page
+
+-- a new page has no cells, and zero bytes behind its fields
+new_packed : (b : List ℕ) (size page owner : ℕ) → IsNewPage b size page owner 0 → IsPacked b
+new_packed b size page owner made = rw made.count (record {
+  each = λ slot below. absurd (omega arith);
+  blank = λ k behind inside. ap (λ (x : List ℕ). byte x k) made.bytes ∙
+      (byte_apart16 (new_page size page 5 owner 0) 18 size k (λ h. omega (arith, behind)) ∙
+      new_page_zero size page 5 owner 0 k (omega (arith, behind)));
+})
 
 pub data_made : (old new : List ℕ) (page : PageNo) (owner : ℕ) → length old ≡ 4096
     → IsNewPage new (length old) page.0 owner 0
@@ -185,6 +207,7 @@ data_made old new page owner len made passes = record {
   lawful = made.lawful;
   cells = made.none;
   len = made.len ∙ len;
+  packed = new_packed new (length old) page.0 owner made;
 }
 
 length_of_anchor_bytes : (slot : ℕ) → length (anchor_bytes slot) ≡ 11
@@ -289,6 +312,7 @@ record_added old one two new first second third body primary low slot t room fir
       common = puts.sets.common ∙ (t.second_put.sets.common ∙ t.first_put.sets.common);
       len = puts.sets.len ∙ (t.second_put.sets.len ∙ t.first_put.sets.len);
       lawful = puts.sets.lawful;
+      packed = puts.sets.packed;
       count = count_new;
       full = full_new;
       room = omega (arith, room_of_full two full_two, room_of_full new full_new);
@@ -362,6 +386,7 @@ catalog_made fresh one two three size a b c is made passes first second third a_
       lawful = third.lawful;
       cells = cell count_one count_two;
       len = third.len ∙ (second.len ∙ (first.len ∙ (made.len ∙ is)));
+      packed = third.packed;
     }
   where
     some : List ℕ → Option (List ℕ)

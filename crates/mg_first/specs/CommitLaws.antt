@@ -419,7 +419,7 @@ committed old new r n rows t key value slot kv below pending done = record {
     names = λ chosen. same_catalog old new r n rows t key value slot puts
         (committed_with (kv_facts old) chosen) (committed_with (kv_facts new) chosen)
         (alike_with old new n t commits chosen);
-    limbo = committed_limbo old new n t commits;
+    limbo = λ u past. committed_limbo old new n t commits u;
   });
   next = tip.next;
   last = tip.last;

@@ -16,7 +16,7 @@ use Rattle.mg_model.specs.NewDatabase.{kv_name}
 use Rattle.mg_model.specs.ReadLaws.{same_name_itself}
 use Rattle.mg_image.specs.Catalog.{catalog_table}
 use Rattle.mg_image.specs.Form.{Pages, Row, Rows, plain_form}
-use Rattle.mg_image.specs.Held.{AreChanges, HasTable, IsHeld, IsHeldAt, Shows, told_row}
+use Rattle.mg_image.specs.Held.{AreChanges, AreRows, HasTable, IsHeld, IsHeldAt, Shows, told_row}
 use Rattle.mg_image.specs.Histories.{HoldsDurable}
 use Rattle.mg_image.specs.Inventory.{state_at}
 use Rattle.mg_image.specs.Opening.{Holds, new_row, sound_image}
@@ -56,15 +56,21 @@ held_none : (rows : Rows) (name : List ℕ) (key : Value) → same_name name cat
     → same_name name kv_name ≡ false → kv_database rows name key ≡ None
 held_none rows name key no_catalog no_kv = rw (no_catalog, no_kv) refl
 
+-- The records show these rows of KV, and the catalog of a new database.
+pub record ShowsRows (pages : Pages) (r : Reading) (rows_ : Rows) : Type 0 where
+  pub catalog : AreRows (kv_facts pages) (kv_committed pages) r (catalog_table CATALOG.0)
+      catalog_rows
+  pub rows : AreRows (kv_facts pages) (kv_committed pages) r kv_table rows_
+
 -- a row of KV stands as it is held
 plain_row : (row : Row) → told_row kv_table row ≡ row
 plain_row row = refl
 
-held_there : (pages : Pages) (r : Reading) (n : ℕ) (rows : Rows) → IsKv pages r n rows
+held_there : (pages : Pages) (r : Reading) (rows : Rows) → ShowsRows pages r rows
     → (p : RecId) (table : Table) (row : Row)
     → Shows (kv_facts pages) (kv_committed pages) r p table row
     → kv_database rows table.name (key_of table row) ≡ Some (told_row table row)
-held_there pages r n rows kv p table row shows = at (kv_place p.page.0)
+held_there pages r rows kv p table row shows = at (kv_place p.page.0)
   where
     in_table : (t : Table) → t ≡ table → Shows (kv_facts pages) (kv_committed pages) r p t row
     in_table t same = rw same shows
@@ -89,11 +95,11 @@ one_row : (row other : Row) → Some row ≡ Some other → row ≡ other
 one_row row other same = cc
 
 -- a row of the catalog is told of a row that a record shows
-catalog_held : (pages : Pages) (r : Reading) (n : ℕ) (rows : Rows) → IsKv pages r n rows
+catalog_held : (pages : Pages) (r : Reading) (rows : Rows) → ShowsRows pages r rows
     → (name : List ℕ) → name ≡ catalog_name → (key : Value) (row : Row)
     → told_of (catalog_table CATALOG.0) (catalog_rows key) ≡ Some row
     → IsHeldAt (kv_facts pages) (kv_committed pages) r name key row
-catalog_held pages r n rows kv name named key row is = at (catalog_rows key) refl is
+catalog_held pages r rows kv name named key row is = at (catalog_rows key) refl is
   where
     held : (stored : Row) → told_row (catalog_table CATALOG.0) stored ≡ row
         → (p : RecId) × Shows (kv_facts pages) (kv_committed pages) r p (catalog_table CATALOG.0)
@@ -117,10 +123,10 @@ catalog_held pages r n rows kv name named key row is = at (catalog_rows key) ref
         held stored (one_row (told_row (catalog_table CATALOG.0) stored) row is)
         (kv.catalog.whole key stored there)
 
-kv_held_at : (pages : Pages) (r : Reading) (n : ℕ) (rows : Rows) → IsKv pages r n rows
+kv_held_at : (pages : Pages) (r : Reading) (rows : Rows) → ShowsRows pages r rows
     → (name : List ℕ) → name ≡ kv_name → (key : Value) (row : Row) → rows key ≡ Some row
     → IsHeldAt (kv_facts pages) (kv_committed pages) r name key row
-kv_held_at pages r n rows kv name named key row is = held (kv.rows.whole key row is)
+kv_held_at pages r rows kv name named key row is = held (kv.rows.whole key row is)
   where
     held : (p : RecId) × Shows (kv_facts pages) (kv_committed pages) r p kv_table row
         × (key_of kv_table row ≡ key)
@@ -135,20 +141,20 @@ kv_held_at pages r n rows kv name named key row is = held (kv.rows.whole key row
       told = plain_row row;
     }
 
--- an image holds its rows of KV, and the catalog of a new database
-pub kv_held : (pages : Pages) (r : Reading) (n : ℕ) (rows : Rows) → IsKv pages r n rows
+-- an image holds the rows of KV that its records show, and the catalog of a new database
+pub rows_held : (pages : Pages) (r : Reading) (rows : Rows) → ShowsRows pages r rows
     → IsHeld (kv_facts pages) (kv_committed pages) r (kv_database rows)
-kv_held pages r n rows kv = record {
-  there = λ p table row shows has. held_there pages r n rows kv p table row shows;
+rows_held pages r rows kv = record {
+  there = λ p table row shows has. held_there pages r rows kv p table row shows;
   whole = λ name key row is. whole name key row is (kv_named name);
   tables = λ name key row is. tables name key row is (kv_named name);
 }
   where
     whole : (name : List ℕ) (key : Value) (row : Row) → kv_database rows name key ≡ Some row
         → KvName name → IsHeldAt (kv_facts pages) (kv_committed pages) r name key row
-    whole name key row is (of_catalog e) = catalog_held pages r n rows kv name e key row
+    whole name key row is (of_catalog e) = catalog_held pages r rows kv name e key row
         (ap (λ (x : List ℕ). kv_database rows x key) (sym e) ∙ is)
-    whole name key row is (of_kv e) = kv_held_at pages r n rows kv name e key row
+    whole name key row is (of_kv e) = kv_held_at pages r rows kv name e key row
         (ap (λ (x : List ℕ). kv_database rows x key) (sym e) ∙ is)
     whole name key row is (of_none a b) =
         let none = held_none rows name key a b in absurd cc
@@ -159,6 +165,11 @@ kv_held pages r n rows kv = record {
     tables name key row is (of_kv e) = inr (rw e refl)
     tables name key row is (of_none a b) =
         let none = held_none rows name key a b in absurd cc
+
+pub kv_held : (pages : Pages) (r : Reading) (n : ℕ) (rows : Rows) → IsKv pages r n rows
+    → IsHeld (kv_facts pages) (kv_committed pages) r (kv_database rows)
+kv_held pages r n rows kv =
+    rows_held pages r rows (record { catalog = kv.catalog; rows = kv.rows })
 
 -- nobody is in limbo
 no_changes : (pages : Pages) (r : Reading) (n : ℕ) (rows : Rows) → IsKv pages r n rows

@@ -1,5 +1,8 @@
+pub mod CatalogReadingLaws
 pub mod CommitLaws
+pub mod FirstForm
 pub mod FirstImage
+pub mod FixedPagesLaws
 pub mod HoldsLaws
 pub mod KeyLaws
 pub mod KeyedLaws
@@ -12,6 +15,7 @@ pub mod NewDatabase
 pub mod NewDatabaseLaws
 pub mod NewPageLaws
 pub mod NewReadingLaws
+pub mod OneFormLaws
 pub mod OtherPages
 pub mod PlaceLaws
 pub mod PutCells

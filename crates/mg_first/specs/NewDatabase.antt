@@ -1,15 +1,17 @@
 -- The seven pages of a new database, and what is read of them.
 use Rattle.std.specs.Prelude.{◌≡◌, ◌≢◌, ◌≤◌, ◌<◌, ◌+◌, ◌==◌, ℕ, zero, suc, true, false, List, [], ◌∷◌, length, take, Option, None, Some, if◌then◌else◌}
 use Rattle.mg_base.specs.Checks.{PassesAll, common_checks}
+use Rattle.mg_base.specs.Fields.{byte}
 use Rattle.mg_base.specs.Image.{blank}
 use Rattle.mg_base.specs.declared.fields.TheConstants.{COMMON}
 use Rattle.mg_base.specs.declared.numbers.RecId.{RecId}
 use Rattle.mg_base.specs.declared.transaction.TxState.TheVariants.{Active, Committed}
 use Rattle.mg_header.specs.HeaderPage.{database_checks, header_in, page_checks}
 use Rattle.mg_header.specs.declared.header.Header.{Header}
+use Rattle.mg_header.specs.declared.header.TheConstants.{HEADER_END}
 use Rattle.mg_pip.specs.PipPage.{pip_checks, used_in}
-use Rattle.mg_pointer.specs.PointerPage.{entries_of, next_in, pointer_checks}
-use Rattle.mg_slots.specs.DataPage.{IsDataPage, cell_of, slot_count, taken}
+use Rattle.mg_pointer.specs.PointerPage.{entries_of, next_in, place_of, pointer_checks}
+use Rattle.mg_slots.specs.DataPage.{IsDataPage, IsPacked, cell_of, slot_count, taken}
 use Rattle.mg_slots.specs.Room.{least_free, room_of}
 use Rattle.mg_slots.specs.declared.page.TheConstants.{DATA_KIND}
 use Rattle.mg_tip.specs.TipPage.{state_in, tip_checks}
@@ -43,12 +45,13 @@ new_header next = record {
   catalog = CATALOG;
 }
 
--- The header page, with the number of the next transaction.
+-- The header page, with the number of the next transaction. Behind the fields all bytes are zero.
 pub record IsHeaderPage (b : List ℕ) (next : ℕ) : Type 0 where
   pub header : header_in b ≡ new_header next
   pub database : PassesAll (database_checks b PAGE)
   pub fields : PassesAll (page_checks b)
   pub len : length b ≡ PAGE
+  pub behind : (at : ℕ) → HEADER_END ≤ at → byte b at ≡ 0
 
 -- The page inventory page: exactly the seven pages are used.
 pub record IsInventoryPage (b : List ℕ) : Type 0 where
@@ -64,19 +67,21 @@ pub record IsTransactionPage (b : List ℕ) : Type 0 where
   pub others : (t : ℕ) → t ≢ 0 → state_in b t ≡ Active
   pub len : length b ≡ PAGE
 
--- The one pointer page of a table, with one entry.
+-- The one pointer page of a table, with one entry. Behind the entry all bytes are zero.
 pub record IsPointerTo (b : List ℕ) (page entry : ℕ) : Type 0 where
   pub fields : PassesAll (pointer_checks b page page 0)
   pub entries : entries_of b ≡ entry ∷ []
   pub next : next_in b ≡ 0
   pub len : length b ≡ PAGE
+  pub behind : (at : ℕ) → place_of 1 ≤ at → byte b at ≡ 0
 
--- The first data page of a table, with these cells in its slots.
+-- The first data page of a table, with these cells in its slots, which lie packed.
 pub record IsDataOf (b : List ℕ) (page owner : ℕ) (cell : ℕ → Option (List ℕ)) : Type 0 where
   pub fields : PassesAll (common_checks b page DATA_KIND owner 0)
   pub lawful : IsDataPage b
   pub cells : (slot : ℕ) → cell_of b slot ≡ cell slot
   pub len : length b ≡ PAGE
+  pub packed : IsPacked b
 
 -- no slot has a cell
 abbrev pub no_cell : ℕ → Option (List ℕ)
@@ -129,6 +134,7 @@ pub record AddsRecord (old new : List ℕ) (body : List ℕ) : Type 0 where
   pub common : take COMMON new ≡ take COMMON old
   pub len : length new ≡ length old
   pub lawful : IsDataPage new
+  pub packed : IsPacked new
   pub count : slot_count new ≡ slot_count old + 2
   pub full : least_free new ≡ slot_count new
   pub room : room_of new + 19 + taken (8 + length body) ≡ room_of old

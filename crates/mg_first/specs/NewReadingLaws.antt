@@ -112,7 +112,7 @@ new_reads f h new = by_place (λ p. (table : Table) → table_in f p ≡ Some ta
 
 -- ---- records
 
-table_row_fits : RowFits catalog_shape.columns table_row
+pub table_row_fits : RowFits catalog_shape.columns table_row
 table_row_fits = (
   record { kind = lit≤ tt; allowed = λ on is. absurd cc },
   (
@@ -130,7 +130,7 @@ table_row_fits = (
   ),
 )
 
-column_row_fits : (digit name : ℕ) (a b c d : ℕ)
+pub column_row_fits : (digit name : ℕ) (a b c d : ℕ)
     → RowFits catalog_shape.columns (catalog_row (Text (67 ∷ 75 ∷ 86 ∷ 46 ∷ 48 ∷ digit ∷ []))
     (Text (name ∷ [])) a b c d)
 column_row_fits digit name a b c d = (
@@ -153,19 +153,19 @@ column_row_fits digit name a b c d = (
 small : (n : ℕ) → n < 2 ^ 16 → FitsSigned w64 (pos n)
 small n below = record { sfits = omega arith }
 
-table_row_storable : AreStorable table_row
+pub table_row_storable : AreStorable table_row
 table_row_storable = (
   lit< tt,
   (tt, (small 5 (lit< tt), (small 2 (lit< tt), (small 0 (lit< tt), (small 0 (lit< tt), tt))))),
 )
 
-key_row_storable : AreStorable key_row
+pub key_row_storable : AreStorable key_row
 key_row_storable = (
   lit< tt,
   (lit< tt, (small 0 (lit< tt), (small 3 (lit< tt), (small 1 (lit< tt), (small 0 (lit< tt), tt))))),
 )
 
-value_row_storable : AreStorable value_row
+pub value_row_storable : AreStorable value_row
 value_row_storable = (
   lit< tt,
   (lit< tt, (small 0 (lit< tt), (small 0 (lit< tt), (small 1 (lit< tt), (small 1 (lit< tt), tt))))),

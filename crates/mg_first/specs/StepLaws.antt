@@ -23,7 +23,7 @@ use Rattle.mg_image.specs.Inventory.{header_of, inventory_page, settled, state_a
 use Rattle.mg_image.specs.KeptPageLaws.{table_pages_kept, wanted_kept}
 use Rattle.mg_image.specs.RecordRules.{AreRecords, table_in}
 use Rattle.mg_image.specs.Records.{Reading, cells_of, shown, slot_cell, writer}
-use Rattle.mg_image.specs.Sound.{HasHeader, HasRegion, HasTablePages, HasTransactions, IsIndexed, IsSound, IsUndrawn}
+use Rattle.mg_image.specs.Sound.{HasHeader, HasNoOldLimbo, HasRegion, HasTablePages, HasTransactions, IsIndexed, IsSound, IsUndrawn}
 use Rattle.mg_image.specs.Tables.{Has}
 use Rattle.mg_first.specs.FirstImage.{AllCommitted, IsCommittedRow, IsKv, kv_committed, kv_facts}
 use Rattle.mg_first.specs.KvTable.{catalog_rows, kv_layout, kv_table, stands_on}
@@ -44,7 +44,7 @@ pub record IsQuiet (old new : Pages) (r : Reading) (n : ℕ) : Type 0 where
   pub names : (chosen : ℕ → Bool) → ShowsSameOf (catalog_table CATALOG.0) (kv_facts old)
       (kv_facts new) (committed_with (kv_facts old) chosen) (committed_with (kv_facts new) chosen)
       r r
-  pub limbo : (t : ℕ) → state_at PAGE new t ≢ Limbo
+  pub limbo : HasNoOldLimbo PAGE new
 
 -- the inventory pages stay
 region_kept : (old new : Pages) → KeepsRest old new → (n region : ℕ) → n ≢ 0
@@ -111,7 +111,7 @@ quiet_sound old new r m n sound has quiet = record {
       (λ p table of. let apart = rows_apart p.page.0 table of in
       ap (λ (page : List ℕ). slot_cell (cell_of page p.slot))
       (quiet.rest p.page.0 apart.0 apart.1)) quiet.records;
-  limbo = λ t below. quiet.limbo t;
+  limbo = quiet.limbo;
   indexed = not_indexed new r;
 }
 
@@ -233,7 +233,7 @@ raised old new r n rows kv below raises = record {
         (raised_facts old new n has was below raises) kv.sound.records;
     names = λ chosen. same_shown old new r (catalog_table CATALOG.0)
         (λ s t. is_committed (s t) || (is_limbo (s t) && chosen t)) same;
-    limbo = limbo;
+    limbo = λ t old. limbo t;
   });
   next = tip.next;
   last = tip.last;
