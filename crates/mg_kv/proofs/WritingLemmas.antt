@@ -1,6 +1,6 @@
 -- What the steps of a write make of the slots of a page, and when they have no room.
-use Rattle.std.proofs.Common.{◌≡◌, ◌≢◌, refl, sym, ap, ◌∙◌, subst, arith, add-one, ℕ, ◌+◌, ◌-◌, ◌<◌, ◌≤◌, ◌⊎◌, inl, inr, ℤ, true, false, List, length, Option, None, Some, Result, Ok, Err}
-use Rattle.std.specs.Prelude.{◌==◌, IfErr, IsErrAnd, IsOk, IsSome, OnOk}
+use Rattle.std.proofs.Common.{◌≡◌, ◌≢◌, refl, sym, ap, ◌∙◌, subst, arith, add-one, ℕ, ◌+◌, ◌-◌, ◌<◌, ◌≤◌, ◌⊎◌, inl, inr, ℤ, Bool, true, false, List, length, Option, None, Some, Result, Ok, Err}
+use Rattle.std.specs.Prelude.{◌==◌, IfErr, IsErrAnd, IsOk, IsSome, OnOk, if◌then◌else◌}
 use Rattle.std.proofs.lemmas.Bool.{cases_lt, false≢true, le-ltb, lt-ltb}
 use Rattle.mg_base.specs.declared.transaction.TxState.{TxState}
 use Rattle.mg_slots.specs.Changes.{FreesCell, PutsCell}
@@ -20,7 +20,7 @@ use Rattle.mg_first.specs.declared.record.AddFault.TheVariants.{NoRoom, Memory}
 use Rattle.mg_kv.specs.declared.newest.Newest.{Newest}
 use Rattle.mg_kv.specs.PageLaws.{freed_slots, put_slots, rest_of_room, same_least}
 use Rattle.mg_kv.specs.SlotLaws.{least_free_is_free, least_free_size, least_free_within, past_is_none, put_here, put_length, put_others, put_size, put_size_new}
-use Rattle.mg_kv.specs.Slots.{HasAnchor, HasSlots, IsThere, Lacks, Makes, ROOM, Slots, backed, cell_in_slot, clean_at, cleaned, freed, least_free, make, over_newest, push, put_in, size_of, slot_size, taken_out, taker, without_dead_below, written, written_over}
+use Rattle.mg_kv.specs.Slots.{HasAnchor, HasSlots, IsThere, Lacks, Makes, ROOM, Slots, backed, cell_in_slot, clean_at, cleaned, freed, is_dead, least_free, make, newest_at, over_newest, push, put_in, size_of, slot_size, taken_out, taker, without_dead, without_dead_below, written, written_over}
 use Rattle.mg_kv.proofs.NewestLemmas.{slot_has}
 use Rattle.mg_kv.proofs.RowLemmas.{no_version}
 
@@ -458,6 +458,19 @@ write_lacks old mid state t given key value found same clean takes lacks slots h
     (lacks (cleaned state key slots) there)
 
 -- ---- slots are cleaned one after another
+
+-- a dead newest version is taken out
+pub dead_makes : (old new : List ℕ) (state : ℕ → TxState) (given key : ℤ) (slot : ℕ) (n : Newest)
+    → given ≡ key → ((slots : Slots) → HasSlots old slots → Some n ≡ newest_at given slots slot)
+    → is_dead (state n.version.tx.0) ≡ true → Makes old new (taken_out n)
+    → Makes old new (clean_at state key slot)
+dead_makes old new state given key slot n same found dead makes slots has =
+    let is : newest_at key slots slot ≡ Some n =
+    ap (λ (z : ℤ). newest_at z slots slot) (sym same) ∙ sym (found slots has) in
+    let out : clean_at state key slot slots ≡ taken_out n slots =
+    ap (without_dead state slots) is
+    ∙ ap (λ (b : Bool). if b then taken_out n slots else slots) dead in
+    subst (HasSlots new) (sym out) (makes slots has)
 
 pub clean_more : (old mid new : List ℕ) (state : ℕ → TxState) (key : ℤ) (n : ℕ)
     → Makes old mid (without_dead_below state key n) → Makes mid new (clean_at state key n)

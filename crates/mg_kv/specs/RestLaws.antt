@@ -1,5 +1,5 @@
 -- The pages of a database at rest: the program starts to work on them, and stops.
-use Rattle.std.proofs.Common.{◌≡◌, ◌≢◌, ◌⊎◌, inl, inr, refl, sym, ap, ◌∙◌, subst, arith, ℕ, ◌/◌, ◌%◌, ◌<◌, ◌≤◌, ◌==◌, nat_lt, Bool, true, false, List, [], ◌∷◌, Some, length, le-ltb, lt-ltb, eq-eqb, ne_eqb}
+use Rattle.std.proofs.Common.{◌≡◌, ◌≢◌, ◌⊎◌, inl, inr, refl, sym, ap, ◌∙◌, subst, arith, ℕ, ◌/◌, ◌%◌, ◌<◌, ◌≤◌, ◌==◌, nat_lt, Bool, true, false, List, [], ◌∷◌, Some, length, le-ltb, lt-ltb, ne_eqb}
 use Rattle.std.specs.Prelude.{if◌then◌else◌}
 use Rattle.std.proofs.Math.Path.{fun_ext}
 use Rattle.std.proofs.lemmas.Bool.{cases_eq, cases_lt}
@@ -17,21 +17,20 @@ use Rattle.mg_image.specs.declared.entry.Entry.{Entry}
 use Rattle.mg_first.specs.FirstImage.{AllCommitted, IsCommittedRow, IsKv, kv_facts}
 use Rattle.mg_first.specs.KvTable.{kv_layout}
 use Rattle.mg_first.specs.PlaceLaws.{HasOneTip, none_of, state_by, state_is}
-use Rattle.mg_first.specs.declared.pages.TheConstants.{CATALOG, LAST, PAGE, TRANSACTIONS}
+use Rattle.mg_first.specs.declared.pages.TheConstants.{CATALOG, PAGE, TRANSACTIONS}
 use Rattle.mg_kv.specs.Fate.{ended_in, fate_in}
 use Rattle.mg_kv.specs.LiveFactsLaws.{HasBits, live_facts}
 use Rattle.mg_kv.specs.Versions.{kept}
 use Rattle.mg_kv.specs.WorkLaws.{IsAtWork}
-use Rattle.mg_kv.specs.WorkStepLaws.{committed_bits, none_in_limbo}
+use Rattle.mg_kv.specs.WorkStepLaws.{committed_bits}
 
 -- Nobody works on these pages, of which this is read: the image is sound, each transaction is
--- interesting, nobody is prepared, and the catalog is committed.
+-- interesting, and the catalog is committed.
 pub record IsAtRest (pages : Pages) (r : Reading) : Type 0 where
   pub sound : IsSound plain_form PAGE pages kv_layout r
   pub tip : HasOneTip pages (next_of pages)
   pub oldest : oldest_of pages ≤ 1
   pub drawn : 0 < next_of pages
-  pub limbo : (u : ℕ) → state_at PAGE pages u ≢ Limbo
   pub catalog : (p : RecId) → table_in (kv_facts pages) p ≡ Some (catalog_table CATALOG.0)
       → Each (λ e. state_at PAGE pages (writer e) ≡ Committed) (r p)
 
@@ -54,7 +53,6 @@ work_stops pages state r work = record {
   tip = work.tip;
   oldest = work.oldest;
   drawn = work.drawn;
-  limbo = none_in_limbo pages state work.bits work.limbo;
   catalog = λ p of. each_on_pages pages state work.bits (r p) (work.catalog p of);
 }
 
@@ -106,7 +104,6 @@ work_starts pages r rest = record {
   tip = rest.tip;
   oldest = rest.oldest;
   drawn = rest.drawn;
-  limbo = rest.limbo;
   catalog = rest.catalog;
 }
 
@@ -176,7 +173,6 @@ committed_at_rest pages r n kvs kv all some_ = record {
   tip = record { next = refl; last = omega (arith, kv.next, kv.last); one_tip = kv.one_tip };
   oldest = kv.oldest;
   drawn = omega (arith, kv.next, some_);
-  limbo = kv.limbo;
   catalog = λ p of. each (r p) (all p);
 }
   where

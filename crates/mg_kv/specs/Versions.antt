@@ -1,10 +1,9 @@
 -- Which versions of a key the records of KV have, while the program works on the pages.
-use Rattle.std.specs.Prelude.{◌≡◌, ◌≢◌, ℕ, ℤ, Bool, List, [], ◌∷◌, map, Option, None, Some, if◌then◌else◌}
+use Rattle.std.specs.Prelude.{◌≡◌, ◌≢◌, ℕ, ℤ, List, [], ◌∷◌, map, None, Some, if◌then◌else◌}
 use Rattle.mg_base.specs.declared.numbers.RecId.{RecId}
 use Rattle.mg_base.specs.declared.transaction.TxState.{TxState}
 use Rattle.mg_base.specs.declared.transaction.TxState.TheVariants.{Active, Limbo, Dead, Committed}
 use Rattle.mg_value.specs.declared.value.Value.TheVariants.{Int}
-use Rattle.mg_model.specs.Changes.{Cells as RowCells}
 use Rattle.mg_generations.specs.Generations.{Generation}
 use Rattle.mg_image.specs.declared.entry.Entry.{Entry}
 use Rattle.mg_image.specs.RecordRules.{Facts, TakesKey, table_in}

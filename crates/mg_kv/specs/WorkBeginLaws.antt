@@ -1,17 +1,17 @@
 -- A number is drawn while the program works: the header is written, and a transaction is active.
-use Rattle.std.proofs.Common.{◌≡◌, ◌≢◌, ◌⊎◌, inl, inr, refl, sym, ap, ◌∙◌, arith, ℕ, ◌+◌, ◌/◌, ◌%◌, ◌<◌, ◌≤◌, length, List, Some, le-ltb, ne_eqb}
+use Rattle.std.proofs.Common.{◌≡◌, ◌≢◌, ◌⊎◌, inl, inr, refl, sym, ap, ◌∙◌, arith, ℕ, ◌+◌, ◌<◌, ◌≤◌, length, List, Some, le-ltb, ne_eqb}
 use Rattle.std.proofs.lemmas.Bool.{cases_eq}
 use Rattle.mg_base.specs.declared.numbers.RecId.{RecId}
 use Rattle.mg_base.specs.declared.transaction.TxState.{TxState}
-use Rattle.mg_base.specs.declared.transaction.TxState.TheVariants.{Active, Limbo, Dead, Committed}
+use Rattle.mg_base.specs.declared.transaction.TxState.TheVariants.{Active, Dead, Committed}
 use Rattle.mg_header.specs.declared.header.Header.{Header}
 use Rattle.mg_tip.specs.TipPage.{tip_checks}
 use Rattle.mg_image.specs.Catalog.{catalog_table}
-use Rattle.mg_image.specs.FactLaws.{GrowsFacts, records_grow}
+use Rattle.mg_image.specs.FactLaws.{records_grow}
 use Rattle.mg_image.specs.Form.{Pages, plain_coding}
 use Rattle.mg_image.specs.Inventory.{next_of, oldest_of, settled, state_at}
 use Rattle.mg_image.specs.KeptPageLaws.{wanted_kept}
-use Rattle.mg_image.specs.RecordRules.{AreRecords, Each, table_in}
+use Rattle.mg_image.specs.RecordRules.{Each, table_in}
 use Rattle.mg_image.specs.Records.{Reading, cells_of, writer}
 use Rattle.mg_image.specs.Sound.{HasHeader, HasTransactions}
 use Rattle.mg_first.specs.FirstImage.{kv_facts}
@@ -23,7 +23,7 @@ use Rattle.mg_kv.specs.EndedVersionsLaws.{draw_settles}
 use Rattle.mg_kv.specs.LiveFactsLaws.{Becomes, HasBits, live_draws, live_facts}
 use Rattle.mg_kv.specs.SettlingLaws.{records_settle}
 use Rattle.mg_kv.specs.WorkLaws.{IsAtWork}
-use Rattle.mg_kv.specs.WorkStepLaws.{cells_kept, none_in_limbo, others_committed, others_not_limbo, same_catalog}
+use Rattle.mg_kv.specs.WorkStepLaws.{cells_kept, none_below, others_committed, same_catalog}
 
 -- The next number is drawn, and its transaction is active.
 pub record Draws (old new : Pages) (before after : ℕ → TxState) (u : ℕ) : Type 0 where
@@ -104,7 +104,7 @@ work_begins old new before after r u work draws = record {
       state = same;
     }) work.sound.records;
     names = same_catalog old new before after r work.bits bits work.catalog catalog;
-    limbo = none_in_limbo new after bits nobody;
+    limbo = none_below new (omega (arith, oldest, work.oldest));
   });
   records = cells_kept old new after r rest (records_settle plain_coding (live_facts old before)
       (live_facts new after) (cells_of old) r (draw_settles plain_coding (live_facts old before)
@@ -115,7 +115,6 @@ work_begins old new before after r u work draws = record {
   tip = record { next = refl; last = omega (arith, tip.next, tip.last); one_tip = tip.one_tip };
   oldest = omega (arith, oldest, work.oldest);
   drawn = omega (arith, tip.next);
-  limbo = nobody;
   catalog = catalog;
 }
   where
@@ -159,11 +158,6 @@ work_begins old new before after r u work draws = record {
         above v (inr ne) is =
             let was = work.bits.interesting v (sym (draws.others v ne) ∙ is) in
             omega (arith, oldest, was)
-
-    nobody : (v : ℕ) → after v ≢ Limbo
-    nobody = others_not_limbo before after u
-        (λ is. let both : Active ≡ Limbo = sym draws.active ∙ is in absurd cc) draws.others
-        work.limbo
 
     catalog : (p : RecId) → table_in (kv_facts old) p ≡ Some (catalog_table CATALOG.0)
         → Each (λ e. after (writer e) ≡ Committed) (r p)

@@ -4,7 +4,7 @@ use Rattle.std.specs.Prelude.{if◌then◌else◌}
 use Rattle.std.proofs.lemmas.Bool.{cases_eq, cases_lt}
 use Rattle.mg_base.specs.declared.numbers.RecId.{RecId}
 use Rattle.mg_base.specs.declared.transaction.TxState.{TxState}
-use Rattle.mg_base.specs.declared.transaction.TxState.TheVariants.{Active, Limbo, Dead, Committed}
+use Rattle.mg_base.specs.declared.transaction.TxState.TheVariants.{Active, Dead, Committed}
 use Rattle.mg_header.specs.HeaderPage.{header_in}
 use Rattle.mg_header.specs.declared.header.Header.{Header}
 use Rattle.mg_tip.specs.TipPage.{SetsState, places, state_in, tip_checks}
@@ -26,7 +26,7 @@ use Rattle.mg_kv.specs.LiveFactsLaws.{Becomes, HasBits, live_ends, live_facts, r
 use Rattle.mg_kv.specs.SettlingLaws.{records_settle}
 use Rattle.mg_kv.specs.Versions.{kept}
 use Rattle.mg_kv.specs.WorkLaws.{IsAtWork}
-use Rattle.mg_kv.specs.WorkStepLaws.{cells_kept, none_in_limbo, others_committed, others_not_limbo, same_catalog}
+use Rattle.mg_kv.specs.WorkStepLaws.{cells_kept, none_below, others_committed, same_catalog}
 
 -- The bits of an active transaction come to be those of a committed one.
 pub record CommitsWork (old new : Pages) (before after : ℕ → TxState) (t : ℕ) : Type 0 where
@@ -137,14 +137,13 @@ work_commits old new before after r t work commits = record {
     one_tip = tip;
     records = records_at_stop plain_coding new after (cells_of old) r bits live;
     names = same_catalog old new before after r work.bits bits work.catalog catalog;
-    limbo = none_in_limbo new after bits nobody;
+    limbo = none_below new (omega (arith, oldest, work.oldest));
   });
   records = cells_kept old new after r rest live;
   bits = bits;
   tip = record { next = refl; last = omega (arith, tip.next, tip.last); one_tip = tip.one_tip };
   oldest = omega (arith, oldest, work.oldest);
   drawn = omega (arith, tip.next, work.drawn);
-  limbo = nobody;
   catalog = catalog;
 }
   where
@@ -187,11 +186,6 @@ work_commits old new before after r t work commits = record {
         above u (inr ne) is =
             let was = work.bits.interesting u (sym (commits.others u ne) ∙ is) in
             omega (arith, oldest, was)
-
-    nobody : (u : ℕ) → after u ≢ Limbo
-    nobody = others_not_limbo before after t
-        (λ is. let both : Committed ≡ Limbo = sym commits.committed ∙ is in absurd cc)
-        commits.others work.limbo
 
     catalog : (p : RecId) → table_in (kv_facts old) p ≡ Some (catalog_table CATALOG.0)
         → Each (λ e. after (writer e) ≡ Committed) (r p)

@@ -1,10 +1,10 @@
 -- The pages of a database while the program works on them: a row is written on KV's page.
-use Rattle.std.proofs.Common.{◌≡◌, ◌≢◌, refl, sym, ap, ◌∙◌, subst, arith, ℕ, ◌≤◌, ◌<◌, ℤ, Some}
+use Rattle.std.proofs.Common.{◌≡◌, refl, sym, ap, ◌∙◌, subst, arith, ℕ, ◌≤◌, ◌<◌, ℤ, Some}
 use Rattle.std.specs.Prelude.{take, length}
 use Rattle.mg_base.specs.declared.fields.TheConstants.{COMMON}
 use Rattle.mg_base.specs.declared.numbers.RecId.{RecId}
 use Rattle.mg_base.specs.declared.transaction.TxState.{TxState}
-use Rattle.mg_base.specs.declared.transaction.TxState.TheVariants.{Limbo, Committed}
+use Rattle.mg_base.specs.declared.transaction.TxState.TheVariants.{Committed}
 use Rattle.mg_header.specs.declared.header.Header.{Header}
 use Rattle.mg_slots.specs.DataPage.{IsDataPage}
 use Rattle.mg_image.specs.Catalog.{catalog_table}
@@ -38,8 +38,7 @@ pub record IsAtWork (pages : Pages) (state : ℕ → TxState) (r : Reading) : Ty
   -- each transaction is interesting, and there is one
   pub oldest : oldest_of pages ≤ 1
   pub drawn : 0 < next_of pages
-  -- nobody is prepared, and the catalog is committed
-  pub limbo : (u : ℕ) → state u ≢ Limbo
+  -- the catalog is committed
   pub catalog : (p : RecId) → table_in (kv_facts pages) p ≡ Some (catalog_table CATALOG.0)
       → Each (λ e. state (writer e) ≡ Committed) (r p)
 
@@ -113,7 +112,6 @@ work_goes_on old new state r t key value slots work writes writing free =
         };
         oldest = omega (arith, oldest_stays old new writes.only, work.oldest);
         drawn = omega (arith, next_stays old new writes.only, work.drawn);
-        limbo = work.limbo;
         catalog = λ p of. subst (Each (λ e. state (writer e) ≡ Committed))
             (sym (records.others p (catalog_is_off old p of))) (work.catalog p of);
       };

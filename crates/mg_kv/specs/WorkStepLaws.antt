@@ -1,36 +1,24 @@
 -- The pages of a database while the program works on them: a number is drawn, a transaction is
 -- committed, or rolled back.
-use Rattle.std.proofs.Common.{◌≡◌, ◌≢◌, ◌⊎◌, inl, inr, refl, sym, ap, ◌∙◌, subst, arith, ℕ, ◌+◌, ◌/◌, ◌%◌, ◌<◌, ◌≤◌, ◌==◌, nat_lt, ◌||◌, Bool, true, false, List, [], ◌∷◌, Some, length, le-ltb, lt-ltb, ne_eqb}
-use Rattle.std.specs.Prelude.{◌&&◌, if◌then◌else◌}
-use Rattle.std.proofs.Math.Path.{fun_ext}
-use Rattle.std.proofs.lemmas.Bool.{cases_eq, cases_lt}
+use Rattle.std.proofs.Common.{◌≡◌, ◌≢◌, ◌⊎◌, inl, inr, refl, sym, ap, ◌∙◌, arith, ℕ, ◌≤◌, Bool, List, [], ◌∷◌, Some}
+use Rattle.std.proofs.lemmas.Bool.{cases_eq}
 use Rattle.mg_base.specs.declared.numbers.RecId.{RecId}
 use Rattle.mg_base.specs.declared.transaction.TxState.{TxState}
 use Rattle.mg_base.specs.declared.transaction.TxState.TheVariants.{Active, Limbo, Dead, Committed}
-use Rattle.mg_header.specs.HeaderPage.{header_in}
-use Rattle.mg_header.specs.declared.header.Header.{Header}
-use Rattle.mg_model.specs.Answers.{is_committed}
-use Rattle.mg_model.specs.Legal.{is_limbo}
-use Rattle.mg_model.specs.declared.table.Table.{Table}
 use Rattle.mg_slots.specs.DataPage.{cell_of}
-use Rattle.mg_tip.specs.TipPage.{SetsState, places, state_in, tip_checks}
-use Rattle.mg_tip.specs.TipPageLaws.{same_tests}
 use Rattle.mg_image.specs.Catalog.{catalog_table, committed_with}
-use Rattle.mg_image.specs.FactLaws.{GrowsFacts, ShowsSameOf, records_grow, records_on_same_cells, shown_alike}
+use Rattle.mg_image.specs.FactLaws.{ShowsSameOf, records_on_same_cells, shown_alike}
 use Rattle.mg_image.specs.Form.{Pages, plain_coding}
-use Rattle.mg_image.specs.Inventory.{header_of, next_of, oldest_of, settled, state_at}
-use Rattle.mg_image.specs.KeptPageLaws.{wanted_kept}
-use Rattle.mg_image.specs.RecordRules.{AreRecords, Each, Facts, table_in}
-use Rattle.mg_image.specs.Records.{Reading, cells_of, shown, slot_cell, writer}
-use Rattle.mg_image.specs.Sound.{HasHeader, HasTransactions}
+use Rattle.mg_image.specs.Inventory.{oldest_of, settled, state_at}
+use Rattle.mg_image.specs.RecordRules.{AreRecords, Each, table_in}
+use Rattle.mg_image.specs.Records.{Reading, cells_of, slot_cell, writer}
+use Rattle.mg_image.specs.Sound.{HasNoOldLimbo}
 use Rattle.mg_image.specs.declared.entry.Entry.{Entry}
 use Rattle.mg_first.specs.FirstImage.{kv_facts}
-use Rattle.mg_first.specs.PlaceLaws.{HasOneTip, KeepsRest, none_of, rows_apart, state_by, state_is, tip_of, transactions_from, used_kept}
-use Rattle.mg_first.specs.Puts.{CommitsBits, RaisesNext}
-use Rattle.mg_first.specs.StepLaws.{quiet_sound, raised_state}
-use Rattle.mg_first.specs.declared.pages.TheConstants.{CATALOG, LAST, PAGE, TRANSACTIONS}
-use Rattle.mg_kv.specs.EndedVersionsLaws.{DrawsNumber, EndsAlone, commit_settles, dead_settles, draw_settles}
-use Rattle.mg_kv.specs.LiveFactsLaws.{Becomes, HasBits, live_draws, live_ends, live_facts, records_at_stop}
+use Rattle.mg_first.specs.PlaceLaws.{KeepsRest, rows_apart}
+use Rattle.mg_first.specs.declared.pages.TheConstants.{CATALOG, PAGE}
+use Rattle.mg_kv.specs.EndedVersionsLaws.{dead_settles}
+use Rattle.mg_kv.specs.LiveFactsLaws.{Becomes, HasBits, live_ends, live_facts}
 use Rattle.mg_kv.specs.SettlingLaws.{records_settle}
 use Rattle.mg_kv.specs.Versions.{kept}
 use Rattle.mg_kv.specs.WorkLaws.{IsAtWork}
@@ -78,16 +66,18 @@ same_catalog old new before after r was is first then_ chosen = record {
       counts es one.1 other.1,
     )
 
--- nobody is in limbo on the pages
-pub none_in_limbo : (pages : Pages) (state : ℕ → TxState) → HasBits pages state
-    → ((u : ℕ) → state u ≢ Limbo) → (u : ℕ) → state_at PAGE pages u ≢ Limbo
-none_in_limbo pages state has nobody u is = at (state u) refl (sym (has.bits u) ∙ is)
-  where
-    at : (s : TxState) → state u ≡ s → settled s ≡ Limbo → ⊥
-    at Active was limbo = absurd cc
-    at Limbo was limbo = nobody u was
-    at Dead was limbo = absurd cc
-    at Committed was limbo = absurd cc
+-- the system's transaction is committed
+zero_committed : (pages : Pages) → state_at PAGE pages 0 ≡ Committed
+unfolding state_at
+zero_committed pages = refl
+
+-- where each transaction is interesting, none below the oldest one is in limbo
+pub none_below : (pages : Pages) → oldest_of pages ≤ 1 → HasNoOldLimbo PAGE pages
+none_below pages oldest t below is =
+    let first : t ≡ 0 = omega (arith, oldest, below) in
+    let both : Committed ≡ Limbo = sym (zero_committed pages)
+    ∙ (ap (state_at PAGE pages) (sym first) ∙ is) in
+    absurd cc
 
 -- who is committed is so still, where another one becomes something
 pub others_committed : (before after : ℕ → TxState) (t : ℕ) → before t ≢ Committed
@@ -98,16 +88,6 @@ others_committed before after t not_ others (e ∷ es) each = (
   others (writer e) (λ same. not_ (sym (ap before same) ∙ each.0)) ∙ each.0,
   others_committed before after t not_ others es each.1,
 )
-
--- nobody is prepared still
-pub others_not_limbo : (before after : ℕ → TxState) (t : ℕ) → after t ≢ Limbo
-    → ((u : ℕ) → u ≢ t → after u ≡ before u) → ((u : ℕ) → before u ≢ Limbo) → (u : ℕ)
-    → after u ≢ Limbo
-others_not_limbo before after t not_ others nobody u = at (cases_eq u t)
-  where
-    at : (u ≡ t) ⊎ (u ≢ t) → after u ≢ Limbo
-    at (inl e) is = not_ (sym (ap after e) ∙ is)
-    at (inr ne) is = nobody u (sym (others u ne) ∙ is)
 
 -- ---- a transaction is rolled back
 
@@ -141,8 +121,6 @@ work_rolls_back pages before after r t work rolls = record {
   tip = work.tip;
   oldest = work.oldest;
   drawn = work.drawn;
-  limbo = others_not_limbo before after t
-      (λ is. let both : Dead ≡ Limbo = sym rolls.dead ∙ is in absurd cc) rolls.others work.limbo;
   catalog = λ p of. others_committed before after t
       (λ is. let both : Active ≡ Committed = sym rolls.active ∙ is in absurd cc) rolls.others (r p)
       (work.catalog p of);

@@ -37,6 +37,10 @@ pub struct KvVersion {
 /// where no record takes it.
 ///
 /// On a page of no lawful records it gives as many versions as there are slots, at most.
+///
+/// # Errors
+///
+/// `Memory`, where it runs out.
 pub fn generations(
     alloc: Global,
     rows: &[u8],

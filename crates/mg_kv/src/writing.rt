@@ -1,6 +1,7 @@
 //! A row is written on the page.
 
-ghost use Rattle.std.specs.Prelude.{◌≡◌, ◌≢◌, ◌≤◌, ◌<◌, ◌^◌, length, IfErr, IfOk, OnOk};
+ghost use Rattle.std.specs.Prelude.{◌≡◌, ◌≢◌, ◌≤◌, ◌<◌, ◌^◌, length, take, IfErr, IfOk, OnOk};
+ghost use Rattle.mg_base.specs.declared.fields.TheConstants.{COMMON};
 ghost use Rattle.mg_slots.specs.DataPage.{IsDataPage};
 ghost use Rattle.mg_version.specs.Cells.{IsSpelling};
 ghost use Rattle.mg_first.specs.Puts.{kv_link, kv_version};
@@ -42,6 +43,7 @@ pub fn write(
         (written (fate_in fates.now.bits.now fates.now.active.now) tx.0 key value))) }
     ensures lawful { IsDataPage rows.new }
     ensures len { length rows.new ≡ 4096 }
+    ensures common { take COMMON rows.new ≡ take COMMON rows.old }
 {
     clean(alloc, rows, fates, key)?;
     match taker(alloc, rows, fates, key)? {
@@ -58,6 +60,7 @@ fn clean(alloc: Global, rows: &mut [u8], fates: &Fates, key: i64) -> Result<(), 
         (cleaned (fate_in fates.now.bits.now fates.now.active.now) key)) }
     ensures lawful { IsDataPage rows.new }
     ensures len { length rows.new ≡ length rows.old }
+    ensures common { take COMMON rows.new ≡ take COMMON rows.old }
 {
     for slot in 0..slots(rows) {
         clean_slot(alloc, rows, fates, slot, key)?;
@@ -79,6 +82,7 @@ fn clean_slot(
         (clean_at (fate_in fates.now.bits.now fates.now.active.now) key slot)) }
     ensures lawful { IsDataPage rows.new }
     ensures len { length rows.new ≡ length rows.old }
+    ensures common { take COMMON rows.new ≡ take COMMON rows.old }
 {
     let Some(newest) = newest_at(alloc, rows, slot, key)? else {
         return Ok(());
@@ -97,6 +101,7 @@ fn take_out(alloc: Global, rows: &mut [u8], newest: &Newest) -> Result<(), Memor
     ensures out { OnOk result (Makes rows.old rows.new (taken_out newest.now)) }
     ensures lawful { IsDataPage rows.new }
     ensures len { length rows.new ≡ length rows.old }
+    ensures common { take COMMON rows.new ≡ take COMMON rows.old }
 {
     free(rows, newest.link.rec.slot);
     match newest.version.back {
@@ -128,6 +133,7 @@ fn write_over(
         (over_newest tx.0 key value over.now))) }
     ensures lawful { IsDataPage rows.new }
     ensures len { length rows.new ≡ 4096 }
+    ensures common { take COMMON rows.new ≡ take COMMON rows.old }
 {
     if over.version.tx == tx {
         let cell = version(alloc, tx, over.version.back, key, value)?;
@@ -152,6 +158,7 @@ fn make_record(
         (make tx.0 key value))) }
     ensures lawful { IsDataPage rows.new }
     ensures len { length rows.new ≡ 4096 }
+    ensures common { take COMMON rows.new ≡ take COMMON rows.old }
 {
     // The version's slot is known once the anchor has its own.
     let unknown = anchor(alloc, 0, tx)?;
@@ -177,6 +184,7 @@ fn push_version(
         (push slot tx.0 back key value))) }
     ensures lawful { IsDataPage rows.new }
     ensures len { length rows.new ≡ 4096 }
+    ensures common { take COMMON rows.new ≡ take COMMON rows.old }
 {
     let cell = version(alloc, tx, back, key, value)?;
     let at = put_cell(rows, cell.as_slice())?;

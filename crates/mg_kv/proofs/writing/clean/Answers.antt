@@ -13,6 +13,7 @@ loop-slot-preserved c = (
       (fate_in c.args.fates.now.bits.now c.args.fates.now.active.now)
       (to_z w64 (of_z w64 c.args.key)) c.loop-slot.slot c.loop-slot.invariant.3
       c.in_ok-clean_slot.ensures.cleaned,
+  c.clean_slot.ensures.common ∙ c.loop-slot.invariant.4,
 )
 
 pub returns-clause-cleaned : goal.returns-clause-cleaned

@@ -1,4 +1,5 @@
-use Rattle.std.proofs.Common.{◌≡◌, ◌≤◌, length}
+use Rattle.std.proofs.Common.{◌≡◌, ◌≤◌, length, take}
+use Rattle.mg_base.specs.declared.fields.TheConstants.{COMMON}
 use Rattle.mg_slots.specs.DataPage.{IsDataPage, slot_count}
 use Rattle.mg_kv.specs.Fate.{fate_in}
 use Rattle.mg_kv.specs.Slots.{Makes, without_dead_below}
@@ -9,3 +10,4 @@ invariant-loop-slot l = (l.slot ≤ slot_count l.initial.rows) × IsDataPage l.r
     × (length l.rows ≡ length l.initial.rows)
     × Makes l.initial.rows l.rows
     (without_dead_below (fate_in l.fates.bits.now l.fates.active.now) l.key l.slot)
+    × (take COMMON l.rows ≡ take COMMON l.initial.rows)
