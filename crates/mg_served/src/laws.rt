@@ -1,0 +1,32 @@
+//! The laws of served histories. Each function does nothing: its contract is a law, so that another
+//! crate can cite it.
+
+ghost use Rattle.mg_served.specs.ImageLaws.{HeldIsOfFirstForm, HeldOutlastsCrashes, HeldQuietly, HeldWhenRaised};
+ghost use Rattle.mg_served.specs.ImageLaws.{ImagesBeginWithKv, PagesServedHold, VersionsAreFirst};
+ghost use Rattle.mg_served.specs.Laws.{ImagesOpen, QuietEntriesLeave, RefusedWritesLeave};
+
+/// Entries that leave the pages in memory as they are.
+pub fn entries_leave_pages()
+    ensures quiet { QuietEntriesLeave }
+    ensures undone { RefusedWritesLeave }
+{}
+
+/// The pages in memory of an image that is opened.
+pub fn images_open()
+    ensures { ImagesOpen }
+{}
+
+/// What a history begins with that begins with what opening an image gives.
+pub fn images_begin_histories()
+    ensures kv { ImagesBeginWithKv }
+    ensures first { VersionsAreFirst }
+{}
+
+/// What images hold of histories: those with the pages in memory, and those that a crash leaves.
+pub fn images_hold_histories()
+    ensures served { PagesServedHold }
+    ensures durable { HeldOutlastsCrashes }
+    ensures form { HeldIsOfFirstForm }
+    ensures raised { HeldWhenRaised }
+    ensures quiet { HeldQuietly }
+{}
