@@ -1,0 +1,6 @@
+mod CommitLemmas
+mod CrashLemmas
+mod NewDoneLemmas
+mod NewImageLemmas
+mod StepLemmas
+mod StoreLemmas

@@ -1,0 +1,11 @@
+pub mod CrashLaws
+pub mod Crashes
+pub mod Creating
+pub mod Fresh
+pub mod LeavesLaws
+pub mod LongerLaws
+pub mod NewLaws
+pub mod NewOpeningLaws
+pub mod Stages
+pub mod StoreLaws
+pub mod Storing
