@@ -7,7 +7,11 @@ use Rattle.mg_header.specs.HeaderPage.{database_checks}
 use Rattle.mg_header.specs.declared.header.TheConstants.{MAGIC, MAGIC_AT}
 use Rattle.mg_image.specs.Form.{Pages, plain_form}
 use Rattle.mg_image.specs.Opening.{IsOpened, Opened}
-use Rattle.mg_image.specs.Sound.{HasHeader}
+use Rattle.mg_image.specs.Records.{Reading}
+use Rattle.mg_image.specs.Sound.{HasHeader, IsSound}
+use Rattle.mg_image.specs.Tables.{Layout}
+use Rattle.mg_first.specs.FirstForm.{IsFirstForm}
+use Rattle.mg_first.specs.declared.pages.TheConstants.{PAGE}
 
 zeros : (size i : ℕ) → get_or (blank size) i 0 ≡ 0
 zeros zero i = refl
@@ -27,7 +31,19 @@ has_magic : (size : ℕ) (pages : Pages) → HasHeader size pages → u32_at (pa
 unfolding database_checks
 has_magic size pages header = header.database.0
 
+-- the header of a database is not blank
+pub header_is_not_blank : (size : ℕ) (pages : Pages) → HasHeader size pages
+    → pages 0 ≡ blank size → ⊥
+header_is_not_blank size pages header none =
+    no_magic (pages 0) size none (has_magic size pages header)
+
 pub sound_is_not_blank : (size : ℕ) (pages : Pages) (opened : Opened)
     → IsOpened plain_form size pages opened → pages 0 ≡ blank size → ⊥
-sound_is_not_blank size pages opened is none =
-    no_magic (pages 0) size none (has_magic size pages is.sound.header)
+sound_is_not_blank size pages opened is none = header_is_not_blank size pages is.sound.header none
+
+-- and so are the pages of an image of the first form
+pub form_is_not_blank : (pages : Pages) → IsFirstForm pages → pages 0 ≡ blank PAGE → ⊥
+form_is_not_blank pages form none = by form.sound
+  where
+    by : (layout : Layout) × (r : Reading) × IsSound plain_form PAGE pages layout r → ⊥
+    by (layout, r, sound) = header_is_not_blank PAGE pages sound.header none

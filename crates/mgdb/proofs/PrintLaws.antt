@@ -1,10 +1,12 @@
 -- Laws of what is printed: pieces one after another, and the line of a fault.
-use Rattle.std.specs.Prelude.{◌≡◌, ◌≤◌, ◌+◌, ℕ, List, [], ◌++◌, length, take, Some, Result, Ok, Err, OnOk, refl}
-use Rattle.std.proofs.Common.{sym, ◌∙◌, ap, arith, inl, inr, append-nil, append_assoc}
+use Rattle.std.specs.Prelude.{◌≡◌, ◌≤◌, ◌+◌, ℕ, zero, suc, List, [], ◌∷◌, ◌++◌, length, take, Option, Some, Result, Ok, Err, OnOk, refl}
+use Rattle.std.proofs.Common.{sym, ◌∙◌, ap, arith, inl, inr, append-nil, append_assoc, subst}
 use Rattle.std.proofs.Math.Seq.{take-append-add}
 use Rattle.std.proofs.lemmas.List.{take_all}
+use Rattle.arrayvec.specs.ArrayString.{ArrayString}
 use Rattle.mg_base.specs.Disk.{Rose}
 use Rattle.mg_base.specs.Streams.{Puts, SinkMeaning}
+use Rattle.mg_session.specs.Saying.{bytes_of}
 use Rattle.mgdb.specs.Headline.{IsPrintedWhole, IsPrinted, fault_line}
 use Rattle.mgdb.specs.Stops.{IsObeyingStop}
 use Rattle.mgdb.specs.declared.status.Stop.{Stop}
@@ -32,6 +34,12 @@ whole_more n a b c xs ys first next = record {
       ∙ ap Some (append_assoc before xs ys);
   steady = next.steady ∙ first.steady;
 }
+
+pub whole_then : {K T E : Type 0} (n : SinkMeaning K) (a b c : K) (xs ys : List ℕ)
+    (result : Result T E) → IsPrintedWhole n a b xs → OnOk result (IsPrintedWhole n b c ys)
+    → OnOk result (IsPrintedWhole n a c (xs ++ ys))
+whole_then n a b c xs ys (Ok x) first next = whole_more n a b c xs ys first next
+whole_then n a b c xs ys (Err e) first next = tt
 
 pub printed_whole : {K : Type 0} (n : SinkMeaning K) (old new : K) (bytes : List ℕ)
     → IsPrintedWhole n old new bytes → IsPrinted n old new bytes
@@ -76,6 +84,39 @@ printed_behind n a b c xs ys first next = record {
           ∙ ap (λ taken. before ++ taken) (sym (take-append-add xs ys k))),
     )
 
+-- a prefix of some bytes is one of those with more behind them
+front_of : (k : ℕ) (xs ys : List ℕ) → (j : ℕ) × (take k xs ≡ take j (xs ++ ys))
+front_of zero xs ys = (0, refl)
+front_of (suc k) [] ys = (0, refl)
+front_of (suc k) (x ∷ xs) ys = at (front_of k xs ys)
+  where
+    at : (j : ℕ) × (take k xs ≡ take j (xs ++ ys))
+        → (j : ℕ) × (take (suc k) (x ∷ xs) ≡ take j ((x ∷ xs) ++ ys))
+    at (j, is) = (suc j, ap (λ front. x ∷ front) is)
+
+-- a line, if there is one
+pub printed_line : {K T E : Type 0} (n : SinkMeaning K) (old new : K) (line : Option ArrayString)
+    (text : ArrayString) (piece : List ℕ) (result : Result T E) → line ≡ Some text
+    → piece ≡ text.bytes → Puts n old new piece result → IsPrinted n old new (bytes_of line)
+printed_line n old new line text piece result is same puts =
+    subst (λ (some : Option ArrayString). IsPrinted n old new (bytes_of some)) (sym is)
+    (subst (λ (bytes : List ℕ). IsPrinted n old new bytes) same
+    (printed_by_puts n old new piece result puts))
+
+-- where the sink failed, it took a prefix of what would have come behind, too
+pub printed_front : {K : Type 0} (n : SinkMeaning K) (old new : K) (xs ys : List ℕ)
+    → Rose (n.faults old) (n.faults new) → IsPrinted n old new xs → IsPrinted n old new (xs ++ ys)
+printed_front n old new xs ys rose printed = record {
+  prefix = λ before is. at before (printed.prefix before is);
+  whole = λ steady before is. absurd (steady rose);
+}
+  where
+    at : (before : List ℕ) → (k : ℕ) × (n.taken new ≡ Some (before ++ take k xs))
+        → (k : ℕ) × (n.taken new ≡ Some (before ++ take k (xs ++ ys)))
+    at before (k, is) =
+        let front = front_of k xs ys in
+        (front.0, is ∙ ap (λ taken. Some (before ++ taken)) front.1)
+
 -- nothing more
 pub printed_then_nothing : {K : Type 0} (n : SinkMeaning K) (a b c : K) (xs : List ℕ)
     → IsPrinted n a b xs → n.faults b ≤ n.faults c → IsPrinted n b c []
@@ -114,11 +155,11 @@ printed_then_nothing n a b c xs first grows next = record {
 pub no_fault_line : (stop : Stop) → IsObeyingStop stop → fault_line (Some stop) ≡ []
 no_fault_line (DiskRead place) is = absurd is
 no_fault_line (DiskWrite places.Run) is = absurd is
-no_fault_line (DiskWrite places.Put) is = refl
+no_fault_line (DiskWrite places.Line) is = refl
 no_fault_line UnknownImage is = absurd is
 no_fault_line Stream is = refl
 no_fault_line (Memory places.Run) is = absurd is
-no_fault_line (Memory places.Put) is = refl
+no_fault_line (Memory places.Line) is = refl
 no_fault_line ScriptTooLong is = absurd is
 
 -- what the lines print, with the line of the fault that stopped the run: of a fault outside the
@@ -131,7 +172,7 @@ printed_stopped n a b c xs (DiskRead place) printed whole grows line =
     printed_behind n a b c xs (fault_line (Some (DiskRead place))) (whole (λ is. is)) line
 printed_stopped n a b c xs (DiskWrite places.Run) printed whole grows line =
     printed_behind n a b c xs (fault_line (Some (DiskWrite places.Run))) (whole (λ is. is)) line
-printed_stopped n a b c xs (DiskWrite places.Put) printed whole grows line =
+printed_stopped n a b c xs (DiskWrite places.Line) printed whole grows line =
     printed_then_nothing n a b c xs printed grows line
 printed_stopped n a b c xs UnknownImage printed whole grows line =
     printed_behind n a b c xs (fault_line (Some UnknownImage)) (whole (λ is. is)) line
@@ -139,7 +180,7 @@ printed_stopped n a b c xs Stream printed whole grows line =
     printed_then_nothing n a b c xs printed grows line
 printed_stopped n a b c xs (Memory places.Run) printed whole grows line =
     printed_behind n a b c xs (fault_line (Some (Memory places.Run))) (whole (λ is. is)) line
-printed_stopped n a b c xs (Memory places.Put) printed whole grows line =
+printed_stopped n a b c xs (Memory places.Line) printed whole grows line =
     printed_then_nothing n a b c xs printed grows line
 printed_stopped n a b c xs ScriptTooLong printed whole grows line =
     printed_behind n a b c xs (fault_line (Some ScriptTooLong)) (whole (λ is. is)) line

@@ -1,368 +1,357 @@
--- Laws of a whole run: the disk is read, a new database is made, the lines are obeyed, the disk is
--- settled; and what the program promises of it, wherever it stops.
-use Rattle.std.specs.Prelude.{◌≡◌, ◌≤◌, [], ℕ, Bool, List, None, Option, Some, Result, Ok, Err, IsErrAnd, refl}
-use Rattle.std.proofs.Common.{sym, ◌∙◌, ap, arith, append-nil, subst, false, Some, None, List, refl}
+-- Laws of a whole run: a disk is opened, the lines are obeyed, the work is closed; and what the
+-- program promises of it, wherever it stops.
+use Rattle.std.specs.Prelude.{◌≡◌, ◌≤◌, [], ℕ, Bool, false, List, None, Option, Some, Result, Ok, Err, IsErrAnd, refl}
+use Rattle.std.proofs.Common.{sym, ◌∙◌, ap, arith, append-nil, subst}
 use Rattle.std.specs.Str.Lines.{lines}
-use Rattle.mg_base.specs.Disk.{Calm, MayLeave, Meaning, Stays}
-use Rattle.mg_base.specs.Image.{Image, page_at}
-use Rattle.mg_base.specs.Moments.{LeavesOnly, goes_on, joined, leaves_as, started}
+use Rattle.mg_base.specs.Disk.{MayLeave, Meaning, Stays}
+use Rattle.mg_base.specs.Image.{Image}
+use Rattle.mg_base.specs.Moments.{LeavesOnly, joined, leaves_as, started}
 use Rattle.mg_base.specs.Streams.{SinkMeaning}
-use Rattle.mg_model.specs.declared.opening.Opening.{Opening}
-use Rattle.mg_image.specs.Opening.{IsBlank}
 use Rattle.mg_first.specs.declared.pages.TheConstants.{PAGE}
-use Rattle.std.proofs.lemmas.Bool.{false≢true}
-use Rattle.mgdb.specs.Stops.{is_within}
-use Rattle.mgdb.specs.declared.script.Line.{Line}
-use Rattle.mg_model.specs.History.{Entry}
-use Rattle.mgdb.specs.declared.kv.Kv.{Kv}
-use Rattle.mgdb.specs.declared.status.Stop.{Stop}
-use Rattle.mgdb.proofs.CrashLaws.{opening_holds_some, some_asked_longer, some_is_all}
-use Rattle.mgdb.specs.Crashes.{HoldsSome, asked}
-use Rattle.mgdb.specs.Fresh.{IsFresh}
-use Rattle.mgdb.specs.Headline.{Counted, IsEntry, IsOpeningOf, IsPrinted, NEW_WRITES, ending, fault_line, of_blank, of_sound}
+use Rattle.mg_kv.specs.Slots.{Slots}
+use Rattle.mg_lines.specs.Given.{HasRoom, Meets, Turn, after_turns, entries_of, nothing, obeyed}
+use Rattle.mg_lines.specs.Transcript.{transcript}
+use Rattle.mg_model.specs.declared.opening.Opening.{Opening}
+use Rattle.mg_model.specs.History.{Entries}
+use Rattle.mg_served.specs.Serving.{has_room}
+use Rattle.mg_store.specs.CrashLaws.{asked_counts, holds_asked, some_asked, some_asked_longer}
+use Rattle.mg_store.specs.Crashes.{HoldsAll, HoldsSome, asked}
+use Rattle.mg_store.specs.Fresh.{IsKnown}
+use Rattle.mg_store.specs.Storing.{LeavesAll, LeavesSome}
+use Rattle.mg_store.specs.declared.store.Store.{Store}
+use Rattle.mgdb.proofs.OpeningLemmas.{opening_holds_some}
 use Rattle.mgdb.proofs.PrintLaws.{printed_nothing, printed_stopped, whole_nothing}
-use Rattle.mgdb.specs.ScriptHistory.{Meets, ended, nothing, obeyed, onto}
-use Rattle.mgdb.specs.Serving.{IsFreshDisk, LinesDone, NewDone, Reads, Serves, new_history}
-use Rattle.mgdb.specs.Stops.{status_of}
-use Rattle.mgdb.specs.Transcript.{transcript}
-use Rattle.mgdb.proofs.BlankLemmas.{sound_is_not_blank}
+use Rattle.mgdb.specs.Headline.{Counted, IsEntry, IsKnownAgain, IsPrinted, ending, fault_line}
+use Rattle.mgdb.specs.Stops.{is_within, status_of}
+use Rattle.mgdb.specs.Working.{CloseDone, LinesDone, OpenDone, ScriptDone}
+use Rattle.mgdb.specs.declared.status.Place.TheVariants as places
+use Rattle.mgdb.specs.declared.status.Stop.{Stop}
+use Rattle.mgdb.specs.declared.status.Stop.TheVariants.{DiskWrite}
+use Rattle.mgdb.specs.declared.work.Work.{Work}
 
--- ---- the disk is read
+-- ---- the disk at entry
 
--- a blank image is the beginning of a new database
-pub blank_opening : (size : ℕ) (image : Image) (o : Opening) → IsOpeningOf size image o
-    → IsBlank size (page_at size image) → o ≡ new_history
-blank_opening size image o (of_blank same) blank = refl
-blank_opening size image o (of_sound opened start is opening begins limit) blank =
-    absurd (sound_is_not_blank size (page_at size image) opened is blank.header)
+pub entry_leaves : {D : Type 0} (m : Meaning D) (disk : D) (size : ℕ) (image : Image)
+    (first : Slots) (o : Opening) → IsEntry m disk size image first o
+    → (c : Image) → MayLeave m disk c → HoldsSome size o [] c
+entry_leaves m disk size image first o entry c left = subst (HoldsSome size o [])
+    (sym (entry.settled c left)) (opening_holds_some size image o entry.opening)
 
-pub entry_leaves : {D : Type 0} (m : Meaning D) (disk : D) (size : ℕ) (o : Opening)
-    → IsEntry m disk size o → (c : Image) → MayLeave m disk c → HoldsSome size o [] c
-entry_leaves m disk size o entry c left = subst (HoldsSome size o [])
-    (sym (entry.settled c left)) (opening_holds_some size entry.image o entry.opening)
+pub entry_known : {D : Type 0} (m : Meaning D) (disk : D) (size : ℕ) (image : Image)
+    (first : Slots) (o : Opening) → IsEntry m disk size image first o
+    → (c : Image) → MayLeave m disk c → IsKnownAgain size image c
+entry_known m disk size image first o entry c left = λ known.
+    subst (λ (other : Image). IsKnown (Some size) other) (sym (entry.settled c left)) known
 
-pub entry_reads : {D : Type 0} (m : Meaning D) (old new : D) (size : ℕ) (o : Opening)
-    → IsEntry m old size o → Reads m old new → LeavesOnly m old new (HoldsSome size o [])
-entry_reads m old new size o entry reads = goes_on m old old new (HoldsSome size o [])
-    (started m old (HoldsSome size o []) (entry_leaves m old size o entry))
-    (reads.time entry.told)
-    (λ c left. entry_leaves m old size o entry c (reads.crash entry.told c left))
+-- its pages keep their size
+pub entry_sized : {D : Type 0} (m : Meaning D) (old new : D) (size : ℕ) (image : Image)
+    (first : Slots) (o : Opening) → IsEntry m old size image first o
+    → Stays (m.size old) (m.size new) → m.size new ≡ Some size
+entry_sized m old new size image first o entry stays =
+    subst (λ (was : Option ℕ). Stays was (m.size new)) entry.sized stays
 
-pub entry_fresh : {D : Type 0} (m : Meaning D) (old new : D) (size : ℕ) (o : Opening)
-    (entry : IsEntry m old size o) → Reads m old new → IsFresh (m.size new) entry.image
-    → IsFreshDisk m new entry.image
-entry_fresh m old new size o entry reads fresh = record {
-  told = reads.told ∙ entry.told;
-  held = reads.held ∙ entry.held;
-  few = fresh.few;
-  blank_image = fresh.blank_image;
-  settled = λ c left. entry.settled c (reads.crash entry.told c left);
-}
-
--- a disk that is not fresh, or could not be read
-pub script_unread : {D K : Type 0} (m : Meaning D) (n : SinkMeaning K) (old new : D) (sink : K)
-    (size : ℕ) (o : Opening) (script : List ℕ) (stop : Stop)
-    → is_within (Some stop) ≡ false → IsEntry m old size o
-    → Reads m old new
-    → LinesDone m n old new sink sink size NEW_WRITES o script (Err stop)
-script_unread m n old new sink size o script stop out entry reads = record {
-  texts = [];
-  rest = lines script;
-  front = refl;
-  met = [];
-  are_lines = tt;
-  all_met = tt;
-  entries = [];
-  meets = obeyed [] [] out nothing;
-  ok = tt;
-  told = tt;
-  legal = tt;
-  printed = printed_nothing n sink;
-  whole = λ other. whole_nothing n sink;
-  crash = entry_reads m old new size o entry reads;
-  exit = λ c left. some_is_all size o c
-      (entry_leaves m old size o entry c (reads.crash entry.told c left));
-  writes = let same = reads.asked in omega arith;
-}
-
--- ---- a new database is made
-
-pub script_unmade : {D K : Type 0} (m : Meaning D) (n : SinkMeaning K) (old mid new : D) (kv : Kv)
-    (sink : K) (script : List ℕ) (stop : Stop) → is_within (Some stop) ≡ false
-    → LeavesOnly m old mid (HoldsSome PAGE new_history []) → m.asked mid ≡ m.asked old
-    → NewDone m mid new kv (Err stop)
-    → LinesDone m n old new sink sink PAGE NEW_WRITES new_history script (Err stop)
-script_unmade m n old mid new kv sink script stop out run asked_ made = record {
-  texts = [];
-  rest = lines script;
-  front = refl;
-  met = [];
-  are_lines = tt;
-  all_met = tt;
-  entries = [];
-  meets = obeyed [] [] out nothing;
-  ok = tt;
-  told = tt;
-  legal = tt;
-  printed = printed_nothing n sink;
-  whole = λ other. whole_nothing n sink;
-  crash = joined m old mid new (HoldsSome PAGE new_history []) run made.crash;
-  exit = λ c left. some_is_all PAGE new_history c (made.exit c left);
-  writes = let more = made.writes in omega arith;
-}
-
-pub script_done : {D K : Type 0} (m : Meaning D) (n : SinkMeaning K) (old mid ready new : D)
-    (kv : Kv) (made_ : Result (Unit {0}) Stop) (before after : K) (script : List ℕ)
-    (result : Result Bool Stop) → LeavesOnly m old mid (HoldsSome PAGE new_history [])
-    → m.asked mid ≡ m.asked old → NewDone m mid ready kv made_
-    → LinesDone m n ready new before after PAGE 0 new_history script result
-    → LinesDone m n old new before after PAGE NEW_WRITES new_history script result
-script_done m n old mid ready new kv made_ before after script result run asked_
-    made done = record {
-      texts = done.texts;
-      rest = done.rest;
-      front = done.front;
-      met = done.met;
-      are_lines = done.are_lines;
-      all_met = done.all_met;
-      entries = done.entries;
-      meets = done.meets;
-      ok = done.ok;
-      told = done.told;
-      legal = done.legal;
-      printed = done.printed;
-      whole = done.whole;
-      crash = joined m old ready new (HoldsSome PAGE new_history (asked (onto [] done.entries)))
-          (leaves_as m old ready (HoldsSome PAGE new_history [])
-          (HoldsSome PAGE new_history (asked (onto [] done.entries)))
-          (λ c some. some_asked_longer PAGE new_history [] done.entries c some)
-          (joined m old mid ready (HoldsSome PAGE new_history []) run made.crash))
-          done.crash;
-      exit = done.exit;
-      writes = let first = made.writes in let next = done.writes in omega arith;
-    }
-
--- ---- the disk is settled
-
--- what was obeyed whole was so where a fault came outside the lines
-meets_outside : (o : Opening) (stop : Stop) (met : List Line) (es : List Entry)
-    → is_within (Some stop) ≡ false → Meets o None met es → Meets o (Some stop) met es
-meets_outside o stop _ _ out (obeyed met es none obeys) = obeyed met es out obeys
-meets_outside o stop _ _ out (ended met es k v new within obeys ends) =
-    absurd (false≢true within)
-
-settled_leaves : {D K T E : Type 0} (m : Meaning D) (n : SinkMeaning K) (old mid new : D)
-    (before after : K) (size first : ℕ) (o : Opening) (script : List ℕ) (all : Bool)
-    (settled : Result T E)
-    (done : LinesDone m n old mid before after size first o script (Ok all))
-    → Calm m mid new settled
-    → LeavesOnly m old new (HoldsSome size o (asked (onto [] done.entries)))
-settled_leaves m n old mid new before after size first o script all settled done calm =
-    goes_on m old mid new (HoldsSome size o (asked (onto [] done.entries))) done.crash
-    (calm.keeps.time done.told)
-    (λ c left. (done.exit c (calm.crash done.told c left)).some)
-
-pub script_settled : {D K T E : Type 0} (m : Meaning D) (n : SinkMeaning K) (old mid new : D)
-    (before after : K) (size first : ℕ) (o : Opening) (script : List ℕ) (all : Bool)
-    (settled : Result T E)
-    → LinesDone m n old mid before after size first o script (Ok all)
-    → Calm m mid new settled
-    → LinesDone m n old new before after size first o script (Ok all)
-script_settled m n old mid new before after size first o script all settled done calm = record {
-  texts = done.texts;
-  rest = done.rest;
-  front = done.front;
-  met = done.met;
-  are_lines = done.are_lines;
-  all_met = done.all_met;
-  entries = done.entries;
-  meets = done.meets;
-  ok = done.ok;
-  told = calm.keeps.tells ∙ done.told;
-  legal = done.legal;
-  printed = done.printed;
-  whole = done.whole;
-  crash = settled_leaves m n old mid new before after size first o script all settled done calm;
-  exit = λ c left. done.exit c (calm.crash done.told c left);
-  writes = let writes = done.writes in let same = calm.asked in omega arith;
-}
-
--- where that failed, outside the lines
-pub script_unsettled : {D K T E : Type 0} (m : Meaning D) (n : SinkMeaning K) (old mid new : D)
-    (before after : K) (size first : ℕ) (o : Opening) (script : List ℕ) (all : Bool)
-    (settled : Result T E) (stop : Stop) → is_within (Some stop) ≡ false
-    → LinesDone m n old mid before after size first o script (Ok all)
-    → Calm m mid new settled
-    → LinesDone m n old new before after size first o script (Err stop)
-script_unsettled m n old mid new before after size first o script all settled stop out done calm =
-    record {
-      texts = done.texts;
-      rest = done.rest;
-      front = done.front;
-      met = done.met;
-      are_lines = done.are_lines;
-      all_met = tt;
-      entries = done.entries;
-      meets = meets_outside o stop done.met done.entries out done.meets;
-      ok = tt;
-      told = tt;
-      legal = done.legal;
-      printed = done.printed;
-      whole = λ other. done.whole (λ is. is);
-      crash = settled_leaves m n old mid new before after size first o script all settled done calm;
-      exit = λ c left. done.exit c (calm.crash done.told c left);
-      writes = let writes = done.writes in let same = calm.asked in omega arith;
-    }
-
--- ---- what the program promises
-
--- the script could not be read, and the disk was not asked
-pub headline_unread : {D K : Type 0} (m : Meaning D) (n : SinkMeaning K) (size : ℕ) (o : Opening)
-    (script : List ℕ) (disk : D) (before after : K) (stop : Stop) (status : ℕ)
-    → is_within (Some stop) ≡ false → IsEntry m disk size o → IsPrinted n before after (fault_line (Some stop))
-    → status ≡ (status_of stop).0
-    → Counted m n size o script disk disk before after status
-headline_unread m n size o script disk before after stop status out entry printed is = record {
-  line = record {
-    texts = [];
-    rest = lines script;
-    front = refl;
-    met = [];
-    are_lines = tt;
-    stop = Some stop;
-    all_met = λ none. absurd cc;
-    entries = [];
-    meets = obeyed [] [] out nothing;
-    legal = tt;
-    printed = printed;
-    ends = is;
-    crash = started m disk (HoldsSome size o []) (entry_leaves m disk size o entry);
-    exit = λ c left. some_is_all size o c (entry_leaves m disk size o entry c left);
-  };
-  writes = omega arith;
-}
-
-pub headline_done : {D K : Type 0} (m : Meaning D) (n : SinkMeaning K) (size : ℕ) (o : Opening)
-    (script : List ℕ) (old new : D) (before after : K) (ok : Bool) (status : ℕ)
-    → LinesDone m n old new before after size NEW_WRITES o script (Ok ok) → status ≡ ending ok
-    → Counted m n size o script old new before after status
-headline_done m n size o script old new before after ok status done is = record {
-  line = record {
-    texts = done.texts;
-    rest = done.rest;
-    front = done.front;
-    met = done.met;
-    are_lines = done.are_lines;
-    stop = None;
-    all_met = λ none. done.all_met;
-    entries = done.entries;
-    meets = done.meets;
-    legal = done.legal;
-    printed = rw (append-nil (transcript 1 done.met done.entries)) done.printed;
-    ends = is ∙ ap ending done.ok;
-    crash = done.crash;
-    exit = done.exit;
-  };
-  writes = done.writes;
-}
-
-pub headline_stopped : {D K : Type 0} (m : Meaning D) (n : SinkMeaning K) (size : ℕ) (o : Opening)
-    (script : List ℕ) (old new : D) (before middle after : K) (stop : Stop) (status : ℕ)
-    → LinesDone m n old new before middle size NEW_WRITES o script (Err stop)
-    → n.faults middle ≤ n.faults after → IsPrinted n middle after (fault_line (Some stop))
-    → status ≡ (status_of stop).0
-    → Counted m n size o script old new before after status
-headline_stopped m n size o script old new before middle after stop status done grows line is =
-    record {
-      line = record {
-        texts = done.texts;
-        rest = done.rest;
-        front = done.front;
-        met = done.met;
-        are_lines = done.are_lines;
-        stop = Some stop;
-        all_met = λ none. absurd cc;
-        entries = done.entries;
-        meets = done.meets;
-        legal = done.legal;
-        printed = printed_stopped n before middle after (transcript 1 done.met done.entries) stop
-            done.printed done.whole grows line;
-        ends = is;
-        crash = done.crash;
-        exit = done.exit;
-      };
-      writes = done.writes;
-    }
-
--- ---- a run from its entry
-
--- a fresh disk has pages of 4096 bytes, and what its history begins with is a new database
-pub entry_is_new : {D : Type 0} (m : Meaning D) (old mid : D) (size : ℕ) (o : Opening)
-    (entry : IsEntry m old size o) → Stays (m.size old) (m.size mid) → m.size mid ≡ Some PAGE
-    → IsFresh (m.size mid) entry.image → (size ≡ PAGE) × (o ≡ new_history)
-entry_is_new m old mid size o entry stays sized fresh =
-    let same = subst (λ (was : Option ℕ). Stays was (m.size mid)) entry.sized stays in
-    let page : size ≡ PAGE = same_size size PAGE (sym same ∙ sized) in
-    (page, blank_opening size entry.image o entry.opening (rw page fresh.blank_image))
+-- a disk that is opened has pages of 4096 bytes
+pub entry_page : {D : Type 0} (m : Meaning D) (old mid : D) (size : ℕ) (image : Image)
+    (first : Slots) (o : Opening) → IsEntry m old size image first o
+    → Stays (m.size old) (m.size mid) → m.size mid ≡ Some PAGE → PAGE ≡ size
+entry_page m old mid size image first o entry stays sized =
+    same_size PAGE size (sym sized ∙ entry_sized m old mid size image first o entry stays)
   where
     same_size : (a b : ℕ) → Some a ≡ Some b → a ≡ b
     same_size a b is = cc
 
-new_run : {D : Type 0} (m : Meaning D) (old mid : D) (size : ℕ) (o : Opening) → size ≡ PAGE
-    → o ≡ new_history → LeavesOnly m old mid (HoldsSome size o [])
-    → LeavesOnly m old mid (HoldsSome PAGE new_history [])
-new_run m old mid size o page is run =
-    subst (λ (s : ℕ). LeavesOnly m old mid (HoldsSome s new_history [])) page
-    (subst (λ (p : Opening). LeavesOnly m old mid (HoldsSome size p [])) is run)
+-- ---- a script
 
-of_new : {D K : Type 0} (m : Meaning D) (n : SinkMeaning K) (old new : D) (before after : K)
-    (size : ℕ) (o : Opening) (script : List ℕ) (result : Result Bool Stop) → size ≡ PAGE
-    → o ≡ new_history
-    → LinesDone m n old new before after PAGE NEW_WRITES new_history script result
-    → LinesDone m n old new before after size NEW_WRITES o script result
-of_new m n old new before after size o script result page is done = rw (page, is) done
+-- a disk that could not be written at the end failed outside the lines
+pub closing_outside : (stop : Stop) → stop ≡ DiskWrite places.Run → is_within (Some stop) ≡ false
+closing_outside stop is = rw is refl
 
--- the new database could not be made
-pub entry_unmade : {D K : Type 0} (m : Meaning D) (n : SinkMeaning K) (old mid new : D) (kv : Kv)
-    (sink : K) (size : ℕ) (o : Opening) (script : List ℕ) (stop : Stop)
-    → is_within (Some stop) ≡ false → IsEntry m old size o → Reads m old mid → Stays (m.size old) (m.size mid)
-    → m.size mid ≡ Some PAGE
-    → ((image : Image) → m.held old ≡ Some image → IsFresh (m.size mid) image)
-    → ((image : Image) → IsFreshDisk m mid image → NewDone m mid new kv (Err stop))
-    → LinesDone m n old new sink sink size NEW_WRITES o script (Err stop)
-entry_unmade m n old mid new kv sink size o script stop out entry reads stays sized fresh made =
-    let its = fresh entry.image entry.held in
-    let is = entry_is_new m old mid size o entry stays sized its in
-    of_new m n old new sink sink size o script (Err stop) is.0 is.1
-    (script_unmade m n old mid new kv sink script stop out
-    (new_run m old mid size o is.0 is.1 (entry_reads m old mid size o entry reads)) reads.asked
-    (made entry.image (entry_fresh m old mid size o entry reads its)))
-
--- it was made, and the lines were obeyed as far as they were
-pub entry_lines : {D K : Type 0} (m : Meaning D) (n : SinkMeaning K) (old mid ready new : D)
-    (kv : Kv) (made_ : Unit {0}) (before after : K) (size : ℕ) (o : Opening) (script : List ℕ)
-    (result : Result Bool Stop) → IsEntry m old size o → Reads m old mid
-    → Stays (m.size old) (m.size mid) → m.size mid ≡ Some PAGE
-    → ((image : Image) → m.held old ≡ Some image → IsFresh (m.size mid) image)
-    → ((image : Image) → IsFreshDisk m mid image → NewDone m mid ready kv (Ok made_))
-    → ((p : Opening) → Serves m kv ready p []
-    → LinesDone m n ready new before after PAGE 0 p script result)
-    → LinesDone m n old new before after size NEW_WRITES o script result
-entry_lines m n old mid ready new kv made_ before after size o script result entry reads stays sized
-    fresh made lines_ =
-    let its = fresh entry.image entry.held in
-    let is = entry_is_new m old mid size o entry stays sized its in
-    let done = made entry.image (entry_fresh m old mid size o entry reads its) in
-    of_new m n old new before after size o script result is.0 is.1
-    (script_done m n old mid ready new kv (Ok made_) before after script result
-    (new_run m old mid size o is.0 is.1 (entry_reads m old mid size o entry reads)) reads.asked
-    done (lines_ new_history done.serves))
+-- no line was met before a fault outside the lines
+meets_nothing : (has_room : HasRoom) (o : Opening) (stop : Stop) → is_within (Some stop) ≡ false
+    → Meets has_room o (is_within (Some stop)) []
+meets_nothing has_room o stop out = rw out (obeyed [] nothing)
 
 -- an exit hands on the stop that it met
 pub stop_on : {D K : Type 0} (m : Meaning D) (n : SinkMeaning K) (old new : D) (before after : K)
-    (size first : ℕ) (o : Opening) (script : List ℕ) (stop : Stop) (result : Result Bool Stop)
-    → IsErrAnd result (λ other. other ≡ stop)
-    → LinesDone m n old new before after size first o script (Err stop)
-    → LinesDone m n old new before after size first o script result
-stop_on m n old new before after size first o script stop (Ok ok) same done = absurd same
-stop_on m n old new before after size first o script stop (Err other) same done = rw same done
+    (size : ℕ) (image : Image) (first : Slots) (o : Opening) (script : List ℕ) (stop : Stop)
+    (result : Result Bool Stop) → IsErrAnd result (λ other. other ≡ stop)
+    → ScriptDone m n old new before after size image first o script (Err stop)
+    → ScriptDone m n old new before after size image first o script result
+stop_on m n old new before after size image first o script stop (Ok ok) same done = absurd same
+stop_on m n old new before after size image first o script stop (Err other) same done = rw same done
+
+module _ {D K : Type 0} (m : Meaning D) (n : SinkMeaning K) where
+  -- the disk was not opened
+  pub script_unopened : (old new : D) (sink : K) (size : ℕ) (image : Image) (first : Slots)
+      (o : Opening) (script : List ℕ) (stop : Stop) → is_within (Some stop) ≡ false
+      → OpenDone m old new size image first o (Err stop)
+      → ScriptDone m n old new sink sink size image first o script (Err stop)
+  script_unopened old new sink size image first o script stop out opened = record {
+    texts = [];
+    rest = lines script;
+    front = refl;
+    turns = [];
+    are_lines = tt;
+    all_met = tt;
+    meets = meets_nothing (has_room first) o stop out;
+    ok = tt;
+    legal = tt;
+    closes = tt;
+    printed = printed_nothing n sink;
+    whole = λ other. whole_nothing n sink;
+    crash = opened.crash;
+    exit = λ c left. record { some = opened.exit c left; all = omega arith };
+    again = opened.again;
+    begun = opened.begun;
+    are_first = opened.are_first;
+    writes = let writes = opened.writes in omega arith;
+  }
+
+  -- it was opened, and the lines were obeyed as far as they were
+  module _ (old mid lined : D) (work : Work) (before after : K) (size : ℕ) (page : PAGE ≡ size)
+      (image : Image) (first : Slots) (o : Opening) (script : List ℕ) (store : Store)
+      (opened : OpenDone m old mid size image first o (Ok store)) where
+    -- what a crash leaves until the disk is opened
+    opening_leaves : (turns : List Turn)
+        → LeavesOnly m old mid (HoldsSome size o (asked (after_turns turns)))
+    opening_leaves turns = leaves_as m old mid (HoldsSome size o [])
+        (HoldsSome size o (asked (after_turns turns)))
+        (λ c some. some_asked_longer size o [] (entries_of turns) c some) opened.crash
+
+    -- and after that, whatever is asked
+    of_some : (h : Entries) (c : Image) → LeavesSome o h c → HoldsSome size o h c
+    of_some h c leaves =
+        subst (λ (s : ℕ). HoldsSome s o h c) page leaves.some
+
+    of_known : (h : Entries) (c : Image) → LeavesSome o h c → IsKnownAgain size image c
+    of_known h c leaves = λ known.
+        subst (λ (s : ℕ). IsKnown (Some s) c) page leaves.known
+
+    of_all : (g h : Entries) (c : Image) → LeavesAll o g h c → HoldsAll size o g h c
+    of_all g h c leaves = subst (λ (s : ℕ). HoldsAll s o g h c) page leaves.all
+
+    lines_leave : (turns : List Turn)
+        → LeavesOnly m mid lined (LeavesSome o (asked (after_turns turns)))
+        → LeavesOnly m old lined (HoldsSome size o (asked (after_turns turns)))
+    lines_leave turns run = joined m old mid lined (HoldsSome size o (asked (after_turns turns)))
+        (opening_leaves turns)
+        (leaves_as m mid lined (LeavesSome o (asked (after_turns turns)))
+        (HoldsSome size o (asked (after_turns turns))) (of_some (asked (after_turns turns))) run)
+
+    lines_known : (turns : List Turn)
+        → LeavesOnly m mid lined (LeavesSome o (asked (after_turns turns)))
+        → LeavesOnly m old lined (IsKnownAgain size image)
+    lines_known turns run = joined m old mid lined (IsKnownAgain size image) opened.again
+        (leaves_as m mid lined (LeavesSome o (asked (after_turns turns)))
+        (IsKnownAgain size image) (of_known (asked (after_turns turns))) run)
+
+    -- a line ended the run
+    pub script_stopped : (stop : Stop)
+        → LinesDone m n mid lined work before after opened.entered first o script (Err stop)
+        → ScriptDone m n old lined before after size image first o script (Err stop)
+    script_stopped stop done = record {
+      texts = done.texts;
+      rest = done.rest;
+      front = done.front;
+      turns = done.turns;
+      are_lines = done.are_lines;
+      all_met = tt;
+      meets = done.meets;
+      ok = tt;
+      legal = done.legal;
+      closes = tt;
+      printed = done.printed;
+      whole = done.whole;
+      crash = lines_leave done.turns done.crash;
+      exit = λ c left. of_all (after_turns done.turns) (asked (after_turns done.turns)) c
+          (done.exit c left);
+      again = lines_known done.turns done.crash;
+      begun = opened.begun;
+      are_first = opened.are_first;
+      writes = let start = opened.writes in let next = done.writes in omega arith;
+    }
+
+    -- all were obeyed, and the work was closed, or that failed
+    module _ (closed : D) (all : Bool)
+        (done : LinesDone m n mid lined work before after opened.entered first o script (Ok all))
+        {T E : Type 0} (close : Result T E)
+        (ends : CloseDone m lined closed o (after_turns done.turns) close) where
+      closed_leaves : LeavesOnly m old closed (HoldsSome size o (asked (after_turns done.turns)))
+      closed_leaves = joined m old lined closed (HoldsSome size o (asked (after_turns done.turns)))
+          (lines_leave done.turns done.crash)
+          (leaves_as m lined closed (LeavesSome o (after_turns done.turns))
+          (HoldsSome size o (asked (after_turns done.turns)))
+          (λ c leaves. some_asked size o (after_turns done.turns) c
+          (of_some (after_turns done.turns) c leaves)) ends.crash)
+
+      closed_known : LeavesOnly m old closed (IsKnownAgain size image)
+      closed_known = joined m old lined closed (IsKnownAgain size image)
+          (lines_known done.turns done.crash)
+          (leaves_as m lined closed (LeavesSome o (after_turns done.turns))
+          (IsKnownAgain size image) (of_known (after_turns done.turns)) ends.crash)
+
+      asked_all : (c : Image) → HoldsAll size o (after_turns done.turns) (after_turns done.turns) c
+          → HoldsAll size o (after_turns done.turns) (asked (after_turns done.turns)) c
+      asked_all c holds = record {
+        some = record {
+          k = holds.some.k;
+          within = let most = holds.some.within in
+              let grows = asked_counts (after_turns done.turns) in omega arith;
+          holds = holds_asked size o (after_turns done.turns) holds.some.k c holds.some.within
+              holds.some.holds;
+        };
+        all = holds.all;
+      }
+
+      closed_exit : (c : Image) → MayLeave m closed c
+          → HoldsAll size o (after_turns done.turns) (asked (after_turns done.turns)) c
+      closed_exit c left = asked_all c
+          (of_all (after_turns done.turns) (after_turns done.turns) c (ends.exit c left))
+
+      pub script_closed : ScriptDone m n old closed before after size image first o script (Ok all)
+      script_closed = record {
+        texts = done.texts;
+        rest = done.rest;
+        front = done.front;
+        turns = done.turns;
+        are_lines = done.are_lines;
+        all_met = done.all_met;
+        meets = done.meets;
+        ok = done.ok;
+        legal = done.legal;
+        closes = ends.legal;
+        printed = done.printed;
+        whole = done.whole;
+        crash = closed_leaves;
+        exit = closed_exit;
+        again = closed_known;
+        begun = opened.begun;
+        are_first = opened.are_first;
+        writes = let start = opened.writes in let next = done.writes in
+            let last = ends.writes in omega arith;
+      }
+
+      pub script_unclosed : (stop : Stop) → is_within (Some stop) ≡ false
+          → ScriptDone m n old closed before after size image first o script (Err stop)
+      script_unclosed stop out = record {
+        texts = done.texts;
+        rest = done.rest;
+        front = done.front;
+        turns = done.turns;
+        are_lines = done.are_lines;
+        all_met = tt;
+        meets = subst (λ (within : Bool). Meets (has_room first) o within done.turns) (sym out)
+            done.meets;
+        ok = tt;
+        legal = done.legal;
+        closes = tt;
+        printed = done.printed;
+        whole = λ other. done.whole (λ is. is);
+        crash = closed_leaves;
+        exit = closed_exit;
+        again = closed_known;
+        begun = opened.begun;
+        are_first = opened.are_first;
+        writes = let start = opened.writes in let next = done.writes in
+            let last = ends.writes in omega arith;
+      }
+
+  -- ---- what the program promises
+
+  -- the script could not be read, and the disk was not asked
+  pub headline_unread : (size : ℕ) (image : Image) (first : Slots) (o : Opening)
+      (script : List ℕ) (disk : D) (before after : K) (stop : Stop) (status : ℕ)
+      → is_within (Some stop) ≡ false → IsEntry m disk size image first o
+      → IsPrinted n before after (fault_line (Some stop)) → status ≡ (status_of stop).0
+      → Counted m n size image first o script disk disk before after status
+  headline_unread size image first o script disk before after stop status out entry printed is =
+      record {
+        line = record {
+          texts = [];
+          rest = lines script;
+          front = refl;
+          turns = [];
+          are_lines = tt;
+          stop = Some stop;
+          all_met = λ none. absurd cc;
+          meets = meets_nothing (has_room first) o stop out;
+          legal = tt;
+          closes = λ none. absurd cc;
+          printed = printed;
+          ends = is;
+          crash = started m disk (HoldsSome size o [])
+              (entry_leaves m disk size image first o entry);
+          exit = λ c left. record {
+            some = entry_leaves m disk size image first o entry c left;
+            all = omega arith;
+          };
+          again = started m disk (IsKnownAgain size image)
+              (entry_known m disk size image first o entry);
+        };
+        sized = entry.sized;
+        begun = 0;
+        are_first = record { most = omega arith; of_form = λ form. refl };
+        writes = omega arith;
+      }
+
+  pub headline_done : (size : ℕ) (image : Image) (first : Slots) (o : Opening) (script : List ℕ)
+      (old new : D) (before after : K) (ok : Bool) (status : ℕ) → m.size new ≡ Some size
+      → ScriptDone m n old new before after size image first o script (Ok ok)
+      → status ≡ ending ok
+      → Counted m n size image first o script old new before after status
+  headline_done size image first o script old new before after ok status sized done is = record {
+    line = record {
+      texts = done.texts;
+      rest = done.rest;
+      front = done.front;
+      turns = done.turns;
+      are_lines = done.are_lines;
+      stop = None;
+      all_met = λ none. done.all_met;
+      meets = done.meets;
+      legal = done.legal;
+      closes = λ none. done.closes;
+      printed = rw (append-nil (transcript 1 done.turns)) done.printed;
+      ends = is ∙ ap ending done.ok;
+      crash = done.crash;
+      exit = done.exit;
+      again = done.again;
+    };
+    sized = sized;
+    begun = done.begun;
+    are_first = done.are_first;
+    writes = done.writes;
+  }
+
+  pub headline_stopped : (size : ℕ) (image : Image) (first : Slots) (o : Opening)
+      (script : List ℕ) (old new : D) (before middle after : K) (stop : Stop) (status : ℕ)
+      → m.size new ≡ Some size
+      → ScriptDone m n old new before middle size image first o script (Err stop)
+      → n.faults middle ≤ n.faults after → IsPrinted n middle after (fault_line (Some stop))
+      → status ≡ (status_of stop).0
+      → Counted m n size image first o script old new before after status
+  headline_stopped size image first o script old new before middle after stop status sized done
+      grows line is = record {
+        line = record {
+          texts = done.texts;
+          rest = done.rest;
+          front = done.front;
+          turns = done.turns;
+          are_lines = done.are_lines;
+          stop = Some stop;
+          all_met = λ none. absurd cc;
+          meets = done.meets;
+          legal = done.legal;
+          closes = λ none. absurd cc;
+          printed = printed_stopped n before middle after (transcript 1 done.turns) stop
+              done.printed done.whole grows line;
+          ends = is;
+          crash = done.crash;
+          exit = done.exit;
+          again = done.again;
+        };
+        sized = sized;
+        begun = done.begun;
+        are_first = done.are_first;
+        writes = done.writes;
+      }

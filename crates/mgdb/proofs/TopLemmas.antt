@@ -6,38 +6,67 @@ use Rattle.mg_base.specs.Disk.{MayLeave, Meaning, Rose}
 use Rattle.mg_base.specs.Image.{Image}
 use Rattle.mg_base.specs.Moments.{LeavesOnly}
 use Rattle.mg_base.specs.Streams.{SinkMeaning, SourceMeaning}
+use Rattle.mg_kv.specs.Slots.{Slots}
+use Rattle.mg_lines.specs.Given.{after_turns, entries_of}
 use Rattle.mg_model.specs.declared.opening.Opening.{Opening}
+use Rattle.mg_store.specs.Crashes.{HoldsAll, HoldsSome, asked}
+use Rattle.mg_store.specs.Fresh.{IsKnown}
+use Rattle.mgdb.specs.Causes.{DiskCauses, IsUnwritten, IsWhole, ScriptCauses, StreamCauses}
+use Rattle.mgdb.specs.Headline.{AreFirstWrites, Headline, IsEntry, IsKnownAgain, LAST_WRITES, writes_of}
 use Rattle.mgdb.specs.Stopped.{IsUnused, inner_of, stopped_meaning}
-use Rattle.mgdb.specs.declared.stopped.Stopped.{Stopped}
-use Rattle.mgdb.specs.Causes.{DiskCauses, IsWhole, ScriptCauses, StreamCauses}
-use Rattle.mgdb.specs.Crashes.{HoldsAll, HoldsSome, asked}
-use Rattle.mgdb.specs.ScriptHistory.{onto}
-use Rattle.mgdb.specs.Headline.{Headline, IsEntry, NEW_WRITES, writes_of}
-use Rattle.mgdb.specs.Top.{IsPast, Promise, ShelfCauses}
+use Rattle.mgdb.specs.Top.{HoldsAsBefore, IsPast, Promise, ShelfCauses}
 use Rattle.mgdb.specs.Words.{IsRun}
+use Rattle.mgdb.specs.declared.stopped.Stopped.{Stopped}
+
+-- what was not written was not written behind it
+unwritten_of_stopped : {D : Type 0} (m : Meaning D) (first result : D) (old new : Stopped D)
+    → inner_of old ≡ first → result ≡ inner_of new → IsUnwritten (stopped_meaning m) old new
+    → HoldsAsBefore m first result
+unwritten_of_stopped m first result old new was is unwritten = rw (← was, is) (record {
+  held = unwritten.held;
+  crash = unwritten.crash;
+})
+
+-- a run without `--stop`
+pub shelf_of_run : {D : Type 0} (m : Meaning D) (stopped : Type 0) (old new : D) (status : ℕ)
+    → DiskCauses m old new status → ShelfCauses m stopped old new status
+shelf_of_run m stopped old new status causes = record {
+  failed = λ three. inl (causes.failed three);
+  unknown = causes.unknown;
+  known = causes.known;
+  unwritten = λ four. let unwritten = causes.unwritten four in
+      record { held = unwritten.held; crash = unwritten.crash };
+}
 
 pub shelf_of_stopped : {D : Type 0} (m : Meaning D) (stopped : Type 0) (first result : D) (old new : Stopped D) (status : ℕ) → inner_of old ≡ first → result ≡ inner_of new → stopped
     → DiskCauses (stopped_meaning m) old new status → ShelfCauses m stopped first result status
 shelf_of_stopped m stopped first result old new status was is given causes =
-    rw (← was, is) (record { failed = λ three. inr given; unknown = causes.unknown; fresh = causes.fresh })
+    rw (← was, is) (record {
+      failed = λ three. inr given;
+      unknown = causes.unknown;
+      known = causes.known;
+      unwritten = λ four. unwritten_of_stopped m (inner_of old) (inner_of new) old new refl refl
+          (causes.unwritten four);
+    })
 
 -- ---- the headline, of a disk of a stopped run
 
 -- a disk of a stopped run is entered as the disk itself is
 pub entry_of_stopped : {D : Type 0} (m : Meaning D) (first : D) (old : Stopped D) (size : ℕ)
-    (o : Opening) → inner_of old ≡ first → IsEntry m first size o
-    → IsEntry (stopped_meaning m) old size o
-entry_of_stopped {D} m first old size o was entry =
-    from (subst (λ (d : D). IsEntry m d size o) (sym was) entry)
+    (image : Image) (slots : Slots) (o : Opening) → inner_of old ≡ first
+    → IsEntry m first size image slots o → IsEntry (stopped_meaning m) old size image slots o
+entry_of_stopped {D} m first old size image slots o was entry =
+    from (subst (λ (d : D). IsEntry m d size image slots o) (sym was) entry)
   where
-    from : IsEntry m (inner_of old) size o → IsEntry (stopped_meaning m) old size o
+    from : IsEntry m (inner_of old) size image slots o
+        → IsEntry (stopped_meaning m) old size image slots o
     from e = record {
       told = e.told;
       sized = e.sized;
-      image = e.image;
       held = e.held;
       settled = e.settled;
       opening = e.opening;
+      cells = e.cells;
     }
 
 -- what a crash leaves of it, it leaves of the disk itself
@@ -57,28 +86,31 @@ exit_of_stopped m result new P is exit = rw is exit
 
 -- and what is promised of it is promised of the disk itself
 abbrev pub line_of_stopped : {D K : Type 0} (m : Meaning D) (n : SinkMeaning K) (size : ℕ)
-    (o : Opening) (script : List ℕ) (first result : D) (old new : Stopped D) (before after : K)
-    (status : ℕ) → inner_of old ≡ first → result ≡ inner_of new
-    → Headline (stopped_meaning m) n size o script old new before after status
-    → Headline m n size o script first result before after status
-line_of_stopped m n size o script first result old new before after status was is line = record {
-  texts = line.texts;
-  rest = line.rest;
-  front = line.front;
-  met = line.met;
-  are_lines = line.are_lines;
-  stop = line.stop;
-  all_met = line.all_met;
-  entries = line.entries;
-  meets = line.meets;
-  legal = line.legal;
-  printed = line.printed;
-  ends = line.ends;
-  crash = leaves_of_stopped m first result old new
-      (HoldsSome size o (asked (onto [] line.entries))) was is line.crash;
-  exit = exit_of_stopped m result new
-      (HoldsAll size o (onto [] line.entries) (asked (onto [] line.entries))) is line.exit;
-}
+    (image : Image) (slots : Slots) (o : Opening) (script : List ℕ) (first result : D)
+    (old new : Stopped D) (before after : K) (status : ℕ) → inner_of old ≡ first
+    → result ≡ inner_of new
+    → Headline (stopped_meaning m) n size image slots o script old new before after status
+    → Headline m n size image slots o script first result before after status
+line_of_stopped m n size image slots o script first result old new before after status was is line =
+    record {
+      texts = line.texts;
+      rest = line.rest;
+      front = line.front;
+      turns = line.turns;
+      are_lines = line.are_lines;
+      stop = line.stop;
+      all_met = line.all_met;
+      meets = line.meets;
+      legal = line.legal;
+      closes = line.closes;
+      printed = line.printed;
+      ends = line.ends;
+      crash = leaves_of_stopped m first result old new
+          (HoldsSome size o (asked (after_turns line.turns))) was is line.crash;
+      exit = exit_of_stopped m result new
+          (HoldsAll size o (after_turns line.turns) (asked (after_turns line.turns))) is line.exit;
+      again = leaves_of_stopped m first result old new (IsKnownAgain size image) was is line.again;
+    }
 
 -- it failed where the disk itself did, or where more page writes were asked for than may pass
 pub past_of_stopped : {D : Type 0} (m : Meaning D) (first result : D) (old new : Stopped D)
@@ -101,6 +133,16 @@ past_of_stopped m first result old new most asked was is unused small writes ros
         let b = unused.blown in let p = unused.passed in let l = unused.limit in
         inr (omega (arith, some, spent, b, p, l, small, writes))
 
+-- 4 comes of no image that the program knows, whose pages keep their size
+pub unknown_at : {D : Type 0} (m : Meaning D) (old new : D) (size : ℕ) (image : Image)
+    (slots : Slots) (o : Opening) (status : ℕ) → IsEntry m old size image slots o
+    → m.size new ≡ Some size
+    → (status ≡ 4 → (held : Image) → m.held old ≡ Some held → IsKnown (m.size new) held → ⊥)
+    → status ≡ 4 → IsKnown (Some size) image → ⊥
+unknown_at m old new size image slots o status entry sized unknown four known =
+    unknown four image entry.held
+    (subst (λ (s : Option ℕ). IsKnown s image) (sym sized) known)
+
 -- what is none of the causes is the end of the script, or want of memory
 by_causes : (status : ℕ) → status < 8 → status ≢ 2 → (status ≡ 3 → ⊥) → (status ≡ 4 → ⊥)
     → (status ≡ 5 → ⊥) → (status ≡ 7 → ⊥) → IsWhole status ⊎ (status ≡ 6)
@@ -118,28 +160,31 @@ by_causes (suc (suc (suc (suc (suc (suc (suc (suc n)))))))) below no2 no3 no4 no
 
 -- the promise, from the headline and the causes
 pub promised : {D S K : Type 0} (m : Meaning D) (n : SourceMeaning S) (k : SinkMeaning K)
-    (stop : Option ℕ) (stopped : Type 0) (size : ℕ) (o : Opening) (script : List ℕ) (old new : D)
-    (source source' : S) (sink sink' : K) (status : ℕ)
-    (line : Headline m k size o script old new sink sink' status)
+    (stop : Option ℕ) (size : ℕ) (image : Image) (slots : Slots) (o : Opening) (script : List ℕ) (old new : D) (source source' : S) (sink sink' : K) (status : ℕ)
+    (line : Headline m k size image slots o script old new sink sink' status) (begun : ℕ)
+    → AreFirstWrites size image begun
     → (status ≡ 3 → Rose (m.faults old) (m.faults new)
-    ⊎ IsPast stop (NEW_WRITES + writes_of line.entries))
+    ⊎ IsPast stop (begun + writes_of (entries_of line.turns) + LAST_WRITES))
+    → (status ≡ 4 → IsKnown (Some size) image → ⊥)
     → n.left source ≡ Some script → (status < 8) × (status ≢ 2)
-    → ShelfCauses m stopped old new status → StreamCauses n k source source' sink sink' status
-    → ScriptCauses n source status
-    → Promise m n k stop size o script old new source source' sink sink' status
-promised m n k stop stopped size o script old new source source' sink sink' status line failed left
-    range disk streams texts = record {
+    → StreamCauses n k source source' sink sink' status → ScriptCauses n source status
+    → Promise m n k stop size image slots o script old new source source' sink sink' status
+promised m n k stop size image slots o script old new source source' sink sink' status line
+    begun first failed known left range streams texts = record {
       line = line;
+      begun = begun;
+      are_first = first;
       failed = failed;
-      complete = λ image held fresh short disk_ok source_ok sink_ok passes.
+      complete = λ is_known short disk_ok source_ok sink_ok passes.
           by_causes status range.0 range.1 (λ is. neither (failed is) disk_ok passes)
-          (λ is. disk.unknown is image held fresh) (λ is. stream (streams.failed is) source_ok sink_ok)
+          (λ is. known is is_known) (λ is. stream (streams.failed is) source_ok sink_ok)
           (λ is. let long = texts.too_long is script left in absurd (omega (arith, long, short)));
     }
   where
-    neither : Rose (m.faults old) (m.faults new) ⊎ IsPast stop (NEW_WRITES + writes_of line.entries)
+    neither : Rose (m.faults old) (m.faults new)
+        ⊎ IsPast stop (begun + writes_of (entries_of line.turns) + LAST_WRITES)
         → (Rose (m.faults old) (m.faults new) → ⊥)
-        → (IsPast stop (NEW_WRITES + writes_of line.entries) → ⊥) → ⊥
+        → (IsPast stop (begun + writes_of (entries_of line.turns) + LAST_WRITES) → ⊥) → ⊥
     neither (inl rose) disk_ok passes = disk_ok rose
     neither (inr past) disk_ok passes = passes past
 

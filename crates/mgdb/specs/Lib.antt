@@ -1,14 +1,8 @@
 pub mod Causes
-pub mod Crashes
-pub mod Fresh
 pub mod Headline
-pub mod Script
-pub mod ScriptHistory
-pub mod Serial
-pub mod SerialScenarios
-pub mod Serving
+pub mod Opening
 pub mod Stopped
 pub mod Stops
 pub mod Top
-pub mod Transcript
 pub mod Words
+pub mod Working

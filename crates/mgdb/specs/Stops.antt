@@ -2,6 +2,8 @@
 use Rattle.std.specs.Prelude.{◌≡◌, ◌≤◌, Result, OnOk, IsErrAnd, Bool, true, false, Option, None, Some, Ok, Err}
 use Rattle.mg_base.specs.Disk.{Meaning, Stays, Rose}
 use Rattle.mg_base.specs.Streams.{SourceMeaning, SinkMeaning}
+use Rattle.mg_model.specs.declared.refusal.Refusal.{Refusal}
+use Rattle.mg_model.specs.declared.refusal.Refusal.TheVariants.{DiskWrite as DiskWriteRefusal, Memory as MemoryRefusal}
 use Rattle.mgdb.specs.declared.status.Status.{Status}
 use Rattle.mgdb.specs.declared.status.Place.TheVariants as places
 use Rattle.mgdb.specs.declared.status.Stop.{Stop}
@@ -21,11 +23,11 @@ abbrev pub is_within : Option Stop → Bool
 is_within None = false
 is_within (Some (DiskRead place)) = false
 is_within (Some (DiskWrite places.Run)) = false
-is_within (Some (DiskWrite places.Put)) = true
+is_within (Some (DiskWrite places.Line)) = true
 is_within (Some UnknownImage) = false
 is_within (Some Stream) = false
 is_within (Some (Memory places.Run)) = false
-is_within (Some (Memory places.Put)) = true
+is_within (Some (Memory places.Line)) = true
 is_within (Some ScriptTooLong) = false
 
 -- the fault that stopped a call, if one did
@@ -42,38 +44,45 @@ IsDiskFault Stream = ⊥
 IsDiskFault (Memory place) = ⊥
 IsDiskFault ScriptTooLong = ⊥
 
--- the disk could not be read, or is not fresh
+-- the disk could not be read or written, memory ran out, or the program doesn't open what it holds
 abbrev pub IsOpeningStop : Stop → Type 0
 IsOpeningStop (DiskRead place) = Unit {0}
-IsOpeningStop (DiskWrite place) = ⊥
+IsOpeningStop (DiskWrite places.Run) = Unit {0}
+IsOpeningStop (DiskWrite places.Line) = ⊥
 IsOpeningStop UnknownImage = Unit {0}
 IsOpeningStop Stream = ⊥
-IsOpeningStop (Memory place) = ⊥
+IsOpeningStop (Memory places.Run) = Unit {0}
+IsOpeningStop (Memory places.Line) = ⊥
 IsOpeningStop ScriptTooLong = ⊥
 
--- outside the lines the disk could not be written, or memory ran out
-abbrev pub IsWritingStop : Stop → Type 0
-IsWritingStop (DiskRead place) = ⊥
-IsWritingStop (DiskWrite places.Run) = Unit {0}
-IsWritingStop (DiskWrite places.Put) = ⊥
-IsWritingStop UnknownImage = ⊥
-IsWritingStop Stream = ⊥
-IsWritingStop (Memory places.Run) = Unit {0}
-IsWritingStop (Memory places.Put) = ⊥
-IsWritingStop ScriptTooLong = ⊥
+-- within a line the disk could not be written, or memory ran out
+abbrev pub IsLineStop : Stop → Type 0
+IsLineStop (DiskRead place) = ⊥
+IsLineStop (DiskWrite places.Run) = ⊥
+IsLineStop (DiskWrite places.Line) = Unit {0}
+IsLineStop UnknownImage = ⊥
+IsLineStop Stream = ⊥
+IsLineStop (Memory places.Run) = ⊥
+IsLineStop (Memory places.Line) = Unit {0}
+IsLineStop ScriptTooLong = ⊥
+
+-- the refusal of the event that such a fault ended
+abbrev pub refusal_for : Stop → Refusal
+refusal_for (DiskWrite place) = DiskWriteRefusal 1
+refusal_for stop = MemoryRefusal
 
 -- within a line the disk could not be written, or memory ran out; or the sink failed
 abbrev pub IsObeyingStop : Stop → Type 0
 IsObeyingStop (DiskRead place) = ⊥
 IsObeyingStop (DiskWrite places.Run) = ⊥
-IsObeyingStop (DiskWrite places.Put) = Unit {0}
+IsObeyingStop (DiskWrite places.Line) = Unit {0}
 IsObeyingStop UnknownImage = ⊥
 IsObeyingStop Stream = Unit {0}
 IsObeyingStop (Memory places.Run) = ⊥
-IsObeyingStop (Memory places.Put) = Unit {0}
+IsObeyingStop (Memory places.Line) = Unit {0}
 IsObeyingStop ScriptTooLong = ⊥
 
--- any of these, or the disk could not be read or is not fresh
+-- any of these, or what stops the opening of a disk
 abbrev pub IsDiskOrSinkStop : Stop → Type 0
 IsDiskOrSinkStop (DiskRead place) = Unit {0}
 IsDiskOrSinkStop (DiskWrite place) = Unit {0}
@@ -98,7 +107,7 @@ IsReadingStop (DiskWrite place) = ⊥
 IsReadingStop UnknownImage = ⊥
 IsReadingStop Stream = Unit {0}
 IsReadingStop (Memory places.Run) = Unit {0}
-IsReadingStop (Memory places.Put) = ⊥
+IsReadingStop (Memory places.Line) = ⊥
 IsReadingStop ScriptTooLong = Unit {0}
 
 -- a source or a sink failed

@@ -1,34 +1,29 @@
-//! The program: `mgdb run FILE` obeys a script of lines `@put K V` on one file of pages.
+//! The program: `mgdb run FILE` obeys a script of lines of up to 16 sessions on one file of pages.
 //!
-//! Owns: the words of a command line, the script and its lines, the transcript, the statuses and the
-//! fault lines, the history of a script, and the order of page writes in a put.
+//! Owns: the words of a command line, the script as it comes from the source, which files are opened,
+//! what a line does to the disk, the statuses and the fault lines, and what is promised of a run.
 //!
-//! Invariant: between two puts the pages on the disk are a sound database that holds what the history
-//! has, and the program keeps those that change as they are there (`specs/Serving`).
-//! Below: `mg_base` for the outside; `mg_first` for the pages and the rows on them; `mg_model` for
-//! histories and `mg_image` for what pages hold, which the promise cites.
-//! Not here: what a page of any kind means.
+//! Invariant: between two lines the pages in memory stand for the history of the lines so far
+//! (`Work`), and the disk holds what outlasts a crash of it.
+//! Below: `mg_base` for the outside; `mg_opening` for the test of an image; `mg_store` for the pages
+//! on the disk; `mg_session` for what a line does in memory; `mg_lines` for the lines, their history
+//! and their texts.
+//! Not here: what a page of any kind means, and the order of page writes.
 #![tactic(auto)]
 
-mod answer;
-mod fresh;
-mod kv;
 mod laws;
-mod number;
-mod page_writes;
+mod open;
 mod run;
-mod script;
 mod script_source;
-mod serial;
 mod status;
 mod stopped;
 mod top;
 mod words;
+mod work;
 
-pub use laws::blank_disks_are_entries;
+pub use laws::{blank_disks_are_entries, known_images_are_entries};
 use mg_base::{FileDisk, StdSink, StdSource};
 pub use run::run;
-pub use serial::puts_in_turn;
 pub use status::Status;
 use std::alloc::AllocError;
 use std::env;

@@ -1,9 +1,10 @@
 //! How a run ends: its status, and the line that says why.
 
-ghost use Rattle.std.specs.Prelude.{◌≡◌, ◌∷◌, ◌++◌, [], Some, codes};
+ghost use Rattle.std.specs.Prelude.{◌≡◌, Some};
 ghost use Rattle.mgdb.specs.Headline.{fault_line};
-ghost use Rattle.mgdb.specs.Serving.{IsPutStop, stop_text};
-ghost use Rattle.mgdb.specs.Stops.{status_of};
+ghost use Rattle.mgdb.specs.Stops.{refusal_for, status_of};
+
+use mg_model::Refusal;
 
 /// The status of the program.
 #[derive(Clone, Copy, Debug, PartialEq, Eq)]
@@ -33,8 +34,8 @@ impl Status {
 pub enum Place {
     /// Outside a line of the script.
     Run,
-    /// Within a line `@put`.
-    Put,
+    /// Within a line of the script.
+    Line,
 }
 
 /// Why a run stops before its end.
@@ -44,7 +45,7 @@ pub enum Stop {
     DiskRead(Place),
     /// A page could not be written, or the disk could not be settled.
     DiskWrite(Place),
-    /// The disk is not fresh.
+    /// The disk is neither fresh nor of the first form.
     UnknownImage,
     /// The source failed, or the sink did.
     Stream,
@@ -77,21 +78,20 @@ impl Stop {
             Stop::UnknownImage => b"mgdb: UNKNOWN IMAGE\n",
             Stop::Memory(Place::Run) => b"mgdb: OUT OF MEMORY\n",
             Stop::ScriptTooLong => b"mgdb: SCRIPT TOO LONG\n",
-            Stop::DiskRead(Place::Put)
-            | Stop::DiskWrite(Place::Put)
-            | Stop::Memory(Place::Put)
+            Stop::DiskRead(Place::Line)
+            | Stop::DiskWrite(Place::Line)
+            | Stop::Memory(Place::Line)
             | Stop::Stream => b"",
         }
     }
 
-    /// What a line `@put` prints that this fault ended.
-    pub fn put_line(self) -> &'static [u8]
-        requires { IsPutStop self }
-        ensures { result.now ≡ codes "@put: " ++ stop_text self ++ 10 ∷ [] }
+    /// The refusal that the line prints within which this fault came.
+    pub fn refusal(self) -> Refusal
+        ensures { result ≡ refusal_for self }
     {
         match self {
-            Stop::DiskWrite(_) => b"@put: DISK WRITE FAULT\n",
-            _ => b"@put: OUT OF MEMORY\n",
+            Stop::DiskWrite(_) => Refusal::DiskWrite { faults: 1 },
+            _ => Refusal::Memory,
         }
     }
 }

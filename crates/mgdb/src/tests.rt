@@ -3,6 +3,7 @@
 mod crashes;
 mod limits;
 mod reading;
+mod scenarios;
 
 use super::*;
 use mg_base::{Disk, FaultyDisk, MemDisk, MemSink, MemSource, PageNo};
@@ -139,7 +140,7 @@ fn scripts_answer_line_by_line(rt: HostRuntime) -> Result<(), Fail> {
             "@put: OK TX 1\n@put: OK TX 2\n",
             13,
         ),
-        (b"@get 1\n", 1, "line 1: BAD LINE\n", 7),
+        (b"@got 1\n", 1, "line 1: BAD LINE\n", 7),
         (b"-- a comment\n\n--\n@put 1 1\n", 0, "@put: OK TX 1\n", 10),
         (b"\n\r\n@put x 1\n", 1, "line 3: BAD LINE\n", 7),
         (
@@ -221,15 +222,25 @@ fn words_outside_the_grammar_are_told_the_usage(rt: HostRuntime) -> Result<(), F
 }
 
 #[test]
-fn a_disk_that_is_not_fresh_is_not_written(rt: HostRuntime) -> Result<(), Fail> {
+fn a_disk_of_another_page_size_is_unknown(rt: HostRuntime) -> Result<(), Fail> {
+    let disk = MemDisk::new(rt.alloc(), 1024, 8, 400)?;
+    let made = call(&rt, "run db", disk, b"@put 1 1\n")?;
+    assert_eq!(rt; made.printed.as_str(), "mgdb: UNKNOWN IMAGE\n");
+    assert_eq!(rt; made.status, 4);
+    assert_eq!(rt; made.disk.writes(), 0);
+    Ok(())
+}
+
+#[test]
+fn a_database_is_opened_again(rt: HostRuntime) -> Result<(), Fail> {
     let first = call(&rt, "run db", blank(&rt)?, b"@put 1 10\n@put 1 20\n")?;
-    let second = call(&rt, "run db", first.disk, b"@put 1 30\n")?;
-    let other_size = call(&rt, "run db", MemDisk::new(rt.alloc(), 1024, 8, 400)?, b"")?;
-    for (at, (made, writes)) in [(second, 13), (other_size, 0)].iter().enumerate() {
-        assert_eq!(rt; made.printed.as_str(), "mgdb: UNKNOWN IMAGE\n", "case {at}");
-        assert_eq!(rt; made.status, 4, "case {at}");
-        assert_eq!(rt; made.disk.writes(), *writes, "case {at}");
-    }
+    let second = call(&rt, "run db", first.disk, b"@get 1\n@put 1 30\n")?;
+    assert_eq!(rt; second.printed.as_str(), "@get: 20\n@put: OK TX 4\n");
+    assert_eq!(rt; second.status, 0);
+    // A reader writes the header and the bits.
+    assert_eq!(rt; second.disk.writes(), 13 + 2 + 3);
+    let third = call(&rt, "run db", second.disk, b"@get 1\n")?;
+    assert_eq!(rt; third.printed.as_str(), "@get: 30\n");
     Ok(())
 }
 

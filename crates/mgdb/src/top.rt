@@ -1,6 +1,8 @@
 //! The top call: the whole program, over any disk and any streams.
 
 ghost use Rattle.std.specs.Prelude.{◌≡◌, ◌↔◌, ◌<◌, ℕ, List, Option, None, Some};
+ghost use Rattle.mg_base.specs.Image.{Image};
+ghost use Rattle.mg_kv.specs.Slots.{Slots};
 ghost use Rattle.mg_model.specs.declared.opening.Opening.{Opening};
 ghost use Rattle.mgdb.specs.Headline.{IsEntry};
 ghost use Rattle.mgdb.specs.Top.{IsStopped, Promise, ShelfCauses};
@@ -42,11 +44,12 @@ pub fn mgdb<R: AllocGlobal + Drop, D: Disk + Send + 'static, S: Source, K: Sink>
     ensures script { ScriptCauses S.meaning source.old result.0.0 }
     ensures not_asked { result.0.0 ≡ 7 → result.1.first ≡ shelf.first }
     ensures range { result.0.0 < 8 }
-    ensures headline { (stop : Option ℕ) (size : ℕ) (o : Opening) (script : List ℕ)
-        → IsRun (texts words.now) stop → IsEntry D.meaning shelf.first size o
+    ensures headline { (stop : Option ℕ) (size : ℕ) (image : Image) (first : Slots) (o : Opening)
+        (script : List ℕ) → IsRun (texts words.now) stop
+        → IsEntry D.meaning shelf.first size image first o
         → S.meaning.left source.old ≡ Some script
-        → Promise D.meaning S.meaning K.meaning stop size o script shelf.first result.1.first
-        source.old source.new sink.old sink.new result.0.0 }
+        → Promise D.meaning S.meaning K.meaning stop size image first o script shelf.first
+        result.1.first source.old source.new sink.old sink.new result.0.0 }
 {
     let Some(asked) = read_words(words) else {
         // A sink that fails at this line leaves the status as it is.

@@ -4,9 +4,9 @@ ghost use Rattle.std.specs.Prelude.{◌≡◌, ◌↔◌, ℕ, Option, MatchOpti
 ghost use Rattle.mg_base.specs.Geometry.{is_page_size};
 ghost use Rattle.mgdb.specs.Words.{texts, IsRun, IsPath};
 
-use crate::number;
 use mg_base::is_page_size;
 use mg_first::PAGE;
+use mg_lines::number;
 
 /// What a command line asks for: `run DB`, or `run DB --stop N`.
 #[derive(Clone, Copy, Debug, PartialEq, Eq)]
