@@ -194,8 +194,3 @@ module _ (pages : Pages) (fixed : HasFixedPages pages) (fronts : HasFronts pages
 
   pub sound_on_kv : IsSound plain_form PAGE pages kv_layout r
   sound_on_kv = subst (λ (l : Layout). IsSound plain_form PAGE pages l r) layout_is sound
-
-abbrev pub Scratch : Type 0
-Scratch = (pages : Pages) (fixed : HasFixedPages pages) (fronts : HasFronts pages)
-    (one : RowsAreOne plain_coding) (layout : Layout) (r : Reading)
-    (sound : IsSound plain_form PAGE pages layout r) → layout ≡ kv_layout
