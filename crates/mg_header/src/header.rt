@@ -38,6 +38,41 @@ pub const CATALOG_AT: usize = 52;
 /// Where the fields of the header end.
 pub const HEADER_END: usize = 56;
 
+// The numbers of the file format, written once more: a slip in one of them is refused.
+const _: () = prove!(HEADER_KIND == 1);
+
+const _: () = prove!(MAGIC == 0x4244_474d);
+
+const _: () = prove!(MAJOR == 1);
+
+const _: () = prove!(GREATEST_MINOR == 1);
+
+const _: () = prove!(GREATEST_NEXT == 1_000_000_000);
+
+const _: () = prove!(MAGIC_AT == 16);
+
+const _: () = prove!(MAJOR_AT == 20);
+
+const _: () = prove!(MINOR_AT == 22);
+
+const _: () = prove!(PAGE_SIZE_AT == 24);
+
+const _: () = prove!(NEXT_AT == 28);
+
+const _: () = prove!(OIT_AT == 32);
+
+const _: () = prove!(OAT_AT == 36);
+
+const _: () = prove!(OST_AT == 40);
+
+const _: () = prove!(LAST_TIP_AT == 44);
+
+const _: () = prove!(INTERVAL_AT == 48);
+
+const _: () = prove!(CATALOG_AT == 52);
+
+const _: () = prove!(HEADER_END == 56);
+
 /// What a header page says (Firebird ODS, header page).
 #[derive(Clone, Copy, Debug, PartialEq, Eq)]
 pub struct Header {

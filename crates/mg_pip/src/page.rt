@@ -11,6 +11,11 @@ pub const PIP_KIND: u8 = 2;
 /// Where the bits begin, eight to a byte.
 pub const BITS_AT: usize = 16;
 
+// The numbers of the file format, written once more: a slip in one of them is refused.
+const _: () = prove!(PIP_KIND == 2);
+
+const _: () = prove!(BITS_AT == 16);
+
 /// Makes `b` a page inventory page on which no bit is set.
 ///
 /// `seq` is the number of its region, counted from 0.

@@ -19,6 +19,19 @@ pub const ENTRIES_AT: usize = 24;
 /// The width of an entry.
 pub const ENTRY_LEN: usize = 4;
 
+// The numbers of the file format, written once more: a slip in one of them is refused.
+const _: () = prove!(POINTER_KIND == 4);
+
+const _: () = prove!(NEXT_AT == 16);
+
+const _: () = prove!(COUNT_AT == 20);
+
+const _: () = prove!(UNUSED_AT == 22);
+
+const _: () = prove!(ENTRIES_AT == 24);
+
+const _: () = prove!(ENTRY_LEN == 4);
+
 /// Makes `b` a pointer page without entries and without a next page.
 ///
 /// `owner` is the number of the first pointer page of the table, `seq` this page's place in their

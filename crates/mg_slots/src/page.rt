@@ -25,6 +25,16 @@ pub const LEAST_SIZE: usize = 1024;
 /// The greatest size of a page, in bytes.
 pub const GREATEST_SIZE: usize = 16384;
 
+// The numbers of the file format, written once more: a slip in one of them is refused.
+const _: () = prove!(DATA_KIND == 5);
+const _: () = prove!(COUNT_AT == 16);
+const _: () = prove!(LOW_AT == 18);
+const _: () = prove!(SLOTS_AT == 20);
+const _: () = prove!(SLOT_LEN == 4);
+const _: () = prove!(LEAST_TAKEN == 11);
+const _: () = prove!(LEAST_SIZE == 1024);
+const _: () = prove!(GREATEST_SIZE == 16_384);
+
 /// Makes `b` a data page without slots, with zero bytes behind its fields.
 ///
 /// `owner` is the number of the table's first pointer page, and `seq` the page's place among the

@@ -15,6 +15,13 @@ pub const PREV_AT: usize = 16;
 /// Where the states begin, four to a byte.
 pub const STATES_AT: usize = 20;
 
+// The numbers of the file format, written once more: a slip in one of them is refused.
+const _: () = prove!(TIP_KIND == 3);
+
+const _: () = prove!(PREV_AT == 16);
+
+const _: () = prove!(STATES_AT == 20);
+
 /// Makes `b` a transaction inventory page on which every state is Active.
 ///
 /// `seq` is its place in the chain, `prev` the page before it, 0 where it is the first.

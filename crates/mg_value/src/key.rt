@@ -39,6 +39,7 @@ impl Key {
         }
     }
 
+    /// The key as a value.
     pub fn value(&self) -> &Value
         ensures value { result.now ≡ self.now }
         ensures not_null { self.now ≢ Value.Null }

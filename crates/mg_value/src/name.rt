@@ -9,6 +9,9 @@ use std::marker::Model;
 /// A name has at most this many bytes.
 pub const MOST_NAME: usize = 31;
 
+// The limit, written once more: a slip in one of them is refused.
+const _: () = prove!(MOST_NAME == 31);
+
 /// The words of the grammar, which are no names.
 pub const RESERVED: [&[u8]; 43] = [
     b"SET",
@@ -164,6 +167,7 @@ impl Name {
         })
     }
 
+    /// Its bytes: a capital letter, then capitals, digits, `_` and `$`.
     pub fn as_slice(&self) -> &[u8]
         ensures bytes { result.now ≡ self.now }
         ensures named { IsName self.now }

@@ -30,6 +30,7 @@ impl Row {
         Row { values }
     }
 
+    /// Its values, one for each column, in the order of the columns.
     pub fn as_slice(&self) -> &[Value]
         ensures { result.now ≡ self.now }
     {

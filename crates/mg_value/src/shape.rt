@@ -17,6 +17,11 @@ pub const NUMBER_WIDTH: usize = 8;
 /// A value takes at most this many bytes in a row: 2 for the length of a text, and the text.
 pub const GREATEST_WIDTH: usize = 65_537;
 
+// The limits, written once more: a slip in one of them is refused.
+const _: () = prove!(MOST_COLUMNS == 64);
+
+const _: () = prove!(NUMBER_WIDTH == 8);
+
 /// The kind of a column.
 #[derive(Clone, Copy, Debug, PartialEq, Eq)]
 pub enum Kind {
@@ -72,6 +77,7 @@ impl Columns {
         Columns { items }
     }
 
+    /// The columns in their order.
     pub fn as_slice(&self) -> &[Column]
         ensures { result.now ≡ self.now }
     {

@@ -44,6 +44,7 @@ impl Txt {
         })
     }
 
+    /// Its bytes.
     pub fn as_slice(&self) -> &[u8]
         ensures { result.now ≡ self.now }
     {

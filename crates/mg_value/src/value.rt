@@ -15,6 +15,7 @@ pub enum Value {
 }
 
 impl Value {
+    /// Tells whether it is NULL.
     pub fn is_null(&self) -> bool
         ensures { IsTrue result ↔ (self.now ≡ Value.Null) }
     {

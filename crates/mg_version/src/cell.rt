@@ -35,6 +35,33 @@ pub const BACK_AT: usize = 8;
 /// Where the packed row stands behind a back pointer.
 pub const BODY_AFTER_BACK: usize = 18;
 
+// The numbers of the file format, written once more: a slip in one of them is refused.
+const _: () = prove!(ANCHOR == 1);
+
+const _: () = prove!(VERSION == 2);
+
+const _: () = prove!(DELETED == 1);
+
+const _: () = prove!(HAS_BACK == 2);
+
+const _: () = prove!(KIND_AT == 0);
+
+const _: () = prove!(NEWEST_AT == 1);
+
+const _: () = prove!(LINK_LEN == 10);
+
+const _: () = prove!(ANCHOR_LEN == 11);
+
+const _: () = prove!(FLAGS_AT == 1);
+
+const _: () = prove!(FORMAT_AT == 2);
+
+const _: () = prove!(TX_AT == 4);
+
+const _: () = prove!(BACK_AT == 8);
+
+const _: () = prove!(BODY_AFTER_BACK == 18);
+
 /// Leads to a version: the place of its cell, and the transaction that wrote it.
 #[derive(Clone, Copy, Debug, PartialEq, Eq)]
 pub struct Link {
