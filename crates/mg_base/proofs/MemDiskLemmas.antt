@@ -106,8 +106,9 @@ stored_write : (size size' : ℕ) (acts acts' : List Act) (n : ℕ) (bytes : Lis
 stored_write size size' acts acts' n bytes same whole is image held =
     rw (same, is, whole) (ap (λ (o : Option Image). option_map (λ i. written size i n bytes) o) held)
 
-pub writes_obeys : {T E : Type 0} (old new : MemDisk) (n : ℕ) (bytes : List ℕ) (done : T) → Obeys old new n bytes → length bytes ≡ old.size → Writes {T = T} {E = E} mem_meaning old new n bytes (Ok done)
-writes_obeys old new n bytes done obeys whole =
+pub writes_obeys : {T E : Type 0} (old new : MemDisk) (n : ℕ) (bytes : List ℕ) (done : T) → Obeys old new n bytes → length bytes ≡ old.size → new.asked ≤ old.asked + 1 → new.reads ≡ old.reads → new.were_read ≡ old.were_read
+    → Writes {T = T} {E = E} mem_meaning old new n bytes (Ok done)
+writes_obeys old new n bytes done obeys whole counted reads were_read =
     let acts : List Act = acts_in old in
     let acts' : List Act = acts_in new in
     let used = obeys.used in
@@ -117,11 +118,14 @@ writes_obeys old new n bytes done obeys whole =
       stored = stored_write old.size new.size acts acts' n bytes obeys.size whole obeys.acts;
       failed = tt;
       crash = λ told. crash_of_write old.size new.size acts acts' n bytes obeys.size obeys.acts;
+      failed_count = tt;
       untold = λ none. absurd cc;
-      asked = omega arith;
+      asked = counted;
+      unread = record { reads = reads; was_read = λ k. rw were_read refl };
       keeps = record {
         size = ap Some obeys.size;
         tells = refl;
+        most_writes = refl;
         time = λ told. record {
           later = later_write acts acts' n bytes obeys.acts;
           nothing_else = else_write old.size new.size acts acts' n bytes obeys.size obeys.acts;

@@ -23,6 +23,9 @@ file_meaning = record {
   left = λ d t c. ⊥;
   faults = λ d. d.faults;
   asked = λ d. 0;
+  reads = λ d. 0;
+  was_read = λ d n. false;
+  most_writes = λ d. None;
 }
 
 pub untold : false ≡ true → ⊥

@@ -1,5 +1,5 @@
 -- A disk behind a fuse.
-use Rattle.std.specs.Prelude.{◌≡◌, ℕ, ◌+◌}
+use Rattle.std.specs.Prelude.{◌≡◌, ℕ, ◌+◌, Some}
 use Rattle.mg_base.specs.Disk.{Meaning, Rose}
 use Rattle.mg_base.specs.declared.fused.Fused.{Fused}
 
@@ -17,7 +17,8 @@ passed_of d = d.passed
 abbrev pub blown_of : {D : Type 0} → Fused D → ℕ
 blown_of d = d.blown
 
--- It tells what the disk behind it tells. Its faults are those of both, and it counts the page writes that it was asked for.
+-- It tells what the disk behind it tells, and counts page reads as that does. Its faults are those of both. It counts the
+-- page writes that it was asked for, and tells how many pass.
 abbrev pub fused_meaning : {D : Type 0} → Meaning D → Meaning (Fused D)
 fused_meaning m = record {
   size = λ d. m.size d.inner;
@@ -28,6 +29,9 @@ fused_meaning m = record {
   left = λ d t c. m.left d.inner t c;
   faults = λ d. m.faults d.inner + d.blown;
   asked = λ d. d.passed + d.blown;
+  reads = λ d. m.reads d.inner;
+  was_read = λ d n. m.was_read d.inner n;
+  most_writes = λ d. Some d.most;
 }
 
 -- one page write more has passed

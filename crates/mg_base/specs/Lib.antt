@@ -1,4 +1,5 @@
 pub mod Acts
+pub mod Asking
 pub mod Calls
 pub mod Checks
 pub mod CheckLaws

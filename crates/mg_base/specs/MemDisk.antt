@@ -1,6 +1,6 @@
 -- What a disk in memory tells.
-use Rattle.std.specs.Prelude.{◌≡◌, ◌⊎◌, ◌≤◌, ◌+◌, ℕ, true, Some, length, take, max, List, ◌∷◌}
-use Rattle.std.proofs.Common.{refl}
+use Rattle.std.specs.Prelude.{◌≡◌, ◌⊎◌, ◌≤◌, ◌+◌, ℕ, true, false, Some, None, length, take, max, List, ◌∷◌}
+use Rattle.std.proofs.Common.{refl, get_or}
 use Rattle.mg_base.specs.Image.{Image}
 use Rattle.mg_base.specs.Acts.{Act, Write, acts_of, image_of, Left, leaves_held, leaves_left, left_leaves}
 use Rattle.mg_base.specs.Disk.{Meaning, MayLeave}
@@ -27,7 +27,7 @@ record_of d = length d.obeyed.items
 abbrev pub IsOut : MemDisk → ℕ → Type 0
 IsOut d page = (room_of d ≤ page) ⊎ (record_of d ≤ length (writes_of d))
 
--- It tells all: what it holds, and exactly what a crash may leave.
+-- It tells all: what it holds, exactly what a crash may leave, and exactly what it was asked for.
 abbrev pub mem_meaning : Meaning MemDisk
 mem_meaning = record {
   size = λ d. Some d.size;
@@ -37,8 +37,17 @@ mem_meaning = record {
   moment = λ d. length (acts_in d);
   left = λ d t c. Left d.size (acts_in d) t c;
   faults = λ d. d.faults;
-  asked = λ d. 0;
+  asked = λ d. d.asked;
+  reads = λ d. d.reads;
+  was_read = λ d n. get_or d.were_read.items n false;
+  most_writes = λ d. None;
 }
+
+-- the same was asked of it
+pub record SameCounts (old new : MemDisk) : Type 0 where
+  pub asked : new.asked ≡ old.asked
+  pub reads : new.reads ≡ old.reads
+  pub were_read : new.were_read ≡ old.were_read
 
 -- one page write more was obeyed
 pub record Obeys (old new : MemDisk) (page : ℕ) (bytes : List ℕ) : Type 0 where

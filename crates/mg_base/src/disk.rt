@@ -1,7 +1,7 @@
 //! The disk: pages of one size, which a crash may cut short between two page writes.
 
 ghost use Rattle.std.specs.Prelude.{◌≡◌, ◌<◌, ◌≤◌, ℕ, length, true, Some, IfOk, OnOk, unwrap_or};
-ghost use Rattle.mg_base.specs.Disk.{Meaning, MayLeave, Calm, Writes};
+ghost use Rattle.mg_base.specs.Disk.{Meaning, MayLeave, Calm, KeepsReads, ReadsPage, Writes};
 ghost use Rattle.mg_base.specs.Image.{Image, page_at};
 ghost use Rattle.mg_base.specs.Geometry.{is_page_size};
 
@@ -18,7 +18,8 @@ pub enum DiskFault {
 /// What a disk tells is its `meaning`. A disk may tell nothing of its content (a real file), what
 /// reads give alone, or also what a crash may leave. Page writes are whole or absent, they reach the
 /// disk in the order in which they were issued, and what was written before a `settle` that answered
-/// Ok stays.
+/// Ok stays. A disk may count the page writes and the page reads that it is asked for; one that does
+/// not tells of fewer.
 ///
 /// # Errors
 ///
@@ -29,12 +30,14 @@ pub trait Disk {
     /// The size of a page in bytes: one of the five, always the same.
     fn page_size(&mut self) -> Result<u32, DiskFault>
         ensures size { IfOk result (λ n. (meaning.size self.new ≡ Some n) × (is_page_size n ≡ true)) }
-        ensures calm { Calm meaning self.old self.new result };
+        ensures calm { Calm meaning self.old self.new result }
+        ensures unread { KeepsReads meaning self.old self.new };
 
     /// The number of pages.
     fn pages(&mut self) -> Result<u32, DiskFault>
         ensures count { IfOk result (λ n. meaning.count self.new ≡ Some n) }
-        ensures calm { Calm meaning self.old self.new result };
+        ensures calm { Calm meaning self.old self.new result }
+        ensures unread { KeepsReads meaning self.old self.new };
 
     /// Reads a page. `into` is one page long, and the page is below the number of pages, which the
     /// caller has asked for.
@@ -43,7 +46,8 @@ pub trait Disk {
         requires below { page.0 < unwrap_or (meaning.count self.old) 0 }
         ensures page { OnOk result ((image : Image) → meaning.held self.old ≡ Some image
             → into.new ≡ page_at (length into.old) image page.0) }
-        ensures calm { Calm meaning self.old self.new result };
+        ensures calm { Calm meaning self.old self.new result }
+        ensures reads { ReadsPage meaning self.old self.new page.0 };
 
     /// Writes a page. `bytes` is one page long. A page past the end lengthens the disk up to that
     /// page, with pages of zeros between.
@@ -55,7 +59,8 @@ pub trait Disk {
     fn settle(&mut self) -> Result<(), DiskFault>
         ensures durable { OnOk result (meaning.tells self.old ≡ true → (c : Image)
             → MayLeave meaning self.new c → meaning.held self.new ≡ Some c) }
-        ensures calm { Calm meaning self.old self.new result };
+        ensures calm { Calm meaning self.old self.new result }
+        ensures unread { KeepsReads meaning self.old self.new };
 
     /// A disk that tells what a crash may leave tells what it holds, and a crash may leave that.
     ghost holds: { (disk : Self) → meaning.tells disk ≡ true

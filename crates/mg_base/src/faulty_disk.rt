@@ -10,12 +10,15 @@ pub struct FaultyDisk {
     bad: Vec<u32>,
     calls: u32,
     failed: u64,
+    // How many page writes and page reads it was asked for.
+    asked: u64,
+    reads: u64,
 }
 
 impl FaultyDisk {
     ghost use Rattle.std.specs.Prelude.{◌≡◌, ◌↔◌, ◌≤◌, IsErr, OnErr, OnOk};
     ghost use Rattle.mg_base.specs.Disk.{Rose};
-    ghost use Rattle.mg_base.specs.FaultyDisk.{disk_of, bad_of, calls_of, FailsNext};
+    ghost use Rattle.mg_base.specs.FaultyDisk.{faulty_meaning, disk_of, bad_of, calls_of, FailsNext};
     ghost use Rattle.mg_base.specs.Calls.{next_call};
 
     /// The disk `inner`, of which the calls with these numbers fail.
@@ -23,12 +26,16 @@ impl FaultyDisk {
         ensures inner { disk_of result ≡ inner }
         ensures bad { bad_of result ≡ bad.items }
         ensures calls { calls_of result ≡ 0 }
+        ensures asked { faulty_meaning.asked result ≡ 0 }
+        ensures reads { faulty_meaning.reads result ≡ 0 }
     {
         FaultyDisk {
             inner,
             bad,
             calls: 0,
             failed: 0,
+            asked: 0,
+            reads: 0,
         }
     }
 
@@ -51,6 +58,8 @@ impl FaultyDisk {
     fn admit(&mut self) -> Result<(), DiskFault>
         ensures inner { self.new.inner ≡ self.old.inner }
         ensures bad { self.new.bad ≡ self.old.bad }
+        ensures asked { self.new.asked ≡ self.old.asked }
+        ensures reads { self.new.reads ≡ self.old.reads }
         ensures calls { self.new.calls ≡ next_call self.old.calls }
         ensures listed { IsErr result ↔ FailsNext self.old }
         ensures never_falls { self.old.failed ≤ self.new.failed }
@@ -68,7 +77,7 @@ impl FaultyDisk {
 
 impl Disk for FaultyDisk {
     ghost use Rattle.std.specs.Prelude.{◌≡◌, ◌↔◌, ◌⊎◌, ◌<◌, ℕ, true, Some, IsErr, IfOk, OnOk, length, unwrap_or};
-    ghost use Rattle.mg_base.specs.Disk.{Calm, Writes, MayLeave};
+    ghost use Rattle.mg_base.specs.Disk.{Calm, Counts, CountsRead, KeepsReads, ReadsPage, Writes, MayLeave};
     ghost use Rattle.mg_base.specs.Geometry.{is_page_size};
     ghost use Rattle.mg_base.specs.Image.{Image, page_at};
     ghost use Rattle.mg_base.specs.MemDisk.{IsOut};
@@ -86,6 +95,7 @@ impl Disk for FaultyDisk {
     fn page_size(&mut self) -> Result<u32, DiskFault>
         ensures size { IfOk result (λ n. (faulty_meaning.size self.new ≡ Some n) × (is_page_size n ≡ true)) }
         ensures calm { Calm faulty_meaning self.old self.new result }
+        ensures unread { KeepsReads faulty_meaning self.old self.new }
         ensures fails { IsErr result ↔ FailsNext self.old }
     {
         self.admit()?;
@@ -95,6 +105,7 @@ impl Disk for FaultyDisk {
     fn pages(&mut self) -> Result<u32, DiskFault>
         ensures count { IfOk result (λ n. faulty_meaning.count self.new ≡ Some n) }
         ensures calm { Calm faulty_meaning self.old self.new result }
+        ensures unread { KeepsReads faulty_meaning self.old self.new }
         ensures fails { IsErr result ↔ FailsNext self.old }
     {
         self.admit()?;
@@ -107,8 +118,11 @@ impl Disk for FaultyDisk {
         ensures page { OnOk result ((image : Image) → faulty_meaning.held self.old ≡ Some image
             → into.new ≡ page_at (length into.old) image page.0) }
         ensures calm { Calm faulty_meaning self.old self.new result }
+        ensures reads { ReadsPage faulty_meaning self.old self.new page.0 }
+        ensures counts { CountsRead faulty_meaning self.old self.new page.0 result }
         ensures fails { IsErr result ↔ FailsNext self.old }
     {
+        self.reads = self.reads.saturating_add(1);
         self.admit()?;
         self.inner.read(page, into)
     }
@@ -117,7 +131,9 @@ impl Disk for FaultyDisk {
         requires whole { faulty_meaning.size self.old ≡ Some (length bytes.now) }
         ensures writes { Writes faulty_meaning self.old self.new page.0 bytes.now result }
         ensures fails { IsErr result ↔ (FailsNext self.old ⊎ IsOut (disk_of self.old) page.0) }
+        ensures counts { Counts self.old.asked self.new.asked }
     {
+        self.asked = self.asked.saturating_add(1);
         self.admit()?;
         self.inner.write(page, bytes)
     }
@@ -126,6 +142,7 @@ impl Disk for FaultyDisk {
         ensures durable { OnOk result (faulty_meaning.tells self.old ≡ true → (c : Image)
             → MayLeave faulty_meaning self.new c → faulty_meaning.held self.new ≡ Some c) }
         ensures calm { Calm faulty_meaning self.old self.new result }
+        ensures unread { KeepsReads faulty_meaning self.old self.new }
         ensures fails { IsErr result ↔ FailsNext self.old }
     {
         self.admit()?;

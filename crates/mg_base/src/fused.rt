@@ -45,7 +45,7 @@ impl<D> Fused<D> {
 
 impl<D: Disk> Disk for Fused<D> {
     ghost use Rattle.std.specs.Prelude.{◌≡◌, ◌<◌, ◌+◌, Some, length, IsErr};
-    ghost use Rattle.mg_base.specs.Disk.{Writes};
+    ghost use Rattle.mg_base.specs.Disk.{Counts, Writes};
     ghost use Rattle.mg_base.specs.Fused.{fused_meaning, inner_of, most_of, passed_of, blown_of, Blows, Passes};
 
     ghost meaning = { fused_meaning D.meaning };
@@ -73,6 +73,7 @@ impl<D: Disk> Disk for Fused<D> {
         requires whole { D.meaning.size (inner_of self.old) ≡ Some (length bytes.now) }
         ensures writes { Writes (fused_meaning D.meaning) self.old self.new page.0 bytes.now result }
         ensures passes { passed_of self.old < most_of self.old → Passes self.old self.new }
+        ensures counts { Counts ((fused_meaning D.meaning).asked self.old) ((fused_meaning D.meaning).asked self.new) }
         ensures blows { passed_of self.old ≡ most_of self.old → IsErr result × Blows self.old self.new }
     {
         if self.passed == self.most {

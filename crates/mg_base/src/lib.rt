@@ -31,6 +31,7 @@ mod fields;
 mod file_disk;
 mod fused;
 mod geometry;
+mod laws;
 mod mem_disk;
 mod mem_sink;
 mod mem_source;
@@ -53,6 +54,7 @@ pub use fields::{
 pub use file_disk::FileDisk;
 pub use fused::Fused;
 pub use geometry::{GREATEST_LIMIT, Geometry, LEAST_LIMIT, is_page_size};
+pub use laws::a_fuse_fails_past_its_limit;
 pub use mem_disk::MemDisk;
 pub use mem_sink::MemSink;
 pub use mem_source::MemSource;

@@ -1,13 +1,14 @@
 //! A disk in memory that keeps every page write, for tests and for what a crash may leave.
 
+ghost use Rattle.std.specs.Prelude.{◌≡◌, length};
 ghost use Rattle.mg_base.specs.Kept.{IsKept};
 
-use crate::obeyed::{Obeyed, blank_pages, blank_record, put_obeyed, put_page};
+use crate::obeyed::{Obeyed, blank_flags, blank_pages, blank_record, put_obeyed, put_page};
 use crate::{Bytes, Disk, DiskFault, Memory, PageNo};
 use std::alloc::Global;
 
 /// A disk in memory. It takes all its memory in `new`: a number of pages, its room, and a record of
-/// page writes, in which each write that it obeys is kept.
+/// page writes, in which each write that it obeys is kept. It counts what it is asked for.
 #[derive(Drop)]
 pub struct MemDisk {
     size: u32,
@@ -18,13 +19,19 @@ pub struct MemDisk {
     // Whether the disk was settled since the last page write.
     settled: bool,
     faults: u64,
+    // How many page writes and page reads it was asked for, and which pages were read.
+    asked: u64,
+    reads: u64,
+    were_read: Vec<bool>,
     ghost kept: { IsKept size pages.items used obeyed.items writes settled },
+    ghost flags: { length were_read.items ≡ length pages.items },
 }
 
 impl MemDisk {
-    ghost use Rattle.std.specs.Prelude.{◌≡◌, ◌≤◌, ◌<◌, ◌+◌, ◌^◌, IfOk, [], Some, true, length, take};
+    ghost use Rattle.std.specs.Prelude.{◌≤◌, ◌<◌, ◌+◌, ◌^◌, IfOk, [], Some, true, take};
+    ghost use Rattle.mg_base.specs.Disk.{IsUnasked};
     ghost use Rattle.mg_base.specs.Acts.{image_of, acts_of};
-    ghost use Rattle.mg_base.specs.MemDisk.{mem_meaning, acts_in, room_of, record_of, writes_of, Obeys};
+    ghost use Rattle.mg_base.specs.MemDisk.{mem_meaning, acts_in, room_of, record_of, writes_of, Obeys, SameCounts};
     ghost use Rattle.mg_base.specs.Geometry.{is_page_size};
 
     /// A disk without pages, with room for `room` of them and for a record of `writes` page writes.
@@ -39,11 +46,13 @@ impl MemDisk {
         ensures acts { IfOk result (λ d. acts_in d ≡ []) }
         ensures writes { IfOk result (λ d. writes_of d ≡ []) }
         ensures faults { IfOk result (λ d. mem_meaning.faults d ≡ 0) }
+        ensures unasked { IfOk result (λ d. IsUnasked mem_meaning d) }
         ensures room { IfOk result (λ d. room_of d ≡ room) }
         ensures entries { IfOk result (λ d. record_of d ≡ writes) }
     {
         let pages = blank_pages(alloc, size, room)?;
         let obeyed = blank_record(alloc, size, writes)?;
+        let were_read = blank_flags(alloc, room)?;
         Ok(MemDisk {
             size,
             pages,
@@ -52,6 +61,9 @@ impl MemDisk {
             writes: 0,
             settled: false,
             faults: 0,
+            asked: 0,
+            reads: 0,
+            were_read,
         })
     }
 
@@ -63,7 +75,7 @@ impl MemDisk {
     }
 
     /// A disk that holds the image after the first `count` page writes of this one, as a machine finds
-    /// it after it stopped there. Nothing is pending. It has the same room, and its record has room
+    /// it after it stopped there. Nothing is pending, and nothing was asked yet. It has the same room, and its record has room
     /// for `writes` page writes more.
     ///
     /// # Errors
@@ -75,6 +87,7 @@ impl MemDisk {
         ensures held { IfOk result (λ d. mem_meaning.held d
             ≡ Some (image_of self.now.size (acts_of (take count (writes_of self.now)) true))) }
         ensures settled { IfOk result (λ d. d.settled ≡ true) }
+        ensures unasked { IfOk result (λ d. IsUnasked mem_meaning d) }
         ensures room { IfOk result (λ d. room_of d ≡ room_of self.now) }
         ensures entries { IfOk result (λ d. record_of d ≡ count + writes) }
     {
@@ -92,7 +105,8 @@ impl MemDisk {
         requires whole { length bytes.now ≡ self.old.size }
         requires room { page < room_of self.old }
         requires entries { length (writes_of self.old) < record_of self.old }
-        ensures { Obeys self.old self.new page bytes.now }
+        ensures obeys { Obeys self.old self.new page bytes.now }
+        ensures counts { SameCounts self.old self.new }
     {
         put_obeyed(&mut self.obeyed, self.writes, page, self.settled, bytes);
         put_page(&mut self.pages, page as usize, bytes);
@@ -103,11 +117,12 @@ impl MemDisk {
 }
 
 impl Disk for MemDisk {
-    ghost use Rattle.std.specs.Prelude.{◌≡◌, ◌↔◌, ◌<◌, ℕ, true, Some, length, IsErr, IsOk, IfOk, OnOk, unwrap_or};
-    ghost use Rattle.mg_base.specs.Disk.{Calm, Writes, MayLeave};
+    ghost use Rattle.std.specs.Prelude.{◌↔◌, ◌<◌, ℕ, true, Some, ◌∷◌, IsErr, IsOk, IfOk, OnErr, OnOk, unwrap_or};
+    ghost use Rattle.mg_base.specs.Acts.{Write, acts_of};
+    ghost use Rattle.mg_base.specs.Disk.{Calm, Counts, CountsRead, KeepsReads, ReadsPage, Writes, MayLeave};
     ghost use Rattle.mg_base.specs.Geometry.{is_page_size};
     ghost use Rattle.mg_base.specs.Image.{Image, page_at};
-    ghost use Rattle.mg_base.specs.MemDisk.{mem_meaning, mem_holds, mem_counts_now, mem_counted, IsOut};
+    ghost use Rattle.mg_base.specs.MemDisk.{acts_in, writes_of, mem_meaning, mem_holds, mem_counts_now, mem_counted, IsOut};
 
     ghost meaning = { mem_meaning };
 
@@ -120,6 +135,7 @@ impl Disk for MemDisk {
     fn page_size(&mut self) -> Result<u32, DiskFault>
         ensures size { IfOk result (λ n. (mem_meaning.size self.new ≡ Some n) × (is_page_size n ≡ true)) }
         ensures calm { Calm mem_meaning self.old self.new result }
+        ensures unread { KeepsReads mem_meaning self.old self.new }
         ensures ok { IsOk result }
     {
         Ok(self.size)
@@ -128,6 +144,7 @@ impl Disk for MemDisk {
     fn pages(&mut self) -> Result<u32, DiskFault>
         ensures count { IfOk result (λ n. mem_meaning.count self.new ≡ Some n) }
         ensures calm { Calm mem_meaning self.old self.new result }
+        ensures unread { KeepsReads mem_meaning self.old self.new }
         ensures ok { IsOk result }
     {
         Ok(self.used)
@@ -139,8 +156,12 @@ impl Disk for MemDisk {
         ensures page { OnOk result ((image : Image) → mem_meaning.held self.old ≡ Some image
             → into.new ≡ page_at (length into.old) image page.0) }
         ensures calm { Calm mem_meaning self.old self.new result }
+        ensures reads { ReadsPage mem_meaning self.old self.new page.0 }
+        ensures counts { CountsRead mem_meaning self.old self.new page.0 result }
         ensures ok { IsOk result }
     {
+        self.reads = self.reads.saturating_add(1);
+        self.were_read[page.0 as usize] = true;
         into.copy_from_slice(self.pages[page.0 as usize].as_slice());
         Ok(())
     }
@@ -150,7 +171,11 @@ impl Disk for MemDisk {
         requires whole { mem_meaning.size self.old ≡ Some (length bytes.now) }
         ensures writes { Writes mem_meaning self.old self.new page.0 bytes.now result }
         ensures fails { IsErr result ↔ (IsOut self.old page.0) }
+        ensures acts { OnOk result (acts_in self.new ≡ Write page.0 bytes.now ∷ acts_in self.old) }
+        ensures absent { OnErr result (acts_in self.new ≡ acts_in self.old) }
+        ensures counts { Counts self.old.asked self.new.asked }
     {
+        self.asked = self.asked.saturating_add(1);
         let at = page.0 as usize;
         if at >= self.pages.len() || self.writes >= self.obeyed.len() {
             self.faults = self.faults.saturating_add(1);
@@ -164,7 +189,9 @@ impl Disk for MemDisk {
         ensures durable { OnOk result (mem_meaning.tells self.old ≡ true → (c : Image)
             → MayLeave mem_meaning self.new c → mem_meaning.held self.new ≡ Some c) }
         ensures calm { Calm mem_meaning self.old self.new result }
+        ensures unread { KeepsReads mem_meaning self.old self.new }
         ensures ok { IsOk result }
+        ensures acts { acts_in self.new ≡ acts_of (writes_of self.old) true }
     {
         self.settled = true;
         Ok(())

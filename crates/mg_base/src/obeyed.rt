@@ -28,6 +28,17 @@ pub fn blank_pages(alloc: Global, size: u32, room: u32) -> Result<Vec<Bytes>, Me
     Ok(pages)
 }
 
+/// So many flags, none of them set.
+pub fn blank_flags(alloc: Global, room: u32) -> Result<Vec<bool>, Memory>
+    ensures { IfOk result (λ v. v.items ≡ replicate room false) }
+{
+    let mut flags = Vec::with_capacity(alloc, room as usize)?;
+    for _ in 0..room {
+        flags.push(false)?;
+    }
+    Ok(flags)
+}
+
 /// Room for so many page writes.
 pub fn blank_record(alloc: Global, size: u32, writes: u32) -> Result<Vec<Obeyed>, Memory>
     ensures { IfOk result (λ v. v.items ≡ replicate writes (record { page = 0; settled = false; bytes = blank size })) }

@@ -9,12 +9,13 @@ invariant_of-self c =
     let d = c.args.self.now in
     let entries : d.writes < length d.obeyed.items = let e = d.kept.entries in omega (arith, length-take d.writes d.obeyed.items) in
     record {
+      flags = rw (c.put_page.ensures, length-set) d.flags;
       kept = rw (c.put_page.ensures, c.put_obeyed.ensures, c.max-self.ensures)
           (kept_write d.size d.pages.items d.used d.obeyed.items d.writes d.settled c.args.page c.args.bytes.now d.kept c.requires.room entries c.requires.whole);
     }
 
-pub returns : goal.returns
-returns c =
+pub returns-clause-obeys : goal.returns-clause-obeys
+returns-clause-obeys c =
     let d = c.args.self.now in
     let kept = d.kept.entries in
     let entries : d.writes < length d.obeyed.items = omega (arith, length-take d.writes d.obeyed.items) in

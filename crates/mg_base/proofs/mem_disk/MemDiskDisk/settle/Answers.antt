@@ -12,6 +12,7 @@ returns-clause-calm c =
       keeps = record {
         size = refl;
         tells = refl;
+        most_writes = refl;
         time = λ told. record { later = times.later; nothing_else = times.nothing_else; keeps = times.keeps };
         never_falls = omega arith;
         cause = λ no. absurd (let n = no in cc);
