@@ -84,7 +84,12 @@ EachAllows P rows table (row ∷ more) = RowAllows P rows table row × EachAllow
 
 -- ---- the row of an index
 
+-- the root of an index is a page, and not page 0; its last two numbers are 0
+abbrev pub HasIndexNumbers : Cells → Type 0
+HasIndexNumbers row = (1 ≤ said_a row) × (said_a row < 2 ^ 32)
+    × (said_c row ≡ 0) × (said_d row ≡ 0)
+
 -- the row of an index is lawful by itself
 abbrev pub IndexSpelled : List ℕ → Cells → Type 0
 IndexSpelled name row = IsSpelled row × (slice_index_or row 1 Null ≡ Text (said_name row))
-    × IsName name × (said_a row < 2 ^ 32) × (said_c row ≡ 0) × (said_d row ≡ 0)
+    × IsName name × HasIndexNumbers row

@@ -4,11 +4,19 @@ ghost use Rattle.std.specs.Prelude.{◌≡◌, ◌↔◌, IsTrue};
 ghost use Rattle.mg_model.specs.Catalog.{index_key};
 ghost use Rattle.mg_model.specs.CatalogRules.{IsIndexRow};
 ghost use Rattle.mg_catalog.specs.ByKey.{by_key, row_key};
-ghost use Rattle.mg_catalog.specs.RowRules.{IndexSpelled};
+ghost use Rattle.mg_catalog.specs.RowRules.{HasIndexNumbers, IndexSpelled};
 
 use crate::find::has_place;
 use crate::spelling::{has_text, is_spelled, name_of, number_at};
 use mg_value::{Name, Row};
+
+/// Whether the numbers of an index's row are lawful. Page 0 is the header, and no root.
+fn has_lawful_numbers(row: &Row) -> bool
+    ensures { IsTrue result ↔ HasIndexNumbers row.now }
+{
+    let root = number_at(row, 2);
+    1 <= root && root < 4_294_967_296 && number_at(row, 4) == 0 && number_at(row, 5) == 0
+}
 
 /// Whether the row of an index is lawful by itself.
 fn is_index_spelled(row: &Row, name: &[u8]) -> bool
@@ -17,7 +25,7 @@ fn is_index_spelled(row: &Row, name: &[u8]) -> bool
     if !is_spelled(row) || !has_text(row) || Name::new(name).is_none() {
         return false;
     }
-    number_at(row, 2) < 4_294_967_296 && number_at(row, 4) == 0 && number_at(row, 5) == 0
+    has_lawful_numbers(row)
 }
 
 /// Whether the row of an index is lawful.

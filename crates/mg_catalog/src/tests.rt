@@ -202,7 +202,7 @@ fn a_row_that_breaks_a_rule_is_named(rt: HostRuntime) -> Result<(), Fail> {
         [i64; 4],
         u32,
         &'static str,
-    ); 26] = [
+    ); 27] = [
         (0, b"CKV.00", b"K", [0, 1, 1, 0], 3, "no key"),
         (1, b"CKV.01", b"V", [0, 3, 1, 1], 3, "two keys"),
         (1, b"CKV.01", b"V", [0, 2, 1, 1], 1, "flags 2"),
@@ -236,6 +236,7 @@ fn a_row_that_breaks_a_rule_is_named(rt: HostRuntime) -> Result<(), Fail> {
             2,
             "a great root",
         ),
+        (2, b"IKVV", b"KV", [0, 1, 0, 0], 2, "a root in page 0"),
         (2, b"IKV V", b"KV", [7, 1, 0, 0], 2, "no name of an index"),
         (2, b"XKVV", b"KV", [7, 1, 0, 0], 2, "an unknown letter"),
         (3, b"TKV", b"", [5, 2, 6, 0], 3, "an index too many"),

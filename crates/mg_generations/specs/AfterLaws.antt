@@ -16,7 +16,7 @@ use Rattle.mg_model.specs.Changes.{Cells, same_name, same_key, has_change, row_a
 use Rattle.mg_model.specs.History.{Entry, Entries, Effect, Begins, Looks, Makes, Gives, Marks, Saves, TakesBack, Ends, Nothing, effect_of}
 use Rattle.mg_model.specs.Machine.{next_number, state_after, state_of, changes_by, changed, step, steps_after, steps, database_after, database, base, own}
 use Rattle.mg_model.specs.Answers.{told, is_committed, is_open, catalog_of, obstacle}
-use Rattle.mg_model.specs.Legal.{IsOpening, IsLegal}
+use Rattle.mg_model.specs.Legal.{MayBegin, IsLegal}
 use Rattle.mg_model.specs.RowLaws.{row_at-append, same_from_same_key}
 use Rattle.mg_model.specs.LegalLaws.{IsAllowed, lawful_is_allowed}
 use Rattle.mg_model.specs.NumberLaws.{undrawn_is_dead}
@@ -31,7 +31,7 @@ use Rattle.mg_generations.specs.BeginLaws.{generations_begin}
 use Rattle.mg_generations.specs.TakenBackLaws.{generations_taken_back}
 use Rattle.mg_generations.specs.DeadLaws.{go_on_dead}
 
-module _ (o : Opening) (opening : IsOpening o) (h : Entries) (e : Entry) (legal : IsLegal o (e ∷ h))
+module _ (o : Opening) (opening : MayBegin o) (h : Entries) (e : Entry) (legal : IsLegal o (e ∷ h))
   where
     -- an effect makes all that an entry leaves
     record Does (f : Effect) : Type 0 where
@@ -219,7 +219,7 @@ module _ (o : Opening) (opening : IsOpening o) (h : Entries) (e : Entry) (legal 
           (lawful_is_allowed o h e legal.0)
 
 -- a legal history that begins with these versions of a key has these
-pub generations_come : (o : Opening) → IsOpening o → (table : List ℕ) (key : Value)
+pub generations_come : (o : Opening) → MayBegin o → (table : List ℕ) (key : Value)
     (first : List Generation) → AreFirst o table key first → (h : Entries) → IsLegal o h
     → AreGenerations o h table key (generations_of o first h table key)
 generations_come o opening table key first begin [] legal =

@@ -11,7 +11,7 @@ use Rattle.mg_model.specs.Changes.{Cells, has_change, row_at}
 use Rattle.mg_model.specs.Machine.{opening_rows, opening_state, database, state_of, steps, own}
 use Rattle.mg_model.specs.Answers.{is_committed, is_open, changes_key, newest_by}
 use Rattle.mg_model.specs.LegalLaws.{found_passes}
-use Rattle.mg_model.specs.Legal.{IsOpening}
+use Rattle.mg_model.specs.Legal.{MayBegin}
 use Rattle.mg_model.specs.HinderLaws.{stands, none_hinders}
 use Rattle.mg_generations.specs.Generations.{are_on_top, Generation, shown_by, first_writer, EachGeneration, EachOlder, is_newest_by, PassesNews, AreGenerations, AreFirst, versions_of_row}
 use Rattle.mg_generations.specs.ListLaws.{older_as, order_of_older, each_as, nobody_first}
@@ -82,7 +82,7 @@ module _ (o : Opening) (table : List ℕ) (key : Value) where
           sym (newest_is_first who u gs its passes)
 
   -- a transaction in limbo that has changed the key is the only one
-  first_top : (who : ℕ → Bool) (t : ℕ) → IsOpening o
+  first_top : (who : ℕ → Bool) (t : ℕ) → MayBegin o
       → are_on_top who table key t (steps o []) ≡ true
   first_top who t opening = at (has_change (own o [] t) table key) refl
     where
@@ -94,7 +94,7 @@ module _ (o : Opening) (table : List ℕ) (key : Value) where
           (λ u its. eq-eqb u t (opening.one_writer u t table key its has))
 
   -- what an opening says of a key are its versions when the history begins
-  pub generations_begin : (gs : List Generation) → IsOpening o → AreFirst o table key gs
+  pub generations_begin : (gs : List Generation) → MayBegin o → AreFirst o table key gs
       → AreGenerations o [] table key gs
   generations_begin gs opening it = record {
     alive = it.alive;

@@ -11,7 +11,7 @@ use Rattle.mg_model.specs.Changes.{Cells, same_name, same_key}
 use Rattle.mg_model.specs.History.{Entry, Entries, Effect, Makes, Gives, TakesBack, Ends, effect_of}
 use Rattle.mg_model.specs.Machine.{own}
 use Rattle.mg_model.specs.Answers.{told, catalog_of}
-use Rattle.mg_model.specs.Legal.{IsOpening, IsLegal}
+use Rattle.mg_model.specs.Legal.{MayBegin, IsLegal}
 use Rattle.mg_model.specs.ReadLaws.{is_at_itself}
 use Rattle.mg_generations.specs.Generations.{Generation, without_newest_by, put, AreGenerations}
 use Rattle.mg_generations.specs.After.{key_made, generations_after, leaves_versions}
@@ -29,7 +29,7 @@ left_as_before (Ends t Dead) made own table key gs leaves = absurd (false≢true
 left_as_before (Ends t Committed) made own table key gs leaves = refl
 left_as_before f made own table key gs leaves = refl
 
-module _ (o : Opening) (opening : IsOpening o) (h : Entries) (e : Entry) (legal : IsLegal o (e ∷ h))
+module _ (o : Opening) (opening : MayBegin o) (h : Entries) (e : Entry) (legal : IsLegal o (e ∷ h))
     (table : List ℕ) (key : Value) (gs : List Generation) (it : AreGenerations o h table key gs)
   where
     -- the versions after an entry, where its effect and what that makes of them are known

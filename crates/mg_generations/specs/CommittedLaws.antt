@@ -9,7 +9,7 @@ use Rattle.mg_model.specs.declared.opening.Opening.{Opening}
 use Rattle.mg_model.specs.History.{Entry, Entries, effect_of}
 use Rattle.mg_model.specs.Machine.{opening_state, state_of, mode_of, takes_base, cut_at_base}
 use Rattle.mg_model.specs.Answers.{is_committed, is_open}
-use Rattle.mg_model.specs.Legal.{IsOpening, IsLegal, is_durable, durable_count, after_durable}
+use Rattle.mg_model.specs.Legal.{MayBegin, IsLegal, is_durable, durable_count, after_durable}
 use Rattle.mg_model.specs.NumberLaws.{committed_stays}
 
 pub committed_is : (s : TxState) → is_committed s ≡ true → s ≡ Committed
@@ -52,7 +52,7 @@ ends_with_durable (e ∷ h) k =
     at true more = ([], refl)
     at false more = (e ∷ more.0, ap (λ g. e ∷ g) more.1)
 
-module _ (o : Opening) (opening : IsOpening o) where
+module _ (o : Opening) (opening : MayBegin o) where
   committed_on : (h : Entries) (e : Entry) → IsLegal o (e ∷ h) → (u : ℕ)
       → is_committed (state_of o h u) ≡ true → is_committed (state_of o (e ∷ h) u) ≡ true
   committed_on h e legal u was = ap is_committed (committed_stays o opening h e legal u was) ∙ was

@@ -10,7 +10,7 @@ use Rattle.mg_model.specs.History.{Entry, Entries}
 use Rattle.mg_model.specs.Changes.{has_change, row_at}
 use Rattle.mg_model.specs.Machine.{state_of, changes_by, steps, database, own}
 use Rattle.mg_model.specs.Answers.{told, is_committed, is_open, changes_key, newest_by}
-use Rattle.mg_model.specs.Legal.{IsOpening, IsLegal}
+use Rattle.mg_model.specs.Legal.{MayBegin, IsLegal}
 use Rattle.mg_model.specs.HinderLaws.{stands}
 use Rattle.mg_generations.specs.Generations.{are_on_top, Generation, EachGeneration, EachOlder, is_newest_by, newest_row, without_newest_by, AreGenerations}
 use Rattle.mg_generations.specs.ListLaws.{order_without, each_as, each_with, each_without, older_as, older_without, without_other, shown_without, first_without}
@@ -81,7 +81,7 @@ gives_without o h table key gs it t u other opened newest = at (is_newest_by t g
     at true its = absurd (both_ways (t == u) other (both_newest t u gs its first))
     at false not_its = it.gives u opened first ∙ ap newest_row (sym (without_other t gs not_its))
 
-module _ (o : Opening) (opening : IsOpening o) (h : Entries) (e : Entry) (legal : IsLegal o (e ∷ h))
+module _ (o : Opening) (opening : MayBegin o) (h : Entries) (e : Entry) (legal : IsLegal o (e ∷ h))
     (table : List ℕ) (key : Value) (gs : List Generation) (it : AreGenerations o h table key gs)
     (t : ℕ) (opened : is_open (state_of o h t) ≡ true)
     (states : (u : ℕ) → state_of o (e ∷ h) u ≡ cond (t == u) Dead (state_of o h u))

@@ -9,7 +9,7 @@ use Rattle.mg_model.specs.Changes.{Cells, same_name, same_key, has_change, row_a
 use Rattle.mg_model.specs.History.{Entry, Entries, Makes, Gives, TakesBack, Ends, effect_of}
 use Rattle.mg_model.specs.Machine.{opening_rows, state_of, steps, own, database, view}
 use Rattle.mg_model.specs.Answers.{told, is_committed, is_open, can_hinder, catalog_of, obstacle, table_obstacle}
-use Rattle.mg_model.specs.Legal.{IsOpening, IsLegal, after_durable, durable_database}
+use Rattle.mg_model.specs.Legal.{MayBegin, IsLegal, after_durable, durable_database}
 use Rattle.mg_generations.specs.Generations.{Generation, shown_by, first_writer, is_newest_by, newest_row, newest_writer_if, versions_of_row, without_newest_by, put, sees, AreFirst, AreGenerations}
 use Rattle.mg_generations.specs.After.{generations_with, generations_of, generations_back, leaves_versions, IsUndone}
 use Rattle.mg_generations.specs.Tables.{AreOld, asks_to_write, LeavesTable, opening_catalog}
@@ -19,7 +19,7 @@ use Rattle.mg_generations.specs.Tables.{AreOld, asks_to_write, LeavesTable, open
 -- a history begins with the versions of which its opening says the rows and the open changes
 abbrev pub VersionsBegin : Type 0
 VersionsBegin = (o : Opening) (table : List ℕ) (key : Value) (gs : List Generation)
-    → IsOpening o → AreFirst o table key gs → AreGenerations o [] table key gs
+    → MayBegin o → AreFirst o table key gs → AreGenerations o [] table key gs
 
 -- a key that no transaction in limbo has changed begins with its row, as the system's
 abbrev pub RowBegins : Type 0
@@ -30,32 +30,32 @@ RowBegins = (o : Opening) (table : List ℕ) (key : Value)
 -- an entry of a legal history makes of them what its effect says
 abbrev pub VersionsGoOn : Type 0
 VersionsGoOn = (o : Opening) (h : Entries) (e : Entry) (table : List ℕ) (key : Value)
-    (gs : List Generation) → IsOpening o → IsLegal o (e ∷ h) → AreGenerations o h table key gs
+    (gs : List Generation) → MayBegin o → IsLegal o (e ∷ h) → AreGenerations o h table key gs
     → AreGenerations o (e ∷ h) table key (generations_with o h e table key gs)
 
 -- so each legal history has versions of each key, with those that it begins with
 abbrev pub VersionsCome : Type 0
 VersionsCome = (o : Opening) (table : List ℕ) (key : Value) (first : List Generation) (h : Entries)
-    → IsOpening o → IsLegal o h → AreFirst o table key first
+    → MayBegin o → IsLegal o h → AreFirst o table key first
     → AreGenerations o h table key (generations_of o first h table key)
 
 -- one that writes nothing, lets nobody die and takes nothing back leaves them
 abbrev pub OthersLeaveVersions : Type 0
 OthersLeaveVersions = (o : Opening) (h : Entries) (e : Entry) (table : List ℕ) (key : Value)
-    (gs : List Generation) → IsOpening o → IsLegal o (e ∷ h) → AreGenerations o h table key gs
+    (gs : List Generation) → MayBegin o → IsLegal o (e ∷ h) → AreGenerations o h table key gs
     → leaves_versions (effect_of e) ≡ true → AreGenerations o (e ∷ h) table key gs
 
 -- a key that is given another row, or none, has that version in front
 abbrev pub GivenIsInFront : Type 0
 GivenIsInFront = (o : Opening) (h : Entries) (e : Entry) (table : List ℕ) (key : Value)
-    (gs : List Generation) (t : ℕ) (row : Option Cells) → IsOpening o → IsLegal o (e ∷ h)
+    (gs : List Generation) (t : ℕ) (row : Option Cells) → MayBegin o → IsLegal o (e ∷ h)
     → AreGenerations o h table key gs → effect_of e ≡ Gives t table key row
     → AreGenerations o (e ∷ h) table key (put t row gs)
 
 -- the key of a row that is made has the row in front
 abbrev pub MadeIsInFront : Type 0
 MadeIsInFront = (o : Opening) (h : Entries) (e : Entry) (table : List ℕ) (key : Value)
-    (gs : List Generation) (t : ℕ) (row : Cells) → IsOpening o → IsLegal o (e ∷ h)
+    (gs : List Generation) (t : ℕ) (row : Cells) → MayBegin o → IsLegal o (e ∷ h)
     → AreGenerations o h table key gs → effect_of e ≡ Makes t table row
     → key_in (catalog_of (told o h) t) table row ≡ key
     → AreGenerations o (e ∷ h) table key (put t (Some row) gs)
@@ -64,7 +64,7 @@ MadeIsInFront = (o : Opening) (h : Entries) (e : Entry) (table : List ℕ) (key 
 -- are left
 abbrev pub OtherKeysAreLeft : Type 0
 OtherKeysAreLeft = (o : Opening) (h : Entries) (e : Entry) (table : List ℕ) (key : Value)
-    (gs : List Generation) (t : ℕ) (named : List ℕ) → IsOpening o → IsLegal o (e ∷ h)
+    (gs : List Generation) (t : ℕ) (named : List ℕ) → MayBegin o → IsLegal o (e ∷ h)
     → AreGenerations o h table key gs
     → ((given : Value) (row : Option Cells) → effect_of e ≡ Gives t named given row
     → (same_name named table && same_key given key) ≡ false → AreGenerations o (e ∷ h) table key gs)
@@ -75,7 +75,7 @@ OtherKeysAreLeft = (o : Opening) (h : Entries) (e : Entry) (table : List ℕ) (k
 -- a transaction that comes to be dead takes its version along
 abbrev pub DeadLeaves : Type 0
 DeadLeaves = (o : Opening) (h : Entries) (e : Entry) (table : List ℕ) (key : Value)
-    (gs : List Generation) (t : ℕ) → IsOpening o → IsLegal o (e ∷ h)
+    (gs : List Generation) (t : ℕ) → MayBegin o → IsLegal o (e ∷ h)
     → AreGenerations o h table key gs → effect_of e ≡ Ends t Dead
     → AreGenerations o (e ∷ h) table key (without_newest_by t gs)
 
@@ -83,7 +83,7 @@ DeadLeaves = (o : Opening) (h : Entries) (e : Entry) (table : List ℕ) (key : V
 -- them is of the key
 abbrev pub TakenBackLeaves : Type 0
 TakenBackLeaves = (o : Opening) (h : Entries) (e : Entry) (table : List ℕ) (key : Value)
-    (gs : List Generation) (t : ℕ) (point : Point) → IsOpening o → IsLegal o (e ∷ h)
+    (gs : List Generation) (t : ℕ) (point : Point) → MayBegin o → IsLegal o (e ∷ h)
     → AreGenerations o h table key gs → effect_of e ≡ TakesBack t point
     → AreGenerations o (e ∷ h) table key (generations_back (own o (e ∷ h) t) t table key gs)
 
@@ -91,7 +91,7 @@ TakenBackLeaves = (o : Opening) (h : Entries) (e : Entry) (table : List ℕ) (ke
 abbrev pub UndoneLeavesVersions : Type 0
 UndoneLeavesVersions = (o : Opening) (h : Entries) (table : List ℕ) (key : Value)
     (gs : List Generation) (t : ℕ) (sets : Entry) (since : Entries) (undoes : Entry)
-    → IsOpening o → IsLegal o (undoes ∷ (since ++ (sets ∷ h))) → IsUndone t sets since undoes
+    → MayBegin o → IsLegal o (undoes ∷ (since ++ (sets ∷ h))) → IsUndone t sets since undoes
     → AreGenerations o h table key gs
     → AreGenerations o (undoes ∷ (since ++ (sets ∷ h))) table key gs
 
@@ -135,19 +135,19 @@ CommitShowsNewest = (o : Opening) (h : Entries) (e : Entry) (t : ℕ) (gs : List
 -- in a legal history the obstacle of a key is the first of their writers that can be in the way
 abbrev pub ObstacleIsWriter : Type 0
 ObstacleIsWriter = (o : Opening) (h : Entries) (t : ℕ) (table : List ℕ) (key : Value)
-    (gs : List Generation) → IsOpening o → IsLegal o h → AreGenerations o h table key gs
+    (gs : List Generation) → MayBegin o → IsLegal o h → AreGenerations o h table key gs
     → obstacle (told o h) t table key ≡ first_writer (can_hinder (told o h) t) gs
 
 -- it is the writer of the newest version, if that one can be in the way, and else there is none
 abbrev pub ObstacleIsNewest : Type 0
 ObstacleIsNewest = (o : Opening) (h : Entries) (t : ℕ) (table : List ℕ) (key : Value)
-    (gs : List Generation) → IsOpening o → IsLegal o h → AreGenerations o h table key gs
+    (gs : List Generation) → MayBegin o → IsLegal o h → AreGenerations o h table key gs
     → obstacle (told o h) t table key ≡ newest_writer_if (can_hinder (told o h) t) gs
 
 -- where the versions of a table's own row in the catalog are old, the table has no obstacle
 abbrev pub OldTableHindersNot : Type 0
 OldTableHindersNot = (o : Opening) (h : Entries) (t : ℕ) (table : List ℕ) (gs : List Generation)
-    → IsOpening o → IsLegal o h → AreGenerations o h catalog_name (table_key table) gs → AreOld o gs
+    → MayBegin o → IsLegal o h → AreGenerations o h catalog_name (table_key table) gs → AreOld o gs
     → table_obstacle (told o h) t table ≡ None
 
 -- ---- tables that a history leaves

@@ -11,7 +11,7 @@ use Rattle.mg_model.specs.Changes.{has_change, row_at}
 use Rattle.mg_model.specs.History.{Entry, Entries}
 use Rattle.mg_model.specs.Machine.{state_of, deeds_by, changes_in, steps, database, own}
 use Rattle.mg_model.specs.Answers.{told, is_committed, is_open, changes_key, newest_by}
-use Rattle.mg_model.specs.Legal.{IsOpening, IsLegal}
+use Rattle.mg_model.specs.Legal.{MayBegin, IsLegal}
 use Rattle.mg_model.specs.HinderLaws.{stands}
 use Rattle.mg_generations.specs.Generations.{Generation, shown_by, first_writer, EachGeneration, EachOlder, is_newest_by, newest_row, without_newest_by, put, AreSeenInOrder, are_on_top, PassesNews, AreGenerations}
 use Rattle.mg_generations.specs.ListLaws.{each_as, older_as, each_without, older_without, shown_put, shown_without, first_as, first_without, order_without}
@@ -46,7 +46,7 @@ wrote_none_newest t (g ∷ gs) others = others.0
 not_dead : (s : TxState) → is_open s ≡ true → s ≡ Dead → ⊥
 not_dead s opened dead = both_ways (is_open s) (ap is_open dead) opened
 
-module _ (o : Opening) (opening : IsOpening o) (h : Entries) (e : Entry) (legal : IsLegal o (e ∷ h))
+module _ (o : Opening) (opening : MayBegin o) (h : Entries) (e : Entry) (legal : IsLegal o (e ∷ h))
     (table : List ℕ) (key : Value) (gs : List Generation) (it : AreGenerations o h table key gs)
     (t : ℕ) (opened : is_open (state_of o h t) ≡ true)
     (states : (u : ℕ) → state_of o (e ∷ h) u ≡ state_of o h u)

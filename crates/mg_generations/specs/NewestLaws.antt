@@ -9,7 +9,7 @@ use Rattle.mg_model.specs.declared.opening.Opening.{Opening}
 use Rattle.mg_model.specs.History.{Entries}
 use Rattle.mg_model.specs.Machine.{state_of, cut_at_base}
 use Rattle.mg_model.specs.Answers.{told, is_committed, can_hinder, obstacle}
-use Rattle.mg_model.specs.Legal.{IsOpening, IsLegal}
+use Rattle.mg_model.specs.Legal.{MayBegin, IsLegal}
 use Rattle.mg_model.specs.CommitLaws.{legal_at_base}
 use Rattle.mg_model.specs.EntryLaws.{cut_others_entry}
 use Rattle.mg_model.specs.HinderLaws.{stands, saw_from_unhindered}
@@ -20,7 +20,7 @@ use Rattle.mg_generations.specs.ListLaws.{each_with, nobody_first}
 use Rattle.mg_generations.specs.CommittedLaws.{EndsWith, ends_with_base, committed_later}
 use Rattle.mg_generations.specs.WriterLaws.{seen_is_no_hindrance, obstacle_is_writer}
 
-module _ (o : Opening) (opening : IsOpening o) where
+module _ (o : Opening) (opening : MayBegin o) where
   -- who was committed at an earlier moment takes no other base
   base_stays : (h since before : Entries) → IsLegal o h → h ≡ since ++ before → (w : ℕ)
       → is_committed (state_of o before w) ≡ true → cut_at_base h w ≡ cut_at_base before w

@@ -11,7 +11,7 @@ use Rattle.mg_model.specs.History.{Entry, Entries}
 use Rattle.mg_model.specs.Changes.{has_change, row_at}
 use Rattle.mg_model.specs.Machine.{next_number, state_of, changes_in, steps, database, own}
 use Rattle.mg_model.specs.Answers.{told, is_committed, is_open, changes_key, newest_by}
-use Rattle.mg_model.specs.Legal.{IsOpening, IsLegal}
+use Rattle.mg_model.specs.Legal.{MayBegin, IsLegal}
 use Rattle.mg_model.specs.HinderLaws.{stands}
 use Rattle.mg_model.specs.OverlapLaws.{saw_goes_on}
 use Rattle.mg_model.specs.NumberLaws.{undrawn_has_no_deeds, committed_stays, dead_stays}
@@ -27,7 +27,7 @@ dead_is_not_newest state t [] alive dead = refl
 dead_is_not_newest state t (g ∷ gs) alive dead =
     ne_eqb g.writer t (λ same. alive.0 (ap state same ∙ dead))
 
-module _ (o : Opening) (opening : IsOpening o) (h : Entries) (e : Entry) (legal : IsLegal o (e ∷ h))
+module _ (o : Opening) (opening : MayBegin o) (h : Entries) (e : Entry) (legal : IsLegal o (e ∷ h))
     (table : List ℕ) (key : Value) where
   -- nothing of the key stands of a transaction
   abbrev HasNone : ℕ → Type 0

@@ -18,7 +18,7 @@ use Rattle.mg_model.specs.Changes.{Cells, same_name, same_key, has_change, row_a
 use Rattle.mg_model.specs.History.{Entry, Entries, Effect, Begins, Looks, Makes, Gives, Marks, Saves, TakesBack, Ends, Nothing, deed_of, beginning_of, effect_with, effect_of}
 use Rattle.mg_model.specs.Machine.{changes_by, changed, steps_after, opening_rows, opening_state, takes_base, mode_of, steps, database, base, own, view}
 use Rattle.mg_model.specs.Answers.{told, can_hinder, catalog_of, obstacle, table_obstacle}
-use Rattle.mg_model.specs.Legal.{IsOpening, IsLegal}
+use Rattle.mg_model.specs.Legal.{MayBegin, IsLegal}
 use Rattle.mg_model.specs.Effects.{commits, changes_of}
 use Rattle.mg_model.specs.EntryLaws.{database_after_entry}
 use Rattle.mg_model.specs.HinderLaws.{back_had}
@@ -33,7 +33,7 @@ use Rattle.mg_generations.specs.WriterLaws.{hindrance_is_news, obstacle_is_write
 
 -- ---- old versions hinder nobody
 
-module _ (o : Opening) (opening : IsOpening o) (h : Entries) (legal : IsLegal o h) (t : ℕ) where
+module _ (o : Opening) (opening : MayBegin o) (h : Entries) (legal : IsLegal o h) (t : ℕ) where
   pub old_hinder_not : (table : List ℕ) (key : Value) (gs : List Generation)
       → AreGenerations o h table key gs → AreOld o gs → obstacle (told o h) t table key ≡ None
   old_hinder_not table key gs it old =

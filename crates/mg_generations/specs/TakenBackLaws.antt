@@ -10,7 +10,7 @@ use Rattle.mg_model.specs.Changes.{has_change, row_at}
 use Rattle.mg_model.specs.History.{Entry, Entries, Effect, TakesBack, effect_of}
 use Rattle.mg_model.specs.Machine.{state_after, state_of, deeds_by, changes_by, taken_back, steps_after, steps, database_after, database, base, own}
 use Rattle.mg_model.specs.Answers.{is_open}
-use Rattle.mg_model.specs.Legal.{IsOpening, IsLegal}
+use Rattle.mg_model.specs.Legal.{MayBegin, IsLegal}
 use Rattle.mg_model.specs.EntryLaws.{deeds_by-taken_back_other}
 use Rattle.mg_model.specs.LegalLaws.{IsAllowed, lawful_is_allowed}
 use Rattle.mg_generations.specs.Generations.{Generation, without_newest_by, put, AreGenerations}
@@ -18,7 +18,7 @@ use Rattle.mg_generations.specs.After.{generations_back}
 use Rattle.mg_generations.specs.ThinLaws.{Thinned, taken_back_is_thinned}
 use Rattle.mg_generations.specs.LeftLaws.{go_on_kept, go_on_gone}
 
-module _ (o : Opening) (opening : IsOpening o) (h : Entries) (e : Entry) (legal : IsLegal o (e ∷ h))
+module _ (o : Opening) (opening : MayBegin o) (h : Entries) (e : Entry) (legal : IsLegal o (e ∷ h))
     (table : List ℕ) (key : Value) (gs : List Generation) (it : AreGenerations o h table key gs)
     (t : ℕ) (point : Point) (takes : effect_of e ≡ TakesBack t point) where
   active : is_open (state_of o h t) ≡ true

@@ -12,7 +12,7 @@ use Rattle.mg_model.specs.Changes.{row_at}
 use Rattle.mg_model.specs.History.{Entry, Entries, Marks, Nothing, effect_of}
 use Rattle.mg_model.specs.Machine.{state_after, state_of, changes_by, step, taken_back, steps_after, steps, database_after, database, base, own}
 use Rattle.mg_model.specs.Answers.{is_committed}
-use Rattle.mg_model.specs.Legal.{IsOpening, IsLegal}
+use Rattle.mg_model.specs.Legal.{MayBegin, IsLegal}
 use Rattle.mg_generations.specs.Generations.{Generation, AreGenerations}
 use Rattle.mg_generations.specs.After.{leaves_versions, DoNothing, IsUndone}
 use Rattle.mg_generations.specs.StepLaws.{same_back, same_along, same_after_step}
@@ -75,7 +75,7 @@ module _ (o : Opening) (h : Entries) (t : ℕ) (sets : Entry) (since : Entries) 
       ∙ idle_database o (sets ∷ h) since it.idle
       ∙ ap (λ f. database_after f (own o h) (database o h)) it.sets_it
 
-module _ (o : Opening) (opening : IsOpening o) (table : List ℕ) (key : Value)
+module _ (o : Opening) (opening : MayBegin o) (table : List ℕ) (key : Value)
     (gs : List Generation) where
   -- an entry that does nothing leaves the versions
   idle_go_on : (h : Entries) (e : Entry) → IsLegal o (e ∷ h) → effect_of e ≡ Nothing

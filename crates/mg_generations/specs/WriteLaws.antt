@@ -12,7 +12,7 @@ use Rattle.mg_model.specs.History.{Entry, Entries}
 use Rattle.mg_model.specs.Changes.{is_at, has_change, row_at}
 use Rattle.mg_model.specs.Machine.{own, state_of, deeds_by, changes_in, changes_by, step, steps, database}
 use Rattle.mg_model.specs.Answers.{told, is_committed, is_open, can_hinder, changes_key, newest_by, obstacle}
-use Rattle.mg_model.specs.Legal.{IsOpening, IsLegal}
+use Rattle.mg_model.specs.Legal.{MayBegin, IsLegal}
 use Rattle.mg_model.specs.OverlapLaws.{saw_goes_on}
 use Rattle.mg_model.specs.HinderLaws.{stands, saw_from_unhindered}
 use Rattle.mg_generations.specs.Generations.{are_on_top, Generation, first_writer, EachGeneration, EachOlder, is_newest_by, without_newest_by, put, PassesNews, AreGenerations}
@@ -36,7 +36,7 @@ none_first true u rest none = absurd cc
 none_first false u rest none = refl
 
 -- where nobody is in the way of a transaction, the versions besides its own are committed
-pub others_are_settled : (o : Opening) (opening : IsOpening o) (h : Entries) (legal : IsLegal o h)
+pub others_are_settled : (o : Opening) (opening : MayBegin o) (h : Entries) (legal : IsLegal o h)
     (t : ℕ) (table : List ℕ) (key : Value) (gs : List Generation) → AreGenerations o h table key gs
     → obstacle (told o h) t table key ≡ None
     → EachGeneration (λ g. state_of o h g.writer ≡ Committed) (without_newest_by t gs)
@@ -62,7 +62,7 @@ others_are_settled o opening h legal t table key gs it none =
         )
 
 -- and it saw them committed
-pub others_are_seen : (o : Opening) (opening : IsOpening o) (h : Entries) (legal : IsLegal o h)
+pub others_are_seen : (o : Opening) (opening : MayBegin o) (h : Entries) (legal : IsLegal o h)
     (t : ℕ) (table : List ℕ) (key : Value) (gs : List Generation) → AreGenerations o h table key gs
     → is_open (state_of o h t) ≡ true → obstacle (told o h) t table key ≡ None
     → EachGeneration (λ g. (told o h).saw t g.writer ≡ true) (without_newest_by t gs)
@@ -96,7 +96,7 @@ not_newest_other state t u (g ∷ gs) settled apart opened = at (g.writer == t) 
         ne_eqb g.writer u (λ same. both_ways (is_open (state u)) (ap is_open
         (ap state (sym same) ∙ settled.0)) opened)
 
-module _ (o : Opening) (opening : IsOpening o) (h : Entries) (e : Entry) (legal : IsLegal o (e ∷ h))
+module _ (o : Opening) (opening : MayBegin o) (h : Entries) (e : Entry) (legal : IsLegal o (e ∷ h))
     (table : List ℕ) (key : Value) (gs : List Generation) (it : AreGenerations o h table key gs)
   where
     -- ---- a write

@@ -9,7 +9,7 @@ use Rattle.mg_model.specs.declared.opening.Opening.{Opening}
 use Rattle.mg_model.specs.History.{Entries}
 use Rattle.mg_model.specs.Machine.{state_of, cut_at_base}
 use Rattle.mg_model.specs.Answers.{told, is_committed, is_open, can_hinder, obstacle}
-use Rattle.mg_model.specs.Legal.{IsOpening, IsLegal}
+use Rattle.mg_model.specs.Legal.{MayBegin, IsLegal}
 use Rattle.mg_model.specs.CommitLaws.{legal_at_base}
 use Rattle.mg_generations.specs.Generations.{Generation, first_writer, PassesNews, AreGenerations}
 use Rattle.mg_generations.specs.CommittedLaws.{committed_from_first}
@@ -27,7 +27,7 @@ seen_is_no_hindrance false saw Limbo was seen = absurd (false≢true was)
 seen_is_no_hindrance false saw Dead was seen = absurd (false≢true was)
 seen_is_no_hindrance false saw Committed was seen = rw seen refl
 
-module _ (o : Opening) (opening : IsOpening o) (h : Entries) (legal : IsLegal o h) (t : ℕ) where
+module _ (o : Opening) (opening : MayBegin o) (h : Entries) (legal : IsLegal o h) (t : ℕ) where
   -- nobody who is dead can be in the way, and nobody who was committed when the history began
   pub hindrance_is_news : PassesNews o h (can_hinder (told o h) t)
   hindrance_is_news = record {

@@ -8,7 +8,6 @@ use Rattle.mg_expr.specs.declared.expr.Expr.{Expr}
 use Rattle.mg_expr.specs.Meaning.{is_true_of}
 use Rattle.mg_model.specs.declared.answer.Answer.{Answer}
 use Rattle.mg_model.specs.declared.answer.Answer.TheVariants.{Fine, Tx, Rows, No}
-use Rattle.mg_model.specs.declared.refusal.Refusal.{Refusal}
 use Rattle.mg_model.specs.declared.refusal.Refusal.TheVariants.{UpdateConflict, LockConflict, Waits, Deadlock, InLimbo, DuplicateKey, NoRow, ReadOnly, NotActive, NoTable, TransactionLimit}
 use Rattle.mg_model.specs.declared.event.Event.{Event}
 use Rattle.mg_model.specs.declared.event.Event.TheVariants.{Begin, Look, Find, Claim, Insert, Change, Erase, Mark, UndoMark, Savepoint, BackTo, Prepare, Commit, Rollback, Decide}
@@ -19,8 +18,8 @@ use Rattle.mg_model.specs.declared.change.Deed.TheVariants.{Changed, Marked, Sav
 use Rattle.mg_model.specs.declared.change.Step.{Step}
 use Rattle.mg_model.specs.declared.opening.Opening.{Opening}
 use Rattle.mg_model.specs.Changes.{Cells, same_name, is_at, row_at, rows_of}
-use Rattle.mg_model.specs.Catalog.{CatalogRows, catalog_name, table_key, shape_in, key_of, key_in}
-use Rattle.mg_model.specs.History.{Entries, transaction_of}
+use Rattle.mg_model.specs.Catalog.{CatalogRows, catalog_name, table_key, shape_in, key_in}
+use Rattle.mg_model.specs.History.{Entries}
 use Rattle.mg_model.specs.Machine.{next_number, mode_of, state_of, steps, view, cut_at_base, last_wait}
 
 -- what a history tells, as far as answers depend on it

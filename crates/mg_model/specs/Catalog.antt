@@ -6,13 +6,17 @@
 -- | a table  | T, name              | NULL        | pointer page     | number of columns   | primary root | other indexes |
 -- | a column | C, table, ., 2 digits | column name | 0, m of VARCHAR | 1 not null, 2 key   | since        | place         |
 -- | an index | I, name              | table name  | root             | place of its column | 0            | 0             |
-use Rattle.std.specs.Prelude.{◌≡◌, ◌≢◌, ℕ, zero, suc, ◌+◌, ◌/◌, ◌%◌, ◌<◌, ◌≤◌, ℤ, pos, negsuc, Bool, true, false, ◌==◌, ◌&&◌, nat_lt, nat_le, min, List, [], ◌∷◌, ◌++◌, length, codes, Option, Some, None, slice_index_or, if◌then◌else◌}
+use Rattle.std.specs.Prelude.{ℕ, zero, suc, ◌+◌, ◌/◌, ◌%◌, pos, negsuc, Bool, true, false, ◌==◌, nat_lt, nat_le, min, List, [], ◌∷◌, ◌++◌, codes, Option, Some, None, slice_index_or, if◌then◌else◌}
+use Rattle.std.proofs.Common.{get_or}
+use Rattle.std.proofs.Math.ListN.{set}
+use Rattle.mg_base.specs.Fields.{byte}
 use Rattle.mg_value.specs.declared.value.Value.{Value}
 use Rattle.mg_value.specs.declared.value.Value.TheVariants.{Null, Int, Text}
 use Rattle.mg_value.specs.declared.shape.Kind.{Kind}
 use Rattle.mg_value.specs.declared.shape.Kind.TheVariants as kinds
 use Rattle.mg_value.specs.declared.shape.Column.{Column}
 use Rattle.mg_value.specs.declared.shape.Shape.{Shape}
+use Rattle.mg_value.specs.Values.{bytes_of}
 use Rattle.mg_value.specs.declared.shape.TheConstants.{MOST_COLUMNS}
 use Rattle.mg_model.specs.Changes.{Cells, same_name}
 
@@ -157,3 +161,21 @@ key_by (Some shape) row = key_of shape row
 -- the key of a row that is made in a table
 abbrev pub key_in : CatalogRows → List ℕ → Cells → Value
 key_in rows table row = key_by (shape_in rows table) row
+
+-- ---- as a history has them
+
+-- a row of the catalog that begins with this letter, with each page number in it read as 0: A and C
+-- of a table's row, A of an index's row
+abbrev pub without_pages : ℕ → Cells → Cells
+without_pages letter row =
+    if letter == 84 then set (set row 2 (Int (pos 0))) 4 (Int (pos 0))
+    else (if letter == 73 then set row 2 (Int (pos 0)) else row)
+
+-- a row of the catalog as a history has it: page numbers do not count
+abbrev pub told_cells : Cells → Cells
+told_cells row = without_pages (byte (bytes_of (get_or row 0 Null)) 0) row
+
+-- the same of a row that may not be there
+abbrev pub told_if_there : Option Cells → Option Cells
+told_if_there None = None
+told_if_there (Some row) = Some (told_cells row)

@@ -111,8 +111,9 @@ pub record IsIndexRow (rows : CatalogRows) (name : List ℕ) (row : Cells) : Typ
   pub named : IsName name
   pub spelled : row
       ≡ catalog_row (index_key name) (Text (said_name row)) (said_a row) (said_b row) 0 0
-  -- its root is a page number
+  -- its root is a page number; page 0 is the header, and no root
   pub root : said_a row < 2 ^ 32
+  pub rooted : 1 ≤ said_a row
   pub of_table : (t : Cells) × (rows (table_key (said_name row)) ≡ Some t) × (said_b row < said_b t)
 
 -- a row is lawful under its key: that of a table, of a column or of an index

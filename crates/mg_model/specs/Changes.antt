@@ -1,5 +1,5 @@
 -- A database as a list of changes, the newest first, of which the first one at a key holds.
-use Rattle.std.specs.Prelude.{ℕ, Bool, true, false, ◌&&◌, ◌==◌, nat_eq, List, [], ◌∷◌, ◌++◌, Option, Some, None, map, if◌then◌else◌}
+use Rattle.std.specs.Prelude.{◌≡◌, ℕ, Bool, true, false, ◌&&◌, nat_eq, List, [], ◌∷◌, Option, Some, None, if◌then◌else◌}
 use Rattle.std.specs.Cmp.Lexicographic.{pointwise}
 use Rattle.std.specs.Ordering.{is_eq}
 use Rattle.std.specs.declared.cmp.Ordering.{Ordering}
@@ -11,6 +11,11 @@ use Rattle.mg_model.specs.declared.change.Change.{Change}
 -- the values of a row, one for each column
 abbrev pub Cells : Type 0
 Cells = List Value
+
+-- Two rows are the same, or neither is there. It is the one word for it, so that a row that was
+-- stored under fewer columns can come to be the same as one with NULLs behind.
+abbrev pub same_row : Option Cells → Option Cells → Type 0
+same_row a b = a ≡ b
 
 -- two names are the same
 abbrev pub same_name : List ℕ → List ℕ → Bool

@@ -13,7 +13,7 @@ use Rattle.mg_model.specs.Changes.{row_at}
 use Rattle.mg_model.specs.Catalog.{CatalogRows, catalog_name}
 use Rattle.mg_model.specs.Machine.{state_after, state_of, opening_rows, takes_base, mode_of, changes_by, steps_after, steps, database, base, own, view, cut_at_base}
 use Rattle.mg_model.specs.Answers.{is_committed}
-use Rattle.mg_model.specs.Legal.{IsOpening, IsLegal}
+use Rattle.mg_model.specs.Legal.{MayBegin, IsLegal}
 use Rattle.mg_model.specs.Effects.{commits, changes_of}
 use Rattle.mg_model.specs.EntryLaws.{database_after_entry, base_is_cut}
 use Rattle.mg_model.specs.NumberLaws.{committed_stays, committed_keeps}
@@ -66,7 +66,7 @@ is_commit Nothing t old catalog all is = absurd cc
 has_along : (xs ys : List Change) (c : Change) → xs ≡ ys → Has xs c → Has ys c
 has_along xs ys c same has = let P : List Change → Type 0 = λ cs. Has cs c in subst P same has
 
-module _ (o : Opening) (opening : IsOpening o) where
+module _ (o : Opening) (opening : MayBegin o) where
   commits_now : (h : Entries) (e : Entry) (c : Change) (t : ℕ) → commits (effect_of e) ≡ Some t
       → Has (own o h t) c → IsCommitted o (e ∷ h) c
   commits_now h e c t is has =

@@ -8,7 +8,7 @@ use Rattle.mg_model.specs.declared.opening.Opening.{Opening}
 use Rattle.mg_model.specs.History.{Entry, Entries, transaction_of, Effect, Begins, Ends, effect_of}
 use Rattle.mg_model.specs.Machine.{next_number, state_after, state_of, waited_on, is_of, last_wait}
 use Rattle.mg_model.specs.Answers.{told, is_active, while_active, waits_on, leads_to, closes}
-use Rattle.mg_model.specs.Legal.{IsOpening, IsLegal}
+use Rattle.mg_model.specs.Legal.{MayBegin, IsLegal}
 use Rattle.mg_model.specs.LegalLaws.{IsAllowed, lawful_is_allowed}
 use Rattle.mg_model.specs.NumberLaws.{next_number_grows, drawn_from_state}
 use Rattle.mg_model.specs.AnswerWaitLaws.{entry_waits}
@@ -53,7 +53,7 @@ is_of_its : (t : ℕ) (it : Option ℕ) → is_of t it ≡ true → it ≡ Some 
 is_of_its t None its = absurd (false≢true its)
 is_of_its t (Some u) its = ap Some (eqb-true u t its)
 
-module _ (o : Opening) (opening : IsOpening o) where
+module _ (o : Opening) (opening : MayBegin o) where
   active_is_drawn : (h : Entries) → IsLegal o h → (v : ℕ) → is_active (state_of o h v) ≡ true
       → v < next_number o h
   active_is_drawn h legal v active =

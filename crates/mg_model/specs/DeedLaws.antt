@@ -79,7 +79,7 @@ view_others_since o h t [] others = refl
 view_others_since o h t (e ∷ since) others =
     view_others_entry o (since ++ h) e t others.0 ∙ view_others_since o h t since others.1
 
-takes_base_once : (f : Effect) (t : ℕ) (snapshot : Bool) → snapshot ≡ true
+pub takes_base_once : (f : Effect) (t : ℕ) (snapshot : Bool) → snapshot ≡ true
     → is_of t (drawn f) ≡ false → takes_base f t snapshot ≡ false
 takes_base_once (Begins u mode) t snapshot one undrawn = undrawn
 takes_base_once (Looks u) t snapshot one undrawn = rw one (at (u == t))

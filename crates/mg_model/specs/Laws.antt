@@ -1,5 +1,5 @@
 -- The laws of the history machine.
-use Rattle.std.specs.Prelude.{◌≡◌, ◌⊎◌, ℕ, ◌<◌, true, false, List, ◌∷◌, ◌++◌, Option, Some, None, cond}
+use Rattle.std.specs.Prelude.{◌≡◌, ◌⊎◌, ℕ, ◌<◌, ◌≤◌, true, false, List, ◌∷◌, ◌++◌, Option, Some, None, cond}
 use Rattle.mg_base.specs.declared.transaction.TxState.TheVariants.{Dead}
 use Rattle.mg_value.specs.declared.value.Value.{Value}
 use Rattle.mg_model.specs.declared.change.Change.{Change}
@@ -10,8 +10,10 @@ use Rattle.mg_model.specs.Catalog.{key_in}
 use Rattle.mg_model.specs.History.{Entry, Entries, transaction_of, Point, Makes, Gives, TakesBack, effect_of}
 use Rattle.mg_model.specs.Machine.{next_number, mode_of, state_of, is_of, deeds_by, steps, database, base, own, view, cut_at_base}
 use Rattle.mg_model.specs.Answers.{told, is_committed, can_hinder, obstacle, waits_on, leads_to, catalog_of}
-use Rattle.mg_model.specs.Legal.{IsOpening, IsLegal, is_limbo, durable_count, durable_database, durable_limbo, durable_changes}
+use Rattle.mg_model.specs.Legal.{MayBegin, IsLegal, is_limbo, durable_count, durable_database, durable_limbo, durable_changes}
 use Rattle.mg_model.specs.NewDatabase.{new_opening}
+use Rattle.mg_model.specs.Openings.{IsOpening}
+use Rattle.mg_model.specs.declared.opening.TheConstants.{MOST_TRANSACTIONS}
 use Rattle.mg_model.specs.Scenarios.{run}
 use Rattle.mg_model.specs.DeedLaws.{deeds_after}
 use Rattle.mg_model.specs.WrittenLaws.{change_by, LeavesKey}
@@ -71,17 +73,21 @@ DurableIsAll = (o : Opening) (h : Entries)
 
 -- in a legal history, who is in limbo after all durable events is who is in limbo
 abbrev pub LimboOutlasts : Type 0
-LimboOutlasts = (o : Opening) (h : Entries) (t : ℕ) → IsOpening o → IsLegal o h
+LimboOutlasts = (o : Opening) (h : Entries) (t : ℕ) → MayBegin o → IsLegal o h
     → durable_limbo o h (durable_count h) t ≡ is_limbo (state_of o h t)
 
 -- and the changes of who is in limbo are those that it has
 abbrev pub LimboChangesOutlast : Type 0
-LimboChangesOutlast = (o : Opening) (h : Entries) (t : ℕ) → IsOpening o → IsLegal o h
+LimboChangesOutlast = (o : Opening) (h : Entries) (t : ℕ) → MayBegin o → IsLegal o h
     → is_limbo (state_of o h t) ≡ true → durable_changes o h (durable_count h) t ≡ own o h t
+
+-- a history may begin with an opening that a database gives
+abbrev pub OpeningsBegin : Type 0
+OpeningsBegin = (o : Opening) → IsOpening o → MayBegin o
 
 -- a new database is an opening
 abbrev pub NewIsOpening : Type 0
-NewIsOpening = (limit : ℕ) → IsOpening (new_opening limit)
+NewIsOpening = (limit : ℕ) → 1 ≤ limit → limit ≤ MOST_TRANSACTIONS → IsOpening (new_opening limit)
 
 -- a legal history in which the machine goes on to answer stays legal
 abbrev pub GoesOnLegally : Type 0
@@ -152,29 +158,29 @@ ViewIsRestored = (o : Opening) (h : Entries) (t : ℕ) (point : Point) (sets : E
 -- when the other took its base
 abbrev pub WritersTakeTurns : Type 0
 WritersTakeTurns = (o : Opening) (h : Entries) (t u : ℕ) (table : List ℕ) (key : Value)
-    → IsOpening o → IsLegal o h → BothChange o h t u table key → AreInTurn o h t u
+    → MayBegin o → IsLegal o h → BothChange o h t u table key → AreInTurn o h t u
 
 -- in a legal history each change in a view is the transaction's own, the opening's, or one of a
 -- transaction that was committed when the base was taken
 abbrev pub ViewIsSettled : Type 0
-ViewIsSettled = (o : Opening) (h : Entries) (t : ℕ) (c : Change) → IsOpening o → IsLegal o h
+ViewIsSettled = (o : Opening) (h : Entries) (t : ℕ) (c : Change) → MayBegin o → IsLegal o h
     → Has (view o h t) c → Has (own o h t) c ⊎ IsSettled o (cut_at_base h t) c
 
 -- in a legal history committed stays committed, with the same changes
 abbrev pub CommittedStays : Type 0
-CommittedStays = (o : Opening) (h : Entries) (e : Entry) (t : ℕ) → IsOpening o → IsLegal o (e ∷ h)
+CommittedStays = (o : Opening) (h : Entries) (e : Entry) (t : ℕ) → MayBegin o → IsLegal o (e ∷ h)
     → is_committed (state_of o h t) ≡ true
     → (state_of o (e ∷ h) t ≡ state_of o h t) × (own o (e ∷ h) t ≡ own o h t)
 
 -- in a legal history dead stays dead, once the number is drawn
 abbrev pub DeadStays : Type 0
-DeadStays = (o : Opening) (h : Entries) (e : Entry) (t : ℕ) → IsOpening o → IsLegal o (e ∷ h)
+DeadStays = (o : Opening) (h : Entries) (e : Entry) (t : ℕ) → MayBegin o → IsLegal o (e ∷ h)
     → t < next_number o h → state_of o h t ≡ Dead → state_of o (e ∷ h) t ≡ Dead
 
 -- in a legal history, following who waits for whom from one for whom a transaction waits never
 -- comes back to it
 abbrev pub WaitsEnd : Type 0
-WaitsEnd = (o : Opening) (h : Entries) (t u most : ℕ) → IsOpening o → IsLegal o h
+WaitsEnd = (o : Opening) (h : Entries) (t u most : ℕ) → MayBegin o → IsLegal o h
     → waits_on (told o h) t ≡ Some u → leads_to (waits_on (told o h)) most u t ≡ false
 
 -- an obstacle is a transaction that can be in the way, and its own changes have the key

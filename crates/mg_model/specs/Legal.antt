@@ -28,18 +28,23 @@ is_outer Fine = false
 is_outer (Tx t) = false
 is_outer (Rows rows) = false
 
--- a history may begin so: numbers are drawn from 1 on, changes are listed of transactions in limbo
--- alone, and those of one key are of one transaction
-pub record IsOpening (o : Opening) : Type 0 where
+-- A history may begin so: numbers are drawn from 1 on, changes are listed of transactions in limbo
+-- alone, and those of one key are of one transaction. It is what laws of histories take; an opening
+-- that a database gives is whole (`IsOpening`).
+pub record MayBegin (o : Opening) : Type 0 where
   pub first : 1 ≤ o.next.0
   pub in_limbo : (t : ℕ) → opening_state o t ≢ Limbo → deeds_by t (steps o []) ≡ []
   pub one_writer : (t u : ℕ) (table : List ℕ) (key : Value)
       → has_change (own o [] t) table key ≡ true → has_change (own o [] u) table key ≡ true
       → t ≡ u
 
+-- two answers are the same; their rows are by `same_row`
+abbrev pub same_answer : Answer → Answer → Type 0
+same_answer a b = a ≡ b
+
 -- an entry is lawful: its answer is the machine's on what was before, or comes from outside
 abbrev pub IsLawful : Opening → Entries → Entry → Type 0
-IsLawful o h e = (e.answer ≡ answer o h e.event) ⊎ (is_outer e.answer ≡ true)
+IsLawful o h e = same_answer e.answer (answer o h e.event) ⊎ (is_outer e.answer ≡ true)
 
 -- a history is legal: each of its entries is lawful
 abbrev pub IsLegal : Opening → Entries → Type 0

@@ -39,7 +39,7 @@ IsAllowed o h Nothing = Unit {0}
 
 -- ---- what an answer that is no refusal tells
 
-active_from_fine : (s : TxState) (next : Answer) → Fine ≡ if_active s next
+pub active_from_fine : (s : TxState) (next : Answer) → Fine ≡ if_active s next
     → (s ≡ Active) × (Fine ≡ next)
 active_from_fine Active next is = (refl, is)
 active_from_fine Limbo next is = absurd cc
@@ -59,11 +59,11 @@ decided_ends : (commit : Bool) → is_active (decided commit) ≡ false
 decided_ends true = refl
 decided_ends false = refl
 
-fine_by_true : (b : Bool) (r : Refusal) (next : Answer) → Fine ≡ cond b (No r) next → Fine ≡ next
+pub fine_by_true : (b : Bool) (r : Refusal) (next : Answer) → Fine ≡ cond b (No r) next → Fine ≡ next
 fine_by_true true r next is = absurd cc
 fine_by_true false r next is = is
 
-fine_by_false : (b : Bool) (r : Refusal) (next : Answer) → Fine ≡ cond b next (No r) → Fine ≡ next
+pub fine_by_false : (b : Bool) (r : Refusal) (next : Answer) → Fine ≡ cond b next (No r) → Fine ≡ next
 fine_by_false true r next is = is
 fine_by_false false r next is = absurd cc
 
@@ -98,7 +98,7 @@ dead_hinders_not true saw Dead dead hinders = false≢true hinders
 dead_hinders_not true saw Committed dead hinders = absurd cc
 dead_hinders_not false saw s dead hinders = false≢true hinders
 
-none_from_fine : (k : Told) (t : ℕ) (found : Option ℕ) (next : Answer)
+pub none_from_fine : (k : Told) (t : ℕ) (found : Option ℕ) (next : Answer)
     → ((u : ℕ) → found ≡ Some u → can_hinder k t u ≡ true) → Fine ≡ past k t found next
     → (found ≡ None) × (Fine ≡ next)
 none_from_fine k t None next hinders is = (refl, is)
@@ -106,12 +106,12 @@ none_from_fine k t (Some u) next hinders is =
     absurd (dead_hinders_not (not (u == t)) (not (k.saw t u)) (k.state u)
     (dead_from_fine (k.state u) (k.mode t).wait (closes k t u) u is) (hinders u refl))
 
-obstacle_hinders : (k : Told) (t : ℕ) (table : List ℕ) (key : Value) (u : ℕ)
+pub obstacle_hinders : (k : Told) (t : ℕ) (table : List ℕ) (key : Value) (u : ℕ)
     → obstacle k t table key ≡ Some u → can_hinder k t u ≡ true
 obstacle_hinders k t table key u is =
     found_passes (can_hinder k t) (changes_key table key) k.steps u is
 
-table_obstacle_hinders : (k : Told) (t : ℕ) (table : List ℕ) (u : ℕ)
+pub table_obstacle_hinders : (k : Told) (t : ℕ) (table : List ℕ) (u : ℕ)
     → table_obstacle k t table ≡ Some u → can_hinder k t u ≡ true
 table_obstacle_hinders k t table u is = at (same_name table catalog_name) is
   where

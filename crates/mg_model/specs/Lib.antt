@@ -7,6 +7,8 @@ pub mod Machine
 pub mod Answers
 pub mod Legal
 pub mod NewDatabase
+pub mod Openings
+pub mod Constants
 pub mod Scenarios
 pub mod Effects
 pub mod EntryLaws
@@ -28,7 +30,11 @@ pub mod DeedLaws
 pub mod WrittenLaws
 pub mod ObstacleLaws
 pub mod OpeningLaws
+pub mod NewCatalogLaws
+pub mod NewOpeningLaws
 pub mod LimboLaws
+pub mod Promises
+pub mod PromiseLaws
 pub mod ConflictScenarios
 pub mod PointScenarios
 pub mod StateScenarios

@@ -12,7 +12,7 @@ use Rattle.mg_model.specs.declared.opening.Opening.{Opening}
 use Rattle.mg_model.specs.History.{Entry, Entries, Effect, Begins, Looks, Makes, Gives, Marks, Saves, TakesBack, Ends, Nothing, effect_with, effect_of}
 use Rattle.mg_model.specs.Machine.{next_number, state_after, state_of, is_of, own}
 use Rattle.mg_model.specs.Answers.{answer, if_active}
-use Rattle.mg_model.specs.Legal.{is_outer, IsOpening, IsLawful, IsLegal, is_lasting, is_fine, is_durable, durable_count, after_durable, is_limbo, durable_limbo, durable_changes}
+use Rattle.mg_model.specs.Legal.{is_outer, MayBegin, IsLawful, IsLegal, is_lasting, is_fine, is_durable, durable_count, after_durable, is_limbo, durable_limbo, durable_changes}
 use Rattle.mg_model.specs.Effects.{doer}
 use Rattle.mg_model.specs.EntryLaws.{own_others_entry}
 use Rattle.mg_model.specs.LegalLaws.{IsAllowed, lawful_is_allowed}
@@ -115,7 +115,7 @@ up_to_durable_entry e h true lasts =
     rw lasts (rw is_below refl)
 up_to_durable_entry e h false passes = rw passes refl
 
-module _ (o : Opening) (opening : IsOpening o) where
+module _ (o : Opening) (opening : MayBegin o) where
   next_is_dead : (h : Entries) → IsLegal o h → (u : ℕ) → u ≡ next_number o h
       → state_of o h u ≡ Dead
   next_is_dead h legal u is = undrawn_is_dead o opening h legal u (omega arith)

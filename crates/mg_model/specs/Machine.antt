@@ -1,11 +1,9 @@
 -- The history machine: what has become of each transaction, what stands of its steps, the state of
 -- the database, and what each transaction sees of it. No page, chain, state bit or index is here.
-use Rattle.std.specs.Prelude.{ℕ, zero, suc, ◌+◌, ◌-◌, ◌==◌, ◌&&◌, ◌||◌, not, nat_le, nat_lt, Bool, true, false, List, [], ◌∷◌, ◌++◌, map, Option, Some, None, slice_index_or, if◌then◌else◌}
+use Rattle.std.specs.Prelude.{ℕ, ◌+◌, ◌-◌, ◌==◌, ◌&&◌, ◌||◌, not, nat_lt, Bool, true, false, List, [], ◌∷◌, ◌++◌, map, Option, Some, None, slice_index_or, if◌then◌else◌}
 use Rattle.mg_base.specs.declared.transaction.TxState.{TxState}
 use Rattle.mg_base.specs.declared.transaction.TxState.TheVariants.{Active, Limbo, Dead, Committed}
 use Rattle.mg_value.specs.declared.value.Value.{Value}
-use Rattle.mg_value.specs.declared.value.Value.TheVariants.{Null}
-use Rattle.mg_value.specs.declared.shape.Shape.{Shape}
 use Rattle.mg_model.specs.declared.answer.Answer.{Answer}
 use Rattle.mg_model.specs.declared.answer.Answer.TheVariants.{Fine, Tx, Rows, No}
 use Rattle.mg_model.specs.declared.refusal.Refusal.TheVariants.{Waits}
@@ -19,7 +17,7 @@ use Rattle.mg_model.specs.declared.opening.LimboChange.{LimboChange}
 use Rattle.mg_model.specs.declared.opening.PlacedRow.{PlacedRow}
 use Rattle.mg_model.specs.Changes.{Cells, same_name, row_at}
 use Rattle.mg_model.specs.Catalog.{CatalogRows, catalog_name, catalog_shape, key_of, key_in}
-use Rattle.mg_model.specs.History.{Entry, Entries, transaction_of, Point, LastMark, SavepointNamed, Effect, Begins, Looks, Makes, Gives, Marks, Saves, TakesBack, Ends, Nothing, effect_of}
+use Rattle.mg_model.specs.History.{Entries, transaction_of, Point, LastMark, SavepointNamed, Effect, Begins, Looks, Makes, Gives, Marks, Saves, TakesBack, Ends, Nothing, effect_of}
 
 -- ---- numbers, modes and ends
 

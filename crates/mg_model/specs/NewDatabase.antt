@@ -1,7 +1,6 @@
 -- The database that a new file holds: the table KV (K BIGINT PRIMARY KEY, V BIGINT), empty.
 use Rattle.std.specs.Prelude.{ℕ, List, [], ◌∷◌, codes}
-use Rattle.mg_value.specs.declared.value.Value.{Value}
-use Rattle.mg_value.specs.declared.value.Value.TheVariants.{Null, Int, Text}
+use Rattle.mg_value.specs.declared.value.Value.TheVariants.{Null, Text}
 use Rattle.mg_model.specs.declared.opening.Opening.{Opening}
 use Rattle.mg_model.specs.declared.opening.PlacedRow.{PlacedRow}
 use Rattle.mg_model.specs.Changes.{Cells}

@@ -9,7 +9,7 @@ use Rattle.mg_model.specs.declared.opening.Opening.{Opening}
 use Rattle.mg_model.specs.History.{Entry, Entries, Effect, Begins, Looks, Makes, Gives, Marks, Saves, TakesBack, Ends, Nothing, effect_of}
 use Rattle.mg_model.specs.Machine.{next_after, next_number, opening_state, state_of, is_of, deeds_by, steps, own}
 use Rattle.mg_model.specs.Answers.{is_committed, is_open}
-use Rattle.mg_model.specs.Legal.{IsOpening, IsLegal}
+use Rattle.mg_model.specs.Legal.{MayBegin, IsLegal}
 use Rattle.mg_model.specs.Effects.{doer, drawn, is_its}
 use Rattle.mg_model.specs.EntryLaws.{deeds_by_others_entry, own_others_entry, state_others_entry}
 use Rattle.mg_model.specs.LegalLaws.{IsAllowed, lawful_is_allowed}
@@ -53,7 +53,7 @@ closed_does_nothing o h f t allowed closed else_drawn = at f allowed else_drawn
     at (Ends u end) allowed drawn = open_other u allowed.0
     at Nothing allowed drawn = refl
 
-module _ (o : Opening) (opening : IsOpening o) where
+module _ (o : Opening) (opening : MayBegin o) where
   undrawn_at_first : (t : ℕ) → o.next.0 ≤ t → opening_state o t ≡ Dead
   undrawn_at_first t above =
       let first : 1 ≤ o.next.0 = opening.first in

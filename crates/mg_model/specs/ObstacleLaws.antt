@@ -1,20 +1,16 @@
--- Who is the obstacle of a key, and what one entry makes of it.
-use Rattle.std.specs.Prelude.{◌≡◌, ℕ, ◌==◌, ◌&&◌, ◌||◌, not, Bool, true, false, List, [], ◌∷◌, ◌++◌, Option, Some, None, cond, refl}
+-- Who is the obstacle of a key.
+use Rattle.std.specs.Prelude.{◌≡◌, ℕ, ◌==◌, ◌&&◌, Bool, true, false, List, [], ◌∷◌, Option, Some, None, cond, refl}
 use Rattle.std.proofs.lemmas.Bool.{false≢true, eq-eqb}
-use Rattle.mg_base.specs.declared.transaction.TxState.{TxState}
-use Rattle.mg_base.specs.declared.transaction.TxState.TheVariants.{Active}
 use Rattle.mg_value.specs.declared.value.Value.{Value}
 use Rattle.mg_model.specs.declared.change.Deed.{Deed}
 use Rattle.mg_model.specs.declared.change.Deed.TheVariants.{Changed, Marked, Saved}
 use Rattle.mg_model.specs.declared.change.Step.{Step}
 use Rattle.mg_model.specs.declared.opening.Opening.{Opening}
-use Rattle.mg_model.specs.Changes.{Cells, is_at, has_change, row_at}
-use Rattle.mg_model.specs.Catalog.{catalog_name}
-use Rattle.mg_model.specs.History.{Entry, Entries, Effect, Gives, effect_of}
-use Rattle.mg_model.specs.Machine.{state_after, state_of, mode_of, deeds_by, changes_in, changes_by, steps_after, takes_base, steps, base, own, cut_at_base}
-use Rattle.mg_model.specs.Answers.{told, is_committed, is_open, can_hinder, changes_key, newest_by, obstacle}
+use Rattle.mg_model.specs.Changes.{is_at, has_change}
+use Rattle.mg_model.specs.History.{Entries}
+use Rattle.mg_model.specs.Machine.{deeds_by, changes_in, changes_by, steps, own}
+use Rattle.mg_model.specs.Answers.{told, can_hinder, changes_key, newest_by, obstacle}
 use Rattle.mg_model.specs.LegalLaws.{found_passes}
-use Rattle.mg_model.specs.ReadLaws.{is_at_itself}
 use Rattle.mg_model.specs.HinderLaws.{none_hinders}
 
 -- who is found has a change of the key
@@ -79,38 +75,6 @@ pub no_obstacle_is : (o : Opening) (h : Entries) (t : ℕ) (table : List ℕ) (k
     → can_hinder (told o h) t u ≡ false
 no_obstacle_is o h t table key u none has =
     none_hinders (can_hinder (told o h) t) table key (steps o h) u none has
-
--- ---- one entry
-
--- a key that an active transaction has just written has it as its obstacle, for each other one
-pub writer_is_obstacle : (o : Opening) (h : Entries) (e : Entry) (t u : ℕ) (table : List ℕ)
-    (key : Value) (row : Option Cells) → effect_of e ≡ Gives u table key row
-    → (u == t) ≡ false → state_of o h u ≡ Active
-    → obstacle (told o (e ∷ h)) t table key ≡ Some u
-writer_is_obstacle o h e t u table key row is other active =
-    front (effect_of e) is
-  where
-    here : is_at (record { table = table; key = key; row = row }) table key ≡ true
-    here = is_at_itself table key row
-
-    hinders : (s : TxState) (saw : Bool) → s ≡ Active
-        → (not (u == t) && (is_open s || (is_committed s && not saw))) ≡ true
-    hinders s saw is = rw (other, is) refl
-
-    front : (f : Effect) → f ≡ Gives u table key row
-        → newest_by (λ v. not (v == t) && (is_open (state_after f v (state_of o h v))
-        || (is_committed (state_after f v (state_of o h v))
-        && not (is_committed (state_of o
-        (cond (takes_base f t (mode_of h t).snapshot) h (cut_at_base h t)) v)))))
-        (changes_key table key)
-        (steps_after f (λ v. row_at (changes_by v (steps o h) ++ base o h v) catalog_name)
-        (steps o h))
-        ≡ Some u
-    front f is =
-        let who : (not (u == t) && (is_open (state_of o h u) || (is_committed (state_of o h u)
-        && not (is_committed (state_of o (cut_at_base h t) u))))) ≡ true =
-        hinders (state_of o h u) (is_committed (state_of o (cut_at_base h t) u)) active in
-        rw is (rw (who, here) refl)
 
 -- ---- by the writers of a key
 

@@ -14,7 +14,7 @@ use Rattle.mg_model.specs.Catalog.{CatalogRows, catalog_name, key_in}
 use Rattle.mg_model.specs.History.{Entry, Entries, Effect, Begins, Looks, Makes, Gives, Marks, Saves, TakesBack, Ends, Nothing, effect_of}
 use Rattle.mg_model.specs.Machine.{next_number, state_after, state_of, is_of, deeds_by, changes_in, changes_by, changed, step, steps_after, takes_base, mode_of, steps, base, own, cut_at_base}
 use Rattle.mg_model.specs.Answers.{told, is_committed, is_open, can_hinder, obstacle}
-use Rattle.mg_model.specs.Legal.{IsOpening, IsLegal}
+use Rattle.mg_model.specs.Legal.{MayBegin, IsLegal}
 use Rattle.mg_model.specs.Effects.{doer, is_its}
 use Rattle.mg_model.specs.EntryLaws.{own_others_entry}
 use Rattle.mg_model.specs.RowLaws.{same_from_same_key}
@@ -37,7 +37,7 @@ AreInTurn o h t u = ((told o h).saw t u ≡ true) ⊎ ((told o h).saw u t ≡ tr
 
 -- ---- one entry
 
-module _ (o : Opening) (opening : IsOpening o) (h : Entries) (legal : IsLegal o h) where
+module _ (o : Opening) (opening : MayBegin o) (h : Entries) (legal : IsLegal o h) where
   abbrev catalog : ℕ → CatalogRows
   catalog u = row_at (changes_by u (steps o h) ++ base o h u) catalog_name
 
@@ -153,7 +153,7 @@ other_doer : (t u : ℕ) (it : Option ℕ) → (t == u) ≡ false → is_of t it
 other_doer t u None apart its = refl
 other_doer t u (Some v) apart its = ap (λ n. n == u) (eqb-true v t its) ∙ apart
 
-module _ (o : Opening) (opening : IsOpening o) where
+module _ (o : Opening) (opening : MayBegin o) where
   -- what a transaction saw committed is committed
   pub saw_is_committed : (h : Entries) → IsLegal o h → (t u : ℕ) → (told o h).saw t u ≡ true
       → is_committed (state_of o h u) ≡ true

@@ -30,6 +30,7 @@ impl Rows {
         Rows { items }
     }
 
+    /// The rows, in their order.
     pub fn as_slice(&self) -> &[Row]
         ensures { result.now ≡ self.now }
     {

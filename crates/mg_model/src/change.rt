@@ -12,6 +12,7 @@ pub struct Change {
     pub table: Name,
     /// The value that names the row. A lawful row's is no NULL.
     pub key: Value,
+    /// The row that the key has after the change, none where it was deleted.
     pub row: Option<Row>,
 }
 
@@ -33,6 +34,10 @@ impl Change {
 }
 
 /// An equal row, if there is one.
+///
+/// # Errors
+///
+/// `Memory` only.
 pub fn copy_row(alloc: Global, row: &Option<Row>) -> Result<Option<Row>, Memory>
     ensures { IfOk result (λ copied. copied ≡ row.now) }
 {
@@ -45,13 +50,16 @@ pub fn copy_row(alloc: Global, row: &Option<Row>) -> Result<Option<Row>, Memory>
 /// A point to which a transaction is taken back.
 #[derive(Clone, Copy, Debug)]
 pub enum Point {
+    /// The last mark that stands.
     LastMark,
+    /// The last savepoint of this name that stands.
     SavepointNamed(Name),
 }
 
 /// What a step of a transaction did.
 #[derive(Debug, Drop)]
 pub enum Deed {
+    /// A row was made, changed or deleted.
     Changed(Change),
     /// A point to which one statement can be taken back.
     Marked,

@@ -44,8 +44,10 @@ pub enum Event {
     BackTo(TxNo, Name),
     /// The transaction comes into limbo: only a decision ends it.
     Prepare(TxNo),
+    /// The transaction ends, and what it did becomes part of the database.
     Commit(TxNo),
+    /// The transaction ends, and nothing of it stays.
     Rollback(TxNo),
-    /// A transaction in limbo is committed, or rolled back.
+    /// A transaction in limbo is committed (`true`), or rolled back.
     Decide(TxNo, bool),
 }

@@ -1,14 +1,38 @@
 //! The laws of the history machine. Each function does nothing: its contract is a law, so that
 //! another crate can cite it.
 
+ghost use Rattle.std.specs.Prelude.{◌≡◌, codes};
+ghost use Rattle.mg_value.specs.declared.shape.TheConstants.{MOST_COLUMNS};
+ghost use Rattle.mg_model.specs.Catalog.{catalog_name};
+ghost use Rattle.mg_model.specs.Constants.{NewRows};
+ghost use Rattle.mg_model.specs.Promises.{SnapshotsSee, SnapshotsSaw};
+ghost use Rattle.mg_model.specs.Promises.{InsertIsFine, ChangeIsFine, EraseIsFine};
 ghost use Rattle.mg_model.specs.Laws.{ViewStands, SnapshotStands, OthersLeaveIt, DeedsFollow};
-ghost use Rattle.mg_model.specs.Laws.{IsDrawnOnce, NewIsOpening, GoesOnLegally, OnlyCommitsCount};
+ghost use Rattle.mg_model.specs.Laws.{IsDrawnOnce, OpeningsBegin, NewIsOpening, GoesOnLegally};
+ghost use Rattle.mg_model.specs.Laws.{OnlyCommitsCount};
 ghost use Rattle.mg_model.specs.Laws.{BaseIsCut, DurableIsAll, LimboOutlasts, LimboChangesOutlast};
 ghost use Rattle.mg_model.specs.Laws.{ReadsGiven, ReadsMade, ReadsWritten, ReadsOwn, ReadsBase};
 ghost use Rattle.mg_model.specs.Laws.{OwnIsRestored, ViewIsRestored, WritersTakeTurns, WaitsEnd};
 ghost use Rattle.mg_model.specs.Laws.{ViewIsSettled, CommittedStays, DeadStays};
 ghost use Rattle.mg_model.specs.Laws.{ObstacleIsThere, NoneIsThere};
 ghost use Rattle.mg_model.specs.Laws.{RowsAscend, RowsAreThose, UpperDecides};
+
+use crate::{CATALOG, MOST_TRANSACTIONS};
+
+/// What a transaction sees that reads by one snapshot: the database just before it began, with its
+/// own changes over it.
+pub fn snapshots_see()
+    ensures sees { SnapshotsSee }
+    ensures saw { SnapshotsSaw }
+{}
+
+/// When a change of a key is answered Fine: where the transaction may write the key, and sees a row
+/// with it, or none where the row is new.
+pub fn changes_are_fine()
+    ensures insert { InsertIsFine }
+    ensures change { ChangeIsFine }
+    ensures erase { EraseIsFine }
+{}
 
 /// A transaction's view changes by its own events alone.
 pub fn views_stand()
@@ -21,6 +45,7 @@ pub fn views_stand()
 
 /// There are openings and legal histories.
 pub fn histories_go_on()
+    ensures begins { OpeningsBegin }
     ensures opening { NewIsOpening }
     ensures legal { GoesOnLegally }
 {}
@@ -63,6 +88,15 @@ pub fn rollbacks_are_unseen()
     ensures view { ViewIsSettled }
     ensures committed { CommittedStays }
     ensures dead { DeadStays }
+{}
+
+/// The numbers and texts that a file or a user sees.
+pub fn constants_are_those()
+    ensures transactions { MOST_TRANSACTIONS ≡ 1_000_000_000 }
+    ensures columns { MOST_COLUMNS ≡ 64 }
+    ensures catalog { CATALOG.now ≡ codes "MG$CATALOG" }
+    ensures named { CATALOG.now ≡ catalog_name }
+    ensures rows { NewRows }
 {}
 
 /// The waits have no cycle.

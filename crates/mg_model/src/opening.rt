@@ -6,6 +6,10 @@ use mg_base::{TxNo, TxState};
 use mg_value::{Key, Name, Row};
 use std::marker::Model;
 
+/// The first number of a transaction that no database draws (chosen). A program may set its limit
+/// lower.
+pub const MOST_TRANSACTIONS: u32 = 1_000_000_000;
+
 /// A row of a table.
 #[derive(Debug, Drop)]
 pub struct PlacedRow {
@@ -45,6 +49,7 @@ impl Placed {
         Placed { items }
     }
 
+    /// The rows, in their order.
     pub fn as_slice(&self) -> &[PlacedRow]
         ensures { result.now ≡ self.now }
     {
@@ -75,6 +80,7 @@ impl Changes {
         Changes { items }
     }
 
+    /// The changes, in their order.
     pub fn as_slice(&self) -> &[LimboChange]
         ensures { result.now ≡ self.now }
     {
@@ -105,6 +111,7 @@ impl States {
         States { items }
     }
 
+    /// The states: that of number `n` stands at place `n - 1`.
     pub fn as_slice(&self) -> &[TxState]
         ensures { result.now ≡ self.now }
     {
@@ -116,10 +123,13 @@ impl States {
 /// become of each transaction, the number that is drawn next, and the number that can't be drawn.
 #[derive(Debug, Drop)]
 pub struct Opening {
+    /// The committed rows of all tables, the catalog's among them.
     pub rows: Placed,
+    /// The changes of the transactions in limbo, none of which is in `rows`.
     pub limbo: Changes,
     /// One for each number from 1 to the one below `next`.
     pub states: States,
+    /// The number that is drawn next, at least 1.
     pub next: TxNo,
     /// A transaction is refused where this is the next number: a property of the program.
     pub limit: TxNo,

@@ -15,6 +15,7 @@ pub struct Index {
     pub name: Name,
     /// The place of its column in the table's shape.
     pub column: u16,
+    /// The page of its root, which is not page 0.
     pub root: PageNo,
 }
 
@@ -41,6 +42,7 @@ impl Indexes {
         Indexes { items }
     }
 
+    /// The indexes, in their order.
     pub fn as_slice(&self) -> &[Index]
         ensures { result.now ≡ self.now }
     {
@@ -54,6 +56,7 @@ impl Indexes {
 pub struct Table {
     pub name: Name,
     pub shape: Shape,
+    /// The first of its pointer pages.
     pub pointer: PageNo,
     pub indexes: Indexes,
 }
