@@ -8,10 +8,9 @@ use Rattle.mg_base.specs.declared.transaction.TxState.TheVariants.{Dead, Committ
 use Rattle.mg_value.specs.declared.value.Value.{Value}
 use Rattle.mg_version.specs.declared.cell.Link.{Link}
 use Rattle.mg_model.specs.declared.table.Table.{Table}
-use Rattle.mg_model.specs.CatalogRules.{AreTables}
 use Rattle.mg_image.specs.declared.entry.Entry.{Entry}
 use Rattle.mg_image.specs.Form.{Coding, Row, Rows}
-use Rattle.mg_image.specs.Catalog.{HasNames, committed_with}
+use Rattle.mg_image.specs.Catalog.{CatalogNames, HasNames, committed_with}
 use Rattle.mg_image.specs.Held.{AreRows, Shows}
 use Rattle.mg_image.specs.RecordRules.{AreRecords, Each, EachBack, Facts, IsInLimbo, IsRecord, IsVersion, TakesKey, table_in}
 use Rattle.mg_image.specs.Records.{Cells, Chain, Reading, ended, goes, key_of, newest_of, record_key, shown, writer}
@@ -30,13 +29,19 @@ back_has P Q gives (e ∷ es) each = each_has P Q gives es each
 
 -- ---- other facts
 
--- What other facts keep: what was committed stays so, and what was not dead does too.
+-- What other facts keep: tables keep their pages and may have more, what was committed stays so,
+-- what was not dead does too, and the oldest interesting transaction passes over none that is dead.
 pub record KeepsFacts (f g : Facts) : Type 0 where
-  pub tables : (n : ℕ) → g.table_of n ≡ f.table_of n
+  pub tables : (n : ℕ) (table : Table) → f.table_of n ≡ Some table → g.table_of n ≡ Some table
   pub next : f.next ≤ g.next
-  pub oldest : g.oldest ≤ f.oldest
+  pub oldest : (t : ℕ) → g.state t ≡ Dead → f.oldest ≤ t → g.oldest ≤ t
   pub dead : (t : ℕ) → g.state t ≡ Dead → f.state t ≡ Dead
   pub committed : (t : ℕ) → f.state t ≡ Committed → g.state t ≡ Committed
+
+-- no record begins on a page that a table has by the later facts alone
+abbrev pub AreNewPagesEmpty : Facts → Facts → Cells → Type 0
+AreNewPagesEmpty f g h = (p : RecId) (table : Table) → table_in f p ≡ None
+    → table_in g p ≡ Some table → newest_of p (h p) ≡ None
 
 -- no two records of a table take one key
 abbrev pub KeysOnce : Facts → Reading → Type 0
@@ -46,10 +51,9 @@ KeysOnce f r = (p q : RecId) (table : Table) → table_in f p ≡ Some table →
 version_under : (coding : Coding) (f g : Facts) (table : Table) (key : Value) → KeepsFacts f g
     → (e : Entry) → IsVersion coding f table key e → IsVersion coding g table key e
 version_under coding f g table key keeps e is = record {
-  placed = keeps.tables e.at.page.0 ∙ is.placed;
+  placed = keeps.tables e.at.page.0 table is.placed;
   drawn = let drawn = is.drawn in let next = keeps.next in omega arith;
-  dead = λ dead.
-      let above = is.dead (keeps.dead (writer e) dead) in let oldest = keeps.oldest in omega arith;
+  dead = λ dead. keeps.oldest (writer e) dead (is.dead (keeps.dead (writer e) dead));
   format = is.format;
   spelled = is.spelled;
   storable = is.storable;
@@ -57,19 +61,32 @@ version_under coding f g table key keeps e is = record {
   keyed = is.keyed;
 }
 
--- the same records are lawful under facts that keep the others, where no key is taken twice
+-- the same records are lawful under facts that keep the others, where no key is taken twice, and no
+-- record begins on a page that a table comes to have
 pub records_under : (coding : Coding) (f g : Facts) (h : Cells) (r : Reading) → KeepsFacts f g
-    → KeysOnce g r → AreRecords coding f h r → AreRecords coding g h r
-records_under coding f g h r keeps once are = record {
-  reads = λ p table of. are.reads p table (back p ∙ of);
-  outside = λ p none. are.outside p (back p ∙ none);
-  each = λ p table of. record_under table (r p) (are.each p table (back p ∙ of));
+    → AreNewPagesEmpty f g h → KeysOnce g r → AreRecords coding f h r → AreRecords coding g h r
+records_under coding f g h r keeps empty once are = record {
+  reads = λ p table of. reads p table of (table_in f p) refl;
+  outside = λ p none. outside p none (table_in f p) refl;
+  each = λ p table of. each p table of (table_in f p) refl;
   apart = are.apart;
   keys = once;
 }
   where
-    back : (p : RecId) → table_in f p ≡ table_in g p
-    back p = sym (keeps.tables p.page.0)
+    -- a table keeps its places
+    same : (p : RecId) (table old : Table) → table_in g p ≡ Some table → table_in f p ≡ Some old
+        → old ≡ table
+    same p table old of was = let kept = keeps.tables p.page.0 old was in cc
+
+    reads : (p : RecId) (table : Table) → table_in g p ≡ Some table → (was : Option Table)
+        → table_in f p ≡ was → Chain h (newest_of p (h p)) (r p)
+    reads p table of None was = rw (are.outside p was, empty p table was of) ended
+    reads p table of (Some old) was = are.reads p old was
+
+    outside : (p : RecId) → table_in g p ≡ None → (was : Option Table) → table_in f p ≡ was
+        → r p ≡ []
+    outside p none None was = are.outside p was
+    outside p none (Some old) was = let kept = keeps.tables p.page.0 old was in absurd cc
 
     record_under : (table : Table) (es : List Entry) → IsRecord coding f table es
         → IsRecord coding g table es
@@ -81,6 +98,21 @@ records_under coding f g h r keeps once are = record {
       backs = back_has (λ e. f.state (writer e) ≡ Committed) (λ e. g.state (writer e) ≡ Committed)
           (λ e. keeps.committed (writer e)) es is.backs;
     }
+
+    none_lawful : (table : Table) → IsRecord coding g table []
+    none_lawful table = record { once = tt; each = tt; backs = tt }
+
+    each : (p : RecId) (table : Table) → table_in g p ≡ Some table → (was : Option Table)
+        → table_in f p ≡ was → IsRecord coding g table (r p)
+    each p table of None was = rw (are.outside p was) (none_lawful table)
+    each p table of (Some old) was =
+        record_under table (r p) (are.each p table (was ∙ ap Some (same p table old of was)))
+
+-- facts with the same tables bring no pages
+no_new_pages : (f g : Facts) (h : Cells) → ((n : ℕ) → g.table_of n ≡ f.table_of n)
+    → AreNewPagesEmpty f g h
+no_new_pages f g h tables p table none of =
+    let same : table_in g p ≡ table_in f p = tables p.page.0 in absurd cc
 
 -- Other facts differ in Next alone, which is not less.
 pub record GrowsFacts (f g : Facts) : Type 0 where
@@ -102,12 +134,12 @@ takes_same f g es same (inr limbo) = inr (in_limbo es limbo)
 pub records_grow : (coding : Coding) (f g : Facts) (h : Cells) (r : Reading) → GrowsFacts f g
     → AreRecords coding f h r → AreRecords coding g h r
 records_grow coding f g h r grows are = records_under coding f g h r (record {
-  tables = grows.tables;
+  tables = λ n table is. grows.tables n ∙ is;
   next = grows.next;
-  oldest = let same = grows.oldest in omega arith;
+  oldest = λ t dead above. let same = grows.oldest in omega arith;
   dead = λ t dead. sym (grows.state t) ∙ dead;
   committed = λ t is. grows.state t ∙ is;
-}) once are
+}) (no_new_pages f g h grows.tables) once are
   where
     same : f.state ≡ g.state
     same = fun_ext (λ t. sym (grows.state t))
@@ -138,12 +170,12 @@ still_committed f g t commits u is = at (cases_eq u t)
 pub records_commit : (coding : Coding) (f g : Facts) (h : Cells) (r : Reading) (t : ℕ)
     → CommitsFacts f g t → KeysOnce g r → AreRecords coding f h r → AreRecords coding g h r
 records_commit coding f g h r t commits once are = records_under coding f g h r (record {
-  tables = commits.tables;
+  tables = λ n table is. commits.tables n ∙ is;
   next = let same = commits.next in omega arith;
-  oldest = let same = commits.oldest in omega arith;
+  oldest = λ u dead above. let same = commits.oldest in omega arith;
   dead = λ u dead. was_dead u dead (cases_eq u t);
   committed = still_committed f g t commits;
-}) once are
+}) (no_new_pages f g h commits.tables) once are
   where
     was_dead : (u : ℕ) → g.state u ≡ Dead → (u ≡ t) ⊎ (u ≢ t) → f.state u ≡ Dead
     was_dead u dead (inl e) = let is = commits.state in let also = rw e at dead in absurd cc
@@ -224,33 +256,27 @@ same_rows_of f g old new r s table rows same are = record { there = there; whole
     whole key row is = held key row (are.whole key row is)
 
 -- the catalog names the same tables, where whoever is committed its rows are the same
-pub same_names : (f g : Facts) (r s : Reading) (catalog : Table) (tables : List Table)
+pub same_names : (size : ℕ) (f g : Facts) (r s : Reading) (catalog : Table) (tables : List Table)
     → ((chosen : ℕ → Bool) → ShowsSameOf catalog f g (committed_with f chosen)
     (committed_with g chosen) r s)
-    → HasNames f r catalog tables → HasNames g s catalog tables
-same_names f g r s catalog tables same names = record {
-  lawful = λ chosen. moved chosen (names.lawful chosen);
-  named = moved_names names.named;
+    → HasNames size f r catalog tables → HasNames size g s catalog tables
+same_names size f g r s catalog tables same names = record {
+  named = names.named;
+  lawful = λ chosen. moved chosen (names.named chosen) (names.lawful chosen);
+  all = moved (λ t. true) tables names.all;
+  stay = names.stay;
 }
   where
-    rows_are : (chosen : ℕ → Bool) (rows : Rows)
-        → AreRows f (committed_with f chosen) r catalog rows
-        → AreRows g (committed_with g chosen) s catalog rows
-    rows_are chosen rows = same_rows_of f g (committed_with f chosen) (committed_with g chosen) r s
-        catalog rows (same chosen)
-
-    moved : (chosen : ℕ → Bool) → (rows : Rows)
-        × AreRows f (committed_with f chosen) r catalog rows
-        × ((named : List Table) × AreTables rows named)
-        → (rows : Rows) × AreRows g (committed_with g chosen) s catalog rows
-        × ((named : List Table) × AreTables rows named)
-    moved chosen (rows, are, named) = (rows, rows_are chosen rows are, named)
-
-    moved_names : (rows : Rows) × AreRows f (committed_with f (λ t. true)) r catalog rows
-        × AreTables rows tables
-        → (rows : Rows) × AreRows g (committed_with g (λ t. true)) s catalog rows
-        × AreTables rows tables
-    moved_names (rows, are, named) = (rows, rows_are (λ t. true) rows are, named)
+    moved : (chosen : ℕ → Bool) (named : List Table)
+        → CatalogNames size f (committed_with f chosen) r catalog named
+        → CatalogNames size g (committed_with g chosen) s catalog named
+    moved chosen named is = record {
+      rows = is.rows;
+      are_rows = same_rows_of f g (committed_with f chosen) (committed_with g chosen) r s catalog
+          is.rows (same chosen) is.are_rows;
+      are_tables = is.are_tables;
+      fit = is.fit;
+    }
 
 -- the row that is shown has the key of its versions
 pub shown_keyed : (coding : Coding) (f : Facts) (table : Table) (key : Value)

@@ -1,8 +1,10 @@
 -- A blank image holds a new database, and any image what a history begins with.
-use Rattle.std.specs.Prelude.{◌≡◌, ◌≤◌, ◌==◌, ◌-◌, ℕ, nat_lt, Bool, true, false, [], None, refl, slice_index_or, if◌then◌else◌}
-use Rattle.std.proofs.Common.{ap, subst, le-ltb}
+use Rattle.std.specs.Prelude.{◌≡◌, ◌≤◌, ◌==◌, ◌-◌, ℕ, nat_lt, Bool, false, [], None, refl, slice_index_or, if◌then◌else◌}
+use Rattle.std.proofs.Common.{ap, subst, le-ltb, lit≤, arith}
+use Rattle.std.proofs.lemmas.Bool.{ne_eqb}
 use Rattle.mg_base.specs.declared.transaction.TxState.TheVariants.{Committed, Dead}
 use Rattle.mg_model.specs.declared.opening.Opening.{Opening}
+use Rattle.mg_model.specs.Answers.{is_committed}
 use Rattle.mg_model.specs.Legal.{is_limbo}
 use Rattle.mg_model.specs.Machine.{opening_state}
 use Rattle.mg_model.specs.NewDatabase.{new_opening}
@@ -10,19 +12,21 @@ use Rattle.mg_image.specs.Form.{Form, Pages}
 use Rattle.mg_image.specs.Histories.{Begins, HoldsDurable}
 use Rattle.mg_image.specs.Opening.{Holds, IsBlank, Opened, blank_image, new_row}
 
--- a number that was not drawn is in no limbo
-none_undrawn : (o : Opening) (t : ℕ) → o.next.0 ≤ t → is_limbo (opening_state o t) ≡ false
-none_undrawn o t above = at (t == 0) (nat_lt t o.next.0) (le-ltb t o.next.0 above) where
-  at : (p q : Bool) → q ≡ false
-      → is_limbo (if p then Committed
-      else (if q then slice_index_or o.states (t - 1) Dead else Dead))
-      ≡ false
-  at true q undrawn = refl
-  at false false undrawn = refl
-  at false true undrawn = absurd cc
+-- a number that was not drawn is neither committed nor in limbo
+none_undrawn : (o : Opening) (t : ℕ) → 1 ≤ o.next.0 → o.next.0 ≤ t
+    → (is_committed (opening_state o t) ≡ false) × (is_limbo (opening_state o t) ≡ false)
+none_undrawn o t first above =
+    at (t == 0) (nat_lt t o.next.0) (ne_eqb t 0 (λ none. omega arith)) (le-ltb t o.next.0 above)
+  where
+    at : (p q : Bool) → p ≡ false → q ≡ false
+        → (is_committed (if p then Committed
+        else (if q then slice_index_or o.states (t - 1) Dead else Dead)) ≡ false)
+        × (is_limbo (if p then Committed
+        else (if q then slice_index_or o.states (t - 1) Dead else Dead)) ≡ false)
+    at p q some undrawn = rw (some, undrawn) (refl, refl)
 
 -- a blank image holds what a new database begins with
-pub blank_holds : (form : Form) (size : ℕ) (pages : Pages) (limit k : ℕ) → IsBlank size pages
+pub blank_holds : (form : Form) (size : ℕ) (pages : Pages) (limit k : ℕ) → IsBlank form size pages
     → HoldsDurable form size pages (new_opening limit) [] k
 blank_holds form size pages limit k blank = record {
   opened = record {
@@ -38,19 +42,23 @@ blank_holds form size pages limit k blank = record {
     state = refl;
   });
   rows = λ name key. refl;
+  committed = λ t below. refl;
   limbo = λ t below. refl;
-  undrawn = λ t above. none_undrawn (new_opening limit) t above;
+  undrawn = λ t above. none_undrawn (new_opening limit) t (lit≤ tt) above;
   changes = λ t name key in_limbo. refl;
 }
 
 -- an image holds what the history that begins with its opening has before any entry
 pub opened_holds : (form : Form) (size : ℕ) (pages : Pages) (opened : Opened) (o : Opening) (k : ℕ)
-    → Holds form size pages opened → Begins opened o → HoldsDurable form size pages o [] k
-opened_holds form size pages opened o k holds begins = record {
+    → Holds form size pages opened → Begins opened o → 1 ≤ o.next.0
+    → HoldsDurable form size pages o [] k
+opened_holds form size pages opened o k holds begins first = record {
   opened = opened;
   holds = holds;
   rows = begins.rows;
+  committed = λ t below. ap is_committed (begins.state t below);
   limbo = λ t below. ap is_limbo (begins.state t below);
-  undrawn = λ t above. none_undrawn o t (subst (λ n. n ≤ t) begins.next above);
+  undrawn = λ t above.
+      none_undrawn o t first (subst (λ n. n ≤ t) begins.next above);
   changes = λ t name key in_limbo. begins.limbo t name key;
 }

@@ -57,6 +57,9 @@ pub record IsNode (size : ℕ) (pages : Pages) (owner level : ℕ) (below : List
   -- it has a high fence exactly where it has a right neighbour, whose low fence is the same
   pub high : has_high (pages n) ≡ not (right_in (pages n) == 0)
   pub fence : right_in (pages n) ≢ 0 → low_of (pages (right_in (pages n))) ≡ high_of (pages n)
+  -- its low fence is less than its high one
+  pub apart : IfSome (low_of (pages n)) (λ low. IfSome (high_of (pages n)) (λ high.
+      IsBelow low high))
 
 -- each page of a list has a property
 abbrev pub EachPage : (ℕ → Type 0) → List ℕ → Type 0
@@ -78,6 +81,8 @@ AreNodes size pages owner (level ∷ below) =
 -- An index of the table of an owner, from its root on.
 pub record IsTree (size : ℕ) (pages : Pages) (owner root : ℕ) (levels : List (List ℕ))
     : Type 0 where
+  -- page 0 is the header, and no root
+  pub rooted : root ≢ 0
   pub levels_from : Levels pages root levels
   pub nodes : AreNodes size pages owner levels
   -- the root has neither fence nor right neighbour

@@ -20,6 +20,10 @@ next_of pages = (header_of pages).next.0
 abbrev pub oldest_of : Pages → ℕ
 oldest_of pages = (header_of pages).oit.0
 
+-- the oldest active transaction
+abbrev pub oldest_active_of : Pages → ℕ
+oldest_active_of pages = (header_of pages).oat.0
+
 -- the transaction inventory page that is so many before a page
 abbrev pub tip_before : Pages → ℕ → ℕ → ℕ
 tip_before pages page zero = page

@@ -1,5 +1,5 @@
 -- What stands on pages that stay as they are.
-use Rattle.std.proofs.Common.{◌≡◌, inl, inr, refl, sym, ap, ◌∙◌, ℕ, suc, Bool, List, [], ◌∷◌}
+use Rattle.std.proofs.Common.{◌≡◌, inl, inr, refl, sym, ap, ◌∙◌, ℕ, suc, Bool, true, List, [], ◌∷◌}
 use Rattle.mg_image.specs.Form.{Pages}
 use Rattle.mg_image.specs.Indexes.{AreTrees}
 use Rattle.mg_image.specs.Inventory.{is_used}
@@ -36,19 +36,19 @@ each_from_has P Q at (n ∷ ns) gives each = (
 
 -- a page that is as wanted, and used still
 pub wanted_kept : (size : ℕ) (old new : Pages) (n : ℕ) (before after : List Check)
-    → is_used size new n ≡ is_used size old n → after ≡ before → IsAsWanted size old n before
-    → IsAsWanted size new n after
+    → (is_used size old n ≡ true → is_used size new n ≡ true) → after ≡ before
+    → IsAsWanted size old n before → IsAsWanted size new n after
 wanted_kept size old new n before after used same is = record {
   below = is.below;
-  used = used ∙ is.used;
+  used = used is.used;
   fields = rw same is.fields;
 }
 
--- The pages of a table stay, and are used still.
+-- The pages of a table stay, and what was used is used still.
 pub record KeepsTablePages (size : ℕ) (old new : Pages) (stand : Stand) : Type 0 where
   pub pointers : (n : ℕ) → Has stand.pointers n → new n ≡ old n
   pub data_pages : (n : ℕ) → Has stand.data_pages n → new n ≡ old n
-  pub used : (n : ℕ) → is_used size new n ≡ is_used size old n
+  pub used : (n : ℕ) → is_used size old n ≡ true → is_used size new n ≡ true
   pub trees : AreTrees size new stand.table.pointer.0 stand.table.indexes stand.trees
 
 -- they are the table's still

@@ -38,6 +38,11 @@ abbrev pub HasMatch : Index → RecId → Entry → List VersionEntry → Type 0
 HasMatch index p e [] = ⊥
 HasMatch index p e (v ∷ vs) = (index_entry index p v.row ≡ e) ⊎ HasMatch index p e vs
 
+-- an entry of an index matches a version of a record of the index's table
+abbrev pub IsMatched : Stand → Index → Reading → Entry → Type 0
+IsMatched stand index r e =
+    Has stand.data_pages e.rec.page.0 × HasMatch index e.rec e (r e.rec)
+
 -- Something that nobody needs: a page, a version that no record has, a version of a dead
 -- transaction, or an entry of an index, by its page and its place.
 pub data Leftover : Type 0 where
@@ -60,5 +65,5 @@ pub data IsLeftover (size : ℕ) (pages : Pages) (layout : Layout) (r : Reading)
   entry : (stand : Stand) (index : Index) (n at : ℕ) (e : Entry) → HasStand (stands_of layout) stand
       → IsTreePage n index stand.table.indexes stand.trees → level_in (pages n) ≡ 0
       → at < length (entries_of (pages n)) → get_or (entries_of (pages n)) at e ≡ e
-      → (HasMatch index e.rec e (r e.rec) → ⊥)
+      → (IsMatched stand index r e → ⊥)
       → IsLeftover size pages layout r (WithoutVersion n at)

@@ -8,6 +8,7 @@ pub mod Indexes
 pub mod Held
 pub mod Catalog
 pub mod Sound
+pub mod NewDatabase
 pub mod Opening
 pub mod Histories
 pub mod HistoryLaws

@@ -24,23 +24,28 @@ use Rattle.mg_image.specs.declared.entry.TheConstants.{PRIMARY_VERSION}
 use Rattle.mg_image.specs.declared.entry.Entry.{Entry}
 use Rattle.mg_model.specs.declared.table.Table.{Table}
 use Rattle.mg_image.specs.Form.{Form, Pages, Row}
-use Rattle.mg_image.specs.Catalog.{HasNames, catalog_table}
+use Rattle.mg_image.specs.Catalog.{HasNames, HasOwnTables, catalog_table}
 use Rattle.mg_image.specs.Held.{HasLimbo, Shows}
 use Rattle.mg_image.specs.Indexes.{AreTrees, EachPage, IsFoundIn}
-use Rattle.mg_image.specs.Inventory.{bits_state, header_of, inventory_page, is_used, last_sequence, next_of, oldest_of, state_at, tip_page}
+use Rattle.mg_image.specs.Inventory.{bits_state, header_of, inventory_page, is_used, last_sequence, next_of, oldest_active_of, oldest_of, state_at, tip_page}
 use Rattle.mg_image.specs.Reached.{IsAsWanted, linked_pages}
 use Rattle.mg_image.specs.RecordRules.{AreRecords, Facts, committed_in}
 use Rattle.mg_image.specs.Records.{Reading, cells_of}
 use Rattle.mg_image.specs.Tables.{EachFrom, EachStand, IsOnce, Layout, PointerChain, Stand, entries_in, stands_of, table_at}
 
--- what the records of an image need to know of its other pages
-abbrev pub facts_of : ℕ → Pages → Layout → Facts
-facts_of size pages layout = record {
-  state = state_at size pages;
+-- what the records of an image need to know of its other pages, where this has become of the
+-- transactions
+abbrev pub facts_by : (ℕ → TxState) → Pages → Layout → Facts
+facts_by state pages layout = record {
+  state = state;
   next = next_of pages;
   oldest = oldest_of pages;
   table_of = table_at (stands_of layout);
 }
+
+-- the same, where that has become of them which their bits say
+abbrev pub facts_of : ℕ → Pages → Layout → Facts
+facts_of size pages layout = facts_by (state_at size pages) pages layout
 
 -- Every page has the page size, and the header page is that of a database with such pages.
 pub record HasHeader (size : ℕ) (pages : Pages) : Type 0 where
@@ -74,9 +79,9 @@ pub record HasTransactions (size : ℕ) (pages : Pages) : Type 0 where
   pub each : HasTips size pages
   pub undrawn : HasNoneUndrawn size pages
 
--- no transaction below the oldest interesting one is in limbo
-abbrev pub HasNoOldLimbo : ℕ → Pages → Type 0
-HasNoOldLimbo size pages = (t : ℕ) → t < oldest_of pages → state_at size pages t ≢ Limbo
+-- no transaction below the oldest active one is in limbo
+abbrev pub HasNoOldLimbo : (ℕ → TxState) → Pages → Type 0
+HasNoOldLimbo state pages = (t : ℕ) → t < oldest_active_of pages → state t ≢ Limbo
 
 -- the page inventory page of a region is blank, or as wanted
 abbrev pub HasRegion : ℕ → Pages → ℕ → ℕ → Type 0
@@ -129,28 +134,35 @@ pub record IsIndexed (f : Facts) (pages : Pages) (r : Reading) : Type 0 where
   pub limbo : (p : RecId) (table : Table) (e : Entry) → HasLimbo f r p table e
       → e.version.deleted ≡ false → IsFoundIn pages table.indexes p e.row
 
--- An image with this layout, of which this is read, is sound.
-pub record IsSound (form : Form) (size : ℕ) (pages : Pages) (layout : Layout) (r : Reading)
-    : Type 0 where
+-- An image with this layout, of which this is read, is sound, where this has become of the
+-- transactions. An engine that works on an image counts some of them otherwise than their bits say.
+pub record IsSoundBy (form : Form) (size : ℕ) (state : ℕ → TxState) (pages : Pages)
+    (layout : Layout) (r : Reading) : Type 0 where
   -- 1. the header's fields are lawful
   pub header : HasHeader size pages
   -- 2. each transaction below Next has its bits, and no other has become anything
   pub transactions : HasTransactions size pages
-  -- 3. each reached page is as wanted, and the catalog's rows are lawful; that each row fits its
-  -- table is a rule of records
+  -- 3. each reached page is as wanted, the catalog's rows are lawful, and name tables that fit the
+  -- pages and stay; that each row fits its table is a rule of records
   pub inventory : HasInventory size pages
   pub catalog : layout.catalog.table ≡ catalog_table (header_of pages).catalog.0
   pub tables : EachStand (HasTablePages form.in_primary size pages) (stands_of layout)
   pub sequences : EachPage (λ n. form.sequence_page (pages n) n) layout.sequences
-  pub names : HasNames (facts_of size pages layout) r layout.catalog.table
+  pub names : HasNames size (facts_by state pages layout) r layout.catalog.table
       (map (λ stand. stand.table) layout.tables)
   -- 4. no page is reached twice; that no cell is is a rule of records, levels and fences are rules
   -- of trees
   pub once : IsOnce (linked_pages size pages layout)
   -- 5 to 8. each link meets its version, transactions are drawn, back versions are committed, and
   -- no key is taken twice
-  pub records : AreRecords form.coding (facts_of size pages layout) (cells_of pages) r
-  -- 6. no limbo transaction lies below the oldest interesting one
-  pub limbo : HasNoOldLimbo size pages
+  pub records : AreRecords form.coding (facts_by state pages layout) (cells_of pages) r
+  -- 6. no limbo transaction lies below the oldest active one, and a table that no committed row
+  -- names has versions of those alone who have made it
+  pub limbo : HasNoOldLimbo state pages
+  pub own_tables : HasOwnTables (facts_by state pages layout) r layout.catalog.table
   -- 9. rows are found in the indexes
-  pub indexed : IsIndexed (facts_of size pages layout) pages r
+  pub indexed : IsIndexed (facts_by state pages layout) pages r
+
+-- an image is sound, where that has become of the transactions which their bits say
+abbrev pub IsSound : Form → ℕ → Pages → Layout → Reading → Type 0
+IsSound form size pages layout r = IsSoundBy form size (state_at size pages) pages layout r
