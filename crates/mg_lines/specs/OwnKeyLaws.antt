@@ -17,7 +17,7 @@ use Rattle.mg_model.specs.Changes.{Cells, KeyedRows, by_order, put_row, row_at, 
 use Rattle.mg_model.specs.Effects.{changes_of, commits, if_committed}
 use Rattle.mg_model.specs.EntryLaws.{database_after_entry}
 use Rattle.mg_model.specs.History.{Begins, Effect, Ends, Entries, Entry, Gives, Looks, Makes, Marks, Nothing, Saves, TakesBack, beginning_of, deed_of, effect_of, effect_with}
-use Rattle.mg_model.specs.Legal.{IsLawful, IsLegal, IsOpening, is_outer}
+use Rattle.mg_model.specs.Legal.{IsLawful, IsLegal, MayBegin, is_outer}
 use Rattle.mg_model.specs.LegalLaws.{IsAllowed, lawful_is_allowed}
 use Rattle.mg_model.specs.NumberLaws.{undrawn_is_dead}
 use Rattle.mg_model.specs.Machine.{at_point, back_to, base, catalog_changes, changes_by, changes_in, database, deeds_by, has_point, is_point, mode_of, opening_rows, opening_state, own, placed, state_after, state_of, steps, steps_after, taken_back, takes_base, view}
@@ -226,7 +226,7 @@ not_limbo : (s : TxState) → s ≡ Active → s ≢ Limbo
 not_limbo s active limbo = let both : Active ≡ Limbo = sym active ∙ limbo in absurd cc
 
 -- so who is in limbo stays there
-limbo_stays : (o : Opening) (h : Entries) → IsOpening o → IsLegal o h → (f : Effect)
+limbo_stays : (o : Opening) (h : Entries) → MayBegin o → IsLegal o h → (f : Effect)
     → IsAllowed o h f → EndsActive o h f → (u : ℕ) → state_of o h u ≡ Limbo
     → state_after f u (state_of o h u) ≡ Limbo
 limbo_stays o h opening legal (Begins t mode) next ends u is = at (cases_eq t u)
@@ -274,7 +274,7 @@ module _ (o : Opening) (h : Entries) (keeps : KeepsOwnKeys o h)
   own_of (TakesBack t point) ends = tt
   own_of Nothing ends = tt
 
-  pub own_keys_on : IsOpening o → IsLegal o h → (e : Entry) → IsLawful o h e
+  pub own_keys_on : MayBegin o → IsLegal o h → (e : Entry) → IsLawful o h e
       → GivesOwnKey e.event → KeepsOwnKeys o (e ∷ h)
   own_keys_on opening legal e lawful gives = record {
     in_database = rw (database_after_entry o h e)
@@ -344,7 +344,7 @@ catalog_said catalog (p ∷ rows) key =
     at true here more = rw (here, more) refl
     at false other more = rw (other, more) refl
 
-pub own_keys_begin : (o : Opening) → IsOpening o
+pub own_keys_begin : (o : Opening) → MayBegin o
     → shape_in (opening_catalog o) kv_name ≡ Some kv_shape → KeepsOwnKeys o []
 own_keys_begin o opening has_kv =
     let catalog : CatalogRows = row_at (catalog_changes o.rows) catalog_name in

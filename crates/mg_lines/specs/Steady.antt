@@ -5,7 +5,7 @@ use Rattle.mg_model.specs.declared.event.Mode.{Mode}
 use Rattle.mg_model.specs.declared.opening.Opening.{Opening}
 use Rattle.mg_model.specs.Catalog.{catalog_name, shape_in}
 use Rattle.mg_model.specs.History.{Entries}
-use Rattle.mg_model.specs.Legal.{IsOpening, IsLegal}
+use Rattle.mg_model.specs.Legal.{MayBegin, IsLegal}
 use Rattle.mg_model.specs.Machine.{mode_of, state_of}
 use Rattle.mg_model.specs.NewDatabase.{kv_name}
 use Rattle.mg_generations.specs.Tables.{LeavesTable, opening_catalog}
@@ -38,7 +38,7 @@ pub record IsOfSession (rule : SessionRule) (o : Opening) (h : Entries) (t : ℕ
 
 -- a history is legal, KV has its shape and rows with their keys, and nothing writes the catalog
 pub record KeepsKv (o : Opening) (h : Entries) : Type 0 where
-  pub opening : IsOpening o
+  pub opening : MayBegin o
   pub legal : IsLegal o h
   pub has_kv : shape_in (opening_catalog o) kv_name ≡ Some kv_shape
   pub catalog_stands : LeavesTable o catalog_name h

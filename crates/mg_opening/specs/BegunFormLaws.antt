@@ -6,7 +6,7 @@ use Rattle.mg_value.specs.declared.value.Value.{Value}
 use Rattle.mg_model.specs.declared.opening.LimboChange.{LimboChange}
 use Rattle.mg_model.specs.declared.opening.Opening.{Opening}
 use Rattle.mg_model.specs.declared.table.Table.{Table}
-use Rattle.mg_model.specs.Legal.{IsOpening}
+use Rattle.mg_model.specs.Legal.{MayBegin}
 use Rattle.mg_model.specs.Machine.{own}
 use Rattle.mg_model.specs.NewDatabase.{kv_name}
 use Rattle.mg_generations.specs.Generations.{Generation}
@@ -179,7 +179,7 @@ module _ (pages : Pages) (r : Reading) (first : Slots) (known : IsKnown pages r 
       sym one.its ∙ (one_slot one.slot other.slot c d one.said other.said
       (one.keyed ∙ sym other.keyed) ∙ other.its)
 
-  is_opening : IsOpening o
+  is_opening : MayBegin o
   is_opening = record {
     first = omega (arith, rest.drawn);
     in_limbo = λ t not_. listed_nothing (says_in pages r) (length first) t
@@ -199,7 +199,7 @@ module _ (pages : Pages) (r : Reading) (first : Slots) (known : IsKnown pages r 
   }
 
   pub known_has_opening : (o : Opening) × (opened : Opened)
-      × IsOpened plain_form PAGE pages opened × IsOpening o × Begins opened o × (o.limit ≡ LAST)
+      × IsOpened plain_form PAGE pages opened × MayBegin o × Begins opened o × (o.limit ≡ LAST)
   known_has_opening = (
     o,
     opened_by pages versions,
@@ -212,12 +212,12 @@ module _ (pages : Pages) (r : Reading) (first : Slots) (known : IsKnown pages r 
 -- ---- the law
 
 pub form_has_opening : RowsAreOne plain_coding → (pages : Pages) → IsFirstForm pages
-    → (o : Opening) × (opened : Opened) × IsOpened plain_form PAGE pages opened × IsOpening o
+    → (o : Opening) × (opened : Opened) × IsOpened plain_form PAGE pages opened × MayBegin o
     × Begins opened o × (o.limit ≡ LAST)
 form_has_opening one pages form = by form.sound
   where
     by : (layout : Layout) × (r : Reading) × IsSound plain_form PAGE pages layout r
-        → (o : Opening) × (opened : Opened) × IsOpened plain_form PAGE pages opened × IsOpening o
+        → (o : Opening) × (opened : Opened) × IsOpened plain_form PAGE pages opened × MayBegin o
         × Begins opened o × (o.limit ≡ LAST)
     by (layout, r, sound) =
         let on_kv : IsSound plain_form PAGE pages kv_layout r =

@@ -11,7 +11,7 @@ use Rattle.mg_snap.specs.Live.{State}
 use Rattle.mg_model.specs.declared.opening.Opening.{Opening}
 use Rattle.mg_model.specs.Answers.{is_committed, is_open}
 use Rattle.mg_model.specs.Changes.{has_change, row_at, same_name}
-use Rattle.mg_model.specs.Legal.{IsOpening}
+use Rattle.mg_model.specs.Legal.{MayBegin}
 use Rattle.mg_model.specs.Machine.{opening_rows, opening_state, own}
 use Rattle.mg_model.specs.NewDatabase.{kv_name}
 use Rattle.mg_generations.specs.Generations.{AreFirst, EachGeneration, EachOlder, Generation, is_newest_by, newest_row, shown_by}
@@ -172,7 +172,7 @@ module _ (pages : Pages) (r : Reading) (first : Slots) (known : IsKnown pages r 
 -- ---- the law
 
 pub form_opens : RowsAreOne plain_coding → (s : Served) (pages : Pages) (o : Opening)
-    (opened : Opened) → IsFirstForm pages → IsOpened plain_form PAGE pages opened → IsOpening o
+    (opened : Opened) → IsFirstForm pages → IsOpened plain_form PAGE pages opened → MayBegin o
     → Begins opened o → o.limit ≡ LAST
     → Starts s (pages HEADER.0) (pages TRANSACTIONS.0) (pages KV_ROWS.0) (next_of pages)
     → (first : Slots) → HasSlots (pages KV_ROWS.0) first → Opens s pages first o

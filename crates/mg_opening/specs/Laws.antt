@@ -1,7 +1,7 @@
 -- The laws of images of the first form, for the layers above.
 use Rattle.std.specs.Prelude.{◌≡◌}
 use Rattle.mg_model.specs.declared.opening.Opening.{Opening}
-use Rattle.mg_model.specs.Legal.{IsOpening}
+use Rattle.mg_model.specs.Legal.{MayBegin}
 use Rattle.mg_image.specs.Form.{Pages, plain_coding, plain_form}
 use Rattle.mg_image.specs.Histories.{Begins}
 use Rattle.mg_image.specs.Inventory.{next_of}
@@ -29,7 +29,7 @@ FormHasSlots = RowsAreOne plain_coding → (pages : Pages) → IsFirstForm pages
 -- with what opening it gives, its pages in memory stand for the history without entries
 abbrev pub FormOpens : Type 0
 FormOpens = RowsAreOne plain_coding → (s : Served) (pages : Pages) (o : Opening)
-    (opened : Opened) → IsFirstForm pages → IsOpened plain_form PAGE pages opened → IsOpening o
+    (opened : Opened) → IsFirstForm pages → IsOpened plain_form PAGE pages opened → MayBegin o
     → Begins opened o → o.limit ≡ LAST
     → Starts s (pages HEADER.0) (pages TRANSACTIONS.0) (pages KV_ROWS.0) (next_of pages)
     → (first : Slots) → HasSlots (pages KV_ROWS.0) first → Opens s pages first o
@@ -37,5 +37,5 @@ FormOpens = RowsAreOne plain_coding → (s : Served) (pages : Pages) (o : Openin
 -- and a history can begin with what it holds
 abbrev pub FormHasOpening : Type 0
 FormHasOpening = RowsAreOne plain_coding → (pages : Pages) → IsFirstForm pages
-    → (o : Opening) × (opened : Opened) × IsOpened plain_form PAGE pages opened × IsOpening o
+    → (o : Opening) × (opened : Opened) × IsOpened plain_form PAGE pages opened × MayBegin o
     × Begins opened o × (o.limit ≡ LAST)

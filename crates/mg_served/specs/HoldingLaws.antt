@@ -7,7 +7,7 @@ use Rattle.mg_model.specs.declared.opening.Opening.{Opening}
 use Rattle.mg_model.specs.Changes.{row_at}
 use Rattle.mg_model.specs.DurableLaws.{durable_is_database, passing_keeps_database}
 use Rattle.mg_model.specs.History.{Entries, Entry}
-use Rattle.mg_model.specs.Legal.{IsLegal, IsOpening, durable_count, durable_limbo, is_durable, is_limbo}
+use Rattle.mg_model.specs.Legal.{IsLegal, MayBegin, durable_count, durable_limbo, is_durable, is_limbo}
 use Rattle.mg_model.specs.LimboLaws.{durable_is_limbo, durable_is_own, passing_keeps_changes, passing_keeps_limbo}
 use Rattle.mg_model.specs.Machine.{state_of}
 use Rattle.mg_image.specs.Form.{Pages, plain_form}
@@ -48,7 +48,7 @@ undrawn_not_limbo pages t past =
 
 -- an image that holds a history holds what outlasts a crash after all of its durable events
 pub held_durable : (entered pages : Pages) (o : Opening) (h : Entries)
-    → HoldsHistory entered pages o h → IsOpening o → IsLegal o h
+    → HoldsHistory entered pages o h → MayBegin o → IsLegal o h
     → HoldsDurable plain_form PAGE pages o h (durable_count h)
 held_durable entered pages o h it opening legal = record {
   opened = it.opened;
@@ -80,7 +80,7 @@ held_durable entered pages o h it opening legal = record {
 
 -- what is held is held after an entry that is not durable
 pub holds_quietly : (entered pages : Pages) (o : Opening) (h : Entries) (e : Entry)
-    → is_durable e ≡ false → IsOpening o → IsLegal o (e ∷ h) → HoldsHistory entered pages o h
+    → is_durable e ≡ false → MayBegin o → IsLegal o (e ∷ h) → HoldsHistory entered pages o h
     → HoldsHistory entered pages o (e ∷ h)
 holds_quietly entered pages o h e passing opening legal it = record {
   others = it.others;

@@ -2,7 +2,7 @@
 use Rattle.std.specs.Prelude.{◌≡◌, ◌≤◌, ℕ, false, ◌∷◌}
 use Rattle.mg_model.specs.declared.opening.Opening.{Opening}
 use Rattle.mg_model.specs.History.{Entries, Entry}
-use Rattle.mg_model.specs.Legal.{IsLegal, IsOpening, durable_count, is_durable}
+use Rattle.mg_model.specs.Legal.{IsLegal, MayBegin, durable_count, is_durable}
 use Rattle.mg_image.specs.Form.{Pages, plain_form}
 use Rattle.mg_image.specs.Histories.{HoldsDurable}
 use Rattle.mg_image.specs.Inventory.{next_of}
@@ -25,7 +25,7 @@ PagesServedHold = (s : Served) (entered : Pages) (first : Slots) (o : Opening) (
 -- what an image holds outlasts a crash after all durable events
 abbrev pub HeldOutlastsCrashes : Type 0
 HeldOutlastsCrashes = (entered pages : Pages) (o : Opening) (h : Entries)
-    → HoldsHistory entered pages o h → IsOpening o → IsLegal o h
+    → HoldsHistory entered pages o h → MayBegin o → IsLegal o h
     → HoldsDurable plain_form PAGE pages o h (durable_count h)
 
 -- it is of the first form, where the image was that was entered
@@ -42,5 +42,5 @@ HeldWhenRaised = (entered old new : Pages) (o : Opening) (h : Entries) (n : ℕ)
 -- and after an entry that is not durable
 abbrev pub HeldQuietly : Type 0
 HeldQuietly = (entered pages : Pages) (o : Opening) (h : Entries) (e : Entry)
-    → is_durable e ≡ false → IsOpening o → IsLegal o (e ∷ h) → HoldsHistory entered pages o h
+    → is_durable e ≡ false → MayBegin o → IsLegal o (e ∷ h) → HoldsHistory entered pages o h
     → HoldsHistory entered pages o (e ∷ h)

@@ -10,7 +10,7 @@ use Rattle.mg_model.specs.declared.event.Mode.{Mode}
 use Rattle.mg_model.specs.declared.opening.Opening.{Opening}
 use Rattle.mg_model.specs.Answers.{is_active}
 use Rattle.mg_model.specs.History.{Begins, Effect, Ends, Entries, Entry, Gives, Looks, Makes, Marks, Nothing, Saves, TakesBack, effect_of}
-use Rattle.mg_model.specs.Legal.{IsLegal, IsOpening}
+use Rattle.mg_model.specs.Legal.{IsLegal, MayBegin}
 use Rattle.mg_model.specs.LegalLaws.{IsAllowed, lawful_is_allowed}
 use Rattle.mg_model.specs.Machine.{cut_at_base, mode_of, next_after, next_number, state_after, state_of, takes_base}
 use Rattle.mg_model.specs.NumberLaws.{drawn_from_state, undrawn_is_dead}
@@ -128,7 +128,7 @@ live_goes_on live o h e modes still are = record {
 
 -- ---- a beginning
 
-module _ (live : State) (o : Opening) (opening : IsOpening o) (h : Entries) (e : Entry)
+module _ (live : State) (o : Opening) (opening : MayBegin o) (h : Entries) (e : Entry)
     (legal : IsLegal o (e ∷ h)) (are : AreLiveFor live o h) (t : ℕ) (mode : Mode)
     (is : effect_of e ≡ Begins t mode) where
   -- its number is the next one

@@ -13,7 +13,7 @@ use Rattle.mg_model.specs.declared.opening.Opening.{Opening}
 use Rattle.mg_model.specs.Answers.{is_active}
 use Rattle.mg_model.specs.Catalog.{CatalogRows, catalog_name, shape_in}
 use Rattle.mg_model.specs.Changes.{row_at, same_name}
-use Rattle.mg_model.specs.Legal.{IsOpening}
+use Rattle.mg_model.specs.Legal.{MayBegin}
 use Rattle.mg_model.specs.Machine.{opening_rows, opening_state}
 use Rattle.mg_model.specs.NewDatabase.{kv_name}
 use Rattle.mg_generations.specs.BeginLaws.{generations_begin}
@@ -47,7 +47,7 @@ pub record HasPagesOf (s : Served) (entered : Pages) : Type 0 where
 -- The pages in memory are those of an image on which nobody works, and which says what a history
 -- begins with.
 pub record Opens (s : Served) (entered : Pages) (first : Slots) (o : Opening) : Type 0 where
-  pub opening : IsOpening o
+  pub opening : MayBegin o
   pub limit : o.limit ≡ LAST
   pub drawn : o.next.0 ≡ s.next.0
   -- it begins with KV and the catalog of a new database, and nobody in limbo has changed another table

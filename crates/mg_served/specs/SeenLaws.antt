@@ -8,7 +8,7 @@ use Rattle.mg_model.specs.declared.opening.Opening.{Opening}
 use Rattle.mg_model.specs.Answers.{is_active, is_committed, told}
 use Rattle.mg_model.specs.CommitLaws.{legal_at_base}
 use Rattle.mg_model.specs.History.{Entries}
-use Rattle.mg_model.specs.Legal.{IsLegal, IsOpening}
+use Rattle.mg_model.specs.Legal.{IsLegal, MayBegin}
 use Rattle.mg_model.specs.Machine.{cut_at_base, next_number, state_of}
 use Rattle.mg_model.specs.NumberLaws.{dead_stays, drawn_from_state, next_number_grows}
 use Rattle.mg_generations.specs.CommittedLaws.{EndsWith, committed_later, ends_with_base}
@@ -40,7 +40,7 @@ drawn_later o (e ∷ h) (x ∷ since) before is =
     let rest : h ≡ since ++ before = cc in
     omega (arith, drawn_later o h since before rest, next_number_grows o h e)
 
-module _ (o : Opening) (opening : IsOpening o) where
+module _ (o : Opening) (opening : MayBegin o) where
   -- who was dead once his number was drawn is dead
   dead_later : (h since before : Entries) → IsLegal o h → h ≡ since ++ before → (u : ℕ)
       → u < next_number o before → state_of o before u ≡ Dead → state_of o h u ≡ Dead

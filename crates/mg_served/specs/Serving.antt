@@ -19,7 +19,7 @@ use Rattle.mg_model.specs.Answers.{is_active}
 use Rattle.mg_model.specs.Catalog.{catalog_name, shape_in}
 use Rattle.mg_model.specs.Changes.{row_at, same_name}
 use Rattle.mg_model.specs.History.{Begins, Effect, Ends, Entries, Gives, entry, Looks, Makes, Marks, Nothing, Saves, TakesBack, effect_of}
-use Rattle.mg_model.specs.Legal.{IsLegal, IsOpening}
+use Rattle.mg_model.specs.Legal.{IsLegal, MayBegin}
 use Rattle.mg_model.specs.Machine.{cut_at_base, mode_of, next_number, opening_rows, state_of}
 use Rattle.mg_model.specs.NewDatabase.{kv_name}
 use Rattle.mg_generations.specs.Generations.{AreGenerations, Generation}
@@ -121,7 +121,7 @@ ActiveGives state (g ∷ gs) = state g.writer ≡ Active → IsSome g.row × Giv
 pub record IsServed (s : Served) (entered : Pages) (first : Slots) (o : Opening) (h : Entries)
     : Type 0 where
   -- the history is legal, its numbers are those of one inventory page, and it writes KV alone
-  pub opening : IsOpening o
+  pub opening : MayBegin o
   pub legal : IsLegal o h
   pub limit : o.limit ≡ LAST
   pub drawn : next_number o h ≡ s.next.0

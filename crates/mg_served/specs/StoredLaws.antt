@@ -25,7 +25,7 @@ use Rattle.mg_model.specs.Answers.{answer, catalog_of, is_active, told}
 use Rattle.mg_model.specs.Catalog.{catalog_name, key_by, key_in, shape_in}
 use Rattle.mg_model.specs.Changes.{same_key, same_name}
 use Rattle.mg_model.specs.History.{Entries, Gives, Entry, effect_of, entry}
-use Rattle.mg_model.specs.Legal.{IsLawful, IsLegal, IsOpening}
+use Rattle.mg_model.specs.Legal.{IsLawful, IsLegal, MayBegin}
 use Rattle.mg_model.specs.Machine.{next_number, state_of}
 use Rattle.mg_model.specs.NewDatabase.{kv_name}
 use Rattle.mg_model.specs.NumberLaws.{drawn_from_state}
@@ -123,12 +123,12 @@ pub record DoesWrite (o : Opening) (h : Entries) (t : ℕ) (key value : ℤ) (sl
   pub number : has_number_key (effect_of (entry event Fine)) ≡ true
   pub writes : slots_with (effect_of (entry event Fine)) (state_of o h) slots
       ≡ written (state_of o h) t key value slots
-  pub here : IsOpening o → IsLegal o (entry event Fine ∷ h) → LeavesTable o catalog_name h
+  pub here : MayBegin o → IsLegal o (entry event Fine ∷ h) → LeavesTable o catalog_name h
       → shape_in (opening_catalog o) kv_name ≡ Some kv_shape → (k : ℤ) → k ≡ key
       → (gs : List Generation) → AreGenerations o h kv_name (Int k) gs
       → AreGenerations o (entry event Fine ∷ h) kv_name (Int k)
       (put t (Some (kv_row key value)) gs)
-  pub elsewhere : IsOpening o → IsLegal o (entry event Fine ∷ h) → LeavesTable o catalog_name h
+  pub elsewhere : MayBegin o → IsLegal o (entry event Fine ∷ h) → LeavesTable o catalog_name h
       → shape_in (opening_catalog o) kv_name ≡ Some kv_shape → (k : ℤ) → k ≢ key
       → (gs : List Generation) → AreGenerations o h kv_name (Int k) gs
       → AreGenerations o (entry event Fine ∷ h) kv_name (Int k) gs

@@ -5,7 +5,7 @@ use Rattle.mg_base.specs.Disk.{Meaning}
 use Rattle.mg_base.specs.Image.{Image, page_at}
 use Rattle.mg_model.specs.declared.opening.Opening.{Opening}
 use Rattle.mg_model.specs.History.{Entries, Entry}
-use Rattle.mg_model.specs.Legal.{IsLegal, IsOpening, after_durable, durable_count, is_durable}
+use Rattle.mg_model.specs.Legal.{IsLegal, MayBegin, after_durable, durable_count, is_durable}
 use Rattle.mg_model.specs.Machine.{next_number}
 use Rattle.mg_model.specs.NumberLaws.{next_number_grows}
 use Rattle.mg_image.specs.Form.{Pages, plain_form}
@@ -51,7 +51,7 @@ first_passes e h es same = at (is_durable e) refl
         absurd (omega (arith, more, grows, same))
 
 holds_on : (entered pages : Pages) (o : Opening) (h : Entries) (es : List Entry)
-    → durable_count (onto h es) ≡ durable_count h → IsOpening o → IsLegal o (onto h es)
+    → durable_count (onto h es) ≡ durable_count h → MayBegin o → IsLegal o (onto h es)
     → HoldsHistory entered pages o h → HoldsHistory entered pages o (onto h es)
 holds_on entered pages o h [] same opening legal holds = holds
 holds_on entered pages o h (e ∷ es) same opening legal holds =

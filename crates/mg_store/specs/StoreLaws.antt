@@ -9,7 +9,7 @@ use Rattle.mg_header.specs.HeaderPage.{header_in}
 use Rattle.mg_header.specs.declared.header.Header.{Header}
 use Rattle.mg_model.specs.declared.opening.Opening.{Opening}
 use Rattle.mg_model.specs.History.{Entries}
-use Rattle.mg_model.specs.Legal.{IsLegal, IsOpening}
+use Rattle.mg_model.specs.Legal.{IsLegal, MayBegin}
 use Rattle.mg_image.specs.Form.{Pages}
 use Rattle.mg_image.specs.Inventory.{next_of}
 use Rattle.mg_first.specs.FirstForm.{HasFixedPages}
@@ -115,7 +115,7 @@ pages_hold s entered first o h image served pages =
 
 -- the program opens it again
 pub holds_last : (entered : Pages) (o : Opening) (h : Entries) (image : Image)
-    → HasFixedPages entered → IsOpening o → IsLegal o h → length image ≡ PAGES
+    → HasFixedPages entered → MayBegin o → IsLegal o h → length image ≡ PAGES
     → HoldsHistory entered (page_at PAGE image) o h → LeavesLast o h image
 holds_last entered o h image fixed opening legal seven holds = record {
   holds = held_durable entered (page_at PAGE image) o h holds opening legal;

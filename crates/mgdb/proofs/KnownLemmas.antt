@@ -5,7 +5,7 @@ use Rattle.mg_base.specs.Image.{Image, page_at}
 use Rattle.mg_base.specs.declared.mem_disk.MemDisk.{MemDisk}
 use Rattle.mg_base.specs.MemDisk.{mem_meaning}
 use Rattle.mg_model.specs.declared.opening.Opening.{Opening}
-use Rattle.mg_model.specs.Legal.{IsOpening}
+use Rattle.mg_model.specs.Legal.{MayBegin}
 use Rattle.mg_model.specs.NewDatabase.{new_opening}
 use Rattle.mg_image.specs.Form.{Pages, plain_form}
 use Rattle.mg_image.specs.Histories.{Begins}
@@ -21,7 +21,7 @@ use Rattle.mgdb.specs.Top.{KnownIsEntry}
 -- a history can begin with pages of the first form, and their KV page has slots with cells
 abbrev pub HasOpening : Pages → Type 0
 HasOpening pages = (o : Opening) × (opened : Opened) × IsOpened plain_form PAGE pages opened
-    × IsOpening o × Begins opened o × (o.limit ≡ LAST)
+    × MayBegin o × Begins opened o × (o.limit ≡ LAST)
 
 abbrev pub HasCells : Pages → Type 0
 HasCells pages = (first : Slots) × HasSlots (pages KV_ROWS.0) first

@@ -12,7 +12,7 @@ use Rattle.mg_model.specs.declared.event.Event.TheVariants.{Commit}
 use Rattle.mg_model.specs.declared.opening.Opening.{Opening}
 use Rattle.mg_model.specs.declared.refusal.Refusal.TheVariants.{DiskWrite}
 use Rattle.mg_model.specs.History.{Entry}
-use Rattle.mg_model.specs.Legal.{IsLegal, IsOpening}
+use Rattle.mg_model.specs.Legal.{IsLegal, MayBegin}
 use Rattle.mg_model.specs.NewDatabase.{new_opening}
 use Rattle.mg_image.specs.Form.{plain_form}
 use Rattle.mg_image.specs.Histories.{Begins}
@@ -38,7 +38,7 @@ use Rattle.mgdb.specs.declared.status.Place.TheVariants as places
 pub data IsOpeningOf (size : ℕ) (image : Image) : Opening → Type 0 where
   of_blank : IsBlank size (page_at size image) → IsOpeningOf size image (new_opening LAST.0)
   of_sound : (opened : Opened) (o : Opening) → IsOpened plain_form size (page_at size image) opened
-      → IsOpening o → Begins opened o → o.limit ≡ LAST → IsOpeningOf size image o
+      → MayBegin o → Begins opened o → o.limit ≡ LAST → IsOpeningOf size image o
 
 -- the cells of KV's page at the beginning of a history that stands on an image
 pub record AreCellsOf (size : ℕ) (image : Image) (first : Slots) : Type 0 where
