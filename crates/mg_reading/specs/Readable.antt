@@ -16,6 +16,7 @@ use Rattle.mg_image.specs.Records.{Chain, Reading, cells_of}
 use Rattle.mg_base.specs.Checks.{common_checks}
 use Rattle.mg_slots.specs.declared.page.TheConstants.{DATA_KIND}
 use Rattle.mg_slots.specs.DataPage.{IsDataPage, cell_of}
+use Rattle.mg_image.specs.Inventory.{state_at}
 use Rattle.mg_image.specs.Reached.{IsAsWanted}
 use Rattle.mg_image.specs.Sound.{IsCellOf, HasHeader, HasInventory, HasNoOldLimbo, HasTransactions, IsTableData, IsTablePointer}
 use Rattle.mg_image.specs.Tables.{EachFrom, Has, PointerChain, entries_in}
@@ -136,5 +137,5 @@ pub record IsReadableImage (coding : RowCoding) (image : Image) (tables : List T
   pub header : HasHeader image.size (pages_in image)
   pub transactions : HasTransactions image.size (pages_in image)
   pub inventory : HasInventory image.size (pages_in image)
-  pub limbo : HasNoOldLimbo image.size (pages_in image)
+  pub limbo : HasNoOldLimbo (state_at image.size (pages_in image)) (pages_in image)
   pub each : AreReadable coding image tables

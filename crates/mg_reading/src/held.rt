@@ -6,6 +6,7 @@ ghost use Rattle.mg_reading.specs.Found.{committed_of};
 ghost use Rattle.mg_reading.specs.HeldTable.{AreHeld, IsTableHeld, rows_shown};
 ghost use Rattle.mg_reading.specs.ImageView.{pages_in};
 ghost use Rattle.mg_reading.specs.Readable.{IsReadable, IsReadableImage, Refutes};
+ghost use Rattle.mg_image.specs.Inventory.{state_at};
 ghost use Rattle.mg_image.specs.Sound.{HasHeader, HasInventory, HasNoOldLimbo, HasTransactions};
 
 use crate::found::Found;
@@ -101,7 +102,8 @@ pub fn holds(
     ensures transactions { IfOk result (λ held.
         HasTransactions image.now.size (pages_in image.now)) }
     ensures inventory { IfOk result (λ held. HasInventory image.now.size (pages_in image.now)) }
-    ensures limbo { IfOk result (λ held. HasNoOldLimbo image.now.size (pages_in image.now)) }
+    ensures limbo { IfOk result (λ held. HasNoOldLimbo
+        (state_at image.now.size (pages_in image.now)) (pages_in image.now)) }
     ensures tables { IfOk result (λ held. AreHeld coding image.now tables.now held.items) }
     ensures broken { IfErr result (Refutes (IsReadableImage coding image.now tables.now)) }
 {

@@ -4,11 +4,11 @@ ghost use Rattle.std.specs.Prelude.{◌≡◌, ◌<◌, ◌+◌, ◌^◌};
 ghost use Rattle.mg_base.specs.declared.geometry.TheConstants.{GREATEST_LIMIT};
 ghost use Rattle.mg_tip.specs.TipPage.{places as places_of};
 ghost use Rattle.mg_reading.specs.ImageView.{pages_in};
-ghost use Rattle.mg_image.specs.Inventory.{bits_state as bits_state_of, is_used as used_in, last_sequence as last_sequence_of, next_of, oldest_of, settled as settled_state, state_at, tip_page as tip_page_of};
+ghost use Rattle.mg_image.specs.Inventory.{bits_state as bits_state_of, is_used as used_in, last_sequence as last_sequence_of, next_of, oldest_active_of, oldest_of, settled as settled_state, state_at, tip_page as tip_page_of};
 
 use crate::image::Image;
 use mg_base::{TxState, get_u32};
-use mg_header::{LAST_TIP_AT, NEXT_AT, OIT_AT};
+use mg_header::{LAST_TIP_AT, NEXT_AT, OAT_AT, OIT_AT};
 
 /// How many transactions a transaction inventory page of this size has a place for.
 fn places(size: u32) -> u32
@@ -44,6 +44,13 @@ impl Image {
         ensures { result ≡ oldest_of (pages_in self.now) }
     {
         get_u32(self.page(0), OIT_AT)
+    }
+
+    /// The oldest active transaction.
+    pub fn oldest_active(&self) -> u32
+        ensures { result ≡ oldest_active_of (pages_in self.now) }
+    {
+        get_u32(self.page(0), OAT_AT)
     }
 
     /// Whether a page is marked as used.

@@ -14,7 +14,8 @@ pub enum Rule {
     Header,
     /// Each drawn transaction has its bits, and no other has become anything.
     Transactions,
-    /// Each reached page and each cell of it is as wanted, and the catalog's rows are lawful.
+    /// Each reached page and each cell of it is as wanted, and the catalog's rows are lawful: they
+    /// name tables that fit the pages, and no transaction in limbo changes a table.
     Pages,
     /// No page is reached twice.
     Once,
@@ -22,7 +23,8 @@ pub enum Rule {
     /// with a row of the table, and no cell is met twice.
     Links,
     /// Each version's transaction is drawn, and not below the oldest interesting one where it is
-    /// dead; nor is any transaction in limbo.
+    /// dead; no transaction in limbo is below the oldest active one; and a table that no committed
+    /// row of the catalog names has versions of those alone who have made it.
     Drawn,
     /// Each back version is committed.
     Backs,

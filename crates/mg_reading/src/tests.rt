@@ -31,6 +31,7 @@ const HELD: TxState = TxState::Limbo;
 struct Made {
     next: u32,
     oit: u32,
+    oat: u32,
     states: [TxState; 3],
     used: u32,
     entries: u32,
@@ -47,7 +48,7 @@ fn header(b: &mut [u8], made: &Made)
         minor: 0,
         next: TxNo(made.next),
         oit: TxNo(made.oit),
-        oat: TxNo(made.next),
+        oat: TxNo(made.oat),
         ost: TxNo(made.oit),
         last_tip: PageNo(2),
         interval: 20_000,
@@ -249,6 +250,7 @@ fn database(cells: Vec<Vec<u8>>) -> Made {
     Made {
         next: 4,
         oit: 1,
+        oat: 1,
         states: [DONE, DONE, DONE],
         used: 7,
         entries: 1,
@@ -352,8 +354,10 @@ fn each_broken_rule_is_named(rt: HostRuntime) -> Result<(), Fail> {
     let alloc = rt.alloc();
     let mut image = database(two_versions(alloc)?);
     image.oit = 5;
+    image.oat = 5;
     expect_broken(alloc, &image, Rule::Header, "OIT past Next")?;
     image.oit = 1;
+    image.oat = 1;
     image.next = 3;
     expect_broken(
         alloc,
@@ -374,10 +378,19 @@ fn each_broken_rule_is_named(rt: HostRuntime) -> Result<(), Fail> {
     image.next = 4;
     image.states = [DONE, GONE, DONE];
     image.oit = 3;
+    image.oat = 3;
     expect_broken(alloc, &image, Rule::Drawn, "a dead version below OIT")?;
-    image.states = [DONE, HELD, DONE];
-    expect_broken(alloc, &image, Rule::Drawn, "a limbo transaction below OIT")?;
     image.oit = 1;
+    image.states = [DONE, HELD, DONE];
+    expect_broken(
+        alloc,
+        &image,
+        Rule::Drawn,
+        "a transaction in limbo below the oldest active one",
+    )?;
+    image.oat = 2;
+    expect_rows(alloc, &image, &[(1, 10)], "it is the oldest active one")?;
+    image.oat = 1;
     image.states = [GONE, DONE, DONE];
     expect_broken(
         alloc,
@@ -457,21 +470,6 @@ fn each_broken_record_is_told_by_its_rule(rt: HostRuntime) -> Result<(), Fail> {
         Rule::Links,
         "a chain that comes back",
     )?;
-    Ok(())
-}
-
-#[test]
-fn a_file_that_was_not_made_yet_is_blank(rt: HostRuntime) -> Result<(), Fail> {
-    let alloc = rt.alloc();
-    let Some(blank) = Image::new(alloc, 1024, Vec::new(alloc))? else {
-        return Err("no image")?;
-    };
-    if !blank.is_blank() {
-        return Err("an empty file")?;
-    }
-    if image_of(alloc, &database(Vec::new(alloc)))?.is_blank() {
-        return Err("a database")?;
-    }
     Ok(())
 }
 

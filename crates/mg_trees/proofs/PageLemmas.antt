@@ -76,6 +76,7 @@ node_of_parts size pages owner level below n node is says inner fences = record 
       ∙ (fences.high ∙ ap (λ (right : ℕ). not (right == 0)) says.right));
   fence = λ some. let fence = fences.fence (rw says.right some) in
       rw (says.right, says.high) at fence;
+  apart = rw (says.low, says.high) at fences.apart;
 }
 
 -- an inner page of an index is one by its parts
@@ -94,4 +95,5 @@ pub fences_of_node : (size : ℕ) (pages : Pages) (owner level : ℕ) (below : L
 fences_of_node size pages owner level below n node says is = record {
   high = rw (says.high, says.right) (is_some-high_of (pages n) ∙ is.high);
   fence = λ some. rw (says.right, says.high) (is.fence (rw says.right at some));
+  apart = rw (says.low, says.high) is.apart;
 }

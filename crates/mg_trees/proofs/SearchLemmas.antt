@@ -9,13 +9,12 @@ use Rattle.mg_node.specs.NodePage.{IsAtLeast, IsBelow, IsNodePage, entries_of, e
 use Rattle.mg_node.specs.NodeReading.{IsNodeOf}
 use Rattle.mg_image.specs.Form.{Pages}
 use Rattle.mg_image.specs.Indexes.{AreNodes, EachPage, Finds, HasChildren, HasEntry, IsLastUpTo, IsNode, LevelChain, Levels, above, as_fence, down, first_level, here, lowest, right}
-use Rattle.mg_image.specs.Sound.{HasHeader}
 use Rattle.mg_image.specs.Tables.{Has, LinkChain, ended, goes}
 use Rattle.mg_reading.specs.ChainLaws.{page_opens}
 use Rattle.mg_trees.specs.Searches.{AreChained, IsAlong, IsFrom, IsPageFor, IsSearched, IsTreeOf, first_page, last_child, pages_from}
 use Rattle.mg_trees.proofs.EntryLemmas.{between_has, child_among, last_child_is, last_exists}
 use Rattle.mg_trees.proofs.PageLemmas.{length-entries_of}
-use Rattle.mg_trees.specs.TreeLaws.{levels_open, root_is_some}
+use Rattle.mg_trees.specs.TreeLaws.{levels_open}
 use Rattle.mg_trees.proofs.TreeLemmas.{each_has}
 
 -- an entry lies below a fence, if there is one
@@ -316,11 +315,11 @@ tree_open size pages root levels tree empty =
 
 -- the first level begins with the root
 pub root_first : (size : ℕ) (pages : Pages) (root : ℕ) (levels : List (List ℕ)) (top : List ℕ)
-    (below : List (List ℕ)) → HasHeader size pages → IsTreeOf size pages root levels
+    (below : List (List ℕ)) → IsTreeOf size pages root levels
     → levels ≡ top ∷ below → first_page top ≡ root
-root_first size pages root levels top below header tree is =
+root_first size pages root levels top below tree is =
     let opens = levels_open pages root levels tree.1.levels_from in
-    let some = root_is_some size pages root header tree.1.root_right in
+    let some = tree.1.rooted in
     let opens_is = opens.is in
     let same : top ≡ opens.level = cc in
     at root opens.level opens.chain some same
@@ -332,18 +331,18 @@ root_first size pages root levels top below header tree is =
 
 -- the search begins at the root
 pub searched_root : (size : ℕ) (pages : Pages) (e : Entry) (root : ℕ)
-    (levels : List (List ℕ)) (top : List ℕ) (below : List (List ℕ)) → HasHeader size pages
+    (levels : List (List ℕ)) (top : List ℕ) (below : List (List ℕ))
     → IsTreeOf size pages root levels → levels ≡ top ∷ below
     → IsSearched size pages e top below
-searched_root size pages e root levels top below header tree is =
-    let first : first_page top ≡ root = root_first size pages root levels top below header tree is in
+searched_root size pages e root levels top below tree is =
+    let first : first_page top ≡ root = root_first size pages root levels top below tree is in
     let opens = levels_open pages root levels tree.1.levels_from in
     let opens_is = opens.is in
     let same : opens.level ≡ top = cc in
     let nodes = subst (AreNodes size pages tree.0) is tree.1.nodes in
     record {
       owner = tree.0;
-      some = rw first (root_is_some size pages root header tree.1.root_right);
+      some = rw first (tree.1.rooted);
       chain = rw first (subst (LevelChain pages root) same opens.chain);
       nodes = nodes.0;
       lower = nodes.1;

@@ -203,9 +203,10 @@ levels_more size pages owner level first ns below lower levels some chain next n
 
 -- levels from a root on that stands alone are a tree
 pub tree_of_levels : (size : ℕ) (pages : Pages) (owner level root : ℕ) (levels : List (List ℕ))
-    → has_low (pages root) ≡ false → right_in (pages root) ≡ 0
+    → root ≢ 0 → has_low (pages root) ≡ false → right_in (pages root) ≡ 0
     → AreLevelsFrom size pages owner level root levels → IsTree size pages owner root levels
-tree_of_levels size pages owner level root levels low right are = record {
+tree_of_levels size pages owner level root levels some low right are = record {
+  rooted = some;
   levels_from = are.levels_from;
   nodes = are.nodes;
   root_low = low;

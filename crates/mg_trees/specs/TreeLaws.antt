@@ -1,11 +1,9 @@
 -- Laws of trees: levels are opened one by one, and a root has one tree at most.
 use Rattle.std.proofs.Common.{◌≡◌, ◌≢◌, ◌∙◌, ap, refl, sym, subst, ◌<◌, ℕ, suc, List, [], ◌∷◌, length, arith}
 use Rattle.std.proofs.lemmas.List.{nil_from_length}
-use Rattle.mg_header.specs.HeaderPage.{database_checks}
 use Rattle.mg_node.specs.NodePage.{entries_of, level_in, right_in}
 use Rattle.mg_image.specs.Form.{Pages}
 use Rattle.mg_image.specs.Indexes.{AreNodes, EachPage, IsNode, IsTree, LevelChain, Levels, above, first_child, first_level, lowest}
-use Rattle.mg_image.specs.Sound.{HasHeader}
 use Rattle.mg_image.specs.Tables.{LinkChain, ended, goes}
 use Rattle.mg_reading.specs.ChainLaws.{link_once}
 use Rattle.mg_trees.specs.Trees.{HasLevelsFrom, HasTree}
@@ -79,21 +77,11 @@ levels_of_tree size pages owner root some has =
       },
     )
 
--- the header page is no root: read as an index page it has a right neighbour
-pub root_is_some : (size : ℕ) (pages : Pages) (root : ℕ) → HasHeader size pages
-    → right_in (pages root) ≡ 0 → root ≢ 0
-unfolding database_checks
-root_is_some size pages root header right zero_ =
-    let major = header.database.1.0 in
-    let none : right_in (pages 0) ≡ 0 = rw zero_ at right in omega arith
-
 -- there is one tree at most from a root on
 pub tree_once : (size : ℕ) (pages : Pages) (owner root : ℕ) (a b : List (List ℕ))
-    → HasHeader size pages → IsTree size pages owner root a → IsTree size pages owner root b
-    → a ≡ b
+    → IsTree size pages owner root a → IsTree size pages owner root b → a ≡ b
 unfolding levels_of_tree
-tree_once size pages owner root a b header first second =
-    let some = root_is_some size pages root header first.root_right in
+tree_once size pages owner root a b first second =
     levels_once pages root a b first.levels_from second.levels_from
-    ((levels_of_tree size pages owner root some (a, first)).1.count
-    ∙ sym (levels_of_tree size pages owner root some (b, second)).1.count)
+    ((levels_of_tree size pages owner root first.rooted (a, first)).1.count
+    ∙ sym (levels_of_tree size pages owner root first.rooted (b, second)).1.count)

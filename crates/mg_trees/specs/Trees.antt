@@ -1,8 +1,8 @@
 -- What is read of an index tree: its levels one by one, and what a page owes to the others.
-use Rattle.std.specs.Prelude.{◌≡◌, ◌≢◌, ◌≤◌, ◌==◌, ℕ, suc, not, List, length, Option, Some, is_some}
+use Rattle.std.specs.Prelude.{◌≡◌, ◌≢◌, ◌≤◌, ◌==◌, ℕ, suc, not, List, length, Option, Some, IfSome, is_some}
 use Rattle.mg_node.specs.declared.entry.Entry.{Entry}
 use Rattle.mg_node.specs.declared.node.Node.{Node}
-use Rattle.mg_node.specs.NodePage.{IsNodePage, level_in, low_of, node_checks, right_in}
+use Rattle.mg_node.specs.NodePage.{IsBelow, IsNodePage, level_in, low_of, node_checks, right_in}
 use Rattle.mg_image.specs.Form.{Pages}
 use Rattle.mg_image.specs.Indexes.{AreNodes, EachPage, HasChildren, IsTree, LevelChain, Levels, as_fence}
 use Rattle.mg_image.specs.Reached.{IsAsWanted}
@@ -59,10 +59,16 @@ IsChild pages below e =
 abbrev pub IsFirstChild : Pages → List ℕ → Option Entry → Entry → Type 0
 IsFirstChild pages below low e = Has below e.child.0 × (low_of (pages e.child.0) ≡ low)
 
--- A page has a high fence exactly where it has a right neighbour, whose low fence is the same.
+-- the low fence of a page is less than its high one, where it has both
+abbrev pub AreFencesApart : Option Entry → Option Entry → Type 0
+AreFencesApart low high = IfSome low (λ l. IfSome high (λ h. IsBelow l h))
+
+-- A page has a high fence exactly where it has a right neighbour, whose low fence is the same, and
+-- its own low fence is less than that.
 pub record HasFences (pages : Pages) (node : Node) : Type 0 where
   pub high : is_some node.high ≡ not (node.right.0 == 0)
   pub fence : node.right.0 ≢ 0 → low_of (pages node.right.0) ≡ node.high
+  pub apart : AreFencesApart node.low node.high
 
 -- An inner page has two entries or more, and their children stand on the level below.
 pub record IsInner (pages : Pages) (below : List ℕ) (node : Node) : Type 0 where

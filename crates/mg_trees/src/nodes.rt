@@ -6,12 +6,12 @@ ghost use Rattle.mg_node.specs.NodeReading.{IsNodeOf};
 ghost use Rattle.mg_image.specs.Indexes.{AreChildren, EachPage, HasChildren, IsNode};
 ghost use Rattle.mg_reading.specs.ImageView.{pages_in};
 ghost use Rattle.mg_reading.specs.Readable.{Refutes};
-ghost use Rattle.mg_trees.specs.Trees.{AreLawful, HasFences, IsBounded, IsChild, IsFirstChild, IsInner};
+ghost use Rattle.mg_trees.specs.Trees.{AreFencesApart, AreLawful, HasFences, IsBounded, IsChild, IsFirstChild, IsInner};
 
 use crate::compare::{are_equal_fences, has_page, is_fence_of};
 use crate::page::node_at;
 use mg_base::Memory;
-use mg_node::{Entry, Node};
+use mg_node::{Entry, Node, is_up_to};
 use mg_reading::{Image, ReadFault, Rule};
 use std::alloc::Global;
 
@@ -123,8 +123,18 @@ fn check_children(
     check_later_children(alloc, image, below, later)
 }
 
+/// Whether the low fence of a page is less than its high one, where it has both.
+fn are_fences_apart(node: &Node) -> bool
+    ensures { IsTrue result ↔ AreFencesApart node.now.low node.now.high }
+{
+    match &node.low {
+        None => true,
+        Some(low) => is_up_to(&node.high, low),
+    }
+}
+
 /// Tests that a page has a high fence exactly where it has a right neighbour, whose low fence is
-/// the same.
+/// the same, and that its own low fence is less than that.
 ///
 /// # Errors
 ///
@@ -135,7 +145,7 @@ fn check_neighbour(alloc: Global, image: &Image, node: &Node) -> Result<(), Read
     ensures broken { IfErr result (Refutes (HasFences (pages_in image.now) node.now)) }
 {
     let right = node.right.0;
-    if node.high.is_some() != (right != 0) {
+    if node.high.is_some() != (right != 0) || !are_fences_apart(node) {
         return Err(ReadFault::Broken(Rule::Once));
     }
     if right == 0 {

@@ -5,7 +5,6 @@ ghost use Rattle.std.proofs.Common.{get_or};
 ghost use Rattle.mg_value.specs.declared.value.Value.TheVariants.{Null as NoValue};
 ghost use Rattle.mg_sortkey.specs.KeyBytes.{key_bytes as key_bytes_of};
 ghost use Rattle.mg_image.specs.Indexes.{Finds, IsFoundIn, index_entry as index_entry_of};
-ghost use Rattle.mg_image.specs.Sound.{HasHeader};
 ghost use Rattle.mg_image.specs.Tables.{Has};
 ghost use Rattle.mg_reading.specs.ImageView.{pages_in};
 ghost use Rattle.mg_trees.specs.Searches.{HasTrees, IsAlong, IsPageFor, IsSearched, IsTreeOf, child_after as child_after_of, first_page, last_child, pages_from};
@@ -151,7 +150,6 @@ fn is_found(
     tree: &Levels,
     entry: &Entry,
 ) -> Result<bool, Memory>
-    requires header { HasHeader image.now.size (pages_in image.now) }
     requires tree { IsTreeOf image.now.size (pages_in image.now) index.now.root.0 tree.now }
     ensures { IfOk result (λ found.
         IsTrue found ↔ Finds (pages_in image.now) entry.now index.now.root.0) }
@@ -175,7 +173,6 @@ pub fn is_found_in(
     p: RecId,
     row: &[Value],
 ) -> Result<bool, Memory>
-    requires header { HasHeader image.now.size (pages_in image.now) }
     requires trees { HasTrees image.now.size (pages_in image.now) indexes.now trees.now }
     ensures { IfOk result (λ found.
         IsTrue found ↔ IsFoundIn (pages_in image.now) indexes.now p row.now) }

@@ -3,7 +3,6 @@
 ghost use Rattle.std.specs.Prelude.{◌≡◌, ◌≢◌, ◌≤◌, ◌↔◌, false, IfErr, IfOk, IsTrue};
 ghost use Rattle.mg_node.specs.NodePage.{IsNodePage, entries_of, has_low, level_in, right_in};
 ghost use Rattle.mg_image.specs.Indexes.{IsTree, first_child as first_child_of};
-ghost use Rattle.mg_image.specs.Sound.{HasHeader};
 ghost use Rattle.mg_reading.specs.ImageView.{pages_in};
 ghost use Rattle.mg_reading.specs.Readable.{Refutes};
 ghost use Rattle.mg_trees.specs.Trees.{AreLevelsFrom, HasLevelsFrom, HasTree, IsLevelFrom};
@@ -89,21 +88,20 @@ fn level_at(image: &Image, n: u32) -> u16
 
 /// Reads the tree of an index of a table, from its root on.
 ///
-/// `owner` is the number of the table's first pointer page. The header is lawful (`has_header` tests
-/// it), so that page 0 is no root. There is one tree at most (`tree_once` of `specs/TreeLaws.antt`).
+/// `owner` is the number of the table's first pointer page. There is one tree at most (`tree_once`
+/// of `specs/TreeLaws.antt`).
 ///
 /// # Errors
 ///
 /// `Broken` only where there is no tree from the root on: at `Pages`, where a page of it is not as
 /// wanted or not lawful, or stands on another level; else at `Once`. Or `Memory`.
 pub fn read_tree(alloc: Global, image: &Image, owner: u32, root: u32) -> Result<Levels, ReadFault>
-    requires { HasHeader image.now.size (pages_in image.now) }
     ensures tree { IfOk result (λ levels.
         IsTree image.now.size (pages_in image.now) owner root levels) }
     ensures broken { IfErr result (Refutes
         (HasTree image.now.size (pages_in image.now) owner root)) }
 {
-    // Page 0 is the header: read as an index page it has a right neighbour.
+    // Page 0 is the header.
     if root == 0 {
         return Err(ReadFault::Broken(Rule::Once));
     }

@@ -1,13 +1,12 @@
 use Rattle.mg_reading.specs.ImageView.{pages_in}
 use Rattle.mg_trees.specs.Trees.{HasLevelFrom, HasLevelsFrom, HasTree}
 use Rattle.mg_trees.proofs.RefusalLemmas.{passed_on}
-use Rattle.mg_trees.specs.TreeLaws.{levels_of_tree, root_is_some}
+use Rattle.mg_trees.specs.TreeLaws.{levels_of_tree}
 use Rattle.mg_trees.proofs.TreeLemmas.{level_of_levels}
 use Rattle.mg_trees.proofs.tree.read_tree.Goals as goal
 
 pub returns-then-root-eq0-clause-broken : goal.returns-then-root-eq0-clause-broken
-returns-then-root-eq0-clause-broken c = λ has. root_is_some c.args.image.now.size
-    (pages_in c.args.image.now) c.args.root c.requires has.1.root_right c.if-root-eq0.true
+returns-then-root-eq0-clause-broken c = λ has. has.1.rooted c.if-root-eq0.true
 
 pub returns-in_err-pages-clause-broken : goal.returns-in_err-pages-clause-broken
 returns-in_err-pages-clause-broken c = passed_on
