@@ -6,8 +6,9 @@ use Rattle.mg_model.specs.declared.opening.Opening.{Opening}
 use Rattle.mg_model.specs.Changes.{is_at, row_at}
 use Rattle.mg_model.specs.History.{Entries}
 use Rattle.mg_model.specs.Answers.{is_committed}
-use Rattle.mg_model.specs.Legal.{IsOpening, after_durable, durable_changes, durable_database, durable_limbo, is_limbo}
+use Rattle.mg_model.specs.Legal.{after_durable, durable_changes, durable_database, durable_limbo, is_limbo}
 use Rattle.mg_model.specs.Machine.{opening_rows, opening_state, own, state_of}
+use Rattle.mg_model.specs.Openings.{IsOpening}
 use Rattle.mg_image.specs.Form.{Form, Pages, Row}
 use Rattle.mg_image.specs.Opening.{Holds, Opened}
 use Rattle.mg_image.specs.Records as records
