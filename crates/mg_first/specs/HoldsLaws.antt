@@ -1,5 +1,5 @@
 -- What an image of the first form holds, also in the terms of histories.
-use Rattle.std.proofs.Common.{◌≡◌, ◌≢◌, inl, inr, refl, sym, ap, ◌∙◌, ℕ, Bool, true, false, List, Option, None, Some}
+use Rattle.std.proofs.Common.{◌≡◌, ◌≢◌, ◌<◌, ◌≤◌, inl, inr, refl, sym, ap, ◌∙◌, ℕ, Bool, true, false, List, Option, None, Some}
 use Rattle.std.specs.Cmp.Lexicographic.{same_text}
 use Rattle.std.proofs.lemmas.Bool.{false≢true}
 use Rattle.mg_base.specs.declared.numbers.RecId.{RecId}
@@ -8,6 +8,7 @@ use Rattle.mg_base.specs.declared.transaction.TxState.TheVariants.{Active, Limbo
 use Rattle.mg_value.specs.declared.value.Value.{Value}
 use Rattle.mg_model.specs.declared.opening.Opening.{Opening}
 use Rattle.mg_model.specs.declared.table.Table.{Table}
+use Rattle.mg_model.specs.Answers.{is_committed}
 use Rattle.mg_model.specs.Catalog.{catalog_name, column_key, table_key}
 use Rattle.mg_model.specs.Changes.{row_at, same_key, same_name}
 use Rattle.mg_model.specs.History.{Entries}
@@ -17,7 +18,7 @@ use Rattle.mg_model.specs.ReadLaws.{same_name_itself}
 use Rattle.mg_image.specs.Catalog.{catalog_table}
 use Rattle.mg_image.specs.Form.{Pages, Row, Rows, plain_form}
 use Rattle.mg_image.specs.Held.{AreChanges, AreRows, HasTable, IsHeld, IsHeldAt, Shows, told_row}
-use Rattle.mg_image.specs.Histories.{HoldsDurable}
+use Rattle.mg_image.specs.Histories.{HoldsDurable, durable_committed}
 use Rattle.mg_image.specs.Inventory.{state_at}
 use Rattle.mg_image.specs.Opening.{Holds, new_row, sound_image}
 use Rattle.mg_image.specs.Records.{Reading, key_of, writer}
@@ -232,13 +233,17 @@ no_rows_new name key = at (kv_named name)
 -- ---- histories
 
 -- What outlasts a crash after the k-th durable event of a history is a database with these rows of
--- KV and the catalog of a new database, with nobody in limbo.
-pub record IsDurable (kvs : Rows) (o : Opening) (h : Entries) (k : ℕ) : Type 0 where
+-- KV and the catalog of a new database, with nobody in limbo, and those committed below n that are
+-- so by these states.
+pub record IsDurable (kvs : Rows) (n : ℕ) (state : ℕ → TxState) (o : Opening) (h : Entries) (k : ℕ)
+    : Type 0 where
   pub rows : (key : Value) → kvs key ≡ row_at (durable_database o h k) kv_name key
   pub catalog : (key : Value)
       → row_at (durable_database o h k) catalog_name key ≡ new_row catalog_name key
   pub others : (name : List ℕ) (key : Value) → name ≢ catalog_name → name ≢ kv_name
       → row_at (durable_database o h k) name key ≡ None
+  pub committed : (t : ℕ) → t < n → is_committed (state t) ≡ durable_committed o h k t
+  pub undrawn : (t : ℕ) → n ≤ t → durable_committed o h k t ≡ false
   pub limbo : (t : ℕ) → durable_limbo o h k t ≡ false
 
 none_in_limbo : (s : TxState) → s ≢ Limbo → is_limbo s ≡ false
@@ -249,14 +254,16 @@ none_in_limbo Committed out = refl
 
 -- an image with those rows holds what outlasts that crash
 pub kv_durable : (pages : Pages) (r : Reading) (n : ℕ) (rows : Rows) (o : Opening) (h : Entries)
-    (k : ℕ) → IsKv pages r n rows → IsDurable rows o h k
+    (k : ℕ) → IsKv pages r n rows
+    → IsDurable rows n (state_at PAGE pages) o h k
     → HoldsDurable plain_form PAGE pages o h k
 kv_durable pages r n rows o h k kv durable = record {
   opened = kv_opened pages n rows;
   holds = kv_holds pages r n rows kv;
   rows = λ name key. at name key (kv_named name);
+  committed = durable.committed;
   limbo = λ t below. none_in_limbo (state_at PAGE pages t) (kv.limbo t) ∙ sym (durable.limbo t);
-  undrawn = λ t past. durable.limbo t;
+  undrawn = λ t past. (durable.undrawn t past, durable.limbo t);
   changes = λ t name key is. let none = durable.limbo t in absurd cc;
 }
   where

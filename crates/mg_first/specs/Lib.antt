@@ -7,6 +7,7 @@ pub mod KeptPagesLaws
 pub mod KeyLaws
 pub mod KvCellLaws
 pub mod KvCells
+pub mod KvNamesLaws
 pub mod KvRecordLaws
 pub mod KvRowLaws
 pub mod KvTable

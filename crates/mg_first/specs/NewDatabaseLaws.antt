@@ -11,7 +11,7 @@ use Rattle.mg_model.specs.Catalog.{catalog_name, catalog_shape}
 use Rattle.mg_model.specs.declared.table.Index.{Index}
 use Rattle.mg_model.specs.declared.table.Table.{Table}
 use Rattle.mg_model.specs.NewDatabase.{kv_name}
-use Rattle.mg_image.specs.Catalog.{HasNames, catalog_table, committed_with}
+use Rattle.mg_image.specs.Catalog.{HasOwnTables, catalog_table, committed_with}
 use Rattle.mg_image.specs.Form.{Pages, Row, plain_form}
 use Rattle.mg_image.specs.Held.{AreRows}
 use Rattle.mg_image.specs.Indexes.{IsFoundIn}
@@ -21,8 +21,8 @@ use Rattle.mg_image.specs.Records.{Cells, cells_of, slot_cell}
 use Rattle.mg_image.specs.Sound.{HasTablePages, IsIndexed, IsSound}
 use Rattle.mg_image.specs.Tables.{EachStand, stands_of, table_at}
 use Rattle.mg_first.specs.FirstImage.{IsKv, kv_facts}
-use Rattle.mg_first.specs.KvTable.{catalog_rows, kv_layout, kv_shape, kv_table, no_rows}
-use Rattle.mg_first.specs.NewCatalogLaws.{catalog_names_kv}
+use Rattle.mg_first.specs.KvNamesLaws.{kv_names, kv_own_tables, rows_name_kv}
+use Rattle.mg_first.specs.KvTable.{catalog_rows, kv_layout, kv_shape, no_rows}
 use Rattle.mg_first.specs.NewDatabase.{IsHeaderPage, IsNewPages, catalog_cells, new_header, new_reading, no_cell}
 use Rattle.mg_first.specs.NewPageLaws.{catalog_spelled, new_has_header, new_has_inventory, new_has_transactions, new_next, new_once, new_table_pages, none_in_limbo, system_committed}
 use Rattle.mg_first.specs.NewReadingLaws.{IsNewImage, new_catalog_rows, new_kv_rows, new_records}
@@ -57,18 +57,19 @@ committed_system : (f : Facts) (chosen : ℕ → Bool) → f.state 0 ≡ Committ
     → committed_with f chosen 0 ≡ true
 committed_system f chosen is = rw is refl
 
-new_names : (pages : Pages) → IsNewPages pages
-    → HasNames (kv_facts pages) new_reading (catalog_table 3) (kv_table ∷ [])
-new_names pages new = record {
-  lawful = λ chosen. (catalog_rows, rows chosen, (kv_table ∷ [], catalog_names_kv));
-  named = (catalog_rows, rows (λ t. true), catalog_names_kv);
-}
-  where
-    rows : (chosen : ℕ → Bool) → AreRows (kv_facts pages) (committed_with (kv_facts pages) chosen)
-        new_reading (catalog_table 3) catalog_rows
-    rows chosen = new_catalog_rows (kv_facts pages) (cells_of pages)
-        (new_image pages new) (committed_with (kv_facts pages) chosen)
-        (committed_system (kv_facts pages) chosen (system_committed pages))
+-- the catalog's rows are those of a new database, whoever else counts as committed
+new_rows : (pages : Pages) → IsNewPages pages → (chosen : ℕ → Bool)
+    → AreRows (kv_facts pages) (committed_with (kv_facts pages) chosen) new_reading
+    (catalog_table 3) catalog_rows
+new_rows pages new chosen = new_catalog_rows (kv_facts pages) (cells_of pages)
+    (new_image pages new) (committed_with (kv_facts pages) chosen)
+    (committed_system (kv_facts pages) chosen (system_committed pages))
+
+new_own_tables : (pages : Pages) → IsNewPages pages
+    → HasOwnTables (kv_facts pages) new_reading (catalog_table 3)
+new_own_tables pages new = kv_own_tables (kv_facts pages) new_reading (λ n. refl)
+    (rows_name_kv (kv_facts pages) new_reading (new_catalog_rows (kv_facts pages) (cells_of pages)
+    (new_image pages new) _ (ap is_committed (system_committed pages))))
 
 -- ---- no table has an index
 
@@ -116,10 +117,11 @@ new_is_sound pages new = record {
   catalog = ap (λ (x : Header). catalog_table x.catalog.0) (sym new.header.header);
   tables = new_tables pages new;
   sequences = tt;
-  names = new_names pages new;
+  names = kv_names (kv_facts pages) new_reading (new_rows pages new);
   once = new_once pages new;
   records = new_records (kv_facts pages) (cells_of pages) (new_image pages new);
   limbo = λ t below. none_in_limbo pages new t;
+  own_tables = new_own_tables pages new;
   indexed = new_indexed pages new;
 }
 

@@ -12,7 +12,7 @@ use Rattle.mg_header.specs.HeaderPage.{header_in}
 use Rattle.mg_pip.specs.PipPage.{bits, used_in}
 use Rattle.mg_tip.specs.TipPage.{places, state_in}
 use Rattle.mg_image.specs.Form.{Pages}
-use Rattle.mg_image.specs.Inventory.{bits_state, header_of, inventory_page, is_used, last_sequence, next_of, oldest_of, settled, state_at, tip_page}
+use Rattle.mg_image.specs.Inventory.{bits_state, header_of, inventory_page, is_used, last_sequence, next_of, oldest_active_of, oldest_of, settled, state_at, tip_page}
 use Rattle.mg_image.specs.Reached.{IsAsWanted, linked_pages, tips_below, tips_of}
 use Rattle.mg_image.specs.Tables.{Has, LinkChain, ended, goes, pages_of, stands_of}
 use Rattle.mg_first.specs.FirstImage.{kv_facts}
@@ -39,6 +39,10 @@ next_stays old new others = ap (λ (h : Header). h.next.0) (header_stays old new
 
 pub oldest_stays : (old new : Pages) → OnlyPage old new KV_ROWS.0 → oldest_of new ≡ oldest_of old
 oldest_stays old new others = ap (λ (h : Header). h.oit.0) (header_stays old new others)
+
+pub active_stays : (old new : Pages) → OnlyPage old new KV_ROWS.0
+    → oldest_active_of new ≡ oldest_active_of old
+active_stays old new others = ap (λ (h : Header). h.oat.0) (header_stays old new others)
 
 pub last_sequence_stays : (old new : Pages) → OnlyPage old new KV_ROWS.0
     → last_sequence PAGE new ≡ last_sequence PAGE old

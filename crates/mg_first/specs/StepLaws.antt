@@ -1,5 +1,5 @@
 -- The header and the bits of transactions are written: what the image is then.
-use Rattle.std.proofs.Common.{◌≡◌, ◌≢◌, ◌⊎◌, inl, inr, refl, sym, ap, ◌∙◌, ◌+◌, ◌/◌, ◌%◌, ◌<◌, ◌≤◌, arith, ℕ, Bool, false, List, [], ◌∷◌, Some, le-ltb, lt-ltb}
+use Rattle.std.proofs.Common.{◌≡◌, ◌≢◌, ◌⊎◌, inl, inr, refl, sym, ap, ◌∙◌, ◌+◌, ◌/◌, ◌%◌, ◌<◌, ◌≤◌, arith, ℕ, Bool, true, false, List, [], ◌∷◌, Some, le-ltb, lt-ltb}
 use Rattle.std.proofs.lemmas.Bool.{cases_lt}
 use Rattle.mg_base.specs.declared.numbers.PageNo.{PageNo}
 use Rattle.mg_base.specs.declared.numbers.RecId.{RecId}
@@ -10,17 +10,18 @@ use Rattle.mg_model.specs.declared.table.Table.{Table}
 use Rattle.mg_pip.specs.PipPage.{pip_checks}
 use Rattle.mg_slots.specs.DataPage.{cell_of}
 use Rattle.mg_tip.specs.TipPage.{places, state_in}
-use Rattle.mg_image.specs.Catalog.{catalog_table, committed_with}
+use Rattle.mg_image.specs.Catalog.{HasNames, catalog_table, committed_with}
 use Rattle.mg_image.specs.FactLaws.{ShowsSameOf, records_on_same_cells, same_names}
 use Rattle.mg_image.specs.Form.{Pages, Row, plain_coding, plain_form}
 use Rattle.mg_image.specs.Indexes.{IsFoundIn}
-use Rattle.mg_image.specs.Inventory.{header_of, inventory_page, settled, state_at}
+use Rattle.mg_image.specs.Inventory.{header_of, inventory_page, is_used, settled, state_at}
 use Rattle.mg_image.specs.KeptPageLaws.{table_pages_kept, wanted_kept}
-use Rattle.mg_image.specs.RecordRules.{AreRecords, table_in}
-use Rattle.mg_image.specs.Records.{Reading, cells_of, slot_cell}
+use Rattle.mg_image.specs.RecordRules.{AreRecords, Each, table_in}
+use Rattle.mg_image.specs.Records.{Reading, cells_of, slot_cell, writer}
 use Rattle.mg_image.specs.Sound.{HasHeader, HasNoOldLimbo, HasRegion, HasTablePages, HasTransactions, IsIndexed, IsSound, IsUndrawn}
 use Rattle.mg_image.specs.Tables.{Has}
 use Rattle.mg_first.specs.FirstImage.{kv_facts}
+use Rattle.mg_first.specs.KvNamesLaws.{kv_named, kv_own_tables}
 use Rattle.mg_first.specs.KvTable.{kv_layout, kv_table, stands_on}
 use Rattle.mg_first.specs.PlaceLaws.{HasOneTip, KeepsRest, inventory_apart, linked_are, no_index, rows_apart, state_by, none_of, state_is, used_kept}
 use Rattle.mg_first.specs.PageChanges.{RaisesNext}
@@ -39,14 +40,21 @@ pub record IsQuiet (old new : Pages) (r : Reading) (n : ℕ) : Type 0 where
   pub names : (chosen : ℕ → Bool) → ShowsSameOf (catalog_table CATALOG.0) (kv_facts old)
       (kv_facts new) (committed_with (kv_facts old) chosen) (committed_with (kv_facts new) chosen)
       r r
-  pub limbo : HasNoOldLimbo PAGE new
+  pub limbo : HasNoOldLimbo (state_at PAGE new) new
+  pub settled : (p : RecId) → table_in (kv_facts new) p ≡ Some (catalog_table CATALOG.0)
+      → Each (λ e. state_at PAGE new (writer e) ≡ Committed) (r p)
+
+-- what was used is used still
+pub stays_used : (old new : Pages) → KeepsRest old new → (n : ℕ) → is_used PAGE old n ≡ true
+    → is_used PAGE new n ≡ true
+stays_used old new rest n is = used_kept old new rest n ∙ is
 
 -- the inventory pages stay
 region_kept : (old new : Pages) → KeepsRest old new → (n region : ℕ) → n ≢ 0
     → n ≢ TRANSACTIONS.0 → HasRegion PAGE old n region → HasRegion PAGE new n region
 region_kept old new rest n region a b (inl is) = inl (rest n a b ∙ is)
 region_kept old new rest n region a b (inr is) = inr (wanted_kept PAGE old new n
-    (pip_checks (old n) n region) (pip_checks (new n) n region) (used_kept old new rest n)
+    (pip_checks (old n) n region) (pip_checks (new n) n region) (stays_used old new rest n)
     (ap (λ (page : List ℕ). pip_checks page n region) (rest n a b)) is)
 
 -- the pages of the catalog and of KV stay
@@ -58,7 +66,7 @@ stand_kept old new rest table pointer data_page past past_too none has =
     table_pages_kept false PAGE old new (stands_on table pointer data_page) (record {
       pointers = λ n is. one pointer past n is;
       data_pages = λ n is. one data_page past_too n is;
-      used = used_kept old new rest;
+      used = stays_used old new rest;
       trees = rw none tt;
     }) has
   where
@@ -99,16 +107,21 @@ quiet_sound old new r m n sound has quiet = record {
     ),
   );
   sequences = tt;
-  names = same_names (kv_facts old) (kv_facts new) r r (catalog_table CATALOG.0) (kv_table ∷ [])
-      quiet.names sound.names;
+  names = names;
   once = rw (linked_are new n quiet.one_tip) (rw (linked_are old m has) at sound.once);
   records = records_on_same_cells plain_coding (kv_facts new) (cells_of old) (cells_of new) r
       (λ p table of. let apart = rows_apart p.page.0 table of in
       ap (λ (page : List ℕ). slot_cell (cell_of page p.slot))
       (quiet.rest p.page.0 apart.0 apart.1)) quiet.records;
   limbo = quiet.limbo;
+  own_tables = kv_own_tables (kv_facts new) r (λ k. refl)
+      (kv_named (kv_facts new) r names quiet.settled);
   indexed = not_indexed new r;
 }
+  where
+    names : HasNames PAGE (kv_facts new) r (catalog_table CATALOG.0) (kv_table ∷ [])
+    names = same_names PAGE (kv_facts old) (kv_facts new) r r (catalog_table CATALOG.0)
+        (kv_table ∷ []) quiet.names sound.names
 
 -- ---- the next number is raised
 

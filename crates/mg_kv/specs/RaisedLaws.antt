@@ -1,6 +1,6 @@
 -- The header of pages at rest is replaced by one with a higher next number: they are at rest still,
 -- and say the same of each transaction.
-use Rattle.std.proofs.Common.{◌≡◌, ◌≢◌, ◌⊎◌, inl, inr, refl, sym, ap, ◌∙◌, arith, ℕ, ◌/◌, ◌%◌, ◌<◌, ◌≤◌, length, List, le-ltb, lt-ltb}
+use Rattle.std.proofs.Common.{◌≡◌, ◌≢◌, ◌⊎◌, inl, inr, refl, sym, ap, ◌∙◌, arith, ℕ, ◌/◌, ◌%◌, ◌<◌, ◌≤◌, length, List, Some, le-ltb, lt-ltb}
 use Rattle.std.specs.Prelude.{◌&&◌, ◌||◌}
 use Rattle.std.proofs.Math.Path.{fun_ext}
 use Rattle.std.proofs.lemmas.Bool.{cases_eq, cases_lt}
@@ -13,21 +13,22 @@ use Rattle.mg_model.specs.Answers.{is_committed}
 use Rattle.mg_model.specs.Legal.{is_limbo}
 use Rattle.mg_model.specs.declared.table.Table.{Table}
 use Rattle.mg_tip.specs.TipPage.{places, state_in, tip_checks}
+use Rattle.mg_image.specs.Catalog.{catalog_table}
 use Rattle.mg_image.specs.FactLaws.{GrowsFacts, each_has, records_grow}
 use Rattle.mg_image.specs.Form.{Pages, plain_coding, plain_form}
 use Rattle.mg_image.specs.declared.entry.Entry.{Entry}
 use Rattle.mg_image.specs.Held.{AreChanges, Changes, Database, HasLimbo, IsChangedAt, IsHeld}
 use Rattle.mg_image.specs.HeldLaws.{same_held}
-use Rattle.mg_image.specs.Inventory.{next_of, oldest_of, settled, state_at}
+use Rattle.mg_image.specs.Inventory.{next_of, oldest_active_of, oldest_of, settled, state_at}
 use Rattle.mg_image.specs.KeptPageLaws.{wanted_kept}
-use Rattle.mg_image.specs.RecordRules.{Facts, table_in}
+use Rattle.mg_image.specs.RecordRules.{Each, Facts, table_in}
 use Rattle.mg_image.specs.Records.{Change, Reading, cells_of, shown, writer}
 use Rattle.mg_image.specs.Sound.{HasHeader, HasTransactions, IsSound, IsUndrawn}
 use Rattle.mg_first.specs.FirstImage.{kv_committed, kv_facts}
 use Rattle.mg_first.specs.KvTable.{kv_layout}
 use Rattle.mg_first.specs.PlaceLaws.{HasOneTip, KeepsRest, none_of, state_by, state_is, tip_of, transactions_from, used_kept}
-use Rattle.mg_first.specs.StepLaws.{quiet_sound}
-use Rattle.mg_first.specs.declared.pages.TheConstants.{HEADER, LAST, PAGE, TRANSACTIONS}
+use Rattle.mg_first.specs.StepLaws.{stays_used, quiet_sound}
+use Rattle.mg_first.specs.declared.pages.TheConstants.{CATALOG, HEADER, LAST, PAGE, TRANSACTIONS}
 use Rattle.mg_kv.specs.Work.{IsAtRest, RaisesHeader}
 use Rattle.mg_kv.specs.WorkStepLaws.{none_below}
 
@@ -67,7 +68,7 @@ raised_transactions old new n has was raises =
     transactions_from new n (raised_tip old new n raises)
     (wanted_kept PAGE old new TRANSACTIONS.0 (tip_checks (old TRANSACTIONS.0) TRANSACTIONS.0 0)
     (tip_checks (new TRANSACTIONS.0) TRANSACTIONS.0 0)
-    (used_kept old new (raised_rest old new n raises) TRANSACTIONS.0)
+    (stays_used old new (raised_rest old new n raises) TRANSACTIONS.0)
     (ap (λ (b : List ℕ). tip_checks b TRANSACTIONS.0 0) stays) (tip_of old (next_of old) has was))
     (λ t past on. rw stays (none_of old (next_of old) has was t
     (omega (arith, past, raises.higher)) on))
@@ -129,6 +130,11 @@ pub raised_oldest : (old new : Pages) (n : ℕ) → RaisesHeader old new n
 raised_oldest old new n raises = ap (λ (h : Header). h.oit.0) raises.header.header
     ∙ sym (ap (λ (h : Header). h.oit.0) raises.was.header)
 
+raised_active : (old new : Pages) (n : ℕ) → RaisesHeader old new n
+    → oldest_active_of new ≡ oldest_active_of old
+raised_active old new n raises = ap (λ (h : Header). h.oat.0) raises.header.header
+    ∙ sym (ap (λ (h : Header). h.oat.0) raises.was.header)
+
 -- what the records need to know has a higher next number
 pub raised_facts : (old new : Pages) (r : Reading) (n : ℕ) → IsAtRest old r
     → RaisesHeader old new n → GrowsFacts (kv_facts old) (kv_facts new)
@@ -138,6 +144,17 @@ raised_facts old new r n rest raises = record {
   oldest = raised_oldest old new n raises;
   state = raised_states old new r n rest raises;
 }
+
+-- each version in the catalog is committed still
+raised_catalog : (old new : Pages) (r : Reading) (n : ℕ) → IsAtRest old r
+    → RaisesHeader old new n → (p : RecId)
+    → table_in (kv_facts new) p ≡ Some (catalog_table CATALOG.0)
+    → Each (λ e. state_at PAGE new (writer e) ≡ Committed) (r p)
+raised_catalog old new r n rest raises p of =
+    each_has (λ e. state_at PAGE old (writer e) ≡ Committed)
+    (λ e. state_at PAGE new (writer e) ≡ Committed)
+    (λ e is. raised_states old new r n rest raises (writer e) ∙ is) (r p)
+    (rest.catalog p of)
 
 raised_sound : (old new : Pages) (r : Reading) (n : ℕ) → IsAtRest old r → RaisesHeader old new n
     → IsSound plain_form PAGE new kv_layout r
@@ -157,7 +174,8 @@ raised_sound old new r n rest raises =
             shown (λ (t : ℕ). is_committed (s t) || (is_limbo (s t) && chosen t)) (r p))
             (all_same old new r n rest raises);
       };
-      limbo = none_below new (omega (arith, raised_oldest old new n raises, rest.oldest));
+      limbo = none_below new (omega (arith, raised_active old new n raises, rest.active));
+      settled = raised_catalog old new r n rest raises;
     })
 
 -- the pages are at rest
@@ -167,11 +185,9 @@ raised_rests old new r n rest raises = record {
   sound = raised_sound old new r n rest raises;
   tip = record { next = refl; last = omega (arith, tip.next, tip.last); one_tip = tip.one_tip };
   oldest = omega (arith, raised_oldest old new n raises, rest.oldest);
+  active = omega (arith, raised_active old new n raises, rest.active);
   drawn = omega (arith, tip.next, raises.higher, rest.drawn);
-  catalog = λ p of. each_has (λ e. state_at PAGE old (writer e) ≡ Committed)
-      (λ e. state_at PAGE new (writer e) ≡ Committed)
-      (λ e is. raised_states old new r n rest raises (writer e) ∙ is) (r p)
-      (rest.catalog p of);
+  catalog = raised_catalog old new r n rest raises;
 }
   where
     tip : HasOneTip new n

@@ -18,18 +18,9 @@ use Rattle.mg_first.specs.declared.pages.TheConstants.{PAGE, TRANSACTIONS}
 use Rattle.mg_kv.specs.Fate.{ended_in, fate_in}
 use Rattle.mg_kv.specs.Work.{HasBits, live_facts, IsAtWork, IsAtRest}
 use Rattle.mg_kv.specs.Versions.{kept}
-use Rattle.mg_kv.specs.WorkStepLaws.{committed_bits}
+use Rattle.mg_kv.specs.WorkStepLaws.{each_on_pages, committed_bits}
 
 -- ---- the program stops
-
-each_on_pages : (pages : Pages) (state : ℕ → TxState) → HasBits pages state → (es : List Entry)
-    → Each (λ e. state (writer e) ≡ Committed) es
-    → Each (λ e. state_at PAGE pages (writer e) ≡ Committed) es
-each_on_pages pages state has [] each = tt
-each_on_pages pages state has (e ∷ es) each = (
-  committed_bits pages state (writer e) has each.0,
-  each_on_pages pages state has es each.1,
-)
 
 -- whenever the program stops, the pages are at rest
 pub work_stops : (pages : Pages) (state : ℕ → TxState) (r : Reading) → IsAtWork pages state r
@@ -38,6 +29,7 @@ work_stops pages state r work = record {
   sound = work.sound;
   tip = work.tip;
   oldest = work.oldest;
+  active = work.active;
   drawn = work.drawn;
   catalog = λ p of. each_on_pages pages state work.bits (r p) (work.catalog p of);
 }
@@ -89,6 +81,7 @@ work_starts pages r rest = record {
   };
   tip = rest.tip;
   oldest = rest.oldest;
+  active = rest.active;
   drawn = rest.drawn;
   catalog = rest.catalog;
 }

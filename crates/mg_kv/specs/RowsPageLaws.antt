@@ -4,22 +4,25 @@ use Rattle.std.specs.Prelude.{take}
 use Rattle.mg_base.specs.CheckLaws.{front_checks}
 use Rattle.mg_base.specs.declared.fields.TheConstants.{COMMON}
 use Rattle.mg_base.specs.declared.numbers.RecId.{RecId}
+use Rattle.mg_base.specs.declared.transaction.TxState.TheVariants.{Committed}
 use Rattle.mg_header.specs.declared.header.Header.{Header}
 use Rattle.mg_base.specs.Checks.{common_checks}
 use Rattle.mg_model.specs.declared.table.Table.{Table}
 use Rattle.mg_slots.specs.DataPage.{IsDataPage, cell_of}
 use Rattle.mg_slots.specs.declared.page.TheConstants.{DATA_KIND}
-use Rattle.mg_image.specs.Catalog.{HasNames, catalog_table, committed_with}
+use Rattle.mg_image.specs.Catalog.{HasNames, HasOwnTables, catalog_table, committed_with}
 use Rattle.mg_image.specs.FactLaws.{same_names}
 use Rattle.mg_image.specs.Form.{Pages, plain_coding, plain_form}
-use Rattle.mg_image.specs.RecordRules.{AreRecords, Facts, table_in}
-use Rattle.mg_image.specs.Records.{Reading, cells_of, shown}
+use Rattle.mg_image.specs.RecordRules.{AreRecords, Each, Facts, table_in}
+use Rattle.mg_image.specs.Records.{Reading, cells_of, shown, writer}
+use Rattle.mg_image.specs.Inventory.{state_at}
 use Rattle.mg_image.specs.Reached.{IsAsWanted}
 use Rattle.mg_image.specs.Sound.{IsCellOf, IsSound, IsTableData}
 use Rattle.mg_image.specs.Tables.{IsOnce}
 use Rattle.mg_first.specs.FirstImage.{kv_facts}
+use Rattle.mg_first.specs.KvNamesLaws.{kv_named, kv_own_tables}
 use Rattle.mg_first.specs.KvTable.{kv_layout, kv_table}
-use Rattle.mg_first.specs.OtherPagesLaws.{facts_stay, header_stays, linked_stay, oldest_stays, state_stays, wanted_stays}
+use Rattle.mg_first.specs.OtherPagesLaws.{facts_stay, header_stays, active_stays, linked_stay, state_stays, wanted_stays}
 use Rattle.mg_first.specs.PageChanges.{ChangesRows}
 use Rattle.mg_first.specs.KeptPagesLaws.{data_stays, header_has, inventory_has, table_pages_stay, transactions_have}
 use Rattle.mg_first.specs.StepLaws.{not_indexed}
@@ -46,9 +49,9 @@ catalog_is_off pages p of page =
 -- the catalog names the same tables
 names_are_same : (pages : Pages) (r s : Reading)
     → ((p : RecId) → p.page.0 ≢ KV_ROWS.0 → s p ≡ r p)
-    → HasNames (kv_facts pages) r (catalog_table CATALOG.0) (kv_table ∷ [])
-    → HasNames (kv_facts pages) s (catalog_table CATALOG.0) (kv_table ∷ [])
-names_are_same pages r s others names = same_names (kv_facts pages) (kv_facts pages) r s
+    → HasNames PAGE (kv_facts pages) r (catalog_table CATALOG.0) (kv_table ∷ [])
+    → HasNames PAGE (kv_facts pages) s (catalog_table CATALOG.0) (kv_table ∷ [])
+names_are_same pages r s others names = same_names PAGE (kv_facts pages) (kv_facts pages) r s
     (catalog_table CATALOG.0) (kv_table ∷ []) (λ chosen. record {
       tables = λ p. refl;
       rows = λ p of. ap (shown (committed_with (kv_facts pages) chosen))
@@ -74,8 +77,10 @@ pub rows_page_sound : (pages new : Pages) (r s : Reading)
     → IsRowsPage (pages KV_ROWS.0) (new KV_ROWS.0)
     → AreRecords plain_coding (kv_facts pages) (cells_of new) s
     → ((p : RecId) → p.page.0 ≢ KV_ROWS.0 → s p ≡ r p)
+    → ((p : RecId) → table_in (kv_facts pages) p ≡ Some (catalog_table CATALOG.0)
+    → Each (λ e. state_at PAGE pages (writer e) ≡ Committed) (r p))
     → IsSound plain_form PAGE new kv_layout s
-rows_page_sound pages new r s sound change page records others = record {
+rows_page_sound pages new r s sound change page records others settled = record {
   header = header_has pages new change.others page.len sound.header;
   transactions = transactions_have pages new change sound.transactions;
   inventory = inventory_has pages new change.others sound.inventory;
@@ -94,12 +99,17 @@ rows_page_sound pages new r s sound change page records others = record {
     ),
   );
   sequences = tt;
-  names = subst (λ (f : Facts). HasNames f s (catalog_table CATALOG.0) (kv_table ∷ []))
+  names = subst (λ (f : Facts). HasNames PAGE f s (catalog_table CATALOG.0) (kv_table ∷ []))
       (sym (facts_stay pages new change)) (names_are_same pages r s others sound.names);
   once = subst IsOnce (sym (linked_stay pages new change)) sound.once;
   records = subst (λ (f : Facts). AreRecords plain_coding f (cells_of new) s)
       (sym (facts_stay pages new change)) records;
-  limbo = λ u old is. sound.limbo u (omega (arith, oldest_stays pages new change.others, old))
+  limbo = λ u old is. sound.limbo u (omega (arith, active_stays pages new change.others, old))
       (sym (state_stays pages new change u) ∙ is);
+  own_tables = subst (λ (f : Facts). HasOwnTables f s (catalog_table CATALOG.0))
+      (sym (facts_stay pages new change))
+      (kv_own_tables (kv_facts pages) s (λ n. refl)
+      (kv_named (kv_facts pages) s (names_are_same pages r s others sound.names)
+      (λ p of. rw (others p (catalog_is_off pages p of)) (settled p of))));
   indexed = not_indexed new s;
 }

@@ -3,7 +3,7 @@ use Rattle.std.proofs.Common.{◌≡◌, ℕ, ◌≤◌, ◌<◌, ℤ, Some, ◌
 use Rattle.mg_base.specs.declared.transaction.TxState.{TxState}
 use Rattle.mg_base.specs.declared.transaction.TxState.TheVariants.{Active, Committed, Dead}
 use Rattle.mg_image.specs.Form.{Pages, plain_coding, plain_form}
-use Rattle.mg_image.specs.Inventory.{oldest_of, settled, state_at, next_of}
+use Rattle.mg_image.specs.Inventory.{oldest_active_of, oldest_of, settled, state_at, next_of}
 use Rattle.mg_image.specs.RecordRules.{Facts, AreRecords, Each, table_in}
 use Rattle.mg_first.specs.FirstImage.{kv_facts}
 use Rattle.mg_first.specs.declared.pages.TheConstants.{PAGE, CATALOG, KV_ROWS, LAST, HEADER}
@@ -42,6 +42,7 @@ pub record IsAtWork (pages : Pages) (state : ℕ → TxState) (r : Reading) : Ty
   pub tip : HasOneTip pages (next_of pages)
   -- each transaction is interesting, and there is one
   pub oldest : oldest_of pages ≤ 1
+  pub active : oldest_active_of pages ≤ 1
   pub drawn : 0 < next_of pages
   -- the catalog is committed
   pub catalog : (p : RecId) → table_in (kv_facts pages) p ≡ Some (catalog_table CATALOG.0)
@@ -92,6 +93,7 @@ pub record IsAtRest (pages : Pages) (r : Reading) : Type 0 where
   pub sound : IsSound plain_form PAGE pages kv_layout r
   pub tip : HasOneTip pages (next_of pages)
   pub oldest : oldest_of pages ≤ 1
+  pub active : oldest_active_of pages ≤ 1
   pub drawn : 0 < next_of pages
   pub catalog : (p : RecId) → table_in (kv_facts pages) p ≡ Some (catalog_table CATALOG.0)
       → Each (λ e. state_at PAGE pages (writer e) ≡ Committed) (r p)

@@ -9,7 +9,7 @@ use Rattle.mg_tip.specs.TipPage.{tip_checks}
 use Rattle.mg_image.specs.Catalog.{catalog_table}
 use Rattle.mg_image.specs.FactLaws.{records_grow}
 use Rattle.mg_image.specs.Form.{Pages, plain_coding}
-use Rattle.mg_image.specs.Inventory.{next_of, oldest_of, settled, state_at}
+use Rattle.mg_image.specs.Inventory.{next_of, oldest_active_of, oldest_of, settled, state_at}
 use Rattle.mg_image.specs.KeptPageLaws.{wanted_kept}
 use Rattle.mg_image.specs.RecordRules.{Each, table_in}
 use Rattle.mg_image.specs.Records.{Reading, cells_of, writer}
@@ -17,13 +17,13 @@ use Rattle.mg_image.specs.Sound.{HasHeader, HasTransactions}
 use Rattle.mg_first.specs.FirstImage.{kv_facts}
 use Rattle.mg_first.specs.PlaceLaws.{HasOneTip, KeepsRest, none_of, state_is, tip_of, transactions_from, used_kept}
 use Rattle.mg_first.specs.PageChanges.{RaisesNext}
-use Rattle.mg_first.specs.StepLaws.{quiet_sound, raised_state}
+use Rattle.mg_first.specs.StepLaws.{stays_used, quiet_sound, raised_state}
 use Rattle.mg_first.specs.declared.pages.TheConstants.{CATALOG, LAST, PAGE, TRANSACTIONS}
 use Rattle.mg_kv.specs.EndedVersionsLaws.{draw_settles}
 use Rattle.mg_kv.specs.LiveFactsLaws.{Becomes, live_draws}
 use Rattle.mg_kv.specs.Work.{HasBits, live_facts, IsAtWork, Draws}
 use Rattle.mg_kv.specs.SettlingLaws.{records_settle}
-use Rattle.mg_kv.specs.WorkStepLaws.{cells_kept, none_below, others_committed, same_catalog}
+use Rattle.mg_kv.specs.WorkStepLaws.{each_on_pages, cells_kept, none_below, others_committed, same_catalog}
 
 raised_tip : (old new : Pages) → HasOneTip old (next_of old) → next_of old < LAST.0
     → RaisesNext old new → HasOneTip new (next_of old + 1)
@@ -55,7 +55,7 @@ raised_transactions old new has was below raises =
     transactions_from new (next_of old + 1) (raised_tip old new has below raises)
     (wanted_kept PAGE old new TRANSACTIONS.0 (tip_checks (old TRANSACTIONS.0) TRANSACTIONS.0 0)
     (tip_checks (new TRANSACTIONS.0) TRANSACTIONS.0 0)
-    (used_kept old new (raised_rest old new raises) TRANSACTIONS.0)
+    (stays_used old new (raised_rest old new raises) TRANSACTIONS.0)
     (ap (λ (b : List ℕ). tip_checks b TRANSACTIONS.0 0) stays) (tip_of old (next_of old) has was))
     (λ t past on. rw stays (none_of old (next_of old) has was t (omega (arith, past)) on))
   where
@@ -96,7 +96,8 @@ work_begins old new before after r u work draws = record {
       state = same;
     }) work.sound.records;
     names = same_catalog old new before after r work.bits bits work.catalog catalog;
-    limbo = none_below new (omega (arith, oldest, work.oldest));
+    limbo = none_below new (omega (arith, active, work.active));
+    settled = λ p of. each_on_pages new after bits (r p) (catalog p of);
   });
   records = cells_kept old new after r rest (records_settle plain_coding (live_facts old before)
       (live_facts new after) (cells_of old) r (draw_settles plain_coding (live_facts old before)
@@ -106,6 +107,7 @@ work_begins old new before after r u work draws = record {
   bits = bits;
   tip = record { next = refl; last = omega (arith, tip.next, tip.last); one_tip = tip.one_tip };
   oldest = omega (arith, oldest, work.oldest);
+  active = omega (arith, active, work.active);
   drawn = omega (arith, tip.next);
   catalog = catalog;
 }
@@ -121,6 +123,9 @@ work_begins old new before after r u work draws = record {
 
     oldest : oldest_of new ≡ oldest_of old
     oldest = ap (λ (h : Header). h.oit.0) draws.raises.header
+
+    active : oldest_active_of new ≡ oldest_active_of old
+    active = ap (λ (h : Header). h.oat.0) draws.raises.header
 
     same : (t : ℕ) → state_at PAGE new t ≡ state_at PAGE old t
     same = raised_state old new (next_of old) work.tip work.sound.transactions below draws.raises

@@ -11,7 +11,7 @@ use Rattle.mg_tip.specs.TipPage.{SetsState, places, state_in, tip_checks}
 use Rattle.mg_tip.specs.TipPageLaws.{same_tests}
 use Rattle.mg_image.specs.Catalog.{catalog_table}
 use Rattle.mg_image.specs.Form.{Pages, plain_coding}
-use Rattle.mg_image.specs.Inventory.{header_of, next_of, oldest_of, settled, state_at}
+use Rattle.mg_image.specs.Inventory.{header_of, next_of, oldest_active_of, oldest_of, settled, state_at}
 use Rattle.mg_image.specs.KeptPageLaws.{wanted_kept}
 use Rattle.mg_image.specs.RecordRules.{AreRecords, Each, table_in}
 use Rattle.mg_image.specs.Records.{Reading, cells_of, writer}
@@ -19,14 +19,14 @@ use Rattle.mg_image.specs.Sound.{HasHeader, HasTransactions}
 use Rattle.mg_first.specs.FirstImage.{kv_facts}
 use Rattle.mg_first.specs.PlaceLaws.{HasOneTip, KeepsRest, none_of, state_by, state_is, tip_of, transactions_from, used_kept}
 use Rattle.mg_first.specs.PageChanges.{CommitsBits}
-use Rattle.mg_first.specs.StepLaws.{quiet_sound}
+use Rattle.mg_first.specs.StepLaws.{stays_used, quiet_sound}
 use Rattle.mg_first.specs.declared.pages.TheConstants.{CATALOG, LAST, PAGE, TRANSACTIONS}
 use Rattle.mg_kv.specs.EndedVersionsLaws.{commit_settles}
 use Rattle.mg_kv.specs.LiveFactsLaws.{Becomes, live_ends, records_at_stop}
 use Rattle.mg_kv.specs.Work.{HasBits, live_facts, IsAtWork, CommitsWork}
 use Rattle.mg_kv.specs.SettlingLaws.{records_settle}
 use Rattle.mg_kv.specs.Versions.{kept}
-use Rattle.mg_kv.specs.WorkStepLaws.{cells_kept, none_below, others_committed, same_catalog}
+use Rattle.mg_kv.specs.WorkStepLaws.{each_on_pages, cells_kept, none_below, others_committed, same_catalog}
 
 -- ---- the pages
 
@@ -94,7 +94,7 @@ committed_transactions old new n t has done below was =
     transactions_from new n (committed_tip old new n t has done)
     (wanted_kept PAGE old new TRANSACTIONS.0 (tip_checks (old TRANSACTIONS.0) TRANSACTIONS.0 0)
     (tip_checks (new TRANSACTIONS.0) TRANSACTIONS.0 0)
-    (used_kept old new (committed_rest old new t done) TRANSACTIONS.0)
+    (stays_used old new (committed_rest old new t done) TRANSACTIONS.0)
     (same_tests (old TRANSACTIONS.0) (new TRANSACTIONS.0) TRANSACTIONS.0 0 done.bits.front)
     (tip_of old n has was))
     (λ u past on. rw (done.bits.others (u % places PAGE) (apart u past on))
@@ -129,12 +129,14 @@ work_commits old new before after r t work commits = record {
     one_tip = tip;
     records = records_at_stop plain_coding new after (cells_of old) r bits live;
     names = same_catalog old new before after r work.bits bits work.catalog catalog;
-    limbo = none_below new (omega (arith, oldest, work.oldest));
+    limbo = none_below new (omega (arith, active, work.active));
+    settled = λ p of. each_on_pages new after bits (r p) (catalog p of);
   });
   records = cells_kept old new after r rest live;
   bits = bits;
   tip = record { next = refl; last = omega (arith, tip.next, tip.last); one_tip = tip.one_tip };
   oldest = omega (arith, oldest, work.oldest);
+  active = omega (arith, active, work.active);
   drawn = omega (arith, tip.next, work.drawn);
   catalog = catalog;
 }
@@ -147,6 +149,9 @@ work_commits old new before after r t work commits = record {
 
     oldest : oldest_of new ≡ oldest_of old
     oldest = ap (λ (h : Header). h.oit.0) (same_header old new t commits.bits)
+
+    active : oldest_active_of new ≡ oldest_active_of old
+    active = ap (λ (h : Header). h.oat.0) (same_header old new t commits.bits)
 
     live : AreRecords plain_coding (live_facts new after) (cells_of old) r
     live = records_settle plain_coding (live_facts old before) (live_facts new after)

@@ -7,7 +7,7 @@ use Rattle.mg_image.specs.Form.{Pages, plain_coding}
 use Rattle.mg_image.specs.RecordRules.{AreRecords, Each, Facts}
 use Rattle.mg_image.specs.Records.{Reading, cells_of, writer}
 use Rattle.mg_first.specs.FirstImage.{kv_facts}
-use Rattle.mg_first.specs.OtherPagesLaws.{facts_stay, header_stays, next_stays, oldest_stays, state_stays}
+use Rattle.mg_first.specs.OtherPagesLaws.{facts_stay, header_stays, active_stays, next_stays, oldest_stays, state_stays}
 use Rattle.mg_first.specs.PageChanges.{ChangesRows}
 use Rattle.mg_first.specs.declared.pages.TheConstants.{KV_ROWS}
 use Rattle.mg_kv.specs.LiveFactsLaws.{facts_are_live, records_at_stop}
@@ -16,6 +16,7 @@ use Rattle.mg_kv.specs.PageSlotsLaws.{slots_are_cells}
 use Rattle.mg_kv.specs.Writing.{IsWriting, WrittenRecords, IsNoObstacle, writer_of}
 use Rattle.mg_kv.specs.RowsPageLaws.{catalog_is_off, rows_page_sound}
 use Rattle.mg_kv.specs.Slots.{Slots, cleaned, taker, written}
+use Rattle.mg_kv.specs.WorkStepLaws.{each_on_pages}
 use Rattle.mg_kv.specs.WrittenRecordsLaws.{pages_write_cells, written_records}
 
 -- another data page of KV changes nothing that the records need to know
@@ -52,7 +53,8 @@ work_goes_on old new state r t key value slots work writes writing free =
           cells = λ n bytes. slots_are_cells (new KV_ROWS.0) (written state t key value slots) n
               bytes writes.after;
         }) (records_at_stop plain_coding old state (cells_of new) records.reading work.bits
-            records.records) records.others;
+            records.records) records.others
+            (λ p of. each_on_pages old state work.bits (r p) (work.catalog p of));
         records = subst (λ (f : Facts). AreRecords plain_coding f (cells_of new) records.reading)
             (sym (live_stays old new state change)) records.records;
         bits = record {
@@ -70,6 +72,7 @@ work_goes_on old new state r t key value slots work writes writing free =
               ∙ work.tip.one_tip;
         };
         oldest = omega (arith, oldest_stays old new writes.only, work.oldest);
+        active = omega (arith, active_stays old new writes.only, work.active);
         drawn = omega (arith, next_stays old new writes.only, work.drawn);
         catalog = λ p of. subst (Each (λ e. state (writer e) ≡ Committed))
             (sym (records.others p (catalog_is_off old p of))) (work.catalog p of);

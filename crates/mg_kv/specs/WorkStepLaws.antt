@@ -9,7 +9,7 @@ use Rattle.mg_slots.specs.DataPage.{cell_of}
 use Rattle.mg_image.specs.Catalog.{catalog_table, committed_with}
 use Rattle.mg_image.specs.FactLaws.{ShowsSameOf, records_on_same_cells, shown_alike}
 use Rattle.mg_image.specs.Form.{Pages, plain_coding}
-use Rattle.mg_image.specs.Inventory.{oldest_of, settled, state_at}
+use Rattle.mg_image.specs.Inventory.{oldest_active_of, oldest_of, settled, state_at}
 use Rattle.mg_image.specs.RecordRules.{AreRecords, Each, table_in}
 use Rattle.mg_image.specs.Records.{Reading, cells_of, slot_cell, writer}
 use Rattle.mg_image.specs.Sound.{HasNoOldLimbo}
@@ -37,6 +37,16 @@ cells_kept old new state r rest are = records_on_same_cells plain_coding (live_f
 pub committed_bits : (pages : Pages) (state : ℕ → TxState) (u : ℕ) → HasBits pages state
     → state u ≡ Committed → state_at PAGE pages u ≡ Committed
 committed_bits pages state u has is = has.bits u ∙ ap settled is
+
+-- versions that count as committed are so by the pages
+pub each_on_pages : (pages : Pages) (state : ℕ → TxState) → HasBits pages state → (es : List Entry)
+    → Each (λ e. state (writer e) ≡ Committed) es
+    → Each (λ e. state_at PAGE pages (writer e) ≡ Committed) es
+each_on_pages pages state has [] each = tt
+each_on_pages pages state has (e ∷ es) each = (
+  committed_bits pages state (writer e) has each.0,
+  each_on_pages pages state has es each.1,
+)
 
 -- the catalog's rows count as they did, whoever of those in limbo does
 pub same_catalog : (old new : Pages) (before after : ℕ → TxState) (r : Reading) → HasBits old before
@@ -71,8 +81,9 @@ zero_committed : (pages : Pages) → state_at PAGE pages 0 ≡ Committed
 unfolding state_at
 zero_committed pages = refl
 
--- where each transaction is interesting, none below the oldest one is in limbo
-pub none_below : (pages : Pages) → oldest_of pages ≤ 1 → HasNoOldLimbo PAGE pages
+-- where the oldest active transaction is the first one, none below it is in limbo
+pub none_below : (pages : Pages) → oldest_active_of pages ≤ 1
+    → HasNoOldLimbo (state_at PAGE pages) pages
 none_below pages oldest t below is =
     let first : t ≡ 0 = omega (arith, oldest, below) in
     let both : Committed ≡ Limbo = sym (zero_committed pages)
@@ -114,6 +125,7 @@ work_rolls_back pages before after r t work rolls = record {
   };
   tip = work.tip;
   oldest = work.oldest;
+  active = work.active;
   drawn = work.drawn;
   catalog = λ p of. others_committed before after t
       (λ is. let both : Active ≡ Committed = sym rolls.active ∙ is in absurd cc) rolls.others (r p)
