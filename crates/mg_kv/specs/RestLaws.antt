@@ -1,5 +1,5 @@
 -- The pages of a database at rest: the program starts to work on them, and stops.
-use Rattle.std.proofs.Common.{◌≡◌, ◌≢◌, ◌⊎◌, inl, inr, refl, sym, ap, ◌∙◌, subst, arith, ℕ, ◌/◌, ◌%◌, ◌<◌, ◌≤◌, ◌==◌, nat_lt, Bool, true, false, List, [], ◌∷◌, length, le-ltb, lt-ltb, ne_eqb}
+use Rattle.std.proofs.Common.{◌≡◌, ◌≢◌, ◌⊎◌, inl, inr, refl, sym, ap, ◌∙◌, subst, arith, ℕ, ◌/◌, ◌%◌, ◌<◌, ◌≤◌, ◌==◌, nat_lt, Bool, true, false, List, [], length, le-ltb, lt-ltb, ne_eqb}
 use Rattle.std.specs.Prelude.{if◌then◌else◌}
 use Rattle.std.proofs.Math.Path.{fun_ext}
 use Rattle.std.proofs.lemmas.Bool.{cases_eq, cases_lt}
@@ -8,17 +8,16 @@ use Rattle.mg_base.specs.declared.transaction.TxState.TheVariants.{Active, Limbo
 use Rattle.mg_tip.specs.TipPage.{places, state_in}
 use Rattle.mg_image.specs.Form.{Pages, plain_coding}
 use Rattle.mg_image.specs.Inventory.{bits_state, next_of, settled, state_at}
-use Rattle.mg_image.specs.RecordRules.{AreRecords, Each, Facts}
-use Rattle.mg_image.specs.Records.{Reading, cells_of, writer}
+use Rattle.mg_image.specs.RecordRules.{AreRecords, Facts}
+use Rattle.mg_image.specs.Records.{Reading, cells_of}
 use Rattle.mg_image.specs.Sound.{HasTransactions, IsUndrawn}
-use Rattle.mg_image.specs.declared.entry.Entry.{Entry}
 use Rattle.mg_first.specs.FirstImage.{kv_facts}
 use Rattle.mg_first.specs.PlaceLaws.{HasOneTip, none_of, state_by, state_is}
 use Rattle.mg_first.specs.declared.pages.TheConstants.{PAGE, TRANSACTIONS}
 use Rattle.mg_kv.specs.Fate.{ended_in, fate_in}
-use Rattle.mg_kv.specs.Work.{HasBits, live_facts, IsAtWork, IsAtRest}
+use Rattle.mg_kv.specs.Work.{live_facts, IsAtWork, IsAtRest}
 use Rattle.mg_kv.specs.Versions.{kept}
-use Rattle.mg_kv.specs.WorkStepLaws.{each_on_pages, committed_bits}
+use Rattle.mg_kv.specs.WorkStepLaws.{each_on_pages}
 
 -- ---- the program stops
 
