@@ -1,7 +1,7 @@
 -- What the key of a lawful row says of the row.
-use Rattle.std.proofs.Common.{◌≡◌, inl, inr, sym, subst, ℕ, ◌<◌, List, Some, arith}
+use Rattle.std.proofs.Common.{◌≡◌, inl, inr, sym, subst, ℕ, List, Some}
 use Rattle.mg_model.specs.Changes.{Cells}
-use Rattle.mg_model.specs.Catalog.{CatalogRows, column_key, index_key, said_b, said_name, table_key}
+use Rattle.mg_model.specs.Catalog.{CatalogRows, column_key, index_key, table_key}
 use Rattle.mg_model.specs.CatalogRules.{IsCatalog, IsCatalogRow, IsColumnRow, IsIndexRow, IsTableRow}
 use Rattle.mg_catalog.specs.KeyLaws.{column_key_equal, index_key_equal, index_not_column, table_key_equal, table_not_column, table_not_index}
 

@@ -11,7 +11,6 @@ use Rattle.mg_model.specs.declared.table.Table.{Table}
 use Rattle.mg_model.specs.Changes.{Cells, same_name}
 use Rattle.mg_model.specs.Catalog.{CatalogRows, column_key, column_said, columns_said, count_said, index_key, is_key_row, key_said, kind_said, said_a, said_b, said_c, said_d, said_name, table_key, with_column}
 use Rattle.mg_model.specs.CatalogRules.{EachIndex, HasIndex, IsCatalog, IsColumnRow, IsIndexOf, IsIndexRow, IsKeyColumn, IsTable, IsTableRow, catalog_row, primary_index}
-use Rattle.mg_catalog.specs.ByKey.{row_key}
 use Rattle.mg_catalog.specs.IndexLaws.{indexes_once}
 use Rattle.mg_catalog.specs.LawfulLaws.{column_lawful, index_lawful, table_lawful}
 use Rattle.mg_catalog.specs.RowsSaid.{HasEach, HasOwnName, column_row, column_rows, flags_of, index_row, index_rows, length_of, other_indexes, primary_root, rows_said, table_row}

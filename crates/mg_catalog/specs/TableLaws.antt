@@ -1,6 +1,5 @@
 -- Laws of the tables that the rows of a catalog name.
 use Rattle.std.proofs.Common.{◌≡◌, inl, inr, ◌∙◌, ap, sym, subst, refl, ℕ, zero, suc, ◌+◌, ◌<◌, ◌≤◌, arith, List, [], ◌∷◌, ◌++◌, length, Some, get_or}
-use Rattle.std.proofs.Math.Path.{fun_ext}
 use Rattle.mg_value.specs.declared.value.Value.{Value}
 use Rattle.mg_value.specs.declared.shape.Shape.{Shape}
 use Rattle.mg_value.specs.declared.shape.TheConstants.{MOST_COLUMNS}
