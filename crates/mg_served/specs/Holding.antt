@@ -3,6 +3,7 @@ use Rattle.std.specs.Prelude.{◌≡◌, ◌≢◌, ℕ, List}
 use Rattle.mg_base.specs.declared.transaction.TxState.TheVariants.{Committed, Limbo}
 use Rattle.mg_value.specs.declared.value.Value.{Value}
 use Rattle.mg_tip.specs.TipPage.{state_in}
+use Rattle.mg_model.specs.Answers.{is_committed}
 use Rattle.mg_model.specs.declared.opening.Opening.{Opening}
 use Rattle.mg_model.specs.Changes.{row_at}
 use Rattle.mg_model.specs.History.{Entries}
@@ -36,6 +37,8 @@ pub record HoldsHistory (entered pages : Pages) (o : Opening) (h : Entries) : Ty
   pub states : (t : ℕ) → opened.state t ≡ state_at PAGE pages t
   -- is what the history says
   pub rows : (name : List ℕ) (key : Value) → opened.rows name key ≡ row_at (database o h) name key
+  pub committed : (t : ℕ)
+      → is_committed (state_at PAGE pages t) ≡ is_committed (state_of o h t)
   pub limbo : (t : ℕ) → is_limbo (state_at PAGE pages t) ≡ is_limbo (state_of o h t)
   pub own_changes : (t : ℕ) (name : List ℕ) (key : Value) → state_of o h t ≡ Limbo
       → opened.limbo t name key ≡ newest_at (own o h t) name key

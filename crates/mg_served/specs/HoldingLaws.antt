@@ -1,5 +1,5 @@
 -- What images that hold a history hold in the terms of crashes, and what leaves it so.
-use Rattle.std.proofs.Common.{◌≡◌, ◌≢◌, refl, sym, ap, ◌∙◌, subst, arith, ℕ, ◌≤◌, ◌==◌, nat_lt, Bool, true, false, ◌∷◌, le-ltb}
+use Rattle.std.proofs.Common.{◌≡◌, ◌≢◌, refl, sym, ap, ◌∙◌, subst, arith, ℕ, ◌≤◌, ◌<◌, ◌==◌, nat_lt, Bool, true, false, ◌∷◌, le-ltb, ne_eqb}
 use Rattle.std.specs.Prelude.{if◌then◌else◌}
 use Rattle.mg_base.specs.declared.transaction.TxState.{TxState}
 use Rattle.mg_base.specs.declared.transaction.TxState.TheVariants.{Active, Committed, Dead, Limbo}
@@ -8,10 +8,12 @@ use Rattle.mg_model.specs.Changes.{row_at}
 use Rattle.mg_model.specs.DurableLaws.{durable_is_database, passing_keeps_database}
 use Rattle.mg_model.specs.History.{Entries, Entry}
 use Rattle.mg_model.specs.Legal.{IsLegal, MayBegin, durable_count, durable_limbo, is_durable, is_limbo}
+use Rattle.mg_model.specs.Answers.{is_committed}
+use Rattle.mg_model.specs.DurableCommitLaws.{durable_is_committed, passing_keeps_committed}
 use Rattle.mg_model.specs.LimboLaws.{durable_is_limbo, durable_is_own, passing_keeps_changes, passing_keeps_limbo}
 use Rattle.mg_model.specs.Machine.{state_of}
 use Rattle.mg_image.specs.Form.{Pages, plain_form}
-use Rattle.mg_image.specs.Histories.{HoldsDurable, newest_at}
+use Rattle.mg_image.specs.Histories.{HoldsDurable, durable_committed, newest_at}
 use Rattle.mg_image.specs.Inventory.{bits_state, next_of, settled, state_at}
 use Rattle.mg_image.specs.Opening.{sound_image}
 use Rattle.mg_first.specs.FirstForm.{HasFixedPages, IsFirstForm}
@@ -32,19 +34,20 @@ to_limbo Limbo is = refl
 to_limbo Dead is = absurd cc
 to_limbo Committed is = absurd cc
 
--- a number that was not drawn is in no limbo
-undrawn_not_limbo : (pages : Pages) (t : ℕ) → next_of pages ≤ t
-    → is_limbo (state_at PAGE pages t) ≡ false
+-- a number that was not drawn is neither committed nor in limbo
+undrawn_is_neither : (pages : Pages) (t : ℕ) → 0 < next_of pages → next_of pages ≤ t
+    → (is_committed (state_at PAGE pages t) ≡ false) × (is_limbo (state_at PAGE pages t) ≡ false)
 unfolding state_at
-undrawn_not_limbo pages t past =
-    at (t == 0) (nat_lt t (next_of pages)) (le-ltb t (next_of pages) past)
+undrawn_is_neither pages t some past =
+    at (t == 0) (nat_lt t (next_of pages)) (ne_eqb t 0 (λ none. omega (arith, some, past, none)))
+    (le-ltb t (next_of pages) past)
   where
-    at : (first below : Bool) → below ≡ false
-        → is_limbo (if first then Committed
-        else (if below then settled (bits_state PAGE pages t) else Dead)) ≡ false
-    at true below undrawn = refl
-    at false false undrawn = refl
-    at false true undrawn = absurd cc
+    at : (first below : Bool) → first ≡ false → below ≡ false
+        → (is_committed (if first then Committed
+        else (if below then settled (bits_state PAGE pages t) else Dead)) ≡ false)
+        × (is_limbo (if first then Committed
+        else (if below then settled (bits_state PAGE pages t) else Dead)) ≡ false)
+    at first below drawn undrawn = rw (drawn, undrawn) (refl, refl)
 
 -- an image that holds a history holds what outlasts a crash after all of its durable events
 pub held_durable : (entered pages : Pages) (o : Opening) (h : Entries)
@@ -63,9 +66,11 @@ held_durable entered pages o h it opening legal = record {
   });
   rows = λ name key.
       it.rows name key ∙ sym (ap (λ cs. row_at cs name key) (durable_is_database o h));
+  committed = λ t below. ap is_committed (it.states t) ∙ committed t;
   limbo = λ t below. ap is_limbo (it.states t) ∙ same t;
-  undrawn = λ t past. sym (same t)
-      ∙ undrawn_not_limbo pages t (subst (λ (n : ℕ). n ≤ t) it.next past);
+  undrawn = λ t past.
+      let none = undrawn_is_neither pages t it.rest.drawn (subst (λ (n : ℕ). n ≤ t) it.next past) in
+      (sym (committed t) ∙ none.0, sym (same t) ∙ none.1);
   changes = λ t name key is.
       let now : is_limbo (state_of o h t) ≡ true =
       sym (durable_is_limbo o opening h legal t) ∙ is in
@@ -73,6 +78,10 @@ held_durable entered pages o h it opening legal = record {
       ∙ sym (ap (λ cs. newest_at cs name key) (durable_is_own o opening h legal t now));
 }
   where
+    committed : (t : ℕ) → is_committed (state_at PAGE pages t)
+        ≡ durable_committed o h (durable_count h) t
+    committed t = it.committed t ∙ sym (durable_is_committed o opening h legal t)
+
     same : (t : ℕ) → is_limbo (state_at PAGE pages t) ≡ durable_limbo o h (durable_count h) t
     same t = it.limbo t ∙ sym (durable_is_limbo o opening h legal t)
 
@@ -95,6 +104,7 @@ holds_quietly entered pages o h e passing opening legal it = record {
   states = it.states;
   rows = λ name key.
       it.rows name key ∙ sym (ap (λ cs. row_at cs name key) (passing_keeps_database o h e passing));
+  committed = λ t. it.committed t ∙ sym (passing_keeps_committed o opening h e legal passing t);
   limbo = λ t. it.limbo t ∙ sym (passing_keeps_limbo o opening h e legal passing t);
   own_changes = λ t name key is.
       let was : is_limbo (state_of o h t) ≡ true =

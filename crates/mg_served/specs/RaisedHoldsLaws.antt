@@ -3,6 +3,7 @@
 use Rattle.std.proofs.Common.{◌≡◌, refl, sym, ap, ◌∙◌, subst, arith, ℕ, ◌≤◌, List}
 use Rattle.mg_header.specs.declared.header.Header.{Header}
 use Rattle.mg_tip.specs.TipPage.{state_in}
+use Rattle.mg_model.specs.Answers.{is_committed}
 use Rattle.mg_model.specs.declared.opening.Opening.{Opening}
 use Rattle.mg_model.specs.History.{Entries}
 use Rattle.mg_model.specs.Legal.{is_limbo}
@@ -38,6 +39,7 @@ raised_holds entered old new o h n it only header above last = record {
   next = refl;
   states = λ t. refl;
   rows = it.rows;
+  committed = λ t. ap is_committed (same t) ∙ it.committed t;
   limbo = λ t. ap is_limbo (same t) ∙ it.limbo t;
   own_changes = it.own_changes;
 }

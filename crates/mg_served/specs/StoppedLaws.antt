@@ -237,6 +237,7 @@ module _ (s : Served) (entered : Pages) (first : Slots) (o : Opening) (h : Entri
     next = refl;
     states = λ t. refl;
     rows = rows_same;
+    committed = λ t. ap is_committed (stopped t) ∙ settled_committed (state_of o h t);
     limbo = λ t. ap is_limbo (stopped t) ∙ settled_limbo (state_of o h t);
     own_changes = changes_same;
   }
