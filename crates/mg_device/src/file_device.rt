@@ -1,4 +1,4 @@
-//! A disk over a real file, with forced writes: a page write has reached the device before it answers.
+//! A device over a real file.
 //!
 //! It tells nothing of its content, since no proof can say what a file holds. Proved of it are its
 //! counts, its page size and number of pages once they are known, and that it returns.
@@ -6,7 +6,8 @@
 ghost use Rattle.std.specs.Prelude.{◌≡◌, ◌*◌, true, IfOk, IfSome};
 ghost use Rattle.mg_base.specs.Geometry.{is_page_size};
 
-use crate::{Disk, DiskFault, PageNo, get_u32, is_page_size};
+use crate::{Device, ForcedWrites};
+use mg_base::{DiskFault, PageNo, get_u32, is_page_size};
 use std::fs::{File, Files, OpenOptions};
 use std::io;
 use std::io::ErrorKind;
@@ -23,49 +24,53 @@ struct Opened {
     file: File,
     size: u32,
     pages: u32,
+    // What was written has been synced. What a file holds when it is opened may be in no more than
+    // the system's memory.
+    synced: bool,
     ghost lawful: { is_page_size size ≡ true },
 }
 
-/// A disk over the file at a path, which it opens or creates at its first call. From then on it has
+/// A device over the file at a path, which it opens or creates at its first call. From then on it has
 /// the file's exclusive lock, so that no second process works on the file.
 #[derive(Drop)]
-pub struct FileDisk<R> {
+pub struct FileDevice<R> {
     rt: R,
     path: String,
     wanted: u32,
     opened: Option<Opened>,
-    // A page write was begun and is not known to have reached the device.
-    pending: bool,
     faults: u64,
     ghost sized: { is_page_size wanted ≡ true },
 }
 
-impl<R> FileDisk<R> {
+/// A disk over a real file, with forced writes.
+pub type FileDisk<R> = ForcedWrites<FileDevice<R>>;
+
+impl<R> ForcedWrites<FileDevice<R>> {
     /// A disk over the file at `path`. `wanted` is the page size of a file that does not tell its own,
     /// one of the five. Nothing is opened yet.
     pub fn at(rt: R, path: String, wanted: u32) -> FileDisk<R>
         requires { is_page_size wanted ≡ true }
     {
-        FileDisk {
+        ForcedWrites::new(FileDevice {
             rt,
             path,
             wanted,
             opened: None,
-            pending: false,
             faults: 0,
-        }
+        })
     }
 }
 
-impl<R: Files<File = File>> FileDisk<R> {
+impl<R: Files<File = File>> FileDevice<R> {
     ghost use Rattle.std.specs.Prelude.{◌≡◌, ◌≤◌, IsSome, OnOk, OnErr};
-    ghost use Rattle.mg_base.specs.Disk.{Calm, Rose};
-    ghost use Rattle.mg_base.specs.FileDisk.{file_meaning};
+    ghost use Rattle.mg_base.specs.Disk.{Rose};
+    ghost use Rattle.mg_device.specs.Device.{Rests};
+    ghost use Rattle.mg_device.specs.FileDevice.{file_meaning};
 
     // Opens the file where it is not open yet.
     fn ready(&mut self) -> Result<(), DiskFault>
         ensures open { OnOk result (IsSome self.new.opened) }
-        ensures calm { Calm file_meaning self.old self.new result }
+        ensures rests { Rests file_meaning self.old self.new result }
     {
         if self.opened.is_some() {
             return Ok(());
@@ -90,16 +95,12 @@ impl<R: Files<File = File>> FileDisk<R> {
     }
 }
 
-impl<R: Files<File = File>> Disk for FileDisk<R> {
-    ghost use Rattle.mg_base.specs.FileDisk.{file_meaning, untold, unheld};
+impl<R: Files<File = File>> Device for FileDevice<R> {
+    ghost use Rattle.mg_device.specs.FileDevice.{file_meaning, file_device};
 
     ghost meaning = { file_meaning };
 
-    ghost holds = { λ d told. absurd (untold told) };
-
-    ghost counts_now = { λ d t c told le now. absurd (untold told) };
-
-    ghost counted = { λ d image n held is. absurd (unheld held) };
+    ghost lawful = { file_device };
 
     fn page_size(&mut self) -> Result<u32, DiskFault> {
         self.ready()?;
@@ -126,35 +127,37 @@ impl<R: Files<File = File>> Disk for FileDisk<R> {
     }
 
     fn write(&mut self, page: PageNo, bytes: &[u8]) -> Result<(), DiskFault> {
-        self.pending = true;
         let written = match &mut self.opened {
             Some(opened) if page.0 < u32::MAX => {
-                opened.pages = opened.pages.max(page.0 + 1);
+                opened.synced = false;
                 let start = start_of(page, opened.size);
-                opened.file.write_all_at(bytes, start).is_ok() && opened.file.sync_data().is_ok()
+                let written = opened.file.write_all_at(bytes, start).is_ok();
+                if written {
+                    opened.pages = opened.pages.max(page.0 + 1);
+                }
+                written
             }
             _ => false,
         };
-        if !written {
-            return Err(self.fault());
-        }
-        self.pending = false;
-        Ok(())
+        if written { Ok(()) } else { Err(self.fault()) }
     }
 
-    fn settle(&mut self) -> Result<(), DiskFault> {
-        if !self.pending {
-            return Ok(());
-        }
-        let settled = match &self.opened {
-            Some(opened) => opened.file.sync_data().is_ok(),
+    fn sync(&mut self) -> Result<(), DiskFault> {
+        let synced = match &mut self.opened {
+            Some(opened) => {
+                opened.synced = opened.file.sync_data().is_ok();
+                opened.synced
+            }
             None => true,
         };
-        if !settled {
-            return Err(self.fault());
+        if synced { Ok(()) } else { Err(self.fault()) }
+    }
+
+    fn is_synced(&self) -> bool {
+        match &self.opened {
+            Some(opened) => opened.synced,
+            None => true,
         }
-        self.pending = false;
-        Ok(())
     }
 }
 
@@ -174,9 +177,13 @@ fn open_file<R: Files<File = File>>(rt: &R, path: &str, wanted: u32) -> io::Resu
     }
     let size = told_size(&file, len)?.unwrap_or(wanted);
     let pages = u32::try_from(len.div_ceil(u64::from(size))).unwrap_or(u32::MAX);
-    Ok(Opened { file, size, pages })
+    Ok(Opened {
+        file,
+        size,
+        pages,
+        synced: false,
+    })
 }
-
 // The page size that a file of this length tells, if it tells one of the five.
 fn told_size(file: &File, len: u64) -> io::Result<Option<u32>>
     ensures { IfOk result (λ told. IfSome told (λ size. is_page_size size ≡ true)) }
