@@ -53,7 +53,7 @@ pub use fields::{
 };
 pub use fused::Fused;
 pub use geometry::{GREATEST_LIMIT, Geometry, LEAST_LIMIT, is_page_size};
-pub use laws::a_fuse_fails_past_its_limit;
+pub use laws::{a_fuse_fails_past_its_limit, numbers_of_every_file};
 pub use mem_disk::MemDisk;
 pub use mem_sink::MemSink;
 pub use mem_source::MemSource;

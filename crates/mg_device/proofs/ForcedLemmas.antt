@@ -1,5 +1,5 @@
 -- A page write that is forced, and what is known of a disk that forces each.
-use Rattle.std.specs.Prelude.{◌≡◌, ◌⊎◌, ℕ, ◌≤◌, true, Option, Some, None, Result, Ok, Err, IsErr, OnOk, OnErr, List, [], ◌∷◌, length, max, ◌+◌}
+use Rattle.std.specs.Prelude.{◌≡◌, ◌⊎◌, ℕ, ◌≤◌, true, false, Option, Some, None, Result, Ok, Err, IsErr, OnOk, OnErr, List, [], ◌∷◌, length, max, ◌+◌}
 use Rattle.std.proofs.Common.{refl, arith, inl, inr, sym, ap, ◌∙◌, subst}
 use Rattle.mg_base.specs.Disk.{Calm, Elapses, Keeps, KeepsReads, MayLeave, Meaning, Rose, Stays, Writes}
 use Rattle.mg_base.specs.Image.{Image, written}
@@ -190,7 +190,7 @@ module _ {V : Type 0} (m : DeviceMeaning V) (law : IsDevice m) where
     stored = tt;
     failed = λ image held. told image held (m.synced old) refl held;
     failed_count = pends.failed_count;
-    crash = crash_one old new w empty pends.synced pends.keeps.tells (λ image is. after (pends.failed image is));
+    crash = crash_one old new w empty pends.synced pends.keeps.tells (λ image is. after (pends.in_doubt image is));
     untold = untold_one old new (m.pending new) refl pends.synced;
     asked = omega arith;
     unread = record { reads = refl; was_read = λ n. refl };
@@ -209,12 +209,12 @@ module _ {V : Type 0} (m : DeviceMeaning V) (law : IsDevice m) where
       told : (image : Image) → disk.held old ≡ Some image → (s : Option Image) → m.synced old ≡ s → written_through s (m.pending old) ≡ Some image
           → (disk.held new ≡ Some image) ⊎ (disk.held new ≡ Some (after_write image w))
       told image held None is h = absurd (let e = h in cc)
-      told image held (Some i) is h = at image held (pends.failed i is)
+      told image held (Some i) is h = at image held (pends.in_doubt i is)
 
   -- the page was written, and a sync was asked for
-  pub writes_of_forced : {T E U : Type 0} (old mid new : V) (w : PageWrite) (x : U) (result : Result T E) → m.pending old ≡ []
+  pub writes_of_forced : {T E U : Type 0} (old mid new : V) (w : PageWrite) (x : U) (result : Result T E) → m.pending old ≡ [] → m.failed old ≡ false
       → Pends {T = U} {E = E} m old mid w (Ok x) → Syncs m mid new result → Writes disk old new w.page w.bytes result
-  writes_of_forced {T} {E} old mid new w x result empty pends syncs = record {
+  writes_of_forced {T} {E} old mid new w x result empty whole pends syncs = record {
     count = counted result;
     stored = stored result;
     failed = failed result;
@@ -228,7 +228,7 @@ module _ {V : Type 0} (m : DeviceMeaning V) (law : IsDevice m) where
   }
     where
       calm : Calm disk mid new result
-      calm = calm_of_sync m law mid new result syncs
+      calm = calm_of_sync m law mid new result (pends.goes_on ∙ whole) syncs
 
       one : IsOne old mid w
       one = λ image is. pends.pending image is ∙ ap (λ ws. w ∷ ws) empty
@@ -281,6 +281,11 @@ module _ {V : Type 0} (m : DeviceMeaning V) (law : IsDevice m) where
       let base = law.told v told in
       let is : c ≡ base.0 = reaches_none base.0 (m.pending v) c empty (law.leaves v base.0 c told base.1 left) in
       rw (empty, base.1, is) refl
+
+  pub none_pending : {T E : Type 0} (old new : V) (result : Result T E) → m.failed old ≡ false → Syncs m old new result
+      → OnOk result (m.pending new ≡ [])
+  none_pending old new (Ok x) whole syncs = syncs.none_pending whole
+  none_pending old new (Err e) whole syncs = tt
 
   pub settled : {T E : Type 0} (old new : V) (result : Result T E) → OnOk result (m.pending new ≡ []) → m.tells new ≡ m.tells old
       → OnOk result (m.tells old ≡ true → (c : Image) → MayLeave disk new c → disk.held new ≡ Some c)

@@ -33,6 +33,8 @@ pub record DeviceMeaning (V : Type 0) : Type 1 where
   pub synced : V → Option Image
   -- the page writes since then, the newest first
   pub pending : V → List PageWrite
+  -- whether a page write or a sync has failed
+  pub failed : V → Bool
   -- whether it tells what a crash may leave
   pub tells : V → Bool
   pub moment : V → ℕ
@@ -77,6 +79,7 @@ pub record Rests {V T E : Type 0} (m : DeviceMeaning V) (old new : V) (result : 
   pub count : Stays (m.count old) (m.count new)
   pub synced : m.synced new ≡ m.synced old
   pub pending : m.pending new ≡ m.pending old
+  pub failed : m.failed new ≡ m.failed old
 
 -- What a page write does: at Ok it is pending. One that failed may be pending too. The number of pages stays told.
 -- Nothing is said of the page writes of a device that does not tell what was synced.
@@ -84,14 +87,19 @@ pub record Pends {V T E : Type 0} (m : DeviceMeaning V) (old new : V) (w : PageW
   pub keeps : Keeps (as_disk m) old new result
   pub synced : m.synced new ≡ m.synced old
   pub pending : OnOk result ((image : Image) → m.synced old ≡ Some image → m.pending new ≡ w ∷ m.pending old)
-  pub failed : OnErr result ((image : Image) → m.synced old ≡ Some image → (m.pending new ≡ m.pending old) ⊎ (m.pending new ≡ w ∷ m.pending old))
+  pub in_doubt : OnErr result ((image : Image) → m.synced old ≡ Some image → (m.pending new ≡ m.pending old) ⊎ (m.pending new ≡ w ∷ m.pending old))
+  pub failed : OnErr result (m.failed new ≡ true)
+  pub goes_on : OnOk result (m.failed new ≡ m.failed old)
   pub count : OnOk result ((n : ℕ) → m.count old ≡ Some n → m.count new ≡ Some (max n (w.page + 1)))
   pub failed_count : OnErr result ((n : ℕ) → m.count old ≡ Some n → (m.count new ≡ Some n) ⊎ (m.count new ≡ Some (max n (w.page + 1))))
 
--- What a sync does: at Ok every page write is on the device to stay. One that failed leaves them pending.
+-- What a sync does: at Ok every page write is on the device to stay, unless a page write or a sync failed before: what is
+-- pending then may have been dropped, and the answer does not tell. One that failed leaves them pending.
 pub record Syncs {V T E : Type 0} (m : DeviceMeaning V) (old new : V) (result : Result T E) : Type 0 where
   pub keeps : Keeps (as_disk m) old new result
   pub count : Stays (m.count old) (m.count new)
-  pub synced : OnOk result (m.synced new ≡ written_through (m.synced old) (m.pending old))
-  pub none_pending : OnOk result (m.pending new ≡ [])
-  pub failed : OnErr result ((m.synced new ≡ m.synced old) × (m.pending new ≡ m.pending old))
+  pub synced : OnOk result (m.failed old ≡ false → m.synced new ≡ written_through (m.synced old) (m.pending old))
+  pub none_pending : OnOk result (m.failed old ≡ false → m.pending new ≡ [])
+  pub in_doubt : OnErr result ((m.synced new ≡ m.synced old) × (m.pending new ≡ m.pending old))
+  pub failed : OnErr result (m.failed new ≡ true)
+  pub goes_on : OnOk result (m.failed new ≡ m.failed old)

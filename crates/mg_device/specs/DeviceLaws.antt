@@ -1,5 +1,5 @@
 -- What a device promises, read as a disk.
-use Rattle.std.specs.Prelude.{◌≡◌, ◌⊎◌, ℕ, ◌≤◌, true, Option, Some, None, Result, Ok, Err, List, [], ◌∷◌, ◌++◌, length}
+use Rattle.std.specs.Prelude.{◌≡◌, ◌⊎◌, ℕ, ◌≤◌, true, false, Option, Some, None, Result, Ok, Err, List, [], ◌∷◌, ◌++◌, length}
 use Rattle.std.proofs.Common.{refl, arith, inl, inr, sym, ap, ◌∙◌, subst}
 use Rattle.mg_base.specs.Disk.{Calm, MayLeave}
 use Rattle.mg_base.specs.Image.{Image}
@@ -78,15 +78,15 @@ module _ {V : Type 0} (m : DeviceMeaning V) (law : IsDevice m) where
   }
 
   -- a sync takes nothing away that a crash might not have left without it
-  pub calm_of_sync : {T E : Type 0} (old new : V) (result : Result T E) → Syncs m old new result → Calm (as_disk m) old new result
-  calm_of_sync old new (Ok x) syncs = record {
+  pub calm_of_sync : {T E : Type 0} (old new : V) (result : Result T E) → m.failed old ≡ false → Syncs m old new result → Calm (as_disk m) old new result
+  calm_of_sync old new (Ok x) whole syncs = record {
     keeps = syncs.keeps;
     count = syncs.count;
-    held = rw (syncs.synced, syncs.none_pending) (twice (m.synced old) (m.pending old));
+    held = rw (syncs.synced whole, syncs.none_pending whole) (twice (m.synced old) (m.pending old));
     crash = λ told c left.
         let base = law.told old told in
-        let now : m.synced new ≡ Some (after_writes base.0 (m.pending old)) = syncs.synced ∙ ap (λ s. written_through s (m.pending old)) base.1 in
-        let is : c ≡ after_writes base.0 (m.pending old) = reaches_none _ (m.pending new) c syncs.none_pending
+        let now : m.synced new ≡ Some (after_writes base.0 (m.pending old)) = syncs.synced whole ∙ ap (λ s. written_through s (m.pending old)) base.1 in
+        let is : c ≡ after_writes base.0 (m.pending old) = reaches_none _ (m.pending new) c (syncs.none_pending whole)
         (law.leaves new (after_writes base.0 (m.pending old)) c (syncs.keeps.tells ∙ told) now left) in
         law.may_leave old (m.moment old) base.0 c told base.1 (omega arith) (rw is (reaches_all base.0 (m.pending old)));
     asked = refl;
@@ -95,10 +95,10 @@ module _ {V : Type 0} (m : DeviceMeaning V) (law : IsDevice m) where
       twice : (s : Option Image) (ws : List PageWrite) → written_through (written_through s ws) [] ≡ written_through s ws
       twice None ws = refl
       twice (Some i) ws = refl
-  calm_of_sync old new (Err e) syncs = record {
+  calm_of_sync old new (Err e) whole syncs = record {
     keeps = syncs.keeps;
     count = syncs.count;
-    held = rw (syncs.failed.0, syncs.failed.1) refl;
-    crash = λ told c. same_crash old new c told syncs.keeps.tells syncs.failed.0 syncs.failed.1;
+    held = rw (syncs.in_doubt.0, syncs.in_doubt.1) refl;
+    crash = λ told c. same_crash old new c told syncs.keeps.tells syncs.in_doubt.0 syncs.in_doubt.1;
     asked = refl;
   }

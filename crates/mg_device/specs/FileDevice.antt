@@ -18,6 +18,7 @@ file_meaning = record {
   count = λ d. count_of d.opened;
   synced = λ d. None;
   pending = λ d. [];
+  failed = λ d. d.failed;
   tells = λ d. false;
   moment = λ d. 0;
   left = λ d t c. ⊥;

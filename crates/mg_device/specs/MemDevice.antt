@@ -12,6 +12,7 @@ mem_device_meaning = record {
   count = λ d. mem_meaning.count d.disk;
   synced = λ d. Some (synced_in (acts_in d.disk));
   pending = λ d. pending_in (acts_in d.disk);
+  failed = λ d. d.failed;
   tells = λ d. true;
   moment = λ d. length (acts_in d.disk);
   left = λ d t c. LeftUnordered (acts_in d.disk) t c;

@@ -11,6 +11,8 @@ use mg_base::{DiskFault, PageNo};
 ///
 /// What a device tells is its `meaning`. Page writes are whole or absent. Until a `sync` that answers
 /// Ok they may reach the device in any order and any subset, at any time; then they are there to stay.
+/// After a page write or a sync that failed, what is pending may have been dropped, and no later sync
+/// tells.
 ///
 /// # Errors
 ///
@@ -43,13 +45,17 @@ pub trait Device {
         requires whole { meaning.size self.old ≡ Some (length bytes.now) }
         ensures pends { Pends meaning self.old self.new (record { page = page.0; bytes = bytes.now }) result };
 
-    /// Waits until what was written is on the device to stay.
+    /// Waits until what was written is on the device to stay. Its Ok says so where nothing failed before.
     fn sync(&mut self) -> Result<(), DiskFault>
         ensures syncs { Syncs meaning self.old self.new result };
 
     /// Tells whether no page write is pending. A device that does not know says no.
     fn is_synced(&self) -> bool
         ensures { result ≡ true → meaning.pending self.now ≡ [] };
+
+    /// Tells whether a page write or a sync has failed.
+    fn has_failed(&self) -> bool
+        ensures { result ≡ meaning.failed self.now };
 
     ghost lawful: { IsDevice meaning };
 }

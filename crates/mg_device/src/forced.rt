@@ -9,9 +9,7 @@ use mg_base::{Disk, DiskFault, PageNo};
 #[derive(Drop)]
 pub struct ForcedWrites<V> {
     device: V,
-    // A page write or a sync has failed.
-    failed: bool,
-    // How often a call was refused for that.
+    // How often a call was refused, since a page write or a sync had failed.
     refused: u64,
 }
 
@@ -24,11 +22,7 @@ impl<V> ForcedWrites<V> {
     pub fn new(device: V) -> ForcedWrites<V>
         ensures { device_of result ≡ device }
     {
-        ForcedWrites {
-            device,
-            failed: false,
-            refused: 0,
-        }
+        ForcedWrites { device, refused: 0 }
     }
 
     /// The device itself.
@@ -41,44 +35,45 @@ impl<V> ForcedWrites<V> {
 }
 
 impl<V: Device> ForcedWrites<V> {
-    ghost use Rattle.std.specs.Prelude.{◌≡◌, [], Some, OnOk, length};
+    ghost use Rattle.std.specs.Prelude.{◌≡◌, [], true, false, Some, IsErr, OnOk, length};
     ghost use Rattle.mg_base.specs.Disk.{Calm, Writes};
     ghost use Rattle.mg_device.specs.Forced.{device_of, forced_meaning};
 
     // Syncs what is pending.
     fn clear(&mut self) -> Result<(), DiskFault>
         ensures pending { OnOk result (V.meaning.pending (device_of self.new) ≡ []) }
+        ensures goes_on { OnOk result (V.meaning.failed (device_of self.new) ≡ false) }
+        ensures refused { V.meaning.failed (device_of self.old) ≡ true → IsErr result }
         ensures calm { Calm (forced_meaning V.meaning) self.old self.new result }
     {
-        if self.failed {
+        if self.device.has_failed() {
             self.refused = self.refused.saturating_add(1);
             return Err(DiskFault::Failed);
         }
         if self.device.is_synced() {
             return Ok(());
         }
-        self.failed = true;
-        self.device.sync()?;
-        self.failed = false;
-        Ok(())
+        self.device.sync()
     }
 
     // Writes a page and waits until it is on the device.
     fn force(&mut self, page: PageNo, bytes: &[u8]) -> Result<(), DiskFault>
         requires pending { V.meaning.pending (device_of self.old) ≡ [] }
+        requires goes_on { V.meaning.failed (device_of self.old) ≡ false }
         requires whole { V.meaning.size (device_of self.old) ≡ Some (length bytes.now) }
-        ensures { Writes (forced_meaning V.meaning) self.old self.new page.0 bytes.now result }
+        ensures writes { Writes (forced_meaning V.meaning) self.old self.new page.0 bytes.now result }
+        ensures forced { OnOk result (V.meaning.pending (device_of self.new) ≡ []) }
     {
-        self.failed = true;
         self.device.write(page, bytes)?;
-        self.device.sync()?;
-        self.failed = false;
-        Ok(())
+        self.device.sync()
     }
 }
 
 impl<V: Device> Disk for ForcedWrites<V> {
-    ghost use Rattle.mg_device.specs.Forced.{forced_meaning};
+    ghost use Rattle.std.specs.Prelude.{◌≡◌, ◌<◌, ℕ, [], true, Some, IsErr, IfOk, OnOk, length, unwrap_or};
+    ghost use Rattle.mg_base.specs.Disk.{Calm, KeepsReads, MayLeave, ReadsPage, Writes};
+    ghost use Rattle.mg_base.specs.Image.{Image, page_at};
+    ghost use Rattle.mg_device.specs.Forced.{device_of, forced_meaning};
     ghost use Rattle.mg_device.specs.DeviceLaws.{device_counted, device_counts_now, device_holds};
 
     ghost meaning = { forced_meaning V.meaning };
@@ -97,17 +92,39 @@ impl<V: Device> Disk for ForcedWrites<V> {
         self.device.pages()
     }
 
-    fn read(&mut self, page: PageNo, into: &mut [u8]) -> Result<(), DiskFault> {
+    /// It fails where a page write or a sync has failed before.
+    fn read(&mut self, page: PageNo, into: &mut [u8]) -> Result<(), DiskFault>
+        requires whole { V.meaning.size (device_of self.old) ≡ Some (length into.old) }
+        requires below { page.0 < unwrap_or (V.meaning.count (device_of self.old)) 0 }
+        ensures page { OnOk result ((image : Image) → (forced_meaning V.meaning).held self.old ≡ Some image
+            → into.new ≡ page_at (length into.old) image page.0) }
+        ensures calm { Calm (forced_meaning V.meaning) self.old self.new result }
+        ensures reads { ReadsPage (forced_meaning V.meaning) self.old self.new page.0 }
+        ensures refused { V.meaning.failed (device_of self.old) ≡ true → IsErr result }
+    {
         self.clear()?;
         self.device.read(page, into)
     }
 
-    fn write(&mut self, page: PageNo, bytes: &[u8]) -> Result<(), DiskFault> {
+    /// At Ok the page is on the device to stay. It fails where a page write or a sync has failed before.
+    fn write(&mut self, page: PageNo, bytes: &[u8]) -> Result<(), DiskFault>
+        requires whole { V.meaning.size (device_of self.old) ≡ Some (length bytes.now) }
+        ensures writes { Writes (forced_meaning V.meaning) self.old self.new page.0 bytes.now result }
+        ensures forced { OnOk result (V.meaning.pending (device_of self.new) ≡ []) }
+        ensures refused { V.meaning.failed (device_of self.old) ≡ true → IsErr result }
+    {
         self.clear()?;
         self.force(page, bytes)
     }
 
-    fn settle(&mut self) -> Result<(), DiskFault> {
+    /// It fails where a page write or a sync has failed before.
+    fn settle(&mut self) -> Result<(), DiskFault>
+        ensures durable { OnOk result (V.meaning.tells (device_of self.old) ≡ true → (c : Image)
+            → MayLeave (forced_meaning V.meaning) self.new c → (forced_meaning V.meaning).held self.new ≡ Some c) }
+        ensures calm { Calm (forced_meaning V.meaning) self.old self.new result }
+        ensures unread { KeepsReads (forced_meaning V.meaning) self.old self.new }
+        ensures refused { V.meaning.failed (device_of self.old) ≡ true → IsErr result }
+    {
         self.clear()
     }
 }

@@ -15,11 +15,13 @@ pub struct MemDevice {
     disk: MemDisk,
     // Nothing is pending.
     synced: bool,
+    // A page write has failed.
+    failed: bool,
     ghost none_pending: { synced ≡ true → pending_in (acts_in disk) ≡ [] },
 }
 
 impl MemDevice {
-    ghost use Rattle.std.specs.Prelude.{IfOk, Some};
+    ghost use Rattle.std.specs.Prelude.{IfOk, Some, false};
     ghost use Rattle.mg_base.specs.Geometry.{is_page_size};
     ghost use Rattle.mg_device.specs.MemDevice.{mem_device_meaning};
 
@@ -34,9 +36,14 @@ impl MemDevice {
         ensures size { IfOk result (λ d. mem_device_meaning.size d ≡ Some size) }
         ensures synced { IfOk result (λ d. mem_device_meaning.synced d ≡ Some []) }
         ensures pending { IfOk result (λ d. mem_device_meaning.pending d ≡ []) }
+        ensures failed { IfOk result (λ d. mem_device_meaning.failed d ≡ false) }
     {
         let disk = MemDisk::new(alloc, size, room, writes)?;
-        Ok(MemDevice { disk, synced: true })
+        Ok(MemDevice {
+            disk,
+            synced: true,
+            failed: false,
+        })
     }
 }
 
@@ -61,8 +68,12 @@ impl Device for MemDevice {
     }
 
     fn write(&mut self, page: PageNo, bytes: &[u8]) -> Result<(), DiskFault> {
+        if let Err(fault) = self.disk.write(page, bytes) {
+            self.failed = true;
+            return Err(fault);
+        }
         self.synced = false;
-        self.disk.write(page, bytes)
+        Ok(())
     }
 
     fn sync(&mut self) -> Result<(), DiskFault> {
@@ -73,5 +84,9 @@ impl Device for MemDevice {
 
     fn is_synced(&self) -> bool {
         self.synced
+    }
+
+    fn has_failed(&self) -> bool {
+        self.failed
     }
 }
