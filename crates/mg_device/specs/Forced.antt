@@ -1,6 +1,6 @@
 -- A device on which each page write is forced.
-use Rattle.std.specs.Prelude.{◌+◌, false, None}
-use Rattle.mg_base.specs.Disk.{Meaning}
+use Rattle.std.specs.Prelude.{◌≡◌, ◌⊎◌, ◌+◌, true, false, None, Result, IsErr}
+use Rattle.mg_base.specs.Disk.{Meaning, Rose}
 use Rattle.mg_device.specs.Device.{DeviceMeaning, as_disk}
 use Rattle.mg_device.specs.declared.forced.ForcedWrites.{ForcedWrites}
 
@@ -22,3 +22,7 @@ forced_meaning m = record {
 
 abbrev pub device_of : {V : Type 0} → ForcedWrites V → V
 device_of d = d.device
+
+-- a call fails only where a page write or a sync has failed before, or where the device fails in it
+abbrev pub HasCause : {V T E : Type 0} → DeviceMeaning V → ForcedWrites V → ForcedWrites V → Result T E → Type 0
+HasCause m old new result = IsErr result → (m.failed old.device ≡ true) ⊎ Rose (m.faults old.device) (m.faults new.device)

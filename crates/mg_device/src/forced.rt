@@ -37,13 +37,15 @@ impl<V> ForcedWrites<V> {
 impl<V: Device> ForcedWrites<V> {
     ghost use Rattle.std.specs.Prelude.{◌≡◌, [], true, false, Some, IsErr, OnOk, length};
     ghost use Rattle.mg_base.specs.Disk.{Calm, Writes};
-    ghost use Rattle.mg_device.specs.Forced.{device_of, forced_meaning};
+    ghost use Rattle.mg_device.specs.Forced.{HasCause, device_of, forced_meaning};
 
     // Syncs what is pending.
     fn clear(&mut self) -> Result<(), DiskFault>
         ensures pending { OnOk result (V.meaning.pending (device_of self.new) ≡ []) }
+        ensures steady { OnOk result (V.meaning.faults (device_of self.new) ≡ V.meaning.faults (device_of self.old)) }
         ensures goes_on { OnOk result (V.meaning.failed (device_of self.new) ≡ false) }
         ensures refused { V.meaning.failed (device_of self.old) ≡ true → IsErr result }
+        ensures cause { HasCause V.meaning self.old self.new result }
         ensures calm { Calm (forced_meaning V.meaning) self.old self.new result }
     {
         if self.device.has_failed() {
@@ -63,6 +65,7 @@ impl<V: Device> ForcedWrites<V> {
         requires whole { V.meaning.size (device_of self.old) ≡ Some (length bytes.now) }
         ensures writes { Writes (forced_meaning V.meaning) self.old self.new page.0 bytes.now result }
         ensures forced { OnOk result (V.meaning.pending (device_of self.new) ≡ []) }
+        ensures cause { HasCause V.meaning self.old self.new result }
     {
         self.device.write(page, bytes)?;
         self.device.sync()
@@ -73,7 +76,7 @@ impl<V: Device> Disk for ForcedWrites<V> {
     ghost use Rattle.std.specs.Prelude.{◌≡◌, ◌<◌, ℕ, [], true, Some, IsErr, IfOk, OnOk, length, unwrap_or};
     ghost use Rattle.mg_base.specs.Disk.{Calm, KeepsReads, MayLeave, ReadsPage, Writes};
     ghost use Rattle.mg_base.specs.Image.{Image, page_at};
-    ghost use Rattle.mg_device.specs.Forced.{device_of, forced_meaning};
+    ghost use Rattle.mg_device.specs.Forced.{HasCause, device_of, forced_meaning};
     ghost use Rattle.mg_device.specs.DeviceLaws.{device_counted, device_counts_now, device_holds};
 
     ghost meaning = { forced_meaning V.meaning };
@@ -101,6 +104,7 @@ impl<V: Device> Disk for ForcedWrites<V> {
         ensures calm { Calm (forced_meaning V.meaning) self.old self.new result }
         ensures reads { ReadsPage (forced_meaning V.meaning) self.old self.new page.0 }
         ensures refused { V.meaning.failed (device_of self.old) ≡ true → IsErr result }
+        ensures cause { HasCause V.meaning self.old self.new result }
     {
         self.clear()?;
         self.device.read(page, into)
@@ -112,6 +116,7 @@ impl<V: Device> Disk for ForcedWrites<V> {
         ensures writes { Writes (forced_meaning V.meaning) self.old self.new page.0 bytes.now result }
         ensures forced { OnOk result (V.meaning.pending (device_of self.new) ≡ []) }
         ensures refused { V.meaning.failed (device_of self.old) ≡ true → IsErr result }
+        ensures cause { HasCause V.meaning self.old self.new result }
     {
         self.clear()?;
         self.force(page, bytes)
@@ -124,6 +129,7 @@ impl<V: Device> Disk for ForcedWrites<V> {
         ensures calm { Calm (forced_meaning V.meaning) self.old self.new result }
         ensures unread { KeepsReads (forced_meaning V.meaning) self.old self.new }
         ensures refused { V.meaning.failed (device_of self.old) ≡ true → IsErr result }
+        ensures cause { HasCause V.meaning self.old self.new result }
     {
         self.clear()
     }
