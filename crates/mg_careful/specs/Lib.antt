@@ -1,4 +1,5 @@
 pub mod Precedence
 pub mod CarefulWrite
+pub mod CarefulSteps
 pub mod Rows
 pub mod Graph

@@ -1,7 +1,9 @@
 mod DirtyLemmas
 mod LeastLemmas
 mod PoolLemmas
+mod RestLemmas
 mod RunLemmas
+mod RefusalLemmas
 mod ChangeLemmas
 mod TestLemmas
 mod LawLemmas

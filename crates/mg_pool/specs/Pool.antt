@@ -103,13 +103,6 @@ abbrev pub resident : {D L : Type 0} → Pool D L → ℕ → Option (List ℕ)
 resident pool page =
     if is_dirty pool.dirty page then content_of pool.dirty page else get nat_cmp pool.clean page
 
--- the pool shows the same pages, dirty and clean, with the same orders
-pub record SamePages {D L : Type 0} (old new : Pool D L) : Type 0 where
-  pub geometry : new.geometry ≡ old.geometry
-  pub dirty : new.dirty ≡ old.dirty
-  pub graph : new.graph ≡ old.graph
-  pub clean : new.clean ≡ old.clean
-
 -- a call that writes no page: the disk holds what it held, and a crash leaves nothing new
 pub record KeepsContent {D : Type 0} (m : Meaning D) (old new : D) : Type 0 where
   pub held : m.held new ≡ m.held old
