@@ -3,9 +3,10 @@ use Rattle.std.specs.Prelude.{◌≡◌, ◌≢◌, ℕ, Bool, true, false, not,
 use Rattle.std.proofs.Common.{inl, inr, refl, sym, ◌∙◌, ap}
 use Rattle.std.proofs.lemmas.Bool.{and_parts, and_from, both_ways, not_from_false, not-true, or_cases, or_left, or_right, cases_Bool}
 use Rattle.mg_careful.specs.declared.links.Demand.{Demand}
-use Rattle.mg_careful.specs.Precedence.{Orders, Precedes, directly, through, precedes_in}
+use Rattle.mg_careful.specs.Precedence.{Orders, Precedes, directly, through}
+use Rattle.mg_careful.specs.PrecedenceLaws.{precedes_in}
 use Rattle.mg_careful.specs.CarefulWrite.{PageSet, Cache, Demands, Meets, Has, DemandSet, IsIn, IsClosed, overlay, three_parts, BearsDemands, IsCareful}
-use Rattle.mg_careful.specs.CarefulSteps.{written_out, StaysCareful, Contents, LaysBatch, goes_on, laid_demands, BearsBatch, BatchStaysCareful}
+use Rattle.mg_careful.specs.CarefulSteps.{written_out, StaysCareful, Contents, LaysBatch, goes_on, laid_demands, BatchBears, BatchStaysCareful}
 use Rattle.mg_careful.proofs.CarefulWriteLemmas.{Comes, aims_inside, aims_outside, clean_of_disk, clean_of_pool, comes, member, disk_there, pool_there, not_inside, clean_there, ordered_is_dirty, overlay_keeps}
 
 module _ (demands : Demands) (meets : Meets) (cache : Cache) (of_disk of_pool : DemandSet) (careful : IsCareful demands meets cache of_disk of_pool) (gone : PageSet) (closed : IsClosed cache gone) where
@@ -100,7 +101,7 @@ module _ (batch : Contents) (dropped : Demand → Bool) where
     as_before : (d : Demand) → goes_on batch dropped d ≡ true → IsIn of_pool d → IsIn (laid_demands batch dropped of_pool stated) d
     as_before d on h = (h.0, or_right (stated d h.0) _ (and_from _ _ on h.1))
 
-module _ (demands : Demands) (meets : Meets) (old new : Cache) (of_disk of_pool : DemandSet) (careful : IsCareful demands meets old of_disk of_pool) (gone : PageSet) (closed : IsClosed old gone) (batch : Contents) (orders : Orders) (lays : LaysBatch old new gone batch orders) (dropped : Demand → Bool) (stated : DemandSet) (owes : BearsBatch demands meets new batch dropped (three_parts old gone of_disk of_pool) of_pool stated) where
+module _ (demands : Demands) (meets : Meets) (old new : Cache) (of_disk of_pool : DemandSet) (careful : IsCareful demands meets old of_disk of_pool) (gone : PageSet) (closed : IsClosed old gone) (batch : Contents) (orders : Orders) (lays : LaysBatch old new gone batch orders) (dropped : Demand → Bool) (stated : DemandSet) (owes : BatchBears demands meets new batch dropped (three_parts old gone of_disk of_pool) of_pool stated) where
   middle : IsCareful demands meets (written_out old gone) (three_parts old gone of_disk of_pool) of_pool
   middle = careful_after demands meets old of_disk of_pool careful gone closed
 

@@ -4,7 +4,8 @@ use Rattle.std.specs.Prelude.{◌≡◌, ◌≢◌, ℕ, Bool, true, false, not,
 use Rattle.std.proofs.Common.{inl, inr, refl, sym, ◌∙◌, ap}
 use Rattle.std.proofs.lemmas.Bool.{and_parts, and_from, both_ways, not_from_false, not-true, or_cases, or_left, or_right}
 use Rattle.mg_careful.specs.declared.links.Demand.{Demand}
-use Rattle.mg_careful.specs.Precedence.{Precedes, precedes_first, precedes_later}
+use Rattle.mg_careful.specs.Precedence.{Precedes}
+use Rattle.mg_careful.specs.PrecedenceLaws.{precedes_first, precedes_later}
 use Rattle.mg_careful.specs.CarefulWrite.{PageSet, Cache, Demands, Meets, Has, DemandSet, IsIn, KeepsDemands, IsClosed, overlay, three_parts, IsCareful, IsSafeOverlay, CarefulWrite}
 
 -- where a page stands towards a set of dirty pages

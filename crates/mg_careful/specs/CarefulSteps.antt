@@ -50,11 +50,11 @@ abbrev pub laid_demands : Contents → (Demand → Bool) → DemandSet → Deman
 laid_demands batch dropped of_pool stated =
     either stated (λ d witness. goes_on batch dropped d && of_pool d witness)
 
--- What a batch owes, for the demands that it states: they are met, and so on in turn; a link that
--- goes on finds what it wants on a page of the batch stated; and the orders bear what these pages
--- demand, and what the disk still demands of them. A link that stood before costs nothing, where the
--- batch changes neither its page nor its target.
-pub record BearsBatch (demands : Demands) (meets : Meets) (new : Cache) (batch : Contents)
+-- What a batch owes, for the demands that it states: they are met, and what they demand in turn is
+-- stated or goes on; and the orders bear what they demand, and what the disk still demands of pages
+-- of the batch. A link that stood before, on a page that the batch leaves alone, costs no order; where
+-- it leads to a page of the batch, what it wants there is stated.
+pub record BatchBears (demands : Demands) (meets : Meets) (new : Cache) (batch : Contents)
     (dropped : Demand → Bool) (of_disk of_pool stated : DemandSet) : Type 0 where
   pub met : (d : Demand) → IsIn stated d → meets (new.pool d.target) d ≡ true
   pub in_turn : (d e : Demand) → IsIn stated d → Has (demands (new.pool d.target) d) e
@@ -78,6 +78,6 @@ BatchStaysCareful demands meets = (old new : Cache) (of_disk of_pool : DemandSet
     → (gone : PageSet) → IsClosed old gone
     → (batch : Contents) (orders : Orders) → LaysBatch old new gone batch orders
     → (dropped : Demand → Bool) (stated : DemandSet)
-    → BearsBatch demands meets new batch dropped (three_parts old gone of_disk of_pool) of_pool stated
+    → BatchBears demands meets new batch dropped (three_parts old gone of_disk of_pool) of_pool stated
     → BearsDemands demands meets new (three_parts old gone of_disk of_pool)
     (laid_demands batch dropped of_pool stated)

@@ -4,7 +4,8 @@ use Rattle.std.proofs.lemmas.Bool.{cases_eq, eq-eqb, ne_eqb, both_ways, and_part
 use Rattle.mg_base.specs.Image.{Image, page_at}
 use Rattle.mg_base.specs.Disk.{Meaning}
 use Rattle.mg_careful.specs.declared.graph.Order.{Order}
-use Rattle.mg_careful.specs.Precedence.{Precedes, directly, precedes_in}
+use Rattle.mg_careful.specs.Precedence.{Precedes, directly}
+use Rattle.mg_careful.specs.PrecedenceLaws.{precedes_in}
 use Rattle.mg_careful.specs.Graph.{PageGraph, is_ordered, EntersPage}
 use Rattle.mg_careful.specs.CarefulWrite.{PageSet, IsClosed, overlay}
 use Rattle.mg_pool.specs.declared.batch.BatchPage.{BatchPage}

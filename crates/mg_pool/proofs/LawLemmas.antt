@@ -1,21 +1,23 @@
 -- The cache keeps two premises of the careful-write law by itself: a clean page is the same in the
 -- pool as on the disk, and only dirty pages are ordered.
-use Rattle.std.proofs.Common.{◌≡◌, ◌∙◌, ◌||◌, ◌&&◌, ℕ, Bool, true, false, not, List, Option, Some, None, is_some, sym, ap, refl, unwrap_or, arith, inl, inr, subst}
+use Rattle.std.proofs.Common.{◌≡◌, ◌∙◌, ◌||◌, ◌&&◌, ℕ, Bool, true, false, not, List, [], Option, Some, None, is_some, sym, ap, refl, unwrap_or, arith, inl, inr, subst}
 use Rattle.std.proofs.Math.Path.{fun_ext}
-use Rattle.std.proofs.lemmas.Bool.{and_from, not_from_false}
+use Rattle.std.proofs.lemmas.Bool.{and_from, both_ways, not_from_false}
 use Rattle.mg_base.specs.Image.{Image, page_at}
 use Rattle.mg_base.specs.Disk.{Meaning, Elapses}
 use Rattle.mg_careful.specs.declared.graph.Order.{Order}
 use Rattle.mg_careful.specs.Precedence.{Orders}
-use Rattle.mg_careful.specs.Graph.{PageGraph, is_ordered, ordered_entered}
+use Rattle.mg_careful.specs.Graph.{PageGraph, is_ordered}
+use Rattle.mg_careful.specs.GraphLaws.{ordered_entered}
 use Rattle.mg_careful.specs.CarefulWrite.{Pages, PageSet, Cache, Demands, Meets, DemandSet, IsClosed, BearsDemands, CarefulWrite, IsCareful, three_parts}
 use Rattle.mg_careful.specs.CarefulSteps.{written_out, StaysCareful, BatchStaysCareful, LaysBatch}
+use Rattle.mg_pool.specs.declared.dirty_page.DirtyPage.{DirtyPage}
 use Rattle.mg_pool.specs.declared.pool.Pool.{Pool}
 use Rattle.mg_pool.specs.Batch.{lists}
 use Rattle.mg_pool.specs.Change.{ChangesPages}
-use Rattle.mg_pool.specs.Dirty.{DirtyPages, content_of, is_dirty}
-use Rattle.mg_pool.specs.Law.{LeavesSafe, WritesBear, BatchBears, QuietLeaves, since}
-use Rattle.mg_pool.specs.Pool.{cache_of, taken_out, IsPool}
+use Rattle.mg_pool.specs.Dirty.{DirtyPages, entry_in, bytes_of, content_of, is_dirty}
+use Rattle.mg_pool.specs.Law.{StartsCareful, LeavesSafe, WritesStayCareful, ChangesStayCareful, QuietLeaves, since}
+use Rattle.mg_pool.specs.Pool.{cache_of, shown, taken_out, IsPool}
 use Rattle.mg_pool.specs.Run.{HasWritten}
 use Rattle.mg_pool.proofs.RunLemmas.{chain_before, taken_parts}
 
@@ -75,8 +77,8 @@ written_cache m old new i j run told held_i held_j =
     still : (p : ℕ) → is_dirty new.dirty p ≡ (is_dirty old.dirty p && not (taken_out old.dirty new.dirty p))
     still p = at (is_dirty old.dirty p) (is_dirty new.dirty p) (run.fewer p)
 
-pub writes_bear : (D L : Type 0) (m : Meaning D) (demands : Demands) (meets : Meets) → StaysCareful demands meets → WritesBear D L m demands meets
-writes_bear D L m demands meets law = λ old new i j kept run told held_i held_j of_disk of_pool bears.
+pub writes_stay_careful : (D L : Type 0) (m : Meaning D) (demands : Demands) (meets : Meets) → StaysCareful demands meets → WritesStayCareful D L m demands meets
+writes_stay_careful D L m demands meets law = λ old new i j kept run told held_i held_j of_disk of_pool bears.
     let after = law (cache_of old.dirty old.graph i) of_disk of_pool (careful m demands meets old i of_disk of_pool kept bears) (taken_out old.dirty new.dirty) (gone_closed m old new i run) in
     subst (λ (c : Cache). BearsDemands demands meets c (three_parts (cache_of old.dirty old.graph i) (taken_out old.dirty new.dirty) of_disk of_pool) of_pool) (sym (written_cache m old new i j run told held_i held_j)) after.bears
 
@@ -93,9 +95,29 @@ lays old new graph more i j gone batch orders changes = record {
     at p None is = rw is (changes.dirty_else p is)
     at p (Some bytes) is = rw is (changes.is_laid p (λ none. let e : Some bytes ≡ None = sym is ∙ none in cc))
 
-pub batch_bears : (D L : Type 0) (m : Meaning D) (demands : Demands) (meets : Meets) → BatchStaysCareful demands meets → BatchBears D L m demands meets
-batch_bears D L m demands meets law = λ old new i j gone batch orders kept changes of_disk of_pool stated dropped bears owes.
+pub changes_stay_careful : (D L : Type 0) (m : Meaning D) (demands : Demands) (meets : Meets) → BatchStaysCareful demands meets → ChangesStayCareful D L m demands meets
+changes_stay_careful D L m demands meets law = λ old new i j gone batch orders kept changes of_disk of_pool stated dropped bears owes.
     law (cache_of old.dirty old.graph i) (cache_of new.dirty new.graph j) of_disk of_pool (careful m demands meets old i of_disk of_pool kept bears) gone changes.out batch (lists orders) (lays old.dirty new.dirty old.graph new.graph i j gone batch orders changes) dropped stated owes
+
+-- nothing is dirty yet
+module _ (dirty : DirtyPages) (image : Image) (none : dirty.pages ≡ []) where
+  clean_all : (p : ℕ) → content_of dirty p ≡ None
+  unfolding content_of
+  clean_all p = ap (λ (ds : List DirtyPage). bytes_of (entry_in ds p)) none
+
+  shown_all : (p : ℕ) → shown dirty image p ≡ page_at dirty.size image p
+  shown_all p = ap (λ (o : Option (List ℕ)). unwrap_or o (page_at dirty.size image p)) (clean_all p)
+
+pub starts_careful : (D L : Type 0) (demands : Demands) (meets : Meets) → StartsCareful D L demands meets
+starts_careful D L demands meets = λ pool image kept none keeps. record {
+  disk_keeps = keeps;
+  pool_keeps = record {
+    met = λ d h. rw (shown_all pool.dirty image none d.target) (keeps.met d h);
+    in_turn = λ d e h made. keeps.in_turn d e h (rw (shown_all pool.dirty image none d.target) at made);
+  };
+  new = λ d e h made apart dirty. absurd (both_ways _ (ap is_some (clean_all pool.dirty image none e.target)) dirty);
+  old = λ d e h made apart dirty. absurd (both_ways _ (ap is_some (clean_all pool.dirty image none e.target)) dirty);
+}
 
 pub quiet : (D L : Type 0) (m : Meaning D) → QuietLeaves D L m
 quiet D L m = λ old new keeps told image held.

@@ -4,7 +4,8 @@ use Rattle.std.proofs.lemmas.Bool.{cases_eq, both_ways, eqb-true, eq-eqb, ne_eqb
 use Rattle.std.proofs.lemmas.List.{take_more, get_or-set_same, get_or-set_other}
 use Rattle.mg_base.specs.declared.numbers.PageNo.{PageNo}
 use Rattle.mg_careful.specs.declared.graph.Order.{Order}
-use Rattle.mg_careful.specs.Precedence.{Precedes, directly, through, precedes_in}
+use Rattle.mg_careful.specs.Precedence.{Precedes, directly, through}
+use Rattle.mg_careful.specs.PrecedenceLaws.{precedes_in}
 use Rattle.mg_careful.specs.Graph.{PageGraph, is_ordered}
 use Rattle.mg_pool.specs.declared.pool.Pool.{Pool}
 use Rattle.mg_base.specs.Disk.{Meaning}

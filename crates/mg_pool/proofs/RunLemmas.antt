@@ -4,12 +4,14 @@ use Rattle.std.specs.Prelude.{Result, Ok, Err, OnOk, OnErr, min, ◌^◌}
 use Rattle.std.proofs.lemmas.Bool.{cases_Bool, cases_eq, eq-eqb, ne_eqb, both_ways, and_parts, and_from, false_from_ne_true}
 use Rattle.mg_base.specs.Image.{Image}
 use Rattle.mg_base.specs.Disk.{Meaning, MayLeave, Rose}
-use Rattle.mg_careful.specs.Graph.{PageGraph, IsFirstReady, is_ordered, ordered_entered, precedes_entered}
+use Rattle.mg_careful.specs.Graph.{PageGraph, IsFirstReady, is_ordered}
+use Rattle.mg_careful.specs.GraphLaws.{ordered_entered, precedes_entered}
 use Rattle.mg_pool.specs.declared.fault.PoolFault.{PoolFault}
 use Rattle.mg_pool.specs.declared.fault.PoolFault.TheVariants.{DiskRead, DiskWrite, Offline, Absent, Memory}
 use Rattle.mg_pool.specs.Fault.{TellsFault, StaysOnline, Counts}
 use Rattle.mg_pool.specs.Run.{HasWritten, WritesPage}
-use Rattle.mg_careful.specs.Precedence.{Orders, Precedes, directly, through, precedes_in}
+use Rattle.mg_careful.specs.Precedence.{Orders, Precedes, directly, through}
+use Rattle.mg_careful.specs.PrecedenceLaws.{precedes_in}
 use Rattle.mg_careful.specs.CarefulWrite.{PageSet}
 use Rattle.mg_pool.specs.declared.pool.Pool.{Pool}
 use Rattle.mg_pool.specs.Dirty.{DirtyPages, is_dirty, TakesOut}
@@ -98,6 +100,7 @@ run_starts m start pool = record {
   contents = λ page dirty. refl;
   marks = λ page who dirty. refl;
   rest = rest_all start.dirty;
+  asked = omega arith;
   orders = tied_orders start.dirty start.graph pool.tied;
   before = λ a b o out. absurd (both_ways _ out (sym (pool.tied.entered b) ∙ (ordered_entered start.graph a b o).1));
   crash = λ told old held. leaves_none m start.disk start.dirty start.graph old;
@@ -153,6 +156,7 @@ module _ {D L : Type 0} (m : Meaning D) (holds : Holds m) (counts : CountsNow m)
     tells = w.tells ∙ run.tells;
     fewer = λ p there. run.fewer p (still p there).1;
     count = omega (arith, w.taken.count, run.count);
+    asked = omega (arith, w.taken.count, w.asked, run.asked);
     rest = rest_then (is_dirty now.dirty) (λ p. not (p == page)) (is_dirty next.dirty) start.dirty.pages now.dirty.pages next.dirty.pages run.rest w.taken.rest (λ p. sym (dirty_as p));
     size = w.taken.size ∙ run.size;
     contents = λ p there. let s = still p there in w.taken.others p s.0 ∙ run.contents p s.1;
@@ -191,6 +195,7 @@ run_then m holds counts a b c first next = record {
   tells = next.tells ∙ first.tells;
   fewer = λ p dirty. first.fewer p (next.fewer p dirty);
   count = omega (arith, first.count, next.count);
+  asked = omega (arith, first.asked, next.asked);
   rest = rest_then (is_dirty b.dirty) (is_dirty c.dirty) (is_dirty c.dirty) a.dirty.pages b.dirty.pages c.dirty.pages first.rest next.rest (λ p. both (is_dirty b.dirty p) (is_dirty c.dirty p) (next.fewer p));
   size = next.size ∙ first.size;
   contents = λ p dirty. next.contents p dirty ∙ first.contents p (next.fewer p dirty);

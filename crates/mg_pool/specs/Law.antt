@@ -1,13 +1,13 @@
 -- The careful-write law, as the cache keeps it from a change on.
-use Rattle.std.specs.Prelude.{◌≡◌, ℕ, Bool, true, ◌||◌, List, Some}
-use Rattle.mg_base.specs.Image.{Image}
+use Rattle.std.specs.Prelude.{◌≡◌, ℕ, Bool, true, ◌||◌, List, [], Some}
+use Rattle.mg_base.specs.Image.{Image, page_at}
 use Rattle.mg_base.specs.Disk.{Meaning}
 use Rattle.mg_careful.specs.declared.graph.Order.{Order}
 use Rattle.mg_careful.specs.declared.links.Demand.{Demand}
 use Rattle.mg_careful.specs.Graph.{PageGraph}
-use Rattle.mg_careful.specs.CarefulWrite.{PageSet, Demands, Meets, DemandSet, Cache, BearsDemands}
+use Rattle.mg_careful.specs.CarefulWrite.{PageSet, Demands, Meets, DemandSet, KeepsDemands, BearsDemands}
 use Rattle.mg_careful.specs.CarefulWrite.{IsClosed, overlay, three_parts, IsSafeOverlay}
-use Rattle.mg_careful.specs.CarefulSteps.{Contents, BearsBatch, laid_demands}
+use Rattle.mg_careful.specs.CarefulSteps.{Contents, BatchBears, laid_demands}
 use Rattle.mg_pool.specs.declared.pool.Pool.{Pool}
 use Rattle.mg_pool.specs.Dirty.{DirtyPages}
 use Rattle.mg_pool.specs.Change.{ChangesPages}
@@ -40,8 +40,8 @@ LeavesSafe D L m demands meets = (changed now : Pool D L) (i j : Image)
 
 -- The law of page writes: where a writer bears the demands, he bears them after any page writes. The
 -- disk then keeps the set of three parts, by the pages that were written.
-abbrev pub WritesBear : (D L : Type 0) → Meaning D → Demands → Meets → Type 0
-WritesBear D L m demands meets = (old new : Pool D L) (i j : Image)
+abbrev pub WritesStayCareful : (D L : Type 0) → Meaning D → Demands → Meets → Type 0
+WritesStayCareful D L m demands meets = (old new : Pool D L) (i j : Image)
     → IsPool m old → HasWritten m old new → m.tells old.disk ≡ true
     → m.held old.disk ≡ Some i → m.held new.disk ≡ Some j
     → (of_disk of_pool : DemandSet)
@@ -52,18 +52,24 @@ WritesBear D L m demands meets = (old new : Pool D L) (i j : Image)
 
 -- The law of a batch: where a writer bears the demands, he bears them after the change of a batch, if
 -- the batch bears its own. The page writes of the change are counted in.
-abbrev pub BatchBears : (D L : Type 0) → Meaning D → Demands → Meets → Type 0
-BatchBears D L m demands meets = (old new : Pool D L) (i j : Image) (gone : PageSet)
+abbrev pub ChangesStayCareful : (D L : Type 0) → Meaning D → Demands → Meets → Type 0
+ChangesStayCareful D L m demands meets = (old new : Pool D L) (i j : Image) (gone : PageSet)
     (batch : Contents) (orders : List Order)
     → IsPool m old
     → ChangesPages old.dirty new.dirty old.graph new.graph i j gone batch orders
     → (of_disk of_pool stated : DemandSet) (dropped : Demand → Bool)
     → BearsDemands demands meets (cache_of old.dirty old.graph i) of_disk of_pool
-    → BearsBatch demands meets (cache_of new.dirty new.graph j) batch dropped
+    → BatchBears demands meets (cache_of new.dirty new.graph j) batch dropped
     (three_parts (cache_of old.dirty old.graph i) gone of_disk of_pool) of_pool stated
     → BearsDemands demands meets (cache_of new.dirty new.graph j)
     (three_parts (cache_of old.dirty old.graph i) gone of_disk of_pool)
     (laid_demands batch dropped of_pool stated)
+
+-- where no page is dirty, a writer bears the demands of every set that the disk's image keeps
+abbrev pub StartsCareful : (D L : Type 0) → Demands → Meets → Type 0
+StartsCareful D L demands meets = (pool : Pool D L) (image : Image) (kept : DemandSet)
+    → pool.dirty.pages ≡ [] → KeepsDemands demands meets (page_at pool.dirty.size image) kept
+    → BearsDemands demands meets (cache_of pool.dirty pool.graph image) kept kept
 
 -- a call that writes no page leaves crashes no more than any call may
 abbrev pub QuietLeaves : (D L : Type 0) → Meaning D → Type 0

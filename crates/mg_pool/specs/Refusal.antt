@@ -1,5 +1,5 @@
 -- What a call leaves that answers with a fault.
-use Rattle.std.specs.Prelude.{◌≡◌, ℕ, true, false, Some, Result, Ok, Err}
+use Rattle.std.specs.Prelude.{◌≡◌, ℕ, ◌+◌, ◌≤◌, true, false, Some, Result, Ok, Err}
 use Rattle.mg_base.specs.Disk.{Meaning}
 use Rattle.mg_careful.specs.Graph.{is_ordered}
 use Rattle.mg_pool.specs.declared.pool.Pool.{Pool}
@@ -17,6 +17,7 @@ pub record FailsWrite {D L : Type 0} (m : Meaning D) (old new : Pool D L) (fault
   pub page : ℕ
   pub dirty : is_dirty old.dirty page ≡ true
   pub ready : (q : ℕ) → is_ordered old.graph q page ≡ false
+  pub asked : m.asked new.disk ≤ m.asked old.disk + 1
   pub same : new ≡ record old { disk = new.disk; faults = new.faults; offline = new.offline }
   pub pool : IsPool m new
   pub told : (n : ℕ) × (fault ≡ DiskWrite n) × (new.offline ≡ Some n) × Counts m old new n

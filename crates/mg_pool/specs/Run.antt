@@ -1,5 +1,5 @@
 -- Page writes: what one leaves, and what a pool has become over a run of them.
-use Rattle.std.specs.Prelude.{◌≡◌, ℕ, ◌≤◌, ◌&&◌, ◌==◌, not, true, false, Some, length}
+use Rattle.std.specs.Prelude.{◌≡◌, ℕ, ◌+◌, ◌≤◌, ◌&&◌, ◌==◌, not, true, false, Some, length}
 use Rattle.std.specs.List.{filter}
 use Rattle.mg_base.specs.Image.{Image}
 use Rattle.mg_base.specs.Disk.{Meaning}
@@ -18,6 +18,7 @@ pub record WritesPage {D L : Type 0} (m : Meaning D) (old new : Pool D L) (page 
   pub faults : new.faults ≡ old.faults
   pub steady : m.faults new.disk ≡ m.faults old.disk
   pub tells : m.tells new.disk ≡ m.tells old.disk
+  pub asked : m.asked new.disk ≤ m.asked old.disk + 1
   pub taken : TakesOut old.dirty new.dirty page
   pub cleared : ClearsPage old.graph new.graph page
   pub out : (i j : Image) → m.held old.disk ≡ Some i → m.held new.disk ≡ Some j
@@ -35,6 +36,9 @@ pub record HasWritten {D L : Type 0} (m : Meaning D) (start now : Pool D L) : Ty
   pub tells : m.tells now.disk ≡ m.tells start.disk
   pub fewer : (page : ℕ) → is_dirty now.dirty page ≡ true → is_dirty start.dirty page ≡ true
   pub count : length now.dirty.pages ≤ length start.dirty.pages
+  -- at most one page write was asked for each page that is no longer dirty
+  pub asked : m.asked now.disk + length now.dirty.pages
+      ≤ m.asked start.disk + length start.dirty.pages
   -- the table has what it had of the pages that are dirty still, and nothing else
   pub rest : now.dirty.pages ≡ filter (λ d. is_dirty now.dirty d.page) start.dirty.pages
   pub size : now.dirty.size ≡ start.dirty.size

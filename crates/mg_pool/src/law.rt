@@ -1,6 +1,6 @@
 //! The careful-write law as the cache's own promise.
 
-ghost use Rattle.mg_pool.specs.Law.{LeavesSafe, WritesBear, BatchBears, JoinsRuns, QuietLeaves};
+ghost use Rattle.mg_pool.specs.Law.{StartsCareful, LeavesSafe, WritesStayCareful, ChangesStayCareful, JoinsRuns, QuietLeaves};
 
 use mg_base::Disk;
 use mg_careful::{Links, careful_write};
@@ -9,19 +9,22 @@ use mg_careful::{Links, careful_write};
 /// keeps, from call to call: the pages of the disk and of the pool each keep a set of demands, and
 /// the orders bear what is not yet on the disk.
 ///
+/// - Where no page is dirty, he bears the demands of every set that the disk's image keeps.
 /// - Where he bears the demands, the overlay of every closed set is safe, then and after each later
 ///   page write, those that the next change makes first included.
 /// - After page writes he bears them still.
-/// - After a change he bears them, if the batch bears its own: what it states anew, and what is wanted
-///   of its pages. A link that stood before costs nothing, where the batch changes neither end.
+/// - After a change he bears them, if the batch bears its own: what it states of its pages, and what
+///   the disk still demands of them. A link that stood before, on a page that the batch leaves alone,
+///   costs no order; where it leads to a page of the batch, that still has what is wanted.
 ///
 /// It does nothing: its contract is the law, so that a crate that orders its page writes can cite
 /// it. That `Pool::write_one` and the page writes of a change are runs of page writes, and that a
 /// change is one as `batch` takes it, their own clauses say.
 pub fn stays_careful<D: Disk, L: Links>()
+    ensures starts { StartsCareful D L L.demands_of L.meets_of }
     ensures safe { LeavesSafe D L D.meaning L.demands_of L.meets_of }
-    ensures writes { WritesBear D L D.meaning L.demands_of L.meets_of }
-    ensures batch { BatchBears D L D.meaning L.demands_of L.meets_of }
+    ensures writes { WritesStayCareful D L D.meaning L.demands_of L.meets_of }
+    ensures batch { ChangesStayCareful D L D.meaning L.demands_of L.meets_of }
     ensures joins { JoinsRuns D L D.meaning }
     ensures quiet { QuietLeaves D L D.meaning }
 {

@@ -1,5 +1,5 @@
 use Rattle.std.proofs.Common.{◌∙◌, sym, ap, [], ◌∷◌}
-use Rattle.mg_careful.specs.Precedence.{precedes_in}
+use Rattle.mg_careful.specs.PrecedenceLaws.{precedes_in}
 use Rattle.mg_careful.specs.Graph.{is_ordered}
 use Rattle.mg_pool.specs.Batch.{orders_of}
 use Rattle.mg_pool.specs.declared.pool.Pool.{Pool}

@@ -1,5 +1,6 @@
 use Rattle.std.proofs.Common.{◌∙◌, sym, ap, inl, inr}
-use Rattle.mg_careful.specs.Graph.{IsFirstReady, precedes_entered}
+use Rattle.mg_careful.specs.Graph.{IsFirstReady}
+use Rattle.mg_careful.specs.GraphLaws.{precedes_entered}
 use Rattle.mg_pool.specs.Dirty.{is_dirty}
 use Rattle.mg_pool.proofs.RefusalLemmas.{fails_now, fails_refused}
 use Rattle.mg_pool.proofs.RunLemmas.{due_is_dirty, run_goes_on, run_starts}
