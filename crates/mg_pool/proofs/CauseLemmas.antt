@@ -2,7 +2,6 @@
 -- stages before it leave all as it was.
 use Rattle.std.proofs.Common.{◌≡◌, ◌<◌, ◌≤◌, ◌+◌, ℕ, Bool, true, false, not, ◌&&◌, is_some, List, length, take, sym, ◌∙◌, ap, refl, arith}
 use Rattle.std.specs.Prelude.{count_by}
-use Rattle.std.specs.List.{filter}
 use Rattle.std.proofs.Math.Path.{fun_ext}
 use Rattle.mg_base.specs.Disk.{Meaning}
 use Rattle.mg_careful.specs.declared.graph.Order.{Order}
@@ -10,7 +9,7 @@ use Rattle.mg_pool.specs.declared.batch.BatchPage.{BatchPage}
 use Rattle.mg_pool.specs.declared.dirty_page.DirtyPage.{DirtyPage}
 use Rattle.mg_pool.specs.declared.pool.Pool.{Pool}
 use Rattle.mg_pool.specs.Batch.{dirty_with}
-use Rattle.mg_pool.specs.Change.{Changes, IsOpen, SettlesOrder, SettlesOrders, no_order, one_more, MakesRoom, no_page, one_with}
+use Rattle.mg_pool.specs.Change.{IsOpen, SettlesOrders, no_order, one_more, MakesRoom, no_page, one_with}
 use Rattle.mg_pool.specs.Dirty.{DirtyPages, entry_in, bytes_of, content_of, is_dirty}
 use Rattle.mg_pool.specs.Law.{WritesForCause}
 use Rattle.mg_pool.specs.Pool.{IsPool, taken_out}
@@ -73,5 +72,6 @@ writes_for_cause D L m holds counts = λ old new pages orders pool changes open_
     let fits_still : dirty_with changes.settled.dirty pages ≤ 512 = let e = with_as changes.settled.dirty old.dirty pages settled.same in omega (arith, e, fits) in
     let same : changes.ready.dirty.pages ≡ old.dirty.pages = makes_nothing m pages changes.settled changes.ready changes.for_room fits_still ∙ settled.same in
     let long : length changes.ready.dirty.pages ≡ length old.dirty.pages = ap (length {A = DirtyPage}) same in
+    let bits : (p : ℕ) → is_dirty changes.ready.dirty p ≡ is_dirty old.dirty p = λ p. ap is_some (content_as changes.ready.dirty old.dirty same p) in
     let last : m.asked new.disk ≡ m.asked changes.ready.disk = ap m.asked (changes.enters.disk ∙ changes.puts.disk) in
-    omega (arith, changes.written.asked, long, last)
+    (bits, omega (arith, changes.written.asked, long, last))

@@ -8,6 +8,7 @@ mod ChangeLemmas
 mod TestLemmas
 mod LawLemmas
 mod OrderLemmas
+mod CauseLemmas
 mod BatchLemmas
 mod PutLemmas
 mod OutsideLemmas

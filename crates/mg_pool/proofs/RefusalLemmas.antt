@@ -4,7 +4,6 @@ use Rattle.std.specs.Prelude.{Result, Ok, Err, MatchResult, IsErrAnd}
 use Rattle.mg_base.specs.Disk.{Meaning}
 use Rattle.mg_pool.specs.declared.pool.Pool.{Pool}
 use Rattle.mg_pool.specs.declared.fault.PoolFault.{PoolFault}
-use Rattle.mg_pool.specs.declared.fault.PoolFault.TheVariants.{DiskWrite}
 use Rattle.mg_pool.specs.Fault.{TellsFault, OnlyWrites}
 use Rattle.mg_pool.specs.Pool.{IsPool, KeepsPages, LeavesOverlays}
 use Rattle.mg_pool.specs.Refusal.{FailsWrite, FailsWrites, LeavesRefused}

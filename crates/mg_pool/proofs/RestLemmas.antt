@@ -1,5 +1,5 @@
 -- The entries that stay in the table of dirty pages, as pages are written.
-use Rattle.std.proofs.Common.{◌≡◌, ◌==◌, ◌&&◌, ◌⊎◌, inl, inr, ℕ, Bool, true, false, not, List, [], ◌∷◌, Option, Some, is_some, cond, sym, ◌∙◌, ap, refl}
+use Rattle.std.proofs.Common.{◌≡◌, ◌==◌, ◌&&◌, ◌⊎◌, inl, inr, ℕ, Bool, true, false, List, [], ◌∷◌, Some, is_some, cond, sym, ◌∙◌, ap, refl}
 use Rattle.std.specs.List.{filter}
 use Rattle.std.proofs.lemmas.Bool.{eq-eqb}
 use Rattle.mg_pool.specs.declared.dirty_page.DirtyPage.{DirtyPage}
@@ -23,7 +23,7 @@ all_pass : (test : ℕ → Bool) (pages : List DirtyPage) → ((page : ℕ) → 
 all_pass test [] each = refl
 all_pass test (x ∷ xs) each = rw (each x.page (inl refl), all_pass test xs (λ page there. each page (inr there))) refl
 
-filter_same : (p q : ℕ → Bool) → ((page : ℕ) → p page ≡ q page) → (pages : List DirtyPage) → filter (λ d. p d.page) pages ≡ filter (λ d. q d.page) pages
+pub filter_same : (p q : ℕ → Bool) → ((page : ℕ) → p page ≡ q page) → (pages : List DirtyPage) → filter (λ d. p d.page) pages ≡ filter (λ d. q d.page) pages
 filter_same p q same [] = refl
 filter_same p q same (x ∷ xs) = rw (same x.page, filter_same p q same xs) refl
 

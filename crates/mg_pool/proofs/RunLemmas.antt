@@ -1,21 +1,19 @@
 -- A run of page writes: what a pool has become since it began.
-use Rattle.std.proofs.Common.{◌≡◌, ◌≢◌, ◌≤◌, ℕ, ◌+◌, ◌-◌, Bool, true, false, not, ◌||◌, ◌&&◌, ◌==◌, ◌⊎◌, inl, inr, Some, None, is_some, sym, ◌∙◌, ap, refl, arith, subst}
+use Rattle.std.proofs.Common.{◌≡◌, ◌≢◌, ◌≤◌, ℕ, ◌+◌, ◌-◌, Bool, true, false, not, ◌||◌, ◌&&◌, ◌==◌, ◌⊎◌, inl, inr, Some, is_some, sym, ◌∙◌, ap, refl, arith, subst}
 use Rattle.std.specs.Prelude.{Result, Ok, Err, OnOk, OnErr, min, ◌^◌}
 use Rattle.std.proofs.lemmas.Bool.{cases_Bool, cases_eq, eq-eqb, ne_eqb, both_ways, and_parts, and_from, false_from_ne_true}
 use Rattle.mg_base.specs.Image.{Image}
 use Rattle.mg_base.specs.Disk.{Meaning, MayLeave, Rose}
 use Rattle.mg_careful.specs.Graph.{PageGraph, IsFirstReady, is_ordered}
 use Rattle.mg_careful.specs.GraphLaws.{ordered_entered, precedes_entered}
-use Rattle.mg_pool.specs.declared.fault.PoolFault.{PoolFault}
-use Rattle.mg_pool.specs.declared.fault.PoolFault.TheVariants.{DiskRead, DiskWrite, Offline, Absent, Memory}
-use Rattle.mg_pool.specs.Fault.{TellsFault, StaysOnline, Counts}
+use Rattle.mg_pool.specs.Fault.{Counts}
 use Rattle.mg_pool.specs.Run.{HasWritten, WritesPage}
 use Rattle.mg_careful.specs.Precedence.{Orders, Precedes, directly, through}
 use Rattle.mg_careful.specs.PrecedenceLaws.{precedes_in}
 use Rattle.mg_careful.specs.CarefulWrite.{PageSet}
 use Rattle.mg_pool.specs.declared.pool.Pool.{Pool}
 use Rattle.mg_pool.specs.Dirty.{DirtyPages, is_dirty, TakesOut}
-use Rattle.mg_pool.specs.Pool.{IsTied, IsPool, WritesSet, taken_out, LeavesClosed, KeepsPages, shown}
+use Rattle.mg_pool.specs.Pool.{IsTied, IsPool, WritesSet, taken_out, LeavesClosed, KeepsPages}
 use Rattle.mg_pool.proofs.RestLemmas.{rest_all, rest_then}
 use Rattle.mg_pool.proofs.PoolLemmas.{Holds, writes_none, writes_more, writes_then, leaves_then}
 

@@ -1,16 +1,17 @@
 -- The careful-write law, as the cache keeps it from a change on.
-use Rattle.std.specs.Prelude.{◌≡◌, ℕ, Bool, true, ◌||◌, List, [], Some}
+use Rattle.std.specs.Prelude.{◌≡◌, ℕ, ◌<◌, ◌≤◌, Bool, true, ◌||◌, List, [], length, Some}
 use Rattle.mg_base.specs.Image.{Image, page_at}
 use Rattle.mg_base.specs.Disk.{Meaning}
 use Rattle.mg_careful.specs.declared.graph.Order.{Order}
 use Rattle.mg_careful.specs.declared.links.Demand.{Demand}
-use Rattle.mg_careful.specs.Graph.{PageGraph}
 use Rattle.mg_careful.specs.CarefulWrite.{PageSet, Demands, Meets, DemandSet, KeepsDemands, BearsDemands}
 use Rattle.mg_careful.specs.CarefulWrite.{IsClosed, overlay, three_parts, IsSafeOverlay}
 use Rattle.mg_careful.specs.CarefulSteps.{Contents, BatchBears, laid_demands}
 use Rattle.mg_pool.specs.declared.pool.Pool.{Pool}
-use Rattle.mg_pool.specs.Dirty.{DirtyPages}
-use Rattle.mg_pool.specs.Change.{ChangesPages}
+use Rattle.mg_pool.specs.declared.batch.BatchPage.{BatchPage}
+use Rattle.mg_pool.specs.Batch.{dirty_with}
+use Rattle.mg_pool.specs.Dirty.{is_dirty}
+use Rattle.mg_pool.specs.Change.{Changes, ChangesPages, IsOpen}
 use Rattle.mg_pool.specs.Pool.{cache_of, taken_out, IsPool, KeepsContent, LeavesOverlays}
 use Rattle.mg_pool.specs.Run.{HasWritten}
 
@@ -70,6 +71,16 @@ abbrev pub StartsCareful : (D L : Type 0) → Demands → Meets → Type 0
 StartsCareful D L demands meets = (pool : Pool D L) (image : Image) (kept : DemandSet)
     → pool.dirty.pages ≡ [] → KeepsDemands demands meets (page_at pool.dirty.size image) kept
     → BearsDemands demands meets (cache_of pool.dirty pool.graph image) kept kept
+
+-- A change writes pages for a cause alone: where its orders close no cycle with the pool's, and its
+-- pages fit, no page is written out before they are put, and no page write is asked for.
+abbrev pub WritesForCause : (D L : Type 0) → Meaning D → Type 0
+WritesForCause D L m = (old new : Pool D L) (pages : List BatchPage) (orders : List Order)
+    → IsPool m old → (changes : Changes m old new pages orders)
+    → ((k : ℕ) → k < length orders → IsOpen old.graph orders k)
+    → dirty_with old.dirty pages ≤ 512
+    → ((page : ℕ) → is_dirty changes.ready.dirty page ≡ is_dirty old.dirty page)
+    × (m.asked new.disk ≤ m.asked old.disk)
 
 -- a call that writes no page leaves crashes no more than any call may
 abbrev pub QuietLeaves : (D L : Type 0) → Meaning D → Type 0

@@ -1,5 +1,5 @@
 -- Page writes: what one leaves, and what a pool has become over a run of them.
-use Rattle.std.specs.Prelude.{◌≡◌, ℕ, ◌+◌, ◌≤◌, ◌&&◌, ◌==◌, not, true, false, Some, length}
+use Rattle.std.specs.Prelude.{◌≡◌, ℕ, ◌+◌, ◌≤◌, ◌&&◌, true, false, Some, length}
 use Rattle.std.specs.List.{filter}
 use Rattle.mg_base.specs.Image.{Image}
 use Rattle.mg_base.specs.Disk.{Meaning}

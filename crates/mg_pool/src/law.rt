@@ -1,6 +1,6 @@
 //! The careful-write law as the cache's own promise.
 
-ghost use Rattle.mg_pool.specs.Law.{StartsCareful, LeavesSafe, WritesStayCareful, ChangesStayCareful, JoinsRuns, QuietLeaves};
+ghost use Rattle.mg_pool.specs.Law.{StartsCareful, LeavesSafe, WritesStayCareful, ChangesStayCareful, WritesForCause, JoinsRuns, QuietLeaves};
 
 use mg_base::Disk;
 use mg_careful::{Links, careful_write};
@@ -17,6 +17,8 @@ use mg_careful::{Links, careful_write};
 ///   the disk still demands of them. A link that stood before, on a page that the batch leaves alone,
 ///   costs no order; where it leads to a page of the batch, that still has what is wanted.
 ///
+/// A change writes pages for a cause alone: to break a cycle of orders, or to make room.
+///
 /// It does nothing: its contract is the law, so that a crate that orders its page writes can cite
 /// it. That `Pool::write_one` and the page writes of a change are runs of page writes, and that a
 /// change is one as `batch` takes it, their own clauses say.
@@ -25,6 +27,7 @@ pub fn stays_careful<D: Disk, L: Links>()
     ensures safe { LeavesSafe D L D.meaning L.demands_of L.meets_of }
     ensures writes { WritesStayCareful D L D.meaning L.demands_of L.meets_of }
     ensures batch { ChangesStayCareful D L D.meaning L.demands_of L.meets_of }
+    ensures causes { WritesForCause D L D.meaning }
     ensures joins { JoinsRuns D L D.meaning }
     ensures quiet { QuietLeaves D L D.meaning }
 {

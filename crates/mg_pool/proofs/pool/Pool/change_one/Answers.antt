@@ -1,8 +1,7 @@
-use Rattle.std.proofs.Common.{◌∙◌, sym, ap, [], ◌∷◌}
+use Rattle.std.proofs.Common.{◌∙◌, sym, [], ◌∷◌}
 use Rattle.mg_careful.specs.PrecedenceLaws.{precedes_in}
 use Rattle.mg_careful.specs.Graph.{is_ordered}
 use Rattle.mg_pool.specs.Batch.{orders_of}
-use Rattle.mg_pool.specs.declared.pool.Pool.{Pool}
 use Rattle.mg_pool.proofs.ChangeLemmas.{puts_one, room_one, frame, change_crash}
 use Rattle.mg_pool.proofs.RefusalLemmas.{fails_then, fails_kept, fails_crash, fails_fault, fails_own, fails_refused}
 use Rattle.mg_pool.proofs.RunLemmas.{run_then, run_precedes, on_err}

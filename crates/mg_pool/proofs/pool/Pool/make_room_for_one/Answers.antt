@@ -3,7 +3,7 @@ use Rattle.mg_pool.specs.Batch.{one_page}
 use Rattle.mg_pool.specs.Change.{MakesRoom, no_page, one_with}
 use Rattle.mg_pool.specs.Dirty.{is_dirty, IsLeastPage}
 use Rattle.mg_pool.specs.Refusal.{FailsWrites}
-use Rattle.mg_pool.specs.Run.{HasWritten, WritesWith}
+use Rattle.mg_pool.specs.Run.{WritesWith}
 use Rattle.mg_pool.proofs.LeastLemmas.{is_some_least}
 use Rattle.mg_pool.proofs.ChangeLemmas.{overflow_one, least_but_one}
 use Rattle.mg_pool.proofs.RefusalLemmas.{match_as}

@@ -1,7 +1,6 @@
 use Rattle.std.proofs.Common.{◌≡◌, ◌<◌, ◌∙◌, sym, ap, subst, length, arith, ℕ, get_or, List}
 use Rattle.std.proofs.lemmas.List.{get_or_read}
 use Rattle.mg_pool.specs.declared.batch.BatchPage.{BatchPage}
-use Rattle.mg_pool.specs.declared.pool.Pool.{Pool}
 use Rattle.mg_base.specs.declared.geometry.Geometry.{Geometry}
 use Rattle.mg_careful.specs.Graph.{EntersPage}
 use Rattle.mg_pool.specs.Dirty.{PutsContent}

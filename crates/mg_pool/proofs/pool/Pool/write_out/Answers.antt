@@ -1,6 +1,5 @@
 use Rattle.std.proofs.Common.{◌≡◌, ◌≢◌, ◌∙◌, arith, sym, ap, inl, inr, Some, None, [], refl}
 use Rattle.mg_pool.specs.Dirty.{content_of, is_dirty}
-use Rattle.mg_pool.specs.Pool.{IsPool, LeavesOverlays, KeepsPages}
 use Rattle.mg_pool.proofs.PoolLemmas.{tied_after, writes_out, overlay_of_page, leaves_after, size_stays, held_after, still_dirty, clean_written, clean_failed, failed_leaves, on_disk_after, shown_failed}
 use Rattle.mg_pool.proofs.pool.Pool.write_out.Goals as goal
 

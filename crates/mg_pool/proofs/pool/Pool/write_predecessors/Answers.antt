@@ -1,4 +1,4 @@
-use Rattle.std.proofs.Common.{◌≡◌, ◌≢◌, ◌∙◌, ap, inl, inr, true, is_some, arith, refl}
+use Rattle.std.proofs.Common.{◌≢◌, ◌∙◌, ap, inl, inr, is_some, arith, refl}
 use Rattle.mg_pool.proofs.RefusalLemmas.{err_up, fails_write}
 use Rattle.mg_pool.proofs.RunLemmas.{run_starts, run_goes_on, precedes_dirty, due_precedes, taken_cases, taken_one, run_precedes, none_taken_out}
 use Rattle.mg_pool.proofs.pool.Pool.write_predecessors.Goals as goal
