@@ -101,7 +101,7 @@ module _ (batch : Contents) (dropped : Demand → Bool) where
     as_before : (d : Demand) → goes_on batch dropped d ≡ true → IsIn of_pool d → IsIn (laid_demands batch dropped of_pool stated) d
     as_before d on h = (h.0, or_right (stated d h.0) _ (and_from _ _ on h.1))
 
-module _ (demands : Demands) (meets : Meets) (old new : Cache) (of_disk of_pool : DemandSet) (careful : IsCareful demands meets old of_disk of_pool) (gone : PageSet) (closed : IsClosed old gone) (batch : Contents) (orders : Orders) (lays : LaysBatch old new gone batch orders) (dropped : Demand → Bool) (stated : DemandSet) (owes : BatchBears demands meets new batch dropped (three_parts old gone of_disk of_pool) of_pool stated) where
+module _ (demands : Demands) (meets : Meets) (old new : Cache) (of_disk of_pool : DemandSet) (careful : IsCareful demands meets old of_disk of_pool) (gone : PageSet) (closed : IsClosed old gone) (batch : Contents) (orders : Orders) (lays : LaysBatch old new gone batch orders) (dropped : Demand → Bool) (stated : DemandSet) (owes : BatchBears demands meets old new batch dropped (three_parts old gone of_disk of_pool) of_pool stated) where
   middle : IsCareful demands meets (written_out old gone) (three_parts old gone of_disk of_pool) of_pool
   middle = careful_after demands meets old of_disk of_pool careful gone closed
 
@@ -125,17 +125,22 @@ module _ (demands : Demands) (meets : Meets) (old new : Cache) (of_disk of_pool 
     | inr off ↦ as_stated batch dropped of_pool stated e (owes.still d e h.1 h.0 made off)
   ]
 
+  -- a link that stood is on the disk, or its order stays
+  links_on : (d e : Demand) → IsIn of_pool d → Has (demands (old.pool d.target) d) e → e.target ≢ d.target → IsIn (three_parts old gone of_disk of_pool) e ⊎ Precedes new.ordered e.target d.target
+  links_on d e h made ne = elim (cases_Bool (old.dirty e.target && not (gone e.target))) [
+    | inl was ↦ elim (middle.bears.new d e h made ne was) [
+      | inl on_disk ↦ inl on_disk
+      | inr order ↦ inr (grows e.target d.target order)
+    ]
+    | inr clean ↦ inl (settled_after demands meets old of_disk of_pool careful gone closed e (careful.bears.pool_keeps.in_turn d e h made) clean)
+  ]
+
   new_then : (d e : Demand) → IsIn stated d ⊎ (goes_on batch dropped d ≡ true) × IsIn of_pool d → Has (demands (new.pool d.target) d) e → e.target ≢ d.target → new.dirty e.target ≡ true → IsIn (three_parts old gone of_disk of_pool) e ⊎ Precedes new.ordered e.target d.target
-  new_then d e (inl h) made ne t = owes.new_links d e h made ne t
-  new_then d e (inr h) made ne t =
-      let before : Has (demands (old.pool d.target) d) e = rw (pool_same d h.0) at made in
-      elim (cases_Bool (old.dirty e.target && not (gone e.target))) [
-        | inl was ↦ elim (middle.bears.new d e h.1 before ne was) [
-          | inl on_disk ↦ inl on_disk
-          | inr order ↦ inr (grows e.target d.target order)
-        ]
-        | inr clean ↦ inl (settled_after demands meets old of_disk of_pool careful gone closed e (careful.bears.pool_keeps.in_turn d e h.1 before) clean)
-      ]
+  new_then d e (inl h) made ne t = elim (owes.new_links d e h made ne t) [
+    | inl stood ↦ links_on d e stood.0 stood.1 ne
+    | inr borne ↦ borne
+  ]
+  new_then d e (inr h) made ne t = links_on d e h.1 (rw (pool_same d h.0) at made) ne
 
   old_then : (d e : Demand) → IsIn (three_parts old gone of_disk of_pool) d → Has (demands (new.disk d.target) d) e → e.target ≢ d.target → new.dirty e.target ≡ true → IsIn (laid_demands batch dropped of_pool stated) e ⊎ Precedes new.ordered d.target e.target
   old_then d e h made ne t = elim (cases_Bool (goes_on batch dropped e)) [

@@ -50,21 +50,26 @@ abbrev pub laid_demands : Contents → (Demand → Bool) → DemandSet → Deman
 laid_demands batch dropped of_pool stated =
     either stated (λ d witness. goes_on batch dropped d && of_pool d witness)
 
+-- a link stood in the pool: it had the demand, and its target page made the link
+abbrev pub Stood : Demands → Cache → DemandSet → Demand → Demand → Type 0
+Stood demands old of_pool d e = IsIn of_pool d × Has (demands (old.pool d.target) d) e
+
 -- What a batch owes, for the demands that it states: they are met, and what they demand in turn is
--- stated or goes on; and the orders bear what they demand, and what the disk still demands of pages
--- of the batch. A link that stood before, on a page that the batch leaves alone, costs no order; where
--- it leads to a page of the batch, what it wants there is stated.
-pub record BatchBears (demands : Demands) (meets : Meets) (new : Cache) (batch : Contents)
+-- stated or goes on; and the orders bear the links that they make, and those of the disk to pages of
+-- the batch. A link that stood before costs no order: on a page that the batch leaves alone it costs
+-- nothing, unless it leads to a page of the batch, and then what it wants there is stated.
+pub record BatchBears (demands : Demands) (meets : Meets) (old new : Cache) (batch : Contents)
     (dropped : Demand → Bool) (of_disk of_pool stated : DemandSet) : Type 0 where
   pub met : (d : Demand) → IsIn stated d → meets (new.pool d.target) d ≡ true
   pub in_turn : (d e : Demand) → IsIn stated d → Has (demands (new.pool d.target) d) e
       → IsIn (laid_demands batch dropped of_pool stated) e
   pub still : (d e : Demand) → IsIn of_pool d → goes_on batch dropped d ≡ true
       → Has (demands (new.pool d.target) d) e → goes_on batch dropped e ≡ false → IsIn stated e
-  -- what a stated demand makes on another dirty page is on the disk already, or that page precedes
+  -- what a stated demand makes on another dirty page stood before, or is on the disk already, or that
+  -- page precedes
   pub new_links : (d e : Demand) → IsIn stated d → Has (demands (new.pool d.target) d) e
       → e.target ≢ d.target → new.dirty e.target ≡ true
-      → IsIn of_disk e ⊎ Precedes new.ordered e.target d.target
+      → Stood demands old of_pool d e ⊎ (IsIn of_disk e ⊎ Precedes new.ordered e.target d.target)
   -- what the disk still demands of a page of the batch, or of what is dropped, is stated, or the
   -- page that demands it precedes
   pub old_links : (d e : Demand) → IsIn of_disk d → Has (demands (new.disk d.target) d) e
@@ -78,6 +83,7 @@ BatchStaysCareful demands meets = (old new : Cache) (of_disk of_pool : DemandSet
     → (gone : PageSet) → IsClosed old gone
     → (batch : Contents) (orders : Orders) → LaysBatch old new gone batch orders
     → (dropped : Demand → Bool) (stated : DemandSet)
-    → BatchBears demands meets new batch dropped (three_parts old gone of_disk of_pool) of_pool stated
+    → BatchBears demands meets old new batch dropped (three_parts old gone of_disk of_pool) of_pool
+    stated
     → BearsDemands demands meets new (three_parts old gone of_disk of_pool)
     (laid_demands batch dropped of_pool stated)

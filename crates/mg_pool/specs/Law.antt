@@ -60,7 +60,8 @@ ChangesStayCareful D L m demands meets = (old new : Pool D L) (i j : Image) (gon
     → ChangesPages old.dirty new.dirty old.graph new.graph i j gone batch orders
     → (of_disk of_pool stated : DemandSet) (dropped : Demand → Bool)
     → BearsDemands demands meets (cache_of old.dirty old.graph i) of_disk of_pool
-    → BatchBears demands meets (cache_of new.dirty new.graph j) batch dropped
+    → BatchBears demands meets (cache_of old.dirty old.graph i) (cache_of new.dirty new.graph j) batch
+    dropped
     (three_parts (cache_of old.dirty old.graph i) gone of_disk of_pool) of_pool stated
     → BearsDemands demands meets (cache_of new.dirty new.graph j)
     (three_parts (cache_of old.dirty old.graph i) gone of_disk of_pool)

@@ -14,8 +14,9 @@ use mg_careful::{Links, careful_write};
 ///   page write, those that the next change makes first included.
 /// - After page writes he bears them still.
 /// - After a change he bears them, if the batch bears its own: what it states of its pages, and what
-///   the disk still demands of them. A link that stood before, on a page that the batch leaves alone,
-///   costs no order; where it leads to a page of the batch, that still has what is wanted.
+///   the disk still demands of them. A link that stood before costs no order; on a page that the
+///   batch leaves alone it costs nothing, unless it leads to a page of the batch, which has then to
+///   have what is wanted still.
 ///
 /// A change writes pages for a cause alone: to break a cycle of orders, or to make room.
 ///
