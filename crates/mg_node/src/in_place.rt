@@ -57,7 +57,7 @@ fn order_of(page: &[u8], at: usize, other: usize) -> Ordering
 }
 
 /// The order of the entry at a place and another one.
-pub(crate) fn order_with(page: &[u8], at: usize, e: &Entry) -> Ordering
+pub fn order_with(page: &[u8], at: usize, e: &Entry) -> Ordering
     requires { end_of_def false page.now at ≤ length page.now }
     ensures { result ≡ entry_cmp (entry_at false page.now at) e.now }
 {

@@ -39,9 +39,13 @@ pub use entry::{
     CHILD_LEN, CONTENT_AT, COUNT_AT, END_AT, Entry, FENCES_AT, KEY_AT, LEVEL_AT, NODE_KIND,
     RECORD_LEN, RIGHT_AT,
 };
+pub use in_place::order_with;
 pub use lawful::{have_same_place, is_below, is_up_to, order};
 pub use node::{Node, check_node_common, read_node};
 pub use readers::{entry_at, high_of, level_of, low_of, right_of};
+pub use walk::{
+    FAR, count, end_of, first_at, has_high, has_low, high_at, is_inner, least_len, place,
+};
 
 #[cfg(test)]
 mod tests;

@@ -9,10 +9,10 @@ use crate::entry::{CHILD_LEN, CONTENT_AT, COUNT_AT, FENCES_AT, KEY_AT, LEVEL_AT,
 use mg_base::get_u16;
 
 /// The greatest place that a walk of a page may come to, and more.
-pub(crate) const FAR: usize = 1 << 40;
+pub const FAR: usize = 1 << 40;
 
 /// Whether a page is an inner page.
-pub(crate) fn is_inner(page: &[u8]) -> bool
+pub fn is_inner(page: &[u8]) -> bool
     requires { 1024 ≤ length page.now }
     ensures { result ≡ is_inner_of page.now }
 {
@@ -20,7 +20,7 @@ pub(crate) fn is_inner(page: &[u8]) -> bool
 }
 
 /// Whether a page has a low fence.
-pub(crate) fn has_low(page: &[u8]) -> bool
+pub fn has_low(page: &[u8]) -> bool
     requires { 1024 ≤ length page.now }
     ensures { result ≡ has_low_of page.now }
 {
@@ -28,7 +28,7 @@ pub(crate) fn has_low(page: &[u8]) -> bool
 }
 
 /// Whether a page has a high fence.
-pub(crate) fn has_high(page: &[u8]) -> bool
+pub fn has_high(page: &[u8]) -> bool
     requires { 1024 ≤ length page.now }
     ensures { result ≡ has_high_of page.now }
 {
@@ -36,7 +36,7 @@ pub(crate) fn has_high(page: &[u8]) -> bool
 }
 
 /// The count of the entries of a page.
-pub(crate) fn count(page: &[u8]) -> usize
+pub fn count(page: &[u8]) -> usize
     requires { 1024 ≤ length page.now }
     ensures is { result ≡ count_in page.now }
     ensures most { result < 65536 }
@@ -45,7 +45,7 @@ pub(crate) fn count(page: &[u8]) -> usize
 }
 
 /// How many bytes an entry takes with an empty key.
-pub(crate) fn least_len(with_child: bool) -> usize
+pub fn least_len(with_child: bool) -> usize
     ensures { result ≡ least_len_of with_child }
 {
     if with_child {
@@ -63,7 +63,7 @@ fn byte_or_zero(page: &[u8], at: usize) -> u8
 }
 
 /// The length of the key at a place, which may lie past the end.
-pub(crate) fn key_len(page: &[u8], at: usize) -> usize
+pub fn key_len(page: &[u8], at: usize) -> usize
     requires { at ≤ FAR }
     ensures is { result ≡ key_len_of page.now at }
     ensures most { result < 65536 }
@@ -72,7 +72,7 @@ pub(crate) fn key_len(page: &[u8], at: usize) -> usize
 }
 
 /// Where the fence or the entry at a place ends, which may lie past the end of the page.
-pub(crate) fn end_of(page: &[u8], at: usize, with_child: bool) -> usize
+pub fn end_of(page: &[u8], at: usize, with_child: bool) -> usize
     requires { at ≤ FAR }
     ensures is { result ≡ end_of_def with_child page.now at }
     ensures most { result < at + 65548 }
@@ -81,7 +81,7 @@ pub(crate) fn end_of(page: &[u8], at: usize, with_child: bool) -> usize
 }
 
 /// Where the high fence stands, behind the low one.
-pub(crate) fn high_at(page: &[u8]) -> usize
+pub fn high_at(page: &[u8]) -> usize
     requires { 1024 ≤ length page.now }
     ensures is { result ≡ high_at_def page.now }
     ensures most { result < 65576 }
@@ -94,7 +94,7 @@ pub(crate) fn high_at(page: &[u8]) -> usize
 }
 
 /// Where the first entry stands, behind the fences.
-pub(crate) fn first_at(page: &[u8]) -> usize
+pub fn first_at(page: &[u8]) -> usize
     requires { 1024 ≤ length page.now }
     ensures is { result ≡ first_at_def page.now }
     ensures most { result < 131124 }
@@ -108,7 +108,7 @@ pub(crate) fn first_at(page: &[u8]) -> usize
 }
 
 /// Where an entry stands, counted from 0; behind the last one where it is their count.
-pub(crate) fn place(page: &[u8], n: usize) -> usize
+pub fn place(page: &[u8], n: usize) -> usize
     requires least { 1024 ≤ length page.now }
     requires most { n < 65536 }
     ensures is { result ≡ place_of page.now n }
