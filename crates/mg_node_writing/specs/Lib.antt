@@ -1,0 +1,6 @@
+pub mod MoveLaws
+pub mod Moves
+pub mod NewNodes
+pub mod NodeChanges
+pub mod Splices
+pub mod Splits
