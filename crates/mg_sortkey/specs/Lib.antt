@@ -1,1 +1,3 @@
 pub mod KeyBytes
+pub mod KeyOrder
+pub mod KeyLaws
