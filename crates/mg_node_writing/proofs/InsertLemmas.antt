@@ -12,7 +12,7 @@ use Rattle.mg_node.specs.NodeWalk.{entries_from, least_len, place_from}
 use Rattle.mg_node.specs.NodeWalkLaws.{end_of-least, entries_of-walk, place_from-ascends, place_of-walk}
 use Rattle.mg_node_writing.specs.MoveLaws.{end_stands, entry_stands}
 use Rattle.mg_node_writing.specs.Moves.{Puts, PutsEntry, Stands, as_placed, entry_len}
-use Rattle.mg_node_writing.specs.NodeChanges.{InsertsEntry, IsEntryOf, RemovesEntry, TakesEntry, room_in}
+use Rattle.mg_node_writing.specs.NodeChanges.{InsertsEntry, IsEntryOf, KeepsNode, RemovesEntry, TakesEntry, room_in}
 use Rattle.mg_node_writing.specs.Splices.{Closes, EachBelow, IsSeat, Opens, SetsEnd, ShortKeys, Splices, StandsAt}
 use Rattle.mg_node_writing.proofs.ListLemmas.{ascending_insert, ascending_remove, begins_insert, between_insert, between_remove, short_append, short_back, short_front}
 use Rattle.mg_node_writing.proofs.SeatLemmas.{IsSeated, entry_ends, laid_out_of, place_behind, place_ends, seated}
@@ -220,3 +220,17 @@ removed old new at n e is below at_is is_e c =
           (λ inner. subst (λ (f : Option Entry). BeginsAsInner f (entries_of new)) page.head.low
           (begins (page.head.inner ∙ inner)));
     }
+
+-- a page that stays keeps all
+pub stays : (page : List ℕ) → KeepsNode page page
+stays page = record {
+  size = refl;
+  front = refl;
+  level = refl;
+  right = refl;
+  low = refl;
+  high = refl;
+}
+
+pub stays_as : (old new : List ℕ) → new ≡ old → KeepsNode old new
+stays_as old new same = subst (KeepsNode old) (sym same) (stays old)

@@ -3,4 +3,8 @@ pub mod InsertLemmas
 pub mod ListLemmas
 pub mod NewLemmas
 pub mod SeatLemmas
+pub mod SizeLemmas
 pub mod SpliceLemmas
+pub mod SplitDone
+pub mod SplitLemmas
+pub mod SplitSays

@@ -9,9 +9,9 @@ use Rattle.mg_base.specs.declared.numbers.PageNo.{PageNo}
 use Rattle.mg_base.specs.declared.numbers.RecId.{RecId}
 use Rattle.mg_node.specs.declared.entry.Entry.{Entry}
 use Rattle.mg_node.specs.EntryOrderLaws.{same_place_from_cmp}
-use Rattle.mg_node.specs.NodePage.{AreAscending, IsBelow, IsNodePage, SamePlace, count_in, end_in, end_of, entries_of, entry_at, entry_cmp, first_at, is_inner, place_of}
+use Rattle.mg_node.specs.NodePage.{AreAscending, IsBelow, IsNodePage, SamePlace, count_in, end_in, end_of, entries_of, entry_at, entry_cmp, first_at, has_high, high_at, is_inner, place_of}
 use Rattle.mg_node.specs.NodeReading.{IsBeforeFirst, IsLaidOut}
-use Rattle.mg_node.specs.NodeTestLaws.{first_at-from}
+use Rattle.mg_node.specs.NodeTestLaws.{choose_up, first_at-from}
 use Rattle.mg_node.specs.NodeWalk.{entries_from, place_from}
 use Rattle.mg_node.specs.NodeWalkLaws.{end_of-least, entries_from-add, entries_of-walk, place_from-add, place_from-ascends, place_from-least, place_from-suc, place_of-walk}
 use Rattle.mg_node_writing.specs.NodeChanges.{IsEntryOf, TakesEntry}
@@ -243,3 +243,16 @@ pub other_children : (a b : PageNo) → not (eqb a.0 b.0) ≡ true → a ≢ b
 other_children a b is same =
     let equal = eq-eqb a.0 b.0 (ap (λ (p : PageNo). p.0) same) in
     let no = rw equal at is in absurd cc
+
+pub place_first : (page : List ℕ) (n : ℕ) → first_at page ≤ place_of page n
+place_first page n =
+    let walk = place_of-walk page n in
+    let least = place_from-least (is_inner page) page (first_at page) n in omega (arith, walk, least)
+
+pub first_ends : (page : List ℕ) → IsNodePage page → first_at page ≤ end_in page
+first_ends page is =
+    let up = place_first page (count_in page) in let ends = is.ends in omega (arith, up, ends)
+
+pub high_first : (page : List ℕ) → high_at page ≤ first_at page
+high_first page = choose_up (has_high page) (high_at page) (end_of false page (high_at page))
+    (high_at page) (omega arith) (let e = end_of-least false page (high_at page) in omega (arith, e))

@@ -22,7 +22,7 @@ u16_same a b i e f = omega (arith, e, f)
 
 -- Keys.
 
-key_long : (w : Bool) (page : List ℕ) (at : ℕ) → end_of w page at ≤ length page
+pub key_long : (w : Bool) (page : List ℕ) (at : ℕ) → end_of w page at ≤ length page
     → length (take (key_len page at) (drop (at + KEY_AT) page)) ≡ key_len page at
 key_long true page at inside =
     let a = length-take (key_len page at) (drop (at + KEY_AT) page) in

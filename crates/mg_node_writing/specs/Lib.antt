@@ -1,3 +1,4 @@
+pub mod LeafLaws
 pub mod MoveLaws
 pub mod Moves
 pub mod NewNodes

@@ -1,6 +1,5 @@
 -- What the changes of an index page are: of an ordered set of entries between two fences.
 use Rattle.std.specs.Prelude.{◌≡◌, ◌≢◌, ℕ, suc, ◌+◌, ◌-◌, ◌*◌, ◌/◌, ◌≤◌, ◌<◌, Bool, true, false, List, [], ◌∷◌, ◌++◌, length, take, Option, Some, None, IfSome}
-use Rattle.std.specs.List.{sum_by}
 use Rattle.mg_base.specs.Checks.{PassesAll}
 use Rattle.mg_base.specs.Fields.{u32_at, with_u32}
 use Rattle.mg_base.specs.declared.fields.TheConstants.{COMMON, OWN_AT, OWNER_AT}
@@ -69,4 +68,5 @@ most_need page = least_len (is_inner page) + longest_key page
 
 -- how many bytes these entries take
 abbrev pub entries_len : Bool → List Entry → ℕ
-entries_len with_child es = sum_by (λ e. entry_len with_child e) es
+entries_len with_child [] = 0
+entries_len with_child (e ∷ es) = entry_len with_child e + entries_len with_child es

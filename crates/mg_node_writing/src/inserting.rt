@@ -3,7 +3,7 @@
 ghost use Rattle.std.specs.Prelude.{◌≡◌, ◌↔◌, ◌+◌, ◌≤◌, ◌<◌, IfErr, IsOk, OnErr, OnOk};
 ghost use Rattle.mg_node.specs.NodePage.{IsNodePage, end_in, is_inner as is_inner_of, place_of};
 ghost use Rattle.mg_node_writing.specs.Moves.{entry_len as entry_len_of};
-ghost use Rattle.mg_node_writing.specs.NodeChanges.{InsertsEntry, IsEntryOf, IsSized, TakesEntry, room_in};
+ghost use Rattle.mg_node_writing.specs.NodeChanges.{InsertsEntry, IsEntryOf, IsSized, KeepsNode, TakesEntry, room_in};
 ghost use Rattle.mg_node_writing.specs.Splices.{IsSeat, Opens, StandsAt};
 
 use crate::bytes::{entry_len, move_bytes, put_entry};
@@ -47,6 +47,9 @@ pub fn insert(b: &mut [u8], e: &Entry) -> Result<(), NoRoom>
     ensures no_room { IfErr result (λ it.
         it ≡ record { need = entry_len_of (is_inner_of b.old) e.now; room = room_in b.old }) }
     ensures unchanged { OnErr result (b.new ≡ b.old) }
+
+    // Whatever the answer, all else stays, and the page is lawful.
+    ensures keeps { KeepsNode b.old b.new }
     ensures lawful { IsNodePage b.new }
 {
     let n = seat(b, e);

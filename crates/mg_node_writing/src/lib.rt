@@ -16,7 +16,12 @@ mod inserting;
 mod new;
 mod removing;
 mod seat;
+mod splitting;
 
 pub use inserting::{NoRoom, insert};
 pub use new::{copy_node, new_node};
 pub use removing::remove;
+pub use splitting::split;
+
+#[cfg(test)]
+mod tests;

@@ -2,7 +2,7 @@
 
 ghost use Rattle.std.specs.Prelude.{◌≡◌, ◌↔◌, ◌<◌, ◌≤◌, IsTrue, false, length, true};
 ghost use Rattle.mg_node.specs.NodePage.{BeginsAsInner, IsNodePage, count_in, end_in, end_of as end_of_def, entries_of, entry_at, is_inner as is_inner_of, low_of};
-ghost use Rattle.mg_node_writing.specs.NodeChanges.{IsEntryOf, IsSized, RemovesEntry};
+ghost use Rattle.mg_node_writing.specs.NodeChanges.{IsEntryOf, IsSized, KeepsNode, RemovesEntry};
 ghost use Rattle.mg_node_writing.specs.Splices.{Closes, StandsAt};
 
 use crate::bytes::move_bytes;
@@ -21,6 +21,7 @@ pub fn remove(b: &mut [u8], e: &Entry) -> bool
     ensures when { IsTrue result ↔ IsEntryOf b.old e.now }
     ensures removes { result ≡ true → RemovesEntry b.old b.new e.now }
     ensures unchanged { result ≡ false → b.new ≡ b.old }
+    ensures keeps { KeepsNode b.old b.new }
     ensures lawful { (is_inner_of b.new ≡ true → BeginsAsInner (low_of b.new) (entries_of b.new))
         → IsNodePage b.new }
 {

@@ -72,3 +72,13 @@ returns-clause-lawful c =
     (sym c.child.ensures ∙ child) in
     (removed b c.close_at.new.b c.place-at.result c.seat-n.result c.args.e.now c.requires.lawful
     stands.there c.place-at.ensures.is here c.close_at.ensures).lawful
+
+pub returns-clause-keeps : goal.returns-clause-keeps
+returns-clause-keeps c =
+    let b = c.args.b.now in
+    let stands = c.stands_at.ensures.0 c.if-not-stands_at.false in
+    let child = same_child c.child.result c.args.e.now.child (sym c.ne.ensures ∙ c.if-ne.false) in
+    let here = found_at b c.args.e.now c.seat-n.result c.place-at.result stands c.place-at.ensures.is
+    (sym c.child.ensures ∙ child) in
+    (removed b c.close_at.new.b c.place-at.result c.seat-n.result c.args.e.now c.requires.lawful
+    stands.there c.place-at.ensures.is here c.close_at.ensures).removes.keeps
