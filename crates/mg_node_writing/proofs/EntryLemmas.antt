@@ -1,15 +1,12 @@
 -- An entry that is written field by field stands there.
-use Rattle.std.specs.Prelude.{◌≡◌, ℕ, ◌+◌, ◌-◌, ◌*◌, ◌<◌, ◌≤◌, ◌^◌, Bool, true, false, List, length, take, drop, if◌then◌else◌}
+use Rattle.std.specs.Prelude.{◌≡◌, ℕ, ◌+◌, ◌<◌, ◌≤◌, ◌^◌, true, false, List, length, take, drop}
 use Rattle.std.proofs.Common.{refl, sym, ap, ◌∙◌, arith, get_or, lit<}
 use Rattle.std.proofs.lemmas.List.{ext_get_or, get_or-drop, get_or-take, length-drop, length-take}
 use Rattle.mg_base.specs.Fields.{byte, byte_apart, byte_apart16, length-with_u16, length-with_u32, u16_again, u16_at, u32_again, u32_at, with_u16, with_u32}
 use Rattle.mg_node.specs.declared.entry.Entry.{Entry}
-use Rattle.mg_node.specs.declared.entry.TheConstants.{KEY_AT, RECORD_LEN}
-use Rattle.mg_node.specs.NodePage.{end_of, entry_at, key_len}
-use Rattle.mg_node.specs.NodeWalk.{least_len}
 use Rattle.mg_node.specs.NodeWalkLaws.{end_of-least}
 use Rattle.mg_node_writing.specs.MoveLaws.{entry_parts}
-use Rattle.mg_node_writing.specs.Moves.{Puts, PutsEntry, WritesFront, as_placed, entry_len}
+use Rattle.mg_node_writing.specs.Moves.{Puts, PutsEntry, WritesFront}
 
 u16_kept : (a b : List ℕ) (i : ℕ) → byte b i ≡ byte a i → byte b (i + 1) ≡ byte a (i + 1)
     → u16_at b i ≡ u16_at a i

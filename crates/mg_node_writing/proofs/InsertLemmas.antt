@@ -1,21 +1,19 @@
 -- A page into which an entry is put, and one out of which it is taken.
-use Rattle.std.specs.Prelude.{◌≡◌, ◌≢◌, ℕ, zero, suc, ◌+◌, ◌-◌, ◌*◌, ◌/◌, ◌<◌, ◌≤◌, ◌⊎◌, ◌↔◌, ◌^◌, Bool, true, false, List, [], ◌∷◌, ◌++◌, length, Option, if◌then◌else◌}
-use Rattle.std.proofs.Common.{refl, sym, ap, ◌∙◌, arith, inl, inr, subst}
+use Rattle.std.specs.Prelude.{◌≡◌, ℕ, suc, ◌+◌, ◌-◌, ◌/◌, ◌<◌, ◌≤◌, Bool, true, false, List, ◌∷◌, ◌++◌, length, Option}
+use Rattle.std.proofs.Common.{refl, sym, ap, ◌∙◌, arith, subst}
 use Rattle.mg_base.specs.Fields.{byte}
-use Rattle.mg_base.specs.declared.numbers.PageNo.{PageNo}
 use Rattle.mg_node.specs.declared.entry.Entry.{Entry}
-use Rattle.mg_node.specs.NodePage.{AreAscending, AreBetween, BeginsAsInner, IsBelow, IsNodePage, count_in, end_in, end_of, entries_of, entry_at, first_at, high_of, is_inner, key_len, low_of, place_of}
+use Rattle.mg_node.specs.NodePage.{AreAscending, AreBetween, BeginsAsInner, IsNodePage, count_in, end_in, end_of, entries_of, entry_at, first_at, high_of, is_inner, key_len, low_of, place_of}
 use Rattle.mg_node.specs.NodeReading.{IsBeforeFirst}
-use Rattle.mg_node.specs.NodeTestLaws.{few_enough, first_at-from}
-use Rattle.mg_node.specs.NodeTests.{most_entries}
-use Rattle.mg_node.specs.NodeWalk.{entries_from, least_len, place_from}
-use Rattle.mg_node.specs.NodeWalkLaws.{end_of-least, entries_of-walk, place_from-ascends, place_of-walk}
+use Rattle.mg_node.specs.NodeTestLaws.{few_enough}
+use Rattle.mg_node.specs.NodeWalk.{entries_from, least_len}
+use Rattle.mg_node.specs.NodeWalkLaws.{end_of-least, entries_of-walk, place_of-walk}
 use Rattle.mg_node_writing.specs.MoveLaws.{end_stands, entry_stands}
 use Rattle.mg_node_writing.specs.Moves.{Puts, PutsEntry, Stands, as_placed, entry_len}
-use Rattle.mg_node_writing.specs.NodeChanges.{InsertsEntry, IsEntryOf, KeepsNode, RemovesEntry, TakesEntry, room_in}
-use Rattle.mg_node_writing.specs.Splices.{Closes, EachBelow, IsSeat, Opens, SetsEnd, ShortKeys, Splices, StandsAt}
+use Rattle.mg_node_writing.specs.NodeChanges.{InsertsEntry, KeepsNode, RemovesEntry, TakesEntry, room_in}
+use Rattle.mg_node_writing.specs.Splices.{Closes, IsSeat, Opens, SetsEnd, ShortKeys, Splices, StandsAt}
 use Rattle.mg_node_writing.proofs.ListLemmas.{ascending_insert, ascending_remove, begins_insert, between_insert, between_remove, short_append, short_back, short_front}
-use Rattle.mg_node_writing.proofs.SeatLemmas.{IsSeated, entry_ends, laid_out_of, place_behind, place_ends, seated}
+use Rattle.mg_node_writing.proofs.SeatLemmas.{laid_out_of, place_behind, seated}
 use Rattle.mg_node_writing.proofs.SpliceLemmas.{SplicedPage, keeps_node, lawful_spliced, short_from_keys, splice_says}
 
 -- a lawful page has fewer entries than a field of two bytes can count

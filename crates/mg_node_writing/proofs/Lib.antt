@@ -2,6 +2,7 @@ pub mod EntryLemmas
 pub mod InsertLemmas
 pub mod ListLemmas
 pub mod NewLemmas
+pub mod PromiseLemmas
 pub mod SeatLemmas
 pub mod SizeLemmas
 pub mod SpliceLemmas

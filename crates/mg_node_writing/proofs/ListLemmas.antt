@@ -1,5 +1,5 @@
 -- Entries put into a list in order, and taken out of it.
-use Rattle.std.specs.Prelude.{◌≡◌, ◌≢◌, ℕ, ◌+◌, ◌<◌, ◌≤◌, ◌⊎◌, Bool, true, false, List, [], ◌∷◌, ◌++◌, length, Option, Some, None, IfSome}
+use Rattle.std.specs.Prelude.{◌≡◌, ℕ, ◌⊎◌, List, [], ◌∷◌, ◌++◌, Option, Some, None, IfSome}
 use Rattle.std.specs.Cmp.Lexicographic.{slice_cmp}
 use Rattle.std.specs.Ordering.{nat_cmp, ordering_reverse, ordering_then}
 use Rattle.std.specs.declared.cmp.Ordering.{Ordering}
@@ -7,8 +7,8 @@ use Rattle.std.specs.declared.cmp.Ordering.TheVariants.{Less, Equal, Greater}
 use Rattle.std.proofs.Common.{refl, sym, ap, ◌∙◌, arith, inl, inr, subst}
 use Rattle.std.proofs.lemmas.Cmp.{alike_right, ranked, tied_itself}
 use Rattle.mg_node.specs.declared.entry.Entry.{Entry}
-use Rattle.mg_node.specs.EntryOrderLaws.{cmp_from_same_place, entry_cmp_total, same_place_from_cmp}
-use Rattle.mg_node.specs.NodePage.{AreAscending, AreBetween, BeginsAsInner, IsAtLeast, IsBelow, IsFirstEntry, IsLeast, SamePlace, entry_cmp}
+use Rattle.mg_node.specs.EntryOrderLaws.{cmp_from_same_place, entry_cmp_total}
+use Rattle.mg_node.specs.NodePage.{AreAscending, AreBetween, BeginsAsInner, IsAtLeast, IsBelow, IsFirstEntry, IsLeast, entry_cmp}
 use Rattle.mg_node.specs.NodeReading.{IsBeforeFirst}
 use Rattle.mg_node_writing.specs.Splices.{EachBelow, HasEntry, ShortKeys}
 

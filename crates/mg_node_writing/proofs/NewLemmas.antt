@@ -1,10 +1,9 @@
 -- What a new page says, and what a copy of a page does.
-use Rattle.std.specs.Prelude.{◌≡◌, ℕ, ◌+◌, ◌-◌, ◌*◌, ◌/◌, ◌%◌, ◌<◌, ◌≤◌, ◌^◌, ◌==◌, Bool, true, false, nat_lt, List, [], ◌∷◌, ◌++◌, length, take, Option, Some, None, if◌then◌else◌}
+use Rattle.std.specs.Prelude.{◌≡◌, ℕ, ◌/◌, ◌%◌, ◌<◌, ◌≤◌, ◌^◌, ◌==◌, Bool, true, false, List, [], length, take, Some, None, if◌then◌else◌}
 use Rattle.std.proofs.Common.{refl, sym, ap, ◌∙◌, arith, subst, lit<, lit≤}
 use Rattle.mg_base.specs.Checks.{PassesAll, common_checks}
 use Rattle.mg_base.specs.CheckLaws.{front_checks, new_page_zero, new_passes}
 use Rattle.mg_base.specs.Fields.{byte, byte_apart, byte_apart16, length-new_page, length-with_u16, length-with_u32, new_page, take-with_u16, u16_again, u16_apart, u16_apart32, u16_at, u32_again, u32_apart, u32_at, with_u16, with_u32}
-use Rattle.mg_node.specs.declared.entry.Entry.{Entry}
 use Rattle.mg_node.specs.declared.entry.TheConstants.{CONTENT_AT, END_AT, FENCES_AT, LEVEL_AT, NODE_KIND}
 use Rattle.mg_node.specs.NodePage.{AreAscending, AreBetween, BeginsAsInner, IsNodePage, count_in, end_in, end_of, entries_of, entry_at, first_at, has_high, has_low, high_at, high_of, is_inner, level_in, low_of, node_checks, place_of, right_in}
 use Rattle.mg_node.specs.NodeWalk.{entries_from}

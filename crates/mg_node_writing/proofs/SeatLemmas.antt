@@ -1,9 +1,9 @@
 -- Where an entry belongs among those of a page, and whether it is one of them.
-use Rattle.std.specs.Prelude.{◌≡◌, ◌≢◌, ℕ, zero, suc, ◌+◌, ◌-◌, ◌<◌, ◌≤◌, ◌⊎◌, ◌↔◌, eqb, not, Bool, true, false, List, [], ◌∷◌, ◌++◌, length, IsTrue}
+use Rattle.std.specs.Prelude.{◌≡◌, ◌≢◌, ℕ, zero, suc, ◌+◌, ◌-◌, ◌<◌, ◌≤◌, ◌⊎◌, eqb, not, Bool, true, false, List, ◌∷◌, ◌++◌, length}
 use Rattle.std.specs.Ordering.{is_lt}
 use Rattle.std.specs.declared.cmp.Ordering.{Ordering}
 use Rattle.std.specs.declared.cmp.Ordering.TheVariants.{Less, Equal, Greater}
-use Rattle.std.proofs.Common.{refl, sym, ap, ◌∙◌, arith, inl, inr, subst, add-one}
+use Rattle.std.proofs.Common.{refl, sym, ap, ◌∙◌, arith, inl, inr, subst}
 use Rattle.std.proofs.lemmas.Bool.{cases_lt, eq-eqb, eqb-true}
 use Rattle.mg_base.specs.declared.numbers.PageNo.{PageNo}
 use Rattle.mg_base.specs.declared.numbers.RecId.{RecId}
@@ -13,7 +13,7 @@ use Rattle.mg_node.specs.NodePage.{AreAscending, IsBelow, IsNodePage, SamePlace,
 use Rattle.mg_node.specs.NodeReading.{IsBeforeFirst, IsLaidOut}
 use Rattle.mg_node.specs.NodeTestLaws.{choose_up, first_at-from}
 use Rattle.mg_node.specs.NodeWalk.{entries_from, place_from}
-use Rattle.mg_node.specs.NodeWalkLaws.{end_of-least, entries_from-add, entries_of-walk, place_from-add, place_from-ascends, place_from-least, place_from-suc, place_of-walk}
+use Rattle.mg_node.specs.NodeWalkLaws.{end_of-least, entries_from-add, entries_of-walk, place_from-ascends, place_from-least, place_of-walk}
 use Rattle.mg_node_writing.specs.NodeChanges.{IsEntryOf, TakesEntry}
 use Rattle.mg_node_writing.specs.Splices.{EachBelow, HasEntry, IsSeat, StandsAt}
 use Rattle.mg_node_writing.proofs.ListLemmas.{absent, before_back, has_append, has_below, has_parts, never_below_itself, not_below, ascending_back}

@@ -6,10 +6,9 @@ use Rattle.std.proofs.lemmas.List.{same_from_push}
 use Rattle.mg_node.specs.declared.entry.Entry.{Entry}
 use Rattle.mg_node.specs.declared.entry.TheConstants.{CONTENT_AT}
 use Rattle.mg_node.specs.NodePage.{IsNodePage, count_in, end_in, end_of, entries_of, entry_at, first_at, has_high, has_low, high_at, is_inner, key_len, place_of}
-use Rattle.mg_node.specs.NodeTestLaws.{choose_up, first_at-from, high_at-from}
+use Rattle.mg_node.specs.NodeTestLaws.{choose_up, high_at-from}
 use Rattle.mg_node.specs.NodeWalk.{entries_from, least_len, place_from}
-use Rattle.mg_node.specs.NodeWalkLaws.{end_of-least, entries_from-add, entries_of-walk, place_from-ascends, place_from-least, place_of-walk}
-use Rattle.mg_node_writing.specs.Moves.{entry_len}
+use Rattle.mg_node.specs.NodeWalkLaws.{end_of-least, entries_from-add, entries_of-walk, place_from-least, place_of-walk}
 use Rattle.mg_node_writing.specs.NodeChanges.{entries_len, most_need, room_in}
 use Rattle.mg_node_writing.specs.Splits.{IsHalf, IsShortestHalf}
 use Rattle.mg_node_writing.proofs.SeatLemmas.{place_ends}

@@ -1,16 +1,16 @@
 -- What a page says after bytes of its entries were moved.
-use Rattle.std.specs.Prelude.{◌≡◌, ◌≢◌, ℕ, zero, suc, ◌+◌, ◌-◌, ◌*◌, ◌/◌, ◌%◌, ◌<◌, ◌≤◌, ◌==◌, ◌⊎◌, Bool, true, false, nat_lt, List, [], ◌∷◌, ◌++◌, length, take, drop, Option, Some, None, if◌then◌else◌}
+use Rattle.std.specs.Prelude.{◌≡◌, ℕ, zero, suc, ◌+◌, ◌-◌, ◌/◌, ◌%◌, ◌<◌, ◌≤◌, ◌==◌, ◌⊎◌, Bool, true, false, nat_lt, List, ◌++◌, length, take, drop, Option, Some, None, if◌then◌else◌}
 use Rattle.std.proofs.Common.{refl, sym, ap, ◌∙◌, arith, get_or, subst, lit≤, inl, inr}
 use Rattle.std.proofs.lemmas.Bool.{cases_lt}
 use Rattle.std.proofs.lemmas.List.{ext_get_or, get_or-take, length-drop, length-take}
-use Rattle.mg_base.specs.Fields.{byte, u16_at, u32_at}
+use Rattle.mg_base.specs.Fields.{byte, u16_at}
 use Rattle.mg_node.specs.declared.entry.Entry.{Entry}
 use Rattle.mg_node.specs.declared.entry.TheConstants.{CONTENT_AT, FENCES_AT, KEY_AT, LEVEL_AT}
 use Rattle.mg_node.specs.NodePage.{AreAscending, AreBetween, BeginsAsInner, IsNodePage, count_in, end_in, end_of, entries_of, entry_at, first_at, has_high, has_low, high_at, high_of, is_inner, key_len, level_in, low_of, place_of, right_in}
 use Rattle.mg_node.specs.NodeReading.{IsLaidOut}
 use Rattle.mg_node.specs.NodeTestLaws.{choose_up, first_at-from, high_at-from}
 use Rattle.mg_node.specs.NodeWalk.{entries_from, place_from}
-use Rattle.mg_node.specs.NodeWalkLaws.{end_of-least, entries_from-add, entries_of-walk, place_from-add, place_from-ascends, place_from-least, place_of-walk}
+use Rattle.mg_node.specs.NodeWalkLaws.{end_of-least, entries_from-add, entries_of-walk, place_from-add, place_from-least, place_of-walk}
 use Rattle.mg_node_writing.specs.MoveLaws.{end_stands, entry_stands, len_stands, stands_behind, walk_stands}
 use Rattle.mg_node_writing.specs.Moves.{Stands}
 use Rattle.mg_node_writing.specs.NodeChanges.{KeepsNode}

@@ -1,11 +1,11 @@
 -- A split, whole.
-use Rattle.std.specs.Prelude.{◌≡◌, ℕ, zero, suc, ◌+◌, ◌-◌, ◌*◌, ◌/◌, ◌<◌, ◌≤◌, Bool, true, false, List, [], ◌∷◌, ◌++◌, length, take, Option, Some, None}
+use Rattle.std.specs.Prelude.{◌≡◌, ℕ, suc, ◌+◌, ◌-◌, ◌/◌, ◌<◌, ◌≤◌, false, List, ◌++◌, length}
 use Rattle.std.proofs.Common.{refl, sym, ap, ◌∙◌, arith, subst}
 use Rattle.mg_base.specs.Checks.{PassesAll, common_checks}
-use Rattle.mg_base.specs.Fields.{byte, u16_at, u32_at}
+use Rattle.mg_base.specs.Fields.{byte, u32_at}
 use Rattle.mg_node.specs.declared.entry.Entry.{Entry}
 use Rattle.mg_node.specs.declared.entry.TheConstants.{CONTENT_AT}
-use Rattle.mg_node.specs.NodePage.{IsNodePage, count_in, end_in, end_of, entries_of, entry_at, first_at, high_at, high_of, is_inner, key_len, low_of, node_checks, place_of}
+use Rattle.mg_node.specs.NodePage.{IsNodePage, count_in, end_in, end_of, entry_at, first_at, is_inner, key_len, node_checks, place_of}
 use Rattle.mg_node.specs.NodeTestLaws.{high_at-from}
 use Rattle.mg_node.specs.NodeWalk.{entries_from, least_len}
 use Rattle.mg_node.specs.NodeWalkLaws.{end_of-least}
@@ -14,7 +14,7 @@ use Rattle.mg_node_writing.specs.NodeChanges.{most_need, room_in}
 use Rattle.mg_node_writing.specs.Splits.{IsHalf, IsShortestHalf, KeepsLower, SplitsNode, TakesUpper}
 use Rattle.mg_node_writing.proofs.SeatLemmas.{plain_ends, two_parts}
 use Rattle.mg_node_writing.proofs.SizeLemmas.{SplitNumbers, shortest_half}
-use Rattle.mg_node_writing.proofs.SplitSays.{LowerPage, UpperPage, lower_says, same_walk, upper_says}
+use Rattle.mg_node_writing.proofs.SplitSays.{lower_says, same_walk, upper_says}
 use Rattle.mg_node_writing.proofs.SpliceLemmas.{take_same, u16_same}
 
 -- all that a split is to do

@@ -1,9 +1,9 @@
 -- The two pages of a split, byte by byte.
-use Rattle.std.specs.Prelude.{◌≡◌, ◌≢◌, ℕ, zero, suc, ◌+◌, ◌-◌, ◌*◌, ◌/◌, ◌%◌, ◌<◌, ◌≤◌, ◌==◌, ◌⊎◌, ◌^◌, Bool, true, false, List, [], ◌∷◌, ◌++◌, length, Option, Some, None, if◌then◌else◌}
-use Rattle.std.proofs.Common.{refl, sym, ap, ◌∙◌, arith, inl, inr, subst}
-use Rattle.mg_base.specs.Fields.{byte, byte_apart, byte_apart16, length-with_u16, length-with_u32, u16_again, u16_apart, u16_at, u32_again, u32_at, with_u16, with_u32}
+use Rattle.std.specs.Prelude.{◌≡◌, ℕ, ◌+◌, ◌-◌, ◌/◌, ◌%◌, ◌<◌, ◌≤◌, ◌==◌, ◌^◌, List, length}
+use Rattle.std.proofs.Common.{ap, ◌∙◌, arith, subst}
+use Rattle.mg_base.specs.Fields.{byte, byte_apart, byte_apart16, length-with_u16, length-with_u32, u16_again, u16_at, u32_again, u32_at, with_u16, with_u32}
 use Rattle.mg_node.specs.declared.entry.TheConstants.{CONTENT_AT, FENCES_AT}
-use Rattle.mg_node.specs.NodePage.{count_in, end_in, end_of, first_at, has_high, has_low, high_at, key_len, level_in, right_in}
+use Rattle.mg_node.specs.NodePage.{end_in, first_at, high_at, key_len, right_in}
 use Rattle.mg_node_writing.specs.Moves.{Puts, Stands}
 use Rattle.mg_node_writing.specs.Splices.{SetsEnd}
 use Rattle.mg_node_writing.specs.Splits.{KeepsLower, TakesUpper}

@@ -1,5 +1,5 @@
 -- What the two pages of a split say.
-use Rattle.std.specs.Prelude.{◌≡◌, ◌≢◌, ℕ, zero, suc, ◌+◌, ◌-◌, ◌*◌, ◌/◌, ◌%◌, ◌<◌, ◌≤◌, ◌==◌, ◌⊎◌, Bool, true, false, nat_lt, List, [], ◌∷◌, ◌++◌, length, take, Option, Some, None, IfSome, if◌then◌else◌}
+use Rattle.std.specs.Prelude.{◌≡◌, ℕ, suc, ◌+◌, ◌-◌, ◌/◌, ◌<◌, ◌≤◌, Bool, true, false, nat_lt, List, [], ◌∷◌, ◌++◌, length, Option, Some, None, if◌then◌else◌}
 use Rattle.std.specs.Ordering.{ordering_reverse}
 use Rattle.std.specs.declared.cmp.Ordering.{Ordering}
 use Rattle.std.specs.declared.cmp.Ordering.TheVariants.{Less, Equal, Greater}
@@ -8,16 +8,16 @@ use Rattle.std.proofs.lemmas.Cmp.{alike_right}
 use Rattle.mg_node.specs.declared.entry.Entry.{Entry}
 use Rattle.mg_node.specs.declared.entry.TheConstants.{CONTENT_AT}
 use Rattle.mg_node.specs.EntryOrderLaws.{cmp_from_parts, entry_cmp_total}
-use Rattle.mg_node.specs.NodePage.{AreAscending, AreBetween, BeginsAsInner, IsAtLeast, IsBelow, IsNodePage, SamePlace, count_in, end_in, end_of, entries_of, entry_at, entry_cmp, first_at, has_high, has_low, high_at, high_of, is_inner, key_len, level_in, low_of, place_of}
+use Rattle.mg_node.specs.NodePage.{AreAscending, AreBetween, BeginsAsInner, IsAtLeast, IsBelow, IsNodePage, count_in, end_in, end_of, entries_of, entry_at, entry_cmp, first_at, has_high, has_low, high_at, high_of, is_inner, key_len, low_of, place_of}
 use Rattle.mg_node.specs.NodeWalk.{entries_from, place_from}
 use Rattle.mg_node.specs.NodeWalkLaws.{end_of-least, entries_of-walk, place_from-add, place_from-least, place_of-walk}
 use Rattle.mg_node_writing.specs.MoveLaws.{end_stands, entry_stands, len_stands, walk_stands}
-use Rattle.mg_node_writing.specs.Moves.{Stands, as_fence}
+use Rattle.mg_node_writing.specs.Moves.{Stands}
 use Rattle.mg_node_writing.specs.Splices.{EachBelow, HasEntry, ShortKeys}
 use Rattle.mg_node_writing.specs.Splits.{KeepsLower, TakesUpper}
 use Rattle.mg_node_writing.proofs.InsertLemmas.{short_of}
 use Rattle.mg_node_writing.proofs.ListLemmas.{ascending_back, ascending_front, before_back, front_below, short_back, short_front}
-use Rattle.mg_node_writing.proofs.SeatLemmas.{place_behind, place_ends, two_parts}
+use Rattle.mg_node_writing.proofs.SeatLemmas.{two_parts}
 use Rattle.mg_node_writing.proofs.SpliceLemmas.{keys_from_short}
 
 there_is : {A : Type 0} (there : Bool) (x y : A) → there ≡ true → (if there then x else y) ≡ x

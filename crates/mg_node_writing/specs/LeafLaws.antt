@@ -1,9 +1,8 @@
 -- What a leaf takes: its entries have no children, so none has another child.
-use Rattle.std.specs.Prelude.{◌≡◌, ℕ, zero, suc, ◌+◌, ◌/◌, ◌≤◌, ◌⊎◌, Bool, true, false, List, [], ◌∷◌, ◌++◌, length, Option, Some, None, IfSome}
-use Rattle.std.proofs.Common.{refl, sym, ap, ◌∙◌, arith, inl, inr, subst}
-use Rattle.mg_base.specs.declared.numbers.PageNo.{PageNo}
+use Rattle.std.specs.Prelude.{◌≡◌, ℕ, zero, suc, ◌≤◌, Bool, true, false, List, [], ◌∷◌, ◌++◌, length, Option, None, IfSome}
+use Rattle.std.proofs.Common.{refl, sym, ap, ◌∙◌, inl, inr, subst}
 use Rattle.mg_node.specs.declared.entry.Entry.{Entry}
-use Rattle.mg_node.specs.NodePage.{IsAtLeast, IsBelow, IsNodePage, SamePlace, count_in, end_of, entries_of, entry_at, first_at, high_of, is_inner, low_of}
+use Rattle.mg_node.specs.NodePage.{IsAtLeast, IsBelow, IsNodePage, count_in, end_of, first_at, high_of, is_inner, low_of}
 use Rattle.mg_node.specs.NodeTests.{longest_key}
 use Rattle.mg_node.specs.NodeWalk.{entries_from}
 use Rattle.mg_node.specs.NodeWalkLaws.{entries_of-walk}

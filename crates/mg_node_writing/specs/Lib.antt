@@ -1,3 +1,4 @@
+pub mod ChangePromises
 pub mod LeafLaws
 pub mod MoveLaws
 pub mod Moves

@@ -1,6 +1,6 @@
 -- Laws of bytes that stand at another place: what is read of them there.
-use Rattle.std.specs.Prelude.{◌≡◌, ℕ, zero, suc, ◌+◌, ◌-◌, ◌<◌, ◌≤◌, min, Bool, true, false, List, length, take, drop, if◌then◌else◌}
-use Rattle.std.proofs.Common.{refl, sym, ap, ◌∙◌, arith, get_or}
+use Rattle.std.specs.Prelude.{◌≡◌, ℕ, zero, suc, ◌+◌, ◌-◌, ◌<◌, ◌≤◌, Bool, true, false, List, length, take, drop, if◌then◌else◌}
+use Rattle.std.proofs.Common.{refl, sym, ◌∙◌, arith, get_or}
 use Rattle.std.proofs.lemmas.List.{ext_get_or, get_or-drop, get_or-take, length-drop, length-take}
 use Rattle.mg_base.specs.Fields.{byte, u16_at, u32_at}
 use Rattle.mg_node.specs.declared.entry.Entry.{Entry}

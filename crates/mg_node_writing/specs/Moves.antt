@@ -1,5 +1,5 @@
 -- Bytes and entries that are put at a place of a page.
-use Rattle.std.specs.Prelude.{◌≡◌, ℕ, ◌+◌, ◌≤◌, ◌<◌, Bool, true, false, List, length, if◌then◌else◌}
+use Rattle.std.specs.Prelude.{◌≡◌, ℕ, ◌+◌, ◌≤◌, ◌<◌, Bool, List, length, if◌then◌else◌}
 use Rattle.mg_base.specs.Fields.{byte, u16_at, u32_at}
 use Rattle.mg_node.specs.declared.entry.Entry.{Entry}
 use Rattle.mg_node.specs.NodePage.{end_of, entry_at}

@@ -1,14 +1,11 @@
 -- What the changes of an index page are: of an ordered set of entries between two fences.
-use Rattle.std.specs.Prelude.{◌≡◌, ◌≢◌, ℕ, suc, ◌+◌, ◌-◌, ◌*◌, ◌/◌, ◌≤◌, ◌<◌, Bool, true, false, List, [], ◌∷◌, ◌++◌, length, take, Option, Some, None, IfSome}
-use Rattle.mg_base.specs.Checks.{PassesAll}
-use Rattle.mg_base.specs.Fields.{u32_at, with_u32}
-use Rattle.mg_base.specs.declared.fields.TheConstants.{COMMON, OWN_AT, OWNER_AT}
+use Rattle.std.specs.Prelude.{◌≡◌, ℕ, ◌+◌, ◌-◌, ◌≤◌, Bool, true, false, List, [], ◌∷◌, ◌++◌, length, take, IfSome}
 use Rattle.mg_node.specs.declared.entry.Entry.{Entry}
 use Rattle.mg_node.specs.declared.entry.TheConstants.{COUNT_AT}
-use Rattle.mg_node.specs.NodePage.{IsAtLeast, IsBelow, IsFirstEntry, IsNodePage, SamePlace, count_in, end_in, entries_of, high_of, is_inner, level_in, low_of, node_checks, right_in}
+use Rattle.mg_node.specs.NodePage.{IsAtLeast, IsBelow, IsFirstEntry, SamePlace, end_in, entries_of, high_of, is_inner, level_in, low_of, right_in}
 use Rattle.mg_node.specs.NodeTests.{longest_key}
 use Rattle.mg_node.specs.NodeWalk.{least_len}
-use Rattle.mg_node_writing.specs.Moves.{as_fence, entry_len}
+use Rattle.mg_node_writing.specs.Moves.{entry_len}
 
 -- an index page of a lawful size
 pub record IsSized (page : List ℕ) : Type 0 where

@@ -1,11 +1,10 @@
 -- Parts of a change of an index page.
-use Rattle.std.specs.Prelude.{◌≡◌, ◌≢◌, ℕ, ◌+◌, ◌-◌, ◌<◌, ◌≤◌, ◌⊎◌, Bool, List, [], ◌∷◌, length}
+use Rattle.std.specs.Prelude.{◌≡◌, ℕ, ◌+◌, ◌<◌, ◌≤◌, ◌⊎◌, List, [], ◌∷◌, length}
 use Rattle.mg_base.specs.Fields.{byte}
 use Rattle.mg_node.specs.declared.entry.Entry.{Entry}
 use Rattle.std.specs.declared.cmp.Ordering.TheVariants.{Equal}
 use Rattle.mg_node.specs.NodePage.{IsBelow, count_in, end_in, entry_at, entry_cmp, end_of, is_inner, place_of}
 use Rattle.mg_node_writing.specs.Moves.{as_placed, entry_len}
-use Rattle.mg_node.specs.NodeReading.{IsBeforeFirst}
 
 -- where an entry belongs among those of a page: so many come before it, and the next one does not
 pub record IsSeat (page : List ℕ) (e : Entry) (n : ℕ) : Type 0 where

@@ -5,7 +5,7 @@ use Rattle.mg_base.specs.Fields.{byte, u32_at}
 use Rattle.mg_base.specs.declared.fields.TheConstants.{COMMON, OWN_AT}
 use Rattle.mg_node.specs.declared.entry.Entry.{Entry}
 use Rattle.mg_node.specs.declared.entry.TheConstants.{CONTENT_AT}
-use Rattle.mg_node.specs.NodePage.{IsNodePage, count_in, end_in, entries_of, first_at, has_high, has_low, high_at, high_of, is_inner, key_len, level_in, low_of, node_checks, place_of, right_in}
+use Rattle.mg_node.specs.NodePage.{count_in, end_in, entries_of, first_at, has_high, has_low, high_at, high_of, is_inner, key_len, level_in, low_of, node_checks, place_of, right_in}
 use Rattle.mg_node_writing.specs.Moves.{Stands, as_fence}
 use Rattle.mg_node_writing.specs.NodeChanges.{entries_len}
 

@@ -13,12 +13,14 @@
 mod bytes;
 mod fields;
 mod inserting;
+mod laws;
 mod new;
 mod removing;
 mod seat;
 mod splitting;
 
 pub use inserting::{NoRoom, insert};
+pub use laws::{first_stays, taken_after_split};
 pub use new::{copy_node, new_node};
 pub use removing::remove;
 pub use splitting::split;

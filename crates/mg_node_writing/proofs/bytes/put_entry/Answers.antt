@@ -1,5 +1,5 @@
-use Rattle.std.proofs.Common.{◌≡◌, ◌+◌, ◌<◌, ◌≤◌, ◌^◌, length, subst, sym, arith, Bool, false, true}
-use Rattle.mg_node_writing.specs.Moves.{PutsEntry, entry_len}
+use Rattle.std.proofs.Common.{◌+◌, subst, sym, arith, Bool}
+use Rattle.mg_node_writing.specs.Moves.{PutsEntry}
 use Rattle.mg_node_writing.proofs.EntryLemmas.{puts_inner, puts_plain}
 use Rattle.mg_node_writing.proofs.bytes.put_entry.Goals as goal
 

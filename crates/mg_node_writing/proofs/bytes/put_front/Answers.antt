@@ -1,4 +1,4 @@
-use Rattle.std.proofs.Common.{◌≡◌, ◌+◌, length, arith}
+use Rattle.std.proofs.Common.{◌+◌, arith}
 use Rattle.mg_node_writing.proofs.EntryLemmas.{writes_front}
 use Rattle.mg_node_writing.proofs.bytes.put_front.Goals as goal
 

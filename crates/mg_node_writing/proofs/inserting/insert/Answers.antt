@@ -1,4 +1,3 @@
-use Rattle.std.proofs.Common.{◌≡◌, false, true}
 use Rattle.mg_node_writing.proofs.SeatLemmas.{not_there, seated, taken_there}
 use Rattle.mg_node_writing.proofs.inserting.insert.Goals as goal
 

@@ -1,4 +1,4 @@
-use Rattle.std.proofs.Common.{◌≡◌, ◌≤◌, arith}
+use Rattle.std.proofs.Common.{arith}
 use Rattle.mg_node_writing.proofs.InsertLemmas.{inserted}
 use Rattle.mg_node_writing.proofs.SeatLemmas.{place_behind, place_ends}
 use Rattle.mg_node_writing.proofs.inserting.insert_at.Goals as goal

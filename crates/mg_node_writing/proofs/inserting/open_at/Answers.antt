@@ -1,4 +1,4 @@
-use Rattle.std.proofs.Common.{◌≡◌, ◌+◌, ◌≤◌, ◌<◌, length, ap, ◌∙◌, arith, Bool}
+use Rattle.std.proofs.Common.{ap, ◌∙◌, arith, Bool}
 use Rattle.mg_node_writing.specs.Moves.{entry_len}
 use Rattle.mg_node_writing.proofs.InsertLemmas.{count_small, opens}
 use Rattle.mg_node_writing.proofs.inserting.open_at.Goals as goal

@@ -1,4 +1,4 @@
-use Rattle.std.proofs.Common.{◌≡◌, ◌<◌, ◌∙◌, ap, length, arith, List, ℕ}
+use Rattle.std.proofs.Common.{◌∙◌, ap, arith, List, ℕ}
 use Rattle.mg_base.specs.Fields.{with_u32}
 use Rattle.mg_node_writing.proofs.NewLemmas.{copies}
 use Rattle.mg_node_writing.proofs.new.copy_node.Goals as goal

@@ -1,4 +1,4 @@
-use Rattle.std.proofs.Common.{◌≡◌, ◌<◌, ◌∙◌, ap, length, arith, List, ℕ}
+use Rattle.std.proofs.Common.{◌∙◌, ap, length, arith, List, ℕ}
 use Rattle.mg_base.specs.Fields.{with_u16}
 use Rattle.mg_node_writing.proofs.NewLemmas.{new_node_is}
 use Rattle.mg_node_writing.proofs.new.new_node.Goals as goal

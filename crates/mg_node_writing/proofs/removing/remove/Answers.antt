@@ -1,4 +1,4 @@
-use Rattle.std.proofs.Common.{◌≡◌, ◌≤◌, ◌<◌, false, true, arith, sym, ap, subst, ◌∙◌, ℕ, refl, length}
+use Rattle.std.proofs.Common.{arith, sym, ap, ◌∙◌, ℕ, refl}
 use Rattle.mg_node.specs.NodePage.{entry_at, is_inner}
 use Rattle.mg_node_writing.proofs.InsertLemmas.{removed}
 use Rattle.mg_node_writing.proofs.SeatLemmas.{entry_ends, found_at, is_there, not_there, other_child, other_children, place_behind, same_child, seated}

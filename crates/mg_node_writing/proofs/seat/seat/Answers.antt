@@ -1,4 +1,4 @@
-use Rattle.std.proofs.Common.{◌≡◌, ◌+◌, ◌≤◌, ℕ, Bool, length, sym, ap, subst, ◌∙◌, add-one, arith}
+use Rattle.std.proofs.Common.{ℕ, Bool, sym, ap, subst, ◌∙◌, add-one, arith}
 use Rattle.mg_node.specs.NodePage.{IsBelow, end_of, entry_at, is_inner}
 use Rattle.mg_node_writing.proofs.SeatLemmas.{lt_from, plain_ends, seat_goes}
 use Rattle.mg_node_writing.proofs.seat.seat.Goals as goal

@@ -1,5 +1,5 @@
-use Rattle.std.proofs.Common.{◌≡◌, ◌+◌, ◌-◌, ◌*◌, ◌<◌, ◌≤◌, ◌⊎◌, ℕ, Bool, suc, length, inl, inr, ap, subst, sym, ◌∙◌, add-one, arith}
-use Rattle.mg_node.specs.NodePage.{count_in, end_in, end_of, first_at, is_inner, place_of}
+use Rattle.std.proofs.Common.{Bool, ap, ◌∙◌, add-one, arith}
+use Rattle.mg_node.specs.NodePage.{end_of, is_inner}
 use Rattle.mg_node_writing.proofs.SeatLemmas.{first_ends, place_ends, place_first}
 use Rattle.mg_node_writing.proofs.SizeLemmas.{half_goes}
 use Rattle.mg_node_writing.proofs.splitting.half.Goals as goal

@@ -1,6 +1,6 @@
-use Rattle.std.proofs.Common.{false, ◌≡◌, ◌+◌, ◌-◌, ◌<◌, ◌≤◌, ◌/◌, ◌%◌, length, ap, sym, ◌∙◌, arith, ℕ}
+use Rattle.std.proofs.Common.{false, ◌≡◌, ◌+◌, ◌-◌, ◌%◌, ap, ◌∙◌, arith, ℕ}
 use Rattle.mg_base.specs.Fields.{u16_at}
-use Rattle.mg_node.specs.NodePage.{first_at, high_at, key_len}
+use Rattle.mg_node.specs.NodePage.{key_len}
 use Rattle.mg_node.specs.NodeTestLaws.{high_at-from}
 use Rattle.mg_node.specs.NodeWalkLaws.{end_of-least}
 use Rattle.mg_node_writing.proofs.SeatLemmas.{high_first}

@@ -1,9 +1,8 @@
-use Rattle.std.proofs.Common.{◌≡◌, ◌+◌, ◌-◌, ◌<◌, ◌≤◌, ℕ, length, sym, subst, arith}
-use Rattle.mg_node.specs.NodePage.{key_len, place_of}
+use Rattle.std.proofs.Common.{◌+◌, arith}
+use Rattle.mg_node.specs.NodePage.{key_len}
 use Rattle.mg_node_writing.specs.MoveLaws.{len_stands}
-use Rattle.mg_node_writing.specs.Moves.{Stands}
-use Rattle.mg_node_writing.proofs.SizeLemmas.{SplitNumbers, split_numbers}
-use Rattle.mg_node_writing.proofs.SplitDone.{SplitDone, fence_short, split_done}
+use Rattle.mg_node_writing.proofs.SizeLemmas.{split_numbers}
+use Rattle.mg_node_writing.proofs.SplitDone.{fence_short, split_done}
 use Rattle.mg_node_writing.proofs.splitting.split.Goals as goal
 
 pub take_upper-requires-clause-from : goal.take_upper-requires-clause-from

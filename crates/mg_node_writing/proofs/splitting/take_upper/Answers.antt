@@ -1,6 +1,6 @@
-use Rattle.std.proofs.Common.{false, ◌≡◌, ◌+◌, ◌-◌, ◌<◌, ◌≤◌, ◌/◌, length, ap, sym, subst, ◌∙◌, arith, ℕ, List}
+use Rattle.std.proofs.Common.{false, ◌≡◌, ◌+◌, ◌-◌, ◌/◌, ap, subst, ◌∙◌, arith, ℕ, List}
 use Rattle.mg_base.specs.Fields.{u16_at, with_u32}
-use Rattle.mg_node.specs.NodePage.{count_in, end_of, first_at, high_at, key_len}
+use Rattle.mg_node.specs.NodePage.{first_at, high_at, key_len}
 use Rattle.mg_node.specs.NodeTestLaws.{high_at-from}
 use Rattle.mg_node.specs.NodeWalkLaws.{end_of-least}
 use Rattle.mg_node_writing.specs.Splits.{TakesUpper}

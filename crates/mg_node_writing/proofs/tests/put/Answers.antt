@@ -1,5 +1,4 @@
-use Rattle.std.proofs.Common.{◌≡◌, ◌≤◌, length, arith}
-use Rattle.mg_node.specs.NodeTests.{longest_key}
+use Rattle.std.proofs.Common.{arith}
 use Rattle.mg_node_writing.specs.LeafLaws.{free_takes}
 use Rattle.mg_node_writing.proofs.tests.put.Goals as goal
 
