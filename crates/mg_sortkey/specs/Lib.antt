@@ -1,3 +1,5 @@
 pub mod KeyBytes
-pub mod KeyOrder
 pub mod KeyLaws
+pub mod KeyOrder
+pub mod NumberLaws
+pub mod TextLaws
