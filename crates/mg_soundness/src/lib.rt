@@ -3,7 +3,7 @@
 //!
 //! Owns: the rules of a sound image in the order in which they are tested (`specs/Ladder.antt`), the
 //! reading of all tables together, the test as a whole (`check_soundness`), and the test of an image
-//! on which a database may be made (`is_blank`), with the pages that a new database has.
+//! on which a database may be made (`is_unmade`), with the pages that a new database has.
 //!
 //! A sound image has a layout and a reading. A rule is met where there are a layout and a reading
 //! that meet it with all rules before it, so "the first rule that is broken" speaks of the image
@@ -26,7 +26,7 @@ mod records;
 
 pub use check::check_soundness;
 pub use laws::the_last_rule_is_soundness;
-pub use new_pages::is_blank;
+pub use new_pages::is_unmade;
 pub use records::TableRecords;
 
 #[cfg(test)]

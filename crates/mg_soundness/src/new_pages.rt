@@ -4,7 +4,7 @@ ghost use Rattle.std.specs.Prelude.{◌≡◌, ◌≢◌, ◌↔◌, ◌≤◌, 
 ghost use Rattle.std.proofs.Math.ListN.{set};
 ghost use Rattle.mg_reading.specs.declared.rows.RowCoding.{RowCoding as AnyCoding};
 ghost use Rattle.mg_image.specs.NewDatabase.{IsNewPage, first_data_page, one_entry_page};
-ghost use Rattle.mg_image.specs.Opening.{IsBlank};
+ghost use Rattle.mg_image.specs.Opening.{IsUnmade};
 ghost use Rattle.mg_pip.specs.PipPage.{new_pip_page};
 ghost use Rattle.mg_pip.specs.declared.page.TheConstants.{BITS_AT};
 ghost use Rattle.mg_reading.specs.Codings.{coding_of};
@@ -119,9 +119,9 @@ fn is_new_page(alloc: Global, image: &Image, coding: RowCoding, n: u32) -> Resul
 /// # Errors
 ///
 /// `Memory` only.
-pub fn is_blank(alloc: Global, image: &Image, coding: RowCoding) -> Result<bool, Memory>
+pub fn is_unmade(alloc: Global, image: &Image, coding: RowCoding) -> Result<bool, Memory>
     ensures { IfOk result (λ blank. IsTrue blank
-        ↔ IsBlank (form_of coding) image.now.size (pages_in image.now)) }
+        ↔ IsUnmade (form_of coding) image.now.size (pages_in image.now)) }
 {
     if !is_zero(image.page(0)) {
         return Ok(false);

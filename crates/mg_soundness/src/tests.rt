@@ -364,7 +364,7 @@ fn expect_blank(alloc: Global, pages: Vec<Bytes>, wanted: bool) -> Result<(), Fa
     let Ok(Some(image)) = Image::new(alloc, 1024, pages) else {
         return Err("no image")?;
     };
-    if is_blank(alloc, &image, RowCoding::Plain)? != wanted {
+    if is_unmade(alloc, &image, RowCoding::Plain)? != wanted {
         return Err("blank")?;
     }
     Ok(())
