@@ -141,12 +141,12 @@ module _ (pages : Pages) (fixed : HasFixedPages pages) (fronts : HasFronts pages
   facts = facts_of PAGE pages layout
 
   abbrev rows : CatalogRows
-  rows = sound.names.named.0
+  rows = sound.names.all.rows
 
   apart : EachTable (λ t. t.name ≢ catalog_name)
       (map (λ (stand : Stand). stand.table) layout.tables)
   apart = named_apart rows (map (λ (stand : Stand). stand.table) layout.tables)
-      sound.names.named.2
+      sound.names.all.are_tables
 
   here : facts.table_of CATALOG_ROWS.0 ≡ Some (catalog_table CATALOG.0)
   here = ap (λ (s : Stand). table_at (s ∷ layout.tables) CATALOG_ROWS.0) catalog_is
@@ -175,7 +175,7 @@ module _ (pages : Pages) (fixed : HasFixedPages pages) (fronts : HasFronts pages
   same_rows = rows_once facts (committed_with facts (λ t. true)) r (catalog_table CATALOG.0) rows
       catalog_rows
       (subst (λ (t : Table). AreRows facts (committed_with facts (λ t. true)) r t rows) table_same
-      sound.names.named.1)
+      sound.names.all.are_rows)
       (catalog_rows_with one pages facts r reads (system_is pages) only
       (committed_with facts (λ t. true)) (ap (λ (s : TxState). counts s) (system_is pages)))
 
@@ -183,7 +183,7 @@ module _ (pages : Pages) (fixed : HasFixedPages pages) (fronts : HasFronts pages
   named = tables_once catalog_rows (map (λ (stand : Stand). stand.table) layout.tables)
       (kv_table ∷ [])
       (subst (λ (f : CatalogRows). AreTables f (map (λ (stand : Stand). stand.table)
-      layout.tables)) same_rows sound.names.named.2) catalog_names_kv
+      layout.tables)) same_rows sound.names.all.are_tables) catalog_names_kv
 
   pub layout_is : layout ≡ kv_layout
   layout_is =

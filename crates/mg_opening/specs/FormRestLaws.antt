@@ -112,6 +112,7 @@ module _ (pages : Pages) (fixed : HasFixedPages pages) (fronts : HasFronts pages
     sound = sound;
     tip = tip;
     oldest = omega (arith, ap (λ (h : Header). h.oit.0) fronts.header.header);
+    active = omega (arith, ap (λ (h : Header). h.oat.0) fronts.header.header);
     drawn = drawn_from (pages HEADER.0) fronts.header.fields;
     catalog = catalog;
   }

@@ -1,15 +1,19 @@
 -- The images of a disk while the seven pages of a new database are written.
-use Rattle.std.proofs.Common.{◌≡◌, ◌≢◌, ◌≤◌, ◌<◌, ◌+◌, ◌*◌, ◌∙◌, ◌⊎◌, inl, inr, ◌==◌, nat_lt, refl, sym, subst, arith, lit≤, ℕ, Bool, true, false, cond, List, [], length}
+use Rattle.std.proofs.Common.{◌≡◌, ◌≢◌, ◌≤◌, ◌<◌, ◌+◌, ◌*◌, ◌∙◌, ◌⊎◌, inl, inr, ◌==◌, nat_lt, refl, sym, subst, arith, lit≤, ℕ, Bool, true, false, cond, le-ltb, List, [], length}
 use Rattle.std.specs.Cmp.Lexicographic.{same_text}
 use Rattle.std.proofs.lemmas.Bool.{cases_eq, ne_eqb}
 use Rattle.std.proofs.lemmas.List.{get_or_past}
+use Rattle.mg_base.specs.declared.transaction.TxState.{TxState}
 use Rattle.mg_base.specs.declared.transaction.TxState.TheVariants.{Committed, Dead}
 use Rattle.mg_base.specs.Image.{Image, blank, length-written, page_at, page_at-written_other, page_at-written_same, written}
+use Rattle.mg_model.specs.Answers.{is_committed}
 use Rattle.mg_model.specs.Catalog.{catalog_name}
 use Rattle.mg_model.specs.Changes.{same_name}
 use Rattle.mg_model.specs.Legal.{is_limbo}
 use Rattle.mg_image.specs.Form.{Pages, plain_form}
+use Rattle.mg_image.specs.Histories.{durable_committed}
 use Rattle.mg_image.specs.HistoryLaws.{blank_holds}
+use Rattle.mg_image.specs.Inventory.{state_at}
 use Rattle.mg_image.specs.Opening.{IsBlank}
 use Rattle.mg_first.specs.FixedPagesLaws.{new_is_first}
 use Rattle.mg_first.specs.HoldsLaws.{IsDurable, kv_durable, new_others}
@@ -190,19 +194,33 @@ settled true drawn = refl
 settled false true = refl
 settled false false = refl
 
-new_durable : IsDurable no_rows new_history [] 0
-new_durable = record {
+new_durable : (pages : Pages)
+    → IsDurable no_rows 1 (state_at PAGE pages) new_history [] 0
+unfolding state_at
+new_durable pages = record {
   rows = λ key. refl;
   catalog = λ key. refl;
   others = λ name key no_catalog no_kv.
       new_others name key (names_apart name catalog_name no_catalog);
+  committed = λ t below. first (state_at PAGE pages) t (omega (arith, below)) refl;
+  undrawn = λ t above. undrawn (t == 0) (nat_lt t 1) (ne_eqb t 0 (λ none. omega arith))
+      (le-ltb t 1 above);
   limbo = λ t. settled (t == 0) (nat_lt t 1);
 }
+  where
+    -- the system's number alone is below 1, and it is committed
+    first : (state : ℕ → TxState) (t : ℕ) → t ≡ 0 → state 0 ≡ Committed
+        → is_committed (state t) ≡ durable_committed new_history [] 0 t
+    first state t none is = rw (none, is) refl
+
+    undrawn : (zero drawn : Bool) → zero ≡ false → drawn ≡ false
+        → is_committed (cond zero Committed (cond drawn Dead Dead)) ≡ false
+    undrawn zero drawn some_ above = rw (some_, above) refl
 
 pub new_holds : (image : Image) → IsNewPages (page_at PAGE image)
     → HoldsAt PAGE new_history [] 0 image
 new_holds image new = kv_durable (page_at PAGE image) new_reading 1 no_rows new_history [] 0
-    (new_is_kv (page_at PAGE image) new) new_durable
+    (new_is_kv (page_at PAGE image) new) (new_durable (page_at PAGE image))
 
 -- an image with these pages holds it, and the program opens it
 pub new_last : (image : Image) → length image ≡ PAGES → IsNewPages (page_at PAGE image)

@@ -10,6 +10,7 @@ use Rattle.mg_model.specs.declared.event.Event.{Event}
 use Rattle.mg_model.specs.declared.event.Event.TheVariants.{Commit}
 use Rattle.mg_model.specs.declared.opening.Opening.{Opening}
 use Rattle.mg_model.specs.declared.refusal.Refusal.TheVariants.{DiskWrite}
+use Rattle.mg_model.specs.Answers.{is_committed}
 use Rattle.mg_model.specs.Changes.{row_at}
 use Rattle.mg_model.specs.History.{Entries, Entry, entry}
 use Rattle.mg_model.specs.Legal.{after_durable, durable_count, is_durable, is_limbo}
@@ -85,8 +86,13 @@ holds_as form size pages o h g k j same holds = record {
   opened = holds.opened;
   holds = holds.holds;
   rows = λ name key. holds.rows name key ∙ ap (λ cut. row_at (database o cut) name key) (sym same);
+  committed = λ t below. holds.committed t below
+      ∙ ap (λ cut. is_committed (state_of o cut t)) (sym same);
   limbo = λ t below. holds.limbo t below ∙ ap (λ cut. is_limbo (state_of o cut t)) (sym same);
-  undrawn = λ t above. ap (λ cut. is_limbo (state_of o cut t)) same ∙ holds.undrawn t above;
+  undrawn = λ t above. (
+    ap (λ cut. is_committed (state_of o cut t)) same ∙ (holds.undrawn t above).0,
+    ap (λ cut. is_limbo (state_of o cut t)) same ∙ (holds.undrawn t above).1,
+  );
   changes = λ t name key in_limbo.
       holds.changes t name key (ap (λ cut. is_limbo (state_of o cut t)) (sym same) ∙ in_limbo)
       ∙ ap (λ cut. newest_at (own o cut t) name key) (sym same);

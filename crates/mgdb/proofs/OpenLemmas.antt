@@ -7,7 +7,9 @@ use Rattle.mg_base.specs.Disk.{Meaning}
 use Rattle.mg_base.specs.Image.{Image, blank, page_at}
 use Rattle.mg_base.specs.Moments.{goes_on, joined, leaves_as, started}
 use Rattle.mg_model.specs.declared.opening.Opening.{Opening}
-use Rattle.mg_model.specs.OpeningLaws.{new_is_opening}
+use Rattle.mg_model.specs.NewDatabase.{new_opening}
+use Rattle.mg_model.specs.NewOpeningLaws.{new_is_opening}
+use Rattle.mg_model.specs.OpeningLaws.{opening_may_begin}
 use Rattle.mg_image.specs.Form.{Pages, plain_coding, plain_form}
 use Rattle.mg_image.specs.Inventory.{next_of}
 use Rattle.mg_image.specs.Opening.{IsBlank}
@@ -193,7 +195,8 @@ new_served : RowsAreOne plain_coding → (s : Served) (pages : Pages) → IsNewP
     → IsServed s pages [] new_history []
 new_served one s pages new starts same = opens_served s pages [] new_history
     (form_opens one s pages new_history (kv_opened pages 1 no_rows) (new_is_first pages new)
-    (new_is_opened pages new) (new_is_opening LAST.0) (new_begins pages new) refl
+    (new_is_opened pages new) (opening_may_begin (new_opening LAST.0)
+    (new_is_opening LAST.0 (omega arith) (omega arith))) (new_begins pages new) refl
     (new_starts s pages starts same (next_is pages 1 new.header)) []
     (none_has_slots (pages KV_ROWS.0) new.kv_rows.lawful new.kv_rows.cells))
 

@@ -44,7 +44,8 @@ opening_holds_some size image o (of_blank blank) = blank_holds_some size image b
 opening_holds_some size image o (of_sound opened start is opening begins limit) = record {
   k = 0;
   within = omega arith;
-  holds = opened_holds plain_form size (page_at size image) opened o 0 (sound_image is) begins;
+  holds = opened_holds plain_form size (page_at size image) opened o 0 (sound_image is) begins
+      opening.first;
 }
 
 -- nobody is active yet: the number of an active transaction was drawn

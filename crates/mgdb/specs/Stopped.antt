@@ -1,5 +1,5 @@
 -- A disk of which a number of page writes pass.
-use Rattle.std.specs.Prelude.{◌≡◌, ◌+◌, ◌-◌, ◌^◌, ℕ}
+use Rattle.std.specs.Prelude.{◌≡◌, ◌+◌, ◌-◌, ◌^◌, ℕ, None}
 use Rattle.mg_base.specs.Disk.{Meaning}
 use Rattle.mgdb.specs.declared.stopped.Stopped.{Stopped}
 
@@ -24,4 +24,7 @@ stopped_meaning m = record {
   left = λ d t c. m.left d.inner t c;
   faults = λ d. m.faults d.inner + d.blown;
   asked = λ d. d.passed + d.blown + (2 ^ 32 - d.most);
+  reads = λ d. m.reads d.inner;
+  was_read = λ d n. m.was_read d.inner n;
+  most_writes = λ d. None;
 }

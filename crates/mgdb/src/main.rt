@@ -22,7 +22,8 @@ mod words;
 mod work;
 
 pub use laws::{blank_disks_are_entries, known_images_are_entries, scripts_are_limited};
-use mg_base::{FileDisk, StdSink, StdSource};
+use mg_base::{StdSink, StdSource};
+use mg_device::FileDisk;
 pub use run::run;
 pub use status::Status;
 use std::alloc::AllocError;
