@@ -1,10 +1,9 @@
 -- The promises of changes.
-use Rattle.std.specs.Prelude.{◌≡◌, ◌≢◌, ℕ, ◌/◌, ◌≤◌, Bool, true, false, nat_lt, List, [], ◌∷◌, ◌++◌, length, Option, Some, None, IfSome}
-use Rattle.std.proofs.Common.{refl, sym, ap, subst, ◌∙◌, append_assoc, arith}
+use Rattle.std.specs.Prelude.{◌≡◌, ◌≢◌, ℕ, ◌/◌, true, nat_lt, List, [], ◌∷◌, ◌++◌, Option, IfSome}
+use Rattle.std.proofs.Common.{sym, ap, subst, ◌∙◌, append_assoc, arith}
 use Rattle.mg_node.specs.declared.entry.Entry.{Entry}
-use Rattle.mg_node.specs.NodePage.{AreAscending, AreBetween, BeginsAsInner, IsAtLeast, IsBelow, IsFirstEntry, IsNodePage, entries_of, high_of, is_inner, level_in, low_of}
+use Rattle.mg_node.specs.NodePage.{AreAscending, AreBetween, BeginsAsInner, IsAtLeast, IsBelow, IsNodePage, entries_of, high_of, is_inner, level_in, low_of}
 use Rattle.mg_node_writing.specs.ChangePromises.{InsertsBehindFirst}
-use Rattle.mg_node_writing.specs.Moves.{as_fence}
 use Rattle.mg_node_writing.specs.NodeChanges.{InsertsEntry, IsEntryOf, TakesEntry}
 use Rattle.mg_node_writing.specs.Splits.{SplitsNode}
 use Rattle.mg_node_writing.proofs.ListLemmas.{first_stays}

@@ -26,10 +26,9 @@ pub fn new_node(b: &mut [u8], page: PageNo, owner: u32, level: u16)
 /// Makes `to` the page `page` with the content of another one.
 pub fn copy_node(from: &[u8], to: &mut [u8], page: PageNo)
     requires sized { IsSized from.now }
-    requires lawful { IsNodePage from.now }
     requires sizes { length to.old ≡ length from.now }
     ensures bytes { to.new ≡ with_u32 from.now OWN_AT page.0 }
-    ensures copies { CopiesNode from.now to.new page.0 }
+    ensures copies { IsNodePage from.now → CopiesNode from.now to.new page.0 }
 {
     to.copy_from_slice(from);
     put_u32(to, OWN_AT, page.0);

@@ -474,6 +474,21 @@ fn each_broken_record_is_told_by_its_rule(rt: HostRuntime) -> Result<(), Fail> {
 }
 
 #[test]
+fn a_file_that_was_not_made_yet_is_blank(rt: HostRuntime) -> Result<(), Fail> {
+    let alloc = rt.alloc();
+    let Some(blank) = Image::new(alloc, 1024, Vec::new(alloc))? else {
+        return Err("no image")?;
+    };
+    if !blank.is_blank() {
+        return Err("an empty file")?;
+    }
+    if image_of(alloc, &database(Vec::new(alloc)))?.is_blank() {
+        return Err("a database")?;
+    }
+    Ok(())
+}
+
+#[test]
 fn a_new_database_has_its_catalog_and_an_empty_table(rt: HostRuntime) -> Result<(), Fail> {
     let alloc = rt.alloc();
     let mut made = database(Vec::new(alloc));

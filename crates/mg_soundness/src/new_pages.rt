@@ -94,7 +94,12 @@ fn is_same(a: &[u8], b: &[u8]) -> bool
 }
 
 /// Whether a page is that of its number in a new database.
-fn is_new_page(alloc: Global, image: &Image, coding: RowCoding, n: u32) -> Result<bool, Memory>
+pub(crate) fn is_new_page(
+    alloc: Global,
+    image: &Image,
+    coding: RowCoding,
+    n: u32,
+) -> Result<bool, Memory>
     requires { 1 ≤ n }
     ensures { IfOk result (λ is. IsTrue is
         ↔ IsNewPage (coding_of coding) image.now.size n (pages_in image.now n)) }
@@ -113,8 +118,9 @@ fn is_new_page(alloc: Global, image: &Image, coding: RowCoding, n: u32) -> Resul
     Ok(is_same(page, made))
 }
 
-/// Whether an image is blank: page 0 is all zero, and each other page is too, or it is that page of
-/// a new database. A database is made on such an image alone. It reads each page.
+/// Whether a database may be made on an image: page 0 is all zero, and each other page is too, or
+/// it is that page of a new database. It reads each page, those past the end too, so it is slow on
+/// an image of which it is true.
 ///
 /// # Errors
 ///

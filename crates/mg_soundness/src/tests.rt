@@ -3,6 +3,7 @@
 ghost use Rattle.std.specs.Prelude.{◌≡◌, length};
 ghost use Rattle.mg_slots.specs.DataPage.{IsDataPage};
 
+use super::new_pages::is_new_page;
 use super::*;
 use mg_base::{Bytes, PageNo, TxNo, TxState, new_common};
 use mg_header::{HEADER_KIND, Header, write_header};
@@ -550,24 +551,31 @@ fn the_rules_of_keys_are_named(rt: HostRuntime) -> Result<(), Fail> {
 }
 
 #[test]
-fn a_disk_is_blank_until_its_header_is_there(rt: HostRuntime) -> Result<(), Fail> {
+fn a_damaged_header_makes_no_disk_blank(rt: HostRuntime) -> Result<(), Fail> {
     let alloc = rt.alloc();
-    let mut made = sound();
-    made.next = 1;
-    made.states = [LIVE, LIVE, LIVE];
-    // The header page is left out, and one page after the other.
-    for count in 0..8 {
-        let mut pages = Vec::new(alloc);
-        pages.push(Bytes::zeroed(alloc, SIZE)?)?;
-        for n in 1..count {
-            pages.push(Bytes::new(new_page(alloc, n)?))?;
-        }
-        expect_blank(alloc, pages, true)?;
-    }
+    let made = sound();
     let mut pages = Vec::new(alloc);
     pages.push(Bytes::zeroed(alloc, SIZE)?)?;
     for n in 1..7 {
         pages.push(Bytes::new(page_of(alloc, &made, n)?))?;
     }
     expect_blank(alloc, pages, false)
+}
+
+#[test]
+fn the_pages_of_a_new_database_are_known(rt: HostRuntime) -> Result<(), Fail> {
+    let alloc = rt.alloc();
+    let mut pages = Vec::new(alloc);
+    for n in 0..7 {
+        pages.push(Bytes::new(new_page(alloc, n)?))?;
+    }
+    let Ok(Some(image)) = Image::new(alloc, 1024, pages) else {
+        return Err("no image")?;
+    };
+    for n in 1..7 {
+        if !is_new_page(alloc, &image, RowCoding::Plain, n)? {
+            return Err("a page of a new database")?;
+        }
+    }
+    Ok(())
 }
