@@ -88,7 +88,7 @@ classed kinds.End bytes some s = absurd s
 classed kinds.Stray bytes some s = absurd s
 classed j bytes some s = fixed j bytes some s refl refl
 
-not_both : {b : Bool} → b ≡ false → b ≡ true → ⊥
+pub not_both : {b : Bool} → b ≡ false → b ≡ true → ⊥
 not_both p q = let h = sym p ∙ q in cc
 
 some_between : (text : List ℕ) (at to : ℕ) → at < to → to ≤ length text → 0 < length (between text at to)

@@ -11,3 +11,7 @@ pub mod Names
 pub mod Moves
 pub mod Unquoting
 pub mod Whole
+pub mod Once
+pub mod Agreeing
+pub mod NoFault
+pub mod OneStatement

@@ -28,26 +28,26 @@ use Rattle.mg_sql.proofs.Unique.{same_kind, same_bytes, same_tail, expr_one, Sam
 
 -- taking a rest apart
 
-record Words (most : Limits) (n : ℕ) (k : Kind) (r : Rest) (s : Plain) (ts vs : List Token) : Type 0 where
+pub record Words (most : Limits) (n : ℕ) (k : Kind) (r : Rest) (s : Plain) (ts vs : List Token) : Type 0 where
   pub bytes : List ℕ
   pub mid : List Token
   pub takes : Takes k bytes ts mid
   pub spells : Spells most n r s mid vs
 
-words : {most : Limits} {n : ℕ} {k : Kind} {r : Rest} {s : Plain} {ts vs : List Token} → Spells most n (g.word k r) s ts vs → Words most n k r s ts vs
+pub words : {most : Limits} {n : ℕ} {k : Kind} {r : Rest} {s : Plain} {ts vs : List Token} → Spells most n (g.word k r) s ts vs → Words most n k r s ts vs
 words (g.took {b = b} {us = us} t r) = record { bytes = b; mid = us; takes = t; spells = r }
 
-record Names_ (most : Limits) (n : ℕ) (then_ : List ℕ → Rest) (s : Plain) (ts vs : List Token) : Type 0 where
+pub record Names_ (most : Limits) (n : ℕ) (then_ : List ℕ → Rest) (s : Plain) (ts vs : List Token) : Type 0 where
   pub bytes : List ℕ
   pub mid : List Token
   pub takes : Takes kinds.Name bytes ts mid
   pub short : length bytes ≤ most.name
   pub spells : Spells most n (then_ (capitals bytes)) s mid vs
 
-name_parts : {most : Limits} {n : ℕ} {then_ : List ℕ → Rest} {s : Plain} {ts vs : List Token} → Spells most n (g.name then_) s ts vs → Names_ most n then_ s ts vs
+pub name_parts : {most : Limits} {n : ℕ} {then_ : List ℕ → Rest} {s : Plain} {ts vs : List Token} → Spells most n (g.name then_) s ts vs → Names_ most n then_ s ts vs
 name_parts (g.named {b = b} {us = us} t short r) = record { bytes = b; mid = us; takes = t; short = short; spells = r }
 
-record Sizes (most : Limits) (n : ℕ) (then_ : ℕ → Rest) (s : Plain) (ts vs : List Token) : Type 0 where
+pub record Sizes (most : Limits) (n : ℕ) (then_ : ℕ → Rest) (s : Plain) (ts vs : List Token) : Type 0 where
   pub bytes : List ℕ
   pub mid : List Token
   pub takes : Takes kinds.Integer bytes ts mid
@@ -55,10 +55,10 @@ record Sizes (most : Limits) (n : ℕ) (then_ : ℕ → Rest) (s : Plain) (ts vs
   pub most_ : number bytes ≤ MOST_SIZE
   pub spells : Spells most n (then_ (number bytes)) s mid vs
 
-size_parts : {most : Limits} {n : ℕ} {then_ : ℕ → Rest} {s : Plain} {ts vs : List Token} → Spells most n (g.size then_) s ts vs → Sizes most n then_ s ts vs
+pub size_parts : {most : Limits} {n : ℕ} {then_ : ℕ → Rest} {s : Plain} {ts vs : List Token} → Spells most n (g.size then_) s ts vs → Sizes most n then_ s ts vs
 size_parts (g.sized {b = b} {us = us} t low high r) = record { bytes = b; mid = us; takes = t; some = low; most_ = high; spells = r }
 
-record Values_ (most : Limits) (n : ℕ) (within : Bool) (then_ : Tree → Rest) (s : Plain) (ts vs : List Token) : Type 0 where
+pub record Values_ (most : Limits) (n : ℕ) (within : Bool) (then_ : Tree → Rest) (s : Plain) (ts vs : List Token) : Type 0 where
   pub levels : ℕ
   pub tree : Tree
   pub mid : List Token
@@ -66,10 +66,10 @@ record Values_ (most : Limits) (n : ℕ) (within : Bool) (then_ : Tree → Rest)
   pub reads : Expr most levels tree ts mid
   pub spells : Spells most n (then_ tree) s mid vs
 
-value_parts : {most : Limits} {n : ℕ} {within : Bool} {then_ : Tree → Rest} {s : Plain} {ts vs : List Token} → Spells most n (g.expression within then_) s ts vs → Values_ most n within then_ s ts vs
+pub value_parts : {most : Limits} {n : ℕ} {within : Bool} {then_ : Tree → Rest} {s : Plain} {ts vs : List Token} → Spells most n (g.expression within then_) s ts vs → Values_ most n within then_ s ts vs
 value_parts (g.expressed m e us same x r) = record { levels = m; tree = e; mid = us; same = same; reads = x; spells = r }
 
-list_parts : {most : Limits} {n : ℕ} {i : Item} {then_ : List (Of i) → Rest} {s : Plain} {ts vs : List Token} → Spells most n (g.list i then_) s ts vs → Spells most n (item i (λ x. behind i then_ (x ∷ []))) s ts vs
+pub list_parts : {most : Limits} {n : ℕ} {i : Item} {then_ : List (Of i) → Rest} {s : Plain} {ts vs : List Token} → Spells most n (g.list i then_) s ts vs → Spells most n (item i (λ x. behind i then_ (x ∷ []))) s ts vs
 list_parts (g.listed r) = r
 
 -- which rest a token of a kind turns a rest to
@@ -337,11 +337,11 @@ open_ (g.list i then_) = open_list (open_item i _ (λ x. open_right (open_ (then
 
 -- an expression was read or refused
 
-ends_by : (us : List Token) {k : Kind} → kind_in us ≡ k → binds k < 1 → Ends 1 us
+pub ends_by : (us : List Token) {k : Kind} → kind_in us ≡ k → binds k < 1 → Ends 1 us
 ends_by [] e h = omega arith
 ends_by (t ∷ us) e h = subst (λ k. binds k < 1) (sym e) h
 
-weak : (k : Kind) → behind_item k ≡ true → binds k < 1
+pub weak : (k : Kind) → behind_item k ≡ true → binds k < 1
 weak kinds.Or h = absurd cc
 weak kinds.And h = absurd cc
 weak kinds.Is h = absurd cc
@@ -384,7 +384,7 @@ taken : (test : Kind → Bool) {k : Kind} {b : List ℕ} {ts us : List Token} �
 taken test t h = ap (λ ts. test (kind_in ts)) t ∙ h
 
 -- a rest begins with one of the tokens that pass the test
-begins : (test : Kind → Bool) (r : Rest) {most : Limits} {n : ℕ} {s : Plain} {ts us : List Token} → begins_in test r ≡ true → Spells most n r s ts us → test (kind_in ts) ≡ true
+pub begins : (test : Kind → Bool) (r : Rest) {most : Limits} {n : ℕ} {s : Plain} {ts us : List Token} → begins_in test r ≡ true → Spells most n r s ts us → test (kind_in ts) ≡ true
 begins test (g.finish s) all (g.finished t) = taken test t (among test (kinds.Semicolon ∷ kinds.End ∷ []) 1 all (omega arith))
 begins test (g.finish s) all (g.closed t u) = taken test t (among test (kinds.Semicolon ∷ kinds.End ∷ []) 0 all (omega arith))
 begins test (g.word k r) all x = taken test (words x).takes all
@@ -551,13 +551,18 @@ pub desc_read : (then_ : Bool → Rest) (old new : Parser) → IsReady old → K
 desc_read then_ old new ready keeps never true told = took_left old new ready keeps told never
 desc_read then_ old new ready keeps never false told = passed old new ready told
 
+-- where READ stands, and no access was given, it begins the isolation
+pub modes_at_read : Turns (g.modes false) (g.word kinds.Read (g.word kinds.Committed (g.finish (SetTransaction false true false)))) kinds.Read
+modes_at_read =
+    turn_on (turn_right (never_word (λ e. absurd cc))) (turn_on (turn_right (never_word (λ e. absurd cc)))
+    (turn_on (turn_right (never_word (λ e. absurd cc))) (turn_on (turn_left (never_finish (λ e. absurd cc) (λ e. absurd cc)))
+    (turn_right (never_word (λ e. absurd cc))))))
+
 -- READ stood behind SET TRANSACTION: what follows may end the access, or the isolation
 pub read_taken : (old new : Parser) → IsReady old → Keeps old new → Takes_ kinds.Read old new true → Derives (g.access g.modes) g.behind_read old new
 read_taken old new ready keeps told = derives_on (turned ready (turn_on (turn_in_right at_read) turn_both)) (taken_word old new keeps told) where
   at_read : Turns (g.modes false) (g.word kinds.Read (g.word kinds.Committed (g.finish (SetTransaction false true false)))) old.kind
-  at_read = subst (λ k. Turns (g.modes false) (g.word kinds.Read (g.word kinds.Committed (g.finish (SetTransaction false true false)))) k) (sym told.0)
-      (turn_on (turn_right (never_word (λ e. absurd cc))) (turn_on (turn_right (never_word (λ e. absurd cc)))
-      (turn_on (turn_right (never_word (λ e. absurd cc))) (turn_on (turn_left (never_finish (λ e. absurd cc) (λ e. absurd cc))) (turn_right (never_word (λ e. absurd cc)))))))
+  at_read = subst (λ k. Turns (g.modes false) (g.word kinds.Read (g.word kinds.Committed (g.finish (SetTransaction false true false)))) k) (sym told.0) modes_at_read
 
 abbrev pub no_star : Kind → Bool
 no_star kinds.Star = false
@@ -569,7 +574,7 @@ no_totals kinds.Count = false
 no_totals kinds.Sum = false
 no_totals _ = true
 
-abbrev of_totals : Kind → Bool
+abbrev pub of_totals : Kind → Bool
 of_totals kinds.Count = true
 of_totals kinds.Sum = true
 of_totals _ = false

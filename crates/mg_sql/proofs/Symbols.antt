@@ -98,7 +98,7 @@ pub record Parts (text : List ℕ) (at other : ℕ) (j : Kind) : Type 0 where
   pub second : at + 1 < other → get_or bytes 0 0 ≡ get_or text (at + 1) 0
   pub is : IsSpelled j (get_or text at 0 ∷ bytes)
 
-parts : (text : List ℕ) (at other : ℕ) (j : Kind) → at < other → other ≤ length text → IsSpelled j (between text at other) → Parts text at other j
+pub parts : (text : List ℕ) (at other : ℕ) (j : Kind) → at < other → other ≤ length text → IsSpelled j (between text at other) → Parts text at other j
 parts text at other j low inside s = by (between text at other) refl where
   by : (bytes : List ℕ) → between text at other ≡ bytes → Parts text at other j
   by [] e = let l = ap length e in absurd (omega (arith, between_len text at other inside))

@@ -13,18 +13,33 @@ use Rattle.mg_sql.specs.Statements as g
 use Rattle.mg_sql.specs.Statements.{Rest, Spells, statement}
 use Rattle.mg_sql.specs.Going.{Spelled, Derives}
 use Rattle.mg_sql.specs.Reading.{the_limits, Allows, Refuses, Reads, Completes, CompletesBeyond, Told, Keeps, ahead}
-use Rattle.mg_sql.specs.Answers.{Front, Parses, Begins, Stops, NeverBegins, CouldBegin, Explains, FaultIn, Answers}
+use Rattle.mg_sql.specs.Answers.{Front, Parses, Begins, GoesOn, Stops, NeverBegins, CouldBegin, Explains, FaultIn, Answers}
 use Rattle.mg_sql.specs.declared.parts.TheConstants.{LEVELS}
 use Rattle.mg_sql.specs.declared.token.Kind.TheVariants as kinds
 use Rattle.mg_sql.specs.Reading.{IsReady, Fails, Takes_, bounded}
 use Rattle.mg_sql.specs.Tokens.{Takes}
 use Rattle.mg_sql.specs.Ends.{kind_in}
 use Rattle.mg_sql.proofs.Refusing.{same_limits, lexes_append}
-use Rattle.mg_sql.proofs.Steps.{ended_token, syntax_told}
+use Rattle.mg_sql.proofs.Steps.{ended_token, syntax_told, binds_six}
 use Rattle.mg_sql.proofs.Moves.{wrong, never_finish, is_token, tails}
 
 begins : (most : Limits) (n : ℕ) (ts : List Token) → Completes (Spelled statement) most n ts → Begins most n ts
 begins most n ts c = record { makes = c.tree; more = c.more; is = subst (λ us. (Spelled statement) most n c.tree (ts ++ us) []) (append-nil c.more) (c.reads most n [] (record { name = omega arith; number = omega arith }) (omega arith)) }
+
+-- a statement goes on behind the tokens before a refused one: with none behind it would be complete, and the refused one could follow
+goes : {text : List ℕ} {from to : ℕ} {always : Bool} {x : Token} (r : Refuses (Spelled statement) 6 32 always x text from to) → GoesOn the_limits LEVELS r.front
+goes {x = x} r = by r.viable.more refl where
+  by : (more : List Token) → r.viable.more ≡ more → GoesOn the_limits LEVELS r.front
+  by [] e = absurd (r.blocked the_limits 32 r.viable.tree [] (x ∷ []) (λ h. (same_limits, omega arith)) (binds_six x.kind)
+      (subst (λ us. Spells the_limits LEVELS statement r.viable.tree (r.front ++ (us ++ x ∷ [])) (x ∷ [])) e
+      (r.viable.reads the_limits 32 (x ∷ []) same_limits (omega arith))))
+  by (y ∷ ys) e = record {
+    makes = r.viable.tree;
+    next = y;
+    more = ys;
+    is = subst (λ us. Spells the_limits LEVELS statement r.viable.tree (r.front ++ us) []) (append-nil r.viable.more ∙ e)
+        (r.viable.reads the_limits 32 [] same_limits (omega arith));
+  }
 
 front_of : {text : List ℕ} {from : ℕ} {always : Bool} {x : Token} {to : ℕ} → AreBlank text 0 from → (r : Refuses (Spelled statement) 6 32 always x text from to) → Front text r.front to
 front_of {from = from} blanks r = record { from = from; blanks = blanks; lexes = r.lexes }
@@ -46,7 +61,7 @@ fault_in text from new always fault blanks same stands r explains = record {
     before = front_of blanks r;
     stands = stands;
     token_ = refl;
-    viable = begins the_limits LEVELS r.front r.viable;
+    viable = goes r;
     never = never_within r the_limits 32 (λ h. (same_limits, omega arith));
   };
   explains = explains;

@@ -32,6 +32,13 @@ pub record Begins (most : Limits) (levels : ℕ) (ts : List Token) : Type 0 wher
   pub more : List Token
   pub is : Spells most levels statement makes (ts ++ more) []
 
+-- a statement can go on behind these tokens: with a next one, and others
+pub record GoesOn (most : Limits) (levels : ℕ) (ts : List Token) : Type 0 where
+  pub makes : Plain
+  pub next : Token
+  pub more : List Token
+  pub is : Spells most levels statement makes (ts ++ next ∷ more) []
+
 -- The first fault of the text: a statement can go on behind the tokens before a place, and not behind
 -- the token that stands there.
 pub record Stops (text : List ℕ) (at : ℕ) (kind : Kind) (front : List Token) (x : Token) : Type 0 where
@@ -39,7 +46,7 @@ pub record Stops (text : List ℕ) (at : ℕ) (kind : Kind) (front : List Token)
   pub before : Front text front at
   pub stands : Stands text at end kind
   pub token_ : x ≡ token kind (between text at end)
-  pub viable : Begins the_limits LEVELS front
+  pub viable : GoesOn the_limits LEVELS front
   pub never : Begins the_limits LEVELS (front ++ x ∷ []) → ⊥
 
 -- under no limits a statement begins so

@@ -9,3 +9,4 @@ pub mod Statements
 pub mod Going
 pub mod Answers
 pub mod Scanning
+pub mod Laws

@@ -3,115 +3,100 @@ use std::alloc::Global;
 use std::process::Abort;
 use std::test::Fail;
 
-/// Wants the text to have this fault.
-fn refuses(rt: &impl Abort, alloc: Global, text: &[u8], fault: SqlFault) -> Result<(), Fail> {
-    let found = match parse(alloc, text) {
+/// The fault of a text.
+fn fault_of(alloc: Global, text: &[u8]) -> Option<SqlFault> {
+    match parse(alloc, text) {
         Ok(_) => None,
         Err(fault) => Some(fault),
-    };
-    assert_eq!(rt; found, Some(fault));
-    Ok(())
-}
-
-/// Wants the text to be a statement.
-fn accepts(rt: &impl Abort, alloc: Global, text: &[u8]) -> Result<(), Fail> {
-    assert!(rt; parse(alloc, text).is_ok());
-    Ok(())
-}
-
-#[test]
-fn a_syntax_fault_is_told_at_the_first_token_that_cannot_stand(
-    rt: HostRuntime,
-) -> Result<(), Fail> {
-    let alloc = rt.alloc();
-    refuses(&rt, alloc, b"", SqlFault::Syntax { at: 0 })?;
-    refuses(&rt, alloc, b" \t ", SqlFault::Syntax { at: 3 })?;
-    refuses(&rt, alloc, b"COMMIT; COMMIT", SqlFault::Syntax { at: 8 })?;
-    refuses(&rt, alloc, b"DELETE FROM ", SqlFault::Syntax { at: 12 })?;
-    refuses(
-        &rt,
-        alloc,
-        b"DELETE FROM SELECT",
-        SqlFault::Syntax { at: 12 },
-    )?;
-    refuses(
-        &rt,
-        alloc,
-        b"CREATE INDEX X ON T (C)",
-        SqlFault::Syntax { at: 7 },
-    )?;
-    refuses(
-        &rt,
-        alloc,
-        b"CREATE TABLE T (A VARCHAR(1001))",
-        SqlFault::Syntax { at: 26 },
-    )?;
-    refuses(
-        &rt,
-        alloc,
-        b"CREATE TABLE T (A VARCHAR(0))",
-        SqlFault::Syntax { at: 26 },
-    )?;
-    refuses(
-        &rt,
-        alloc,
-        b"SELECT A = B = C FROM T",
-        SqlFault::Syntax { at: 13 },
-    )?;
-    refuses(
-        &rt,
-        alloc,
-        b"SELECT A = NOT B FROM T",
-        SqlFault::Syntax { at: 11 },
-    )?;
-    refuses(
-        &rt,
-        alloc,
-        b"SELECT 'a'' FROM T",
-        SqlFault::Syntax { at: 10 },
-    )?;
-    refuses(&rt, alloc, b"SELECT # FROM T", SqlFault::Syntax { at: 7 })?;
-    refuses(
-        &rt,
-        alloc,
-        b"SELECT COUNT(*), A FROM T",
-        SqlFault::Syntax { at: 17 },
-    )?;
-    refuses(
-        &rt,
-        alloc,
-        b"SET TRANSACTION READ WRITE READ ONLY",
-        SqlFault::Syntax { at: 32 },
-    )?;
-    refuses(
-        &rt,
-        alloc,
-        b"INSERT INTO T VALUES (1, 2",
-        SqlFault::Syntax { at: 26 },
-    )
-}
-
-#[test]
-fn a_token_past_its_limit_is_named_by_the_limit(rt: HostRuntime) -> Result<(), Fail> {
-    let alloc = rt.alloc();
-    let most = b"SAVEPOINT ABCDEFGHIJKLMNOPQRSTUVWXYZABCDE";
-    accepts(&rt, alloc, most)?;
-    let long = b"SAVEPOINT ABCDEFGHIJKLMNOPQRSTUVWXYZABCDEF";
-    refuses(&rt, alloc, long, SqlFault::NameTooLong { at: 10 })?;
-    accepts(&rt, alloc, b"SELECT 9223372036854775807 FROM T")?;
-    let large = b"SELECT -9223372036854775808 FROM T";
-    refuses(&rt, alloc, large, SqlFault::NumberTooLarge { at: 8 })
-}
-
-/// So many open parentheses behind a front, and as many closing ones before a back.
-fn nested(alloc: Global, front: &[u8], levels: usize, back: &[u8]) -> Result<Vec<u8>, Fail> {
-    let mut text = front.to_vec(alloc)?;
-    for _ in 0..levels {
-        text.push(b'(')?;
     }
-    text.push(b'1')?;
+}
+
+/// Wants each text to have a syntax fault at its byte.
+fn stop_at(rt: &impl Abort, alloc: Global, rows: &[(&[u8], u32)]) {
+    for (text, at) in rows {
+        assert_eq!(rt;
+            fault_of(alloc, text),
+            Some(SqlFault::Syntax { at: *at }),
+            "{at}"
+        );
+    }
+}
+
+/// Wants each text to be a statement.
+fn are_statements(rt: &impl Abort, alloc: Global, texts: &[&[u8]]) {
+    for (row, text) in texts.iter().enumerate() {
+        assert_eq!(rt; fault_of(alloc, text), None, "{row}");
+    }
+}
+
+#[test]
+fn a_syntax_fault_is_told_at_the_first_token_that_cannot_stand(rt: HostRuntime) {
+    let rows: [(&[u8], u32); 15] = [
+        (b"", 0),
+        (b" \t ", 3),
+        (b"COMMIT; COMMIT", 8),
+        (b"DELETE FROM ", 12),
+        (b"DELETE FROM SELECT", 12),
+        (b"CREATE INDEX X ON T (C)", 7),
+        (b"CREATE TABLE T (A VARCHAR(1001))", 26),
+        (b"CREATE TABLE T (A VARCHAR(0))", 26),
+        (b"SELECT A = B = C FROM T", 13),
+        (b"SELECT A = NOT B FROM T", 11),
+        (b"SELECT 'a'' FROM T", 10),
+        (b"SELECT # FROM T", 7),
+        (b"SELECT COUNT(*), A FROM T", 17),
+        (b"SET TRANSACTION READ WRITE READ ONLY", 32),
+        (b"INSERT INTO T VALUES (1, 2", 26),
+    ];
+    stop_at(&rt, rt.alloc(), &rows);
+}
+
+#[test]
+fn each_statement_is_read(rt: HostRuntime) {
+    let texts: [&[u8]; 15] = [
+        b"SET TRANSACTION READ WRITE WAIT ISOLATION LEVEL SNAPSHOT",
+        b"SET TRANSACTION READ WRITE READ COMMITTED;",
+        b"commit work",
+        b"ROLLBACK",
+        b"Rollback Work To Savepoint s;",
+        b"SAVEPOINT ABCDEFGHIJKLMNOPQRSTUVWXYZABCDE",
+        b"CREATE TABLE T (K BIGINT NOT NULL PRIMARY KEY, A$1 VARCHAR(0020) NOT NULL)",
+        b"INSERT INTO T (K, A) VALUES (-7 / 2, 'it''s')",
+        b"UPDATE T SET A = NULL, B = B + 1 WHERE NOT K = 1 AND B IS NOT NULL",
+        b"DELETE FROM T WHERE K <= 9223372036854775807",
+        b"SELECT COUNT(*), SUM(A * 2) FROM T WHERE A IS NULL OR B <> 'x'",
+        b"SELECT 1FROM KV",
+        b"SELECT A, (B) FROM T ORDER BY A ASC",
+        b"SELECT * FROM KV WHERE K > 1 ORDER BY V DESC;",
+        b"SET TRANSACTION",
+    ];
+    are_statements(&rt, rt.alloc(), &texts);
+}
+
+#[test]
+fn a_token_past_its_limit_is_named_by_the_limit(rt: HostRuntime) {
+    let long = b"SAVEPOINT ABCDEFGHIJKLMNOPQRSTUVWXYZABCDEF";
+    assert_eq!(rt;
+        fault_of(rt.alloc(), long),
+        Some(SqlFault::NameTooLong { at: 10 })
+    );
+    let large = b"SELECT -9223372036854775808 FROM T";
+    assert_eq!(rt;
+        fault_of(rt.alloc(), large),
+        Some(SqlFault::NumberTooLarge { at: 8 })
+    );
+}
+
+/// A front, so many open parentheses, a number, as many closing ones, and a back.
+fn nested(alloc: Global, front: &[u8], levels: u8, back: &[u8]) -> Result<Vec<u8>, Fail> {
+    let mut text = Vec::new(alloc);
+    text.extend_from_slice(front)?;
     for _ in 0..levels {
-        text.push(b')')?;
+        text.extend_from_slice(b"(")?;
+    }
+    text.extend_from_slice(b"1")?;
+    for _ in 0..levels {
+        text.extend_from_slice(b")")?;
     }
     text.extend_from_slice(back)?;
     Ok(text)
@@ -120,115 +105,81 @@ fn nested(alloc: Global, front: &[u8], levels: usize, back: &[u8]) -> Result<Vec
 #[test]
 fn the_33rd_level_is_too_deep(rt: HostRuntime) -> Result<(), Fail> {
     let alloc = rt.alloc();
-    accepts(&rt, alloc, &nested(alloc, b"SELECT ", 32, b" FROM T")?)?;
+    let within = nested(alloc, b"SELECT ", 32, b" FROM T")?;
+    assert_eq!(rt; fault_of(alloc, &within), None);
     let deep = nested(alloc, b"SELECT ", 33, b" FROM T")?;
-    refuses(&rt, alloc, &deep, SqlFault::TooDeep { at: 39 })?;
+    assert_eq!(rt; fault_of(alloc, &deep), Some(SqlFault::TooDeep { at: 39 }));
     // The parenthesis of VALUES is a level too.
-    accepts(
-        &rt,
-        alloc,
-        &nested(alloc, b"INSERT INTO T VALUES (", 31, b")")?,
-    )?;
     let values = nested(alloc, b"INSERT INTO T VALUES (", 32, b")")?;
-    refuses(&rt, alloc, &values, SqlFault::TooDeep { at: 53 })
+    assert_eq!(rt;
+        fault_of(alloc, &values),
+        Some(SqlFault::TooDeep { at: 53 })
+    );
+    Ok(())
 }
 
-/// A text of so many bytes: a front, and blanks.
-fn padded(alloc: Global, front: &[u8], len: usize) -> Result<Vec<u8>, Fail> {
-    let mut text = front.to_vec(alloc)?;
-    for _ in front.len()..len {
-        text.push(b' ')?;
-    }
+/// A front, and blanks up to so many bytes.
+fn padded(alloc: Global, front: &[u8], len: u32) -> Result<Vec<u8>, Fail> {
+    let mut text = Vec::new(alloc);
+    text.extend_from_slice(front)?;
+    text.resize(len as usize, b' ')?;
     Ok(text)
 }
 
 #[test]
 fn a_text_of_more_than_65536_bytes_is_no_statement(rt: HostRuntime) -> Result<(), Fail> {
     let alloc = rt.alloc();
-    accepts(&rt, alloc, &padded(alloc, b"COMMIT", 65_536)?)?;
+    let most = padded(alloc, b"COMMIT", 65_536)?;
+    assert_eq!(rt; fault_of(alloc, &most), None);
     let long = padded(alloc, b"COMMIT", 65_537)?;
-    refuses(&rt, alloc, &long, SqlFault::Syntax { at: 65_536 })?;
+    assert_eq!(rt;
+        fault_of(alloc, &long),
+        Some(SqlFault::Syntax { at: 65_536 })
+    );
     let early = padded(alloc, b"COMMIT COMMIT", 70_000)?;
-    refuses(&rt, alloc, &early, SqlFault::Syntax { at: 7 })
-}
-
-#[test]
-fn each_statement_is_read(rt: HostRuntime) -> Result<(), Fail> {
-    let alloc = rt.alloc();
-    accepts(
-        &rt,
-        alloc,
-        b"SET TRANSACTION READ WRITE WAIT ISOLATION LEVEL SNAPSHOT",
-    )?;
-    accepts(&rt, alloc, b"SET TRANSACTION READ WRITE READ COMMITTED;")?;
-    accepts(&rt, alloc, b"commit work")?;
-    accepts(&rt, alloc, b"ROLLBACK")?;
-    accepts(&rt, alloc, b"Rollback Work To Savepoint s;")?;
-    accepts(&rt, alloc, b"ROLLBACK TO S")?;
-    accepts(
-        &rt,
-        alloc,
-        b"CREATE TABLE T (K BIGINT NOT NULL PRIMARY KEY, A$1 VARCHAR(0020) NOT NULL)",
-    )?;
-    accepts(&rt, alloc, b"INSERT INTO T (K, A) VALUES (-7 / 2, 'it''s')")?;
-    accepts(
-        &rt,
-        alloc,
-        b"UPDATE T SET A = NULL, B = B + 1 WHERE NOT K = 1 AND B IS NOT NULL",
-    )?;
-    accepts(
-        &rt,
-        alloc,
-        b"SELECT COUNT(*), SUM(A * 2) FROM T WHERE A IS NULL OR B <> 'x'",
-    )?;
-    accepts(&rt, alloc, b"SELECT 1FROM KV")?;
-    accepts(
-        &rt,
-        alloc,
-        b"SELECT A, (B) FROM T WHERE A <= 1 ORDER BY A ASC",
-    )?;
-    accepts(&rt, alloc, b"SELECT * FROM KV ORDER BY V DESC;")
+    assert_eq!(rt; fault_of(alloc, &early), Some(SqlFault::Syntax { at: 7 }));
+    Ok(())
 }
 
 #[test]
 fn a_statement_has_what_its_text_says(rt: HostRuntime) -> Result<(), Fail> {
     let alloc = rt.alloc();
-    let committed = parse(alloc, b"SET TRANSACTION READ COMMITTED");
-    assert!(rt;
-        matches!(
-            &committed,
-            Ok(Statement::SetTransaction {
-                read_only: false,
-                wait: true,
-                snapshot: false
-            })
-        )
-    );
-    let reader = parse(alloc, b"SET TRANSACTION READ ONLY NO WAIT");
-    assert!(rt;
-        matches!(
-            &reader,
-            Ok(Statement::SetTransaction {
-                read_only: true,
-                wait: false,
-                snapshot: true
-            })
-        )
-    );
     let Ok(Statement::Savepoint { name }) = parse(alloc, b"savepoint s_1") else {
         assert!(rt; false);
         return Ok(());
     };
     assert_eq!(rt; name.as_slice(), b"S_1".as_slice());
-    let words = format!(in alloc; "{}, {}", SqlFault::TooDeep { at: 39 }, SqlFault::Memory)?;
-    assert_eq!(rt; words.as_str(), "TOO DEEP AT 39, OUT OF MEMORY");
-    let more = format!(in alloc;
+    let committed = parse(alloc, b"SET TRANSACTION READ COMMITTED");
+    let words = format!(in alloc; "{committed:?}")?;
+    assert_eq!(rt;
+        words.as_str(),
+        "Ok(SetTransaction { read_only: false, wait: true, snapshot: false })"
+    );
+    let reader = parse(alloc, b"SET TRANSACTION READ ONLY NO WAIT");
+    let words = format!(in alloc; "{reader:?}")?;
+    assert_eq!(rt;
+        words.as_str(),
+        "Ok(SetTransaction { read_only: true, wait: false, snapshot: true })"
+    );
+    Ok(())
+}
+
+#[test]
+fn faults_print_with_their_bytes(rt: HostRuntime) -> Result<(), Fail> {
+    let alloc = rt.alloc();
+    let words = format!(in alloc;
         "{}, {}",
-        SqlFault::NameTooLong { at: 1 },
-        SqlFault::NumberTooLarge { at: 2 }
+        SqlFault::Syntax { at: 65_536 },
+        SqlFault::NameTooLong { at: 1 }
     )?;
-    assert_eq!(rt; more.as_str(), "NAME TOO LONG AT 1, NUMBER TOO LARGE AT 2");
-    let last = format!(in alloc; "{}", SqlFault::Syntax { at: 65_536 })?;
-    assert_eq!(rt; last.as_str(), "SYNTAX AT 65536");
+    assert_eq!(rt; words.as_str(), "SYNTAX AT 65536, NAME TOO LONG AT 1");
+    let words = format!(in alloc;
+        "{}, {}",
+        SqlFault::NumberTooLarge { at: 2 },
+        SqlFault::TooDeep { at: 39 }
+    )?;
+    assert_eq!(rt; words.as_str(), "NUMBER TOO LARGE AT 2, TOO DEEP AT 39");
+    let words = format!(in alloc; "{}", SqlFault::Memory)?;
+    assert_eq!(rt; words.as_str(), "OUT OF MEMORY");
     Ok(())
 }
