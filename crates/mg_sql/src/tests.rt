@@ -142,29 +142,6 @@ fn a_text_of_more_than_65536_bytes_is_no_statement(rt: HostRuntime) -> Result<()
 }
 
 #[test]
-fn a_statement_has_what_its_text_says(rt: HostRuntime) -> Result<(), Fail> {
-    let alloc = rt.alloc();
-    let Ok(Statement::Savepoint { name }) = parse(alloc, b"savepoint s_1") else {
-        assert!(rt; false);
-        return Ok(());
-    };
-    assert_eq!(rt; name.as_slice(), b"S_1".as_slice());
-    let committed = parse(alloc, b"SET TRANSACTION READ COMMITTED");
-    let words = format!(in alloc; "{committed:?}")?;
-    assert_eq!(rt;
-        words.as_str(),
-        "Ok(SetTransaction { read_only: false, wait: true, snapshot: false })"
-    );
-    let reader = parse(alloc, b"SET TRANSACTION READ ONLY NO WAIT");
-    let words = format!(in alloc; "{reader:?}")?;
-    assert_eq!(rt;
-        words.as_str(),
-        "Ok(SetTransaction { read_only: true, wait: false, snapshot: true })"
-    );
-    Ok(())
-}
-
-#[test]
 fn faults_print_with_their_bytes(rt: HostRuntime) -> Result<(), Fail> {
     let alloc = rt.alloc();
     let words = format!(in alloc;
