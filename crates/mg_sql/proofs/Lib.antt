@@ -1,0 +1,17 @@
+pub mod Lexemes
+pub mod Unique
+pub mod Refusing
+pub mod ExprParts
+pub mod TreeSteps
+pub mod Steps
+pub mod Scanned
+pub mod Symbols
+pub mod Quotes
+pub mod Names
+pub mod Moves
+pub mod Unquoting
+pub mod Whole
+pub mod Once
+pub mod Agreeing
+pub mod NoFault
+pub mod OneStatement

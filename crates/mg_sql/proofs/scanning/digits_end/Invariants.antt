@@ -1,0 +1,13 @@
+use Rattle.std.proofs.Common.{◌≡◌, ◌≤◌, ◌<◌, ◌-◌, ℕ, true, get_or, length}
+use Rattle.mg_sql.specs.Spelling.{is_digit}
+use Rattle.mg_sql.proofs.scanning.digits_end.Given as goal
+
+abbrev pub invariant-loop-at : goal.invariant-loop-at
+invariant-loop-at l = record {
+  order : l.from ≤ l.at;
+  inside : l.at ≤ length l.text;
+  each : (k : ℕ) → l.from ≤ k → k < l.at → is_digit (get_or l.text k 0) ≡ true;
+}
+
+abbrev pub decreases-loop-at : goal.decreases-loop-at
+decreases-loop-at l = length l.text - l.at

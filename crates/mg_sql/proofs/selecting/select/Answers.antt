@@ -1,0 +1,37 @@
+use Rattle.std.proofs.Common.{◌≡◌, ◌≢◌, ℕ, ◌-◌, ◌≤◌, Bool, true, false, List, [], ◌∷◌, ◌++◌, map, length, Option, Some, None, Result, Ok, Err, refl, sym, ◌∙◌, ap, subst, arith}
+use Rattle.std.proofs.lemmas.Result.{err_from_is_err_and}
+use Rattle.mg_expr.specs.Trees.{Tree, tree_of}
+use Rattle.mg_sql.specs.declared.token.Kind.{Kind}
+use Rattle.mg_sql.specs.declared.token.Kind.TheVariants as kinds
+use Rattle.mg_sql.specs.declared.fault.SqlFault.{SqlFault}
+use Rattle.mg_sql.specs.declared.fault.SqlFault.TheVariants as faults
+use Rattle.mg_sql.specs.declared.parser.Parser.{Parser}
+use Rattle.mg_sql.specs.declared.statement.Def.{Def}
+use Rattle.mg_sql.specs.declared.statement.Sorted.{Sorted}
+use Rattle.mg_sql.specs.Plain as plain
+use Rattle.mg_sql.specs.Plain.{Plain, Total, plain_of, tree_in, trees_in, names_in, assign_of, total_of}
+use Rattle.mg_sql.specs.Statements as g
+use Rattle.mg_sql.specs.Statements.{Rest, item, behind}
+use Rattle.mg_sql.specs.Reading.{IsReady, Keeps, Told, Fails, Takes_, Expects, TellsName, TellsSize}
+use Rattle.mg_sql.specs.Going.{Spelled, Derives, Goes, Never, begins_in, behind_item, behind_list}
+use Rattle.mg_sql.proofs.Moves as moves
+use Rattle.mg_sql.proofs.Moves.{derives_on, fails_on, goes_on, turned, turn_left, turn_right, turn_on, never_word, never_either, never_name, never_finish, never_by, expected, word_wrong, took_left, taken_word, passed, optional_read, wrong}
+use Rattle.mg_sql.proofs.Steps.{kept_on, kept}
+use Rattle.mg_sql.proofs.selecting.select.Goals as goal
+
+pub returns-in_err-expect-clause-told : goal.returns-in_err-expect-clause-told
+returns-in_err-expect-clause-told c =
+    let p = err_from_is_err_and c.from_residual.result c.from_residual.ensures.1 in rw (p.1, p.2)
+    (word_wrong _ c.args.p.now c.expect.new.self _ c.in_err-expect.ensures.told)
+
+pub returns-then-is-clause-told : goal.returns-then-is-clause-told
+returns-then-is-clause-told c =
+    goes_on plain_of g.finish (derives_on (expected c.args.p.now c.expect.new.self c.in_ok-expect.ensures.keeps c.in_ok-expect.ensures.told) (turned c.in_ok-expect.ensures.keeps.ready (turn_left (subst (λ k. Never (g.results g.selected) k) (sym c.if-is.ensures) (never_by moves.no_totals (g.results g.selected) refl refl))))) c.totalled.ensures.keeps c.totalled.result c.totalled.ensures.told
+
+pub returns-then-is-2-clause-told : goal.returns-then-is-2-clause-told
+returns-then-is-2-clause-told c =
+    goes_on plain_of g.finish (derives_on (expected c.args.p.now c.expect.new.self c.in_ok-expect.ensures.keeps c.in_ok-expect.ensures.told) (turned c.in_ok-expect.ensures.keeps.ready (turn_left (subst (λ k. Never (g.results g.selected) k) (sym c.if-is-2.ensures) (never_by moves.no_totals (g.results g.selected) refl refl))))) c.totalled-then-is-2.ensures.keeps c.totalled-then-is-2.result c.totalled-then-is-2.ensures.told
+
+pub returns-clause-told : goal.returns-clause-told
+returns-clause-told c =
+    goes_on plain_of g.finish (derives_on (expected c.args.p.now c.expect.new.self c.in_ok-expect.ensures.keeps c.in_ok-expect.ensures.told) (turned c.in_ok-expect.ensures.keeps.ready (turn_right (moves.never_totals _ c.expect.new.self.kind c.if-is.ensures c.if-is-2.ensures)))) c.rows.ensures.keeps c.rows.result c.rows.ensures.told

@@ -1,0 +1,6 @@
+use Rattle.std.proofs.Common.{◌≡◌, ℕ, ◌<◌, length, get_or}
+use Rattle.mg_sql.specs.Spelling.{capital}
+use Rattle.mg_sql.proofs.values.fold.Given as goal
+
+abbrev pub invariant-loop-at : goal.invariant-loop-at
+invariant-loop-at l = (k : ℕ) → k < l.at → get_or l.into k 0 ≡ capital (get_or l.word k 0)

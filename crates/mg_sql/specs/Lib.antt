@@ -1,0 +1,12 @@
+pub mod Tokens
+pub mod Spelling
+pub mod Lexing
+pub mod Grammar
+pub mod Ends
+pub mod Reading
+pub mod Plain
+pub mod Statements
+pub mod Going
+pub mod Answers
+pub mod Scanning
+pub mod Laws
