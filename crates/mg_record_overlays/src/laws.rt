@@ -1,0 +1,15 @@
+//! Batches of records keep every overlay. Each function does nothing: its contract is the law.
+
+ghost use Rattle.mg_image.specs.Form.{packed_form};
+ghost use Rattle.mg_record_overlays.specs.CutEvery.{CutKeeps};
+ghost use Rattle.mg_record_overlays.specs.PushEvery.{PushKeeps};
+
+/// A version is pushed over a committed one.
+pub fn pushes_keep()
+    ensures { PushKeeps packed_form }
+{}
+
+/// A record is cut at a committed version.
+pub fn cuts_keep()
+    ensures { CutKeeps packed_form }
+{}
