@@ -89,11 +89,6 @@ column_text_equal s t p q e =
     at : (s ≡ t) × (48 + p / 10 ≡ 48 + q / 10) × (48 + p % 10 ≡ 48 + q % 10) → (s ≡ t) × (p ≡ q)
     at same = (same.0, digits_equal p q same.1 same.2)
 
--- the key of a column, with its text
-pub column_key-text : (table : List ℕ) (place : ℕ)
-    → column_key table place ≡ Text (67 ∷ column_text table place)
-column_key-text table place = refl
-
 pub column_key_equal : (s t : List ℕ) (p q : ℕ) → column_key s p ≡ column_key t q
     → (s ≡ t) × (p ≡ q)
 column_key_equal s t p q e =

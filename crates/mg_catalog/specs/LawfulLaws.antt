@@ -1,7 +1,7 @@
 -- What the key of a lawful row says of the row.
-use Rattle.std.proofs.Common.{◌≡◌, inl, inr, sym, subst, ℕ, ◌<◌, List, Some, arith}
+use Rattle.std.proofs.Common.{◌≡◌, inl, inr, sym, subst, ℕ, List, Some}
 use Rattle.mg_model.specs.Changes.{Cells}
-use Rattle.mg_model.specs.Catalog.{CatalogRows, column_key, index_key, said_b, said_name, table_key}
+use Rattle.mg_model.specs.Catalog.{CatalogRows, column_key, index_key, table_key}
 use Rattle.mg_model.specs.CatalogRules.{IsCatalog, IsCatalogRow, IsColumnRow, IsIndexRow, IsTableRow}
 use Rattle.mg_catalog.specs.KeyLaws.{column_key_equal, index_key_equal, index_not_column, table_key_equal, table_not_column, table_not_index}
 
@@ -54,14 +54,3 @@ column_lawful rows catalog table place row is =
 pub index_lawful : (rows : CatalogRows) → IsCatalog rows → (name : List ℕ) (row : Cells)
     → rows (index_key name) ≡ Some row → IsIndexRow rows name row
 index_lawful rows catalog name row is = index_row_of rows name row (catalog (index_key name) row is)
-
--- the place of an index's column is below 64
-pub index_small : (rows : CatalogRows) → IsCatalog rows → (name : List ℕ) (row : Cells)
-    → rows (index_key name) ≡ Some row → said_b row < 64
-index_small rows catalog name row is =
-    at (index_lawful rows catalog name row is).of_table
-  where
-    at : (t : Cells) × (rows (table_key (said_name row)) ≡ Some t) × (said_b row < said_b t)
-        → said_b row < 64
-    at (t, there, below) =
-        let most = (table_lawful rows catalog (said_name row) t there).most in omega arith

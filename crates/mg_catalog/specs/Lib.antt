@@ -10,3 +10,4 @@ pub mod LawfulLaws
 pub mod TableLaws
 pub mod RowsSaid
 pub mod RowsSaidLaws
+pub mod Laws

@@ -1,5 +1,5 @@
 -- The rows of the catalog that say a table.
-use Rattle.std.specs.Prelude.{ℕ, Bool, List, [], ◌∷◌, ◌++◌, ◌+◌, ◌==◌, length, if◌then◌else◌}
+use Rattle.std.specs.Prelude.{◌≡◌, Some, ℕ, Bool, List, [], ◌∷◌, ◌++◌, ◌+◌, ◌==◌, length, if◌then◌else◌}
 use Rattle.mg_value.specs.declared.value.Value.TheVariants.{Null, Text}
 use Rattle.mg_value.specs.declared.shape.Column.{Column}
 use Rattle.mg_value.specs.declared.shape.Kind.{Kind}
@@ -7,8 +7,9 @@ use Rattle.mg_value.specs.declared.shape.Kind.TheVariants as kinds
 use Rattle.mg_model.specs.declared.table.Index.{Index}
 use Rattle.mg_model.specs.declared.table.Table.{Table}
 use Rattle.mg_model.specs.Changes.{Cells, same_name}
-use Rattle.mg_model.specs.Catalog.{column_key, index_key, table_key}
-use Rattle.mg_model.specs.CatalogRules.{catalog_row}
+use Rattle.mg_model.specs.Catalog.{CatalogRows, column_key, index_key, table_key}
+use Rattle.mg_model.specs.CatalogRules.{HasIndex, IsTable, catalog_row}
+use Rattle.mg_catalog.specs.ByKey.{row_key}
 
 -- how many bytes a VARCHAR has at most, 0 for BIGINT
 abbrev pub length_of : Kind → ℕ
@@ -58,3 +59,14 @@ table_row t = catalog_row (table_key t.name) Null t.pointer.0 (length t.shape.co
 abbrev pub rows_said : Table → List Cells
 rows_said t = column_rows t.name t.shape.key 0 t.shape.columns
     ++ index_rows t.name (other_indexes t.name t.indexes) ++ (table_row t ∷ [])
+
+-- ---- the rows that a table was read from
+
+-- rows give each of these rows at its key
+abbrev pub HasEach : CatalogRows → List Cells → Type 0
+HasEach rows [] = Unit {0}
+HasEach rows (row ∷ more) = (rows (row_key row) ≡ Some row) × HasEach rows more
+
+-- no other index of a table has the table's name
+abbrev pub HasOwnName : (rows : CatalogRows) (t : Table) → IsTable rows t → Type 0
+HasOwnName rows t is = HasIndex is.others t.name → ⊥

@@ -11,16 +11,10 @@ use Rattle.mg_model.specs.declared.table.Table.{Table}
 use Rattle.mg_model.specs.Changes.{Cells, same_name}
 use Rattle.mg_model.specs.Catalog.{CatalogRows, column_key, column_said, columns_said, count_said, index_key, is_key_row, key_said, kind_said, said_a, said_b, said_c, said_d, said_name, table_key, with_column}
 use Rattle.mg_model.specs.CatalogRules.{EachIndex, HasIndex, IsCatalog, IsColumnRow, IsIndexOf, IsIndexRow, IsKeyColumn, IsTable, IsTableRow, catalog_row, primary_index}
-use Rattle.mg_catalog.specs.ByKey.{row_key}
 use Rattle.mg_catalog.specs.IndexLaws.{indexes_once}
 use Rattle.mg_catalog.specs.LawfulLaws.{column_lawful, index_lawful, table_lawful}
-use Rattle.mg_catalog.specs.RowsSaid.{column_row, column_rows, flags_of, index_row, index_rows, length_of, other_indexes, primary_root, rows_said, table_row}
+use Rattle.mg_catalog.specs.RowsSaid.{HasEach, HasOwnName, column_row, column_rows, flags_of, index_row, index_rows, length_of, other_indexes, primary_root, rows_said, table_row}
 use Rattle.mg_catalog.specs.TableLaws.{columns_count, some_row, some_shape}
-
--- rows give each of these rows at its key
-abbrev pub HasEach : CatalogRows → List Cells → Type 0
-HasEach rows [] = Unit {0}
-HasEach rows (row ∷ more) = (rows (row_key row) ≡ Some row) × HasEach rows more
 
 each_both : (rows : CatalogRows) (first second : List Cells) → HasEach rows first
     → HasEach rows second → HasEach rows (first ++ second)
@@ -177,10 +171,6 @@ key_is rows table k catalog key only place (suc count) least below =
         by_test false e = rw e (later (apart e))
 
 -- ---- a table
-
--- no other index of a table has the table's name
-abbrev pub HasOwnName : (rows : CatalogRows) (t : Table) → IsTable rows t → Type 0
-HasOwnName rows t is = HasIndex is.others t.name → ⊥
 
 table_row_there : (rows : CatalogRows) (t : Table) → IsCatalog rows → (is : IsTable rows t)
     → (lawful : IsTableRow rows t.name is.row)

@@ -1,6 +1,5 @@
 -- Laws of the tables that the rows of a catalog name.
 use Rattle.std.proofs.Common.{◌≡◌, inl, inr, ◌∙◌, ap, sym, subst, refl, ℕ, zero, suc, ◌+◌, ◌<◌, ◌≤◌, arith, List, [], ◌∷◌, ◌++◌, length, Some, get_or}
-use Rattle.std.proofs.Math.Path.{fun_ext}
 use Rattle.mg_value.specs.declared.value.Value.{Value}
 use Rattle.mg_value.specs.declared.shape.Shape.{Shape}
 use Rattle.mg_value.specs.declared.shape.TheConstants.{MOST_COLUMNS}
@@ -116,13 +115,6 @@ tables_once rows ss ts one other = tables_same rows ss ts one.each other.each
     (λ name has. table_named ss name
     (table_there rows ts ss other.each one name (named_table ts name has))))
 
--- the same rows name the same tables
-pub tables_again : (rows others : CatalogRows) (tables : List Table) → AreTables rows tables
-    → ((key : Value) → others key ≡ rows key) → AreTables others tables
-tables_again rows others tables are same =
-    let P : CatalogRows → Type 0 = λ f. AreTables f tables in
-    subst P (sym (fun_ext same)) are
-
 -- ---- tables are small
 
 -- as many columns as there are places, where each has a row
@@ -164,24 +156,10 @@ each_small rows (t ∷ ts) catalog each =
     small is = rw (columns_count rows t catalog is)
         (table_lawful rows catalog t.name is.row is.there).most
 
-each_some : (rows : CatalogRows) (tables : List Table) → IsCatalog rows
-    → EachTable (IsTable rows) tables → EachTable (λ t. 1 ≤ length t.shape.columns) tables
-each_some rows [] catalog each = tt
-each_some rows (t ∷ ts) catalog each = (some each.0, each_some rows ts catalog each.1)
-  where
-    some : IsTable rows t → 1 ≤ length t.shape.columns
-    some is = rw (columns_count rows t catalog is)
-        (table_lawful rows catalog t.name is.row is.there).some
-
 -- each table has at most 64 columns
 pub tables_are_small : (rows : CatalogRows) (tables : List Table) → AreTables rows tables
     → EachTable (λ t. length t.shape.columns ≤ MOST_COLUMNS) tables
 tables_are_small rows tables are = each_small rows tables are.lawful are.each
-
--- each table has a column
-pub tables_have_columns : (rows : CatalogRows) (tables : List Table) → AreTables rows tables
-    → EachTable (λ t. 1 ≤ length t.shape.columns) tables
-tables_have_columns rows tables are = each_some rows tables are.lawful are.each
 
 -- ---- where no two rows have one key, a bad row refutes the catalog
 

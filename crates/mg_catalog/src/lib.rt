@@ -21,6 +21,7 @@ mod find;
 mod index_row;
 mod indexes;
 mod keys;
+mod laws;
 mod names;
 mod said;
 mod spelling;
@@ -28,6 +29,7 @@ mod table_row;
 mod tables;
 
 pub use fault::CatFault;
+pub use laws::{rows_name_tables, tables_are_said};
 pub use said::rows_of;
 pub use tables::tables_of;
 

@@ -1,4 +1,1 @@
 pub mod NewPages
-pub mod RowLemmas
-pub mod StoreLemmas
-pub mod StoredLemmas

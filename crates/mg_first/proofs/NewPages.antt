@@ -18,9 +18,7 @@ use Rattle.mg_pointer.specs.PointerPageLaws.{length-entries_of, length-new_point
 use Rattle.mg_slots.specs.Changes.{PutsCell}
 use Rattle.mg_slots.specs.ChangeLaws.{full_after_put, rest_after, room_after_new_slot}
 use Rattle.mg_slots.specs.DataPage.{IsDataPage, IsNewPage, IsPacked, cell_of, slot_count, taken, taken_by}
-use Rattle.mg_slots.specs.DataPageLaws.{new_page_room}
 use Rattle.mg_slots.specs.Room.{least_free, need_of, rest_of, room_for, room_of}
-use Rattle.mg_slots.specs.RoomLaws.{least_free_within}
 use Rattle.mg_slots.specs.Verdict.{common_verdict}
 use Rattle.mg_slots.specs.declared.page.TheConstants.{DATA_KIND}
 use Rattle.mg_tip.specs.TipPage.{SetsState, new_tip_page, state_in, tip_checks}
@@ -323,16 +321,6 @@ record_added old one two new first second third body primary low slot t room fir
 
 -- ---- the rows of the catalog
 
-pub empty_bits : (name : List ℕ) → length name ≡ 0
-    → 2 ≡ number_of_bits (false ∷ is_null (name_value name) ∷ [])
-empty_bits [] none = refl
-empty_bits (byte ∷ bytes) none = absurd (omega arith)
-
-pub other_bits : (name : List ℕ) → (length name ≡ 0 → ⊥)
-    → 0 ≡ number_of_bits (false ∷ is_null (name_value name) ∷ [])
-other_bits [] some = absurd (some refl)
-other_bits (byte ∷ bytes) some = refl
-
 name_bytes : (name : List ℕ) → value_bytes (kinds.Text 31) (Text name)
     ≡ value_bytes (kinds.Text 31) (name_value name)
 name_bytes [] = refl
@@ -360,15 +348,6 @@ row_written key name bits a b c d fresh begun keyed named one two three four bit
     (value_bytes kinds.Int (Int (pos c))) (value_bytes kinds.Int (Int (pos d))))
 
 -- ---- the data page of the catalog
-
-pub fresh_is_full : (fresh : List ℕ) (size page owner : ℕ) → IsNewPage fresh size page owner 0
-    → least_free fresh ≡ slot_count fresh
-fresh_is_full fresh size page owner new = omega (arith, least_free_within fresh, new.count)
-
-pub fresh_has_room : (fresh : List ℕ) (size page owner : ℕ) → IsNewPage fresh size page owner 0
-    → size ≡ 4096 → room_of fresh ≡ 4072
-fresh_has_room fresh size page owner new is =
-    omega (arith, new_page_room fresh size page owner 0 new)
 
 pub catalog_made : (fresh one two three : List ℕ) (size : ℕ) (a b c : List ℕ) → size ≡ 4096
     → IsNewPage fresh size 4 3 0 → common_verdict fresh CATALOG_ROWS DATA_KIND 3 0 ≡ Ok tt

@@ -1,15 +1,13 @@
 -- An image of the first form: which rows of KV it holds, and with which records.
-use Rattle.std.specs.Prelude.{◌≡◌, ◌≢◌, ◌≤◌, ℕ, Bool, false, None}
-use Rattle.mg_base.specs.declared.numbers.RecId.{RecId}
-use Rattle.mg_base.specs.declared.transaction.TxState.TheVariants.{Committed, Limbo}
+use Rattle.std.specs.Prelude.{◌≡◌, ◌≢◌, ◌≤◌, ℕ, Bool, None}
+use Rattle.mg_base.specs.declared.transaction.TxState.TheVariants.{Limbo}
 use Rattle.mg_image.specs.Catalog.{catalog_table}
-use Rattle.mg_image.specs.declared.entry.Entry.{Entry}
 use Rattle.mg_image.specs.Form.{Pages, Rows, plain_form}
 use Rattle.mg_image.specs.Held.{AreRows}
 use Rattle.mg_image.specs.Inventory.{header_of, next_of, oldest_of, state_at}
 use Rattle.mg_image.specs.Opening.{Opened}
-use Rattle.mg_image.specs.RecordRules.{Each, Facts, committed_in}
-use Rattle.mg_image.specs.Records.{Reading, writer}
+use Rattle.mg_image.specs.RecordRules.{Facts, committed_in}
+use Rattle.mg_image.specs.Records.{Reading}
 use Rattle.mg_image.specs.Sound.{IsSound, facts_of}
 use Rattle.mg_first.specs.KvTable.{catalog_rows, kv_database, kv_layout, kv_table}
 use Rattle.mg_first.specs.declared.pages.TheConstants.{CATALOG, LAST, PAGE, TRANSACTIONS}
@@ -34,15 +32,6 @@ pub record IsKv (pages : Pages) (r : Reading) (n : ℕ) (kvs : Rows) : Type 0 wh
   pub catalog : AreRows (kv_facts pages) (kv_committed pages) r (catalog_table CATALOG.0)
       catalog_rows
   pub rows : AreRows (kv_facts pages) (kv_committed pages) r kv_table kvs
-
--- A version is of a committed transaction, and gives a row.
-pub record IsCommittedRow (pages : Pages) (e : Entry) : Type 0 where
-  pub committed : state_at PAGE pages (writer e) ≡ Committed
-  pub alive : e.version.deleted ≡ false
-
--- each version of each record is one
-abbrev pub AllCommitted : Pages → Reading → Type 0
-AllCommitted pages r = (p : RecId) → Each (IsCommittedRow pages) (r p)
 
 -- what opening these pages gives
 abbrev pub kv_opened : Pages → ℕ → Rows → Opened

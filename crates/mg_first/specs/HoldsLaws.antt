@@ -45,13 +45,6 @@ kv_named name = at (same_name name catalog_name) (same_name name kv_name) refl r
 
 -- ---- what is held
 
-held_catalog : (rows : Rows) (key : Value) → kv_database rows catalog_name key
-    ≡ told_of (catalog_table CATALOG.0) (catalog_rows key)
-held_catalog rows key = refl
-
-held_rows : (rows : Rows) (key : Value) → kv_database rows kv_name key ≡ rows key
-held_rows rows key = refl
-
 held_none : (rows : Rows) (name : List ℕ) (key : Value) → same_name name catalog_name ≡ false
     → same_name name kv_name ≡ false → kv_database rows name key ≡ None
 held_none rows name key no_catalog no_kv = rw (no_catalog, no_kv) refl

@@ -13,7 +13,7 @@ use Rattle.mg_value.specs.declared.value.Value.{Value}
 use Rattle.mg_value.specs.declared.value.Value.TheVariants.{Null, Int, Text}
 use Rattle.mg_image.specs.Form.{IsPlainRow, Row}
 use Rattle.mg_first.specs.KvTable.{kv_columns}
-use Rattle.mg_first.specs.Storing.{HasKey}
+use Rattle.mg_first.specs.KvCells.{HasKey}
 
 -- What the body of a version of KV says of its key.
 pub record KeyIs (body : List ℕ) (row : Row) : Type 0 where
@@ -45,9 +45,6 @@ key_of_plain body row plain storable =
       keyed = ap (λ (x : Row). get_or x 0 Null) whole;
     }
     at (v ∷ w ∷ x ∷ more) fits spelled whole stored = absurd fits.1.1
-
-eight : (key : ℤ) → length (to_le_bytes w64 (cast_unsigned w64 key)) ≡ 8
-eight key = refl
 
 -- a body has one key
 pub one_key : (body : List ℕ) (a b : ℤ) → FitsSigned w64 a → FitsSigned w64 b → HasKey body a

@@ -75,7 +75,3 @@ kv_database rows name key =
 -- no row at all
 abbrev pub no_rows : Rows
 no_rows key = None
-
--- the rows with another one at a key
-abbrev pub with_row_at : Rows → Value → Row → Rows
-with_row_at rows key row other = if same_key key other then Some row else rows other

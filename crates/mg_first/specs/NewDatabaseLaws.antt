@@ -1,6 +1,6 @@
 -- A new database is sound, holds the catalog's rows and no row of KV, and each version in it is of
 -- a committed transaction. Another header page raises the next number.
-use Rattle.std.proofs.Common.{◌≡◌, ◌≢◌, ◌⊎◌, ◌+◌, inl, inr, refl, sym, ap, ◌∙◌, lit≤, lit<, arith, ℕ, zero, suc, Bool, true, false, List, [], ◌∷◌, Option, None, Some}
+use Rattle.std.proofs.Common.{◌≡◌, ◌≢◌, ◌⊎◌, ◌+◌, inl, inr, refl, sym, ap, ◌∙◌, lit≤, lit<, arith, ℕ, Bool, true, false, List, [], ◌∷◌, Option, None, Some}
 use Rattle.std.proofs.lemmas.Bool.{cases_eq, ne_eqb}
 use Rattle.mg_base.specs.declared.numbers.RecId.{RecId}
 use Rattle.mg_base.specs.declared.transaction.TxState.TheVariants.{Committed}
@@ -16,17 +16,18 @@ use Rattle.mg_image.specs.Form.{Pages, Row, plain_form}
 use Rattle.mg_image.specs.Held.{AreRows}
 use Rattle.mg_image.specs.Indexes.{IsFoundIn}
 use Rattle.mg_image.specs.Inventory.{next_of}
-use Rattle.mg_image.specs.RecordRules.{Each, Facts, table_in}
+use Rattle.mg_image.specs.RecordRules.{Facts, table_in}
 use Rattle.mg_image.specs.Records.{Cells, cells_of, slot_cell}
 use Rattle.mg_image.specs.Sound.{HasTablePages, IsIndexed, IsSound}
 use Rattle.mg_image.specs.Tables.{EachStand, stands_of, table_at}
-use Rattle.mg_first.specs.FirstImage.{AllCommitted, IsCommittedRow, IsKv, kv_facts}
+use Rattle.mg_first.specs.FirstImage.{IsKv, kv_facts}
 use Rattle.mg_first.specs.KvTable.{catalog_rows, kv_layout, kv_shape, kv_table, no_rows}
 use Rattle.mg_first.specs.NewCatalogLaws.{catalog_names_kv}
-use Rattle.mg_first.specs.NewDatabase.{IsHeaderPage, IsNewPages, catalog_cells, catalog_entries, new_header, new_reading, no_cell}
+use Rattle.mg_first.specs.NewDatabase.{IsHeaderPage, IsNewPages, catalog_cells, new_header, new_reading, no_cell}
 use Rattle.mg_first.specs.NewPageLaws.{catalog_spelled, new_has_header, new_has_inventory, new_has_transactions, new_next, new_once, new_table_pages, none_in_limbo, system_committed}
-use Rattle.mg_first.specs.NewReadingLaws.{IsNewImage, by_place, new_catalog_rows, new_kv_rows, new_records}
-use Rattle.mg_first.specs.Puts.{OnlyPage, RaisesNext}
+use Rattle.mg_first.specs.NewReadingLaws.{IsNewImage, new_catalog_rows, new_kv_rows, new_records}
+use Rattle.mg_first.specs.PageChanges.{OnlyPage, RaisesNext}
+use Rattle.mg_first.specs.declared.pages.TheConstants.{PAGE}
 
 -- what the records need to know
 new_image : (pages : Pages) → IsNewPages pages → IsNewImage (kv_facts pages) (cells_of pages)
@@ -41,7 +42,7 @@ new_image pages new = record {
 -- ---- the tables
 
 new_tables : (pages : Pages) → IsNewPages pages
-    → EachStand (HasTablePages false 4096 pages) (stands_of kv_layout)
+    → EachStand (HasTablePages false PAGE pages) (stands_of kv_layout)
 new_tables pages new = (
   new_table_pages pages new catalog_name catalog_shape 3 4 catalog_cells (λ e. omega (arith, e))
       (lit< tt) (lit< tt) new.catalog new.catalog_rows catalog_spelled,
@@ -107,7 +108,7 @@ new_indexed pages new = record {
 -- ---- the law
 
 new_is_sound : (pages : Pages) → IsNewPages pages
-    → IsSound plain_form 4096 pages kv_layout new_reading
+    → IsSound plain_form PAGE pages kv_layout new_reading
 new_is_sound pages new = record {
   header = new_has_header pages new;
   transactions = new_has_transactions pages new;
@@ -135,20 +136,6 @@ new_is_kv pages new = record {
       (ap is_committed (system_committed pages));
   rows = new_kv_rows (kv_facts pages) (cells_of pages) (new_image pages new) _;
 }
-
--- and each version of each record is of the system's transaction, which is committed
-pub new_all_committed : (pages : Pages) → IsNewPages pages → AllCommitted pages new_reading
-new_all_committed pages new = by_place (λ p. Each (IsCommittedRow pages) (new_reading p)) here
-    (λ p other none. rw none tt)
-  where
-    here : (slot : ℕ) → Each (IsCommittedRow pages) (catalog_entries slot)
-    here zero = (record { committed = system_committed pages; alive = refl }, tt)
-    here (suc zero) = tt
-    here (suc (suc zero)) = (record { committed = system_committed pages; alive = refl }, tt)
-    here (suc (suc (suc zero))) = tt
-    here (suc (suc (suc (suc zero)))) =
-        (record { committed = system_committed pages; alive = refl }, tt)
-    here (suc (suc (suc (suc (suc slot))))) = tt
 
 -- another header page with the next number one higher raises it
 pub header_raises : (old new : Pages) (next : ℕ) → IsHeaderPage (old 0) next

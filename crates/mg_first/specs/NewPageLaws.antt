@@ -11,7 +11,7 @@ use Rattle.mg_base.specs.declared.transaction.TxState.TheVariants.{Committed, De
 use Rattle.mg_header.specs.declared.header.Header.{Header}
 use Rattle.mg_pip.specs.PipPage.{pip_checks}
 use Rattle.mg_pointer.specs.PointerPage.{next_in}
-use Rattle.mg_tip.specs.TipPage.{state_in, tip_checks}
+use Rattle.mg_tip.specs.TipPage.{places, state_in, tip_checks}
 use Rattle.mg_value.specs.declared.shape.Shape.{Shape}
 use Rattle.mg_version.specs.Cells.{AreBytes, IsSpelling}
 use Rattle.mg_version.specs.declared.cell.Cell.TheVariants as cells
@@ -23,55 +23,56 @@ use Rattle.mg_image.specs.Sound.{HasHeader, HasInventory, HasNoneUndrawn, HasTab
 use Rattle.mg_image.specs.Tables.{Has, IsOnce, LinkChain, ended, goes, has, pages_of, stands_of}
 use Rattle.mg_first.specs.KvTable.{kv_layout, stands_on}
 use Rattle.mg_first.specs.NewDatabase.{IsDataOf, IsNewPages, IsPointerTo, anchor_bytes, catalog_bytes, catalog_cells, key_row, system_link, system_version, table_row, value_row, version_bytes}
+use Rattle.mg_first.specs.declared.pages.TheConstants.{PAGE}
 
 -- ---- the header's numbers
 
 pub new_next : (pages : Pages) → IsNewPages pages → next_of pages ≡ 1
 new_next pages new = ap (λ (x : Header). x.next.0) new.header.header
 
-last_is : (pages : Pages) → IsNewPages pages → last_sequence 4096 pages ≡ 0
-last_is pages new = ap (λ (n : ℕ). (n - 1) / 16304) (new_next pages new)
+last_is : (pages : Pages) → IsNewPages pages → last_sequence PAGE pages ≡ 0
+last_is pages new = ap (λ (n : ℕ). (n - 1) / places PAGE) (new_next pages new)
 
-tip_is : (pages : Pages) → IsNewPages pages → tip_page 4096 pages 0 ≡ 2
+tip_is : (pages : Pages) → IsNewPages pages → tip_page PAGE pages 0 ≡ 2
 tip_is pages new =
     ap (λ (n : ℕ). tip_before pages (header_of pages).last_tip.0 (n - 0)) (last_is pages new) ∙
     ap (λ (x : Header). x.last_tip.0) new.header.header
 
 -- ---- what has become of transactions
 
-pub system_committed : (pages : Pages) → state_at 4096 pages 0 ≡ Committed
+pub system_committed : (pages : Pages) → state_at PAGE pages 0 ≡ Committed
 unfolding state_at
 system_committed pages = refl
 
-others_dead : (pages : Pages) → IsNewPages pages → (t : ℕ) → t ≢ 0 → state_at 4096 pages t ≡ Dead
+others_dead : (pages : Pages) → IsNewPages pages → (t : ℕ) → t ≢ 0 → state_at PAGE pages t ≡ Dead
 unfolding state_at
 others_dead pages new t other =
-    dead (t == 0) (nat_lt t (next_of pages)) (settled (bits_state 4096 pages t)) (ne_eqb t 0 other)
+    dead (t == 0) (nat_lt t (next_of pages)) (settled (bits_state PAGE pages t)) (ne_eqb t 0 other)
     (le-ltb t (next_of pages) (omega (arith, new_next pages new)))
   where
     dead : (zero_ below : Bool) (state : TxState) → zero_ ≡ false → below ≡ false
         → (if zero_ then Committed else (if below then state else Dead)) ≡ Dead
     dead zero_ below state i j = rw (i, j) refl
 
-pub none_in_limbo : (pages : Pages) → IsNewPages pages → (t : ℕ) → state_at 4096 pages t ≢ Limbo
+pub none_in_limbo : (pages : Pages) → IsNewPages pages → (t : ℕ) → state_at PAGE pages t ≢ Limbo
 none_in_limbo pages new t limbo = at (cases_eq t 0)
   where
     at : (t ≡ 0) ⊎ (t ≢ 0) → ⊥
     at (inl e) =
-        let is : state_at 4096 pages t ≡ Committed =
-        ap (state_at 4096 pages) e ∙ system_committed pages in absurd cc
+        let is : state_at PAGE pages t ≡ Committed =
+        ap (state_at PAGE pages) e ∙ system_committed pages in absurd cc
     at (inr ne) = let is = others_dead pages new t ne in absurd cc
 
 -- ---- the header, and which pages are used
 
-new_used : (pages : Pages) → IsNewPages pages → (n : ℕ) → n < 7 → is_used 4096 pages n ≡ true
+new_used : (pages : Pages) → IsNewPages pages → (n : ℕ) → n < 7 → is_used PAGE pages n ≡ true
 unfolding is_used
 new_used pages new n below =
     let region : n / 32640 ≡ 0 = omega arith in
     let bit : n % 32640 ≡ n = omega arith in
     rw (region, bit) (new.inventory.used n below)
 
-new_lengths : (pages : Pages) → IsNewPages pages → (n : ℕ) → length (pages n) ≡ 4096
+new_lengths : (pages : Pages) → IsNewPages pages → (n : ℕ) → length (pages n) ≡ PAGE
 new_lengths pages new zero = new.header.len
 new_lengths pages new (suc zero) = new.inventory.len
 new_lengths pages new (suc (suc zero)) = new.transactions.len
@@ -82,9 +83,9 @@ new_lengths pages new (suc (suc (suc (suc (suc (suc zero)))))) = new.kv_rows.len
 new_lengths pages new (suc (suc (suc (suc (suc (suc (suc n))))))) =
     ap (λ (x : List ℕ). length x)
     (new.later (suc (suc (suc (suc (suc (suc (suc n))))))) (omega arith)) ∙
-    length-replicate {A = ℕ} 4096 0
+    length-replicate {A = ℕ} PAGE 0
 
-pub new_has_header : (pages : Pages) → IsNewPages pages → HasHeader 4096 pages
+pub new_has_header : (pages : Pages) → IsNewPages pages → HasHeader PAGE pages
 new_has_header pages new = record {
   lawful_size = refl;
   whole = new_lengths pages new;
@@ -94,38 +95,38 @@ new_has_header pages new = record {
 }
 
 wanted : (pages : Pages) → IsNewPages pages → (n : ℕ) → n < 7 → (checks : List Check)
-    → PassesAll checks → IsAsWanted 4096 pages n checks
+    → PassesAll checks → IsAsWanted PAGE pages n checks
 wanted pages new n below checks passes =
     record { below = omega (arith, below); used = new_used pages new n below; fields = passes }
 
-pub new_has_inventory : (pages : Pages) → IsNewPages pages → HasInventory 4096 pages
+pub new_has_inventory : (pages : Pages) → IsNewPages pages → HasInventory PAGE pages
 new_has_inventory pages new zero inside =
     inr (wanted pages new 1 (lit< tt) (pip_checks (pages 1) 1 0) new.inventory.fields)
 new_has_inventory pages new (suc region) inside =
-    inl (new.later (inventory_page 4096 (suc region)) (omega arith))
+    inl (new.later (inventory_page PAGE (suc region)) (omega arith))
 
 -- ---- the transaction inventory
 
 abbrev IsWantedTip : Pages → ℕ → ℕ → Type 0
-IsWantedTip pages s n = IsAsWanted 4096 pages n (tip_checks (pages n) n s)
+IsWantedTip pages s n = IsAsWanted PAGE pages n (tip_checks (pages n) n s)
 
-new_tips : (pages : Pages) → IsNewPages pages → HasTips 4096 pages
+new_tips : (pages : Pages) → IsNewPages pages → HasTips PAGE pages
 new_tips pages new sequence below =
     let first : sequence ≡ 0 = omega (arith, last_is pages new, below) in
-    subst (λ (s : ℕ). IsWantedTip pages s (tip_page 4096 pages s)) (sym first)
+    subst (λ (s : ℕ). IsWantedTip pages s (tip_page PAGE pages s)) (sym first)
     (subst (λ (n : ℕ). IsWantedTip pages 0 n) (sym (tip_is pages new))
     (wanted pages new 2 (lit< tt) (tip_checks (pages 2) 2 0) new.transactions.fields))
 
-new_undrawn : (pages : Pages) → IsNewPages pages → HasNoneUndrawn 4096 pages
+new_undrawn : (pages : Pages) → IsNewPages pages → HasNoneUndrawn PAGE pages
 new_undrawn pages new t drawn last =
-    let first : t / 16304 ≡ 0 = last ∙ last_is pages new in
+    let first : t / places PAGE ≡ 0 = last ∙ last_is pages new in
     let some : 1 ≤ t = omega (arith, new_next pages new, drawn) in
-    let other : t % 16304 ≢ 0 = omega (arith, first, some) in
-    subst (λ (s : ℕ). IsUndrawn (state_in (pages (tip_page 4096 pages s)) (t % 16304))) (sym first)
-    (subst (λ (n : ℕ). IsUndrawn (state_in (pages n) (t % 16304))) (sym (tip_is pages new))
-    (subst IsUndrawn (sym (new.transactions.others (t % 16304) other)) tt))
+    let other : t % places PAGE ≢ 0 = omega (arith, first, some) in
+    subst (λ (s : ℕ). IsUndrawn (state_in (pages (tip_page PAGE pages s)) (t % places PAGE))) (sym first)
+    (subst (λ (n : ℕ). IsUndrawn (state_in (pages n) (t % places PAGE))) (sym (tip_is pages new))
+    (subst IsUndrawn (sym (new.transactions.others (t % places PAGE) other)) tt))
 
-pub new_has_transactions : (pages : Pages) → IsNewPages pages → HasTransactions 4096 pages
+pub new_has_transactions : (pages : Pages) → IsNewPages pages → HasTransactions PAGE pages
 new_has_transactions pages new =
     record { each = new_tips pages new; undrawn = new_undrawn pages new }
 
@@ -145,13 +146,13 @@ not_has (m ∷ ms) n no_ (inr there) = not_has ms n (behind (n == m) (has ms n) 
     behind true b e = absurd cc
     behind false b e = e
 
-pub new_once : (pages : Pages) → IsNewPages pages → IsOnce (linked_pages 4096 pages kv_layout)
+pub new_once : (pages : Pages) → IsNewPages pages → IsOnce (linked_pages PAGE pages kv_layout)
 new_once pages new = subst (λ (first : List ℕ).
     IsOnce (first ++ flat_map pages_of (stands_of kv_layout) ++ kv_layout.sequences))
     (sym tips) once
   where
-    tips : tips_of 4096 pages ≡ 2 ∷ []
-    tips = ap (λ (n : ℕ). tips_below 4096 pages (n + 1)) (last_is pages new) ∙
+    tips : tips_of PAGE pages ≡ 2 ∷ []
+    tips = ap (λ (n : ℕ). tips_below PAGE pages (n + 1)) (last_is pages new) ∙
         ap (λ (n : ℕ). one n) (tip_is pages new)
       where
         one : ℕ → List ℕ
@@ -251,7 +252,7 @@ pub new_table_pages : (pages : Pages) → IsNewPages pages → (name : List ℕ)
     (cell : ℕ → Option (List ℕ)) → n ≢ 0 → n < 7 → e < 7 → IsPointerTo (pages n) n e
     → IsDataOf (pages e) e n cell
     → ((slot : ℕ) (bytes : List ℕ) → cell slot ≡ Some bytes → IsCellOf false bytes)
-    → HasTablePages false 4096 pages (stands_on (plain_table name shape n) n e)
+    → HasTablePages false PAGE pages (stands_on (plain_table name shape n) n e)
 new_table_pages pages new name shape n e cell some below_n below_e pointer data_ spelled = record {
   first = some;
   chain = goes n [] some

@@ -12,7 +12,6 @@ use Rattle.mg_pip.specs.PipPage.{bit_of, used_in}
 use Rattle.mg_pointer.specs.PointerPage.{count_in, entries_of, pointer_checks, rest_checks}
 use Rattle.mg_pointer.specs.PointerPageLaws.{entry_at, length-entries_of}
 use Rattle.mg_slots.specs.PackedLaws.{AreBytes, packed_page_is_one}
-use Rattle.mg_tip.specs.TipPage.{tip_checks}
 use Rattle.mg_first.specs.NewDatabase.{IsDataOf, IsHeaderPage, IsInventoryPage, IsPointerTo}
 
 -- ---- fields, one behind the other
@@ -120,19 +119,6 @@ pub common_part_is_one : (b c : List ℕ) (page kind owner seq : ℕ) → AreByt
     → PassesAll (common_checks c page kind owner seq) → take 16 b ≡ take 16 c
 common_part_is_one b c page kind owner seq bytes also len passes too =
     front_is_one b c 16 len (common_bytes b c page kind owner seq bytes also passes too)
-
--- so have first pages of transactions, and the same page before them
-pub transaction_front_is_one : (b c : List ℕ) (page : ℕ) → AreBytes b → AreBytes c
-    → length b ≡ length c → PassesAll (tip_checks b page 0) → PassesAll (tip_checks c page 0)
-    → take 20 b ≡ take 20 c
-unfolding tip_checks
-transaction_front_is_one b c page bytes also len passes too =
-    let common : SameTo b c 16 = common_bytes b c page 3 0 0 bytes also
-    (passes_front (common_checks b page 3 0 0) _ passes)
-    (passes_front (common_checks c page 3 0 0) _ too) in
-    let prev_b = passes_behind (common_checks b page 3 0 0) _ passes in
-    let prev_c = passes_behind (common_checks c page 3 0 0) _ too in
-    front_is_one b c 20 len (four_more b c 16 bytes also common (prev_b.0 ∙ sym prev_c.0))
 
 -- ---- the header
 

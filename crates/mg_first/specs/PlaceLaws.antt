@@ -62,15 +62,6 @@ catalog_place n of = at (kv_place n)
         (some_once (catalog_table CATALOG.0) kv_table (kv_table_at n) of is))
     at (outside none) = let some = of in absurd cc
 
-pub rows_place : (n : ℕ) → kv_table_at n ≡ Some kv_table → n ≡ KV_ROWS.0
-rows_place n of = at (kv_place n)
-  where
-    at : KvPlace n → n ≡ KV_ROWS.0
-    at (in_catalog e is) = absurd (apart_tables
-        (some_once (catalog_table CATALOG.0) kv_table (kv_table_at n) is of))
-    at (in_kv e is) = e
-    at (outside none) = let some = of in absurd cc
-
 -- no table has an index
 pub no_index : (n : ℕ) (table : Table) → kv_table_at n ≡ Some table → table.indexes ≡ []
 no_index n table of = at (kv_place n)

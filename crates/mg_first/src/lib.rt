@@ -1,21 +1,22 @@
 //! The first form of a database: seven pages of 4096 bytes, with the table KV (K BIGINT PRIMARY KEY,
 //! V BIGINT) alone, whose rows stand as their bytes are.
 //!
-//! Owns: the seven pages of a new database, and how a row is put on the data page of KV. It works on
-//! pages that the caller lends, and never sees a disk.
+//! Owns: the bytes of the seven pages of a new database, and when an image is of the first form
+//! (`IsFirstForm`). It makes pages that the caller lends, and never sees a disk.
 //!
 //! Invariant: of the seven pages only three ever change: the header's next number, the bits of
 //! transactions, and the data page of KV.
 //! Below: the crates of each kind of page, of cells and of rows; `mg_image`, which says what the
-//! pages hold together. Above: the program, which writes the pages.
-//! Not here: when a page is written.
+//! pages hold together. Above: `mg_kv`, which writes rows on KV's data page, and `mg_store`, which
+//! writes the pages on a disk.
+//! Not here: how a row is written, and when a page is.
 #![tactic(auto)]
 
+mod laws;
 mod new;
 mod pages;
-mod record;
-mod rows;
 
+pub use laws::numbers_are_those_of_the_format;
 pub use new::{
     catalog_page, catalog_rows_page, header_page, inventory_page, kv_page, kv_rows_page,
     transaction_page,
@@ -24,8 +25,6 @@ pub use pages::{
     CATALOG, CATALOG_ROWS, HEADER, INVENTORY, KV, KV_ROWS, LAST, PAGE, PAGE_LEN, PAGES,
     SWEEP_INTERVAL, TRANSACTIONS,
 };
-pub use record::{AddFault, RECORD_COST, VERSION_COST};
-pub use rows::store;
 
 #[cfg(test)]
 mod tests;

@@ -5,7 +5,7 @@ use Rattle.mg_value.specs.declared.value.Value.{Value}
 use Rattle.mg_model.specs.declared.change.Step.{Step}
 use Rattle.mg_model.specs.declared.opening.Opening.{Opening}
 use Rattle.mg_model.specs.Answers.{Told, changes_key, is_committed, is_open, newest_by, told}
-use Rattle.mg_model.specs.Changes.{Cells, has_change, row_at}
+use Rattle.mg_model.specs.Changes.{Cells, has_change, row_at, same_row}
 use Rattle.mg_model.specs.History.{Entries}
 use Rattle.mg_model.specs.HinderLaws.{stands}
 use Rattle.mg_model.specs.Machine.{changes_by, database, opening_rows, opening_state, own, state_of, steps}
@@ -83,11 +83,11 @@ pub record AreGenerations (o : Opening) (h : Entries) (table : List ℕ) (key : 
   pub open_ : (t : ℕ) → is_open (state_of o h t) ≡ true
       → has_change (own o h t) table key ≡ is_newest_by t gs
   pub gives : (t : ℕ) → is_open (state_of o h t) ≡ true → is_newest_by t gs ≡ true
-      → row_at (own o h t) table key ≡ newest_row gs
+      → same_row (row_at (own o h t) table key) (newest_row gs)
   -- at each moment of the history the database had the row that they show by who was committed
   pub shows : (since before : Entries) → h ≡ since ++ before
-      → row_at (database o before) table key
-      ≡ shown_by (λ u. is_committed (state_of o before u)) gs
+      → same_row (row_at (database o before) table key)
+      (shown_by (λ u. is_committed (state_of o before u)) gs)
   -- each was written over older ones that its writer saw
   pub order : AreSeenInOrder (told o h).saw gs
   -- nobody who stands wrote the key after a transaction that has not ended
@@ -106,10 +106,10 @@ pub record AreFirst (o : Opening) (table : List ℕ) (key : Value) (gs : List Ge
     pub open_ : (t : ℕ) → is_open (opening_state o t) ≡ true
         → has_change (own o [] t) table key ≡ is_newest_by t gs
     pub gives : (t : ℕ) → is_open (opening_state o t) ≡ true → is_newest_by t gs ≡ true
-        → row_at (own o [] t) table key ≡ newest_row gs
+        → same_row (row_at (own o [] t) table key) (newest_row gs)
     -- the database has the row that they show by who was committed
-    pub shows : row_at (opening_rows o) table key
-        ≡ shown_by (λ u. is_committed (opening_state o u)) gs
+    pub shows : same_row (row_at (opening_rows o) table key)
+        (shown_by (λ u. is_committed (opening_state o u)) gs)
 
 abbrev pub generation : ℕ → Option Cells → Generation
 generation writer row = record { writer = writer; row = row }

@@ -5,13 +5,14 @@ use Rattle.mg_value.specs.declared.value.Value.{Value}
 use Rattle.mg_model.specs.declared.change.Point.{Point}
 use Rattle.mg_model.specs.declared.opening.Opening.{Opening}
 use Rattle.mg_model.specs.Catalog.{catalog_name, table_key, shape_in, key_in}
-use Rattle.mg_model.specs.Changes.{Cells, same_name, same_key, has_change, row_at}
+use Rattle.mg_model.specs.Changes.{Cells, same_row, same_name, same_key, has_change, row_at}
 use Rattle.mg_model.specs.History.{Entry, Entries, Makes, Gives, TakesBack, Ends, effect_of}
 use Rattle.mg_model.specs.Machine.{opening_rows, state_of, steps, own, database, view}
-use Rattle.mg_model.specs.Answers.{told, is_committed, is_open, can_hinder, catalog_of, obstacle, table_obstacle}
+use Rattle.mg_model.specs.Answers.{told, is_active, is_committed, is_open, can_hinder, catalog_of, obstacle, table_obstacle}
 use Rattle.mg_model.specs.Legal.{MayBegin, IsLegal, after_durable, durable_database}
 use Rattle.mg_generations.specs.Generations.{Generation, shown_by, first_writer, is_newest_by, newest_row, newest_writer_if, versions_of_row, without_newest_by, put, sees, AreFirst, AreGenerations}
 use Rattle.mg_generations.specs.After.{generations_with, generations_of, generations_back, leaves_versions, IsUndone}
+use Rattle.mg_generations.specs.Kept.{AreKept, HasSeenByAll, IsSeenByAll, StandFor}
 use Rattle.mg_generations.specs.Tables.{AreOld, asks_to_write, LeavesTable, opening_catalog}
 
 -- ---- how they come about
@@ -111,20 +112,20 @@ abbrev pub VersionsShowViews : Type 0
 VersionsShowViews = (o : Opening) (h : Entries) (table : List ℕ) (key : Value)
     (gs : List Generation) (t : ℕ) → AreGenerations o h table key gs
     → is_open (state_of o h t) ≡ true
-    → row_at (view o h t) table key ≡ shown_by (sees (told o h) t) gs
+    → same_row (row_at (view o h t) table key) (shown_by (sees (told o h) t) gs)
 
 -- the database has the newest version that is committed
 abbrev pub VersionsShowDatabase : Type 0
 VersionsShowDatabase = (o : Opening) (h : Entries) (table : List ℕ) (key : Value)
     (gs : List Generation) → AreGenerations o h table key gs
-    → row_at (database o h) table key ≡ shown_by (λ u. is_committed (state_of o h u)) gs
+    → same_row (row_at (database o h) table key) (shown_by (λ u. is_committed (state_of o h u)) gs)
 
 -- what outlasts a crash has the newest version that was committed after that durable event
 abbrev pub VersionsShowDurables : Type 0
 VersionsShowDurables = (o : Opening) (h : Entries) (table : List ℕ) (key : Value)
     (gs : List Generation) (k : ℕ) → AreGenerations o h table key gs
-    → row_at (durable_database o h k) table key
-    ≡ shown_by (λ u. is_committed (state_of o (after_durable h k) u)) gs
+    → same_row (row_at (durable_database o h k) table key)
+    (shown_by (λ u. is_committed (state_of o (after_durable h k) u)) gs)
 
 -- once a transaction is committed whose version is the newest, that one is shown
 abbrev pub CommitShowsNewest : Type 0
@@ -149,6 +150,65 @@ abbrev pub OldTableHindersNot : Type 0
 OldTableHindersNot = (o : Opening) (h : Entries) (t : ℕ) (table : List ℕ) (gs : List Generation)
     → MayBegin o → IsLegal o h → AreGenerations o h catalog_name (table_key table) gs → AreOld o gs
     → table_obstacle (told o h) t table ≡ None
+
+-- ---- versions that are kept
+
+-- all versions of a key are kept, as long as none is collected
+abbrev pub WholeAreKept : Type 0
+WholeAreKept = (o : Opening) (h : Entries) (table : List ℕ) (key : Value) (gs : List Generation)
+    → AreGenerations o h table key gs → AreKept o h table key gs
+
+-- an entry of a legal history makes of kept versions what its effect says
+abbrev pub KeptGoOn : Type 0
+KeptGoOn = (o : Opening) (h : Entries) (e : Entry) (table : List ℕ) (key : Value)
+    (gs : List Generation) → MayBegin o → IsLegal o (e ∷ h) → AreKept o h table key gs
+    → AreKept o (e ∷ h) table key (generations_with o h e table key gs)
+
+-- whom all see, all go on to see
+abbrev pub SeenGoesOn : Type 0
+SeenGoesOn = (o : Opening) (h : Entries) (e : Entry) (u : ℕ) → MayBegin o → IsLegal o (e ∷ h)
+    → IsSeenByAll o h u → IsSeenByAll o (e ∷ h) u
+
+-- what lies behind a version of one whom all see may go
+abbrev pub BehindMayGo : Type 0
+BehindMayGo = (o : Opening) (h : Entries) (table : List ℕ) (key : Value)
+    (gs older : List Generation) → AreKept o h table key (gs ++ older) → HasSeenByAll o h gs
+    → AreKept o h table key gs
+
+-- so may all, where the newest is a deletion that all see
+abbrev pub ErasedMayGo : Type 0
+ErasedMayGo = (o : Opening) (h : Entries) (table : List ℕ) (key : Value) (g : Generation)
+    (gs : List Generation) → AreKept o h table key (g ∷ gs) → IsSeenByAll o h g.writer
+    → g.row ≡ None → AreKept o h table key []
+
+-- kept versions stand for themselves
+abbrev pub KeptStand : Type 0
+KeptStand = (o : Opening) (h : Entries) (table : List ℕ) (key : Value) (gs : List Generation)
+    → AreKept o h table key gs → StandFor o h table key gs
+
+-- an active transaction sees the newest version of a chain that is its own or was committed when it
+-- took its base
+abbrev pub ChainsShowViews : Type 0
+ChainsShowViews = (o : Opening) (h : Entries) (table : List ℕ) (key : Value)
+    (chain : List Generation) (t : ℕ) → StandFor o h table key chain
+    → is_active (state_of o h t) ≡ true
+    → same_row (row_at (view o h t) table key) (shown_by (sees (told o h) t) chain)
+
+-- the database has the newest version of a chain that is committed. Of earlier moments chains say
+-- nothing, once garbage was collected
+abbrev pub ChainsShowDatabase : Type 0
+ChainsShowDatabase = (o : Opening) (h : Entries) (table : List ℕ) (key : Value)
+    (chain : List Generation) → StandFor o h table key chain
+    → same_row (row_at (database o h) table key)
+    (shown_by (λ u. is_committed (state_of o h u)) chain)
+
+-- the obstacle of an active transaction is the writer of a chain's newest version, if that one can
+-- be in the way, and else there is none
+abbrev pub ChainsTellObstacles : Type 0
+ChainsTellObstacles = (o : Opening) (h : Entries) (t : ℕ) (table : List ℕ) (key : Value)
+    (chain : List Generation) → MayBegin o → IsLegal o h → StandFor o h table key chain
+    → is_active (state_of o h t) ≡ true
+    → obstacle (told o h) t table key ≡ newest_writer_if (can_hinder (told o h) t) chain
 
 -- ---- tables that a history leaves
 

@@ -19,5 +19,9 @@ pub mod Tables
 pub mod TableLaws
 pub mod CaseLaws
 pub mod NewestLaws
+pub mod Kept
+pub mod KeptShowLaws
+pub mod GarbageLaws
+pub mod KeptOnwardLaws
 pub mod Laws
 pub mod Scenarios

@@ -9,6 +9,10 @@ ghost use Rattle.mg_generations.specs.Laws.{UndoneLeavesVersions, UndoneLeavesAl
 ghost use Rattle.mg_generations.specs.Laws.{VersionsShowViews, VersionsShowDatabase};
 ghost use Rattle.mg_generations.specs.Laws.{VersionsShowDurables, CommitShowsNewest};
 ghost use Rattle.mg_generations.specs.Laws.{ObstacleIsWriter, ObstacleIsNewest, OldTableHindersNot};
+ghost use Rattle.mg_generations.specs.Laws.{WholeAreKept, KeptGoOn, SeenGoesOn};
+ghost use Rattle.mg_generations.specs.Laws.{BehindMayGo, ErasedMayGo, KeptStand};
+ghost use Rattle.mg_generations.specs.Laws.{ChainsShowViews, ChainsShowDatabase};
+ghost use Rattle.mg_generations.specs.Laws.{ChainsTellObstacles};
 ghost use Rattle.mg_generations.specs.Laws.{OthersLeaveTable, LeftTableStands};
 ghost use Rattle.mg_generations.specs.Laws.{LeftTableHindersNot, LeftCatalogStands};
 ghost use Rattle.mg_generations.specs.Laws.{LeftCatalogHindersNot};
@@ -50,6 +54,27 @@ pub fn obstacles_are_writers()
     ensures writer { ObstacleIsWriter }
     ensures newest { ObstacleIsNewest }
     ensures old { OldTableHindersNot }
+{}
+
+/// Versions that are kept go on as all do.
+pub fn kept_versions_go_on()
+    ensures whole { WholeAreKept }
+    ensures onward { KeptGoOn }
+    ensures seen { SeenGoesOn }
+{}
+
+/// Which versions may be collected.
+pub fn garbage_may_go()
+    ensures behind { BehindMayGo }
+    ensures erased { ErasedMayGo }
+{}
+
+/// What a chain of versions tells, behind which garbage may stand or may have been collected.
+pub fn chains_tell()
+    ensures kept { KeptStand }
+    ensures views { ChainsShowViews }
+    ensures database { ChainsShowDatabase }
+    ensures obstacles { ChainsTellObstacles }
 {}
 
 /// A table that no entry writes stays as it was.

@@ -8,7 +8,8 @@
 //! contract is a law.
 //!
 //! The definitions stand in `specs/`: `Generations` (lists of versions, and which are those of a
-//! history), `After` (what each entry makes of them), `Tables` (tables that a history leaves).
+//! history), `After` (what each entry makes of them), `Kept` (which of them are kept once garbage was
+//! collected), `Tables` (tables that a history leaves).
 //! `Laws` says what follows, and the other files `..Laws` prove it, for other crates too.
 //!
 //! Invariant: all but the newest of the versions are committed, and each was written by one who had
@@ -22,7 +23,7 @@ mod laws;
 mod scenarios;
 
 pub use laws::{
-    obstacles_are_writers, tables_are_left, versions_begin, versions_go_on, versions_show,
-    versions_taken_back,
+    chains_tell, garbage_may_go, kept_versions_go_on, obstacles_are_writers, tables_are_left,
+    versions_begin, versions_go_on, versions_show, versions_taken_back,
 };
 pub use scenarios::{a_transaction_takes_back, two_transactions_write};

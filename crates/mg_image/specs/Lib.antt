@@ -19,3 +19,5 @@ pub mod FactLaws
 pub mod KeptPageLaws
 pub mod ReadingLaws
 pub mod HeldLaws
+pub mod OwnTables
+pub mod OwnTablesLaws

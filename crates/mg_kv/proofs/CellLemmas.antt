@@ -7,8 +7,7 @@ use Rattle.mg_version.specs.Cells.{IsSpelling, cell_bytes}
 use Rattle.mg_version.specs.declared.cell.Cell.{Cell}
 use Rattle.mg_version.specs.declared.cell.Cell.TheVariants as cells
 use Rattle.mg_version.specs.declared.cell.Link.{Link}
-use Rattle.mg_first.specs.Puts.{kv_version}
-use Rattle.mg_first.specs.Storing.{kv_bytes}
+use Rattle.mg_first.specs.KvCells.{kv_version, kv_bytes}
 
 pub match_none : (A : Type 0) (P : A → Type 0) (N : Type 0) (o : Option A) → MatchOption o N P
     → o ≡ None → N

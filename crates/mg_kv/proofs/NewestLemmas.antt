@@ -8,7 +8,7 @@ use Rattle.mg_version.specs.declared.cell.Cell.{Cell}
 use Rattle.mg_version.specs.declared.cell.Cell.TheVariants as cells
 use Rattle.mg_version.specs.declared.cell.Link.{Link}
 use Rattle.mg_version.specs.declared.cell.Version.{Version}
-use Rattle.mg_first.specs.Storing.{HasCell}
+use Rattle.mg_first.specs.KvCells.{HasCell}
 use Rattle.mg_kv.specs.declared.newest.Newest.{Newest}
 use Rattle.mg_kv.specs.Slots.{HasSlots, Slots, cell_in_slot, first_of, has_key, newest, newest_at, newest_by_cell, newest_over, taker_below, takes, taking, version_with}
 use Rattle.mg_kv.proofs.RowLemmas.{one_cell}

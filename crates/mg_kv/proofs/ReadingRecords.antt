@@ -21,9 +21,8 @@ use Rattle.mg_image.specs.RecordRules.{AreOnce, Each, EachBack, Facts, IsInLimbo
 use Rattle.mg_image.specs.Records.{Chain, Reading, Stands, cell_spelled, cells_of, ended, goes, newest_of, record_key, shown, slot_cell, writer}
 use Rattle.mg_image.specs.declared.entry.Entry.{Entry}
 use Rattle.mg_first.specs.KvTable.{kv_table}
-use Rattle.mg_first.specs.PutCells.{spelled_again}
-use Rattle.mg_first.specs.Puts.{kv_slot}
-use Rattle.mg_first.specs.Storing.{HasCell}
+use Rattle.mg_first.specs.KvCellLaws.{spelled_again}
+use Rattle.mg_first.specs.KvCells.{kv_slot, HasCell}
 use Rattle.mg_first.specs.declared.pages.TheConstants.{KV_ROWS}
 use Rattle.mg_kv.specs.declared.reading.Given.TheVariants.{Deleted, Null, Number}
 use Rattle.mg_kv.specs.declared.reading.KvVersion.{KvVersion}

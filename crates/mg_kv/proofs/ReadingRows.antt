@@ -20,7 +20,7 @@ use Rattle.mg_image.specs.Records.{key_of, writer}
 use Rattle.mg_image.specs.declared.entry.Entry.{Entry}
 use Rattle.mg_first.specs.KeyLaws.{KeyIs, key_of_plain, one_key}
 use Rattle.mg_first.specs.KvTable.{kv_columns, kv_row, kv_table}
-use Rattle.mg_first.specs.Storing.{HasKey}
+use Rattle.mg_first.specs.KvCells.{HasKey}
 use Rattle.mg_kv.specs.declared.reading.Given.TheVariants.{Deleted, Number}
 use Rattle.mg_kv.specs.Reading.{generation, given_by_row, kv_version_of, row_given, value_of}
 use Rattle.mg_kv.specs.Slots.{has_key}

@@ -20,7 +20,7 @@ use Rattle.mg_image.specs.RecordRules.{Each, Facts, IsVersion, TakesKey}
 use Rattle.mg_image.specs.Records.{Reading, key_of, record_key}
 use Rattle.mg_image.specs.declared.entry.Entry.{Entry}
 use Rattle.mg_first.specs.KvTable.{kv_table}
-use Rattle.mg_first.specs.Puts.{kv_slot}
+use Rattle.mg_first.specs.KvCells.{kv_slot}
 use Rattle.mg_kv.specs.declared.newest.Newest.{Newest}
 use Rattle.mg_kv.specs.declared.reading.KvVersion.{KvVersion}
 use Rattle.mg_kv.specs.Reading.{AreVersionsIn, HasRecords, IsWay, TakesNot, TakesWith, generation, kv_version_of, newest_alive, take_key}

@@ -9,7 +9,7 @@ use Rattle.mg_slots.specs.DataPageLaws.{used_below}
 use Rattle.mg_version.specs.declared.cell.Cell.TheVariants as cells
 use Rattle.mg_version.specs.declared.cell.Link.{Link}
 use Rattle.mg_version.specs.declared.cell.Version.{Version}
-use Rattle.mg_first.specs.Storing.{HasCell}
+use Rattle.mg_first.specs.KvCells.{HasCell}
 use Rattle.mg_kv.specs.declared.reading.KvVersion.{KvVersion}
 use Rattle.mg_kv.specs.Reading.{IsWay, ended, goes, kv_version_of}
 use Rattle.mg_kv.proofs.RowLemmas.{one_cell}

@@ -8,7 +8,7 @@ use Rattle.mg_version.specs.declared.cell.Cell.{Cell}
 use Rattle.mg_version.specs.declared.cell.Cell.TheVariants as cells
 use Rattle.mg_version.specs.declared.cell.Link.{Link}
 use Rattle.mg_version.specs.declared.cell.Version.{Version}
-use Rattle.mg_first.specs.Storing.{HasCell}
+use Rattle.mg_first.specs.KvCells.{HasCell}
 
 -- a cell of a page is short
 pub cell_is_short : (page : List ℕ) (slot : ℕ) (bytes : List ℕ) → IsDataPage page

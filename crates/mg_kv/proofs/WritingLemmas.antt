@@ -13,30 +13,30 @@ use Rattle.mg_version.specs.declared.cell.Cell.{Cell}
 use Rattle.mg_version.specs.declared.cell.Cell.TheVariants as cells
 use Rattle.mg_version.specs.declared.cell.Link.{Link}
 use Rattle.mg_version.specs.declared.cell.Version.{Version}
-use Rattle.mg_first.specs.Puts.{kv_link, kv_version}
-use Rattle.mg_first.specs.Storing.{HasCell, IfNoRoom}
-use Rattle.mg_first.specs.declared.record.AddFault.{AddFault}
-use Rattle.mg_first.specs.declared.record.AddFault.TheVariants.{NoRoom, Memory}
+use Rattle.mg_first.specs.KvCells.{kv_link, kv_version, HasCell}
+use Rattle.mg_first.specs.declared.pages.TheConstants.{PAGE_LEN}
+use Rattle.mg_kv.specs.declared.fault.WriteFault.{WriteFault}
+use Rattle.mg_kv.specs.declared.fault.WriteFault.TheVariants.{NoRoom, Memory}
 use Rattle.mg_kv.specs.declared.newest.Newest.{Newest}
 use Rattle.mg_kv.specs.PageLaws.{freed_slots, put_slots, rest_of_room, same_least}
 use Rattle.mg_kv.specs.SlotLaws.{least_free_is_free, least_free_size, least_free_within, past_is_none, put_here, put_length, put_others, put_size, put_size_new}
-use Rattle.mg_kv.specs.Slots.{HasAnchor, HasSlots, IsThere, Lacks, Makes, ROOM, Slots, backed, cell_in_slot, clean_at, cleaned, freed, is_dead, least_free, make, newest_at, over_newest, push, put_in, size_of, slot_size, taken_out, taker, without_dead, without_dead_below, written, written_over}
+use Rattle.mg_kv.specs.Slots.{HasAnchor, HasSlots, IfNoRoom, IsThere, Lacks, Makes, ROOM, Slots, backed, cell_in_slot, clean_at, cleaned, freed, is_dead, least_free, make, newest_at, over_newest, push, put_in, size_of, slot_size, taken_out, taker, without_dead, without_dead_below, written, written_over}
 use Rattle.mg_kv.proofs.NewestLemmas.{slot_has}
 use Rattle.mg_kv.proofs.RowLemmas.{no_version}
 
 -- ---- exits with a fault
 
-pub no_room_exit : (r : Result (Unit {0}) AddFault) (P : Type 0) → IsErrAnd r (λ f. f ≡ NoRoom)
+pub no_room_exit : (r : Result (Unit {0}) WriteFault) (P : Type 0) → IsErrAnd r (λ f. f ≡ NoRoom)
     → P → IfErr r (λ f. IfNoRoom f P)
 no_room_exit r P err fact = at r err
   where
-    at : (r : Result (Unit {0}) AddFault) → IsErrAnd r (λ f. f ≡ NoRoom)
+    at : (r : Result (Unit {0}) WriteFault) → IsErrAnd r (λ f. f ≡ NoRoom)
         → IfErr r (λ f. IfNoRoom f P)
     at (Ok x) e = tt
     at (Err f) e = rw e fact
 
 -- a fact follows from another where there is no room
-pub on_no_room : (A B : Type 0) (r : Result (Unit {0}) AddFault) → (A → B)
+pub on_no_room : (A B : Type 0) (r : Result (Unit {0}) WriteFault) → (A → B)
     → IfErr r (λ f. IfNoRoom f A) → IfErr r (λ f. IfNoRoom f B)
 on_no_room A B (Ok x) then_ fact = tt
 on_no_room A B (Err NoRoom) then_ fact = then_ fact
@@ -119,7 +119,7 @@ not_least b slot cell has same =
 
 -- a new cell was refused: with it the page would not fit
 pub put_lacks : (b bytes : List ℕ) (cell : Cell) (slots : Slots) → IsDataPage b
-    → length b ≡ 4096 → HasSlots b slots → IsSpelling bytes cell
+    → length b ≡ PAGE_LEN → HasSlots b slots → IsSpelling bytes cell
     → (need_of bytes ≤ room_of b → false ≡ true)
     → ROOM < size_of (put_in (least_free slots) cell slots)
 put_lacks b bytes cell slots lawful len has spelled refused =
@@ -166,7 +166,7 @@ put_lacks b bytes cell slots lawful len has spelled refused =
 
 -- a cell in the place of another was refused
 pub replace_lacks : (b bytes : List ℕ) (slot : ℕ) (cell was : Cell) (slots : Slots) → IsDataPage b
-    → length b ≡ 4096 → HasSlots b slots → IsSpelling bytes cell → HasCell b slot was
+    → length b ≡ PAGE_LEN → HasSlots b slots → IsSpelling bytes cell → HasCell b slot was
     → (need_of bytes ≤ room_for b slot → false ≡ true) → ROOM < size_of (put_in slot cell slots)
 replace_lacks b bytes slot cell was slots lawful len has spelled there refused =
     let room : room_for b slot ≡ rest_of b + taken (length there.bytes) = rw there.here refl in
@@ -216,7 +216,7 @@ slot_is_not_least slots slot cell is same =
     let both : Some cell ≡ None = sym is ∙ free in absurd cc
 
 pub push_lacks : (b bytes : List ℕ) (slot t : ℕ) (back : Option Link) (key value : ℤ)
-    → IsDataPage b → length b ≡ 4096 → HasAnchor b slot
+    → IsDataPage b → length b ≡ PAGE_LEN → HasAnchor b slot
     → IsSpelling bytes (cells.Version (kv_version t back key value))
     → (need_of bytes ≤ room_of b → false ≡ true) → Lacks b (push slot t back key value)
 push_lacks b bytes slot t back key value lawful len (link, anchor) spelled refused slots has =
@@ -275,7 +275,7 @@ least_grows cell slots = at (least_free_size cell slots)
     at (inl is) = omega (arith, is)
     at (inr is) = omega (arith, is)
 
-pub make_lacks : (b bytes : List ℕ) (t : ℕ) (key value : ℤ) → IsDataPage b → length b ≡ 4096
+pub make_lacks : (b bytes : List ℕ) (t : ℕ) (key value : ℤ) → IsDataPage b → length b ≡ PAGE_LEN
     → IsSpelling bytes (cells.Anchor (kv_link 0 t))
     → (need_of bytes ≤ room_of b → false ≡ true) → Lacks b (make t key value)
 make_lacks b bytes t key value lawful len spelled refused slots has =
@@ -383,7 +383,7 @@ out_backed old mid new bytes n back lawful is anchor first spelled second slots 
 -- ---- a transaction's own newest version is replaced
 
 pub own_lacks : (b bytes : List ℕ) (t : ℕ) (key value : ℤ) (n : Newest) → IsDataPage b
-    → length b ≡ 4096 → IsThere b n → (n.version.tx.0 == t) ≡ true
+    → length b ≡ PAGE_LEN → IsThere b n → (n.version.tx.0 == t) ≡ true
     → IsSpelling bytes (cells.Version (kv_version t n.version.back key value))
     → (need_of bytes ≤ room_for b n.link.rec.slot → false ≡ true)
     → Lacks b (over_newest t key value n)

@@ -15,7 +15,7 @@ use Rattle.mg_image.specs.RecordRules.{Each, Facts}
 use Rattle.mg_image.specs.Records.{Cells, Reading, key_of, newest_of, writer}
 use Rattle.mg_image.specs.StepLaws.{put_cases, put_reading}
 use Rattle.mg_first.specs.KvTable.{kv_table}
-use Rattle.mg_first.specs.Puts.{kv_slot}
+use Rattle.mg_first.specs.KvCells.{kv_slot}
 use Rattle.mg_kv.specs.declared.newest.Newest.{Newest}
 use Rattle.mg_kv.specs.ReadSlotLaws.{AreSlotRecords, IsFoundAt, IsNewest, keyed_is_found, newest_is, reads_nothing}
 use Rattle.mg_kv.specs.SlotCellLaws.{with_slots}

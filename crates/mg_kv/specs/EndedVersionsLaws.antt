@@ -3,7 +3,7 @@ use Rattle.std.proofs.Common.{◌≡◌, ◌≢◌, ◌⊎◌, inl, inr, refl, s
 use Rattle.std.proofs.lemmas.Bool.{cases_eq, eq-eqb, ne_eqb}
 use Rattle.mg_base.specs.declared.numbers.RecId.{RecId}
 use Rattle.mg_base.specs.declared.transaction.TxState.{TxState}
-use Rattle.mg_base.specs.declared.transaction.TxState.TheVariants.{Limbo, Dead, Committed}
+use Rattle.mg_base.specs.declared.transaction.TxState.TheVariants.{Dead, Committed}
 use Rattle.mg_model.specs.Answers.{is_committed}
 use Rattle.mg_model.specs.declared.table.Table.{Table}
 use Rattle.mg_value.specs.declared.value.Value.{Value}
@@ -13,19 +13,12 @@ use Rattle.mg_image.specs.FactLaws.{shown_alike}
 use Rattle.mg_image.specs.Form.{Coding}
 use Rattle.mg_image.specs.RecordRules.{AreRecords, Each, Facts, IsVersion, TakesKey, committed_in, table_in}
 use Rattle.mg_image.specs.Records.{Cells, Reading, record_key, writer}
-use Rattle.mg_kv.specs.SettledVersionsLaws.{GivesCommitted, GivesRow, newest_gives, newest_lives, versions_settle, without_dead_newest}
-use Rattle.mg_kv.specs.SettlingLaws.{Ends, IsNoWriter, SettlesFacts, commits, dies, stays}
+use Rattle.mg_kv.specs.SettledVersionsLaws.{newest_gives, newest_lives, versions_settle}
+use Rattle.mg_kv.specs.Shown.{GivesCommitted, GivesRow, without_dead_newest}
+use Rattle.mg_kv.specs.Ending.{commits, dies, stays, Ends, IsNoWriter, SettlesFacts, EndsAlone, DrawsNumber}
 use Rattle.mg_kv.specs.Versions.{AreVersions, living, none, some}
 
 -- ---- one transaction ends
-
--- The facts differ in what has become of one transaction, which was in limbo.
-pub record EndsAlone (f g : Facts) (t : ℕ) : Type 0 where
-  pub tables : (n : ℕ) → g.table_of n ≡ f.table_of n
-  pub next : f.next ≤ g.next
-  pub oldest : g.oldest ≤ f.oldest
-  pub limbo : f.state t ≡ Limbo
-  pub others : (u : ℕ) → u ≢ t → g.state u ≡ f.state u
 
 ends_settle : (f g : Facts) (r : Reading) (t : ℕ) → EndsAlone f g t → Ends f g t
     → SettlesFacts f g r
@@ -181,14 +174,6 @@ next_is_no_writer coding f h r u are past p = at (table_in f p) refl
     at None none_ = rw (are.outside p none_) tt
     at (Some table) some_ =
         below table (record_key table (r p)) (r p) (are.each p table some_).each
-
--- The facts differ in Next, and in what has become of a number that nobody has written by.
-pub record DrawsNumber (f g : Facts) (u : ℕ) : Type 0 where
-  pub tables : (n : ℕ) → g.table_of n ≡ f.table_of n
-  pub next : f.next ≤ g.next
-  pub oldest : g.oldest ≤ f.oldest
-  pub past : f.next ≤ u
-  pub others : (v : ℕ) → v ≢ u → g.state v ≡ f.state v
 
 pub draw_settles : (coding : Coding) (f g : Facts) (h : Cells) (r : Reading) (u : ℕ)
     → DrawsNumber f g u → AreRecords coding f h r → SettlesFacts f g r

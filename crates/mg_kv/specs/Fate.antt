@@ -5,6 +5,7 @@ use Rattle.mg_base.specs.declared.transaction.TxState.{TxState}
 use Rattle.mg_base.specs.declared.transaction.TxState.TheVariants.{Active, Dead}
 use Rattle.mg_tip.specs.TipPage.{places, state_in}
 use Rattle.mg_image.specs.Inventory.{settled}
+use Rattle.std.proofs.Common.{◌≡◌, ◌≢◌, ℕ, Bool, List}
 
 -- whether a transaction is one of these
 abbrev pub is_one_of : List TxNo → ℕ → Bool
@@ -18,3 +19,8 @@ ended_in bits t = if nat_lt t (places (length bits)) then settled (state_in bits
 -- what has become of a transaction, by the transactions that are active and the bits of the others
 abbrev pub fate_in : List ℕ → List TxNo → ℕ → TxState
 fate_in bits active t = if is_one_of active t then Active else ended_in bits t
+
+-- Of one transaction it is told whether it is active; every other one is as it was.
+pub record ChangesActive (old new : List TxNo) (t : ℕ) (active : Bool) : Type 0 where
+  pub here : is_one_of new t ≡ active
+  pub others : (u : ℕ) → u ≢ t → is_one_of new u ≡ is_one_of old u

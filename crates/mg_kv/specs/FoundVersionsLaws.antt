@@ -2,7 +2,6 @@
 use Rattle.std.proofs.Common.{◌≡◌, ◌≢◌, ◌⊎◌, inl, inr, refl, sym, ap, ◌∙◌, subst, arith, ℕ, zero, suc, ◌<◌, ◌≤◌, ℤ, Bool, true, false, List, [], ◌∷◌, Option, None, Some}
 use Rattle.std.specs.Prelude.{◌&&◌, ◌||◌, if◌then◌else◌, length}
 use Rattle.std.specs.Cmp.{signed_Decides}
-use Rattle.std.specs.Ordering.{int_eq}
 use Rattle.std.proofs.lemmas.Bool.{cases_eq, cases_lt}
 use Rattle.mg_base.specs.declared.numbers.RecId.{RecId}
 use Rattle.mg_base.specs.declared.transaction.TxState.{TxState}
@@ -15,42 +14,17 @@ use Rattle.mg_image.specs.Form.{Row, plain_coding}
 use Rattle.mg_image.specs.RecordRules.{AreRecords, Facts, IsInLimbo, TakesKey, committed_in, table_in}
 use Rattle.mg_image.specs.Records.{Cells, Reading, newest_of, record_key, shown, writer}
 use Rattle.mg_first.specs.KvTable.{kv_table}
-use Rattle.mg_first.specs.Puts.{kv_slot}
+use Rattle.mg_first.specs.KvCells.{kv_slot}
 use Rattle.mg_kv.specs.OlderVersionsLaws.{nothing_taken}
 use Rattle.mg_kv.specs.ReadSlotLaws.{place_of_kv, reads_nothing}
 use Rattle.mg_kv.specs.SlotLaws.{past_is_none}
 use Rattle.mg_kv.specs.Slots.{Slots}
 use Rattle.mg_kv.specs.Versions.{AreLive, AreVersions, living, none, some}
 use Rattle.mg_kv.specs.VersionsLaws.{TakesItsKey}
-use Rattle.mg_kv.specs.WrittenRecordsLaws.{HasKvSlots}
+use Rattle.mg_kv.specs.Writing.{HasKvSlots}
+use Rattle.mg_kv.specs.Shown.{is_in_limbo, newest_in_limbo, is_there, is_number, takes_key, versions_below}
 
 -- ---- whether versions take a key
-
-abbrev pub is_in_limbo : TxState → Bool
-is_in_limbo Active = false
-is_in_limbo Limbo = true
-is_in_limbo Dead = false
-is_in_limbo Committed = false
-
--- the newest of these is of a limbo transaction
-abbrev pub newest_in_limbo : Facts → List Entry → Bool
-newest_in_limbo f [] = false
-newest_in_limbo f (e ∷ es) = is_in_limbo (f.state (writer e))
-
-abbrev pub is_there : Option Row → Bool
-is_there None = false
-is_there (Some row) = true
-
--- the key is this number
-abbrev pub is_number : ℤ → Value → Bool
-is_number key Null = false
-is_number key (Int other) = int_eq other key
-is_number key (Text text) = false
-
--- these versions take the key
-abbrev pub takes_key : Facts → ℤ → List Entry → Bool
-takes_key f key es = (is_there (shown (committed_in f) es) || newest_in_limbo f es)
-    && is_number key (record_key kv_table es)
 
 number_says : (key : ℤ) (v : Value) → is_number key v ≡ true → v ≡ Int key
 number_says key Null is = absurd cc
@@ -112,14 +86,6 @@ takes_key_is f key es it =
     rw (taken_is f es it.takes, number_is key (record_key kv_table es) it.keyed) refl
 
 -- ---- the slots of KV's page
-
--- the versions of the record in one of the slots below a number that takes the key, none where no
--- record does
-abbrev pub versions_below : Facts → Reading → ℤ → ℕ → List Generation
-versions_below f r key zero = []
-versions_below f r key (suc n) =
-    if takes_key f key (r (kv_slot n)) then living f.state (r (kv_slot n))
-    else versions_below f r key n
 
 -- these are the versions of a key, or there are none below a number
 data IsFound (f : Facts) (r : Reading) (key : ℤ) (bound : ℕ) (gs : List Generation) : Type 0 where

@@ -11,7 +11,7 @@ use Rattle.mg_image.specs.RecordRules.{Facts, IsVersion, columns_for}
 use Rattle.mg_image.specs.declared.entry.Entry.{Entry}
 use Rattle.mg_first.specs.KeyLaws.{KeyIs, key_of_plain, one_key}
 use Rattle.mg_first.specs.KvTable.{kv_columns, kv_table}
-use Rattle.mg_first.specs.Storing.{HasKey}
+use Rattle.mg_first.specs.KvCells.{HasKey}
 use Rattle.mg_kv.specs.Slots.{has_key}
 
 -- a deletion has the columns of KV, since its key alone may not be NULL

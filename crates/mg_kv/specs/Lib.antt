@@ -1,5 +1,7 @@
+pub mod CellChangeLaws
 pub mod CleanedLaws
 pub mod EndedVersionsLaws
+pub mod Ending
 pub mod Fate
 pub mod FateLaws
 pub mod FoundVersionsLaws
@@ -21,6 +23,7 @@ pub mod RestLaws
 pub mod RowsPageLaws
 pub mod SettledVersionsLaws
 pub mod SettlingLaws
+pub mod Shown
 pub mod ShownRowsLaws
 pub mod SlotCellLaws
 pub mod SlotLaws
@@ -29,10 +32,12 @@ pub mod TakenOutLaws
 pub mod TakerLaws
 pub mod Versions
 pub mod VersionsLaws
+pub mod Work
 pub mod WorkBeginLaws
 pub mod WorkCommitLaws
 pub mod WorkLaws
 pub mod WorkStepLaws
 pub mod WriteOverLaws
+pub mod Writing
 pub mod WrittenLaws
 pub mod WrittenRecordsLaws

@@ -1,12 +1,12 @@
 -- The changes of limbo transactions that the versions of all keys show.
-use Rattle.std.proofs.Common.{◌≡◌, inr, refl, sym, ap, ◌∙◌, subst, ℕ, ℤ, Bool, true, false, List, [], ◌∷◌, Option, None, Some}
+use Rattle.std.proofs.Common.{◌≡◌, inr, refl, sym, ap, ◌∙◌, subst, ℕ, ℤ, Bool, true, false, List, [], ◌∷◌, None, Some}
 use Rattle.std.specs.Prelude.{◌==◌, if◌then◌else◌, map}
 use Rattle.std.proofs.lemmas.Bool.{eq-eqb, eqb-true}
 use Rattle.std.proofs.lemmas.Slice.Eq.{bytes_eq-Decides}
 use Rattle.mg_base.specs.declared.numbers.RecId.{RecId}
 use Rattle.mg_base.specs.declared.transaction.TxState.{TxState}
 use Rattle.mg_base.specs.declared.transaction.TxState.TheVariants.{Active, Limbo, Dead, Committed}
-use Rattle.mg_model.specs.Changes.{Cells as RowCells, same_name}
+use Rattle.mg_model.specs.Changes.{same_name}
 use Rattle.mg_model.specs.NewDatabase.{kv_name}
 use Rattle.mg_model.specs.declared.table.Table.{Table}
 use Rattle.mg_value.specs.declared.value.Value.{Value}
@@ -14,7 +14,7 @@ use Rattle.mg_value.specs.declared.value.Value.TheVariants.{Null, Int, Text}
 use Rattle.mg_generations.specs.Generations.{Generation}
 use Rattle.mg_image.specs.declared.entry.Entry.{Entry}
 use Rattle.mg_image.specs.Form.{plain_coding}
-use Rattle.mg_image.specs.Held.{AreChanges, Changes, HasLimbo, IsChangedAt, told_change}
+use Rattle.mg_image.specs.Held.{AreChanges, HasLimbo, IsChangedAt, told_change}
 use Rattle.mg_image.specs.RecordRules.{AreRecords, Each, EachBack, Facts, TakesKey, table_in}
 use Rattle.mg_image.specs.Records.{Cells, Change, Erases, Puts, Reading, change_in, key_of, record_key, writer}
 use Rattle.mg_first.specs.KvTable.{kv_table}
@@ -22,31 +22,7 @@ use Rattle.mg_kv.specs.Slots.{is_dead}
 use Rattle.mg_kv.specs.Versions.{AreVersions, generation_of, living, none, some}
 use Rattle.mg_kv.specs.VersionsLaws.{versions_of_taker}
 use Rattle.mg_kv.specs.ShownRowsLaws.{HasIntKey, taken_key}
-
--- the change that a version makes
-abbrev pub change_given : Option RowCells → Change
-change_given None = Erases
-change_given (Some row) = Puts row
-
--- a change, where its transaction is in limbo
-abbrev pub in_limbo_only : TxState → Change → Option Change
-in_limbo_only Active change = None
-in_limbo_only Limbo change = Some change
-in_limbo_only Dead change = None
-in_limbo_only Committed change = None
-
--- the change of a limbo transaction that versions show: the newest is its own, or there is none
-abbrev pub limbo_change : (ℕ → TxState) → ℕ → List Generation → Option Change
-limbo_change state t [] = None
-limbo_change state t (g ∷ gs) =
-    if g.writer == t then in_limbo_only (state t) (change_given g.row) else None
-
--- the changes of limbo transactions that versions of keys of KV show
-abbrev pub limbo_changes : (ℕ → TxState) → (ℤ → List Generation) → Changes
-limbo_changes state versions t name Null = None
-limbo_changes state versions t name (Int key) =
-    if same_name name kv_name then limbo_change state t (versions key) else None
-limbo_changes state versions t name (Text text) = None
+use Rattle.mg_kv.specs.Shown.{change_given, in_limbo_only, limbo_change, limbo_changes}
 
 told_is_given : (e : Entry)
     → change_given (generation_of e).row ≡ told_change kv_table (change_in e)

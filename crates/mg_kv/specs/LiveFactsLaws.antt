@@ -6,18 +6,15 @@ use Rattle.mg_base.specs.declared.transaction.TxState.{TxState}
 use Rattle.mg_base.specs.declared.transaction.TxState.TheVariants.{Active, Limbo, Dead, Committed}
 use Rattle.mg_image.specs.Form.{Coding, Pages}
 use Rattle.mg_image.specs.Inventory.{next_of, oldest_of, settled, state_at}
-use Rattle.mg_image.specs.RecordRules.{AreRecords, Facts}
+use Rattle.mg_image.specs.RecordRules.{AreRecords}
 use Rattle.mg_image.specs.Records.{Cells, Reading}
 use Rattle.mg_first.specs.FirstImage.{kv_facts}
 use Rattle.mg_first.specs.KvCellLaws.{place_of_kv}
 use Rattle.mg_first.specs.declared.pages.TheConstants.{PAGE}
-use Rattle.mg_kv.specs.EndedVersionsLaws.{DrawsNumber, EndsAlone}
-use Rattle.mg_kv.specs.SettlingLaws.{Ends, SettlesFacts, dies, records_settle, stays}
+use Rattle.mg_kv.specs.Ending.{DrawsNumber, EndsAlone, Ends, SettlesFacts, dies, stays}
+use Rattle.mg_kv.specs.SettlingLaws.{records_settle}
 use Rattle.mg_kv.specs.Versions.{AreLive, kept}
-
--- what the records need to know of the other pages, where this has become of the transactions
-abbrev pub live_facts : Pages → (ℕ → TxState) → Facts
-live_facts pages state = record (kv_facts pages) { state = λ u. kept (state u) }
+use Rattle.mg_kv.specs.Work.{live_facts, HasBits}
 
 pub facts_are_live : (pages : Pages) (state : ℕ → TxState) → AreLive (live_facts pages state) state
 facts_are_live pages state = record {
@@ -63,12 +60,6 @@ live_draws old new before after u state becomes past = record {
 }
 
 -- ---- once it has stopped
-
--- The bits on the pages say what has become of the transactions, but that one that is active may be
--- dead there; and each of those is interesting.
-pub record HasBits (pages : Pages) (state : ℕ → TxState) : Type 0 where
-  pub bits : (u : ℕ) → state_at PAGE pages u ≡ settled (state u)
-  pub interesting : (u : ℕ) → state u ≡ Active → oldest_of pages ≤ u
 
 -- once the program has stopped, who was active is dead
 pub stop_settles : (pages : Pages) (state : ℕ → TxState) (r : Reading) → HasBits pages state

@@ -4,39 +4,22 @@ use Rattle.mg_base.specs.declared.numbers.RecId.{RecId}
 use Rattle.mg_base.specs.declared.transaction.TxState.TheVariants.{Limbo, Committed}
 use Rattle.mg_generations.specs.Generations.{Generation}
 use Rattle.mg_model.specs.declared.table.Table.{Table}
-use Rattle.mg_image.specs.Catalog.{catalog_table}
 use Rattle.mg_image.specs.declared.entry.Entry.{Entry}
 use Rattle.mg_image.specs.Form.{Pages, plain_form}
-use Rattle.mg_image.specs.Held.{AreChanges, AreRows, HasLimbo, IsHeld}
-use Rattle.mg_image.specs.Inventory.{next_of, state_at}
-use Rattle.mg_image.specs.Opening.{IsOpened, Opened}
+use Rattle.mg_image.specs.Held.{AreChanges, HasLimbo, IsHeld}
+use Rattle.mg_image.specs.Inventory.{state_at}
+use Rattle.mg_image.specs.Opening.{IsOpened}
 use Rattle.mg_image.specs.RecordRules.{Each}
 use Rattle.mg_image.specs.Records.{Reading, cells_of, writer}
 use Rattle.mg_first.specs.FirstImage.{kv_committed, kv_facts}
 use Rattle.mg_first.specs.HoldsLaws.{rows_held}
-use Rattle.mg_first.specs.KvTable.{catalog_rows, kv_database, kv_layout, kv_table}
+use Rattle.mg_first.specs.KvTable.{kv_layout, kv_table}
 use Rattle.mg_first.specs.PlaceLaws.{KvPlace, in_catalog, in_kv, kv_place, kv_table_at, outside, some_once}
-use Rattle.mg_first.specs.declared.pages.TheConstants.{CATALOG, PAGE}
-use Rattle.mg_kv.specs.LimboShownLaws.{limbo_changes, limbo_is_shown}
-use Rattle.mg_kv.specs.RestLaws.{IsAtRest}
-use Rattle.mg_kv.specs.ShownRowsLaws.{rows_are_shown, shown_rows}
-use Rattle.mg_kv.specs.Versions.{AreVersions}
-
--- what opening pages gives, where each key of KV has these versions
-abbrev pub opened_by : Pages → (ℤ → List Generation) → Opened
-opened_by pages versions = record {
-  rows = kv_database (shown_rows (kv_committed pages) versions);
-  limbo = limbo_changes (state_at PAGE pages) versions;
-  next = next_of pages;
-  state = state_at PAGE pages;
-}
-
--- These versions are those of each key, and the catalog is that of a new database.
-pub record ReadsVersions (pages : Pages) (r : Reading) (versions : ℤ → List Generation)
-    : Type 0 where
-  pub catalog : AreRows (kv_facts pages) (kv_committed pages) r (catalog_table CATALOG.0)
-      catalog_rows
-  pub each : (key : ℤ) → AreVersions (kv_facts pages) r key (versions key)
+use Rattle.mg_first.specs.declared.pages.TheConstants.{PAGE}
+use Rattle.mg_kv.specs.LimboShownLaws.{limbo_is_shown}
+use Rattle.mg_kv.specs.Shown.{shown_rows, opened_by, ReadsVersions}
+use Rattle.mg_kv.specs.Work.{IsAtRest}
+use Rattle.mg_kv.specs.ShownRowsLaws.{rows_are_shown}
 
 -- only KV has versions of limbo transactions, since the catalog is committed
 pub only_kv_in_limbo : (pages : Pages) (r : Reading) → IsAtRest pages r → (p : RecId)

@@ -19,10 +19,10 @@ use Rattle.mg_image.specs.RecordRules.{AreRecords, Each, Facts, IsRecord, IsVers
 use Rattle.mg_image.specs.Records.{Cells, Chain, Changes, Reading, Stands, ended, goes, key_of, newest_of, writer}
 use Rattle.mg_image.specs.StepLaws.{chain_stays, put_reading, step_sound}
 use Rattle.mg_first.specs.KvTable.{kv_row, kv_table}
-use Rattle.mg_first.specs.PutRecords.{put_entry}
-use Rattle.mg_first.specs.Puts.{kv_slot, kv_version}
+use Rattle.mg_kv.specs.Writing.{put_entry, IsWriting}
+use Rattle.mg_first.specs.KvCells.{kv_slot, kv_version}
 use Rattle.mg_kv.specs.declared.newest.Newest.{Newest}
-use Rattle.mg_kv.specs.PutOverLaws.{IsWriting, WritesRow, in_limbo, other_key, put_is_version}
+use Rattle.mg_kv.specs.PutOverLaws.{WritesRow, in_limbo, other_key, put_is_version}
 use Rattle.mg_kv.specs.ReadSlotLaws.{AreSlotRecords, IsNewest, ReadsKeyed, newest_reads, put_moved, reads_nothing, used_within}
 use Rattle.mg_kv.specs.SlotCellLaws.{put_changes, with_slots}
 use Rattle.mg_kv.specs.Slots.{Slots, put_in}

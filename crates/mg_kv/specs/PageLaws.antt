@@ -3,6 +3,7 @@ use Rattle.std.proofs.Common.{◌≡◌, ◌≢◌, ℕ, zero, suc, ◌+◌, ◌
 use Rattle.std.specs.Prelude.{length, IsSome}
 use Rattle.std.proofs.lemmas.Bool.{cases_eq, cases_lt, false≢true}
 use Rattle.mg_slots.specs.declared.page.TheConstants.{SLOT_LEN}
+use Rattle.mg_first.specs.declared.pages.TheConstants.{PAGE_LEN}
 use Rattle.mg_slots.specs.Changes.{FreesCell, PutsCell}
 use Rattle.mg_slots.specs.DataPage.{IsDataPage, all_taken, cell_of, offset_at, slot_count, taken_below, taken_by}
 use Rattle.mg_slots.specs.DataPageLaws.{cell_past, cell_used}
@@ -10,7 +11,7 @@ use Rattle.mg_slots.specs.Room.{least_free as least_free_slot, rest_of}
 use Rattle.mg_slots.specs.RoomLaws.{least_free_is_free as page_least_is_free, rest_is, used_before_least_free}
 use Rattle.mg_version.specs.Cells.{IsSpelling}
 use Rattle.mg_version.specs.declared.cell.Cell.{Cell}
-use Rattle.mg_first.specs.Storing.{HasCell}
+use Rattle.mg_first.specs.KvCells.{HasCell}
 use Rattle.mg_kv.specs.Slots.{HasSlots, ROOM, Slots, cell_in_slot, freed, least_free, put_in, size_of, slot_size}
 use Rattle.mg_kv.specs.SlotLaws.{IsTrimmed, freed_here, freed_others, freed_trimmed, least_free_is_free, past_is_none, put_here, put_length, put_others, used_before}
 
@@ -209,7 +210,7 @@ size_is page slots has =
     one n (inr (is, none)) = rw (is, none) refl
 
 -- what is left of a page of 4096 bytes is left of the room
-pub rest_of_room : (page : List ℕ) (slots : Slots) → IsDataPage page → length page ≡ 4096
+pub rest_of_room : (page : List ℕ) (slots : Slots) → IsDataPage page → length page ≡ PAGE_LEN
     → HasSlots page slots → size_of slots + rest_of page ≡ ROOM
 rest_of_room page slots lawful len has =
     omega (arith, size_is page slots has, rest_is page lawful, len)

@@ -9,8 +9,8 @@ use Rattle.mg_version.specs.declared.cell.Cell.{Cell}
 use Rattle.mg_image.specs.Form.{Pages}
 use Rattle.mg_image.specs.Records.{cell_spelled, slot_cell}
 use Rattle.mg_image.specs.Sound.{IsCellOf, IsTableData}
-use Rattle.mg_first.specs.PutCells.{spelled_again}
-use Rattle.mg_first.specs.Storing.{HasCell}
+use Rattle.mg_first.specs.KvCellLaws.{spelled_again}
+use Rattle.mg_first.specs.KvCells.{HasCell}
 use Rattle.mg_kv.specs.SlotLaws.{past_is_none}
 use Rattle.mg_kv.specs.Slots.{HasSlots, Slots, cell_in_slot}
 

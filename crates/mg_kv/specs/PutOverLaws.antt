@@ -1,11 +1,10 @@
 -- A version is put over the versions of a record, or into a new one.
-use Rattle.std.proofs.Common.{◌≡◌, ◌≢◌, ◌⊎◌, inl, inr, refl, sym, ap, ◌∙◌, subst, ℕ, ◌<◌, ℤ, true, false, List, [], ◌∷◌, Option, None, Some}
-use Rattle.std.specs.Prelude.{map, FitsSigned}
-use Rattle.std.specs.Int.{w64}
+use Rattle.std.proofs.Common.{◌≡◌, ◌≢◌, ◌⊎◌, inl, inr, refl, sym, ap, ◌∙◌, subst, ℕ, ℤ, true, false, List, [], ◌∷◌, Option, None, Some}
+use Rattle.std.specs.Prelude.{map}
 use Rattle.std.proofs.lemmas.Bool.{ne_eqb}
 use Rattle.mg_base.specs.declared.numbers.RecId.{RecId}
 use Rattle.mg_base.specs.declared.transaction.TxState.{TxState}
-use Rattle.mg_base.specs.declared.transaction.TxState.TheVariants.{Active, Limbo, Dead, Committed}
+use Rattle.mg_base.specs.declared.transaction.TxState.TheVariants.{Limbo, Dead, Committed}
 use Rattle.mg_value.specs.declared.value.Value.TheVariants.{Int}
 use Rattle.mg_version.specs.declared.cell.Cell.{Cell}
 use Rattle.mg_version.specs.declared.cell.Cell.TheVariants as cells
@@ -16,13 +15,14 @@ use Rattle.mg_image.specs.Form.{plain_coding}
 use Rattle.mg_image.specs.RecordRules.{AreRecords, Each, Facts, IsRecord, IsVersion, table_in}
 use Rattle.mg_image.specs.Records.{Cells, Chain, Changes, Reading, Stands, goes, writer}
 use Rattle.mg_image.specs.StepLaws.{cases_place, chain_stays, put_reading, same_place, step_sound}
-use Rattle.mg_first.specs.KvRecords.{free_unread}
+use Rattle.mg_first.specs.KvRecordLaws.{free_unread}
 use Rattle.mg_first.specs.KvRowLaws.{row_is_plain, row_is_storable}
 use Rattle.mg_first.specs.KvTable.{kv_row, kv_table}
-use Rattle.mg_first.specs.PutRecords.{put_entry, version_stands, with_cell_at}
-use Rattle.mg_first.specs.Puts.{kv_link, kv_slot, kv_version}
+use Rattle.mg_kv.specs.CellChangeLaws.{changes_at, version_stands, with_cell_at}
+use Rattle.mg_kv.specs.Writing.{put_entry, AreMoved, IsWriting}
+use Rattle.mg_first.specs.KvCells.{kv_link, kv_slot, kv_version}
 use Rattle.mg_first.specs.declared.pages.TheConstants.{KV_ROWS}
-use Rattle.mg_kv.specs.ReadSlotLaws.{AreMoved, AreSlotRecords}
+use Rattle.mg_kv.specs.ReadSlotLaws.{AreSlotRecords}
 use Rattle.mg_kv.specs.SlotCellLaws.{cell_stays, place_of_slot, with_slots}
 use Rattle.mg_kv.specs.Slots.{Slots, cell_in_slot}
 use Rattle.mg_kv.specs.OlderVersionsLaws.{nothing_taken}
@@ -31,13 +31,6 @@ use Rattle.mg_kv.specs.Versions.{AreVersions, generation_of, kept, living}
 use Rattle.mg_kv.specs.VersionsLaws.{TakesItsKey, others_are_read, put_is_read, takes_neither, versions_are, versions_stay}
 
 -- ---- what is written, where, and what it makes
-
--- What a transaction that writes a row has: it is active, and the numbers fit.
-pub record IsWriting (f : Facts) (state : ℕ → TxState) (t : ℕ) (key value : ℤ) : Type 0 where
-  pub active : state t ≡ Active
-  pub below : t < f.next
-  pub key_fits : FitsSigned w64 key
-  pub value_fits : FitsSigned w64 value
 
 -- A row is written: its key has the version in front of the others, or in place of the
 -- transaction's own; each other key has what it had, and off KV's page the same is read.
@@ -75,24 +68,6 @@ pub record PutsSlots (old new : Slots) (t : ℕ) (key value : ℤ) (slot at : �
   pub moved : AreMoved new
 
 -- ---- the cells in between
-
-changes_at : (h : Cells) (x : RecId) (cell : Option Cell)
-    → Changes h (with_cell_at h x cell) x cell
-changes_at h x cell = record {
-  here = here (cases_place x x);
-  others = λ y ne. others y ne (cases_place y x);
-}
-  where
-    here : ((x ≡ x) × (same_place x x ≡ true)) ⊎ ((x ≢ x) × (same_place x x ≡ false))
-        → with_cell_at h x cell x ≡ cell
-    here (inl (e, is)) = rw is refl
-    here (inr (ne, is)) = absurd (ne refl)
-
-    others : (y : RecId) → y ≢ x
-        → ((y ≡ x) × (same_place y x ≡ true)) ⊎ ((y ≢ x) × (same_place y x ≡ false))
-        → with_cell_at h x cell y ≡ h y
-    others y ne (inl (e, is)) = absurd (ne e)
-    others y ne (inr (_, is)) = rw is refl
 
 -- the cell of the version
 abbrev version_cell : ℕ → Option Link → ℤ → ℤ → Option Cell

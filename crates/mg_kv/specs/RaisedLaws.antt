@@ -25,21 +25,11 @@ use Rattle.mg_image.specs.Records.{Change, Reading, cells_of, shown, writer}
 use Rattle.mg_image.specs.Sound.{HasHeader, HasTransactions, IsSound, IsUndrawn}
 use Rattle.mg_first.specs.FirstImage.{kv_committed, kv_facts}
 use Rattle.mg_first.specs.KvTable.{kv_layout}
-use Rattle.mg_first.specs.NewDatabase.{IsHeaderPage}
 use Rattle.mg_first.specs.PlaceLaws.{HasOneTip, KeepsRest, none_of, state_by, state_is, tip_of, transactions_from, used_kept}
-use Rattle.mg_first.specs.Puts.{OnlyPage}
 use Rattle.mg_first.specs.StepLaws.{quiet_sound}
 use Rattle.mg_first.specs.declared.pages.TheConstants.{HEADER, LAST, PAGE, TRANSACTIONS}
-use Rattle.mg_kv.specs.RestLaws.{IsAtRest}
+use Rattle.mg_kv.specs.Work.{IsAtRest, RaisesHeader}
 use Rattle.mg_kv.specs.WorkStepLaws.{none_below}
-
--- The header alone is another one, and its next number is not lower.
-pub record RaisesHeader (old new : Pages) (n : ℕ) : Type 0 where
-  pub only : OnlyPage old new HEADER.0
-  pub was : IsHeaderPage (old HEADER.0) (next_of old)
-  pub header : IsHeaderPage (new HEADER.0) n
-  pub higher : next_of old ≤ n
-  pub last : n ≤ LAST.0
 
 -- ---- the pages
 

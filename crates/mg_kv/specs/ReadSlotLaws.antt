@@ -17,19 +17,16 @@ use Rattle.mg_image.specs.ReadingLaws.{Opens, chain_opens}
 use Rattle.mg_image.specs.RecordRules.{AreRecords, Facts, IsRecord, table_in}
 use Rattle.mg_image.specs.Records.{Cells, Chain, Reading, key_of, newest_of}
 use Rattle.mg_first.specs.KvTable.{kv_table}
-use Rattle.mg_first.specs.Puts.{kv_slot}
+use Rattle.mg_first.specs.KvCells.{kv_slot}
 use Rattle.mg_kv.specs.declared.newest.Newest.{Newest}
 use Rattle.mg_kv.specs.KeyTestLaws.{key_is_tested, tested_key}
 use Rattle.mg_kv.specs.SlotCellLaws.{place_of_slot, with_slots}
 use Rattle.mg_kv.specs.SlotLaws.{freed_here, freed_others, past_is_none, put_here, put_others}
 use Rattle.mg_kv.specs.Slots.{Slots, cell_in_slot, freed, has_key, newest, newest_at, newest_by_cell, newest_over, put_in, version_with}
 use Rattle.mg_kv.specs.Versions.{AreLive}
+use Rattle.mg_kv.specs.Writing.{AreMoved}
 
 -- ---- no version is the cell of its record's primary slot
-
-abbrev pub AreMoved : Slots → Type 0
-AreMoved slots =
-    (n : ℕ) (v : Version) → cell_in_slot slots n ≡ Some (cells.Version v) → v.primary ≡ false
 
 -- a slot in use is one of them
 pub used_within : (slots : Slots) (n : ℕ) (cell : Cell) → cell_in_slot slots n ≡ Some cell

@@ -14,8 +14,7 @@ use Rattle.mg_image.specs.Form.{Pages, Row, plain_coding}
 use Rattle.mg_image.specs.RecordRules.{AreRecords, Facts, TakesKey}
 use Rattle.mg_image.specs.Records.{Reading, cells_of, record_key}
 use Rattle.mg_first.specs.KvTable.{kv_row, kv_table}
-use Rattle.mg_first.specs.Puts.{kv_slot}
-use Rattle.mg_first.specs.Storing.{HasCell}
+use Rattle.mg_first.specs.KvCells.{kv_slot, HasCell}
 use Rattle.mg_first.specs.declared.pages.TheConstants.{KV_ROWS}
 use Rattle.mg_kv.specs.declared.reading.Given.{Given}
 use Rattle.mg_kv.specs.declared.reading.Given.TheVariants.{Deleted, Null, Number}

@@ -1,8 +1,7 @@
 -- The laws of the records of KV while the program works on them.
-use Rattle.std.specs.Prelude.{◌≡◌, ◌<◌, ◌≤◌, ℕ, ℤ, true, false, List, [], length, FitsSigned}
+use Rattle.std.specs.Prelude.{◌≡◌, ◌≤◌, ℕ, ℤ, true, List, [], length, FitsSigned}
 use Rattle.std.specs.Int.{w64}
 use Rattle.mg_base.specs.declared.numbers.RecId.{RecId}
-use Rattle.mg_base.specs.declared.numbers.TxNo.{TxNo}
 use Rattle.mg_base.specs.declared.transaction.TxState.{TxState}
 use Rattle.mg_base.specs.declared.transaction.TxState.TheVariants.{Dead, Committed}
 use Rattle.mg_model.specs.declared.table.Table.{Table}
@@ -10,39 +9,20 @@ use Rattle.mg_generations.specs.Generations.{Generation, is_newest_by, without_n
 use Rattle.mg_image.specs.declared.entry.Entry.{Entry}
 use Rattle.mg_image.specs.Form.{Pages, plain_coding, plain_form}
 use Rattle.mg_image.specs.Held.{AreChanges, AreRows, HasLimbo}
-use Rattle.mg_image.specs.Inventory.{next_of, state_at}
+use Rattle.mg_image.specs.Inventory.{state_at}
 use Rattle.mg_image.specs.Opening.{IsOpened}
 use Rattle.mg_image.specs.RecordRules.{AreRecords, Facts, committed_in}
 use Rattle.mg_image.specs.Records.{Cells, Reading}
-use Rattle.mg_image.specs.Sound.{HasTransactions}
 use Rattle.mg_first.specs.KvTable.{kv_table}
-use Rattle.mg_first.specs.PlaceLaws.{HasOneTip}
-use Rattle.mg_first.specs.Puts.{CommitsBits, RaisesNext}
-use Rattle.mg_first.specs.declared.pages.TheConstants.{LAST, PAGE, TRANSACTIONS}
+use Rattle.mg_first.specs.declared.pages.TheConstants.{PAGE, TRANSACTIONS}
 use Rattle.mg_tip.specs.TipPage.{state_in}
-use Rattle.mg_kv.specs.Fate.{fate_in, is_one_of}
-use Rattle.mg_kv.specs.FateLaws.{ChangesActive}
-use Rattle.mg_kv.specs.EndedVersionsLaws.{DrawsNumber, EndsAlone}
-use Rattle.mg_kv.specs.LiveFactsLaws.{HasBits, live_facts}
-use Rattle.mg_kv.specs.OpenedLaws.{ReadsVersions, opened_by}
-use Rattle.mg_kv.specs.PutOverLaws.{IsWriting}
-use Rattle.mg_kv.specs.SettledVersionsLaws.{GivesCommitted, GivesRow, without_dead_newest}
-use Rattle.mg_kv.specs.SettlingLaws.{SettlesFacts}
-use Rattle.mg_kv.specs.FoundVersionsLaws.{versions_below}
-use Rattle.mg_kv.specs.GivenRowsLaws.{AreLawful}
-use Rattle.mg_kv.specs.LimboShownLaws.{limbo_changes}
-use Rattle.mg_kv.specs.ShownRowsLaws.{shown_rows}
+use Rattle.mg_kv.specs.Fate.{fate_in}
+use Rattle.mg_kv.specs.Ending.{DrawsNumber, EndsAlone, SettlesFacts}
+use Rattle.mg_kv.specs.Work.{live_facts, IsAtWork, WorksOn, WritesPage, Draws, CommitsWork, RollsBack, IsAtRest, RaisesHeader}
+use Rattle.mg_kv.specs.Shown.{ReadsVersions, opened_by, GivesCommitted, GivesRow, without_dead_newest, versions_below, AreLawful, shown_rows, limbo_changes}
+use Rattle.mg_kv.specs.Writing.{IsWriting, HasKvSlots, WritesCells, WrittenRecords, written_versions, IsNoObstacle, writer_of, newest_writer}
 use Rattle.mg_kv.specs.Slots.{Slots, cleaned, taker}
 use Rattle.mg_kv.specs.Versions.{AreLive, AreVersions}
-use Rattle.mg_kv.specs.RaisedLaws.{RaisesHeader}
-use Rattle.mg_kv.specs.RestLaws.{IsAtRest}
-use Rattle.mg_kv.specs.WorkBeginLaws.{Draws}
-use Rattle.mg_kv.specs.WorkCommitLaws.{CommitsWork}
-use Rattle.mg_kv.specs.WorkStepLaws.{RollsBack}
-use Rattle.mg_kv.specs.WorkLaws.{IsAtWork, WorksOn, WritesPage}
-use Rattle.mg_kv.specs.WriteOverLaws.{IsNoObstacle, writer_of}
-use Rattle.mg_kv.specs.WrittenLaws.{newest_writer}
-use Rattle.mg_kv.specs.WrittenRecordsLaws.{HasKvSlots, WritesCells, WrittenRecords, written_versions}
 
 -- ---- each key has versions
 
@@ -121,31 +101,6 @@ WorkRollsBack = (pages : Pages) (before after : ℕ → TxState) (r : Reading) (
 abbrev pub WorkStops : Type 0
 WorkStops = (pages : Pages) (state : ℕ → TxState) (r : Reading) → IsAtWork pages state r
     → IsAtRest pages r
-
--- ---- its steps, by the active transactions and the bits of the others
-
--- a number is drawn, and its transaction is one of the active ones
-abbrev pub FateDraws : Type 0
-FateDraws = (old new : Pages) (active more : List TxNo) (u : ℕ) → RaisesNext old new
-    → u ≡ next_of old → u < LAST.0 → ChangesActive active more u true
-    → Draws old new (fate_in (old TRANSACTIONS.0) active) (fate_in (new TRANSACTIONS.0) more) u
-
--- the bits of an active one come to be those of a committed one, and it is active no more
-abbrev pub FateCommits : Type 0
-FateCommits = (old new : Pages) (active less : List TxNo) (t : ℕ) → CommitsBits old new t
-    → t < next_of old → next_of old ≤ LAST.0 → length (old TRANSACTIONS.0) ≡ PAGE
-    → is_one_of active t ≡ true → ChangesActive active less t false
-    → CommitsWork old new (fate_in (old TRANSACTIONS.0) active) (fate_in (new TRANSACTIONS.0) less)
-    t
-
--- an active one is active no more, and so it is dead: no page is written
-abbrev pub FateRollsBack : Type 0
-FateRollsBack = (pages : Pages) (active less : List TxNo) (n t : ℕ) → HasOneTip pages n
-    → HasTransactions PAGE pages → length (pages TRANSACTIONS.0) ≡ PAGE
-    → state_in (pages TRANSACTIONS.0) 0 ≡ Committed
-    → HasBits pages (fate_in (pages TRANSACTIONS.0) active) → is_one_of active t ≡ true
-    → ChangesActive active less t false
-    → RollsBack (fate_in (pages TRANSACTIONS.0) active) (fate_in (pages TRANSACTIONS.0) less) t
 
 -- ---- pages at rest
 

@@ -1,38 +1,24 @@
 -- The pages of a database at rest: the program starts to work on them, and stops.
-use Rattle.std.proofs.Common.{◌≡◌, ◌≢◌, ◌⊎◌, inl, inr, refl, sym, ap, ◌∙◌, subst, arith, ℕ, ◌/◌, ◌%◌, ◌<◌, ◌≤◌, ◌==◌, nat_lt, Bool, true, false, List, [], ◌∷◌, Some, length, le-ltb, lt-ltb, ne_eqb}
+use Rattle.std.proofs.Common.{◌≡◌, ◌≢◌, ◌⊎◌, inl, inr, refl, sym, ap, ◌∙◌, subst, arith, ℕ, ◌/◌, ◌%◌, ◌<◌, ◌≤◌, ◌==◌, nat_lt, Bool, true, false, List, [], ◌∷◌, length, le-ltb, lt-ltb, ne_eqb}
 use Rattle.std.specs.Prelude.{if◌then◌else◌}
 use Rattle.std.proofs.Math.Path.{fun_ext}
 use Rattle.std.proofs.lemmas.Bool.{cases_eq, cases_lt}
-use Rattle.mg_base.specs.declared.numbers.RecId.{RecId}
 use Rattle.mg_base.specs.declared.transaction.TxState.{TxState}
 use Rattle.mg_base.specs.declared.transaction.TxState.TheVariants.{Active, Limbo, Dead, Committed}
 use Rattle.mg_tip.specs.TipPage.{places, state_in}
-use Rattle.mg_image.specs.Catalog.{catalog_table}
-use Rattle.mg_image.specs.Form.{Pages, Rows, plain_coding, plain_form}
-use Rattle.mg_image.specs.Inventory.{bits_state, next_of, oldest_of, settled, state_at}
-use Rattle.mg_image.specs.RecordRules.{AreRecords, Each, Facts, table_in}
+use Rattle.mg_image.specs.Form.{Pages, plain_coding}
+use Rattle.mg_image.specs.Inventory.{bits_state, next_of, settled, state_at}
+use Rattle.mg_image.specs.RecordRules.{AreRecords, Each, Facts}
 use Rattle.mg_image.specs.Records.{Reading, cells_of, writer}
-use Rattle.mg_image.specs.Sound.{HasTransactions, IsSound, IsUndrawn}
+use Rattle.mg_image.specs.Sound.{HasTransactions, IsUndrawn}
 use Rattle.mg_image.specs.declared.entry.Entry.{Entry}
-use Rattle.mg_first.specs.FirstImage.{AllCommitted, IsCommittedRow, IsKv, kv_facts}
-use Rattle.mg_first.specs.KvTable.{kv_layout}
+use Rattle.mg_first.specs.FirstImage.{kv_facts}
 use Rattle.mg_first.specs.PlaceLaws.{HasOneTip, none_of, state_by, state_is}
-use Rattle.mg_first.specs.declared.pages.TheConstants.{CATALOG, PAGE, TRANSACTIONS}
+use Rattle.mg_first.specs.declared.pages.TheConstants.{PAGE, TRANSACTIONS}
 use Rattle.mg_kv.specs.Fate.{ended_in, fate_in}
-use Rattle.mg_kv.specs.LiveFactsLaws.{HasBits, live_facts}
+use Rattle.mg_kv.specs.Work.{HasBits, live_facts, IsAtWork, IsAtRest}
 use Rattle.mg_kv.specs.Versions.{kept}
-use Rattle.mg_kv.specs.WorkLaws.{IsAtWork}
 use Rattle.mg_kv.specs.WorkStepLaws.{committed_bits}
-
--- Nobody works on these pages, of which this is read: the image is sound, each transaction is
--- interesting, and the catalog is committed.
-pub record IsAtRest (pages : Pages) (r : Reading) : Type 0 where
-  pub sound : IsSound plain_form PAGE pages kv_layout r
-  pub tip : HasOneTip pages (next_of pages)
-  pub oldest : oldest_of pages ≤ 1
-  pub drawn : 0 < next_of pages
-  pub catalog : (p : RecId) → table_in (kv_facts pages) p ≡ Some (catalog_table CATALOG.0)
-      → Each (λ e. state_at PAGE pages (writer e) ≡ Committed) (r p)
 
 -- ---- the program stops
 
@@ -162,21 +148,3 @@ work_starts_by_bits pages r rest len system =
     fun_ext (λ u. sym (ended_is pages (next_of pages) rest.tip rest.sound.transactions len system
     u)) in
     subst (λ (state : ℕ → TxState). IsAtWork pages state r) same (work_starts pages r rest)
-
--- ---- an image whose versions are all committed
-
--- it is at rest
-pub committed_at_rest : (pages : Pages) (r : Reading) (n : ℕ) (kvs : Rows) → IsKv pages r n kvs
-    → AllCommitted pages r → 0 < n → IsAtRest pages r
-committed_at_rest pages r n kvs kv all some_ = record {
-  sound = kv.sound;
-  tip = record { next = refl; last = omega (arith, kv.next, kv.last); one_tip = kv.one_tip };
-  oldest = kv.oldest;
-  drawn = omega (arith, kv.next, some_);
-  catalog = λ p of. each (r p) (all p);
-}
-  where
-    each : (es : List Entry) → Each (IsCommittedRow pages) es
-        → Each (λ e. state_at PAGE pages (writer e) ≡ Committed) es
-    each [] committed = tt
-    each (e ∷ es) committed = (committed.0.committed, each es committed.1)

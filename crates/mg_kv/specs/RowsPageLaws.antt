@@ -19,9 +19,10 @@ use Rattle.mg_image.specs.Sound.{IsCellOf, IsSound, IsTableData}
 use Rattle.mg_image.specs.Tables.{IsOnce}
 use Rattle.mg_first.specs.FirstImage.{kv_facts}
 use Rattle.mg_first.specs.KvTable.{kv_layout, kv_table}
-use Rattle.mg_first.specs.OtherPages.{ChangesRows, facts_stay, header_stays, linked_stay, oldest_stays, state_stays, wanted_stays}
-use Rattle.mg_first.specs.PutPages.{data_stays, header_has, inventory_has, table_pages_stay, transactions_have}
-use Rattle.mg_first.specs.PutRows.{found_in_none, no_index}
+use Rattle.mg_first.specs.OtherPagesLaws.{facts_stay, header_stays, linked_stay, oldest_stays, state_stays, wanted_stays}
+use Rattle.mg_first.specs.PageChanges.{ChangesRows}
+use Rattle.mg_first.specs.KeptPagesLaws.{data_stays, header_has, inventory_has, table_pages_stay, transactions_have}
+use Rattle.mg_first.specs.StepLaws.{not_indexed}
 use Rattle.mg_first.specs.declared.pages.TheConstants.{CATALOG, CATALOG_ROWS, KV, KV_ROWS, PAGE}
 
 -- A data page may stand where another one does: it begins as that one, is as long, and each of its
@@ -100,10 +101,5 @@ rows_page_sound pages new r s sound change page records others = record {
       (sym (facts_stay pages new change)) records;
   limbo = λ u old is. sound.limbo u (omega (arith, oldest_stays pages new change.others, old))
       (sym (state_stays pages new change u) ∙ is);
-  indexed = record {
-    committed = λ p table row shows. found_in_none new table.indexes p row
-        (no_index new p table shows.of_table);
-    limbo = λ p table e has alive. found_in_none new table.indexes p e.row
-        (no_index new p table has.of_table);
-  };
+  indexed = not_indexed new s;
 }

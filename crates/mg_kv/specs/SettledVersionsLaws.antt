@@ -13,26 +13,13 @@ use Rattle.mg_image.specs.Form.{Coding, Row}
 use Rattle.mg_image.specs.RecordRules.{AreRecords, Each, EachBack, Facts, TakesKey, committed_in, table_in}
 use Rattle.mg_image.specs.Records.{Cells, Reading, record_key, shown, writer}
 use Rattle.mg_first.specs.KvTable.{kv_table}
-use Rattle.mg_kv.specs.SettlingLaws.{Ends, SettlesFacts, commits, dies, each_committed, record_ends, shown_same, stays, took_key}
-use Rattle.mg_kv.specs.Slots.{is_dead}
+use Rattle.mg_kv.specs.SettlingLaws.{each_committed, record_ends, shown_same, took_key}
+use Rattle.mg_kv.specs.Ending.{commits, dies, stays, Ends, SettlesFacts}
 use Rattle.mg_kv.specs.OlderVersionsLaws.{nothing_taken, taken_before}
 use Rattle.mg_kv.specs.Versions.{AreVersions, generation_of, living, none, some}
+use Rattle.mg_kv.specs.Shown.{without_dead_newest, GivesCommitted}
 
 -- ---- versions without a dead newest one
-
-abbrev pub without_dead_newest : (ℕ → TxState) → List Generation → List Generation
-without_dead_newest state [] = []
-without_dead_newest state (g ∷ gs) = if is_dead (state g.writer) then gs else g ∷ gs
-
--- the newest of these gives a row, where there is one
-abbrev pub GivesRow : List Generation → Type 0
-GivesRow [] = Unit {0}
-GivesRow (g ∷ gs) = IsSome g.row
-
--- it does where its writer is committed
-abbrev pub GivesCommitted : (ℕ → TxState) → List Generation → Type 0
-GivesCommitted state [] = Unit {0}
-GivesCommitted state (g ∷ gs) = state g.writer ≡ Committed → IsSome g.row
 
 -- the row that a version gives, none where it is a deletion
 abbrev row_unless : Bool → RowCells → Option RowCells

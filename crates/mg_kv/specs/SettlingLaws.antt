@@ -11,26 +11,9 @@ use Rattle.mg_image.specs.Form.{Coding}
 use Rattle.mg_image.specs.RecordRules.{AreRecords, Each, EachBack, Facts, IsRecord, IsVersion, TakesKey, committed_in, table_in}
 use Rattle.mg_image.specs.Records.{Cells, Reading, record_key, shown, writer}
 use Rattle.mg_kv.specs.OlderVersionsLaws.{nothing_taken}
+use Rattle.mg_kv.specs.Ending.{Ends, IsNoWriter, SettlesFacts, commits, dies, stays}
 
 -- ---- what becomes of transactions
-
--- its state stays, or it comes out of limbo; where it is dead then, it is interesting
-pub data Ends (f g : Facts) (u : ℕ) : Type 0 where
-  stays : g.state u ≡ f.state u → Ends f g u
-  commits : f.state u ≡ Limbo → g.state u ≡ Committed → Ends f g u
-  dies : f.state u ≡ Limbo → g.state u ≡ Dead → g.oldest ≤ u → Ends f g u
-
--- no version of any record is a transaction's
-abbrev pub IsNoWriter : Reading → ℕ → Type 0
-IsNoWriter r u = (p : RecId) → Each (λ e. writer e ≢ u) (r p)
-
--- The facts after some transactions have ended, and numbers were drawn.
-pub record SettlesFacts (f g : Facts) (r : Reading) : Type 0 where
-  pub tables : (n : ℕ) → g.table_of n ≡ f.table_of n
-  pub next : f.next ≤ g.next
-  pub oldest : g.oldest ≤ f.oldest
-  -- anything may become of one that has written nothing
-  pub ends : (u : ℕ) → Ends f g u ⊎ IsNoWriter r u
 
 -- ---- the versions of one record
 

@@ -1,5 +1,5 @@
 -- The rows of KV that the versions of all keys show.
-use Rattle.std.proofs.Common.{◌≡◌, inl, refl, sym, ap, ◌∙◌, ℕ, ℤ, Bool, List, [], ◌∷◌, None, Some}
+use Rattle.std.proofs.Common.{◌≡◌, inl, refl, sym, ap, ◌∙◌, ℕ, ℤ, Bool, List, [], ◌∷◌, Some}
 use Rattle.std.specs.Prelude.{map}
 use Rattle.mg_base.specs.declared.numbers.RecId.{RecId}
 use Rattle.mg_base.specs.declared.transaction.TxState.{TxState}
@@ -9,7 +9,7 @@ use Rattle.mg_value.specs.declared.value.Value.TheVariants.{Null, Int, Text}
 use Rattle.mg_generations.specs.Generations.{Generation, shown_by}
 use Rattle.mg_image.specs.declared.entry.Entry.{Entry}
 use Rattle.mg_image.specs.FactLaws.{shown_keyed}
-use Rattle.mg_image.specs.Form.{Row, Rows, plain_coding}
+use Rattle.mg_image.specs.Form.{Row, plain_coding}
 use Rattle.mg_image.specs.Held.{AreRows, Shows}
 use Rattle.mg_image.specs.RecordRules.{AreRecords, Each, Facts, IsVersion, TakesKey, committed_in, table_in}
 use Rattle.mg_image.specs.Records.{Cells, Reading, key_of, record_key, shown, writer}
@@ -19,12 +19,7 @@ use Rattle.mg_kv.specs.KeyTestLaws.{key_of_version}
 use Rattle.mg_kv.specs.OlderVersionsLaws.{nothing_taken}
 use Rattle.mg_kv.specs.Versions.{AreVersions, generation_of, living, none, some}
 use Rattle.mg_kv.specs.VersionsLaws.{versions_of_taker}
-
--- the rows that versions of keys show, where these transactions count
-abbrev pub shown_rows : (ℕ → Bool) → (ℤ → List Generation) → Rows
-shown_rows counts versions Null = None
-shown_rows counts versions (Int key) = shown_by counts (versions key)
-shown_rows counts versions (Text text) = None
+use Rattle.mg_kv.specs.Shown.{shown_rows}
 
 -- a record's versions show what a history says of them
 shown_generations : (counts : ℕ → Bool) (es : List Entry)

@@ -1,15 +1,15 @@
 -- The cells of an image by the slots of KV's page, and what a change of a slot makes of them.
-use Rattle.std.proofs.Common.{◌≡◌, ◌≢◌, ◌⊎◌, inl, inr, refl, ap, ◌∙◌, ℕ, ◌≤◌, Bool, true, false, Option, None, Some}
+use Rattle.std.proofs.Common.{◌≡◌, ◌≢◌, ◌⊎◌, inl, inr, refl, ap, ◌∙◌, ℕ, ◌≤◌, Bool, true, false, Option, Some}
 use Rattle.std.specs.Prelude.{◌==◌, if◌then◌else◌, length}
 use Rattle.std.proofs.Math.Path.{fun_ext}
 use Rattle.std.proofs.lemmas.Bool.{cases_eq, eq-eqb, eqb-true, ne_eqb}
 use Rattle.mg_base.specs.declared.numbers.RecId.{RecId}
 use Rattle.mg_version.specs.declared.cell.Cell.{Cell}
 use Rattle.mg_image.specs.Records.{Cells, Changes}
-use Rattle.mg_first.specs.Puts.{kv_slot}
+use Rattle.mg_first.specs.KvCells.{kv_slot}
 use Rattle.mg_first.specs.declared.pages.TheConstants.{KV_ROWS}
-use Rattle.mg_kv.specs.Slots.{Slots, cell_in_slot, freed, put_in}
-use Rattle.mg_kv.specs.SlotLaws.{freed_here, freed_others, put_here, put_others}
+use Rattle.mg_kv.specs.Slots.{Slots, cell_in_slot, put_in}
+use Rattle.mg_kv.specs.SlotLaws.{put_here, put_others}
 
 -- the cells of an image, but that those of KV's page are these
 abbrev pub with_slots : Cells → Slots → Cells
@@ -59,9 +59,3 @@ pub put_changes : (h : Cells) (slots : Slots) (n : ℕ) (cell : Cell) → n ≤ 
     → Changes (with_slots h slots) (with_slots h (put_in n cell slots)) (kv_slot n) (Some cell)
 put_changes h slots n cell within = slot_changes h slots (put_in n cell slots) n (Some cell)
     (put_here n cell slots within) (λ m ne. put_others n cell slots m within ne)
-
--- a slot is freed
-pub freed_changes : (h : Cells) (slots : Slots) (n : ℕ)
-    → Changes (with_slots h slots) (with_slots h (freed n slots)) (kv_slot n) None
-freed_changes h slots n = slot_changes h slots (freed n slots) n None (freed_here n slots)
-    (λ m ne. freed_others n slots m ne)

@@ -48,16 +48,6 @@ pub put_size_new : (cell : Cell) (slots : Slots)
 put_size_new cell [] = omega arith
 put_size_new cell (slot ∷ slots) = omega (arith, put_size_new cell slots)
 
-pub put_trimmed : (n : ℕ) (cell : Cell) (slots : Slots) → n ≤ length slots → IsTrimmed slots
-    → IsTrimmed (put_in n cell slots)
-put_trimmed n cell slots within trimmed = record { last = λ m is. at m is (cases_eq m n) }
-  where
-    at : (m : ℕ) → length (put_in n cell slots) ≡ suc m → (m ≡ n) ⊎ (m ≢ n)
-        → IsSome (cell_in_slot (put_in n cell slots) m)
-    at m is (inl e) = rw (e, put_here n cell slots within) refl
-    at m is (inr ne) = rw (put_others n cell slots m within ne)
-        (trimmed.last m (omega (arith, put_length n cell slots within)))
-
 -- ---- a slot is freed
 
 in_front_at : (slot : Option Cell) (slots : Slots) (m : ℕ)
@@ -108,19 +98,6 @@ freed_trimmed zero (slot ∷ slots) trimmed =
 freed_trimmed (suc n) (slot ∷ slots) trimmed =
     in_front_trimmed slot (freed n slots)
     (freed_trimmed n slots (trimmed_behind slot slots trimmed))
-
-in_front_size : (slot : Option Cell) (slots : Slots)
-    → size_of (in_front slot slots) ≤ slot_size slot + size_of slots
-in_front_size None [] = omega arith
-in_front_size None (slot ∷ slots) = omega arith
-in_front_size (Some cell) slots = omega arith
-
-pub freed_size : (n : ℕ) (slots : Slots) → size_of (freed n slots) ≤ size_of slots
-freed_size n [] = omega arith
-freed_size zero (None ∷ slots) = in_front_size None slots
-freed_size zero (Some cell ∷ slots) = omega (arith, in_front_size None slots)
-freed_size (suc n) (slot ∷ slots) =
-    omega (arith, in_front_size slot (freed n slots), freed_size n slots)
 
 -- ---- the least free slot
 

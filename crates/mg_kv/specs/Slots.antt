@@ -1,6 +1,6 @@
 -- The cells of KV's data page by their slots, and what the writing of a row makes of them. No byte
 -- is here but those of a row's key, and no place of a cell on the page.
-use Rattle.std.specs.Prelude.{◌≡◌, ◌+◌, ◌<◌, ◌≤◌, ◌==◌, ◌&&◌, not, ℕ, zero, suc, ℤ, Bool, true, false, List, [], ◌∷◌, length, take, drop, Option, None, Some, if◌then◌else◌}
+use Rattle.std.specs.Prelude.{◌≡◌, ◌+◌, ◌<◌, ◌==◌, ◌&&◌, not, ℕ, zero, suc, ℤ, Bool, true, false, List, [], ◌∷◌, length, take, drop, Option, None, Some, if◌then◌else◌}
 use Rattle.std.specs.Int.{w64, cast_unsigned, to_le_bytes}
 use Rattle.std.specs.Str.{bytes_eq}
 use Rattle.std.proofs.Common.{get_or}
@@ -13,8 +13,9 @@ use Rattle.mg_version.specs.declared.cell.Cell.TheVariants as cells
 use Rattle.mg_version.specs.declared.cell.Link.{Link}
 use Rattle.mg_version.specs.declared.cell.Version.{Version}
 use Rattle.mg_model.specs.Answers.{is_committed}
-use Rattle.mg_first.specs.Puts.{kv_link, kv_version}
-use Rattle.mg_first.specs.Storing.{HasCell}
+use Rattle.mg_first.specs.KvCells.{kv_link, kv_version, HasCell}
+use Rattle.mg_kv.specs.declared.fault.WriteFault.{WriteFault}
+use Rattle.mg_kv.specs.declared.fault.WriteFault.TheVariants.{NoRoom, Memory}
 use Rattle.mg_kv.specs.declared.newest.Newest.{Newest}
 
 -- what each slot has; the last one has a cell
@@ -201,10 +202,6 @@ written state t key value slots =
     let clean = cleaned state key slots in
     written_over t key value (taker state key clean) clean
 
--- it fits the page
-abbrev pub Fits : Slots → Type 0
-Fits slots = size_of slots ≤ ROOM
-
 -- ---- what a call does to a page
 
 -- a slot has an anchor
@@ -218,3 +215,8 @@ Makes old new change = (slots : Slots) → HasSlots old slots → HasSlots new (
 -- whatever cells the page has, these would not fit it
 abbrev pub Lacks : List ℕ → (Slots → Slots) → Type 0
 Lacks page change = (slots : Slots) → HasSlots page slots → ROOM < size_of (change slots)
+
+-- a fact, where a page has no room
+abbrev pub IfNoRoom : WriteFault → Type 0 → Type 0
+IfNoRoom NoRoom P = P
+IfNoRoom Memory P = Unit {0}

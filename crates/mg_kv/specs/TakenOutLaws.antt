@@ -16,12 +16,13 @@ use Rattle.mg_image.specs.Form.{plain_coding}
 use Rattle.mg_image.specs.RecordRules.{AreRecords, Each, Facts, TakesKey}
 use Rattle.mg_image.specs.Records.{Cells, Chain, Changes, Reading, Stands, newest_of, record_key, writer}
 use Rattle.mg_image.specs.StepLaws.{chain_stays, put_cases, put_reading, step_sound, unread_sound}
-use Rattle.mg_first.specs.KvRecords.{anchor_unread}
+use Rattle.mg_first.specs.KvRecordLaws.{anchor_unread}
 use Rattle.mg_first.specs.KvTable.{kv_table}
-use Rattle.mg_first.specs.Puts.{kv_slot}
+use Rattle.mg_first.specs.KvCells.{kv_slot}
 use Rattle.mg_first.specs.declared.pages.TheConstants.{KV_ROWS}
 use Rattle.mg_kv.specs.declared.newest.Newest.{Newest}
-use Rattle.mg_kv.specs.ReadSlotLaws.{AreMoved, AreSlotRecords, IsNewest, ReadsKeyed, ReadsNewest, anchor_moved, freed_moved, newest_reads, put_moved, reads_nothing, used_within}
+use Rattle.mg_kv.specs.ReadSlotLaws.{AreSlotRecords, IsNewest, ReadsKeyed, ReadsNewest, anchor_moved, freed_moved, newest_reads, put_moved, reads_nothing, used_within}
+use Rattle.mg_kv.specs.Writing.{AreMoved}
 use Rattle.mg_kv.specs.SlotCellLaws.{slot_changes, with_slots}
 use Rattle.mg_kv.specs.SlotLaws.{freed_here, freed_others, put_here, put_others}
 use Rattle.mg_kv.specs.Slots.{Slots, backed, cell_in_slot, freed, taken_out}

@@ -12,7 +12,7 @@ use Rattle.mg_image.specs.declared.entry.Entry.{Entry}
 use Rattle.mg_image.specs.RecordRules.{Facts, TakesKey, table_in}
 use Rattle.mg_image.specs.Records.{Cells, Reading, writer}
 use Rattle.mg_first.specs.KvTable.{kv_table}
-use Rattle.mg_first.specs.Puts.{kv_slot}
+use Rattle.mg_first.specs.KvCells.{kv_slot}
 use Rattle.mg_kv.specs.declared.newest.Newest.{Newest}
 use Rattle.mg_kv.specs.ReadSlotLaws.{AreSlotRecords, IsFoundAt, IsNewest, keyed_is_found, newest_is, place_of_kv, used_within}
 use Rattle.mg_kv.specs.Slots.{Slots, first_of, newest_at, taker, taker_below, takes, taking}

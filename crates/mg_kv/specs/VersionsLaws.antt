@@ -1,10 +1,7 @@
 -- Which versions of a key the records have: one list, and what becomes of it where one record gets
 -- another list of versions.
-use Rattle.std.proofs.Common.{◌≡◌, ◌≢◌, ◌⊎◌, inl, inr, refl, sym, ap, ◌∙◌, subst, ℕ, ℤ, true, false, List, [], Some}
+use Rattle.std.proofs.Common.{◌≡◌, ◌≢◌, ◌⊎◌, inl, inr, refl, sym, ap, ◌∙◌, subst, ℤ, true, false, List, [], Some}
 use Rattle.mg_base.specs.declared.numbers.RecId.{RecId}
-use Rattle.mg_base.specs.declared.transaction.TxState.{TxState}
-use Rattle.mg_model.specs.declared.table.Table.{Table}
-use Rattle.mg_first.specs.declared.pages.TheConstants.{KV_ROWS}
 use Rattle.mg_value.specs.declared.value.Value.TheVariants.{Int}
 use Rattle.mg_generations.specs.Generations.{Generation}
 use Rattle.mg_image.specs.declared.entry.Entry.{Entry}
@@ -13,7 +10,7 @@ use Rattle.mg_image.specs.RecordRules.{AreRecords, Facts, TakesKey, table_in}
 use Rattle.mg_image.specs.Records.{Cells, Reading, record_key}
 use Rattle.mg_image.specs.StepLaws.{cases_place, put_cases, put_reading, same_place}
 use Rattle.mg_first.specs.KvTable.{kv_table}
-use Rattle.mg_kv.specs.Versions.{AreLive, AreVersions, living, none, some}
+use Rattle.mg_kv.specs.Versions.{AreVersions, living, none, some}
 
 -- these versions are those of a record of KV that takes the key
 pub record TakesItsKey (f : Facts) (es : List Entry) (key : ℤ) : Type 0 where
@@ -100,13 +97,3 @@ takes_neither f old new key not_old not_new = record {
   forth = λ it. absurd (not_old it);
   back = λ it. absurd (not_new it);
 }
-
--- ---- other tables
-
--- a place of another table is off KV's page
-pub off_kv : (f : Facts) (state : ℕ → TxState) (p : RecId) (table : Table) → AreLive f state
-    → table_in f p ≡ Some table → table ≢ kv_table → p.page.0 ≢ KV_ROWS.0
-off_kv f state p table live of other page =
-    let kv : table_in f p ≡ Some kv_table = ap f.table_of page ∙ live.here in
-    let both : Some table ≡ Some kv_table = sym of ∙ kv in
-    let same : table ≡ kv_table = cc in other same

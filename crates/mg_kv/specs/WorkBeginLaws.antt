@@ -16,22 +16,14 @@ use Rattle.mg_image.specs.Records.{Reading, cells_of, writer}
 use Rattle.mg_image.specs.Sound.{HasHeader, HasTransactions}
 use Rattle.mg_first.specs.FirstImage.{kv_facts}
 use Rattle.mg_first.specs.PlaceLaws.{HasOneTip, KeepsRest, none_of, state_is, tip_of, transactions_from, used_kept}
-use Rattle.mg_first.specs.Puts.{RaisesNext}
+use Rattle.mg_first.specs.PageChanges.{RaisesNext}
 use Rattle.mg_first.specs.StepLaws.{quiet_sound, raised_state}
 use Rattle.mg_first.specs.declared.pages.TheConstants.{CATALOG, LAST, PAGE, TRANSACTIONS}
 use Rattle.mg_kv.specs.EndedVersionsLaws.{draw_settles}
-use Rattle.mg_kv.specs.LiveFactsLaws.{Becomes, HasBits, live_draws, live_facts}
+use Rattle.mg_kv.specs.LiveFactsLaws.{Becomes, live_draws}
+use Rattle.mg_kv.specs.Work.{HasBits, live_facts, IsAtWork, Draws}
 use Rattle.mg_kv.specs.SettlingLaws.{records_settle}
-use Rattle.mg_kv.specs.WorkLaws.{IsAtWork}
 use Rattle.mg_kv.specs.WorkStepLaws.{cells_kept, none_below, others_committed, same_catalog}
-
--- The next number is drawn, and its transaction is active.
-pub record Draws (old new : Pages) (before after : ℕ → TxState) (u : ℕ) : Type 0 where
-  pub raises : RaisesNext old new
-  pub number : u ≡ next_of old
-  pub room : u < LAST.0
-  pub active : after u ≡ Active
-  pub others : (v : ℕ) → v ≢ u → after v ≡ before v
 
 raised_tip : (old new : Pages) → HasOneTip old (next_of old) → next_of old < LAST.0
     → RaisesNext old new → HasOneTip new (next_of old + 1)

@@ -18,23 +18,15 @@ use Rattle.mg_image.specs.Records.{Reading, cells_of, writer}
 use Rattle.mg_image.specs.Sound.{HasHeader, HasTransactions}
 use Rattle.mg_first.specs.FirstImage.{kv_facts}
 use Rattle.mg_first.specs.PlaceLaws.{HasOneTip, KeepsRest, none_of, state_by, state_is, tip_of, transactions_from, used_kept}
-use Rattle.mg_first.specs.Puts.{CommitsBits}
+use Rattle.mg_first.specs.PageChanges.{CommitsBits}
 use Rattle.mg_first.specs.StepLaws.{quiet_sound}
 use Rattle.mg_first.specs.declared.pages.TheConstants.{CATALOG, LAST, PAGE, TRANSACTIONS}
 use Rattle.mg_kv.specs.EndedVersionsLaws.{commit_settles}
-use Rattle.mg_kv.specs.LiveFactsLaws.{Becomes, HasBits, live_ends, live_facts, records_at_stop}
+use Rattle.mg_kv.specs.LiveFactsLaws.{Becomes, live_ends, records_at_stop}
+use Rattle.mg_kv.specs.Work.{HasBits, live_facts, IsAtWork, CommitsWork}
 use Rattle.mg_kv.specs.SettlingLaws.{records_settle}
 use Rattle.mg_kv.specs.Versions.{kept}
-use Rattle.mg_kv.specs.WorkLaws.{IsAtWork}
 use Rattle.mg_kv.specs.WorkStepLaws.{cells_kept, none_below, others_committed, same_catalog}
-
--- The bits of an active transaction come to be those of a committed one.
-pub record CommitsWork (old new : Pages) (before after : ℕ → TxState) (t : ℕ) : Type 0 where
-  pub bits : CommitsBits old new t
-  pub below : t < next_of old
-  pub active : before t ≡ Active
-  pub committed : after t ≡ Committed
-  pub others : (u : ℕ) → u ≢ t → after u ≡ before u
 
 -- ---- the pages
 

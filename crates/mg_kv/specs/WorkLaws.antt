@@ -1,63 +1,22 @@
 -- The pages of a database while the program works on them: a row is written on KV's page.
-use Rattle.std.proofs.Common.{◌≡◌, refl, sym, ap, ◌∙◌, subst, arith, ℕ, ◌≤◌, ◌<◌, ℤ, Some}
-use Rattle.std.specs.Prelude.{take, length}
-use Rattle.mg_base.specs.declared.fields.TheConstants.{COMMON}
-use Rattle.mg_base.specs.declared.numbers.RecId.{RecId}
+use Rattle.std.proofs.Common.{◌≡◌, refl, sym, ap, ◌∙◌, subst, arith, ℕ, ℤ}
 use Rattle.mg_base.specs.declared.transaction.TxState.{TxState}
 use Rattle.mg_base.specs.declared.transaction.TxState.TheVariants.{Committed}
 use Rattle.mg_header.specs.declared.header.Header.{Header}
-use Rattle.mg_slots.specs.DataPage.{IsDataPage}
-use Rattle.mg_image.specs.Catalog.{catalog_table}
-use Rattle.mg_image.specs.Form.{Pages, plain_coding, plain_form}
-use Rattle.mg_image.specs.Inventory.{next_of, oldest_of}
-use Rattle.mg_image.specs.RecordRules.{AreRecords, Each, Facts, table_in}
+use Rattle.mg_image.specs.Form.{Pages, plain_coding}
+use Rattle.mg_image.specs.RecordRules.{AreRecords, Each, Facts}
 use Rattle.mg_image.specs.Records.{Reading, cells_of, writer}
-use Rattle.mg_image.specs.Sound.{IsSound}
 use Rattle.mg_first.specs.FirstImage.{kv_facts}
-use Rattle.mg_first.specs.KvTable.{kv_layout}
-use Rattle.mg_first.specs.OtherPages.{ChangesRows, facts_stay, header_stays, next_stays, oldest_stays, state_stays}
-use Rattle.mg_first.specs.PlaceLaws.{HasOneTip}
-use Rattle.mg_first.specs.Puts.{OnlyPage}
-use Rattle.mg_first.specs.declared.pages.TheConstants.{CATALOG, KV_ROWS, PAGE}
-use Rattle.mg_kv.specs.LiveFactsLaws.{HasBits, facts_are_live, live_facts, records_at_stop}
+use Rattle.mg_first.specs.OtherPagesLaws.{facts_stay, header_stays, next_stays, oldest_stays, state_stays}
+use Rattle.mg_first.specs.PageChanges.{ChangesRows}
+use Rattle.mg_first.specs.declared.pages.TheConstants.{KV_ROWS}
+use Rattle.mg_kv.specs.LiveFactsLaws.{facts_are_live, records_at_stop}
+use Rattle.mg_kv.specs.Work.{live_facts, IsAtWork, WritesPage, WorksOn}
 use Rattle.mg_kv.specs.PageSlotsLaws.{slots_are_cells}
-use Rattle.mg_kv.specs.PutOverLaws.{IsWriting}
+use Rattle.mg_kv.specs.Writing.{IsWriting, WrittenRecords, IsNoObstacle, writer_of}
 use Rattle.mg_kv.specs.RowsPageLaws.{catalog_is_off, rows_page_sound}
-use Rattle.mg_kv.specs.Slots.{HasSlots, Slots, cleaned, taker, written}
-use Rattle.mg_kv.specs.WriteOverLaws.{IsNoObstacle, writer_of}
-use Rattle.mg_kv.specs.WrittenRecordsLaws.{WrittenRecords, pages_write_cells, written_records}
-
--- The program works on these pages, of which this is read, where this has become of the
--- transactions: the image is sound if the program stops now, and its records are lawful as long as
--- it works.
-pub record IsAtWork (pages : Pages) (state : ℕ → TxState) (r : Reading) : Type 0 where
-  pub sound : IsSound plain_form PAGE pages kv_layout r
-  pub records : AreRecords plain_coding (live_facts pages state) (cells_of pages) r
-  pub bits : HasBits pages state
-  pub tip : HasOneTip pages (next_of pages)
-  -- each transaction is interesting, and there is one
-  pub oldest : oldest_of pages ≤ 1
-  pub drawn : 0 < next_of pages
-  -- the catalog is committed
-  pub catalog : (p : RecId) → table_in (kv_facts pages) p ≡ Some (catalog_table CATALOG.0)
-      → Each (λ e. state (writer e) ≡ Committed) (r p)
-
--- A row is written on KV's page, and no other page is changed.
-pub record WritesPage (old new : Pages) (state : ℕ → TxState) (t : ℕ) (key value : ℤ)
-    (slots : Slots) : Type 0 where
-  pub before : HasSlots (old KV_ROWS.0) slots
-  pub after : HasSlots (new KV_ROWS.0) (written state t key value slots)
-  pub only : OnlyPage old new KV_ROWS.0
-  pub common : take COMMON (new KV_ROWS.0) ≡ take COMMON (old KV_ROWS.0)
-  pub len : length (new KV_ROWS.0) ≡ length (old KV_ROWS.0)
-  pub lawful : IsDataPage (new KV_ROWS.0)
-
--- The program works on, and the row's key has another version.
-pub record WorksOn (old new : Pages) (state : ℕ → TxState) (r : Reading) (t : ℕ) (key value : ℤ)
-    : Type 0 where
-  pub written_ : WrittenRecords (live_facts old state) (cells_of new) r t key value
-  pub work : IsAtWork new state written_.reading
-  pub facts : live_facts new state ≡ live_facts old state
+use Rattle.mg_kv.specs.Slots.{Slots, cleaned, taker, written}
+use Rattle.mg_kv.specs.WrittenRecordsLaws.{pages_write_cells, written_records}
 
 -- another data page of KV changes nothing that the records need to know
 pub live_stays : (old new : Pages) (state : ℕ → TxState) → ChangesRows old new

@@ -18,10 +18,10 @@ use Rattle.mg_first.specs.FirstImage.{kv_facts}
 use Rattle.mg_first.specs.PlaceLaws.{KeepsRest, rows_apart}
 use Rattle.mg_first.specs.declared.pages.TheConstants.{CATALOG, PAGE}
 use Rattle.mg_kv.specs.EndedVersionsLaws.{dead_settles}
-use Rattle.mg_kv.specs.LiveFactsLaws.{Becomes, HasBits, live_ends, live_facts}
+use Rattle.mg_kv.specs.LiveFactsLaws.{Becomes, live_ends}
+use Rattle.mg_kv.specs.Work.{HasBits, live_facts, IsAtWork, RollsBack}
 use Rattle.mg_kv.specs.SettlingLaws.{records_settle}
 use Rattle.mg_kv.specs.Versions.{kept}
-use Rattle.mg_kv.specs.WorkLaws.{IsAtWork}
 
 -- ---- what the header and the page of transactions leave
 
@@ -90,12 +90,6 @@ others_committed before after t not_ others (e ∷ es) each = (
 )
 
 -- ---- a transaction is rolled back
-
--- It was active and is dead, and no page is written.
-pub record RollsBack (before after : ℕ → TxState) (t : ℕ) : Type 0 where
-  pub active : before t ≡ Active
-  pub dead : after t ≡ Dead
-  pub others : (u : ℕ) → u ≢ t → after u ≡ before u
 
 pub rolled_back : (pages : Pages) (before after : ℕ → TxState) (t : ℕ)
     → RollsBack before after t → Becomes pages pages before after t Dead

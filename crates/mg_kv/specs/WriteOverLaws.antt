@@ -1,5 +1,5 @@
 -- A row is written over the record that takes its key, or into a new one.
-use Rattle.std.proofs.Common.{◌≡◌, ◌≢◌, ◌⊎◌, inl, inr, refl, sym, ap, ◌∙◌, subst, arith, ℕ, ◌≤◌, ℤ, Bool, true, false, [], Option, None, Some}
+use Rattle.std.proofs.Common.{◌≡◌, ◌≢◌, inl, inr, refl, sym, ap, ◌∙◌, subst, arith, ℕ, ◌≤◌, ℤ, Bool, true, false, [], Option, None, Some}
 use Rattle.std.specs.Prelude.{◌&&◌, not, length, map}
 use Rattle.std.proofs.lemmas.Bool.{eq-eqb, ne_eqb}
 use Rattle.mg_base.specs.declared.transaction.TxState.{TxState}
@@ -12,13 +12,14 @@ use Rattle.mg_version.specs.declared.cell.Version.{Version}
 use Rattle.mg_image.specs.Form.{plain_coding}
 use Rattle.mg_image.specs.RecordRules.{Facts}
 use Rattle.mg_image.specs.Records.{Cells, Chain, Reading, ended, newest_of, writer}
-use Rattle.mg_first.specs.KvRecords.{anchor_unread, free_unread}
+use Rattle.mg_first.specs.KvRecordLaws.{anchor_unread, free_unread}
 use Rattle.mg_first.specs.KvTable.{kv_table}
-use Rattle.mg_first.specs.Puts.{kv_link, kv_slot, kv_version}
+use Rattle.mg_first.specs.KvCells.{kv_link, kv_slot, kv_version}
 use Rattle.mg_kv.specs.declared.newest.Newest.{Newest}
 use Rattle.mg_kv.specs.OwnOverLaws.{put_own, with_key}
-use Rattle.mg_kv.specs.PutOverLaws.{IsPlace, IsWriting, PutsSlots, WritesRow, put_over}
-use Rattle.mg_kv.specs.ReadSlotLaws.{AreMoved, AreSlotRecords, ReadsKeyed, anchor_moved, newest_reads, put_moved, reads_nothing, used_within}
+use Rattle.mg_kv.specs.PutOverLaws.{IsPlace, PutsSlots, WritesRow, put_over}
+use Rattle.mg_kv.specs.Writing.{IsWriting, AreMoved, writer_of, IsNoObstacle}
+use Rattle.mg_kv.specs.ReadSlotLaws.{AreSlotRecords, ReadsKeyed, anchor_moved, newest_reads, put_moved, reads_nothing, used_within}
 use Rattle.mg_kv.specs.SlotCellLaws.{with_slots}
 use Rattle.mg_kv.specs.SlotLaws.{least_free_is_free, least_free_within, put_here, put_length, put_others}
 use Rattle.mg_kv.specs.Slots.{Slots, cell_in_slot, least_free, make, push, put_in, taker, written_over}
@@ -161,16 +162,6 @@ free_is_place f state h slots r key slot known none free = record {
         known.records known.live.here (ap (newest_of (kv_slot slot)) free)
 
 -- ---- the row is written
-
--- the writer of the newest version of a record
-abbrev pub writer_of : Option Newest → Option ℕ
-writer_of None = None
-writer_of (Some n) = Some n.version.tx.0
-
--- this writer, if there is one, is in nobody's way: it is the transaction itself, or committed
-abbrev pub IsNoObstacle : (ℕ → TxState) → ℕ → Option ℕ → Type 0
-IsNoObstacle state t None = Unit {0}
-IsNoObstacle state t (Some u) = (u ≡ t) ⊎ (state u ≡ Committed)
 
 pub writes_over : (f : Facts) (state : ℕ → TxState) (h : Cells) (slots : Slots) (r : Reading)
     (t : ℕ) (key value : ℤ) → AreSlotRecords f state h slots r → IsWriting f state t key value

@@ -1,6 +1,6 @@
 -- What a write makes of the records: its key has the row in front of its other versions, or in
 -- place of the transaction's own, and every other key has what it had.
-use Rattle.std.proofs.Common.{◌≡◌, ◌≢◌, inr, refl, sym, ap, ◌∙◌, subst, ℕ, ℤ, true, List, [], ◌∷◌, Option, None, Some}
+use Rattle.std.proofs.Common.{◌≡◌, ◌≢◌, inr, refl, sym, ap, ◌∙◌, subst, ℕ, ℤ, true, List, ◌∷◌, Option, None, Some}
 use Rattle.std.specs.Prelude.{◌&&◌, not, map, if◌then◌else◌, FitsSigned}
 use Rattle.std.specs.Int.{w64}
 use Rattle.mg_base.specs.declared.transaction.TxState.{TxState}
@@ -12,24 +12,20 @@ use Rattle.mg_image.specs.declared.entry.Entry.{Entry}
 use Rattle.mg_image.specs.Form.{plain_coding}
 use Rattle.mg_image.specs.RecordRules.{Facts, TakesKey}
 use Rattle.mg_image.specs.Records.{Cells, Reading, writer}
-use Rattle.mg_first.specs.Puts.{kv_slot}
+use Rattle.mg_first.specs.KvCells.{kv_slot}
 use Rattle.mg_kv.specs.declared.newest.Newest.{Newest}
 use Rattle.mg_kv.specs.CleanedLaws.{CleansAll, IsClean, cleans_all}
-use Rattle.mg_kv.specs.PutOverLaws.{IsWriting, WritesRow}
+use Rattle.mg_kv.specs.PutOverLaws.{WritesRow}
+use Rattle.mg_kv.specs.Writing.{IsWriting, IsNoObstacle, writer_of, newest_writer}
 use Rattle.mg_kv.specs.ReadSlotLaws.{AreSlotRecords, ReadsKeyed, newest_reads}
 use Rattle.mg_kv.specs.SlotCellLaws.{with_slots}
 use Rattle.mg_kv.specs.Slots.{Slots, cleaned, is_dead, taker, written, written_over}
 use Rattle.mg_kv.specs.TakerLaws.{nobody_takes, IsTaker, committed_shows, taker_is}
 use Rattle.mg_kv.specs.Versions.{AreLive, AreVersions, generation_of, kept, living}
 use Rattle.mg_kv.specs.VersionsLaws.{versions_of_nobody, TakesItsKey, versions_of_taker}
-use Rattle.mg_kv.specs.WriteOverLaws.{IsNoObstacle, writer_of, writes_over}
+use Rattle.mg_kv.specs.WriteOverLaws.{writes_over}
 
 -- ---- who may be in the way
-
--- the writer of the newest of these versions
-abbrev pub newest_writer : List Generation → Option ℕ
-newest_writer [] = None
-newest_writer (g ∷ gs) = Some g.writer
 
 -- a record whose newest version is not dead takes its key as its slot says
 living_takes : (f : Facts) (state : ℕ → TxState) (e : Entry) (es : List Entry) → AreLive f state

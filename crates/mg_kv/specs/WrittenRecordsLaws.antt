@@ -1,10 +1,9 @@
 -- A row is written on KV's page of an image: the records by its cells and by its pages.
-use Rattle.std.proofs.Common.{◌≡◌, ◌≢◌, refl, sym, ap, ◌∙◌, subst, ℕ, ℤ, Bool, true, false, List, Option, None, Some}
+use Rattle.std.proofs.Common.{◌≡◌, refl, sym, ap, ◌∙◌, subst, ℕ, ℤ, Bool, true, false, List, Option, None, Some}
 use Rattle.std.specs.Cmp.{signed_Decides}
 use Rattle.std.specs.Int.{w64}
 use Rattle.std.specs.Ordering.{int_eq}
 use Rattle.std.specs.Prelude.{if◌then◌else◌, FitsSigned}
-use Rattle.mg_base.specs.declared.numbers.RecId.{RecId}
 use Rattle.mg_base.specs.declared.transaction.TxState.{TxState}
 use Rattle.mg_slots.specs.DataPage.{cell_of}
 use Rattle.mg_version.specs.declared.cell.Cell.{Cell}
@@ -16,43 +15,18 @@ use Rattle.mg_image.specs.RecordRules.{AreRecords, Facts}
 use Rattle.mg_image.specs.Records.{Cells, Reading, cells_of, slot_cell}
 use Rattle.mg_first.specs.KvCellLaws.{there_is_read}
 use Rattle.mg_first.specs.KvTable.{kv_row}
-use Rattle.mg_first.specs.Puts.{OnlyPage, kv_slot}
-use Rattle.mg_first.specs.Storing.{HasCell}
+use Rattle.mg_first.specs.PageChanges.{OnlyPage}
+use Rattle.mg_first.specs.KvCells.{kv_slot, HasCell}
 use Rattle.mg_first.specs.declared.pages.TheConstants.{KV_ROWS}
-use Rattle.mg_kv.specs.PutOverLaws.{IsWriting, WritesRow}
-use Rattle.mg_kv.specs.ReadSlotLaws.{AreMoved, AreSlotRecords}
+use Rattle.mg_kv.specs.PutOverLaws.{WritesRow}
+use Rattle.mg_kv.specs.Writing.{IsWriting, HasKvSlots, WritesCells, WrittenRecords, written_versions, IsNoObstacle, writer_of, newest_writer}
+use Rattle.mg_kv.specs.ReadSlotLaws.{AreSlotRecords}
 use Rattle.mg_kv.specs.SlotCellLaws.{cells_with_slots}
 use Rattle.mg_kv.specs.Slots.{HasSlots, Slots, cell_in_slot, cleaned, taker, written}
 use Rattle.mg_kv.specs.Versions.{AreLive, AreVersions}
-use Rattle.mg_kv.specs.WriteOverLaws.{IsNoObstacle, writer_of}
-use Rattle.mg_kv.specs.WrittenLaws.{newest_writer, taker_is_newest, writes_row}
+use Rattle.mg_kv.specs.WrittenLaws.{taker_is_newest, writes_row}
 
 -- ---- by the cells of an image
-
--- KV's page has these slots in an image, and no version stands in its record's primary slot
-pub record HasKvSlots (h : Cells) (slots : Slots) : Type 0 where
-  pub each : (n : ℕ) → h (kv_slot n) ≡ cell_in_slot slots n
-  pub moved : AreMoved slots
-
--- The cells of an image, before and after a row is written on KV's page.
-pub record WritesCells (old new : Cells) (state : ℕ → TxState) (t : ℕ) (key value : ℤ)
-    (slots : Slots) : Type 0 where
-  pub before : HasKvSlots old slots
-  pub after : (n : ℕ) → new (kv_slot n) ≡ cell_in_slot (written state t key value slots) n
-  pub off : (x : RecId) → x.page.0 ≢ KV_ROWS.0 → new x ≡ old x
-
--- The records once a row is written: its key has the row in front of its other versions, or in
--- place of the transaction's own, each other key has what it had, and off KV's page the same is
--- read.
-pub record WrittenRecords (f : Facts) (new : Cells) (r : Reading) (t : ℕ) (key value : ℤ)
-    : Type 0 where
-  pub reading : Reading
-  pub records : AreRecords plain_coding f new reading
-  pub others : (p : RecId) → p.page.0 ≢ KV_ROWS.0 → reading p ≡ r p
-  pub here : (gs : List Generation) → AreVersions f r key gs
-      → AreVersions f reading key (put t (Some (kv_row key value)) gs)
-  pub elsewhere : (other : ℤ) (gs : List Generation) → other ≢ key → AreVersions f r other gs
-      → AreVersions f reading other gs
 
 slot_records : (f : Facts) (state : ℕ → TxState) (h : Cells) (slots : Slots) (r : Reading)
     → AreLive f state → AreRecords plain_coding f h r → HasKvSlots h slots
@@ -126,11 +100,6 @@ pages_write_cells old new state t key value slots has also only = record {
 }
 
 -- ---- all keys
-
--- the versions of all keys once a row is written
-abbrev pub written_versions : ℕ → ℤ → ℤ → (ℤ → List Generation) → ℤ → List Generation
-written_versions t key value versions other =
-    if int_eq other key then put t (Some (kv_row key value)) (versions other) else versions other
 
 pub all_written : (f : Facts) (new : Cells) (r : Reading) (t : ℕ) (key value : ℤ)
     (versions : ℤ → List Generation) → (written : WrittenRecords f new r t key value)

@@ -3,8 +3,8 @@
 ghost use Rattle.std.specs.Prelude.{◌≡◌, ◌≤◌, false, IfOk, MatchOption, length};
 ghost use Rattle.mg_slots.specs.DataPage.{IsDataPage};
 ghost use Rattle.mg_version.specs.Cells.{IsSpelling};
-ghost use Rattle.mg_first.specs.Puts.{kv_link, kv_version};
-ghost use Rattle.mg_first.specs.Storing.{HasCell, kv_bytes};
+ghost use Rattle.mg_first.specs.KvCells.{kv_link, kv_version};
+ghost use Rattle.mg_first.specs.KvCells.{HasCell, kv_bytes};
 
 use mg_base::{Bytes, Memory, RecId, TxNo};
 use mg_first::KV_ROWS;

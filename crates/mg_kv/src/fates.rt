@@ -1,9 +1,11 @@
 //! What has become of the transactions whose versions a page has.
 
 ghost use Rattle.std.specs.Prelude.{◌≡◌, ◌<◌, ◌≤◌, ◌^◌, ◌+◌, length, true};
+ghost use Rattle.mg_first.specs.declared.pages.TheConstants.{PAGE_LEN};
 ghost use Rattle.mg_kv.specs.Fate.{fate_in, is_one_of};
 
 use mg_base::{TxNo, TxState};
+use mg_first::LAST;
 use mg_tip::state_at;
 
 /// What has become of each transaction: those that are active, and the transaction inventory page,
@@ -18,13 +20,13 @@ impl<'a> Fates<'a> {
     /// What has become of a transaction. One whose bits say active and that is not among the active
     /// ones is dead, and so is one past the page.
     pub fn of(&self, t: TxNo) -> TxState
-        requires { length self.now.bits.now ≡ 4096 }
+        requires { length self.now.bits.now ≡ PAGE_LEN }
         ensures { result ≡ fate_in self.now.bits.now self.now.active.now t.0 }
     {
         if is_among(self.active, t) {
             return TxState::Active;
         }
-        if t.0 >= 16_304 {
+        if t.0 >= LAST.0 {
             return TxState::Dead;
         }
         match state_at(self.bits, t.0) {

@@ -4,7 +4,6 @@
 ghost use Rattle.mg_kv.specs.RecordLaws.{EachKeyHasVersions, VersionsAreLawful, NewestGives};
 ghost use Rattle.mg_kv.specs.RecordLaws.{RowIsWritten, AllAreWritten, ObstacleIsNewest, WorkGoesOn};
 ghost use Rattle.mg_kv.specs.RecordLaws.{WorkStarts, WorkBegins, WorkCommits, WorkRollsBack, WorkStops};
-ghost use Rattle.mg_kv.specs.RecordLaws.{FateDraws, FateCommits, FateRollsBack};
 ghost use Rattle.mg_kv.specs.RecordLaws.{RestsWhenRaised, StatesWhenRaised, RestOpens};
 ghost use Rattle.mg_kv.specs.RecordLaws.{RecordsSettle, VersionsSettle};
 ghost use Rattle.mg_kv.specs.RecordLaws.{DeadIsGone, CommittedStays, DrawnChangesNothing};
@@ -32,13 +31,6 @@ pub fn program_works()
     ensures commits { WorkCommits }
     ensures rolls_back { WorkRollsBack }
     ensures stops { WorkStops }
-{}
-
-/// Its steps, by the active transactions and the bits of the others.
-pub fn fates_change()
-    ensures draws { FateDraws }
-    ensures commits { FateCommits }
-    ensures rolls_back { FateRollsBack }
 {}
 
 /// The pages at rest, also under a header with a higher next number, and what opening them gives.

@@ -2,7 +2,8 @@
 
 ghost use Rattle.std.specs.Prelude.{◌≡◌, IfOk, IfSome, length};
 ghost use Rattle.mg_slots.specs.DataPage.{IsDataPage};
-ghost use Rattle.mg_first.specs.Storing.{HasCell};
+ghost use Rattle.mg_first.specs.KvCells.{HasCell};
+ghost use Rattle.mg_first.specs.declared.pages.TheConstants.{PAGE_LEN};
 ghost use Rattle.mg_kv.specs.Fate.{fate_in};
 ghost use Rattle.mg_kv.specs.Slots.{HasSlots, IsThere, Slots, newest_at as newest_in, taker as taker_in, takes as takes_in, has_key as has_key_in};
 
@@ -61,7 +62,7 @@ pub(crate) fn newest_at(
 
 // Whether a record takes its key: its newest version is no committed deletion.
 fn takes(fates: &Fates, newest: &Newest) -> bool
-    requires { length fates.now.bits.now ≡ 4096 }
+    requires { length fates.now.bits.now ≡ PAGE_LEN }
     ensures { result ≡ takes_in (fate_in fates.now.bits.now fates.now.active.now) newest.now }
 {
     if !newest.version.deleted {
@@ -79,7 +80,7 @@ pub(crate) fn taker(
     key: i64,
 ) -> Result<Option<Newest>, Memory>
     requires lawful { IsDataPage rows.now }
-    requires bits { length fates.now.bits.now ≡ 4096 }
+    requires bits { length fates.now.bits.now ≡ PAGE_LEN }
     ensures found { IfOk result (λ found. (slots : Slots) → HasSlots rows.now slots
         → found ≡ taker_in (fate_in fates.now.bits.now fates.now.active.now) key slots) }
     ensures there { IfOk result (λ found. IfSome found (IsThere rows.now)) }

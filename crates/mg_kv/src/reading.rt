@@ -4,6 +4,7 @@ ghost use Rattle.std.specs.Prelude.{◌≡◌, ℕ, List, IfOk, MatchOption, len
 ghost use Rattle.std.specs.List.{IsDistinct};
 ghost use Rattle.mg_base.specs.Fields.{byte};
 ghost use Rattle.mg_slots.specs.DataPage.{IsDataPage};
+ghost use Rattle.mg_first.specs.declared.pages.TheConstants.{PAGE_LEN};
 ghost use Rattle.mg_kv.specs.Fate.{fate_in};
 ghost use Rattle.mg_kv.specs.Reading.{AreVersionsIn, IsWay, TakesNot, TakesWith, given_by_row, kv_version_of, newest_alive as newest_alive_in, take_key as take_key_in};
 
@@ -48,7 +49,7 @@ pub fn generations(
     key: i64,
 ) -> Result<Vec<KvVersion>, Memory>
     requires lawful { IsDataPage rows.now }
-    requires bits { length fates.now.bits.now ≡ 4096 }
+    requires bits { length fates.now.bits.now ≡ PAGE_LEN }
     ensures { IfOk result (λ found. AreVersionsIn rows.now
         (fate_in fates.now.bits.now fates.now.active.now) key found.items) }
 {
@@ -69,7 +70,7 @@ fn record_at(
     key: i64,
 ) -> Result<Option<Vec<KvVersion>>, Memory>
     requires lawful { IsDataPage rows.now }
-    requires bits { length fates.now.bits.now ≡ 4096 }
+    requires bits { length fates.now.bits.now ≡ PAGE_LEN }
     ensures { IfOk result (λ found. MatchOption found
         (TakesNot rows.now (fate_in fates.now.bits.now fates.now.active.now) key slot)
         (λ found. TakesWith rows.now (fate_in fates.now.bits.now fates.now.active.now) key slot
@@ -88,7 +89,7 @@ fn record_at(
 // The link to the newest version of a record, or to the one behind it, where that is dead. No other
 // one is.
 fn newest_alive(fates: &Fates, newest: &Newest) -> Option<Link>
-    requires { length fates.now.bits.now ≡ 4096 }
+    requires { length fates.now.bits.now ≡ PAGE_LEN }
     ensures { result ≡ newest_alive_in (fate_in fates.now.bits.now fates.now.active.now) newest.now }
 {
     if fates.of(newest.version.tx) == TxState::Dead {
@@ -100,7 +101,7 @@ fn newest_alive(fates: &Fates, newest: &Newest) -> Option<Link>
 // Whether a record with these versions takes its key: the newest is there, and is no committed
 // deletion.
 fn take_key(fates: &Fates, versions: &[KvVersion]) -> bool
-    requires { length fates.now.bits.now ≡ 4096 }
+    requires { length fates.now.bits.now ≡ PAGE_LEN }
     ensures { result ≡ take_key_in (fate_in fates.now.bits.now fates.now.active.now) versions.now }
 {
     let Some(newest) = versions.first() else {

@@ -2,16 +2,15 @@
 
 ghost use Rattle.std.specs.Prelude.{◌≡◌, length};
 ghost use Rattle.mg_slots.specs.DataPage.{IsDataPage};
+ghost use Rattle.mg_first.specs.declared.pages.TheConstants.{PAGE_LEN};
 
 use super::*;
 use mg_base::{PageNo, TxNo, TxState};
-use mg_first::{AddFault, kv_rows_page};
+use mg_first::{PAGE_LEN, kv_rows_page};
 use mg_slots::{put_cell, room, slots};
 use mg_tip::{new_tip, set_state};
 use std::alloc::Global;
 use std::test::Fail;
-
-const PAGE_LEN: usize = 4096;
 
 /// Two transactions that have committed, one that is rolled back, and one in limbo. No other one has
 /// a state: it is dead unless it is active.
@@ -118,7 +117,7 @@ fn write_all(
     rows: &mut [u8],
     fates: &Fates,
     writes: &[(TxNo, i64)],
-) -> Result<(), AddFault>
+) -> Result<(), WriteFault>
     requires lawful { IsDataPage rows.old }
     requires len { length rows.old ≡ PAGE_LEN }
     requires bits { length fates.now.bits.now ≡ PAGE_LEN }
@@ -132,7 +131,7 @@ fn write_all(
 }
 
 // Writes the rows of a case: how many slots the page then has, and which versions.
-fn written(alloc: Global, bits: &[u8], case: &Case) -> Result<(u16, Vec<KvVersion>), AddFault>
+fn written(alloc: Global, bits: &[u8], case: &Case) -> Result<(u16, Vec<KvVersion>), WriteFault>
     requires { length bits.now ≡ PAGE_LEN }
 {
     let mut rows = [0u8; PAGE_LEN];
@@ -191,7 +190,7 @@ fn each_key_has_its_own_versions(rt: HostRuntime) -> Result<(), Fail> {
 }
 
 // Writes new rows with the keys from 1 on.
-fn fill(alloc: Global, rows: &mut [u8], fates: &Fates, count: u8) -> Result<(), AddFault>
+fn fill(alloc: Global, rows: &mut [u8], fates: &Fates, count: u8) -> Result<(), WriteFault>
     requires lawful { IsDataPage rows.old }
     requires len { length rows.old ≡ PAGE_LEN }
     requires bits { length fates.now.bits.now ≡ PAGE_LEN }
@@ -223,11 +222,11 @@ fn a_full_page_is_refused(rt: HostRuntime) -> Result<(), Fail> {
     assert_eq!(rt; room(&rows), 24);
     assert_eq!(rt;
         write(alloc, &mut rows, &fates, SECOND, 1, 7),
-        Err(AddFault::NoRoom)
+        Err(WriteFault::NoRoom)
     );
     assert_eq!(rt;
         write(alloc, &mut rows, &fates, FIRST, 93, 0),
-        Err(AddFault::NoRoom)
+        Err(WriteFault::NoRoom)
     );
     Ok(())
 }

@@ -4,16 +4,16 @@ ghost use Rattle.std.specs.Prelude.{◌≡◌, ◌≢◌, ◌≤◌, ◌<◌, �
 ghost use Rattle.mg_base.specs.declared.fields.TheConstants.{COMMON};
 ghost use Rattle.mg_slots.specs.DataPage.{IsDataPage};
 ghost use Rattle.mg_version.specs.Cells.{IsSpelling};
-ghost use Rattle.mg_first.specs.Puts.{kv_link, kv_version};
-ghost use Rattle.mg_first.specs.Storing.{HasCell, IfNoRoom};
+ghost use Rattle.mg_first.specs.KvCells.{HasCell, kv_link, kv_version};
+ghost use Rattle.mg_first.specs.declared.pages.TheConstants.{PAGE_LEN};
 ghost use Rattle.mg_kv.specs.Fate.{fate_in};
-ghost use Rattle.mg_kv.specs.Slots.{HasAnchor, IsThere, Lacks, Makes, clean_at, cleaned, make, over_newest, push, taken_out, written};
+ghost use Rattle.mg_kv.specs.Slots.{HasAnchor, IfNoRoom, IsThere, Lacks, Makes, clean_at, cleaned, make, over_newest, push, taken_out, written};
 
 use crate::cells::{anchor, anchor_to, version};
 use crate::fates::Fates;
+use crate::fault::WriteFault;
 use crate::newest::{Newest, newest_at, taker};
 use mg_base::{Memory, TxNo, TxState};
-use mg_first::AddFault;
 use mg_slots::{free, put_cell, replace, slots};
 use mg_version::Link;
 use std::alloc::Global;
@@ -33,16 +33,16 @@ pub fn write(
     tx: TxNo,
     key: i64,
     value: i64,
-) -> Result<(), AddFault>
+) -> Result<(), WriteFault>
     requires lawful { IsDataPage rows.old }
-    requires len { length rows.old ≡ 4096 }
-    requires bits { length fates.now.bits.now ≡ 4096 }
+    requires len { length rows.old ≡ PAGE_LEN }
+    requires bits { length fates.now.bits.now ≡ PAGE_LEN }
     ensures written { OnOk result (Makes rows.old rows.new
         (written (fate_in fates.now.bits.now fates.now.active.now) tx.0 key value)) }
     ensures no_room { IfErr result (λ fault. IfNoRoom fault (Lacks rows.old
         (written (fate_in fates.now.bits.now fates.now.active.now) tx.0 key value))) }
     ensures lawful { IsDataPage rows.new }
-    ensures len { length rows.new ≡ 4096 }
+    ensures len { length rows.new ≡ PAGE_LEN }
     ensures common { take COMMON rows.new ≡ take COMMON rows.old }
 {
     clean(alloc, rows, fates, key)?;
@@ -55,7 +55,7 @@ pub fn write(
 // Takes the dead newest versions with a key out of the page.
 fn clean(alloc: Global, rows: &mut [u8], fates: &Fates, key: i64) -> Result<(), Memory>
     requires lawful { IsDataPage rows.old }
-    requires bits { length fates.now.bits.now ≡ 4096 }
+    requires bits { length fates.now.bits.now ≡ PAGE_LEN }
     ensures cleaned { OnOk result (Makes rows.old rows.new
         (cleaned (fate_in fates.now.bits.now fates.now.active.now) key)) }
     ensures lawful { IsDataPage rows.new }
@@ -77,7 +77,7 @@ fn clean_slot(
     key: i64,
 ) -> Result<(), Memory>
     requires lawful { IsDataPage rows.old }
-    requires bits { length fates.now.bits.now ≡ 4096 }
+    requires bits { length fates.now.bits.now ≡ PAGE_LEN }
     ensures cleaned { OnOk result (Makes rows.old rows.new
         (clean_at (fate_in fates.now.bits.now fates.now.active.now) key slot)) }
     ensures lawful { IsDataPage rows.new }
@@ -123,16 +123,16 @@ fn write_over(
     tx: TxNo,
     key: i64,
     value: i64,
-) -> Result<(), AddFault>
+) -> Result<(), WriteFault>
     requires lawful { IsDataPage rows.old }
-    requires len { length rows.old ≡ 4096 }
+    requires len { length rows.old ≡ PAGE_LEN }
     requires there { IsThere rows.old over.now }
     ensures made { OnOk result (Makes rows.old rows.new
         (over_newest tx.0 key value over.now)) }
     ensures no_room { IfErr result (λ fault. IfNoRoom fault (Lacks rows.old
         (over_newest tx.0 key value over.now))) }
     ensures lawful { IsDataPage rows.new }
-    ensures len { length rows.new ≡ 4096 }
+    ensures len { length rows.new ≡ PAGE_LEN }
     ensures common { take COMMON rows.new ≡ take COMMON rows.old }
 {
     if over.version.tx == tx {
@@ -150,14 +150,14 @@ fn make_record(
     tx: TxNo,
     key: i64,
     value: i64,
-) -> Result<(), AddFault>
+) -> Result<(), WriteFault>
     requires lawful { IsDataPage rows.old }
-    requires len { length rows.old ≡ 4096 }
+    requires len { length rows.old ≡ PAGE_LEN }
     ensures made { OnOk result (Makes rows.old rows.new (make tx.0 key value)) }
     ensures no_room { IfErr result (λ fault. IfNoRoom fault (Lacks rows.old
         (make tx.0 key value))) }
     ensures lawful { IsDataPage rows.new }
-    ensures len { length rows.new ≡ 4096 }
+    ensures len { length rows.new ≡ PAGE_LEN }
     ensures common { take COMMON rows.new ≡ take COMMON rows.old }
 {
     // The version's slot is known once the anchor has its own.
@@ -175,15 +175,15 @@ fn push_version(
     back: Option<Link>,
     key: i64,
     value: i64,
-) -> Result<(), AddFault>
+) -> Result<(), WriteFault>
     requires lawful { IsDataPage rows.old }
-    requires len { length rows.old ≡ 4096 }
+    requires len { length rows.old ≡ PAGE_LEN }
     requires anchor { HasAnchor rows.old slot }
     ensures made { OnOk result (Makes rows.old rows.new (push slot tx.0 back key value)) }
     ensures no_room { IfErr result (λ fault. IfNoRoom fault (Lacks rows.old
         (push slot tx.0 back key value))) }
     ensures lawful { IsDataPage rows.new }
-    ensures len { length rows.new ≡ 4096 }
+    ensures len { length rows.new ≡ PAGE_LEN }
     ensures common { take COMMON rows.new ≡ take COMMON rows.old }
 {
     let cell = version(alloc, tx, back, key, value)?;

@@ -4,10 +4,12 @@ use Rattle.std.specs.Prelude.{slice_index_or}
 use Rattle.mg_base.specs.declared.transaction.TxState.{TxState}
 use Rattle.mg_base.specs.declared.transaction.TxState.TheVariants.{Active, Limbo, Dead, Committed}
 use Rattle.mg_model.specs.Answers.{is_committed}
-use Rattle.mg_model.specs.CatalogRules.{AreTables}
+use Rattle.mg_model.specs.declared.table.Table.{Table}
+use Rattle.mg_model.specs.CatalogRules.{AreTables, EachTable}
+use Rattle.mg_catalog.specs.TableLaws.{tables_once}
 use Rattle.mg_model.specs.Legal.{is_limbo}
 use Rattle.mg_image.specs.declared.entry.Entry.{Entry}
-use Rattle.mg_image.specs.Catalog.{committed_with}
+use Rattle.mg_image.specs.Catalog.{FitsPages, IsWithin, StaysAmong, committed_with}
 use Rattle.mg_image.specs.Form.{Row}
 use Rattle.mg_image.specs.RecordRules.{Each, EachBack, Facts}
 use Rattle.mg_image.specs.Records.{shown, writer}
@@ -15,10 +17,10 @@ use Rattle.mg_image.specs.Tables.{Has, has}
 use Rattle.mg_reading.specs.declared.found.Found.{Found}
 use Rattle.mg_reading.specs.HeldTable.{with_row}
 use Rattle.mg_catalog.specs.ByKey.{by_key}
-use Rattle.mg_layout.specs.Choices.{AreAlwaysLawful, AreDecided, AreLawful, AreLawfulFrom, HasWriter, HasWriters, HaveCommittedBacks, IsCatalogFound, IsChoice, IsDecided, rows_with}
+use Rattle.mg_layout.specs.Choices.{AreAlwaysLawful, AreDecided, AreLawful, AreLawfulFrom, DoTablesStay, HasWriter, HasWriters, HaveCommittedBacks, IsCatalogFound, IsChoice, IsDecided, RowsName, rows_with}
 use Rattle.mg_catalog.specs.FirstBad.{IsFirstBad}
 use Rattle.mg_catalog.specs.declared.fault.CatFault.TheVariants.{BadTable}
-use Rattle.mg_layout.proofs.HasLemmas.{has_false, has_last, has_more, has_pushed, has_true}
+use Rattle.mg_layout.proofs.HasLemmas.{has_false, has_last, has_more, has_pushed, has_true, has_back}
 
 -- ---- the limbo transactions that wrote newest versions
 
@@ -97,13 +99,13 @@ same_rows f a b (first ∷ more) backs same =
     (ap (with_row (shown (committed_with f b) first.entries.items))
     (same_rows f a b more backs.1 same.1))
 
-pub same_lawful : (f : Facts) (a b : ℕ → Bool) (found : List Found) → HaveCommittedBacks f found
-    → AllAgree f a b found → AreLawful f found b → AreLawful f found a
-same_lawful f a b found backs same (tables, named) = (
-  tables,
-  subst (λ (rows : List Row). AreTables (by_key rows) tables)
-      (sym (same_rows f a b found backs same)) named,
-)
+-- so do the tables stay
+pub same_stay : (size : ℕ) (f : Facts) (a b c d : ℕ → Bool) (found : List Found)
+    → HaveCommittedBacks f found → AllAgree f a b found → AllAgree f c d found
+    → DoTablesStay size (rows_with f found b) (rows_with f found d)
+    → DoTablesStay size (rows_with f found a) (rows_with f found c)
+same_stay size f a b c d found backs same same_more stay =
+    rw (same_rows f a b found backs same, same_rows f c d found backs same_more) stay
 
 -- ---- choices as they are made one after another
 
@@ -130,13 +132,15 @@ all_decided f taken chosen (first ∷ more) takes are = (
   all_decided f taken chosen more takes are.1,
 )
 
-pub lawful_at_end : (f : Facts) (found : List Found) (taken open_ : List ℕ)
-    → HaveCommittedBacks f found → length open_ ≡ 0 → AreLawful f found (has taken)
-    → AreLawfulFrom f found taken open_
-lawful_at_end f found taken [] backs none lawful = λ chosen choice.
-    same_lawful f chosen (has taken) found backs
-    (all_decided f taken chosen found choice.takes choice.decided) lawful
-lawful_at_end f found taken (t ∷ later) backs none lawful = absurd (omega arith)
+pub lawful_at_end : (size : ℕ) (f : Facts) (found : List Found) (taken later open_ : List ℕ)
+    → HaveCommittedBacks f found → length open_ ≡ 0
+    → DoTablesStay size (rows_with f found (has taken)) (rows_with f found (has later))
+    → AreLawfulFrom size f found taken later open_
+lawful_at_end size f found taken later [] backs none stay = λ chosen more within choice wide.
+    same_stay size f chosen (has taken) more (has later) found backs
+    (all_decided f taken chosen found choice.takes choice.decided)
+    (all_decided f later more found wide.takes wide.decided) stay
+lawful_at_end size f found taken later (t ∷ rest) backs none stay = absurd (omega arith)
 
 -- the next transaction is left out, or taken
 left_out : (f : Facts) (taken later : List ℕ) (t : ℕ) (chosen : ℕ → Bool) (found : List Found)
@@ -177,30 +181,51 @@ taken_next f taken later t chosen (first ∷ more) are =
         at (inr (inl there)) = inr (inl (has_more taken t (writer e) there))
         at (inr (inr out)) = inr (inr out)
 
-pub lawful_from : (f : Facts) (found : List Found) (taken more open_ later : List ℕ) (t : ℕ)
-    → more ≡ taken ++ t ∷ [] → open_ ≡ t ∷ later → AreLawfulFrom f found taken later
-    → AreLawfulFrom f found more later → AreLawfulFrom f found taken open_
-lawful_from f found taken more open_ later t pushed is without with_ = λ chosen choice.
-    at chosen (rw is at choice) (chosen t) refl
+-- a choice with the next transaction is one that takes it
+choice_with : (f : Facts) (found : List Found) (taken more rest : List ℕ) (t : ℕ)
+    (chosen : ℕ → Bool) → more ≡ taken ++ t ∷ [] → chosen t ≡ true
+    → IsChoice f found taken (t ∷ rest) chosen → IsChoice f found more rest chosen
+choice_with f found taken more rest t chosen pushed in_ choice = rw pushed (record {
+  takes = λ n there. split n (has_pushed taken t n there);
+  decided = taken_next f taken rest t chosen found choice.decided;
+})
   where
-    takes_more : (chosen : ℕ → Bool) → ((n : ℕ) → Has taken n → chosen n ≡ true)
-        → chosen t ≡ true → (n : ℕ) → Has (taken ++ t ∷ []) n → chosen n ≡ true
-    takes_more chosen takes in_ n there = split (has_pushed taken t n there)
-      where
-        split : Has taken n ⊎ (n ≡ t) → chosen n ≡ true
-        split (inl before) = takes n before
-        split (inr same) = ap chosen same ∙ in_
+    split : (n : ℕ) → Has taken n ⊎ (n ≡ t) → chosen n ≡ true
+    split n (inl before) = choice.takes n before
+    split n (inr same) = ap chosen same ∙ in_
 
-    at : (chosen : ℕ → Bool) → IsChoice f found taken (t ∷ later) chosen → (b : Bool)
-        → chosen t ≡ b → AreLawful f found chosen
-    at chosen choice true e = with_ chosen (rw pushed (record {
-      takes = takes_more chosen choice.takes e;
-      decided = taken_next f taken later t chosen found choice.decided;
-    }))
-    at chosen choice false e = without chosen (record {
-      takes = choice.takes;
-      decided = left_out f taken later t chosen found e choice.decided;
-    })
+-- and one without it leaves it out
+choice_without : (f : Facts) (found : List Found) (taken rest : List ℕ) (t : ℕ)
+    (chosen : ℕ → Bool) → chosen t ≡ false → IsChoice f found taken (t ∷ rest) chosen
+    → IsChoice f found taken rest chosen
+choice_without f found taken rest t chosen out choice = record {
+  takes = choice.takes;
+  decided = left_out f taken rest t chosen found out choice.decided;
+}
+
+pub lawful_from : (size : ℕ) (f : Facts) (found : List Found)
+    (taken later both wider open_ rest : List ℕ) (t : ℕ) → both ≡ taken ++ t ∷ []
+    → wider ≡ later ++ t ∷ [] → open_ ≡ t ∷ rest → AreLawfulFrom size f found taken later rest
+    → AreLawfulFrom size f found taken wider rest → AreLawfulFrom size f found both wider rest
+    → AreLawfulFrom size f found taken later open_
+lawful_from size f found taken later both wider open_ rest t pushed widened is without with_more
+    with_both = λ chosen more within choice wide.
+    at chosen more within (rw is at choice) (rw is at wide) (chosen t) refl (more t) refl
+  where
+    at : (chosen more : ℕ → Bool) → IsWithin chosen more
+        → IsChoice f found taken (t ∷ rest) chosen → IsChoice f found later (t ∷ rest) more
+        → (b : Bool) → chosen t ≡ b → (d : Bool) → more t ≡ d
+        → DoTablesStay size (rows_with f found chosen) (rows_with f found more)
+    at chosen more within choice wide true i true j = with_both chosen more within
+        (choice_with f found taken both rest t chosen pushed i choice)
+        (choice_with f found later wider rest t more widened j wide)
+    at chosen more within choice wide true i false j = let also = within t i in absurd cc
+    at chosen more within choice wide false i true j = with_more chosen more within
+        (choice_without f found taken rest t chosen i choice)
+        (choice_with f found later wider rest t more widened j wide)
+    at chosen more within choice wide false i false j = without chosen more within
+        (choice_without f found taken rest t chosen i choice)
+        (choice_without f found later rest t more j wide)
 
 -- every choice is one that takes nothing yet, where all limbo transactions are open
 all_open : (f : Facts) (writers : List ℕ) (chosen : ℕ → Bool) (found : List Found)
@@ -213,12 +238,59 @@ all_open f writers chosen (first ∷ more) have =
     one [] is = tt
     one (e ∷ es) is = λ limbo. inl (is limbo)
 
-pub always_lawful : (f : Facts) (found : List Found) (writers : List ℕ)
-    → HasWriters f writers found → AreLawfulFrom f found [] writers → AreAlwaysLawful f found
-always_lawful f found writers have lawful = λ chosen. lawful chosen (record {
-  takes = λ t none. absurd none;
-  decided = all_open f writers chosen found have;
-})
+pub always_lawful : (size : ℕ) (f : Facts) (found : List Found) (writers : List ℕ)
+    → HasWriters f writers found → AreLawfulFrom size f found [] [] writers
+    → AreAlwaysLawful size f found
+always_lawful size f found writers have lawful =
+    λ chosen more within. lawful chosen more within (nothing chosen) (nothing more)
+  where
+    nothing : (chosen : ℕ → Bool) → IsChoice f found [] writers chosen
+    nothing chosen = record {
+      takes = λ t none. absurd none;
+      decided = all_open f writers chosen found have;
+    }
+
+-- one transaction more in the wider choice, or in both
+pub within_more : (taken later more : List ℕ) (t : ℕ) → more ≡ later ++ t ∷ []
+    → IsWithin (has taken) (has later) → IsWithin (has taken) (has more)
+within_more taken later more t pushed within n there = rw pushed
+    (has_true (later ++ t ∷ []) n (has_more later t n (has_back later n (within n there))))
+
+pub within_both : (taken later both more : List ℕ) (t : ℕ) → both ≡ taken ++ t ∷ []
+    → more ≡ later ++ t ∷ [] → IsWithin (has taken) (has later) → IsWithin (has both) (has more)
+within_both taken later both more t pushed widened within n there =
+    split (has_pushed taken t n (has_back (taken ++ t ∷ []) n (rw pushed at there)))
+  where
+    split : Has taken n ⊎ (n ≡ t) → has more n ≡ true
+    split (inl before) =
+        within_more taken later more t widened within n (has_true taken n before)
+    split (inr same) = rw widened (has_true (later ++ t ∷ []) n (has_last later t n same))
+
+-- ---- two choices
+
+-- rows that are always lawful are so under one choice
+pub lawful_choice : (size : ℕ) (f : Facts) (found : List Found) (chosen : ℕ → Bool)
+    → AreAlwaysLawful size f found → AreLawful size f found chosen
+lawful_choice size f found chosen always =
+    let is = always chosen chosen (λ t in_. in_) in (is.tables, is.named)
+
+-- where a table of the one is not one of the other, the tables do not stay
+pub stay_refuted : (size : ℕ) (rows others : List Row) (tables more : List Table)
+    → RowsName size rows tables → RowsName size others more
+    → (EachTable (StaysAmong more) tables → ⊥) → DoTablesStay size rows others → ⊥
+stay_refuted size rows others tables more named named_more gone stay =
+    gone (subst (λ (ts : List Table). EachTable (StaysAmong more) ts)
+    (tables_once (by_key rows) stay.tables tables stay.named.0 named.0)
+    (subst (λ (ts : List Table). EachTable (StaysAmong ts) stay.tables)
+    (tables_once (by_key others) stay.more more stay.named_more.0 named_more.0) stay.stay))
+
+-- where a table does not fit, the rows name none that all fit
+pub fit_refuted : (size : ℕ) (rows : List Row) (tables : List Table)
+    → AreTables (by_key rows) tables → (EachTable (FitsPages size) tables → ⊥)
+    → (fit : List Table) × RowsName size rows fit → ⊥
+fit_refuted size rows tables are long (fit, named) = long (subst
+    (λ (ts : List Table). EachTable (FitsPages size) ts)
+    (tables_once (by_key rows) fit tables named.0 are) named.1)
 
 -- to take all of those is to take all limbo transactions
 pub all_taken : (f : Facts) (found : List Found) (writers : List ℕ) → HasWriters f writers found
@@ -234,10 +306,10 @@ all_taken f (first ∷ more) writers have =
 -- ---- a row that is not lawful
 
 -- where each row is the one of its key, a row that is not lawful leaves the rows without tables
-pub bad_row : (f : Facts) (found : List Found) (chosen : ℕ → Bool) (rows : List Row) (at : ℕ)
+pub bad_row : (size : ℕ) (f : Facts) (found : List Found) (chosen : ℕ → Bool) (rows : List Row) (at : ℕ)
     → IsCatalogFound f found → rows ≡ rows_with f found chosen → IsFirstBad rows (BadTable at)
-    → AreLawful f found chosen → ⊥
-bad_row f found chosen rows at is same bad (tables, named) =
+    → AreLawful size f found chosen → ⊥
+bad_row size f found chosen rows at is same bad (tables, named) =
     let own = is.own chosen at (rw same at bad.0) in
-    let lawful = named.lawful _ (slice_index_or (rows_with f found chosen) at []) own in
+    let lawful = named.0.lawful _ (slice_index_or (rows_with f found chosen) at []) own in
     (rw same at bad.1) lawful

@@ -27,7 +27,7 @@ pub record NamesTables (coding : RowCoding) (image : Image) (catalog : Stand)
   pub reading : Reading
   pub records : AreRecords (coding_of coding) (stand_facts image catalog)
       (cells_of (pages_in image)) reading
-  pub names : HasNames (stand_facts image catalog) reading catalog.table tables
+  pub names : HasNames image.size (stand_facts image catalog) reading catalog.table tables
 
 -- the tables that stand so
 abbrev pub tables_in : List Stand → List Table

@@ -26,23 +26,14 @@ use Rattle.mg_layout.specs.TreeLaws.{trees_once}
 
 -- an image has one layout at most
 abbrev pub HasOneLayout : RowCoding → Type 0
-HasOneLayout coding = (image : Image) (a b : Layout) → HasHeader image.size (pages_in image)
-    → HasPages coding image a → HasPages coding image b → a ≡ b
-
-low_bytes : (page : List ℕ) → u32_at page 20 ≡ 0 → u16_at page 20 ≡ 0
-low_bytes page none = omega arith
-
--- a header page is no page of a tree
-pub header_right : (size : ℕ) (pages : Pages) → HasHeader size pages → right_in (pages 0) ≢ 0
-unfolding database_checks
-header_right size pages has none =
-    let major = has.database.1.0 in omega (arith, major, low_bytes (pages 0) none)
+HasOneLayout coding = (image : Image) (a b : Layout) → HasPages coding image a
+    → HasPages coding image b → a ≡ b
 
 -- a table stands in one way at most
-pub same_stand : (size : ℕ) (pages : Pages) (s t : Stand) → right_in (pages 0) ≢ 0
+pub same_stand : (size : ℕ) (pages : Pages) (s t : Stand)
     → HasTablePages false size pages s → HasTablePages false size pages t → s.table ≡ t.table
     → s ≡ t
-same_stand size pages s t header first second same = λ i. record {
+same_stand size pages s t first second same = λ i. record {
   table = same i;
   pointers = chains i;
   data_pages = data_ i;
@@ -57,20 +48,19 @@ same_stand size pages s t header first second same = λ i. record {
     data_ = first.entries ∙ (ap (entries_in pages) chains ∙ sym second.entries)
 
     trees : s.trees ≡ t.trees
-    trees = trees_once size pages s.table.pointer.0 s.table.indexes s.trees t.trees header
+    trees = trees_once size pages s.table.pointer.0 s.table.indexes s.trees t.trees
         first.trees (rw same second.trees)
 
-pub same_stands : (image : Image) (ss ts : List Stand) → right_in (pages_in image 0) ≢ 0
-    → EachStand (IsStand image) ss → EachStand (IsStand image) ts → tables_in ss ≡ tables_in ts
+pub same_stands : (image : Image) (ss ts : List Stand) → EachStand (IsStand image) ss → EachStand (IsStand image) ts → tables_in ss ≡ tables_in ts
     → ss ≡ ts
-same_stands image [] [] header first second same = refl
-same_stands image [] (t ∷ ts) header first second same = absurd cc
-same_stands image (s ∷ ss) [] header first second same = absurd cc
-same_stands image (s ∷ ss) (t ∷ ts) header first second same =
+same_stands image [] [] first second same = refl
+same_stands image [] (t ∷ ts) first second same = absurd cc
+same_stands image (s ∷ ss) [] first second same = absurd cc
+same_stands image (s ∷ ss) (t ∷ ts) first second same =
     let head : s.table ≡ t.table = cc in
     let tail : tables_in ss ≡ tables_in ts = cc in
-    let here : s ≡ t = same_stand image.size (pages_in image) s t header first.0 second.0 head in
-    let rest : ss ≡ ts = same_stands image ss ts header first.1 second.1 tail in
+    let here : s ≡ t = same_stand image.size (pages_in image) s t first.0 second.0 head in
+    let rest : ss ≡ ts = same_stands image ss ts first.1 second.1 tail in
     λ i. here i ∷ rest i
 
 -- the rows of a table are in one way
@@ -101,26 +91,22 @@ pub names_once : (coding : RowCoding) → HasOneReading (coding_of coding)
 names_once coding one image stand ts us first second =
     let same : first.reading ≡ second.reading = fun_ext (one (stand_facts image stand)
     (cells_of (pages_in image)) first.reading second.reading first.records second.records) in
-    let (rows, are, named) = first.names.named in
-    let (others, also, named_also) = second.names.named in
-    let one_rows : rows ≡ others = rows_once (stand_facts image stand)
-    (committed_with (stand_facts image stand) (λ t. true)) second.reading stand.table rows others
-    (rw (sym same) are) also in
-    tables_once others ts us (rw (sym one_rows) named) named_also
+    let are = first.names.all in let also = second.names.all in
+    let one_rows : are.rows ≡ also.rows = rows_once (stand_facts image stand)
+    (committed_with (stand_facts image stand) (λ t. true)) second.reading stand.table are.rows
+    also.rows (rw (sym same) are.are_rows) also.are_rows in
+    tables_once also.rows ts us (rw (sym one_rows) are.are_tables) also.are_tables
 
 pub layout_once : (coding : RowCoding) → HasOneReading (coding_of coding)
     → HasOneLayout coding
-layout_once coding one image a b header first second = λ i. record {
+layout_once coding one image a b first second = λ i. record {
   catalog = catalog i;
   tables = others i;
   sequences = sequences i;
 }
   where
-    right : right_in (pages_in image 0) ≢ 0
-    right = header_right image.size (pages_in image) header
-
     catalog : a.catalog ≡ b.catalog
-    catalog = same_stand image.size (pages_in image) a.catalog b.catalog right first.tables.0
+    catalog = same_stand image.size (pages_in image) a.catalog b.catalog first.tables.0
         second.tables.0 (first.catalog ∙ sym second.catalog)
 
     named : tables_in a.tables ≡ tables_in b.tables
@@ -129,7 +115,7 @@ layout_once coding one image a b header first second = λ i. record {
         second.names
 
     others : a.tables ≡ b.tables
-    others = same_stands image a.tables b.tables right first.tables.1 second.tables.1 named
+    others = same_stands image a.tables b.tables first.tables.1 second.tables.1 named
 
     sequences : a.sequences ≡ b.sequences
     sequences = first.sequences ∙ sym second.sequences

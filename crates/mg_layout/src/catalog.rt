@@ -49,7 +49,11 @@ fn columns(alloc: Global) -> Result<Columns, Memory>
 }
 
 /// The catalog as a table, from its first pointer page on.
-pub(crate) fn catalog_table(alloc: Global, pointer: u32) -> Result<Table, Memory>
+///
+/// # Errors
+///
+/// `Memory` only.
+pub fn catalog_table(alloc: Global, pointer: u32) -> Result<Table, Memory>
     ensures { IfOk result (λ table. table ≡ catalog_from pointer) }
 {
     Ok(Table {
@@ -72,8 +76,9 @@ pub(crate) fn catalog_at(image: &Image) -> u32
 
 /// The tables that the rows of the catalog name once all limbo transactions are committed.
 ///
-/// Its rows are tested under each choice of the limbo transactions that wrote a newest version of a
-/// record of the catalog: the time doubles with each of them.
+/// Its rows are tested under each two choices, one within the other, of the limbo transactions that
+/// wrote a newest version of a record of the catalog: the time is three times as long with each of
+/// them.
 ///
 /// # Errors
 ///
@@ -95,6 +100,6 @@ pub(crate) fn named_tables(
     let data_pages = &catalog.pages.data_pages;
     let found = table_records(alloc, image, &catalog.table, coding, data_pages)?;
     let writers = limbo_writers(alloc, image, &found)?;
-    check_choices(alloc, image, &found, &[], &writers)?;
+    check_choices(alloc, image, &found, &[], &[], &writers)?;
     tables_with(alloc, image, &found, &writers)
 }

@@ -1,15 +1,19 @@
 //! The catalog's rows under a choice of the limbo transactions that are committed, and whether they
 //! are lawful under each choice.
 
-ghost use Rattle.std.specs.Prelude.{◌≡◌, ◌≢◌, ◌↔◌, ◌<◌, ◌^◌, ℕ, length, true, IsTrue, IfErr, IfOk, MatchOption, None, OnOk, Some};
+ghost use Rattle.std.specs.Prelude.{◌≡◌, ◌≢◌, ◌↔◌, ◌<◌, ◌^◌, ◌++◌, ℕ, List, [], ◌∷◌, length, true, IsTrue, IfErr, IfOk, MatchOption, None, OnOk, Some};
 ghost use Rattle.mg_reading.specs.Found.{image_facts};
 ghost use Rattle.mg_reading.specs.Readable.{Refutes};
-ghost use Rattle.mg_image.specs.Catalog.{committed_with};
+ghost use Rattle.mg_image.specs.Catalog.{IsWithin, committed_with};
 ghost use Rattle.mg_image.specs.Records.{shown};
 ghost use Rattle.mg_image.specs.Tables.{Has, has};
-ghost use Rattle.mg_layout.specs.Choices.{AreAlwaysLawful, AreLawful, AreLawfulFrom, HasWriter, HasWriters, IsCatalogFound, Names, rows_with};
+ghost use Rattle.mg_layout.specs.Choices.{AreAlwaysLawful, AreLawful, AreLawfulFrom, DoTablesStay, HasWriter, HasWriters, IsCatalogFound, Names, RowsName, rows_with};
+ghost use Rattle.mg_model.specs.declared.table.Table.{Table as AnyTable};
+ghost use Rattle.mg_model.specs.CatalogRules.{AreTables};
+ghost use Rattle.mg_catalog.specs.ByKey.{by_key};
 
 use crate::linked::has_page;
+use crate::tables::{do_tables_fit, do_tables_stay};
 use mg_base::{Memory, TxState};
 use mg_catalog::{CatFault, tables_of};
 use mg_image::Entry;
@@ -72,6 +76,23 @@ fn shown_rows(
     Ok(rows)
 }
 
+/// The tables that rows name, where each of them fits the image's pages.
+///
+/// # Errors
+///
+/// `Broken` exactly where one does not.
+fn tables_that_fit(image: &Image, rows: &[Row], tables: Vec<Table>) -> Result<Vec<Table>, ReadFault>
+    requires { AreTables (by_key rows.now) tables.items }
+    ensures tables { IfOk result (λ fit. RowsName image.now.size rows.now fit.items) }
+    ensures broken { IfErr result (Refutes
+        ((fit : List AnyTable) × RowsName image.now.size rows.now fit)) }
+{
+    if !do_tables_fit(image.size(), &tables) {
+        return Err(ReadFault::Broken(Rule::Pages));
+    }
+    Ok(tables)
+}
+
 /// The tables that the rows of the catalog name once these limbo transactions are committed.
 ///
 /// # Errors
@@ -84,48 +105,90 @@ pub fn tables_with(
     chosen: &[u32],
 ) -> Result<Vec<Table>, ReadFault>
     requires { IsCatalogFound (image_facts image.now) found.now }
-    ensures tables { IfOk result (λ tables.
-        Names (image_facts image.now) found.now (has chosen.now) tables.items) }
+    ensures tables { IfOk result (λ tables. Names image.now.size (image_facts image.now)
+        found.now (has chosen.now) tables.items) }
     ensures broken { IfErr result (Refutes
-        (AreLawful (image_facts image.now) found.now (has chosen.now))) }
+        (AreLawful image.now.size (image_facts image.now) found.now (has chosen.now))) }
 {
     let rows = shown_rows(alloc, image, chosen, found)?;
     if rows.len() >= 1 << 31 {
         return Err(ReadFault::Memory);
     }
     match tables_of(alloc, &rows) {
-        Ok(tables) => Ok(tables),
+        Ok(tables) => tables_that_fit(image, &rows, tables),
         Err(CatFault::BadTable { .. }) => Err(ReadFault::Broken(Rule::Pages)),
         Err(CatFault::Memory) => Err(ReadFault::Memory),
     }
 }
 
-/// Tests that the rows of the catalog are lawful under each choice that takes some limbo
-/// transactions and any of those that are open.
+/// Tests that the rows of the catalog are lawful under two choices, and that the tables of the
+/// first, which chooses no other transactions, are those of the second, too.
 ///
 /// # Errors
 ///
-/// `Broken` only where the rows are not lawful under some choice; `Memory`.
+/// `Broken` only where it is not so; `Memory`.
+fn check_choice(
+    alloc: Global,
+    image: &Image,
+    found: &[Found],
+    taken: &[u32],
+    more: &[u32],
+) -> Result<(), ReadFault>
+    requires { IsCatalogFound (image_facts image.now) found.now }
+    ensures stay { OnOk result (DoTablesStay image.now.size
+        (rows_with (image_facts image.now) found.now (has taken.now))
+        (rows_with (image_facts image.now) found.now (has more.now))) }
+    ensures broken { IfErr result (Refutes (DoTablesStay image.now.size
+        (rows_with (image_facts image.now) found.now (has taken.now))
+        (rows_with (image_facts image.now) found.now (has more.now)))) }
+{
+    let tables = tables_with(alloc, image, found, taken)?;
+    let others = tables_with(alloc, image, found, more)?;
+    if !do_tables_stay(&tables, &others) {
+        return Err(ReadFault::Broken(Rule::Pages));
+    }
+    Ok(())
+}
+
+/// A list of transactions with one more.
+fn with_one(alloc: Global, taken: &[u32], t: u32) -> Result<Vec<u32>, Memory>
+    ensures { IfOk result (λ more. more.items ≡ taken.now ++ t ∷ []) }
+{
+    let mut more = Vec::from_slice(alloc, taken)?;
+    more.push(t)?;
+    Ok(more)
+}
+
+/// Tests that the rows of the catalog are lawful under each two choices that take some limbo
+/// transactions and any of those that are open, the second all of the first, and that a table of
+/// the first is one of the second, too.
+///
+/// # Errors
+///
+/// `Broken` only where it is not so for some choices; `Memory`.
 pub fn check_choices(
     alloc: Global,
     image: &Image,
     found: &[Found],
     taken: &[u32],
+    more: &[u32],
     open_: &[u32],
 ) -> Result<(), ReadFault>
-    requires { IsCatalogFound (image_facts image.now) found.now }
-    ensures lawful { OnOk result
-        (AreLawfulFrom (image_facts image.now) found.now taken.now open_.now) }
-    ensures broken { IfErr result (Refutes (AreAlwaysLawful (image_facts image.now) found.now)) }
+    requires catalog { IsCatalogFound (image_facts image.now) found.now }
+    requires within { IsWithin (has taken.now) (has more.now) }
+    ensures lawful { OnOk result (AreLawfulFrom image.now.size (image_facts image.now) found.now
+        taken.now more.now open_.now) }
+    ensures broken { IfErr result (Refutes
+        (AreAlwaysLawful image.now.size (image_facts image.now) found.now)) }
 {
     let Some((t, later)) = open_.split_first() else {
-        tables_with(alloc, image, found, taken)?;
-        return Ok(());
+        return check_choice(alloc, image, found, taken, more);
     };
-    check_choices(alloc, image, found, taken, later)?;
-    let mut more = Vec::from_slice(alloc, taken)?;
-    more.push(*t)?;
-    check_choices(alloc, image, found, &more, later)
+    check_choices(alloc, image, found, taken, more, later)?;
+    let wider = with_one(alloc, more, *t)?;
+    check_choices(alloc, image, found, taken, &wider, later)?;
+    let both = with_one(alloc, taken, *t)?;
+    check_choices(alloc, image, found, &both, &wider, later)
 }
 
 /// Adds the transaction of a record's newest version, if it is in limbo and not there already.

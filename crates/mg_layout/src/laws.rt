@@ -5,7 +5,7 @@ ghost use Rattle.mg_layout.specs.LayoutLaws.{HasOneLayout};
 use mg_image::one_reading;
 use mg_reading::RowCoding;
 
-/// The catalog and the tables of an image with a lawful header stand in one way at most.
+/// The catalog and the tables of an image stand in one way at most.
 pub fn one_layout(coding: RowCoding)
     ensures { HasOneLayout coding }
 {

@@ -3,7 +3,6 @@
 ghost use Rattle.std.specs.Prelude.{◌≡◌, IfErr, IfOk};
 ghost use Rattle.mg_reading.specs.ImageView.{pages_in};
 ghost use Rattle.mg_reading.specs.Readable.{Refutes};
-ghost use Rattle.mg_image.specs.Sound.{HasHeader};
 ghost use Rattle.mg_image.specs.Tables.{Layout};
 ghost use Rattle.mg_layout.specs.HasPages.{HasPages};
 ghost use Rattle.mg_layout.specs.LayoutLaws.{HasOneLayout};
@@ -24,7 +23,6 @@ use std::alloc::Global;
 ///
 /// `Broken` only where they can stand nowhere; `Memory`.
 fn find_layout(alloc: Global, image: &Image, coding: RowCoding) -> Result<Standing, ReadFault>
-    requires { HasHeader image.now.size (pages_in image.now) }
     ensures pages { IfOk result (λ found. HasPages coding image.now (layout_in found)) }
     ensures broken { IfErr result (Refutes (HasLayout coding image.now)) }
 {
@@ -48,13 +46,12 @@ fn of_pages(fault: ReadFault) -> ReadFault
     }
 }
 
-/// Where the catalog and the tables of an image with a lawful header stand.
+/// Where the catalog and the tables of an image stand.
 ///
 /// # Errors
 ///
 /// `Broken(Rule::Pages)` only where they can stand nowhere; `Memory`.
 pub fn layout_of(alloc: Global, image: &Image, coding: RowCoding) -> Result<Standing, ReadFault>
-    requires { HasHeader image.now.size (pages_in image.now) }
     ensures pages { IfOk result (λ found. HasPages coding image.now (layout_in found)) }
     ensures only { IfOk result (λ found. (layout : Layout) → HasPages coding image.now layout
         → layout ≡ layout_in found) }

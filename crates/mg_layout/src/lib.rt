@@ -3,11 +3,11 @@
 //!
 //! Owns: the layout of an image as a program has it (`Standing`), and what it is for an image to have
 //! one (`HasPages`): the pages of the catalog and of each table are as wanted, the catalog's records
-//! are lawful, and its rows name the tables, whichever limbo transactions are committed. An image
-//! with a lawful header has one layout at most.
+//! are lawful, and its rows name tables that fit the pages, whichever limbo transactions are
+//! committed: the more of them are, the more tables there are. An image has one layout at most.
 //!
-//! The catalog's rows are tested under each choice of the limbo transactions that changed the
-//! catalog, so the time doubles with each of them.
+//! The catalog's rows are tested under each two choices, one within the other, of the limbo
+//! transactions that changed the catalog, so the time is three times as long with each of them.
 //!
 //! Invariant: none, it keeps no state.
 //! Below: `mg_reading`, for the pages and the records of one table; `mg_catalog`, for the tables that
@@ -22,7 +22,9 @@ mod layout;
 mod linked;
 mod place;
 mod standing;
+mod tables;
 
+pub use catalog::catalog_table;
 pub use laws::one_layout;
 pub use layout::layout_of;
 pub use linked::are_pages_once;

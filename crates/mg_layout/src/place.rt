@@ -4,7 +4,6 @@ ghost use Rattle.std.specs.Prelude.{◌≡◌, IfErr, IfOk};
 ghost use Rattle.mg_reading.specs.ImageView.{pages_in};
 ghost use Rattle.mg_reading.specs.Readable.{Refutes};
 ghost use Rattle.mg_image.specs.Indexes.{AreTrees};
-ghost use Rattle.mg_image.specs.Sound.{HasHeader};
 ghost use Rattle.mg_image.specs.Tables.{EachStand};
 ghost use Rattle.mg_layout.specs.HasPages.{IsStand, tables_in};
 ghost use Rattle.mg_layout.specs.Refusals.{CanAllStand, CanStand, HasTrees};
@@ -27,7 +26,6 @@ fn read_trees(
     owner: u32,
     indexes: &[Index],
 ) -> Result<Vec<Levels>, ReadFault>
-    requires { HasHeader image.now.size (pages_in image.now) }
     ensures trees { IfOk result (λ trees.
         AreTrees image.now.size (pages_in image.now) owner indexes.now trees.items) }
     ensures broken { IfErr result (Refutes (HasTrees image.now owner indexes.now)) }
@@ -47,7 +45,6 @@ fn read_trees(
 ///
 /// `Broken` only where one of its pages is not as wanted; `Memory`.
 pub(crate) fn stand_of(alloc: Global, image: &Image, table: Table) -> Result<TableStand, ReadFault>
-    requires { HasHeader image.now.size (pages_in image.now) }
     ensures stand { IfOk result (λ stand. IsStand image.now (stand_in stand)) }
     ensures table { IfOk result (λ stand. stand.table ≡ table) }
     ensures broken { IfErr result (Refutes (CanStand image.now table)) }
@@ -76,7 +73,6 @@ pub(crate) fn stands_of(
     image: &Image,
     tables: Vec<Table>,
 ) -> Result<Vec<TableStand>, ReadFault>
-    requires { HasHeader image.now.size (pages_in image.now) }
     ensures stands { IfOk result (λ stands.
         EachStand (IsStand image.now) (stands_in stands.items)) }
     ensures tables { IfOk result (λ stands. tables_in (stands_in stands.items) ≡ tables.items) }

@@ -157,18 +157,6 @@ same_rest front a b is =
     sym (drop-append_seam front a)
     ∙ (ap (λ (xs : List ℕ). drop (length front) xs) is ∙ drop-append_seam front b)
 
-pub are_spelled : (text separator rest : List ℕ) (first second : ℤ) (end : ℕ)
-    → FitsSigned w64 first → FitsSigned w64 second
-    → signed_decimal first ≡ take end text → signed_decimal second ≡ rest
-    → drop end text ≡ separator ++ rest → AreSpelled text separator first second
-are_spelled text separator rest first second end first_fits second_fits first_is second_is behind = record {
-  first_fits = first_fits;
-  second_fits = second_fits;
-  spelled = sym (take-append-drop end text)
-      ∙ (ap (λ (xs : List ℕ). take end text ++ xs) behind
-      ∙ rw (first_is, second_is) refl);
-}
-
 -- a text that is none of the statements
 pub no_statement_is : (text : List ℕ)
     → (codes "SET TRANSACTION NO WAIT" ≡ text → ⊥) → (codes "COMMIT" ≡ text → ⊥)

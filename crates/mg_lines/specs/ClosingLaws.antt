@@ -18,9 +18,6 @@ abbrev from : ℕ → ℕ → List ℕ
 from n zero = []
 from n (suc k) = n ∷ from (suc n) k
 
-sessions_are : sessions ≡ from 0 16
-sessions_are = refl
-
 module _ (o : Opening) (h : Entries) (steady : IsSteady o h) where
   -- a transaction is that of a session from one on
   record IsAhead (n t : ℕ) : Type 0 where

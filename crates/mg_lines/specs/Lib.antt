@@ -1,5 +1,4 @@
 pub mod AnswerLaws
-pub mod BeginningLaws
 pub mod ClosingLaws
 pub mod Found
 pub mod Given
@@ -9,6 +8,7 @@ pub mod LineLaws
 pub mod Lines
 pub mod OwnKeyLaws
 pub mod OwnKeys
+pub mod Refusals
 pub mod SessionLaws
 pub mod Shape
 pub mod Spelling

@@ -7,28 +7,16 @@ use Rattle.mg_value.specs.Values.{printed}
 use Rattle.mg_model.specs.declared.answer.Answer.{Answer}
 use Rattle.mg_model.specs.declared.answer.Answer.TheVariants.{No, Rows, Tx}
 use Rattle.mg_model.specs.declared.refusal.Refusal.{Refusal}
-use Rattle.mg_model.specs.declared.refusal.Refusal.TheVariants.{DatabaseFull, DiskWrite, DuplicateKey, InLimbo, LockConflict, Memory, TransactionLimit, UpdateConflict}
 use Rattle.mg_model.specs.Changes.{Cells}
 use Rattle.mg_model.specs.History.{Entry}
 use Rattle.mg_lines.specs.Given.{Turn}
 use Rattle.mg_lines.specs.Lines.{letter}
+use Rattle.mg_lines.specs.Refusals.{refusal_text}
 use Rattle.mg_lines.specs.declared.line.Line.{Line}
 use Rattle.mg_lines.specs.declared.line.Line.TheVariants.{Put, Get, Of, Silent, Bad}
 use Rattle.mg_lines.specs.declared.line.Session.{Session}
 use Rattle.mg_lines.specs.declared.line.Statement.{Statement}
 use Rattle.mg_lines.specs.declared.line.Statement.TheVariants as statements
-
--- the text of a refusal that a line can meet
-abbrev pub refusal_text : Refusal → List ℕ
-refusal_text (UpdateConflict by) = codes "UPDATE CONFLICT BY " ++ decimal by.0
-refusal_text (LockConflict by) = codes "LOCK CONFLICT BY " ++ decimal by.0
-refusal_text (InLimbo by) = codes "IN LIMBO " ++ decimal by.0
-refusal_text DuplicateKey = codes "DUPLICATE KEY"
-refusal_text (DatabaseFull limit) = codes "DATABASE FULL LIMIT " ++ decimal limit
-refusal_text TransactionLimit = codes "TRANSACTION LIMIT"
-refusal_text (DiskWrite faults) = codes "DISK WRITE FAULT"
-refusal_text Memory = codes "OUT OF MEMORY"
-refusal_text why = []
 
 -- ---- what entries tell
 

@@ -1,14 +1,13 @@
 //! The laws of a script's lines. Each function does nothing: its contract is a law, so that another
 //! crate can cite it.
 
-ghost use Rattle.mg_lines.specs.Laws.{NewIsClosed, LinesGoOn, LinesEndLegally, ClosingCloses};
-ghost use Rattle.mg_lines.specs.Laws.{SessionsBegan, SessionsDiffer, KeyTestsAreThere, FindsRow};
-ghost use Rattle.mg_lines.specs.Laws.{KvStands, KeyIsFirst, SeesShown};
-ghost use Rattle.mg_lines.specs.Laws.{InsertIsAnswered, ChangeIsAnswered};
+ghost use Rattle.std.specs.Prelude.{◌≡◌};
+ghost use Rattle.mg_lines.specs.Laws.{ClosingCloses, FindsRow, KeyTestsAreThere, LinesEndLegally, LinesGoOn};
+ghost use Rattle.mg_lines.specs.Laws.{SessionsBegan, SessionsDiffer};
+ghost use Rattle.mg_lines.specs.declared.line.TheConstants.{SESSIONS};
 
 /// What the lines of a script give to a history leaves it legal.
 pub fn lines_go_on()
-    ensures begin { NewIsClosed }
     ensures line { LinesGoOn }
     ensures end { LinesEndLegally }
     ensures closing { ClosingCloses }
@@ -20,17 +19,13 @@ pub fn sessions_differ()
     ensures differ { SessionsDiffer }
 {}
 
-/// What the events of lines are answered, by the versions of a key.
-pub fn lines_are_answered()
-    ensures stands { KvStands }
-    ensures key { KeyIsFirst }
-    ensures sees { SeesShown }
-    ensures inserts { InsertIsAnswered }
-    ensures changes { ChangeIsAnswered }
-{}
-
 /// What is found with a key.
 pub fn keys_are_found()
     ensures test { KeyTestsAreThere }
     ensures row { FindsRow }
+{}
+
+/// The sessions of a script are those of the letters A to P.
+pub fn there_are_sixteen_sessions()
+    ensures { SESSIONS ≡ 16 }
 {}

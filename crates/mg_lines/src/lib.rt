@@ -6,14 +6,14 @@
 //! room is a test that the definitions are given.
 //!
 //! The definitions stand in `specs/`: `Lines` (the form of a line), `Given` (which events it gives),
-//! `Transcript` (what it prints), `Steady` (what a history is between two lines), `OwnKeys` (rows
-//! with their key in front), `Found` (what is found and answered). `Laws` says what follows, and the
-//! other files `..Laws` prove it, for other crates too.
+//! `Transcript` and `Refusals` (what it prints), `Steady` (what a history is between two lines),
+//! `OwnKeys` (rows with their key in front), `Found` (what is found with a key). `Laws` says what
+//! follows, and the other files `..Laws` prove it, for other crates too.
 //!
 //! Invariant: none, it keeps no state. Of a history between two lines: it is legal, nothing writes
 //! the catalog, and each active transaction is that of one session.
 //! Below: `mg_model`, for events, answers and histories, and `mg_generations`, for the versions of a
-//! key. Above: the program.
+//! key. Above: `mg_served` and `mg_session`, which do in memory what a line asks for.
 //! Not here: SQL. The lines are taken letter for letter, but for the session and the numbers.
 #![tactic(auto)]
 
@@ -21,9 +21,10 @@ mod laws;
 mod line;
 pub mod number;
 mod reading;
+mod refusal;
 mod text;
 
-pub use laws::{keys_are_found, lines_are_answered, lines_go_on, sessions_differ};
+pub use laws::{keys_are_found, lines_go_on, sessions_differ, there_are_sixteen_sessions};
 pub use line::{Line, SESSIONS, Session, Statement};
 pub use reading::{first_line, read_line};
 pub use text::{

@@ -6,18 +6,20 @@ ghost use Rattle.mg_value.specs.Values.{printed};
 ghost use Rattle.mg_value.specs.declared.value.Value.{Value};
 ghost use Rattle.mg_lines.specs.Lines.{letter};
 ghost use Rattle.mg_lines.specs.Transcript.{answer_line, bad_line_text, get_answer, idle_text};
-ghost use Rattle.mg_lines.specs.Transcript.{number_or_null, put_answer, refusal_text, row_lines};
+ghost use Rattle.mg_lines.specs.Transcript.{number_or_null, put_answer, row_lines};
+ghost use Rattle.mg_lines.specs.Refusals.{refusal_text};
 ghost use Rattle.mg_lines.specs.declared.line.TheConstants.{SESSIONS};
 ghost use Rattle.mg_lines.specs.declared.text.TheConstants.{LINE_MOST};
 
 use crate::line::{Session, Statement};
+use crate::refusal::push_refusal;
 use arrayvec::ArrayString;
 use itoa::Buffer;
 use mg_base::TxNo;
 use mg_model::Refusal;
 
-/// No line has more bytes.
-const LINE_MOST: usize = 80;
+/// No line has more bytes: the longest refusal fits, with each of its numbers taken for 40 digits.
+pub(crate) const LINE_MOST: usize = 192;
 
 /// A line of the transcript, with its end.
 pub type LineText = ArrayString<LINE_MOST>;
@@ -66,7 +68,11 @@ pub fn idle_line(session: Session, statement: Statement) -> LineText
     let mut line = answer_of(session);
     match statement {
         Statement::Begin => line.push_str("IN TRANSACTION"),
-        _ => line.push_str("NO TRANSACTION"),
+        Statement::Commit
+        | Statement::Rollback
+        | Statement::Insert { .. }
+        | Statement::Update { .. }
+        | Statement::Select { .. } => line.push_str("NO TRANSACTION"),
     }
     line.push_str("\n");
     line
@@ -187,28 +193,8 @@ fn push_letter(line: &mut LineText, session: Session)
     line.push((b'A' + session.0) as char);
 }
 
-// Appends the text of a refusal.
-fn push_refusal(line: &mut LineText, refusal: Refusal)
-    requires { length line.old.bytes + 70 ≤ LINE_MOST }
-    ensures len { length line.new.bytes ≤ length line.old.bytes + 60 }
-    ensures text { line.new.bytes ≡ line.old.bytes ++ refusal_text refusal }
-{
-    match refusal {
-        Refusal::UpdateConflict { by } => push_named(line, "UPDATE CONFLICT BY ", by.0),
-        Refusal::LockConflict { by } => push_named(line, "LOCK CONFLICT BY ", by.0),
-        Refusal::InLimbo { by } => push_named(line, "IN LIMBO ", by.0),
-        Refusal::DuplicateKey => line.push_str("DUPLICATE KEY"),
-        Refusal::DatabaseFull { limit } => push_named(line, "DATABASE FULL LIMIT ", limit),
-        Refusal::TransactionLimit => line.push_str("TRANSACTION LIMIT"),
-        Refusal::DiskWrite { .. } => line.push_str("DISK WRITE FAULT"),
-        Refusal::Memory => line.push_str("OUT OF MEMORY"),
-        // No line is refused so.
-        _ => {}
-    }
-}
-
-// Appends words and a number.
-fn push_named(line: &mut LineText, words: &str, number: u32)
+/// Appends words and a number.
+pub(crate) fn push_named(line: &mut LineText, words: &str, number: u32)
     requires words { length words.now ≤ 20 }
     requires room { length line.old.bytes + 60 ≤ LINE_MOST }
     ensures len { length line.new.bytes ≤ length line.old.bytes + 60 }
@@ -216,6 +202,18 @@ fn push_named(line: &mut LineText, words: &str, number: u32)
 {
     line.push_str(words);
     push_number(line, number);
+}
+
+/// Appends words and a number of 64 bits.
+pub(crate) fn push_count(line: &mut LineText, words: &str, number: u64)
+    requires words { length words.now ≤ 10 }
+    requires room { length line.old.bytes + 50 ≤ LINE_MOST }
+    ensures len { length line.new.bytes ≤ length line.old.bytes + 50 }
+    ensures text { line.new.bytes ≡ line.old.bytes ++ (words.now ++ decimal number) }
+{
+    let mut digits = Buffer::new();
+    line.push_str(words);
+    line.push_str(digits.format(number));
 }
 
 // Appends a value as it prints.

@@ -35,11 +35,6 @@ has_deed-points_of point (Marked ∷ deeds) =
 has_deed-points_of point (Saved name ∷ deeds) =
     ap (λ b. is_point point (Saved name) || b) (has_deed-points_of point deeds)
 
-points_of-cond : (b : Bool) (xs ys : List Deed)
-    → points_of (cond b xs ys) ≡ cond b (points_of xs) (points_of ys)
-points_of-cond true xs ys = refl
-points_of-cond false xs ys = refl
-
 pub points_of-back : (point : Point) (deeds : List Deed)
     → points_of (deeds_back point deeds) ≡ deeds_back point (points_of deeds)
 points_of-back point [] = refl

@@ -127,15 +127,3 @@ module _ (o : Opening) (opening : MayBegin o) where
         | inr based ↦ inr (database_is_settled (cut_at_base h t) (legal_at_base h legal t) c
             (has_along (base o h t) (database o (cut_at_base h t)) c (base_is_cut o h t) based))
       ]
-
-  -- what was committed when a transaction took its base is committed still, with the same changes
-  pub committed_since_base : (h : Entries) → IsLegal o h → (t : ℕ) (c : Change)
-      → IsCommitted o (cut_at_base h t) c → IsCommitted o h c
-  committed_since_base [] legal t c it = it
-  committed_since_base (e ∷ h) legal t c it =
-      at (takes_base (effect_of e) t (mode_of h t).snapshot) (committed_since_base h legal.1 t c) it
-    where
-      at : (b : Bool) → (IsCommitted o (cut_at_base h t) c → IsCommitted o h c)
-          → IsCommitted o (cond b h (cut_at_base h t)) c → IsCommitted o (e ∷ h) c
-      at true more it = committed_goes_on h e c legal it
-      at false more it = committed_goes_on h e c legal (more it)

@@ -1,5 +1,5 @@
 -- What one entry makes of the deeds of a transaction, and of its base and view.
-use Rattle.std.specs.Prelude.{◌≡◌, ℕ, ◌==◌, ◌&&◌, Bool, true, false, List, [], ◌∷◌, ◌++◌, Some, cond, refl}
+use Rattle.std.specs.Prelude.{◌≡◌, ℕ, ◌==◌, ◌&&◌, Bool, true, false, List, ◌∷◌, ◌++◌, Some, cond, refl}
 use Rattle.std.proofs.Common.{◌∙◌, ap}
 use Rattle.std.proofs.lemmas.Bool.{eqb-true}
 use Rattle.mg_value.specs.declared.value.Value.{Value}
@@ -10,10 +10,10 @@ use Rattle.mg_model.specs.declared.opening.Opening.{Opening}
 use Rattle.mg_model.specs.Catalog.{CatalogRows, catalog_name, key_in}
 use Rattle.mg_model.specs.Changes.{row_at}
 use Rattle.mg_model.specs.History.{Entry, Entries, Point, Effect, Begins, Looks, Makes, Gives, Marks, Saves, TakesBack, Ends, Nothing, effect_of}
-use Rattle.mg_model.specs.Machine.{deeds_by, changes_by, changed, taken_back, steps_after, steps, base, view, mode_of, is_of, takes_base}
+use Rattle.mg_model.specs.Machine.{deeds_by, changes_by, changed, taken_back, steps_after, steps, base, mode_of, is_of, takes_base}
 use Rattle.mg_model.specs.Answers.{told, catalog_of}
-use Rattle.mg_model.specs.Effects.{drawn, deeds_left, is_its}
-use Rattle.mg_model.specs.EntryLaws.{deeds_by-taken_back, deeds_by-taken_back_other, view_others_entry}
+use Rattle.mg_model.specs.Effects.{drawn, deeds_left}
+use Rattle.mg_model.specs.EntryLaws.{deeds_by-taken_back, deeds_by-taken_back_other}
 
 -- the deeds of a transaction that stand after an effect; `catalog` is what it sees of the catalog
 abbrev pub deeds_after : Effect → ℕ → CatalogRows → List Deed → List Deed
@@ -67,17 +67,6 @@ pub deeds_after_entry : (o : Opening) (h : Entries) (e : Entry) (t : ℕ)
 deeds_after_entry o h e t =
     deeds_after_effect (effect_of e) t
     (λ u. row_at (changes_by u (steps o h) ++ base o h u) catalog_name) (steps o h)
-
--- entries of others alone leave a view as it is
-abbrev pub AreOthers : ℕ → Entries → Type 0
-AreOthers t [] = Unit {0}
-AreOthers t (e ∷ since) = (is_its t e ≡ false) × AreOthers t since
-
-pub view_others_since : (o : Opening) (h : Entries) (t : ℕ) (since : Entries) → AreOthers t since
-    → view o (since ++ h) t ≡ view o h t
-view_others_since o h t [] others = refl
-view_others_since o h t (e ∷ since) others =
-    view_others_entry o (since ++ h) e t others.0 ∙ view_others_since o h t since others.1
 
 pub takes_base_once : (f : Effect) (t : ℕ) (snapshot : Bool) → snapshot ≡ true
     → is_of t (drawn f) ≡ false → takes_base f t snapshot ≡ false

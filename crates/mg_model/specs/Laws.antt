@@ -10,7 +10,7 @@ use Rattle.mg_model.specs.Catalog.{key_in}
 use Rattle.mg_model.specs.History.{Entry, Entries, transaction_of, Point, Makes, Gives, TakesBack, effect_of}
 use Rattle.mg_model.specs.Machine.{next_number, mode_of, state_of, is_of, deeds_by, steps, database, base, own, view, cut_at_base}
 use Rattle.mg_model.specs.Answers.{told, is_committed, can_hinder, obstacle, waits_on, leads_to, catalog_of}
-use Rattle.mg_model.specs.Legal.{MayBegin, IsLegal, is_limbo, durable_count, durable_database, durable_limbo, durable_changes}
+use Rattle.mg_model.specs.Legal.{MayBegin, IsLegal, is_limbo, after_durable, durable_count, durable_database, durable_limbo, durable_changes}
 use Rattle.mg_model.specs.NewDatabase.{new_opening}
 use Rattle.mg_model.specs.Openings.{IsOpening}
 use Rattle.mg_model.specs.declared.opening.TheConstants.{MOST_TRANSACTIONS}
@@ -70,6 +70,11 @@ BaseIsCut = (o : Opening) (h : Entries) (t : ℕ) → base o h t ≡ database o 
 abbrev pub DurableIsAll : Type 0
 DurableIsAll = (o : Opening) (h : Entries)
     → durable_database o h (durable_count h) ≡ database o h
+
+-- in a legal history, who is committed after all durable events is who is committed
+abbrev pub CommittedOutlast : Type 0
+CommittedOutlast = (o : Opening) (h : Entries) (t : ℕ) → MayBegin o → IsLegal o h
+    → is_committed (state_of o (after_durable h (durable_count h)) t) ≡ is_committed (state_of o h t)
 
 -- in a legal history, who is in limbo after all durable events is who is in limbo
 abbrev pub LimboOutlasts : Type 0

@@ -33,6 +33,7 @@ pub mod OpeningLaws
 pub mod NewCatalogLaws
 pub mod NewOpeningLaws
 pub mod LimboLaws
+pub mod DurableCommitLaws
 pub mod Promises
 pub mod PromiseLaws
 pub mod ConflictScenarios

@@ -106,7 +106,7 @@ limbo_others o h f t leaves dead allowed limbo = at f leaves allowed
 abbrev pub up_to_durable : Entries → Entries
 up_to_durable h = after_durable h (durable_count h)
 
-up_to_durable_entry : (e : Entry) (h : Entries) (b : Bool) → is_durable e ≡ b
+pub up_to_durable_entry : (e : Entry) (h : Entries) (b : Bool) → is_durable e ≡ b
     → up_to_durable (e ∷ h) ≡ cond b (e ∷ h) (up_to_durable h)
 up_to_durable_entry e h true lasts =
     let below : durable_count h < durable_count h + 1 = omega arith in

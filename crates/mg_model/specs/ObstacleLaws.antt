@@ -75,34 +75,3 @@ pub no_obstacle_is : (o : Opening) (h : Entries) (t : ℕ) (table : List ℕ) (k
     → can_hinder (told o h) t u ≡ false
 no_obstacle_is o h t table key u none has =
     none_hinders (can_hinder (told o h) t) table key (steps o h) u none has
-
--- ---- by the writers of a key
-
--- whose steps changed a key, the newest first
-abbrev pub writers : List ℕ → Value → List Step → List ℕ
-writers table key [] = []
-writers table key (s ∷ all) =
-    cond (changes_key table key s.deed) (s.by.0 ∷ writers table key all) (writers table key all)
-
--- the first number that passes a test
-abbrev pub first_that : (ℕ → Bool) → List ℕ → Option ℕ
-first_that who [] = None
-first_that who (u ∷ us) = cond (who u) (Some u) (first_that who us)
-
--- the obstacle of a key is the first of its writers that can be in the way
-pub obstacle_by_writers : (who : ℕ → Bool) (table : List ℕ) (key : Value) (all : List Step)
-    → newest_by who (changes_key table key) all ≡ first_that who (writers table key all)
-obstacle_by_writers who table key [] = refl
-obstacle_by_writers who table key (s ∷ all) =
-    at (changes_key table key s.deed) (who s.by.0) refl (obstacle_by_writers who table key all)
-  where
-    newest : Option ℕ
-    newest = newest_by who (changes_key table key) all
-
-    at : (c w : Bool) → who s.by.0 ≡ w → newest ≡ first_that who (writers table key all)
-        → cond (w && c) (Some s.by.0) newest
-        ≡ first_that who (cond c (s.by.0 ∷ writers table key all) (writers table key all))
-    at true true is more = rw is refl
-    at true false is more = rw is more
-    at false true is more = more
-    at false false is more = more

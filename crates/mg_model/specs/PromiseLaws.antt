@@ -30,10 +30,6 @@ use Rattle.mg_model.specs.Promises.{begun, IsFree, MayWrite}
 
 -- ---- snapshots
 
-legal_then : (o : Opening) (h since : Entries) → IsLegal o (since ++ h) → IsLegal o h
-legal_then o h [] legal = legal
-legal_then o h (e ∷ since) legal = legal_then o h since legal.1
-
 mode_stays : (f : Effect) (t : ℕ) (old : Mode) → is_of t (drawn f) ≡ false
     → mode_after f t old ≡ old
 mode_stays (Begins u mode) t old undrawn = rw undrawn refl

@@ -10,7 +10,7 @@ ghost use Rattle.mg_model.specs.Promises.{InsertIsFine, ChangeIsFine, EraseIsFin
 ghost use Rattle.mg_model.specs.Laws.{ViewStands, SnapshotStands, OthersLeaveIt, DeedsFollow};
 ghost use Rattle.mg_model.specs.Laws.{IsDrawnOnce, OpeningsBegin, NewIsOpening, GoesOnLegally};
 ghost use Rattle.mg_model.specs.Laws.{OnlyCommitsCount};
-ghost use Rattle.mg_model.specs.Laws.{BaseIsCut, DurableIsAll, LimboOutlasts, LimboChangesOutlast};
+ghost use Rattle.mg_model.specs.Laws.{BaseIsCut, CommittedOutlast, DurableIsAll, LimboOutlasts, LimboChangesOutlast};
 ghost use Rattle.mg_model.specs.Laws.{ReadsGiven, ReadsMade, ReadsWritten, ReadsOwn, ReadsBase};
 ghost use Rattle.mg_model.specs.Laws.{OwnIsRestored, ViewIsRestored, WritersTakeTurns, WaitsEnd};
 ghost use Rattle.mg_model.specs.Laws.{ViewIsSettled, CommittedStays, DeadStays};
@@ -59,6 +59,7 @@ pub fn commits_count()
 /// What outlasts a crash after the last durable event is all there is.
 pub fn durables_outlast()
     ensures database { DurableIsAll }
+    ensures committed { CommittedOutlast }
     ensures limbo { LimboOutlasts }
     ensures changes { LimboChangesOutlast }
 {}

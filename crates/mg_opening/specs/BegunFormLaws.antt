@@ -24,12 +24,12 @@ use Rattle.mg_image.specs.Tables.{Layout}
 use Rattle.mg_first.specs.FirstForm.{IsFirstForm}
 use Rattle.mg_first.specs.FirstImage.{kv_facts}
 use Rattle.mg_first.specs.KvTable.{kv_layout, kv_table}
-use Rattle.mg_first.specs.Puts.{kv_slot}
+use Rattle.mg_first.specs.KvCells.{kv_slot}
 use Rattle.mg_first.specs.declared.pages.TheConstants.{KV_ROWS, LAST, PAGE}
-use Rattle.mg_kv.specs.LimboShownLaws.{limbo_changes}
-use Rattle.mg_kv.specs.OpenedLaws.{only_kv_in_limbo, opened_by, opened_changes, rest_opens}
+use Rattle.mg_kv.specs.Shown.{limbo_changes, opened_by}
+use Rattle.mg_kv.specs.OpenedLaws.{only_kv_in_limbo, opened_changes, rest_opens}
 use Rattle.mg_kv.specs.PageSlotsLaws.{slots_of, table_page_has_slots}
-use Rattle.mg_kv.specs.RestLaws.{IsAtRest}
+use Rattle.mg_kv.specs.Work.{IsAtRest}
 use Rattle.mg_kv.specs.Slots.{Slots}
 use Rattle.mg_kv.specs.Versions.{generation_of}
 use Rattle.mg_opening.specs.BegunLimboLaws.{IsListed, SaysLimbo, change_by, limbo_said, listed_changed, listed_found, listed_missed, listed_nothing, says_limbo}

@@ -23,10 +23,11 @@ use Rattle.mg_image.specs.Records.{Reading, cells_of, key_of, newest_of, shown}
 use Rattle.mg_first.specs.FirstImage.{kv_committed, kv_facts}
 use Rattle.mg_first.specs.KvCellLaws.{place_of_kv}
 use Rattle.mg_first.specs.KvTable.{kv_database, kv_table}
-use Rattle.mg_first.specs.Puts.{kv_slot}
+use Rattle.mg_first.specs.KvCells.{kv_slot}
 use Rattle.mg_first.specs.declared.pages.TheConstants.{LAST, PAGE}
 use Rattle.mg_kv.specs.ReadSlotLaws.{reads_nothing}
-use Rattle.mg_kv.specs.ShownRowsLaws.{rows_are_shown, shown_rows}
+use Rattle.mg_kv.specs.ShownRowsLaws.{rows_are_shown}
+use Rattle.mg_kv.specs.Shown.{shown_rows}
 use Rattle.mg_kv.specs.SlotLaws.{past_is_none}
 use Rattle.mg_kv.specs.Slots.{Slots}
 use Rattle.mg_kv.specs.WrittenRecordsLaws.{page_has_slots}

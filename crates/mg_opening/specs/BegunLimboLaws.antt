@@ -19,7 +19,7 @@ use Rattle.mg_image.specs.declared.entry.Entry.{Entry}
 use Rattle.mg_image.specs.Histories.{newest_at, row_change}
 use Rattle.mg_image.specs.Records.{Change, key_of, writer}
 use Rattle.mg_first.specs.KvTable.{kv_table}
-use Rattle.mg_kv.specs.FoundVersionsLaws.{is_in_limbo}
+use Rattle.mg_kv.specs.Shown.{is_in_limbo}
 use Rattle.mg_kv.specs.Versions.{generation_of}
 use Rattle.mg_opening.specs.ChangesOnceLaws.{has_newest, is_change}
 

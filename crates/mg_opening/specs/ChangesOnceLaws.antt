@@ -7,7 +7,7 @@ use Rattle.mg_image.specs.Held.{AreChanges, Changes, IsChangedAt, told_change}
 use Rattle.mg_image.specs.Histories.{newest_at, row_change}
 use Rattle.mg_image.specs.RecordRules.{Facts}
 use Rattle.mg_image.specs.Records.{Change, Reading, change_in, key_of, writer}
-use Rattle.mg_kv.specs.LimboShownLaws.{change_given}
+use Rattle.mg_kv.specs.Shown.{change_given}
 
 -- ---- changes are once
 

@@ -31,10 +31,8 @@ use Rattle.mg_first.specs.HoldsLaws.{KvName, kv_named, new_catalog_told, new_oth
 use Rattle.mg_first.specs.KvTable.{kv_database, kv_layout}
 use Rattle.mg_first.specs.NewDatabase.{IsHeaderPage}
 use Rattle.mg_first.specs.declared.pages.TheConstants.{HEADER, KV_ROWS, LAST, PAGE, TRANSACTIONS}
-use Rattle.mg_kv.specs.GivenRowsLaws.{AreLawful}
-use Rattle.mg_kv.specs.LimboShownLaws.{change_given, in_limbo_only, limbo_change, limbo_changes}
-use Rattle.mg_kv.specs.OpenedLaws.{opened_by, opened_changes, opened_held}
-use Rattle.mg_kv.specs.ShownRowsLaws.{shown_rows}
+use Rattle.mg_kv.specs.Shown.{AreLawful, shown_rows, change_given, in_limbo_only, limbo_change, limbo_changes, opened_by}
+use Rattle.mg_kv.specs.OpenedLaws.{opened_changes, opened_held}
 use Rattle.mg_kv.specs.Slots.{HasSlots, Slots}
 use Rattle.mg_served.specs.Deeds.{Starts}
 use Rattle.mg_served.specs.NumberKeys.{BeginsWithKv, is_number}

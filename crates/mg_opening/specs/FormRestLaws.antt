@@ -25,7 +25,7 @@ use Rattle.mg_first.specs.KvTable.{kv_layout}
 use Rattle.mg_first.specs.PlaceLaws.{HasOneTip, catalog_place}
 use Rattle.mg_first.specs.declared.pages.TheConstants.{CATALOG, HEADER, KV_ROWS, LAST, PAGE, TRANSACTIONS}
 use Rattle.mg_kv.specs.PageSlotsLaws.{slots_of, table_page_has_slots}
-use Rattle.mg_kv.specs.RestLaws.{IsAtRest}
+use Rattle.mg_kv.specs.Work.{IsAtRest}
 use Rattle.mg_kv.specs.Slots.{HasSlots, Slots}
 use Rattle.mg_opening.specs.FormLayoutLaws.{sound_on_kv}
 

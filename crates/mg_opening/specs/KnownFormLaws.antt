@@ -18,11 +18,12 @@ use Rattle.mg_first.specs.FirstImage.{kv_facts}
 use Rattle.mg_first.specs.KvTable.{kv_layout}
 use Rattle.mg_first.specs.PlaceLaws.{catalog_place}
 use Rattle.mg_first.specs.declared.pages.TheConstants.{KV_ROWS, PAGE}
-use Rattle.mg_kv.specs.FoundVersionsLaws.{each_key_has_versions, versions_below}
-use Rattle.mg_kv.specs.GivenRowsLaws.{AreLawful, versions_lawful}
+use Rattle.mg_kv.specs.FoundVersionsLaws.{each_key_has_versions}
+use Rattle.mg_kv.specs.Shown.{versions_below, AreLawful, ReadsVersions}
+use Rattle.mg_kv.specs.GivenRowsLaws.{versions_lawful}
 use Rattle.mg_kv.specs.LiveFactsLaws.{facts_at_start}
-use Rattle.mg_kv.specs.OpenedLaws.{ReadsVersions}
-use Rattle.mg_kv.specs.RestLaws.{IsAtRest, work_starts}
+use Rattle.mg_kv.specs.RestLaws.{work_starts}
+use Rattle.mg_kv.specs.Work.{IsAtRest}
 use Rattle.mg_kv.specs.Slots.{HasSlots, Slots}
 use Rattle.mg_kv.specs.Versions.{AreLive, AreVersions}
 use Rattle.mg_kv.specs.WrittenRecordsLaws.{page_has_slots}

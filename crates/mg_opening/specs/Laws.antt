@@ -10,7 +10,7 @@ use Rattle.mg_image.specs.ReadingLaws.{RowsAreOne}
 use Rattle.mg_image.specs.Records.{Reading}
 use Rattle.mg_first.specs.FirstForm.{IsFirstForm}
 use Rattle.mg_first.specs.declared.pages.TheConstants.{HEADER, KV_ROWS, LAST, PAGE, TRANSACTIONS}
-use Rattle.mg_kv.specs.RestLaws.{IsAtRest}
+use Rattle.mg_kv.specs.Work.{IsAtRest}
 use Rattle.mg_kv.specs.Slots.{HasSlots, Slots}
 use Rattle.mg_served.specs.Deeds.{Starts}
 use Rattle.mg_served.specs.OpenedLaws.{Opens}

@@ -8,4 +8,3 @@ pub mod FormLayoutLaws
 pub mod FormRestLaws
 pub mod KnownFormLaws
 pub mod Laws
-pub mod RefusedLaws

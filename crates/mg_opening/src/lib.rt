@@ -5,7 +5,7 @@
 //!
 //! Invariant: none, it keeps no state.
 //! Below: `mg_first`, for the pages of a new database; `mg_soundness`, for the test of soundness.
-//! Above: the program, which opens a disk with such an image.
+//! Above: `mgdb`, which opens a disk with such an image.
 //! Not here: reading the pages from a disk, and what becomes of them.
 #![tactic(auto)]
 

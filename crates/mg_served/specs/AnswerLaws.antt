@@ -21,8 +21,7 @@ use Rattle.mg_generations.specs.TableLaws.{key_stands, no_table_hinders, shape_s
 use Rattle.mg_image.specs.Form.{Pages}
 use Rattle.mg_kv.specs.Reading.{AreVersionsIn, generation}
 use Rattle.mg_kv.specs.Slots.{Slots}
-use Rattle.mg_kv.specs.WriteOverLaws.{IsNoObstacle}
-use Rattle.mg_kv.specs.WrittenLaws.{newest_writer}
+use Rattle.mg_kv.specs.Writing.{IsNoObstacle, newest_writer}
 use Rattle.mg_kv.specs.declared.reading.KvVersion.{KvVersion}
 use Rattle.mg_lines.specs.Given.{changes, inserts, row_of}
 use Rattle.mg_served.specs.Deeds.{fate_of, first_given, is_row, obstacle_in, refusal_by, sees_in}

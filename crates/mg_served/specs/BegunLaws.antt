@@ -23,16 +23,18 @@ use Rattle.mg_image.specs.Inventory.{next_of}
 use Rattle.mg_image.specs.Records.{cells_of}
 use Rattle.mg_first.specs.NewDatabase.{IsHeaderPage}
 use Rattle.mg_first.specs.NewDatabaseLaws.{header_raises}
-use Rattle.mg_first.specs.Puts.{OnlyPage, RaisesNext}
+use Rattle.mg_first.specs.PageChanges.{OnlyPage, RaisesNext}
 use Rattle.mg_first.specs.declared.pages.TheConstants.{HEADER, KV_ROWS, LAST, TRANSACTIONS}
 use Rattle.mg_header.specs.declared.header.Header.{Header}
-use Rattle.mg_kv.specs.EndedVersionsLaws.{DrawsNumber, versions_drawn}
-use Rattle.mg_kv.specs.Fate.{ended_in, is_one_of}
-use Rattle.mg_kv.specs.FateLaws.{ChangesActive, fate_draws}
+use Rattle.mg_kv.specs.EndedVersionsLaws.{versions_drawn}
+use Rattle.mg_kv.specs.Ending.{DrawsNumber}
+use Rattle.mg_kv.specs.Fate.{ended_in, is_one_of, ChangesActive}
+use Rattle.mg_kv.specs.FateLaws.{fate_draws}
 use Rattle.mg_kv.specs.LiveFactsLaws.{live_draws}
-use Rattle.mg_kv.specs.SettledVersionsLaws.{GivesRow}
+use Rattle.mg_kv.specs.Shown.{GivesRow}
 use Rattle.mg_kv.specs.Slots.{HasSlots, Slots}
-use Rattle.mg_kv.specs.WorkBeginLaws.{Draws, draws_becomes, work_begins}
+use Rattle.mg_kv.specs.WorkBeginLaws.{draws_becomes, work_begins}
+use Rattle.mg_kv.specs.Work.{Draws}
 use Rattle.mg_served.specs.Deeds.{Enters, fate_of}
 use Rattle.mg_served.specs.LiveForLaws.{begun_was_dead, live_begins}
 use Rattle.mg_served.specs.QuietLaws.{served_quietly}
@@ -99,10 +101,6 @@ module _ (old new : Served) (entered : Pages) (first : Slots) (o : Opening) (h :
 
   legal : IsLegal o (e ∷ h)
   legal = (lawful, it.legal)
-
-  states : (v : ℕ) → state_of o (e ∷ h) v
-      ≡ cond (t == v) Active (state_of o h v)
-  states v = refl
 
   was_dead : state_of o h t ≡ Dead
   was_dead = begun_was_dead old.live o it.opening h e

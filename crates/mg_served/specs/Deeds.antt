@@ -77,6 +77,15 @@ pub record Enters (old new : Served) (t : ℕ) : Type 0 where
   pub live : new.live ≡ after_enter old.live t
   pub active : new.active.items ≡ old.active.items ++ number t ∷ []
 
+-- Nothing has changed but the room that lists have taken.
+pub record IsAsBefore (old new : Served) : Type 0 where
+  pub header : new.header ≡ old.header
+  pub bits : new.bits ≡ old.bits
+  pub rows : new.rows ≡ old.rows
+  pub next : new.next ≡ old.next
+  pub live : new.live ≡ old.live
+  pub active : new.active.items ≡ old.active.items
+
 -- A transaction has left.
 pub record Leaves (old new : Served) (t : ℕ) : Type 0 where
   pub header : new.header ≡ old.header

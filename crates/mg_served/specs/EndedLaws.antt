@@ -24,16 +24,17 @@ use Rattle.mg_generations.specs.Tables.{writes_table}
 use Rattle.mg_image.specs.Form.{Pages, plain_coding}
 use Rattle.mg_image.specs.Inventory.{next_of, oldest_of, settled}
 use Rattle.mg_image.specs.Records.{cells_of}
-use Rattle.mg_first.specs.Puts.{OnlyPage}
+use Rattle.mg_first.specs.PageChanges.{OnlyPage}
 use Rattle.mg_first.specs.declared.pages.TheConstants.{LAST, PAGE, TRANSACTIONS}
-use Rattle.mg_kv.specs.EndedVersionsLaws.{EndsAlone, versions_with_committed, versions_without_dead}
+use Rattle.mg_kv.specs.EndedVersionsLaws.{versions_with_committed, versions_without_dead}
+use Rattle.mg_kv.specs.Ending.{EndsAlone}
 use Rattle.mg_kv.specs.Fate.{ended_in, is_one_of}
 use Rattle.mg_kv.specs.LiveFactsLaws.{Becomes, live_ends as ends_alone}
-use Rattle.mg_kv.specs.SettledVersionsLaws.{GivesRow}
+use Rattle.mg_kv.specs.Shown.{GivesRow}
 use Rattle.mg_kv.specs.Slots.{HasSlots, Slots}
 use Rattle.mg_kv.specs.Versions.{AreVersions, kept}
 use Rattle.mg_kv.specs.WorkCommitLaws.{work_commits}
-use Rattle.mg_kv.specs.WorkLaws.{IsAtWork}
+use Rattle.mg_kv.specs.Work.{IsAtWork}
 use Rattle.mg_kv.specs.WorkStepLaws.{work_rolls_back}
 use Rattle.mg_lines.specs.Given.{commits, rolls_back}
 use Rattle.mg_served.specs.Deeds.{Leaves, fate_of}

@@ -2,7 +2,7 @@
 use Rattle.std.proofs.Common.{◌≡◌, ◌≢◌, refl, sym, ap, ◌∙◌, subst, ℕ, Bool, true, false, List, [], ◌∷◌, Option, None, Some, cond}
 use Rattle.std.specs.Prelude.{◌==◌, if◌then◌else◌}
 use Rattle.std.proofs.Math.Path.{fun_ext}
-use Rattle.std.proofs.lemmas.Bool.{eqb-true, false≢true}
+use Rattle.std.proofs.lemmas.Bool.{eqb-true}
 use Rattle.mg_base.specs.declared.transaction.TxState.{TxState}
 use Rattle.mg_base.specs.declared.transaction.TxState.TheVariants.{Active, Limbo, Dead, Committed}
 use Rattle.mg_value.specs.declared.value.Value.{Value}
@@ -13,8 +13,7 @@ use Rattle.mg_model.specs.Legal.{is_limbo}
 use Rattle.mg_generations.specs.Generations.{EachGeneration, EachOlder, Generation, is_newest_by, newest_row, shown_by}
 use Rattle.mg_image.specs.Histories.{newest_at, row_change}
 use Rattle.mg_image.specs.Inventory.{settled}
-use Rattle.mg_kv.specs.LimboShownLaws.{change_given, in_limbo_only, limbo_change}
-use Rattle.mg_kv.specs.SettledVersionsLaws.{GivesCommitted, GivesRow, without_dead_newest}
+use Rattle.mg_kv.specs.Shown.{change_given, in_limbo_only, limbo_change, GivesCommitted, GivesRow, without_dead_newest}
 use Rattle.mg_kv.specs.Slots.{is_dead}
 use Rattle.mg_served.specs.Serving.{ActiveGives}
 
@@ -129,43 +128,6 @@ newest_of_some cs table key row some is = newest_is cs table key
 same_change : (row : Option Cells) → change_given row ≡ row_change row
 same_change None = refl
 same_change (Some row) = refl
-
--- whether there is a change at a key, and the row that it gives, by the newest one
-pub has_as_newest : (cs : List Change) (table : List ℕ) (key : Value) (found : Bool)
-    (row : Option Cells) → (if found then Some (change_given row) else None)
-    ≡ newest_at cs table key → has_change cs table key ≡ found
-has_as_newest cs table key found row is =
-    at (has_change cs table key) found (is ∙ newest_is cs table key)
-  where
-    at : (has found : Bool) → (if found then Some (change_given row) else None)
-        ≡ (if has then Some (row_change (row_at cs table key)) else None) → has ≡ found
-    at true true same = refl
-    at false false same = refl
-    at true false same = absurd cc
-    at false true same = absurd cc
-
-pub row_as_newest : (cs : List Change) (table : List ℕ) (key : Value) (found : Bool)
-    (row : Option Cells) → (if found then Some (change_given row) else None)
-    ≡ newest_at cs table key → found ≡ true → row_at cs table key ≡ row
-row_as_newest cs table key found row is here =
-    at found (has_change cs table key) here (is ∙ newest_is cs table key)
-  where
-    one : (a b : Option Cells) → Some (change_given b) ≡ Some (row_change a) → a ≡ b
-    one None None same = refl
-    one (Some a) (Some b) same = cc
-    one None (Some b) same = absurd cc
-    one (Some a) None same = absurd cc
-
-    at : (found has : Bool) → found ≡ true → (if found then Some (change_given row) else None)
-        ≡ (if has then Some (row_change (row_at cs table key)) else None)
-        → row_at cs table key ≡ row
-    at true true here same = one (row_at cs table key) row same
-    at true false here same = absurd cc
-    at false has here same = absurd (false≢true here)
-
-pub has_none : (cs : List Change) (table : List ℕ) (key : Value)
-    → newest_at cs table key ≡ None → has_change cs table key ≡ false
-has_none cs table key is = has_as_newest cs table key false None (sym is)
 
 -- committed versions are no changes of a transaction in limbo
 none_committed : (before after : ℕ → TxState) (t : ℕ) → before t ≡ Limbo → (gs : List Generation)

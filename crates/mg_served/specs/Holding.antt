@@ -17,7 +17,7 @@ use Rattle.mg_image.specs.Records.{Reading}
 use Rattle.mg_first.specs.FirstImage.{kv_committed, kv_facts}
 use Rattle.mg_first.specs.NewDatabase.{IsHeaderPage}
 use Rattle.mg_first.specs.declared.pages.TheConstants.{HEADER, KV_ROWS, PAGE, TRANSACTIONS}
-use Rattle.mg_kv.specs.RestLaws.{IsAtRest}
+use Rattle.mg_kv.specs.Work.{IsAtRest}
 
 -- Pages hold what outlasts a crash of a history: they are those of the image that was entered but
 -- for the three that change, nobody works on them, and opening them gives the history's database,

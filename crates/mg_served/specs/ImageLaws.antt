@@ -1,44 +1,19 @@
 -- The laws of images that begin histories, and of those that hold them, for the layers above.
-use Rattle.std.specs.Prelude.{◌≡◌, ◌≤◌, ℕ, ℤ, false, List, ◌∷◌}
-use Rattle.mg_value.specs.declared.value.Value.TheVariants.{Int}
+use Rattle.std.specs.Prelude.{◌≡◌, ◌≤◌, ℕ, false, ◌∷◌}
 use Rattle.mg_model.specs.declared.opening.Opening.{Opening}
 use Rattle.mg_model.specs.History.{Entries, Entry}
 use Rattle.mg_model.specs.Legal.{IsLegal, IsOpening, durable_count, is_durable}
-use Rattle.mg_model.specs.NewDatabase.{kv_name}
-use Rattle.mg_generations.specs.Generations.{AreFirst, Generation}
-use Rattle.mg_image.specs.Form.{Pages, plain_coding, plain_form}
-use Rattle.mg_image.specs.Histories.{Begins, HoldsDurable}
+use Rattle.mg_image.specs.Form.{Pages, plain_form}
+use Rattle.mg_image.specs.Histories.{HoldsDurable}
 use Rattle.mg_image.specs.Inventory.{next_of}
-use Rattle.mg_image.specs.ReadingLaws.{RowsAreOne}
-use Rattle.mg_image.specs.Records.{Reading}
 use Rattle.mg_first.specs.FirstForm.{HasFixedPages, IsFirstForm}
-use Rattle.mg_first.specs.FirstImage.{kv_facts}
 use Rattle.mg_first.specs.NewDatabase.{IsHeaderPage}
-use Rattle.mg_first.specs.Puts.{OnlyPage}
+use Rattle.mg_first.specs.PageChanges.{OnlyPage}
 use Rattle.mg_first.specs.declared.pages.TheConstants.{HEADER, LAST, PAGE}
-use Rattle.mg_kv.specs.OpenedLaws.{opened_by}
-use Rattle.mg_kv.specs.RestLaws.{IsAtRest}
 use Rattle.mg_kv.specs.Slots.{Slots}
-use Rattle.mg_kv.specs.Versions.{AreVersions}
 use Rattle.mg_served.specs.Holding.{HoldsHistory}
-use Rattle.mg_served.specs.NumberKeys.{BeginsWithKv}
 use Rattle.mg_served.specs.Serving.{IsServed, pages_of}
 use Rattle.mg_served.specs.declared.served.Served.{Served}
-
--- ---- images that begin histories
-
--- a history that begins with what an image gives begins with KV and the catalog of a new database
-abbrev pub ImagesBeginWithKv : Type 0
-ImagesBeginWithKv = (entered : Pages) (versions : ℤ → List Generation) (o : Opening)
-    → Begins (opened_by entered versions) o → RowsAreOne plain_coding → HasFixedPages entered
-    → BeginsWithKv entered o
-
--- with the versions of each key
-abbrev pub VersionsAreFirst : Type 0
-VersionsAreFirst = (entered : Pages) (versions : ℤ → List Generation) (o : Opening)
-    → Begins (opened_by entered versions) o → (r : Reading) → IsAtRest entered r
-    → ((key : ℤ) → AreVersions (kv_facts entered) r key (versions key)) → (key : ℤ)
-    → AreFirst o kv_name (Int key) (versions key)
 
 -- ---- images that hold histories
 

@@ -1,5 +1,4 @@
 pub mod AnswerLaws
-pub mod BeginningLaws
 pub mod BegunLaws
 pub mod Deeds
 pub mod EndedLaws

@@ -150,10 +150,6 @@ module _ (live : State) (o : Opening) (opening : IsOpening o) (h : Entries) (e :
   others_as_before u other =
       state_of_begun u ∙ ap (λ (b : Bool). cond b Active (state_of o h u)) (ne_eqb t u other)
 
-  pub begun_is_active : state_of o (e ∷ h) t ≡ Active
-  begun_is_active =
-      state_of_begun t ∙ ap (λ (b : Bool). cond b Active (state_of o h t)) (eq-eqb t t refl)
-
   pub number_after_begun : next_number o (e ∷ h) ≡ next_number o h + 1
   number_after_begun = ap (λ f. next_after f (next_number o h)) is
 

@@ -29,11 +29,10 @@ use Rattle.mg_first.specs.KvTable.{kv_shape}
 use Rattle.mg_first.specs.NewDatabase.{IsHeaderPage}
 use Rattle.mg_first.specs.declared.pages.TheConstants.{HEADER, KV_ROWS, LAST, PAGE, TRANSACTIONS}
 use Rattle.mg_kv.specs.Fate.{ended_in, fate_in, is_one_of}
-use Rattle.mg_kv.specs.LiveFactsLaws.{live_facts as facts_at_work}
-use Rattle.mg_kv.specs.RestLaws.{IsAtRest, ended_is, work_starts_by_bits}
+use Rattle.mg_kv.specs.Work.{live_facts as facts_at_work, IsAtWork, IsAtRest}
+use Rattle.mg_kv.specs.RestLaws.{ended_is, work_starts_by_bits}
 use Rattle.mg_kv.specs.Slots.{HasSlots, Slots}
 use Rattle.mg_kv.specs.Versions.{AreVersions, kept}
-use Rattle.mg_kv.specs.WorkLaws.{IsAtWork}
 use Rattle.mg_served.specs.Deeds.{fate_of}
 use Rattle.mg_served.specs.NumberKeys.{BeginsWithKv}
 use Rattle.mg_served.specs.Serving.{ActiveGives, IsServed, live_facts, pages_of}

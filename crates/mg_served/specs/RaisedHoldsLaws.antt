@@ -9,9 +9,10 @@ use Rattle.mg_model.specs.Legal.{is_limbo}
 use Rattle.mg_image.specs.Form.{Pages}
 use Rattle.mg_image.specs.Inventory.{next_of, state_at}
 use Rattle.mg_first.specs.NewDatabase.{IsHeaderPage}
-use Rattle.mg_first.specs.Puts.{OnlyPage}
+use Rattle.mg_first.specs.PageChanges.{OnlyPage}
 use Rattle.mg_first.specs.declared.pages.TheConstants.{HEADER, LAST, PAGE, TRANSACTIONS}
-use Rattle.mg_kv.specs.RaisedLaws.{RaisesHeader, raised_changes, raised_held, raised_rests, raised_states}
+use Rattle.mg_kv.specs.RaisedLaws.{raised_changes, raised_held, raised_rests, raised_states}
+use Rattle.mg_kv.specs.Work.{RaisesHeader}
 use Rattle.mg_served.specs.Holding.{HoldsHistory}
 
 -- no transaction has become anything else by it

@@ -31,11 +31,10 @@ use Rattle.mg_first.specs.KvTable.{kv_shape}
 use Rattle.mg_first.specs.NewDatabase.{IsHeaderPage}
 use Rattle.mg_first.specs.declared.pages.TheConstants.{HEADER, KV_ROWS, LAST, TRANSACTIONS}
 use Rattle.mg_kv.specs.Fate.{ended_in, is_one_of}
-use Rattle.mg_kv.specs.LiveFactsLaws.{live_facts as facts_at_work}
-use Rattle.mg_kv.specs.SettledVersionsLaws.{GivesRow}
+use Rattle.mg_kv.specs.Work.{live_facts as facts_at_work, IsAtWork}
+use Rattle.mg_kv.specs.Shown.{GivesRow}
 use Rattle.mg_kv.specs.Slots.{HasSlots, ROOM, Slots, size_of, written}
 use Rattle.mg_kv.specs.Versions.{AreVersions}
-use Rattle.mg_kv.specs.WorkLaws.{IsAtWork}
 use Rattle.mg_lines.specs.Given.{HasRoom, Writes}
 use Rattle.mg_served.specs.Deeds.{fate_of}
 use Rattle.mg_served.specs.NumberKeys.{BeginsWithKv, HasNumberKeys}

@@ -37,12 +37,12 @@ use Rattle.mg_first.specs.NewDatabase.{IsHeaderPage}
 use Rattle.mg_first.specs.PlaceLaws.{catalog_place}
 use Rattle.mg_first.specs.declared.pages.TheConstants.{CATALOG, HEADER, KV_ROWS, PAGE, TRANSACTIONS}
 use Rattle.mg_kv.specs.Fate.{is_one_of}
-use Rattle.mg_kv.specs.LimboShownLaws.{limbo_change, limbo_changes}
+use Rattle.mg_kv.specs.Shown.{limbo_change, limbo_changes, GivesCommitted, without_dead_newest, shown_rows, ReadsVersions, opened_by}
 use Rattle.mg_kv.specs.LiveFactsLaws.{stop_settles}
-use Rattle.mg_kv.specs.OpenedLaws.{ReadsVersions, opened_by, opened_changes, opened_held}
-use Rattle.mg_kv.specs.RestLaws.{IsAtRest, work_stops}
-use Rattle.mg_kv.specs.SettledVersionsLaws.{GivesCommitted, newest_gives, versions_settle, without_dead_newest}
-use Rattle.mg_kv.specs.ShownRowsLaws.{shown_rows}
+use Rattle.mg_kv.specs.OpenedLaws.{opened_changes, opened_held}
+use Rattle.mg_kv.specs.RestLaws.{work_stops}
+use Rattle.mg_kv.specs.Work.{IsAtRest}
+use Rattle.mg_kv.specs.SettledVersionsLaws.{newest_gives, versions_settle}
 use Rattle.mg_kv.specs.Slots.{Slots}
 use Rattle.mg_kv.specs.Versions.{AreVersions, kept}
 use Rattle.mg_served.specs.Deeds.{fate_of}

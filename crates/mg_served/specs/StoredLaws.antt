@@ -42,16 +42,16 @@ use Rattle.mg_first.specs.KvTable.{kv_row, kv_shape}
 use Rattle.mg_first.specs.NewDatabase.{IsHeaderPage}
 use Rattle.mg_first.specs.declared.pages.TheConstants.{KV_ROWS}
 use Rattle.mg_kv.specs.Fate.{ended_in, fate_in, is_one_of}
-use Rattle.mg_kv.specs.LiveFactsLaws.{facts_are_live, live_facts as facts_at_work}
+use Rattle.mg_kv.specs.LiveFactsLaws.{facts_are_live}
+use Rattle.mg_kv.specs.Work.{live_facts as facts_at_work, IsAtWork, WorksOn, WritesPage}
 use Rattle.mg_kv.specs.PageLaws.{rest_of_room}
-use Rattle.mg_kv.specs.PutOverLaws.{IsWriting}
-use Rattle.mg_kv.specs.SettledVersionsLaws.{GivesCommitted, GivesRow, newest_gives}
+use Rattle.mg_kv.specs.Writing.{IsWriting, written_versions, IsNoObstacle, newest_writer}
+use Rattle.mg_kv.specs.SettledVersionsLaws.{newest_gives}
+use Rattle.mg_kv.specs.Shown.{GivesCommitted, GivesRow}
 use Rattle.mg_kv.specs.Slots.{HasSlots, Lacks, ROOM, Slots, size_of, written}
 use Rattle.mg_kv.specs.Versions.{AreVersions, kept}
-use Rattle.mg_kv.specs.WorkLaws.{IsAtWork, WorksOn, WritesPage, work_goes_on}
-use Rattle.mg_kv.specs.WriteOverLaws.{IsNoObstacle}
-use Rattle.mg_kv.specs.WrittenLaws.{newest_writer}
-use Rattle.mg_kv.specs.WrittenRecordsLaws.{all_written, obstacle_is_newest, page_has_slots, written_versions}
+use Rattle.mg_kv.specs.WorkLaws.{work_goes_on}
+use Rattle.mg_kv.specs.WrittenRecordsLaws.{all_written, obstacle_is_newest, page_has_slots}
 use Rattle.mg_lines.specs.Given.{changes, done, full, inserts, refused, row_of}
 use Rattle.mg_served.specs.Deeds.{HasStored, Stores, fate_of}
 use Rattle.mg_served.specs.LiveForLaws.{is_turn, live_goes_on, number_stays, state_stays}

@@ -2,7 +2,7 @@
 //! crate can cite it.
 
 ghost use Rattle.mg_served.specs.ImageLaws.{HeldIsOfFirstForm, HeldOutlastsCrashes, HeldQuietly, HeldWhenRaised};
-ghost use Rattle.mg_served.specs.ImageLaws.{ImagesBeginWithKv, PagesServedHold, VersionsAreFirst};
+ghost use Rattle.mg_served.specs.ImageLaws.{PagesServedHold};
 ghost use Rattle.mg_served.specs.Laws.{ImagesOpen, QuietEntriesLeave, RefusedWritesLeave};
 
 /// Entries that leave the pages in memory as they are.
@@ -14,12 +14,6 @@ pub fn entries_leave_pages()
 /// The pages in memory of an image that is opened.
 pub fn images_open()
     ensures { ImagesOpen }
-{}
-
-/// What a history begins with that begins with what opening an image gives.
-pub fn images_begin_histories()
-    ensures kv { ImagesBeginWithKv }
-    ensures first { VersionsAreFirst }
 {}
 
 /// What images hold of histories: those with the pages in memory, and those that a crash leaves.

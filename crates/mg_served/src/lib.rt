@@ -10,14 +10,15 @@
 //! it began and has not ended. Whenever the program stops, the image is sound, and holds what
 //! outlasts a crash of the history (`HoldsHistory`): an active transaction is dead there.
 //! Below: `mg_kv`, for KV's data page; `mg_snap`, for the bases of transactions; `mg_generations`,
-//! for the versions that a history says. Above: the program, which writes the pages.
+//! for the versions that a history says. Above: `mg_session`, which obeys lines on the pages, and
+//! `mg_store`, which writes them.
 //! Not here: sessions, and when a page is written to the disk.
 #![tactic(auto)]
 
 mod laws;
 mod served;
 
-pub use laws::{entries_leave_pages, images_begin_histories, images_hold_histories, images_open};
+pub use laws::{entries_leave_pages, images_hold_histories, images_open};
 pub use served::Served;
 
 #[cfg(test)]

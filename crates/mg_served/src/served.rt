@@ -1,6 +1,6 @@
 //! The pages in memory, and what events make of them.
 
-ghost use Rattle.std.specs.Prelude.{◌≡◌, ◌≢◌, ◌≤◌, ◌<◌, ◌+◌, ◌^◌, ◌-◌, ℕ, true, false, IfOk, OnOk, FitsSigned, length};
+ghost use Rattle.std.specs.Prelude.{◌≡◌, ◌≢◌, ◌≤◌, ◌<◌, ◌+◌, ◌^◌, ◌-◌, ◌++◌, ◌∷◌, [], ℕ, List, true, false, IfOk, OnOk, FitsSigned, length};
 ghost use Rattle.std.specs.Int.{w64};
 ghost use Rattle.mg_base.specs.declared.transaction.TxState.TheVariants.{Active, Committed};
 ghost use Rattle.mg_value.specs.declared.value.Value.TheVariants.{Int};
@@ -21,8 +21,8 @@ ghost use Rattle.mg_served.specs.Numbers.{without_number};
 ghost use Rattle.mg_lines.specs.Given.{changes, commits, inserts, rolls_back};
 
 use mg_base::{Memory, TxNo, TxState};
-use mg_first::{AddFault, LAST, PAGE_LEN, PAGES, header_page};
-use mg_kv::{Fates, Given, KvVersion, generations, write};
+use mg_first::{LAST, PAGE_LEN, PAGES, header_page};
+use mg_kv::{Fates, Given, KvVersion, WriteFault, generations, write};
 use mg_model::Refusal;
 use mg_snap::Live;
 use mg_tip::set_state;
@@ -53,9 +53,17 @@ fn drop_number(active: &mut Vec<TxNo>, tx: TxNo)
     active.retain(|other| *other != tx);
 }
 
+// Drops the last transaction.
+fn drop_last(active: &mut Vec<TxNo>)
+    ensures { (before : List TxNo) (last : TxNo) → active.old.items ≡ before ++ last ∷ []
+        → active.new.items ≡ before }
+{
+    active.pop();
+}
+
 impl Served {
-    ghost use Rattle.std.specs.Prelude.{◌∷◌, IsSome, None, OnErr};
-    ghost use Rattle.mg_served.specs.Deeds.{Enters, Leaves, Starts, Stores, first_given, is_row, obstacle_in, sees_in};
+    ghost use Rattle.std.specs.Prelude.{IsSome, None, OnErr};
+    ghost use Rattle.mg_served.specs.Deeds.{Enters, IsAsBefore, Leaves, Starts, Stores, first_given, is_row, obstacle_in, sees_in};
     ghost use Rattle.mg_served.specs.RowGiven.{row_found};
     ghost use Rattle.mg_served.specs.Serving.{HasBegun, HasWritten, IsServed};
 
@@ -128,7 +136,7 @@ impl Served {
     ///
     /// # Errors
     ///
-    /// `Memory` only. Then nothing is promised of the transactions.
+    /// `Memory` only; then nothing has changed, and the number is drawn by the next one that begins.
     pub fn begin(&mut self) -> Result<Option<TxNo>, Memory>
         ensures begun { IfOk result (λ begun. (entered : Pages) (first : Slots) (o : Opening)
             (h : Entries) (session : ℕ) (mode : Mode) → mode.snapshot ≡ true
@@ -137,6 +145,7 @@ impl Served {
         ensures bits { self.new.bits ≡ self.old.bits }
         ensures rows { self.new.rows ≡ self.old.rows }
         ensures none { IfOk result (λ begun. begun ≡ None → self.new ≡ self.old) }
+        ensures failed { OnErr result (IsAsBefore self.old self.new) }
     {
         if self.next == LAST {
             return Ok(None);
@@ -153,12 +162,21 @@ impl Served {
         ensures entered { OnOk result (Enters self.old self.new tx.0) }
         ensures bits { self.new.bits ≡ self.old.bits }
         ensures rows { self.new.rows ≡ self.old.rows }
+        ensures failed { OnErr result (IsAsBefore self.old self.new) }
     {
         self.active.push(tx)?;
-        self.live.enter(tx)?;
-        self.next = TxNo(tx.0 + 1);
-        header_page(&mut self.header, self.next);
-        Ok(())
+        match self.live.enter(tx) {
+            Ok(()) => {
+                self.next = TxNo(tx.0 + 1);
+                header_page(&mut self.header, self.next);
+                Ok(())
+            }
+            Err(_) => {
+                // It has not entered, so it is none of the active ones either.
+                drop_last(&mut self.active);
+                Err(Memory)
+            }
+        }
     }
 
     /// Commits a transaction: its bits say so.
@@ -344,8 +362,8 @@ impl Served {
                 self.rows = rows;
                 Ok(None)
             }
-            Err(AddFault::NoRoom) => Ok(Some(Refusal::DatabaseFull { limit: PAGES })),
-            Err(AddFault::Memory) => Err(Memory),
+            Err(WriteFault::NoRoom) => Ok(Some(Refusal::DatabaseFull { limit: PAGES })),
+            Err(WriteFault::Memory) => Err(Memory),
         }
     }
 }

@@ -21,7 +21,8 @@ use Rattle.mg_lines.specs.Found.{rows_with}
 use Rattle.mg_lines.specs.Given.{LineGives, SHORTHAND, commits, finds, gets, gets_not, reading, said}
 use Rattle.mg_lines.specs.KeyTests.{key_test, key_test_is}
 use Rattle.mg_lines.specs.Steady.{IsSteady}
-use Rattle.mg_lines.specs.Transcript.{first_refusal, found_text, get_answer, line_ok, line_text, refusal_text}
+use Rattle.mg_lines.specs.Transcript.{first_refusal, found_text, get_answer, line_ok, line_text}
+use Rattle.mg_lines.specs.Refusals.{refusal_text}
 use Rattle.mg_lines.specs.TurnLaws.{line_goes_on}
 use Rattle.mg_lines.specs.declared.line.Line.TheVariants.{Get}
 use Rattle.mg_served.specs.QuietLaws.{served_quietly}

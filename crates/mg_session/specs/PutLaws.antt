@@ -23,7 +23,8 @@ use Rattle.mg_lines.specs.Given.{LineGives, SHORTHAND, Writes, commits, ended_af
 use Rattle.mg_lines.specs.LineLaws.{leaves_states}
 use Rattle.mg_lines.specs.SessionLaws.{is_begin}
 use Rattle.mg_lines.specs.Steady.{IsSteady}
-use Rattle.mg_lines.specs.Transcript.{put_answer, refusal_text}
+use Rattle.mg_lines.specs.Transcript.{put_answer}
+use Rattle.mg_lines.specs.Refusals.{refusal_text}
 use Rattle.mg_lines.specs.TurnLaws.{line_goes_on}
 use Rattle.mg_lines.specs.declared.line.Line.TheVariants.{Put}
 use Rattle.mg_served.specs.Serving.{HasBegun, HasWritten, IsServed, has_room}

@@ -4,7 +4,8 @@ use Rattle.std.specs.Int.{w64}
 use Rattle.arrayvec.specs.ArrayString.{ArrayString}
 use Rattle.mg_model.specs.declared.refusal.Refusal.{Refusal}
 use Rattle.mg_lines.specs.Lines.{StatementFits}
-use Rattle.mg_lines.specs.Transcript.{answer_line, bad_line_text, get_answer, put_answer, refusal_text}
+use Rattle.mg_lines.specs.Transcript.{answer_line, bad_line_text, get_answer, put_answer}
+use Rattle.mg_lines.specs.Refusals.{refusal_text}
 use Rattle.mg_lines.specs.declared.line.Line.{Line}
 use Rattle.mg_lines.specs.declared.line.Line.TheVariants.{Put, Get, Of, Silent, Bad}
 use Rattle.mg_lines.specs.declared.line.TheConstants.{SESSIONS}

@@ -18,7 +18,8 @@ use Rattle.mg_lines.specs.Given.{LineGives, begins, commit, commits, last_begun,
 use Rattle.mg_lines.specs.SessionLaws.{found_active, last_is_drawn}
 use Rattle.mg_lines.specs.Steady.{IsSteady}
 use Rattle.mg_lines.specs.SteadyLaws.{begin_answer, limit_answer}
-use Rattle.mg_lines.specs.Transcript.{answer_line, refusal_text}
+use Rattle.mg_lines.specs.Transcript.{answer_line}
+use Rattle.mg_lines.specs.Refusals.{refusal_text}
 use Rattle.mg_lines.specs.TurnLaws.{line_goes_on}
 use Rattle.mg_lines.specs.declared.line.Line.{Line}
 use Rattle.mg_lines.specs.declared.line.Line.TheVariants.{Of}

@@ -7,7 +7,7 @@
 //! Invariant between two lines (`StandFor`): the pages in memory stand for a steady history, and each
 //! session has the transaction that the history says.
 //! Below: `mg_served`, for the pages in memory; `mg_lines`, for what a line gives to a history and for
-//! its text. Above: the program, which reads the lines and writes the pages.
+//! its text. Above: `mgdb`, which reads the lines and lets `mg_store` write the pages.
 //! Not here: the disk, and where the text goes.
 #![tactic(auto)]
 

@@ -98,3 +98,36 @@ abbrev pub BaseSeesWhatHasEnded : Type 0
 BaseSeesWhatHasEnded =
     (state : State) (t by : ℕ) → AreDrawn state → MayEnter state t
     → sees (after_enter state t) t by ≡ has_ended (after_enter state t) by
+
+-- ---- runs of calls
+
+-- a transaction enters, or leaves
+pub data Call : Type 0 where
+  Enters : ℕ → Call
+  Leaves : ℕ → Call
+
+-- the transaction that does it
+abbrev pub caller : Call → ℕ
+caller (Enters t) = t
+caller (Leaves t) = t
+
+abbrev pub after_call : State → Call → State
+after_call state (Enters t) = after_enter state t
+after_call state (Leaves t) = after_leave state t
+
+-- after calls, of which the newest comes first
+abbrev pub after_calls : State → List Call → State
+after_calls state [] = state
+after_calls state (call ∷ calls) = after_call (after_calls state calls) call
+
+-- none of these calls is a transaction's
+abbrev pub AreOfOthers : ℕ → List Call → Type 0
+AreOfOthers t [] = Unit {0}
+AreOfOthers t (call ∷ calls) = (caller call ≢ t) × AreOfOthers t calls
+
+-- whatever others do since, a base sees those that had ended when it was taken: one that had
+-- entered and not left, as one in limbo, it never sees, whoever ends it later
+abbrev pub BaseSeesNoOthers : Type 0
+BaseSeesNoOthers = (state : State) (t by : ℕ) (since : List Call) → AreDrawn state → MayEnter state t
+    → AreOfOthers t since
+    → sees (after_calls (after_enter state t) since) t by ≡ has_ended (after_enter state t) by

@@ -2,7 +2,7 @@
 use Rattle.std.proofs.Common.{◌≡◌, ◌≢◌, ℕ, ◌+◌, ◌<◌, ◌≤◌, max, Bool, true, false, not, ◌&&◌, ◌||◌, ◌==◌, nat_lt, cond, if◌then◌else◌, inl, inr, List, [], ◌∷◌, ◌++◌, Option, refl, sym, ap, subst, ◌∙◌, arith, eq-eqb, lt-ltb, le-ltb}
 use Rattle.std.proofs.lemmas.Bool.{cases_eq, ne_eqb, eqb-true, ltb-true, ltb-false, or_parts, false_from_ne_true, both_ways}
 use Rattle.std.proofs.lemmas.List.{map-append}
-use Rattle.mg_snap.specs.Live.{Snapshot, Entered, State, is_among, numbers_of, without, unended_in, has_ended, base_among, base_sees, sees, MayEnter, after_enter, after_leave, AreDrawn, OthersChangeNothing, EndsByLeaving, BaseSeesWhatHasEnded}
+use Rattle.mg_snap.specs.Live.{Snapshot, Entered, State, is_among, numbers_of, without, unended_in, has_ended, base_among, base_sees, sees, MayEnter, after_enter, after_leave, AreDrawn, Call, Enters, Leaves, after_call, after_calls, AreOfOthers, BaseSeesNoOthers, caller, OthersChangeNothing, EndsByLeaving, BaseSeesWhatHasEnded}
 
 or_nothing : (b : Bool) → (b || false) ≡ b
 or_nothing true = refl
@@ -162,6 +162,23 @@ new_by_may_enter state t drawn (inr before) = before.1
 pub base_sees_what_has_ended : BaseSeesWhatHasEnded
 base_sees_what_has_ended state t by drawn may =
     sees_at_entering state t by (new_by_may_enter state t drawn may)
+
+call_changes_nothing : (state : State) (call : Call) (t by : ℕ) → caller call ≢ t
+    → sees (after_call state call) t by ≡ sees state t by
+call_changes_nothing state (Enters u) t by other = others_change_nothing.enter state u t by other
+call_changes_nothing state (Leaves u) t by other = others_change_nothing.leave state u t by other
+
+calls_change_nothing : (state : State) (t by : ℕ) (since : List Call) → AreOfOthers t since
+    → sees (after_calls state since) t by ≡ sees state t by
+calls_change_nothing state t by [] others = refl
+calls_change_nothing state t by (call ∷ since) others =
+    call_changes_nothing (after_calls state since) call t by others.0
+    ∙ calls_change_nothing state t by since others.1
+
+pub base_sees_no_others : BaseSeesNoOthers
+base_sees_no_others state t by since drawn may others =
+    calls_change_nothing (after_enter state t) t by since others
+    ∙ base_sees_what_has_ended state t by drawn may
 
 -- after a call of enter the base sees what has ended
 pub base_after_enter : (state view new : State) (t : ℕ) → view ≡ state → AreDrawn view

@@ -1,6 +1,7 @@
 //! What holds over any run of calls: the laws stand in `specs/LiveLaws.antt`.
 
-ghost use Rattle.mg_snap.specs.Live.{OthersChangeNothing, EndsByLeaving, BaseSeesWhatHasEnded};
+ghost use Rattle.mg_snap.specs.Live.{OthersChangeNothing, EndsByLeaving};
+ghost use Rattle.mg_snap.specs.Live.{BaseSeesWhatHasEnded, BaseSeesNoOthers};
 
 /// A base stays as it was taken: other transactions that enter and leave change nothing of what it
 /// sees.
@@ -9,8 +10,9 @@ pub fn others_change_nothing()
 {}
 
 /// A base sees exactly what had ended when it was taken: each transaction that left before, and
-/// none that entered or left after.
+/// none that entered or left after. So it never sees one that was in limbo, whoever ends that later.
 pub fn a_base_sees_what_had_ended()
     ensures base { BaseSeesWhatHasEnded }
+    ensures since { BaseSeesNoOthers }
     ensures ends { EndsByLeaving }
 {}

@@ -4,6 +4,9 @@
 //! Owns: `Live`, on plain numbers. It knows nothing of states on pages: a number that was drawn and
 //! was not entered, or was entered and has left, has ended.
 //!
+//! A transaction in limbo has not ended: it enters where the database is opened, and leaves once it is
+//! decided.
+//!
 //! Invariant: each transaction that has not ended was drawn.
 //! Below: `mg_base`. Above: version chains, the sweep and the engine.
 //! Not here: whether a transaction that ended was committed, new bases for READ COMMITTED,

@@ -1,7 +1,7 @@
 //! The transactions that have not ended.
 
 ghost use Rattle.std.specs.Prelude.{◌≡◌, ℕ, ◌-◌, ◌^◌, ◌<◌, ◌++◌, ◌∷◌, [], IfOk, OnOk, OnErr};
-ghost use Rattle.mg_snap.specs.Live.{State, numbers_of, without, MayEnter, AreDrawn, has_ended, after_enter, after_leave, sees as sees_of};
+ghost use Rattle.mg_snap.specs.Live.{State, numbers_of, without, MayEnter, AreDrawn, has_ended, after_enter, after_leave, is_among, sees as sees_of, unended_in};
 
 use crate::base::{Base, Entry};
 use mg_base::{Memory, TxNo};
@@ -76,6 +76,18 @@ impl Live {
         self.entries.push(entry)?;
         self.next = next;
         Ok(())
+    }
+
+    /// Tells whether the transaction has entered and has not left.
+    pub fn is_unended(&self, t: TxNo) -> bool
+        ensures { result ≡ is_among (unended_in self.now) t.0 }
+    {
+        for entry in &self.entries {
+            if entry.is_of(t) {
+                return true;
+            }
+        }
+        false
     }
 
     /// The transaction has ended. It takes no memory.

@@ -31,3 +31,17 @@ fn a_base_sees_what_had_ended_when_it_was_taken(rt: HostRuntime) -> Result<(), F
     sees_just(&rt, &live, 5, &[]);
     Ok(())
 }
+
+#[test]
+fn one_that_is_decided_later_is_not_seen(rt: HostRuntime) -> Result<(), Fail> {
+    let mut live = Live::new(rt.alloc(), TxNo(4));
+    live.enter(TxNo(3))?;
+    live.enter(TxNo(4))?;
+    assert!(rt; live.is_unended(TxNo(3)), "3 is in limbo");
+    live.leave(TxNo(3));
+    assert!(rt; !live.is_unended(TxNo(3)), "3 was decided");
+    sees_just(&rt, &live, 4, &[1, 2]);
+    live.enter(TxNo(5))?;
+    sees_just(&rt, &live, 5, &[1, 2, 3]);
+    Ok(())
+}

@@ -56,9 +56,6 @@ keeps_then m old mid new before after entered first o h count more result given 
       writes = let asked = keeps.writes in let then_ = next.writes in omega arith;
     }
 
-some_same : {A : Type 0} (a b : A) → a ≡ b → Some a ≡ Some b
-some_same a b is = ap Some is
-
 -- ---- one call
 
 module _ {D : Type 0} (m : Meaning D) (old : D) (store : Store) (entered : Pages) (first : Slots)

@@ -75,20 +75,6 @@ pub asked_cut : (h : Entries) (k : ℕ) → k ≤ durable_count h
 asked_cut [] k most = refl
 asked_cut (e ∷ h) k most = with_asked_cut e.event e.answer h k most
 
--- of entries more, of which the last is perhaps a commit under way
-pub durable_grows_asked : (h : Entries) (es : List Entry)
-    → durable_count h ≤ durable_count (asked (onto h es))
-durable_grows_asked h es =
-    let longer = durable_grows h es in
-    let more = asked_counts (onto h es) in
-    omega arith
-
-pub asked_longer_cut : (h : Entries) (es : List Entry) (k : ℕ) → k ≤ durable_count h
-    → after_durable (asked (onto h es)) k ≡ after_durable h k
-asked_longer_cut h es k most =
-    let longer = durable_grows h es in
-    asked_cut (onto h es) k (omega arith) ∙ longer_cut h es k most
-
 -- ---- images hold it still
 
 -- an image holds what histories have that agree on what outlasts a crash
@@ -115,13 +101,6 @@ pub holds_asked : (size : ℕ) (o : Opening) (h : Entries) (k : ℕ) (image : Im
     → k ≤ durable_count h → HoldsAt size o h k image → HoldsAt size o (asked h) k image
 holds_asked size o h k image most holds =
     holds_as plain_form size (page_at size image) o h (asked h) k k (asked_cut h k most) holds
-
-pub holds_asked_longer : (size : ℕ) (o : Opening) (h : Entries) (es : List Entry) (k : ℕ)
-    (image : Image) → k ≤ durable_count h → HoldsAt size o h k image
-    → HoldsAt size o (asked (onto h es)) k image
-holds_asked_longer size o h es k image most holds =
-    holds_as plain_form size (page_at size image) o h (asked (onto h es)) k k
-    (asked_longer_cut h es k most) holds
 
 pub some_longer : (size : ℕ) (o : Opening) (h : Entries) (es : List Entry) (image : Image)
     → HoldsSome size o h image → HoldsSome size o (onto h es) image

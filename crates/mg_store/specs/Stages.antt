@@ -2,7 +2,7 @@
 use Rattle.std.proofs.Common.{◌≡◌, ◌≤◌, ◌+◌, ◌∙◌, ◌⊎◌, inl, inr, ℕ, true, sym, List, Ok, Err, Result, Some, length, arith}
 use Rattle.mg_base.specs.Disk.{Calm, MayLeave, Meaning, Writes}
 use Rattle.mg_base.specs.Image.{Image, written}
-use Rattle.mg_base.specs.Moments.{LeavesOnly, goes_on, leaves_as, started}
+use Rattle.mg_base.specs.Moments.{LeavesOnly, goes_on, started}
 
 -- Since a start, every image that a crash might have left has a property, and at most so many page
 -- writes were asked.
@@ -20,16 +20,6 @@ stage_first m disk P told leaves = record {
   leaves = leaves;
   crash = started m disk P leaves;
   asked = omega arith;
-}
-
--- the property in other words
-pub stage_as : {D : Type 0} (m : Meaning D) (start now : D) (P Q : Image → Type 0) (k : ℕ)
-    → ((c : Image) → P c → Q c) → Stage m start now P k → Stage m start now Q k
-stage_as m start now P Q k turn stage = record {
-  told = stage.told;
-  leaves = λ c left. turn c (stage.leaves c left);
-  crash = leaves_as m start now P Q turn stage.crash;
-  asked = stage.asked;
 }
 
 -- a page write more, done or not

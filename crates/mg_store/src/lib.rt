@@ -7,7 +7,7 @@
 //! outlasts a crash of the history for which the pages in memory stand. So does every image that a
 //! crash may leave.
 //! Below: `mg_served`, the pages in memory; `mg_first`, the pages of a new database; `mg_base`, the
-//! disk. Above: the program, which opens images and obeys lines.
+//! disk. Above: `mgdb`, which opens images and obeys lines.
 //! Not here: how an image is read, sessions, and lines.
 #![tactic(auto)]
 

@@ -233,7 +233,19 @@ fn a_broken_tree_is_refused_by_its_rule(rt: HostRuntime) -> Result<(), Fail> {
     let alloc = rt.alloc();
     let leaf = leaf_alone();
     let two = two_leaves();
-    let cases: [(&'static str, Rule, u32, &[Made]); 14] = [
+    let cases: [(&'static str, Rule, u32, &[Made]); 16] = [
+        ("page 0 is the header", Rule::Once, 0, &leaf),
+        (
+            "a low fence is the page's high one",
+            Rule::Once,
+            4,
+            &[
+                index_page(1, 0, 56, 0, 0, &[(0, 5), (b'm', 6)]),
+                index_page(0, 7, 64, 0, b'm', &[(b'b', 0), (b'd', 0)]),
+                index_page(0, 0, 64, b'm', 0, &[(b'm', 0), (b't', 0)]),
+                index_page(0, 6, 52, b'm', b'm', &[]),
+            ],
+        ),
         ("the page is not marked as used", Rule::Pages, 10, &leaf),
         ("the page is none of an index", Rule::Pages, 2, &leaf),
         (

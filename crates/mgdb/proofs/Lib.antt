@@ -1,6 +1,7 @@
 pub mod BlankLemmas
 pub mod ClosingLemmas
 pub mod EntryLemmas
+pub mod EntryDisks
 pub mod KnownLemmas
 pub mod LineLaws
 pub mod LoadLemmas

@@ -1,17 +1,14 @@
 -- Laws of one line: what it does where its answer is said, where the sink fails, and where a fault
 -- ends it.
-use Rattle.std.specs.Prelude.{◌≡◌, ◌<◌, ℕ, Bool, List, Result, Ok, Err, IsErrAnd, refl}
+use Rattle.std.specs.Prelude.{◌≡◌, ℕ, Bool, List, Result, Ok, Err, IsErrAnd, refl}
 use Rattle.std.proofs.Common.{sym, inl, inr, subst}
 use Rattle.mg_base.specs.Disk.{Meaning}
 use Rattle.mg_base.specs.Streams.{SinkMeaning}
 use Rattle.mg_image.specs.Form.{Pages}
 use Rattle.mg_kv.specs.Slots.{Slots}
-use Rattle.mg_lines.specs.Lines.{IsLine, StatementFits}
+use Rattle.mg_lines.specs.Lines.{IsLine}
 use Rattle.mg_lines.specs.declared.line.Line.{Line}
 use Rattle.mg_lines.specs.declared.line.Line.TheVariants.{Put, Get, Of, Silent, Bad}
-use Rattle.mg_lines.specs.declared.line.Session.{Session}
-use Rattle.mg_lines.specs.declared.line.Statement.{Statement}
-use Rattle.mg_lines.specs.declared.line.TheConstants.{SESSIONS}
 use Rattle.mg_model.specs.declared.opening.Opening.{Opening}
 use Rattle.mg_model.specs.History.{Entries}
 use Rattle.mg_session.specs.Saying.{IsFit, failure_text, text_of}
@@ -31,12 +28,6 @@ fits text (Get key) is = is.key_fits
 fits text (Of session statement) is = (is.lettered, is.fits)
 fits text Silent is = tt
 fits text Bad is = tt
-
-pub session_fits : (line : Line) (session : Session) (statement : Statement)
-    → line ≡ Of session statement → IsFit line → session.0 < SESSIONS
-session_fits line session statement is fit =
-    let both : (session.0 < SESSIONS) × StatementFits statement =
-    subst (λ (some : Line). IsFit some) is fit in both.0
 
 module _ {D K : Type 0} (m : Meaning D) (n : SinkMeaning K) (old new : D) (work : Work)
     (before after : K) (entered : Pages) (first : Slots) (o : Opening) (h : Entries) (number : ℕ)

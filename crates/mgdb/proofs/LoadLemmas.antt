@@ -2,7 +2,7 @@
 use Rattle.std.proofs.Common.{◌≡◌, ◌<◌, ◌+◌, ◌++◌, ℕ, zero, suc, List, [], ◌∷◌, Option, None, Some, length, get_or, take, sym, ap, subst, refl, ◌∙◌, arith, length-append}
 use Rattle.std.specs.Prelude.{IfSome, IsSome, Result}
 use Rattle.std.proofs.lemmas.List.{take_all, take_more}
-use Rattle.mg_base.specs.Disk.{Meaning, Stays}
+use Rattle.mg_base.specs.Disk.{Meaning}
 use Rattle.mg_base.specs.Image.{Image, blank, page_at}
 use Rattle.mg_first.specs.declared.pages.TheConstants.{PAGE, PAGES}
 use Rattle.mg_reading.specs.Kept.{AreWhole}
@@ -10,7 +10,7 @@ use Rattle.mgdb.specs.Opening.{AreLong, HasRead, HasSeven, ReadsPage}
 use Rattle.mgdb.specs.Stops.{DiskSteps}
 use Rattle.mgdb.specs.Working.{Reads}
 use Rattle.mgdb.specs.declared.status.Stop.{Stop}
-use Rattle.mgdb.proofs.ReadsLemmas.{CountsNow, reads_none, reads_on, stays_on}
+use Rattle.mgdb.proofs.ReadsLemmas.{CountsNow, reads_on, stays_on}
 
 -- content and number of pages agree
 abbrev pub Counts : {D : Type 0} → Meaning D → Type 0
@@ -24,10 +24,6 @@ none_some (Some x) is some = absurd cc
 pub some_has : {A : Type 0} (o : Option A) (x : A) (P : A → Type 0) → o ≡ Some x → IfSome o P
     → P x
 some_has {A} o x P is has = subst (λ (other : Option A). IfSome other P) is has
-
-itself_stays : (size : Option ℕ) → Stays size size
-itself_stays None = tt
-itself_stays (Some n) = refl
 
 long_more : (pages : List (List ℕ)) (page : List ℕ) → AreLong pages → length page ≡ PAGE
     → AreLong (pages ++ page ∷ [])
@@ -43,19 +39,6 @@ each_long (page ∷ pages) are (suc i) below past =
 
 pub pages_whole : (pages : List (List ℕ)) → AreLong pages → AreWhole PAGE pages
 pages_whole pages are = (refl, λ i below past. each_long pages are i below past)
-
--- no page was read yet
-pub has_read_none : {D : Type 0} (m : Meaning D) (disk : D) → HasSeven m disk
-    → HasRead m disk disk [] 0
-has_read_none m disk seven = record {
-  seven = seven;
-  reads = reads_none m disk;
-  stays = itself_stays (m.size disk);
-  never_falls = omega arith;
-  are_long = tt;
-  count = refl;
-  same = λ image held. refl;
-}
 
 -- one page more
 pub has_read_more : {D T : Type 0} (m : Meaning D) → CountsNow m → Counts m → (old mid new : D)

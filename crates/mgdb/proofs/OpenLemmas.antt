@@ -3,7 +3,7 @@ use Rattle.std.proofs.Common.{◌≡◌, ◌≢◌, ◌≤◌, ◌+◌, ◌*◌,
 use Rattle.std.specs.Prelude.{◌↔◌, Bool, Result, Ok, Err, IfOk, IsErr, IsTrue, OnOk, replicate}
 use Rattle.std.proofs.lemmas.Bool.{cases_eq, ne_eqb}
 use Rattle.std.proofs.lemmas.List.{get_or_past}
-use Rattle.mg_base.specs.Disk.{MayLeave, Meaning, Stays}
+use Rattle.mg_base.specs.Disk.{Meaning}
 use Rattle.mg_base.specs.Image.{Image, blank, page_at}
 use Rattle.mg_base.specs.Moments.{goes_on, joined, leaves_as, started}
 use Rattle.mg_model.specs.declared.opening.Opening.{Opening}
@@ -25,7 +25,7 @@ use Rattle.mg_first.specs.FixedPagesLaws.{new_is_first}
 use Rattle.mg_first.specs.KvTable.{kv_layout, no_rows}
 use Rattle.mg_first.specs.NewDatabase.{IsNewPages}
 use Rattle.mg_first.specs.declared.pages.TheConstants.{HEADER, KV_ROWS, LAST, PAGE, PAGES, TRANSACTIONS}
-use Rattle.mg_kv.specs.RestLaws.{IsAtRest}
+use Rattle.mg_kv.specs.Work.{IsAtRest}
 use Rattle.mg_kv.specs.SlotLaws.{past_is_none}
 use Rattle.mg_kv.specs.Slots.{HasSlots, Slots, cell_in_slot}
 use Rattle.mg_served.specs.Deeds.{Starts}
@@ -50,7 +50,7 @@ use Rattle.mgdb.specs.Opening.{StartsOn}
 use Rattle.mgdb.specs.Working.{OpenDone, Reads}
 use Rattle.mgdb.specs.declared.status.Stop.{Stop}
 use Rattle.mgdb.specs.declared.status.Stop.TheVariants.{UnknownImage}
-use Rattle.mgdb.proofs.OpeningLemmas.{opening_holds_some}
+use Rattle.mgdb.proofs.EntryDisks.{entry_again, entry_leaves}
 use Rattle.mgdb.proofs.BlankLemmas.{form_is_not_blank, sound_is_not_blank}
 
 -- ---- the image at entry
@@ -61,15 +61,6 @@ pub blank_opening : (size : ℕ) (image : Image) (o : Opening) → IsOpeningOf s
 blank_opening size image o (of_blank same) blank_ = refl
 blank_opening size image o (of_sound opened start is opening begins limit) blank_ =
     absurd (sound_is_not_blank size (page_at size image) opened is blank_.header)
-
-module _ {D : Type 0} (m : Meaning D) (disk : D) (size : ℕ) (image : Image) (first : Slots)
-    (o : Opening) (entry : IsEntry m disk size image first o) where
-  pub entry_leaves : (c : Image) → MayLeave m disk c → HoldsSome size o [] c
-  entry_leaves c left = subst (HoldsSome size o []) (sym (entry.settled c left))
-      (opening_holds_some size image o entry.opening)
-
-  pub entry_again : (c : Image) → MayLeave m disk c → IsKnownAgain size image c
-  entry_again c left = subst (IsKnownAgain size image) (sym (entry.settled c left)) (λ known. known)
 
 -- ---- a disk that was only read
 
@@ -366,28 +357,10 @@ known_form size image (fresh_image fresh) not_ =
     absurd (not_ (record { page_size = refl; few = fresh.few; blank_image = fresh.blank_image }))
 known_form size image (first_image is) not_ = is
 
-pub fresh_known : (size : Option ℕ) (image : Image) → size ≡ Some PAGE
-    → IsFresh (Some PAGE) image → IsKnown size image
-fresh_known size image sized fresh = fresh_image (record {
-  page_size = sized;
-  few = fresh.few;
-  blank_image = fresh.blank_image;
-})
-
 pub form_known : (size : Option ℕ) (image : Image) → size ≡ Some PAGE → length image ≡ PAGES
     → IsFirstForm (page_at PAGE image) → IsKnown size image
 form_known size image sized seven form =
     first_image (record { page_size = sized; count = seven; form = form })
-
--- the size of an entry is what was read
-pub entry_sized : (before now : Option ℕ) (size n : ℕ) → before ≡ Some size
-    → Stays before now → now ≡ Some n → size ≡ n
-entry_sized None now size n was stays is = absurd cc
-entry_sized (Some k) now size n was stays is =
-    let a : k ≡ size = cc in
-    let b : Some k ≡ Some n = sym stays ∙ is in
-    let c : k ≡ n = cc in
-    sym a ∙ c
 
 -- pages of another size are not known, nor too many of them
 pub other_size : (size : Option ℕ) (n : ℕ) (image : Image) → size ≡ Some n → n ≢ PAGE
@@ -420,18 +393,6 @@ zero_read image into is few read long zeros = (
   where
     with_length : length into ≡ PAGE → replicate {A = ℕ} (length into) 0 ≡ blank PAGE
     with_length is = ap (λ (n : ℕ). replicate {A = ℕ} n 0) is
-
--- a disk without pages is fresh
-pub none_fresh : (image : Image) → length image ≡ 0 → IsFresh (Some PAGE) image
-none_fresh image none = record {
-  page_size = refl;
-  few = omega (arith, none);
-  blank_image = record {
-    header = get_or_past image 0 (blank PAGE) (omega (arith, none));
-    inventory = λ region one below.
-        get_or_past image (region * 32640 + 1) (blank PAGE) (omega (arith, none));
-  };
-}
 
 -- ---- what a call says at Ok, put in other words
 

@@ -21,12 +21,6 @@ whole_nothing n sink = record {
   steady = refl;
 }
 
-pub whole_by_puts : {K T E : Type 0} (n : SinkMeaning K) (old new : K) (piece : List ℕ)
-    (result : Result T E) → Puts n old new piece result
-    → OnOk result (IsPrintedWhole n old new piece)
-whole_by_puts n old new piece (Ok x) puts = record { all = puts.written; steady = puts.steady }
-whole_by_puts n old new piece (Err e) puts = tt
-
 pub whole_more : {K : Type 0} (n : SinkMeaning K) (a b c : K) (xs ys : List ℕ)
     → IsPrintedWhole n a b xs → IsPrintedWhole n b c ys → IsPrintedWhole n a c (xs ++ ys)
 whole_more n a b c xs ys first next = record {
@@ -150,17 +144,6 @@ printed_then_nothing n a b c xs first grows next = record {
     )
 
 -- ---- the line of a fault
-
--- of a fault within a line the transcript tells, and of a sink that failed nothing does
-pub no_fault_line : (stop : Stop) → IsObeyingStop stop → fault_line (Some stop) ≡ []
-no_fault_line (DiskRead place) is = absurd is
-no_fault_line (DiskWrite places.Run) is = absurd is
-no_fault_line (DiskWrite places.Line) is = refl
-no_fault_line UnknownImage is = absurd is
-no_fault_line Stream is = refl
-no_fault_line (Memory places.Run) is = absurd is
-no_fault_line (Memory places.Line) is = refl
-no_fault_line ScriptTooLong is = absurd is
 
 -- what the lines print, with the line of the fault that stopped the run: of a fault outside the
 -- lines it comes behind all that they print

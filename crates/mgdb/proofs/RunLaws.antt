@@ -1,9 +1,9 @@
 -- Laws of a whole run: a disk is opened, the lines are obeyed, the work is closed; and what the
 -- program promises of it, wherever it stops.
-use Rattle.std.specs.Prelude.{◌≡◌, ◌≤◌, [], ℕ, Bool, false, List, None, Option, Some, Result, Ok, Err, IsErrAnd, refl}
+use Rattle.std.specs.Prelude.{◌≡◌, ◌≤◌, [], ℕ, Bool, false, List, None, Some, Result, Ok, Err, IsErrAnd, refl}
 use Rattle.std.proofs.Common.{sym, ◌∙◌, ap, arith, append-nil, subst}
 use Rattle.std.specs.Str.Lines.{lines}
-use Rattle.mg_base.specs.Disk.{MayLeave, Meaning, Stays}
+use Rattle.mg_base.specs.Disk.{MayLeave, Meaning}
 use Rattle.mg_base.specs.Image.{Image}
 use Rattle.mg_base.specs.Moments.{LeavesOnly, joined, leaves_as, started}
 use Rattle.mg_base.specs.Streams.{SinkMeaning}
@@ -19,7 +19,7 @@ use Rattle.mg_store.specs.Crashes.{HoldsAll, HoldsSome, asked}
 use Rattle.mg_store.specs.Fresh.{IsKnown}
 use Rattle.mg_store.specs.Storing.{LeavesAll, LeavesSome}
 use Rattle.mg_store.specs.declared.store.Store.{Store}
-use Rattle.mgdb.proofs.OpeningLemmas.{opening_holds_some}
+use Rattle.mgdb.proofs.EntryDisks.{entry_again, entry_leaves}
 use Rattle.mgdb.proofs.PrintLaws.{printed_nothing, printed_stopped, whole_nothing}
 use Rattle.mgdb.specs.Headline.{Counted, IsEntry, IsKnownAgain, IsPrinted, ending, fault_line}
 use Rattle.mgdb.specs.Stops.{is_within, status_of}
@@ -28,37 +28,6 @@ use Rattle.mgdb.specs.declared.status.Place.TheVariants as places
 use Rattle.mgdb.specs.declared.status.Stop.{Stop}
 use Rattle.mgdb.specs.declared.status.Stop.TheVariants.{DiskWrite}
 use Rattle.mgdb.specs.declared.work.Work.{Work}
-
--- ---- the disk at entry
-
-pub entry_leaves : {D : Type 0} (m : Meaning D) (disk : D) (size : ℕ) (image : Image)
-    (first : Slots) (o : Opening) → IsEntry m disk size image first o
-    → (c : Image) → MayLeave m disk c → HoldsSome size o [] c
-entry_leaves m disk size image first o entry c left = subst (HoldsSome size o [])
-    (sym (entry.settled c left)) (opening_holds_some size image o entry.opening)
-
-pub entry_known : {D : Type 0} (m : Meaning D) (disk : D) (size : ℕ) (image : Image)
-    (first : Slots) (o : Opening) → IsEntry m disk size image first o
-    → (c : Image) → MayLeave m disk c → IsKnownAgain size image c
-entry_known m disk size image first o entry c left = λ known.
-    subst (λ (other : Image). IsKnown (Some size) other) (sym (entry.settled c left)) known
-
--- its pages keep their size
-pub entry_sized : {D : Type 0} (m : Meaning D) (old new : D) (size : ℕ) (image : Image)
-    (first : Slots) (o : Opening) → IsEntry m old size image first o
-    → Stays (m.size old) (m.size new) → m.size new ≡ Some size
-entry_sized m old new size image first o entry stays =
-    subst (λ (was : Option ℕ). Stays was (m.size new)) entry.sized stays
-
--- a disk that is opened has pages of 4096 bytes
-pub entry_page : {D : Type 0} (m : Meaning D) (old mid : D) (size : ℕ) (image : Image)
-    (first : Slots) (o : Opening) → IsEntry m old size image first o
-    → Stays (m.size old) (m.size mid) → m.size mid ≡ Some PAGE → PAGE ≡ size
-entry_page m old mid size image first o entry stays sized =
-    same_size PAGE size (sym sized ∙ entry_sized m old mid size image first o entry stays)
-  where
-    same_size : (a b : ℕ) → Some a ≡ Some b → a ≡ b
-    same_size a b is = cc
 
 -- ---- a script
 
@@ -286,7 +255,7 @@ module _ {D K : Type 0} (m : Meaning D) (n : SinkMeaning K) where
             all = omega arith;
           };
           again = started m disk (IsKnownAgain size image)
-              (entry_known m disk size image first o entry);
+              (entry_again m disk size image first o entry);
         };
         sized = entry.sized;
         begun = 0;

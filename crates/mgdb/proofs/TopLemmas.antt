@@ -36,6 +36,7 @@ shelf_of_run m stopped old new status causes = record {
   known = causes.known;
   unwritten = λ four. let unwritten = causes.unwritten four in
       record { held = unwritten.held; crash = unwritten.crash };
+  unasked = λ four plain. (causes.unwritten four).asked;
 }
 
 pub shelf_of_stopped : {D : Type 0} (m : Meaning D) (stopped : Type 0) (first result : D) (old new : Stopped D) (status : ℕ) → inner_of old ≡ first → result ≡ inner_of new → stopped
@@ -47,6 +48,7 @@ shelf_of_stopped m stopped first result old new status was is given causes =
       known = causes.known;
       unwritten = λ four. unwritten_of_stopped m (inner_of old) (inner_of new) old new refl refl
           (causes.unwritten four);
+      unasked = λ four plain. absurd (plain given);
     })
 
 -- ---- the headline, of a disk of a stopped run

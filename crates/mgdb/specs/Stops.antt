@@ -3,7 +3,7 @@ use Rattle.std.specs.Prelude.{◌≡◌, ◌≤◌, Result, OnOk, IsErrAnd, Bool
 use Rattle.mg_base.specs.Disk.{Meaning, Stays, Rose}
 use Rattle.mg_base.specs.Streams.{SourceMeaning, SinkMeaning}
 use Rattle.mg_model.specs.declared.refusal.Refusal.{Refusal}
-use Rattle.mg_model.specs.declared.refusal.Refusal.TheVariants.{DiskWrite as DiskWriteRefusal, Memory as MemoryRefusal}
+use Rattle.mg_model.specs.declared.refusal.Refusal.TheVariants.{DiskRead as DiskReadRefusal, DiskWrite as DiskWriteRefusal, Memory as MemoryRefusal}
 use Rattle.mgdb.specs.declared.status.Status.{Status}
 use Rattle.mgdb.specs.declared.status.Place.TheVariants as places
 use Rattle.mgdb.specs.declared.status.Stop.{Stop}
@@ -68,8 +68,12 @@ IsLineStop ScriptTooLong = ⊥
 
 -- the refusal of the event that such a fault ended
 abbrev pub refusal_for : Stop → Refusal
+refusal_for (DiskRead place) = DiskReadRefusal 1
 refusal_for (DiskWrite place) = DiskWriteRefusal 1
-refusal_for stop = MemoryRefusal
+refusal_for UnknownImage = MemoryRefusal
+refusal_for Stream = MemoryRefusal
+refusal_for (Memory place) = MemoryRefusal
+refusal_for ScriptTooLong = MemoryRefusal
 
 -- within a line the disk could not be written, or memory ran out; or the sink failed
 abbrev pub IsObeyingStop : Stop → Type 0

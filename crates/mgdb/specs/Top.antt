@@ -27,7 +27,8 @@ pub record HoldsAsBefore {D : Type 0} (m : Meaning D) (old new : D) : Type 0 whe
   pub crash : m.tells old ≡ true → (c : Image) → MayLeave m new c → MayLeave m old c
 
 -- 3 comes only where the disk's own count of faults rose or `--stop` was given, and 4 exactly where
--- the program doesn't open what it holds; then it holds what it held
+-- the program doesn't open what it holds; then it holds what it held, and without `--stop` it was
+-- asked for no page write
 pub record ShelfCauses {D : Type 0} (m : Meaning D) (stopped : Type 0) (old new : D) (status : ℕ) :
     Type 0 where
   pub failed : status ≡ 3 → Rose (m.faults old) (m.faults new) ⊎ stopped
@@ -36,6 +37,7 @@ pub record ShelfCauses {D : Type 0} (m : Meaning D) (stopped : Type 0) (old new 
   pub known : IsWhole status → (image : Image) → m.held old ≡ Some image
       → IsKnown (m.size new) image
   pub unwritten : status ≡ 4 → HoldsAsBefore m old new
+  pub unasked : status ≡ 4 → (stopped → ⊥) → m.asked new ≡ m.asked old
 
 -- `--stop` lets fewer page writes pass than this
 abbrev pub IsPast : Option ℕ → ℕ → Type 0

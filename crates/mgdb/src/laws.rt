@@ -1,7 +1,9 @@
-//! That the premise of the program's promise is met. Each function does nothing: its contract is the
-//! law.
+//! That the premise of the program's promise is met, and the program's limit. Each function does
+//! nothing: its contract is the law.
 
+ghost use Rattle.std.specs.Prelude.{◌≡◌};
 ghost use Rattle.mgdb.specs.Top.{BlankIsEntry, KnownIsEntry};
+ghost use Rattle.mgdb.specs.declared.script_source.TheConstants.{SCRIPT_MOST};
 
 use mg_image::one_reading;
 use mg_opening::{first_form_has_opening, first_form_is_served};
@@ -21,3 +23,8 @@ pub fn known_images_are_entries()
     first_form_is_served();
     first_form_has_opening();
 }
+
+/// A script has at most 2^20 bytes.
+pub fn scripts_are_limited()
+    ensures { SCRIPT_MOST ≡ 1048576 }
+{}

@@ -21,7 +21,7 @@ mod top;
 mod words;
 mod work;
 
-pub use laws::{blank_disks_are_entries, known_images_are_entries};
+pub use laws::{blank_disks_are_entries, known_images_are_entries, scripts_are_limited};
 use mg_base::{FileDisk, StdSink, StdSource};
 pub use run::run;
 pub use status::Status;

@@ -22,11 +22,8 @@ use crate::script_source::read_script;
 use crate::status::{Status, Stop};
 use crate::work::Work;
 use mg_base::{Disk, Sink, Source};
-use mg_lines::{
-    Line, LineText, bad_line, first_line, get_refusal_line, put_refusal_line, read_line,
-    refusal_line,
-};
-use mg_session::Said;
+use mg_lines::{Line, LineText, first_line, read_line};
+use mg_session::{Said, failure_line};
 use std::alloc::Global;
 
 /// Obeys the script that the source gives, on a disk that is fresh or of the first form, and
@@ -206,20 +203,6 @@ fn tell<K: Sink>(sink: &mut K, number: u32, line: Line, stop: Stop)
         (failure_text number line (refusal_for stop)) }
     ensures never_falls { K.meaning.faults sink.old ≤ K.meaning.faults sink.new }
 {
-    let text = failure_line(number, line, stop);
+    let text = failure_line(number, line, stop.refusal());
     let _ = put_line(sink, &text);
-}
-
-// What a line prints within which this fault came. A silent one and a bad one meet none.
-fn failure_line(number: u32, line: Line, stop: Stop) -> Option<LineText>
-    requires { IsFit line }
-    ensures { bytes_of result ≡ failure_text number line (refusal_for stop) }
-{
-    match line {
-        Line::Put { .. } => Some(put_refusal_line(stop.refusal())),
-        Line::Get { .. } => Some(get_refusal_line(stop.refusal())),
-        Line::Of(session, _) => Some(refusal_line(session, stop.refusal())),
-        Line::Silent => None,
-        Line::Bad => Some(bad_line(number)),
-    }
 }

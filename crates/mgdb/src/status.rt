@@ -90,8 +90,11 @@ impl Stop {
         ensures { result ≡ refusal_for self }
     {
         match self {
+            Stop::DiskRead(_) => Refusal::DiskRead { faults: 1 },
             Stop::DiskWrite(_) => Refusal::DiskWrite { faults: 1 },
-            _ => Refusal::Memory,
+            Stop::UnknownImage | Stop::Stream | Stop::Memory(_) | Stop::ScriptTooLong => {
+                Refusal::Memory
+            }
         }
     }
 }

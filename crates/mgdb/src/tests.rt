@@ -106,8 +106,17 @@ fn a_new_database_is_written_page_0_last(rt: HostRuntime) -> Result<(), Fail> {
     // The format's bytes of the new database's first pages.
     for (page, at, wanted) in [
         (0, 16, b'M'),
+        (0, 20, 1),
         (0, 25, 16),
         (0, 28, 1),
+        (0, 32, 1),
+        (0, 36, 1),
+        (0, 40, 1),
+        (0, 44, 2),
+        // The sweep interval, 20,000 = 0x4e20.
+        (0, 48, 0x20),
+        (0, 49, 0x4e),
+        (0, 52, 3),
         (1, 16, 0x7f),
         (2, 20, 0x03),
         (3, 24, 4),

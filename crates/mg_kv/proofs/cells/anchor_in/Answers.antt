@@ -1,6 +1,6 @@
 use Rattle.mg_version.specs.declared.cell.Cell.{Cell}
 use Rattle.mg_version.specs.declared.cell.Cell.TheVariants as cells
-use Rattle.mg_first.specs.Storing.{HasCell}
+use Rattle.mg_first.specs.KvCells.{HasCell}
 use Rattle.mg_kv.proofs.RowLemmas.{no_anchor}
 use Rattle.mg_kv.proofs.CellLemmas.{match_none, match_some}
 use Rattle.mg_kv.proofs.cells.anchor_in.Goals as goal

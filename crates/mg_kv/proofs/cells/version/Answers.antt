@@ -1,5 +1,5 @@
 use Rattle.std.proofs.Common.{◌≡◌, ◌∙◌, w64, to_z, of_z}
-use Rattle.mg_first.specs.Storing.{kv_bytes}
+use Rattle.mg_first.specs.KvCells.{kv_bytes}
 use Rattle.mg_kv.proofs.CellLemmas.{numbers_again, version_length, version_spelled}
 use Rattle.mg_kv.proofs.cells.version.Goals as goal
 

@@ -3,7 +3,7 @@ use Rattle.std.proofs.lemmas.Int.{to_z-of_z}
 use Rattle.mg_version.specs.declared.cell.Cell.TheVariants as cells
 use Rattle.mg_version.specs.declared.cell.Link.{Link}
 use Rattle.mg_version.specs.declared.cell.Version.{Version}
-use Rattle.mg_first.specs.Storing.{HasCell}
+use Rattle.mg_first.specs.KvCells.{HasCell}
 use Rattle.mg_kv.proofs.CellLemmas.{match_none, match_some}
 use Rattle.mg_kv.proofs.NewestLemmas.{keyed, keyless, no_newest, no_newest_there}
 use Rattle.mg_kv.proofs.newest.newest_at.Goals as goal

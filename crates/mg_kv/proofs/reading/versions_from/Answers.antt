@@ -1,7 +1,7 @@
 use Rattle.std.proofs.Common.{◌∙◌, ap, arith, ◌++◌, [], ◌∷◌}
 use Rattle.mg_version.specs.declared.cell.Cell.TheVariants as cells
 use Rattle.mg_version.specs.declared.cell.Version.{Version}
-use Rattle.mg_first.specs.Storing.{HasCell}
+use Rattle.mg_first.specs.KvCells.{HasCell}
 use Rattle.mg_kv.specs.declared.reading.KvVersion.{KvVersion}
 use Rattle.mg_kv.proofs.CellLemmas.{match_none, match_some}
 use Rattle.mg_kv.proofs.ReadingWays.{all_read, goes_on, leads_nowhere, none_left, starts}

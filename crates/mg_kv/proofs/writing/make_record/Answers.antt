@@ -1,4 +1,4 @@
-use Rattle.mg_first.specs.Puts.{kv_link}
+use Rattle.mg_first.specs.KvCells.{kv_link}
 use Rattle.mg_kv.specs.Slots.{Lacks, make}
 use Rattle.std.proofs.Common.{w64}
 use Rattle.std.proofs.lemmas.Int.{to_z-of_z}

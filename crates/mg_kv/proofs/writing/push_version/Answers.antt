@@ -1,8 +1,7 @@
 use Rattle.std.proofs.Common.{◌∙◌, ap, sym, ℕ, List, length, w64}
 use Rattle.std.proofs.lemmas.Int.{to_z-of_z}
 use Rattle.mg_version.specs.declared.cell.Cell.TheVariants as cells
-use Rattle.mg_first.specs.Puts.{kv_link}
-use Rattle.mg_first.specs.Storing.{HasCell}
+use Rattle.mg_first.specs.KvCells.{kv_link, HasCell}
 use Rattle.mg_slots.specs.Changes.{PutsCell}
 use Rattle.mg_slots.specs.Room.{least_free}
 use Rattle.mg_kv.specs.Slots.{Lacks, push}

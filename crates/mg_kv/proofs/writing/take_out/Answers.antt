@@ -1,7 +1,7 @@
 use Rattle.std.proofs.Common.{◌∙◌, ap, sym, ℕ, List, length}
 use Rattle.mg_slots.specs.Changes.{FreesCell, PutsCell}
 use Rattle.mg_version.specs.declared.cell.Cell.TheVariants as cells
-use Rattle.mg_first.specs.Storing.{HasCell}
+use Rattle.mg_first.specs.KvCells.{HasCell}
 use Rattle.mg_kv.proofs.WritingLemmas.{anchor_long, anchor_slice, is_used, may_replace, not_both, on_ok_at, other_stays_free, out_backed, out_whole, replace_fits}
 use Rattle.mg_kv.proofs.writing.take_out.Goals as goal
 

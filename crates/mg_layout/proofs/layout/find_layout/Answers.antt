@@ -10,7 +10,7 @@ pub returns-in_err-tables-clause-broken : goal.returns-in_err-tables-clause-brok
 returns-in_err-tables-clause-broken c = passed_on
     (NamesSome c.args.coding c.args.image.now (stand_in c.in_ok-catalog.catalog))
     (HasLayout c.args.coding c.args.image.now)
-    (catalog_names c.args.coding c.args.image.now (stand_in c.in_ok-catalog.catalog) c.requires
+    (catalog_names c.args.coding c.args.image.now (stand_in c.in_ok-catalog.catalog)
     (c.in_ok-catalog.ensures.table ∙ (c.in_ok-catalog_table.ensures
     ∙ ap catalog_table c.catalog_at.ensures)) c.in_ok-catalog.ensures.stand)
     c.from_residual-in_err-tables.result c.in_err-tables.field-0.0
@@ -22,7 +22,7 @@ returns-in_err-tables-2-clause-broken c = passed_on
     (HasLayout c.args.coding c.args.image.now)
     (tables_stand c.args.coding c.one_reading.ensures.plain c.one_reading.ensures.packed
     c.args.image.now
-    (stand_in c.in_ok-catalog.catalog) c.in_ok-tables.tables.items c.requires
+    (stand_in c.in_ok-catalog.catalog) c.in_ok-tables.tables.items
     (c.in_ok-catalog.ensures.table ∙ (c.in_ok-catalog_table.ensures
     ∙ ap catalog_table c.catalog_at.ensures)) c.in_ok-catalog.ensures.stand
     c.in_ok-tables.ensures.names)

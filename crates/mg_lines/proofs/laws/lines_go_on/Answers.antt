@@ -1,10 +1,6 @@
-use Rattle.mg_lines.specs.BeginningLaws.{new_is_closed}
 use Rattle.mg_lines.specs.ClosingLaws.{closing_closes}
 use Rattle.mg_lines.specs.TurnLaws.{line_ends_legally, line_goes_on}
 use Rattle.mg_lines.proofs.laws.lines_go_on.Goals as goal
-
-pub returns-clause-begin : goal.returns-clause-begin
-returns-clause-begin c = new_is_closed
 
 pub returns-clause-line : goal.returns-clause-line
 returns-clause-line c = λ has_room o h line es steady gives.

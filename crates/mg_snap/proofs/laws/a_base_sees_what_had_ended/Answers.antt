@@ -1,4 +1,4 @@
-use Rattle.mg_snap.specs.LiveLaws.{base_sees_what_has_ended, ends_by_leaving}
+use Rattle.mg_snap.specs.LiveLaws.{base_sees_no_others, base_sees_what_has_ended, ends_by_leaving}
 use Rattle.mg_snap.proofs.laws.a_base_sees_what_had_ended.Goals as goal
 
 pub returns-clause-base : goal.returns-clause-base
@@ -6,3 +6,6 @@ returns-clause-base c = base_sees_what_has_ended
 
 pub returns-clause-ends : goal.returns-clause-ends
 returns-clause-ends c = ends_by_leaving
+
+pub returns-clause-since : goal.returns-clause-since
+returns-clause-since c = base_sees_no_others

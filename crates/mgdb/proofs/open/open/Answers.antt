@@ -9,7 +9,8 @@ use Rattle.mg_store.specs.Fresh.{IsKnown}
 use Rattle.mg_store.specs.declared.store.Store.{Store}
 use Rattle.mgdb.specs.Opening.{StartsOn}
 use Rattle.mgdb.specs.declared.status.Stop.TheVariants.{UnknownImage}
-use Rattle.mgdb.proofs.OpenLemmas.{entry_sized, failed_done, form_known, if_ok, known_form, load_done, on_ok, reads_done, then_done}
+use Rattle.mgdb.proofs.EntryDisks.{size_read}
+use Rattle.mgdb.proofs.OpenLemmas.{failed_done, form_known, if_ok, known_form, load_done, on_ok, reads_done, then_done}
 use Rattle.mgdb.proofs.ReadsLemmas.{reads_on}
 use Rattle.mgdb.proofs.open.open.Goals as goal
 
@@ -29,7 +30,7 @@ pub returns-then-branch-clause-done : goal.returns-then-branch-clause-done
 returns-then-branch-clause-done g c = λ size image first o entry.
     then_done g.D.Disk.meaning c.args.disk.now c.is_blank.new.disk c.make.new.disk size PAGE image
     first o c.make.result
-    (entry_sized (g.D.Disk.meaning.size c.args.disk.now)
+    (size_read (g.D.Disk.meaning.size c.args.disk.now)
     (g.D.Disk.meaning.size c.count_pages.new.disk) size PAGE entry.sized
     c.count_pages.ensures.steps.size c.in_ok-pages.ensures.sized) entry
     (reads_on g.D.Disk.meaning g.met.D.Disk.counts_now c.args.disk.now c.count_pages.new.disk
@@ -82,7 +83,7 @@ returns-clause-done g c = λ size image first o entry.
     c.load.new.disk
     (reads_on g.D.Disk.meaning g.met.D.Disk.counts_now c.args.disk.now c.count_pages.new.disk
     c.is_blank.new.disk c.count_pages.ensures.calm c.is_blank.ensures.calm) c.load.ensures.calm)
-    (entry_sized (g.D.Disk.meaning.size c.args.disk.now)
+    (size_read (g.D.Disk.meaning.size c.args.disk.now)
     (g.D.Disk.meaning.size c.count_pages.new.disk) size PAGE entry.sized
     c.count_pages.ensures.steps.size c.in_ok-pages.ensures.sized)
     c.load.ensures.sized

@@ -1,5 +1,6 @@
 use Rattle.mgdb.proofs.OpeningLemmas.{works_at_first}
-use Rattle.mgdb.proofs.RunLaws.{closing_outside, entry_page, script_closed, script_stopped, script_unclosed, script_unopened, stop_on}
+use Rattle.mgdb.proofs.EntryDisks.{entry_page}
+use Rattle.mgdb.proofs.RunLaws.{closing_outside, script_closed, script_stopped, script_unclosed, script_unopened, stop_on}
 use Rattle.mgdb.proofs.StopLemmas.{opening_outside}
 use Rattle.mgdb.proofs.run.obey_script.Goals as goal
 

@@ -4,7 +4,8 @@ use Rattle.mg_base.specs.Image.{Image}
 use Rattle.mg_base.specs.Streams.{SinkMeaning}
 use Rattle.mg_kv.specs.Slots.{Slots}
 use Rattle.mg_model.specs.declared.opening.Opening.{Opening}
-use Rattle.mgdb.proofs.RunLaws.{entry_sized, headline_done, headline_stopped, headline_unread}
+use Rattle.mgdb.proofs.EntryDisks.{entry_sized}
+use Rattle.mgdb.proofs.RunLaws.{headline_done, headline_stopped, headline_unread}
 use Rattle.mgdb.proofs.StopLemmas.{reading_outside}
 use Rattle.mgdb.specs.Headline.{Counted, ending}
 use Rattle.mgdb.specs.declared.status.Status.{Status}

@@ -12,6 +12,7 @@ returns-then-eq c = record {
   bits = refl;
   rows = refl;
   none = λ is. refl;
+  failed = tt;
 }
 
 pub returns : goal.returns
@@ -25,4 +26,5 @@ returns c = record {
   bits = c.in_ok-enter.ensures.bits;
   rows = c.in_ok-enter.ensures.rows;
   none = λ is. absurd cc;
+  failed = tt;
 }
