@@ -1,4 +1,5 @@
 -- A transaction in limbo is committed: the database is changed by its changes.
+use Rattle.mg_image.specs.OwnTables.{HasOwnChanges, IsPut}
 use Rattle.mg_base.specs.declared.numbers.RecId.{RecId}
 use Rattle.mg_base.specs.declared.transaction.TxState.TheVariants.{Committed, Limbo}
 use Rattle.mg_image.specs.FactLaws.{CommitsFacts, shown_alike}
@@ -7,7 +8,6 @@ use Rattle.mg_image.specs.Held.{AreChanges, Changes, Database, HasLimbo, HasTabl
 use Rattle.mg_image.specs.RecordRules.{AreRecords, Each, EachBack, Facts, IsInLimbo, IsRecord, IsVersion, committed_in, table_in}
 use Rattle.mg_image.specs.Records.{Cells, Change, Erases, Puts, Reading, change_in, key_of, record_key, shown, writer}
 use Rattle.mg_image.specs.declared.entry.Entry.{Entry}
-use Rattle.mg_image_steps.specs.TableOwners.{HasMakers, IsPut}
 use Rattle.mg_model.specs.Answers.{is_committed}
 use Rattle.mg_model.specs.Catalog.{catalog_name, table_key}
 use Rattle.mg_model.specs.declared.table.Table.{Table}
@@ -33,7 +33,9 @@ changes_without t changes u name key = if u == t then None else changes u name k
 module _ (coding : Coding) (f g : Facts) (h : Cells) (r : Reading) (t : ℕ) (db : Database)
     (changes : Changes) (are : AreRecords coding f h r) (limbo : f.state t ≡ Limbo)
     (commits : CommitsFacts f g t) (held : IsHeld f (committed_in f) r db)
-    (made : AreChanges f r changes) (owns : HasMakers f r db changes) where
+    (made : AreChanges f r changes) (owns : HasOwnChanges f r db changes)
+    (one_name : (p q : RecId) (a b : Table) → table_in f p ≡ Some a → table_in f q ≡ Some b
+    → a.name ≡ b.name → a ≡ b) where
   -- who isn't t counts as before
   counts_same : (u : ℕ) → u ≢ t → committed_in g u ≡ committed_in f u
   counts_same u ne = ap is_committed (commits.others u ne)
@@ -87,7 +89,7 @@ module _ (coding : Coding) (f g : Facts) (h : Cells) (r : Reading) (t : ℕ) (db
       → Shows f (committed_in f) r p table row → HasLimbo f r q other e → table.name ≡ other.name
       → key_of table row ≡ key_of other e.row → p ≡ q
   one_record p q table other row e shows has name key =
-      let same : table ≡ other = owns.names p q table other shows.of_table has.of_table name in
+      let same : table ≡ other = one_name p q table other shows.of_table has.of_table name in
       are.keys p q table shows.of_table (has.of_table ∙ ap Some (sym same)) (inl (row, shows.row_shown))
       (inr (subst (IsInLimbo f) (sym has.newest) has.limbo))
       (sym (shown_key table (record_key table (r p)) (r p) row ((are.each p table shows.of_table).each)

@@ -14,7 +14,7 @@ use Rattle.mg_image.specs.Tables.{Layout}
 use Rattle.mg_image_steps.specs.Bits.{ChangesTip}
 use Rattle.mg_image_steps.specs.CommitSound.{committing}
 use Rattle.mg_image_steps.specs.DataSound.{KeepsTrees}
-use Rattle.mg_image_steps.specs.TableOwners.{HasMakers}
+use Rattle.mg_image.specs.OwnTables.{HasOwnChanges}
 
 -- a sound image stays sound where a transaction in limbo is committed
 abbrev pub CommitStaysSound : Form → Type 0
@@ -32,11 +32,10 @@ BitsStaySound form = (size : ℕ) (state : ℕ → TxState) (old new : Pages) (b
     → EachPage (λ n. form.sequence_page (new n) n) layout.sequences
     → IsSoundBy form size state new layout r
 
--- in terms of the database and of the changes that it holds: a table that the database has not is its
--- makers', no transaction in limbo takes a table away, and tables of one name are one
+-- whose versions a table of it has, in terms of the database and of the changes that it holds
 abbrev pub TablesHaveMakers : Form → Type 0
 TablesHaveMakers form = (size : ℕ) (state : ℕ → TxState) (pages : Pages) (layout : Layout)
     (r : Reading) → IsSoundBy form size state pages layout r → (db : Database) (changes : Changes)
     → IsHeld (facts_by state pages layout) (committed_in (facts_by state pages layout)) r db
     → AreChanges (facts_by state pages layout) r changes
-    → HasMakers (facts_by state pages layout) r db changes
+    → HasOwnChanges (facts_by state pages layout) r db changes

@@ -1,4 +1,6 @@
 -- Whose versions a table has: how the rule goes on, and what it says of a database and of changes.
+use Rattle.mg_image.specs.OwnTablesLaws.{own_changes}
+use Rattle.mg_image.specs.OwnTables.{HasOwnChanges, IsPut}
 use Rattle.mg_base.specs.declared.numbers.RecId.{RecId}
 use Rattle.mg_base.specs.declared.transaction.TxState.{TxState}
 use Rattle.mg_base.specs.declared.transaction.TxState.TheVariants.{Active, Committed, Dead, Limbo}
@@ -340,32 +342,6 @@ module _ (form : Form) (size : ℕ) (state : ℕ → TxState) (pages : Pages) (l
 
 -- ---- in terms of a database and of changes
 
-abbrev pub IsPut : Option Change → Type 0
-IsPut None = ⊥
-IsPut (Some (Puts row)) = Unit {0}
-IsPut (Some Erases) = ⊥
-
--- A table that no committed row of the catalog names has versions of those alone who made it, and no
--- transaction in limbo takes a table away.
-pub record HasMakers (f : Facts) (r : Reading) (db : Database) (changes : Changes) : Type 0 where
-  pub own : (p : RecId) (table : Table) → table_in f p ≡ Some table
-      → HasTable db table.name ⊎ (shown (committed_in f) (r p) ≡ None)
-  pub made : (p : RecId) (table : Table) (e : Entry) → HasLimbo f r p table e
-      → HasTable db table.name ⊎ IsPut (changes (writer e) catalog_name (table_key table.name))
-  pub kept : (t : ℕ) (name : List ℕ) → IsSome (db catalog_name (table_key name))
-      → changes t catalog_name (table_key name) ≢ Some Erases
-  -- tables of one name are one
-  pub names : (p q : RecId) (a b : Table) → table_in f p ≡ Some a → table_in f q ≡ Some b
-      → a.name ≡ b.name → a ≡ b
-
-erases_is : (e : Entry) (table : Table) → told_change table (change_in e) ≡ Erases
-    → e.version.deleted ≡ true
-erases_is e table told = at e.version.deleted told
-  where
-    at : (d : Bool) → told_change table (if d then Erases else Puts e.row) ≡ Erases → d ≡ true
-    at true is = refl
-    at false is = absurd cc
-
 module _ (form : Form) (size : ℕ) (state : ℕ → TxState) (pages : Pages) (layout : Layout)
     (r : Reading) (sound : IsSoundBy form size state pages layout r) (db : Database)
     (changes : Changes)
@@ -380,121 +356,14 @@ module _ (form : Form) (size : ℕ) (state : ℕ → TxState) (pages : Pages) (l
   is_catalog : catalog.name ≡ catalog_name
   is_catalog = ap (λ (x : Table). x.name) sound.catalog
 
-  -- a table that the catalog names the database has
-  has_named : (name : List ℕ) → IsNamed g r catalog name → HasTable db name
-  has_named name is = inr (there (db catalog_name (table_key name)) refl)
-    where
-      row_there : db catalog_name (table_key name) ≡ Some (told_row catalog is.row)
-      row_there = ap (λ (n : List ℕ). db n (table_key name)) (sym is_catalog)
-          ∙ (ap (λ (k : Value). db catalog.name k) (sym is.keyed)
-          ∙ held.there is.place catalog is.row is.shows (inl is_catalog))
-
-      there : (row : Option Row) → db catalog_name (table_key name) ≡ row
-          → IsSome (db catalog_name (table_key name))
-      there None none = let both = sym none ∙ row_there in absurd cc
-      there (Some row) some_ = subst IsSome (sym some_) refl
-
-  -- one that a transaction in limbo has made it has put
-  has_put : (t : ℕ) (name : List ℕ) → HasMade g r catalog t name
-      → IsPut (changes t catalog_name (table_key name))
-  has_put t name is = subst IsPut (sym change_is) tt
-    where
-      puts : change_in is.version ≡ Puts is.version.row
-      puts = rw is.alive refl
-
-      change_is : changes t catalog_name (table_key name) ≡ Some (Puts (told_row catalog is.version.row))
-      change_is = ap (λ (u : ℕ). changes u catalog_name (table_key name)) (sym is.its_own)
-          ∙ (ap (λ (n : List ℕ). changes (writer is.version) n (table_key name)) (sym is_catalog)
-          ∙ (ap (λ (k : Value). changes (writer is.version) catalog.name k) (sym is.keyed)
-          ∙ (changed.there is.place catalog is.version is.limbo
-          ∙ ap (λ (c : Change). Some (told_change catalog c)) puts)))
-
-  own : (p : RecId) (table : Table) → table_in g p ≡ Some table
-      → HasTable db table.name ⊎ (shown (committed_in g) (r p) ≡ None)
-  own p table of = at (r p) (sound.own_tables p table of)
-    where
-      at : (es : List Entry) → Each (MayStandIn g r catalog table) es
-          → HasTable db table.name ⊎ (shown (committed_in g) es ≡ None)
-      at [] each = inr refl
-      at (e ∷ es) each = by each.0 (at es each.1)
-        where
-          later : committed_in g (writer e) ≡ false
-              → HasTable db table.name ⊎ (shown (committed_in g) es ≡ None)
-              → HasTable db table.name ⊎ (shown (committed_in g) (e ∷ es) ≡ None)
-          later off (inl has_) = inl has_
-          later off (inr none) = inr (rw off none)
-
-          by : MayStandIn g r catalog table e
-              → HasTable db table.name ⊎ (shown (committed_in g) es ≡ None)
-              → HasTable db table.name ⊎ (shown (committed_in g) (e ∷ es) ≡ None)
-          by (inl is) more = inl (inl is)
-          by (inr (inl is)) more = inl (has_named table.name is)
-          by (inr (inr (inl dead))) more = later (ap is_committed dead) more
-          by (inr (inr (inr made))) more =
-              later (ap is_committed (ap state (sym made.its_own) ∙ made.limbo.limbo)) more
-
-  made_by : (p : RecId) (table : Table) (e : Entry) → HasLimbo g r p table e
-      → HasTable db table.name ⊎ IsPut (changes (writer e) catalog_name (table_key table.name))
-  made_by p table e has_ = by (subst (Each (MayStandIn g r catalog table)) has_.newest
-      (sound.own_tables p table has_.of_table)).0
-    where
-      by : MayStandIn g r catalog table e
-          → HasTable db table.name ⊎ IsPut (changes (writer e) catalog_name (table_key table.name))
-      by (inl is) = inl (inl is)
-      by (inr (inl is)) = inl (has_named table.name is)
-      by (inr (inr (inl dead))) = let both : Limbo ≡ Dead = sym has_.limbo ∙ dead in absurd cc
-      by (inr (inr (inr made))) = inr (has_put (writer e) table.name made)
-
-  kept_there : (t : ℕ) (name : List ℕ) → IsSome (db catalog_name (table_key name))
-      → changes t catalog_name (table_key name) ≢ Some Erases
-  kept_there t name there erased = row_of (db catalog_name (table_key name)) refl
-    where
-      it : IsChangedAt g r t catalog_name (table_key name) Erases
-      it = changed.whole t catalog_name (table_key name) Erases erased
-
-      is_the_catalog : catalog ≡ it.table
-      is_the_catalog = catalog_of form size state pages layout r sound it.place it.table
-          it.limbo.of_table it.named
-
-      erased_row : (row : Row) → IsHeldAt g (committed_in g) r catalog_name (table_key name) row → ⊥
-      erased_row row at = no_table_erased form.coding size g (cells_of pages) r catalog
-          (map (λ s. s.table) layout.tables) sound.names sound.records it.place it.version it.limbo.older
-          at.stored name of it.limbo.newest it.limbo.limbo (erases_is it.version it.table it.told)
-          (ap (λ (k : RecId). shown (committed_in g) (r k)) one_record ∙ at.shows.row_shown)
-          (ap (λ (x : Table). key_of x at.stored) also_catalog ∙ at.keyed)
-        where
-          of : table_in g it.place ≡ Some catalog
-          of = it.limbo.of_table ∙ ap Some (sym is_the_catalog)
-
-          also_catalog : catalog ≡ at.table
-          also_catalog = catalog_of form size state pages layout r sound at.place at.table
-              at.shows.of_table at.named
-
-          of_row : table_in g at.place ≡ Some catalog
-          of_row = at.shows.of_table ∙ ap Some (sym also_catalog)
-
-          one_record : it.place ≡ at.place
-          one_record = sound.records.keys it.place at.place catalog of of_row
-              (inr (subst (IsInLimbo g) (sym it.limbo.newest) it.limbo.limbo))
-              (inl (at.stored, at.shows.row_shown))
-              (ap (record_key catalog) it.limbo.newest ∙ (ap (λ (x : Table). key_of x it.version.row)
-              is_the_catalog ∙ (it.keyed ∙ (sym at.keyed
-              ∙ (ap (λ (x : Table). key_of x at.stored) (sym also_catalog)
-              ∙ shown_keyed form.coding g catalog (record_key catalog (r at.place)) (committed_in g)
-              (r at.place) at.stored (sound.records.each at.place catalog of_row).each
-              at.shows.row_shown)))))
-
-      row_of : (row : Option Row) → db catalog_name (table_key name) ≡ row → ⊥
-      row_of None none = let no : IsSome {T = Row} None = subst IsSome none there in absurd cc
-      row_of (Some row) some_ = erased_row row (held.whole catalog_name (table_key name) row some_)
-
-  pub has_makers : HasMakers g r db changes
-  has_makers = record {
-    own = own;
-    made = made_by;
-    kept = kept_there;
-    names = one_of_name form size state pages layout r sound;
-  }
+  -- the rule in terms of the database and of the changes
+  pub owned : HasOwnChanges g r db changes
+  owned = own_changes form.coding size g (cells_of pages) r layout.catalog.table
+      (map (λ s. s.table) layout.tables) db changes sound.records sound.names sound.own_tables
+      (record {
+        tables = one_of_name form size state pages layout r sound;
+        itself = λ p a of name. sym (catalog_of form size state pages layout r sound p a of name);
+      }) held changed (ap (λ (x : Table). x.name) sound.catalog)
 
   -- a table that the database has, or that a transaction has put, may have its versions
   pub may_stand : (table : Table) (e : Entry) → HasTable db table.name

@@ -12,7 +12,7 @@ use Rattle.mg_image.specs.declared.entry.Entry.{Entry as Read}
 use Rattle.mg_image_steps.specs.CommitHeld.{after_change, changed_by, changes_without, commit_changes, commit_held}
 use Rattle.mg_image_steps.specs.CommitSound.{commit_sound, committing}
 use Rattle.mg_image_steps.specs.Fronts.{IsFront, is_dead, living}
-use Rattle.mg_image_steps.specs.TableOwners.{has_makers}
+use Rattle.mg_image_steps.specs.TableOwners.{one_of_name, owned}
 use Rattle.mg_kept_images.specs.KeptImages.{IsKept, keeping}
 use Rattle.mg_model.specs.Changes.{row_at}
 use Rattle.mg_model.specs.History.{Entries, Entry}
@@ -83,8 +83,9 @@ module _ (form : Form) (size : ℕ) (o : Opening) (h : Entries) (e : Entry) (sta
     rows = changed_by t kept.changes kept.rows;
     held = commit_held form.coding (facts_by state image kept.layout)
         (facts_by (committing t state) image kept.layout) (cells_of image) kept.reading t kept.rows kept.changes
-        kept.sound.records limbo (commits image kept.layout) kept.held kept.changed (has_makers form size state image kept.layout
-        kept.reading kept.sound kept.rows kept.changes kept.held kept.changed);
+        kept.sound.records limbo (commits image kept.layout) kept.held kept.changed (owned form size state image kept.layout
+        kept.reading kept.sound kept.rows kept.changes kept.held kept.changed)
+        (one_of_name form size state image kept.layout kept.reading kept.sound);
     rows_are = λ name key. ap (λ c. after_change c (kept.rows name key))
         (kept.changes_are t name key limbo)
         ∙ (ap (after_change (newest_at (own o h t) name key)) (kept.rows_are name key)
@@ -92,8 +93,9 @@ module _ (form : Form) (size : ℕ) (o : Opening) (h : Entries) (e : Entry) (sta
     changes = changes_without t kept.changes;
     changed = commit_changes form.coding (facts_by state image kept.layout)
         (facts_by (committing t state) image kept.layout) (cells_of image) kept.reading t kept.rows kept.changes
-        kept.sound.records limbo (commits image kept.layout) kept.held kept.changed (has_makers form size state image kept.layout
-        kept.reading kept.sound kept.rows kept.changes kept.held kept.changed);
+        kept.sound.records limbo (commits image kept.layout) kept.held kept.changed (owned form size state image kept.layout
+        kept.reading kept.sound kept.rows kept.changes kept.held kept.changed)
+        (one_of_name form size state image kept.layout kept.reading kept.sound);
     changes_are = λ u name key is. others u name key is (cases_eq u t);
   }
     where

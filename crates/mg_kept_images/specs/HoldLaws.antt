@@ -16,7 +16,7 @@ use Rattle.mg_image.specs.RecordRules.{committed_in}
 use Rattle.mg_image.specs.Records.{Reading}
 use Rattle.mg_image.specs.Sound.{HasHeader, IsSound, IsSoundBy, facts_by}
 use Rattle.mg_image.specs.Tables.{Layout}
-use Rattle.mg_kept_images.specs.DurableCommits.{durable_is_committed}
+use Rattle.mg_model.specs.DurableCommitLaws.{durable_is_committed}
 use Rattle.mg_kept_images.specs.KeptImages.{IsKept, keeping}
 use Rattle.mg_model.specs.Answers.{is_committed}
 use Rattle.mg_model.specs.Changes.{row_at}

@@ -2,7 +2,6 @@ pub mod Laws
 pub mod KeptImages
 pub mod StartLaws
 pub mod Reach
-pub mod DurableCommits
 pub mod HoldLaws
 pub mod CommitLaws
 pub mod EndLaws

@@ -6,3 +6,4 @@ pub mod PushKept
 pub mod PushPart
 pub mod PushEvery
 pub mod AddPart
+pub mod OwnWrites

@@ -17,7 +17,7 @@ use Rattle.mg_image.specs.Tables.{Layout}
 use Rattle.mg_image.specs.declared.entry.Entry.{Entry}
 use Rattle.mg_image_steps.specs.PushWhole.{PushesWhole}
 use Rattle.mg_image_steps.specs.Rest.{LeavesRests}
-use Rattle.mg_image_steps.specs.TableOwners.{IsPut as PutsRow}
+use Rattle.mg_image.specs.OwnTables.{IsPut as PutsRow}
 use Rattle.mg_kept_images.specs.CommitLaws.{LeavesOthers, longer_kept}
 use Rattle.mg_kept_images.specs.KeptImages.{IsKept, keeping}
 use Rattle.mg_kept_images.specs.Reach.{IsEntered, entered_with}

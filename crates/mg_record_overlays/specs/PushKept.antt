@@ -17,7 +17,8 @@ use Rattle.mg_image_steps.specs.DataPages.{ChangesData}
 use Rattle.mg_image_steps.specs.DataSound.{data_sound_with, facts_same}
 use Rattle.mg_image_steps.specs.PushWhole.{AddsChange, PushesWhole, limbo_cases, pushed, pushed_changes, pushed_held, pushed_records, pushed_shows}
 use Rattle.mg_image_steps.specs.Rest.{LeavesRest}
-use Rattle.mg_image_steps.specs.TableOwners.{CatalogStays, IsPut, may_stand, names_stay, one_of_name, own_tables_stay}
+use Rattle.mg_image_steps.specs.TableOwners.{CatalogStays, may_stand, names_stay, one_of_name, own_tables_stay}
+use Rattle.mg_image.specs.OwnTables.{IsPut}
 use Rattle.mg_kept_images.specs.KeptImages.{IsKept}
 use Rattle.mg_kept_images.specs.StartLaws.{kept_by_itself}
 use Rattle.mg_model.specs.Catalog.{catalog_name, table_key}
