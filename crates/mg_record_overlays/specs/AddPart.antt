@@ -119,8 +119,7 @@ module _ (form : Form) (size : ℕ) (o : Opening) (h : Entries) (state : ℕ →
     (adds : AddsPages form.in_primary pool mid changed n.at p n.version link)
     (finds : (layout : Layout) (r : Reading) → IsSoundBy form size state pool layout r
     → FindsPlace form.coding (facts_by state pool layout) p table n)
-    (rest_put : LeavesRests form size n.at.page.0) (rest_slot : LeavesRests form size p.page.0)
-    (dead : state (writer n) ≡ Dead) where
+    (rest_put : LeavesRests form size n.at.page.0) (rest_slot : LeavesRests form size p.page.0) where
   put_step : (old new : Pages) (layout : Layout) (r : Reading) → IsSoundBy form size state old layout r
       → ChangesData form.in_primary old new n.at.page.0
       → Changes (cells_of old) (cells_of new) n.at (Some (cells.Version n.version))
@@ -134,11 +133,11 @@ module _ (form : Form) (size : ℕ) (o : Opening) (h : Entries) (state : ℕ →
   }
 
   -- after the first step
-  record IsPutThere (has_page : Bool) (image : Pages) : Type 0 where
-    kept : IsKept form size o h state mid image
-    finds_now : FindsPlace form.coding (facts_by state mid kept.of_pool) p table n
-    pool_unread : (q : RecId) → Stands (kept.in_pool q) n.at → ⊥
-    unread : has_page ≡ true → (q : RecId) → Stands (kept.reading q) n.at → ⊥
+  pub record IsPutThere (has_page : Bool) (image : Pages) : Type 0 where
+    pub kept : IsKept form size o h state mid image
+    pub finds_now : FindsPlace form.coding (facts_by state mid kept.of_pool) p table n
+    pub pool_unread : (q : RecId) → Stands (kept.in_pool q) n.at → ⊥
+    pub unread : has_page ≡ true → (q : RecId) → Stands (kept.reading q) n.at → ⊥
 
   module _ (image : Pages) (kept : IsKept form size o h state pool image) where
     rest_pool : LeavesRest form size pool mid kept.of_pool
@@ -170,7 +169,7 @@ module _ (form : Form) (size : ℕ) (o : Opening) (h : Entries) (state : ℕ →
         no : false ≡ true → ⊥
         no is = cc
 
-    put_in : (laid_ : Pages) → LaysPage pool mid image laid_ n.at.page.0 → IsPutThere true laid_
+    pub put_in : (laid_ : Pages) → LaysPage pool mid image laid_ n.at.page.0 → IsPutThere true laid_
     unfolding dead_in
     put_in laid_ lays = record {
       kept = dead_in form size o h state pool mid image n.at.page.0 kept kept.in_pool pool_step rest_pool
@@ -190,140 +189,142 @@ module _ (form : Form) (size : ℕ) (o : Opening) (h : Entries) (state : ℕ →
         free : cells_of image n.at ≡ None
         free = cells_alike pool image n.at n.at.page.0 refl lays.was ∙ adds.free
 
-  add_step : (old new : Pages) (layout : Layout) (r : Reading) → IsSoundBy form size state old layout r
-      → ChangesData form.in_primary old new p.page.0
-      → Changes (cells_of old) (cells_of new) p (Some (cells.Anchor link))
-      → cells_of old p ≡ None → cells_of old n.at ≡ Some (cells.Version n.version)
-      → FindsPlace form.coding (facts_by state old layout) p table n
-      → ((q : RecId) → Stands (r q) n.at → ⊥)
-      → StepsDead form state size old new p.page.0 (facts_by state old layout) r
-      (put_reading r p (n ∷ []))
-  add_step old new layout r sound page turn blank cell found unread = record {
-    page = page;
-    records = add_sound form.coding (facts_by state old layout) (cells_of old) (cells_of new) r p table n
-        link sound.records over;
-    same = add_living form.coding (facts_by state old layout) (cells_of old) (cells_of new) r p table n
-        link sound.records over;
-  }
-    where
-      over : AddsOver form.coding (facts_by state old layout) (cells_of old) (cells_of new) r p table n link
-      over = record {
-        of = found.of;
-        dead = dead;
-        blank = blank;
-        change = turn;
-        cell = cell;
-        leads = adds.leads;
-        back = adds.back;
-        unread = unread;
-        lawful = found.lawful;
-      }
+  -- with the writer dead
+  module _ (dead : state (writer n) ≡ Dead) where
+    add_step : (old new : Pages) (layout : Layout) (r : Reading) → IsSoundBy form size state old layout r
+        → ChangesData form.in_primary old new p.page.0
+        → Changes (cells_of old) (cells_of new) p (Some (cells.Anchor link))
+        → cells_of old p ≡ None → cells_of old n.at ≡ Some (cells.Version n.version)
+        → FindsPlace form.coding (facts_by state old layout) p table n
+        → ((q : RecId) → Stands (r q) n.at → ⊥)
+        → StepsDead form state size old new p.page.0 (facts_by state old layout) r
+        (put_reading r p (n ∷ []))
+    add_step old new layout r sound page turn blank cell found unread = record {
+      page = page;
+      records = add_sound form.coding (facts_by state old layout) (cells_of old) (cells_of new) r p table n
+          link sound.records over;
+      same = add_living form.coding (facts_by state old layout) (cells_of old) (cells_of new) r p table n
+          link sound.records over;
+    }
+      where
+        over : AddsOver form.coding (facts_by state old layout) (cells_of old) (cells_of new) r p table n link
+        over = record {
+          of = found.of;
+          dead = dead;
+          blank = blank;
+          change = turn;
+          cell = cell;
+          leads = adds.leads;
+          back = adds.back;
+          unread = unread;
+          lawful = found.lawful;
+        }
 
-  module _ (has_page : Bool) (image : Pages) (put : IsPutThere has_page image) where
-    rest_mid : LeavesRest form size mid changed put.kept.of_pool
-    rest_mid = rest_slot state mid changed put.kept.of_pool put.kept.in_pool put.kept.pool_sound
-        adds.slot_page
+    module _ (has_page : Bool) (image : Pages) (put : IsPutThere has_page image) where
+      rest_mid : LeavesRest form size mid changed put.kept.of_pool
+      rest_mid = rest_slot state mid changed put.kept.of_pool put.kept.in_pool put.kept.pool_sound
+          adds.slot_page
 
-    pool_turns : StepsDead form state size mid changed p.page.0 (facts_by state mid put.kept.of_pool)
-        put.kept.in_pool (put_reading put.kept.in_pool p (n ∷ []))
-    pool_turns = add_step mid changed put.kept.of_pool put.kept.in_pool put.kept.pool_sound adds.slot_page
-        adds.turn adds.blank adds.put.here put.finds_now put.pool_unread
+      pool_turns : StepsDead form state size mid changed p.page.0 (facts_by state mid put.kept.of_pool)
+          put.kept.in_pool (put_reading put.kept.in_pool p (n ∷ []))
+      pool_turns = add_step mid changed put.kept.of_pool put.kept.in_pool put.kept.pool_sound adds.slot_page
+          adds.turn adds.blank adds.put.here put.finds_now put.pool_unread
 
-    turn_out : IsKept form size o h state changed image
-    turn_out = dead_out form size o h state mid changed image p.page.0 put.kept
-        (put_reading put.kept.in_pool p (n ∷ [])) pool_turns rest_mid
+      turn_out : IsKept form size o h state changed image
+      turn_out = dead_out form size o h state mid changed image p.page.0 put.kept
+          (put_reading put.kept.in_pool p (n ∷ [])) pool_turns rest_mid
 
-    module _ (here : has_page ≡ true) (laid_ : Pages) (lays : LaysPage mid changed image laid_ p.page.0)
-        (same_cell : image n.at.page.0 ≡ mid n.at.page.0) (same_header : image 0 ≡ mid 0)
-        (entered : IsEntered (λ m. image m ≡ mid m) mid n.at.page.0 table.pointer.0)
-        (slot_entered : IsEntered (λ m. image m ≡ mid m) mid p.page.0 table.pointer.0) where
-      page : ChangesData form.in_primary image laid_ p.page.0
-      page = page_laid form.in_primary mid changed image laid_ p.page.0 adds.slot_page lays
+      module _ (here : has_page ≡ true) (laid_ : Pages) (lays : LaysPage mid changed image laid_ p.page.0)
+          (same_cell : image n.at.page.0 ≡ mid n.at.page.0) (same_header : image 0 ≡ mid 0)
+          (entered : IsEntered (λ m. image m ≡ mid m) mid n.at.page.0 table.pointer.0)
+          (slot_entered : IsEntered (λ m. image m ≡ mid m) mid p.page.0 table.pointer.0) where
+        page : ChangesData form.in_primary image laid_ p.page.0
+        page = page_laid form.in_primary mid changed image laid_ p.page.0 adds.slot_page lays
 
-      same_slot : cells_of image p ≡ cells_of mid p
-      same_slot = cells_alike mid image p p.page.0 refl lays.was
+        same_slot : cells_of image p ≡ cells_of mid p
+        same_slot = cells_alike mid image p p.page.0 refl lays.was
 
-      there : (k : ℕ) → IsEntered (λ m. image m ≡ mid m) mid k table.pointer.0
-          → (facts_by state mid put.kept.of_pool).table_of k ≡ Some table
-          → (facts_by state image put.kept.layout).table_of k ≡ Some table
-      there k entered_ of = table_in_image form.in_primary size mid image (stands_of put.kept.layout)
-          (stands_of put.kept.of_pool) put.kept.behind.stands put.kept.sound.tables k table entered_ of
+        there : (k : ℕ) → IsEntered (λ m. image m ≡ mid m) mid k table.pointer.0
+            → (facts_by state mid put.kept.of_pool).table_of k ≡ Some table
+            → (facts_by state image put.kept.layout).table_of k ≡ Some table
+        there k entered_ of = table_in_image form.in_primary size mid image (stands_of put.kept.layout)
+            (stands_of put.kept.of_pool) put.kept.behind.stands put.kept.sound.tables k table entered_ of
 
-      found : FindsPlace form.coding (facts_by state image put.kept.layout) p table n
-      found = record {
-        of = there p.page.0 slot_entered put.finds_now.of;
-        lawful = record {
-          placed = there n.at.page.0 entered put.finds_now.lawful.placed;
-          drawn = subst (λ (bytes : List ℕ). writer n < (header_in bytes).next.0) (sym same_header)
-              put.finds_now.lawful.drawn;
-          dead = λ is. subst (λ (bytes : List ℕ). (header_in bytes).oit.0 ≤ writer n) (sym same_header)
-              (put.finds_now.lawful.dead is);
-          format = put.finds_now.lawful.format;
-          spelled = put.finds_now.lawful.spelled;
-          storable = put.finds_now.lawful.storable;
-          erased = put.finds_now.lawful.erased;
-          keyed = put.finds_now.lawful.keyed;
-        };
-      }
+        found : FindsPlace form.coding (facts_by state image put.kept.layout) p table n
+        found = record {
+          of = there p.page.0 slot_entered put.finds_now.of;
+          lawful = record {
+            placed = there n.at.page.0 entered put.finds_now.lawful.placed;
+            drawn = subst (λ (bytes : List ℕ). writer n < (header_in bytes).next.0) (sym same_header)
+                put.finds_now.lawful.drawn;
+            dead = λ is. subst (λ (bytes : List ℕ). (header_in bytes).oit.0 ≤ writer n) (sym same_header)
+                (put.finds_now.lawful.dead is);
+            format = put.finds_now.lawful.format;
+            spelled = put.finds_now.lawful.spelled;
+            storable = put.finds_now.lawful.storable;
+            erased = put.finds_now.lawful.erased;
+            keyed = put.finds_now.lawful.keyed;
+          };
+        }
 
-      turn_in : IsKept form size o h state changed laid_
-      turn_in = dead_in form size o h state mid changed image p.page.0 put.kept
-          (put_reading put.kept.in_pool p (n ∷ [])) pool_turns rest_mid laid_
-          (put_reading put.kept.reading p (n ∷ []))
-          (add_step image laid_ put.kept.layout put.kept.reading put.kept.sound page
-          (cells_laid mid changed image laid_ p.page.0 p (Some (cells.Anchor link)) refl lays adds.turn)
-          (same_slot ∙ adds.blank)
-          (cells_alike mid image n.at n.at.page.0 refl same_cell ∙ adds.put.here) found
-          (put.unread here))
-          (rest_slot state image laid_ put.kept.layout put.kept.reading put.kept.sound page)
+        turn_in : IsKept form size o h state changed laid_
+        turn_in = dead_in form size o h state mid changed image p.page.0 put.kept
+            (put_reading put.kept.in_pool p (n ∷ [])) pool_turns rest_mid laid_
+            (put_reading put.kept.reading p (n ∷ []))
+            (add_step image laid_ put.kept.layout put.kept.reading put.kept.sound page
+            (cells_laid mid changed image laid_ p.page.0 p (Some (cells.Anchor link)) refl lays adds.turn)
+            (same_slot ∙ adds.blank)
+            (cells_alike mid image n.at n.at.page.0 refl same_cell ∙ adds.put.here) found
+            (put.unread here))
+            (rest_slot state image laid_ put.kept.layout put.kept.reading put.kept.sound page)
 
-  -- ---- both, on an image with the pages of a set
+    -- ---- both, on an image with the pages of a set
 
-  -- as two steps of the views of a batch
-  pub add_views : (orders : Orders) (set_ : PageSet) (image : Pages)
-      → (set_ p.page.0 ≡ true → set_ n.at.page.0 ≡ true)
-      → ((m : ℕ) → orders m p.page.0 ≡ true → set_ p.page.0 ≡ true → partly set_ mid image m ≡ mid m)
-      → OrdersAdd orders mid table n.at p
-      → IsKept form size o h state pool (partly set_ pool image)
-      → IsKept form size o h state changed (partly set_ changed image)
-  add_views orders set_ image with_cell same ordered start = by_slot (set_ p.page.0) refl
-    where
-      middle : (c : Bool) → set_ n.at.page.0 ≡ c → IsPutThere c (partly set_ mid image)
-      middle true in_set = put_in (partly set_ pool image) start (partly set_ mid image)
-          (step_in set_ pool mid image n.at.page.0 adds.put_page.others in_set)
-      middle false out = subst (IsPutThere false)
-          (sym (step_out set_ pool mid image n.at.page.0 adds.put_page.others out))
-          (put_out (partly set_ pool image) start)
+    -- as two steps of the views of a batch
+    pub add_views : (orders : Orders) (set_ : PageSet) (image : Pages)
+        → (set_ p.page.0 ≡ true → set_ n.at.page.0 ≡ true)
+        → ((m : ℕ) → orders m p.page.0 ≡ true → set_ p.page.0 ≡ true → partly set_ mid image m ≡ mid m)
+        → OrdersAdd orders mid table n.at p
+        → IsKept form size o h state pool (partly set_ pool image)
+        → IsKept form size o h state changed (partly set_ changed image)
+    add_views orders set_ image with_cell same ordered start = by_slot (set_ p.page.0) refl
+      where
+        middle : (c : Bool) → set_ n.at.page.0 ≡ c → IsPutThere c (partly set_ mid image)
+        middle true in_set = put_in (partly set_ pool image) start (partly set_ mid image)
+            (step_in set_ pool mid image n.at.page.0 adds.put_page.others in_set)
+        middle false out = subst (IsPutThere false)
+            (sym (step_out set_ pool mid image n.at.page.0 adds.put_page.others out))
+            (put_out (partly set_ pool image) start)
 
-      by_slot : (c : Bool) → set_ p.page.0 ≡ c → IsKept form size o h state changed (partly set_ changed image)
-      by_slot true in_set = turn_in true (partly set_ mid image) (middle true (with_cell in_set)) refl
-          (partly set_ changed image)
-          (step_in set_ mid changed image p.page.0 adds.slot_page.others in_set)
-          (rw (with_cell in_set) refl) (same 0 ordered.header in_set)
-          (entered_with (λ m. orders m p.page.0 ≡ true) (λ m. partly set_ mid image m ≡ mid m) mid
-          n.at.page.0 table.pointer.0 (λ m before. same m before in_set) ordered.pointers)
-          (entered_with (λ m. orders m p.page.0 ≡ true) (λ m. partly set_ mid image m ≡ mid m) mid
-          p.page.0 table.pointer.0 (λ m before. same m before in_set) ordered.slot_pointers)
-      by_slot false out = subst (IsKept form size o h state changed)
-          (sym (step_out set_ mid changed image p.page.0 adds.slot_page.others out))
-          (turn_out (set_ n.at.page.0) (partly set_ mid image) (middle (set_ n.at.page.0) refl))
+        by_slot : (c : Bool) → set_ p.page.0 ≡ c → IsKept form size o h state changed (partly set_ changed image)
+        by_slot true in_set = turn_in true (partly set_ mid image) (middle true (with_cell in_set)) refl
+            (partly set_ changed image)
+            (step_in set_ mid changed image p.page.0 adds.slot_page.others in_set)
+            (rw (with_cell in_set) refl) (same 0 ordered.header in_set)
+            (entered_with (λ m. orders m p.page.0 ≡ true) (λ m. partly set_ mid image m ≡ mid m) mid
+            n.at.page.0 table.pointer.0 (λ m before. same m before in_set) ordered.pointers)
+            (entered_with (λ m. orders m p.page.0 ≡ true) (λ m. partly set_ mid image m ≡ mid m) mid
+            p.page.0 table.pointer.0 (λ m before. same m before in_set) ordered.slot_pointers)
+        by_slot false out = subst (IsKept form size o h state changed)
+            (sym (step_out set_ mid changed image p.page.0 adds.slot_page.others out))
+            (turn_out (set_ n.at.page.0) (partly set_ mid image) (middle (set_ n.at.page.0) refl))
 
-  -- as a batch of its own
-  pub add_part : (batch : ℕ → Option (List ℕ)) (orders : Orders) (set_ : PageSet) (image : Pages)
-      → batch n.at.page.0 ≢ None → ((m : ℕ) → batch m ≡ None → mid m ≡ changed m)
-      → OrdersAdd orders mid table n.at p
-      → LaysBatch pool changed batch orders set_ image
-      → IsKept form size o h state pool image
-      → IsKept form size o h state changed (laid batch set_ image)
-  add_part batch orders set_ image in_batch left ordered lays was =
-      subst (IsKept form size o h state changed) (last_view pool changed batch orders set_ image lays)
-      (add_views orders set_ image (λ in_set. with_cell in_set (cases_eq n.at.page.0 p.page.0))
-      (λ m before in_set. ordered_same pool changed batch orders set_ image mid lays left m p.page.0 before
-      in_set) ordered (subst (IsKept form size o h state pool)
-      (sym (first_view pool changed batch orders set_ image lays)) was))
-    where
-      with_cell : set_ p.page.0 ≡ true → (n.at.page.0 ≡ p.page.0) ⊎ (n.at.page.0 ≢ p.page.0)
-          → set_ n.at.page.0 ≡ true
-      with_cell in_set (inl one) = ap set_ one ∙ in_set
-      with_cell in_set (inr two) =
-          lays.together n.at.page.0 p.page.0 (ordered.cell two) in_batch in_set
+    -- as a batch of its own
+    pub add_part : (batch : ℕ → Option (List ℕ)) (orders : Orders) (set_ : PageSet) (image : Pages)
+        → batch n.at.page.0 ≢ None → ((m : ℕ) → batch m ≡ None → mid m ≡ changed m)
+        → OrdersAdd orders mid table n.at p
+        → LaysBatch pool changed batch orders set_ image
+        → IsKept form size o h state pool image
+        → IsKept form size o h state changed (laid batch set_ image)
+    add_part batch orders set_ image in_batch left ordered lays was =
+        subst (IsKept form size o h state changed) (last_view pool changed batch orders set_ image lays)
+        (add_views orders set_ image (λ in_set. with_cell in_set (cases_eq n.at.page.0 p.page.0))
+        (λ m before in_set. ordered_same pool changed batch orders set_ image mid lays left m p.page.0 before
+        in_set) ordered (subst (IsKept form size o h state pool)
+        (sym (first_view pool changed batch orders set_ image lays)) was))
+      where
+        with_cell : set_ p.page.0 ≡ true → (n.at.page.0 ≡ p.page.0) ⊎ (n.at.page.0 ≢ p.page.0)
+            → set_ n.at.page.0 ≡ true
+        with_cell in_set (inl one) = ap set_ one ∙ in_set
+        with_cell in_set (inr two) =
+            lays.together n.at.page.0 p.page.0 (ordered.cell two) in_batch in_set

@@ -7,3 +7,4 @@ pub mod PushPart
 pub mod PushEvery
 pub mod AddPart
 pub mod OwnWrites
+pub mod AddEvery

@@ -11,7 +11,8 @@
 //! looked at alone.
 //!
 //! All stands in `specs/`: `DeadSteps` and `Behind` for one page; `PushPart`, `PushKept` and
-//! `PushEvery`; `AddPart`; `Cut` and `CutEvery`. There is no program here: each function does nothing,
+//! `PushEvery`; `AddPart` and `AddEvery`; `OwnWrites` for any version of a writer in limbo; `Cut` and
+//! `CutEvery`. There is no program here: each function does nothing,
 //! and its contract is a law.
 //!
 //! Invariant: none, it keeps no state.
@@ -22,4 +23,4 @@
 
 mod laws;
 
-pub use laws::{cuts_keep, pushes_keep};
+pub use laws::{cuts_keep, first_versions_keep, pushes_keep};
