@@ -38,7 +38,7 @@ use Rattle.mg_overlays.specs.BatchLaws.{change_keeps}
 use Rattle.mg_overlays.specs.Overlays.{ChangesCache, EveryOverlay, KeepsNeeds, LaysBatch, NeedsAllDirty, laid, left_state}
 use Rattle.mg_overlays.specs.Views.{LaysPage}
 use Rattle.mg_record_overlays.specs.AddPart.{AddsPages, FindsPlace, IsPutThere, OrdersAdd, add_part, put_in}
-use Rattle.mg_record_overlays.specs.OwnWrites.{AreOwn, ChangesOwn, own_kept}
+use Rattle.mg_record_overlays.specs.OwnWrites.{AreOwn, WritesRow, own_kept}
 
 -- ---- the records, with the writer in limbo
 
@@ -83,23 +83,6 @@ module _ (coding : Coding) (f : Facts) (old new : Cells) (r : Reading) (p : RecI
       apart q y ne (inl at) also = unread q (subst (Stands (r q)) (sym at) also)
       apart q y ne (inr none) also = none
 
--- What a statement knows of a first version, as the pool has all versions: nobody takes the key, the
--- writer's changes are those of the longer history, and the row's entries were laid.
-pub record AddsRow (form : Form) (size : ℕ) (o : Opening) (h : Entries) (event : Event)
-    (state : ℕ → TxState) (pages changed : Pages) (p : RecId) (table : Table) (n : Entry)
-    (kept : IsKept form size o h state pages pages) : Type 0 where
-  pub free : (q : RecId) → q ≢ p → table_in (facts_by state pages kept.layout) q ≡ Some table
-      → TakesKey (facts_by state pages kept.layout) (kept.reading q)
-      → record_key table (kept.reading q) ≡ key_of table n.row → ⊥
-  pub after : Changes
-  pub turns : ChangesOwn (facts_by state pages kept.layout) table (writer n) (key_of table n.row)
-      (n ∷ []) kept.changes after
-  pub after_are : (u : ℕ) (name : List ℕ) (k : Value) → state u ≡ Limbo
-      → after u name k ≡ newest_at (own o (event ∷ h) u) name k
-  pub no_catalog : table ≢ kept.layout.catalog.table
-  pub may : MayStandIn (facts_by state pages kept.layout) kept.reading kept.layout.catalog.table table n
-  pub found : n.version.deleted ≡ false → IsFoundIn changed table.indexes p n.row
-
 -- ---- whole: on the pool's own image, with the writer in limbo
 
 module _ (form : Form) (size : ℕ) (o : Opening) (h : Entries) (event : Event) (by : ℕ)
@@ -113,7 +96,7 @@ module _ (form : Form) (size : ℕ) (o : Opening) (h : Entries) (event : Event) 
     (slot_entered : IsEntered (λ m. mid m ≡ mid m) mid p.page.0 table.pointer.0)
     (brings : LeavesOthers o h event by)
     (writes : (kept : IsKept form size o h state mid mid)
-    → AddsRow form size o h event state mid changed p table n kept) where
+    → WritesRow form size o h event state mid changed p table n kept) where
   pub add_whole : IsKept form size o h state pool pool → IsKept form size o (event ∷ h) state changed changed
   add_whole start = done put.kept put.finds_now (put.unread refl)
     where
@@ -158,7 +141,7 @@ module _ (form : Form) (size : ℕ) (o : Opening) (h : Entries) (event : Event) 
                 (row.found (ap (λ (x : Entry). x.version.deleted) head ∙ alive));
           })
         where
-          row : AddsRow form size o h event state mid changed p table n kept
+          row : WritesRow form size o h event state mid changed p table n kept
           row = writes kept
 
           there : (k : ℕ) → IsEntered (λ m. mid m ≡ mid m) mid k table.pointer.0
@@ -215,7 +198,7 @@ AddKeeps form = (size : ℕ) (o : Opening) (h : Entries) (event : Event) (by : �
     → LeavesOthers o h event by
     → ((chosen : ℕ → Bool) → chosen by ≡ true
     → (kept : IsKept form size o h (left_state chosen state) mid mid)
-    → AddsRow form size o h event (left_state chosen state) mid new.pool p table n kept)
+    → WritesRow form size o h event (left_state chosen state) mid new.pool p table n kept)
     → EveryOverlay (keeping form size o h) state old needs
     → EveryOverlay (keeping form size o (event ∷ h)) state new now
 

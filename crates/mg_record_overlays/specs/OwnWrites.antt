@@ -344,3 +344,21 @@ module _ (form : Form) (size : ℕ) (o : Opening) (h : Entries) (event : Event) 
         (λ q other of name. one_of_name form size state pool kept.layout kept.reading kept.sound q p other
         table of w.writes.of name)))
         w.after_are
+
+-- What a statement knows of a version that its transaction writes, as the pool has all versions: nobody
+-- else takes the key, the writer's changes are those of the longer history, its table may have the
+-- version, and the row's entries were laid.
+pub record WritesRow (form : Form) (size : ℕ) (o : Opening) (h : Entries) (event : Event)
+    (state : ℕ → TxState) (pages changed : Pages) (p : RecId) (table : Table) (n : Entry)
+    (kept : IsKept form size o h state pages pages) : Type 0 where
+  pub free : (q : RecId) → q ≢ p → table_in (facts_by state pages kept.layout) q ≡ Some table
+      → TakesKey (facts_by state pages kept.layout) (kept.reading q)
+      → record_key table (kept.reading q) ≡ key_of table n.row → ⊥
+  pub after : Changes
+  pub turns : ChangesOwn (facts_by state pages kept.layout) table (writer n) (key_of table n.row)
+      (n ∷ []) kept.changes after
+  pub after_are : (u : ℕ) (name : List ℕ) (k : Value) → state u ≡ Limbo
+      → after u name k ≡ newest_at (own o (event ∷ h) u) name k
+  pub no_catalog : table ≢ kept.layout.catalog.table
+  pub may : MayStandIn (facts_by state pages kept.layout) kept.reading kept.layout.catalog.table table n
+  pub found : n.version.deleted ≡ false → IsFoundIn changed table.indexes p n.row

@@ -1,21 +1,24 @@
 -- A push of a version by a transaction, from the pool's change to every overlay.
+use Rattle.mg_model.specs.Answers.{is_committed}
+use Rattle.mg_image.specs.FactLaws.{each_has}
+use Rattle.mg_record_overlays.specs.OwnWrites.{WritesRow, own_kept}
 use Rattle.mg_image_steps.specs.Trees.{data_leaves, trees_stay}
 use Rattle.mg_image_steps.specs.Kinds.{HasNoSequences}
 use Rattle.mg_base.specs.declared.numbers.RecId.{RecId}
 use Rattle.mg_base.specs.declared.transaction.TxState.{TxState}
-use Rattle.mg_base.specs.declared.transaction.TxState.TheVariants.{Active, Dead, Limbo}
+use Rattle.mg_base.specs.declared.transaction.TxState.TheVariants.{Active, Committed, Dead, Limbo}
 use Rattle.mg_careful.specs.CarefulWrite.{Cache, PageSet}
 use Rattle.mg_careful.specs.Precedence.{Orders}
 use Rattle.mg_image.specs.Form.{Form, Pages}
 use Rattle.mg_image.specs.Held.{Changes, HasTable, told_change}
 use Rattle.mg_image.specs.Histories.{newest_at}
 use Rattle.mg_image.specs.Indexes.{IsFoundIn}
-use Rattle.mg_image.specs.RecordRules.{TakesKey, table_in}
-use Rattle.mg_image.specs.Records.{Reading, Stands, cells_of, change_in, key_of, record_key, writer}
+use Rattle.mg_image.specs.RecordRules.{Each, IsVersion, TakesKey, committed_in, table_in}
+use Rattle.mg_image.specs.Records.{Reading, Stands, cells_of, change_in, key_of, record_key, shown, writer}
 use Rattle.mg_image.specs.Sound.{IsSoundBy, facts_by}
 use Rattle.mg_image.specs.Tables.{Layout}
 use Rattle.mg_image.specs.declared.entry.Entry.{Entry}
-use Rattle.mg_image_steps.specs.PushWhole.{PushesWhole}
+use Rattle.mg_image_steps.specs.PushWhole.{PushesWhole, pushed_records}
 use Rattle.mg_image_steps.specs.Rest.{LeavesRests}
 use Rattle.mg_image.specs.OwnTables.{IsPut as PutsRow}
 use Rattle.mg_kept_images.specs.CommitLaws.{LeavesOthers, longer_kept}
@@ -30,33 +33,11 @@ use Rattle.mg_model.specs.declared.table.Table.{Table}
 use Rattle.mg_overlays.specs.BatchLaws.{change_keeps}
 use Rattle.mg_overlays.specs.Overlays.{ChangesCache, EveryOverlay, KeepsNeeds, LaysBatch, NeedsAllDirty, laid, left_state}
 use Rattle.mg_overlays.specs.Views.{LaysPage}
-use Rattle.mg_record_overlays.specs.PushKept.{push_kept}
 use Rattle.mg_record_overlays.specs.PushPart.{FindsRecord, IsPut, OrdersPush, PushesPages, finds_there, newest_leads, push_part, put_in}
 use Rattle.mg_value.specs.declared.value.Value.{Value}
 use Rattle.mg_version.specs.declared.cell.Link.{Link}
-use Rattle.std.proofs.Common.{Bool, List, None, Option, Some, false, inl, inr, refl, sym, true, ℕ, ◌∙◌, ◌∷◌, ◌≡◌, ◌≢◌, ◌⊎◌}
+use Rattle.std.proofs.Common.{Bool, List, None, Option, Some, ap, false, inl, inr, refl, subst, sym, true, ℕ, ◌∙◌, ◌∷◌, ◌≡◌, ◌≢◌, ◌⊎◌}
 use Rattle.std.proofs.lemmas.Bool.{cases_eq}
-
--- What a statement knows of a write, as the pool has all versions: nobody else takes the key, the
--- writer's changes are those of the longer history, and the row's entries were laid.
-pub record WritesRow (form : Form) (size : ℕ) (o : Opening) (h : Entries) (event : Event)
-    (state : ℕ → TxState) (pages changed : Pages) (p : RecId) (table : Table) (n : Entry)
-    (kept : IsKept form size o h state pages pages) : Type 0 where
-  pub free : (q : RecId) → q ≢ p → table_in (facts_by state pages kept.layout) q ≡ Some table
-      → TakesKey (facts_by state pages kept.layout) (kept.reading q)
-      → record_key table (kept.reading p) ≡ record_key table (kept.reading q) → ⊥
-  pub after : Changes
-  pub here : after (writer n) table.name (key_of table n.row) ≡ Some (told_change table (change_in n))
-  pub others : (t : ℕ) (name : List ℕ) (key : Value)
-      → ((t ≡ writer n) × ((name ≡ table.name) × (key ≡ key_of table n.row)))
-      ⊎ (after t name key ≡ kept.changes t name key)
-  pub after_are : (t : ℕ) (name : List ℕ) (key : Value) → state t ≡ Limbo
-      → after t name key ≡ newest_at (own o (event ∷ h) t) name key
-  pub no_catalog : table ≢ kept.layout.catalog.table
-  pub no_catalog_name : table.name ≢ catalog_name
-  pub has_table : HasTable kept.rows table.name
-      ⊎ PutsRow (after (writer n) catalog_name (table_key table.name))
-  pub found : n.version.deleted ≡ false → IsFoundIn changed table.indexes p n.row
 
 -- ---- whole: on the pool's own image, with the writer in limbo
 
@@ -88,17 +69,32 @@ module _ (form : Form) (size : ℕ) (o : Opening) (h : Entries) (event : Event) 
           → FindsRecord form.coding (facts_by state mid kept.of_pool) kept.in_pool p table n
           → ((q : RecId) → Stands (kept.reading q) n.at → ⊥)
           → IsKept form size o (event ∷ h) state changed changed
-      done kept finds_now unread = push_kept form size o h event state mid changed p.page.0 p table n
-          found.newest found.older l l link kept row.after pushes.slot_page
-          (rest_slot state mid changed kept.layout kept.reading kept.sound pushes.slot_page) over
-          (record { here = row.here; others = row.others })
-          (record {
+      done kept finds_now unread = own_kept form size o h event state mid changed p.page.0 p table (writer n)
+          (key_of table n.row) (n ∷ kept.reading p) kept row.after (record {
+            page = pushes.slot_page;
+            rest = rest_slot state mid changed kept.layout kept.reading kept.sound pushes.slot_page;
+            records = pushed_records form.coding (facts_by state mid kept.layout) (cells_of mid)
+                (cells_of changed) kept.reading p table n found.newest found.older l l link
+                kept.sound.records over;
+            writes = record {
+              of = found.of;
+              was = record { keyed = keyed; its = λ e older first in_limbo. absurd (settled e older first in_limbo) };
+              is_ = record {
+                keyed = (refl, keyed);
+                its = λ e older first in_limbo. let head : n ≡ e = cc in ap writer (sym head);
+              };
+              shows = off;
+              free = row.free;
+            };
+            turns = record { here = row.turns.here; others = row.turns.others };
             rows = brings.rows;
-            changes = row.after_are;
+            after_are = row.after_are;
             no_catalog = row.no_catalog;
-            no_catalog_name = row.no_catalog_name;
-            has_table = row.has_table;
-            found = row.found;
+            stands = (row.may, kept.sound.own_tables p table found.of);
+            found = λ e older first in_limbo alive.
+                let head : n ≡ e = cc in
+                subst (λ (x : Entry). IsFoundIn changed table.indexes p x.row) head
+                (row.found (ap (λ (x : Entry). x.version.deleted) head ∙ alive));
           })
         where
           row : WritesRow form size o h event state mid changed p table n kept
@@ -127,8 +123,28 @@ module _ (form : Form) (size : ℕ) (o : Opening) (h : Entries) (event : Event) 
             behind = behind;
             unread = unread;
             lawful = found.lawful;
-            free = row.free;
+            free = λ q ne of takes same. row.free q ne of takes (sym same ∙ sym found.lawful.keyed);
           }
+
+          keyed : Each (λ e. key_of table e.row ≡ key_of table n.row) (kept.reading p)
+          keyed = each_has (IsVersion form.coding (facts_by state mid kept.layout) table
+              (record_key table (kept.reading p))) (λ e. key_of table e.row ≡ key_of table n.row)
+              (λ e is. is.keyed ∙ sym found.lawful.keyed) (kept.reading p)
+              (kept.sound.records.each p table found.of).each
+
+          -- the record's newest version was committed
+          settled : (e : Entry) (older : List Entry) → kept.reading p ≡ e ∷ older
+              → state (writer e) ≡ Limbo → ⊥
+          settled e older first in_limbo =
+              let heads : e ∷ older ≡ found.newest ∷ found.older = sym first ∙ found.first in
+              let head : e ≡ found.newest = cc in
+              let both : Limbo ≡ Committed = sym in_limbo ∙ (ap (λ (x : Entry). state (writer x)) head
+              ∙ found.settled) in absurd cc
+
+          off : shown (committed_in (facts_by state mid kept.layout)) (n ∷ kept.reading p)
+              ≡ shown (committed_in (facts_by state mid kept.layout)) (kept.reading p)
+          off = let counts : is_committed (state (writer n)) ≡ false = ap is_committed limbo in
+              rw counts refl
 
 -- ---- the batch
 
