@@ -59,7 +59,6 @@ module _ (state now : ℕ → TxState) (t : ℕ) (raises : Raises state now t) w
   pub limbo_before : (u : ℕ) → u ≢ t → now u ≡ Limbo → state u ≡ Limbo
   limbo_before u ne is = sym (raises.others u ne) ∙ is
 
-
 -- ---- the header's numbers are in order
 
 passes_back : (first rest : List Check) → PassesAll (first ++ rest) → PassesAll rest
@@ -70,7 +69,7 @@ pub markers_are : (size : ℕ) (pages : Pages) → HasHeader size pages
     → (1 ≤ next_of pages) × (oldest_active_of pages ≤ next_of pages)
 markers_are size pages header =
     let are = markers_from_passes (pages 0) (passes_back (common_checks (pages 0) 0 HEADER_KIND 0 0)
-        (marker_checks (pages 0)) header.fields) in
+    (marker_checks (pages 0)) header.fields) in
     let least = are.least in let a = are.oit_ost in let b = are.ost_oat in let c = are.oat_next in
     (omega (arith, least, a, b, c), c)
 
@@ -139,9 +138,12 @@ module _ (form : Form) (size : ℕ) (state now : ℕ → TxState) (t : ℕ) (rai
       (takes (r p) (not_its p) takes_p) (takes (r q) (not_its q) takes_q)
     where
       takes : (es : List Entry) → Each (λ e. writer e ≢ t) es → TakesKey g es → TakesKey f es
-      takes es each (inl (row, is)) = inl (row, sym (shown_alike (committed_in f) (committed_in g) es
-          (each_has (λ e. writer e ≢ t) (λ e. committed_in g (writer e) ≡ committed_in f (writer e))
-          (λ e ne. ap is_committed (raises.others (writer e) ne)) es each)) ∙ is)
+      takes es each (inl (row, is)) = inl (
+        row,
+        sym (shown_alike (committed_in f) (committed_in g) es
+            (each_has (λ e. writer e ≢ t) (λ e. committed_in g (writer e) ≡ committed_in f (writer e))
+            (λ e ne. ap is_committed (raises.others (writer e) ne)) es each)) ∙ is,
+      )
       takes [] each (inr none) = absurd none
       takes (e ∷ es) each (inr is) = inr (sym (raises.others (writer e) each.0) ∙ is)
 

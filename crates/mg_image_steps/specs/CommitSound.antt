@@ -259,9 +259,11 @@ module _ (state : ℕ → TxState) (t : ℕ) (limbo : state t ≡ Limbo) where
                   shows = record {
                     of_table = is.shows.of_table;
                     row_shown = ap (shown (committed_in g)) first ∙ (shown_alike (committed_in f)
-                        (committed_in g) (e ∷ es) (ap is_committed (other (writer e) ne),
-                        backs_same es (subst (EachBack (λ d. state (writer d) ≡ Committed)) first
-                        lawful.backs)) ∙ was);
+                        (committed_in g) (e ∷ es) (
+                          ap is_committed (other (writer e) ne),
+                          backs_same es (subst (EachBack (λ d. state (writer d) ≡ Committed)) first
+                              lawful.backs),
+                        ) ∙ was);
                   };
                   keyed = is.keyed;
                 }

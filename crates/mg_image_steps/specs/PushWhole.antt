@@ -2,20 +2,17 @@
 use Rattle.mg_base.specs.declared.numbers.RecId.{RecId}
 use Rattle.mg_base.specs.declared.transaction.TxState.TheVariants.{Committed, Limbo}
 use Rattle.mg_image.specs.Form.{Coding}
-use Rattle.mg_image.specs.Held.{AreChanges, Changes, Database, HasLimbo, IsChangedAt, IsHeld, told_change}
-use Rattle.mg_image.specs.HeldLaws.{same_held}
-use Rattle.mg_image.specs.RecordRules.{AreRecords, Each, EachBack, Facts, IsInLimbo, IsRecord, IsVersion, TakesKey, committed_in, table_in}
-use Rattle.mg_image.specs.Records.{Cells, Chain, Change, Changes as CellChanges, Reading, Stands, change_in, goes, key_of, newest_of, record_key, shown, writer}
-use Rattle.mg_image.specs.StepLaws.{cases_place, put_cases, put_reading, same_place, step_sound}
+use Rattle.mg_image.specs.RecordRules.{AreRecords, Each, EachBack, Facts, IsRecord, IsVersion, TakesKey, table_in}
+use Rattle.mg_image.specs.Records.{Cells, Chain, Changes as CellChanges, Reading, Stands, goes, newest_of, record_key, writer}
+use Rattle.mg_image.specs.StepLaws.{put_reading, step_sound}
 use Rattle.mg_image.specs.declared.entry.Entry.{Entry}
 use Rattle.mg_image_steps.specs.Cuts.{chain_cell}
 use Rattle.mg_image_steps.specs.Relink.{chain_from}
-use Rattle.mg_model.specs.Answers.{is_committed}
 use Rattle.mg_model.specs.declared.table.Table.{Table}
 use Rattle.mg_value.specs.declared.value.Value.{Value}
 use Rattle.mg_version.specs.declared.cell.Link.{Link}
 use Rattle.mg_version.specs.declared.cell.Version.{Version}
-use Rattle.std.proofs.Common.{List, None, Option, Some, ap, false, inl, inr, refl, subst, sym, true, ℕ, ◌∙◌, ◌∷◌, ◌≡◌, ◌≢◌, ◌⊎◌}
+use Rattle.std.proofs.Common.{List, None, Option, Some, ap, inl, inr, refl, subst, sym, ◌∙◌, ◌∷◌, ◌≡◌, ◌≢◌}
 use Rattle.mg_version.specs.declared.cell.Cell.TheVariants as cells
 
 -- What is known: as for a dead writer, but that it counts as in limbo; and nobody else takes the key.

@@ -10,9 +10,9 @@ use Rattle.mg_catalog.specs.Names.{HasName}
 use Rattle.mg_image.specs.Catalog.{HasMade, HasNames, HasOwnTables, IsNamed, MayStandIn, StaysAmong, committed_with}
 use Rattle.mg_image.specs.FactLaws.{shown_alike, shown_keyed}
 use Rattle.mg_image.specs.Form.{Coding, Form, Pages, Row}
-use Rattle.mg_image.specs.Held.{AreChanges, Changes, Database, HasLimbo, HasTable, IsChangedAt, IsHeld, IsHeldAt, Shows, told_change, told_row}
+use Rattle.mg_image.specs.Held.{AreChanges, Changes, Database, HasLimbo, HasTable, IsChangedAt, IsHeld, IsHeldAt, Shows, told_change}
 use Rattle.mg_image.specs.RecordRules.{AreRecords, Each, EachBack, Facts, IsInLimbo, TakesKey, committed_in, table_in}
-use Rattle.mg_image.specs.Records.{Cells, Change, Erases, Puts, Reading, cells_of, change_in, key_of, record_key, shown, writer}
+use Rattle.mg_image.specs.Records.{Cells, Change, Erases, Puts, Reading, cells_of, key_of, record_key, shown, writer}
 use Rattle.mg_image.specs.Sound.{IsSoundBy, facts_by}
 use Rattle.mg_image.specs.Tables.{Layout, Stand, has, stands_of, table_at}
 use Rattle.mg_image.specs.declared.entry.Entry.{Entry}
@@ -22,7 +22,6 @@ use Rattle.mg_model.specs.Catalog.{catalog_name, table_key}
 use Rattle.mg_model.specs.CatalogRules.{Ascend, EachTable, HasTableOf, IsBefore, IsTable, IsTableRow, table_names}
 use Rattle.mg_model.specs.Legal.{is_limbo}
 use Rattle.mg_model.specs.declared.table.Table.{Table}
-use Rattle.mg_value.specs.declared.value.Value.{Value}
 use Rattle.std.proofs.Common.{Bool, List, None, Option, Some, [], ap, eq-eqb, false, inl, inr, refl, subst, sym, true, ℕ, ◌&&◌, ◌==◌, ◌||◌, ◌∙◌, ◌∷◌, ◌≡◌, ◌≢◌, ◌⊎◌}
 use Rattle.std.proofs.Math.Path.{fun_ext}
 use Rattle.std.specs.Prelude.{IsSome, if◌then◌else◌, map}
@@ -136,117 +135,120 @@ among_named (t ∷ ts) table (inr more) = inr (among_named ts table more)
 
 module _ (coding : Coding) (size : ℕ) (f : Facts) (h : Cells) (r : Reading) (catalog : Table)
     (tables : List Table) (names : HasNames size f r catalog tables) (are : AreRecords coding f h r)
-    where
-  -- a limbo deletion of a row of the catalog that counts is not that of a table's row
-  pub no_table_erased : (p : RecId) (e : Entry) (older : List Entry) (row : Row) (name : List ℕ)
-      → table_in f p ≡ Some catalog → r p ≡ e ∷ older → f.state (writer e) ≡ Limbo
-      → e.version.deleted ≡ true → shown (committed_in f) (r p) ≡ Some row
-      → key_of catalog row ≡ table_key name → ⊥
-  no_table_erased p e older row name of first limbo deleted shows keyed =
-      at (table_named (StaysAmong (names.named by_it)) (names.named nobody) name there
-      (names.stay nobody by_it (λ t none. absurd (no none))))
-    where
-      no : false ≡ true → ⊥
-      no is = cc
+  where
+    -- a limbo deletion of a row of the catalog that counts is not that of a table's row
+    pub no_table_erased : (p : RecId) (e : Entry) (older : List Entry) (row : Row) (name : List ℕ)
+        → table_in f p ≡ Some catalog → r p ≡ e ∷ older → f.state (writer e) ≡ Limbo
+        → e.version.deleted ≡ true → shown (committed_in f) (r p) ≡ Some row
+        → key_of catalog row ≡ table_key name → ⊥
+    no_table_erased p e older row name of first limbo deleted shows keyed =
+        at (table_named (StaysAmong (names.named by_it)) (names.named nobody) name there
+        (names.stay nobody by_it (λ t none. absurd (no none))))
+      where
+        no : false ≡ true → ⊥
+        no is = cc
 
-      nobody : ℕ → Bool
-      nobody t = false
+        nobody : ℕ → Bool
+        nobody t = false
 
-      by_it : ℕ → Bool
-      by_it t = t == writer e
+        by_it : ℕ → Bool
+        by_it t = t == writer e
 
-      same_counts : committed_with f nobody ≡ committed_in f
-      same_counts = fun_ext (λ t. by (f.state t))
-        where
-          by : (s : TxState) → (is_committed s || (is_limbo s && false)) ≡ is_committed s
-          by Active = refl
-          by Limbo = refl
-          by Dead = refl
-          by Committed = refl
+        same_counts : committed_with f nobody ≡ committed_in f
+        same_counts = fun_ext (λ t. by (f.state t))
+          where
+            by : (s : TxState) → (is_committed s || (is_limbo s && false)) ≡ is_committed s
+            by Active = refl
+            by Limbo = refl
+            by Dead = refl
+            by Committed = refl
 
-      row_now : (names.lawful nobody).rows (table_key name) ≡ Some row
-      row_now = ap (names.lawful nobody).rows (sym keyed) ∙ (names.lawful nobody).are_rows.there p row
-          (record {
-            of_table = of;
-            row_shown = ap (λ (c : ℕ → Bool). shown c (r p)) same_counts ∙ shows;
-          })
+        row_now : (names.lawful nobody).rows (table_key name) ≡ Some row
+        row_now = ap (names.lawful nobody).rows (sym keyed) ∙ (names.lawful nobody).are_rows.there p row
+            (record {
+              of_table = of;
+              row_shown = ap (λ (c : ℕ → Bool). shown c (r p)) same_counts ∙ shows;
+            })
 
-      there : HasTableOf (names.named nobody) name
-      there = (names.lawful nobody).are_tables.whole name row row_now
+        there : HasTableOf (names.named nobody) name
+        there = (names.lawful nobody).are_tables.whole name row row_now
 
-      key_of_p : record_key catalog (r p) ≡ table_key name
-      key_of_p = sym (shown_keyed coding f catalog (record_key catalog (r p)) (committed_in f) (r p) row
-          (are.each p catalog of).each shows) ∙ keyed
+        key_of_p : record_key catalog (r p) ≡ table_key name
+        key_of_p = sym (shown_keyed coding f catalog (record_key catalog (r p)) (committed_in f) (r p) row
+            (are.each p catalog of).each shows) ∙ keyed
 
-      in_limbo : IsInLimbo f (r p)
-      in_limbo = subst (IsInLimbo f) (sym first) limbo
+        in_limbo : IsInLimbo f (r p)
+        in_limbo = subst (IsInLimbo f) (sym first) limbo
 
-      counts_alike : (t : ℕ) → f.state t ≢ Limbo → committed_with f by_it t ≡ committed_in f t
-      counts_alike t not_ = by (f.state t) not_
-        where
-          by : (s : TxState) → s ≢ Limbo
-              → (is_committed s || (is_limbo s && by_it t)) ≡ is_committed s
-          by Active none = refl
-          by Limbo none = absurd (none refl)
-          by Dead none = refl
-          by Committed none = refl
+        counts_alike : (t : ℕ) → f.state t ≢ Limbo → committed_with f by_it t ≡ committed_in f t
+        counts_alike t not_ = by (f.state t) not_
+          where
+            by : (s : TxState) → s ≢ Limbo
+                → (is_committed s || (is_limbo s && by_it t)) ≡ is_committed s
+            by Active none = refl
+            by Limbo none = absurd (none refl)
+            by Dead none = refl
+            by Committed none = refl
 
-      backs_alike : (es : List Entry) → Each (λ d. f.state (writer d) ≡ Committed) es
-          → Each (λ d. committed_with f by_it (writer d) ≡ committed_in f (writer d)) es
-      backs_alike [] backs = tt
-      backs_alike (d ∷ ds) backs = (
-        counts_alike (writer d) (λ is. let both : Committed ≡ Limbo = sym backs.0 ∙ is in absurd cc),
-        backs_alike ds backs.1,
-      )
+        backs_alike : (es : List Entry) → Each (λ d. f.state (writer d) ≡ Committed) es
+            → Each (λ d. committed_with f by_it (writer d) ≡ committed_in f (writer d)) es
+        backs_alike [] backs = tt
+        backs_alike (d ∷ ds) backs = (
+          counts_alike (writer d) (λ is. let both : Committed ≡ Limbo = sym backs.0 ∙ is in absurd cc),
+          backs_alike ds backs.1,
+        )
 
-      -- a record that shows a row with it takes its key
-      takes : (es : List Entry) (now : Row) → EachBack (λ d. f.state (writer d) ≡ Committed) es
-          → shown (committed_with f by_it) es ≡ Some now → TakesKey f es
-      takes [] now backs is = absurd cc
-      takes (d ∷ ds) now backs is = by (f.state (writer d)) refl
-        where
-          settled_ : f.state (writer d) ≢ Limbo → TakesKey f (d ∷ ds)
-          settled_ not_ = inl (now, sym (shown_alike (committed_in f) (committed_with f by_it) (d ∷ ds)
-              (counts_alike (writer d) not_, backs_alike ds backs)) ∙ is)
+        -- a record that shows a row with it takes its key
+        takes : (es : List Entry) (now : Row) → EachBack (λ d. f.state (writer d) ≡ Committed) es
+            → shown (committed_with f by_it) es ≡ Some now → TakesKey f es
+        takes [] now backs is = absurd cc
+        takes (d ∷ ds) now backs is = by (f.state (writer d)) refl
+          where
+            settled_ : f.state (writer d) ≢ Limbo → TakesKey f (d ∷ ds)
+            settled_ not_ = inl (
+              now,
+              sym (shown_alike (committed_in f) (committed_with f by_it) (d ∷ ds)
+                  (counts_alike (writer d) not_, backs_alike ds backs)) ∙ is,
+            )
 
-          by : (s : TxState) → f.state (writer d) ≡ s → TakesKey f (d ∷ ds)
-          by Limbo state = inr state
-          by Committed state = settled_ (λ other. let both = sym state ∙ other in absurd cc)
-          by Active state = settled_ (λ other. let both = sym state ∙ other in absurd cc)
-          by Dead state = settled_ (λ other. let both = sym state ∙ other in absurd cc)
+            by : (s : TxState) → f.state (writer d) ≡ s → TakesKey f (d ∷ ds)
+            by Limbo state = inr state
+            by Committed state = settled_ (λ other. let both = sym state ∙ other in absurd cc)
+            by Active state = settled_ (λ other. let both = sym state ∙ other in absurd cc)
+            by Dead state = settled_ (λ other. let both = sym state ∙ other in absurd cc)
 
-      -- with it p shows nothing
-      shows_none : shown (committed_with f by_it) (e ∷ older) ≡ None
-      shows_none = rw (limbo, eq-eqb (writer e) (writer e) refl, deleted) refl
+        -- with it p shows nothing
+        shows_none : shown (committed_with f by_it) (e ∷ older) ≡ None
+        shows_none = rw (limbo, eq-eqb (writer e) (writer e) refl, deleted) refl
 
-      none_shows : (q : RecId) (now : Row) → Shows f (committed_with f by_it) r q catalog now
-          → key_of catalog now ≡ table_key name → ⊥
-      none_shows q now shows_ keyed_ =
-          let key_of_q : record_key catalog (r q) ≡ table_key name =
-          sym (shown_keyed coding f catalog (record_key catalog (r q)) (committed_with f by_it) (r q) now
-          (are.each q catalog shows_.of_table).each shows_.row_shown) ∙ keyed_ in
-          let same : p ≡ q = are.keys p q catalog of shows_.of_table (inr in_limbo)
-          (takes (r q) now (are.each q catalog shows_.of_table).backs shows_.row_shown)
-          (key_of_p ∙ sym key_of_q) in
-          let both : None ≡ Some now = sym shows_none ∙ (ap (shown (committed_with f by_it)) (sym first)
-          ∙ (ap (λ (k : RecId). shown (committed_with f by_it) (r k)) same ∙ shows_.row_shown)) in
-          absurd cc
+        none_shows : (q : RecId) (now : Row) → Shows f (committed_with f by_it) r q catalog now
+            → key_of catalog now ≡ table_key name → ⊥
+        none_shows q now shows_ keyed_ =
+            let key_of_q : record_key catalog (r q) ≡ table_key name =
+            sym (shown_keyed coding f catalog (record_key catalog (r q)) (committed_with f by_it) (r q) now
+            (are.each q catalog shows_.of_table).each shows_.row_shown) ∙ keyed_ in
+            let same : p ≡ q = are.keys p q catalog of shows_.of_table (inr in_limbo)
+            (takes (r q) now (are.each q catalog shows_.of_table).backs shows_.row_shown)
+            (key_of_p ∙ sym key_of_q) in
+            let both : None ≡ Some now = sym shows_none ∙ (ap (shown (committed_with f by_it)) (sym first)
+            ∙ (ap (λ (k : RecId). shown (committed_with f by_it) (r k)) same ∙ shows_.row_shown)) in
+            absurd cc
 
-      with_it : (t : Table) × ((t.name ≡ name) × IsTable (names.lawful by_it).rows t) → ⊥
-      with_it (t, (is, it)) = found it.row (subst (λ (n : List ℕ). (names.lawful by_it).rows (table_key n)
-          ≡ Some it.row) is it.there)
-        where
-          found : (now : Row) → (names.lawful by_it).rows (table_key name) ≡ Some now → ⊥
-          found now there_ = shown_there ((names.lawful by_it).are_rows.whole (table_key name) now there_)
-            where
-              shown_there : (q : RecId) × Shows f (committed_with f by_it) r q catalog now
-                  × (key_of catalog now ≡ table_key name) → ⊥
-              shown_there (q, shows_, keyed_) = none_shows q now shows_ keyed_
+        with_it : (t : Table) × ((t.name ≡ name) × IsTable (names.lawful by_it).rows t) → ⊥
+        with_it (t, (is, it)) = found it.row (subst (λ (n : List ℕ). (names.lawful by_it).rows (table_key n)
+            ≡ Some it.row) is it.there)
+          where
+            found : (now : Row) → (names.lawful by_it).rows (table_key name) ≡ Some now → ⊥
+            found now there_ = shown_there ((names.lawful by_it).are_rows.whole (table_key name) now there_)
+              where
+                shown_there : (q : RecId) × Shows f (committed_with f by_it) r q catalog now
+                    × (key_of catalog now ≡ table_key name) → ⊥
+                shown_there (q, shows_, keyed_) = none_shows q now shows_ keyed_
 
-      at : (t : Table) × ((t.name ≡ name) × StaysAmong (names.named by_it) t) → ⊥
-      at (t, (is, stays)) = with_it (table_named (IsTable (names.lawful by_it).rows) (names.named by_it)
-          name (subst (HasTableOf (names.named by_it)) is (among_named (names.named by_it) t stays))
-          (names.lawful by_it).are_tables.each)
+        at : (t : Table) × ((t.name ≡ name) × StaysAmong (names.named by_it) t) → ⊥
+        at (t, (is, stays)) = with_it (table_named (IsTable (names.lawful by_it).rows) (names.named by_it)
+            name (subst (HasTableOf (names.named by_it)) is (among_named (names.named by_it) t stays))
+            (names.lawful by_it).are_tables.each)
 
 -- ---- tables of one name are one
 

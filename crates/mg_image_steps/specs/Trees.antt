@@ -480,8 +480,8 @@ data_leaves form size b none stay state old new layout r sound change = record {
       (λ m is. used_kept form.in_primary size old new b change sound.header sound.inventory
       sound.transactions m ∙ is)
       (λ m is seven_. change.others m (λ e.
-        let five : byte (old m) 0 ≡ 5 = ap (λ (k : ℕ). byte (old k) 0) e ∙ change.kind in
-        omega (arith, seven_, five)));
+      let five : byte (old m) 0 ≡ 5 = ap (λ (k : ℕ). byte (old k) 0) e ∙ change.kind in
+      omega (arith, seven_, five)));
   sequences = no_sequences layout.sequences sound.sequences;
 }
   where
