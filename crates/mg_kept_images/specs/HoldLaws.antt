@@ -1,12 +1,8 @@
 -- What every crash leaves: from what every overlay is, where nobody is chosen.
 use Rattle.mg_image_steps.specs.Begins.{markers_are}
-use Rattle.mg_base.specs.Checks.{Check, PassesAll, common_checks}
 use Rattle.mg_base.specs.declared.transaction.TxState.{TxState}
 use Rattle.mg_base.specs.declared.transaction.TxState.TheVariants.{Active, Committed, Dead, Limbo}
 use Rattle.mg_careful.specs.CarefulWrite.{Cache, IsClosed, PageSet, overlay}
-use Rattle.mg_header.specs.HeaderPage.{marker_checks}
-use Rattle.mg_header.specs.HeaderPageLaws.{markers_from_passes}
-use Rattle.mg_header.specs.declared.header.TheConstants.{HEADER_KIND}
 use Rattle.mg_image.specs.Form.{Form, Pages}
 use Rattle.mg_image.specs.Held.{AreChanges, IsHeld}
 use Rattle.mg_image.specs.Histories.{HoldsDurable, durable_committed, newest_at}
@@ -14,7 +10,7 @@ use Rattle.mg_image.specs.Inventory.{bits_state, next_of, settled, state_at}
 use Rattle.mg_image.specs.Opening.{Opened, sound_image}
 use Rattle.mg_image.specs.RecordRules.{committed_in}
 use Rattle.mg_image.specs.Records.{Reading}
-use Rattle.mg_image.specs.Sound.{HasHeader, IsSound, IsSoundBy, facts_by}
+use Rattle.mg_image.specs.Sound.{IsSound, IsSoundBy, facts_by}
 use Rattle.mg_image.specs.Tables.{Layout}
 use Rattle.mg_model.specs.DurableCommitLaws.{durable_is_committed}
 use Rattle.mg_kept_images.specs.KeptImages.{IsKept, keeping}
@@ -27,7 +23,7 @@ use Rattle.mg_model.specs.LimboLaws.{durable_is_limbo, durable_is_own}
 use Rattle.mg_model.specs.Machine.{state_of}
 use Rattle.mg_model.specs.declared.opening.Opening.{Opening}
 use Rattle.mg_overlays.specs.Overlays.{EveryOverlay, left_by, left_state, nobody}
-use Rattle.std.proofs.Common.{Bool, List, [], ap, arith, false, le-ltb, nat_lt, refl, subst, sym, true, ℕ, ◌++◌, ◌==◌, ◌∙◌, ◌∷◌, ◌≡◌, ◌≤◌}
+use Rattle.std.proofs.Common.{Bool, ap, arith, false, le-ltb, nat_lt, refl, subst, sym, true, ℕ, ◌==◌, ◌∙◌, ◌≡◌, ◌≤◌}
 use Rattle.std.proofs.Math.Path.{fun_ext}
 use Rattle.std.proofs.lemmas.Bool.{ne_eqb}
 use Rattle.std.specs.Prelude.{if◌then◌else◌}

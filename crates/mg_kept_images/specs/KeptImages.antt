@@ -7,7 +7,7 @@ use Rattle.mg_base.specs.declared.transaction.TxState.TheVariants.{Limbo}
 use Rattle.mg_image.specs.Form.{Form, Pages}
 use Rattle.mg_image.specs.Held.{AreChanges, Changes, Database, IsHeld}
 use Rattle.mg_image.specs.Histories.{newest_at}
-use Rattle.mg_image.specs.Inventory.{is_used, last_sequence, next_of, oldest_of, tip_page}
+use Rattle.mg_image.specs.Inventory.{is_used, last_sequence, next_of, tip_page}
 use Rattle.mg_image.specs.RecordRules.{committed_in}
 use Rattle.mg_image.specs.Records.{Reading}
 use Rattle.mg_image.specs.Sound.{IsSoundBy, facts_by}
@@ -19,7 +19,7 @@ use Rattle.mg_model.specs.Machine.{database, own}
 use Rattle.mg_model.specs.declared.opening.Opening.{Opening}
 use Rattle.mg_overlays.specs.Overlays.{Keeping}
 use Rattle.mg_value.specs.declared.value.Value.{Value}
-use Rattle.std.proofs.Common.{List, [], true, ℕ, ◌<◌, ◌∷◌, ◌≡◌, ◌≢◌, ◌≤◌}
+use Rattle.std.proofs.Common.{List, [], true, ℕ, ◌∷◌, ◌≡◌, ◌≢◌, ◌≤◌}
 
 -- ---- an overlay is behind the pool
 

@@ -16,7 +16,7 @@ use Rattle.mg_model.specs.History.{Entries}
 use Rattle.mg_model.specs.Machine.{database, own}
 use Rattle.mg_model.specs.declared.opening.Opening.{Opening}
 use Rattle.mg_value.specs.declared.value.Value.{Value}
-use Rattle.std.proofs.Common.{List, [], arith, refl, ℕ, ◌∷◌, ◌≡◌, ◌≢◌}
+use Rattle.std.proofs.Common.{List, [], arith, refl, ℕ, ◌∷◌, ◌≡◌}
 
 front_self : (es : List Entry) → IsFront es es
 front_self [] = tt

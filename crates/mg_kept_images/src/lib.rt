@@ -26,5 +26,5 @@
 mod laws;
 
 pub use laws::{
-    active_ones_begin_and_end, commits_keep, crashes_leave, page_writes_keep, overlays_start,
+    active_ones_begin_and_end, commits_keep, crashes_leave, overlays_start, page_writes_keep,
 };

@@ -1,5 +1,5 @@
 -- A record gets its first version by a transaction, from the pool's change to every overlay.
-use Rattle.std.proofs.Common.{◌≡◌, ◌≢◌, ◌⊎◌, inl, inr, refl, sym, ap, ◌∙◌, subst, ℕ, Bool, true, false, List, [], ◌∷◌, Option, None, Some}
+use Rattle.std.proofs.Common.{◌≡◌, ◌≢◌, inl, inr, refl, sym, ap, ◌∙◌, subst, ℕ, Bool, true, false, List, [], ◌∷◌, Option, None, Some}
 use Rattle.mg_base.specs.declared.numbers.RecId.{RecId}
 use Rattle.mg_base.specs.declared.transaction.TxState.{TxState}
 use Rattle.mg_base.specs.declared.transaction.TxState.TheVariants.{Active, Limbo, Dead}
@@ -8,19 +8,14 @@ use Rattle.mg_careful.specs.CarefulWrite.{Cache, PageSet}
 use Rattle.mg_version.specs.declared.cell.Cell.TheVariants as cells
 use Rattle.mg_version.specs.declared.cell.Link.{Link}
 use Rattle.mg_version.specs.declared.cell.Version.{Version}
-use Rattle.mg_value.specs.declared.value.Value.{Value}
 use Rattle.mg_model.specs.declared.opening.Opening.{Opening}
 use Rattle.mg_model.specs.declared.table.Table.{Table}
 use Rattle.mg_model.specs.Answers.{is_committed}
 use Rattle.mg_model.specs.History.{Entries, Entry as Event}
-use Rattle.mg_model.specs.Machine.{own}
 use Rattle.mg_image.specs.declared.entry.Entry.{Entry}
-use Rattle.mg_image.specs.Catalog.{MayStandIn}
 use Rattle.mg_image.specs.Form.{Coding, Form, Pages}
-use Rattle.mg_image.specs.Held.{Changes}
-use Rattle.mg_image.specs.Histories.{newest_at}
 use Rattle.mg_image.specs.Indexes.{IsFoundIn}
-use Rattle.mg_image.specs.RecordRules.{AreRecords, Each, Facts, IsVersion, TakesKey, committed_in, table_in}
+use Rattle.mg_image.specs.RecordRules.{AreRecords, Facts, IsVersion, TakesKey, committed_in, table_in}
 use Rattle.mg_image.specs.Records.{Cells, Chain, Changes as CellChanges, Reading, Stands, cells_of, ended, goes, key_of, newest_of, record_key, shown, writer}
 use Rattle.mg_image.specs.Sound.{IsSoundBy, facts_by}
 use Rattle.mg_image.specs.StepLaws.{put_reading, step_sound}

@@ -5,7 +5,7 @@ use Rattle.mg_image_steps.specs.Kinds.{pointers_four, pointers_of}
 use Rattle.mg_base.specs.declared.transaction.TxState.{TxState}
 use Rattle.mg_header.specs.declared.header.Header.{Header}
 use Rattle.mg_image.specs.Form.{Form, Pages}
-use Rattle.mg_image.specs.Inventory.{header_of, last_sequence, next_of, oldest_of, tip_page}
+use Rattle.mg_image.specs.Inventory.{header_of, last_sequence, next_of, tip_page}
 use Rattle.mg_image.specs.Records.{Reading}
 use Rattle.mg_image.specs.Sound.{IsSoundBy}
 use Rattle.mg_image.specs.Tables.{Has, Layout, stands_of}
@@ -13,7 +13,7 @@ use Rattle.mg_image_steps.specs.DataPages.{ChangesData, header_same, last_same, 
 use Rattle.mg_image_steps.specs.Rest.{div_grows}
 use Rattle.mg_kept_images.specs.KeptImages.{IsBehind}
 use Rattle.mg_tip.specs.TipPage.{places}
-use Rattle.std.proofs.Common.{Bool, List, ap, arith, subst, sym, ℕ, ◌*◌, ◌-◌, ◌/◌, ◌<◌, ◌∙◌, ◌≡◌, ◌≢◌, ◌≤◌, ◌⊎◌}
+use Rattle.std.proofs.Common.{Bool, List, ap, arith, subst, sym, ℕ, ◌-◌, ◌∙◌, ◌≡◌, ◌≢◌, ◌≤◌}
 
 -- ---- what stands of the other pages, of two images of which each has one data page changed
 

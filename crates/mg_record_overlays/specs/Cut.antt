@@ -23,7 +23,7 @@ use Rattle.mg_overlays.specs.Views.{LaysPage}
 use Rattle.mg_record_overlays.specs.Behind.{behind_in, behind_out}
 use Rattle.mg_slots.specs.DataPage.{cell_of}
 use Rattle.mg_version.specs.declared.cell.Version.{Version}
-use Rattle.std.proofs.Common.{Bool, List, Some, ap, inl, inr, subst, sym, ℕ, ◌*◌, ◌-◌, ◌/◌, ◌<◌, ◌∙◌, ◌≡◌, ◌≢◌, ◌≤◌, ◌⊎◌}
+use Rattle.std.proofs.Common.{Bool, List, Some, ap, inl, inr, subst, sym, ℕ, ◌∙◌, ◌≡◌, ◌≢◌, ◌⊎◌}
 use Rattle.std.proofs.lemmas.Bool.{cases_eq}
 
 -- The pool's page b has the version at x without one behind it, and else the cells that it had.

@@ -19,7 +19,7 @@ use Rattle.mg_overlays.specs.Overlays.{ChangesCache, EveryOverlay, KeepsLaidAlwa
 use Rattle.mg_overlays.specs.Views.{LaysPage}
 use Rattle.mg_record_overlays.specs.Cut.{CutsPage, cut_in, cut_out, laid_page}
 use Rattle.mg_version.specs.declared.cell.Version.{Version}
-use Rattle.std.proofs.Common.{Bool, List, None, Option, Some, ap, false, inl, inr, refl, subst, sym, true, ℕ, ◌||◌, ◌∙◌, ◌≡◌, ◌≢◌, ◌⊎◌}
+use Rattle.std.proofs.Common.{Bool, List, None, Option, Some, ap, false, inl, inr, refl, subst, sym, true, ℕ, ◌∙◌, ◌≡◌, ◌≢◌, ◌⊎◌}
 use Rattle.std.proofs.Math.Path.{fun_ext}
 use Rattle.std.proofs.lemmas.Bool.{cases_eq}
 use Rattle.std.specs.Prelude.{if◌then◌else◌, unwrap_or}
@@ -50,6 +50,7 @@ CutKeeps form = (size : ℕ) (o : Opening) (h : Entries) (state : ℕ → TxStat
     → IsCutOf form size o h state old.pool p x
     → EveryOverlay (keeping form size o h) state old needs
     → EveryOverlay (keeping form size o h) state new now
+
 pub cut_every : (form : Form) → HasNoSequences form → CutKeeps form
 cut_every form none size o h state old new gone batch orders needs now b p x v changes left one cuts is
     every = change_keeps_always (keeping form size o h) (keeping form size o h) state old new gone batch orders needs now

@@ -15,8 +15,7 @@ use Rattle.mg_kept_images.specs.KeptImages.{IsKept}
 use Rattle.mg_model.specs.History.{Entries}
 use Rattle.mg_model.specs.declared.opening.Opening.{Opening}
 use Rattle.mg_record_overlays.specs.Behind.{behind_in, behind_out}
-use Rattle.std.proofs.Common.{List, [], subst, sym, ℕ, ◌∙◌, ◌∷◌, ◌≡◌, ◌⊎◌}
-use Rattle.std.specs.Prelude.{if◌then◌else◌}
+use Rattle.std.proofs.Common.{List, subst, sym, ℕ, ◌≡◌}
 
 -- ---- the step
 

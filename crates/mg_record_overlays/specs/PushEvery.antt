@@ -10,33 +10,27 @@ use Rattle.mg_base.specs.declared.transaction.TxState.TheVariants.{Active, Commi
 use Rattle.mg_careful.specs.CarefulWrite.{Cache, PageSet}
 use Rattle.mg_careful.specs.Precedence.{Orders}
 use Rattle.mg_image.specs.Form.{Form, Pages}
-use Rattle.mg_image.specs.Held.{Changes, HasTable, told_change}
-use Rattle.mg_image.specs.Histories.{newest_at}
 use Rattle.mg_image.specs.Indexes.{IsFoundIn}
-use Rattle.mg_image.specs.RecordRules.{Each, IsVersion, TakesKey, committed_in, table_in}
-use Rattle.mg_image.specs.Records.{Reading, Stands, cells_of, change_in, key_of, record_key, shown, writer}
+use Rattle.mg_image.specs.RecordRules.{Each, IsVersion, committed_in}
+use Rattle.mg_image.specs.Records.{Reading, Stands, cells_of, key_of, record_key, shown, writer}
 use Rattle.mg_image.specs.Sound.{IsSoundBy, facts_by}
 use Rattle.mg_image.specs.Tables.{Layout}
 use Rattle.mg_image.specs.declared.entry.Entry.{Entry}
 use Rattle.mg_image_steps.specs.PushWhole.{PushesWhole, pushed_records}
 use Rattle.mg_image_steps.specs.Rest.{LeavesRests}
-use Rattle.mg_image.specs.OwnTables.{IsPut as PutsRow}
 use Rattle.mg_kept_images.specs.CommitLaws.{LeavesOthers, longer_kept}
 use Rattle.mg_kept_images.specs.KeptImages.{IsKept, keeping}
 use Rattle.mg_kept_images.specs.Reach.{IsEntered, entered_with}
-use Rattle.mg_model.specs.Catalog.{catalog_name, table_key}
-use Rattle.mg_model.specs.Changes.{row_at}
 use Rattle.mg_model.specs.History.{Entries, Entry as Event}
-use Rattle.mg_model.specs.Machine.{database, own}
+use Rattle.mg_model.specs.Machine.{own}
 use Rattle.mg_model.specs.declared.opening.Opening.{Opening}
 use Rattle.mg_model.specs.declared.table.Table.{Table}
 use Rattle.mg_overlays.specs.BatchLaws.{change_keeps}
 use Rattle.mg_overlays.specs.Overlays.{ChangesCache, EveryOverlay, KeepsNeeds, LaysBatch, NeedsAllDirty, laid, left_state}
 use Rattle.mg_overlays.specs.Views.{LaysPage}
 use Rattle.mg_record_overlays.specs.PushPart.{FindsRecord, IsPut, OrdersPush, PushesPages, finds_there, newest_leads, push_part, put_in}
-use Rattle.mg_value.specs.declared.value.Value.{Value}
 use Rattle.mg_version.specs.declared.cell.Link.{Link}
-use Rattle.std.proofs.Common.{Bool, List, None, Option, Some, ap, false, inl, inr, refl, subst, sym, true, ℕ, ◌∙◌, ◌∷◌, ◌≡◌, ◌≢◌, ◌⊎◌}
+use Rattle.std.proofs.Common.{Bool, List, None, Option, ap, false, inl, inr, refl, subst, sym, true, ℕ, ◌∙◌, ◌∷◌, ◌≡◌, ◌≢◌, ◌⊎◌}
 use Rattle.std.proofs.lemmas.Bool.{cases_eq}
 
 -- ---- whole: on the pool's own image, with the writer in limbo
@@ -172,6 +166,7 @@ PushKeeps form = (size : ℕ) (o : Opening) (h : Entries) (event : Event) (by : 
     → WritesRow form size o h event (left_state chosen state) mid new.pool p table n kept)
     → EveryOverlay (keeping form size o h) state old needs
     → EveryOverlay (keeping form size o (event ∷ h)) state new now
+
 pub push_every : (form : Form) → HasNoSequences form → PushKeeps form
 push_every form none size o h event by state old new mid gone batch orders needs now p table n l link
     changes active is_by left all pushes in_batch left_by_batch ordered finds brings writes every =
