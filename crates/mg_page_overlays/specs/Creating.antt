@@ -3,7 +3,7 @@
 use Rattle.mg_image_steps.specs.Begins.{Raises, committed_same, committed_still, dead_before, limbo_before}
 use Rattle.mg_base.specs.declared.numbers.RecId.{RecId}
 use Rattle.mg_base.specs.declared.transaction.TxState.{TxState}
-use Rattle.mg_base.specs.declared.transaction.TxState.TheVariants.{Active, Committed, Dead, Limbo}
+use Rattle.mg_base.specs.declared.transaction.TxState.TheVariants.{Active, Dead, Limbo}
 use Rattle.mg_careful.specs.CarefulWrite.{Cache, PageSet}
 use Rattle.mg_careful.specs.Precedence.{Orders}
 use Rattle.mg_image.specs.Catalog.{CatalogNames, HasNames, HasOwnTables, IsWithin, StaysAmong, committed_with}
@@ -34,7 +34,7 @@ use Rattle.mg_model.specs.declared.table.Table.{Table}
 use Rattle.mg_overlays.specs.BatchLaws.{change_keeps_raised}
 use Rattle.mg_overlays.specs.Overlays.{ChangesCache, EveryOverlay, KeepsNeeds, LaysBatch, NeedsAllDirty, laid, left_by, left_state, without}
 use Rattle.mg_value.specs.declared.value.Value.{Value}
-use Rattle.std.proofs.Common.{Bool, List, None, Option, Some, [], ap, arith, false, inl, inr, refl, subst, sym, true, ℕ, ◌&&◌, ◌++◌, ◌<◌, ◌==◌, ◌||◌, ◌∙◌, ◌∷◌, ◌≡◌, ◌≢◌, ◌≤◌, ◌⊎◌}
+use Rattle.std.proofs.Common.{Bool, List, None, Option, Some, [], ap, arith, false, inl, inr, refl, subst, sym, true, ℕ, ◌&&◌, ◌++◌, ◌<◌, ◌||◌, ◌∙◌, ◌∷◌, ◌≡◌, ◌≢◌, ◌≤◌, ◌⊎◌}
 use Rattle.std.proofs.Math.Path.{fun_ext}
 use Rattle.std.proofs.lemmas.Bool.{cases_eq, eq-eqb, ne_eqb}
 use Rattle.std.specs.List.{flat_map}

@@ -6,7 +6,7 @@ use Rattle.mg_base.specs.declared.transaction.TxState.{TxState}
 use Rattle.mg_header.specs.declared.header.Header.{Header}
 use Rattle.mg_image.specs.Form.{Form, Pages}
 use Rattle.mg_image.specs.Held.{AreChanges, IsHeld}
-use Rattle.mg_image.specs.Inventory.{header_of, is_used, last_sequence, next_of, oldest_of, tip_page}
+use Rattle.mg_image.specs.Inventory.{header_of, is_used, last_sequence, next_of, tip_page}
 use Rattle.mg_image.specs.RecordRules.{Facts, committed_in}
 use Rattle.mg_image.specs.Records.{Reading}
 use Rattle.mg_image.specs.Sound.{IsSoundBy, facts_by}

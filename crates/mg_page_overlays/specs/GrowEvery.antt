@@ -19,7 +19,7 @@ use Rattle.mg_image_steps.specs.Growth.{grown, has_back, has_either, has_front}
 use Rattle.mg_image_steps.specs.Kinds.{HasNoSequences, chain_last, chain_next, pointer_linked, pointers_of, stands_linked}
 use Rattle.mg_image_steps.specs.Rest.{TreesStay}
 use Rattle.mg_kept_images.specs.KeptImages.{AreFrontStands, IsFrontOf, IsFrontStand, IsKept, keeping}
-use Rattle.mg_kept_images.specs.Reach.{front_has, has_it, has_so, once_apart, once_back, once_front, pointers_front}
+use Rattle.mg_kept_images.specs.Reach.{has_it, has_so, once_apart, once_back, once_front, pointers_front}
 use Rattle.mg_model.specs.History.{Entries}
 use Rattle.mg_model.specs.declared.opening.Opening.{Opening}
 use Rattle.mg_model.specs.declared.table.Table.{Table}
@@ -27,7 +27,7 @@ use Rattle.mg_overlays.specs.BatchLaws.{change_keeps_always}
 use Rattle.mg_overlays.specs.Overlays.{ChangesCache, EveryOverlay, KeepsLaidAlways, KeepsNeeds, LaysBatch, laid, left_state}
 use Rattle.mg_overlays.specs.Views.{ordered_same, partly}
 use Rattle.mg_page_overlays.specs.GrowKept.{KeptAs, front_last, fronts_joined, grow_in, grow_out, kept_as, kept_of}
-use Rattle.mg_page_overlays.specs.GrowPages.{GrowsPages, HasGrowth, IsBetween, grows_image, grows_unreached, in_mid, linked, node_stays, off_first, off_last, once_mid, stays, trees_mid, used_still, used_within}
+use Rattle.mg_page_overlays.specs.GrowPages.{GrowsPages, HasGrowth, IsBetween, grows_image, grows_unreached, linked, node_stays, off_first, off_last, once_mid, stays, trees_mid, used_still, used_within}
 use Rattle.std.proofs.Common.{Bool, List, None, Option, [], ap, false, inl, inr, length, refl, subst, sym, true, ℕ, ◌++◌, ◌∙◌, ◌∷◌, ◌≡◌, ◌≢◌, ◌⊎◌}
 use Rattle.std.specs.List.{flat_map}
 

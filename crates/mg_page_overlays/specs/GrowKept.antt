@@ -9,7 +9,7 @@ use Rattle.mg_header.specs.declared.header.Header.{Header}
 use Rattle.mg_image.specs.Form.{Form, Pages, Row}
 use Rattle.mg_image.specs.Held.{AreChanges, Changes, Database, HasLimbo, IsChangedAt, IsHeld, IsHeldAt, Shows}
 use Rattle.mg_image.specs.Histories.{newest_at}
-use Rattle.mg_image.specs.Inventory.{header_of, is_used, last_sequence, next_of, oldest_of, tip_page}
+use Rattle.mg_image.specs.Inventory.{header_of, is_used, last_sequence, next_of, tip_page}
 use Rattle.mg_image.specs.RecordRules.{Facts, committed_in, table_in}
 use Rattle.mg_image.specs.Records.{Change, Reading, shown}
 use Rattle.mg_image.specs.Sound.{IsSoundBy, facts_by}
