@@ -51,9 +51,13 @@ pub enum Field {
 /// The first field of a page that differs.
 #[derive(Clone, Copy, Debug, PartialEq, Eq)]
 pub struct Damaged {
+    /// The number that the page was read under.
     pub page: PageNo,
+    /// The field that differs.
     pub field: Field,
+    /// What the field has.
     pub found: u64,
+    /// What it should have.
     pub wanted: u64,
 }
 

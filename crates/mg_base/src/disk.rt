@@ -10,6 +10,7 @@ use crate::PageNo;
 /// The fault of a disk.
 #[derive(Clone, Copy, Debug, PartialEq, Eq)]
 pub enum DiskFault {
+    /// The disk failed: no cause is told.
     Failed,
 }
 

@@ -6,7 +6,9 @@ ghost use Rattle.mg_base.specs.Geometry.{is_page_size as page_size_test, geometr
 /// The size of a page in bytes, and the number of pages below which new pages are taken.
 #[derive(Clone, Copy, Debug, PartialEq, Eq)]
 pub struct Geometry {
+    /// The size of a page in bytes, one of five.
     pub size: u32,
+    /// New pages have numbers below this one, 16 to 131072.
     pub limit: u32,
 }
 

@@ -14,12 +14,13 @@
 //!
 //! All numbers in pages are unsigned, the low byte first.
 //!
-//! A disk is known by what it tells (`specs/Disk.antt`): its pages, what a crash now may leave, and
-//! what a crash since an earlier moment might have left. A disk in memory tells all of it, a real
-//! file nothing. Page writes are whole or absent and reach the disk in their order; what was settled
-//! stays. `FileDisk` keeps to that by forced writes, which no proof covers.
+//! A disk is known by what it tells (`specs/Disk.antt`): its pages, what a crash now may leave, what
+//! a crash since an earlier moment might have left, and what it was asked for. Page writes are whole or
+//! absent and reach the disk in their order; what was settled stays. A disk in memory tells all of it,
+//! and counts exactly.
 //!
-//! Above: every crate. Not here: what any kind of page means.
+//! Above: every crate; `mg_device` makes a disk of a device that keeps no order, and of a real file.
+//! Not here: what any kind of page means.
 #![tactic(auto)]
 
 mod bytes;
@@ -28,7 +29,6 @@ mod damage;
 mod disk;
 mod faulty_disk;
 mod fields;
-mod file_disk;
 mod fused;
 mod geometry;
 mod laws;
@@ -51,10 +51,9 @@ pub use fields::{
     COMMON, FLAGS_AT, KIND_AT, OWN_AT, OWNER_AT, SEQUENCE_AT, ZERO_AT, get_u16, get_u32,
     new_common, put_u16, put_u32,
 };
-pub use file_disk::FileDisk;
 pub use fused::Fused;
 pub use geometry::{GREATEST_LIMIT, Geometry, LEAST_LIMIT, is_page_size};
-pub use laws::a_fuse_fails_past_its_limit;
+pub use laws::{a_fuse_fails_past_its_limit, numbers_of_every_file};
 pub use mem_disk::MemDisk;
 pub use mem_sink::MemSink;
 pub use mem_source::MemSource;

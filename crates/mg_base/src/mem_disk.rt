@@ -137,6 +137,7 @@ impl Disk for MemDisk {
         ensures calm { Calm mem_meaning self.old self.new result }
         ensures unread { KeepsReads mem_meaning self.old self.new }
         ensures ok { IsOk result }
+        ensures same { self.new ≡ self.old }
     {
         Ok(self.size)
     }
@@ -146,6 +147,7 @@ impl Disk for MemDisk {
         ensures calm { Calm mem_meaning self.old self.new result }
         ensures unread { KeepsReads mem_meaning self.old self.new }
         ensures ok { IsOk result }
+        ensures same { self.new ≡ self.old }
     {
         Ok(self.used)
     }
@@ -159,6 +161,7 @@ impl Disk for MemDisk {
         ensures reads { ReadsPage mem_meaning self.old self.new page.0 }
         ensures counts { CountsRead mem_meaning self.old self.new page.0 result }
         ensures ok { IsOk result }
+        ensures acts { acts_in self.new ≡ acts_in self.old }
     {
         self.reads = self.reads.saturating_add(1);
         self.were_read[page.0 as usize] = true;

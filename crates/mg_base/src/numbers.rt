@@ -13,7 +13,9 @@ pub struct TxNo(pub u32);
 /// Names a record by its primary slot, or any cell by its place.
 #[derive(Clone, Copy, Debug, PartialEq, Eq, PartialOrd, Ord, Hash)]
 pub struct RecId {
+    /// The data page.
     pub page: PageNo,
+    /// The slot on it, counted from 0.
     pub slot: u16,
 }
 

@@ -11,6 +11,7 @@ pub struct StdSource<R> {
 }
 
 impl<R> StdSource<R> {
+    /// The standard input. Nothing is read yet.
     pub fn new(rt: R) -> StdSource<R> {
         StdSource { rt, faults: 0 }
     }
@@ -43,6 +44,7 @@ pub struct StdSink<R> {
 }
 
 impl<R> StdSink<R> {
+    /// The standard output. Nothing is written yet.
     pub fn new(rt: R) -> StdSink<R> {
         StdSink { rt, faults: 0 }
     }

@@ -5,12 +5,14 @@ ghost use Rattle.mg_base.specs.Streams.{SourceMeaning, SinkMeaning, Takes, Puts}
 /// The fault of a source.
 #[derive(Clone, Copy, Debug, PartialEq, Eq)]
 pub enum SourceFault {
+    /// The source failed: no cause is told.
     Failed,
 }
 
 /// The fault of a sink.
 #[derive(Clone, Copy, Debug, PartialEq, Eq)]
 pub enum SinkFault {
+    /// The sink failed: no cause is told.
     Failed,
 }
 

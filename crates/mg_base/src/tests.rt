@@ -1,8 +1,7 @@
-//! What no clause shows: that calls succeed with ample memory, and what the real file does.
+//! What no clause shows: that calls succeed with ample memory.
 
 use super::*;
 use std::test::Fail;
-use std::{env, fs, process};
 
 #[test]
 fn a_page_begins_with_its_common_part(rt: HostRuntime) {
@@ -145,57 +144,5 @@ fn the_streams_in_memory_pass_their_bytes(rt: HostRuntime) -> Result<(), Fail> {
     assert!(rt; sink.put(b"..").is_err());
     assert!(rt; sink.put(b"!").is_ok());
     assert_eq!(rt; sink.bytes(), b"hello!".as_slice());
-    Ok(())
-}
-
-// A name in the folder for temporary files that no other process uses.
-fn temporary(rt: &HostRuntime, name: &str) -> Result<String, Fail> {
-    let folder = env::temp_dir(rt)?;
-    let folder = folder.as_str();
-    let id = process::id(rt.process());
-    Ok(format!(in rt.alloc(); "{folder}/mgdb-{id}-{name}")?)
-}
-
-#[test]
-fn a_file_keeps_its_pages_and_pads_the_last_one(rt: HostRuntime) -> Result<(), Fail> {
-    let path = temporary(&rt, "pages")?;
-    let mut disk = FileDisk::at(rt.clone()?, path.clone()?, 1024);
-    assert_eq!(rt; disk.pages(), Ok(0));
-    assert!(rt; put(&mut disk, 2, 7));
-    assert!(rt; disk.settle().is_ok());
-    assert_eq!(rt; disk.pages(), Ok(3));
-    assert_eq!(rt; get(&mut disk, 1), Some(0));
-    assert_eq!(rt; get(&mut disk, 2), Some(7));
-
-    // A second opening is refused while the first has the lock.
-    let mut second = FileDisk::at(rt.clone()?, path.clone()?, 1024);
-    assert!(rt; second.page_size().is_err());
-
-    // A file that was cut pads its last page with zeros; a page of which nothing is left is not read.
-    let file = fs::OpenOptions::new().write(true).open(&rt, path.as_str())?;
-    file.set_len(1500)?;
-    assert_eq!(rt; get(&mut disk, 2), None);
-    assert_eq!(rt; get(&mut disk, 1), Some(0));
-    drop(disk);
-    let mut again = FileDisk::at(rt.clone()?, path.clone()?, 4096);
-    assert_eq!(rt; again.page_size(), Ok(4096));
-    assert_eq!(rt; again.pages(), Ok(1));
-    fs::remove_file(&rt, path.as_str())?;
-    Ok(())
-}
-
-#[test]
-fn a_folder_and_a_path_in_no_folder_are_faults(rt: HostRuntime) -> Result<(), Fail> {
-    let missing = temporary(&rt, "missing")?;
-    for path in [
-        env::temp_dir(&rt)?.into_string(),
-        format!(in rt.alloc(); "{missing}/db")?,
-        String::new(rt.alloc()),
-    ] {
-        let mut disk = FileDisk::at(rt.clone()?, path, 4096);
-        assert!(rt; disk.page_size().is_err());
-        assert!(rt; disk.pages().is_err());
-        assert!(rt; disk.settle().is_ok());
-    }
     Ok(())
 }

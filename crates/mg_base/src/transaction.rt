@@ -13,6 +13,7 @@ pub enum TxState {
     Limbo,
     /// It is rolled back. Its record versions are garbage.
     Dead,
+    /// Its record versions stay.
     Committed,
 }
 
@@ -31,8 +32,12 @@ impl fmt::Display for TxState {
 /// transaction.
 #[derive(Clone, Copy, Debug, PartialEq, Eq)]
 pub struct Markers {
+    /// The oldest interesting transaction.
     pub oit: TxNo,
+    /// The oldest active transaction.
     pub oat: TxNo,
+    /// The oldest snapshot transaction.
     pub ost: TxNo,
+    /// The next transaction: the number that is drawn next.
     pub next: TxNo,
 }

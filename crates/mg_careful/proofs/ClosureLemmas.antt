@@ -2,7 +2,8 @@
 -- from which a goal is reached.
 use Rattle.std.proofs.Common.{◌≡◌, ◌≢◌, ℕ, Bool, true, false, ◌||◌, ◌&&◌, ◌==◌, not, ◌⊎◌, inl, inr, sym, ◌∙◌, refl, subst}
 use Rattle.std.proofs.lemmas.Bool.{eq-eqb, ne_eqb, eqb-true, or_cases, or_left, or_right, and_parts, and_from, both_ways, false_from_ne_true, not-true, not_from_false}
-use Rattle.mg_careful.specs.Precedence.{Orders, Precedes, directly, through, precedes_in}
+use Rattle.mg_careful.specs.Precedence.{Orders, Precedes, directly, through}
+use Rattle.mg_careful.specs.PrecedenceLaws.{precedes_in}
 use Rattle.mg_careful.specs.Rows.{IsClosure, with_order, with_closed, without}
 
 -- two tests that hold at the same time are equal

@@ -1,4 +1,6 @@
 mod CarefulWriteLemmas
+mod CarefulStepLemmas
+mod ListedLemmas
 mod RowsLemmas
 mod ClosureLemmas
 mod ReadyLemmas

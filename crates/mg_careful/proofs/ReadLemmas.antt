@@ -5,7 +5,8 @@ use Rattle.std.proofs.lemmas.Bool.{cases_lt, both_ways, and_parts, and_from, or_
 use Rattle.std.proofs.lemmas.List.{get_or_past, get_or-replicate, length-replicate, get_or_default}
 use Rattle.std.proofs.lemmas.List.Sums.{sum_by-cons}
 use Rattle.std.proofs.lemmas.List.Folds.{list_any_none}
-use Rattle.mg_careful.specs.Precedence.{Precedes, directly, through, precedes_first, precedes_later}
+use Rattle.mg_careful.specs.Precedence.{Precedes, directly, through}
+use Rattle.mg_careful.specs.PrecedenceLaws.{precedes_first, precedes_later}
 use Rattle.mg_careful.specs.Rows.{bit, is_blank, is_ready_at, ready_page_at, IsLeast, IsSquare}
 use Rattle.mg_careful.specs.Graph.{is_entered, is_ordered, entered_count, room_of, IsGraph, IsReady, IsFirstReady, IsBlankGraph, IsAcyclic}
 use Rattle.mg_careful.proofs.RowsLemmas.{bit_inside, closure_none}

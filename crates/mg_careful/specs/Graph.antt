@@ -1,8 +1,7 @@
 -- What a graph of pages says: which pages are entered, and which is ordered before which.
 use Rattle.std.specs.Prelude.{◌≡◌, ℕ, ◌+◌, ◌≤◌, Bool, true, false, ◌||◌, ◌&&◌, ◌==◌, nat_lt, not, ◌⊎◌}
 use Rattle.std.specs.Prelude.{List, [], ◌∷◌, length, Option, Some, None, is_some, count_by, slice_index_or, if◌then◌else◌}
-use Rattle.std.proofs.lemmas.Bool.{and_parts}
-use Rattle.mg_careful.specs.Precedence.{Orders, Precedes, precedes_first, precedes_later}
+use Rattle.mg_careful.specs.Precedence.{Orders, Precedes}
 use Rattle.mg_careful.specs.Rows.{bit, IsSquare, IsClosure, with_order}
 
 -- the pages of a graph, each at a place of its own, and for each place the row of the places whose
@@ -96,19 +95,3 @@ pub record IsGraph (pages : List (Option ℕ)) (before after : List (List Bool))
 -- a graph has no cycle: no page precedes itself
 abbrev pub IsAcyclic : PageGraph → Type 0
 IsAcyclic g = (page : ℕ) → Precedes (is_ordered g) page page → ⊥
-
--- Laws for callers: only entered pages are ordered.
-
-pub ordered_entered : (g : PageGraph) (a b : ℕ) → is_ordered g a b ≡ true
-    → (is_entered g a ≡ true) × (is_entered g b ≡ true)
-unfolding is_ordered
-ordered_entered g a b ordered =
-    let parts = and_parts (is_entered g a) _ ordered in
-    (parts.0, (and_parts (is_entered g b) _ parts.1).0)
-
-pub precedes_entered : (g : PageGraph) (a b : ℕ) → Precedes (is_ordered g) a b
-    → (is_entered g a ≡ true) × (is_entered g b ≡ true)
-precedes_entered g a b chain = (
-  precedes_first (is_ordered g) (is_entered g) (λ x y o. (ordered_entered g x y o).0) a b chain,
-  precedes_later (is_ordered g) (is_entered g) (λ x y o. (ordered_entered g x y o).1) a b chain,
-)

@@ -1,7 +1,8 @@
 //! Careful write: which page has to reach the disk before which, and why a disk that is written in
 //! such an order is never left with a link to nothing.
 //! The graph keeps the orders between dirty pages and tells which page may be written next; the law
-//! says what these orders give, whatever the format of the pages.
+//! says what these orders give, whatever the format of the pages, and what a change of pages owes for
+//! it to go on.
 //!
 //! Owns: no bytes. A page is any number; its content is any list of bytes.
 //!

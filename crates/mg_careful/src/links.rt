@@ -1,7 +1,8 @@
 //! What one page demands of others, and the law by which ordered page writes keep it.
 
 ghost use Rattle.std.specs.Prelude.{◌≡◌, ◌++◌, OnOk, OnErr};
-ghost use Rattle.mg_careful.specs.CarefulWrite.{Demands, Meets, CarefulWrite};
+ghost use Rattle.mg_careful.specs.CarefulWrite.{Demands, Meets, CarefulWrite, ListsAreSets};
+ghost use Rattle.mg_careful.specs.CarefulSteps.{StaysCareful, BatchStaysCareful};
 
 use mg_base::Memory;
 
@@ -37,10 +38,17 @@ pub trait Links {
         ensures { result ≡ meets_of b.now want.now };
 }
 
-/// The careful-write law, for the links of every file format. It does nothing: its contract is the
-/// law, so that a crate that orders its page writes can cite it.
+/// The careful-write law, for the links of every file format: the overlay of every closed set is
+/// safe; a writer who was careful is so after the pages of a closed set were written out; and after a
+/// batch he bears the demands, if the batch bears its own. Its sets of demands are tests; a list of
+/// demands is one of them.
+///
+/// It does nothing: its contract is the law, so that a crate that orders its page writes can cite it.
 pub fn careful_write<L: Links>()
-    ensures { CarefulWrite L.demands_of L.meets_of }
+    ensures overlays { CarefulWrite L.demands_of L.meets_of }
+    ensures writes { StaysCareful L.demands_of L.meets_of }
+    ensures batch { BatchStaysCareful L.demands_of L.meets_of }
+    ensures lists { ListsAreSets }
 {}
 
 #[cfg(test)]

@@ -26,7 +26,7 @@ none_undrawn o t first above =
     at p q some undrawn = rw (some, undrawn) (refl, refl)
 
 -- a blank image holds what a new database begins with
-pub blank_holds : (form : Form) (size : ℕ) (pages : Pages) (limit k : ℕ) → IsBlank form size pages
+pub blank_holds : (form : Form) (size : ℕ) (pages : Pages) (limit k : ℕ) → IsBlank size pages
     → HoldsDurable form size pages (new_opening limit) [] k
 blank_holds form size pages limit k blank = record {
   opened = record {

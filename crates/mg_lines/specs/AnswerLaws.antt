@@ -17,13 +17,12 @@ use Rattle.mg_model.specs.Answers.{answer, catalog_of, has_table, if_active, pas
 use Rattle.mg_model.specs.Catalog.{shape_in}
 use Rattle.mg_model.specs.Changes.{Cells, KeyedRows, row_at, rows_of, same_key}
 use Rattle.mg_model.specs.History.{Entries}
-use Rattle.mg_model.specs.Machine.{mode_of, state_of, view}
+use Rattle.mg_model.specs.Machine.{state_of, view}
 use Rattle.mg_model.specs.NewDatabase.{kv_name}
 use Rattle.mg_model.specs.RowLaws.{IsAscending, IsBelow, row_in, row_in-rows_of, rows_of_ascend, same_from_same_key}
 use Rattle.mg_model.specs.declared.answer.Answer.TheVariants.{No, Rows}
 use Rattle.mg_model.specs.declared.opening.Opening.{Opening}
 use Rattle.mg_model.specs.declared.refusal.Refusal.TheVariants.{NoTable}
-use Rattle.mg_generations.specs.Generations.{AreGenerations, Generation}
 use Rattle.mg_generations.specs.TableLaws.{shape_stands}
 use Rattle.mg_lines.specs.Given.{IsKeyTest, finds}
 use Rattle.mg_lines.specs.Found.{rows_with}

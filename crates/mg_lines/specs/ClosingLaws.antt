@@ -8,7 +8,7 @@ use Rattle.mg_model.specs.declared.opening.Opening.{Opening}
 use Rattle.mg_model.specs.History.{Entries, entry}
 use Rattle.mg_model.specs.Machine.{state_of}
 use Rattle.mg_lines.specs.declared.line.TheConstants.{SESSIONS}
-use Rattle.mg_lines.specs.Given.{closing, last_begun, onto, rolled_back, rolls_back, sessions, transaction_of, with_rollback}
+use Rattle.mg_lines.specs.Given.{closing, last_begun, onto, rolled_back, rolls_back, transaction_of, with_rollback}
 use Rattle.mg_lines.specs.LineLaws.{rolled}
 use Rattle.mg_lines.specs.SessionLaws.{found_active, is_of_one_session}
 use Rattle.mg_lines.specs.Steady.{Between, IsClosed, IsSteady}

@@ -1,1 +1,3 @@
+pub mod CheckLemmas
 pub mod NodeLemmas
+pub mod OrderLemmas

@@ -1,10 +1,14 @@
 -- Lawful index pages are laid out, and what is read of a page that is laid out.
-use Rattle.std.proofs.Common.{◌≡◌, ◌<◌, ◌≤◌, ◌+◌, ◌/◌, ◌⊎◌, inl, inr, ◌++◌, [], ◌∷◌, ℕ, zero, suc, Bool, true, false, List, length, refl, sym, ap, ◌∙◌, add-one, arith}
+use Rattle.std.proofs.Common.{◌≡◌, ◌<◌, ◌≤◌, ◌+◌, ◌/◌, ◌⊎◌, inl, inr, ◌++◌, [], ◌∷◌, ℕ, zero, suc, Bool, true, false, List, length, refl, sym, ap, subst, ◌∙◌, add-one, arith}
+use Rattle.std.specs.Prelude.{slice_get, Option, Some, None, if◌then◌else◌}
 use Rattle.std.proofs.lemmas.Bool.{cases_lt}
 use Rattle.mg_node.specs.declared.entry.Entry.{Entry}
 use Rattle.mg_node.specs.declared.node.Listed.{Listed}
 use Rattle.mg_node.specs.declared.placed.Placed.{Placed}
-use Rattle.mg_node.specs.NodePage.{count_in, end_of, entries_of, first_at, first_entries, is_inner, key_len, place_of}
+use Rattle.mg_node.specs.declared.entry.TheConstants.{CONTENT_AT}
+use Rattle.mg_node.specs.NodePage.{IsNodePage, count_in, end_of, entries_of, entry_at, first_at, first_entries, has_high, has_low, high_at, is_inner, key_len, place_of}
+use Rattle.mg_node.specs.NodeTestLaws.{choose_up}
+use Rattle.mg_node.specs.NodeWalkLaws.{entries_of-walk, entry-get, entry-get_past, place_of-walk}
 use Rattle.mg_node.specs.NodeReading.{AreFirst, IsLaidOut, IsListOf, IsPlaced, IsWithin}
 
 -- a place with a child or without ends behind where it begins
@@ -76,3 +80,55 @@ all_listed page n at listed first end_is count = record {
 pub not_laid_out : (page : List ℕ) (n at : ℕ) → at ≡ place_of page n → n < count_in page
     → (IsWithin (is_inner page) page at → ⊥) → IsLaidOut page → ⊥
 not_laid_out page n at at_is below outside is = outside (rw at_is (entry_within page is n below))
+
+-- Lawful pages.
+
+pub laid_out_of : (page : List ℕ) → IsNodePage page → IsLaidOut page
+laid_out_of page is = record {
+  low = is.low_key;
+  high = is.high_key;
+  keys = is.keys;
+  inside = subst (λ (n : ℕ). n ≤ length page) is.ends is.inside;
+}
+
+behind : (there : Bool) (end start : ℕ) → there ≡ true → end ≤ (if there then end else start)
+behind true end start is = omega arith
+behind false end start is = absurd cc
+
+-- the fences of a page that is laid out are within it
+pub high_within : (page : List ℕ) → IsLaidOut page → has_high page ≡ true
+    → IsWithin false page (high_at page)
+high_within page is there = record {
+  key = is.high there;
+  ends = let ends = behind (has_high page) (end_of false page (high_at page)) (high_at page) there in
+      let inside = first_inside page is in omega arith;
+}
+
+-- the high fence begins within the page
+pub high_at_inside : (page : List ℕ) → IsLaidOut page → high_at page ≤ length page
+high_at_inside page is =
+    let up = choose_up (has_high page) (high_at page) (end_of false page (high_at page)) (high_at page)
+    (omega arith) (ends_behind_at page (high_at page)) in
+    let inside = first_inside page is in omega arith
+  where
+    ends_behind_at : (p : List ℕ) (at : ℕ) → at ≤ end_of false p at
+    ends_behind_at p at = omega arith
+
+pub low_within : (page : List ℕ) → IsLaidOut page → has_low page ≡ true
+    → IsWithin false page CONTENT_AT
+low_within page is there = record {
+  key = is.low there;
+  ends = let ends = behind (has_low page) (end_of false page CONTENT_AT) CONTENT_AT there in
+      let inside = high_at_inside page is in omega arith;
+}
+
+-- the entry at a place among the entries
+pub got : (page : List ℕ) (i : ℕ) → i < count_in page
+    → Some (entry_at (is_inner page) page (place_of page i)) ≡ slice_get (entries_of page) i
+got page i below = rw (entries_of-walk page, place_of-walk page i)
+    (sym (entry-get (is_inner page) page (first_at page) (count_in page) i below))
+
+pub got_none : (page : List ℕ) (i : ℕ) → count_in page ≤ i
+    → ◌≡◌ {A = Option Entry} None (slice_get (entries_of page) i)
+got_none page i past = rw (entries_of-walk page)
+    (sym (entry-get_past (is_inner page) page (first_at page) (count_in page) i past))

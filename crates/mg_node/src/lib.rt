@@ -20,23 +20,32 @@
 //! different, at least the low fence and less than the high one; a key has at most P / 8 bytes. The
 //! first entry of an inner page equals its low fence, and where there is none it has an empty key
 //! and record 0, 0.
-//! Below: `mg_base`, for fields, and the tests of a page. Above: the index trees, and the plain
-//! reading of an image.
-//! Not here: whether a child or a neighbour leads to a page of the index. A page that is not lawful
-//! is refused as a whole: which field is damaged is not said yet.
+//! Below: `mg_base`, for fields, and the tests of a page. Above: `mg_node_writing`, which changes
+//! such pages; the index trees, and the plain reading of an image.
+//! Not here: whether a child or a neighbour leads to a page of the index.
 #![tactic(auto)]
 
+mod check;
 mod entry;
+mod in_place;
 mod lawful;
 mod node;
 mod placed;
+mod readers;
+mod walk;
 
+pub use check::check_node;
 pub use entry::{
     CHILD_LEN, CONTENT_AT, COUNT_AT, END_AT, Entry, FENCES_AT, KEY_AT, LEVEL_AT, NODE_KIND,
     RECORD_LEN, RIGHT_AT,
 };
+pub use in_place::order_with;
 pub use lawful::{have_same_place, is_below, is_up_to, order};
 pub use node::{Node, check_node_common, read_node};
+pub use readers::{entry_at, high_of, level_of, low_of, right_of};
+pub use walk::{
+    FAR, count, end_of, first_at, has_high, has_low, high_at, is_inner, least_len, place,
+};
 
 #[cfg(test)]
 mod tests;

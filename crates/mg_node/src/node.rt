@@ -2,12 +2,13 @@
 
 ghost use Rattle.std.specs.Prelude.{◌≡◌, ◌≤◌, ◌↔◌, IfNone, IfOk, IfSome, IsSome, IsTrue, length};
 ghost use Rattle.mg_base.specs.Checks.{verdict};
-ghost use Rattle.mg_node.specs.NodePage.{IsNodePage, first_at, has_high as has_high_of, has_low as has_low_of, is_inner as is_inner_of, node_checks};
+ghost use Rattle.mg_node.specs.NodePage.{IsNodePage, first_at, node_checks};
 ghost use Rattle.mg_node.specs.NodeReading.{ArePartsOf, IsLaidOut, IsListOf, IsNodeOf};
 
-use crate::entry::{CONTENT_AT, COUNT_AT, END_AT, Entry, FENCES_AT, LEVEL_AT, NODE_KIND, RIGHT_AT};
+use crate::entry::{CONTENT_AT, COUNT_AT, END_AT, Entry, LEVEL_AT, NODE_KIND, RIGHT_AT};
 use crate::lawful::{are_ascending, are_between, begins_as_inner};
 use crate::placed::{read_entry, read_fence};
+use crate::walk::{has_high, has_low, is_inner};
 use mg_base::{Damaged, Memory, PageNo, check_common, get_u16, get_u32};
 use std::alloc::Global;
 
@@ -52,30 +53,6 @@ pub fn check_node_common(b: &[u8], page: PageNo, owner: u32) -> Result<(), Damag
     ensures { result ≡ verdict page (node_checks b.now page.0 owner) }
 {
     check_common(b, page, NODE_KIND, owner, 0)
-}
-
-/// Whether a page is an inner page.
-fn is_inner(page: &[u8]) -> bool
-    requires { 1024 ≤ length page.now }
-    ensures { result ≡ is_inner_of page.now }
-{
-    get_u16(page, LEVEL_AT) > 0
-}
-
-/// Whether a page has a low fence.
-fn has_low(page: &[u8]) -> bool
-    requires { 1024 ≤ length page.now }
-    ensures { result ≡ has_low_of page.now }
-{
-    get_u16(page, FENCES_AT) % 2 == 1
-}
-
-/// Whether a page has a high fence.
-fn has_high(page: &[u8]) -> bool
-    requires { 1024 ≤ length page.now }
-    ensures { result ≡ has_high_of page.now }
-{
-    get_u16(page, FENCES_AT) / 2 % 2 == 1
 }
 
 /// The entries of a page: `None` exactly where the key of one is too long, or one does not end

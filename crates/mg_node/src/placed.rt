@@ -5,7 +5,8 @@ ghost use Rattle.mg_base.specs.Fields.{u16_at, u32_at};
 ghost use Rattle.mg_node.specs.NodeReading.{IsFence, IsPlaced, IsWithin};
 
 use crate::entry::{CHILD_LEN, Entry, KEY_AT, RECORD_LEN};
-use mg_base::{Bytes, Memory, PageNo, RecId, get_u16, get_u32};
+use crate::in_place::record_at;
+use mg_base::{Bytes, Memory, PageNo, get_u16, get_u32};
 use std::alloc::Global;
 
 /// An entry of a page, and where it ends.
@@ -38,18 +39,6 @@ fn child_at(page: &[u8], at: usize, with_child: bool) -> PageNo
         PageNo(get_u32(page, at))
     } else {
         PageNo(0)
-    }
-}
-
-/// The record at a place.
-fn record_at(page: &[u8], at: usize) -> RecId
-    requires { at + RECORD_LEN ≤ length page.now }
-    ensures page { result.page.0 ≡ u32_at page.now at }
-    ensures slot { result.slot ≡ u16_at page.now (at + 4) }
-{
-    RecId {
-        page: PageNo(get_u32(page, at)),
-        slot: get_u16(page, at + 4),
     }
 }
 

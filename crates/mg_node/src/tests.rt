@@ -1,7 +1,7 @@
 //! Pages of 1024 bytes made by hand: what is read of them, and which ones are refused.
 
 use super::*;
-use mg_base::{Field, PageNo, new_common};
+use mg_base::{Damaged, Field, PageNo, new_common};
 use std::alloc::Global;
 use std::test::Fail;
 
@@ -171,12 +171,83 @@ fn the_longest_key_has_an_eighth_of_the_page(rt: HostRuntime) -> Result<(), Fail
     Ok(())
 }
 
+// What the test of page 9 of owner 5 answers, where these bytes stand behind the common part.
+fn fault_of(fields: &[u8]) -> Option<Damaged> {
+    let mut page = [0u8; SIZE];
+    new_common(&mut page, PageNo(9), NODE_KIND, 5, 0);
+    for (i, byte) in fields.iter().enumerate() {
+        if i < SIZE - 16 {
+            page[16 + i] = *byte;
+        }
+    }
+    check_node(&page, PageNo(9), 5).err()
+}
+
+#[test]
+fn the_first_field_that_differs_is_named(rt: HostRuntime) -> Result<(), Fail> {
+    let cases: [(&[u8], Field, u64, u64); 6] = [
+        // An inner page with one entry; more entries than fit a leaf, and an inner page.
+        (
+            &[
+                1, 0, 1, 0, 0, 0, 0, 0, 40, 0, 0, 0, 0, 0, 0, 0, 0, 0, 0, 0, 8, 0, 0, 0,
+            ],
+            Field::Count,
+            1,
+            2,
+        ),
+        (
+            &[0, 0, 255, 255, 0, 0, 0, 0, 28, 0, 0, 0],
+            Field::Count,
+            65_535,
+            124,
+        ),
+        (
+            &[1, 0, 84, 0, 0, 0, 0, 0, 28, 0, 0, 0],
+            Field::Count,
+            84,
+            83,
+        ),
+        // The entries end elsewhere; a key has 129 bytes; an entry equal to the high fence.
+        (
+            &[0, 0, 0, 0, 0, 0, 0, 0, 29, 0, 0, 0],
+            Field::Offset,
+            29,
+            28,
+        ),
+        (
+            &[0, 0, 1, 0, 0, 0, 0, 0, 165, 0, 0, 0, 129, 0],
+            Field::Offset,
+            129,
+            128,
+        ),
+        (
+            &[
+                0, 0, 1, 0, 0, 0, 0, 0, 46, 0, 2, 0, 1, 0, 7, 6, 0, 0, 0, 1, 0, 1, 0, 7, 6, 0, 0,
+                0, 1, 0,
+            ],
+            Field::Entry,
+            0,
+            1,
+        ),
+    ];
+    for (fields, field, found, wanted) in &cases {
+        let damage = fault_of(fields).ok_or("the page passes")?;
+        assert_eq!(&rt; damage.field, *field);
+        assert_eq!(&rt; damage.found, *found);
+        assert_eq!(&rt; damage.wanted, *wanted);
+    }
+    // An empty leaf passes.
+    assert!(&rt; fault_of(&[0, 0, 0, 0, 0, 0, 0, 0, 28, 0, 0, 0]).is_none());
+    Ok(())
+}
+
 #[test]
 fn the_common_part_is_tested(rt: HostRuntime) -> Result<(), Fail> {
     let mut page = [0u8; SIZE];
     new_common(&mut page, PageNo(9), NODE_KIND, 5, 0);
-    assert_eq!(&rt; check_node_common(&page, PageNo(9), 5), Ok(()));
-    let Err(damage) = check_node_common(&page, PageNo(9), 6) else {
+    page[END_AT] = 28;
+    assert_eq!(&rt; check_node(&page, PageNo(9), 5), Ok(()));
+    let Err(damage) = check_node(&page, PageNo(9), 6) else {
         return Err("another owner passes")?;
     };
     assert_eq!(&rt; damage.field, Field::Owner);

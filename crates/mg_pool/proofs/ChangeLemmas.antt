@@ -4,17 +4,20 @@ use Rattle.std.proofs.lemmas.Bool.{cases_eq, eq-eqb, ne_eqb, both_ways, and_part
 use Rattle.mg_base.specs.Image.{Image, page_at}
 use Rattle.mg_base.specs.Disk.{Meaning}
 use Rattle.mg_careful.specs.declared.graph.Order.{Order}
-use Rattle.mg_careful.specs.Precedence.{Precedes, directly, precedes_in}
+use Rattle.mg_careful.specs.Precedence.{Precedes, directly}
+use Rattle.mg_careful.specs.PrecedenceLaws.{precedes_in}
 use Rattle.mg_careful.specs.Graph.{PageGraph, is_ordered, EntersPage}
 use Rattle.mg_careful.specs.CarefulWrite.{PageSet, IsClosed, overlay}
 use Rattle.mg_pool.specs.declared.batch.BatchPage.{BatchPage}
 use Rattle.mg_pool.specs.declared.pool.Pool.{Pool}
 use Rattle.mg_pool.specs.Batch.{content_in, is_in, IsOnce, lists, joint, order_at, dirty_with}
-use Rattle.mg_pool.specs.Dirty.{DirtyPages, content_of, is_dirty, PutsContent, IsLeastPage}
+use Rattle.mg_pool.specs.Dirty.{DirtyPages, content_of, is_dirty, is_marked, PutsContent, IsLeastPage}
 use Rattle.mg_pool.specs.Change.{Changes, ChangesPages, PutsPages, EntersOrders, set_before, or_else, IsOpen}
 use Rattle.mg_pool.specs.Fault.{StaysOnline}
 use Rattle.mg_pool.specs.Pool.{shown, cache_of, WritesSet, taken_out, IsPool, LeavesClosed}
 use Rattle.mg_pool.proofs.BatchLemmas.{clean_count, clean_rest, clean_same, none_after, first_more_here, first_more_other, no_page}
+use Rattle.mg_pool.specs.Run.{HasWritten}
+use Rattle.mg_pool.proofs.DirtyLemmas.{clean_unmarked}
 use Rattle.mg_pool.proofs.OrderLemmas.{lists_more}
 
 or_else_some : (a b : Option (List ℕ)) → is_some b ≡ true → is_some (or_else a b) ≡ true
@@ -56,6 +59,13 @@ module _ (old new : DirtyPages) (graph more : PageGraph) (image : Image) (batch 
       at false out = rw out (disk_same p)
       at true is_in = rw is_in (inside (batch p) (contents p) (closed.only_dirty p is_in))
 
+-- nothing is closed
+none_closed : (dirty : DirtyPages) (graph : PageGraph) (image : Image) → IsClosed (cache_of dirty graph image) (λ p. false)
+none_closed dirty graph image = record {
+  only_dirty = λ p holds. let h : false ≡ true = holds in absurd cc;
+  before = λ p q chain dirty holds. let h : false ≡ true = holds in absurd cc;
+}
+
 closed_same : (dirty : DirtyPages) (graph : PageGraph) (image : Image) (a b : PageSet) → ((p : ℕ) → a p ≡ b p) → IsClosed (cache_of dirty graph image) a → IsClosed (cache_of dirty graph image) b
 closed_same dirty graph image a b same closed = record {
   only_dirty = λ p holds. closed.only_dirty p (same p ∙ holds);
@@ -66,24 +76,77 @@ overlay_same : (dirty : DirtyPages) (graph : PageGraph) (image : Image) (a b : P
 overlay_same dirty graph image a b same p = rw (same p) refl
 
 -- Pages are written out, and then a batch is put.
-changes_pages : (d0 d1 d2 : DirtyPages) (g0 g1 g2 : PageGraph) (i0 i1 : Image) (batch : ℕ → Option (List ℕ)) (orders : List Order) → WritesSet d0 d1 g0 g1 i0 i1 (taken_out d0 d1) → ((p : ℕ) → is_dirty d1 p ≡ true → is_dirty d0 p ≡ true) → ((p : ℕ) → content_of d2 p ≡ or_else (batch p) (content_of d1 p)) → d2.size ≡ d1.size → ((a b : ℕ) → is_ordered g1 a b ≡ true → is_ordered g2 a b ≡ true) → ((a b : ℕ) → lists orders a b ≡ true → is_dirty d2 a ≡ true → is_ordered g2 a b ≡ true) → ChangesPages d0 d2 g0 g2 i0 i1 (taken_out d0 d1) batch orders
-changes_pages d0 d1 d2 g0 g1 g2 i0 i1 batch orders writes fewer contents size grows enters = record {
-  together = λ set_ closed a b listed dirty later. closed.before a b (directly (enters a b listed dirty)) dirty later;
-  shown_new = λ p. put_shown d1 d2 g1 g2 i1 batch contents size grows p ∙ ap (unwrap_or (batch p)) (writes.shown_same p);
-  closed = λ set_ closed. closed_same d0 g0 i0 _ _ (same set_) (writes.closed _ (put_closed d1 d2 g1 g2 i1 batch contents size grows set_ closed));
-  overlays = λ set_ closed p.
-      put_overlays d1 d2 g1 g2 i1 batch contents size grows set_ closed p
-      ∙ ap (unwrap_or (cond (set_ p) (batch p) None)) (writes.overlays _ (put_closed d1 d2 g1 g2 i1 batch contents size grows set_ closed) p ∙ overlay_same d0 g0 i0 _ _ (same set_) p);
-}
-  where
-    same : (set_ : PageSet) (p : ℕ) → (taken_out d0 d1 p || (set_ p && is_dirty d1 p)) ≡ set_before d0 (taken_out d0 d1) set_ p
-    same set_ p = at (is_dirty d0 p) (is_dirty d1 p) (set_ p) (fewer p)
-      where
-        at : (x y z : Bool) → (y ≡ true → x ≡ true) → ((x && not y) || (z && y)) ≡ ((x && not y) || (z && x))
-        at true true z sub = refl
-        at true false z sub = refl
-        at false true z sub = absurd (let h : false ≡ true = sub refl in cc)
-        at false false z sub = refl
+module _ {D L : Type 0} (m : Meaning D) (a b : Pool D L) (run : HasWritten m a b) (d2 : DirtyPages) (g2 : PageGraph) (i0 i1 : Image) (writes : WritesSet a.dirty b.dirty a.graph b.graph i0 i1 (taken_out a.dirty b.dirty)) (batch : ℕ → Option (List ℕ)) (orders : List Order) (contents : (p : ℕ) → content_of d2 p ≡ or_else (batch p) (content_of b.dirty p)) (marked : (p who : ℕ) → is_marked d2 p who ≡ is_marked b.dirty p who) (size : d2.size ≡ b.dirty.size) (ordered : (x y : ℕ) → is_ordered g2 x y ≡ (is_ordered b.graph x y || (lists orders x y && is_dirty d2 x))) where
+  abbrev d0 : DirtyPages
+  d0 = a.dirty
+
+  abbrev d1 : DirtyPages
+  d1 = b.dirty
+
+  grows : (x y : ℕ) → is_ordered b.graph x y ≡ true → is_ordered g2 x y ≡ true
+  grows x y o = ordered x y ∙ or_left _ _ o
+
+  enters : (x y : ℕ) → lists orders x y ≡ true → is_dirty d2 x ≡ true → is_ordered g2 x y ≡ true
+  enters x y listed dirty = ordered x y ∙ or_right (is_ordered b.graph x y) _ (and_from _ _ listed dirty)
+
+  same : (set_ : PageSet) (p : ℕ) → (taken_out d0 d1 p || (set_ p && is_dirty d1 p)) ≡ set_before d0 (taken_out d0 d1) set_ p
+  same set_ p = at (is_dirty d0 p) (is_dirty d1 p) (set_ p) (run.fewer p)
+    where
+      at : (x y z : Bool) → (y ≡ true → x ≡ true) → ((x && not y) || (z && y)) ≡ ((x && not y) || (z && x))
+      at true true z sub = refl
+      at true false z sub = refl
+      at false true z sub = absurd (let h : false ≡ true = sub refl in cc)
+      at false false z sub = refl
+
+  -- what was dirty and is not written out is dirty still
+  still : (p : ℕ) → is_dirty d1 p ≡ (is_dirty d0 p && not (taken_out d0 d1 p))
+  still p = at (is_dirty d0 p) (is_dirty d1 p) (run.fewer p)
+    where
+      at : (x y : Bool) → (y ≡ true → x ≡ true) → y ≡ (x && not (x && not y))
+      at true true sub = refl
+      at true false sub = refl
+      at false true sub = absurd (let h : false ≡ true = sub refl in cc)
+      at false false sub = refl
+
+  laid : (p : ℕ) (o : Option (List ℕ)) → batch p ≡ o → o ≢ None → is_dirty d2 p ≡ true
+  laid p None is some = absurd (some refl)
+  laid p (Some bytes) is some = ap is_some (contents p) ∙ ap (λ (o : Option (List ℕ)). is_some (or_else o (content_of d1 p))) is
+
+  marks_left : (p who : ℕ) → is_marked d2 p who ≡ (is_marked d0 p who && not (taken_out d0 d1 p))
+  marks_left p who = marked p who ∙ at (is_dirty d0 p) (is_dirty d1 p) (is_marked d0 p who) (is_marked d1 p who) (run.marks p who) (clean_unmarked d1 p who) (run.fewer p) (clean_unmarked d0 p who)
+    where
+      at : (x y k l : Bool) → (y ≡ true → l ≡ k) → (y ≡ false → l ≡ false) → (y ≡ true → x ≡ true) → (x ≡ false → k ≡ false) → l ≡ (k && not (x && not y))
+      at true true true l kept gone sub clean = kept refl
+      at true true false l kept gone sub clean = kept refl
+      at true false true l kept gone sub clean = gone refl
+      at true false false l kept gone sub clean = gone refl
+      at false true k l kept gone sub clean = absurd (let h : false ≡ true = sub refl in cc)
+      at false false true l kept gone sub clean = absurd (let h : true ≡ false = clean refl in cc)
+      at false false false l kept gone sub clean = gone refl
+
+  pub changes_pages : ChangesPages d0 d2 a.graph g2 i0 i1 (taken_out d0 d1) batch orders
+  changes_pages = record {
+    out = closed_same d0 a.graph i0 _ _ (λ p. no_more (taken_out d0 d1 p)) (writes.closed (λ p. false) (none_closed d1 b.graph i1));
+    image = writes.image;
+    is_laid = λ p some. laid p (batch p) refl some;
+    dirty_else = λ p none. ap is_some (contents p) ∙ (ap (λ (o : Option (List ℕ)). is_some (or_else o (content_of d1 p))) none ∙ still p);
+    marks = marks_left;
+    ordered = λ x y. ordered x y ∙ ap (λ (t : Bool). t || (lists orders x y && is_dirty d2 x)) (run.orders x y ∙ ordered_left x y);
+    size = size ∙ run.size;
+    shown_new = λ p. put_shown d1 d2 b.graph g2 i1 batch contents size grows p ∙ ap (unwrap_or (batch p)) (writes.shown_same p);
+    closed = λ set_ closed. closed_same d0 a.graph i0 _ _ (same set_) (writes.closed _ (put_closed d1 d2 b.graph g2 i1 batch contents size grows set_ closed));
+    overlays = λ set_ closed p.
+        put_overlays d1 d2 b.graph g2 i1 batch contents size grows set_ closed p
+        ∙ ap (unwrap_or (cond (set_ p) (batch p) None)) (writes.overlays _ (put_closed d1 d2 b.graph g2 i1 batch contents size grows set_ closed) p ∙ overlay_same d0 a.graph i0 _ _ (same set_) p);
+    together = λ set_ closed x y listed dirty later. closed.before x y (directly (enters x y listed dirty)) dirty later;
+  }
+    where
+      no_more : (t : Bool) → (t || false) ≡ t
+      no_more true = refl
+      no_more false = refl
+
+      ordered_left : (x y : ℕ) → (is_ordered a.graph x y && (is_dirty d1 x && is_dirty d1 y)) ≡ (is_ordered a.graph x y && ((is_dirty d0 x && not (taken_out d0 d1 x)) && (is_dirty d0 y && not (taken_out d0 d1 y))))
+      ordered_left x y = ap (λ (t : Bool). is_ordered a.graph x y && (t && is_dirty d1 y)) (still x) ∙ ap (λ (t : Bool). is_ordered a.graph x y && ((is_dirty d0 x && not (taken_out d0 d1 x)) && t)) (still y)
 
 -- the frame of a change
 pub frame : {D L : Type 0} (m : Meaning D) (old new : Pool D L) (pages : List BatchPage) (orders : List Order) → Changes m old new pages orders → m.tells old.disk ≡ true → (i j : Image) → m.held old.disk ≡ Some i → m.held new.disk ≡ Some j → (gone : PageSet) × ChangesPages old.dirty new.dirty old.graph new.graph i j gone (content_in pages) orders
@@ -93,11 +156,11 @@ frame m old new pages orders changes told i j held_i held_j =
     let enters = changes.enters in
     let held : m.held ready.disk ≡ Some j = ap m.held (sym puts.disk) ∙ (ap m.held (sym enters.disk) ∙ held_j) in
     let contents : (p : ℕ) → content_of new.dirty p ≡ or_else (content_in pages p) (content_of ready.dirty p) = λ p. ap (λ (d : DirtyPages). content_of d p) enters.dirty ∙ puts.contents p in
-    let size : new.dirty.size ≡ ready.dirty.size = ap (λ (d : DirtyPages). d.size) enters.dirty ∙ puts.size in (
+    let marked : (p who : ℕ) → is_marked new.dirty p who ≡ is_marked ready.dirty p who = λ p who. ap (λ (d : DirtyPages). is_marked d p who) enters.dirty ∙ puts.marks p who in
+    let size : new.dirty.size ≡ ready.dirty.size = ap (λ (d : DirtyPages). d.size) enters.dirty ∙ puts.size in
+    let ordered : (a b : ℕ) → is_ordered new.graph a b ≡ (is_ordered ready.graph a b || (lists orders a b && is_dirty new.dirty a)) = λ a b. enters.ordered a b ∙ (ap (λ (t : Bool). t || (lists orders a b && is_dirty changes.put.dirty a)) (puts.ordered a b) ∙ ap (λ (d : DirtyPages). is_ordered ready.graph a b || (lists orders a b && is_dirty d a)) (sym enters.dirty)) in (
       taken_out old.dirty ready.dirty,
-      changes_pages old.dirty ready.dirty new.dirty old.graph ready.graph new.graph i j (content_in pages) orders (changes.written.out told i j held_i held) changes.written.fewer contents size
-          (λ a b o. enters.ordered a b ∙ or_left _ _ (puts.ordered a b ∙ o))
-          (λ a b listed dirty. enters.ordered a b ∙ or_right (is_ordered changes.put.graph a b) _ (and_from _ _ listed (sym (ap (λ (d : DirtyPages). is_dirty d a) enters.dirty) ∙ dirty))),
+      changes_pages m old ready changes.written new.dirty new.graph i j (changes.written.out told i j held_i held) (content_in pages) orders contents marked size ordered,
     )
 
 -- Pages are put one after another.
@@ -115,8 +178,8 @@ puts_none m start pool = record {
   faults = refl;
 }
 
-pub puts_more : {D L : Type 0} (m : Meaning D) (start now next : Pool D L) (pages : List BatchPage) (i : ℕ) → IsOnce pages → i < length pages → PutsPages m (content_in (take i pages)) start now → IsPool m next → PutsContent now.dirty next.dirty (get_or pages i no_page).page (get_or pages i no_page).bytes → EntersPage now.graph next.graph (get_or pages i no_page).page → next.geometry ≡ now.geometry → next.disk ≡ now.disk → next.offline ≡ now.offline → next.faults ≡ now.faults → PutsPages m (content_in (take (i + 1) pages)) start next
-puts_more m start now next pages i once inside before pool put enters geometry disk offline faults = record {
+pub puts_more : {D L : Type 0} (m : Meaning D) (start now next : Pool D L) (pages : List BatchPage) (i : ℕ) → IsOnce pages → i < length pages → PutsPages m (content_in (take i pages)) start now → IsPool m next → PutsContent now.dirty next.dirty (get_or pages i no_page).page (get_or pages i no_page).bytes → EntersPage now.graph next.graph (get_or pages i no_page).page → next ≡ record now { dirty = next.dirty; graph = next.graph; clean = next.clean } → PutsPages m (content_in (take (i + 1) pages)) start next
+puts_more {D} {L} m start now next pages i once inside before pool put enters same = record {
   pool = pool;
   contents = λ p. elim (cases_eq p (get_or pages i no_page).page) [
     | inl e ↦ rw e (put.here ∙ sym (ap (λ (o : Option (List ℕ)). or_else o (content_of start.dirty (get_or pages i no_page).page)) (first_more_here pages i no_page once inside)))
@@ -125,10 +188,10 @@ puts_more m start now next pages i once inside before pool put enters geometry d
   marks = λ p who. put.marks p who ∙ before.marks p who;
   ordered = λ a b. enters.ordered a b ∙ before.ordered a b;
   size = put.size ∙ before.size;
-  geometry = geometry ∙ before.geometry;
-  disk = disk ∙ before.disk;
-  offline = offline ∙ before.offline;
-  faults = faults ∙ before.faults;
+  geometry = ap (λ (p : Pool D L). p.geometry) same ∙ before.geometry;
+  disk = ap (λ (p : Pool D L). p.disk) same ∙ before.disk;
+  offline = ap (λ (p : Pool D L). p.offline) same ∙ before.offline;
+  faults = ap (λ (p : Pool D L). p.faults) same ∙ before.faults;
 }
 
 -- Orders are entered one after another.
@@ -215,8 +278,8 @@ one_content page bytes p apart = rw (ne_eqb page p (λ e. apart (sym e))) refl
 one_here : (page : ℕ) (bytes : List ℕ) → content_in (record { page = page; bytes = bytes } ∷ []) page ≡ Some bytes
 one_here page bytes = rw (eq-eqb page page refl) refl
 
-pub puts_one : {D L : Type 0} (m : Meaning D) (before after : Pool D L) (page : ℕ) (bytes : List ℕ) → IsPool m after → PutsContent before.dirty after.dirty page bytes → EntersPage before.graph after.graph page → after.geometry ≡ before.geometry → after.disk ≡ before.disk → after.offline ≡ before.offline → after.faults ≡ before.faults → PutsPages m (content_in (record { page = page; bytes = bytes } ∷ [])) before after
-puts_one m before after page bytes pool put enters geometry disk offline faults = record {
+pub puts_one : {D L : Type 0} (m : Meaning D) (before after : Pool D L) (page : ℕ) (bytes : List ℕ) → IsPool m after → PutsContent before.dirty after.dirty page bytes → EntersPage before.graph after.graph page → after ≡ record before { dirty = after.dirty; graph = after.graph; clean = after.clean } → PutsPages m (content_in (record { page = page; bytes = bytes } ∷ [])) before after
+puts_one {D} {L} m before after page bytes pool put enters same = record {
   pool = pool;
   contents = λ p. elim (cases_eq p page) [
     | inl e ↦ rw e (put.here ∙ sym (ap (λ (o : Option (List ℕ)). or_else o (content_of before.dirty page)) (one_here page bytes)))
@@ -225,10 +288,10 @@ puts_one m before after page bytes pool put enters geometry disk offline faults 
   marks = put.marks;
   ordered = enters.ordered;
   size = put.size;
-  geometry = geometry;
-  disk = disk;
-  offline = offline;
-  faults = faults;
+  geometry = ap (λ (p : Pool D L). p.geometry) same;
+  disk = ap (λ (p : Pool D L). p.disk) same;
+  offline = ap (λ (p : Pool D L). p.offline) same;
+  faults = ap (λ (p : Pool D L). p.faults) same;
 }
 
 pub room_one : (dirty : DirtyPages) (page : ℕ) (bytes : List ℕ) → dirty_with dirty (record { page = page; bytes = bytes } ∷ []) ≤ 512 → content_of dirty page ≡ None → length dirty.pages < 512

@@ -1,6 +1,7 @@
 -- The table of dirty pages as a map from a page to its entry.
 use Rattle.std.proofs.Common.{◌≡◌, ◌≢◌, ◌<◌, ℕ, suc, zero, ◌+◌, Bool, true, false, ◌==◌, inl, inr, List, [], ◌∷◌, ◌++◌, length, get_or, set, Option, Some, None, arith, sym, ◌∙◌, ap, refl, cond, replicate}
-use Rattle.std.specs.Prelude.{remove}
+use Rattle.std.specs.Prelude.{remove, not, is_some}
+use Rattle.std.specs.List.{filter}
 use Rattle.std.proofs.lemmas.Bool.{cases_eq, cases_lt, both_ways, eq-eqb, ne_eqb}
 use Rattle.std.proofs.lemmas.List.{get_or_past, get_or-set_same, length-set, get_or-replicate, length_push, get_or_push, get_or_append_left}
 use Rattle.mg_pool.specs.declared.dirty_page.DirtyPage.{DirtyPage}
@@ -126,6 +127,29 @@ marks_at size [] i d table inside = absurd (omega arith)
 marks_at size (x ∷ xs) zero d table inside = table.3
 marks_at size (x ∷ xs) (suc i) d table inside = marks_at size xs i d table.2 (omega arith)
 
+-- Without its entry a list has no entry of the page.
+apart_all : (pages : List DirtyPage) (page : ℕ) → entry_in pages page ≡ None → pages ≡ filter (λ d. not (d.page == page)) pages
+apart_all [] page none = refl
+apart_all (x ∷ xs) page none =
+    let parts = head_apart x xs page none in
+    rw (ne_eqb x.page page parts.0) (ap (λ (rest : List DirtyPage). x ∷ rest) (apart_all xs page parts.1))
+
+remove_filter : (size : ℕ) (pages : List DirtyPage) (i page : ℕ) (d : DirtyPage) → IsTable size pages → i < length pages → (get_or pages i d).page ≡ page → remove pages i ≡ filter (λ e. not (e.page == page)) pages
+remove_filter size [] i page d table inside at = absurd (omega arith)
+remove_filter size (x ∷ xs) zero page d table inside at = rw (eq-eqb x.page page at) (apart_all xs page (ap (entry_in xs) (sym at) ∙ table.0))
+remove_filter size (x ∷ xs) (suc i) page d table inside at =
+    let apart : x.page ≢ page = λ e. entry_some xs i page d (omega arith) at (ap (entry_in xs) (sym e) ∙ table.0) in
+    rw (ne_eqb x.page page apart) (ap (λ (rest : List DirtyPage). x ∷ rest) (remove_filter size xs i page d table.2 (omega arith) at))
+
+-- a page that isn't dirty has no mark
+pub clean_unmarked : (t : DirtyPages) (page who : ℕ) → is_some (content_of t page) ≡ false → is_marked t page who ≡ false
+unfolding content_of is_marked
+clean_unmarked t page who out = at (entry_in t.pages page) out
+  where
+    at : (o : Option DirtyPage) → is_some (bytes_of o) ≡ false → marked_by o who ≡ false
+    at None none = refl
+    at (Some e) none = absurd cc
+
 -- What the table's calls leave.
 
 abbrev pub table : ℕ → ℕ → List DirtyPage → DirtyPages
@@ -169,6 +193,7 @@ module _ (size room : ℕ) (pages : List DirtyPage) (kept : IsTable size pages) 
     size = refl;
     room = refl;
     count = length-remove pages i inside;
+    rest = remove_filter size pages i page d kept inside here;
   }
 
 no_mark : (who : ℕ) → get_or (replicate 32 false) who false ≡ false

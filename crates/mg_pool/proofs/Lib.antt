@@ -1,11 +1,14 @@
 mod DirtyLemmas
 mod LeastLemmas
 mod PoolLemmas
+mod RestLemmas
 mod RunLemmas
+mod RefusalLemmas
 mod ChangeLemmas
 mod TestLemmas
 mod LawLemmas
 mod OrderLemmas
+mod CauseLemmas
 mod BatchLemmas
 mod PutLemmas
 mod OutsideLemmas

@@ -4,17 +4,18 @@ use Rattle.std.proofs.lemmas.Bool.{cases_eq, both_ways, eqb-true, eq-eqb, ne_eqb
 use Rattle.std.proofs.lemmas.List.{take_more, get_or-set_same, get_or-set_other}
 use Rattle.mg_base.specs.declared.numbers.PageNo.{PageNo}
 use Rattle.mg_careful.specs.declared.graph.Order.{Order}
-use Rattle.mg_careful.specs.Precedence.{Precedes, directly, through, precedes_in}
+use Rattle.mg_careful.specs.Precedence.{Precedes, directly, through}
+use Rattle.mg_careful.specs.PrecedenceLaws.{precedes_in}
 use Rattle.mg_careful.specs.Graph.{PageGraph, is_ordered}
 use Rattle.mg_pool.specs.declared.pool.Pool.{Pool}
 use Rattle.mg_base.specs.Disk.{Meaning}
 use Rattle.mg_pool.specs.Batch.{IsOrPrecedes, LeadsToDue, Leads, IsDue, lists, joint, order_at}
-use Rattle.mg_pool.specs.Dirty.{is_dirty}
-use Rattle.mg_pool.specs.Pool.{taken_out}
+use Rattle.mg_pool.specs.Dirty.{DirtyPages, is_dirty}
+use Rattle.mg_pool.specs.Pool.{IsPool, taken_out}
 use Rattle.mg_pool.specs.Change.{IsOpen, WritesDue, SettlesOrder}
 use Rattle.mg_pool.specs.Run.{HasWritten, WritesWith}
 use Rattle.mg_pool.proofs.PoolLemmas.{Holds}
-use Rattle.mg_pool.proofs.RunLemmas.{CountsNow, chain_before, chain_ready, taken_cases, run_then, run_precedes, none_taken_out}
+use Rattle.mg_pool.proofs.RunLemmas.{CountsNow, chain_before, chain_ready, taken_cases, run_starts, run_then, run_precedes, none_taken_out}
 
 -- an order of a list stands at some place
 pub listed_at : (orders : List Order) (a b : ℕ) → lists orders a b ≡ true → (i : ℕ) × (i < length orders) × ((order_at orders i).first ≡ a) × ((order_at orders i).later ≡ b)
@@ -118,7 +119,7 @@ module _ (graph : PageGraph) (orders : List Order) (count goal : ℕ) (due : Lis
       at (inr chain) = through (graph_in_joint graph (take count orders) p _ chain) first_to_goal
 
 -- What was written towards a goal, in the terms of chains.
-module _ {D L : Type 0} (m : Meaning D) (old new : Pool D L) (run : HasWritten m old new) (orders : List Order) (count goal : ℕ) (due : List Bool) (is : IsDue old.graph orders count goal due) (few : count ≤ length orders) (writes : WritesDue orders due goal old new) where
+module _ {D L : Type 0} (m : Meaning D) (old new : Pool D L) (run : HasWritten m old new) (orders : List Order) (count goal : ℕ) (due : List Bool) (is : IsDue old.graph orders count goal due) (few : count ≤ length orders) (writes : WritesDue m orders due goal old new) where
   -- everything that precedes the goal is written
   pub goal_written : (p : ℕ) → Precedes (joint old.graph (take count orders)) p goal → is_dirty new.dirty p ≡ false
   goal_written p chain = elim (leads_to_goal old.graph orders count goal due is few p chain) [
@@ -167,6 +168,14 @@ no_way_back orders k inside acyclic chain = acyclic (order_at orders k).later (t
 
 pub apart_at : (orders : List Order) (k : ℕ) → k < length orders → ((page : ℕ) → Precedes (lists orders) page page → ⊥) → (order_at orders k).later ≢ (order_at orders k).first
 apart_at orders k inside acyclic e = acyclic (order_at orders k).later (directly (subst (λ (x : ℕ). lists orders x (order_at orders k).later ≡ true) (sym e) (at_listed orders k inside)))
+
+-- the same, where the pages of the order were read
+pub apart_read : (orders : List Order) (k first later : ℕ) → k < length orders → ((page : ℕ) → Precedes (lists orders) page page → ⊥) → first ≡ (order_at orders k).first → later ≡ (order_at orders k).later → first ≢ later
+apart_read orders k first later inside acyclic at_first at_later e = apart_at orders k inside acyclic (sym at_later ∙ (sym e ∙ at_first))
+
+pub later_dirty : (old now : DirtyPages) (orders : List Order) (k later : ℕ) → k < length orders → now ≡ old → ((a b : ℕ) → lists orders a b ≡ true → is_dirty old b ≡ true) → later ≡ (order_at orders k).later → is_dirty now later ≡ true
+later_dirty old now orders k later inside same dirty at_later =
+    ap (is_dirty now) at_later ∙ (ap (λ (d : DirtyPages). is_dirty d (order_at orders k).later) same ∙ dirty _ _ (at_listed orders k inside))
 
 -- an order stays open as pages are written
 pub open_still : {D L : Type 0} (m : Meaning D) (old new : Pool D L) → HasWritten m old new → (orders : List Order) (k : ℕ) → IsOpen old.graph orders k → IsOpen new.graph orders k
@@ -227,13 +236,13 @@ due_skip m orders due goal start now place before out = record {
   no_other = before.no_other;
 }
 
-pub due_more : {D L : Type 0} (m : Meaning D) → Holds m → CountsNow m → (orders : List Order) (due : List Bool) (goal : ℕ) (start now next : Pool D L) (place first : ℕ) → DueSoFar m orders due goal start place now → get_or due place false ≡ true → place < length orders → first ≡ (order_at orders place).first → WritesWith first now next → HasWritten m now next → DueSoFar m orders due goal start (place + 1) next
-due_more m holds counts orders due goal start now next place first before marked inside is with_ step = record {
-  run = run_then m holds counts start now next before.run step;
-  ready = λ q. step.orders q goal ∙ rw (before.ready q) refl;
+pub due_more : {D L : Type 0} (m : Meaning D) → Holds m → CountsNow m → (orders : List Order) (due : List Bool) (goal : ℕ) (start now next : Pool D L) (place first : ℕ) → DueSoFar m orders due goal start place now → get_or due place false ≡ true → place < length orders → first ≡ (order_at orders place).first → WritesWith m first now next → DueSoFar m orders due goal start (place + 1) next
+due_more m holds counts orders due goal start now next place first before marked inside is with_ = record {
+  run = run_then m holds counts start now next before.run with_.run;
+  ready = λ q. with_.run.orders q goal ∙ rw (before.ready q) refl;
   due_out = λ i low there. elim (cases_eq i place) [
     | inl e ↦ rw (e, ← is) with_.goal_out
-    | inr apart ↦ false_from_ne_true _ (λ back. both_ways _ (before.due_out i (omega arith) there) (step.fewer _ back))
+    | inr apart ↦ false_from_ne_true _ (λ back. both_ways _ (before.due_out i (omega arith) there) (with_.run.fewer _ back))
   ];
   no_other = λ page out. elim (taken_cases m start now next page out) [
     | inl was ↦ before.no_other page was
@@ -267,23 +276,51 @@ module _ {D L : Type 0} (m : Meaning D) (old : Pool D L) (orders : List Order) (
     | inr to_due ↦ inr to_due
   ]
 
-  pub settles_some : (new : Pool D L) → HasWritten m old new → WritesDue orders due (order_at orders k).first old new → Leads old.graph orders due (order_at orders k).later (order_at orders k).first → SettlesOrder (take k orders) (order_at orders k) old new
-  settles_some new run writes leads = record {
-    written = λ closes p chain. goal_written m old new run orders k (order_at orders k).first due is low writes p chain;
-    no_other = λ p out. (closes_from leads, only_goal m old new run orders k (order_at orders k).first due is low writes p out);
+  pub settles_some : (new : Pool D L) → WritesDue m orders due (order_at orders k).first old new → Leads old.graph orders due (order_at orders k).later (order_at orders k).first → SettlesOrder m (take k orders) (order_at orders k) old new
+  settles_some new writes leads = record {
+    run = writes.run;
+    written = λ closes p chain. goal_written m old new writes.run orders k (order_at orders k).first due is low writes p chain;
+    no_other = λ p out. (closes_from leads, only_goal m old new writes.run orders k (order_at orders k).first due is low writes p out);
   }
 
-  pub open_some : (new : Pool D L) → HasWritten m old new → WritesDue orders due (order_at orders k).first old new → IsOpen new.graph orders k
-  open_some new run writes chain = no_way_back orders k inside acyclic (listed_chain m old new run (take k orders) (order_at orders k).first (goal_written m old new run orders k (order_at orders k).first due is low writes) (order_at orders k).later chain)
+  pub open_some : (new : Pool D L) → WritesDue m orders due (order_at orders k).first old new → IsOpen new.graph orders k
+  open_some new writes chain = no_way_back orders k inside acyclic (listed_chain m old new writes.run (take k orders) (order_at orders k).first (goal_written m old new writes.run orders k (order_at orders k).first due is low writes) (order_at orders k).later chain)
 
-  pub settles_no : (Leads old.graph orders due (order_at orders k).later (order_at orders k).first → ⊥) → SettlesOrder (take k orders) (order_at orders k) old old
-  settles_no not_leads = record {
+  pub settles_no : IsPool m old → (Leads old.graph orders due (order_at orders k).later (order_at orders k).first → ⊥) → SettlesOrder m (take k orders) (order_at orders k) old old
+  settles_no pool not_leads = record {
+    run = run_starts m old pool;
     written = λ closes p chain. absurd (not_leads (leads_from closes));
     no_other = λ p out. absurd (none_taken_out old.dirty p out);
   }
 
   pub open_no : (Leads old.graph orders due (order_at orders k).later (order_at orders k).first → ⊥) → IsOpen old.graph orders k
   open_no not_leads chain = not_leads (leads_from chain)
+
+-- The same, where the pages of the order were read.
+module _ {D L : Type 0} (m : Meaning D) (old : Pool D L) (orders : List Order) (k : ℕ) (due : List Bool) (inside : k < length orders) (acyclic : (page : ℕ) → Precedes (lists orders) page page → ⊥) (first later : ℕ) (at_first : first ≡ (order_at orders k).first) (at_later : later ≡ (order_at orders k).later) (is : IsDue old.graph orders k first due) where
+  is_at : IsDue old.graph orders k (order_at orders k).first due
+  is_at = subst (λ (x : ℕ). IsDue old.graph orders k x due) at_first is
+
+  leads_at : Leads old.graph orders due later first → Leads old.graph orders due (order_at orders k).later (order_at orders k).first
+  leads_at leads = subst (λ (x : ℕ). Leads old.graph orders due x (order_at orders k).first) at_later (subst (λ (x : ℕ). Leads old.graph orders due later x) at_first leads)
+
+  leads_read : Leads old.graph orders due (order_at orders k).later (order_at orders k).first → Leads old.graph orders due later first
+  leads_read leads = subst (λ (x : ℕ). Leads old.graph orders due later x) (sym at_first) (subst (λ (x : ℕ). Leads old.graph orders due x (order_at orders k).first) (sym at_later) leads)
+
+  writes_at : (new : Pool D L) → WritesDue m orders due first old new → WritesDue m orders due (order_at orders k).first old new
+  writes_at new writes = subst (λ (x : ℕ). WritesDue m orders due x old new) at_first writes
+
+  pub settled_some : (new : Pool D L) → WritesDue m orders due first old new → Leads old.graph orders due later first → SettlesOrder m (take k orders) (order_at orders k) old new
+  settled_some new writes leads = settles_some m old orders k due inside acyclic is_at new (writes_at new writes) (leads_at leads)
+
+  pub opened_some : (new : Pool D L) → WritesDue m orders due first old new → IsOpen new.graph orders k
+  opened_some new writes = open_some m old orders k due inside acyclic is_at new (writes_at new writes)
+
+  pub settled_no : IsPool m old → (Leads old.graph orders due later first → ⊥) → SettlesOrder m (take k orders) (order_at orders k) old old
+  settled_no pool not_leads = settles_no m old orders k due inside acyclic is_at pool (λ leads. not_leads (leads_read leads))
+
+  pub opened_no : (Leads old.graph orders due later first → ⊥) → IsOpen old.graph orders k
+  opened_no not_leads = open_no m old orders k due inside acyclic is_at (λ leads. not_leads (leads_read leads))
 
 -- One order alone.
 
@@ -294,14 +331,16 @@ nothing_listed graph p q chain = precedes_in (joint graph []) (is_ordered graph)
     at true o = refl
     at false o = o
 
-pub one_settled : {D L : Type 0} (m : Meaning D) (old new : Pool D L) (first later : ℕ) → HasWritten m old new → later ≢ first → ((later ≡ first) ⊎ Precedes (is_ordered old.graph) later first) → ((q : ℕ) → is_ordered new.graph q first ≡ false) → ((p : ℕ) → taken_out old.dirty new.dirty p ≡ true → Precedes (is_ordered old.graph) p first) → SettlesOrder [] (record { first = first; later = later }) old new
+pub one_settled : {D L : Type 0} (m : Meaning D) (old new : Pool D L) (first later : ℕ) → HasWritten m old new → later ≢ first → ((later ≡ first) ⊎ Precedes (is_ordered old.graph) later first) → ((q : ℕ) → is_ordered new.graph q first ≡ false) → ((p : ℕ) → taken_out old.dirty new.dirty p ≡ true → Precedes (is_ordered old.graph) p first) → SettlesOrder m [] (record { first = first; later = later }) old new
 one_settled m old new first later run apart closes ready only = record {
+  run = run;
   written = λ closing p chain. chain_ready m old new run first ready p first refl (nothing_listed old.graph p first chain);
   no_other = λ p out. (elim closes [ inl e ↦ absurd (apart e) | inr chain ↦ graph_in_joint old.graph [] later first chain ], graph_in_joint old.graph [] p first (only p out));
 }
 
-pub one_open : {D L : Type 0} (old : Pool D L) (first later : ℕ) → (Precedes (is_ordered old.graph) later first → ⊥) → SettlesOrder [] (record { first = first; later = later }) old old
-one_open old first later not_closing = record {
+pub one_open : {D L : Type 0} (m : Meaning D) (old : Pool D L) (first later : ℕ) → IsPool m old → (Precedes (is_ordered old.graph) later first → ⊥) → SettlesOrder m [] (record { first = first; later = later }) old old
+one_open m old first later pool not_closing = record {
+  run = run_starts m old pool;
   written = λ closing p chain. absurd (not_closing (nothing_listed old.graph later first closing));
   no_other = λ p out. absurd (none_taken_out old.dirty p out);
 }

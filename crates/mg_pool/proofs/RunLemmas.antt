@@ -1,19 +1,20 @@
 -- A run of page writes: what a pool has become since it began.
-use Rattle.std.proofs.Common.{◌≡◌, ◌≢◌, ◌≤◌, ℕ, ◌+◌, ◌-◌, Bool, true, false, not, ◌||◌, ◌&&◌, ◌==◌, ◌⊎◌, inl, inr, Some, None, is_some, sym, ◌∙◌, ap, refl, arith, subst}
+use Rattle.std.proofs.Common.{◌≡◌, ◌≢◌, ◌≤◌, ℕ, ◌+◌, ◌-◌, Bool, true, false, not, ◌||◌, ◌&&◌, ◌==◌, ◌⊎◌, inl, inr, Some, is_some, sym, ◌∙◌, ap, refl, arith, subst}
 use Rattle.std.specs.Prelude.{Result, Ok, Err, OnOk, OnErr, min, ◌^◌}
 use Rattle.std.proofs.lemmas.Bool.{cases_Bool, cases_eq, eq-eqb, ne_eqb, both_ways, and_parts, and_from, false_from_ne_true}
 use Rattle.mg_base.specs.Image.{Image}
 use Rattle.mg_base.specs.Disk.{Meaning, MayLeave, Rose}
-use Rattle.mg_careful.specs.Graph.{PageGraph, IsFirstReady, is_ordered, ordered_entered, precedes_entered}
-use Rattle.mg_pool.specs.declared.fault.PoolFault.{PoolFault}
-use Rattle.mg_pool.specs.declared.fault.PoolFault.TheVariants.{DiskRead, DiskWrite, Offline, Absent, Memory}
-use Rattle.mg_pool.specs.Fault.{TellsFault, StaysOnline, Counts}
+use Rattle.mg_careful.specs.Graph.{PageGraph, IsFirstReady, is_ordered}
+use Rattle.mg_careful.specs.GraphLaws.{ordered_entered, precedes_entered}
+use Rattle.mg_pool.specs.Fault.{Counts}
 use Rattle.mg_pool.specs.Run.{HasWritten, WritesPage}
-use Rattle.mg_careful.specs.Precedence.{Orders, Precedes, directly, through, precedes_in}
+use Rattle.mg_careful.specs.Precedence.{Orders, Precedes, directly, through}
+use Rattle.mg_careful.specs.PrecedenceLaws.{precedes_in}
 use Rattle.mg_careful.specs.CarefulWrite.{PageSet}
 use Rattle.mg_pool.specs.declared.pool.Pool.{Pool}
 use Rattle.mg_pool.specs.Dirty.{DirtyPages, is_dirty, TakesOut}
-use Rattle.mg_pool.specs.Pool.{IsTied, IsPool, WritesSet, taken_out, LeavesClosed, KeepsPages, shown}
+use Rattle.mg_pool.specs.Pool.{IsTied, IsPool, WritesSet, taken_out, LeavesClosed, KeepsPages}
+use Rattle.mg_pool.proofs.RestLemmas.{rest_all, rest_then}
 use Rattle.mg_pool.proofs.PoolLemmas.{Holds, writes_none, writes_more, writes_then, leaves_then}
 
 -- what a crash may leave now is among what a crash since an earlier moment might have left
@@ -96,6 +97,8 @@ run_starts m start pool = record {
   size = refl;
   contents = λ page dirty. refl;
   marks = λ page who dirty. refl;
+  rest = rest_all start.dirty;
+  asked = omega arith;
   orders = tied_orders start.dirty start.graph pool.tied;
   before = λ a b o out. absurd (both_ways _ out (sym (pool.tied.entered b) ∙ (ordered_entered start.graph a b o).1));
   crash = λ told old held. leaves_none m start.disk start.dirty start.graph old;
@@ -106,7 +109,7 @@ run_starts m start pool = record {
 }
 
 -- one page write more
-module _ {D L : Type 0} (m : Meaning D) (holds : Holds m) (counts : CountsNow m) (start now next : Pool D L) (page : ℕ) (run : HasWritten m start now) (dirty : is_dirty now.dirty page ≡ true) (ready : (q : ℕ) → is_ordered now.graph q page ≡ false) (w : WritesPage m now next page) (crash : m.tells now.disk ≡ true → (image : Image) → m.held now.disk ≡ Some image → LeavesClosed m now.disk next.disk now.dirty now.graph image) where
+module _ {D L : Type 0} (m : Meaning D) (holds : Holds m) (counts : CountsNow m) (start now next : Pool D L) (page : ℕ) (run : HasWritten m start now) (dirty : is_dirty now.dirty page ≡ true) (ready : (q : ℕ) → is_ordered now.graph q page ≡ false) (w : WritesPage m now next page) where
   clean_there : is_dirty next.dirty page ≡ false
   clean_there = ap is_some w.taken.here
 
@@ -151,6 +154,8 @@ module _ {D L : Type 0} (m : Meaning D) (holds : Holds m) (counts : CountsNow m)
     tells = w.tells ∙ run.tells;
     fewer = λ p there. run.fewer p (still p there).1;
     count = omega (arith, w.taken.count, run.count);
+    asked = omega (arith, w.taken.count, w.asked, run.asked);
+    rest = rest_then (is_dirty now.dirty) (λ p. not (p == page)) (is_dirty next.dirty) start.dirty.pages now.dirty.pages next.dirty.pages run.rest w.taken.rest (λ p. sym (dirty_as p));
     size = w.taken.size ∙ run.size;
     contents = λ p there. let s = still p there in w.taken.others p s.0 ∙ run.contents p s.1;
     marks = λ p who there. let s = still p there in w.taken.marks p who s.0 ∙ run.marks p who s.1;
@@ -161,7 +166,7 @@ module _ {D L : Type 0} (m : Meaning D) (holds : Holds m) (counts : CountsNow m)
           | inl e ↦ both_ways _ (ready a) (ap (is_ordered now.graph a) (sym e) ∙ (run.orders a b ∙ and_from _ _ o (and_from _ _ s.1 (ap (is_dirty now.dirty) e ∙ dirty))))
           | inr apart ↦ both_ways _ (run.before a b o (sym (same_else b apart) ∙ out)) s.1
         ]);
-    crash = run_leaves m holds counts start now next.disk run crash;
+    crash = run_leaves m holds counts start now next.disk run w.crash;
     out = λ told old new held_old held_new.
         let middle = holds now.disk (run.tells ∙ told) in
         let first = run.out told old middle.0 held_old middle.1 in
@@ -188,6 +193,8 @@ run_then m holds counts a b c first next = record {
   tells = next.tells ∙ first.tells;
   fewer = λ p dirty. first.fewer p (next.fewer p dirty);
   count = omega (arith, first.count, next.count);
+  asked = omega (arith, first.asked, next.asked);
+  rest = rest_then (is_dirty b.dirty) (is_dirty c.dirty) (is_dirty c.dirty) a.dirty.pages b.dirty.pages c.dirty.pages first.rest next.rest (λ p. both (is_dirty b.dirty p) (is_dirty c.dirty p) (next.fewer p));
   size = next.size ∙ first.size;
   contents = λ p dirty. next.contents p dirty ∙ first.contents p (next.fewer p dirty);
   marks = λ p who dirty. next.marks p who dirty ∙ first.marks p who (next.fewer p dirty);
@@ -206,6 +213,11 @@ run_then m holds counts a b c first next = record {
       (writes_then a.dirty b.dirty c.dirty a.graph b.graph c.graph old middle.0 new (taken_out a.dirty b.dirty) (taken_out b.dirty c.dirty) (first.out told old middle.0 held_old middle.1) (next.out (first.tells ∙ told) middle.0 new middle.1 held_new));
 }
   where
+    both : (x y : Bool) → (y ≡ true → x ≡ true) → (x && y) ≡ y
+    both true y sub = refl
+    both false true sub = sub refl
+    both false false sub = refl
+
     less : (o x y s t : Bool) → (s ≡ true → x ≡ true) → (t ≡ true → y ≡ true) → ((o && (x && y)) && (s && t)) ≡ (o && (s && t))
     less false x y s t f g = refl
     less true true true s t f g = refl
@@ -251,46 +263,15 @@ chain_ready m a b run goal ready p q e (directly o) = elim (cases_Bool (is_dirty
 ]
 chain_ready m a b run goal ready p r e (through {b = q} x y) = chain_before m a b run p q x (chain_ready m a b run goal ready q r e y)
 
--- What calls answer after a run of page writes.
-
-counted : {D L : Type 0} (m : Meaning D) (a b c : Pool D L) → HasWritten m a b → (n : ℕ) → Counts m b c n → Counts m a c n
+-- a fault that was counted after a run of page writes
+pub counted : {D L : Type 0} (m : Meaning D) (a b c : Pool D L) → HasWritten m a b → (n : ℕ) → Counts m b c n → Counts m a c n
 counted m a b c run n tells = (
   tells.0,
   subst (λ (k : ℕ). n ≡ min (k + 1) (2 ^ 64 - 1)) run.faults tells.1,
   subst (λ (k : ℕ). Rose k (m.faults c.disk)) run.steady tells.2,
 )
 
-pub fault_then : {D L T : Type 0} (m : Meaning D) (a b c : Pool D L) → HasWritten m a b → (r : Result T PoolFault) → TellsFault m b c r → TellsFault m a c r
-fault_then m a b c run (Ok x) tells = (sym run.offline ∙ tells.0, tells.1, tells.2 ∙ run.faults)
-fault_then m a b c run (Err (DiskRead n)) tells = (sym run.offline ∙ tells.0, tells.1, counted m a b c run n tells.2)
-fault_then m a b c run (Err (DiskWrite n)) tells = (sym run.offline ∙ tells.0, tells.1, counted m a b c run n tells.2)
-fault_then m a b c run (Err (Offline n)) tells = (sym run.offline ∙ tells.0, tells.1, tells.2 ∙ run.faults)
-fault_then m a b c run (Err (Absent pages)) tells = (sym run.offline ∙ tells.0, tells.1, tells.2 ∙ run.faults)
-fault_then m a b c run (Err Memory) tells = (sym run.offline ∙ tells.0, tells.1, tells.2 ∙ run.faults)
-
--- the same fault, told by a call of another kind
-pub fault_as : {D L : Type 0} (T U : Type 0) (m : Meaning D) (a b : Pool D L) (e : PoolFault) → TellsFault {T = T} m a b (Err e) → TellsFault {T = U} m a b (Err e)
-fault_as T U m a b (DiskRead n) tells = tells
-fault_as T U m a b (DiskWrite n) tells = tells
-fault_as T U m a b (Offline n) tells = tells
-fault_as T U m a b (Absent pages) tells = tells
-fault_as T U m a b Memory tells = tells
-
--- a run of page writes is no fault
-pub run_online : {D L : Type 0} (m : Meaning D) (a b : Pool D L) → HasWritten m a b → a.offline ≡ None → StaysOnline a b
-run_online m a b run online = (online, run.offline ∙ online, run.faults)
-
 -- The contents over page writes.
-
-pub keeps_none : {D L : Type 0} (m : Meaning D) (a : Pool D L) → KeepsPages m a a
-keeps_none m a = record {
-  geometry = refl;
-  same_shown = λ told i j held_i held_j page.
-      let e : Some i ≡ Some j = sym held_i ∙ held_j in
-      let f : i ≡ j = cc in
-      ap (λ (x : Image). shown a.dirty x page) (sym f);
-  contents = λ page dirty. refl;
-}
 
 pub keeps_run : {D L : Type 0} (m : Meaning D) (a b : Pool D L) → HasWritten m a b → KeepsPages m a b
 keeps_run m a b run = record {

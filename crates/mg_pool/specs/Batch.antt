@@ -8,6 +8,7 @@ use Rattle.mg_careful.specs.Precedence.{Orders, Precedes}
 use Rattle.mg_careful.specs.Graph.{PageGraph, is_ordered}
 use Rattle.mg_careful.specs.CarefulWrite.{PageSet}
 use Rattle.mg_pool.specs.declared.batch.BatchPage.{BatchPage}
+use Rattle.mg_pool.specs.declared.batch.TheConstants.{BATCH_PAGES}
 use Rattle.mg_pool.specs.declared.dirty_page.DirtyPage.{DirtyPage}
 use Rattle.mg_pool.specs.Dirty.{DirtyPages, is_dirty}
 
@@ -60,10 +61,10 @@ joint graph orders a b = is_ordered graph a b || lists orders a b
 abbrev pub dirty_with : DirtyPages → List BatchPage → ℕ
 dirty_with dirty pages = length dirty.pages + count_by (λ x. not (is_dirty dirty x.page)) pages
 
--- What a batch has to be: of at most 256 pages, each content one page long; its orders have no
+-- What a batch has to be: of at most BATCH_PAGES pages, each content one page long; its orders have no
 -- cycle among themselves, and the later page of each is in it.
 pub record IsLawful (size : ℕ) (pages : List BatchPage) (orders : List Order) : Type 0 where
-  pub few : length pages ≤ 256
+  pub few : length pages ≤ BATCH_PAGES
   pub whole : (page : ℕ) (bytes : List ℕ) → content_in pages page ≡ Some bytes → length bytes ≡ size
   pub acyclic : (page : ℕ) → Precedes (lists orders) page page → ⊥
   pub later_in : (a b : ℕ) → lists orders a b ≡ true → is_in pages b ≡ true

@@ -1,5 +1,6 @@
 -- The dirty pages of a cache, and what a change of the table leaves.
-use Rattle.std.specs.Prelude.{◌≡◌, ◌≢◌, ℕ, ◌+◌, ◌<◌, ◌≤◌, Bool, true, false, ◌==◌, List, [], ◌∷◌, length, Option, Some, None, is_some, slice_index_or, slice_set, if◌then◌else◌}
+use Rattle.std.specs.Prelude.{◌≡◌, ◌≢◌, ℕ, ◌+◌, ◌<◌, ◌≤◌, Bool, true, false, ◌==◌, List, [], ◌∷◌, length, Option, Some, None, is_some, slice_index_or, slice_set, if◌then◌else◌, not}
+use Rattle.std.specs.List.{filter}
 use Rattle.mg_pool.specs.declared.dirty_page.DirtyPage.{DirtyPage}
 
 -- a table of dirty pages: the size of a page, how many pages it has room for, and its pages
@@ -43,7 +44,7 @@ pub record PutsContent (old new : DirtyPages) (page : ℕ) (bytes : List ℕ) : 
   pub count : length new.pages
       ≡ (if is_dirty old page then length old.pages else (length old.pages + 1))
 
--- one page is no longer dirty, all others keep their content and marks
+-- one page is no longer dirty, all others keep their content and marks, and their order in the table
 pub record TakesOut (old new : DirtyPages) (page : ℕ) : Type 0 where
   pub here : content_of new page ≡ None
   pub others : (other : ℕ) → other ≢ page → content_of new other ≡ content_of old other
@@ -51,6 +52,7 @@ pub record TakesOut (old new : DirtyPages) (page : ℕ) : Type 0 where
   pub size : new.size ≡ old.size
   pub room : new.room ≡ old.room
   pub count : length new.pages + 1 ≡ length old.pages
+  pub rest : new.pages ≡ filter (λ d. not (d.page == page)) old.pages
 
 -- a page is in the table once, each content is one page long, and there is a mark for each marker
 abbrev pub IsTable : ℕ → List DirtyPage → Type 0

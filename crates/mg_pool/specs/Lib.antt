@@ -4,4 +4,5 @@ pub mod Dirty
 pub mod Fault
 pub mod Law
 pub mod Pool
+pub mod Refusal
 pub mod Run

@@ -103,18 +103,13 @@ abbrev pub resident : {D L : Type 0} → Pool D L → ℕ → Option (List ℕ)
 resident pool page =
     if is_dirty pool.dirty page then content_of pool.dirty page else get nat_cmp pool.clean page
 
--- the pool shows the same pages, dirty and clean, with the same orders
-pub record SamePages {D L : Type 0} (old new : Pool D L) : Type 0 where
-  pub geometry : new.geometry ≡ old.geometry
-  pub dirty : new.dirty ≡ old.dirty
-  pub graph : new.graph ≡ old.graph
-  pub clean : new.clean ≡ old.clean
-
--- a call that writes no page: the disk holds what it held, and a crash leaves nothing new
+-- a call that writes no page: the disk holds what it held, a crash leaves nothing new, and no page
+-- write was asked for
 pub record KeepsContent {D : Type 0} (m : Meaning D) (old new : D) : Type 0 where
   pub held : m.held new ≡ m.held old
   pub crash : m.tells old ≡ true → (image : Image) → MayLeave m new image → MayLeave m old image
   pub time : m.tells old ≡ true → Elapses m old new
+  pub asked : m.asked new ≡ m.asked old
 
 -- the number of a page, if there is one
 abbrev pub number_of : Option PageNo → Option ℕ

@@ -10,6 +10,10 @@ use mg_careful::Order;
 use std::alloc::Global;
 use std::marker::Model;
 
+/// How many pages a batch may change at once: half of those that may be dirty, so that room for it
+/// can be made by writing pages outside it.
+pub const BATCH_PAGES: usize = 256;
+
 /// A page that is to be changed, with its new content.
 #[derive(Drop)]
 pub struct BatchPage {

@@ -2,7 +2,7 @@
 
 use mg_base::Bytes;
 
-/// How many may mark dirty pages.
+/// How many may mark dirty pages: `who` is below it.
 pub const MARKERS: usize = 32;
 
 /// A page whose content has changed since it was last written, with its marks.

@@ -9,7 +9,8 @@
 //! buffers and the graph of their orders are taken at once, so a change of one page, a page write
 //! and a settle take no memory. Where one more page would be dirty, or an order would close a
 //! cycle, the change first writes pages with their old content, and in no other case. Clean pages
-//! are kept in an ordered map without a bound.
+//! are kept in an ordered map without a bound. A call that is refused leaves everything as it was,
+//! but for the page writes that were made before one failed.
 //!
 //! Invariant: exactly the dirty pages stand in the graph of orders, orders have no cycle, each
 //! content is one page long, and a clean page is as on the disk. After a page write or a settle has
@@ -27,7 +28,8 @@ mod law;
 mod pool;
 mod reserved;
 
-pub use batch::{Batch, BatchPage};
+pub use batch::{BATCH_PAGES, Batch, BatchPage};
+pub use dirty_page::MARKERS;
 pub use fault::PoolFault;
 pub use law::stays_careful;
-pub use pool::Pool;
+pub use pool::{DIRTY_PAGES, Pool};

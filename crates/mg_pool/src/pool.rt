@@ -7,8 +7,9 @@ ghost use Rattle.mg_base.specs.Disk.{MayLeave, Calm};
 ghost use Rattle.mg_careful.specs.Graph.{IsFirstReady};
 ghost use Rattle.mg_pool.specs.Dirty.{is_dirty as dirty_test, is_marked, IsLeastPage, MarksAll};
 ghost use Rattle.mg_pool.specs.Fault.{TellsFault, OnlyWrites, OnlyRefuses};
+ghost use Rattle.mg_pool.specs.Refusal.{LeavesRefused};
 ghost use Rattle.mg_pool.specs.Run.{HasWritten, WritesPage};
-ghost use Rattle.mg_pool.specs.Pool.{IsPool, IsOnDisk, LeavesClosed, resident, SamePages, KeepsContent, KeepsPages, number_of, shown, LeavesOverlays};
+ghost use Rattle.mg_pool.specs.Pool.{IsPool, IsOnDisk, resident, KeepsContent, KeepsPages, number_of, shown, LeavesOverlays};
 
 use crate::dirty::DirtyTable;
 use crate::dirty_page::MARKERS;
@@ -159,8 +160,9 @@ impl<D: Disk, L: Links> Pool<D, L> {
     ///
     /// # Errors
     ///
-    /// `Offline` exactly where an earlier call answered `DiskWrite`; `DiskWrite` only where the
-    /// disk's count of faults rose in this call. The pages are then as before.
+    /// `Offline` exactly where an earlier call answered `DiskWrite`, and then all is as it was;
+    /// `DiskWrite` only where the disk's count of faults rose in this call. The pages, orders and
+    /// marks are then as before.
     pub fn write_one(&mut self, goal: PageNo) -> Result<PageNo, PoolFault>
         requires pool { IsPool D.meaning self.old }
         requires dirty { dirty_test self.old.dirty goal.0 ≡ true }
@@ -172,7 +174,12 @@ impl<D: Disk, L: Links> Pool<D, L> {
         ensures least { IfOk result (λ page. IsFirstReady self.old.graph goal.0 page.0) }
         ensures written { IfOk result (λ page. WritesPage D.meaning self.old self.new page.0) }
         ensures run { OnOk result (HasWritten D.meaning self.old self.new) }
-        ensures same { OnErr result (self.new.dirty ≡ self.old.dirty) }
+        ensures refused { LeavesRefused D.meaning self.old self.new result }
+        ensures same { OnErr result (self.new ≡ record self.old {
+          disk = self.new.disk;
+          faults = self.new.faults;
+          offline = self.new.offline;
+        }) }
         ensures crash { LeavesOverlays D.meaning self.old self.new }
     {
         self.online()?;
@@ -182,18 +189,24 @@ impl<D: Disk, L: Links> Pool<D, L> {
     }
 
     /// Makes what was written stay: after it a crash leaves what the disk holds, and nothing else.
-    /// It writes no page.
+    /// It writes no page, and leaves pages, orders and marks as they were.
     ///
     /// # Errors
     ///
-    /// `Offline` exactly where an earlier call answered `DiskWrite`; `DiskWrite` only where the
-    /// disk's count of faults rose in this call.
+    /// `Offline` exactly where an earlier call answered `DiskWrite`, and then all is as it was;
+    /// `DiskWrite` only where the disk's count of faults rose in this call.
     pub fn settle(&mut self) -> Result<(), PoolFault>
         requires pool { IsPool D.meaning self.old }
 
         ensures pool { IsPool D.meaning self.new }
-        ensures same { SamePages self.old self.new }
+        ensures same { self.new ≡ record self.old {
+          disk = self.new.disk;
+          faults = self.new.faults;
+          offline = self.new.offline;
+        } }
         ensures fault { TellsFault D.meaning self.old self.new result }
+        ensures offline { (faults : ℕ) → result ≡ Err (PoolFault.Offline faults)
+            → self.new ≡ self.old }
         ensures durable { OnOk result (D.meaning.tells self.old.disk ≡ true → (image : Image)
             → MayLeave D.meaning self.new.disk image → D.meaning.held self.new.disk ≡ Some image) }
         ensures own { OnlyWrites result }
@@ -217,7 +230,7 @@ impl<D: Disk, L: Links> Pool<D, L> {
     ///
     /// `Offline` exactly where an earlier call answered `DiskWrite`; `DiskRead` only where the
     /// disk's count of faults rose in this call; `Absent` exactly where the page is neither dirty
-    /// nor on the disk; `Memory`.
+    /// nor on the disk; `Memory`. The same pages are resident then, with the same contents.
     pub fn fetch(&mut self, page: PageNo) -> Result<(), PoolFault>
         requires pool { IsPool D.meaning self.old }
 
@@ -226,6 +239,9 @@ impl<D: Disk, L: Links> Pool<D, L> {
         ensures dirty { self.new.dirty ≡ self.old.dirty }
         ensures graph { self.new.graph ≡ self.old.graph }
         ensures resident { OnOk result (IsSome (resident self.new page.0)) }
+        ensures same { OnErr result ((p : ℕ) → resident self.new p ≡ resident self.old p) }
+        ensures offline { (faults : ℕ) → result ≡ Err (PoolFault.Offline faults)
+            → self.new ≡ self.old }
         ensures fault { TellsFault D.meaning self.old self.new result }
         ensures present { OnOk result ((dirty_test self.old.dirty page.0 ≡ true)
             ⊎ IsOnDisk D.meaning self.new.disk page.0) }
@@ -273,6 +289,7 @@ impl<D: Disk, L: Links> Pool<D, L> {
     /// Refuses every call after one that answered `DiskWrite`.
     fn online(&self) -> Result<(), PoolFault>
         ensures fault { TellsFault D.meaning self.now self.now result }
+        ensures refused { LeavesRefused D.meaning self.now self.now result }
         ensures refusal { OnlyRefuses result }
     {
         match self.offline {

@@ -1,1 +1,5 @@
 pub mod KeyBytes
+pub mod KeyLaws
+pub mod KeyOrder
+pub mod NumberLaws
+pub mod TextLaws

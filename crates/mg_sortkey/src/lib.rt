@@ -16,9 +16,11 @@
 #![tactic(auto)]
 
 mod key;
+mod laws;
 mod tags;
 
 pub use key::{key_bytes, key_most};
+pub use laws::{keys_are_short, keys_order_as_values, keys_tell_values, no_key_is_prefix};
 pub use tags::{ESCAPE, INT_TAG, NULL_TAG, TEXT_TAG};
 
 #[cfg(test)]

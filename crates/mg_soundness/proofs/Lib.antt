@@ -4,6 +4,8 @@ pub mod FaultLemmas
 pub mod ReadLemmas
 pub mod IndexLemmas
 pub mod StepLemmas
+pub mod OwnLemmas
 pub mod LadderLemmas
 pub mod SoundLemmas
 pub mod WholeLemmas
+pub mod NewCatalogLemmas

@@ -2,7 +2,7 @@
 use Rattle.std.proofs.Common.{◌≡◌, inl, refl, ℕ, Bool, true, List, [], ◌∷◌}
 use Rattle.mg_base.specs.declared.numbers.RecId.{RecId}
 use Rattle.mg_model.specs.declared.table.Table.{Table}
-use Rattle.mg_image.specs.Catalog.{HasNames, committed_with}
+use Rattle.mg_image.specs.Catalog.{CatalogNames, HasNames, committed_with}
 use Rattle.mg_image.specs.Form.{NoSequence, Row, Rows}
 use Rattle.mg_image.specs.Held.{AreRows, Shows}
 use Rattle.mg_image.specs.Indexes.{EachPage}
@@ -64,41 +64,51 @@ rows_as f g r s committed table rows to back are = record {
 -- the catalog names the same tables among all tables and alone
 names_alone : (image : Image) (ss : List Stand) (s : Stand) (r own : Reading) → IsOneOf ss s
     → IsSameIn s r own → (tables : List Table)
-    → HasNames (stands_facts image ss) r s.table tables
-    → HasNames (table_facts image s.table s.data_pages) own s.table tables
+    → HasNames image.size (stands_facts image ss) r s.table tables
+    → HasNames image.size (table_facts image s.table s.data_pages) own s.table tables
 names_alone image ss s r own is same tables names = record {
-  lawful = λ chosen. let (rows, are, named) = names.lawful chosen in
-      (rows, as_ (committed_with (stands_facts image ss) chosen) rows are, named);
-  named = let (rows, are, named) = names.named in
-      (rows, as_ (committed_with (stands_facts image ss) (λ t. true)) rows are, named);
+  named = names.named;
+  lawful = λ chosen. moved (committed_with (stands_facts image ss) chosen) (names.named chosen)
+      (names.lawful chosen);
+  all = moved (committed_with (stands_facts image ss) (λ t. true)) tables names.all;
+  stay = names.stay;
 }
   where
-    as_ : (committed : ℕ → Bool) (rows : Rows)
-        → AreRows (stands_facts image ss) committed r s.table rows
-        → AreRows (table_facts image s.table s.data_pages) committed own s.table rows
-    as_ committed rows are = rows_as (stands_facts image ss)
-        (table_facts image s.table s.data_pages) r own committed s.table rows
-        (shows_alone image ss s r own is same committed)
-        (shows_among image ss s r own is same committed) are
+    moved : (committed : ℕ → Bool) (ts : List Table)
+        → CatalogNames image.size (stands_facts image ss) committed r s.table ts
+        → CatalogNames image.size (table_facts image s.table s.data_pages) committed own s.table ts
+    moved committed ts named = record {
+      rows = named.rows;
+      are_rows = rows_as (stands_facts image ss) (table_facts image s.table s.data_pages) r own
+          committed s.table named.rows (shows_alone image ss s r own is same committed)
+          (shows_among image ss s r own is same committed) named.are_rows;
+      are_tables = named.are_tables;
+      fit = named.fit;
+    }
 
 names_among : (image : Image) (ss : List Stand) (s : Stand) (r own : Reading) → IsOneOf ss s
     → IsSameIn s r own → (tables : List Table)
-    → HasNames (table_facts image s.table s.data_pages) own s.table tables
-    → HasNames (stands_facts image ss) r s.table tables
+    → HasNames image.size (table_facts image s.table s.data_pages) own s.table tables
+    → HasNames image.size (stands_facts image ss) r s.table tables
 names_among image ss s r own is same tables names = record {
-  lawful = λ chosen. let (rows, are, named) = names.lawful chosen in
-      (rows, as_ (committed_with (stands_facts image ss) chosen) rows are, named);
-  named = let (rows, are, named) = names.named in
-      (rows, as_ (committed_with (stands_facts image ss) (λ t. true)) rows are, named);
+  named = names.named;
+  lawful = λ chosen. moved (committed_with (stands_facts image ss) chosen) (names.named chosen)
+      (names.lawful chosen);
+  all = moved (committed_with (stands_facts image ss) (λ t. true)) tables names.all;
+  stay = names.stay;
 }
   where
-    as_ : (committed : ℕ → Bool) (rows : Rows)
-        → AreRows (table_facts image s.table s.data_pages) committed own s.table rows
-        → AreRows (stands_facts image ss) committed r s.table rows
-    as_ committed rows are = rows_as (table_facts image s.table s.data_pages)
-        (stands_facts image ss) own r committed s.table rows
-        (shows_among image ss s r own is same committed)
-        (shows_alone image ss s r own is same committed) are
+    moved : (committed : ℕ → Bool) (ts : List Table)
+        → CatalogNames image.size (table_facts image s.table s.data_pages) committed own s.table ts
+        → CatalogNames image.size (stands_facts image ss) committed r s.table ts
+    moved committed ts named = record {
+      rows = named.rows;
+      are_rows = rows_as (table_facts image s.table s.data_pages) (stands_facts image ss) own r
+          committed s.table named.rows (shows_among image ss s r own is same committed)
+          (shows_alone image ss s r own is same committed) named.are_rows;
+      are_tables = named.are_tables;
+      fit = named.fit;
+    }
 
 -- no page is one of a sequence yet
 no_sequences : (image : Image) (ns : List ℕ)
@@ -124,6 +134,7 @@ meets_sound coding one image (rules, (layout, pages, (once, (r, met)))) = (
     once = once;
     records = records;
     limbo = met.0.0.0.2;
+    own_tables = met.0.0.0.3;
     indexed = met.1;
   },
 )
@@ -184,6 +195,7 @@ sound_meets coding image (layout, r, sound) = (
             drawn_of (coding_of coding) (layout_facts image layout) (cells_of (pages_in image)) r
                 sound.records,
             sound.limbo,
+            sound.own_tables,
           ),
           backs_of (coding_of coding) (layout_facts image layout) (cells_of (pages_in image)) r
               sound.records,

@@ -3,6 +3,7 @@ use Rattle.std.proofs.Common.{◌≡◌, subst, List, Some}
 use Rattle.std.proofs.Math.Path.{fun_ext}
 use Rattle.mg_base.specs.declared.numbers.RecId.{RecId}
 use Rattle.mg_model.specs.declared.table.Table.{Table}
+use Rattle.mg_image.specs.Inventory.{state_at}
 use Rattle.mg_image.specs.RecordRules.{Each}
 use Rattle.mg_image.specs.Records.{Reading}
 use Rattle.mg_image.specs.Sound.{HasNoOldLimbo, IsIndexed}
@@ -135,7 +136,8 @@ indexed_each coding image layout fs read indexed = have_tables
 -- where a reading meets a rule, what was read does
 pub drawn_must : (coding : RowCoding) (image : Image) (layout : Layout) (fs : List (List Found))
     → AreRead coding image layout fs → HasReadingOf MeetsDrawn coding image layout
-    → EachRead (FoundDrawn image) fs × HasNoOldLimbo image.size (pages_in image)
+    → EachRead (FoundDrawn image) fs
+    × HasNoOldLimbo (state_at image.size (pages_in image)) (pages_in image)
 drawn_must coding image layout fs read (r, met) = (
   drawn_each coding image layout fs read (subst (AreDrawn (layout_facts image layout))
       (same_reading coding image layout fs read r met.0) met.1),

@@ -47,8 +47,8 @@ tested_of coding image layout is = record {
 }
   where
     small : EachTable (λ t. length t.shape.columns ≤ MOST_COLUMNS) (tables_in layout.tables)
-    small = let (rows, are, named) = is.pages.names.names.named in
-        tables_are_small rows (tables_in layout.tables) named
+    small = let all = is.pages.names.names.all in
+        tables_are_small all.rows (tables_in layout.tables) all.are_tables
 
 -- an image whose records meet all rules is sound
 pub sound_of_all : (coding : RowCoding) → HasOneReading (coding_of coding) → (image : Image)

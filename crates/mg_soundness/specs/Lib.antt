@@ -1,4 +1,6 @@
 pub mod Joined
 pub mod IndexRule
+pub mod OwnRule
+pub mod NewCatalog
 pub mod Rungs
 pub mod Ladder

@@ -1,5 +1,7 @@
 -- The rules of the records of a layout, each with those before it, and which is the first that is
 -- broken.
+use Rattle.mg_image.specs.Catalog.{HasOwnTables}
+use Rattle.mg_image.specs.Inventory.{state_at}
 use Rattle.mg_image.specs.Records.{Reading, cells_of}
 use Rattle.mg_image.specs.Sound.{HasNoOldLimbo, IsIndexed, facts_of}
 use Rattle.mg_image.specs.RecordRules.{Facts}
@@ -22,10 +24,13 @@ abbrev pub MeetsLinks : RowCoding → Image → Layout → Reading → Type 0
 MeetsLinks coding image layout r =
     HasVersions (coding_of coding) (layout_facts image layout) (cells_of (pages_in image)) r
 
--- Drawn: their transactions are drawn, and none in limbo lies below the oldest interesting one
+-- Drawn: their transactions are drawn, none in limbo lies below the oldest active one, and a table
+-- that no committed row names has versions of those alone who have made it
 abbrev pub MeetsDrawn : RowCoding → Image → Layout → Reading → Type 0
 MeetsDrawn coding image layout r = MeetsLinks coding image layout r
-    × AreDrawn (layout_facts image layout) r × HasNoOldLimbo image.size (pages_in image)
+    × AreDrawn (layout_facts image layout) r
+    × HasNoOldLimbo (state_at image.size (pages_in image)) (pages_in image)
+    × HasOwnTables (layout_facts image layout) r layout.catalog.table
 
 -- Backs: back versions are committed
 abbrev pub MeetsBacks : RowCoding → Image → Layout → Reading → Type 0

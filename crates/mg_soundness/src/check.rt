@@ -1,7 +1,8 @@
 //! The test of soundness as a whole.
 
-ghost use Rattle.std.specs.Prelude.{IfErr, IfOk, OnOk};
-ghost use Rattle.mg_image.specs.Sound.{HasHeader};
+ghost use Rattle.std.specs.Prelude.{◌≡◌, IfErr, IfOk, OnOk};
+ghost use Rattle.mg_image.specs.Catalog.{catalog_table};
+ghost use Rattle.mg_image.specs.Inventory.{header_of};
 ghost use Rattle.mg_image.specs.Tables.{stands_of};
 ghost use Rattle.mg_layout.specs.Standing.{layout_in};
 ghost use Rattle.mg_reading.specs.ImageView.{pages_in};
@@ -10,6 +11,7 @@ ghost use Rattle.mg_soundness.specs.Ladder.{IsFirstBroken, IsSoundImage, IsStand
 ghost use Rattle.mg_soundness.specs.Rungs.{HasReadingOf, IsFirstBrokenOf, MeetsIndexed};
 
 use crate::indexed::are_all_indexed;
+use crate::owners::have_own_tables;
 use crate::records::{are_all_backs_committed, are_all_drawn, have_all_own_keys, read_tables};
 use mg_image::one_reading;
 use mg_layout::{Standing, are_pages_once, layout_of};
@@ -27,7 +29,8 @@ fn check_records(
     coding: RowCoding,
     standing: &Standing,
 ) -> Result<(), ReadFault>
-    requires header { HasHeader image.now.size (pages_in image.now) }
+    requires catalog { (layout_in standing.now).catalog.table
+        ≡ catalog_table (header_of (pages_in image.now)).catalog.0 }
     requires tested { AreTested image.now (stands_of (layout_in standing.now)) }
     ensures met { OnOk result
         (HasReadingOf MeetsIndexed coding image.now (layout_in standing.now)) }
@@ -38,6 +41,9 @@ fn check_records(
         return Err(ReadFault::Broken(Rule::Drawn));
     }
     if !image.has_no_old_limbo() {
+        return Err(ReadFault::Broken(Rule::Drawn));
+    }
+    if !have_own_tables(image, standing, &records) {
         return Err(ReadFault::Broken(Rule::Drawn));
     }
     if !are_all_backs_committed(image, &records) {

@@ -2,7 +2,6 @@
 
 ghost use Rattle.std.specs.Prelude.{◌↔◌, IfOk, IsTrue};
 ghost use Rattle.mg_image.specs.Indexes.{AreTrees, IsFoundIn};
-ghost use Rattle.mg_image.specs.Sound.{HasHeader};
 ghost use Rattle.mg_image.specs.Tables.{EachStand, stands_of};
 ghost use Rattle.mg_layout.specs.Standing.{layout_in, stand_in, stands_in};
 ghost use Rattle.mg_reading.specs.ImageView.{pages_in};
@@ -25,7 +24,6 @@ fn is_row_found(
     p: RecId,
     row: &[Value],
 ) -> Result<bool, Memory>
-    requires header { HasHeader image.now.size (pages_in image.now) }
     requires trees { IsTested image.now (stand_in stand.now) }
     ensures { IfOk result (λ found.
         IsTrue found ↔ IsFoundIn (pages_in image.now) stand.now.table.indexes p row.now) }
@@ -41,7 +39,6 @@ fn is_shown_found(
     stand: &TableStand,
     record: &Found,
 ) -> Result<bool, Memory>
-    requires header { HasHeader image.now.size (pages_in image.now) }
     requires trees { IsTested image.now (stand_in stand.now) }
     ensures { IfOk result (λ found. IsTrue found
         ↔ IsShownFound image.now stand.now.table record.now.at record.now.entries.items) }
@@ -60,7 +57,6 @@ fn is_limbo_found(
     stand: &TableStand,
     record: &Found,
 ) -> Result<bool, Memory>
-    requires header { HasHeader image.now.size (pages_in image.now) }
     requires trees { IsTested image.now (stand_in stand.now) }
     ensures { IfOk result (λ found. IsTrue found
         ↔ IsLimboFound image.now stand.now.table record.now.at record.now.entries.items) }
@@ -84,7 +80,6 @@ fn is_record_indexed(
     stand: &TableStand,
     record: &Found,
 ) -> Result<bool, Memory>
-    requires header { HasHeader image.now.size (pages_in image.now) }
     requires trees { IsTested image.now (stand_in stand.now) }
     ensures { IfOk result (λ found. IsTrue found
         ↔ IsRecordIndexed image.now stand.now.table record.now.at record.now.entries.items) }
@@ -102,7 +97,6 @@ fn are_records_indexed(
     stand: &TableStand,
     found: &[Found],
 ) -> Result<bool, Memory>
-    requires header { HasHeader image.now.size (pages_in image.now) }
     requires trees { IsTested image.now (stand_in stand.now) }
     ensures { IfOk result (λ all. IsTrue all
         ↔ EachAt (IsRecordIndexed image.now stand.now.table) found.now) }
@@ -124,7 +118,6 @@ fn is_table_indexed(
     stand: &TableStand,
     found: &[Found],
 ) -> Result<bool, Memory>
-    requires header { HasHeader image.now.size (pages_in image.now) }
     requires trees { IsTested image.now (stand_in stand.now) }
     requires settled { AreSettled found.now }
     ensures { IfOk result (λ all.
@@ -141,7 +134,6 @@ fn are_tables_indexed(
     stands: &[TableStand],
     records: &[TableRecords],
 ) -> Result<bool, Memory>
-    requires header { HasHeader image.now.size (pages_in image.now) }
     requires trees { EachStand (IsTested image.now) (stands_in stands.now) }
     requires settled { EachRead AreSettled (founds_in records.now) }
     ensures { IfOk result (λ all. IsTrue all
@@ -174,7 +166,6 @@ pub fn are_all_indexed(
     standing: &Standing,
     records: &[TableRecords],
 ) -> Result<bool, Memory>
-    requires header { HasHeader image.now.size (pages_in image.now) }
     requires trees { EachStand (IsTested image.now) (stands_of (layout_in standing.now)) }
     requires settled { EachRead AreSettled (founds_in records.now) }
     ensures { IfOk result (λ all. IsTrue all ↔ EachTable (IsTableIndexed image.now)

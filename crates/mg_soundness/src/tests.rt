@@ -43,6 +43,47 @@ const SHARED: [Said; 5] = [
     (b"TT", b"", [5, 1, 0, 0]),
 ];
 
+// The rows of a new database.
+const NEW: [Said; 3] = [
+    (b"TKV", b"", [5, 2, 0, 0]),
+    (b"CKV.00", b"K", [0, 3, 1, 0]),
+    (b"CKV.01", b"V", [0, 0, 1, 1]),
+];
+
+// KV with a row of 523 bytes, which is more than half a page.
+const WIDE: [Said; 4] = [
+    (b"CKV.00", b"K", [0, 3, 1, 0]),
+    (b"CKV.01", b"V", [255, 0, 1, 1]),
+    (b"CKV.02", b"W", [255, 0, 1, 2]),
+    (b"TKV", b"", [5, 3, 7, 0]),
+];
+
+// KV with a row of 512 bytes, which is half a page.
+const HALF: [Said; 4] = [
+    (b"CKV.00", b"K", [0, 3, 1, 0]),
+    (b"CKV.01", b"V", [255, 0, 1, 1]),
+    (b"CKV.02", b"W", [244, 0, 1, 2]),
+    (b"TKV", b"", [5, 3, 7, 0]),
+];
+
+// KV with a key of 129 bytes at most, which is more than an eighth of a page.
+const LONG_KEY: [Said; 3] = [
+    (b"CKV.00", b"K", [63, 3, 1, 0]),
+    (b"CKV.01", b"V", [0, 0, 1, 1]),
+    (b"TKV", b"", [5, 2, 7, 0]),
+];
+
+// KV with a key of 127 bytes at most.
+const SHORT_KEY: [Said; 3] = [
+    (b"CKV.00", b"K", [62, 3, 1, 0]),
+    (b"CKV.01", b"V", [0, 0, 1, 1]),
+    (b"TKV", b"", [5, 2, 7, 0]),
+];
+
+// A newest version of a row of the catalog, by the transaction 2: the place of the row among those of
+// transaction 0, and what it says.
+type Changed = (u8, Said);
+
 // A cell of KV's data page 6: an anchor to a slot and a transaction; a version by a transaction of a
 // row; one over that of a slot and a transaction; a deletion of a key over such a one.
 #[derive(Clone, Copy)]
@@ -54,15 +95,18 @@ enum Laid {
 }
 
 // A database: its header, what became of transactions 1 to 3, how many pages are used, the rows of
-// its catalog, the cells of KV in the order of their slots, and the keys in its index, each with the
-// slot of its record.
+// its catalog and the transaction that wrote them, a change of one, the cells of KV in the order of
+// their slots, and the keys in its index, each with the slot of its record.
 #[derive(Clone, Copy)]
 struct Made {
     next: u32,
     oit: u32,
+    oat: u32,
     states: [TxState; 3],
     used: u32,
     catalog: &'static [Said],
+    by: u8,
+    changed: Option<Changed>,
     cells: &'static [Laid],
     keys: &'static [(u8, u8)],
 }
@@ -79,9 +123,12 @@ fn sound() -> Made {
     Made {
         next: 4,
         oit: 1,
+        oat: 1,
         states: [DONE, DONE, DONE],
         used: 8,
         catalog: &KV,
+        by: 0,
+        changed: None,
         cells: &TWO,
         keys: &[(1, 0)],
     }
@@ -96,7 +143,7 @@ fn header(b: &mut [u8], made: &Made)
         minor: 0,
         next: TxNo(made.next),
         oit: TxNo(made.oit),
-        oat: TxNo(made.next),
+        oat: TxNo(made.oat),
         ost: TxNo(made.oit),
         last_tip: PageNo(2),
         interval: 20_000,
@@ -160,28 +207,44 @@ fn put_text(bytes: &mut Vec<u8>, text: &[u8], width: usize) -> Result<(), Fail> 
     Ok(())
 }
 
-// The version of a row of the catalog; a name without letters is NULL.
-fn said_version(alloc: Global, said: &Said) -> Result<Vec<u8>, Fail> {
-    let nulls = if said.1.is_empty() { 2 } else { 0 };
-    let mut bytes = [2, 0, 1, 0, 0, 0, 0, 0, nulls].to_vec(alloc)?;
-    put_text(&mut bytes, said.0, 40)?;
-    put_text(&mut bytes, said.1, 31)?;
+// Appends the bytes of a row of the catalog; a name without letters is NULL.
+fn put_said(bytes: &mut Vec<u8>, said: &Said) -> Result<(), Fail> {
+    bytes.push(if said.1.is_empty() { 2 } else { 0 })?;
+    put_text(bytes, said.0, 40)?;
+    put_text(bytes, said.1, 31)?;
     for number in &said.2 {
         bytes.extend_from_slice(&[*number, 0, 0, 0, 0, 0, 0, 0])?;
     }
-    Ok(bytes)
+    Ok(())
 }
 
-// The cells of the catalog: for each row an anchor, and its one version behind it.
-fn catalog_cells(alloc: Global, rows: &[Said]) -> Result<Vec<Vec<u8>>, Fail> {
+// The cells of the catalog: for each row an anchor, and its version behind it; then the version that
+// changes one.
+fn catalog_cells(alloc: Global, made: &Made) -> Result<Vec<Vec<u8>>, Fail> {
     let mut cells = Vec::new(alloc);
-    for said in rows {
+    let last = 2 * (made.catalog.len() % 100) as u8;
+    for said in made.catalog {
         if cells.len() > 100 {
             return Err("many cells")?;
         }
-        let slot = cells.len() as u8 + 1;
-        cells.push([1, 4, 0, 0, 0, slot, 0, 0, 0, 0, 0].to_vec(alloc)?)?;
-        cells.push(said_version(alloc, said)?)?;
+        let own = cells.len() as u8;
+        let (slot, by) = match made.changed {
+            Some((place, _)) if u32::from(own) == 2 * u32::from(place) => (last, 2),
+            _ => (own + 1, made.by),
+        };
+        cells.push([1, 4, 0, 0, 0, slot, 0, by, 0, 0, 0].to_vec(alloc)?)?;
+        let mut version = [2, 0, 1, 0, made.by, 0, 0, 0].to_vec(alloc)?;
+        put_said(&mut version, said)?;
+        cells.push(version)?;
+    }
+    if let Some((place, said)) = made.changed {
+        let back = (place % 100) * 2 + 1;
+        let mut version = [
+            2, 2, 1, 0, 2, 0, 0, 0, 4, 0, 0, 0, back, 0, made.by, 0, 0, 0,
+        ]
+        .to_vec(alloc)?;
+        put_said(&mut version, &said)?;
+        cells.push(version)?;
     }
     Ok(cells)
 }
@@ -242,7 +305,7 @@ fn page_of(alloc: Global, made: &Made, n: u32) -> Result<Vec<u8>, Fail> {
         1 => inventory(&mut page, made.used),
         2 => transactions(&mut page, &made.states),
         3 => pointers(&mut page, 3, 4),
-        4 => data(&mut page, 4, 3, &catalog_cells(alloc, made.catalog)?)?,
+        4 => data(&mut page, 4, 3, &catalog_cells(alloc, made)?)?,
         5 => pointers(&mut page, 5, 6),
         6 => data(&mut page, 6, 5, &cells_of(alloc, made.cells)?)?,
         _ => {}
@@ -277,6 +340,34 @@ fn expect_broken(alloc: Global, made: &Made, rule: Rule, what: &'static str) -> 
         Err(ReadFault::Broken(found)) if found == rule => Ok(()),
         _ => Err(what)?,
     }
+}
+
+// A page of a new database, but for its header.
+fn new_page(alloc: Global, n: u32) -> Result<Vec<u8>, Fail> {
+    let made = Made {
+        next: 1,
+        oit: 1,
+        oat: 1,
+        states: [LIVE, LIVE, LIVE],
+        used: 7,
+        catalog: &NEW,
+        by: 0,
+        changed: None,
+        cells: &[],
+        keys: &[],
+    };
+    page_of(alloc, &made, n)
+}
+
+// Looks whether an image of these pages is blank.
+fn expect_blank(alloc: Global, pages: Vec<Bytes>, wanted: bool) -> Result<(), Fail> {
+    let Ok(Some(image)) = Image::new(alloc, 1024, pages) else {
+        return Err("no image")?;
+    };
+    if is_unmade(alloc, &image, RowCoding::Plain)? != wanted {
+        return Err("blank")?;
+    }
+    Ok(())
 }
 
 #[test]
@@ -325,6 +416,60 @@ fn the_rules_of_pages_are_named(rt: HostRuntime) -> Result<(), Fail> {
 }
 
 #[test]
+fn tables_fit_their_pages(rt: HostRuntime) -> Result<(), Fail> {
+    let alloc = rt.alloc();
+    let mut made = sound();
+    made.cells = &[];
+    made.keys = &[];
+    made.catalog = &WIDE;
+    expect_broken(alloc, &made, Rule::Pages, "a row of more than half a page")?;
+    made.catalog = &HALF;
+    expect_sound(alloc, &made, "a row of half a page")?;
+    made.catalog = &LONG_KEY;
+    expect_broken(
+        alloc,
+        &made,
+        Rule::Pages,
+        "a key of more than an eighth of a page",
+    )?;
+    made.catalog = &SHORT_KEY;
+    expect_sound(alloc, &made, "a key of nearly an eighth of a page")
+}
+
+#[test]
+fn tables_are_those_of_their_makers(rt: HostRuntime) -> Result<(), Fail> {
+    let alloc = rt.alloc();
+    let mut made = sound();
+    made.cells = &[Laid::Anchor(1, 1), Laid::First(1, 1, 10)];
+    // Transaction 2 gives KV another shape: V comes to be NOT NULL.
+    made.changed = Some((1, (b"CKV.01", b"V", [0, 1, 1, 1])));
+    made.states = [DONE, HELD, DONE];
+    expect_broken(
+        alloc,
+        &made,
+        Rule::Pages,
+        "a table that a limbo transaction changes",
+    )?;
+    made.states = [DONE, GONE, DONE];
+    expect_sound(alloc, &made, "a dead transaction changes nothing")?;
+    // Transaction 2 has made KV, and transaction 1 has a row in it.
+    made.changed = None;
+    made.by = 2;
+    made.states = [DONE, HELD, DONE];
+    expect_broken(
+        alloc,
+        &made,
+        Rule::Drawn,
+        "a row of another in a table of limbo",
+    )?;
+    made.states = [GONE, HELD, DONE];
+    expect_sound(alloc, &made, "a dead row in a table of limbo")?;
+    made.cells = &[Laid::Anchor(1, 2), Laid::First(2, 1, 10)];
+    made.states = [DONE, HELD, DONE];
+    expect_sound(alloc, &made, "the maker's own row")
+}
+
+#[test]
 fn the_rule_of_links_is_named(rt: HostRuntime) -> Result<(), Fail> {
     let alloc = rt.alloc();
     let mut made = sound();
@@ -358,10 +503,14 @@ fn the_rules_of_transactions_are_named(rt: HostRuntime) -> Result<(), Fail> {
     expect_broken(alloc, &made, Rule::Drawn, "a version from Next on")?;
     made = sound();
     made.oit = 3;
+    made.oat = 3;
     made.states = [DONE, GONE, DONE];
     expect_broken(alloc, &made, Rule::Drawn, "a dead version below OIT")?;
+    made.oit = 1;
     made.states = [DONE, HELD, DONE];
-    expect_broken(alloc, &made, Rule::Drawn, "limbo below OIT")?;
+    expect_broken(alloc, &made, Rule::Drawn, "limbo below OAT")?;
+    made.oat = 2;
+    expect_sound(alloc, &made, "limbo at OAT")?;
     made = sound();
     made.states = [GONE, DONE, DONE];
     expect_broken(alloc, &made, Rule::Backs, "a dead back version")
@@ -398,4 +547,27 @@ fn the_rules_of_keys_are_named(rt: HostRuntime) -> Result<(), Fail> {
     expect_broken(alloc, &made, Rule::Indexed, "a row without entry")?;
     made.states = [GONE, DONE, DONE];
     expect_broken(alloc, &made, Rule::Backs, "a dead back version comes first")
+}
+
+#[test]
+fn a_disk_is_blank_until_its_header_is_there(rt: HostRuntime) -> Result<(), Fail> {
+    let alloc = rt.alloc();
+    let mut made = sound();
+    made.next = 1;
+    made.states = [LIVE, LIVE, LIVE];
+    // The header page is left out, and one page after the other.
+    for count in 0..8 {
+        let mut pages = Vec::new(alloc);
+        pages.push(Bytes::zeroed(alloc, SIZE)?)?;
+        for n in 1..count {
+            pages.push(Bytes::new(new_page(alloc, n)?))?;
+        }
+        expect_blank(alloc, pages, true)?;
+    }
+    let mut pages = Vec::new(alloc);
+    pages.push(Bytes::zeroed(alloc, SIZE)?)?;
+    for n in 1..7 {
+        pages.push(Bytes::new(page_of(alloc, &made, n)?))?;
+    }
+    expect_blank(alloc, pages, false)
 }

@@ -1,16 +1,15 @@
 //! The change of the pages of a batch at once.
 
-ghost use Rattle.std.specs.Prelude.{◌≡◌, ◌≢◌, ◌<◌, ◌≤◌, ◌+◌, ◌^◌, Err, ◌⊎◌, ◌&&◌, ◌||◌, not, ℕ, List, [], ◌∷◌, true, false, Some, None, OnOk, OnErr, length, count_by};
-ghost use Rattle.mg_base.specs.Image.{Image};
+ghost use Rattle.std.specs.Prelude.{◌≡◌, ◌≢◌, ◌<◌, ◌≤◌, ◌+◌, ◌^◌, ◌⊎◌, Err, ℕ, List, [], ◌∷◌, true, None, OnOk, OnErr, MatchResult, length};
 ghost use Rattle.mg_careful.specs.Precedence.{Precedes};
 ghost use Rattle.mg_careful.specs.Graph.{is_ordered, EntersPage};
-ghost use Rattle.mg_careful.specs.CarefulWrite.{PageSet};
 ghost use Rattle.mg_pool.specs.Dirty.{content_of, is_dirty as dirty_test, PutsContent};
-ghost use Rattle.mg_pool.specs.Batch.{content_in, is_in, IsOnce, IsLawful, lists, order_at, orders_of, dirty_with};
-ghost use Rattle.mg_pool.specs.Change.{Changes, ChangesPages, IsOpen, MakesRoom, EntersOrders, PutsPages, ChangesOverlays};
+ghost use Rattle.mg_pool.specs.Batch.{content_in, IsOnce, IsLawful, lists, dirty_with};
+ghost use Rattle.mg_pool.specs.Change.{Changes, IsOpen, MakesRoom, EntersOrders, PutsPages, ChangesOverlays};
 ghost use Rattle.mg_pool.specs.Fault.{TellsFault, OnlyWrites};
+ghost use Rattle.mg_pool.specs.Refusal.{FailsWrites, LeavesRefused};
 ghost use Rattle.mg_pool.specs.Run.{HasWritten};
-ghost use Rattle.mg_pool.specs.Pool.{IsPool, LeavesClosed, KeepsPages, LeavesOverlays};
+ghost use Rattle.mg_pool.specs.Pool.{IsPool, KeepsPages, LeavesOverlays};
 
 use crate::batch::{Batch, BatchPage};
 use crate::fault::PoolFault;
@@ -31,8 +30,9 @@ impl<D: Disk, L: Links> Pool<D, L> {
     /// # Errors
     ///
     /// `Offline` exactly where an earlier call answered `DiskWrite`; `DiskWrite` only where the
-    /// disk's count of faults rose in this call; `Memory`, and then no page was written. No page's
-    /// content has changed then.
+    /// disk's count of faults rose in this call; `Memory`. At `Offline` and `Memory` all is as it
+    /// was: pages, orders, marks, the disk. At `DiskWrite` pages may have been written out, as for
+    /// the change; no page's content has changed.
     pub fn change(&mut self, batch: Batch) -> Result<(), PoolFault>
         requires pool { IsPool D.meaning self.old }
         requires lawful { IsLawful self.old.geometry.size batch.pages batch.orders }
@@ -44,6 +44,7 @@ impl<D: Disk, L: Links> Pool<D, L> {
         ensures changes { OnOk result
             (Changes D.meaning self.old self.new batch.pages batch.orders) }
         ensures same { OnErr result (KeepsPages D.meaning self.old self.new) }
+        ensures refused { LeavesRefused D.meaning self.old self.new result }
         ensures frame { OnOk result
             (ChangesOverlays D.meaning (content_in batch.pages) batch.orders self.old self.new) }
         ensures crash { LeavesOverlays D.meaning self.old self.new }
@@ -69,14 +70,10 @@ impl<D: Disk, L: Links> Pool<D, L> {
         requires once { IsOnce pages.now.items }
         requires few { length pages.now.items ≤ 256 }
 
-        ensures pool { IsPool D.meaning self.new }
-        ensures fault { TellsFault D.meaning self.old self.new result }
-        ensures own { OnlyWrites result }
-        ensures kept { KeepsPages D.meaning self.old self.new }
-        ensures room { OnOk result (MakesRoom pages.now.items self.old self.new) }
+        ensures room { MatchResult result (λ _. MakesRoom D.meaning pages.now.items self.old self.new)
+            (FailsWrites D.meaning self.old self.new) }
+        ensures run { OnOk result (HasWritten D.meaning self.old self.new) }
         ensures fits { OnOk result (dirty_with self.new.dirty pages.now.items ≤ 512) }
-        ensures written { OnOk result (HasWritten D.meaning self.old self.new) }
-        ensures crash { LeavesOverlays D.meaning self.old self.new }
     {
         while self.dirty_with(pages) > DIRTY_PAGES as usize {
             // More pages are dirty than the batch has, so there is one outside it.

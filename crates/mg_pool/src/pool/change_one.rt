@@ -1,17 +1,16 @@
 //! The change of one page, which takes no memory.
 
-ghost use Rattle.std.specs.Prelude.{◌≡◌, ◌≢◌, ◌<◌, ◌≤◌, ℕ, List, [], ◌∷◌, true, Some, None, Err, OnOk, OnErr, length};
+ghost use Rattle.std.specs.Prelude.{◌≡◌, ◌≢◌, ◌≤◌, ℕ, List, true, Some, None, OnOk, OnErr, MatchResult, length};
 ghost use Rattle.std.specs.Option.{ForSome};
-ghost use Rattle.mg_base.specs.Image.{Image};
 ghost use Rattle.mg_careful.specs.Precedence.{Precedes};
 ghost use Rattle.mg_careful.specs.Graph.{is_ordered};
-ghost use Rattle.mg_careful.specs.CarefulWrite.{PageSet};
-ghost use Rattle.mg_pool.specs.Dirty.{content_of, is_dirty as dirty_test};
+ghost use Rattle.mg_pool.specs.Dirty.{is_dirty as dirty_test};
 ghost use Rattle.mg_pool.specs.Batch.{content_in, orders_of, dirty_with, one_page};
-ghost use Rattle.mg_pool.specs.Change.{Changes, ChangesPages, MakesRoom, EntersOrders, SettlesOrders, ChangesOverlays};
+ghost use Rattle.mg_pool.specs.Change.{Changes, MakesRoom, EntersOrders, SettlesOrders, ChangesOverlays};
 ghost use Rattle.mg_pool.specs.Fault.{TellsFault, OnlyWrites};
+ghost use Rattle.mg_pool.specs.Refusal.{FailsWrites, LeavesRefused};
 ghost use Rattle.mg_pool.specs.Run.{HasWritten};
-ghost use Rattle.mg_pool.specs.Pool.{IsPool, LeavesClosed, KeepsPages, LeavesOverlays};
+ghost use Rattle.mg_pool.specs.Pool.{IsPool, KeepsPages, LeavesOverlays};
 
 use crate::fault::PoolFault;
 use crate::pool::Pool;
@@ -24,8 +23,9 @@ impl<D: Disk, L: Links> Pool<D, L> {
     ///
     /// # Errors
     ///
-    /// `Offline` exactly where an earlier call answered `DiskWrite`; `DiskWrite` only where the
-    /// disk's count of faults rose in this call. No page's content has changed then.
+    /// `Offline` exactly where an earlier call answered `DiskWrite`, and then all is as it was;
+    /// `DiskWrite` only where the disk's count of faults rose in this call. Pages may have been
+    /// written out then, as for the change; no page's content has changed.
     pub fn change_one(
         &mut self,
         page: PageNo,
@@ -43,6 +43,7 @@ impl<D: Disk, L: Links> Pool<D, L> {
         ensures changes { OnOk result (Changes D.meaning self.old self.new
             (one_page page.0 bytes.now) (orders_of first page)) }
         ensures same { OnErr result (KeepsPages D.meaning self.old self.new) }
+        ensures refused { LeavesRefused D.meaning self.old self.new result }
         ensures frame { OnOk result (ChangesOverlays D.meaning
             (content_in (one_page page.0 bytes.now)) (orders_of first page) self.old self.new) }
         ensures crash { LeavesOverlays D.meaning self.old self.new }
@@ -61,16 +62,12 @@ impl<D: Disk, L: Links> Pool<D, L> {
         requires online { self.old.offline ≡ None }
         requires apart { first ≢ Some page }
 
-        ensures pool { IsPool D.meaning self.new }
-        ensures fault { TellsFault D.meaning self.old self.new result }
-        ensures own { OnlyWrites result }
-        ensures kept { KeepsPages D.meaning self.old self.new }
-        ensures settles { OnOk result (SettlesOrders (orders_of first page) self.old
-            (length (orders_of first page)) self.new) }
+        ensures settles { MatchResult result (λ _. SettlesOrders D.meaning (orders_of first page)
+            self.old (length (orders_of first page)) self.new)
+            (FailsWrites D.meaning self.old self.new) }
+        ensures run { OnOk result (HasWritten D.meaning self.old self.new) }
         ensures open { OnOk result (ForSome first
             (λ f. Precedes (is_ordered self.new.graph) page.0 f.0 → ⊥)) }
-        ensures written { OnOk result (HasWritten D.meaning self.old self.new) }
-        ensures crash { LeavesOverlays D.meaning self.old self.new }
     {
         if let Some(first) = first {
             if self.graph.would_cycle(first.0, page.0) {
@@ -86,16 +83,12 @@ impl<D: Disk, L: Links> Pool<D, L> {
         requires pool { IsPool D.meaning self.old }
         requires online { self.old.offline ≡ None }
 
-        ensures pool { IsPool D.meaning self.new }
-        ensures fault { TellsFault D.meaning self.old self.new result }
-        ensures own { OnlyWrites result }
-        ensures kept { KeepsPages D.meaning self.old self.new }
-        ensures room { OnOk result ((bytes : List ℕ)
-            → MakesRoom (one_page page.0 bytes) self.old self.new) }
+        ensures room { MatchResult result (λ _. (bytes : List ℕ)
+            → MakesRoom D.meaning (one_page page.0 bytes) self.old self.new)
+            (FailsWrites D.meaning self.old self.new) }
+        ensures run { OnOk result (HasWritten D.meaning self.old self.new) }
         ensures fits { OnOk result ((bytes : List ℕ)
             → dirty_with self.new.dirty (one_page page.0 bytes) ≤ 512) }
-        ensures written { OnOk result (HasWritten D.meaning self.old self.new) }
-        ensures crash { LeavesOverlays D.meaning self.old self.new }
     {
         if self.is_dirty(page) || self.dirty.has_room() {
             return Ok(());

@@ -1,15 +1,12 @@
 //! What has to be written before the orders of a batch can be entered without a cycle.
 
-ghost use Rattle.std.specs.Prelude.{◌≡◌, ◌<◌, ◌≤◌, ◌↔◌, ℕ, true, false, IsTrue, IfSome, IfNone, Some, None, OnOk, length, take, slice_index_or};
-ghost use Rattle.mg_base.specs.Image.{Image};
+ghost use Rattle.std.specs.Prelude.{◌≡◌, ◌<◌, ◌≤◌, ◌↔◌, ℕ, true, false, IsTrue, IfSome, IfNone, None, OnOk, MatchResult, length, take, slice_index_or};
 ghost use Rattle.mg_careful.specs.Precedence.{Precedes};
-ghost use Rattle.mg_careful.specs.Graph.{is_ordered};
-ghost use Rattle.mg_pool.specs.Dirty.{is_dirty as dirty_test};
-ghost use Rattle.mg_pool.specs.Batch.{IsDue, Leads, LeadsToDue, lists, joint, order_at};
+ghost use Rattle.mg_pool.specs.Batch.{IsDue, Leads, LeadsToDue, lists, order_at};
 ghost use Rattle.mg_pool.specs.Change.{SettlesOrder, SettlesOrders, IsOpen, WritesDue};
-ghost use Rattle.mg_pool.specs.Fault.{TellsFault, OnlyWrites};
+ghost use Rattle.mg_pool.specs.Refusal.{FailsWrites};
 ghost use Rattle.mg_pool.specs.Run.{HasWritten};
-ghost use Rattle.mg_pool.specs.Pool.{IsPool, LeavesClosed, KeepsPages, taken_out, LeavesOverlays};
+ghost use Rattle.mg_pool.specs.Pool.{IsPool};
 
 use crate::fault::PoolFault;
 use crate::pool::Pool;
@@ -29,16 +26,12 @@ impl<D: Disk, L: Links> Pool<D, L> {
         requires due { length due.old.items ≡ length orders.now.items }
         requires acyclic { (page : ℕ) → Precedes (lists orders.now.items) page page → ⊥ }
 
-        ensures pool { IsPool D.meaning self.new }
-        ensures fault { TellsFault D.meaning self.old self.new result }
-        ensures own { OnlyWrites result }
-        ensures kept { KeepsPages D.meaning self.old self.new }
-        ensures settles { OnOk result (SettlesOrders orders.now.items self.old
-            (length orders.now.items) self.new) }
+        ensures settles { MatchResult result
+            (λ _. SettlesOrders D.meaning orders.now.items self.old (length orders.now.items) self.new)
+            (FailsWrites D.meaning self.old self.new) }
+        ensures run { OnOk result (HasWritten D.meaning self.old self.new) }
         ensures open { OnOk result ((k : ℕ) → k < length orders.now.items
             → IsOpen self.new.graph orders.now.items k) }
-        ensures written { OnOk result (HasWritten D.meaning self.old self.new) }
-        ensures crash { LeavesOverlays D.meaning self.old self.new }
     {
         for place in 0..orders.len() {
             self.settle_order(orders, due, place)?;
@@ -60,15 +53,11 @@ impl<D: Disk, L: Links> Pool<D, L> {
         requires place { place < length orders.now.items }
 
         ensures due { length due.new.items ≡ length orders.now.items }
-        ensures pool { IsPool D.meaning self.new }
-        ensures fault { TellsFault D.meaning self.old self.new result }
-        ensures own { OnlyWrites result }
-        ensures kept { KeepsPages D.meaning self.old self.new }
-        ensures settles { OnOk result (SettlesOrder (take place orders.now.items)
-            (order_at orders.now.items place) self.old self.new) }
+        ensures settles { MatchResult result
+            (λ _. SettlesOrder D.meaning (take place orders.now.items)
+            (order_at orders.now.items place) self.old self.new)
+            (FailsWrites D.meaning self.old self.new) }
         ensures open { OnOk result (IsOpen self.new.graph orders.now.items place) }
-        ensures written { OnOk result (HasWritten D.meaning self.old self.new) }
-        ensures crash { LeavesOverlays D.meaning self.old self.new }
     {
         let first = first_of(orders, place);
         self.mark_due(orders, due, place, first);
@@ -90,14 +79,9 @@ impl<D: Disk, L: Links> Pool<D, L> {
         requires online { self.old.offline ≡ None }
         requires due { length due.now.items ≡ length orders.now.items }
 
-        ensures pool { IsPool D.meaning self.new }
-        ensures fault { TellsFault D.meaning self.old self.new result }
-        ensures own { OnlyWrites result }
-        ensures kept { KeepsPages D.meaning self.old self.new }
-        ensures due { OnOk result
-            (WritesDue orders.now.items due.now.items goal self.old self.new) }
-        ensures written { OnOk result (HasWritten D.meaning self.old self.new) }
-        ensures crash { LeavesOverlays D.meaning self.old self.new }
+        ensures { MatchResult result
+            (λ _. WritesDue D.meaning orders.now.items due.now.items goal self.old self.new)
+            (FailsWrites D.meaning self.old self.new) }
     {
         self.write_predecessors(goal)?;
         for place in 0..orders.len() {

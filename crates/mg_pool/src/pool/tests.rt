@@ -4,7 +4,7 @@ ghost use Rattle.std.specs.Prelude.{◌≡◌, ◌≢◌, [], Some, None, IfOk, 
 ghost use Rattle.mg_pool.specs.Pool.{IsPool};
 
 use super::*;
-use crate::batch::Batch;
+use crate::batch::{BATCH_PAGES, Batch};
 use mg_base::{FaultyDisk, MemDisk, Memory};
 use mg_careful::{Demand, Order};
 use std::test::Fail;
@@ -144,6 +144,14 @@ fn resolves<D: Disk>(disk: &mut D) -> bool {
         }
     }
     true
+}
+
+#[test]
+fn a_pool_has_512_dirty_pages_256_in_a_batch_and_32_marks(rt: HostRuntime) -> Result<(), Fail> {
+    assert_eq!(rt; DIRTY_PAGES, 512);
+    assert_eq!(rt; BATCH_PAGES, 256);
+    assert_eq!(rt; MARKERS, 32);
+    Ok(())
 }
 
 #[test]

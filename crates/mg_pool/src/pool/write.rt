@@ -1,14 +1,11 @@
 //! Page writes: one page, those that precede a page, a page with those that precede it.
 
-ghost use Rattle.std.specs.Prelude.{◌≡◌, ◌<◌, ℕ, true, false, Some, None, OnOk, OnErr, length};
-ghost use Rattle.mg_base.specs.Image.{Image};
-ghost use Rattle.mg_careful.specs.Precedence.{Precedes};
+ghost use Rattle.std.specs.Prelude.{◌≡◌, ◌<◌, ℕ, true, false, None, OnOk, MatchResult, length};
 ghost use Rattle.mg_careful.specs.Graph.{is_ordered};
 ghost use Rattle.mg_pool.specs.Dirty.{is_dirty as dirty_test};
-ghost use Rattle.mg_pool.specs.Batch.{IsOrPrecedes};
-ghost use Rattle.mg_pool.specs.Fault.{TellsFault, OnlyWrites};
-ghost use Rattle.mg_pool.specs.Run.{HasWritten, WritesPage, WritesWith};
-ghost use Rattle.mg_pool.specs.Pool.{IsPool, LeavesClosed, KeepsPages, taken_out, LeavesOverlays};
+ghost use Rattle.mg_pool.specs.Run.{WritesPage, WritesBefore, WritesWith};
+ghost use Rattle.mg_pool.specs.Refusal.{FailsWrite, FailsWrites};
+ghost use Rattle.mg_pool.specs.Pool.{IsPool};
 
 use crate::fault::PoolFault;
 use crate::pool::{Pool, count_fault};
@@ -22,15 +19,10 @@ impl<D: Disk, L: Links> Pool<D, L> {
         requires pool { IsPool D.meaning self.old }
         requires online { self.old.offline ≡ None }
 
-        ensures pool { IsPool D.meaning self.new }
-        ensures fault { TellsFault D.meaning self.old self.new result }
-        ensures own { OnlyWrites result }
-        ensures kept { KeepsPages D.meaning self.old self.new }
-        ensures with { OnOk result (WritesWith goal self.old self.new) }
+        ensures with { MatchResult result (λ _. WritesWith D.meaning goal self.old self.new)
+            (FailsWrites D.meaning self.old self.new) }
         ensures less { OnOk result (dirty_test self.old.dirty goal ≡ true
             → length self.new.dirty.pages < length self.old.dirty.pages) }
-        ensures written { OnOk result (HasWritten D.meaning self.old self.new) }
-        ensures crash { LeavesOverlays D.meaning self.old self.new }
     {
         if !self.is_dirty(PageNo(goal)) {
             return Ok(());
@@ -44,16 +36,8 @@ impl<D: Disk, L: Links> Pool<D, L> {
         requires pool { IsPool D.meaning self.old }
         requires online { self.old.offline ≡ None }
 
-        ensures pool { IsPool D.meaning self.new }
-        ensures fault { TellsFault D.meaning self.old self.new result }
-        ensures own { OnlyWrites result }
-        ensures kept { KeepsPages D.meaning self.old self.new }
-        ensures goal { dirty_test self.new.dirty goal ≡ dirty_test self.old.dirty goal }
-        ensures ready { OnOk result ((q : ℕ) → is_ordered self.new.graph q goal ≡ false) }
-        ensures no_other { (page : ℕ) → taken_out self.old.dirty self.new.dirty page ≡ true
-            → Precedes (is_ordered self.old.graph) page goal }
-        ensures written { OnOk result (HasWritten D.meaning self.old self.new) }
-        ensures crash { LeavesOverlays D.meaning self.old self.new }
+        ensures { MatchResult result (λ _. WritesBefore D.meaning goal self.old self.new)
+            (FailsWrites D.meaning self.old self.new) }
     {
         while let Some(page) = self.graph.first_ready(goal)
             && page != goal
@@ -70,13 +54,8 @@ impl<D: Disk, L: Links> Pool<D, L> {
         requires dirty { dirty_test self.old.dirty page ≡ true }
         requires ready { (q : ℕ) → is_ordered self.old.graph q page ≡ false }
 
-        ensures pool { IsPool D.meaning self.new }
-        ensures fault { TellsFault D.meaning self.old self.new result }
-        ensures own { OnlyWrites result }
-        ensures kept { KeepsPages D.meaning self.old self.new }
-        ensures written { OnOk result (WritesPage D.meaning self.old self.new page) }
-        ensures same { OnErr result (self.new.dirty ≡ self.old.dirty) }
-        ensures crash { LeavesOverlays D.meaning self.old self.new }
+        ensures { MatchResult result (λ _. WritesPage D.meaning self.old self.new page)
+            (FailsWrite D.meaning self.old self.new) }
     {
         if let Some(bytes) = self.dirty.content(page) {
             match self.disk.write(PageNo(page), bytes) {

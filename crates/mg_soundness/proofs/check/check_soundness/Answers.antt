@@ -6,6 +6,9 @@ pub check_records-requires-clause-tested : goal.check_records-requires-clause-te
 check_records-requires-clause-tested c = tested_of c.args.coding c.args.image.now
     (layout_in c.in_ok-standing.standing) c.in_ok-standing.ensures.standing
 
+pub check_records-requires-clause-catalog : goal.check_records-requires-clause-catalog
+check_records-requires-clause-catalog c = c.in_ok-standing.ensures.standing.pages.catalog
+
 pub returns-clause-sound : goal.returns-clause-sound
 returns-clause-sound c = sound_of_all c.args.coding (one_of_coding c.args.coding
     c.one_reading.ensures.plain c.one_reading.ensures.packed) c.args.image.now

@@ -1,14 +1,12 @@
-use Rattle.std.proofs.Common.{◌<◌, ◌∙◌, sym, ap, length, arith}
-use Rattle.mg_pool.specs.Batch.{order_at}
-use Rattle.mg_pool.specs.Dirty.{is_dirty, DirtyPages}
+use Rattle.std.proofs.Common.{◌<◌, length, arith}
 use Rattle.mg_pool.proofs.ChangeLemmas.{enters_more, enters_open}
-use Rattle.mg_pool.proofs.OrderLemmas.{apart_at, at_listed}
+use Rattle.mg_pool.proofs.OrderLemmas.{apart_read, later_dirty}
 use Rattle.mg_pool.proofs.pool.Pool.enter_orders.Goals as goal
 
 pub enter_order-requires-clause-apart : goal.enter_order-requires-clause-apart
 enter_order-requires-clause-apart g c =
     let inside : c.loop-place.place < length c.args.orders.now.items = omega arith in
-    λ e. apart_at c.args.orders.now.items c.loop-place.place inside c.requires.acyclic (sym c.later_of.ensures ∙ (sym e ∙ c.first_of.ensures))
+    apart_read c.args.orders.now.items c.loop-place.place c.first_of.result c.later_of.result inside c.requires.acyclic c.first_of.ensures c.later_of.ensures
 
 pub enter_order-requires-clause-open : goal.enter_order-requires-clause-open
 enter_order-requires-clause-open g c =
@@ -18,8 +16,7 @@ enter_order-requires-clause-open g c =
 pub enter_order-requires-clause-later : goal.enter_order-requires-clause-later
 enter_order-requires-clause-later g c =
     let inside : c.loop-place.place < length c.args.orders.now.items = omega arith in
-    let there = c.requires.later (order_at c.args.orders.now.items c.loop-place.place).first (order_at c.args.orders.now.items c.loop-place.place).later (at_listed c.args.orders.now.items c.loop-place.place inside) in
-    ap (is_dirty c.loop-place.self.dirty) c.later_of.ensures ∙ (ap (λ (d : DirtyPages). is_dirty d (order_at c.args.orders.now.items c.loop-place.place).later) c.loop-place.invariant.dirty ∙ there)
+    later_dirty c.args.self.now.dirty c.loop-place.self.dirty c.args.orders.now.items c.loop-place.place c.later_of.result inside c.loop-place.invariant.dirty c.requires.later c.later_of.ensures
 
 pub loop-place-preserved : goal.loop-place-preserved
 loop-place-preserved g c =

@@ -6,7 +6,7 @@ use Rattle.mg_pool.proofs.pool.Pool.make_room.Given as goal
 abbrev pub invariant-loop-self : goal.invariant-loop-self
 invariant-loop-self g l = record {
   run : HasWritten g.D.Disk.meaning l.initial.self l.self;
-  room : MakesRoom l.pages.items l.initial.self l.self;
+  room : MakesRoom g.D.Disk.meaning l.pages.items l.initial.self l.self;
 }
 
 -- each turn takes a page out of the table

@@ -1,7 +1,6 @@
 use Rattle.std.proofs.Common.{◌≡◌, ◌<◌, ◌∙◌, sym, ap, subst, length, arith, ℕ, get_or, List}
 use Rattle.std.proofs.lemmas.List.{get_or_read}
 use Rattle.mg_pool.specs.declared.batch.BatchPage.{BatchPage}
-use Rattle.mg_pool.specs.declared.pool.Pool.{Pool}
 use Rattle.mg_base.specs.declared.geometry.Geometry.{Geometry}
 use Rattle.mg_careful.specs.Graph.{EntersPage}
 use Rattle.mg_pool.specs.Dirty.{PutsContent}
@@ -24,12 +23,7 @@ loop-place-preserved g c =
     let is_bytes : c.as_slice.result.now ≡ (get_or c.args.pages.now.items c.loop-place.place no_page).bytes = c.as_slice.ensures ∙ ap (λ (x : BatchPage). x.bytes) bytes_read in
     let content = subst (λ (b : List ℕ). PutsContent c.loop-place.self.dirty c.put_page.new.self.dirty (get_or c.args.pages.now.items c.loop-place.place no_page).page b) is_bytes (subst (λ (x : BatchPage). PutsContent c.loop-place.self.dirty c.put_page.new.self.dirty x.page c.as_slice.result.now) page_read c.put_page.ensures.content) in
     let entered = subst (λ (x : BatchPage). EntersPage c.loop-place.self.graph c.put_page.new.self.graph x.page) page_read c.put_page.ensures.entered in
-    let same = c.put_page.ensures.same in
     record {
-      puts = puts_more g.D.Disk.meaning c.args.self.now c.loop-place.self c.put_page.new.self c.args.pages.now.items c.loop-place.place c.requires.once inside c.loop-place.invariant.puts c.put_page.ensures.pool content entered
-          (ap (λ (p : Pool g.row.D.Denot g.row.L.Denot). p.geometry) same)
-          (ap (λ (p : Pool g.row.D.Denot g.row.L.Denot). p.disk) same)
-          (ap (λ (p : Pool g.row.D.Denot g.row.L.Denot). p.offline) same)
-          (ap (λ (p : Pool g.row.D.Denot g.row.L.Denot). p.faults) same);
+      puts = puts_more g.D.Disk.meaning c.args.self.now c.loop-place.self c.put_page.new.self c.args.pages.now.items c.loop-place.place c.requires.once inside c.loop-place.invariant.puts c.put_page.ensures.pool content entered c.put_page.ensures.same;
       fits = fits_more c.loop-place.self.dirty c.put_page.new.self.dirty c.args.pages.now.items c.loop-place.place c.requires.once inside content c.loop-place.invariant.fits;
     }

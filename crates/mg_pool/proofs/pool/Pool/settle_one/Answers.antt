@@ -12,7 +12,7 @@ pub returns-in_ok-write_predecessors-clause-settles : goal.returns-in_ok-write_p
 returns-in_ok-write_predecessors-clause-settles g c =
     let done = c.in_ok-write_predecessors.ensures in
     let apart : c.args.page.0 ≢ c.in-Some.first.0 = λ e. c.requires.apart (c.in-Some.is ∙ ap Some (same_page c.in-Some.first c.args.page (sym e))) in
-    rw c.in-Some.is (one_more c.write_predecessors.new.self no_order (one_settled g.D.Disk.meaning c.args.self.now c.write_predecessors.new.self c.in-Some.first.0 c.args.page.0 done.written apart (c.would_cycle.ensures.0 c.if-would_cycle.true) done.ready done.no_other))
+    rw c.in-Some.is (one_more c.write_predecessors.new.self no_order (one_settled g.D.Disk.meaning c.args.self.now c.write_predecessors.new.self c.in-Some.first.0 c.args.page.0 done.run apart (c.would_cycle.ensures.0 c.if-would_cycle.true) done.ready done.no_other))
 
 pub returns-in_ok-write_predecessors-clause-open : goal.returns-in_ok-write_predecessors-clause-open
 returns-in_ok-write_predecessors-clause-open g c = λ x same chain.
@@ -23,13 +23,13 @@ returns-in_ok-write_predecessors-clause-open g c = λ x same chain.
 
 pub returns-else-would_cycle-clause-settles : goal.returns-else-would_cycle-clause-settles
 returns-else-would_cycle-clause-settles g c =
-    rw c.in-Some.is (one_more c.args.self.now no_order (one_open c.args.self.now c.in-Some.first.0 c.args.page.0 (λ chain. both_ways _ c.if-would_cycle.false (c.would_cycle.ensures.1 (inr chain)))))
+    rw c.in-Some.is (one_more c.args.self.now no_order (one_open g.D.Disk.meaning c.args.self.now c.in-Some.first.0 c.args.page.0 c.requires.pool (λ chain. both_ways _ c.if-would_cycle.false (c.would_cycle.ensures.1 (inr chain)))))
 
-pub returns-else-would_cycle-clause-written : goal.returns-else-would_cycle-clause-written
-returns-else-would_cycle-clause-written g c = run_starts g.D.Disk.meaning c.args.self.now c.requires.pool
+pub returns-else-would_cycle-clause-run : goal.returns-else-would_cycle-clause-run
+returns-else-would_cycle-clause-run g c = run_starts g.D.Disk.meaning c.args.self.now c.requires.pool
 
 pub returns-in_default-clause-settles : goal.returns-in_default-clause-settles
 returns-in_default-clause-settles g c = rw c.in_default.is no_order
 
-pub returns-in_default-clause-written : goal.returns-in_default-clause-written
-returns-in_default-clause-written g c = run_starts g.D.Disk.meaning c.args.self.now c.requires.pool
+pub returns-in_default-clause-run : goal.returns-in_default-clause-run
+returns-in_default-clause-run g c = run_starts g.D.Disk.meaning c.args.self.now c.requires.pool

@@ -3,88 +3,80 @@ use Rattle.mg_pool.specs.Dirty.{content_of, is_dirty}
 use Rattle.mg_pool.proofs.PoolLemmas.{tied_after, writes_out, overlay_of_page, leaves_after, size_stays, held_after, still_dirty, clean_written, clean_failed, failed_leaves, on_disk_after, shown_failed}
 use Rattle.mg_pool.proofs.pool.Pool.write_out.Goals as goal
 
-pub returns-in-Err-clause-pool : goal.returns-in-Err-clause-pool
-returns-in-Err-clause-pool g c =
-    let pool = c.requires.pool in
-    record {
-      size = size_stays g.D.Disk.meaning c.args.self.now.disk c.write.new.self _ _ pool.size c.in-Err.ensures.writes.keeps;
-      page_size = pool.page_size;
-      room = pool.room;
-      few = pool.few;
-      on_disk = λ online. let e : Some c.count_fault-faults.result ≡ None = online in cc;
-      graph_room = pool.graph_room;
-      tied = pool.tied;
-      apart = pool.apart;
-      whole = pool.whole;
-      clean = λ told image held page bytes there.
-          let apart : page ≢ c.args.page = λ e. let gone = pool.apart page (ap (is_dirty c.args.self.now.dirty) e ∙ c.requires.dirty) in let f : Some bytes ≡ None = sym there ∙ gone in cc in
-          clean_failed g.D.Disk.meaning g.met.D.Disk.holds c.args.self.now.disk c.write.new.self c.args.page c.args.self.now.geometry.size c.in-Some.bytes.now (c.in-Some.ensures.whole ∙ pool.page_size) page apart bytes (λ t i h. pool.clean t i h page bytes there) _ c.in-Err.ensures.writes told image held;
-    }
-
-pub returns-in-Err-clause-crash : goal.returns-in-Err-clause-crash
-returns-in-Err-clause-crash g c = λ told image held.
-    let content : content_of c.args.self.now.dirty c.args.page ≡ Some c.in-Some.bytes.now = sym c.in-Some.ensures.content in
-    leaves_after g.D.Disk.meaning c.args.self.now.disk c.write.new.self c.args.page c.in-Some.bytes.now _ _ c.in-Err.ensures.writes told
-    (λ after now. elim (failed_leaves g.D.Disk.meaning g.met.D.Disk.holds c.args.self.now.disk c.write.new.self c.args.page c.in-Some.bytes.now _ c.in-Err.ensures.writes told image held after now) [
-      | inl before ↦ inl before
-      | inr e ↦ inr (rw (e, c.in-Some.ensures.whole) (overlay_of_page c.args.self.now.dirty c.args.self.now.graph image c.args.page c.in-Some.bytes.now content c.requires.ready))
-    ])
-
-pub returns-in-Ok-clause-pool : goal.returns-in-Ok-clause-pool
-returns-in-Ok-clause-pool g c =
+pub returns-in-Err : goal.returns-in-Err
+returns-in-Err g c =
+    let m = g.D.Disk.meaning in
     let pool = c.requires.pool in
     let content : content_of c.args.self.now.dirty c.args.page ≡ Some c.in-Some.bytes.now = sym c.in-Some.ensures.content in
+    let writes = c.in-Err.ensures.writes in
     record {
-      size = size_stays g.D.Disk.meaning c.args.self.now.disk c.write.new.self _ _ pool.size c.in-Ok.ensures.writes.keeps;
-      page_size = c.take_out.ensures.taken.size ∙ pool.page_size;
-      room = c.take_out.ensures.taken.room ∙ pool.room;
-      few = omega (arith, c.take_out.ensures.taken.count, pool.few);
-      on_disk = λ online p bytes there. on_disk_after g.D.Disk.meaning c.args.self.now.disk c.write.new.self c.args.page c.in-Some.bytes.now _ c.in-Ok.ensures.writes p (pool.on_disk online p bytes there);
-      graph_room = c.clear.ensures.room ∙ pool.graph_room;
-      tied = tied_after c.args.self.now.dirty c.take_out.new.self c.args.self.now.graph c.clear.new.self [] c.args.page c.in-Some.bytes.now content c.in-Some.ensures.whole c.take_out.ensures.taken c.clear.ensures c.requires.ready pool.tied;
-      apart = λ page dirty. pool.apart page (still_dirty c.args.self.now.dirty c.take_out.new.self c.args.self.now.graph c.clear.new.self [] c.args.page c.in-Some.bytes.now content c.in-Some.ensures.whole c.take_out.ensures.taken c.clear.ensures c.requires.ready page dirty).1;
-      whole = pool.whole;
-      clean = λ told image held page bytes there.
-          let apart : page ≢ c.args.page = λ e. let gone = pool.apart page (ap (is_dirty c.args.self.now.dirty) e ∙ c.requires.dirty) in let f : Some bytes ≡ None = sym there ∙ gone in cc in
-          clean_written g.D.Disk.meaning g.met.D.Disk.holds c.args.self.now.disk c.write.new.self c.args.page c.args.self.now.geometry.size c.in-Some.bytes.now (c.in-Some.ensures.whole ∙ pool.page_size) page apart bytes (λ t i h. pool.clean t i h page bytes there) _ c.in-Ok.ensures.writes told image held;
+      page = c.args.page;
+      dirty = c.requires.dirty;
+      ready = c.requires.ready;
+      same = refl;
+      asked = writes.asked;
+      told = (c.count_fault-faults.result, refl, refl, (sym c.count_fault-faults.ensures.told, c.count_fault-faults.ensures.told ∙ c.count_fault-faults.ensures.count, writes.keeps.cause refl));
+      pool = record {
+        size = size_stays m c.args.self.now.disk c.write.new.self _ _ pool.size writes.keeps;
+        page_size = pool.page_size;
+        room = pool.room;
+        few = pool.few;
+        on_disk = λ online. let e : Some c.count_fault-faults.result ≡ None = online in cc;
+        graph_room = pool.graph_room;
+        tied = pool.tied;
+        apart = pool.apart;
+        whole = pool.whole;
+        clean = λ told image held page bytes there.
+            let apart : page ≢ c.args.page = λ e. let gone = pool.apart page (ap (is_dirty c.args.self.now.dirty) e ∙ c.requires.dirty) in let f : Some bytes ≡ None = sym there ∙ gone in cc in
+            clean_failed m g.met.D.Disk.holds c.args.self.now.disk c.write.new.self c.args.page c.args.self.now.geometry.size c.in-Some.bytes.now (c.in-Some.ensures.whole ∙ pool.page_size) page apart bytes (λ t i h. pool.clean t i h page bytes there) _ writes told image held;
+      };
+      kept = record {
+        geometry = refl;
+        same_shown = λ told i j held_i held_j page. shown_failed m c.args.self.now.disk c.write.new.self c.args.self.now.dirty c.args.page c.in-Some.bytes.now _ content c.in-Some.ensures.whole writes i j held_i held_j page;
+        contents = λ page dirty. refl;
+      };
+      crash = λ told image held.
+          leaves_after m c.args.self.now.disk c.write.new.self c.args.page c.in-Some.bytes.now _ _ writes told
+          (λ after now. elim (failed_leaves m g.met.D.Disk.holds c.args.self.now.disk c.write.new.self c.args.page c.in-Some.bytes.now _ writes told image held after now) [
+            | inl before ↦ inl before
+            | inr e ↦ inr (rw (e, c.in-Some.ensures.whole) (overlay_of_page c.args.self.now.dirty c.args.self.now.graph image c.args.page c.in-Some.bytes.now content c.requires.ready))
+          ]);
     }
 
-pub returns-in-Ok-clause-written : goal.returns-in-Ok-clause-written
-returns-in-Ok-clause-written g c =
+pub returns-in-Ok : goal.returns-in-Ok
+returns-in-Ok g c =
+    let m = g.D.Disk.meaning in
+    let pool = c.requires.pool in
     let content : content_of c.args.self.now.dirty c.args.page ≡ Some c.in-Some.bytes.now = sym c.in-Some.ensures.content in
+    let writes = c.in-Ok.ensures.writes in
     record {
-      pool = returns-in-Ok-clause-pool g c;
       geometry = refl;
       offline = refl;
       faults = refl;
-      steady = c.in-Ok.ensures.writes.keeps.steady;
-      tells = c.in-Ok.ensures.writes.keeps.tells;
+      steady = writes.keeps.steady;
+      tells = writes.keeps.tells;
       taken = c.take_out.ensures.taken;
+      asked = writes.asked;
       cleared = c.clear.ensures;
       out = λ old new held_old held_new.
-          let e = held_after g.D.Disk.meaning c.args.self.now.disk c.write.new.self c.args.page c.in-Some.bytes.now _ c.in-Ok.ensures.writes old new held_old held_new in
+          let e = held_after m c.args.self.now.disk c.write.new.self c.args.page c.in-Some.bytes.now _ writes old new held_old held_new in
           rw (e, c.in-Some.ensures.whole) (writes_out c.args.self.now.dirty c.take_out.new.self c.args.self.now.graph c.clear.new.self old c.args.page c.in-Some.bytes.now content c.in-Some.ensures.whole c.take_out.ensures.taken c.clear.ensures c.requires.ready);
+      pool = record {
+        size = size_stays m c.args.self.now.disk c.write.new.self _ _ pool.size writes.keeps;
+        page_size = c.take_out.ensures.taken.size ∙ pool.page_size;
+        room = c.take_out.ensures.taken.room ∙ pool.room;
+        few = omega (arith, c.take_out.ensures.taken.count, pool.few);
+        on_disk = λ online p bytes there. on_disk_after m c.args.self.now.disk c.write.new.self c.args.page c.in-Some.bytes.now _ writes p (pool.on_disk online p bytes there);
+        graph_room = c.clear.ensures.room ∙ pool.graph_room;
+        tied = tied_after c.args.self.now.dirty c.take_out.new.self c.args.self.now.graph c.clear.new.self [] c.args.page c.in-Some.bytes.now content c.in-Some.ensures.whole c.take_out.ensures.taken c.clear.ensures c.requires.ready pool.tied;
+        apart = λ page dirty. pool.apart page (still_dirty c.args.self.now.dirty c.take_out.new.self c.args.self.now.graph c.clear.new.self [] c.args.page c.in-Some.bytes.now content c.in-Some.ensures.whole c.take_out.ensures.taken c.clear.ensures c.requires.ready page dirty).1;
+        whole = pool.whole;
+        clean = λ told image held page bytes there.
+            let apart : page ≢ c.args.page = λ e. let gone = pool.apart page (ap (is_dirty c.args.self.now.dirty) e ∙ c.requires.dirty) in let f : Some bytes ≡ None = sym there ∙ gone in cc in
+            clean_written m g.met.D.Disk.holds c.args.self.now.disk c.write.new.self c.args.page c.args.self.now.geometry.size c.in-Some.bytes.now (c.in-Some.ensures.whole ∙ pool.page_size) page apart bytes (λ t i h. pool.clean t i h page bytes there) _ writes told image held;
+      };
+      crash = λ told image held.
+          leaves_after m c.args.self.now.disk c.write.new.self c.args.page c.in-Some.bytes.now _ _ writes told
+          (λ after now. inr (let e = held_after m c.args.self.now.disk c.write.new.self c.args.page c.in-Some.bytes.now _ writes image after held now in
+          rw (e, c.in-Some.ensures.whole) (overlay_of_page c.args.self.now.dirty c.args.self.now.graph image c.args.page c.in-Some.bytes.now content c.requires.ready)));
     }
-
-pub returns-in-Ok-clause-kept : goal.returns-in-Ok-clause-kept
-returns-in-Ok-clause-kept g c = record {
-  geometry = refl;
-  same_shown = λ told i j held_i held_j page. ((returns-in-Ok-clause-written g c).out i j held_i held_j).shown_same page;
-  contents = λ page dirty.
-      let content : content_of c.args.self.now.dirty c.args.page ≡ Some c.in-Some.bytes.now = sym c.in-Some.ensures.content in
-      c.take_out.ensures.taken.others page (still_dirty c.args.self.now.dirty c.take_out.new.self c.args.self.now.graph c.clear.new.self [] c.args.page c.in-Some.bytes.now content c.in-Some.ensures.whole c.take_out.ensures.taken c.clear.ensures c.requires.ready page dirty).0;
-}
-
-pub returns-in-Err-clause-kept : goal.returns-in-Err-clause-kept
-returns-in-Err-clause-kept g c = record {
-  geometry = refl;
-  same_shown = λ told i j held_i held_j page. shown_failed g.D.Disk.meaning c.args.self.now.disk c.write.new.self c.args.self.now.dirty c.args.page c.in-Some.bytes.now _ (sym c.in-Some.ensures.content) c.in-Some.ensures.whole c.in-Err.ensures.writes i j held_i held_j page;
-  contents = λ page dirty. refl;
-}
-
-pub returns-in-Ok-clause-crash : goal.returns-in-Ok-clause-crash
-returns-in-Ok-clause-crash g c = λ told image held.
-    let content : content_of c.args.self.now.dirty c.args.page ≡ Some c.in-Some.bytes.now = sym c.in-Some.ensures.content in
-    leaves_after g.D.Disk.meaning c.args.self.now.disk c.write.new.self c.args.page c.in-Some.bytes.now _ _ c.in-Ok.ensures.writes told
-    (λ after now. inr (let e = held_after g.D.Disk.meaning c.args.self.now.disk c.write.new.self c.args.page c.in-Some.bytes.now _ c.in-Ok.ensures.writes image after held now in
-    rw (e, c.in-Some.ensures.whole) (overlay_of_page c.args.self.now.dirty c.args.self.now.graph image c.args.page c.in-Some.bytes.now content c.requires.ready)))

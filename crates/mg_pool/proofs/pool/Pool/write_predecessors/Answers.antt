@@ -1,7 +1,6 @@
-use Rattle.std.proofs.Common.{◌≡◌, ◌≢◌, ◌∙◌, ap, inl, inr, true, is_some, arith, refl, subst}
-use Rattle.mg_pool.specs.Dirty.{DirtyPages}
-use Rattle.mg_pool.specs.Pool.{taken_out}
-use Rattle.mg_pool.proofs.RunLemmas.{run_starts, run_goes_on, run_leaves, precedes_dirty, due_precedes, taken_cases, taken_one, run_precedes, keeps_then, none_taken_out}
+use Rattle.std.proofs.Common.{◌≢◌, ◌∙◌, ap, inl, inr, is_some, arith, refl}
+use Rattle.mg_pool.proofs.RefusalLemmas.{err_up, fails_write}
+use Rattle.mg_pool.proofs.RunLemmas.{run_starts, run_goes_on, precedes_dirty, due_precedes, taken_cases, taken_one, run_precedes, none_taken_out}
 use Rattle.mg_pool.proofs.pool.Pool.write_predecessors.Goals as goal
 
 pub loop-page-init : goal.loop-page-init
@@ -22,23 +21,16 @@ loop-page-preserved g c =
     let dirty = (precedes_dirty c.loop-page.self.dirty c.loop-page.self.graph run.pool.tied c.in-Some.page c.args.goal chain).0 in
     let done = c.in_ok-write_out.ensures in
     let apart : c.args.goal ≢ c.in-Some.page = omega arith in
-    let next = run_goes_on m g.met.D.Disk.holds g.met.D.Disk.counts_now c.args.self.now c.loop-page.self c.write_out.new.self c.in-Some.page run dirty c.in-Some.ensures.ready.ready.free done.written done.crash in
     record {
-      run = next;
-      goal_same = ap is_some (done.written.taken.others c.args.goal apart) ∙ c.loop-page.invariant.goal_same;
+      run = run_goes_on m g.met.D.Disk.holds g.met.D.Disk.counts_now c.args.self.now c.loop-page.self c.write_out.new.self c.in-Some.page run dirty c.in-Some.ensures.ready.ready.free done;
+      goal_same = ap is_some (done.taken.others c.args.goal apart) ∙ c.loop-page.invariant.goal_same;
       no_other = λ page out. elim (taken_cases m c.args.self.now c.loop-page.self c.write_out.new.self page out) [
         | inl before ↦ c.loop-page.invariant.no_other page before
         | inr now ↦
-            let e = taken_one c.loop-page.self.dirty c.write_out.new.self.dirty c.in-Some.page done.written.taken page now in
+            let e = taken_one c.loop-page.self.dirty c.write_out.new.self.dirty c.in-Some.page done.taken page now in
             rw e (run_precedes m c.args.self.now c.loop-page.self run c.in-Some.page c.args.goal chain)
       ];
     }
 
-pub returns-in_err-write_out-clause-crash : goal.returns-in_err-write_out-clause-crash
-returns-in_err-write_out-clause-crash g c = run_leaves g.D.Disk.meaning g.met.D.Disk.holds g.met.D.Disk.counts_now c.args.self.now c.loop-page.self c.write_out.new.self.disk c.loop-page.invariant.run c.in_err-write_out.ensures.crash
-
-pub returns-in_err-write_out-clause-kept : goal.returns-in_err-write_out-clause-kept
-returns-in_err-write_out-clause-kept g c = keeps_then g.D.Disk.meaning g.met.D.Disk.holds c.args.self.now c.loop-page.self c.write_out.new.self c.loop-page.invariant.run c.in_err-write_out.ensures.kept
-
-pub returns-in_err-write_out-clause-no_other : goal.returns-in_err-write_out-clause-no_other
-returns-in_err-write_out-clause-no_other g c = λ page out. c.loop-page.invariant.no_other page (subst (λ (d : DirtyPages). taken_out c.args.self.now.dirty d page ≡ true) c.in_err-write_out.ensures.same out)
+pub returns-in_err-write_out : goal.returns-in_err-write_out
+returns-in_err-write_out g c = err_up c.from_residual.result c.in_err-write_out.field-0.0 _ _ c.from_residual.ensures.1 (fails_write g.D.Disk.meaning c.args.self.now c.loop-page.self c.write_out.new.self _ c.loop-page.invariant.run c.in_err-write_out.ensures)

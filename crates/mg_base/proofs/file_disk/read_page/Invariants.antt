@@ -1,5 +1,0 @@
-use Rattle.std.proofs.Common.{◌≤◌, length}
-use Rattle.mg_base.proofs.file_disk.read_page.Given as goal
-
-abbrev pub invariant-loop : goal.invariant-loop
-invariant-loop l = l.got ≤ length l.into

@@ -1,0 +1,11 @@
+pub mod EntryLemmas
+pub mod InsertLemmas
+pub mod ListLemmas
+pub mod NewLemmas
+pub mod PromiseLemmas
+pub mod SeatLemmas
+pub mod SizeLemmas
+pub mod SpliceLemmas
+pub mod SplitDone
+pub mod SplitLemmas
+pub mod SplitSays

@@ -1,0 +1,22 @@
+use Rattle.mg_node_writing.proofs.SeatLemmas.{not_there, seated, taken_there}
+use Rattle.mg_node_writing.proofs.inserting.insert.Goals as goal
+
+pub returns-then-stands_at-clause-when : goal.returns-then-stands_at-clause-when
+returns-then-stands_at-clause-when c = λ none. absurd (none (taken_there c.args.b.now c.args.e.now
+    c.seat-n.result c.requires.takes (c.stands_at.ensures.0 c.if-stands_at.true)))
+
+pub returns-then-stands_at-clause-inserts : goal.returns-then-stands_at-clause-inserts
+returns-then-stands_at-clause-inserts c = λ none. absurd (none (taken_there c.args.b.now c.args.e.now
+    c.seat-n.result c.requires.takes (c.stands_at.ensures.0 c.if-stands_at.true)))
+
+pub returns-in_err-check_room-clause-there : goal.returns-in_err-check_room-clause-there
+returns-in_err-check_room-clause-there c = λ has. absurd (not_there c.args.b.now c.args.e.now
+    c.seat-n.result c.requires.lawful
+    (seated c.args.b.now c.args.e.now c.seat-n.result c.seat-n.ensures
+    (λ s. let t = c.stands_at.ensures.1 s in let f = c.if-stands_at.false in absurd cc)) has)
+
+pub returns-clause-there : goal.returns-clause-there
+returns-clause-there c = λ has. absurd (not_there c.args.b.now c.args.e.now
+    c.seat-n.result c.requires.lawful
+    (seated c.args.b.now c.args.e.now c.seat-n.result c.seat-n.ensures
+    (λ s. let t = c.stands_at.ensures.1 s in let f = c.if-stands_at.false in absurd cc)) has)
