@@ -388,6 +388,7 @@ CreateKeeps form = (size : ℕ) (o : Opening) (h later : Entries) (state : ℕ �
     (without_raises state by chosen active is) new.pool kept)
     → EveryOverlay (keeping form size o h) state old needs
     → EveryOverlay (keeping form size o later) state new now
+
 pub create_every : (form : Form) → CreateKeeps form
 create_every form size o h later state by old new gone batch orders needs now changes active left all part
     creates every = change_keeps_raised (keeping form size o h) (keeping form size o later) state by old new

@@ -415,6 +415,7 @@ DrawKeeps form = (size : ℕ) (o : Opening) (h : Entries) (state : ℕ → TxSta
     → ((t : ℕ) → t < oldest_active_of new.pool → (state t ≢ Active) × (state t ≢ Limbo))
     → EveryOverlay (keeping form size o h) state old needs
     → EveryOverlay (keeping form size o h) state new now
+
 pub draw_every : (form : Form) → HasNoSequences form → DrawKeeps form
 draw_every form none size o h state old new gone batch orders needs now changes left draws oldest every =
     change_keeps_always (keeping form size o h) (keeping form size o h) state old new gone batch orders

@@ -268,12 +268,14 @@ module _ (form : Form) (size : ℕ) (o : Opening) (h : Entries) (state : ℕ →
         n (pool_grows kept.in_pool kept.pool_sound) of_image kept
         (grows_unreached form size state pool changed image laid owner place i q n none pages catalog'
         before' after' stand' sequences' kept.reading kept.sound kept.behind.used between apart laid_trees)
-        within
-        (first, fronts_joined before' after' before after stand' (grown stand n) fronts_before (record {
-          table = mid.table;
-          pointers = mid.pointers;
-          data_pages = front_last stand'.data_pages stand.data_pages n mid.data_pages;
-        }) fronts_after) chained)
+        within (
+          first,
+          fronts_joined before' after' before after stand' (grown stand n) fronts_before (record {
+            table = mid.table;
+            pointers = mid.pointers;
+            data_pages = front_last stand'.data_pages stand.data_pages n mid.data_pages;
+          }) fronts_after,
+        ) chained)
 
     reached : HasGrowth pool changed image laid i q n → Has stand'.pointers q
         → IsKept form size o h state changed laid
@@ -408,10 +410,10 @@ grow_step form size o h state pool changed image laid set_ owner place i q n non
                   sequences = kept.layout.sequences;
                 })
             parts = subst (λ (ss : List Stand). KeptAs form size o h state pool image (record {
-                  catalog = kept.of_pool.catalog;
-                  tables = table.before ++ (table.stand ∷ table.after);
-                  sequences = kept.of_pool.sequences;
-                }) (record kept.layout { tables = ss })) it.is_
+              catalog = kept.of_pool.catalog;
+              tables = table.before ++ (table.stand ∷ table.after);
+              sequences = kept.of_pool.sequences;
+            }) (record kept.layout { tables = ss })) it.is_
                 (subst (λ (ss : List Stand). KeptAs form size o h state pool image
                 (record kept.of_pool { tables = ss }) kept.layout) table.is_
                 (kept_as form size o h state pool image kept))
@@ -475,6 +477,7 @@ GrowKeeps form = (size : ℕ) (o : Opening) (h : Entries) (state : ℕ → TxSta
     → GrowsTable layout owner place q)
     → EveryOverlay (keeping form size o h) state old needs
     → EveryOverlay (keeping form size o h) state new now
+
 pub grow_every : (form : Form) → HasNoSequences form → GrowKeeps form
 grow_every form none size o h state old new gone batch orders needs now owner place i q n changes left
     pages ordered finds every =

@@ -319,9 +319,11 @@ module _ (form : Form) (size : ℕ) (o : Opening) (h : Entries) (state : ℕ →
           let page : tip_page size laid sequence ≡ tip_page size image sequence =
           tip_is size image laid keeps.header_page keeps.used keeps.lengths kept.sound.header
           kept.sound.transactions
-          (tip_kept form size state image laid layout kept.reading kept.sound keeps) sequence below in
-          (page, ap laid page
-          ∙ tip_kept form size state image laid layout kept.reading kept.sound keeps sequence below)
+          (tip_kept form size state image laid layout kept.reading kept.sound keeps) sequence below in (
+            page,
+            ap laid page
+                ∙ tip_kept form size state image laid layout kept.reading kept.sound keeps sequence below,
+          )
 
   -- ---- one that does
 
@@ -355,13 +357,15 @@ module _ (form : Form) (size : ℕ) (o : Opening) (h : Entries) (state : ℕ →
             (header_is size image laid grows'.header_page grows'.stand_grows.used grows'.lengths
             kept.sound.header kept.sound.transactions grows'.tips) tips
             (last_is size image laid grows'.header_page grows'.stand_grows.used grows'.lengths
-            kept.sound.header kept.sound.transactions grows'.tips)
-            (first, fronts_joined before' after' before after (grown stand' n) (grown stand n)
-            fronts_before (record {
-              table = mid.table;
-              pointers = mid.pointers;
-              data_pages = front_both stand'.data_pages stand.data_pages n data_same;
-            }) fronts_after)
+            kept.sound.header kept.sound.transactions grows'.tips) (
+              first,
+              fronts_joined before' after' before after (grown stand' n) (grown stand n)
+                  fronts_before (record {
+                    table = mid.table;
+                    pointers = mid.pointers;
+                    data_pages = front_both stand'.data_pages stand.data_pages n data_same;
+                  }) fronts_after,
+            )
             (λ m is. chained m (subst (λ (ns : List ℕ). Has ns m)
             (pointers_grown (catalog' ∷ before') after' stand' n) is));
         fronts = record { state = λ t. refl; fronts = kept.fronts.fronts };
