@@ -1,0 +1,5 @@
+pub mod Laws
+pub mod Overlays
+pub mod BatchLaws
+pub mod StateLaws
+pub mod Views

@@ -1,0 +1,9 @@
+pub mod DeadSteps
+pub mod Behind
+pub mod Cut
+pub mod CutEvery
+pub mod PushPart
+pub mod PushEvery
+pub mod AddPart
+pub mod OwnWrites
+pub mod AddEvery
