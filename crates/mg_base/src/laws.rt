@@ -24,5 +24,4 @@ pub fn numbers_of_every_file()
     ensures common { COMMON ≡ 16 }
     ensures least_limit { LEAST_LIMIT ≡ 16 }
     ensures greatest_limit { GREATEST_LIMIT ≡ 131072 }
-{
-}
+{}

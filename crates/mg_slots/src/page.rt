@@ -27,12 +27,19 @@ pub const GREATEST_SIZE: usize = 16384;
 
 // The numbers of the file format, written once more: a slip in one of them is refused.
 const _: () = prove!(DATA_KIND == 5);
+
 const _: () = prove!(COUNT_AT == 16);
+
 const _: () = prove!(LOW_AT == 18);
+
 const _: () = prove!(SLOTS_AT == 20);
+
 const _: () = prove!(SLOT_LEN == 4);
+
 const _: () = prove!(LEAST_TAKEN == 11);
+
 const _: () = prove!(LEAST_SIZE == 1024);
+
 const _: () = prove!(GREATEST_SIZE == 16_384);
 
 /// Makes `b` a data page without slots, with zero bytes behind its fields.
