@@ -32,12 +32,14 @@ impl Bits {
         })
     }
 
+    /// How many bits the row has.
     pub fn len(&self) -> usize
         ensures { result ≡ length self.now }
     {
         self.items.len()
     }
 
+    /// The bit at a place, counted from 0.
     pub fn get(&self, i: usize) -> bool
         requires { i < length self.now }
         ensures { result ≡ slice_index_or self.now i false }
@@ -45,6 +47,7 @@ impl Bits {
         self.items[i]
     }
 
+    /// Sets or unsets the bit at a place.
     pub fn put(&mut self, i: usize, bit: bool)
         requires { i < length self.old }
         ensures { self.new ≡ slice_set self.old i bit }

@@ -26,6 +26,7 @@ impl Level {
         Level { pages }
     }
 
+    /// The numbers of its pages, from the leftmost one on.
     pub fn as_slice(&self) -> &[u32]
         ensures { result.now ≡ self.now }
     {
@@ -55,6 +56,7 @@ impl Levels {
         Levels { levels }
     }
 
+    /// The levels, the root's first.
     pub fn as_slice(&self) -> &[Level]
         ensures { result.now ≡ self.now }
     {
