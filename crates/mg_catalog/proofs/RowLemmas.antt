@@ -32,6 +32,7 @@ column_given rows table place row of_key spelled has each = record {
   flags = spelled.4.1;
   since = spelled.4.2;
   format = spelled.4.3;
+  added = spelled.4.4;
   apart = λ other column there. (allowed other column there).0;
   later = λ other column below there. (allowed other column there).1 below;
 }

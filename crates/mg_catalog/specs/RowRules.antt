@@ -55,7 +55,7 @@ HasOneKey rows name count = (place : ℕ) × (place < count) × IsKeyColumn rows
 abbrev pub HasColumnNumbers : Cells → Type 0
 HasColumnNumbers row = (said_a row ≤ 1000)
     × ((said_b row ≡ 0) ⊎ (said_b row ≡ 1) ⊎ (said_b row ≡ 3))
-    × (1 ≤ said_c row) × (said_c row < 2 ^ 16)
+    × (1 ≤ said_c row) × (said_c row < 2 ^ 16) × ((said_c row ≡ 1) ⊎ (said_b row ≡ 0))
 
 -- the row of a column at a place is lawful by itself
 abbrev pub ColumnSpelled : ℕ → Cells → Type 0

@@ -22,6 +22,7 @@ fn has_lawful_numbers(row: &Row) -> bool
         && (flags == 0 || flags == 1 || flags == 3)
         && 1 <= since
         && since < 65_536
+        && (since == 1 || flags == 0)
 }
 
 /// Whether the row of a column at a place is lawful by itself.

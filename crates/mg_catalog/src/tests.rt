@@ -156,7 +156,7 @@ fn tables_and_indexes_come_in_the_order_of_their_names(rt: HostRuntime) -> Resul
         Said {
             key: b"CB.01",
             name: b"Y",
-            numbers: [20, 3, 2, 1],
+            numbers: [20, 3, 1, 1],
         },
         Said {
             key: b"TA",
@@ -202,13 +202,15 @@ fn a_row_that_breaks_a_rule_is_named(rt: HostRuntime) -> Result<(), Fail> {
         [i64; 4],
         u32,
         &'static str,
-    ); 27] = [
+    ); 29] = [
         (0, b"CKV.00", b"K", [0, 1, 1, 0], 3, "no key"),
         (1, b"CKV.01", b"V", [0, 3, 1, 1], 3, "two keys"),
         (1, b"CKV.01", b"V", [0, 2, 1, 1], 1, "flags 2"),
         (1, b"CKV.01", b"V", [1001, 0, 1, 1], 1, "a long VARCHAR"),
         (1, b"CKV.01", b"V", [0, 0, 0, 1], 1, "format 0"),
         (1, b"CKV.01", b"V", [0, 0, 65_536, 1], 1, "a great format"),
+        (1, b"CKV.01", b"V", [0, 1, 2, 1], 1, "a late NOT NULL"),
+        (0, b"CKV.00", b"K", [0, 3, 2, 0], 0, "a late key"),
         (1, b"CKV.01", b"V", [0, 0, 1, 2], 1, "another place"),
         (1, b"CKV.01", b"V", [-1, 0, 1, 1], 1, "a negative length"),
         (1, b"CKV.01", b"K", [0, 0, 1, 1], 0, "one name twice"),
@@ -216,7 +218,7 @@ fn a_row_that_breaks_a_rule_is_named(rt: HostRuntime) -> Result<(), Fail> {
             0,
             b"CKV.00",
             b"K",
-            [0, 3, 2, 0],
+            [0, 0, 2, 0],
             1,
             "a column before an older one",
         ),

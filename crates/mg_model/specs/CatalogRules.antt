@@ -100,6 +100,8 @@ pub record IsColumnRow (rows : CatalogRows) (table : List ℕ) (place : ℕ) (ro
   -- the record format from which on it is there, a number of two bytes
   pub since : 1 ≤ said_c row
   pub format : said_c row < 2 ^ 16
+  -- one that came later than its table may be NULL, since the rows from before have none of it
+  pub added : (said_c row ≡ 1) ⊎ (said_b row ≡ 0)
   -- no other column of the table has the name, and none before it came later
   pub apart : (other : ℕ) (column : Cells) → rows (column_key table other) ≡ Some column
       → said_name column ≡ said_name row → other ≡ place

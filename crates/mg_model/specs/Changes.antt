@@ -34,11 +34,6 @@ abbrev pub has_change : List Change → List ℕ → Value → Bool
 has_change [] table key = false
 has_change (c ∷ cs) table key = if is_at c table key then true else has_change cs table key
 
--- some change is of this table
-abbrev pub touches : List Change → List ℕ → Bool
-touches [] table = false
-touches (c ∷ cs) table = if same_name c.table table then true else touches cs table
-
 -- the row that a database has at a key of a table: the newest change of that key decides
 abbrev pub row_at : List Change → List ℕ → Value → Option Cells
 row_at [] table key = None

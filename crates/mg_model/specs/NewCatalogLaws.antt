@@ -245,6 +245,7 @@ key_row_lawful = record {
   flags = inr (inr refl);
   since = lit≤ tt;
   format = lit< tt;
+  added = inl refl;
   apart = λ other column is same. apart other column same (column_cases other column is);
   later = λ other column before is. later column (column_cases other column is);
 }
@@ -271,6 +272,7 @@ value_row_lawful = record {
   flags = inl refl;
   since = lit≤ tt;
   format = lit< tt;
+  added = inl refl;
   apart = λ other column is same. apart other column same (column_cases other column is);
   later = λ other column before is. later column (column_cases other column is);
 }
