@@ -89,6 +89,13 @@ impl<D: Disk, L: Links> Pool<D, L> {
         self.geometry
     }
 
+    /// The allocator that the pool was made with.
+    pub fn alloc(&self) -> Global
+        ensures { result ≡ self.now.alloc }
+    {
+        self.alloc
+    }
+
     /// The disk, with what was written to it.
     pub fn into_disk(self) -> D
         ensures { result ≡ self.disk }
