@@ -148,12 +148,11 @@ pub some_regions : (size limit region : ℕ) → is_page_size size ≡ true → 
     → (region < (limit - 2) / bits size + 1) ↔ (inventory_page size region < limit)
 some_regions size limit region lawful some =
     let bits_ = bits_some size lawful in
-    let divides = le-div_iff_mul-le {k = bits size} {x = region} {y = limit - 2} (omega arith) in
-    (
+    let divides = le-div_iff_mul-le {k = bits size} {x = region} {y = limit - 2} (omega arith) in (
       λ less. let le : region ≤ (limit - 2) / bits size = omega arith in
-      let fits = divides.0 le in omega arith,
+          let fits = divides.0 le in omega arith,
       λ less. let fits : region * bits size ≤ limit - 2 = omega arith in
-      let le = divides.1 fits in omega arith,
+          let le = divides.1 fits in omega arith,
     )
 
 -- ---- the pages of a region

@@ -57,7 +57,14 @@ fn put_header(b: &[u8], size: u32, out: &mut Vec<Demand>) -> Result<(), Memory>
     let last = u32_or_zero(b, NEXT_AT).saturating_sub(1);
     let sequence = last / places_of(size);
     let catalog = u32_or_zero(b, CATALOG_AT);
-    put_linked(out, size, u32_or_zero(b, LAST_TIP_AT), TRANSACTIONS, u64::from(sequence), 0)?;
+    put_linked(
+        out,
+        size,
+        u32_or_zero(b, LAST_TIP_AT),
+        TRANSACTIONS,
+        u64::from(sequence),
+        0,
+    )?;
     put_linked(out, size, catalog, POINTER, u64::from(catalog), 0)
 }
 
@@ -72,7 +79,14 @@ fn put_tip(b: &[u8], size: u32, sequence: u32, out: &mut Vec<Demand>) -> Result<
     if sequence == 0 {
         return Ok(());
     }
-    put_linked(out, size, u32_or_zero(b, PREV_AT), TRANSACTIONS, u64::from(sequence - 1), 0)
+    put_linked(
+        out,
+        size,
+        u32_or_zero(b, PREV_AT),
+        TRANSACTIONS,
+        u64::from(sequence - 1),
+        0,
+    )
 }
 
 /// That the transactions of a page are drawn which are in limbo or committed.
@@ -137,7 +151,14 @@ fn put_pointer(
     if next == 0 {
         return Ok(());
     }
-    put_linked(out, size, next, POINTER, u64::from(owner), u64::from(sequence) + 1)
+    put_linked(
+        out,
+        size,
+        next,
+        POINTER,
+        u64::from(owner),
+        u64::from(sequence) + 1,
+    )
 }
 
 /// The data pages of a pointer page.
@@ -269,7 +290,13 @@ fn put_link(link: Link, out: &mut Vec<Demand>) -> Result<(), Memory>
     ensures err { OnErr result (Begins out.old.items out.new.items) }
 {
     let slot = u64::from(link.rec.slot);
-    put(out, u64::from(link.rec.page.0), VERSION, slot, u64::from(link.tx.0))
+    put(
+        out,
+        u64::from(link.rec.page.0),
+        VERSION,
+        slot,
+        u64::from(link.tx.0),
+    )
 }
 
 /// A thing on another page, and that page's bit.

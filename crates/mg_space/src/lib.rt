@@ -25,8 +25,6 @@ mod reading;
 mod taking;
 
 pub use fault::SpaceFault;
-pub use links::{
-    BIT, DATA, FireLinks, HEADER, NEXT, POINTER, Store, TRANSACTIONS, VERSION,
-};
+pub use links::{BIT, DATA, FireLinks, HEADER, NEXT, POINTER, Store, TRANSACTIONS, VERSION};
 pub use reading::{Found, find_page, page_of};
 pub use taking::{inventory_page_of, region_len, take_page};
