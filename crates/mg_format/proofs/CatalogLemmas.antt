@@ -1,5 +1,5 @@
 -- The constants of the catalog's data page are the packed rows.
-use Rattle.std.proofs.Common.{lit<, lit≤, ◌≡◌, ◌≢◌, ◌<◌, ◌≤◌, ◌+◌, ◌==◌, ◌&&◌, not, ℕ, zero, suc, Bool, true, false, List, [], ◌∷◌, ◌++◌, length, get_or, ℤ, refl, sym, ap, ◌∙◌, arith, add-one}
+use Rattle.std.proofs.Common.{lit<, lit≤, ◌≡◌, ◌≢◌, ◌≤◌, ◌+◌, ◌==◌, ◌&&◌, not, ℕ, zero, suc, Bool, true, false, List, [], ◌∷◌, ◌++◌, length, get_or, ℤ, refl, sym, ap, ◌∙◌, arith, add-one}
 use Rattle.std.proofs.lemmas.Bool.{and_parts, both_ways, eq-eqb}
 use Rattle.mg_base.specs.Fields.{byte}
 use Rattle.mg_format.specs.declared.catalog.TheConstants.{KEY_ANCHOR, KEY_VERSION, TABLE_ANCHOR, TABLE_VERSION, VALUE_ANCHOR, VALUE_VERSION}
@@ -10,7 +10,7 @@ use Rattle.mg_value.specs.declared.shape.Column.{Column}
 use Rattle.mg_value.specs.declared.value.Value.TheVariants.{Int, Null, Text}
 use Rattle.mg_model.specs.Catalog.{catalog_shape}
 use Rattle.mg_value.specs.Rows.{FitsColumn, FitsKind, columns_of, row_bytes}
-use Rattle.mg_rle.specs.Runs.{IsAccepted, Literal, Repeat, Run, StandsFor, TripleAt, AreInOrder, literal_marks, packed_text, plain_text}
+use Rattle.mg_rle.specs.Runs.{IsAccepted, Literal, Repeat, Run, StandsFor, TripleAt, AreInOrder, literal_marks, plain_text}
 
 -- at no byte of a literal three equal bytes begin
 abbrev clean : List Bool → List ℕ → Bool

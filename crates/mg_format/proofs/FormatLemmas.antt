@@ -1,5 +1,5 @@
 -- The writing of a new database, page after page.
-use Rattle.std.proofs.Common.{◌≡◌, ◌≢◌, ◌<◌, ◌≤◌, ◌⊎◌, ◌+◌, ◌==◌, ◌^◌, ◌-◌, min, ℕ, zero, suc, Bool, true, false, List, Option, Some, None, refl, sym, ap, subst, ◌∙◌, arith, inl, inr, Result, Ok, Err, OnOk, IsErr}
+use Rattle.std.proofs.Common.{◌≡◌, ◌≢◌, ◌<◌, ◌≤◌, ◌⊎◌, ◌+◌, ◌^◌, ◌-◌, min, ℕ, zero, suc, true, List, Some, refl, sym, ap, subst, ◌∙◌, arith, inl, inr, Result, Ok, Err, OnOk}
 use Rattle.std.proofs.lemmas.Bool.{cases_eq, cases_lt, eq-eqb, ne_eqb}
 use Rattle.mg_base.specs.Disk.{MayLeave, Meaning, Rose}
 use Rattle.mg_base.specs.Image.{Image, blank, page_at}
@@ -8,7 +8,6 @@ use Rattle.mg_base.specs.declared.geometry.Geometry.{Geometry}
 use Rattle.mg_base.specs.declared.geometry.TheConstants.{GREATEST_LIMIT}
 use Rattle.mg_image.specs.Form.{Coding, packed_coding}
 use Rattle.mg_image.specs.NewDatabase.{IsNewPage}
-use Rattle.mg_image.specs.Opening.{IsUnmade}
 use Rattle.mg_pool.specs.Fault.{Counts, StaysOnline, TellsFault}
 use Rattle.mg_pool.specs.Pool.{KeepsContent}
 use Rattle.mg_pool.specs.declared.fault.PoolFault.{PoolFault}
@@ -16,7 +15,7 @@ use Rattle.mg_pool.specs.declared.fault.PoolFault.TheVariants.{DiskRead, DiskWri
 use Rattle.mg_pool.specs.declared.pool.Pool.{Pool}
 use Rattle.mg_space.specs.View.{Tells}
 use Rattle.mg_space.specs.ViewLaws.{CountsNow}
-use Rattle.mg_format.specs.Format.{FormatDone, HasNew, HasPages, HasWrittenUpTo, HoldsPages, IsFresh, IsMade, IsUnmadeImage, LeavesNew, WritesNew, with_page}
+use Rattle.mg_format.specs.Format.{FormatDone, HasNew, HasPages, HasWrittenUpTo, HoldsPages, IsMade, IsUnmadeImage, LeavesNew, WritesNew, with_page}
 
 -- ---- faults of several calls
 

@@ -1,15 +1,13 @@
 -- The change of one page of a cache in which no page is dirty, and its page write.
-use Rattle.std.proofs.Common.{◌≡◌, ◌≢◌, ◌≤◌, ◌⊎◌, ◌==◌, ◌||◌, ◌&&◌, ℕ, Bool, true, false, List, [], Option, Some, None, is_some, unwrap_or, if◌then◌else◌, refl, sym, ap, subst, ◌∙◌, inl, inr, Result, Ok, Err, OnOk, IsErr}
+use Rattle.std.proofs.Common.{◌≡◌, ◌≢◌, ◌⊎◌, ◌==◌, ◌||◌, ◌&&◌, ℕ, Bool, true, false, List, [], Option, Some, is_some, unwrap_or, if◌then◌else◌, refl, sym, ap, subst, ◌∙◌, inl, inr, Result, Ok, Err, OnOk, IsErr}
 use Rattle.std.proofs.lemmas.Bool.{both_ways, cases_eq, eq-eqb, ne_eqb, false_from_ne_true}
 use Rattle.mg_base.specs.Disk.{MayLeave, Meaning}
 use Rattle.mg_base.specs.Image.{Image, page_at}
 use Rattle.mg_base.specs.Moments.{LeavesOnly, joined, leaves_as}
-use Rattle.mg_careful.specs.CarefulWrite.{PageSet, IsClosed, overlay}
+use Rattle.mg_careful.specs.CarefulWrite.{PageSet, IsClosed}
 use Rattle.mg_careful.specs.Graph.{is_ordered, IsFirstReady}
 use Rattle.mg_careful.specs.Precedence.{Precedes, directly, through}
-use Rattle.mg_image.specs.Form.{packed_coding}
-use Rattle.mg_image.specs.NewDatabase.{IsNewPage}
-use Rattle.mg_pool.specs.Batch.{content_in, lists, one_page}
+use Rattle.mg_pool.specs.Batch.{content_in, one_page}
 use Rattle.mg_pool.specs.Change.{Changes, ChangesOverlays, ChangesPages, or_else}
 use Rattle.mg_pool.specs.Dirty.{content_of, is_dirty}
 use Rattle.mg_pool.specs.Pool.{IsClosedOverlay, IsOverlay, IsPool, LeavesOverlays, cache_of, shown}
@@ -17,7 +15,7 @@ use Rattle.mg_pool.specs.Run.{WritesPage}
 use Rattle.mg_pool.specs.declared.pool.Pool.{Pool}
 use Rattle.mg_space.specs.View.{Tells}
 use Rattle.mg_space.specs.ViewLaws.{CountsNow}
-use Rattle.mg_format.specs.Format.{HasPages, HoldsPages, IsClean, IsOnlyDirty, WritesNew, with_page}
+use Rattle.mg_format.specs.Format.{HasPages, HoldsPages, IsClean, IsOnlyDirty, with_page}
 
 -- ---- what a change leaves
 

@@ -1,5 +1,5 @@
 -- The writing of a new database: what each page write leaves, and what a crash may leave.
-use Rattle.std.specs.Prelude.{◌≡◌, ◌⊎◌, ◌<◌, ◌≤◌, ◌==◌, ℕ, Bool, true, false, List, Some, Result, OnOk, if◌then◌else◌}
+use Rattle.std.specs.Prelude.{◌≡◌, ◌⊎◌, ◌<◌, ◌≤◌, ◌==◌, ℕ, false, List, Result, OnOk, if◌then◌else◌}
 use Rattle.mg_base.specs.Disk.{MayLeave, Meaning}
 use Rattle.mg_base.specs.Image.{Image, page_at}
 use Rattle.mg_base.specs.Moments.{LeavesOnly}

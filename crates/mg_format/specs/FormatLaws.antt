@@ -1,7 +1,7 @@
 -- Laws of a cache that was made: what its makers know, and the writing of a new database asks for.
-use Rattle.std.specs.Prelude.{◌≡◌, ℕ, false, [], List}
-use Rattle.std.proofs.Common.{ap, refl, ◌∙◌}
-use Rattle.mg_pool.specs.Dirty.{DirtyPages, bytes_of, content_of, entry_in, is_dirty}
+use Rattle.std.specs.Prelude.{◌≡◌, [], List}
+use Rattle.std.proofs.Common.{ap}
+use Rattle.mg_pool.specs.Dirty.{bytes_of, content_of, entry_in}
 use Rattle.mg_pool.specs.declared.dirty_page.DirtyPage.{DirtyPage}
 use Rattle.mg_pool.specs.declared.pool.Pool.{Pool}
 use Rattle.std.specs.Prelude.{is_some}

@@ -1,6 +1,5 @@
 -- Lists of demands that grow in a loop.
-use Rattle.std.proofs.Common.{◌≡◌, List, ◌++◌, sym, ap, ◌∙◌, append_assoc, Result, Ok, Err, OnErr}
-use Rattle.mg_base.specs.declared.memory.Memory.{Memory}
+use Rattle.std.proofs.Common.{◌≡◌, List, ◌++◌, ap, ◌∙◌, append_assoc, Result, Ok, Err, OnErr}
 use Rattle.mg_careful.specs.declared.links.Demand.{Demand}
 use Rattle.mg_space.specs.Demands.{Begins}
 

@@ -1,5 +1,5 @@
 -- The taking of a page, region by region.
-use Rattle.std.proofs.Common.{◌≡◌, ◌≢◌, ◌<◌, ◌≤◌, ◌⊎◌, ◌+◌, ◌*◌, ◌/◌, ◌%◌, ◌-◌, ◌++◌, ℕ, true, List, length, take, refl, sym, ap, subst, ◌∙◌, arith, inl, inr, min, Option, None, Some, Result, Ok, Err, MatchResult, IsErr, IsErrAnd}
+use Rattle.std.proofs.Common.{◌≡◌, ◌≢◌, ◌<◌, ◌≤◌, ◌⊎◌, ◌+◌, ◌*◌, ◌-◌, ◌++◌, ℕ, true, List, length, take, sym, ap, subst, ◌∙◌, arith, inl, inr, min, Option, None, Some, Result, Ok, Err, MatchResult, IsErr, IsErrAnd}
 use Rattle.std.proofs.Math.Nat.{add-mul, one-mul}
 use Rattle.std.proofs.Math.Seq.{take-append_seam}
 use Rattle.std.proofs.lemmas.Bool.{cases_lt}
@@ -15,7 +15,7 @@ use Rattle.mg_pool.specs.declared.pool.Pool.{Pool}
 use Rattle.mg_space.specs.declared.fault.SpaceFault.{SpaceFault}
 use Rattle.mg_space.specs.declared.fault.SpaceFault.TheVariants as faults
 use Rattle.mg_space.specs.Taking.{IsFree, IsGeometry, IsMarked, MarksFixed, PutsInventory, RefusesRegion, RefusesTake, TakesBit, TakesInRegion, TakesPage, region_of}
-use Rattle.mg_space.specs.TakingLaws.{bits_some, region_is}
+use Rattle.mg_space.specs.TakingLaws.{region_is}
 use Rattle.mg_space.specs.View.{KeepsStore, Tells, viewed}
 use Rattle.mg_space.specs.ViewLaws.{tells_on, viewed_on}
 use Rattle.mg_space.proofs.TakingLemmas.{none_free, of_region, puts, takes}

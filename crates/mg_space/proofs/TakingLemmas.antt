@@ -1,5 +1,5 @@
 -- How the least free page of a region is found.
-use Rattle.std.proofs.Common.{◌≡◌, ◌≢◌, ◌<◌, ◌≤◌, ◌⊎◌, ◌↔◌, ◌+◌, ◌*◌, ◌/◌, ◌%◌, ◌-◌, ◌==◌, ◌||◌, ◌&&◌, ℕ, Bool, true, false, List, length, take, refl, sym, ap, subst, ◌∙◌, arith, inl, inr, min, Result, Ok, Err, OnOk}
+use Rattle.std.proofs.Common.{◌≡◌, ◌≢◌, ◌<◌, ◌≤◌, ◌⊎◌, ◌↔◌, ◌+◌, ◌*◌, ◌/◌, ◌%◌, ◌-◌, ◌==◌, ◌||◌, ◌&&◌, ℕ, Bool, true, false, List, length, refl, sym, ap, subst, ◌∙◌, arith, inl, inr, min, Result, Ok, Err, OnOk}
 use Rattle.std.proofs.Math.Nat.{le-div_iff_mul-le, mul-le-mul_right}
 use Rattle.std.proofs.lemmas.Bool.{both_ways, cases_eq, cases_lt, eq-eqb, ne_eqb, eqb-true, or_cases, or_left, or_right, and_parts}
 use Rattle.std.proofs.lemmas.List.{get_or-replicate, get_or_past, length-replicate}
@@ -16,9 +16,9 @@ use Rattle.mg_image.specs.Inventory.{inventory_page, is_used}
 use Rattle.mg_pip.specs.PipPage.{AllUsed, IsFirstFree, SetsUsed, bits, pip_checks, used_in}
 use Rattle.mg_pip.specs.PipPageLaws.{same_tests, zero_unused}
 use Rattle.mg_pip.specs.declared.page.TheConstants.{BITS_AT}
-use Rattle.mg_pool.specs.Batch.{Changed, PutsPage, content_in}
+use Rattle.mg_pool.specs.Batch.{Changed, PutsPage}
 use Rattle.mg_space.specs.Taking.{IsFree, IsGeometry, IsLawfulRegion, IsMarked, IsReady, MarksFixed, PutsInventory, SetsFixed, TakesPage, is_fixed, region_of}
-use Rattle.mg_space.specs.TakingLaws.{bit_is, bits_some, no_inventory_page, one_region, own_bit, page_is, region_is}
+use Rattle.mg_space.specs.TakingLaws.{bit_is, bits_some, no_inventory_page, page_is, region_is}
 
 -- ---- the fixed bits
 

@@ -1,6 +1,6 @@
 -- What the pages of a database demand of each other: by the bytes of one page, and what is wanted of
 -- it, which things it has to lead to. No link is followed here.
-use Rattle.std.specs.Prelude.{◌≡◌, ◌+◌, ◌*◌, ◌/◌, ◌%◌, ◌-◌, ◌==◌, ◌&&◌, ◌||◌, ◌++◌, ℕ, zero, suc, Bool, true, false, nat_lt, List, [], ◌∷◌, length, Option, None, Some, is_ok, if◌then◌else◌}
+use Rattle.std.specs.Prelude.{◌≡◌, ◌+◌, ◌*◌, ◌/◌, ◌%◌, ◌-◌, ◌==◌, ◌&&◌, ◌++◌, ℕ, zero, suc, Bool, true, false, nat_lt, List, [], ◌∷◌, length, Option, None, Some, is_ok, if◌then◌else◌}
 use Rattle.mg_base.specs.Checks.{common_checks, verdict}
 use Rattle.mg_base.specs.Fields.{u32_at}
 use Rattle.mg_base.specs.Geometry.{is_page_size}

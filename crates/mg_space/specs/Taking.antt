@@ -1,5 +1,5 @@
 -- Which page is taken, and what the taking changes.
-use Rattle.std.specs.Prelude.{◌≡◌, ◌≢◌, ◌<◌, ◌≤◌, ◌⊎◌, ◌+◌, ◌*◌, ◌/◌, ◌%◌, ◌==◌, ◌&&◌, ◌||◌, ℕ, Bool, true, false, List, length, take, Option, Some, None, Result, Ok, Err}
+use Rattle.std.specs.Prelude.{◌≡◌, ◌≢◌, ◌<◌, ◌≤◌, ◌⊎◌, ◌*◌, ◌/◌, ◌%◌, ◌==◌, ◌&&◌, ◌||◌, ℕ, Bool, true, false, List, length, take, Option, Some, None, Err}
 use Rattle.mg_base.specs.Checks.{PassesAll, verdict}
 use Rattle.mg_base.specs.Geometry.{is_page_size}
 use Rattle.mg_base.specs.Image.{blank}

@@ -1,5 +1,5 @@
 -- The pages as one sees them who fills a batch, and what a call leaves that only reads.
-use Rattle.std.specs.Prelude.{◌≡◌, ◌≤◌, ◌+◌, ℕ, true, false, List, length, Option, Some, None, Result, Ok, Err, unwrap_or}
+use Rattle.std.specs.Prelude.{◌≡◌, ◌≤◌, ◌+◌, ℕ, true, false, List, length, Some, None, Result, Ok, Err, unwrap_or}
 use Rattle.mg_base.specs.Disk.{Meaning}
 use Rattle.mg_base.specs.Image.{Image, blank}
 use Rattle.mg_base.specs.declared.damage.Damaged.{Damaged}

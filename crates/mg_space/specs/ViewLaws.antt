@@ -1,7 +1,7 @@
 -- Laws of calls that only read, for those who make several of them.
-use Rattle.std.specs.Prelude.{◌≡◌, ◌≢◌, ◌≤◌, ◌<◌, ◌⊎◌, ◌+◌, ◌-◌, ◌^◌, min, ℕ, true, false, List, length, Option, Some, None, is_some, Result, Ok, Err, unwrap_or}
-use Rattle.std.proofs.Common.{refl, sym, ap, subst, ◌∙◌, arith, inl, inr}
-use Rattle.mg_base.specs.Disk.{Elapses, MayLeave, Meaning, Rose}
+use Rattle.std.specs.Prelude.{◌≡◌, ◌≢◌, ◌≤◌, ◌⊎◌, ◌+◌, ◌-◌, ◌^◌, min, ℕ, true, List, length, Option, Some, Result, Ok, Err, unwrap_or}
+use Rattle.std.proofs.Common.{refl, sym, ap, ◌∙◌, arith, inl, inr}
+use Rattle.mg_base.specs.Disk.{MayLeave, Meaning, Rose}
 use Rattle.mg_base.specs.Image.{Image}
 use Rattle.mg_pool.specs.Fault.{Counts, TellsFault}
 use Rattle.mg_pool.specs.Pool.{IsPool, KeepsContent}

@@ -352,7 +352,7 @@ fn fits(target: u64, a: u64, b: u64) -> bool
 }
 
 /// How many transactions a page of this size tells of.
-pub(crate) fn places_of(size: u32) -> u32
+pub fn places_of(size: u32) -> u32
     requires { is_page_size size ≡ true }
     ensures { result ≡ places_in size }
 {

@@ -24,6 +24,7 @@ mod links;
 mod reading;
 mod taking;
 
+pub use demands::places_of;
 pub use fault::SpaceFault;
 pub use links::{BIT, DATA, FireLinks, HEADER, NEXT, POINTER, Store, TRANSACTIONS, VERSION};
 pub use reading::{Found, find_page, page_of};

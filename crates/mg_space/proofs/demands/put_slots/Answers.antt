@@ -1,4 +1,4 @@
-use Rattle.std.proofs.Common.{◌+◌, add-one}
+use Rattle.std.proofs.Common.{add-one}
 use Rattle.mg_image.specs.Records.{slot_cell}
 use Rattle.mg_slots.specs.DataPage.{cell_of}
 use Rattle.mg_space.proofs.DemandLemmas.{begins, grown}

@@ -1,4 +1,4 @@
-use Rattle.std.proofs.Common.{◌<◌, ◌≡◌, ◌∙◌, ap, subst, sym}
+use Rattle.std.proofs.Common.{◌<◌, ◌∙◌, subst}
 use Rattle.mg_base.specs.declared.geometry.Geometry.{Geometry}
 use Rattle.mg_image.specs.Inventory.{inventory_page}
 use Rattle.mg_space.specs.Taking.{RefusesTake, TakesPage}
