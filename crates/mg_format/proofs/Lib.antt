@@ -1,0 +1,3 @@
+mod CatalogLemmas
+mod FormatLemmas
+mod WriteLemmas
