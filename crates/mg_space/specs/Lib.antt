@@ -1,0 +1,5 @@
+pub mod Demands
+pub mod Taking
+pub mod TakingLaws
+pub mod View
+pub mod ViewLaws
