@@ -1,0 +1,3 @@
+mod DemandLemmas
+mod RegionLemmas
+mod TakingLemmas

@@ -1,3 +1,4 @@
+pub mod Demands
 pub mod Taking
 pub mod TakingLaws
 pub mod View

@@ -1,5 +1,5 @@
 -- Which page is taken, and what the taking changes.
-use Rattle.std.specs.Prelude.{◌≡◌, ◌≢◌, ◌<◌, ◌≤◌, ◌⊎◌, ◌+◌, ◌*◌, ◌/◌, ◌%◌, ◌==◌, ◌&&◌, ◌||◌, ℕ, Bool, true, false, List, length, Option, Some, None, Result, Ok, Err}
+use Rattle.std.specs.Prelude.{◌≡◌, ◌≢◌, ◌<◌, ◌≤◌, ◌⊎◌, ◌+◌, ◌*◌, ◌/◌, ◌%◌, ◌==◌, ◌&&◌, ◌||◌, ℕ, Bool, true, false, List, length, take, Option, Some, None, Result, Ok, Err}
 use Rattle.mg_base.specs.Checks.{PassesAll, verdict}
 use Rattle.mg_base.specs.Geometry.{is_page_size}
 use Rattle.mg_base.specs.Image.{blank}
@@ -9,7 +9,8 @@ use Rattle.mg_base.specs.declared.geometry.TheConstants.{GREATEST_LIMIT}
 use Rattle.mg_base.specs.declared.numbers.PageNo.{PageNo}
 use Rattle.mg_image.specs.Form.{Pages}
 use Rattle.mg_image.specs.Inventory.{inventory_page, is_used}
-use Rattle.mg_pip.specs.PipPage.{bits, pip_checks, used_in}
+use Rattle.mg_pip.specs.PipPage.{IsFirstFree, SetsUsed, bits, pip_checks, used_in}
+use Rattle.mg_pip.specs.declared.page.TheConstants.{BITS_AT}
 use Rattle.mg_pool.specs.Batch.{Changed, PutsPage}
 use Rattle.mg_space.specs.declared.fault.SpaceFault.{SpaceFault}
 use Rattle.mg_space.specs.declared.fault.SpaceFault.TheVariants as faults
@@ -41,6 +42,28 @@ is_fixed region bit = bit == 1 || (bit == 0 && region == 0)
 abbrev pub IsLawfulRegion : ℕ → ℕ → List ℕ → Type 0
 IsLawfulRegion at region page =
     (page ≡ blank (length page)) ⊎ PassesAll (pip_checks page at region)
+
+-- the pages of a region that are never handed out are marked as used
+abbrev pub IsMarked : ℕ → List ℕ → Type 0
+IsMarked region page = (bit : ℕ) → is_fixed region bit ≡ true → used_in page bit ≡ true
+
+-- An inventory page is lawful, or was blank and has been made. It marks the pages that it marked.
+pub record IsReady (at region : ℕ) (old new : List ℕ) : Type 0 where
+  pub was : IsLawfulRegion at region old
+  pub len : length new ≡ length old
+  pub tests : PassesAll (pip_checks new at region)
+  pub same : (bit : ℕ) → used_in new bit ≡ used_in old bit
+
+-- the bits of the pages are set that are never handed out, and no other
+pub record SetsFixed (region : ℕ) (old new : List ℕ) : Type 0 where
+  pub len : length new ≡ length old
+  pub front : take BITS_AT new ≡ take BITS_AT old
+  pub bits_are : (bit : ℕ) → used_in new bit ≡ (used_in old bit || is_fixed region bit)
+
+-- the least clear bit below a bound has been set
+pub record TakesBit (below : ℕ) (old new : List ℕ) (bit : ℕ) : Type 0 where
+  pub first : IsFirstFree old below bit
+  pub sets : SetsUsed old new bit true
 
 -- The pages of a region that are never handed out are marked as used, and no other page comes to be;
 -- where the inventory page was blank it has been made.

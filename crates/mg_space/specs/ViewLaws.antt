@@ -8,7 +8,11 @@ use Rattle.mg_pool.specs.Pool.{IsPool, KeepsContent}
 use Rattle.mg_pool.specs.declared.fault.PoolFault.{PoolFault}
 use Rattle.mg_pool.specs.declared.fault.PoolFault.TheVariants.{DiskRead, DiskWrite, Offline, Absent, Memory}
 use Rattle.mg_pool.specs.declared.pool.Pool.{Pool}
-use Rattle.mg_space.specs.View.{KeepsStore, Tells}
+use Rattle.mg_pool.specs.Batch.{Changed, PutsPage, content_in}
+use Rattle.mg_pool.specs.Dirty.{DirtyPages}
+use Rattle.mg_pool.specs.Pool.{shown}
+use Rattle.mg_space.specs.View.{AreWhole, KeepsStore, Tells, viewed}
+use Rattle.std.proofs.lemmas.Bool.{cases_eq}
 
 -- what a crash now may leave is among what a crash since an earlier moment might have left: a law of
 -- every disk
@@ -87,6 +91,37 @@ tells_on m a b image kept tells = record {
   told = kept.disk.tells ∙ tells.told;
   held = kept.disk.held ∙ tells.held;
 }
+
+-- after a call that has only read one sees the same pages
+pub viewed_on : {D L : Type 0} (m : Meaning D) (a b : Pool D L) (image : Image) (batch : Changed)
+    → KeepsStore m a b → viewed b image batch ≡ viewed a image batch
+viewed_on m a b image batch kept = ap (λ (dirty : DirtyPages). λ (n : ℕ).
+    unwrap_or (content_in batch.pages n) (shown dirty image n)) kept.dirty
+
+-- the page that a batch puts has the new content, and every other page its old one
+pub viewed_here : {D L : Type 0} (store : Pool D L) (image : Image) (old new : Changed) (page : ℕ)
+    (bytes : List ℕ) → PutsPage old new page bytes → viewed store image new page ≡ bytes
+viewed_here store image old new page bytes puts =
+    ap (λ (o : Option (List ℕ)). unwrap_or o (shown store.dirty image page)) puts.here
+
+pub viewed_else : {D L : Type 0} (store : Pool D L) (image : Image) (old new : Changed) (page : ℕ)
+    (bytes : List ℕ) → PutsPage old new page bytes
+    → (n : ℕ) → n ≢ page → viewed store image new n ≡ viewed store image old n
+viewed_else store image old new page bytes puts n ne =
+    ap (λ (o : Option (List ℕ)). unwrap_or o (shown store.dirty image n)) (puts.others n ne)
+
+-- a batch to which a content of one page was put has contents of one page still
+pub whole_on : (size : ℕ) (old new : Changed) (page : ℕ) (bytes : List ℕ)
+    → AreWhole size old.pages → length bytes ≡ size → PutsPage old new page bytes
+    → AreWhole size new.pages
+whole_on size old new page bytes whole len puts n content is = at (cases_eq n page)
+  where
+    at : (n ≡ page) ⊎ (n ≢ page) → length content ≡ size
+    at (inl same) =
+        let put : Some bytes ≡ Some content = sym puts.here
+        ∙ (ap (content_in new.pages) (sym same) ∙ is) in
+        let equal : bytes ≡ content = cc in ap (λ (b : List ℕ). length b) (sym equal) ∙ len
+    at (inr ne) = whole n content (sym (puts.others n ne) ∙ is)
 
 rose_on : (a b c : ℕ) → a ≤ b → Rose b c → Rose a c
 rose_on a b c le (inl more) = inl (omega arith)

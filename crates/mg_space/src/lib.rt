@@ -16,12 +16,17 @@
 //! Not here: which table or tree a page belongs to, and when a batch is changed.
 #![tactic(auto)]
 
+mod cells;
+mod demands;
 mod fault;
+mod fields;
 mod links;
 mod reading;
 mod taking;
 
 pub use fault::SpaceFault;
-pub use links::{FireLinks, Store};
+pub use links::{
+    BIT, DATA, FireLinks, HEADER, NEXT, POINTER, Store, TRANSACTIONS, VERSION,
+};
 pub use reading::{Found, find_page, page_of};
 pub use taking::{inventory_page_of, region_len, take_page};

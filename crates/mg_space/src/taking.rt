@@ -5,16 +5,17 @@ ghost use Rattle.mg_base.specs.Checks.{PassesAll};
 ghost use Rattle.mg_base.specs.Geometry.{is_page_size};
 ghost use Rattle.mg_base.specs.Image.{Image, blank};
 ghost use Rattle.mg_image.specs.Inventory.{inventory_page as page_of_region};
-ghost use Rattle.mg_pip.specs.PipPage.{bits as bits_of_size, pip_checks};
+ghost use Rattle.mg_pip.specs.PipPage.{AllUsed, bits as bits_of_size, pip_checks};
 ghost use Rattle.mg_pool.specs.Fault.{TellsFault};
 ghost use Rattle.mg_pool.specs.Pool.{IsPool};
-ghost use Rattle.mg_space.specs.Taking.{IsGeometry, IsRegionDamage, MarksFixed, PutsInventory, RefusesRegion, RefusesTake, TakesInRegion, TakesPage};
+ghost use Rattle.mg_space.specs.Taking.{IsGeometry, IsMarked, IsReady, IsRegionDamage, MarksFixed, PutsInventory, RefusesRegion, RefusesTake, SetsFixed, TakesBit, TakesInRegion, TakesPage};
 ghost use Rattle.mg_space.specs.View.{AreWhole, KeepsStore, ReadsAlone, Tells, pool_answer, viewed};
 
 use crate::fault::SpaceFault;
 use crate::links::Store;
-use mg_base::{Disk, PageNo};
-use mg_pip::BITS_AT;
+use crate::reading::{Found, find_page};
+use mg_base::{Damaged, Disk, Geometry, PageNo};
+use mg_pip::{BITS_AT, check_pip, first_free, new_pip, set_used};
 use mg_pool::{Batch, PoolFault};
 
 /// How many pages a page inventory page tells of: eight to a byte.
@@ -66,6 +67,164 @@ pub fn take_page<D: Disk>(store: &mut Store<D>, batch: &mut Batch) -> Result<Pag
         (RefusesTake store.old.geometry (viewed store.old image batch.old)) }
 {
     store.online()?;
-    // The body follows.
-    Err(SpaceFault::Pool(PoolFault::Memory))
+    let geometry = store.geometry();
+    let bits = region_len(geometry.size);
+    for region in 0..regions_below(geometry) {
+        if let Some(page) = take_in(store, batch, bits, region)? {
+            return Ok(page);
+        }
+    }
+    Err(SpaceFault::Full {
+        limit: geometry.limit,
+    })
+}
+
+/// How many regions have their inventory page below the limit.
+fn regions_below(geometry: Geometry) -> u32
+    requires { IsGeometry geometry }
+    ensures { (region : ℕ) → (region < result ↔ (page_of_region geometry.size region < geometry.limit)) }
+{
+    let bits = region_len(geometry.size);
+    if geometry.limit < 2 {
+        0
+    } else {
+        (geometry.limit - 2) / bits + 1
+    }
+}
+
+/// Takes the least free page of a region, none where it has none.
+fn take_in<D: Disk>(
+    store: &mut Store<D>,
+    batch: &mut Batch,
+    bits: u32,
+    region: u32,
+) -> Result<Option<PageNo>, SpaceFault>
+    requires pool { IsPool D.meaning store.old }
+    requires geometry { IsGeometry store.old.geometry }
+    requires whole { AreWhole store.old.geometry.size batch.old.pages }
+    requires bits { bits ≡ bits_of_size store.old.geometry.size }
+    requires below { page_of_region store.old.geometry.size region < store.old.geometry.limit }
+
+    ensures keeps { KeepsStore D.meaning store.old store.new }
+    ensures fault { TellsFault D.meaning store.old store.new (pool_answer result) }
+    ensures own { ReadsAlone result }
+    ensures puts { IfOk result (λ taken. IfSome taken (λ page.
+        PutsInventory store.old.geometry batch.old batch.new page.0)) }
+    ensures none { IfOk result (λ taken. MatchOption taken (batch.new ≡ batch.old)
+        (λ page. Unit {0})) }
+    ensures same { OnErr result (batch.new ≡ batch.old) }
+    ensures takes { (image : Image) → Tells D.meaning store.old.disk image → MatchResult result
+        (λ taken. TakesInRegion store.old.geometry region (viewed store.old image batch.old)
+        (viewed store.old image batch.new) taken)
+        (RefusesRegion store.old.geometry region (viewed store.old image batch.old)) }
+{
+    let geometry = store.geometry();
+    let at = PageNo(region * bits + 1);
+    let mut page = inventory_of(store, batch, at, region)?;
+    // The last region of the file may end before its inventory page's last bit.
+    let below = bits.min(geometry.limit - region * bits);
+    let Some(bit) = take_bit(&mut page, below) else {
+        return Ok(None);
+    };
+    batch.put(at, &page)?;
+    Ok(Some(PageNo(region * bits + bit)))
+}
+
+/// Sets the least clear bit of an inventory page below a bound, none where each is set.
+fn take_bit(page: &mut [u8], below: u32) -> Option<u32>
+    requires page { BITS_AT ≤ length page.old }
+    requires below { below ≤ bits_of_size (length page.old) }
+    ensures bit { MatchOption result (AllUsed page.old below)
+        (λ bit. TakesBit below page.old page.new bit) }
+    ensures len { length page.new ≡ length page.old }
+{
+    let bit = first_free(page, below)?;
+    set_used(page, bit, true);
+    Some(bit)
+}
+
+/// The inventory page of a region, made where it is blank, with the bits of the pages that are
+/// never handed out.
+fn inventory_of<D: Disk>(
+    store: &mut Store<D>,
+    batch: &Batch,
+    at: PageNo,
+    region: u32,
+) -> Result<Vec<u8>, SpaceFault>
+    requires pool { IsPool D.meaning store.old }
+    requires geometry { IsGeometry store.old.geometry }
+    requires whole { AreWhole store.old.geometry.size batch.now.pages }
+    requires at { at.0 ≡ page_of_region store.old.geometry.size region }
+
+    ensures keeps { KeepsStore D.meaning store.old store.new }
+    ensures fault { TellsFault D.meaning store.old store.new (pool_answer result) }
+    ensures own { ReadsAlone result }
+    ensures len { IfOk result (λ page. length page.items ≡ store.old.geometry.size) }
+    ensures fixed { IfOk result (λ page. IsMarked region page.items) }
+    ensures seen { (image : Image) → Tells D.meaning store.old.disk image → MatchResult result
+        (λ page. MarksFixed (page_of_region store.old.geometry.size region) region
+        (viewed store.old image batch.now (page_of_region store.old.geometry.size region)) page.items)
+        (RefusesRegion store.old.geometry region (viewed store.old image batch.now)) }
+{
+    let mut page = match find_page(store, batch, at)? {
+        Found::Page(bytes) => bytes.into_vec(),
+        Found::Absent { .. } => blank_page(store)?,
+    };
+    mark_fixed(&mut page, at, region)?;
+    Ok(page)
+}
+
+/// A page of zeros.
+fn blank_page<D: Disk>(store: &Store<D>) -> Result<Vec<u8>, SpaceFault>
+    ensures page { IfOk result (λ page. page.items ≡ blank store.now.geometry.size) }
+    ensures memory { IfErr result (λ fault. fault ≡ SpaceFault.Pool PoolFault.Memory) }
+{
+    let size = store.geometry().size as usize;
+    Ok(vec![in store.alloc(); 0u8; size]?)
+}
+
+/// Marks the pages of a region as used that are never handed out: its inventory page, and in the
+/// first region the header page. A blank inventory page is made first.
+fn mark_fixed(page: &mut [u8], at: PageNo, region: u32) -> Result<(), Damaged>
+    requires { 1024 ≤ length page.old }
+    ensures marks { OnOk result (MarksFixed at.0 region page.old page.new) }
+    ensures damaged { IfErr result (IsRegionDamage at region page.old) }
+    ensures len { length page.new ≡ length page.old }
+{
+    make_ready(page, at, region)?;
+    set_fixed(page, region);
+    Ok(())
+}
+
+/// Tests an inventory page, or makes it where it is blank.
+fn make_ready(page: &mut [u8], at: PageNo, region: u32) -> Result<(), Damaged>
+    requires { 1024 ≤ length page.old }
+    ensures ready { OnOk result (IsReady at.0 region page.old page.new) }
+    ensures damaged { IfErr result (IsRegionDamage at region page.old) }
+    ensures len { length page.new ≡ length page.old }
+{
+    if is_blank(page) {
+        new_pip(page, at, region);
+        Ok(())
+    } else {
+        check_pip(page, at, region)
+    }
+}
+
+/// Sets the bits of the pages of a region that are never handed out.
+fn set_fixed(page: &mut [u8], region: u32)
+    requires { 1024 ≤ length page.old }
+    ensures { SetsFixed region page.old page.new }
+{
+    set_used(page, 1, true);
+    if region == 0 {
+        set_used(page, 0, true);
+    }
+}
+
+/// Tells whether every byte of a page is 0.
+fn is_blank(page: &[u8]) -> bool
+    ensures { IsTrue result ↔ (page.now ≡ blank (length page.now)) }
+{
+    page.iter().all(|byte| *byte == 0)
 }

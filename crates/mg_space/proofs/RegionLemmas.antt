@@ -1,0 +1,169 @@
+-- The taking of a page, region by region.
+use Rattle.std.proofs.Common.{◌≡◌, ◌≢◌, ◌<◌, ◌≤◌, ◌⊎◌, ◌+◌, ◌*◌, ◌/◌, ◌%◌, ◌-◌, ◌++◌, ℕ, true, List, length, take, refl, sym, ap, subst, ◌∙◌, arith, inl, inr, min, Option, None, Some, Result, Ok, Err, MatchResult, IsErr, IsErrAnd}
+use Rattle.std.proofs.Math.Nat.{add-mul, one-mul}
+use Rattle.std.proofs.Math.Seq.{take-append_seam}
+use Rattle.std.proofs.lemmas.Bool.{cases_lt}
+use Rattle.mg_base.specs.Disk.{Meaning}
+use Rattle.mg_base.specs.Image.{Image}
+use Rattle.mg_base.specs.declared.geometry.Geometry.{Geometry}
+use Rattle.mg_base.specs.declared.numbers.PageNo.{PageNo}
+use Rattle.mg_image.specs.Form.{Pages}
+use Rattle.mg_image.specs.Inventory.{inventory_page}
+use Rattle.mg_pip.specs.PipPage.{AllUsed, IsFirstFree, SetsUsed, bits}
+use Rattle.mg_pool.specs.Batch.{Changed, PutsPage}
+use Rattle.mg_pool.specs.declared.pool.Pool.{Pool}
+use Rattle.mg_space.specs.declared.fault.SpaceFault.{SpaceFault}
+use Rattle.mg_space.specs.declared.fault.SpaceFault.TheVariants as faults
+use Rattle.mg_space.specs.Taking.{IsFree, IsGeometry, IsMarked, MarksFixed, PutsInventory, RefusesRegion, RefusesTake, TakesBit, TakesInRegion, TakesPage, region_of}
+use Rattle.mg_space.specs.TakingLaws.{bits_some, region_is}
+use Rattle.mg_space.specs.View.{KeepsStore, Tells, viewed}
+use Rattle.mg_space.specs.ViewLaws.{tells_on, viewed_on}
+use Rattle.mg_space.proofs.TakingLemmas.{none_free, of_region, puts, takes}
+
+-- bytes that were written through a slice
+pub written_back : (len : ℕ) (made rest put : List ℕ) → len ≡ length made
+    → put ≡ take len (made ++ rest) → put ≡ made
+written_back len made rest put same is = is
+    ∙ (ap (λ (n : ℕ). take n (made ++ rest)) same ∙ take-append_seam made rest)
+
+-- ---- in a region: by the numbers that the program has
+
+module _ (g geometry : Geometry) (region bits_ below : ℕ) (lawful : IsGeometry g)
+    (same : geometry ≡ g) (bits_is : bits_ ≡ bits g.size)
+    (below_is : below ≡ min bits_ (geometry.limit - region * bits_)) where
+  abbrev at : ℕ
+  at = inventory_page g.size region
+
+  below_to : below ≡ min (bits g.size) (g.limit - region * bits g.size)
+  below_to = below_is ∙ (ap (λ (x : Geometry). min bits_ (x.limit - region * bits_)) same
+      ∙ ap (λ (b : ℕ). min b (g.limit - region * b)) bits_is)
+
+  pub none_in : (old : Pages) (page seen : List ℕ) → seen ≡ page
+      → MarksFixed at region (old at) page → AllUsed seen below
+      → (n : ℕ) → region_of g.size n ≡ region → IsFree g old n → ⊥
+  none_in old page seen seen_is marks all = none_free g region old page lawful marks
+      (subst (λ (p : List ℕ). AllUsed p (min (bits g.size) (g.limit - region * bits g.size)))
+      seen_is (subst (λ (b : ℕ). AllUsed seen b) below_to all))
+
+  first_to : (page seen : List ℕ) (bit : ℕ) → seen ≡ page → IsFirstFree seen below bit
+      → IsFirstFree page (min (bits g.size) (g.limit - region * bits g.size)) bit
+  first_to page seen bit seen_is first = subst (λ (p : List ℕ). IsFirstFree p
+      (min (bits g.size) (g.limit - region * bits g.size)) bit) seen_is
+      (subst (λ (b : ℕ). IsFirstFree seen b bit) below_to first)
+
+  pub puts_in : (page seen made put : List ℕ) (bit : ℕ) (batch after : Changed) → seen ≡ page
+      → put ≡ made → length page ≡ g.size → IsMarked region page → at < g.limit
+      → TakesBit below seen made bit → PutsPage batch after (region * bits_ + 1) put
+      → PutsInventory g batch after (region * bits_ + bit)
+  puts_in page seen made put bit batch after seen_is put_is len marked inside takes_ puts_ =
+      subst (λ (b : ℕ). PutsInventory g batch after (region * b + bit)) (sym bits_is)
+      (puts g region (λ n. page) page lawful bit (first_to page seen bit seen_is takes_.first) put batch
+      after marked inside
+      (ap (λ (p : List ℕ). length p) put_is ∙ (takes_.sets.len
+      ∙ (ap (λ (p : List ℕ). length p) seen_is ∙ len)))
+      (subst (λ (b : ℕ). PutsPage batch after (region * b + 1) put) bits_is puts_))
+
+  pub takes_in : (old new : Pages) (page seen made put : List ℕ) (bit : ℕ) → seen ≡ page
+      → put ≡ made → length page ≡ g.size → MarksFixed at region (old at) page → at < g.limit
+      → TakesBit below seen made bit → new (region * bits_ + 1) ≡ put
+      → ((m : ℕ) → m ≢ region * bits_ + 1 → new m ≡ old m)
+      → TakesInRegion g region old new (Some (record { 0 = region * bits_ + bit }))
+  takes_in old new page seen made put bit seen_is put_is len marks inside takes_ here others =
+      subst (λ (b : ℕ). TakesInRegion g region old new (Some (record { 0 = region * b + bit })))
+      (sym bits_is) (
+        of_region g region old page lawful bit first,
+        λ before. takes g region old page lawful bit first new made marks inside len
+            (subst (λ (p : List ℕ). SetsUsed p made bit true) seen_is takes_.sets)
+            (subst (λ (b : ℕ). new (region * b + 1) ≡ put) bits_is here ∙ put_is)
+            (subst (λ (b : ℕ). (m : ℕ) → m ≢ region * b + 1 → new m ≡ old m) bits_is others)
+            before,
+      )
+    where
+      first : IsFirstFree page (min (bits g.size) (g.limit - region * bits g.size)) bit
+      first = first_to page seen bit seen_is takes_.first
+
+-- ---- region after region
+
+-- why no page is taken, where none before the region is free
+refuses : (g : Geometry) (region : ℕ) (pages : Pages) (fault : SpaceFault)
+    → inventory_page g.size region < g.limit
+    → ((n : ℕ) → n < region * bits g.size → IsFree g pages n → ⊥)
+    → RefusesRegion g region pages fault → RefusesTake g pages fault
+refuses g region pages (faults.Full limit) below none never = absurd never
+refuses g region pages (faults.Damaged damage) below none damaged = record {
+  region = region;
+  below = below;
+  none_before = none;
+  damaged = damaged;
+}
+refuses g region pages (faults.Pool fault) below none free = tt
+
+module _ {D L : Type 0} (m : Meaning D) (a b : Pool D L) (image : Image)
+    (batch_a batch_b : Changed) (kept : KeepsStore m a b) (same : batch_b ≡ batch_a)
+    (tells : Tells m a.disk image) (region : ℕ)
+    (none : (n : ℕ) → n < region * bits a.geometry.size
+    → IsFree a.geometry (viewed a image batch_a) n → ⊥) where
+  views : viewed b image batch_b ≡ viewed a image batch_a
+  views = ap (viewed b image) same ∙ viewed_on m a b image batch_a kept
+
+  pub refuses_on : (fault : SpaceFault)
+      → inventory_page a.geometry.size region < a.geometry.limit
+      → (Tells m b.disk image → RefusesRegion b.geometry region (viewed b image batch_b) fault)
+      → RefusesTake a.geometry (viewed a image batch_a) fault
+  refuses_on fault below refusal = refuses a.geometry region (viewed a image batch_a) fault below
+      none (subst (λ (g : Geometry). RefusesRegion g region (viewed a image batch_a) fault)
+      kept.geometry
+      (subst (λ (v : Pages). RefusesRegion b.geometry region v fault) views
+      (refusal (tells_on m a b image kept tells))))
+
+  of_a : (new : Changed) (taken : Option PageNo)
+      → (Tells m b.disk image → TakesInRegion b.geometry region (viewed b image batch_b)
+      (viewed b image new) taken)
+      → TakesInRegion a.geometry region (viewed a image batch_a) (viewed a image new) taken
+  of_a new taken takes_ = subst (λ (g : Geometry). TakesInRegion g region (viewed a image batch_a)
+      (viewed a image new) taken) kept.geometry
+      (subst (λ (v : Pages). TakesInRegion b.geometry region v (viewed a image new) taken) views
+      (subst (λ (v : Pages). TakesInRegion b.geometry region (viewed b image batch_b) v taken)
+      (viewed_on m a b image new kept) (takes_ (tells_on m a b image kept tells))))
+
+  pub takes_on : (new : Changed) (taken : Option PageNo) (page : PageNo) → taken ≡ Some page
+      → (Tells m b.disk image → TakesInRegion b.geometry region (viewed b image batch_b)
+      (viewed b image new) taken)
+      → TakesPage a.geometry (viewed a image batch_a) (viewed a image new) page.0
+  takes_on new taken page is takes_ =
+      let whole : TakesInRegion a.geometry region (viewed a image batch_a) (viewed a image new)
+      (Some page) = subst (λ (o : Option PageNo). TakesInRegion a.geometry region
+      (viewed a image batch_a) (viewed a image new) o) is (of_a new taken takes_) in
+      whole.1 none
+
+  pub none_on : (new : Changed) (taken : Option PageNo) → taken ≡ None → IsGeometry a.geometry
+      → (Tells m b.disk image → TakesInRegion b.geometry region (viewed b image batch_b)
+      (viewed b image new) taken)
+      → (n : ℕ) → n < (region + 1) * bits a.geometry.size
+      → IsFree a.geometry (viewed a image batch_a) n → ⊥
+  none_on new taken is lawful takes_ n less = of (cases_lt n (region * bits a.geometry.size))
+    where
+      whole : TakesInRegion a.geometry region (viewed a image batch_a) (viewed a image new) None
+      whole = subst (λ (o : Option PageNo). TakesInRegion a.geometry region
+          (viewed a image batch_a) (viewed a image new) o) is (of_a new taken takes_)
+
+      split : (r k : ℕ) → (r + 1) * k ≡ r * k + k
+      split r k = add-mul r 1 k ∙ ap (λ (x : ℕ). r * k + x) (one-mul k)
+
+      of : (n < region * bits a.geometry.size) ⊎ (region * bits a.geometry.size ≤ n)
+          → IsFree a.geometry (viewed a image batch_a) n → ⊥
+      of (inl early) = none n early
+      of (inr late) =
+          let inside : n - region * bits a.geometry.size < bits a.geometry.size =
+          omega (arith, split region (bits a.geometry.size)) in
+          let sum : region * bits a.geometry.size + (n - region * bits a.geometry.size) ≡ n =
+          omega arith in
+          whole n (ap (λ (k : ℕ). region_of a.geometry.size k) (sym sum)
+          ∙ region_is a.geometry.size region (n - region * bits a.geometry.size) inside)
+
+-- a fault that is handed on
+pub handed_on : {T : Type 0} (result : Result T SpaceFault) (fault : SpaceFault)
+    (P : T → Type 0) (Q : SpaceFault → Type 0) → IsErr result
+    → IsErrAnd result (λ given. given ≡ fault) → Q fault → MatchResult result P Q
+handed_on (Ok x) fault P Q err is holds = absurd cc
+handed_on (Err e) fault P Q err is holds = subst Q (sym is) holds

@@ -1,0 +1,9 @@
+use Rattle.mg_space.proofs.DemandLemmas.{begins}
+use Rattle.mg_space.specs.Demands.{drawn_demands}
+use Rattle.mg_space.proofs.demands.put_drawn.Goals as goal
+
+pub returns-in_err-put_state-clause-err : goal.returns-in_err-put_state-clause-err
+returns-in_err-put_state-clause-err c = begins c.args.out.now.items c.loop-place.out.items
+    c.put_state.new.out.items
+    (drawn_demands c.args.size c.args.b.now c.args.sequence c.loop-place.place)
+    c.from_residual.result c.loop-place.invariant c.in_err-put_state.ensures.err
