@@ -1,5 +1,5 @@
 -- Which transactions have ended, and what the base of a transaction sees.
-use Rattle.std.specs.Prelude.{◌≡◌, ◌≢◌, ℕ, ◌+◌, ◌<◌, ◌≤◌, max, Bool, true, false, not, ◌&&◌, ◌==◌, nat_lt, if◌then◌else◌, ◌⊎◌, List, [], ◌∷◌, ◌++◌, map, filter, Option, Some, None}
+use Rattle.std.specs.Prelude.{◌≡◌, ◌≢◌, ℕ, ◌+◌, ◌<◌, ◌≤◌, max, Bool, true, false, not, ◌&&◌, ◌==◌, nat_lt, if◌then◌else◌, ◌⊎◌, List, [], ◌∷◌, ◌++◌, map, filter, Option, Some, None, is_some, IsSome}
 use Rattle.std.specs.List.{list_any}
 
 -- the base of a transaction: the numbers below drawn were drawn when it was taken, and those in
@@ -71,16 +71,52 @@ after_enter state t = record {
 abbrev pub after_leave : State → ℕ → State
 after_leave state t = record { next = state.next; entered = without t state.entered }
 
+-- an entry has another base, if it is of a transaction and had one
+abbrev pub rebased : ℕ → Snapshot → Entered → Entered
+rebased t base e = record {
+  number = e.number;
+  base = if (e.number == t) && is_some e.base then Some base else e.base;
+}
+
+-- an entry has no base, if it is of a transaction
+abbrev pub undecided : ℕ → Entered → Entered
+undecided t e = record { number = e.number; base = if e.number == t then None else e.base }
+
+-- what a base sees that is taken now
+abbrev pub base_now : State → Snapshot
+base_now state = record { drawn = state.next; unended = unended_in state }
+
+-- a transaction has taken a new base, if it had one
+abbrev pub after_rebase : State → ℕ → State
+after_rebase state t =
+    record { next = state.next; entered = map (rebased t (base_now state)) state.entered }
+
+-- a transaction has gone into limbo: it has not ended, and its base is gone
+abbrev pub after_limbo : State → ℕ → State
+after_limbo state t = record { next = state.next; entered = map (undecided t) state.entered }
+
+-- a transaction that has a base does not see another one
+abbrev pub misses : ℕ → Entered → Bool
+misses by e = is_some e.base && not (base_sees e.base by)
+
+-- every base sees a transaction
+abbrev pub all_see : State → ℕ → Bool
+all_see state by = not (list_any (misses by) state.entered)
+
 -- each transaction that has not ended was drawn
 abbrev pub AreDrawn : State → Type 0
 AreDrawn state = (t : ℕ) → is_among (unended_in state) t ≡ true → t < state.next
 
--- entering and leaving of another transaction change nothing of what a base sees
+-- what another transaction does changes nothing of what a base sees
 pub record OthersChangeNothing : Type 0 where
   pub enter : (state : State) (other t by : ℕ) → other ≢ t
       → sees (after_enter state other) t by ≡ sees state t by
   pub leave : (state : State) (other t by : ℕ) → other ≢ t
       → sees (after_leave state other) t by ≡ sees state t by
+  pub rebase : (state : State) (other t by : ℕ) → other ≢ t
+      → sees (after_rebase state other) t by ≡ sees state t by
+  pub limbo : (state : State) (other t by : ℕ) → other ≢ t
+      → sees (after_limbo state other) t by ≡ sees state t by
 
 -- when a transaction has ended: once it was drawn and has left; another's entering and leaving
 -- change nothing of it, and one that has entered has not ended
@@ -91,6 +127,11 @@ pub record EndsByLeaving : Type 0 where
       → has_ended (after_enter state other) t ≡ has_ended state t
   pub leave : (state : State) (other t : ℕ) → other ≢ t
       → has_ended (after_leave state other) t ≡ has_ended state t
+  -- a new base and limbo end nobody
+  pub rebase : (state : State) (other t : ℕ)
+      → has_ended (after_rebase state other) t ≡ has_ended state t
+  pub limbo : (state : State) (other t : ℕ)
+      → has_ended (after_limbo state other) t ≡ has_ended state t
 
 -- a transaction that enters sees exactly those that have ended just then: what left before, and
 -- nothing that enters or leaves later
@@ -99,21 +140,41 @@ BaseSeesWhatHasEnded =
     (state : State) (t by : ℕ) → AreDrawn state → MayEnter state t
     → sees (after_enter state t) t by ≡ has_ended (after_enter state t) by
 
+-- a transaction with a base that takes a new one sees exactly those that have ended just then
+abbrev pub NewBaseSeesWhatHasEnded : Type 0
+NewBaseSeesWhatHasEnded = (state : State) (t by : ℕ) → IsSome (base_among state.entered t)
+    → sees (after_rebase state t) t by ≡ has_ended state by
+
+-- one in limbo sees nothing
+abbrev pub LimboSeesNothing : Type 0
+LimboSeesNothing = (state : State) (t by : ℕ) → sees (after_limbo state t) t by ≡ false
+
+-- where every base sees a transaction, each that has a base sees it
+abbrev pub AllSee : Type 0
+AllSee = (state : State) (t by : ℕ) → all_see state by ≡ true
+    → IsSome (base_among state.entered t) → sees state t by ≡ true
+
 -- ---- runs of calls
 
--- a transaction enters, or leaves
+-- a transaction enters, leaves, takes a new base, or goes into limbo
 pub data Call : Type 0 where
   Enters : ℕ → Call
   Leaves : ℕ → Call
+  Rebases : ℕ → Call
+  Undecided : ℕ → Call
 
 -- the transaction that does it
 abbrev pub caller : Call → ℕ
 caller (Enters t) = t
 caller (Leaves t) = t
+caller (Rebases t) = t
+caller (Undecided t) = t
 
 abbrev pub after_call : State → Call → State
 after_call state (Enters t) = after_enter state t
 after_call state (Leaves t) = after_leave state t
+after_call state (Rebases t) = after_rebase state t
+after_call state (Undecided t) = after_limbo state t
 
 -- after calls, of which the newest comes first
 abbrev pub after_calls : State → List Call → State

@@ -1,12 +1,21 @@
 -- What a base sees doesn't change, and it is what had ended when the base was taken.
-use Rattle.std.proofs.Common.{◌≡◌, ◌≢◌, ℕ, ◌+◌, ◌<◌, ◌≤◌, max, Bool, true, false, not, ◌&&◌, ◌||◌, ◌==◌, nat_lt, cond, if◌then◌else◌, inl, inr, List, [], ◌∷◌, ◌++◌, Option, refl, sym, ap, subst, ◌∙◌, arith, eq-eqb, lt-ltb, le-ltb}
+use Rattle.std.proofs.Common.{◌≡◌, ◌≢◌, ℕ, ◌+◌, ◌<◌, ◌≤◌, max, Bool, true, false, not, ◌&&◌, ◌||◌, ◌==◌, nat_lt, cond, if◌then◌else◌, inl, inr, List, [], ◌∷◌, ◌++◌, map, Option, Some, None, is_some, IsSome, refl, sym, ap, subst, ◌∙◌, arith, eq-eqb, lt-ltb, le-ltb}
+use Rattle.std.specs.List.{list_any}
 use Rattle.std.proofs.lemmas.Bool.{cases_eq, ne_eqb, eqb-true, ltb-true, ltb-false, or_parts, false_from_ne_true, both_ways}
 use Rattle.std.proofs.lemmas.List.{map-append}
-use Rattle.mg_snap.specs.Live.{Snapshot, Entered, State, is_among, numbers_of, without, unended_in, has_ended, base_among, base_sees, sees, MayEnter, after_enter, after_leave, AreDrawn, Call, Enters, Leaves, after_call, after_calls, AreOfOthers, BaseSeesNoOthers, caller, OthersChangeNothing, EndsByLeaving, BaseSeesWhatHasEnded}
+use Rattle.mg_snap.specs.Live.{Snapshot, Entered, State, is_among, numbers_of, without, unended_in, has_ended, base_among, base_sees, sees, MayEnter, after_enter, after_leave, AreDrawn, rebased, undecided, base_now, misses, NewBaseSeesWhatHasEnded, LimboSeesNothing, AllSee, Call, Enters, Leaves, Rebases, Undecided, after_call, after_calls, AreOfOthers, BaseSeesNoOthers, caller, OthersChangeNothing, EndsByLeaving, BaseSeesWhatHasEnded}
 
 or_nothing : (b : Bool) → (b || false) ≡ b
 or_nothing true = refl
 or_nothing false = refl
+
+not_false : (b : Bool) → not b ≡ false → b ≡ true
+not_false true e = refl
+not_false false e = sym e
+
+not_true : (b : Bool) → not b ≡ true → b ≡ false
+not_true true e = sym e
+not_true false e = refl
 
 or_true : (b : Bool) → (b || true) ≡ true
 or_true true = refl
@@ -17,7 +26,7 @@ and_false true = refl
 and_false false = refl
 
 -- a number more at the end
-among_more : (xs : List ℕ) (u t : ℕ)
+pub among_more : (xs : List ℕ) (u t : ℕ)
     → is_among (xs ++ u ∷ []) t ≡ (is_among xs t || (u == t))
 among_more [] u t = or_nothing (u == t)
 among_more (x ∷ xs) u t = at (x == t) (among_more xs u t) where
@@ -26,7 +35,7 @@ among_more (x ∷ xs) u t = at (x == t) (among_more xs u t) where
   at true h = refl
   at false h = h
 
-numbers_more : (es : List Entered) (e : Entered)
+pub numbers_more : (es : List Entered) (e : Entered)
     → numbers_of (es ++ e ∷ []) ≡ numbers_of es ++ e.number ∷ []
 numbers_more es e = map-append (λ (e : Entered). e.number) es (e ∷ [])
 
@@ -105,12 +114,110 @@ drawn_as_before next t by le other = at (nat_lt by next) refl where
   at true e = lt-ltb by (max next (t + 1)) (omega (arith, ltb-true by next e))
   at false e = le-ltb by (max next (t + 1)) (omega (arith, ltb-false by next e))
 
+-- another one's new base, or its loss, changes no number and no other base
+pub numbers_rebased : (es : List Entered) (u : ℕ) (base : Snapshot)
+    → numbers_of (map (rebased u base) es) ≡ numbers_of es
+numbers_rebased [] u base = refl
+numbers_rebased (x ∷ xs) u base = ap (λ (ns : List ℕ). x.number ∷ ns) (numbers_rebased xs u base)
+
+pub numbers_undecided : (es : List Entered) (u : ℕ) → numbers_of (map (undecided u) es) ≡ numbers_of es
+numbers_undecided [] u = refl
+numbers_undecided (x ∷ xs) u = ap (λ (ns : List ℕ). x.number ∷ ns) (numbers_undecided xs u)
+
+other_rebased : (es : List Entered) (u t : ℕ) (base : Snapshot) → u ≢ t
+    → base_among (map (rebased u base) es) t ≡ base_among es t
+other_rebased [] u t base other = refl
+other_rebased (x ∷ xs) u t base other = at (x.number == u) refl (other_rebased xs u t base other)
+  where
+    at : (p : Bool) → (x.number == u) ≡ p
+        → base_among (map (rebased u base) xs) t ≡ base_among xs t
+        → (if x.number == t then (if p && is_some x.base then Some base else x.base)
+        else base_among (map (rebased u base) xs) t) ≡ (if x.number == t then x.base else base_among xs t)
+    at true e rest = rw (apart u t x.number other e) rest
+    at false e rest = ap (λ (o : Option Snapshot). if x.number == t then x.base else o) rest
+
+other_undecided : (es : List Entered) (u t : ℕ) → u ≢ t
+    → base_among (map (undecided u) es) t ≡ base_among es t
+other_undecided [] u t other = refl
+other_undecided (x ∷ xs) u t other = at (x.number == u) refl (other_undecided xs u t other)
+  where
+    at : (p : Bool) → (x.number == u) ≡ p
+        → base_among (map (undecided u) xs) t ≡ base_among xs t
+        → (if x.number == t then (if p then None else x.base)
+        else base_among (map (undecided u) xs) t) ≡ (if x.number == t then x.base else base_among xs t)
+    at true e rest = rw (apart u t x.number other e) rest
+    at false e rest = ap (λ (o : Option Snapshot). if x.number == t then x.base else o) rest
+
+-- a transaction that had a base has the new one
+base_rebased : (es : List Entered) (t : ℕ) (base : Snapshot) → IsSome (base_among es t)
+    → base_among (map (rebased t base) es) t ≡ Some base
+base_rebased [] t base has = cc
+base_rebased (x ∷ xs) t base has = at (x.number == t) refl has (base_rebased xs t base)
+  where
+    here : (o : Option Snapshot) → IsSome o → (if is_some o then Some base else o) ≡ Some base
+    here None none = cc
+    here (Some b) one = refl
+
+    at : (p : Bool) → (x.number == t) ≡ p → IsSome (if p then x.base else base_among xs t)
+        → (IsSome (base_among xs t) → base_among (map (rebased t base) xs) t ≡ Some base)
+        → (if p then (if p && is_some x.base then Some base else x.base)
+        else base_among (map (rebased t base) xs) t) ≡ Some base
+    at true e has_one rest = here x.base has_one
+    at false e has_one rest = rest has_one
+
+-- one that lost its base has none
+none_undecided : (es : List Entered) (t : ℕ) → base_among (map (undecided t) es) t ≡ None
+none_undecided [] t = refl
+none_undecided (x ∷ xs) t = at (x.number == t) (none_undecided xs t)
+  where
+    at : (p : Bool) → base_among (map (undecided t) xs) t ≡ None
+        → (if p then (if p then None else x.base) else base_among (map (undecided t) xs) t) ≡ None
+    at true rest = refl
+    at false rest = rest
+
+-- of transactions that all see one, each that has a base sees it
+none_misses : (es : List Entered) (t by : ℕ) → list_any (misses by) es ≡ false
+    → IsSome (base_among es t) → base_sees (base_among es t) by ≡ true
+none_misses [] t by none has = cc
+none_misses (x ∷ xs) t by none has =
+    let parts = or_parts (misses by x) (list_any (misses by) xs) none in
+    at (x.number == t) has (here x.base parts.0) (none_misses xs t by parts.1)
+  where
+    here : (o : Option Snapshot) → (is_some o && not (base_sees o by)) ≡ false → IsSome o
+        → base_sees o by ≡ true
+    here None sees_it none_there = cc
+    here (Some b) sees_it one = not_false (base_sees (Some b) by) sees_it
+
+    at : (p : Bool) → IsSome (if p then x.base else base_among xs t)
+        → (IsSome x.base → base_sees x.base by ≡ true)
+        → (IsSome (base_among xs t) → base_sees (base_among xs t) by ≡ true)
+        → base_sees (if p then x.base else base_among xs t) by ≡ true
+    at true one first rest = first one
+    at false one first rest = rest one
+
+pub new_base_sees_what_has_ended : NewBaseSeesWhatHasEnded
+new_base_sees_what_has_ended state t by has =
+    ap (λ (o : Option Snapshot). base_sees o by)
+    (base_rebased state.entered t (base_now state) has)
+
+pub limbo_sees_nothing : LimboSeesNothing
+limbo_sees_nothing state t by =
+    ap (λ (o : Option Snapshot). base_sees o by) (none_undecided state.entered t)
+
+pub all_see_it : AllSee
+all_see_it state t by all has =
+    none_misses state.entered t by (not_true (list_any (misses by) state.entered) all) has
+
 pub others_change_nothing : OthersChangeNothing
 others_change_nothing = record {
   enter = λ state other t by apart.
       ap (λ (o : Option Snapshot). base_sees o by) (base_of_others state.entered _ t apart);
   leave = λ state other t by apart.
       ap (λ (o : Option Snapshot). base_sees o by) (base_among_rest state.entered other t apart);
+  rebase = λ state other t by apart. ap (λ (o : Option Snapshot). base_sees o by)
+      (other_rebased state.entered other t (base_now state) apart);
+  limbo = λ state other t by apart.
+      ap (λ (o : Option Snapshot). base_sees o by) (other_undecided state.entered other t apart);
 }
 
 ended_by_others_enter : (state : State) (u t : ℕ) → u ≤ state.next → u ≢ t
@@ -141,6 +248,10 @@ ends_by_leaving = record {
   leave = λ state other t apart.
       ap (λ (b : Bool). nat_lt t state.next && not b)
       (others_among_rest state.entered other t apart);
+  rebase = λ state other t. ap (λ (ns : List ℕ). nat_lt t state.next && not (is_among ns t))
+      (numbers_rebased state.entered other (base_now state));
+  limbo = λ state other t. ap (λ (ns : List ℕ). nat_lt t state.next && not (is_among ns t))
+      (numbers_undecided state.entered other);
 }
 
 -- the base of one that was not among the entered sees what has ended when it has entered
@@ -167,6 +278,8 @@ call_changes_nothing : (state : State) (call : Call) (t by : ℕ) → caller cal
     → sees (after_call state call) t by ≡ sees state t by
 call_changes_nothing state (Enters u) t by other = others_change_nothing.enter state u t by other
 call_changes_nothing state (Leaves u) t by other = others_change_nothing.leave state u t by other
+call_changes_nothing state (Rebases u) t by other = others_change_nothing.rebase state u t by other
+call_changes_nothing state (Undecided u) t by other = others_change_nothing.limbo state u t by other
 
 calls_change_nothing : (state : State) (t by : ℕ) (since : List Call) → AreOfOthers t since
     → sees (after_calls state since) t by ≡ sees state t by

@@ -2,9 +2,9 @@
 
 ghost use Rattle.mg_snap.specs.Live.{OthersChangeNothing, EndsByLeaving};
 ghost use Rattle.mg_snap.specs.Live.{BaseSeesWhatHasEnded, BaseSeesNoOthers};
+ghost use Rattle.mg_snap.specs.Live.{AllSee, LimboSeesNothing, NewBaseSeesWhatHasEnded};
 
-/// A base stays as it was taken: other transactions that enter and leave change nothing of what it
-/// sees.
+/// A base stays as it was taken: what other transactions do changes nothing of what it sees.
 pub fn others_change_nothing()
     ensures { OthersChangeNothing }
 {}
@@ -15,4 +15,12 @@ pub fn a_base_sees_what_had_ended()
     ensures base { BaseSeesWhatHasEnded }
     ensures since { BaseSeesNoOthers }
     ensures ends { EndsByLeaving }
+{}
+
+/// A new base sees exactly what has ended when it is taken; one in limbo sees nothing; and what every
+/// base sees each transaction with a base sees.
+pub fn a_new_base_sees_what_has_ended()
+    ensures base { NewBaseSeesWhatHasEnded }
+    ensures limbo { LimboSeesNothing }
+    ensures all { AllSee }
 {}

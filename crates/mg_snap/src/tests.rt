@@ -45,3 +45,23 @@ fn one_that_is_decided_later_is_not_seen(rt: HostRuntime) -> Result<(), Fail> {
     sees_just(&rt, &live, 5, &[1, 2, 3]);
     Ok(())
 }
+
+#[test]
+fn a_new_base_sees_what_has_ended_since(rt: HostRuntime) -> Result<(), Fail> {
+    let mut live = Live::new(rt.alloc(), TxNo(1));
+    live.enter(TxNo(1))?;
+    live.enter(TxNo(2))?;
+    live.enter(TxNo(3))?;
+    live.leave(TxNo(1));
+    live.limbo(TxNo(3));
+    sees_just(&rt, &live, 2, &[]);
+    assert!(rt; !live.all_see(TxNo(1)), "2 does not see 1 yet");
+    live.rebase(TxNo(2));
+    sees_just(&rt, &live, 2, &[1]);
+    sees_just(&rt, &live, 3, &[]);
+    assert!(rt; live.all_see(TxNo(1)), "3 has no base, and 2 sees 1");
+    assert!(rt; live.is_unended(TxNo(3)), "3 is in limbo");
+    live.rebase(TxNo(3));
+    sees_just(&rt, &live, 3, &[]);
+    Ok(())
+}

@@ -1,0 +1,24 @@
+use Rattle.std.proofs.Common.{◌<◌, length, arith, ◌∙◌}
+use Rattle.std.proofs.lemmas.List.{length-set}
+use Rattle.mg_snap.specs.Live.{rebased}
+use Rattle.mg_snap.proofs.RoomLemmas.{turn_read, wide_at_read, wide_turn}
+use Rattle.mg_snap.proofs.live.retake.Goals as goal
+
+pub retake-requires : goal.retake-requires
+retake-requires c = record {
+  room = wide_at_read (length c.args.unended.now) _ _ _ c.index_mut.ensures.value
+      (let inside = c.loop-i-test.true in let count = c.loop-i.invariant.1 in omega (arith, inside, count))
+      (c.loop-i.invariant.2 (length c.args.unended.now) c.requires);
+}
+
+pub loop-i-preserved : goal.loop-i-preserved
+loop-i-preserved c =
+    let test = c.loop-i-test.true in
+    let count = c.loop-i.invariant.1 in
+    let inside : c.loop-i.i < length c.loop-i.entries.items = omega (arith, test, count) in (
+      turn_read (rebased c.args.t.0 (record { drawn = c.args.drawn; unended = c.args.unended.now })) c.args.entries.now.items c.loop-i.entries.items c.loop-i.i _ _ inside count
+          c.loop-i.invariant.0 c.index_mut.ensures.value c.retake.ensures.base,
+      length-set _ _ _ ∙ count,
+      λ n wide. wide_turn n _ _ _ _ inside c.index_mut.ensures.value (c.loop-i.invariant.2 n wide)
+          (c.retake.ensures.wide n),
+    )
