@@ -1,0 +1,15 @@
+use Rattle.std.proofs.Common.{◌≡◌, ◌∙◌, arith, drop, length, refl}
+use Rattle.mg_heap.proofs.ChangingLemmas.{places_at, written_back}
+use Rattle.mg_heap.proofs.changing.place.Goals as goal
+
+pub returns-clause-places : goal.returns-clause-places
+returns-clause-places g c = λ image tells.
+    let len : c.into_vec-page.result.len ≡ length c.replaced.new.b =
+    omega (arith, c.replaced.ensures.len, c.deref_mut.ensures.len) in
+    places_at c.args.store.now image c.args.batch.now c.put.new.self c.args.at
+    c.in_ok-data_page.field-0 c.deref_mut.result.now c.replaced.new.b c.deref.result.now
+    c.in_ok-data_page.ensures.data_page (c.in_ok-data_page.ensures.seen image tells)
+    (c.deref_mut.ensures.value ∙ c.into_vec-page.ensures) (written_back c.into_vec-page.result.len c.replaced.new.b
+    (drop (length c.replaced.new.b) c.into_vec-page.result.items) c.deref.result.now len
+    c.deref.ensures.value) c.in_ok-put.ensures.puts
+    c.args.cell.now (c.if-not-replaced.ensures.when.0 refl) c.if-not-replaced.ensures.put

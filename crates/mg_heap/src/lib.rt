@@ -1,0 +1,8 @@
+//! The data pages of a table: a map from record number to cell.
+#![tactic(auto)]
+
+mod changing;
+mod reading;
+
+pub use changing::{free, least_slot, place};
+pub use reading::cell;

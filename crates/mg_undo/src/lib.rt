@@ -1,0 +1,27 @@
+//! What a transaction has to take back: the changes that it made, each with what its own change of
+//! that key was before, and the marks and savepoints to which they are taken back.
+//!
+//! Owns: `Undo`, a list of changes, the newest first, and the points that stand, each with the number
+//! of changes that were there when it was set. What is taken back takes with it the points that were
+//! set after the point gone back to. A mark ends by it, and a savepoint stays.
+//!
+//! Invariant: a point stands no higher than the changes that are left, and no lower than an older
+//! point.
+//! Below: `mg_value`, and `mg_model` for the laws. Above: the engine, which keeps each change before
+//! it makes it, and writes back what it is given.
+//! Not here: the rows that are there now, and the pages. Taking back all, as a rollback does, needs
+//! no list.
+#![tactic(auto)]
+
+mod changes;
+mod laws;
+mod points;
+mod undo;
+
+pub use changes::{Change, Was};
+pub use laws::{taking_back_gives_first_changes, the_list_follows_the_machine, what_was_is_given};
+pub use points::Standing;
+pub use undo::Undo;
+
+#[cfg(test)]
+mod tests;
