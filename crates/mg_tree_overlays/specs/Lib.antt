@@ -1,0 +1,15 @@
+pub mod TreeSteps
+pub mod TreesBehind
+pub mod StepLaws
+pub mod EntryLaws
+pub mod SplitLaws
+pub mod RewriteLaws
+pub mod GrowLaws
+pub mod LeafLaws
+pub mod FoundLaws
+pub mod SplitParts
+pub mod GrowParts
+pub mod KeptLaws
+pub mod DescentLaws
+pub mod PlaceLaws
+pub mod OnceLaws

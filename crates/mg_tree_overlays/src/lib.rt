@@ -1,0 +1,2 @@
+//! Index trees in overlays.
+#![tactic(auto)]
