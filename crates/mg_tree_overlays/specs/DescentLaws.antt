@@ -1,20 +1,23 @@
 -- The page on which a search goes down is the parent of the page that it comes to below.
 use Rattle.std.proofs.Common.{◌≡◌, ◌≢◌, ◌⊎◌, inl, inr, ◌∙◌, ap, refl, sym, subst, ◌<◌, ℕ, suc, List, [], ◌∷◌, ◌++◌, Option, Some, None, length, arith}
 use Rattle.std.specs.Prelude.{IfSome}
+use Rattle.std.proofs.lemmas.Bool.{cases_eq}
 use Rattle.std.proofs.lemmas.Cmp.{tied_itself}
 use Rattle.mg_node.specs.declared.entry.Entry.{Entry}
 use Rattle.mg_node.specs.NodePage.{AreAscending, IsAtLeast, IsBelow, entries_of, high_of, level_in, low_of, right_in}
 use Rattle.mg_image.specs.Form.{Pages}
-use Rattle.mg_image.specs.Indexes.{AreChildren, AreNodes, EachPage, HasChildren, HasEntry, IsLastUpTo, IsNode, IsTree, LevelChain, as_fence, first_level}
+use Rattle.mg_image.specs.Indexes.{AreChildren, AreNodes, EachPage, Finds, HasChildren, HasEntry, IsLastUpTo, IsNode, IsTree, LevelChain, as_fence, first_level}
 use Rattle.mg_image.specs.Tables.{Has, ended, goes}
 use Rattle.mg_node.specs.EntryOrderLaws.{entry_cmp_total}
 use Rattle.mg_tree_overlays.specs.EntryLaws.{at_least_below, between_has, child_among, later_child}
-use Rattle.mg_tree_overlays.specs.FoundLaws.{from_between, from_first, high_left, neighbour, past_high, right_on}
+use Rattle.mg_tree_overlays.specs.FoundLaws.{found_in_leaves, from_between, from_first, high_left, neighbour, past_high, right_on}
 use Rattle.mg_tree_overlays.specs.GrowLaws.{AreChains, chains_of}
 use Rattle.mg_tree_overlays.specs.SplitParts.{child_below, level_less}
+use Rattle.mg_tree_overlays.specs.KeptLaws.{on_leaves}
+use Rattle.mg_tree_overlays.specs.PoolLaws.{leaf_tree}
 use Rattle.mg_tree_overlays.specs.StepLaws.{each_has}
-use Rattle.mg_tree_overlays.specs.TreeSteps.{InTree}
-use Rattle.mg_tree_overlays.specs.TreesBehind.{Covers, GoesRight, HasChild, IsFrom, IsNamed, IsParent, over, stays}
+use Rattle.mg_tree_overlays.specs.TreeSteps.{InTree, Rewrites}
+use Rattle.mg_tree_overlays.specs.TreesBehind.{Covers, GoesRight, HasChild, IsFrom, IsNamed, IsParent, OnPages, leaves, over, stays}
 
 pub not_below_itself : (e : Entry) → IsBelow e e → ⊥
 not_below_itself e less = let same = tied_itself entry_cmp_total e in cc
@@ -351,3 +354,50 @@ pub parent_of_descent : (size owner root : ℕ) (pages : Pages) (levels : List (
 parent_of_descent size owner root pages levels e p l last tree placed inner covers up way =
     parent_in size pages owner e levels p l last (chains_of pages root levels tree.levels_from) tree.nodes placed
     inner covers up way
+
+-- ---- an entry stands on one leaf
+
+on_one : (pages : Pages) (e : Entry) (ns : List ℕ) → OnPages pages ns e
+    → (m : ℕ) × Has ns m × HasEntry (entries_of (pages m)) e
+on_one pages e [] on = absurd on
+on_one pages e (n ∷ ns) (inl has) = (n, inl refl, has)
+on_one pages e (n ∷ ns) (inr later) =
+    let more = on_one pages e ns later in (more.0, inr more.1, more.2)
+
+covers_own : (size : ℕ) (pages : Pages) (owner level : ℕ) (below : List ℕ) (n : ℕ) (e : Entry)
+    → IsNode size pages owner level below n → HasEntry (entries_of (pages n)) e → Covers pages n e
+covers_own size pages owner level below n e node has = (
+  from_between (low_of (pages n)) (high_of (pages n)) (entries_of (pages n)) e node.lawful.between has,
+  between_has (low_of (pages n)) (high_of (pages n)) (entries_of (pages n)) e node.lawful.between has,
+)
+
+one_leaf : (size : ℕ) (pages : Pages) (owner : ℕ) (levels : List (List ℕ)) (n m : ℕ) (e : Entry)
+    → AreChains pages levels → AreNodes size pages owner levels → Has (leaves levels) n
+    → Has (leaves levels) m → HasEntry (entries_of (pages n)) e → HasEntry (entries_of (pages m)) e
+    → n ≡ m
+one_leaf size pages owner [] n m e chains nodes has other there too = absurd has
+one_leaf size pages owner (level ∷ []) n m e chains nodes has other there too =
+    let of_n = each_has (IsNode size pages owner 0 []) level n has nodes.0 in
+    let of_m = each_has (IsNode size pages owner 0 []) level m other nodes.0 in
+    one_page size pages owner 0 [] e chains.0.0 level n m chains.0.1 nodes.0 has other
+    (covers_own size pages owner 0 [] n e of_n there) (covers_own size pages owner 0 [] m e of_m too)
+one_leaf size pages owner (level ∷ next ∷ below) n m e chains nodes has other there too =
+    one_leaf size pages owner (next ∷ below) n m e chains.1 nodes.1 has other there too
+
+-- what a leaf has lost is found no more
+pub removed_is_gone : (size owner root : ℕ) (pool changed : Pages) (levels : List (List ℕ)) (n : ℕ)
+    (e : Entry) → IsTree size pool owner root levels → InTree levels n → level_in (pool n) ≡ 0
+    → HasEntry (entries_of (pool n)) e → Rewrites size pool changed owner n
+    → (HasEntry (entries_of (changed n)) e → ⊥) → Finds changed e root → ⊥
+removed_is_gone size owner root pool changed levels n e tree placed leaf has is gone found =
+    let after_ = leaf_tree size pool changed owner root n levels is leaf tree in
+    let there = on_one changed e (leaves levels)
+    (found_in_leaves size changed owner root levels e after_ found) in
+    at there.0 there.1 there.2 (cases_eq there.0 n)
+  where
+    at : (m : ℕ) → Has (leaves levels) m → HasEntry (entries_of (changed m)) e → (m ≡ n) ⊎ (m ≢ n) → ⊥
+    at m on has_m (inl same) = gone (subst (λ (k : ℕ). HasEntry (entries_of (changed k)) e) same has_m)
+    at m on has_m (inr other) = other (one_leaf size pool owner levels m n e
+        (chains_of pool root levels tree.levels_from) tree.nodes on
+        (on_leaves size pool owner levels n tree.nodes placed leaf)
+        (subst (λ (page : List ℕ). HasEntry (entries_of page) e) (is.others m other) has_m) has)

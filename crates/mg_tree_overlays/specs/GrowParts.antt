@@ -36,7 +36,7 @@ same_at old new n others here = fun_ext (λ m. one m (cases_eq m n))
 -- ---- a leaf changes in place
 
 -- A page n has its new content where a set has it, and its old one else.
-pub record LaysPage (size : ℕ) (pool changed image last : Pages) (set_ : PageSet) (n : ℕ) : Type 0 where
+pub record LaysInPlace (size : ℕ) (pool changed image last : Pages) (set_ : PageSet) (n : ℕ) : Type 0 where
   pub others : (m : ℕ) → m ≢ n → last m ≡ image m
   pub there : set_ n ≡ true → last n ≡ changed n
   pub out : set_ n ≡ false → last n ≡ image n
@@ -53,7 +53,7 @@ pub record IsLeafPart (size : ℕ) (pool changed image last : Pages) (owner root
 
 pub leaf_part : (size : ℕ) (pool changed image last : Pages) (owner root n : ℕ) (of_pool of_image : List (List ℕ))
     (set_ : PageSet) → Rewrites size pool changed owner n → level_in (pool n) ≡ 0
-    → LaysPage size pool changed image last set_ n → IsTreeBehind pool image of_pool of_image
+    → LaysInPlace size pool changed image last set_ n → IsTreeBehind pool image of_pool of_image
     → IsTree size image owner root of_image
     → IsLeafPart size pool changed image last owner root of_pool of_image n
 leaf_part size pool changed image last owner root n of_pool of_image set_ is leaf lays behind tree =
@@ -153,7 +153,7 @@ grow_new size pages owner root a b (top ∷ below) tree some =
 
 -- The root has its new content where a set has it; then both new pages are in place.
 pub record LaysGrow (size : ℕ) (pool grown image last : Pages) (set_ : PageSet) (root a b : ℕ) : Type 0 where
-  pub page : LaysPage size pool grown image last set_ root
+  pub page : LaysInPlace size pool grown image last set_ root
   pub first : set_ root ≡ true → (image a ≡ pool a) × (image b ≡ pool b)
       × (is_used size image a ≡ true) × (is_used size image b ≡ true)
 

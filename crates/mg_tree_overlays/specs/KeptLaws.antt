@@ -8,7 +8,7 @@ use Rattle.mg_image.specs.Indexes.{AreNodes, Finds, HasEntry, IsNode, IsTree}
 use Rattle.mg_image.specs.Tables.{Has}
 use Rattle.mg_tree_overlays.specs.FoundLaws.{found_in_leaves, leaves_found}
 use Rattle.mg_tree_overlays.specs.GrowLaws.{tree_beside}
-use Rattle.mg_tree_overlays.specs.GrowParts.{LaysGrow, LaysPage, grow_part, leaf_part}
+use Rattle.mg_tree_overlays.specs.GrowParts.{LaysGrow, LaysInPlace, grow_part, leaf_part}
 use Rattle.mg_tree_overlays.specs.LeafLaws.{leaves_in, page_has, pages_as}
 use Rattle.mg_tree_overlays.specs.SplitParts.{LaysSplit, split_part}
 use Rattle.mg_tree_overlays.specs.StepLaws.{each_has}
@@ -24,7 +24,7 @@ kept_by_itself size owner root pool of_pool tree = record {
   behind = record { within = λ n has. has; unnamed = λ n has. inr has };
 }
 
-keeps_found : (size owner root : ℕ) (image last : Pages) (of_image levels : List (List ℕ))
+pub keeps_found : (size owner root : ℕ) (image last : Pages) (of_image levels : List (List ℕ))
     → IsTree size image owner root of_image → IsTree size last owner root levels
     → ((e : Entry) → InLeaves image of_image e → InLeaves last levels e) → KeepsFound root image last
 keeps_found size owner root image last of_image levels tree now finds e found =
@@ -81,7 +81,7 @@ grow_kept size owner root pool grown image last of_pool of_image a b set_ is lay
 -- a leaf changes in place: what its new content keeps is found again
 pub leaf_kept : (size owner root : ℕ) (pool changed image last : Pages) (of_pool of_image : List (List ℕ))
     (n : ℕ) (set_ : PageSet) → Rewrites size pool changed owner n → level_in (pool n) ≡ 0
-    → LaysPage size pool changed image last set_ n
+    → LaysInPlace size pool changed image last set_ n
     → IsTreeKept size owner root pool image of_pool of_image
     → IsTreeKept size owner root changed last of_pool of_image
     × ((e : Entry) → (HasEntry (entries_of (pool n)) e → HasEntry (entries_of (changed n)) e)
@@ -93,22 +93,26 @@ leaf_kept size owner root pool changed image last of_pool of_image n set_ is lea
           (part.finds e keeps (found_in_leaves size image owner root of_image e kept.tree found)),
     )
 
+-- a page without level is one of the leaves
+pub on_leaves : (size : ℕ) (pages : Pages) (owner : ℕ) (levels : List (List ℕ)) (n : ℕ)
+    → AreNodes size pages owner levels → InTree levels n → level_in (pages n) ≡ 0
+    → Has (leaves levels) n
+on_leaves size pages owner [] n nodes placed leaf = absurd placed
+on_leaves size pages owner (level ∷ []) n nodes (inl placed) leaf = placed
+on_leaves size pages owner (level ∷ []) n nodes (inr none) leaf = absurd none
+on_leaves size pages owner (level ∷ next ∷ below) n nodes (inl placed) leaf =
+    let node = each_has (IsNode size pages owner (suc (length below)) next) level n placed nodes.0 in
+    let on_level = node.on_level in absurd (omega arith)
+on_leaves size pages owner (level ∷ next ∷ below) n nodes (inr later) leaf =
+    on_leaves size pages owner (next ∷ below) n nodes.1 later leaf
+
 -- what stands on a leaf of a tree is found, a new entry too
-pub leaf_found : (size owner root : ℕ) (pages : Pages) (levels : List (List ℕ)) (n : ℕ) (e : Entry)
+pub leaf_found : (size : ℕ) (pages : Pages) (owner root : ℕ) (levels : List (List ℕ)) (n : ℕ) (e : Entry)
     → IsTree size pages owner root levels → InTree levels n → level_in (pages n) ≡ 0
     → HasEntry (entries_of (pages n)) e → Finds pages e root
-leaf_found size owner root pages levels n e tree placed leaf has =
+leaf_found size pages owner root levels n e tree placed leaf has =
     leaves_found size pages owner root levels e tree
-    (page_has pages (leaves levels) n e (at levels tree.nodes placed) has)
-  where
-    at : (levels : List (List ℕ)) → AreNodes size pages owner levels → InTree levels n → Has (leaves levels) n
-    at [] nodes placed = absurd placed
-    at (level ∷ []) nodes (inl placed) = placed
-    at (level ∷ []) nodes (inr none) = absurd none
-    at (level ∷ next ∷ below) nodes (inl placed) =
-        let node = each_has (IsNode size pages owner (suc (length below)) next) level n placed nodes.0 in
-        let on_level = node.on_level in absurd (omega arith)
-    at (level ∷ next ∷ below) nodes (inr later) = at (next ∷ below) nodes.1 later
+    (page_has pages (leaves levels) n e (on_leaves size pages owner levels n tree.nodes placed leaf) has)
 
 -- and all is found again
 pub beside_found : (size owner root : ℕ) (pool image last : Pages) (of_pool of_image : List (List ℕ))

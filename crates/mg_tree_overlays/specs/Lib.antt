@@ -1,5 +1,7 @@
 pub mod TreeSteps
 pub mod TreesBehind
+pub mod TreeBatches
+pub mod Laws
 pub mod StepLaws
 pub mod EntryLaws
 pub mod SplitLaws
@@ -10,6 +12,9 @@ pub mod FoundLaws
 pub mod SplitParts
 pub mod GrowParts
 pub mod KeptLaws
+pub mod PoolLaws
+pub mod BatchLaws
+pub mod EveryTreeLaws
 pub mod DescentLaws
 pub mod PlaceLaws
 pub mod OnceLaws

@@ -3,14 +3,16 @@ use Rattle.std.proofs.Common.{◌≡◌, ◌≢◌, ◌⊎◌, inl, inr, ◌∙�
 use Rattle.std.specs.Prelude.{IfSome}
 use Rattle.std.specs.declared.cmp.Ordering.TheVariants.{Less}
 use Rattle.mg_node.specs.declared.entry.Entry.{Entry}
-use Rattle.mg_node.specs.NodePage.{IsAtLeast, IsBelow, entries_of, entry_cmp, high_of, low_of, right_in}
+use Rattle.mg_node.specs.NodePage.{IsAtLeast, IsBelow, entries_of, entry_cmp, high_of, level_in, low_of, right_in}
 use Rattle.mg_image.specs.Form.{Pages}
-use Rattle.mg_image.specs.Indexes.{EachPage, HasChildren, HasEntry, IsLastUpTo, IsNode, LevelChain, as_fence, first_child}
+use Rattle.mg_image.specs.Indexes.{AreNodes, EachPage, HasChildren, HasEntry, IsLastUpTo, IsNode, IsTree, LevelChain, as_fence, first_child, first_level}
 use Rattle.mg_image.specs.Tables.{Has}
 use Rattle.mg_node.specs.EntryOrderLaws.{entry_cmp_total}
 use Rattle.mg_tree_overlays.specs.DescentLaws.{IsRight, last_has, not_below_itself, one_page, right_facts}
 use Rattle.mg_tree_overlays.specs.EntryLaws.{at_least_below, below_at_least, child_among, is_less}
 use Rattle.mg_tree_overlays.specs.FoundLaws.{from_between, high_left, neighbour, right_on}
+use Rattle.mg_tree_overlays.specs.GrowLaws.{AreChains, chains_of}
+use Rattle.mg_tree_overlays.specs.TreeSteps.{InTree}
 use Rattle.mg_tree_overlays.specs.StepLaws.{each_has, entries_some}
 use Rattle.mg_tree_overlays.specs.TreesBehind.{Covers, GoesRight, IsFrom}
 
@@ -117,3 +119,27 @@ module _ (size : ℕ) (pages : Pages) (owner : ℕ) where
               (from_l (low_of (pages l)) e_from, to_l past (high_of (pages l)) of_l.1) on_k in
               absurd ((subst (λ (x : Option Entry). IfSome x (λ a. IsAtLeast e a))
               (ap (λ (j : ℕ). low_of (pages j)) same ∙ low_k) e_from) before)
+
+  covers_in : (e f : Entry) (levels : List (List ℕ)) (p l : ℕ) (last : Entry) → AreChains pages levels
+      → AreNodes size pages owner levels → InTree levels p → 0 < level_in (pages p) → Covers pages p e
+      → IsLastUpTo (entries_of (pages p)) e last → GoesRight pages e last.child.0 l → Covers pages l f
+      → Covers pages p f
+  covers_in e f [] p l last chains nodes placed inner covers up way of_l = absurd placed
+  covers_in e f (level ∷ []) p l last chains nodes (inl has) inner covers up way of_l =
+      let node = each_has (IsNode size pages owner 0 []) level p has nodes.0 in
+      let on_level = node.on_level in absurd (omega arith)
+  covers_in e f (level ∷ next ∷ rest) p l last chains nodes (inl has) inner covers up way of_l =
+      fence_on_parent e f (length rest) next (first_level rest) chains.0.0 chains.1.0.0 level p l last chains.0.1
+      nodes.0 has chains.1.0.1 nodes.1.0 covers up way of_l
+  covers_in e f (level ∷ below) p l last chains nodes (inr later) inner covers up way of_l =
+      covers_in e f below p l last chains.1 nodes.1 later inner covers up way of_l
+
+-- what lies between the fences of the page that a search comes to below a page lies between the fences
+-- of that page
+pub parents_cover : (size owner root : ℕ) (pages : Pages) (levels : List (List ℕ)) (e f : Entry)
+    (p l : ℕ) (last : Entry) → IsTree size pages owner root levels → InTree levels p
+    → 0 < level_in (pages p) → Covers pages p e → IsLastUpTo (entries_of (pages p)) e last
+    → GoesRight pages e last.child.0 l → Covers pages l f → Covers pages p f
+parents_cover size owner root pages levels e f p l last tree placed inner covers up way of_l =
+    covers_in size pages owner e f levels p l last (chains_of pages root levels tree.levels_from) tree.nodes
+    placed inner covers up way of_l

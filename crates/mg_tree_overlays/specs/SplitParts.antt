@@ -119,7 +119,7 @@ tree_back l r (level ∷ below) m (inr later) = at (tree_back l r below m later)
     at (inl same) = inl same
     at (inr has) = inr (inr has)
 
-under_split : (l r p : ℕ) (levels : List (List ℕ)) → p ≢ r → Under (λ below. Has below l) levels p
+pub under_split : (l r p : ℕ) (levels : List (List ℕ)) → p ≢ r → Under (λ below. Has below l) levels p
     → Under (λ below. Has below r) (split_levels l r levels) p
 under_split l r p [] other under = tt
 under_split l r p (level ∷ below) other under =
@@ -322,7 +322,7 @@ module _ (size : ℕ) (pool split named : Pages) (owner : ℕ) (of_pool : List (
       at n (inr has) = one n (behind.unnamed n has)
 
   -- where the image has the pool's parent page, the left page stands below it
-  under_left : (image : Pages) (of_image : List (List ℕ)) → AreNodes size image owner of_image
+  pub under_left : (image : Pages) (of_image : List (List ℕ)) → AreNodes size image owner of_image
       → IsTreeBehind pool image of_pool of_image → image l ≡ pool l → image p ≡ pool p
       → Under (λ below. Has below l) of_image p
   under_left image of_image nodes behind image_l image_p = at is.parent.names

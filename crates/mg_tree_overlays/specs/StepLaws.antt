@@ -5,7 +5,7 @@ use Rattle.std.proofs.lemmas.Bool.{cases_eq, ne_eqb}
 use Rattle.mg_node.specs.declared.entry.Entry.{Entry}
 use Rattle.mg_node.specs.NodePage.{count_in, entries_of, entry_at, first_entries, has_high, high_at, high_of, is_inner, level_in, low_of, place_of, right_in}
 use Rattle.mg_image.specs.Form.{Pages}
-use Rattle.mg_image.specs.Indexes.{AreChildren, EachPage, HasChildren, IsNode, first_child}
+use Rattle.mg_image.specs.Indexes.{AreChildren, EachPage, HasChildren, IsNode, Levels, above, first_child, first_level, lowest}
 use Rattle.mg_image.specs.Tables.{Has, LinkChain, ended, goes}
 use Rattle.mg_tree_overlays.specs.TreeSteps.{StaysUsed, after}
 
@@ -128,3 +128,10 @@ entries_some size pages owner level below n inner node =
     at : (es : List Entry) → (es ≡ [] → ⊥) → 0 < length es
     at [] some = absurd (some refl)
     at (e ∷ es) some = omega arith
+
+-- the first page of a tree stands on its first level
+pub top_page : (pages : Pages) (n : ℕ) (levels : List (List ℕ)) → n ≢ 0 → Levels pages n levels
+    → Has (first_level levels) n
+top_page pages n levels some (lowest m level chain) = first_in (λ k. right_in (pages k)) m level chain some
+top_page pages n levels some (above m level next lower chain more) =
+    first_in (λ k. right_in (pages k)) m level chain some

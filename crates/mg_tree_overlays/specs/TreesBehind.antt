@@ -1,6 +1,7 @@
 -- What a tree of an image has to be beside the pool's: a tree, behind the pool's, in which an entry is
 -- found exactly where a leaf has it.
 use Rattle.std.specs.Prelude.{◌≡◌, ◌≢◌, ◌⊎◌, ◌<◌, ℕ, suc, List, [], ◌∷◌, Some, IfSome}
+use Rattle.mg_careful.specs.CarefulWrite.{Cache, IsClosed, PageSet, overlay}
 use Rattle.mg_node.specs.declared.entry.Entry.{Entry}
 use Rattle.mg_node.specs.NodePage.{IsAtLeast, IsBelow, entries_of, high_of, level_in, low_of, right_in}
 use Rattle.mg_image.specs.Form.{Pages}
@@ -57,6 +58,13 @@ HasKeptTree size owner root pool image of_pool =
 -- all is found from the root that was
 abbrev pub KeepsFound : ℕ → Pages → Pages → Type 0
 KeepsFound root image last = (e : Entry) → Finds image e root → Finds last e root
+
+-- Every overlay of a cache has a tree: that of the pool, and behind it one in the overlay of each closed
+-- set of dirty pages.
+pub record EveryTree (size owner root : ℕ) (cache : Cache) (levels : List (List ℕ)) : Type 0 where
+  pub pool : IsTree size cache.pool owner root levels
+  pub overlays : (set_ : PageSet) → IsClosed cache set_
+      → HasKeptTree size owner root cache.pool (overlay cache set_) levels
 
 -- ---- the page on which a split is named
 
