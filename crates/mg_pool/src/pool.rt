@@ -89,6 +89,13 @@ impl<D: Disk, L: Links> Pool<D, L> {
         self.geometry
     }
 
+    /// The allocator that the pool was made with.
+    pub fn alloc(&self) -> Global
+        ensures { result ≡ self.now.alloc }
+    {
+        self.alloc
+    }
+
     /// The disk, with what was written to it.
     pub fn into_disk(self) -> D
         ensures { result ≡ self.disk }
@@ -142,6 +149,7 @@ impl<D: Disk, L: Links> Pool<D, L> {
     pub fn bytes(&self, page: PageNo) -> Option<&[u8]>
         requires { IsPool D.meaning self.now }
         ensures resident { option_copied result ≡ resident self.now page.0 }
+        ensures whole { IfSome result (λ b. length b.now ≡ self.now.geometry.size) }
         ensures last { D.meaning.tells self.now.disk ≡ true → (image : Image)
             → D.meaning.held self.now.disk ≡ Some image
             → IfSome result (λ b. b.now ≡ shown self.now.dirty image page.0) }
@@ -286,8 +294,13 @@ impl<D: Disk, L: Links> Pool<D, L> {
         PoolFault::DiskRead { faults }
     }
 
-    /// Refuses every call after one that answered `DiskWrite`.
-    fn online(&self) -> Result<(), PoolFault>
+    /// Refuses every call after one that answered `DiskWrite`, as each call is that may answer a
+    /// fault.
+    ///
+    /// # Errors
+    ///
+    /// `Offline` exactly where an earlier call answered `DiskWrite`, with the count of that fault.
+    pub fn online(&self) -> Result<(), PoolFault>
         ensures fault { TellsFault D.meaning self.now self.now result }
         ensures refused { LeavesRefused D.meaning self.now self.now result }
         ensures refusal { OnlyRefuses result }

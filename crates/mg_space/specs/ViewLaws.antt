@@ -1,0 +1,117 @@
+-- Laws of calls that only read, for those who make several of them.
+use Rattle.std.specs.Prelude.{◌≡◌, ◌≢◌, ◌≤◌, ◌<◌, ◌⊎◌, ◌+◌, ◌-◌, ◌^◌, min, ℕ, true, false, List, length, Option, Some, None, is_some, Result, Ok, Err, unwrap_or}
+use Rattle.std.proofs.Common.{refl, sym, ap, subst, ◌∙◌, arith, inl, inr}
+use Rattle.mg_base.specs.Disk.{Elapses, MayLeave, Meaning, Rose}
+use Rattle.mg_base.specs.Image.{Image}
+use Rattle.mg_pool.specs.Fault.{Counts, TellsFault}
+use Rattle.mg_pool.specs.Pool.{IsPool, KeepsContent}
+use Rattle.mg_pool.specs.declared.fault.PoolFault.{PoolFault}
+use Rattle.mg_pool.specs.declared.fault.PoolFault.TheVariants.{DiskRead, DiskWrite, Offline, Absent, Memory}
+use Rattle.mg_pool.specs.declared.pool.Pool.{Pool}
+use Rattle.mg_space.specs.View.{KeepsStore, Tells}
+
+-- what a crash now may leave is among what a crash since an earlier moment might have left: a law of
+-- every disk
+abbrev pub CountsNow : {D : Type 0} → Meaning D → Type 0
+CountsNow {D} m = (disk : D) (t : ℕ) (c : Image) → m.tells disk ≡ true → t ≤ m.moment disk
+    → MayLeave m disk c → m.left disk t c
+
+pub same_content : {D : Type 0} (m : Meaning D) (disk : D) → KeepsContent m disk disk
+same_content m disk = record {
+  held = refl;
+  tells = refl;
+  never_falls = omega arith;
+  crash = λ told c may. may;
+  time = λ told. record {
+    later = omega arith;
+    nothing_else = λ t c early left. inl left;
+    keeps = λ t c early left. left;
+  };
+  asked = refl;
+}
+
+pub content_on : {D : Type 0} (m : Meaning D) → CountsNow m → (a b c : D) → KeepsContent m a b
+    → KeepsContent m b c → KeepsContent m a c
+content_on m counts a b c first second = record {
+  held = second.held ∙ first.held;
+  tells = second.tells ∙ first.tells;
+  never_falls = let f = first.never_falls in let s = second.never_falls in omega arith;
+  crash = λ told image may. first.crash told image (second.crash (first.tells ∙ told) image may);
+  time = λ told. let f = first.time told in let s = second.time (first.tells ∙ told) in record {
+    later = let x = f.later in let y = s.later in omega arith;
+    nothing_else = λ t image early left. at told t image early
+        (s.nothing_else t image (let x = f.later in omega arith) left);
+    keeps = λ t image early left. s.keeps t image (let x = f.later in omega arith)
+        (f.keeps t image early left);
+  };
+  asked = second.asked ∙ first.asked;
+}
+  where
+    at : m.tells a ≡ true → (t : ℕ) (image : Image) → t ≤ m.moment a
+        → m.left b t image ⊎ MayLeave m c image → m.left a t image ⊎ MayLeave m c image
+    at told t image early (inl before) = on ((first.time told).nothing_else t image early before)
+      where
+        on : m.left a t image ⊎ MayLeave m b image → m.left a t image ⊎ MayLeave m c image
+        on (inl then_) = inl then_
+        on (inr now) = inl (counts a t image told early (first.crash told image now))
+    at told t image early (inr now) = inr now
+
+-- a call that did nothing has only read
+pub keeps_itself : {D L : Type 0} (m : Meaning D) (store : Pool D L) → IsPool m store
+    → KeepsStore m store store
+keeps_itself m store pool = record {
+  pool = pool;
+  geometry = refl;
+  dirty = refl;
+  graph = refl;
+  offline = refl;
+  disk = same_content m store.disk;
+}
+
+-- two calls that have only read are one
+pub keeps_on : {D L : Type 0} (m : Meaning D) → CountsNow m → (a b c : Pool D L)
+    → KeepsStore m a b → KeepsStore m b c → KeepsStore m a c
+keeps_on m counts a b c first second = record {
+  pool = second.pool;
+  geometry = second.geometry ∙ first.geometry;
+  dirty = second.dirty ∙ first.dirty;
+  graph = second.graph ∙ first.graph;
+  offline = second.offline ∙ first.offline;
+  disk = content_on m counts a.disk b.disk c.disk first.disk second.disk;
+}
+
+-- the disk tells the same image after calls that have only read
+pub tells_on : {D L : Type 0} (m : Meaning D) (a b : Pool D L) (image : Image) → KeepsStore m a b
+    → Tells m a.disk image → Tells m b.disk image
+tells_on m a b image kept tells = record {
+  told = kept.disk.tells ∙ tells.told;
+  held = kept.disk.held ∙ tells.held;
+}
+
+rose_on : (a b c : ℕ) → a ≤ b → Rose b c → Rose a c
+rose_on a b c le (inl more) = inl (omega arith)
+rose_on a b c le (inr end) = inr end
+
+counts_on : {D L : Type 0} (m : Meaning D) (a b c : Pool D L) (n : ℕ) → KeepsStore m a b
+    → b.faults ≡ a.faults → Counts m b c n → Counts m a c n
+counts_on m a b c n kept same counts = (
+  counts.0,
+  counts.1 ∙ ap (λ (x : ℕ). min (x + 1) (2 ^ 64 - 1)) same,
+  rose_on (m.faults a.disk) (m.faults b.disk) (m.faults c.disk) kept.disk.never_falls counts.2,
+)
+
+-- the fault of a call after others that answered, and have only read, is told for all of them
+pub fault_on : {D L T : Type 0} (m : Meaning D) (a b c : Pool D L) (result : Result T PoolFault)
+    → KeepsStore m a b → (b.faults ≡ a.faults) → TellsFault m b c result → TellsFault m a c result
+fault_on m a b c (Ok x) kept same tells =
+    (sym kept.offline ∙ tells.0, tells.1, tells.2 ∙ same)
+fault_on m a b c (Err (DiskRead n)) kept same tells =
+    (sym kept.offline ∙ tells.0, tells.1, counts_on m a b c n kept same tells.2)
+fault_on m a b c (Err (DiskWrite n)) kept same tells =
+    (sym kept.offline ∙ tells.0, tells.1, counts_on m a b c n kept same tells.2)
+fault_on m a b c (Err (Offline n)) kept same tells =
+    (sym kept.offline ∙ tells.0, tells.1, tells.2 ∙ same)
+fault_on m a b c (Err (Absent n)) kept same tells =
+    (sym kept.offline ∙ tells.0, tells.1, tells.2 ∙ same)
+fault_on m a b c (Err Memory) kept same tells =
+    (sym kept.offline ∙ tells.0, tells.1, tells.2 ∙ same)
