@@ -357,14 +357,14 @@ parent_of_descent size owner root pages levels e p l last tree placed inner cove
 
 -- ---- an entry stands on one leaf
 
-on_one : (pages : Pages) (e : Entry) (ns : List ℕ) → OnPages pages ns e
+pub on_one : (pages : Pages) (e : Entry) (ns : List ℕ) → OnPages pages ns e
     → (m : ℕ) × Has ns m × HasEntry (entries_of (pages m)) e
 on_one pages e [] on = absurd on
 on_one pages e (n ∷ ns) (inl has) = (n, inl refl, has)
 on_one pages e (n ∷ ns) (inr later) =
     let more = on_one pages e ns later in (more.0, inr more.1, more.2)
 
-covers_own : (size : ℕ) (pages : Pages) (owner level : ℕ) (below : List ℕ) (n : ℕ) (e : Entry)
+pub covers_own : (size : ℕ) (pages : Pages) (owner level : ℕ) (below : List ℕ) (n : ℕ) (e : Entry)
     → IsNode size pages owner level below n → HasEntry (entries_of (pages n)) e → Covers pages n e
 covers_own size pages owner level below n e node has = (
   from_between (low_of (pages n)) (high_of (pages n)) (entries_of (pages n)) e node.lawful.between has,

@@ -1,14 +1,14 @@
 -- The laws of index trees in overlays. The files `..Laws` and `..Parts` prove them.
-use Rattle.std.specs.Prelude.{◌≡◌, ◌↔◌, ◌<◌, ℕ, false, List, Option}
+use Rattle.std.specs.Prelude.{◌≡◌, ◌↔◌, ℕ, suc, false, List, Option}
 use Rattle.mg_careful.specs.Precedence.{Orders}
 use Rattle.mg_careful.specs.CarefulWrite.{Cache, IsClosed, PageSet, overlay}
 use Rattle.mg_overlays.specs.Overlays.{ChangesCache, IsCleanAsDisk, LaysBatch, WritesPages, before, laid}
 use Rattle.mg_node.specs.declared.entry.Entry.{Entry}
 use Rattle.mg_node.specs.NodePage.{entries_of, level_in}
 use Rattle.mg_image.specs.Form.{Pages}
-use Rattle.mg_image.specs.Indexes.{Finds, HasEntry, IsLastUpTo, IsTree}
+use Rattle.mg_image.specs.Indexes.{Finds, HasEntry, IsTree}
 use Rattle.mg_tree_overlays.specs.TreeSteps.{InTree, Rewrites}
-use Rattle.mg_tree_overlays.specs.TreesBehind.{Covers, EveryTree, GoesRight, HasKeptTree, InLeaves, IsParent}
+use Rattle.mg_tree_overlays.specs.TreesBehind.{Covers, EveryTree, HasKeptTree, InLeaves, IsParent}
 use Rattle.mg_tree_overlays.specs.TreeBatches.{ChangesTree, EntryChange, HasChanged, IsLeft}
 
 -- ---- every overlay
@@ -80,17 +80,23 @@ RemovedIsGone = (size owner root : ℕ) (pool changed : Pages) (levels : List (L
 
 -- ---- a search on its way down
 
--- The page from which a search goes down is the one on which a split of the page that it comes to is
--- named.
-abbrev pub SearchesFindParents : Type 0
-SearchesFindParents = (size owner root : ℕ) (pages : Pages) (levels : List (List ℕ)) (e : Entry)
-    (p l : ℕ) (last : Entry) → IsTree size pages owner root levels → InTree levels p
-    → 0 < level_in (pages p) → Covers pages p e → IsLastUpTo (entries_of (pages p)) e last
-    → GoesRight pages e last.child.0 l → IsParent pages levels p l
+-- A page is the one on which a split of another page is named, where it stands on the level above and
+-- some entry lies between the fences of both.
+abbrev pub CoversParent : Type 0
+CoversParent = (size owner root : ℕ) (pages : Pages) (levels : List (List ℕ)) (e : Entry) (p n : ℕ)
+    → IsTree size pages owner root levels → InTree levels p → InTree levels n
+    → level_in (pages p) ≡ suc (level_in (pages n)) → Covers pages p e → Covers pages n e
+    → IsParent pages levels p n
 
--- and what lies between the fences of the page below lies between its fences
-abbrev pub ParentsCover : Type 0
-ParentsCover = (size owner root : ℕ) (pages : Pages) (levels : List (List ℕ)) (e f : Entry)
-    (p l : ℕ) (last : Entry) → IsTree size pages owner root levels → InTree levels p
-    → 0 < level_in (pages p) → Covers pages p e → IsLastUpTo (entries_of (pages p)) e last
-    → GoesRight pages e last.child.0 l → Covers pages l f → Covers pages p f
+-- and what lies between the fences of the lower page lies between its fences
+abbrev pub CoversBelow : Type 0
+CoversBelow = (size owner root : ℕ) (pages : Pages) (levels : List (List ℕ)) (e f : Entry) (p n : ℕ)
+    → IsTree size pages owner root levels → InTree levels p → InTree levels n
+    → level_in (pages p) ≡ suc (level_in (pages n)) → Covers pages p e → Covers pages n e
+    → Covers pages n f → Covers pages p f
+
+-- the leaf between whose fences an entry lies has it, where the tree has it
+abbrev pub LeafHasFound : Type 0
+LeafHasFound = (size owner root : ℕ) (pages : Pages) (levels : List (List ℕ)) (n : ℕ) (e : Entry)
+    → IsTree size pages owner root levels → InTree levels n → level_in (pages n) ≡ 0
+    → Covers pages n e → Finds pages e root → HasEntry (entries_of (pages n)) e

@@ -17,4 +17,6 @@ pub mod BatchLaws
 pub mod EveryTreeLaws
 pub mod DescentLaws
 pub mod PlaceLaws
+pub mod SearchLaws
+pub mod RowLaws
 pub mod OnceLaws

@@ -1,8 +1,8 @@
 //! The laws of index trees in overlays. Each function does nothing: its contract is the law.
 
 ghost use Rattle.mg_tree_overlays.specs.Laws.{BatchesChangeTrees, BatchesKeepTrees};
-ghost use Rattle.mg_tree_overlays.specs.Laws.{FoundInLeaves, LaidBatchesKeepTrees, LeavesAreFound};
-ghost use Rattle.mg_tree_overlays.specs.Laws.{ParentsCover, RemovedIsGone, SearchesFindParents};
+ghost use Rattle.mg_tree_overlays.specs.Laws.{CoversBelow, CoversParent, FoundInLeaves, LeafHasFound};
+ghost use Rattle.mg_tree_overlays.specs.Laws.{LaidBatchesKeepTrees, LeavesAreFound, RemovedIsGone};
 ghost use Rattle.mg_tree_overlays.specs.Laws.{TreesStart, WritesKeepTrees};
 
 /// Where nothing is dirty there is one overlay, and its tree is the pool's; page writes keep the tree
@@ -26,8 +26,10 @@ pub fn batches_change_trees()
     ensures removed { RemovedIsGone }
 {}
 
-/// The page from which a search goes down is the parent of the page that it comes to.
-pub fn searches_find_parents()
-    ensures parent { SearchesFindParents }
-    ensures fences { ParentsCover }
+/// A page that covers an entry is the parent of the page below that covers it, and the leaf that covers
+/// it has it, where the tree has it.
+pub fn covering_pages()
+    ensures parent { CoversParent }
+    ensures fences { CoversBelow }
+    ensures leaf { LeafHasFound }
 {}

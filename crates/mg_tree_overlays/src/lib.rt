@@ -28,6 +28,4 @@
 
 mod laws;
 
-pub use laws::{
-    batches_change_trees, batches_keep_trees, searches_find_parents, trees_start_and_stay,
-};
+pub use laws::{batches_change_trees, batches_keep_trees, covering_pages, trees_start_and_stay};
