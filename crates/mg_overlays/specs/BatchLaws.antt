@@ -41,7 +41,7 @@ module _ (old new : Cache) (gone : PageSet) (batch : ℕ → Option (List ℕ)) 
     abbrev image : Pages
     image = overlay old (before old gone set_)
 
-    overlay_is : overlay new set_ ≡ laid batch set_ image
+    pub overlay_is : overlay new set_ ≡ laid batch set_ image
     overlay_is = fun_ext (changes.overlays set_ closed)
 
     was : (p : ℕ) → set_ p ≡ true → image p ≡ old.pool p
@@ -73,7 +73,7 @@ module _ (old new : Cache) (gone : PageSet) (batch : ℕ → Option (List ℕ)) 
             ∙ in_new a (inl (changes.together set_ closed a b ordered dirty in_set))
         by_dirty false clean = sym (changes.overlays set_ closed a) ∙ in_new a (inr clean)
 
-    lays : LaysBatch old.pool new.pool batch orders set_ image
+    pub lays : LaysBatch old.pool new.pool batch orders set_ image
     lays = record {
       was = was;
       is = is_new;
