@@ -436,7 +436,7 @@ draw_every form none size o h state old new gone batch orders needs now changes 
         by Committed false not_ is = absurd cc
 
     part : KeepsLaidAlways (keeping form size o h) (keeping form size o h) state old.pool new.pool batch orders
-    part chosen set_ image lays kept = by (set_ 0) refl
+    part chosen set_ image lays of_pool kept = by (set_ 0) refl
       where
         still : (m : ℕ) → m ≢ 0 → laid batch set_ image m ≡ image m
         still m ne = by_bit (set_ m) refl

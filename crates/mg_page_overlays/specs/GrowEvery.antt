@@ -488,7 +488,7 @@ grow_every form none size o h state old new gone batch orders needs now owner pl
     trees = trees_stay form size
 
     part : KeepsLaidAlways (keeping form size o h) (keeping form size o h) state old.pool new.pool batch orders
-    part chosen set_ image lays kept = grow_step form size o h (left_state chosen state) old.pool new.pool
+    part chosen set_ image lays of_pool kept = grow_step form size o h (left_state chosen state) old.pool new.pool
         image (laid batch set_ image) set_ owner place i q n none trees pages (record {
           was = lays.was;
           is = lays.is;
