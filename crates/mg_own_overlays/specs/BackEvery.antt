@@ -36,7 +36,9 @@ use Rattle.mg_kept_images.specs.KeptImages.{IsKept, keeping}
 use Rattle.mg_overlays.specs.BatchLaws.{change_keeps, change_keeps_always}
 use Rattle.mg_overlays.specs.Overlays.{ChangesCache, EveryOverlay, KeepsLaidAlways, KeepsNeeds, LaysBatch, NeedsAllDirty, laid, left_by, left_state}
 use Rattle.mg_overlays.specs.Views.{LaysPage}
-use Rattle.mg_own_overlays.specs.BackPart.{IsTurned, OrdersTakeOut, TakesOutPages, behind, free_in, newest_writer, none_reads, older_settled, take_out_part}
+use Rattle.mg_own_overlays.specs.BackPart.{OrdersTakeOut, TakesOutPages, take_out_part}
+use Rattle.mg_own_overlays.specs.FreePart.{IsTurned, free_in}
+use Rattle.mg_own_overlays.specs.OwnThere.{behind, newest_writer, none_reads, older_settled}
 use Rattle.mg_own_overlays.specs.OwnVersion.{FindsNewest}
 use Rattle.mg_own_overlays.specs.Overwrite.{not_committed}
 use Rattle.mg_own_overlays.specs.TakeOut.{back_cell, back_leads, drop_sound, slot_off}
@@ -164,8 +166,7 @@ module _ (form : Form) (one : RowsAreOne form.coding) (none : HasNoSequences for
   none_left = none_reads form size state pool kept.layout kept.reading kept.sound p table x v l found
       takes.slot found.older (λ y there. there)
 
-  turned : IsTurned form one none size o (event ∷ h) state pool mid changed p x table v l takes finds
-      rest_slot rest_free true mid
+  turned : IsTurned form size o (event ∷ h) state mid x true mid
   turned = record {
     kept = turned_kept;
     pool_unread = subst (λ (r : Reading). (q : RecId) → Stands (r q) x → ⊥)
@@ -177,9 +178,8 @@ module _ (form : Form) (one : RowsAreOne form.coding) (none : HasNoSequences for
   }
 
   pub take_back_whole : IsKept form size o (event ∷ h) state changed changed
-  take_back_whole = free_in form one none size o (event ∷ h) state pool mid changed p x table v l takes
-      finds rest_slot rest_free true mid turned refl changed
-      (record { was = refl; is = refl; others = takes.free_page.others })
+  take_back_whole = free_in form size o (event ∷ h) state mid changed x v takes.frees rest_free true mid
+      turned refl changed (record { was = refl; is = refl; others = takes.frees.page.others })
 
 -- ---- the batches
 

@@ -4,5 +4,8 @@ pub mod ReplacePart
 pub mod ReplaceEvery
 pub mod Hidden
 pub mod TakeOut
+pub mod OwnThere
+pub mod FreePart
+pub mod SlotPart
 pub mod BackPart
 pub mod BackEvery

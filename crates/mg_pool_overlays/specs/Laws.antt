@@ -1,5 +1,5 @@
 -- What the page cache gives to the laws of overlays. The file `Ties` proves it.
-use Rattle.std.proofs.Common.{◌≡◌, ℕ, true, false, List, Option, ◌&&◌}
+use Rattle.std.proofs.Common.{◌≡◌, ℕ, true, false, List, Option, Some, ◌&&◌}
 use Rattle.mg_base.specs.Disk.{Meaning}
 use Rattle.mg_base.specs.Image.{Image}
 use Rattle.mg_careful.specs.CarefulWrite.{PageSet}
