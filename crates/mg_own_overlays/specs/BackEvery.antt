@@ -38,7 +38,7 @@ use Rattle.mg_overlays.specs.Overlays.{ChangesCache, EveryOverlay, KeepsLaidAlwa
 use Rattle.mg_overlays.specs.Views.{LaysPage}
 use Rattle.mg_own_overlays.specs.BackPart.{OrdersTakeOut, TakesOutPages, take_out_part}
 use Rattle.mg_own_overlays.specs.FreePart.{IsTurned, free_in}
-use Rattle.mg_own_overlays.specs.OwnThere.{behind, newest_writer, none_reads, older_settled}
+use Rattle.mg_own_overlays.specs.OwnThere.{behind, newest_writer, none_reads, older_off, older_settled}
 use Rattle.mg_own_overlays.specs.OwnVersion.{FindsNewest}
 use Rattle.mg_own_overlays.specs.Overwrite.{not_committed}
 use Rattle.mg_own_overlays.specs.TakeOut.{back_cell, back_leads, drop_sound, slot_off}
@@ -164,7 +164,8 @@ module _ (form : Form) (one : RowsAreOne form.coding) (none : HasNoSequences for
 
   none_left : (q : RecId) → Stands (put_reading kept.reading p found.older q) x → ⊥
   none_left = none_reads form size state pool kept.layout kept.reading kept.sound p table x v l found
-      takes.slot found.older (λ y there. there)
+      takes.slot found.older (older_off form size state pool kept.layout kept.reading kept.sound p table x v
+      l found takes.slot)
 
   turned : IsTurned form size o (event ∷ h) state mid x true mid
   turned = record {

@@ -36,7 +36,7 @@ use Rattle.mg_kept_images.specs.Reach.{IsEntered, entered_with, table_in_image}
 use Rattle.mg_overlays.specs.Overlays.{LaysBatch, laid}
 use Rattle.mg_overlays.specs.Views.{LaysPage, first_view, last_view, ordered_same, partly, step_in, step_out}
 use Rattle.mg_own_overlays.specs.FreePart.{FreesPage, IsTurned, free_views}
-use Rattle.mg_own_overlays.specs.OwnThere.{HasIt, dead_newest, dead_there, found_there, goes_quietly, has_it, none_reads, open_newest, open_there, pool_behind, pool_empty, reached, rest_leads}
+use Rattle.mg_own_overlays.specs.OwnThere.{HasIt, dead_newest, dead_there, found_there, goes_quietly, has_it, none_reads, older_off, open_newest, open_there, pool_behind, pool_empty, reached, rest_leads}
 use Rattle.mg_own_overlays.specs.OwnVersion.{FindsNewest}
 use Rattle.mg_own_overlays.specs.SlotPart.{TurnsTo, turn_in, turn_out}
 use Rattle.mg_own_overlays.specs.TakeOut.{back_cell, back_leads, clear_sound, drop_living, drop_sound, slot_off}
@@ -103,7 +103,8 @@ module _ (form : Form) (one : RowsAreOne form.coding) (none : HasNoSequences for
           found.older found.first open_pool pool_leads (dead_newest form one none size o h state pool image
           of_pool kept p x table v l found takes.slot dead));
       unread = none_reads form size state pool kept.of_pool kept.in_pool kept.pool_sound p table x v l
-          found takes.slot found.older (λ y there. there);
+          found takes.slot found.older (older_off form size state pool kept.of_pool kept.in_pool
+          kept.pool_sound p table x v l found takes.slot);
     }
 
     out : IsTurned form size o h state mid x false image
@@ -128,11 +129,11 @@ module _ (form : Form) (one : RowsAreOne form.coding) (none : HasNoSequences for
       it = has_it form one none size o h state pool image of_pool kept p x table v l found takes.slot dead
           slot_there entered
 
-      unread_with : (es : List Entry) → ((y : RecId) → Stands es y → Stands it.rest y) → (q : RecId)
+      unread_with : (es : List Entry) → (Stands es x → ⊥) → (q : RecId)
           → Stands (put_reading kept.reading p es q) x → ⊥
-      unread_with es within = none_reads form size state image kept.layout kept.reading kept.sound p table x
+      unread_with = none_reads form size state image kept.layout kept.reading kept.sound p table x
           it.first.version l (found_there form one none size o h state pool image of_pool kept p x table v l
-          found takes.slot dead slot_there entered) slot_there es within
+          found takes.slot dead slot_there entered) slot_there
 
       go_on : (es : List Entry) → TurnsTo form g laid_ kept.reading p x es
           → (living state es ≡ living state (kept.reading p)) ⊎ (living state found.older ≡ [])
@@ -149,7 +150,9 @@ module _ (form : Form) (one : RowsAreOne form.coding) (none : HasNoSequences for
                 (back_cell v.back) kept.sound.records of slot_there turn_there it.first it.rest it.is
                 open_ leads;
             quiet = inl same;
-            unread = unread_with it.rest (λ y there. there);
+            unread = unread_with it.rest (older_off form size state image kept.layout kept.reading kept.sound p
+                table x it.first.version l (found_there form one none size o h state pool image of_pool kept p
+                x table v l found takes.slot dead slot_there entered) slot_there);
           }) (inl same)
             where
               open_ : state (writer it.first) ≢ Committed
@@ -173,7 +176,7 @@ module _ (form : Form) (one : RowsAreOne form.coding) (none : HasNoSequences for
                 (back_leads p v.back ∙ nothing);
             quiet = inr (goes_quietly form one none size o h state pool image of_pool kept p x table v l
                 found takes.slot dead slot_there entered nothing [] refl);
-            unread = unread_with [] (λ y there. absurd there);
+            unread = unread_with [] (λ there. there);
           }) (inr (ap (living state) (pool_empty form one none size o h state pool image of_pool kept p x
               table v l found takes.slot dead nothing)))
 

@@ -9,3 +9,6 @@ pub mod FreePart
 pub mod SlotPart
 pub mod BackPart
 pub mod BackEvery
+pub mod MoveRecords
+pub mod MovePart
+pub mod MoveEvery

@@ -14,8 +14,8 @@ use Rattle.mg_model.specs.History.{Entries}
 use Rattle.mg_image.specs.declared.entry.Entry.{Entry}
 use Rattle.mg_image.specs.Form.{Form, Pages}
 use Rattle.mg_image.specs.ReadingLaws.{Opens, RowsAreOne, chain_opens}
-use Rattle.mg_image.specs.RecordRules.{AreRecords, Each, EachBack, Facts, IsRecord, committed_in, table_in}
-use Rattle.mg_image.specs.Records.{Cells, Chain, Changes, Reading, Stands, cells_of, newest_of, shown, writer}
+use Rattle.mg_image.specs.RecordRules.{Each, EachBack, Facts, IsRecord, IsVersion, committed_in, table_in}
+use Rattle.mg_image.specs.Records.{Cells, Chain, Changes, Reading, Stands, cells_of, key_of, newest_of, record_key, shown, writer}
 use Rattle.mg_image.specs.Sound.{IsSoundBy, facts_by}
 use Rattle.mg_image.specs.StepLaws.{put_cases, put_reading}
 use Rattle.mg_image.specs.Tables.{Layout, stands_of}
@@ -59,21 +59,21 @@ module _ (form : Form) (size : ℕ) (state : ℕ → TxState) (pages : Pages) (l
   pub newest_writer : writer found.newest ≡ v.tx.0
   newest_writer = ap (λ (w : Version). w.tx.0) found.version
 
-  -- after it is taken out nobody reads its cell
-  pub none_reads : (es : List Entry) → ((y : RecId) → Stands es y → Stands found.older y) → (q : RecId)
+  -- its cell is one of the record's, and none of the versions behind it
+  pub stood : Stands (r p) x
+  stood = subst (λ (fs : List Entry). Stands fs x) (sym found.first) (inl found.at)
+
+  pub older_off : Stands found.older x → ⊥
+  older_off there = (subst (IsRecord form.coding (facts_by state pages layout) table) found.first
+      (sound.records.each p table found.of)).once.0 (subst (Stands found.older) (sym found.at) there)
+
+  -- so nobody reads it where the record has other versions
+  pub none_reads : (es : List Entry) → (Stands es x → ⊥) → (q : RecId)
       → Stands (put_reading r p es q) x → ⊥
-  none_reads es within = put_cases r p es (λ q fs. Stands fs x → ⊥) here others
+  none_reads es off = put_cases r p es (λ q fs. Stands fs x → ⊥) off others
     where
-      once : Stands found.older found.newest.at → ⊥
-      once = (subst (IsRecord form.coding (facts_by state pages layout) table) found.first
-          (sound.records.each p table found.of)).once.0
-
-      here : Stands es x → ⊥
-      here there = once (subst (Stands found.older) (sym found.at) (within x there))
-
       others : (q : RecId) → q ≢ p → Stands (r q) x → ⊥
-      others q ne there = ne (sound.records.apart q p x there
-          (subst (λ (fs : List Entry). Stands fs x) (sym found.first) (inl found.at)))
+      others q ne there = ne (sound.records.apart q p x there stood)
 
 -- ---- the record in an overlay that has the slot's page
 
@@ -237,6 +237,39 @@ module _ (form : Form) (one : RowsAreOne form.coding) (none : HasNoSequences for
             off : (w : Version) → cells_of image p ≢ Some (cells.Version w)
             off w is_ = let both : Some (cells.Anchor l) ≡ Some (cells.Version w) =
                 sym slot_there ∙ is_ in absurd cc
+
+    -- and the record has the key that it has in the pool
+    pub rest_key : (m : Link) → v.back ≡ Some m
+        → record_key table (kept.in_pool p) ≡ record_key table (kept.reading p)
+    rest_key m some = by found.older refl has_it.rest refl
+      where
+        chain_m : Chain (cells_of pool) (Some m) found.older
+        chain_m = subst (λ (k : Option Link). Chain (cells_of pool) k found.older) some pool_behind
+
+        front_rest : IsFront found.older has_it.rest
+        front_rest = subst (IsFront found.older) living_there front
+
+        by : (cs : List Entry) → found.older ≡ cs → (ds : List Entry) → has_it.rest ≡ ds
+            → record_key table (kept.in_pool p) ≡ record_key table (kept.reading p)
+        by [] empty ds is = absurd (chain_opens (cells_of pool) (Some m) []
+            (subst (Chain (cells_of pool) (Some m)) empty chain_m))
+        by (c ∷ cs) older [] is = absurd (subst (IsFront (c ∷ cs)) is
+            (subst (λ (es : List Entry). IsFront es has_it.rest) older front_rest))
+        by (c ∷ cs) older (e ∷ es) is = sym pool_key ∙ (ap (key_of table) like.row ∙ image_key)
+          where
+            like : IsLike c e
+            like = (subst (IsFront (c ∷ cs)) is
+                (subst (λ (fs : List Entry). IsFront fs has_it.rest) older front_rest)).0
+
+            pool_key : key_of table c.row ≡ record_key table (kept.in_pool p)
+            pool_key = (subst (Each (IsVersion form.coding f table (record_key table (kept.in_pool p))))
+                (found.first ∙ ap (λ (fs : List Entry). found.newest ∷ fs) older)
+                (kept.pool_sound.records.each p table found.of).each).1.0.keyed
+
+            image_key : key_of table e.row ≡ record_key table (kept.reading p)
+            image_key = (subst (Each (IsVersion form.coding g table (record_key table (kept.reading p))))
+                (has_it.is ∙ ap (λ (fs : List Entry). has_it.first ∷ fs) is)
+                (kept.sound.records.each p table reached).each).1.0.keyed
 
     -- where nothing lies behind in the pool, the record shows nothing: its older versions may go
     pub goes_quietly : v.back ≡ None → (es : List Entry) → living state es ≡ []

@@ -3,6 +3,7 @@
 
 ghost use Rattle.mg_image.specs.Form.{packed_form};
 ghost use Rattle.mg_own_overlays.specs.BackEvery.{DeadOutKeeps, TakeBackKeeps};
+ghost use Rattle.mg_own_overlays.specs.MoveEvery.{MoveKeeps};
 ghost use Rattle.mg_own_overlays.specs.ReplaceEvery.{ReplaceKeeps};
 
 use mg_image::one_reading;
@@ -10,6 +11,13 @@ use mg_image::one_reading;
 /// A version is replaced in its place by another one of its transaction.
 pub fn replacements_keep()
     ensures { ReplaceKeeps packed_form }
+{
+    one_reading();
+}
+
+/// A version is replaced by one of its transaction in another cell.
+pub fn moves_keep()
+    ensures { MoveKeeps packed_form }
 {
     one_reading();
 }
