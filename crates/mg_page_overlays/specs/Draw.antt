@@ -263,7 +263,7 @@ module _ (state : ℕ → TxState) (old new : Pages) (layout : Layout) (r : Read
     limbo = has.limbo;
   }
 
-  changes_on : (changes : Changes) → AreChanges (facts_by state old layout) r changes
+  pub changes_on : (changes : Changes) → AreChanges (facts_by state old layout) r changes
       → AreChanges (facts_by state new layout) r changes
   changes_on changes are = record {
     there = λ p table e has. are.there p table e (limbo_on new old p table e has);

@@ -1,0 +1,2 @@
+pub mod TakePart
+pub mod DrawPage

@@ -1,0 +1,2 @@
+//! Taken pages in overlays.
+#![tactic(auto)]
