@@ -25,8 +25,8 @@ use Rattle.std.proofs.lemmas.Bool.{cases_eq}
 use Rattle.std.specs.List.{flat_map}
 use Rattle.std.specs.Prelude.{map}
 
--- A table has a page more, which was not linked, and on which no record begins; the page inventory is
--- lawful, and what else is read is as it was.
+-- A table has a page more, which was not linked, and on which no record begins where it is one of data;
+-- the page inventory is lawful, and what else is read is as it was.
 pub record Extends (form : Form) (size : ℕ) (old new : Pages) (layout layout_after : Layout) (n : ℕ)
     : Type 0 where
   pub header_page : new 0 ≡ old 0
@@ -46,7 +46,8 @@ pub record Extends (form : Form) (size : ℕ) (old new : Pages) (layout layout_a
   pub others : (m : ℕ) → m ≢ n → table_at (stands_of layout_after) m ≡ table_at (stands_of layout) m
   pub cells : (x : RecId) (table : Table) → table_at (stands_of layout) x.page.0 ≡ Some table
       → cells_of new x ≡ cells_of old x
-  pub no_record : (x : RecId) → x.page.0 ≡ n → newest_of x (cells_of new x) ≡ None
+  pub no_record : (table : Table) → table_at (stands_of layout_after) n ≡ Some table
+      → (x : RecId) → x.page.0 ≡ n → newest_of x (cells_of new x) ≡ None
   pub found : (table : Table) (x : RecId) (row : Row)
       → table_at (stands_of layout) x.page.0 ≡ Some table → IsFoundIn old table.indexes x row
       → IsFoundIn new table.indexes x row
@@ -137,7 +138,7 @@ module _ (form : Form) (size : ℕ) (state : ℕ → TxState) (old new : Pages)
         state = refl;
         next = ap (λ (h : Header). h.next.0) header_as;
         oldest = ap (λ (h : Header). h.oit.0) header_as;
-      }) extends.no_record on_new
+      }) (extends.no_record table is) on_new
       by None is = subst (λ (e : Facts). AreRecords form.coding e (cells_of new) r) (sym facts) on_new
         where
           at : (m : ℕ) → (m ≡ n) ⊎ (m ≢ n)

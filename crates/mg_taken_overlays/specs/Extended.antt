@@ -18,9 +18,9 @@ use Rattle.mg_image_steps.specs.Grow.{IsWith, each_joined, with_back, with_front
 use Rattle.mg_image_steps.specs.Growth.{has_back, has_front}
 use Rattle.mg_image_steps.specs.Kinds.{HasNoSequences, stands_linked}
 use Rattle.mg_image_steps.specs.Rest.{TreesStay}
-use Rattle.mg_kept_images.specs.Reach.{once_back, once_front, page_there}
+use Rattle.mg_kept_images.specs.Reach.{data_there, has_it, once_back, once_front, page_there}
 use Rattle.mg_model.specs.declared.table.Table.{Table}
-use Rattle.mg_page_overlays.specs.GrowPages.{in_first, in_last, off_first, off_last, stands_still, trees_mid}
+use Rattle.mg_page_overlays.specs.GrowPages.{in_mid, off_first, off_last, stands_still, trees_mid}
 use Rattle.mg_slots.specs.DataPage.{cell_of}
 use Rattle.mg_taken_overlays.specs.ExtendSound.{Extends}
 use Rattle.mg_taken_overlays.specs.PointerPage.{ChangesPointer, data_five, header_stays, inventory_still, lengths_stay, no_sequences, tip_stays, trees_kept, used_on}
@@ -94,13 +94,44 @@ owner_same n (first ∷ before) after stand more is m ne =
     ap (λ (t : Option Table). if has first.data_pages m then Some first.table else t)
     (owner_same n before after stand more is m ne)
 
+-- whose page it is that a table has
+owner_of : (n : ℕ) (before after : List Stand) (stand more : Stand) (table : Table)
+    → table_at (before ++ (more ∷ after)) n ≡ Some table
+    → Has more.data_pages n ⊎ Has (flat_map pages_of (before ++ (stand ∷ after))) n
+owner_of n [] after stand more table is = at (has more.data_pages n) refl is
+  where
+    at : (c : Bool) → has more.data_pages n ≡ c
+        → (if c then Some more.table else table_at after n) ≡ Some table
+        → Has more.data_pages n ⊎ Has (flat_map pages_of (stand ∷ after)) n
+    at true here is_ = inl (has_it more.data_pages n here)
+    at false out is_ = inr (has_back (pages_of stand) (flat_map pages_of after) n
+        (page_there after n table is_))
+owner_of n (first ∷ before) after stand more table is =
+    at (has first.data_pages n) refl is (owner_of n before after stand more table)
+  where
+    by : Has more.data_pages n ⊎ Has (flat_map pages_of (before ++ (stand ∷ after))) n
+        → Has more.data_pages n ⊎ Has (flat_map pages_of (first ∷ (before ++ (stand ∷ after)))) n
+    by (inl here) = inl here
+    by (inr there) = inr (has_back (pages_of first) (flat_map pages_of (before ++ (stand ∷ after))) n there)
+
+    at : (c : Bool) → has first.data_pages n ≡ c
+        → (if c then Some first.table else table_at (before ++ (more ∷ after)) n) ≡ Some table
+        → (table_at (before ++ (more ∷ after)) n ≡ Some table
+        → Has more.data_pages n ⊎ Has (flat_map pages_of (before ++ (stand ∷ after))) n)
+        → Has more.data_pages n ⊎ Has (flat_map pages_of (first ∷ (before ++ (stand ∷ after)))) n
+    at true here is_ rest = inr (has_front (pages_of first)
+        (flat_map pages_of (before ++ (stand ∷ after))) n
+        (data_there first n (has_it first.data_pages n here)))
+    at false out is_ rest = by (rest is_)
+
 module _ (form : Form) (size : ℕ) (state : ℕ → TxState) (old new : Pages) (q n : ℕ) (layout : Layout)
     (r : Reading) (none : HasNoSequences form) (trees : TreesStay form size)
     (sound : IsSoundBy form size state old layout r) (change : ChangesPointer old new q)
     (before after : List Stand) (stand more : Stand)
     (is : stands_of layout ≡ before ++ (stand ∷ after)) (has_more : HasMore n stand more)
     (q_there : Has stand.pointers q) (off : Has (linked_pages size old layout) n → ⊥)
-    (empty : (slot : ℕ) → cell_of (new n) slot ≡ None)
+    (empty : Has more.data_pages n → (Has stand.data_pages n → ⊥) → (slot : ℕ)
+    → cell_of (new n) slot ≡ None)
     (its : AreTrees size new stand.table.pointer.0 stand.table.indexes stand.trees
     → HasTablePages form.in_primary size old stand → HasTablePages form.in_primary size new more) where
   abbrev pub layout_after : Layout
@@ -177,8 +208,8 @@ module _ (form : Form) (size : ℕ) (state : ℕ → TxState) (old new : Pages) 
         ∙ ap (λ (ss : List Stand). table_at ss m) (sym is));
     cells = λ x table of. ap (λ (page : List ℕ). slot_cell (cell_of page x.slot))
         (change.others x.page.0 (λ e. not_pointer x.page.0 table of e));
-    no_record = λ x on. ap (newest_of x) (ap (λ (m : ℕ). slot_cell (cell_of (new m) x.slot)) on
-        ∙ ap slot_cell (empty x.slot));
+    no_record = λ table of x on. ap (newest_of x) (ap (λ (m : ℕ). slot_cell (cell_of (new m) x.slot)) on
+        ∙ ap slot_cell (no_cell table of x.slot));
     found = keeps.found;
   }
     where
@@ -187,6 +218,22 @@ module _ (form : Form) (size : ℕ) (state : ℕ → TxState) (old new : Pages) 
       no_table None is_ = is_
       no_table (Some table) is_ = absurd (off (stands_linked size old layout n
           (page_there (stands_of layout) n table is_)))
+
+      not_linked_ : Has (flat_map pages_of (before ++ (stand ∷ after))) n → ⊥
+      not_linked_ there = off (stands_linked size old layout n
+          (subst (λ (ss : List Stand). Has (flat_map pages_of ss) n) (sym is) there))
+
+      no_cell : (table : Table) → table_at (stands_of layout_after) n ≡ Some table → (slot : ℕ)
+          → cell_of (new n) slot ≡ None
+      no_cell table of = at (owner_of n before after stand more table
+          (subst (λ (ss : List Stand). table_at ss n ≡ Some table)
+          (stands_relaid layout before after more) of))
+        where
+          at : Has more.data_pages n ⊎ Has (flat_map pages_of (before ++ (stand ∷ after))) n
+              → (slot : ℕ) → cell_of (new n) slot ≡ None
+          at (inl here) = empty here (λ there. not_linked_ (in_mid before after stand n
+              (data_there stand n there)))
+          at (inr there) = absurd (not_linked_ there)
 
       not_pointer : (m : ℕ) (table : Table) → table_at (stands_of layout) m ≡ Some table → m ≢ q
       not_pointer m table of e =

@@ -4,3 +4,7 @@ pub mod ExtendSound
 pub mod ExtendKept
 pub mod PointerPage
 pub mod Extended
+pub mod ExtendStep
+pub mod LinkPage
+pub mod EntryPage
+pub mod ExtendEvery
