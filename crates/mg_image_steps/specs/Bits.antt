@@ -42,9 +42,7 @@ module _ (form : Form) (size : ℕ) (state : ℕ → TxState) (old new : Pages) 
     (r : Reading) (sound : IsSoundBy form size state old layout r) (change : ChangesTip old new b k)
     -- the place is not that of a number that was not drawn
     (drawn : (t : ℕ) → next_of old ≤ t → t / places size ≡ last_sequence size old
-    → tip_page size old (last_sequence size old) ≡ b → t % places size ≢ k)
-    (keeps : KeepsTrees old new size layout)
-    (sequences : EachPage (λ n. form.sequence_page (new n) n) layout.sequences) where
+    → tip_page size old (last_sequence size old) ≡ b → t % places size ≢ k) where
   other_kind : (n kind : ℕ) → byte (old n) 0 ≡ kind → kind ≢ 3 → new n ≡ old n
   other_kind n kind is differs = change.others n
       (λ same. differs (sym is ∙ (ap (λ (m : ℕ). byte (old m) 0) same ∙ change.kind)))
@@ -52,7 +50,7 @@ module _ (form : Form) (size : ℕ) (state : ℕ → TxState) (old new : Pages) 
   header_page : new 0 ≡ old 0
   header_page = other_kind 0 1 (kind_of (old 0) 0 1 0 0 _ sound.header.fields) (λ e. omega (arith, e))
 
-  header_same : header_of new ≡ header_of old
+  pub header_same : header_of new ≡ header_of old
   header_same = ap header_in header_page
 
   region_page : (region : ℕ) → inventory_page size region < GREATEST_LIMIT
@@ -68,7 +66,7 @@ module _ (form : Form) (size : ℕ) (state : ℕ → TxState) (old new : Pages) 
           (all_passes (common_checks (old (inventory_page size region))
           (inventory_page size region) 2 0 region) wanted.fields)) (λ e. omega (arith, e))
 
-  used_same : (n : ℕ) → is_used size new n ≡ is_used size old n
+  pub used_same : (n : ℕ) → is_used size new n ≡ is_used size old n
   unfolding is_used
   used_same n = ap (λ (page : List ℕ). used_in page (n % bits size))
       (at (cases_eq (inventory_page size (n / bits size)) b))
@@ -98,12 +96,12 @@ module _ (form : Form) (size : ℕ) (state : ℕ → TxState) (old new : Pages) 
   before_same page (suc j) = ap (λ (n : ℕ). prev_in (new n)) (before_same page j)
       ∙ prev_same (tip_before old page j)
 
-  tip_same : (sequence : ℕ) → tip_page size new sequence ≡ tip_page size old sequence
+  pub tip_same : (sequence : ℕ) → tip_page size new sequence ≡ tip_page size old sequence
   tip_same sequence =
       ap (λ (h : Header). tip_before new h.last_tip.0 ((h.next.0 - 1) / places size - sequence)) header_same
       ∙ before_same (header_of old).last_tip.0 (last_sequence size old - sequence)
 
-  last_same : last_sequence size new ≡ last_sequence size old
+  pub last_same : last_sequence size new ≡ last_sequence size old
   last_same = ap (λ (h : Header). (h.next.0 - 1) / places size) header_same
 
   tips_same : tips_of size new ≡ tips_of size old
@@ -201,7 +199,7 @@ module _ (form : Form) (size : ℕ) (state : ℕ → TxState) (old new : Pages) 
           (has_it stand.data_pages n in_it)
       at false out is more = more is
 
-  facts_same : facts_by state new layout ≡ facts_by state old layout
+  pub facts_same : facts_by state new layout ≡ facts_by state old layout
   facts_same =
       let F : Header → Facts = λ h. record {
         state = state;
@@ -210,50 +208,52 @@ module _ (form : Form) (size : ℕ) (state : ℕ → TxState) (old new : Pages) 
         table_of = table_at (stands_of layout);
       } in ap F header_same
 
-  pub bits_sound : IsSoundBy form size state new layout r
-  bits_sound = record {
-    header = record {
-      lawful_size = sound.header.lawful_size;
-      whole = λ n. whole n (cases_eq n b);
-      database = rw header_page sound.header.database;
-      fields = rw header_page sound.header.fields;
-      used = used_same 0 ∙ sound.header.used;
-    };
-    transactions = transactions_kept;
-    inventory = λ region below. regions region below (sound.inventory region below);
-    catalog = sound.catalog ∙ ap (λ (h : Header). catalog_table h.catalog.0) (sym header_same);
-    tables = tables_kept (stands_of layout) keeps.trees sound.tables;
-    sequences = sequences;
-    names = subst (λ (f : Facts). HasNames size f r layout.catalog.table
-        (map (λ stand. stand.table) layout.tables)) (sym facts_same) sound.names;
-    once = subst (λ (tips : List ℕ). IsOnce (tips ++ flat_map pages_of (stands_of layout)
-        ++ layout.sequences)) (sym tips_same) sound.once;
-    records = subst (λ (f : Facts). AreRecords form.coding f (cells_of new) r) (sym facts_same)
-        (records_on_same_cells form.coding (facts_by state old layout) (cells_of old) (cells_of new) r
-        (λ p table of. ap (λ (page : List ℕ). slot_cell (cell_of page p.slot))
-        (page_same (stands_of layout) sound.tables p.page.0 table of)) sound.records);
-    own_tables = subst (λ (f : Facts). HasOwnTables f r layout.catalog.table) (sym facts_same)
-        sound.own_tables;
-    limbo = λ t below. sound.limbo t (subst (λ (h : Header). t < h.oat.0) header_same below);
-    indexed = subst (λ (f : Facts). IsIndexed f new r) (sym facts_same) (record {
-      committed = λ p table row shows. keeps.found table p row shows.of_table
-          (sound.indexed.committed p table row shows);
-      limbo = λ p table e has_ alive. keeps.found table p e.row has_.of_table
-          (sound.indexed.limbo p table e has_ alive);
-    });
-  }
-    where
-      whole : (n : ℕ) → (n ≡ b) ⊎ (n ≢ b) → length (new n) ≡ size
-      whole n (inl e) = ap (λ (m : ℕ). length (new m)) e ∙ (change.len ∙ sound.header.whole b)
-      whole n (inr ne) = ap length (change.others n ne) ∙ sound.header.whole n
+  module _ (keeps : KeepsTrees old new size layout)
+      (sequences : EachPage (λ n. form.sequence_page (new n) n) layout.sequences) where
+    pub bits_sound : IsSoundBy form size state new layout r
+    bits_sound = record {
+      header = record {
+        lawful_size = sound.header.lawful_size;
+        whole = λ n. whole n (cases_eq n b);
+        database = rw header_page sound.header.database;
+        fields = rw header_page sound.header.fields;
+        used = used_same 0 ∙ sound.header.used;
+      };
+      transactions = transactions_kept;
+      inventory = λ region below. regions region below (sound.inventory region below);
+      catalog = sound.catalog ∙ ap (λ (h : Header). catalog_table h.catalog.0) (sym header_same);
+      tables = tables_kept (stands_of layout) keeps.trees sound.tables;
+      sequences = sequences;
+      names = subst (λ (f : Facts). HasNames size f r layout.catalog.table
+          (map (λ stand. stand.table) layout.tables)) (sym facts_same) sound.names;
+      once = subst (λ (tips : List ℕ). IsOnce (tips ++ flat_map pages_of (stands_of layout)
+          ++ layout.sequences)) (sym tips_same) sound.once;
+      records = subst (λ (f : Facts). AreRecords form.coding f (cells_of new) r) (sym facts_same)
+          (records_on_same_cells form.coding (facts_by state old layout) (cells_of old) (cells_of new) r
+          (λ p table of. ap (λ (page : List ℕ). slot_cell (cell_of page p.slot))
+          (page_same (stands_of layout) sound.tables p.page.0 table of)) sound.records);
+      own_tables = subst (λ (f : Facts). HasOwnTables f r layout.catalog.table) (sym facts_same)
+          sound.own_tables;
+      limbo = λ t below. sound.limbo t (subst (λ (h : Header). t < h.oat.0) header_same below);
+      indexed = subst (λ (f : Facts). IsIndexed f new r) (sym facts_same) (record {
+        committed = λ p table row shows. keeps.found table p row shows.of_table
+            (sound.indexed.committed p table row shows);
+        limbo = λ p table e has_ alive. keeps.found table p e.row has_.of_table
+            (sound.indexed.limbo p table e has_ alive);
+      });
+    }
+      where
+        whole : (n : ℕ) → (n ≡ b) ⊎ (n ≢ b) → length (new n) ≡ size
+        whole n (inl e) = ap (λ (m : ℕ). length (new m)) e ∙ (change.len ∙ sound.header.whole b)
+        whole n (inr ne) = ap length (change.others n ne) ∙ sound.header.whole n
 
-      regions : (region : ℕ) → inventory_page size region < GREATEST_LIMIT
-          → HasRegion size old (inventory_page size region) region
-          → HasRegion size new (inventory_page size region) region
-      regions region below (inl empty) = inl (region_page region below ∙ empty)
-      regions region below (inr wanted) = inr (wanted_kept size old new (inventory_page size region)
-          (pip_checks (old (inventory_page size region)) (inventory_page size region) region)
-          (pip_checks (new (inventory_page size region)) (inventory_page size region) region)
-          (λ is. used_same (inventory_page size region) ∙ is)
-          (ap (λ (page : List ℕ). pip_checks page (inventory_page size region) region)
-          (region_page region below)) wanted)
+        regions : (region : ℕ) → inventory_page size region < GREATEST_LIMIT
+            → HasRegion size old (inventory_page size region) region
+            → HasRegion size new (inventory_page size region) region
+        regions region below (inl empty) = inl (region_page region below ∙ empty)
+        regions region below (inr wanted) = inr (wanted_kept size old new (inventory_page size region)
+            (pip_checks (old (inventory_page size region)) (inventory_page size region) region)
+            (pip_checks (new (inventory_page size region)) (inventory_page size region) region)
+            (λ is. used_same (inventory_page size region) ∙ is)
+            (ap (λ (page : List ℕ). pip_checks page (inventory_page size region) region)
+            (region_page region below)) wanted)

@@ -93,19 +93,19 @@ pub data IsWith (n : ℕ) : List ℕ → List ℕ → Type 0 where
   here : (ns : List ℕ) → IsWith n ns (n ∷ ns)
   later : (m : ℕ) (ms ns : List ℕ) → IsWith n ms ns → IsWith n (m ∷ ms) (m ∷ ns)
 
-with_front : (n : ℕ) (fs ms ns : List ℕ) → IsWith n ms ns → IsWith n (fs ++ ms) (fs ++ ns)
+pub with_front : (n : ℕ) (fs ms ns : List ℕ) → IsWith n ms ns → IsWith n (fs ++ ms) (fs ++ ns)
 with_front n [] ms ns is = is
 with_front n (f ∷ fs) ms ns is = later f (fs ++ ms) (fs ++ ns) (with_front n fs ms ns is)
 
-with_back : (n : ℕ) (ms ns bs : List ℕ) → IsWith n ms ns → IsWith n (ms ++ bs) (ns ++ bs)
+pub with_back : (n : ℕ) (ms ns bs : List ℕ) → IsWith n ms ns → IsWith n (ms ++ bs) (ns ++ bs)
 with_back n ms ns bs (here ks) = here (ks ++ bs)
 with_back n ms ns bs (later m ks ls is) = later m (ks ++ bs) (ls ++ bs) (with_back n ks ls bs is)
 
-with_last : (n : ℕ) (ms : List ℕ) → IsWith n ms (ms ++ (n ∷ []))
+pub with_last : (n : ℕ) (ms : List ℕ) → IsWith n ms (ms ++ (n ∷ []))
 with_last n [] = here []
 with_last n (m ∷ ms) = later m ms (ms ++ (n ∷ [])) (with_last n ms)
 
-has_with : (n : ℕ) (ms ns : List ℕ) (k : ℕ) → IsWith n ms ns → Has ns k → (k ≡ n) ⊎ Has ms k
+pub has_with : (n : ℕ) (ms ns : List ℕ) (k : ℕ) → IsWith n ms ns → Has ns k → (k ≡ n) ⊎ Has ms k
 has_with n ms ns k (here ls) there = there
 has_with n ms ns k (later m ls os is) (inl e) = inr (inl e)
 has_with n ms ns k (later m ls os is) (inr more) = at (has_with n ls os k is more)
@@ -243,13 +243,13 @@ pub record GrowsImage (form : Form) (size : ℕ) (old new : Pages) (before after
       → table_at (before ++ (stand ∷ after)) x.page.0 ≡ Some table → IsFoundIn old table.indexes x row
       → IsFoundIn new table.indexes x row
 
-each_joined : (P : Stand → Type 0) (before after : List Stand) (stand : Stand) → EachStand P before
+pub each_joined : (P : Stand → Type 0) (before after : List Stand) (stand : Stand) → EachStand P before
     → P stand → EachStand P after → EachStand P (before ++ (stand ∷ after))
 each_joined P [] after stand first mid last = (mid, last)
 each_joined P (other ∷ before) after stand first mid last =
     (first.0, each_joined P before after stand first.1 mid last)
 
-each_mid : (P : Stand → Type 0) (before after : List Stand) (stand : Stand)
+pub each_mid : (P : Stand → Type 0) (before after : List Stand) (stand : Stand)
     → EachStand P (before ++ (stand ∷ after)) → P stand
 each_mid P [] after stand each = each.0
 each_mid P (other ∷ before) after stand each = each_mid P before after stand each.1

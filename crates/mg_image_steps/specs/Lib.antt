@@ -1,7 +1,7 @@
 pub mod Laws
 pub mod Fronts
 pub mod TableOwners
-pub mod DeadVersions
+pub mod QuietVersions
 pub mod Cuts
 pub mod CutShown
 pub mod CutFronts

@@ -7,7 +7,7 @@ use Rattle.mg_image.specs.Records.{Cells, Chain, Changes, Reading, Stands, goes,
 use Rattle.mg_image.specs.StepLaws.{put_cases, put_reading, unread_sound}
 use Rattle.mg_image.specs.declared.entry.Entry.{Entry}
 use Rattle.mg_image_steps.specs.Cuts.{chain_cell, reads_none}
-use Rattle.mg_image_steps.specs.DeadVersions.{SameLiving}
+use Rattle.mg_image_steps.specs.QuietVersions.{SameLiving}
 use Rattle.mg_image_steps.specs.Fronts.{living}
 use Rattle.mg_image_steps.specs.Relink.{chain_from, relink_sound}
 use Rattle.mg_model.specs.declared.table.Table.{Table}

@@ -9,9 +9,9 @@
 //!
 //! Which of a record's versions count, and what one image has of those of another, is told by `Fronts`:
 //! a newest version of a dead transaction does not count, so a writer who counts as dead changes
-//! nothing of it (`DeadVersions`).
+//! nothing of it (`QuietVersions`).
 //!
-//! All stands in `specs/`. Of records: `Fronts`, `TableOwners`, `DeadVersions`, `Cuts`, `CutShown`,
+//! All stands in `specs/`. Of records: `Fronts`, `TableOwners`, `QuietVersions`, `Cuts`, `CutShown`,
 //! `CutFronts`, `Gone`, `Relink`, `Push`, `PushWhole`, `CommitHeld`. Of pages: `DataPages`, `DataSound`,
 //! `Rest`, `Frame`, `Growth`, `Grow`, `Bits`, `Kinds`, `Trees`. Of both: `CommitSound`.
 //! There is no program here: each function does nothing, and its contract is a law.

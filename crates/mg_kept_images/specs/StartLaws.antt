@@ -18,15 +18,15 @@ use Rattle.mg_model.specs.declared.opening.Opening.{Opening}
 use Rattle.mg_value.specs.declared.value.Value.{Value}
 use Rattle.std.proofs.Common.{List, [], arith, refl, ℕ, ◌∷◌, ◌≡◌}
 
-front_self : (es : List Entry) → IsFront es es
+pub front_self : (es : List Entry) → IsFront es es
 front_self [] = tt
 front_self (e ∷ es) = (record { at = refl; version = refl; row = refl }, front_self es)
 
-list_self : (ns : List ℕ) → IsFrontOf ns ns
+pub list_self : (ns : List ℕ) → IsFrontOf ns ns
 list_self [] = tt
 list_self (n ∷ ns) = (refl, list_self ns)
 
-stands_self : (stands : List Stand) → AreFrontStands stands stands
+pub stands_self : (stands : List Stand) → AreFrontStands stands stands
 stands_self [] = tt
 stands_self (stand ∷ stands) = (
   record { table = refl; pointers = list_self stand.pointers; data_pages = list_self stand.data_pages },
@@ -34,7 +34,7 @@ stands_self (stand ∷ stands) = (
 )
 
 -- an image is behind itself
-pub kept_by_itself : (form : Form) (size : ℕ) (o : Opening) (h : Entries) (state : ℕ → TxState)
+unfoldable pub kept_by_itself : (form : Form) (size : ℕ) (o : Opening) (h : Entries) (state : ℕ → TxState)
     (pages : Pages) (layout : Layout) (r : Reading) (rows : Database) (changes : Changes)
     → IsSoundBy form size state pages layout r
     → IsHeld (facts_by state pages layout) (committed_in (facts_by state pages layout)) r rows

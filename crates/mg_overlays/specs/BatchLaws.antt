@@ -85,7 +85,7 @@ module _ (old new : Cache) (gone : PageSet) (batch : ℕ → Option (List ℕ)) 
     -- the set that it was laid on had what the chosen ones needed
     module _ (state : ℕ → TxState) (chosen : ℕ → Bool) (needs now : ℕ → PageSet)
         (left : KeepsNeeds old gone needs now) (has : HasNeeds state chosen now set_) where
-      needed : HasNeeds state chosen needs (before old gone set_)
+      pub needed : HasNeeds state chosen needs (before old gone set_)
       needed t p is act needs_ = by_page ((left t p needs_).0) ((left t p needs_).1)
         where
           by_page : old.dirty p ≡ true → (gone p ≡ true) ⊎ (now t p ≡ true)
@@ -119,6 +119,7 @@ change_keeps_always good better state old new gone batch orders needs now change
     (sym (overlay_is old new gone batch orders changes set_ closed))
     (keeps chosen set_ (overlay old (before old gone set_))
     (lays old new gone batch orders changes set_ closed)
+    (good_of_pool good state old needs changes.was_clean (λ t p needs_. (left t p needs_).0) every chosen)
     (every chosen (before old gone set_) (changes.closed set_ closed)
     (needed old new gone batch orders changes set_ closed state chosen needs now left has)))
 

@@ -144,5 +144,5 @@ abbrev pub KeepsLaidAlways : Keeping → Keeping → (ℕ → TxState) → Pages
 KeepsLaidAlways good better state pool changed batch orders =
     (chosen : ℕ → Bool) (set_ : PageSet) (image : Pages)
     → LaysBatch pool changed batch orders set_ image
-    → good (left_state chosen state) pool image
+    → good (left_state chosen state) pool pool → good (left_state chosen state) pool image
     → better (left_state chosen state) changed (laid batch set_ image)

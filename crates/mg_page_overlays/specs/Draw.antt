@@ -263,7 +263,7 @@ module _ (state : ℕ → TxState) (old new : Pages) (layout : Layout) (r : Read
     limbo = has.limbo;
   }
 
-  changes_on : (changes : Changes) → AreChanges (facts_by state old layout) r changes
+  pub changes_on : (changes : Changes) → AreChanges (facts_by state old layout) r changes
       → AreChanges (facts_by state new layout) r changes
   changes_on changes are = record {
     there = λ p table e has. are.there p table e (limbo_on new old p table e has);
@@ -436,7 +436,7 @@ draw_every form none size o h state old new gone batch orders needs now changes 
         by Committed false not_ is = absurd cc
 
     part : KeepsLaidAlways (keeping form size o h) (keeping form size o h) state old.pool new.pool batch orders
-    part chosen set_ image lays kept = by (set_ 0) refl
+    part chosen set_ image lays of_pool kept = by (set_ 0) refl
       where
         still : (m : ℕ) → m ≢ 0 → laid batch set_ image m ≡ image m
         still m ne = by_bit (set_ m) refl

@@ -19,26 +19,26 @@ use Rattle.mg_kept_images.specs.KeptImages.{IsKept}
 use Rattle.mg_model.specs.History.{Entries}
 use Rattle.mg_model.specs.declared.opening.Opening.{Opening}
 use Rattle.mg_tip.specs.TipPage.{places}
-use Rattle.std.proofs.Common.{List, ap, arith, subst, sym, true, ℕ, ◌-◌, ◌∙◌, ◌≡◌, ◌≢◌, ◌≤◌}
+use Rattle.std.proofs.Common.{List, ap, arith, refl, subst, sym, true, ℕ, ◌-◌, ◌∙◌, ◌≡◌, ◌≢◌, ◌≤◌}
 
 module _ (form : Form) (size : ℕ) (state : ℕ → TxState) (old new : Pages) (layout : Layout)
     (r : Reading) (sound : IsSoundBy form size state old layout r)
     (keeps : KeepsLinked form size old new layout) where
-  tip_page_is : (sequence : ℕ) → sequence ≤ last_sequence size old
+  pub tip_page_is : (sequence : ℕ) → sequence ≤ last_sequence size old
       → tip_page size new sequence ≡ tip_page size old sequence
   tip_page_is = tip_is size old new keeps.header_page keeps.used keeps.lengths sound.header
       sound.transactions (tip_kept form size state old new layout r sound keeps)
 
-  tip_content_is : (sequence : ℕ) → sequence ≤ last_sequence size old
+  pub tip_content_is : (sequence : ℕ) → sequence ≤ last_sequence size old
       → new (tip_page size new sequence) ≡ old (tip_page size old sequence)
   tip_content_is sequence below = ap new (tip_page_is sequence below)
       ∙ tip_kept form size state old new layout r sound keeps sequence below
 
-  last_sequence_is : last_sequence size new ≡ last_sequence size old
+  pub last_sequence_is : last_sequence size new ≡ last_sequence size old
   last_sequence_is = last_is size old new keeps.header_page keeps.used keeps.lengths sound.header
       sound.transactions (tip_kept form size state old new layout r sound keeps)
 
-pub frame_kept : (form : Form) (size : ℕ) (o : Opening) (h : Entries) (state : ℕ → TxState)
+unfoldable pub frame_kept : (form : Form) (size : ℕ) (o : Opening) (h : Entries) (state : ℕ → TxState)
     (pool changed image laid : Pages) (kept : IsKept form size o h state pool image)
     → KeepsLinked form size pool changed kept.of_pool → KeepsLinked form size image laid kept.layout
     -- what is used in the overlay is used in the pool
@@ -109,3 +109,16 @@ frame_kept form size o h state pool changed image laid kept of_pool of_image use
               ∙ ((kept.behind.tips sequence below).1 ∙ sym (tip_content_is form size state pool changed
               kept.of_pool kept.in_pool kept.pool_sound of_pool sequence within)),
         )
+
+-- both stand as they did
+pub frame_layout : (form : Form) (size : ℕ) (o : Opening) (h : Entries) (state : ℕ → TxState)
+    (pool changed image laid : Pages) (kept : IsKept form size o h state pool image)
+    (of_pool : KeepsLinked form size pool changed kept.of_pool)
+    (of_image : KeepsLinked form size image laid kept.layout)
+    (used : (n : ℕ) → is_used size laid n ≡ true → is_used size changed n ≡ true)
+    → ((frame_kept form size o h state pool changed image laid kept of_pool of_image used).of_pool
+    ≡ kept.of_pool)
+    × ((frame_kept form size o h state pool changed image laid kept of_pool of_image used).layout
+    ≡ kept.layout)
+unfolding frame_kept
+frame_layout form size o h state pool changed image laid kept of_pool of_image used = (refl, refl)

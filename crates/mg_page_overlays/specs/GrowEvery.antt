@@ -43,7 +43,7 @@ pub record SplitsAt (stands before after : List Stand) (stand : Stand) : Type 0 
   pub mid_behind : IsFrontStand mid stand
   pub last_behind : AreFrontStands last after
 
-split : (stands before after : List Stand) (stand : Stand)
+pub split : (stands before after : List Stand) (stand : Stand)
     → AreFrontStands stands (before ++ (stand ∷ after)) → SplitsAt stands before after stand
 split [] [] after stand fronts = absurd fronts
 split [] (b ∷ before) after stand fronts = absurd fronts
@@ -70,7 +70,7 @@ split (a ∷ stands) (b ∷ before) after stand fronts = at (split stands before
     }
 
 -- a front that has the last number is the whole list
-front_whole : (ms front : List ℕ) (q : ℕ) → IsFrontOf ms (front ++ (q ∷ [])) → (Has front q → ⊥)
+pub front_whole : (ms front : List ℕ) (q : ℕ) → IsFrontOf ms (front ++ (q ∷ [])) → (Has front q → ⊥)
     → Has ms q → ms ≡ front ++ (q ∷ [])
 front_whole [] front q fronts off is = absurd is
 front_whole (m ∷ []) [] q fronts off is = ap (λ (k : ℕ). k ∷ []) fronts.0
@@ -80,13 +80,13 @@ front_whole (m ∷ ms) (f ∷ front) q fronts off (inr more) =
     ap (λ (k : ℕ). k ∷ ms) fronts.0 ∙ ap (λ (ks : List ℕ). f ∷ ks)
     (front_whole ms front q fronts.1 (λ is. off (inr is)) more)
 
-pointers_there : (before after : List Stand) (stand : Stand) (m : ℕ) → Has stand.pointers m
+pub pointers_there : (before after : List Stand) (stand : Stand) (m : ℕ) → Has stand.pointers m
     → Has (pointers_of (before ++ (stand ∷ after))) m
 pointers_there [] after stand m is = has_front stand.pointers (pointers_of after) m is
 pointers_there (other ∷ before) after stand m is = has_back other.pointers
     (pointers_of (before ++ (stand ∷ after))) m (pointers_there before after stand m is)
 
-pointers_mid : (before after : List Stand) (stand : Stand) (m : ℕ)
+pub pointers_mid : (before after : List Stand) (stand : Stand) (m : ℕ)
     → Has (pointers_of (before ++ (stand ∷ after))) m
     → Has (pointers_of before) m ⊎ (Has stand.pointers m ⊎ Has (pointers_of after) m)
 pointers_mid [] after stand m is = inr (has_either stand.pointers (pointers_of after) m is)
@@ -488,7 +488,7 @@ grow_every form none size o h state old new gone batch orders needs now owner pl
     trees = trees_stay form size
 
     part : KeepsLaidAlways (keeping form size o h) (keeping form size o h) state old.pool new.pool batch orders
-    part chosen set_ image lays kept = grow_step form size o h (left_state chosen state) old.pool new.pool
+    part chosen set_ image lays of_pool kept = grow_step form size o h (left_state chosen state) old.pool new.pool
         image (laid batch set_ image) set_ owner place i q n none trees pages (record {
           was = lays.was;
           is = lays.is;

@@ -72,7 +72,7 @@ pub record HasGrowth (pool changed image laid : Pages) (i q n : ℕ) : Type 0 wh
   pub was_pointer : image q ≡ pool q
   pub pointer_is : laid q ≡ changed q
 
-each_last : (P : ℕ → ℕ → Type 0) (k : ℕ) (ms : List ℕ) (q : ℕ) → EachFrom P k (ms ++ (q ∷ []))
+pub each_last : (P : ℕ → ℕ → Type 0) (k : ℕ) (ms : List ℕ) (q : ℕ) → EachFrom P k (ms ++ (q ∷ []))
     → P (k + length ms) q
 each_last P k [] q each = let same : k ≡ k + 0 = omega arith in subst (λ (j : ℕ). P j q) same each.0
 each_last P k (m ∷ ms) q each =
@@ -126,7 +126,7 @@ off_last [] after stand q m once of is same =
 off_last (other ∷ before) after stand q m once of is same = off_last before after stand q m
     (once_back (pages_of other) (flat_map pages_of (before ++ (stand ∷ after))) once) of is same
 
-in_first : (before after : List Stand) (stand : Stand) (m : ℕ) → Has (flat_map pages_of before) m
+pub in_first : (before after : List Stand) (stand : Stand) (m : ℕ) → Has (flat_map pages_of before) m
     → Has (flat_map pages_of (before ++ (stand ∷ after))) m
 in_first [] after stand m is = absurd is
 in_first (other ∷ before) after stand m is =
@@ -138,7 +138,7 @@ in_first (other ∷ before) after stand m is =
     at (j ∷ ms) ns ks gives (inl e) = inl e
     at (j ∷ ms) ns ks gives (inr more) = inr (at ms ns ks gives more)
 
-in_last : (before after : List Stand) (stand : Stand) (m : ℕ) → Has (flat_map pages_of after) m
+pub in_last : (before after : List Stand) (stand : Stand) (m : ℕ) → Has (flat_map pages_of after) m
     → Has (flat_map pages_of (before ++ (stand ∷ after))) m
 in_last [] after stand m is = has_back (pages_of stand) (flat_map pages_of after) m is
 in_last (other ∷ before) after stand m is = has_back (pages_of other)
@@ -197,7 +197,7 @@ module _ (in_primary : Bool) (size : ℕ) (old new : Pages)
   )
 
 -- a data page of a table is one by its kind
-data_kind : (in_primary : Bool) (size : ℕ) (pages : Pages) (stands : List Stand)
+pub data_kind : (in_primary : Bool) (size : ℕ) (pages : Pages) (stands : List Stand)
     → EachStand (HasTablePages in_primary size pages) stands → (m : ℕ)
     → Has (flat_map (λ s. s.data_pages) stands) m → byte (pages m) 0 ≡ 5
 data_kind in_primary size pages [] has_ m is = absurd is

@@ -14,7 +14,7 @@ use Rattle.mg_image.specs.Tables.{Layout, stands_of}
 use Rattle.mg_image.specs.declared.entry.Entry.{Entry}
 use Rattle.mg_image_steps.specs.DataPages.{ChangesData}
 use Rattle.mg_image_steps.specs.DataSound.{facts_same}
-use Rattle.mg_image_steps.specs.DeadVersions.{SameLiving}
+use Rattle.mg_image_steps.specs.QuietVersions.{SameLiving}
 use Rattle.mg_image_steps.specs.Fronts.{living}
 use Rattle.mg_image_steps.specs.Push.{free_empty, free_unread, put_sound}
 use Rattle.mg_image_steps.specs.Relink.{relink_sound}
@@ -27,6 +27,7 @@ use Rattle.mg_model.specs.declared.table.Table.{Table}
 use Rattle.mg_overlays.specs.Overlays.{LaysBatch, laid}
 use Rattle.mg_overlays.specs.Views.{LaysPage, first_view, last_view, ordered_same, partly, step_in, step_out}
 use Rattle.mg_record_overlays.specs.DeadSteps.{StepsDead, dead_in, dead_out}
+use Rattle.mg_record_overlays.specs.QuietSteps.{quiet_in, quiet_out}
 use Rattle.mg_record_overlays.specs.PushPart.{cells_alike, cells_laid, page_laid}
 use Rattle.mg_version.specs.declared.cell.Link.{Link}
 use Rattle.mg_version.specs.declared.cell.Version.{Version}
@@ -158,7 +159,7 @@ module _ (form : Form) (size : ℕ) (o : Opening) (h : Entries) (state : ℕ →
         n.at kept.pool_sound.records adds.free
 
     put_out : IsPutThere false image
-    unfolding dead_out
+    unfolding dead_out quiet_out
     put_out = record {
       kept = dead_out form size o h state pool mid image n.at.page.0 kept kept.in_pool pool_step rest_pool;
       finds_now = finds_mid;
@@ -170,7 +171,7 @@ module _ (form : Form) (size : ℕ) (o : Opening) (h : Entries) (state : ℕ →
         no is = cc
 
     pub put_in : (laid_ : Pages) → LaysPage pool mid image laid_ n.at.page.0 → IsPutThere true laid_
-    unfolding dead_in
+    unfolding dead_in quiet_in
     put_in laid_ lays = record {
       kept = dead_in form size o h state pool mid image n.at.page.0 kept kept.in_pool pool_step rest_pool
           laid_ kept.reading (put_step image laid_ kept.layout kept.reading kept.sound page

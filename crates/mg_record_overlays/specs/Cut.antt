@@ -88,7 +88,7 @@ module _ (form : Form) (size : ℕ) (o : Opening) (h : Entries) (state : ℕ →
   abbrev pool_reading : Reading
   pool_reading = put_reading kept.in_pool p (cut_at x (kept.in_pool p))
 
-  pool_after : IsSoundBy form size state changed kept.of_pool pool_reading
+  pub pool_after : IsSoundBy form size state changed kept.of_pool pool_reading
   pool_after = data_sound form size state pool changed b kept.of_pool kept.in_pool pool_reading
       kept.pool_sound cuts.page rest.trees
       (cut_sound form.coding f (cells_of pool) (cells_of changed) kept.in_pool p x v table
@@ -98,12 +98,12 @@ module _ (form : Form) (size : ℕ) (o : Opening) (h : Entries) (state : ℕ →
       (cut_indexed f kept.in_pool p x once is changed pool rest.trees.found kept.pool_sound.indexed)
       rest.sequences
 
-  pool_facts : facts_by state changed kept.of_pool ≡ f
+  pub pool_facts : facts_by state changed kept.of_pool ≡ f
   pool_facts = facts_same form size state pool changed b kept.of_pool kept.in_pool pool_reading
       kept.pool_sound cuts.page rest.trees
 
   -- an overlay without the page
-  pub cut_out : IsKept form size o h state changed image
+  unfoldable pub cut_out : IsKept form size o h state changed image
   cut_out = record {
     of_pool = kept.of_pool;
     in_pool = pool_reading;
@@ -127,25 +127,25 @@ module _ (form : Form) (size : ℕ) (o : Opening) (h : Entries) (state : ℕ →
   -- an overlay with it
   module _ (laid : Pages) (lays : LaysPage pool changed image laid b)
       (rest_laid : LeavesRest form size image laid kept.layout) where
-    change : ChangesData form.in_primary image laid b
+    pub change : ChangesData form.in_primary image laid b
     change = laid_page form.in_primary pool changed image laid b x v cuts lays
 
-    there : IsCommittedAt g x (kept.reading p)
+    pub there : IsCommittedAt g x (kept.reading p)
     there = is_there form.coding f g (cells_of pool) kept.in_pool kept.reading p x table
         (cells_of image) kept.pool_sound.records kept.sound.records kept.fronts of is
 
-    once_there : AreOnce (kept.reading p)
+    pub once_there : AreOnce (kept.reading p)
     once_there = image_once form.coding f g (cells_of pool) kept.in_pool kept.reading p x table
         (cells_of image) kept.pool_sound.records kept.sound.records kept.fronts of is
 
     abbrev reading_after : Reading
     reading_after = put_reading kept.reading p (cut_at x (kept.reading p))
 
-    facts_after : facts_by state laid kept.layout ≡ g
+    pub facts_after : facts_by state laid kept.layout ≡ g
     facts_after = facts_same form size state image laid b kept.layout kept.reading reading_after
         kept.sound change rest_laid.trees
 
-    pub cut_in : IsKept form size o h state changed laid
+    unfoldable pub cut_in : IsKept form size o h state changed laid
     cut_in = record {
       of_pool = kept.of_pool;
       in_pool = pool_reading;

@@ -60,7 +60,7 @@ cut_every form none size o h state old new gone batch orders needs now b p x v c
     rest = data_leaves form size b none (trees_stay form size)
 
     part : KeepsLaidAlways (keeping form size o h) (keeping form size o h) state old.pool new.pool batch orders
-    part chosen set_ image lays kept = by (is chosen image kept) (set_ b) refl
+    part chosen set_ image lays of_pool kept = by (is chosen image kept) (set_ b) refl
       where
         rest_pool : LeavesRest form size old.pool new.pool kept.of_pool
         rest_pool = rest (left_state chosen state) old.pool new.pool kept.of_pool kept.in_pool

@@ -1,3 +1,4 @@
+pub mod QuietSteps
 pub mod DeadSteps
 pub mod Behind
 pub mod Cut

@@ -270,11 +270,11 @@ module _ (form : Form) (size : ℕ) (o : Opening) (h : Entries) (event : Event) 
     stays_there : (q : RecId) → q ≢ p → then_ q ≡ kept.reading q
     stays_there = stays g kept.reading p table t key es w.writes
 
-    facts_are : facts_by state changed kept.layout ≡ g
+    pub facts_are : facts_by state changed kept.layout ≡ g
     facts_are = facts_same form size state pool changed b kept.layout kept.reading then_ kept.sound w.page
         w.rest.trees
 
-    names_now : HasNames size g then_ kept.layout.catalog.table
+    pub names_now : HasNames size g then_ kept.layout.catalog.table
         (map (λ stand. stand.table) kept.layout.tables)
     names_now = same_names size g g kept.reading then_ kept.layout.catalog.table
         (map (λ stand. stand.table) kept.layout.tables) (λ chosen. record {
@@ -298,7 +298,7 @@ module _ (form : Form) (size : ℕ) (o : Opening) (h : Entries) (event : Event) 
       dead = λ u is. is;
     }
 
-    owns_now : HasOwnTables g then_ kept.layout.catalog.table
+    pub owns_now : HasOwnTables g then_ kept.layout.catalog.table
     owns_now = own_tables_stay g g kept.reading then_ kept.layout.catalog.table
         (names_stay g g kept.reading then_ kept.layout.catalog.table catalog_stays)
         (put_cases kept.reading p es (λ q fs. (other : Table) → table_in g q ≡ Some other
@@ -307,7 +307,7 @@ module _ (form : Form) (size : ℕ) (o : Opening) (h : Entries) (event : Event) 
         (one_table_at g kept.reading p table t key es w.writes p other refl of) w.stands)
         (λ q ne other of. kept.sound.own_tables q other of))
 
-    indexed_now : IsIndexed g changed then_
+    pub indexed_now : IsIndexed g changed then_
     indexed_now = record { committed = committed; limbo = limbo }
       where
         committed : (q : RecId) (other : Table) (row : Row) → Shows g (committed_in g) then_ q other row
@@ -331,7 +331,7 @@ module _ (form : Form) (size : ℕ) (o : Opening) (h : Entries) (event : Event) 
                 (one_table_at g kept.reading p table t key es w.writes q other same has.of_table)
                 (w.found d has.older first has.limbo alive))
 
-    pub own_kept : IsKept form size o (event ∷ h) state changed changed
+    unfoldable pub own_kept : IsKept form size o (event ∷ h) state changed changed
     own_kept = kept_by_itself form size o (event ∷ h) state changed kept.layout then_ kept.rows after
         (data_sound_with form size state pool changed b kept.layout kept.reading then_ kept.sound w.page
         w.rest.trees w.records names_now owns_now indexed_now w.rest.sequences)
@@ -343,6 +343,15 @@ module _ (form : Form) (size : ℕ) (o : Opening) (h : Entries) (event : Event) 
         (λ q other of name. one_of_name form size state pool kept.layout kept.reading kept.sound q p other
         table of w.writes.of name)))
         w.after_are
+
+    -- and this is read then
+    pub own_reading : own_kept.reading ≡ then_
+    unfolding own_kept kept_by_itself
+    own_reading = refl
+
+    pub own_in_pool : own_kept.in_pool ≡ then_
+    unfolding own_kept kept_by_itself
+    own_in_pool = refl
 
 -- What a statement knows of a version that its transaction writes, as the pool has all versions: nobody
 -- else takes the key, the writer's changes are those of the longer history, its table may have the

@@ -29,6 +29,7 @@ use Rattle.mg_model.specs.declared.table.Table.{Table}
 use Rattle.mg_overlays.specs.Overlays.{LaysBatch, laid}
 use Rattle.mg_overlays.specs.Views.{LaysPage, first_view, last_view, ordered_same, partly, step_in, step_out}
 use Rattle.mg_record_overlays.specs.DeadSteps.{StepsDead, dead_in, dead_out}
+use Rattle.mg_record_overlays.specs.QuietSteps.{quiet_in, quiet_out}
 use Rattle.mg_slots.specs.DataPage.{cell_of}
 use Rattle.mg_version.specs.declared.cell.Cell.{Cell}
 use Rattle.mg_version.specs.declared.cell.Link.{Link}
@@ -266,7 +267,7 @@ module _ (form : Form) (size : ℕ) (o : Opening) (h : Entries) (state : ℕ →
         n.at kept.pool_sound.records pushes.free
 
     put_out : IsPut false image
-    unfolding dead_out
+    unfolding dead_out quiet_out
     put_out = record {
       kept = dead_out form size o h state pool mid image n.at.page.0 kept kept.in_pool pool_step rest_pool;
       finds_now = finds_mid;
@@ -278,7 +279,7 @@ module _ (form : Form) (size : ℕ) (o : Opening) (h : Entries) (state : ℕ →
         no is = cc
 
     pub put_in : (laid_ : Pages) → LaysPage pool mid image laid_ n.at.page.0 → IsPut true laid_
-    unfolding dead_in
+    unfolding dead_in quiet_in
     put_in laid_ lays = record {
       kept = dead_in form size o h state pool mid image n.at.page.0 kept kept.in_pool pool_step rest_pool
           laid_ kept.reading (put_step image laid_ kept.layout kept.reading kept.sound page

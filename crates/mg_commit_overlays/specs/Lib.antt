@@ -1,0 +1,4 @@
+pub mod Midway
+pub mod Laws
+pub mod BitsKept
+pub mod MidwayLaws

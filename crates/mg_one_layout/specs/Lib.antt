@@ -1,0 +1,2 @@
+pub mod OneChain
+pub mod OneLayout

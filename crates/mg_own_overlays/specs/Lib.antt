@@ -1,0 +1,14 @@
+pub mod Overwrite
+pub mod OwnVersion
+pub mod ReplacePart
+pub mod ReplaceEvery
+pub mod Hidden
+pub mod TakeOut
+pub mod OwnThere
+pub mod FreePart
+pub mod SlotPart
+pub mod BackPart
+pub mod BackEvery
+pub mod MoveRecords
+pub mod MovePart
+pub mod MoveEvery

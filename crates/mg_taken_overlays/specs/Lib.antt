@@ -1,0 +1,10 @@
+pub mod TakePart
+pub mod DrawPage
+pub mod ExtendSound
+pub mod ExtendKept
+pub mod PointerPage
+pub mod Extended
+pub mod ExtendStep
+pub mod LinkPage
+pub mod EntryPage
+pub mod ExtendEvery

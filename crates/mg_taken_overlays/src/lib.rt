@@ -1,0 +1,28 @@
+//! Taken pages in overlays: a free page is taken and made, and then another page names it. What such a
+//! batch owes, from the pool's change to every overlay.
+//!
+//! Owns: these batches as two steps. First a page that was free comes to be used, and has a new content
+//! (`TakesPage`): nothing that is linked changes, in the pool, and in an overlay that has its page, the
+//! page with its bit, both, or none. Then one page comes to name it, and an overlay with that page has
+//! the other two by the orders:
+//!
+//! - the header, which has a higher Next and names it as the last page of transactions (`DrawsPage`);
+//! - the last pointer page of a table or of the catalog, as the next one (`LinksPage`), or by an entry,
+//!   as a data page (`EntersPage`).
+//!
+//! An overlay may reach a table's last pointer page or not; where it does, it has all pointer pages of
+//! the pool (`ExtendStep`). Where the table stands among those of a layout makes no difference: the
+//! catalog's stand is the first (`Extended`).
+//!
+//! All stands in `specs/`: `TakePart`; `DrawPage`; `PointerPage`, `ExtendSound`, `ExtendKept`,
+//! `Extended` and `ExtendStep` for a table with a page more; `LinkPage` and `EntryPage` for what kind of
+//! page; `ExtendEvery`. There is no program here: each function does nothing, and its contract is a law.
+//!
+//! Invariant: none, it keeps no state.
+//! Below: `mg_page_overlays`, a number drawn where there is room; `mg_kept_images`. Above: the engine.
+//! Not here: versions of records, and which page is taken.
+#![tactic(auto)]
+
+mod laws;
+
+pub use laws::{data_pages_keep, draws_with_a_page_keep, pointer_pages_keep};
