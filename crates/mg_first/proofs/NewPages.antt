@@ -48,7 +48,8 @@ header_made old made new next len least greatest made_is writes =
     let len_made : length made ≡ 4096 =
     ap (λ (x : List ℕ). length x) made_is ∙ (length-new_page (length old) 0 1 0 0 ∙ len) in
     let common : PassesAll (common_checks made 0 1 0 0) =
-    rw made_is (new_passes (length old) 0 1 0 0 (omega arith) (omega arith) (omega arith) (omega arith)) in
+    rw made_is (new_passes (length old) 0 1 0 0 (omega arith) (omega arith) (omega arith)
+    (omega arith)) in
     let markers : AreMarkers 1 1 1 next = record {
       least = lit≤ tt;
       oit_ost = lit≤ tt;
@@ -271,7 +272,8 @@ pub record_added : (old one two new first second third body : List ℕ) (primary
     → TwoPut old one two first second primary → 19 + taken (8 + length body) ≤ room_of old
     → first ≡ anchor_bytes low → second ≡ version_bytes body → slot ≡ slot_count one
     → third ≡ anchor_bytes slot → PutsCell two new primary third → AddsRecord old new body
-record_added old one two new first second third body primary low slot t room first_is second_is slot_is third_is puts =
+record_added old one two new first second third body primary low slot t room first_is second_is
+    slot_is third_is puts =
     let first_len : length first ≡ 11 =
     ap (λ (x : List ℕ). length x) first_is ∙ length_of_anchor_bytes low in
     let second_len : length second ≡ 8 + length body =
@@ -330,7 +332,8 @@ six_parts : (h : ℕ) (k n a b c d : List ℕ) → (((((h ∷ k) ++ n) ++ a) ++ 
     ≡ h ∷ (k ++ (n ++ (a ++ (b ++ (c ++ (d ++ []))))))
 six_parts h k n a b c d = simp (append_assoc, append-nil) refl
 
-pub row_written : (key name : List ℕ) (bits a b c d : ℕ) (fresh begun keyed named one two three four : List ℕ)
+pub row_written : (key name : List ℕ) (bits a b c d : ℕ) (fresh begun keyed named one two three four
+    : List ℕ)
     → bits ≡ number_of_bits (false ∷ is_null (name_value name) ∷ []) → fresh ≡ []
     → begun ≡ fresh ++ bits ∷ []
     → keyed ≡ begun ++ value_bytes (kinds.Text 40) (Text key)
@@ -340,7 +343,8 @@ pub row_written : (key name : List ℕ) (bits a b c d : ℕ) (fresh begun keyed 
     → three ≡ two ++ value_bytes kinds.Int (Int (pos c))
     → four ≡ three ++ value_bytes kinds.Int (Int (pos d))
     → four ≡ catalog_bytes (catalog_row (Text key) (name_value name) a b c d)
-row_written key name bits a b c d fresh begun keyed named one two three four bits_are none e0 e1 e2 e3 e4 e5 e6 =
+row_written key name bits a b c d fresh begun keyed named one two three four bits_are none e0 e1 e2
+    e3 e4 e5 e6 =
     rw (e6, e5, e4, e3, e2, e1, e0, none, bits_are, name_bytes name)
     (six_parts (number_of_bits (false ∷ is_null (name_value name) ∷ []))
     (value_bytes (kinds.Text 40) (Text key)) (value_bytes (kinds.Text 31) (name_value name))
@@ -372,9 +376,11 @@ catalog_made fresh one two three size a b c is made passes first second third a_
     some x = Some x
 
     record_at : (old new body : List ℕ) (n : ℕ) → AddsRecord old new body → slot_count old ≡ n
-        → (cell_of new n ≡ Some (anchor_bytes (n + 1))) × (cell_of new (n + 1) ≡ Some (version_bytes body))
+        → (cell_of new n ≡ Some (anchor_bytes (n + 1))) × (cell_of new (n + 1) ≡ Some
+        (version_bytes body))
     record_at old new body n adds e =
-        subst (λ (k : ℕ). (cell_of new k ≡ Some (anchor_bytes (k + 1))) × (cell_of new (k + 1) ≡ Some (version_bytes body))) e (adds.anchor, adds.version)
+        subst (λ (k : ℕ). (cell_of new k ≡ Some (anchor_bytes (k + 1))) × (cell_of new
+        (k + 1) ≡ Some (version_bytes body))) e (adds.anchor, adds.version)
 
     kept : (old new body : List ℕ) (n s : ℕ) → AddsRecord old new body → slot_count old ≡ n
         → s ≢ n → s ≢ n + 1 → cell_of new s ≡ cell_of old s
@@ -405,7 +411,10 @@ catalog_made fresh one two three size a b c is made passes first second third a_
         (record_at two three c 4 third count_two).1 ∙
         ap (λ (x : List ℕ). some (version_bytes x)) c_is
     cell count_one count_two (suc (suc (suc (suc (suc (suc s)))))) =
-        kept two three c 4 (suc (suc (suc (suc (suc (suc s)))))) third count_two (omega arith) (omega arith) ∙
-        (kept one two b 2 (suc (suc (suc (suc (suc (suc s)))))) second count_one (omega arith) (omega arith) ∙
-        (kept fresh one a 0 (suc (suc (suc (suc (suc (suc s)))))) first made.count (omega arith) (omega arith) ∙
+        kept two three c 4 (suc (suc (suc (suc (suc (suc s)))))) third count_two (omega arith)
+        (omega arith) ∙
+        (kept one two b 2 (suc (suc (suc (suc (suc (suc s)))))) second count_one (omega arith)
+        (omega arith) ∙
+        (kept fresh one a 0 (suc (suc (suc (suc (suc (suc s)))))) first made.count (omega arith)
+        (omega arith) ∙
         made.none (suc (suc (suc (suc (suc (suc s))))))))

@@ -1,5 +1,5 @@
--- What the catalog of an image of the first form names: KV alone, which fits its pages, and in which
--- versions of any transaction may stand.
+-- What the catalog of an image of the first form names: KV alone, which fits its pages, and in
+-- which versions of any transaction may stand.
 use Rattle.std.proofs.Common.{◌≡◌, ◌∙◌, inl, inr, refl, sym, ap, subst, lit≤, ℕ, Bool, true, List, [], ◌∷◌, Some}
 use Rattle.mg_base.specs.declared.numbers.RecId.{RecId}
 use Rattle.mg_base.specs.declared.transaction.TxState.TheVariants.{Committed}

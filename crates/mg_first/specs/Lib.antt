@@ -21,3 +21,5 @@ pub mod OtherPagesLaws
 pub mod PageChanges
 pub mod PlaceLaws
 pub mod StepLaws
+pub mod Unmade
+pub mod UnmadeLaws

@@ -122,7 +122,8 @@ new_undrawn pages new t drawn last =
     let first : t / places PAGE ≡ 0 = last ∙ last_is pages new in
     let some : 1 ≤ t = omega (arith, new_next pages new, drawn) in
     let other : t % places PAGE ≢ 0 = omega (arith, first, some) in
-    subst (λ (s : ℕ). IsUndrawn (state_in (pages (tip_page PAGE pages s)) (t % places PAGE))) (sym first)
+    subst (λ (s : ℕ). IsUndrawn (state_in (pages (tip_page PAGE pages s)) (t % places PAGE)))
+    (sym first)
     (subst (λ (n : ℕ). IsUndrawn (state_in (pages n) (t % places PAGE))) (sym (tip_is pages new))
     (subst IsUndrawn (sym (new.transactions.others (t % places PAGE) other)) tt))
 

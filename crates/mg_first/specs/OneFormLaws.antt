@@ -1,18 +1,20 @@
 -- The records of the pages of a new database describe one page each: two pages of bytes that are
--- both so are equal. Of a page of transactions, and of any data page, the front is one.
-use Rattle.std.proofs.Common.{◌≡◌, ◌⊎◌, ◌<◌, ◌≤◌, ◌+◌, ◌-◌, ◌*◌, ◌/◌, ◌%◌, ◌==◌, inl, inr, refl, sym, ap, ◌∙◌, lit<, arith, ℕ, zero, suc, List, [], ◌∷◌, ◌++◌, length, take, min, Option}
-use Rattle.std.proofs.lemmas.Bool.{cases_lt}
+-- both so are equal. Of any data page the front is one.
+use Rattle.std.proofs.Common.{◌≡◌, ◌≢◌, ◌⊎◌, ◌<◌, ◌≤◌, ◌+◌, ◌-◌, ◌*◌, ◌/◌, ◌%◌, ◌==◌, inl, inr, refl, sym, ap, ◌∙◌, lit<, arith, ℕ, zero, suc, List, [], ◌∷◌, ◌++◌, length, take, min, Option}
+use Rattle.std.proofs.lemmas.Bool.{cases_eq, cases_lt}
 use Rattle.std.proofs.lemmas.List.{ext_get_or, get_or-take, length-take}
 use Rattle.std.specs.Prelude.{slice_index}
 use Rattle.mg_base.specs.Checks.{Check, PassesAll, common_checks}
 use Rattle.mg_base.specs.Fields.{byte, u16_at, u32_at}
+use Rattle.mg_base.specs.declared.damage.Field.TheVariants.{Link}
 use Rattle.mg_header.specs.HeaderPage.{database_checks, header_in, marker_checks}
 use Rattle.mg_header.specs.declared.header.Header.{Header}
 use Rattle.mg_pip.specs.PipPage.{bit_of, used_in}
 use Rattle.mg_pointer.specs.PointerPage.{count_in, entries_of, pointer_checks, rest_checks}
 use Rattle.mg_pointer.specs.PointerPageLaws.{entry_at, length-entries_of}
 use Rattle.mg_slots.specs.PackedLaws.{AreBytes, packed_page_is_one}
-use Rattle.mg_first.specs.NewDatabase.{IsDataOf, IsHeaderPage, IsInventoryPage, IsPointerTo}
+use Rattle.mg_tip.specs.TipPage.{bits_of, state_in, state_of, tip_checks, two_bits}
+use Rattle.mg_first.specs.NewDatabase.{IsDataOf, IsHeaderPage, IsInventoryPage, IsPointerTo, IsTransactionPage}
 
 -- ---- fields, one behind the other
 
@@ -140,7 +142,8 @@ number_bytes : (b c : List ℕ) → AreBytes b → AreBytes c → header_in b �
 number_bytes b c bytes also same database =
     let next : SameTo b c 32 =
     four_more b c 28 bytes also database (ap (λ (x : Header). x.next.0) same) in
-    let oit : SameTo b c 36 = four_more b c 32 bytes also next (ap (λ (x : Header). x.oit.0) same) in
+    let oit : SameTo b c 36 = four_more b c 32 bytes also next (ap (λ
+    (x : Header). x.oit.0) same) in
     let oat : SameTo b c 40 = four_more b c 36 bytes also oit (ap (λ (x : Header). x.oat.0) same) in
     let ost : SameTo b c 44 = four_more b c 40 bytes also oat (ap (λ (x : Header). x.ost.0) same) in
     let last_tip : SameTo b c 48 =
@@ -256,6 +259,97 @@ inventory_page_is_one b c bytes also is too =
     at k (inl before) = common_bytes b c 1 2 0 0 bytes also is.fields too.fields k before
     at k (inr past) = let e : k ≡ 16 + (k - 16) = omega (arith, past) in
         ap (byte b) e ∙ (in_bits (k - 16) ∙ sym (ap (byte c) e))
+
+-- ---- the transaction inventory page
+
+-- the two bits of a state tell it, and it tells them
+bits_back : (x : ℕ) → x < 4 → bits_of (state_of x) ≡ x
+bits_back zero below = refl
+bits_back (suc zero) below = refl
+bits_back (suc (suc zero)) below = refl
+bits_back (suc (suc (suc zero))) below = refl
+bits_back (suc (suc (suc (suc x)))) below = absurd (omega (arith, below))
+
+same_bits : (x y : ℕ) → x < 4 → y < 4 → state_of x ≡ state_of y → x ≡ y
+same_bits x y in_x in_y same = sym (bits_back x in_x) ∙ (ap bits_of same ∙ bits_back y in_y)
+
+-- the state at a place of a byte, by the number that it stands for
+state_is_one : (b c : List ℕ) (i j : ℕ) → j < 4
+    → state_in b (4 * i + j) ≡ state_in c (4 * i + j)
+    → state_of (two_bits (byte b (20 + i)) j) ≡ state_of (two_bits (byte c (20 + i)) j)
+unfolding state_in
+state_is_one b c i j below same =
+    let at_byte : (4 * i + j) / 4 ≡ i = omega (arith, below) in
+    let at_place : (4 * i + j) % 4 ≡ j = omega (arith, below) in
+    rw (at_byte, at_place) at same
+
+by_quarters : (p q : ℕ) → p / 4 ≡ q / 4 → p % 4 ≡ q % 4 → p ≡ q
+by_quarters p q quarters bits = omega (arith, quarters, bits)
+
+quarter4 : (x : ℕ) → x / 4 / 4 ≡ x / 16
+quarter4 x = omega arith
+
+quarter16 : (x : ℕ) → x / 16 / 4 ≡ x / 64
+quarter16 x = omega arith
+
+highest_bits : (x y : ℕ) → x < 256 → y < 256 → x / 64 % 4 ≡ y / 64 % 4 → x / 64 ≡ y / 64
+highest_bits x y small_x small_y bits = omega (arith, small_x, small_y, bits)
+
+below_four : (x : ℕ) → x % 4 < 4
+below_four x = omega arith
+
+-- bytes with the same states are one
+same_states : (x y : ℕ) → x < 256 → y < 256
+    → ((j : ℕ) → j < 4 → state_of (two_bits x j) ≡ state_of (two_bits y j)) → x ≡ y
+same_states x y small_x small_y states =
+    let e64 : x / 64 ≡ y / 64 = highest_bits x y small_x small_y
+    (same_bits (x / 64 % 4) (y / 64 % 4) (below_four (x / 64)) (below_four (y / 64))
+    (states 3 (lit< tt))) in
+    let e16 : x / 16 ≡ y / 16 = by_quarters (x / 16) (y / 16)
+    (quarter16 x ∙ (e64 ∙ sym (quarter16 y)))
+    (same_bits (x / 16 % 4) (y / 16 % 4) (below_four (x / 16)) (below_four (y / 16))
+    (states 2 (lit< tt))) in
+    let e4 : x / 4 ≡ y / 4 = by_quarters (x / 4) (y / 4)
+    (quarter4 x ∙ (e16 ∙ sym (quarter4 y)))
+    (same_bits (x / 4 % 4) (y / 4 % 4) (below_four (x / 4)) (below_four (y / 4))
+    (states 1 (lit< tt))) in
+    by_quarters x y e4
+    (same_bits (x % 4) (y % 4) (below_four x) (below_four y) (states 0 (lit< tt)))
+
+-- the front: the common part, and that no page is before it
+tip_front : (b : List ℕ) → PassesAll (tip_checks b 2 0)
+    → PassesAll (common_checks b 2 3 0 0) × (u32_at b 16 ≡ 0)
+unfolding tip_checks
+tip_front b passes = (
+  passes_front (common_checks b 2 3 0 0) ((Link, u32_at b 16, 0) ∷ []) passes,
+  (passes_behind (common_checks b 2 3 0 0) ((Link, u32_at b 16, 0) ∷ []) passes).0,
+)
+
+pub transaction_page_is_one : (b c : List ℕ) → AreBytes b → AreBytes c → IsTransactionPage b
+    → IsTransactionPage c → b ≡ c
+transaction_page_is_one b c bytes also is too =
+    ext_get_or 0 b c (is.len ∙ sym too.len) (λ k inside. at k (cases_lt k 20))
+  where
+    same : (t : ℕ) → (t ≡ 0) ⊎ (t ≢ 0) → state_in b t ≡ state_in c t
+    same t (inl e) = rw e (is.system ∙ sym too.system)
+    same t (inr ne) = is.others t ne ∙ sym (too.others t ne)
+
+    in_states : (i : ℕ) → byte b (20 + i) ≡ byte c (20 + i)
+    in_states i = same_states (byte b (20 + i)) (byte c (20 + i)) (bytes (20 + i))
+        (also (20 + i))
+        (λ j below. state_is_one b c i j below (same (4 * i + j) (cases_eq (4 * i + j) 0)))
+
+    front : SameTo b c 20
+    front =
+        let tests = tip_front b is.fields in
+        let tests_too = tip_front c too.fields in
+        four_more b c 16 bytes also (common_bytes b c 2 3 0 0 bytes also tests.0 tests_too.0)
+        (tests.1 ∙ sym tests_too.1)
+
+    at : (k : ℕ) → (k < 20) ⊎ (20 ≤ k) → byte b k ≡ byte c k
+    at k (inl before) = front k before
+    at k (inr past) = let e : k ≡ 20 + (k - 20) = omega (arith, past) in
+        ap (byte b) e ∙ (in_states (k - 20) ∙ sym (ap (byte c) e))
 
 -- ---- pointer pages
 

@@ -1,8 +1,9 @@
-//! The first form of a database: seven pages of 4096 bytes, with the table KV (K BIGINT PRIMARY KEY,
-//! V BIGINT) alone, whose rows stand as their bytes are.
+//! The first form of a database: seven pages of 4096 bytes, with the table KV (K BIGINT PRIMARY
+//! KEY, V BIGINT) alone, whose rows stand as their bytes are.
 //!
-//! Owns: the bytes of the seven pages of a new database, and when an image is of the first form
-//! (`IsFirstForm`). It makes pages that the caller lends, and never sees a disk.
+//! Owns: the bytes of the seven pages of a new database, when an image is of the first form
+//! (`IsFirstForm`), and on which images a new database is made (`IsUnmade`). It makes pages that
+//! the caller lends, and never sees a disk.
 //!
 //! Invariant: of the seven pages only three ever change: the header's next number, the bits of
 //! transactions, and the data page of KV.
@@ -15,6 +16,7 @@
 mod laws;
 mod new;
 mod pages;
+mod unmade;
 
 pub use laws::numbers_are_those_of_the_format;
 pub use new::{
@@ -25,6 +27,7 @@ pub use pages::{
     CATALOG, CATALOG_ROWS, HEADER, INVENTORY, KV, KV_ROWS, LAST, PAGE, PAGE_LEN, PAGES,
     SWEEP_INTERVAL, TRANSACTIONS,
 };
+pub use unmade::{is_new_page, is_same, is_unmade_page, new_page};
 
 #[cfg(test)]
 mod tests;

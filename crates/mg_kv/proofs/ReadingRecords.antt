@@ -302,7 +302,11 @@ takes_exactly f state e es live backs = by (state (writer e)) refl
     behind : (es : List Entry) → Each (λ x. f.state (writer x) ≡ Committed) es
         → f.state (writer e) ≡ Dead
         → Decides (take_key state (map kv_version_of (map version_of es))) (TakesKey f (e ∷ es))
-    behind [] each dead = (λ never. absurd (let e : false ≡ true = never in cc), λ takes. none takes)
+    behind [] each dead = (
+      λ never. absurd (let e : false ≡ true = never in cc),
+      λ takes. none
+          takes,
+    )
       where
         none : TakesKey f (e ∷ []) → false ≡ true
         none (inl (row, some)) =

@@ -175,7 +175,8 @@ same_least page slots has =
     by : (least_free_slot page < least_free slots) ⊎ (least_free slots ≤ least_free_slot page)
         → (least_free slots < least_free_slot page) ⊎ (least_free_slot page ≤ least_free slots)
         → least_free_slot page ≡ least_free slots
-    by (inl less) other = absurd (page_first less (slot_cases page slots (least_free_slot page) has))
+    by (inl less) other = absurd (page_first less (slot_cases page slots
+        (least_free_slot page) has))
     by (inr least) (inl less) = absurd (list_first less)
     by (inr least) (inr most) = omega (arith, least, most)
 

@@ -82,7 +82,8 @@ take_key state (v ∷ vs) = not (is_deletion v.given && is_committed (state v.wr
 
 -- ---- what a page says of a key
 
--- A page with these cells is the data page of KV in lawful records, while the program works on them.
+-- A page with these cells is the data page of KV in lawful records, while the program works on
+-- them.
 pub record HasRecords (page : List ℕ) (state : ℕ → TxState) (slots : Slots) (pages : Pages)
     (f : Facts) (r : Reading) : Type 0 where
   pub here : pages KV_ROWS.0 ≡ page

@@ -1,5 +1,5 @@
 -- The laws of the records of KV while the program works on them.
-use Rattle.std.specs.Prelude.{◌≡◌, ◌≤◌, ℕ, ℤ, true, List, [], length, FitsSigned}
+use Rattle.std.specs.Prelude.{◌≡◌, ◌≤◌, ℕ, ℤ, true, List, length, FitsSigned}
 use Rattle.std.specs.Int.{w64}
 use Rattle.mg_base.specs.declared.numbers.RecId.{RecId}
 use Rattle.mg_base.specs.declared.transaction.TxState.{TxState}
@@ -16,7 +16,7 @@ use Rattle.mg_image.specs.Records.{Cells, Reading}
 use Rattle.mg_first.specs.KvTable.{kv_table}
 use Rattle.mg_first.specs.declared.pages.TheConstants.{PAGE, TRANSACTIONS}
 use Rattle.mg_tip.specs.TipPage.{state_in}
-use Rattle.mg_kv.specs.Fate.{fate_in}
+use Rattle.mg_kv.specs.Fate.{ended_in}
 use Rattle.mg_kv.specs.Ending.{DrawsNumber, EndsAlone, SettlesFacts}
 use Rattle.mg_kv.specs.Work.{live_facts, IsAtWork, WorksOn, WritesPage, Draws, CommitsWork, RollsBack, IsAtRest, RaisesHeader}
 use Rattle.mg_kv.specs.Shown.{ReadsVersions, opened_by, GivesCommitted, GivesRow, without_dead_newest, versions_below, AreLawful, shown_rows, limbo_changes}
@@ -80,7 +80,7 @@ WorkGoesOn = (old new : Pages) (state : ℕ → TxState) (r : Reading) (t : ℕ)
 abbrev pub WorkStarts : Type 0
 WorkStarts = (pages : Pages) (r : Reading) → IsAtRest pages r
     → length (pages TRANSACTIONS.0) ≡ PAGE → state_in (pages TRANSACTIONS.0) 0 ≡ Committed
-    → IsAtWork pages (fate_in (pages TRANSACTIONS.0) []) r
+    → IsAtWork pages (ended_in (pages TRANSACTIONS.0)) r
 
 -- a number is drawn
 abbrev pub WorkBegins : Type 0

@@ -1,5 +1,5 @@
 -- The pages of a database at rest: the program starts to work on them, and stops.
-use Rattle.std.proofs.Common.{◌≡◌, ◌≢◌, ◌⊎◌, inl, inr, refl, sym, ap, ◌∙◌, subst, arith, ℕ, ◌/◌, ◌%◌, ◌<◌, ◌≤◌, ◌==◌, nat_lt, Bool, true, false, List, [], length, le-ltb, lt-ltb, ne_eqb}
+use Rattle.std.proofs.Common.{◌≡◌, ◌≢◌, ◌⊎◌, inl, inr, refl, sym, ap, ◌∙◌, subst, arith, ℕ, ◌/◌, ◌%◌, ◌<◌, ◌≤◌, ◌==◌, nat_lt, Bool, true, false, List, length, le-ltb, lt-ltb, ne_eqb}
 use Rattle.std.specs.Prelude.{if◌then◌else◌}
 use Rattle.std.proofs.Math.Path.{fun_ext}
 use Rattle.std.proofs.lemmas.Bool.{cases_eq, cases_lt}
@@ -14,7 +14,7 @@ use Rattle.mg_image.specs.Sound.{HasTransactions, IsUndrawn}
 use Rattle.mg_first.specs.FirstImage.{kv_facts}
 use Rattle.mg_first.specs.PlaceLaws.{HasOneTip, none_of, state_by, state_is}
 use Rattle.mg_first.specs.declared.pages.TheConstants.{PAGE, TRANSACTIONS}
-use Rattle.mg_kv.specs.Fate.{ended_in, fate_in}
+use Rattle.mg_kv.specs.Fate.{ended_in}
 use Rattle.mg_kv.specs.Work.{live_facts, IsAtWork, IsAtRest}
 use Rattle.mg_kv.specs.Versions.{kept}
 use Rattle.mg_kv.specs.WorkStepLaws.{each_on_pages}
@@ -134,9 +134,9 @@ ended_is pages n has was len system u =
 -- so the program starts with what the page says, and nobody active
 pub work_starts_by_bits : (pages : Pages) (r : Reading) → IsAtRest pages r
     → length (pages TRANSACTIONS.0) ≡ PAGE → state_in (pages TRANSACTIONS.0) 0 ≡ Committed
-    → IsAtWork pages (fate_in (pages TRANSACTIONS.0) []) r
+    → IsAtWork pages (ended_in (pages TRANSACTIONS.0)) r
 work_starts_by_bits pages r rest len system =
-    let same : state_at PAGE pages ≡ fate_in (pages TRANSACTIONS.0) [] =
+    let same : state_at PAGE pages ≡ ended_in (pages TRANSACTIONS.0) =
     fun_ext (λ u. sym (ended_is pages (next_of pages) rest.tip rest.sound.transactions len system
     u)) in
     subst (λ (state : ℕ → TxState). IsAtWork pages state r) same (work_starts pages r rest)

@@ -195,8 +195,8 @@ abbrev pub written_over : ℕ → ℤ → ℤ → Option Newest → Slots → Sl
 written_over t key value None slots = make t key value slots
 written_over t key value (Some n) slots = over_newest t key value n slots
 
--- the slots once a transaction has written a row: the dead versions with its key are taken out, then
--- it is written over the record that takes the key
+-- the slots once a transaction has written a row: the dead versions with its key are taken out,
+-- then it is written over the record that takes the key
 unfoldable pub written : (ℕ → TxState) → ℕ → ℤ → ℤ → Slots → Slots
 written state t key value slots =
     let clean = cleaned state key slots in

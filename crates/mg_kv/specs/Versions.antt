@@ -12,8 +12,8 @@ use Rattle.mg_first.specs.KvTable.{kv_table}
 use Rattle.mg_first.specs.declared.pages.TheConstants.{KV_ROWS}
 use Rattle.mg_kv.specs.Slots.{is_dead}
 
--- what has become of a transaction, as the rules of records see it while the program works: one that
--- is active counts as one in limbo, since it may come to be committed
+-- what has become of a transaction, as the rules of records see it while the program works: one
+-- that is active counts as one in limbo, since it may come to be committed
 abbrev pub kept : TxState → TxState
 kept Active = Limbo
 kept Limbo = Limbo

@@ -1,29 +1,30 @@
 //! What has become of the transactions whose versions a page has.
 
-ghost use Rattle.std.specs.Prelude.{◌≡◌, ◌<◌, ◌≤◌, ◌^◌, ◌+◌, length, true};
+ghost use Rattle.std.specs.Prelude.{◌≡◌, length};
 ghost use Rattle.mg_first.specs.declared.pages.TheConstants.{PAGE_LEN};
-ghost use Rattle.mg_kv.specs.Fate.{fate_in, is_one_of};
+ghost use Rattle.mg_kv.specs.Fate.{fate_in};
 
 use mg_base::{TxNo, TxState};
 use mg_first::LAST;
+use mg_snap::Live;
 use mg_tip::state_at;
 
-/// What has become of each transaction: those that are active, and the transaction inventory page,
-/// which has the states of the others.
+/// What has become of each transaction: those that have not ended, which are active, and the
+/// transaction inventory page, which has the states of the others.
 #[derive(Clone, Copy, Debug)]
 pub struct Fates<'a> {
     pub bits: &'a [u8],
-    pub active: &'a [TxNo],
+    pub live: &'a Live,
 }
 
 impl<'a> Fates<'a> {
-    /// What has become of a transaction. One whose bits say active and that is not among the active
-    /// ones is dead, and so is one past the page.
+    /// What has become of a transaction. One whose bits say active and that is not among those that
+    /// have not ended is dead, and so is one past the page.
     pub fn of(&self, t: TxNo) -> TxState
         requires { length self.now.bits.now ≡ PAGE_LEN }
-        ensures { result ≡ fate_in self.now.bits.now self.now.active.now t.0 }
+        ensures { result ≡ fate_in self.now.bits.now self.now.live.now t.0 }
     {
-        if is_among(self.active, t) {
+        if self.live.is_unended(t) {
             return TxState::Active;
         }
         if t.0 >= LAST.0 {
@@ -35,18 +36,4 @@ impl<'a> Fates<'a> {
             TxState::Active | TxState::Dead => TxState::Dead,
         }
     }
-}
-
-// Whether a transaction is one of these.
-fn is_among(active: &[TxNo], t: TxNo) -> bool
-    ensures { result ≡ is_one_of active.now t.0 }
-{
-    let mut rest = active;
-    while let Some((first, others)) = rest.split_first() {
-        if *first == t {
-            return true;
-        }
-        rest = others;
-    }
-    false
 }

@@ -12,8 +12,8 @@
 //!
 //! Invariant: none, it keeps no state.
 //! Below: `mg_slots` and `mg_version`, for the page and its cells; `mg_first`, for the table KV and
-//! its image; `mg_generations`, for the versions that a history says. Above: `mg_served`, which
-//! keeps the page in memory.
+//! its image; `mg_snap`, for the transactions that have not ended; `mg_generations`, for the
+//! versions that a history says. Above: `mg_served`, which keeps the page in memory.
 //! Not here: who may write, and when a page is written to the disk.
 #![tactic(auto)]
 

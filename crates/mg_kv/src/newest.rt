@@ -63,7 +63,7 @@ pub(crate) fn newest_at(
 // Whether a record takes its key: its newest version is no committed deletion.
 fn takes(fates: &Fates, newest: &Newest) -> bool
     requires { length fates.now.bits.now ≡ PAGE_LEN }
-    ensures { result ≡ takes_in (fate_in fates.now.bits.now fates.now.active.now) newest.now }
+    ensures { result ≡ takes_in (fate_in fates.now.bits.now fates.now.live.now) newest.now }
 {
     if !newest.version.deleted {
         return true;
@@ -82,7 +82,7 @@ pub(crate) fn taker(
     requires lawful { IsDataPage rows.now }
     requires bits { length fates.now.bits.now ≡ PAGE_LEN }
     ensures found { IfOk result (λ found. (slots : Slots) → HasSlots rows.now slots
-        → found ≡ taker_in (fate_in fates.now.bits.now fates.now.active.now) key slots) }
+        → found ≡ taker_in (fate_in fates.now.bits.now fates.now.live.now) key slots) }
     ensures there { IfOk result (λ found. IfSome found (IsThere rows.now)) }
 {
     for slot in 0..slots(rows) {

@@ -51,7 +51,7 @@ pub fn generations(
     requires lawful { IsDataPage rows.now }
     requires bits { length fates.now.bits.now ≡ PAGE_LEN }
     ensures { IfOk result (λ found. AreVersionsIn rows.now
-        (fate_in fates.now.bits.now fates.now.active.now) key found.items) }
+        (fate_in fates.now.bits.now fates.now.live.now) key found.items) }
 {
     for slot in 0..slots(rows) {
         if let Some(found) = record_at(alloc, rows, fates, slot, key)? {
@@ -72,8 +72,8 @@ fn record_at(
     requires lawful { IsDataPage rows.now }
     requires bits { length fates.now.bits.now ≡ PAGE_LEN }
     ensures { IfOk result (λ found. MatchOption found
-        (TakesNot rows.now (fate_in fates.now.bits.now fates.now.active.now) key slot)
-        (λ found. TakesWith rows.now (fate_in fates.now.bits.now fates.now.active.now) key slot
+        (TakesNot rows.now (fate_in fates.now.bits.now fates.now.live.now) key slot)
+        (λ found. TakesWith rows.now (fate_in fates.now.bits.now fates.now.live.now) key slot
         found.items)) }
 {
     let Some(newest) = newest_at(alloc, rows, slot, key)? else {
@@ -90,7 +90,7 @@ fn record_at(
 // one is.
 fn newest_alive(fates: &Fates, newest: &Newest) -> Option<Link>
     requires { length fates.now.bits.now ≡ PAGE_LEN }
-    ensures { result ≡ newest_alive_in (fate_in fates.now.bits.now fates.now.active.now) newest.now }
+    ensures { result ≡ newest_alive_in (fate_in fates.now.bits.now fates.now.live.now) newest.now }
 {
     if fates.of(newest.version.tx) == TxState::Dead {
         return newest.version.back;
@@ -102,7 +102,7 @@ fn newest_alive(fates: &Fates, newest: &Newest) -> Option<Link>
 // deletion.
 fn take_key(fates: &Fates, versions: &[KvVersion]) -> bool
     requires { length fates.now.bits.now ≡ PAGE_LEN }
-    ensures { result ≡ take_key_in (fate_in fates.now.bits.now fates.now.active.now) versions.now }
+    ensures { result ≡ take_key_in (fate_in fates.now.bits.now fates.now.live.now) versions.now }
 {
     let Some(newest) = versions.first() else {
         return false;

@@ -1,19 +1,20 @@
 //! What is written on a page, and what is read of it, by hand.
 
-ghost use Rattle.std.specs.Prelude.{◌≡◌, length};
+ghost use Rattle.std.specs.Prelude.{◌≡◌, ◌<◌, length};
 ghost use Rattle.mg_slots.specs.DataPage.{IsDataPage};
 ghost use Rattle.mg_first.specs.declared.pages.TheConstants.{PAGE_LEN};
 
 use super::*;
-use mg_base::{PageNo, TxNo, TxState};
+use mg_base::{Memory, PageNo, TxNo, TxState};
 use mg_first::{PAGE_LEN, kv_rows_page};
 use mg_slots::{put_cell, room, slots};
+use mg_snap::Live;
 use mg_tip::{new_tip, set_state};
 use std::alloc::Global;
 use std::test::Fail;
 
-/// Two transactions that have committed, one that is rolled back, and one in limbo. No other one has
-/// a state: it is dead unless it is active.
+/// Two transactions that have committed, one that is rolled back, and one in limbo. No other one
+/// has a state: it is dead unless it is active.
 const FIRST: TxNo = TxNo(1);
 
 const SECOND: TxNo = TxNo(2);
@@ -34,6 +35,20 @@ fn states(bits: &mut [u8])
     set_state(bits, SECOND.0, TxState::Committed);
     set_state(bits, GONE.0, TxState::Dead);
     set_state(bits, HELD.0, TxState::Limbo);
+}
+
+// Five transactions were drawn, and all have ended.
+fn none_live(alloc: Global) -> Live {
+    Live::new(alloc, TxNo(6))
+}
+
+// All but this one have ended.
+fn one_live(alloc: Global, tx: TxNo) -> Result<Live, Memory>
+    requires { tx.0 < 6 }
+{
+    let mut live = Live::new(alloc, TxNo(6));
+    live.enter(tx)?;
+    Ok(live)
 }
 
 const FIRST_GIVES_10: KvVersion = KvVersion {
@@ -136,15 +151,11 @@ fn written(alloc: Global, bits: &[u8], case: &Case) -> Result<(u16, Vec<KvVersio
 {
     let mut rows = [0u8; PAGE_LEN];
     kv_rows_page(&mut rows);
-    let before = Fates {
-        bits,
-        active: &[GONE],
-    };
+    let gone = one_live(alloc, GONE)?;
+    let before = Fates { bits, live: &gone };
     write_all(alloc, &mut rows, &before, case.before)?;
-    let after = Fates {
-        bits,
-        active: &[OPEN],
-    };
+    let open = one_live(alloc, OPEN)?;
+    let after = Fates { bits, live: &open };
     write_all(alloc, &mut rows, &after, case.after)?;
     let found = generations(alloc, &rows, &after, 1)?;
     Ok((slots(&rows), found))
@@ -167,9 +178,10 @@ fn each_key_has_its_own_versions(rt: HostRuntime) -> Result<(), Fail> {
     let alloc = rt.alloc();
     let mut bits = [0u8; PAGE_LEN];
     states(&mut bits);
+    let live = none_live(alloc);
     let fates = Fates {
         bits: &bits,
-        active: &[],
+        live: &live,
     };
     let mut rows = [0u8; PAGE_LEN];
     kv_rows_page(&mut rows);
@@ -208,9 +220,10 @@ fn a_full_page_is_refused(rt: HostRuntime) -> Result<(), Fail> {
     let alloc = rt.alloc();
     let mut bits = [0u8; PAGE_LEN];
     states(&mut bits);
+    let live = none_live(alloc);
     let fates = Fates {
         bits: &bits,
-        active: &[],
+        live: &live,
     };
     let mut rows = [0u8; PAGE_LEN];
     kv_rows_page(&mut rows);
@@ -261,15 +274,17 @@ fn a_deletion_takes_its_key_until_it_is_committed(rt: HostRuntime) -> Result<(),
         writer: SECOND,
         given: Given::Deleted,
     };
+    let second = one_live(alloc, SECOND)?;
     let open = Fates {
         bits: &bits,
-        active: &[SECOND],
+        live: &second,
     };
     let found = generations(alloc, &rows, &open, 1).ok().ok_or("memory")?;
     assert_eq!(rt; found.as_slice(), [deletion, null].as_slice());
+    let last = one_live(alloc, OPEN)?;
     let committed = Fates {
         bits: &bits,
-        active: &[OPEN],
+        live: &last,
     };
     let found = generations(alloc, &rows, &committed, 1)
         .ok()
@@ -300,9 +315,10 @@ fn a_version_behind_itself_is_read_as_often_as_there_are_slots(
     let alloc = rt.alloc();
     let mut bits = [0u8; PAGE_LEN];
     states(&mut bits);
+    let live = none_live(alloc);
     let fates = Fates {
         bits: &bits,
-        active: &[],
+        live: &live,
     };
     let mut rows = [0u8; PAGE_LEN];
     kv_rows_page(&mut rows);

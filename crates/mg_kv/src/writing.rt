@@ -38,9 +38,9 @@ pub fn write(
     requires len { length rows.old ≡ PAGE_LEN }
     requires bits { length fates.now.bits.now ≡ PAGE_LEN }
     ensures written { OnOk result (Makes rows.old rows.new
-        (written (fate_in fates.now.bits.now fates.now.active.now) tx.0 key value)) }
+        (written (fate_in fates.now.bits.now fates.now.live.now) tx.0 key value)) }
     ensures no_room { IfErr result (λ fault. IfNoRoom fault (Lacks rows.old
-        (written (fate_in fates.now.bits.now fates.now.active.now) tx.0 key value))) }
+        (written (fate_in fates.now.bits.now fates.now.live.now) tx.0 key value))) }
     ensures lawful { IsDataPage rows.new }
     ensures len { length rows.new ≡ PAGE_LEN }
     ensures common { take COMMON rows.new ≡ take COMMON rows.old }
@@ -57,7 +57,7 @@ fn clean(alloc: Global, rows: &mut [u8], fates: &Fates, key: i64) -> Result<(), 
     requires lawful { IsDataPage rows.old }
     requires bits { length fates.now.bits.now ≡ PAGE_LEN }
     ensures cleaned { OnOk result (Makes rows.old rows.new
-        (cleaned (fate_in fates.now.bits.now fates.now.active.now) key)) }
+        (cleaned (fate_in fates.now.bits.now fates.now.live.now) key)) }
     ensures lawful { IsDataPage rows.new }
     ensures len { length rows.new ≡ length rows.old }
     ensures common { take COMMON rows.new ≡ take COMMON rows.old }
@@ -79,7 +79,7 @@ fn clean_slot(
     requires lawful { IsDataPage rows.old }
     requires bits { length fates.now.bits.now ≡ PAGE_LEN }
     ensures cleaned { OnOk result (Makes rows.old rows.new
-        (clean_at (fate_in fates.now.bits.now fates.now.active.now) key slot)) }
+        (clean_at (fate_in fates.now.bits.now fates.now.live.now) key slot)) }
     ensures lawful { IsDataPage rows.new }
     ensures len { length rows.new ≡ length rows.old }
     ensures common { take COMMON rows.new ≡ take COMMON rows.old }

@@ -1,4 +1,4 @@
--- Pages that are compared with new ones, and pages that are tested.
+-- Pages that are tested.
 use Rattle.std.proofs.Common.{◌≡◌, ◌↔◌, ◌⊎◌, inl, inr, ◌<◌, ◌≤◌, IsTrue, refl, sym, ap, ◌∙◌, subst, arith, ℕ, Bool, true, false, List, [], ◌∷◌, ◌++◌, Ok, Err}
 use Rattle.std.proofs.lemmas.Bool.{false≢true}
 use Rattle.std.specs.Result.{is_ok}
@@ -11,16 +11,6 @@ use Rattle.mg_base.specs.declared.numbers.PageNo.{PageNo}
 use Rattle.mg_first.specs.NewDatabase.{IsHeaderPage}
 use Rattle.mg_header.specs.HeaderPage.{marker_checks, nearest}
 use Rattle.mg_header.specs.declared.header.TheConstants.{GREATEST_NEXT, NEXT_AT}
-use Rattle.mg_slots.specs.PackedLaws.{AreBytes}
-
--- a page is the one with a property exactly where it has the bytes of one that has it
-pub told_one : (P : List ℕ → Type 0) (b c : List ℕ) (is : Bool)
-    → ((x y : List ℕ) → AreBytes x → AreBytes y → P x → P y → x ≡ y) → (IsTrue is ↔ (b ≡ c))
-    → AreBytes b → AreBytes c → P c → IsTrue is ↔ P b
-told_one P b c is one same bytes new_bytes has = (
-  λ yes. subst P (sym (same.0 yes)) has,
-  λ p. same.1 (one b c bytes new_bytes p has),
-)
 
 -- ---- tests
 

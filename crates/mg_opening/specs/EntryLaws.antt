@@ -181,7 +181,6 @@ form_opens one s pages o opened form is_ opening begins limit starts first slots
   begins = begins_with_kv pages r first known o opened begins held changes states;
   left = others_are_left pages r first known o opened begins held changes states;
   states = states;
-  idle = starts.idle;
   live = starts.live
       ∙ ap (λ (n : ℕ). idle_with n) (sym starts.has_next);
   at_start =

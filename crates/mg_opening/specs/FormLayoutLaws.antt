@@ -156,7 +156,8 @@ module _ (pages : Pages) (fixed : HasFixedPages pages) (fronts : HasFronts pages
       (ap (λ (s : Stand). table_at (s ∷ layout.tables) n) (sym catalog_is) ∙ of)
     where
       at : (b : Bool) → (n == CATALOG_ROWS.0) ≡ b
-          → table_at (stands_on (catalog_table CATALOG.0) CATALOG.0 CATALOG_ROWS.0 ∷ layout.tables) n
+          → table_at (stands_on (catalog_table CATALOG.0) CATALOG.0 CATALOG_ROWS.0 ∷ layout.tables)
+          n
           ≡ Some (catalog_table CATALOG.0) → n ≡ CATALOG_ROWS.0
       at true is more = eqb-true n CATALOG_ROWS.0 is
       at false is more = absurd (not_among layout.tables n (catalog_table CATALOG.0) refl apart

@@ -12,9 +12,9 @@ use mg_reading::{Image, ReadFault, RowCoding};
 use mg_soundness::{check_soundness, the_last_rule_is_soundness};
 use std::alloc::Global;
 
-/// Whether an image is of the first form: its pages equal those of a new database, but for the number
-/// of the next transaction, the bits of all transactions but the system's, and the cells of KV's data
-/// page, and it is sound. How many pages it has is not asked.
+/// Whether an image is of the first form: its pages equal those of a new database, but for the
+/// number of the next transaction, the bits of all transactions but the system's, and the cells of
+/// KV's data page, and it is sound. How many pages it has is not asked.
 ///
 /// # Errors
 ///

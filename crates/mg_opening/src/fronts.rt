@@ -12,16 +12,15 @@ ghost use Rattle.mg_reading.specs.ImageView.{pages_in};
 ghost use Rattle.mg_slots.specs.declared.page.TheConstants.{DATA_KIND};
 ghost use Rattle.mg_tip.specs.TipPage.{state_in, tip_checks};
 
-use crate::fixed::is_same;
 use mg_base::{TxNo, TxState, check_common, get_u32};
-use mg_first::{HEADER, KV, KV_ROWS, PAGE_LEN, TRANSACTIONS, header_page};
+use mg_first::{HEADER, KV, KV_ROWS, PAGE_LEN, TRANSACTIONS, header_page, is_same};
 use mg_header::{GREATEST_NEXT, NEXT_AT};
 use mg_reading::Image;
 use mg_slots::DATA_KIND;
 use mg_tip::{check_tip, state_at};
 
-/// Whether the header of an image is that of a new database but for the next number, the front of its
-/// transaction inventory page with the system's bits is, and the common part of KV's data page.
+/// Whether the header of an image is that of a new database but for the next number, the front of
+/// its transaction inventory page with the system's bits is, and the common part of KV's data page.
 pub fn has_fronts(image: &Image) -> bool
     requires { image.now.size ≡ PAGE }
     ensures { IsTrue result ↔ HasFronts (pages_in image.now) }

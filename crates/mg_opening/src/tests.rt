@@ -3,13 +3,15 @@
 ghost use Rattle.std.specs.Prelude.{◌≡◌, ◌≤◌, length};
 
 use super::*;
-use mg_base::{Bytes, Memory, TxNo, TxState};
+use mg_base::{Bytes, Memory, PageNo, TxNo, TxState};
 use mg_first::{
     CATALOG, INVENTORY, KV, KV_ROWS, PAGE, PAGE_LEN, TRANSACTIONS, catalog_page, catalog_rows_page,
-    header_page, inventory_page, kv_page, kv_rows_page, transaction_page,
+    header_page, inventory_page, is_unmade_page, kv_page, kv_rows_page, transaction_page,
 };
 use mg_kv::{Fates, write};
-use mg_reading::Image;
+use mg_reading::{Image, RowCoding};
+use mg_snap::Live;
+use mg_soundness::is_unmade;
 use mg_tip::set_state;
 use std::alloc::Global;
 use std::test::Fail;
@@ -118,7 +120,8 @@ fn rows_page(alloc: Global, bits: &[u8], row_by: Option<TxNo>) -> Result<[u8; PA
     let mut rows = [0u8; PAGE_LEN];
     kv_rows_page(&mut rows);
     if let Some(tx) = row_by {
-        let fates = Fates { bits, active: &[] };
+        let live = Live::new(alloc, TxNo(1));
+        let fates = Fates { bits, live: &live };
         write(alloc, &mut rows, &fates, tx, 1, 10)
             .ok()
             .ok_or("no room")?;
@@ -206,5 +209,29 @@ fn the_first_form_is_told_from_others(rt: HostRuntime) -> Result<(), Fail> {
             case.name
         );
     }
+    Ok(())
+}
+
+#[test]
+fn what_a_stopped_creation_leaves_is_unmade(rt: HostRuntime) -> Result<(), Fail> {
+    let alloc = rt.alloc();
+    // All pages of a new database but the header, which is written last.
+    let mut pages = pages_of(alloc, &with("a new database", 1, &[], None, true))?;
+    if !pages.is_empty() {
+        let zeros = Vec::from_slice(alloc, &[0u8; PAGE_LEN])
+            .ok()
+            .ok_or("memory")?;
+        pages[0] = Bytes::new(zeros);
+    }
+    let made = Image::new(alloc, PAGE, pages).ok().ok_or("memory")?;
+    let image = made.ok_or("pages of one size")?;
+    for n in 0..9u32 {
+        let unmade = is_unmade_page(alloc, PageNo(n), image.page(n));
+        assert_eq!(rt; unmade, Ok(true), "page {n}");
+        let next = is_unmade_page(alloc, PageNo(n + 1), image.page(n));
+        assert_eq!(rt; next, Ok(n == 0 || n > 6), "page {n} in the next place");
+    }
+    // The judge of images of every page size says so too, by its own definition of these pages.
+    assert_eq!(rt; is_unmade(alloc, &image, RowCoding::Plain), Ok(true));
     Ok(())
 }

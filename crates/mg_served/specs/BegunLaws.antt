@@ -1,5 +1,5 @@
 -- A transaction begins: the pages in memory stand for the history with its beginning.
-use Rattle.std.proofs.Common.{◌≡◌, ◌≢◌, ◌⊎◌, inl, inr, refl, sym, ap, ◌∙◌, subst, arith, ℕ, ◌<◌, Bool, true, false, List, [], ◌∷◌, ◌++◌, None, Some, cond, ◌==◌, ◌||◌}
+use Rattle.std.proofs.Common.{◌≡◌, ◌≢◌, ◌⊎◌, inl, inr, refl, sym, ap, ◌∙◌, subst, arith, ℕ, ◌<◌, Bool, true, false, List, [], ◌∷◌, None, Some, cond, ◌==◌, ◌||◌}
 use Rattle.std.specs.Prelude.{IsSome}
 use Rattle.std.proofs.lemmas.Bool.{cases_eq, eq-eqb, ne_eqb}
 use Rattle.mg_base.specs.declared.numbers.TxNo.{TxNo}
@@ -28,7 +28,7 @@ use Rattle.mg_first.specs.declared.pages.TheConstants.{HEADER, KV_ROWS, LAST, TR
 use Rattle.mg_header.specs.declared.header.Header.{Header}
 use Rattle.mg_kv.specs.EndedVersionsLaws.{versions_drawn}
 use Rattle.mg_kv.specs.Ending.{DrawsNumber}
-use Rattle.mg_kv.specs.Fate.{ended_in, is_one_of, ChangesActive}
+use Rattle.mg_kv.specs.Fate.{ended_in, is_unended, ChangesUnended}
 use Rattle.mg_kv.specs.FateLaws.{fate_draws}
 use Rattle.mg_kv.specs.LiveFactsLaws.{live_draws}
 use Rattle.mg_kv.specs.Shown.{GivesRow}
@@ -36,15 +36,17 @@ use Rattle.mg_kv.specs.Slots.{HasSlots, Slots}
 use Rattle.mg_kv.specs.WorkBeginLaws.{draws_becomes, work_begins}
 use Rattle.mg_kv.specs.Work.{Draws}
 use Rattle.mg_served.specs.Deeds.{Enters, fate_of}
-use Rattle.mg_served.specs.LiveForLaws.{begun_was_dead, live_begins}
+use Rattle.mg_served.specs.LiveForLaws.{among_entered, begun_was_dead, live_begins}
 use Rattle.mg_served.specs.QuietLaws.{served_quietly}
 use Rattle.mg_served.specs.Serving.{ActiveGives, AreLiveFor, HasBegun, IsServed, RunSteadily, live_facts, pages_of, slots_after}
 use Rattle.mg_served.specs.declared.served.Served.{Served}
 
 -- ---- no number is left
 
-pub begins_not : (s : Served) (entered : Pages) (first : Slots) (o : Opening) (h : Entries) (session : ℕ)
-    (mode : Mode) → s.next ≡ LAST → IsServed s entered first o h → HasBegun s entered first o h session mode None
+pub begins_not : (s : Served) (entered : Pages) (first : Slots) (o : Opening) (h : Entries)
+    (session : ℕ)
+    (mode : Mode) → s.next ≡ LAST → IsServed s entered first o h
+    → HasBegun s entered first o h session mode None
 begins_not s entered first o h session mode last it = (
   none,
   served_quietly s entered first o h (entry (Begin session mode) (No TransactionLimit)) refl
@@ -61,22 +63,8 @@ begins_not s entered first o h session mode last it = (
 
 -- ---- a number is drawn
 
--- one transaction more at the end
-one_of_more : (us : List TxNo) (t v : ℕ)
-    → is_one_of (us ++ number t ∷ []) v ≡ (is_one_of us v || (t == v))
-one_of_more [] t v = at (t == v)
-  where
-    at : (b : Bool) → (b || false) ≡ b
-    at true = refl
-    at false = refl
-one_of_more (u ∷ us) t v = at (u.0 == v) (one_of_more us t v)
-  where
-    at : (b : Bool) → is_one_of (us ++ number t ∷ []) v ≡ (is_one_of us v || (t == v))
-        → (b || is_one_of (us ++ number t ∷ []) v) ≡ ((b || is_one_of us v) || (t == v))
-    at true more = refl
-    at false more = more
-
-module _ (old new : Served) (entered : Pages) (first : Slots) (o : Opening) (h : Entries) (session : ℕ) (mode : Mode)
+module _ (old new : Served) (entered : Pages) (first : Slots) (o : Opening) (h : Entries)
+    (session : ℕ) (mode : Mode)
     (t : ℕ) (snapshot : mode.snapshot ≡ true) (next : t ≡ old.next.0) (below : t ≢ LAST.0)
     (enters : Enters old new t) (it : IsServed old entered first o h) where
   abbrev e : Entry
@@ -106,30 +94,20 @@ module _ (old new : Served) (entered : Pages) (first : Slots) (o : Opening) (h :
   was_dead = begun_was_dead old.live o it.opening h e
       legal it.live t mode refl
 
-  one_of : (v : ℕ) → is_one_of new.active.items v ≡ (is_one_of old.active.items v || (t == v))
-  one_of v =
-      ap (λ (us : List TxNo). is_one_of us v) enters.active ∙ one_of_more old.active.items t v
+  entered_more : (v : ℕ) → is_unended new.live v ≡ (is_unended old.live v || (t == v))
+  entered_more v =
+      ap (λ (live : State). is_unended live v) enters.live
+      ∙ among_entered old.live o it.opening h e legal it.live t mode refl v
 
   fates : (v : ℕ) → fate_of new v ≡ cond (t == v) Active (state_of o h v)
   fates v =
-      ap (λ (b : Bool). cond b Active (ended_in new.bits v)) (one_of v)
-      ∙ ap (λ (bits : List ℕ). cond (is_one_of old.active.items v || (t == v)) Active
+      ap (λ (b : Bool). cond b Active (ended_in new.bits v)) (entered_more v)
+      ∙ ap (λ (bits : List ℕ). cond (is_unended old.live v || (t == v)) Active
       (ended_in bits v)) enters.bits
-      ∙ at (t == v) (is_one_of old.active.items v) (it.fates v)
+      ∙ at (t == v) (is_unended old.live v) (it.fates v)
     where
       at : (b c : Bool) → cond c Active (ended_in old.bits v) ≡ state_of o h v
           → cond (c || b) Active (ended_in old.bits v) ≡ cond b Active (state_of o h v)
-      at true true was = refl
-      at true false was = refl
-      at false true was = was
-      at false false was = was
-
-  active : (v : ℕ)
-      → is_one_of new.active.items v ≡ is_active (cond (t == v) Active (state_of o h v))
-  active v = one_of v ∙ at (t == v) (is_one_of old.active.items v) (it.active v)
-    where
-      at : (b c : Bool) → c ≡ is_active (state_of o h v)
-          → (c || b) ≡ is_active (cond b Active (state_of o h v))
       at true true was = refl
       at true false was = refl
       at false true was = was
@@ -145,24 +123,24 @@ module _ (old new : Served) (entered : Pages) (first : Slots) (o : Opening) (h :
 
       at : (t ≡ v) ⊎ (t ≢ v) → ended_in old.bits v ≡ Dead
       at (inl same) = rw (sym same)
-          (of_dead (is_one_of old.active.items t) (it.active t ∙ ap is_active was_dead)
+          (of_dead (is_unended old.live t) (it.live.active t ∙ ap is_active was_dead)
           (it.fates t ∙ was_dead))
       at (inr other) =
           let apart : (t == v) ≡ false = ne_eqb t v other in it.bits v (rw apart at now)
 
   -- ---- the pages
 
-  changes : ChangesActive old.active.items new.active.items t true
-  changes = record { here = one_of t ∙ here (is_one_of old.active.items t); others = others }
+  changes : ChangesUnended old.live new.live t true
+  changes = record { here = entered_more t ∙ here (is_unended old.live t); others = others }
     where
       here : (b : Bool) → (b || (t == t)) ≡ true
       here true = refl
       here false = eq-eqb t t refl
 
-      others : (u : ℕ) → u ≢ t → is_one_of new.active.items u ≡ is_one_of old.active.items u
-      others u other = one_of u
-          ∙ (ap (λ (b : Bool). is_one_of old.active.items u || b)
-          (ne_eqb t u (λ same. other (sym same))) ∙ nothing (is_one_of old.active.items u))
+      others : (u : ℕ) → u ≢ t → is_unended new.live u ≡ is_unended old.live u
+      others u other = entered_more u
+          ∙ (ap (λ (b : Bool). is_unended old.live u || b)
+          (ne_eqb t u (λ same. other (sym same))) ∙ nothing (is_unended old.live u))
         where
           nothing : (b : Bool) → (b || false) ≡ b
           nothing true = refl
@@ -195,11 +173,12 @@ module _ (old new : Served) (entered : Pages) (first : Slots) (o : Opening) (h :
   room = let last = it.work.tip.last in omega (arith, last, was_next, below)
 
   draws : Draws (pages_of entered old) (pages_of entered new) (fate_of old) (fate_of new) t
-  draws = fate_draws (pages_of entered old) (pages_of entered new) old.active.items
-      new.active.items t raises (sym was_next) room changes
+  draws = fate_draws (pages_of entered old) (pages_of entered new) old.live
+      new.live t raises (sym was_next) room changes
 
   draws_number : DrawsNumber (live_facts entered old) (live_facts entered new) t
-  draws_number = live_draws (pages_of entered old) (pages_of entered new) (fate_of old) (fate_of new) t
+  draws_number = live_draws (pages_of entered old) (pages_of entered new) (fate_of old)
+      (fate_of new) t
       Active (draws_becomes (pages_of entered old) (pages_of entered new) (fate_of old)
       (fate_of new) t draws) (omega (arith, was_next))
 
@@ -218,7 +197,12 @@ module _ (old new : Served) (entered : Pages) (first : Slots) (o : Opening) (h :
           was (rw apart at now)
 
   runs : RunSteadily o (e ∷ h)
-  runs = record { snapshots = snapshots; drawn_at_base = at_base; undecided = (limbo, it.runs.undecided) }
+  runs = record {
+    snapshots = snapshots;
+    drawn_at_base = at_base;
+    undecided =
+        (limbo, it.runs.undecided);
+  }
     where
       snapshots : (v : ℕ) → (cond (t == v) mode (mode_of h v)).snapshot ≡ true
       snapshots v = at (t == v)
@@ -261,7 +245,6 @@ module _ (old new : Served) (entered : Pages) (first : Slots) (o : Opening) (h :
       begins = it.begins;
       numbers = (refl, it.numbers);
       fates = fates;
-      active = active;
       bits = bits;
       live = subst (λ (live : State). AreLiveFor live o
           (e ∷ h)) (sym enters.live)
@@ -274,7 +257,8 @@ module _ (old new : Served) (entered : Pages) (first : Slots) (o : Opening) (h :
       work = work_begins (pages_of entered old) (pages_of entered new) (fate_of old) (fate_of new)
           it.reading t it.work draws;
       versions = it.versions;
-      are_read = λ key. versions_drawn plain_coding (live_facts entered old) (live_facts entered new)
+      are_read = λ key. versions_drawn plain_coding (live_facts entered old)
+          (live_facts entered new)
           (cells_of (pages_of entered old)) it.reading t key (it.versions key) draws_number
           it.work.records (it.are_read key);
       are_said = λ key. generations_left o it.opening h

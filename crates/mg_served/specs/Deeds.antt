@@ -1,5 +1,5 @@
 -- What single calls read from the pages in memory, and what they do to them.
-use Rattle.std.specs.Prelude.{◌≡◌, ◌==◌, ◌&&◌, ◌||◌, ◌+◌, ℕ, ℤ, Bool, true, false, List, [], ◌∷◌, ◌++◌, take, length, Option, None, Some, if◌then◌else◌}
+use Rattle.std.specs.Prelude.{◌≡◌, ◌==◌, ◌&&◌, ◌||◌, ◌+◌, ℕ, ℤ, Bool, true, false, List, [], ◌∷◌, take, length, Option, None, Some, if◌then◌else◌}
 use Rattle.mg_base.specs.declared.fields.TheConstants.{COMMON}
 use Rattle.mg_base.specs.declared.transaction.TxState.{TxState}
 use Rattle.mg_base.specs.declared.transaction.TxState.TheVariants.{Active, Limbo, Dead, Committed}
@@ -14,12 +14,12 @@ use Rattle.mg_kv.specs.Slots.{Lacks, Makes, written}
 use Rattle.mg_kv.specs.declared.reading.Given.{Given}
 use Rattle.mg_kv.specs.declared.reading.Given.TheVariants.{Deleted, Null, Number}
 use Rattle.mg_kv.specs.declared.reading.KvVersion.{KvVersion}
-use Rattle.mg_served.specs.Numbers.{without_number}
 use Rattle.mg_served.specs.declared.served.Served.{Served}
 
--- what has become of a transaction, by the page and the active ones; one that was not drawn is dead
+-- what has become of a transaction, by the page and those that have not ended; one that was not
+-- drawn is dead
 abbrev pub fate_of : Served → ℕ → TxState
-fate_of s t = fate_in s.bits s.active.items t
+fate_of s t = fate_in s.bits s.live t
 
 -- ---- what a transaction sees
 
@@ -41,8 +41,8 @@ is_row (Some (Number value)) = true
 
 -- ---- who is in the way
 
--- what a transaction is refused for where another one's version is the newest, by what has become of
--- that one and whether it is seen
+-- what a transaction is refused for where another one's version is the newest, by what has become
+-- of that one and whether it is seen
 abbrev pub refusal_by : TxState → Bool → ℕ → Option Refusal
 refusal_by Active saw u = Some (LockConflict (number u))
 refusal_by Limbo saw u = Some (InLimbo (number u))
@@ -65,7 +65,6 @@ pub record Starts (s : Served) (header bits rows : List ℕ) (next : ℕ) : Type
   pub has_bits : s.bits ≡ bits
   pub has_rows : s.rows ≡ rows
   pub has_next : s.next.0 ≡ next
-  pub idle : s.active.items ≡ []
   pub live : s.live ≡ record { next = next; entered = [] }
 
 -- A transaction has entered.
@@ -75,16 +74,14 @@ pub record Enters (old new : Served) (t : ℕ) : Type 0 where
   pub rows : new.rows ≡ old.rows
   pub next : new.next.0 ≡ t + 1
   pub live : new.live ≡ after_enter old.live t
-  pub active : new.active.items ≡ old.active.items ++ number t ∷ []
 
--- Nothing has changed but the room that lists have taken.
+-- Nothing has changed.
 pub record IsAsBefore (old new : Served) : Type 0 where
   pub header : new.header ≡ old.header
   pub bits : new.bits ≡ old.bits
   pub rows : new.rows ≡ old.rows
   pub next : new.next ≡ old.next
   pub live : new.live ≡ old.live
-  pub active : new.active.items ≡ old.active.items
 
 -- A transaction has left.
 pub record Leaves (old new : Served) (t : ℕ) : Type 0 where
@@ -93,7 +90,6 @@ pub record Leaves (old new : Served) (t : ℕ) : Type 0 where
   pub rows : new.rows ≡ old.rows
   pub next : new.next ≡ old.next
   pub live : new.live ≡ after_leave old.live t
-  pub active : new.active.items ≡ without_number t old.active.items
 
 -- A row of a transaction has been stored: all but the page stays.
 pub record HasStored (old new : Served) (t : ℕ) (key value : ℤ) : Type 0 where
@@ -101,7 +97,6 @@ pub record HasStored (old new : Served) (t : ℕ) (key value : ℤ) : Type 0 whe
   pub bits : new.bits ≡ old.bits
   pub next : new.next ≡ old.next
   pub live : new.live ≡ old.live
-  pub active : new.active.items ≡ old.active.items
   pub rows : Makes old.rows new.rows (written (fate_of old) t key value)
   pub common : take COMMON new.rows ≡ take COMMON old.rows
   pub len : length new.rows ≡ PAGE

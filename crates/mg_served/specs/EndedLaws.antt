@@ -1,5 +1,6 @@
--- A transaction is committed or rolled back: the pages in memory stand for the history with its end.
-use Rattle.std.proofs.Common.{◌≡◌, ◌≢◌, inl, inr, refl, sym, ap, ◌∙◌, subst, arith, ℕ, ◌<◌, ◌≤◌, ℤ, Bool, true, false, List, [], ◌∷◌, cond, ◌==◌, ◌||◌, not}
+-- A transaction is committed or rolled back: the pages in memory stand for the history with its
+-- end.
+use Rattle.std.proofs.Common.{◌≡◌, ◌≢◌, inl, inr, refl, sym, ap, ◌∙◌, subst, arith, ℕ, ◌<◌, ◌≤◌, ℤ, Bool, true, false, List, [], ◌∷◌, cond, ◌==◌}
 use Rattle.std.specs.Prelude.{length, nat_lt}
 use Rattle.std.proofs.lemmas.Bool.{cases_eq, eq-eqb, ne_eqb, eqb-true, false≢true, lt-ltb}
 use Rattle.mg_base.specs.declared.numbers.TxNo.{TxNo}
@@ -28,7 +29,7 @@ use Rattle.mg_first.specs.PageChanges.{OnlyPage}
 use Rattle.mg_first.specs.declared.pages.TheConstants.{LAST, PAGE, TRANSACTIONS}
 use Rattle.mg_kv.specs.EndedVersionsLaws.{versions_with_committed, versions_without_dead}
 use Rattle.mg_kv.specs.Ending.{EndsAlone}
-use Rattle.mg_kv.specs.Fate.{ended_in, is_one_of}
+use Rattle.mg_kv.specs.Fate.{ended_in, is_unended}
 use Rattle.mg_kv.specs.LiveFactsLaws.{Becomes, live_ends as ends_alone}
 use Rattle.mg_kv.specs.Shown.{GivesRow}
 use Rattle.mg_kv.specs.Slots.{HasSlots, Slots}
@@ -38,37 +39,11 @@ use Rattle.mg_kv.specs.Work.{IsAtWork}
 use Rattle.mg_kv.specs.WorkStepLaws.{work_rolls_back}
 use Rattle.mg_lines.specs.Given.{commits, rolls_back}
 use Rattle.mg_served.specs.Deeds.{Leaves, fate_of}
-use Rattle.mg_served.specs.LiveForLaws.{live_ends}
+use Rattle.mg_served.specs.LiveForLaws.{live_ends, none_among_rest, others_among_rest}
 use Rattle.mg_served.specs.NumberKeys.{has_number_key}
-use Rattle.mg_served.specs.Numbers.{without_number}
 use Rattle.mg_served.specs.QuietLaws.{still_gives}
 use Rattle.mg_served.specs.Serving.{ActiveGives, AreLiveFor, IsServed, RunSteadily, live_facts, pages_of, slots_after, slots_with}
 use Rattle.mg_served.specs.declared.served.Served.{Served}
-
--- ---- the active ones
-
-none_left : (us : List TxNo) (t : ℕ) → is_one_of (without_number t us) t ≡ false
-none_left [] t = refl
-none_left (u ∷ us) t = at (u.0 == t) refl (none_left us t)
-  where
-    at : (b : Bool) → (u.0 == t) ≡ b → is_one_of (without_number t us) t ≡ false
-        → is_one_of (cond (not b) (u ∷ without_number t us) (without_number t us)) t ≡ false
-    at true is more = more
-    at false is more = ap (λ (b : Bool). b || is_one_of (without_number t us) t) is ∙ more
-
-others_left : (us : List TxNo) (t v : ℕ) → t ≢ v
-    → is_one_of (without_number t us) v ≡ is_one_of us v
-others_left [] t v other = refl
-others_left (u ∷ us) t v other = at (u.0 == t) refl (others_left us t v other)
-  where
-    at : (b : Bool) → (u.0 == t) ≡ b → is_one_of (without_number t us) v ≡ is_one_of us v
-        → is_one_of (cond (not b) (u ∷ without_number t us) (without_number t us)) v
-        ≡ ((u.0 == v) || is_one_of us v)
-    at true is more =
-        let apart : (u.0 == v) ≡ false =
-        ne_eqb u.0 v (λ same. other (sym (eqb-true u.0 t is) ∙ same)) in
-        more ∙ sym (ap (λ (b : Bool). b || is_one_of us v) apart)
-    at false is more = ap (λ (b : Bool). (u.0 == v) || b) more
 
 -- ---- rows of versions
 
@@ -126,9 +101,9 @@ pub record HasEnded (old new : Served) (t : ℕ) (end : TxState) : Type 0 where
   pub rows : new.rows ≡ old.rows
   pub next : new.next ≡ old.next
   pub live : new.live ≡ after_leave old.live t
-  pub active : new.active.items ≡ without_number t old.active.items
 
-module _ (old new : Served) (entered : Pages) (first : Slots) (o : Opening) (h : Entries) (e : Entry) (t : ℕ)
+module _ (old new : Served) (entered : Pages) (first : Slots) (o : Opening) (h : Entries)
+    (e : Entry) (t : ℕ)
     (end : TxState) (is : effect_of e ≡ Ends t end) (closed : is_active end ≡ false)
     (lawful : IsLawful o h e) (ends : HasEnded old new t end) (now : state_of o h t ≡ Active)
     (it : IsServed old entered first o h) where
@@ -147,36 +122,29 @@ module _ (old new : Served) (entered : Pages) (first : Slots) (o : Opening) (h :
   is_other v active same =
       false≢true (sym closed ∙ ap is_active (sym itself ∙ ap (state_of o (e ∷ h)) same ∙ active))
 
-  active_same : is_one_of new.active.items t ≡ false
-  active_same =
-      ap (λ (us : List TxNo). is_one_of us t) ends.active ∙ none_left old.active.items t
+  ended_same : is_unended new.live t ≡ false
+  ended_same =
+      ap (λ (live : State). is_unended live t) ends.live ∙ none_among_rest old.live.entered t
 
-  active_other : (v : ℕ) → t ≢ v → is_one_of new.active.items v ≡ is_one_of old.active.items v
-  active_other v other =
-      ap (λ (us : List TxNo). is_one_of us v) ends.active
-      ∙ others_left old.active.items t v other
+  unended_other : (v : ℕ) → t ≢ v → is_unended new.live v ≡ is_unended old.live v
+  unended_other v other =
+      ap (λ (live : State). is_unended live v) ends.live
+      ∙ others_among_rest old.live.entered t v other
 
   fate_same : fate_of new t ≡ end
   fate_same =
-      ap (λ (b : Bool). cond b Active (ended_in new.bits t)) active_same ∙ ends.bits.here
+      ap (λ (b : Bool). cond b Active (ended_in new.bits t)) ended_same ∙ ends.bits.here
 
   fate_other : (v : ℕ) → t ≢ v → fate_of new v ≡ fate_of old v
   fate_other v other =
-      ap (λ (b : Bool). cond b Active (ended_in new.bits v)) (active_other v other)
-      ∙ ap (λ (s : TxState). cond (is_one_of old.active.items v) Active s)
+      ap (λ (b : Bool). cond b Active (ended_in new.bits v)) (unended_other v other)
+      ∙ ap (λ (s : TxState). cond (is_unended old.live v) Active s)
       (ends.bits.others v (λ same. other (sym same)))
 
   fates : (v : ℕ) → fate_of new v ≡ state_of o (e ∷ h) v
   fates v = elim (cases_eq t v) [
     | inl same ↦ rw (sym same) (fate_same ∙ sym itself)
     | inr other ↦ fate_other v other ∙ it.fates v ∙ sym (others v other)
-  ]
-
-  active : (v : ℕ) → is_one_of new.active.items v ≡ is_active (state_of o (e ∷ h) v)
-  active v = elim (cases_eq t v) [
-    | inl same ↦ rw (sym same) (active_same ∙ sym (ap is_active itself ∙ closed))
-    | inr other ↦
-        active_other v other ∙ it.active v ∙ ap is_active (sym (others v other))
   ]
 
   bits : (v : ℕ) → state_of o (e ∷ h) v ≡ Active → ended_in new.bits v ≡ Dead
@@ -245,7 +213,6 @@ module _ (old new : Served) (entered : Pages) (first : Slots) (o : Opening) (h :
     begins = it.begins;
     numbers = (ap has_number_key is, it.numbers);
     fates = fates;
-    active = active;
     bits = bits;
     live = subst (λ (live : State). AreLiveFor live o (e ∷ h)) (sym ends.live)
         (live_ends old.live o h e t end is closed it.live);
@@ -277,7 +244,6 @@ module _ (old new : Served) (entered : Pages) (first : Slots) (o : Opening) (h :
     rows = leaves.rows;
     next = leaves.next;
     live = leaves.live;
-    active = leaves.active;
   }
 
   abbrev pub back : Entry
@@ -338,7 +304,6 @@ pub record HasCommitted (old new : Served) (t : ℕ) : Type 0 where
   pub rows : new.rows ≡ old.rows
   pub next : new.next ≡ old.next
   pub live : new.live ≡ after_leave old.live t
-  pub active : new.active.items ≡ without_number t old.active.items
 
 module _ (old new : Served) (entered : Pages) (first : Slots) (o : Opening) (h : Entries) (t : ℕ)
     (numbered : old.next.0 ≤ LAST.0) (commits_ : HasCommitted old new t)
@@ -356,7 +321,6 @@ module _ (old new : Served) (entered : Pages) (first : Slots) (o : Opening) (h :
     rows = commits_.rows;
     next = commits_.next;
     live = commits_.live;
-    active = commits_.active;
   }
     where
       placed : nat_lt t (places (length new.bits)) ≡ true
@@ -422,13 +386,12 @@ module _ (old new : Served) (entered : Pages) (first : Slots) (o : Opening) (h :
 -- it left once its bits were set
 pub commits_by_leaving : (old mid new : Served) (t : ℕ) → SetsState old.bits mid.bits t Committed
     → mid.header ≡ old.header → mid.rows ≡ old.rows
-    → mid.next ≡ old.next → mid.live ≡ old.live → mid.active.items ≡ old.active.items
+    → mid.next ≡ old.next → mid.live ≡ old.live
     → Leaves mid new t → HasCommitted old new t
-commits_by_leaving old mid new t sets header rows next live active leaves = record {
+commits_by_leaving old mid new t sets header rows next live leaves = record {
   header = leaves.header ∙ header;
   bits = subst (λ (bits : List ℕ). SetsState old.bits bits t Committed) (sym leaves.bits) sets;
   rows = leaves.rows ∙ rows;
   next = leaves.next ∙ next;
   live = leaves.live ∙ ap (λ (state : State). after_leave state t) live;
-  active = leaves.active ∙ ap (without_number t) active;
 }

@@ -2,9 +2,9 @@
 -- a transaction sees of them is what it sees in the history.
 use Rattle.std.proofs.Common.{◌≡◌, refl, sym, ap, ◌∙◌, subst, ℕ, ℤ, Bool, true, false, List, [], ◌∷◌, Option, None, Some, cond}
 use Rattle.std.specs.Prelude.{map, is_some}
-use Rattle.mg_base.specs.declared.numbers.TxNo.{TxNo}
 use Rattle.mg_base.specs.declared.transaction.TxState.TheVariants.{Active}
 use Rattle.mg_value.specs.declared.value.Value.TheVariants.{Int}
+use Rattle.mg_snap.specs.Live.{State}
 use Rattle.mg_model.specs.declared.opening.Opening.{Opening}
 use Rattle.mg_model.specs.Answers.{is_open, told}
 use Rattle.mg_model.specs.Changes.{row_at}
@@ -102,14 +102,14 @@ module _ (s : Served) (entered : Pages) (first : Slots) (o : Opening) (h : Entri
       (ap is_open now))
 
 -- what is read with other spellings of the same arguments
-pub found_in : (s : Served) (bits : List ℕ) (active : List TxNo) (sent key : ℤ)
-    (found : List KvVersion) → bits ≡ s.bits → active ≡ s.active.items → sent ≡ key
-    → AreVersionsIn s.rows (fate_in bits active) sent found
+pub found_in : (s : Served) (bits : List ℕ) (live : State) (sent key : ℤ)
+    (found : List KvVersion) → bits ≡ s.bits → live ≡ s.live → sent ≡ key
+    → AreVersionsIn s.rows (fate_in bits live) sent found
     → AreVersionsIn s.rows (fate_of s) key found
-found_in s bits active sent key found same_bits same_active same_key are =
+found_in s bits live sent key found same_bits same_live same_key are =
     subst (λ (z : ℤ). AreVersionsIn s.rows (fate_of s) z found) same_key
-    (subst (λ (us : List TxNo). AreVersionsIn s.rows (fate_in s.bits us) sent found) same_active
-    (subst (λ (b : List ℕ). AreVersionsIn s.rows (fate_in b active) sent found) same_bits are))
+    (subst (λ (l : State). AreVersionsIn s.rows (fate_in s.bits l) sent found) same_live
+    (subst (λ (b : List ℕ). AreVersionsIn s.rows (fate_in b live) sent found) same_bits are))
 
 -- ---- whether there is a row
 

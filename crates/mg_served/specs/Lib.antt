@@ -11,7 +11,6 @@ pub mod Laws
 pub mod LiveForLaws
 pub mod NumberKeyLaws
 pub mod NumberKeys
-pub mod Numbers
 pub mod OpenedLaws
 pub mod QuietLaws
 pub mod RaisedHoldsLaws

@@ -27,7 +27,7 @@ or_true true = refl
 or_true false = refl
 
 -- a number more at the end
-among_more : (xs : List ℕ) (u t : ℕ) → is_among (xs ++ u ∷ []) t ≡ (is_among xs t || (u == t))
+pub among_more : (xs : List ℕ) (u t : ℕ) → is_among (xs ++ u ∷ []) t ≡ (is_among xs t || (u == t))
 among_more [] u t = or_nothing (u == t)
 among_more (x ∷ xs) u t = at (x == t) (among_more xs u t)
   where
@@ -37,7 +37,7 @@ among_more (x ∷ xs) u t = at (x == t) (among_more xs u t)
     at false h = h
 
 -- without the entries of a number it is not among the rest
-none_among_rest : (es : List Entered) (u : ℕ) → is_among (numbers_of (without u es)) u ≡ false
+pub none_among_rest : (es : List Entered) (u : ℕ) → is_among (numbers_of (without u es)) u ≡ false
 none_among_rest [] u = refl
 none_among_rest (x ∷ xs) u = at (x.number == u) refl (none_among_rest xs u)
   where
@@ -47,7 +47,7 @@ none_among_rest (x ∷ xs) u = at (x.number == u) refl (none_among_rest xs u)
     at false e h = ap (λ (b : Bool). b || is_among (numbers_of (without u xs)) u) e ∙ h
 
 -- another number is among the rest as it was among all
-others_among_rest : (es : List Entered) (u t : ℕ) → u ≢ t
+pub others_among_rest : (es : List Entered) (u t : ℕ) → u ≢ t
     → is_among (numbers_of (without u es)) t ≡ is_among (numbers_of es) t
 others_among_rest [] u t other = refl
 others_among_rest (x ∷ xs) u t other =
@@ -165,7 +165,7 @@ module _ (live : State) (o : Opening) (opening : MayBegin o) (h : Entries) (e : 
   base_of_others u other =
       cut_of_begun u ∙ ap (λ (b : Bool). cond b h (cut_at_base h u)) (ne_eqb t u other)
 
-  among_entered : (u : ℕ)
+  pub among_entered : (u : ℕ)
       → is_among (unended_in (after_enter live t)) u ≡ (is_among (unended_in live) u || (t == u))
   among_entered u =
       ap (λ (ns : List ℕ). is_among ns u) (map-append (λ (x : Entered). x.number) live.entered _)

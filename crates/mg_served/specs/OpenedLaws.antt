@@ -3,7 +3,6 @@ use Rattle.std.proofs.Common.{◌≡◌, ◌≢◌, ◌⊎◌, inl, inr, refl, s
 use Rattle.std.specs.Prelude.{length, nat_lt}
 use Rattle.std.proofs.Math.Path.{fun_ext}
 use Rattle.std.proofs.lemmas.Bool.{cases_eq, ne_eqb, false≢true}
-use Rattle.mg_base.specs.declared.numbers.TxNo.{TxNo}
 use Rattle.mg_base.specs.declared.transaction.TxState.{TxState}
 use Rattle.mg_base.specs.declared.transaction.TxState.TheVariants.{Active, Limbo, Dead, Committed}
 use Rattle.mg_value.specs.declared.value.Value.TheVariants.{Int}
@@ -28,7 +27,7 @@ use Rattle.mg_first.specs.FirstImage.{kv_facts}
 use Rattle.mg_first.specs.KvTable.{kv_shape}
 use Rattle.mg_first.specs.NewDatabase.{IsHeaderPage}
 use Rattle.mg_first.specs.declared.pages.TheConstants.{HEADER, KV_ROWS, LAST, PAGE, TRANSACTIONS}
-use Rattle.mg_kv.specs.Fate.{ended_in, fate_in, is_one_of}
+use Rattle.mg_kv.specs.Fate.{ended_in, is_unended}
 use Rattle.mg_kv.specs.Work.{live_facts as facts_at_work, IsAtWork, IsAtRest}
 use Rattle.mg_kv.specs.RestLaws.{ended_is, work_starts_by_bits}
 use Rattle.mg_kv.specs.Slots.{HasSlots, Slots}
@@ -50,12 +49,12 @@ pub record Opens (s : Served) (entered : Pages) (first : Slots) (o : Opening) : 
   pub opening : MayBegin o
   pub limit : o.limit ≡ LAST
   pub drawn : o.next.0 ≡ s.next.0
-  -- it begins with KV and the catalog of a new database, and nobody in limbo has changed another table
+  -- it begins with KV and the catalog of a new database, and nobody in limbo has changed another
+  -- table
   pub begins : BeginsWithKv entered o
   pub left : (name : List ℕ) → same_name name kv_name ≡ false → LeavesTable o name []
   -- the image says what has become of each transaction, and none is active
   pub states : (t : ℕ) → state_at PAGE entered t ≡ opening_state o t
-  pub idle : s.active.items ≡ []
   pub live : s.live ≡ record { next = s.next.0; entered = [] }
   -- the pages that may change
   pub at_start : HasPagesOf s entered
@@ -98,7 +97,8 @@ none_gives state [] nobody = tt
 none_gives state (g ∷ gs) nobody = λ now. absurd (nobody g.writer now)
 
 -- with the pages in memory the image is as it was
-pages_at_start : (s : Served) (entered : Pages) → HasPagesOf s entered → pages_of entered s ≡ entered
+pages_at_start : (s : Served) (entered : Pages) → HasPagesOf s entered
+    → pages_of entered s ≡ entered
 pages_at_start s entered has = fun_ext (λ n. at n (cases_eq n HEADER.0)
     (cases_eq n TRANSACTIONS.0) (cases_eq n KV_ROWS.0))
   where
@@ -131,9 +131,9 @@ module _ (s : Served) (entered : Pages) (first : Slots) (o : Opening) (it : Open
     nobody : (t : ℕ) → opening_state o t ≢ Active
     nobody t now = false≢true (sym (idle t) ∙ ap is_active now)
 
-    started : (t : ℕ) → fate_in (entered TRANSACTIONS.0) [] t ≡ fate_of s t
+    started : (t : ℕ) → ended_in (entered TRANSACTIONS.0) t ≡ fate_of s t
     started t = ap (λ (bits : List ℕ). ended_in bits t) (sym it.at_start.bits)
-        ∙ ap (λ (us : List TxNo). cond (is_one_of us t) Active (ended_in s.bits t)) (sym it.idle)
+        ∙ ap (λ (live : State). cond (is_unended live t) Active (ended_in s.bits t)) (sym it.live)
 
     fates : (t : ℕ) → fate_of s t ≡ opening_state o t
     fates t = sym (started t) ∙ (ended t ∙ it.states t)
@@ -169,7 +169,6 @@ module _ (s : Served) (entered : Pages) (first : Slots) (o : Opening) (it : Open
       begins = it.begins;
       numbers = tt;
       fates = fates;
-      active = λ t. ap (λ (us : List TxNo). is_one_of us t) it.idle ∙ sym (idle t);
       bits = λ t now. absurd (nobody t now);
       live = record {
         next = ap (λ (live : State). live.next) it.live ∙ sym it.drawn;

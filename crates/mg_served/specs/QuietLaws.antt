@@ -6,7 +6,6 @@ use Rattle.mg_base.specs.declared.transaction.TxState.TheVariants.{Active}
 use Rattle.mg_value.specs.declared.value.Value.TheVariants.{Int}
 use Rattle.mg_model.specs.declared.event.Mode.{Mode}
 use Rattle.mg_model.specs.declared.opening.Opening.{Opening}
-use Rattle.mg_model.specs.Answers.{is_active}
 use Rattle.mg_model.specs.History.{Begins, Effect, Ends, Entries, Entry, Gives, Looks, Makes, Marks, Nothing, Saves, TakesBack, effect_of}
 use Rattle.mg_model.specs.Legal.{IsLawful}
 use Rattle.mg_model.specs.Machine.{mode_after, mode_of, next_number, state_of}
@@ -94,7 +93,8 @@ still_gives before after [] was gives = tt
 still_gives before after (g ∷ gs) was gives = λ active. gives (was g.writer active)
 
 -- the pages stand for a history with one more entry, which does nothing to them
-pub served_quietly : (s : Served) (entered : Pages) (first : Slots) (o : Opening) (h : Entries) (e : Entry)
+pub served_quietly : (s : Served) (entered : Pages) (first : Slots) (o : Opening) (h : Entries)
+    (e : Entry)
     → is_quiet (effect_of e) ≡ true → IsLawful o h e → IsServed s entered first o h
     → IsServed s entered first o (e ∷ h)
 served_quietly s entered first o h e quiet lawful it = record {
@@ -108,7 +108,6 @@ served_quietly s entered first o h e quiet lawful it = record {
   begins = it.begins;
   numbers = (quiet_number (effect_of e) quiet, it.numbers);
   fates = λ t. it.fates t ∙ sym (state_stays o h e still t);
-  active = λ t. it.active t ∙ ap is_active (sym (state_stays o h e still t));
   bits = λ t now. it.bits t (sym (state_stays o h e still t) ∙ now);
   live = live_goes_on s.live o h e it.runs.snapshots still it.live;
   slots = rw (quiet_slots (effect_of e) (state_of o h) (slots_after first o h) quiet) it.slots;
@@ -130,43 +129,45 @@ served_quietly s entered first o h e quiet lawful it = record {
 -- ---- a refused write is taken back
 
 -- the pages stand for a history with a mark, a refused event and the mark taken back
-pub served_undone : (s : Served) (entered : Pages) (first : Slots) (o : Opening) (h : Entries) (t : ℕ)
+pub served_undone : (s : Served) (entered : Pages) (first : Slots) (o : Opening) (h : Entries)
+    (t : ℕ)
     (sets refused undoes : Entry) → IsUndone t sets (refused ∷ []) undoes
     → IsLawful o h sets → IsLawful o (sets ∷ h) refused → IsLawful o (refused ∷ sets ∷ h) undoes
     → IsServed s entered first o h → IsServed s entered first o (undoes ∷ refused ∷ sets ∷ h)
-served_undone s entered first o h t sets refused undoes undone may_set may_refuse may_undo it = record {
-  opening = it.opening;
-  legal = (may_undo, waited.legal);
-  limit = it.limit;
-  drawn = number_stays o g undoes still ∙ waited.drawn;
-  table = it.table;
-  left = λ name other. (ap (λ f. writes_table f name) undone.undoes_it, waited.left name other);
-  runs = runs_go_on o g undoes still waited.runs;
-  begins = it.begins;
-  numbers = (ap has_number_key undone.undoes_it, waited.numbers);
-  fates = λ u. waited.fates u ∙ sym (state_stays o g undoes still u);
-  active = λ u. waited.active u ∙ ap is_active (sym (state_stays o g undoes still u));
-  bits = λ u now. waited.bits u (sym (state_stays o g undoes still u) ∙ now);
-  live = live_goes_on s.live o g undoes waited.runs.snapshots still waited.live;
-  slots = rw (ap (λ f. slots_with f (state_of o g) (slots_after first o g)) undone.undoes_it)
-      waited.slots;
-  header = it.header;
-  reading = it.reading;
-  work = it.work;
-  versions = it.versions;
-  are_read = it.are_read;
-  are_said = λ key.
-      generations_undone o it.opening kv_name (Int key) (it.versions key) h t sets (refused ∷ [])
-      undoes (may_undo, waited.legal) undone (it.are_said key);
-  rows = λ key. still_gives (state_of o g) (state_of o (undoes ∷ g)) (it.versions key)
-      (λ u now. sym (state_stays o g undoes still u) ∙ now) (waited_rows key);
-}
+served_undone s entered first o h t sets refused undoes undone may_set may_refuse may_undo it =
+    record {
+      opening = it.opening;
+      legal = (may_undo, waited.legal);
+      limit = it.limit;
+      drawn = number_stays o g undoes still ∙ waited.drawn;
+      table = it.table;
+      left = λ name other. (ap (λ f. writes_table f name) undone.undoes_it, waited.left name other);
+      runs = runs_go_on o g undoes still waited.runs;
+      begins = it.begins;
+      numbers = (ap has_number_key undone.undoes_it, waited.numbers);
+      fates = λ u. waited.fates u ∙ sym (state_stays o g undoes still u);
+      bits = λ u now. waited.bits u (sym (state_stays o g undoes still u) ∙ now);
+      live = live_goes_on s.live o g undoes waited.runs.snapshots still waited.live;
+      slots = rw (ap (λ f. slots_with f (state_of o g) (slots_after first o g)) undone.undoes_it)
+          waited.slots;
+      header = it.header;
+      reading = it.reading;
+      work = it.work;
+      versions = it.versions;
+      are_read = it.are_read;
+      are_said = λ key.
+          generations_undone o it.opening kv_name (Int key) (it.versions key) h t sets (refused ∷ [])
+          undoes (may_undo, waited.legal) undone (it.are_said key);
+      rows = λ key. still_gives (state_of o g) (state_of o (undoes ∷ g)) (it.versions key)
+          (λ u now. sym (state_stays o g undoes still u) ∙ now) (waited_rows key);
+    }
   where
     g : Entries
     g = refused ∷ sets ∷ h
 
     waited : IsServed s entered first o (refused ∷ sets ∷ h)
-    waited = served_quietly s entered first o (sets ∷ h) refused (ap is_quiet undone.idle.0) may_refuse
+    waited = served_quietly s entered first o (sets ∷ h) refused
+        (ap is_quiet undone.idle.0) may_refuse
         (served_quietly s entered first o h sets (ap is_quiet undone.sets_it) may_set it)
 
     still : is_turn (effect_of undoes) ≡ false

@@ -30,7 +30,7 @@ use Rattle.mg_image.specs.Records.{Reading}
 use Rattle.mg_first.specs.KvTable.{kv_shape}
 use Rattle.mg_first.specs.NewDatabase.{IsHeaderPage}
 use Rattle.mg_first.specs.declared.pages.TheConstants.{HEADER, KV_ROWS, LAST, TRANSACTIONS}
-use Rattle.mg_kv.specs.Fate.{ended_in, is_one_of}
+use Rattle.mg_kv.specs.Fate.{ended_in}
 use Rattle.mg_kv.specs.Work.{live_facts as facts_at_work, IsAtWork}
 use Rattle.mg_kv.specs.Shown.{GivesRow}
 use Rattle.mg_kv.specs.Slots.{HasSlots, ROOM, Slots, size_of, written}
@@ -84,8 +84,8 @@ NoneDecided o [] = Unit {0}
 NoneDecided o (e ∷ h) =
     ((t : ℕ) → state_of o h t ≡ Limbo → state_of o (e ∷ h) t ≡ Limbo) × NoneDecided o h
 
--- How the transactions of a history run: each reads by one snapshot, an active one took its base when
--- its number was drawn, and none in limbo is decided.
+-- How the transactions of a history run: each reads by one snapshot, an active one took its base
+-- when its number was drawn, and none in limbo is decided.
 pub record RunSteadily (o : Opening) (h : Entries) : Type 0 where
   pub snapshots : (t : ℕ) → (mode_of h t).snapshot ≡ true
   pub drawn_at_base : (t : ℕ) → state_of o h t ≡ Active
@@ -116,8 +116,8 @@ abbrev pub ActiveGives : (ℕ → TxState) → List Generation → Type 0
 ActiveGives state [] = Unit {0}
 ActiveGives state (g ∷ gs) = state g.writer ≡ Active → IsSome g.row × GivesRow gs
 
--- The pages in memory stand for a history, which began with the image of these pages, and with these
--- cells on KV's page.
+-- The pages in memory stand for a history, which began with the image of these pages, and with
+-- these cells on KV's page.
 pub record IsServed (s : Served) (entered : Pages) (first : Slots) (o : Opening) (h : Entries)
     : Type 0 where
   -- the history is legal, its numbers are those of one inventory page, and it writes KV alone
@@ -133,7 +133,6 @@ pub record IsServed (s : Served) (entered : Pages) (first : Slots) (o : Opening)
   pub numbers : HasNumberKeys h
   -- what has become of each transaction, and what the bases of the active ones see
   pub fates : (t : ℕ) → fate_of s t ≡ state_of o h t
-  pub active : (t : ℕ) → is_one_of s.active.items t ≡ is_active (state_of o h t)
   -- the bits of an active transaction are those of one that is dead
   pub bits : (t : ℕ) → state_of o h t ≡ Active → ended_in s.bits t ≡ Dead
   pub live : AreLiveFor s.live o h

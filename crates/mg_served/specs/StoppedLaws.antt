@@ -1,5 +1,5 @@
--- What an image shows that has the pages in memory, once nobody works on it any more: who was active
--- is dead, and the image holds what outlasts a crash of the history.
+-- What an image shows that has the pages in memory, once nobody works on it any more: who was
+-- active is dead, and the image holds what outlasts a crash of the history.
 use Rattle.std.proofs.Common.{◌≡◌, ◌≢◌, refl, sym, ap, ◌∙◌, subst, ℕ, ℤ, nat_lt, Bool, true, false, List, [], ◌∷◌, None, ne_eqb}
 use Rattle.std.specs.Prelude.{if◌then◌else◌, length}
 use Rattle.std.specs.Cmp.Lexicographic.{same_text}
@@ -36,7 +36,7 @@ use Rattle.mg_first.specs.KvTable.{catalog_rows, kv_database}
 use Rattle.mg_first.specs.NewDatabase.{IsHeaderPage}
 use Rattle.mg_first.specs.PlaceLaws.{catalog_place}
 use Rattle.mg_first.specs.declared.pages.TheConstants.{CATALOG, HEADER, KV_ROWS, PAGE, TRANSACTIONS}
-use Rattle.mg_kv.specs.Fate.{is_one_of}
+use Rattle.mg_kv.specs.Fate.{is_unended}
 use Rattle.mg_kv.specs.Shown.{limbo_change, limbo_changes, GivesCommitted, without_dead_newest, shown_rows, ReadsVersions, opened_by}
 use Rattle.mg_kv.specs.LiveFactsLaws.{stop_settles}
 use Rattle.mg_kv.specs.OpenedLaws.{opened_changes, opened_held}
@@ -129,7 +129,8 @@ module _ (s : Served) (entered : Pages) (first : Slots) (o : Opening) (h : Entri
 
   kv_rows_same : (key : Value) → shown_rows (kv_committed pages) left_versions key
       ≡ row_at (database o h) kv_name key
-  kv_rows_same Null = sym (no_row entered o it.begins it.table h (it.left catalog_name refl) it.numbers
+  kv_rows_same Null = sym (no_row entered o it.begins it.table h
+      (it.left catalog_name refl) it.numbers
       Null refl)
   kv_rows_same (Int key) =
       shown_without_dead (state_at PAGE pages) (it.versions key)
@@ -156,7 +157,8 @@ module _ (s : Served) (entered : Pages) (first : Slots) (o : Opening) (h : Entri
           rw e (new_catalog_told key ∙ sym (others_same catalog_name key refl))
       at (of_kv e) = rw e (kv_rows_same key)
       at (of_none a b) =
-          let nothing : kv_database (shown_rows (kv_committed pages) left_versions) name key ≡ None =
+          let nothing : kv_database (shown_rows (kv_committed pages) left_versions) name key ≡ None
+          =
           rw (a, b) refl in
           nothing ∙ (sym (new_others name key a) ∙ sym (others_same name key b))
 
@@ -170,7 +172,8 @@ module _ (s : Served) (entered : Pages) (first : Slots) (o : Opening) (h : Entri
       at : (b : Bool) → same_name name kv_name ≡ b → has_change (own o h t) name key ≡ false
       at true is = ap (λ (x : List ℕ). has_change (own o h t) x key)
           (same_text name kv_name (sym is))
-          ∙ no_change entered o it.begins it.table h (it.left catalog_name refl) it.numbers t key none
+          ∙ no_change entered o it.begins it.table h (it.left catalog_name refl) it.numbers t key
+          none
       at false other = left_has_no_changes o name h (it.left name other) t key
 
   changes_same : (t : ℕ) (name : List ℕ) (key : Value) → state_of o h t ≡ Limbo
@@ -206,14 +209,15 @@ module _ (s : Served) (entered : Pages) (first : Slots) (o : Opening) (h : Entri
   system_state = to_committed (state_of o h 0) (committed_from_first o it.opening h it.legal 0 refl)
 
   system : state_in s.bits 0 ≡ Committed
-  system = committed_in_bits s.bits (is_one_of s.active.items 0)
+  system = committed_in_bits s.bits (is_unended s.live 0)
       (nat_lt 0 (places (length s.bits))) 0 (it.fates 0 ∙ system_state)
 
   next_same : next_of pages ≡ s.next.0
   next_same = ap (λ (header : Header). header.next.0) it.header.header
 
   -- the catalog is that of a new database
-  catalog : AreRows rest_facts (kv_committed pages) it.reading (catalog_table CATALOG.0) catalog_rows
+  catalog : AreRows rest_facts (kv_committed pages) it.reading
+      (catalog_table CATALOG.0) catalog_rows
   catalog = catalog_rows_are_new it.begins.one_row pages rest_facts it.reading (record {
     fixed = fixed_stay entered pages (other_pages s entered) it.begins.fixed;
     records = rest.sound.records;

@@ -21,7 +21,7 @@ use Rattle.mg_model.specs.declared.event.Event.{Event}
 use Rattle.mg_model.specs.declared.opening.Opening.{Opening}
 use Rattle.mg_model.specs.declared.refusal.Refusal.{Refusal}
 use Rattle.mg_model.specs.declared.refusal.Refusal.TheVariants.{DatabaseFull}
-use Rattle.mg_model.specs.Answers.{answer, catalog_of, is_active, told}
+use Rattle.mg_model.specs.Answers.{answer, catalog_of, told}
 use Rattle.mg_model.specs.Catalog.{catalog_name, key_by, key_in, shape_in}
 use Rattle.mg_model.specs.Changes.{same_key, same_name}
 use Rattle.mg_model.specs.History.{Entries, Gives, Entry, effect_of, entry}
@@ -41,7 +41,7 @@ use Rattle.mg_image.specs.Records.{cells_of}
 use Rattle.mg_first.specs.KvTable.{kv_row, kv_shape}
 use Rattle.mg_first.specs.NewDatabase.{IsHeaderPage}
 use Rattle.mg_first.specs.declared.pages.TheConstants.{KV_ROWS}
-use Rattle.mg_kv.specs.Fate.{ended_in, fate_in, is_one_of}
+use Rattle.mg_kv.specs.Fate.{ended_in, fate_in}
 use Rattle.mg_kv.specs.LiveFactsLaws.{facts_are_live}
 use Rattle.mg_kv.specs.Work.{live_facts as facts_at_work, IsAtWork, WorksOn, WritesPage}
 use Rattle.mg_kv.specs.PageLaws.{rest_of_room}
@@ -203,8 +203,8 @@ module _ (old new : Served) (entered : Pages) (first : Slots) (o : Opening) (h :
 
   same_fates : fate_of new ≡ fate_of old
   same_fates =
-      ap (λ (b : List ℕ). fate_in b new.active.items) stored.bits
-      ∙ ap (λ (us : List TxNo). fate_in old.bits us) stored.active
+      ap (λ (b : List ℕ). fate_in b new.live) stored.bits
+      ∙ ap (λ (live : State). fate_in old.bits live) stored.live
 
   only : (n : ℕ) → n ≢ KV_ROWS.0 → new_pages n ≡ old_pages n
   only n other =
@@ -317,8 +317,6 @@ module _ (old new : Served) (entered : Pages) (first : Slots) (o : Opening) (h :
           numbers = (does.number, it.numbers);
           fates = λ v. ap (λ (state : ℕ → TxState). state v) same_fates ∙ it.fates v
               ∙ sym (state_stays o h e does.still v);
-          active = λ v. ap (λ (us : List TxNo). is_one_of us v) stored.active
-              ∙ it.active v ∙ ap is_active (sym (state_stays o h e does.still v));
           bits = λ v is_now. ap (λ (b : List ℕ). ended_in b v) stored.bits
               ∙ it.bits v (sym (state_stays o h e does.still v) ∙ is_now);
           live = subst (λ (live : State). AreLiveFor live o (e ∷ h)) (sym stored.live)

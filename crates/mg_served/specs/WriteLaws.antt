@@ -24,7 +24,8 @@ use Rattle.mg_served.specs.declared.served.Served.{Served}
 
 -- whatever history the pages stand for, a transaction's write comes to this
 abbrev pub Written : Served → Served → ℕ → ℤ → ℤ → Event → Option Refusal → Type 0
-Written old new t key value event met = (entered : Pages) (first : Slots) (o : Opening) (h : Entries)
+Written old new t key value event met = (entered : Pages) (first : Slots) (o : Opening)
+    (h : Entries)
     → IsServed old entered first o h → state_of o h t ≡ Active
     → (mode_of h t).read_only ≡ false → (mode_of h t).wait ≡ false
     → HasWritten new entered first o h t key value event met
@@ -58,9 +59,11 @@ module _ (old : Served) (t : ℕ) (key value : ℤ) (found : List KvVersion)
       (insert_allowed (Some why) seen hindered entered first o h it now writes at_once) it
 
   pub insert_stored : (new : Served) (met : Option Refusal) → FitsSigned w64 key
-      → FitsSigned w64 value → is_row (first_given (sees_in old t) found) ≡ false → obstacle_in old t found ≡ None
+      → FitsSigned w64 value → is_row (first_given (sees_in old t) found) ≡ false
+      → obstacle_in old t found ≡ None
       → Stores old new t key value met → Written old new t key value (inserts t key value) met
-  insert_stored new met key_fits value_fits seen free stores entered first o h it now writes at_once =
+  insert_stored new met key_fits value_fits seen free stores entered first o h it now writes at_once
+      =
       write_served old new entered first o h t key value (inserts t key value) met key_fits
       value_fits stores (insert_writes o h t key value (slots_after first o h)) now
       (insert_allowed None seen free entered first o h it now writes at_once) it
@@ -93,9 +96,11 @@ module _ (old : Served) (t : ℕ) (key value : ℤ) (found : List KvVersion)
       (change_allowed (Some why) seen hindered entered first o h it now writes at_once) it
 
   pub change_stored : (new : Served) (met : Option Refusal) → FitsSigned w64 key
-      → FitsSigned w64 value → is_row (first_given (sees_in old t) found) ≡ true → obstacle_in old t found ≡ None
+      → FitsSigned w64 value → is_row (first_given (sees_in old t) found) ≡ true
+      → obstacle_in old t found ≡ None
       → Stores old new t key value met → Written old new t key value (changes t key value) met
-  change_stored new met key_fits value_fits seen free stores entered first o h it now writes at_once =
+  change_stored new met key_fits value_fits seen free stores entered first o h it now writes at_once
+      =
       write_served old new entered first o h t key value (changes t key value) met key_fits
       value_fits stores (change_writes o h t key value (slots_after first o h)) now
       (change_allowed None seen free entered first o h it now writes at_once) it

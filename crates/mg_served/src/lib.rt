@@ -1,5 +1,5 @@
-//! The table KV in memory: the three pages of a database that change, and the transactions that work
-//! on them.
+//! The table KV in memory: the three pages of a database that change, and the transactions that
+//! work on them.
 //!
 //! Owns: what each event of a transaction is answered, and what it changes of the pages in memory
 //! (`Served`). A beginning changes the header, a write KV's data page, and a commit the bits; a

@@ -1,6 +1,6 @@
 //! The pages in memory, and what events make of them.
 
-ghost use Rattle.std.specs.Prelude.{◌≡◌, ◌≢◌, ◌≤◌, ◌<◌, ◌+◌, ◌^◌, ◌-◌, ◌++◌, ◌∷◌, [], ℕ, List, true, false, IfOk, OnOk, FitsSigned, length};
+ghost use Rattle.std.specs.Prelude.{◌≡◌, ◌≢◌, ◌≤◌, ◌<◌, ◌+◌, ◌^◌, ◌-◌, ◌∷◌, ℕ, true, false, IfOk, OnOk, FitsSigned, length};
 ghost use Rattle.std.specs.Int.{w64};
 ghost use Rattle.mg_base.specs.declared.transaction.TxState.TheVariants.{Active, Committed};
 ghost use Rattle.mg_value.specs.declared.value.Value.TheVariants.{Int};
@@ -17,7 +17,6 @@ ghost use Rattle.mg_model.specs.Machine.{mode_of, state_of, view};
 ghost use Rattle.mg_model.specs.NewDatabase.{kv_name};
 ghost use Rattle.mg_first.specs.declared.pages.TheConstants.{LAST};
 ghost use Rattle.mg_kv.specs.Slots.{Slots};
-ghost use Rattle.mg_served.specs.Numbers.{without_number};
 ghost use Rattle.mg_lines.specs.Given.{changes, commits, inserts, rolls_back};
 
 use mg_base::{Memory, TxNo, TxState};
@@ -28,7 +27,7 @@ use mg_snap::Live;
 use mg_tip::set_state;
 use std::alloc::Global;
 
-/// The pages that change, and the transactions that are active.
+/// The pages that change, and the transactions that have not ended.
 #[derive(Drop)]
 pub struct Served {
     /// The header page. It has the number that is drawn next.
@@ -38,27 +37,12 @@ pub struct Served {
     /// The data page of KV.
     pub(crate) rows: [u8; PAGE_LEN],
     pub(crate) next: TxNo,
+    /// Those that have begun and have not ended. One in limbo never enters: the bits tell it.
     pub(crate) live: Live,
-    pub(crate) active: Vec<TxNo>,
     ghost lawful: { IsDataPage rows },
     ghost drawn: { 1 ≤ next.0 },
     ghost numbered: { next.0 ≤ LAST.0 },
     ghost agrees: { live.next ≡ next.0 },
-}
-
-// Drops a transaction from those that are active.
-fn drop_number(active: &mut Vec<TxNo>, tx: TxNo)
-    ensures { active.new.items ≡ without_number tx.0 active.old.items }
-{
-    active.retain(|other| *other != tx);
-}
-
-// Drops the last transaction.
-fn drop_last(active: &mut Vec<TxNo>)
-    ensures { (before : List TxNo) (last : TxNo) → active.old.items ≡ before ++ last ∷ []
-        → active.new.items ≡ before }
-{
-    active.pop();
 }
 
 impl Served {
@@ -89,7 +73,6 @@ impl Served {
             rows,
             next,
             live: Live::new(alloc, next),
-            active: Vec::new(alloc),
         }
     }
 
@@ -124,11 +107,11 @@ impl Served {
     /// What has become of the transactions.
     fn fates(&self) -> Fates<'_>
         ensures bits { result.bits.now ≡ self.now.bits }
-        ensures active { result.active.now ≡ self.now.active.items }
+        ensures live { result.live.now ≡ self.now.live }
     {
         Fates {
             bits: &self.bits,
-            active: &self.active,
+            live: &self.live,
         }
     }
 
@@ -136,7 +119,8 @@ impl Served {
     ///
     /// # Errors
     ///
-    /// `Memory` only; then nothing has changed, and the number is drawn by the next one that begins.
+    /// `Memory` only; then nothing has changed, and the number is drawn by the next one that
+    /// begins.
     pub fn begin(&mut self) -> Result<Option<TxNo>, Memory>
         ensures begun { IfOk result (λ begun. (entered : Pages) (first : Slots) (o : Opening)
             (h : Entries) (session : ℕ) (mode : Mode) → mode.snapshot ≡ true
@@ -164,19 +148,10 @@ impl Served {
         ensures rows { self.new.rows ≡ self.old.rows }
         ensures failed { OnErr result (IsAsBefore self.old self.new) }
     {
-        self.active.push(tx)?;
-        match self.live.enter(tx) {
-            Ok(()) => {
-                self.next = TxNo(tx.0 + 1);
-                header_page(&mut self.header, self.next);
-                Ok(())
-            }
-            Err(_) => {
-                // It has not entered, so it is none of the active ones either.
-                drop_last(&mut self.active);
-                Err(Memory)
-            }
-        }
+        self.live.enter(tx)?;
+        self.next = TxNo(tx.0 + 1);
+        header_page(&mut self.header, self.next);
+        Ok(())
     }
 
     /// Commits a transaction: its bits say so.
@@ -211,7 +186,6 @@ impl Served {
         ensures { Leaves self.old self.new tx.0 }
     {
         self.live.leave(tx);
-        drop_number(&mut self.active, tx);
     }
 
     // Whether the view of a transaction has the versions of another one: it is its own, or was

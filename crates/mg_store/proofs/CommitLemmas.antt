@@ -1,6 +1,7 @@
 -- What the last page write of a commit makes of a database on a disk, and its settling.
 use Rattle.std.proofs.Common.{◌≡◌, ◌≤◌, ◌∙◌, inl, inr, ℕ, sym, ap, subst, arith, List, length, Some, Ok, Err, Result, true}
 use Rattle.std.specs.Prelude.{IsErr, OnOk}
+use Rattle.mg_base.specs.Asking.{more_writes}
 use Rattle.mg_base.specs.Disk.{Calm, MayLeave, Meaning, Writes}
 use Rattle.mg_base.specs.Image.{Image, page_at, written}
 use Rattle.mg_base.specs.Moments.{joined, leaves_as}
@@ -16,7 +17,7 @@ use Rattle.mg_served.specs.Serving.{IsServed, pages_of, pages_with}
 use Rattle.mg_served.specs.declared.served.Served.{Served}
 use Rattle.mg_store.proofs.StoreLemmas.{keeps_then, no_ok}
 use Rattle.mg_served.specs.Holding.{HoldsHistory}
-use Rattle.mg_store.specs.Stages.{Stage, stage_calm, stage_first, stage_write}
+use Rattle.mg_store.specs.Stages.{Stage, asks_at_most, stage_calm, stage_first, stage_write}
 use Rattle.mg_store.specs.StoreLaws.{holds_last, next_written, pages_hold, still_seven, stored_last, with_bits}
 use Rattle.mg_store.specs.Storing.{CommitDone, Keeps, LeavesEither, LeavesLast, Stores, with_commit}
 use Rattle.mg_store.specs.declared.store.Store.{Store}
@@ -33,7 +34,7 @@ commit_failed m old new before after entered first o h t count result given keep
       crash = leaves_as m old new (LeavesLast o h) (LeavesEither o h t) (λ c leaves. inl leaves)
           keeps.crash;
       exit = λ c left. inl (keeps.exit c left);
-      writes = let asked = keeps.writes in omega arith;
+      writes = asks_at_most m old new count 3 keeps.writes few;
     }
 
 -- it has
@@ -50,7 +51,7 @@ commit_then m old mid new before after entered first o h t result given keeps st
       crash = joined m old mid new (LeavesEither o h t) (leaves_as m old mid (LeavesLast o h)
           (LeavesEither o h t) (λ c leaves. inl leaves) keeps.crash) stage.crash;
       exit = stage.leaves;
-      writes = let asked = keeps.writes in let then_ = stage.asked in omega arith;
+      writes = more_writes m old mid new 2 1 keeps.writes stage.asked;
     }
 
 -- The pages in memory before a commit are those on the disk; after it only the transactions' bits

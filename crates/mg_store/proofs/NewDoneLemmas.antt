@@ -3,13 +3,14 @@ use Rattle.std.proofs.Common.{◌≡◌, ◌≤◌, ◌+◌, sym, ap, subst, ari
 use Rattle.std.specs.Prelude.{Result, Ok, Err, IsErr, OnOk, is_err, false}
 use Rattle.mg_base.specs.Disk.{Calm, MayLeave, Meaning, Writes}
 use Rattle.mg_base.specs.Image.{Image, written}
+use Rattle.mg_first.specs.Unmade.{IsNewAt}
 use Rattle.mg_first.specs.declared.pages.TheConstants.{PAGE}
 use Rattle.mg_served.specs.declared.served.Served.{Served}
 use Rattle.mg_store.proofs.CrashLemmas.{Holding, calm_after, holding, write_failed, written_ok}
-use Rattle.mg_store.proofs.NewImageLemmas.{IsAllNew, IsStillBlank, blank_last, new_last, still_blank}
+use Rattle.mg_store.proofs.NewImageLemmas.{IsAllNew, IsStillUnmade, new_last, still_unmade, unmade_last}
 use Rattle.mg_store.proofs.StoreLemmas.{no_ok}
 use Rattle.mg_store.specs.Creating.{CreateDone, HasNew, HasNewPages, IsFreshDisk, NewDone, new_history}
-use Rattle.mg_store.specs.Stages.{Stage}
+use Rattle.mg_store.specs.Stages.{Stage, asks_at_most}
 use Rattle.mg_store.specs.Storing.{LeavesLast}
 use Rattle.mg_store.specs.declared.fresh.CreateFault.{CreateFault}
 use Rattle.mg_store.specs.declared.store.Store.{Store}
@@ -22,36 +23,36 @@ HoldsNew = LeavesLast new_history []
 pub record NewSoFar {D : Type 0} (m : Meaning D) (old new : D) (count : ℕ) (image : Image)
     : Type 0 where
   pub holds : Holding m old new HoldsNew count image
-  pub is_blank : IsStillBlank PAGE image
+  pub unmade : IsStillUnmade image
 
 pub new_start : {D : Type 0} (m : Meaning D) (disk : D) (image : Image)
     → IsFreshDisk m disk image → NewSoFar m disk disk 0 image
 new_start m disk image fresh = record {
   holds = holding m disk HoldsNew image fresh.told fresh.held start
       (λ c may. subst HoldsNew (sym (fresh.settled c may)) start);
-  is_blank = is_blank;
+  unmade = unmade;
 }
   where
-    is_blank : IsStillBlank PAGE image
-    is_blank = record { few = fresh.fresh.few; zero_header = fresh.fresh.blank_image.header }
+    unmade : IsStillUnmade image
+    unmade = record { few = fresh.fresh.few; pages = fresh.fresh.unmade }
 
     start : HoldsNew image
-    start = blank_last image is_blank
+    start = unmade_last image unmade
 
 -- one page more is written
 pub new_wrote : {D T E : Type 0} {m : Meaning D} {old mid new : D} {count : ℕ} {image : Image}
     {page : ℕ} {bytes : List ℕ} {x : T} → NewSoFar m old mid count image → length bytes ≡ PAGE
     → 1 ≤ page → page ≤ 6 → Writes {T = T} {E = E} m mid new page bytes (Ok x)
-    → NewSoFar m old new (count + 1) (written PAGE image page bytes)
+    → IsNewAt page bytes → NewSoFar m old new (count + 1) (written PAGE image page bytes)
 new_wrote {D} {T} {E} {m} {old} {mid} {new} {count} {image} {page} {bytes} {x} so_far len behind
-    within writes = record {
+    within writes new_page = record {
       holds = written_ok m old mid new HoldsNew count image PAGE page bytes x so_far.holds len
-          (blank_last (written PAGE image page bytes) is_blank) writes;
-      is_blank = is_blank;
+          (unmade_last (written PAGE image page bytes) unmade) writes;
+      unmade = unmade;
     }
   where
-    is_blank : IsStillBlank PAGE (written PAGE image page bytes)
-    is_blank = still_blank PAGE image page bytes behind within so_far.is_blank
+    unmade : IsStillUnmade (written PAGE image page bytes)
+    unmade = still_unmade image page bytes behind within new_page so_far.unmade
 
 -- a fault ends the writing
 pub new_stopped : {D T E : Type 0} (m : Meaning D) (old new : D) (count : ℕ) (s : Served)
@@ -61,20 +62,21 @@ new_stopped m old new count s result safe few is_err = record {
   has_new = no_ok result (HasNew m s new) is_err;
   crash = safe.crash;
   exit = safe.leaves;
-  writes = let asked = safe.asked in omega arith;
+  writes = asks_at_most m old new count 7 safe.asked few;
 }
 
 -- a page write behind page 0 failed
 pub new_failed : {D T E U F : Type 0} {m : Meaning D} {old mid new : D} {count : ℕ}
     {image : Image} {page : ℕ} {bytes : List ℕ} {e : E} → NewSoFar m old mid count image
     → length bytes ≡ PAGE → 1 ≤ page → page ≤ 6
-    → Writes {T = T} {E = E} m mid new page bytes (Err e) → count ≤ 6 → (s : Served)
+    → Writes {T = T} {E = E} m mid new page bytes (Err e) → IsNewAt page bytes → count ≤ 6
+    → (s : Served)
     (result : Result U F) → IsErr result → NewDone m old new s result
 new_failed {D} {T} {E} {U} {F} {m} {old} {mid} {new} {count} {image} {page} {bytes} {e} so_far len
-    behind within writes few s result is_err = new_stopped m old new (count + 1) s result
+    behind within writes new_page few s result is_err = new_stopped m old new (count + 1) s result
     (write_failed m old mid new HoldsNew count image PAGE page bytes e so_far.holds len
-    (blank_last (written PAGE image page bytes)
-    (still_blank PAGE image page bytes behind within so_far.is_blank)) writes)
+    (unmade_last (written PAGE image page bytes)
+    (still_unmade image page bytes behind within new_page so_far.unmade)) writes)
     (omega arith) is_err
 
 -- ---- page 0
@@ -152,7 +154,7 @@ nothing_created m disk image fresh fault =
       stores = tt;
       crash = stage.crash;
       exit = stage.leaves;
-      writes = let asked = stage.asked in omega arith;
+      writes = asks_at_most m disk disk 0 7 stage.asked (omega arith);
     }
 
 -- the writing failed

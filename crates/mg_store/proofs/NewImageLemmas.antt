@@ -1,5 +1,5 @@
 -- The images of a disk while the seven pages of a new database are written.
-use Rattle.std.proofs.Common.{◌≡◌, ◌≢◌, ◌≤◌, ◌<◌, ◌+◌, ◌*◌, ◌∙◌, ◌⊎◌, inl, inr, ◌==◌, nat_lt, refl, sym, subst, arith, lit≤, ℕ, Bool, true, false, cond, le-ltb, List, [], length}
+use Rattle.std.proofs.Common.{◌≡◌, ◌≢◌, ◌≤◌, ◌<◌, ◌∙◌, ◌⊎◌, inl, inr, ◌==◌, nat_lt, refl, sym, subst, arith, lit≤, ℕ, Bool, true, false, cond, le-ltb, List, [], length}
 use Rattle.std.specs.Cmp.Lexicographic.{same_text}
 use Rattle.std.proofs.lemmas.Bool.{cases_eq, ne_eqb}
 use Rattle.std.proofs.lemmas.List.{get_or_past}
@@ -14,54 +14,42 @@ use Rattle.mg_image.specs.Form.{Pages, plain_form}
 use Rattle.mg_image.specs.Histories.{durable_committed}
 use Rattle.mg_image.specs.HistoryLaws.{blank_holds}
 use Rattle.mg_image.specs.Inventory.{state_at}
-use Rattle.mg_image.specs.Opening.{IsBlank}
 use Rattle.mg_first.specs.FixedPagesLaws.{new_is_first}
 use Rattle.mg_first.specs.HoldsLaws.{IsDurable, kv_durable, new_others}
 use Rattle.mg_first.specs.KvTable.{no_rows}
 use Rattle.mg_first.specs.NewDatabase.{IsDataOf, IsHeaderPage, IsInventoryPage, IsNewPages, IsPointerTo, IsTransactionPage, catalog_cells, new_reading, no_cell}
 use Rattle.mg_first.specs.NewDatabaseLaws.{new_is_kv}
+use Rattle.mg_first.specs.Unmade.{IsNewAt, IsUnmade}
 use Rattle.mg_first.specs.declared.pages.TheConstants.{HEADER, KV_ROWS, LAST, PAGE, PAGES, TRANSACTIONS}
 use Rattle.mg_served.specs.Serving.{pages_of}
 use Rattle.mg_served.specs.declared.served.Served.{Served}
 use Rattle.mg_store.specs.Crashes.{HoldsAt}
 use Rattle.mg_store.specs.Creating.{HasNewPages, new_history}
 use Rattle.mg_store.specs.Fresh.{first_image, fresh_image}
+use Rattle.mg_store.specs.FreshLaws.{few_blank, written_unmade}
 use Rattle.mg_store.specs.Storing.{LeavesLast}
 
 -- ---- before the header is written
 
--- An image has at most seven pages, and page 0 is zero.
-pub record IsStillBlank (size : ℕ) (image : Image) : Type 0 where
+-- An image has at most seven pages, and a database may be made on them.
+pub record IsStillUnmade (image : Image) : Type 0 where
   pub few : length image ≤ 7
-  pub zero_header : page_at size image 0 ≡ blank size
+  pub pages : IsUnmade (page_at PAGE image)
 
--- another page is written
-pub still_blank : (size : ℕ) (image : Image) (page : ℕ) (bytes : List ℕ) → 1 ≤ page → page ≤ 6
-    → IsStillBlank size image → IsStillBlank size (written size image page bytes)
-still_blank size image page bytes behind within is = record {
-  few = let few = is.few in rw (length-written size image page bytes) (omega arith);
-  zero_header =
-      page_at-written_other size image page bytes 0 (λ e. omega arith) ∙ is.zero_header;
+-- another page of a new database is written
+pub still_unmade : (image : Image) (page : ℕ) (bytes : List ℕ) → 1 ≤ page → page ≤ 6
+    → IsNewAt page bytes → IsStillUnmade image → IsStillUnmade (written PAGE image page bytes)
+still_unmade image page bytes behind within new is = record {
+  few = let few = is.few in rw (length-written PAGE image page bytes) (omega arith);
+  pages = written_unmade image page bytes behind new is.pages;
 }
 
--- an image of at most seven pages whose page 0 is zero is blank
-few_blank : (image : Image) → length image ≤ PAGES → page_at PAGE image 0 ≡ blank PAGE
-    → IsBlank PAGE (page_at PAGE image)
-few_blank image few zero_header = record {
-  header = zero_header;
-  inventory = λ region one below. get_or_past image (region * 32640 + 1) (blank PAGE) (omega arith);
-}
-
--- a blank image holds a new database, and the program makes one on it
-pub blank_last : (image : Image) → IsStillBlank PAGE image → LeavesLast new_history [] image
-blank_last image is = record {
+-- such an image holds a new database, and the program makes one on it
+pub unmade_last : (image : Image) → IsStillUnmade image → LeavesLast new_history [] image
+unmade_last image is = record {
   holds = blank_holds plain_form PAGE (page_at PAGE image) LAST.0 0
-      (few_blank image is.few is.zero_header);
-  known = fresh_image (record {
-    page_size = refl;
-    few = is.few;
-    blank_image = few_blank image is.few is.zero_header;
-  });
+      (few_blank image is.few (is.pages 0));
+  known = fresh_image (record { page_size = refl; few = is.few; unmade = is.pages });
 }
 
 -- ---- the pages of the image when all are written

@@ -1,6 +1,7 @@
 -- What page writes make of a database on a disk.
 use Rattle.std.proofs.Common.{◌≡◌, ◌≤◌, ◌+◌, ◌∙◌, ℕ, sym, ap, subst, arith, List, length, Some, Ok, Err, Result, true}
 use Rattle.std.specs.Prelude.{IsErr, OnOk}
+use Rattle.mg_base.specs.Asking.{more_writes}
 use Rattle.mg_base.specs.Disk.{Calm, MayLeave, Meaning, Writes}
 use Rattle.mg_base.specs.Image.{Image, page_at, page_at-written_other, page_at-written_same, written}
 use Rattle.mg_base.specs.Moments.{joined}
@@ -16,7 +17,7 @@ use Rattle.mg_served.specs.Serving.{IsServed, pages_of, pages_with}
 use Rattle.mg_served.specs.declared.served.Served.{Served}
 use Rattle.mg_served.specs.Holding.{HoldsHistory}
 use Rattle.mg_served.specs.RaisedHoldsLaws.{raised_holds}
-use Rattle.mg_store.specs.Stages.{Stage, stage_calm, stage_first, stage_write}
+use Rattle.mg_store.specs.Stages.{Stage, asks_at_most, stage_calm, stage_first, stage_write}
 use Rattle.mg_store.specs.StoreLaws.{holds_last, next_is, next_written, pages_hold, still_seven, stored_last, with_header, with_rows}
 use Rattle.mg_store.specs.Storing.{IsSettled, Keeps, LeavesLast, Stores}
 use Rattle.mg_store.specs.declared.store.Store.{Store}
@@ -38,7 +39,7 @@ keeps_failed m old new before after entered first o h count more result given ke
       stores = no_ok given (Stores m after new entered first o h) failed;
       crash = keeps.crash;
       exit = keeps.exit;
-      writes = let asked = keeps.writes in omega arith;
+      writes = asks_at_most m old new count (count + more) keeps.writes (omega arith);
     }
 
 -- one call, and then another one
@@ -53,7 +54,7 @@ keeps_then m old mid new before after entered first o h count more result given 
       stores = next.stores;
       crash = joined m old mid new (LeavesLast o h) keeps.crash next.crash;
       exit = next.exit;
-      writes = let asked = keeps.writes in let then_ = next.writes in omega arith;
+      writes = more_writes m old mid new count more keeps.writes next.writes;
     }
 
 -- ---- one call
@@ -73,7 +74,7 @@ module _ {D : Type 0} (m : Meaning D) (old : D) (store : Store) (entered : Pages
     stores = by result;
     crash = start.crash;
     exit = start.leaves;
-    writes = omega arith;
+    writes = asks_at_most m old old 0 count start.asked (omega arith);
   }
     where
       by : (result : Result T E) → OnOk result (Stores m store old entered first o h)

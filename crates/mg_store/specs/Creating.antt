@@ -1,5 +1,6 @@
 -- The making of a new database on a disk.
-use Rattle.std.specs.Prelude.{◌≡◌, ◌≤◌, ◌+◌, ℕ, true, [], Some, Result, IfOk, IsErrOf, OnOk, length}
+use Rattle.std.specs.Prelude.{◌≡◌, ◌≤◌, ℕ, true, [], Some, Result, IfOk, IsErrOf, OnOk, length}
+use Rattle.mg_base.specs.Asking.{AsksWrites}
 use Rattle.mg_base.specs.Disk.{MayLeave, Meaning, Rose, Stays}
 use Rattle.mg_base.specs.Image.{Image, page_at}
 use Rattle.mg_base.specs.Moments.{LeavesOnly}
@@ -52,7 +53,7 @@ pub record NewDone {D T E : Type 0} (m : Meaning D) (old new : D) (s : Served)
   pub has_new : OnOk result (HasNew m s new)
   pub crash : LeavesOnly m old new (LeavesLast new_history [])
   pub exit : (c : Image) → MayLeave m new c → LeavesLast new_history [] c
-  pub writes : m.asked new ≤ m.asked old + 7
+  pub writes : AsksWrites m old new 7
 
 -- So is a database with these pages in memory, which are those last written.
 pub record StoresNew {D : Type 0} (m : Meaning D) (store : Store) (disk : D) : Type 0 where
@@ -67,7 +68,7 @@ pub record CreateDone {D : Type 0} (m : Meaning D) (old new : D)
   pub stores : IfOk result (λ store. StoresNew m store new)
   pub crash : LeavesOnly m old new (LeavesLast new_history [])
   pub exit : (c : Image) → MayLeave m new c → LeavesLast new_history [] c
-  pub writes : m.asked new ≤ m.asked old + 7
+  pub writes : AsksWrites m old new 7
 
 -- it fails by the disk only where the disk's count of faults rose
 pub record CreateSteps {D T : Type 0} (m : Meaning D) (old new : D)

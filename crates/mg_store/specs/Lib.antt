@@ -2,6 +2,7 @@ pub mod CrashLaws
 pub mod Crashes
 pub mod Creating
 pub mod Fresh
+pub mod FreshLaws
 pub mod LeavesLaws
 pub mod LongerLaws
 pub mod NewLaws

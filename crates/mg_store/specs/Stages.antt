@@ -1,8 +1,25 @@
 -- What a crash leaves, over the calls of a disk one after another.
 use Rattle.std.proofs.Common.{◌≡◌, ◌≤◌, ◌+◌, ◌∙◌, ◌⊎◌, inl, inr, ℕ, true, sym, List, Ok, Err, Result, Some, length, arith}
+use Rattle.mg_base.specs.Asking.{AsksWrites, calm_write, more_writes, no_writes, one_write}
 use Rattle.mg_base.specs.Disk.{Calm, MayLeave, Meaning, Writes}
 use Rattle.mg_base.specs.Image.{Image, written}
 use Rattle.mg_base.specs.Moments.{LeavesOnly, goes_on, started}
+
+-- at most so many page writes are at most more
+pub asks_at_most : {D : Type 0} (m : Meaning D) (old new : D) (count most : ℕ)
+    → AsksWrites m old new count → count ≤ most → AsksWrites m old new most
+asks_at_most m old new count most run within = record {
+  asked = let asked = run.asked in omega (arith, within, asked);
+  limit = run.limit;
+}
+
+-- and so are those of two runs
+pub asks_then : {D : Type 0} (m : Meaning D) (old mid new : D) (first then_ most : ℕ)
+    → AsksWrites m old mid first → AsksWrites m mid new then_ → first + then_ ≤ most
+    → AsksWrites m old new most
+asks_then m old mid new first then_ most run next within =
+    asks_at_most m old new (first + then_) most (more_writes m old mid new first then_ run next)
+    within
 
 -- Since a start, every image that a crash might have left has a property, and at most so many page
 -- writes were asked.
@@ -11,7 +28,7 @@ pub record Stage {D : Type 0} (m : Meaning D) (start now : D) (P : Image → Typ
   pub told : m.tells now ≡ true
   pub leaves : (c : Image) → MayLeave m now c → P c
   pub crash : LeavesOnly m start now P
-  pub asked : m.asked now ≤ m.asked start + k
+  pub asked : AsksWrites m start now k
 
 pub stage_first : {D : Type 0} (m : Meaning D) (disk : D) (P : Image → Type 0)
     → m.tells disk ≡ true → ((c : Image) → MayLeave m disk c → P c) → Stage m disk disk P 0
@@ -19,7 +36,7 @@ stage_first m disk P told leaves = record {
   told = told;
   leaves = leaves;
   crash = started m disk P leaves;
-  asked = omega arith;
+  asked = no_writes m disk;
 }
 
 -- a page write more, done or not
@@ -32,7 +49,7 @@ stage_write {D} {T} {E} m start old new P k image page bytes result stage held w
       told = writes.keeps.tells ∙ stage.told;
       leaves = leaves;
       crash = goes_on m start old new P stage.crash (writes.keeps.time stage.told) leaves;
-      asked = let first = stage.asked in let more = writes.asked in omega arith;
+      asked = one_write m start old new page bytes result k stage.asked writes;
     }
   where
     same : (a b : Image) → Some a ≡ Some b → a ≡ b
@@ -61,7 +78,7 @@ stage_calm m start old new P k result stage calm = record {
   told = calm.keeps.tells ∙ stage.told;
   leaves = leaves;
   crash = goes_on m start old new P stage.crash (calm.keeps.time stage.told) leaves;
-  asked = let first = stage.asked in let same = calm.asked in omega arith;
+  asked = calm_write m start old new result k stage.asked calm;
 }
   where
     leaves : (c : Image) → MayLeave m new c → P c

@@ -1,5 +1,6 @@
 -- A database on a disk: the pages in memory, those last written, and what a crash leaves.
-use Rattle.std.specs.Prelude.{◌≡◌, ◌≤◌, ◌+◌, ◌⊎◌, ℕ, true, ◌∷◌, length, Some, Result, IsErr, OnOk}
+use Rattle.std.specs.Prelude.{◌≡◌, ◌≤◌, ◌⊎◌, ℕ, true, ◌∷◌, length, Some, Result, IsErr, OnOk}
+use Rattle.mg_base.specs.Asking.{AsksWrites}
 use Rattle.mg_base.specs.Disk.{MayLeave, Meaning, Rose, Stays}
 use Rattle.mg_base.specs.Image.{Image, page_at}
 use Rattle.mg_base.specs.Moments.{LeavesOnly}
@@ -84,7 +85,7 @@ pub record Keeps {D T E : Type 0} (m : Meaning D) (old new : D) (store : Store) 
   pub stores : OnOk result (Stores m store new entered first o h)
   pub crash : LeavesOnly m old new (LeavesLast o h)
   pub exit : (c : Image) → MayLeave m new c → LeavesLast o h c
-  pub writes : m.asked new ≤ m.asked old + count
+  pub writes : AsksWrites m old new count
 
 -- The pages on the disk are those in memory, and nothing is pending.
 pub record IsSettled {D : Type 0} (m : Meaning D) (store : Store) (disk : D) : Type 0 where
@@ -99,4 +100,4 @@ pub record CommitDone {D T E : Type 0} (m : Meaning D) (old new : D) (store : St
   pub stores : OnOk result (Stores m store new entered first o (with_commit t h))
   pub crash : LeavesOnly m old new (LeavesEither o h t)
   pub exit : (c : Image) → MayLeave m new c → LeavesEither o h t c
-  pub writes : m.asked new ≤ m.asked old + 3
+  pub writes : AsksWrites m old new 3

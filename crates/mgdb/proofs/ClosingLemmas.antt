@@ -45,7 +45,8 @@ rolls_alone room o h t u statement es is same rollback =
 rolls_alone room o h t u statement es is same (select key test tests) = absurd cc
 rolls_alone room o h t u statement es is same (insert key value answered writes) = absurd cc
 rolls_alone room o h t u statement es is same (update_none key value test tests none) = absurd cc
-rolls_alone room o h t u statement es is same (update key value test found answered tests there writes) =
+rolls_alone room o h t u statement es is same (update key value test found answered tests there
+    writes) =
     absurd cc
 
 gives_rollback : (room : HasRoom) (o : Opening) (h : Entries) (session : Session) (t : ℕ)
@@ -53,7 +54,8 @@ gives_rollback : (room : HasRoom) (o : Opening) (h : Entries) (session : Session
     → line ≡ Of session statements.Rollback → LineGives room o h line es
     → es ≡ entry (rolls_back t) Fine ∷ []
 gives_rollback room o h session t line es its is (states s u statement new theirs gives) =
-    rolls_alone room o h t u statement new (let same : Of s statement ≡ Of session statements.Rollback = is in cc)
+    rolls_alone room o h t u statement new (let same : Of s statement ≡ Of session
+    statements.Rollback = is in cc)
     (let same : Of s statement ≡ Of session statements.Rollback = is in cc) gives
 gives_rollback room o h session t line es its is (states_not s statement idle other) =
     absurd cc
@@ -96,13 +98,16 @@ module _ (entered : Pages) (first : Slots) (o : Opening) (h : Entries) where
             → rolled_back o rolled (from_on m k) ≡ rolled_back o now (from_on m k)
         rest_stays zero m behind = refl
         rest_stays (suc k) m behind =
-            ap (λ (found : Option ℕ). with_rollback found (rolled_back o rolled (from_on (m + 1) k)))
-            (others_end o now legal n t its (rolls_back t) Dead refl refl refl m (λ same. omega (arith, behind, same)))
+            ap (λ (found : Option ℕ). with_rollback found (rolled_back o rolled (from_on
+            (m + 1) k)))
+            (others_end o now legal n t its (rolls_back t) Dead refl refl refl m (λ same. omega
+            (arith, behind, same)))
             ∙ ap (with_rollback (transaction_of o now m)) (rest_stays k (m + 1) (omega arith))
 
     pub closing_rolls : (old new : Work) (t : ℕ) → (it : IsClosing old entered first o h n)
         → transaction_of o it.now n ≡ Some t
-        → StandFor new.store.served new.sessions entered first o (entry (rolls_back t) Fine ∷ it.now)
+        → StandFor new.store.served new.sessions entered first o (entry
+        (rolls_back t) Fine ∷ it.now)
         → IsClosing new entered first o h (n + 1)
     closing_rolls old new t it its stand = record {
       now = entry (rolls_back t) Fine ∷ it.now;
@@ -204,7 +209,8 @@ module _ {D : Type 0} (m : Meaning D) (entered : Pages) (first : Slots) (o : Ope
     closed_works disk old new works same it =
         stores_on m old.store new.store disk entered first o h (closing o h) works.stores
         (ap durable_count (sym all_closed) ∙ it.counts)
-        (subst (λ (g : Entries). IsServed new.store.served entered first o g) all_closed it.stand.pages)
+        (subst (λ (g : Entries). IsServed new.store.served entered first o g) all_closed
+        it.stand.pages)
         same.bits same.header same.rows
       where
         all_closed : it.now ≡ onto h (closing o h)

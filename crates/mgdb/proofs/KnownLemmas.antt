@@ -14,6 +14,7 @@ use Rattle.mg_first.specs.FirstForm.{IsFirstForm, IsFirstImage}
 use Rattle.mg_first.specs.declared.pages.TheConstants.{KV_ROWS, LAST, PAGE}
 use Rattle.mg_kv.specs.Slots.{HasSlots, Slots}
 use Rattle.mg_store.specs.Fresh.{IsFresh, first_image, fresh_image}
+use Rattle.mg_store.specs.FreshLaws.{fresh_is_blank}
 use Rattle.mgdb.proofs.BlankLemmas.{form_is_not_blank}
 use Rattle.mgdb.specs.Headline.{IsEntry, of_blank, of_sound}
 use Rattle.mgdb.specs.Top.{KnownIsEntry}
@@ -57,11 +58,11 @@ fresh_is_entry disk image sized held settled fresh = record {
   sized = sized;
   held = held;
   settled = settled;
-  opening = of_blank fresh.blank_image;
+  opening = of_blank (fresh_is_blank (Some PAGE) image fresh);
   cells = record {
     of_blank = λ none. refl;
     of_form = λ form. absurd (form_is_not_blank (page_at PAGE image) form.form
-        fresh.blank_image.header);
+        (fresh.unmade 0));
   };
 }
 

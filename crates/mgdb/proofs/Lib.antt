@@ -1,6 +1,7 @@
 pub mod BlankLemmas
 pub mod ClosingLemmas
 pub mod EntryLemmas
+pub mod FreshLemmas
 pub mod EntryDisks
 pub mod KnownLemmas
 pub mod LineLaws

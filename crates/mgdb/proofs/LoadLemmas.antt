@@ -6,7 +6,7 @@ use Rattle.mg_base.specs.Disk.{Meaning}
 use Rattle.mg_base.specs.Image.{Image, blank, page_at}
 use Rattle.mg_first.specs.declared.pages.TheConstants.{PAGE, PAGES}
 use Rattle.mg_reading.specs.Kept.{AreWhole}
-use Rattle.mgdb.specs.Opening.{AreLong, HasRead, HasSeven, ReadsPage}
+use Rattle.mgdb.specs.Opening.{AreLong, HasPages, HasRead, ReadsPage}
 use Rattle.mgdb.specs.Stops.{DiskSteps}
 use Rattle.mgdb.specs.Working.{Reads}
 use Rattle.mgdb.specs.declared.status.Stop.{Stop}
@@ -44,7 +44,7 @@ pages_whole pages are = (refl, λ i below past. each_long pages are i below past
 pub has_read_more : {D T : Type 0} (m : Meaning D) → CountsNow m → Counts m → (old mid new : D)
     (pages after : List (List ℕ)) (page : List ℕ) (n : ℕ) (result : Result T Stop)
     → HasRead m old mid pages n → n < PAGES → ReadsPage m mid n page → Reads m mid new
-    → HasSeven m new → DiskSteps m mid new result → after ≡ pages ++ page ∷ []
+    → HasPages m new PAGES → DiskSteps m mid new result → after ≡ pages ++ page ∷ []
     → HasRead m old new after (n + 1)
 has_read_more m now counts old mid new pages after page n result so_far below read reads seven steps
     is = record {

@@ -3,12 +3,13 @@
 use Rattle.std.specs.Prelude.{◌≡◌, ◌+◌, ◌&&◌, ◌++◌, ◌∷◌, [], ℕ, Bool, true, false, List, length, Ok, Err, IsErrAnd, Result, refl}
 use Rattle.std.proofs.Common.{sym, ◌∙◌, ap, arith, inl, inr, ◌⊎◌, append_assoc, subst, Some}
 use Rattle.std.specs.Str.Lines.{lines}
+use Rattle.mg_base.specs.Asking.{no_writes}
 use Rattle.mg_base.specs.Disk.{Meaning}
 use Rattle.mg_base.specs.Moments.{LeavesOnly, started}
 use Rattle.mg_base.specs.Streams.{SinkMeaning}
 use Rattle.mg_image.specs.Form.{Pages}
 use Rattle.mg_kv.specs.Slots.{Slots}
-use Rattle.mg_lines.specs.Given.{HasRoom, LineEnds, LineGives, Meets, Obeys, Turn, after_turns, ended, more, nothing, obeyed, turn}
+use Rattle.mg_lines.specs.Given.{HasRoom, LineEnds, LineGives, Meets, Obeys, Turn, after_turns, ended, entries_of, more, nothing, obeyed, turn}
 use Rattle.mg_lines.specs.Transcript.{all_ok, line_text, transcript}
 use Rattle.mg_lines.specs.declared.line.Line.{Line}
 use Rattle.mg_model.specs.declared.opening.Opening.{Opening}
@@ -16,10 +17,11 @@ use Rattle.mg_model.specs.History.{Entry}
 use Rattle.mg_served.specs.Serving.{has_room}
 use Rattle.mg_store.specs.Crashes.{asked}
 use Rattle.mg_store.specs.LeavesLaws.{last_is_some, leaves_all, run_goes_on}
+use Rattle.mg_store.specs.Stages.{asks_then}
 use Rattle.mg_store.specs.Storing.{LeavesSome}
 use Rattle.mgdb.proofs.ObeyLaws.{after_line, all_ok_line, asked_obeyed, count_more, line_asked, lines_more, transcript_line, writes_line}
 use Rattle.mgdb.proofs.PrintLaws.{printed_behind, printed_whole, whole_more, whole_nothing}
-use Rattle.mgdb.specs.Headline.{IsPrinted, IsPrintedWhole}
+use Rattle.mgdb.specs.Headline.{IsPrinted, IsPrintedWhole, writes_of}
 use Rattle.mgdb.specs.Stops.{IsObeyingStop, is_within}
 use Rattle.mgdb.specs.Working.{LineDone, LinesDone, SoFar, Works}
 use Rattle.mgdb.specs.declared.status.Stop.{Stop}
@@ -64,7 +66,7 @@ module _ {D K : Type 0} (m : Meaning D) (n : SinkMeaning K) (entered : Pages) (f
     printed = whole_nothing n sink;
     crash = started m disk (LeavesSome o [])
         (λ c left. last_is_some o [] c (works.stores.now c left));
-    writes = omega arith;
+    writes = no_writes m disk;
   }
 
   -- ---- a line more
@@ -104,8 +106,10 @@ module _ {D K : Type 0} (m : Meaning D) (n : SinkMeaning K) (entered : Pages) (f
               done.obeyed (asked_obeyed (has_room first) o so.turns so.obeys))
               (run_goes_on m old mid new o (after_turns so.turns) done.entries so.crash
               done.crash));
-          writes = let first = so.writes in let next = done.writes in
-              omega (arith, writes_line so.turns done.line done.entries);
+          writes = asks_then m old mid new (writes_of (entries_of so.turns))
+              (writes_of done.entries)
+              (writes_of (entries_of (so.turns ++ turn done.line done.entries ∷ []))) so.writes
+              done.writes (omega (arith, writes_line so.turns done.line done.entries));
         }
 
     -- ---- a line ends them
@@ -139,8 +143,10 @@ module _ {D K : Type 0} (m : Meaning D) (n : SinkMeaning K) (entered : Pages) (f
           crash = rw whole (run_goes_on m old mid new o (after_turns so.turns) done.entries
               so.crash done.crash);
           exit = rw whole done.exit;
-          writes = let first = so.writes in let next = done.writes in
-              omega (arith, writes_line so.turns done.line done.entries);
+          writes = asks_then m old mid new (writes_of (entries_of so.turns))
+              (writes_of done.entries)
+              (writes_of (entries_of (so.turns ++ turn done.line done.entries ∷ []))) so.writes
+              done.writes (omega (arith, writes_line so.turns done.line done.entries));
         }
 
     pub stopped_by_line : (stop : Stop) (result : Result Bool Stop)

@@ -104,11 +104,14 @@ statement_asked has_room o h t statement new (insert key value answered (done is
 statement_asked has_room o h t statement new (insert key value answered (refused why is)) = refl
 statement_asked has_room o h t statement new (insert key value answered (full is room)) = refl
 statement_asked has_room o h t statement new (update_none key value test is none) = refl
-statement_asked has_room o h t statement new (update key value test found answered is row (done fine room)) =
+statement_asked has_room o h t statement new (update key value test found answered is row
+    (done fine room)) =
     refl
-statement_asked has_room o h t statement new (update key value test found answered is row (refused why says)) =
+statement_asked has_room o h t statement new (update key value test found answered is row
+    (refused why says)) =
     refl
-statement_asked has_room o h t statement new (update key value test found answered is row (full fine room)) =
+statement_asked has_room o h t statement new (update key value test found answered is row
+    (full fine room)) =
     refl
 
 pub line_asked : (has_room : HasRoom) (o : Opening) (h : Entries) (line : Line) (new : List Entry)

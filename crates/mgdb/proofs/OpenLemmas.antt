@@ -40,9 +40,11 @@ use Rattle.mg_opening.specs.FormRestLaws.{form_at_rest}
 use Rattle.mg_store.specs.Crashes.{HoldsSome}
 use Rattle.mg_store.specs.Creating.{CreateDone, IsFreshDisk, StoresNew, new_history}
 use Rattle.mg_store.specs.Fresh.{IsFresh, IsKnown, first_image, fresh_image}
+use Rattle.mg_store.specs.FreshLaws.{fresh_is_blank}
 use Rattle.mg_store.specs.LeavesLaws.{last_is_some}
 use Rattle.mg_store.specs.NewLaws.{new_stores}
 use Rattle.mg_store.specs.NewOpeningLaws.{new_begins, new_is_opened}
+use Rattle.mg_store.specs.Stages.{asks_then}
 use Rattle.mg_store.specs.StoreLaws.{next_is, opened_stores}
 use Rattle.mg_store.specs.Storing.{LeavesLast, Stores}
 use Rattle.mg_store.specs.declared.fresh.CreateFault.{CreateFault}
@@ -53,6 +55,7 @@ use Rattle.mgdb.specs.Working.{OpenDone, Reads}
 use Rattle.mgdb.specs.declared.status.Stop.{Stop}
 use Rattle.mgdb.specs.declared.status.Stop.TheVariants.{UnknownImage}
 use Rattle.mgdb.proofs.EntryDisks.{entry_again, entry_leaves}
+use Rattle.mgdb.proofs.ReadsLemmas.{reads_ask}
 use Rattle.mgdb.proofs.BlankLemmas.{form_is_not_blank, sound_is_not_blank}
 
 -- ---- the image at entry
@@ -86,7 +89,7 @@ reads_done m old new size image first o entered_ result entry reads stores_ = re
       (λ c left. entry_again m old size image first o entry c (reads.crash entry.told c left));
   begun = 0;
   are_first = record { most = omega arith; of_form = λ is. refl };
-  writes = let same = reads.asked_ in omega (arith, same);
+  writes = reads_ask m old new reads;
 }
 
 -- a fault that is handed on
@@ -131,7 +134,8 @@ done_after m old mid new size image first o result entry reads done = record {
   again = joined m old mid new (IsKnownAgain size image) before.again done.again;
   begun = done.begun;
   are_first = done.are_first;
-  writes = let same = reads.asked_ in let more = done.writes in omega (arith, same, more);
+  writes = asks_then m old mid new 0 done.begun done.begun (reads_ask m old mid reads) done.writes
+      (omega arith);
 }
   where
     before : OpenDone m old mid size image first o (Err UnknownImage)
@@ -182,7 +186,6 @@ new_starts s pages starts same next_ = record {
   has_bits = sym (same TRANSACTIONS.0);
   has_rows = sym (same KV_ROWS.0);
   has_next = starts.has_next ∙ sym next_;
-  idle = starts.idle;
   live = starts.live ∙ ap (λ (n : ℕ). with_next n) (sym next_);
 }
   where
@@ -217,7 +220,7 @@ module _ (one : RowsAreOne plain_coding) {D : Type 0} (m : Meaning D) (old new :
   made_writes = record {
     most = omega arith;
     of_form = λ is. absurd (form_is_not_blank (page_at PAGE image) is.form
-        fresh.blank_image.header);
+        (fresh.unmade 0));
   }
 
   made_with : (made : Result Store CreateFault) → CreateDone m old new made
@@ -257,9 +260,9 @@ pub make_done : RowsAreOne plain_coding → {D : Type 0} (m : Meaning D) (old ne
     → OpenDone m old new PAGE image first o result
 make_done one m old new image first o entry fresh sized made done result same =
     subst (λ (p : Opening). OpenDone m old new PAGE image first p result)
-    (sym (blank_opening PAGE image o entry.opening fresh.blank_image))
+    (sym (blank_opening PAGE image o entry.opening (fresh_is_blank (Some PAGE) image fresh)))
     (subst (λ (slots : Slots). OpenDone m old new PAGE image slots new_history result)
-    (sym (entry.cells.of_blank fresh.blank_image))
+    (sym (entry.cells.of_blank (fresh_is_blank (Some PAGE) image fresh)))
     (made_new one m old new image fresh sized made (done image (entry_fresh m old PAGE image first
     o entry (subst (λ (s : Option ℕ). IsFresh s image) (sym entry.sized) fresh))) result same))
 
@@ -357,7 +360,7 @@ known_few size image (first_image is) = let seven = is.count in omega (arith, se
 pub known_form : (size : Option ℕ) (image : Image) → IsKnown size image
     → (IsFresh (Some PAGE) image → ⊥) → IsFirstImage size image
 known_form size image (fresh_image fresh) not_ =
-    absurd (not_ (record { page_size = refl; few = fresh.few; blank_image = fresh.blank_image }))
+    absurd (not_ (record { page_size = refl; few = fresh.few; unmade = fresh.unmade }))
 known_form size image (first_image is) not_ = is
 
 pub form_known : (size : Option ℕ) (image : Image) → size ≡ Some PAGE → length image ≡ PAGES
@@ -376,26 +379,6 @@ other_size size n image is ne known =
 pub too_many : (size : Option ℕ) (image : Image) → PAGES < length image → IsKnown size image → ⊥
 too_many size image many known =
     let few = known_few size image known in absurd (omega (arith, few, many))
-
--- an image of at most seven pages is fresh exactly where page 0 was read as zeros
-pub zero_read : (image : Image) (into : List ℕ) (is : Bool) → length image ≤ PAGES
-    → into ≡ page_at PAGE image 0 → length into ≡ PAGE
-    → (IsTrue is ↔ (into ≡ replicate (length into) 0)) → IsTrue is ↔ IsFresh (Some PAGE) image
-zero_read image into is few read long zeros = (
-  λ yes_. record {
-    page_size = refl;
-    few = few;
-    blank_image = record {
-      header = sym read ∙ (zeros.0 yes_ ∙ with_length long);
-      inventory = λ region one below.
-          get_or_past image (region * 32640 + 1) (blank PAGE) (omega (arith, one, few));
-    };
-  },
-  λ fresh. zeros.1 (read ∙ (fresh.blank_image.header ∙ sym (with_length long))),
-)
-  where
-    with_length : length into ≡ PAGE → replicate {A = ℕ} (length into) 0 ≡ blank PAGE
-    with_length is = ap (λ (n : ℕ). replicate {A = ℕ} n 0) is
 
 -- ---- what a call says at Ok, put in other words
 

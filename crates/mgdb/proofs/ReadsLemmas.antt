@@ -1,5 +1,6 @@
 -- Calls that only read, one after another.
 use Rattle.std.proofs.Common.{◌≡◌, ◌≤◌, ◌⊎◌, inl, inr, ℕ, true, Option, None, Some, ◌∙◌, arith}
+use Rattle.mg_base.specs.Asking.{AsksWrites}
 use Rattle.mg_base.specs.Disk.{Elapses, MayLeave, Meaning, Stays}
 use Rattle.mg_base.specs.Image.{Image}
 use Rattle.mgdb.specs.Working.{Reads}
@@ -15,6 +16,7 @@ reads_on {D} m counts old mid new first second = record {
   told = second.told ∙ first.told;
   held = second.held ∙ first.held;
   asked_ = second.asked_ ∙ first.asked_;
+  limit = second.limit ∙ first.limit;
   time = λ told. elapses told (first.time told) (second.time (first.told ∙ told));
   crash = λ told c left. first.crash told c (second.crash (first.told ∙ told) c left);
 }
@@ -37,6 +39,14 @@ reads_on {D} m counts old mid new first second = record {
       keeps = λ t c early left. two.keeps t c (let l = one.later in omega (arith, l, early))
           (one.keeps t c early left);
     }
+
+-- no page write was asked for
+pub reads_ask : {D : Type 0} (m : Meaning D) (old new : D) → Reads m old new
+    → AsksWrites m old new 0
+reads_ask m old new reads = record {
+  asked = let same = reads.asked_ in omega (arith, same);
+  limit = reads.limit;
+}
 
 -- ---- what is known of the size, and of faults
 

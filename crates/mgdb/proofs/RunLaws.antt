@@ -1,8 +1,9 @@
 -- Laws of a whole run: a disk is opened, the lines are obeyed, the work is closed; and what the
 -- program promises of it, wherever it stops.
-use Rattle.std.specs.Prelude.{◌≡◌, ◌≤◌, [], ℕ, Bool, false, List, None, Some, Result, Ok, Err, IsErrAnd, refl}
+use Rattle.std.specs.Prelude.{◌≡◌, ◌≤◌, ◌+◌, [], ℕ, Bool, false, List, None, Some, Result, Ok, Err, IsErrAnd, refl}
 use Rattle.std.proofs.Common.{sym, ◌∙◌, ap, arith, append-nil, subst}
 use Rattle.std.specs.Str.Lines.{lines}
+use Rattle.mg_base.specs.Asking.{AsksWrites, more_writes, no_writes}
 use Rattle.mg_base.specs.Disk.{MayLeave, Meaning}
 use Rattle.mg_base.specs.Image.{Image}
 use Rattle.mg_base.specs.Moments.{LeavesOnly, joined, leaves_as, started}
@@ -17,11 +18,12 @@ use Rattle.mg_served.specs.Serving.{has_room}
 use Rattle.mg_store.specs.CrashLaws.{asked_counts, holds_asked, some_asked, some_asked_longer}
 use Rattle.mg_store.specs.Crashes.{HoldsAll, HoldsSome, asked}
 use Rattle.mg_store.specs.Fresh.{IsKnown}
+use Rattle.mg_store.specs.Stages.{asks_at_most, asks_then}
 use Rattle.mg_store.specs.Storing.{LeavesAll, LeavesSome}
 use Rattle.mg_store.specs.declared.store.Store.{Store}
 use Rattle.mgdb.proofs.EntryDisks.{entry_again, entry_leaves}
 use Rattle.mgdb.proofs.PrintLaws.{printed_nothing, printed_stopped, whole_nothing}
-use Rattle.mgdb.specs.Headline.{Counted, IsEntry, IsKnownAgain, IsPrinted, ending, fault_line}
+use Rattle.mgdb.specs.Headline.{Counted, IsEntry, IsKnownAgain, IsPrinted, LAST_WRITES, ending, fault_line, writes_of}
 use Rattle.mgdb.specs.Stops.{is_within, status_of}
 use Rattle.mgdb.specs.Working.{CloseDone, LinesDone, OpenDone, ScriptDone}
 use Rattle.mgdb.specs.declared.status.Place.TheVariants as places
@@ -73,7 +75,8 @@ module _ {D K : Type 0} (m : Meaning D) (n : SinkMeaning K) where
     again = opened.again;
     begun = opened.begun;
     are_first = opened.are_first;
-    writes = let writes = opened.writes in omega arith;
+    writes = asks_at_most m old new opened.begun (opened.begun + writes_of [] + LAST_WRITES)
+        opened.writes (omega arith);
   }
 
   -- it was opened, and the lines were obeyed as far as they were
@@ -137,7 +140,9 @@ module _ {D K : Type 0} (m : Meaning D) (n : SinkMeaning K) where
       again = lines_known done.turns done.crash;
       begun = opened.begun;
       are_first = opened.are_first;
-      writes = let start = opened.writes in let next = done.writes in omega arith;
+      writes = asks_then m old mid lined opened.begun (writes_of (entries_of done.turns))
+          (opened.begun + writes_of (entries_of done.turns) + LAST_WRITES) opened.writes done.writes
+          (omega arith);
     }
 
     -- all were obeyed, and the work was closed, or that failed
@@ -177,6 +182,13 @@ module _ {D K : Type 0} (m : Meaning D) (n : SinkMeaning K) where
       closed_exit c left = asked_all c
           (of_all (after_turns done.turns) (after_turns done.turns) c (ends.exit c left))
 
+      closed_writes : AsksWrites m old closed
+          (opened.begun + writes_of (entries_of done.turns) + LAST_WRITES)
+      closed_writes = more_writes m old lined closed
+          (opened.begun + writes_of (entries_of done.turns)) LAST_WRITES
+          (more_writes m old mid lined opened.begun (writes_of (entries_of done.turns))
+          opened.writes done.writes) ends.writes
+
       pub script_closed : ScriptDone m n old closed before after size image first o script (Ok all)
       script_closed = record {
         texts = done.texts;
@@ -196,8 +208,7 @@ module _ {D K : Type 0} (m : Meaning D) (n : SinkMeaning K) where
         again = closed_known;
         begun = opened.begun;
         are_first = opened.are_first;
-        writes = let start = opened.writes in let next = done.writes in
-            let last = ends.writes in omega arith;
+        writes = closed_writes;
       }
 
       pub script_unclosed : (stop : Stop) → is_within (Some stop) ≡ false
@@ -221,8 +232,7 @@ module _ {D K : Type 0} (m : Meaning D) (n : SinkMeaning K) where
         again = closed_known;
         begun = opened.begun;
         are_first = opened.are_first;
-        writes = let start = opened.writes in let next = done.writes in
-            let last = ends.writes in omega arith;
+        writes = closed_writes;
       }
 
   -- ---- what the program promises
@@ -260,7 +270,7 @@ module _ {D K : Type 0} (m : Meaning D) (n : SinkMeaning K) where
         sized = entry.sized;
         begun = 0;
         are_first = record { most = omega arith; of_form = λ form. refl };
-        writes = omega arith;
+        writes = asks_at_most m disk disk 0 LAST_WRITES (no_writes m disk) (omega arith);
       }
 
   pub headline_done : (size : ℕ) (image : Image) (first : Slots) (o : Opening) (script : List ℕ)

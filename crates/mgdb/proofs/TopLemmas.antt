@@ -1,8 +1,10 @@
--- What a run on a disk of a stopped run says of the disk.
+-- What a run on a disk behind a fuse says of the disk.
 use Rattle.std.proofs.Common.{◌≡◌, ◌≢◌, ◌≤◌, ◌<◌, ◌+◌, ◌^◌, ◌⊎◌, inl, inr, ℕ, zero, suc, List, [], ◌∷◌, ◌∙◌, ap, Option, Some, None, sym, refl, arith, subst}
-use Rattle.std.proofs.lemmas.Bool.{cases_eq}
 use Rattle.std.proofs.lemmas.Fmt.{decimal_injective}
+use Rattle.mg_base.specs.Asking.{AsksWrites, fuse_fails_past}
 use Rattle.mg_base.specs.Disk.{MayLeave, Meaning, Rose}
+use Rattle.mg_base.specs.Fused.{blown_of, fused_meaning, inner_of, most_of, passed_of}
+use Rattle.mg_base.specs.declared.fused.Fused.{Fused}
 use Rattle.mg_base.specs.Image.{Image}
 use Rattle.mg_base.specs.Moments.{LeavesOnly}
 use Rattle.mg_base.specs.Streams.{SinkMeaning, SourceMeaning}
@@ -13,16 +15,14 @@ use Rattle.mg_store.specs.Crashes.{HoldsAll, HoldsSome, asked}
 use Rattle.mg_store.specs.Fresh.{IsKnown}
 use Rattle.mgdb.specs.Causes.{DiskCauses, IsUnwritten, IsWhole, ScriptCauses, StreamCauses}
 use Rattle.mgdb.specs.Headline.{AreFirstWrites, Headline, IsEntry, IsKnownAgain, LAST_WRITES, writes_of}
-use Rattle.mgdb.specs.Stopped.{IsUnused, inner_of, stopped_meaning}
 use Rattle.mgdb.specs.Top.{HoldsAsBefore, IsPast, Promise, ShelfCauses}
 use Rattle.mgdb.specs.Words.{IsRun}
-use Rattle.mgdb.specs.declared.stopped.Stopped.{Stopped}
 
 -- what was not written was not written behind it
-unwritten_of_stopped : {D : Type 0} (m : Meaning D) (first result : D) (old new : Stopped D)
-    → inner_of old ≡ first → result ≡ inner_of new → IsUnwritten (stopped_meaning m) old new
+unwritten_of_fused : {D : Type 0} (m : Meaning D) (first result : D) (old new : Fused D)
+    → inner_of old ≡ first → result ≡ inner_of new → IsUnwritten (fused_meaning m) old new
     → HoldsAsBefore m first result
-unwritten_of_stopped m first result old new was is unwritten = rw (← was, is) (record {
+unwritten_of_fused m first result old new was is unwritten = rw (← was, is) (record {
   held = unwritten.held;
   crash = unwritten.crash;
 })
@@ -39,29 +39,30 @@ shelf_of_run m stopped old new status causes = record {
   unasked = λ four plain. (causes.unwritten four).asked;
 }
 
-pub shelf_of_stopped : {D : Type 0} (m : Meaning D) (stopped : Type 0) (first result : D) (old new : Stopped D) (status : ℕ) → inner_of old ≡ first → result ≡ inner_of new → stopped
-    → DiskCauses (stopped_meaning m) old new status → ShelfCauses m stopped first result status
-shelf_of_stopped m stopped first result old new status was is given causes =
+pub shelf_of_fused : {D : Type 0} (m : Meaning D) (stopped : Type 0) (first result : D)
+    (old new : Fused D) (status : ℕ) → inner_of old ≡ first → result ≡ inner_of new → stopped
+    → DiskCauses (fused_meaning m) old new status → ShelfCauses m stopped first result status
+shelf_of_fused m stopped first result old new status was is given causes =
     rw (← was, is) (record {
       failed = λ three. inr given;
       unknown = causes.unknown;
       known = causes.known;
-      unwritten = λ four. unwritten_of_stopped m (inner_of old) (inner_of new) old new refl refl
+      unwritten = λ four. unwritten_of_fused m (inner_of old) (inner_of new) old new refl refl
           (causes.unwritten four);
       unasked = λ four plain. absurd (plain given);
     })
 
--- ---- the headline, of a disk of a stopped run
+-- ---- the headline, of a disk behind a fuse
 
--- a disk of a stopped run is entered as the disk itself is
-pub entry_of_stopped : {D : Type 0} (m : Meaning D) (first : D) (old : Stopped D) (size : ℕ)
+-- a disk behind a fuse is entered as the disk itself is
+pub entry_of_fused : {D : Type 0} (m : Meaning D) (first : D) (old : Fused D) (size : ℕ)
     (image : Image) (slots : Slots) (o : Opening) → inner_of old ≡ first
-    → IsEntry m first size image slots o → IsEntry (stopped_meaning m) old size image slots o
-entry_of_stopped {D} m first old size image slots o was entry =
+    → IsEntry m first size image slots o → IsEntry (fused_meaning m) old size image slots o
+entry_of_fused {D} m first old size image slots o was entry =
     from (subst (λ (d : D). IsEntry m d size image slots o) (sym was) entry)
   where
     from : IsEntry m (inner_of old) size image slots o
-        → IsEntry (stopped_meaning m) old size image slots o
+        → IsEntry (fused_meaning m) old size image slots o
     from e = record {
       told = e.told;
       sized = e.sized;
@@ -72,28 +73,28 @@ entry_of_stopped {D} m first old size image slots o was entry =
     }
 
 -- what a crash leaves of it, it leaves of the disk itself
-pub leaves_of_stopped : {D : Type 0} (m : Meaning D) (first result : D) (old new : Stopped D)
+pub leaves_of_fused : {D : Type 0} (m : Meaning D) (first result : D) (old new : Fused D)
     (P : Image → Type 0) → inner_of old ≡ first → result ≡ inner_of new
-    → LeavesOnly (stopped_meaning m) old new P → LeavesOnly m first result P
-leaves_of_stopped m first result old new P was is run = rw (← was, is) (record {
+    → LeavesOnly (fused_meaning m) old new P → LeavesOnly m first result P
+leaves_of_fused m first result old new P was is run = rw (← was, is) (record {
   later = run.later;
   each = run.each;
   before = run.before;
 })
 
-pub exit_of_stopped : {D : Type 0} (m : Meaning D) (result : D) (new : Stopped D) (P : Image → Type 0)
-    → result ≡ inner_of new → ((c : Image) → MayLeave (stopped_meaning m) new c → P c)
+pub exit_of_fused : {D : Type 0} (m : Meaning D) (result : D) (new : Fused D) (P : Image → Type 0)
+    → result ≡ inner_of new → ((c : Image) → MayLeave (fused_meaning m) new c → P c)
     → (c : Image) → MayLeave m result c → P c
-exit_of_stopped m result new P is exit = rw is exit
+exit_of_fused m result new P is exit = rw is exit
 
 -- and what is promised of it is promised of the disk itself
-abbrev pub line_of_stopped : {D K : Type 0} (m : Meaning D) (n : SinkMeaning K) (size : ℕ)
+abbrev pub line_of_fused : {D K : Type 0} (m : Meaning D) (n : SinkMeaning K) (size : ℕ)
     (image : Image) (slots : Slots) (o : Opening) (script : List ℕ) (first result : D)
-    (old new : Stopped D) (before after : K) (status : ℕ) → inner_of old ≡ first
+    (old new : Fused D) (before after : K) (status : ℕ) → inner_of old ≡ first
     → result ≡ inner_of new
-    → Headline (stopped_meaning m) n size image slots o script old new before after status
+    → Headline (fused_meaning m) n size image slots o script old new before after status
     → Headline m n size image slots o script first result before after status
-line_of_stopped m n size image slots o script first result old new before after status was is line =
+line_of_fused m n size image slots o script first result old new before after status was is line =
     record {
       texts = line.texts;
       rest = line.rest;
@@ -107,33 +108,27 @@ line_of_stopped m n size image slots o script first result old new before after 
       closes = line.closes;
       printed = line.printed;
       ends = line.ends;
-      crash = leaves_of_stopped m first result old new
+      crash = leaves_of_fused m first result old new
           (HoldsSome size o (asked (after_turns line.turns))) was is line.crash;
-      exit = exit_of_stopped m result new
+      exit = exit_of_fused m result new
           (HoldsAll size o (after_turns line.turns) (asked (after_turns line.turns))) is line.exit;
-      again = leaves_of_stopped m first result old new (IsKnownAgain size image) was is line.again;
+      again = leaves_of_fused m first result old new (IsKnownAgain size image) was is line.again;
     }
 
 -- it failed where the disk itself did, or where more page writes were asked for than may pass
-pub past_of_stopped : {D : Type 0} (m : Meaning D) (first result : D) (old new : Stopped D)
-    (most asked : ℕ) → inner_of old ≡ first → result ≡ inner_of new → IsUnused old most
-    → most < 2 ^ 32
-    → (stopped_meaning m).asked new ≤ (stopped_meaning m).asked old + asked
-    → Rose ((stopped_meaning m).faults old) ((stopped_meaning m).faults new)
+pub past_of_fused : {D : Type 0} (m : Meaning D) (first result : D) (old new : Fused D)
+    (most asked : ℕ) → inner_of old ≡ first → result ≡ inner_of new → most_of old ≡ most
+    → passed_of old ≡ 0 → blown_of old ≡ 0 → AsksWrites (fused_meaning m) old new asked
+    → Rose ((fused_meaning m).faults old) ((fused_meaning m).faults new)
     → Rose (m.faults first) (m.faults result) ⊎ (most < asked)
-past_of_stopped m first result old new most asked was is unused small writes rose =
-    at (cases_eq new.blown 0) (rw (← was, is) rose)
+past_of_fused m first result old new most asked was is limit passed blown writes rose =
+    rw (← was, is) (at (fuse_fails_past m old new asked writes rose))
   where
-    at : (new.blown ≡ 0) ⊎ (new.blown ≢ 0)
-        → Rose (m.faults first + old.blown) (m.faults result + new.blown)
-        → Rose (m.faults first) (m.faults result) ⊎ (most < asked)
-    at (inl none) (inl rises) =
-        let b = unused.blown in inl (inl (omega (arith, none, b, rises)))
-    at (inl none) (inr end) = inl (inr (omega (arith, none, end)))
-    at (inr some) r =
-        let spent = new.fuse.spent (omega (arith, some)) in
-        let b = unused.blown in let p = unused.passed in let l = unused.limit in
-        inr (omega (arith, some, spent, b, p, l, small, writes))
+    at : Rose (m.faults (inner_of old)) (m.faults (inner_of new))
+        ⊎ (most_of old < (fused_meaning m).asked old + asked)
+        → Rose (m.faults (inner_of old)) (m.faults (inner_of new)) ⊎ (most < asked)
+    at (inl rises) = inl rises
+    at (inr past) = inr (omega (arith, past, limit, passed, blown))
 
 -- 4 comes of no image that the program knows, whose pages keep their size
 pub unknown_at : {D : Type 0} (m : Meaning D) (old new : D) (size : ℕ) (image : Image)
@@ -162,7 +157,8 @@ by_causes (suc (suc (suc (suc (suc (suc (suc (suc n)))))))) below no2 no3 no4 no
 
 -- the promise, from the headline and the causes
 pub promised : {D S K : Type 0} (m : Meaning D) (n : SourceMeaning S) (k : SinkMeaning K)
-    (stop : Option ℕ) (size : ℕ) (image : Image) (slots : Slots) (o : Opening) (script : List ℕ) (old new : D) (source source' : S) (sink sink' : K) (status : ℕ)
+    (stop : Option ℕ) (size : ℕ) (image : Image) (slots : Slots) (o : Opening) (script : List ℕ)
+    (old new : D) (source source' : S) (sink sink' : K) (status : ℕ)
     (line : Headline m k size image slots o script old new sink sink' status) (begun : ℕ)
     → AreFirstWrites size image begun
     → (status ≡ 3 → Rose (m.faults old) (m.faults new)
@@ -198,12 +194,10 @@ promised m n k stop size image slots o script old new source source' sink sink' 
 
 -- a command line asks for one number of page writes
 pub stop_is : (words : List (List ℕ)) (stop : Option ℕ) (most : ℕ) → IsRun words stop
-    → IsRun words (Some most) → (stop ≡ Some most) × (most < 2 ^ 32)
-stop_is (a ∷ b ∷ c ∷ d ∷ e ∷ []) (Some n) most run also = (
-  ap (λ (k : ℕ). Some k) (decimal_injective n most (let x = run.4 in omega (arith, x))
-      (let x = also.4 in omega (arith, x)) (sym run.3 ∙ also.3)),
-  also.4,
-)
+    → IsRun words (Some most) → stop ≡ Some most
+stop_is (a ∷ b ∷ c ∷ d ∷ e ∷ []) (Some n) most run also =
+    ap (λ (k : ℕ). Some k) (decimal_injective n most (let x = run.4 in omega (arith, x))
+    (let x = also.4 in omega (arith, x)) (sym run.3 ∙ also.3))
 stop_is (a ∷ b ∷ c ∷ d ∷ e ∷ []) None most run also = absurd run
 stop_is [] stop most run also = absurd also
 stop_is (a ∷ []) stop most run also = absurd also
@@ -216,7 +210,7 @@ stop_is (a ∷ b ∷ c ∷ d ∷ e ∷ f ∷ words) stop most run also = absurd 
 pub past_is : (words : List (List ℕ)) (stop : Option ℕ) (most asked : ℕ) → IsRun words stop
     → IsRun words (Some most) → most < asked → IsPast stop asked
 past_is words stop most asked run also past =
-    subst (λ (s : Option ℕ). IsPast s asked) (sym (stop_is words stop most run also).0) past
+    subst (λ (s : Option ℕ). IsPast s asked) (sym (stop_is words stop most run also)) past
 
 pub failed_past : {A : Type 0} (words : List (List ℕ)) (stop : Option ℕ) (most asked : ℕ)
     → IsRun words stop → IsRun words (Some most) → A ⊎ (most < asked) → A ⊎ IsPast stop asked

@@ -1,6 +1,7 @@
 -- What obeying a line comes to: in memory, with a commit on the disk, and where it ends the run.
 use Rattle.std.specs.Prelude.{◌≡◌, ◌≤◌, ◌+◌, ℕ, List, [], ◌∷◌, ◌++◌, Result, Ok, Err, refl}
 use Rattle.std.proofs.Common.{sym, ap, subst, arith, ◌∙◌}
+use Rattle.mg_base.specs.Asking.{AsksWrites, no_writes}
 use Rattle.mg_base.specs.Disk.{Meaning}
 use Rattle.mg_base.specs.Moments.{LeavesOnly, leaves_as, started}
 use Rattle.mg_model.specs.declared.answer.Answer.{Answer}
@@ -21,6 +22,7 @@ use Rattle.mg_session.specs.declared.said.Said.{Said}
 use Rattle.mg_store.specs.Crashes.{asked}
 use Rattle.mg_store.specs.LeavesLaws.{either_is_all, either_is_some, last_is_some, leaves_all, leaves_asked_longer, quiet_count}
 use Rattle.mg_store.specs.LongerLaws.{last_on, stores_on}
+use Rattle.mg_store.specs.Stages.{asks_at_most}
 use Rattle.mg_store.specs.Storing.{CommitDone, LeavesAll, LeavesEither, LeavesSome, Stores, with_commit}
 use Rattle.mg_store.specs.declared.store.Store.{Store}
 use Rattle.mgdb.specs.Headline.{writes_for, writes_of}
@@ -108,7 +110,7 @@ module _ {D : Type 0} (m : Meaning D) (entered : Pages) (first : Slots) (o : Ope
         (λ c left. leaves_asked_longer o h it.entries c
         (last_is_some o h c (works.stores.now c left)));
     exit = λ c left. leaves_all o (onto h it.entries) c (stores.now c left);
-    writes = omega arith;
+    writes = asks_at_most m disk disk 0 (writes_of it.entries) (no_writes m disk) (omega arith);
   }
     where
       stores : Stores m new.store disk entered first o (onto h it.entries)
@@ -133,7 +135,7 @@ module _ {D : Type 0} (m : Meaning D) (entered : Pages) (first : Slots) (o : Ope
     exit = λ c left. leaves_all o (onto h it.entries) c
         (last_on o h it.entries c (volatile_count h it.entries it.volatile_)
         (works.stores.now c left));
-    writes = omega arith;
+    writes = asks_at_most m disk disk 0 (writes_of it.entries) (no_writes m disk) (omega arith);
   }
 
   -- ---- a commit on the disk
@@ -170,11 +172,10 @@ module _ {D : Type 0} (m : Meaning D) (entered : Pages) (first : Slots) (o : Ope
       writes_with : {T E : Type 0} (result : Result T E) (answered : Answer)
           → CommitDone m old new after.store entered first o reached t result
           → writes_for (commits t) answered ≡ 3
-          → m.asked new ≤ m.asked old + writes_of (with_answer answered)
+          → AsksWrites m old new (writes_of (with_answer answered))
       writes_with result answered done is =
-          let most = done.writes in
-          let three = asks_three it.before t answered is in
-          omega (arith, most, three)
+          asks_at_most m old new 3 (writes_of (with_answer answered)) done.writes
+          (asks_three it.before t answered is)
 
       -- it is made
       pub committed : {T E : Type 0} (x : T)
@@ -215,7 +216,8 @@ module _ {D : Type 0} (m : Meaning D) (entered : Pages) (first : Slots) (o : Ope
         gives = tt;
         ends = ends;
         text = tt;
-        tells = failed_commits_print middle.store.served middle.sessions entered first o h number line
+        tells = failed_commits_print middle.store.served middle.sessions entered first o h number
+            line
             t said 1 it;
         ok = tt;
         works = tt;
@@ -229,5 +231,6 @@ module _ {D : Type 0} (m : Meaning D) (entered : Pages) (first : Slots) (o : Ope
       })
         where
           ends : LineEnds (has_room first) o h line (with_answer (No (WriteRefused 1)))
-          ends = failed_commits_end middle.store.served middle.sessions entered first o h number line
+          ends = failed_commits_end middle.store.served middle.sessions entered first o h number
+              line
               t said 1 it

@@ -1,6 +1,7 @@
 -- What the program promises of a run, in the terms of one history.
 use Rattle.std.specs.Prelude.{◌≡◌, ◌≤◌, ◌+◌, ℕ, true, false, Bool, List, [], ◌∷◌, ◌++◌, take, Option, None, Some, codes}
 use Rattle.std.specs.Str.Lines.{lines}
+use Rattle.mg_base.specs.Asking.{AsksWrites}
 use Rattle.mg_base.specs.Disk.{MayLeave, Meaning, Rose}
 use Rattle.mg_base.specs.Image.{Image, page_at}
 use Rattle.mg_base.specs.Moments.{LeavesOnly}
@@ -169,4 +170,4 @@ pub record Counted {D K : Type 0} (m : Meaning D) (n : SinkMeaning K) (size : �
   pub sized : m.size new ≡ Some size
   pub begun : ℕ
   pub are_first : AreFirstWrites size image begun
-  pub writes : m.asked new ≤ m.asked old + (begun + writes_of (entries_of line.turns) + LAST_WRITES)
+  pub writes : AsksWrites m old new (begun + writes_of (entries_of line.turns) + LAST_WRITES)

@@ -1,7 +1,6 @@
 pub mod Causes
 pub mod Headline
 pub mod Opening
-pub mod Stopped
 pub mod Stops
 pub mod Top
 pub mod Words

@@ -1,9 +1,10 @@
 -- What the single steps of the opening of a disk do.
-use Rattle.std.specs.Prelude.{◌≡◌, ◌≤◌, ℕ, List, [], ◌∷◌, length, Some, take}
+use Rattle.std.specs.Prelude.{◌≡◌, ◌≤◌, ◌<◌, ℕ, List, [], ◌∷◌, length, Some, take}
 use Rattle.mg_base.specs.Disk.{Meaning, Stays}
 use Rattle.mg_base.specs.Image.{Image, page_at}
 use Rattle.mg_image.specs.Form.{Pages}
 use Rattle.mg_image.specs.Inventory.{next_of}
+use Rattle.mg_first.specs.Unmade.{IsUnmadeAt}
 use Rattle.mg_first.specs.declared.pages.TheConstants.{HEADER, KV_ROWS, PAGE, PAGES, TRANSACTIONS}
 use Rattle.mg_served.specs.Deeds.{Starts}
 use Rattle.mg_store.specs.declared.store.Store.{Store}
@@ -33,10 +34,20 @@ IsMakingStop (Memory places.Run) = Unit {0}
 IsMakingStop (Memory places.Line) = ⊥
 IsMakingStop ScriptTooLong = ⊥
 
--- A disk of seven pages of 4096 bytes.
-pub record HasSeven {D : Type 0} (m : Meaning D) (disk : D) : Type 0 where
+-- A disk of so many pages of 4096 bytes.
+pub record HasPages {D : Type 0} (m : Meaning D) (disk : D) (pages : ℕ) : Type 0 where
   pub sized : m.size disk ≡ Some PAGE
-  pub count : m.count disk ≡ Some PAGES
+  pub count : m.count disk ≡ Some pages
+
+-- So many pages of a disk were read, the first ones, no call has failed, and a database may be made
+-- on each.
+pub record HasUnmade {D : Type 0} (m : Meaning D) (old new : D) (pages n : ℕ) : Type 0 where
+  pub has : HasPages m new pages
+  pub reads : Reads m old new
+  pub stays : Stays (m.size old) (m.size new)
+  pub never_falls : m.faults old ≤ m.faults new
+  pub unmade : (image : Image) → m.held old ≡ Some image → (k : ℕ) → k < n
+      → IsUnmadeAt k (page_at PAGE image k)
 
 -- This page was read.
 pub record ReadsPage {D : Type 0} (m : Meaning D) (disk : D) (n : ℕ) (page : List ℕ) : Type 0 where
@@ -51,7 +62,7 @@ AreLong (page ∷ pages) = (length page ≡ PAGE) × AreLong pages
 -- So many pages of a disk of seven were read, the first ones, and no call has failed.
 pub record HasRead {D : Type 0} (m : Meaning D) (old new : D) (pages : List (List ℕ)) (n : ℕ)
     : Type 0 where
-  pub seven : HasSeven m new
+  pub seven : HasPages m new PAGES
   pub reads : Reads m old new
   pub stays : Stays (m.size old) (m.size new)
   pub never_falls : m.faults old ≤ m.faults new

@@ -70,8 +70,8 @@ BlankIsEntry = (disk : MemDisk) → acts_in disk ≡ [] → mem_meaning.size dis
     → (image : Image) → mem_meaning.held disk ≡ Some image
     → IsEntry mem_meaning disk PAGE image [] (new_opening LAST.0)
 
--- So is a disk in memory that holds an image which the program opens, where nothing is pending: with
--- some opening and some cells. So the promise carries over to a run on what a crash left.
+-- So is a disk in memory that holds an image which the program opens, where nothing is pending:
+-- with some opening and some cells. So the promise carries over to a run on what a crash left.
 abbrev pub KnownIsEntry : Type 0
 KnownIsEntry = (disk : MemDisk) (image : Image) → mem_meaning.size disk ≡ Some PAGE
     → mem_meaning.held disk ≡ Some image

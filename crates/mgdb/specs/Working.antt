@@ -1,6 +1,7 @@
 -- What the program keeps while it obeys lines, and what lines do.
-use Rattle.std.specs.Prelude.{◌≡◌, ◌≤◌, ◌+◌, ◌⊎◌, ℕ, zero, suc, Bool, true, false, List, [], ◌∷◌, ◌++◌, length, Result, OnOk, OnErr, IfOk, IfErr, IsErrAnd}
+use Rattle.std.specs.Prelude.{◌≡◌, ◌+◌, ◌⊎◌, ℕ, zero, suc, Bool, true, false, List, [], ◌∷◌, ◌++◌, length, Result, OnOk, OnErr, IfOk, IfErr, IsErrAnd}
 use Rattle.std.specs.Str.Lines.{lines}
+use Rattle.mg_base.specs.Asking.{AsksWrites}
 use Rattle.mg_base.specs.Disk.{Elapses, MayLeave, Meaning}
 use Rattle.mg_base.specs.Image.{Image}
 use Rattle.mg_base.specs.Moments.{LeavesOnly}
@@ -50,6 +51,7 @@ pub record Reads {D : Type 0} (m : Meaning D) (old new : D) : Type 0 where
   pub told : m.tells new ≡ m.tells old
   pub held : m.held new ≡ m.held old
   pub asked_ : m.asked new ≡ m.asked old
+  pub limit : m.most_writes new ≡ m.most_writes old
   pub time : m.tells old ≡ true → Elapses m old new
   pub crash : m.tells old ≡ true → (c : Image) → MayLeave m new c → MayLeave m old c
 
@@ -63,7 +65,7 @@ pub record OpenDone {D : Type 0} (m : Meaning D) (old new : D) (size : ℕ) (ima
   pub again : LeavesOnly m old new (IsKnownAgain size image)
   pub begun : ℕ
   pub are_first : AreFirstWrites size image begun
-  pub writes : m.asked new ≤ m.asked old + begun
+  pub writes : AsksWrites m old new begun
 
 -- ---- a line
 
@@ -83,7 +85,7 @@ pub record ObeyDone {D : Type 0} (m : Meaning D) (old new : D) (work : Work) (en
   pub crash : LeavesOnly m old new (LeavesSome o (asked (onto h entries)))
   pub exit : (c : Image) → MayLeave m new c
       → LeavesAll o (onto h entries) (asked (onto h entries)) c
-  pub writes : m.asked new ≤ m.asked old + writes_of entries
+  pub writes : AsksWrites m old new (writes_of entries)
 
 -- What a line does, by its entries.
 pub record LineDone {D K : Type 0} (m : Meaning D) (n : SinkMeaning K) (old new : D) (work : Work)
@@ -92,7 +94,8 @@ pub record LineDone {D K : Type 0} (m : Meaning D) (n : SinkMeaning K) (old new 
   pub line : Line
   pub is_line : IsLine text line
   pub entries : List Entry
-  pub gives : ((is_within (stopped_by result) ≡ false) × LineGives (has_room first) o h line entries)
+  pub gives : ((is_within (stopped_by result) ≡ false) × LineGives
+      (has_room first) o h line entries)
       ⊎ ((is_within (stopped_by result) ≡ true) × LineEnds (has_room first) o h line entries)
   pub obeyed : OnOk result (LineGives (has_room first) o h line entries)
   pub ok : IfOk result (λ ok. ok ≡ line_ok line entries)
@@ -103,7 +106,7 @@ pub record LineDone {D K : Type 0} (m : Meaning D) (n : SinkMeaning K) (old new 
   pub crash : LeavesOnly m old new (LeavesSome o (asked (onto h entries)))
   pub exit : (c : Image) → MayLeave m new c
       → LeavesAll o (onto h entries) (asked (onto h entries)) c
-  pub writes : m.asked new ≤ m.asked old + writes_of entries
+  pub writes : AsksWrites m old new (writes_of entries)
 
 -- ---- the lines of a script
 
@@ -127,7 +130,7 @@ pub record LinesDone {D K : Type 0} (m : Meaning D) (n : SinkMeaning K) (old new
   pub crash : LeavesOnly m old new (LeavesSome o (asked (after_turns turns)))
   pub exit : (c : Image) → MayLeave m new c
       → LeavesAll o (after_turns turns) (asked (after_turns turns)) c
-  pub writes : m.asked new ≤ m.asked old + writes_of (entries_of turns)
+  pub writes : AsksWrites m old new (writes_of (entries_of turns))
 
 -- The lines obeyed so far, where no call has failed.
 pub record SoFar {D K : Type 0} (m : Meaning D) (n : SinkMeaning K) (old new : D) (work : Work)
@@ -143,7 +146,7 @@ pub record SoFar {D K : Type 0} (m : Meaning D) (n : SinkMeaning K) (old new : D
   pub works : Works m work new entered first o (after_turns turns)
   pub printed : IsPrintedWhole n before after (transcript 1 turns)
   pub crash : LeavesOnly m old new (LeavesSome o (after_turns turns))
-  pub writes : m.asked new ≤ m.asked old + writes_of (entries_of turns)
+  pub writes : AsksWrites m old new (writes_of (entries_of turns))
 
 -- ---- the end of a script
 
@@ -152,7 +155,8 @@ abbrev pub from_on : ℕ → ℕ → List ℕ
 from_on n zero = []
 from_on n (suc k) = n ∷ from_on (n + 1) k
 
--- The transactions of the sessions before one are rolled back; once those from it on are, so are all.
+-- The transactions of the sessions before one are rolled back; once those from it on are, so are
+-- all.
 pub record IsClosing (work : Work) (entered : Pages) (first : Slots) (o : Opening) (h : Entries)
     (n : ℕ) : Type 0 where
   pub now : Entries
@@ -167,7 +171,7 @@ pub record CloseDone {D T E : Type 0} (m : Meaning D) (old new : D) (o : Opening
   pub legal : IsLegal o (onto h (closing o h))
   pub crash : LeavesOnly m old new (LeavesSome o h)
   pub exit : (c : Image) → MayLeave m new c → LeavesAll o h h c
-  pub writes : m.asked new ≤ m.asked old + 2
+  pub writes : AsksWrites m old new 2
 
 -- What a script does, on a disk of which the image at entry has this opening and these cells.
 pub record ScriptDone {D K : Type 0} (m : Meaning D) (n : SinkMeaning K) (old new : D)
@@ -193,4 +197,4 @@ pub record ScriptDone {D K : Type 0} (m : Meaning D) (n : SinkMeaning K) (old ne
   pub again : LeavesOnly m old new (IsKnownAgain size image)
   pub begun : ℕ
   pub are_first : AreFirstWrites size image begun
-  pub writes : m.asked new ≤ m.asked old + (begun + writes_of (entries_of turns) + 2)
+  pub writes : AsksWrites m old new (begun + writes_of (entries_of turns) + 2)

@@ -1,14 +1,14 @@
 //! The program: `mgdb run FILE` obeys a script of lines of up to 16 sessions on one file of pages.
 //!
-//! Owns: the words of a command line, the script as it comes from the source, which files are opened,
-//! what a line does to the disk, the statuses and the fault lines, and what is promised of a run.
+//! Owns: the words of a command line, the script as it comes from the source, which files are
+//! opened, what a line does to the disk, the statuses and the fault lines, and what is promised of
+//! a run.
 //!
 //! Invariant: between two lines the pages in memory stand for the history of the lines so far
-//! (`Work`), and the disk holds what outlasts a crash of it.
-//! Below: `mg_base` for the outside; `mg_opening` for the test of an image; `mg_store` for the pages
-//! on the disk; `mg_session` for what a line does in memory; `mg_lines` for the lines, their history
-//! and their texts.
-//! Not here: what a page of any kind means, and the order of page writes.
+//! (`Work`), and the disk holds what outlasts a crash of it. Below: `mg_base` for the outside;
+//! `mg_opening` for the test of an image; `mg_store` for the pages on the disk; `mg_session` for
+//! what a line does in memory; `mg_lines` for the lines, their history and their texts. Not here:
+//! what a page of any kind means, and the order of page writes.
 #![tactic(auto)]
 
 mod laws;
@@ -16,7 +16,6 @@ mod open;
 mod run;
 mod script_source;
 mod status;
-mod stopped;
 mod top;
 mod words;
 mod work;

@@ -1,8 +1,10 @@
-//! How the program opens a disk: it makes a new database on a fresh one, and reads one that it made.
+//! How the program opens a disk: it makes a new database on a fresh one, and reads one that it
+//! made.
 
-ghost use Rattle.std.specs.Prelude.{◌≡◌, ◌↔◌, ◌≤◌, ◌<◌, ◌∷◌, ◌++◌, [], IfErr, IfOk, IsErrOf, IsTrue, OnOk, Some, ℕ, length, replicate};
+ghost use Rattle.std.specs.Prelude.{◌≡◌, ◌↔◌, ◌≤◌, ◌<◌, ◌∷◌, ◌++◌, [], IfErr, IfOk, IsErrOf, IsTrue, OnOk, Some, ℕ, length};
 ghost use Rattle.mg_base.specs.Image.{Image as DiskImage, page_at};
 ghost use Rattle.mg_first.specs.FirstForm.{IsFirstForm};
+ghost use Rattle.mg_first.specs.Unmade.{IsUnmadeAt};
 ghost use Rattle.mg_first.specs.declared.pages.TheConstants.{HEADER, KV_ROWS, PAGE, PAGES, TRANSACTIONS};
 ghost use Rattle.mg_kv.specs.Slots.{Slots};
 ghost use Rattle.mg_image.specs.Form.{plain_coding};
@@ -13,12 +15,12 @@ ghost use Rattle.mg_store.specs.Fresh.{IsFresh, IsKnown};
 ghost use Rattle.mgdb.specs.Causes.{IsUnwritten};
 ghost use Rattle.mgdb.specs.Headline.{IsEntry};
 ghost use Rattle.mgdb.specs.Stops.{DiskSteps, IsOpeningStop};
-ghost use Rattle.mgdb.specs.Opening.{HasRead, HasSeven, IsLoadingStop, IsMakingStop, ReadsPage, StartsOn};
+ghost use Rattle.mgdb.specs.Opening.{HasPages, HasRead, IsLoadingStop, IsMakingStop, ReadsPage, StartsOn};
 ghost use Rattle.mgdb.specs.Working.{OpenDone, Reads};
 
 use crate::status::{Place, Stop};
 use mg_base::{Bytes, Disk, PageNo, TxNo, get_u32};
-use mg_first::{HEADER, KV_ROWS, PAGE, PAGE_LEN, PAGES, TRANSACTIONS};
+use mg_first::{HEADER, KV_ROWS, PAGE, PAGE_LEN, PAGES, TRANSACTIONS, is_unmade_page};
 use mg_header::NEXT_AT;
 use mg_image::one_reading;
 use mg_opening::is_first_form;
@@ -49,7 +51,7 @@ pub fn open<D: Disk>(alloc: Global, disk: &mut D) -> Result<Store, Stop>
 {
     one_reading();
     let pages = count_pages(disk)?;
-    if is_blank(disk, pages)? {
+    if is_fresh(alloc, disk, pages)? {
         return make(alloc, disk);
     }
     if pages != PAGES {
@@ -81,34 +83,46 @@ fn count_pages<D: Disk>(disk: &mut D) -> Result<u32, Stop>
     Ok(pages)
 }
 
-// Whether a disk of so many pages is blank: page 0 is all zero if it is there.
-fn is_blank<D: Disk>(disk: &mut D, pages: u32) -> Result<bool, Stop>
-    requires sized { D.meaning.size disk.old ≡ Some PAGE }
-    requires count { D.meaning.count disk.old ≡ Some pages }
+// Whether a disk of so many pages is one on which a database is made: page 0 is zero, and each
+// other page is too, or it is that page of a new database. Where page 0 is not zero, it alone is
+// read.
+fn is_fresh<D: Disk>(alloc: Global, disk: &mut D, pages: u32) -> Result<bool, Stop>
+    requires has { HasPages D.meaning disk.old pages }
     requires few { pages ≤ PAGES }
     ensures fresh { IfOk result (λ is. (image : DiskImage) → D.meaning.held disk.old ≡ Some image
         → (IsTrue is ↔ IsFresh (Some PAGE) image)) }
-    ensures sized { D.meaning.size disk.new ≡ Some PAGE }
-    ensures count { D.meaning.count disk.new ≡ Some pages }
+    ensures has { HasPages D.meaning disk.new pages }
     ensures calm { Reads D.meaning disk.old disk.new }
     ensures stops { IfErr result IsLoadingStop }
     ensures steps { DiskSteps D.meaning disk.old disk.new result }
 {
-    if pages == 0 {
-        return Ok(true);
+    for n in 0..pages {
+        if !is_unmade_at(alloc, disk, pages, n)? {
+            return Ok(false);
+        }
     }
-    let mut page = [0u8; PAGE_LEN];
-    match disk.read(HEADER, &mut page) {
-        Ok(()) => Ok(is_zero(&page)),
-        Err(_) => Err(Stop::DiskRead(Place::Run)),
-    }
+    Ok(true)
 }
 
-// Whether every byte is 0.
-fn is_zero(page: &[u8]) -> bool
-    ensures { IsTrue result ↔ (page.now ≡ replicate (length page.now) 0) }
+// Whether one page of a disk of so many is zero, or, behind page 0, the one of a new database.
+fn is_unmade_at<D: Disk>(alloc: Global, disk: &mut D, pages: u32, n: u32) -> Result<bool, Stop>
+    requires has { HasPages D.meaning disk.old pages }
+    requires below { n < pages }
+    ensures has { HasPages D.meaning disk.new pages }
+    ensures unmade { IfOk result (λ is. (image : DiskImage) → D.meaning.held disk.old ≡ Some image
+        → (IsTrue is ↔ IsUnmadeAt n (page_at PAGE image n))) }
+    ensures calm { Reads D.meaning disk.old disk.new }
+    ensures stops { IfErr result IsLoadingStop }
+    ensures steps { DiskSteps D.meaning disk.old disk.new result }
 {
-    page.iter().all(|byte| *byte == 0)
+    let mut page = [0u8; PAGE_LEN];
+    if disk.read(PageNo(n), &mut page).is_err() {
+        return Err(Stop::DiskRead(Place::Run));
+    }
+    match is_unmade_page(alloc, PageNo(n), &page) {
+        Ok(is) => Ok(is),
+        Err(_) => Err(Stop::Memory(Place::Run)),
+    }
 }
 
 // Makes a new database.
@@ -130,7 +144,7 @@ fn make<D: Disk>(alloc: Global, disk: &mut D) -> Result<Store, Stop>
 
 // Opens a disk of seven pages that is of the first form.
 fn load<D: Disk>(alloc: Global, disk: &mut D) -> Result<Store, Stop>
-    requires { HasSeven D.meaning disk.old }
+    requires { HasPages D.meaning disk.old PAGES }
     ensures sized { D.meaning.size disk.new ≡ Some PAGE }
     ensures form { OnOk result ((image : DiskImage) → D.meaning.held disk.old ≡ Some image
         → IsFirstForm (page_at PAGE image)) }
@@ -152,7 +166,7 @@ fn load<D: Disk>(alloc: Global, disk: &mut D) -> Result<Store, Stop>
 
 // Reads the seven pages of a disk.
 fn read_image<D: Disk>(alloc: Global, disk: &mut D) -> Result<Image, Stop>
-    requires { HasSeven D.meaning disk.old }
+    requires { HasPages D.meaning disk.old PAGES }
     ensures sized { D.meaning.size disk.new ≡ Some PAGE }
     ensures page_size { IfOk result (λ made. made.size ≡ PAGE) }
     ensures pages { IfOk result (λ made. (image : DiskImage)
@@ -171,7 +185,7 @@ fn read_image<D: Disk>(alloc: Global, disk: &mut D) -> Result<Image, Stop>
 
 // Reads the seven pages of a disk, one after another.
 fn read_pages<D: Disk>(alloc: Global, disk: &mut D) -> Result<Vec<Bytes>, Stop>
-    requires { HasSeven D.meaning disk.old }
+    requires { HasPages D.meaning disk.old PAGES }
     ensures sized { D.meaning.size disk.new ≡ Some PAGE }
     ensures read { IfOk result (λ pages.
         HasRead D.meaning disk.old disk.new pages.items PAGES) }
@@ -189,9 +203,9 @@ fn read_pages<D: Disk>(alloc: Global, disk: &mut D) -> Result<Vec<Bytes>, Stop>
 
 // Reads one page.
 fn read_page<D: Disk>(alloc: Global, disk: &mut D, n: u32) -> Result<Bytes, Stop>
-    requires seven { HasSeven D.meaning disk.old }
+    requires seven { HasPages D.meaning disk.old PAGES }
     requires below { n < PAGES }
-    ensures seven { HasSeven D.meaning disk.new }
+    ensures seven { HasPages D.meaning disk.new PAGES }
     ensures page { IfOk result (λ page. ReadsPage D.meaning disk.old n page) }
     ensures calm { Reads D.meaning disk.old disk.new }
     ensures stops { IfErr result IsLoadingStop }

@@ -11,9 +11,8 @@ ghost use Rattle.mgdb.specs.Words.{texts, IsRun};
 
 use crate::run::run;
 use crate::status::Status;
-use crate::stopped::Stopped;
 use crate::words::read_words;
-use mg_base::{Disk, Sink, Source};
+use mg_base::{Disk, Fused, Sink, Source};
 
 /// The disks that a command line names.
 #[derive(Drop)]
@@ -63,9 +62,9 @@ pub fn mgdb<R: AllocGlobal + Drop, D: Disk + Send + 'static, S: Source, K: Sink>
             (status, Shelf { first, second })
         }
         Some(most) => {
-            let mut stopped = Stopped::new(first, most);
-            let status = run(rt.alloc(), &mut stopped, source, sink);
-            let first = stopped.into_inner();
+            let mut fused = Fused::new(first, most);
+            let status = run(rt.alloc(), &mut fused, source, sink);
+            let first = fused.into_inner();
             (status, Shelf { first, second })
         }
     }

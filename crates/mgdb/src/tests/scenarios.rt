@@ -117,7 +117,8 @@ fn a_reader_that_is_stopped_says_so(rt: HostRuntime) -> Result<(), Fail> {
     Ok(())
 }
 
-// A disk on which the commit of a put was cut short: its number and its row are there, not its bits.
+// A disk on which the commit of a put was cut short: its number and its row are there, not its
+// bits.
 fn cut_short(rt: &HostRuntime) -> Result<MemDisk, Fail> {
     let made = call(rt, "run db --stop 9", blank(rt)?, b"@put 1 10\n@put 1 20\n")?;
     if made.printed.as_str() != "@put: DISK WRITE FAULT\n" {
@@ -192,6 +193,36 @@ fn an_image_of_another_form_is_unknown(rt: HostRuntime) -> Result<(), Fail> {
         assert_eq!(rt; opened.status, 4, "page {page}");
         assert_eq!(rt; opened.disk.writes(), writes, "page {page}");
     }
+    Ok(())
+}
+
+// Writes a page of zeros.
+fn zero_page(disk: &mut MemDisk, page: u32) -> Result<(), Fail> {
+    let Ok(4096) = disk.page_size() else {
+        return Err("a page size")?;
+    };
+    if disk.write(PageNo(page), &[0u8; 4096]).is_err() {
+        return Err("a page write")?;
+    }
+    Ok(())
+}
+
+#[test]
+fn a_file_whose_header_was_zeroed_keeps_its_data(rt: HostRuntime) -> Result<(), Fail> {
+    let mut made = call(&rt, "run db", blank(&rt)?, b"@put 1 10\n")?;
+    zero_page(&mut made.disk, 0)?;
+    let writes = made.disk.writes();
+    let refused = call(&rt, "run db", made.disk, b"@put 1 30\n")?;
+    assert_eq!(rt; refused.printed.as_str(), "mgdb: UNKNOWN IMAGE\n");
+    assert_eq!(rt; refused.status, 4);
+    assert_eq!(rt; refused.disk.writes(), writes);
+    // The put changed pages 2 and 6 besides. Without them the others are those of a new database.
+    let mut disk = refused.disk;
+    zero_page(&mut disk, 2)?;
+    zero_page(&mut disk, 6)?;
+    let again = call(&rt, "run db", disk, b"@put 1 30\n")?;
+    assert_eq!(rt; again.printed.as_str(), "@put: OK TX 1\n");
+    assert_eq!(rt; again.status, 0);
     Ok(())
 }
 

@@ -5,4 +5,4 @@ use Rattle.mg_kv.proofs.newest.taker.Given as goal
 
 abbrev pub invariant-loop-slot : goal.invariant-loop-slot
 invariant-loop-slot l = (slots : Slots) → HasSlots l.rows slots
-    → taker_below (fate_in l.fates.bits.now l.fates.active.now) l.key slots l.slot ≡ None
+    → taker_below (fate_in l.fates.bits.now l.fates.live.now) l.key slots l.slot ≡ None

@@ -13,33 +13,38 @@ loop-slot-init c = λ n below. absurd (omega (arith, below))
 
 pub returns-in-Some : goal.returns-in-Some
 returns-in-Some c = found_there c.args.rows.now
-    (fate_in c.args.fates.now.bits.now c.args.fates.now.active.now) c.args.key c.loop-slot.slot
+    (fate_in c.args.fates.now.bits.now c.args.fates.now.live.now) c.args.key c.loop-slot.slot
     c.in-Some.found.items
     (rw (to_z-of_z w64 c.args.key c.ranges.key) at (match_some (Vec KvVersion Global)
     (λ found. TakesWith c.args.rows.now
-    (fate_in c.args.fates.now.bits.now c.args.fates.now.active.now)
+    (fate_in c.args.fates.now.bits.now c.args.fates.now.live.now)
     (to_z w64 (of_z w64 c.args.key)) c.loop-slot.slot found.items)
-    (TakesNot c.args.rows.now (fate_in c.args.fates.now.bits.now c.args.fates.now.active.now)
+    (TakesNot c.args.rows.now (fate_in c.args.fates.now.bits.now c.args.fates.now.live.now)
     (to_z w64 (of_z w64 c.args.key)) c.loop-slot.slot) c.in_ok-found.field-0 c.in-Some.found
     c.in_ok-found.ensures c.in-Some.is))
 
 pub loop-slot-preserved : goal.loop-slot-preserved
 loop-slot-preserved c = one_more c.args.rows.now
-    (fate_in c.args.fates.now.bits.now c.args.fates.now.active.now)
+    (fate_in c.args.fates.now.bits.now c.args.fates.now.live.now)
     (to_z w64 (of_z w64 c.args.key)) c.loop-slot.slot c.loop-slot.invariant
     (match_none (Vec KvVersion Global)
     (λ found. TakesWith c.args.rows.now
-    (fate_in c.args.fates.now.bits.now c.args.fates.now.active.now)
+    (fate_in c.args.fates.now.bits.now c.args.fates.now.live.now)
     (to_z w64 (of_z w64 c.args.key)) c.loop-slot.slot found.items)
-    (TakesNot c.args.rows.now (fate_in c.args.fates.now.bits.now c.args.fates.now.active.now)
+    (TakesNot c.args.rows.now (fate_in c.args.fates.now.bits.now c.args.fates.now.live.now)
     (to_z w64 (of_z w64 c.args.key)) c.loop-slot.slot) c.in_ok-found.field-0
     c.in_ok-found.ensures c.in_default.is)
 
 pub returns : goal.returns
 returns c = found_nowhere c.args.rows.now
-    (fate_in c.args.fates.now.bits.now c.args.fates.now.active.now) c.args.key c.new.result.items
+    (fate_in c.args.fates.now.bits.now c.args.fates.now.live.now) c.args.key c.new.result.items
     c.new.ensures.items (λ n below.
     subst (λ (z : ℤ). TakesNot c.args.rows.now
-    (fate_in c.args.fates.now.bits.now c.args.fates.now.active.now) z n)
+    (fate_in c.args.fates.now.bits.now c.args.fates.now.live.now) z n)
     (to_z-of_z w64 c.args.key c.ranges.key)
-    (c.loop-slot.invariant n (omega (arith, below, c.loop-slot-test.false, c.slots-slot-end.ensures))))
+    (c.loop-slot.invariant n (omega (
+      arith,
+      below,
+      c.loop-slot-test.false,
+      c.slots-slot-end.ensures,
+    ))))

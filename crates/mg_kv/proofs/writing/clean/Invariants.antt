@@ -9,5 +9,5 @@ abbrev pub invariant-loop-slot : goal.invariant-loop-slot
 invariant-loop-slot l = (l.slot ≤ slot_count l.initial.rows) × IsDataPage l.rows
     × (length l.rows ≡ length l.initial.rows)
     × Makes l.initial.rows l.rows
-    (without_dead_below (fate_in l.fates.bits.now l.fates.active.now) l.key l.slot)
+    (without_dead_below (fate_in l.fates.bits.now l.fates.live.now) l.key l.slot)
     × (take COMMON l.rows ≡ take COMMON l.initial.rows)

@@ -7,7 +7,7 @@ use Rattle.mg_kv.proofs.writing.clean_slot.Goals as goal
 pub returns-clause-cleaned : goal.returns-clause-cleaned
 returns-clause-cleaned c = on_ok _ _ c.take_out.result
     (dead_makes c.args.rows.now c.take_out.new.rows
-    (fate_in c.args.fates.now.bits.now c.args.fates.now.active.now)
+    (fate_in c.args.fates.now.bits.now c.args.fates.now.live.now)
     (to_z w64 (of_z w64 c.args.key)) c.args.key c.args.slot c.in-Some.newest
     (to_z-of_z w64 c.args.key c.ranges.key)
     (λ slots has. sym c.in-Some.is ∙ c.in_ok-newest.ensures.found slots has)

@@ -22,7 +22,8 @@ returns-then-eq-clause-made c = own_makes c.args.rows.now c.replace.new.b c.as_s
     (spelled_slice c.as_slice.result.now c.in_ok-cell.cell.items c.args.tx.0
     c.args.over.now.version.back _ _
     c.args.key c.args.value c.as_slice.ensures.value c.in_ok-cell.ensures.spelled
-    (to_z-of_z w64 c.args.key c.ranges.key) (to_z-of_z w64 c.args.value c.ranges.value)) c.in_ok-replace.ensures.put
+    (to_z-of_z w64 c.args.key c.ranges.key) (to_z-of_z w64 c.args.value c.ranges.value))
+    c.in_ok-replace.ensures.put
 
 pub returns-clause-made : goal.returns-clause-made
 returns-clause-made c = on_ok _ _ c.push_version.result

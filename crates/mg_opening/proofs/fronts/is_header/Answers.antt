@@ -2,8 +2,9 @@ use Rattle.std.proofs.Common.{subst}
 use Rattle.mg_base.specs.Fields.{u32_at}
 use Rattle.mg_first.specs.NewDatabase.{IsHeaderPage}
 use Rattle.mg_first.specs.OneFormLaws.{header_page_is_one}
+use Rattle.mg_first.specs.UnmadeLaws.{told_one}
 use Rattle.mg_header.specs.declared.header.TheConstants.{NEXT_AT}
-use Rattle.mg_opening.proofs.PageLemmas.{no_header, told_one}
+use Rattle.mg_opening.proofs.PageLemmas.{no_header}
 use Rattle.mg_opening.proofs.fronts.is_header.Goals as goal
 
 pub returns-then-next-lt1 : goal.returns-then-next-lt1

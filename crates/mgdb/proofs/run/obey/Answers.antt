@@ -2,7 +2,8 @@ use Rattle.mgdb.proofs.LineLaws.{fits, line_ended, line_said, unsaid_by}
 use Rattle.mgdb.proofs.run.obey.Goals as goal
 
 pub obey-requires-clause-fits : goal.obey-requires-clause-fits
-obey-requires-clause-fits g c = fits c.args.text.now c.read_line-line.result c.read_line-line.ensures
+obey-requires-clause-fits g c = fits c.args.text.now c.read_line-line.result
+    c.read_line-line.ensures
 
 pub tell-requires : goal.tell-requires
 tell-requires g c = fits c.args.text.now c.read_line-line.result c.read_line-line.ensures

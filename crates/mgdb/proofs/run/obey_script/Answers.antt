@@ -47,7 +47,8 @@ returns-in_err-close-clause-done g c = λ size image first o entry.
     image first o c.args.script.now c.in_ok-open.field-0 opened c.close.new.disk c.in_ok-all.all
     lined c.close.result
     (c.close.ensures.done opened.entered first o _ lined.works)
-    c.in_err-close.field-0.0 (closing_outside c.in_err-close.field-0.0 c.in_err-close.ensures.stops))
+    c.in_err-close.field-0.0 (closing_outside c.in_err-close.field-0.0
+    c.in_err-close.ensures.stops))
 
 pub returns-clause-done : goal.returns-clause-done
 returns-clause-done g c = λ size image first o entry.

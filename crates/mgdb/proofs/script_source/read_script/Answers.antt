@@ -8,11 +8,19 @@ loop-piece-preserved g c = record {
   steady = c.in-Ok.ensures.steady ∙ c.loop-piece.invariant.steady;
   rest = λ bytes left.
       let before = c.loop-piece.invariant.rest bytes left in
-      let front = c.in-Ok.ensures.front before.0 before.1 in
-      (drop c.in-Ok.count before.0, front.2, moved bytes c.loop-piece.script.items before.0 _ _ c.in-Ok.count before.2 c.in_ok-append.ensures.read front.1);
+      let front = c.in-Ok.ensures.front before.0 before.1 in (
+        drop c.in-Ok.count before.0,
+        front.2,
+        moved bytes c.loop-piece.script.items before.0 _ _
+            c.in-Ok.count before.2 c.in_ok-append.ensures.read front.1,
+      );
 }
   where
-    moved : (bytes script left into script' : List ℕ) (n : ℕ) → bytes ≡ script ++ left → script' ≡ script ++ take n into → take n into ≡ take n left → bytes ≡ script' ++ drop n left
+    moved : (bytes script left into script' : List ℕ) (n : ℕ) → bytes ≡ script ++ left
+        → script' ≡ script ++ take n into → take n into ≡ take n left
+        → bytes ≡ script' ++ drop n left
     moved bytes script left into script' n is read same =
         is ∙ (ap (λ (xs : List ℕ). script ++ xs) (sym (take-append-drop n left))
-        ∙ (sym (append_assoc script (take n left) (drop n left)) ∙ ap (λ (xs : List ℕ). xs ++ drop n left) (ap (λ (xs : List ℕ). script ++ xs) (sym same) ∙ sym read)))
+        ∙ (sym (append_assoc script (take n left) (drop n left))
+        ∙ ap (λ (xs : List ℕ). xs ++ drop n left) (ap (λ (xs : List ℕ). script ++ xs)
+        (sym same) ∙ sym read)))

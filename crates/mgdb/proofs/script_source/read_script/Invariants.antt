@@ -7,7 +7,8 @@ abbrev pub invariant-loop-piece : goal.invariant-loop-piece
 invariant-loop-piece g l = record {
   steady : g.S.Source.meaning.faults l.source ≡ g.S.Source.meaning.faults l.fn.source;
   rest : (bytes : List ℕ) → g.S.Source.meaning.left l.fn.source ≡ Some bytes
-      → (left : List ℕ) × (g.S.Source.meaning.left l.source ≡ Some left) × (bytes ≡ l.script.items ++ left);
+      → (left : List ℕ) × (g.S.Source.meaning.left l.source ≡ Some left) ×
+      (bytes ≡ l.script.items ++ left);
 }
 
 abbrev pub decreases-loop-piece : goal.decreases-loop-piece

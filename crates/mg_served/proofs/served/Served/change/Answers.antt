@@ -12,8 +12,8 @@ pub returns-then-not-sees_row-clause-written : goal.returns-then-not-sees_row-cl
 returns-then-not-sees_row-clause-written c = change_unseen c.args.self.now c.args.tx.0 c.args.key
     c.args.value c.in_ok-versions.versions.items
     (found_in c.args.self.now c.fates.result.bits.now
-    c.fates.result.active.now (to_z w64 (of_z w64 c.args.key)) c.args.key
-    c.in_ok-versions.versions.items c.fates.ensures.bits c.fates.ensures.active
+    c.fates.result.live.now (to_z w64 (of_z w64 c.args.key)) c.args.key
+    c.in_ok-versions.versions.items c.fates.ensures.bits c.fates.ensures.live
     (to_z-of_z w64 c.args.key c.ranges.key) c.in_ok-versions.ensures)
     (sym (ap (λ (vs : List KvVersion). is_row (first_given
     (sees_in c.args.self.now c.args.tx.0) vs)) c.deref.ensures.value) ∙ (sym c.sees_row.ensures
@@ -23,8 +23,8 @@ pub returns-in-Some-clause-written : goal.returns-in-Some-clause-written
 returns-in-Some-clause-written c = change_met c.args.self.now c.args.tx.0 c.args.key
     c.args.value c.in_ok-versions.versions.items
     (found_in c.args.self.now c.fates.result.bits.now
-    c.fates.result.active.now (to_z w64 (of_z w64 c.args.key)) c.args.key
-    c.in_ok-versions.versions.items c.fates.ensures.bits c.fates.ensures.active
+    c.fates.result.live.now (to_z w64 (of_z w64 c.args.key)) c.args.key
+    c.in_ok-versions.versions.items c.fates.ensures.bits c.fates.ensures.live
     (to_z-of_z w64 c.args.key c.ranges.key) c.in_ok-versions.ensures)
     c.in-Some.met
     (sym (ap (λ (vs : List KvVersion). is_row (first_given
@@ -41,8 +41,8 @@ returns-clause-written c = IfOk-weaker c.store.result
     (changes c.args.tx.0 c.args.key c.args.value))
     (λ met stores. change_stored c.args.self.now c.args.tx.0 c.args.key c.args.value
     c.in_ok-versions.versions.items (found_in c.args.self.now c.fates.result.bits.now
-    c.fates.result.active.now (to_z w64 (of_z w64 c.args.key)) c.args.key
-    c.in_ok-versions.versions.items c.fates.ensures.bits c.fates.ensures.active
+    c.fates.result.live.now (to_z w64 (of_z w64 c.args.key)) c.args.key
+    c.in_ok-versions.versions.items c.fates.ensures.bits c.fates.ensures.live
     (to_z-of_z w64 c.args.key c.ranges.key) c.in_ok-versions.ensures) c.store.new.self met
     c.ranges.key c.ranges.value
     (sym (ap (λ (vs : List KvVersion). is_row (first_given

@@ -11,6 +11,6 @@ returns c = λ entered first o h it now.
     ∙ ap (first_given (sees_in c.args.self.now c.args.tx.0)) c.deref.ensures.value)
     ∙ found_in_view c.args.self.now entered first o h it c.args.key
     c.in_ok-versions.versions.items (found_in c.args.self.now c.fates.result.bits.now
-    c.fates.result.active.now (to_z w64 (of_z w64 c.args.key)) c.args.key
-    c.in_ok-versions.versions.items c.fates.ensures.bits c.fates.ensures.active
+    c.fates.result.live.now (to_z w64 (of_z w64 c.args.key)) c.args.key
+    c.in_ok-versions.versions.items c.fates.ensures.bits c.fates.ensures.live
     (to_z-of_z w64 c.args.key c.ranges.key) c.in_ok-versions.ensures) c.args.tx.0 now

@@ -8,10 +8,9 @@ returns-in-Ok-clause-stores c = record {
   bits = refl;
   next = refl;
   live = refl;
-  active = refl;
   rows = rw (
     c.fates.ensures.bits,
-    c.fates.ensures.active,
+    c.fates.ensures.live,
     to_z-of_z w64 c.args.key c.ranges.key,
     to_z-of_z w64 c.args.value c.ranges.value,
   ) at c.in-Ok.ensures.written;

@@ -1,9 +1,0 @@
-use Rattle.mg_first.specs.NewDatabase.{IsPointerTo}
-use Rattle.mg_first.specs.OneFormLaws.{pointer_page_is_one}
-use Rattle.mg_first.specs.declared.pages.TheConstants.{KV, KV_ROWS}
-use Rattle.mg_opening.proofs.PageLemmas.{told_one}
-use Rattle.mg_opening.proofs.fixed.is_kv.Goals as goal
-
-pub returns : goal.returns
-returns c = told_one (λ b. IsPointerTo b KV.0 KV_ROWS.0) c.args.page.now c.kv_page.new.b c.is_same.result (λ b c. pointer_page_is_one b c KV.0 KV_ROWS.0)
-    c.is_same.ensures.same c.is_same.ensures.bytes c.is_same.ensures.new_bytes c.kv_page.ensures
