@@ -1,7 +1,7 @@
 -- Whether a disk is one on which a database is made, by its pages read one after another.
-use Rattle.std.proofs.Common.{◌≡◌, ◌⊎◌, inl, inr, ◌<◌, ◌≤◌, ◌+◌, ℕ, List, Option, Some, length, sym, ap, subst, refl, ◌∙◌, arith}
-use Rattle.std.specs.Prelude.{◌↔◌, Bool, true, false, IsTrue, Result}
-use Rattle.std.proofs.lemmas.Bool.{cases_lt, false≢true}
+use Rattle.std.proofs.Common.{◌≡◌, ◌⊎◌, inl, inr, ◌<◌, ◌≤◌, ◌+◌, ℕ, Some, length, subst, refl, ◌∙◌, arith}
+use Rattle.std.specs.Prelude.{◌↔◌, true, IsTrue, Result}
+use Rattle.std.proofs.lemmas.Bool.{cases_lt}
 use Rattle.mg_base.specs.Disk.{Meaning}
 use Rattle.mg_base.specs.Image.{Image, page_at}
 use Rattle.mg_first.specs.Unmade.{IsUnmadeAt}
@@ -37,12 +37,6 @@ unmade_more m now old mid new pages n result so_far has reads steps here = recor
         subst (λ (i : ℕ). IsUnmadeAt i (page_at PAGE image i)) same
         (here image (so_far.reads.held ∙ held))
 
--- a page that was read is the one of the image
-pub unmade_read : (image : Image) (n : ℕ) (into : List ℕ) (is : Bool) → into ≡ page_at PAGE image n
-    → (IsTrue is ↔ IsUnmadeAt n into) → IsTrue is ↔ IsUnmadeAt n (page_at PAGE image n)
-unmade_read image n into is read told =
-    subst (λ (b : List ℕ). IsTrue is ↔ IsUnmadeAt n b) read told
-
 -- all pages are such
 pub all_unmade : {D : Type 0} (m : Meaning D) → Counts m → (old new : D) (pages : ℕ)
     → HasUnmade m old new pages pages → pages ≤ PAGES → (image : Image) → m.held old ≡ Some image
@@ -59,11 +53,3 @@ all_unmade m counts old new pages so_far few image held = (
   where
     counted : length image ≡ pages
     counted = counts new image pages (so_far.reads.held ∙ held) so_far.has.count
-
--- one is not
-pub not_fresh : (image : Image) (n : ℕ) (is : Bool) → is ≡ false
-    → (IsTrue is ↔ IsUnmadeAt n (page_at PAGE image n)) → IsTrue false ↔ IsFresh (Some PAGE) image
-not_fresh image n is no told = (
-  λ yes. absurd (false≢true yes),
-  λ fresh. sym no ∙ told.1 (fresh.unmade n),
-)

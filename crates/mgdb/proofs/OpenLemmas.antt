@@ -1,10 +1,9 @@
 -- What the opening of a disk does, from its steps.
-use Rattle.std.proofs.Common.{◌≡◌, ◌≢◌, ◌≤◌, ◌+◌, ◌*◌, ◌⊎◌, inl, inr, ℕ, zero, suc, add-one, ◌<◌, List, [], Option, None, Some, length, sym, ap, subst, refl, ◌∙◌, arith}
-use Rattle.std.specs.Prelude.{◌↔◌, Bool, Result, Ok, Err, IfOk, IsErr, IsTrue, OnOk, replicate}
+use Rattle.std.proofs.Common.{◌≡◌, ◌≢◌, ◌≤◌, ◌⊎◌, inl, inr, ℕ, zero, suc, add-one, ◌<◌, List, [], Option, None, Some, length, sym, ap, subst, refl, ◌∙◌, arith}
+use Rattle.std.specs.Prelude.{Result, Ok, Err, IfOk, IsErr, OnOk}
 use Rattle.std.proofs.lemmas.Bool.{cases_eq, ne_eqb}
-use Rattle.std.proofs.lemmas.List.{get_or_past}
 use Rattle.mg_base.specs.Disk.{Meaning}
-use Rattle.mg_base.specs.Image.{Image, blank, page_at}
+use Rattle.mg_base.specs.Image.{Image, page_at}
 use Rattle.mg_base.specs.Moments.{goes_on, joined, leaves_as, started}
 use Rattle.mg_model.specs.declared.opening.Opening.{Opening}
 use Rattle.mg_model.specs.NewDatabase.{new_opening}

@@ -1,5 +1,5 @@
 -- What a run on a disk behind a fuse says of the disk.
-use Rattle.std.proofs.Common.{◌≡◌, ◌≢◌, ◌≤◌, ◌<◌, ◌+◌, ◌^◌, ◌⊎◌, inl, inr, ℕ, zero, suc, List, [], ◌∷◌, ◌∙◌, ap, Option, Some, None, sym, refl, arith, subst}
+use Rattle.std.proofs.Common.{◌≡◌, ◌≢◌, ◌<◌, ◌+◌, ◌⊎◌, inl, inr, ℕ, zero, suc, List, [], ◌∷◌, ◌∙◌, ap, Option, Some, None, sym, refl, arith, subst}
 use Rattle.std.proofs.lemmas.Fmt.{decimal_injective}
 use Rattle.mg_base.specs.Asking.{AsksWrites, fuse_fails_past}
 use Rattle.mg_base.specs.Disk.{MayLeave, Meaning, Rose}

@@ -1,5 +1,5 @@
 -- What obeying a line comes to: in memory, with a commit on the disk, and where it ends the run.
-use Rattle.std.specs.Prelude.{◌≡◌, ◌≤◌, ◌+◌, ℕ, List, [], ◌∷◌, ◌++◌, Result, Ok, Err, refl}
+use Rattle.std.specs.Prelude.{◌≡◌, ◌≤◌, ℕ, List, [], ◌∷◌, ◌++◌, Result, Ok, Err, refl}
 use Rattle.std.proofs.Common.{sym, ap, subst, arith, ◌∙◌}
 use Rattle.mg_base.specs.Asking.{AsksWrites, no_writes}
 use Rattle.mg_base.specs.Disk.{Meaning}
