@@ -23,7 +23,7 @@ use Rattle.mg_image_steps.specs.Trees.{data_leaves, trees_stay}
 use Rattle.mg_kept_images.specs.KeptImages.{IsKept, keeping}
 use Rattle.mg_kept_images.specs.StartLaws.{front_self}
 use Rattle.mg_overlays.specs.BatchLaws.{change_keeps_always}
-use Rattle.mg_overlays.specs.Overlays.{ChangesCache, EveryOverlay, KeepsLaidAlways, KeepsNeeds, LaysBatch, laid, left_state}
+use Rattle.mg_overlays.specs.Overlays.{ChangesCache, EveryOverlay, KeepsLaidAlways, KeepsNeeds, left_state}
 use Rattle.mg_overlays.specs.Views.{LaysPage, first_view, last_view, partly, step_in, step_out}
 use Rattle.mg_collect_overlays.specs.Frees.{FreesAll, IsUnread, Places, free_all}
 use Rattle.mg_record_overlays.specs.Cut.{CutsPage, cut_in, cut_out, laid_page}

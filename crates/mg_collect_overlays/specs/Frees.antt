@@ -1,5 +1,5 @@
 -- Cells that no record reads any longer are freed, one after another.
-use Rattle.std.proofs.Common.{◌≡◌, ◌≢◌, ap, sym, subst, ◌∙◌, refl, ℕ, Bool, true, false, List, Option, None, Some}
+use Rattle.std.proofs.Common.{◌≡◌, ◌≢◌, sym, subst, ◌∙◌, refl, ℕ, Bool, true, false, None}
 use Rattle.mg_base.specs.declared.numbers.RecId.{RecId}
 use Rattle.mg_base.specs.declared.transaction.TxState.{TxState}
 use Rattle.mg_careful.specs.CarefulWrite.{PageSet}
@@ -8,10 +8,9 @@ use Rattle.mg_version.specs.declared.cell.Version.{Version}
 use Rattle.mg_model.specs.declared.opening.Opening.{Opening}
 use Rattle.mg_model.specs.History.{Entries}
 use Rattle.mg_image.specs.Form.{Form, Pages}
-use Rattle.mg_image.specs.Records.{Changes, Reading, Stands, cells_of}
+use Rattle.mg_image.specs.Records.{Reading, Stands, cells_of}
 use Rattle.mg_image.specs.Sound.{IsSoundBy, facts_by}
 use Rattle.mg_image.specs.Tables.{Layout}
-use Rattle.mg_image_steps.specs.DataPages.{ChangesData}
 use Rattle.mg_image_steps.specs.Rest.{LeavesRest, LeavesRests}
 use Rattle.mg_kept_images.specs.KeptImages.{IsKept}
 use Rattle.mg_overlays.specs.Views.{LaysPage, partly, step_in, step_out}

@@ -1,5 +1,5 @@
 -- The bits of a transaction change in the pool and in an overlay that has their page.
-use Rattle.std.proofs.Common.{◌≡◌, ◌≢◌, ◌⊎◌, inl, inr, ap, sym, subst, ◌∙◌, arith, ◌≤◌, ◌-◌, ◌/◌, ◌%◌, ℕ, true, List, [], ◌∷◌}
+use Rattle.std.proofs.Common.{◌≡◌, ◌≢◌, ◌⊎◌, inl, inr, ap, sym, subst, ◌∙◌, arith, ◌≤◌, ◌-◌, ◌/◌, ℕ, List, [], ◌∷◌}
 use Rattle.std.proofs.lemmas.Bool.{cases_eq}
 use Rattle.mg_base.specs.Fields.{byte}
 use Rattle.mg_base.specs.declared.transaction.TxState.{TxState}
@@ -12,8 +12,7 @@ use Rattle.mg_tip.specs.TipPage.{places, tip_checks}
 use Rattle.mg_image.specs.Form.{Form, Pages}
 use Rattle.mg_image.specs.Held.{AreChanges, IsHeld}
 use Rattle.mg_image.specs.Indexes.{EachPage}
-use Rattle.mg_image.specs.Inventory.{header_of, is_used, last_sequence, next_of, tip_page}
-use Rattle.mg_image.specs.Reached.{linked_pages}
+use Rattle.mg_image.specs.Inventory.{header_of, last_sequence, next_of, tip_page}
 use Rattle.mg_image.specs.RecordRules.{Facts, committed_in}
 use Rattle.mg_image.specs.Records.{Reading}
 use Rattle.mg_image.specs.Sound.{IsSoundBy, facts_by}
@@ -22,7 +21,6 @@ use Rattle.mg_image_steps.specs.Bits.{ChangesTip, bits_sound, facts_same, header
 use Rattle.mg_image_steps.specs.DataSound.{KeepsTrees}
 use Rattle.mg_image_steps.specs.Fronts.{HasFronts}
 use Rattle.mg_image_steps.specs.Kinds.{HasNoSequences, pointers_four, pointers_of}
-use Rattle.mg_image_steps.specs.Rest.{TreesStay, div_grows}
 use Rattle.mg_image_steps.specs.Trees.{trees_stay}
 use Rattle.mg_kept_images.specs.KeptImages.{IsKept}
 use Rattle.mg_overlays.specs.Views.{LaysPage}

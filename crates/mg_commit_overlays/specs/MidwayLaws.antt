@@ -9,8 +9,6 @@ use Rattle.mg_careful.specs.CarefulWrite.{Cache, IsClosed, PageSet, Pages, overl
 use Rattle.mg_careful.specs.Precedence.{Orders}
 use Rattle.mg_model.specs.declared.opening.Opening.{Opening}
 use Rattle.mg_model.specs.History.{Entries, Entry}
-use Rattle.mg_model.specs.Legal.{IsLegal, MayBegin}
-use Rattle.mg_model.specs.Machine.{state_of}
 use Rattle.mg_image.specs.Form.{Form}
 use Rattle.mg_image_steps.specs.Bits.{ChangesTip}
 use Rattle.mg_image_steps.specs.CommitSound.{committing}
@@ -20,11 +18,10 @@ use Rattle.mg_kept_images.specs.HoldLaws.{HoldsAll, kept_holds}
 use Rattle.mg_kept_images.specs.KeptImages.{IsKept, keeping}
 use Rattle.mg_overlays.specs.BatchLaws.{lays, needed, overlay_is}
 use Rattle.mg_overlays.specs.Overlays.{ChangesCache, EveryOverlay, HasNeeds, KeepsNeeds, Keeping, LaysBatch, NeedsOrGone, OthersStay, WritesPages, before, laid, left_state, nobody}
-use Rattle.mg_overlays.specs.Views.{LaysPage}
 use Rattle.mg_record_overlays.specs.CutEvery.{IsOnePage}
 use Rattle.mg_commit_overlays.specs.BitsKept.{bits_kept}
-use Rattle.mg_commit_overlays.specs.Laws.{CommitChanges, MidwayLeaves, MidwayWritesAll, MidwayWrittenAll}
-use Rattle.mg_commit_overlays.specs.Midway.{AreBitsMidway, EveryMidway, IsDrawnPlace}
+use Rattle.mg_commit_overlays.specs.Laws.{CommitChanges, MidwayLeaves}
+use Rattle.mg_commit_overlays.specs.Midway.{EveryMidway, IsDrawnPlace}
 
 -- a choice with one transaction more
 abbrev with_one : ℕ → (ℕ → Bool) → ℕ → Bool
@@ -137,13 +134,13 @@ module _ (form : Form) (none : HasNoSequences form) (size : ℕ) (o : Opening) (
 pub commit_changes_every : (form : Form) → HasNoSequences form → CommitChanges form
 commit_changes_every form none size o h e state now t old new gone batch orders needs later page place
     changes active committed others ready left brings one tip drawn ordered every = record {
-  without = λ chosen set_ closed has out. change_without form none size o h e state now t old new gone batch
-      orders needs later page place changes active committed others ready left brings one tip drawn ordered
-      every chosen set_ closed has out;
-  within = λ chosen set_ closed has in_set. change_within form none size o h e state now t old new gone batch
-      orders needs later page place changes active committed others ready left brings one tip drawn ordered
-      every chosen set_ closed has in_set;
-}
+      without = λ chosen set_ closed has out. change_without form none size o h e state now t old new gone batch
+          orders needs later page place changes active committed others ready left brings one tip drawn ordered
+          every chosen set_ closed has out;
+      within = λ chosen set_ closed has in_set. change_within form none size o h e state now t old new gone batch
+          orders needs later page place changes active committed others ready left brings one tip drawn ordered
+          every chosen set_ closed has in_set;
+    }
 
 -- ---- page writes
 

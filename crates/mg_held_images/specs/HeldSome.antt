@@ -16,11 +16,11 @@ use Rattle.mg_catalog.specs.KeyLaws.{keys_equal, same_key_self}
 use Rattle.mg_image.specs.declared.entry.Entry.{Entry}
 use Rattle.mg_image.specs.FactLaws.{shown_keyed}
 use Rattle.mg_image.specs.Form.{Form, Pages, Row}
-use Rattle.mg_image.specs.Held.{AreChanges, Changes, Database, HasLimbo, HasTable, IsChangedAt, IsHeld, IsHeldAt, Shows, told_change, told_row}
+use Rattle.mg_image.specs.Held.{AreChanges, HasLimbo, HasTable, IsChangedAt, IsHeld, IsHeldAt, Shows, told_change, told_row}
 use Rattle.mg_image.specs.Inventory.{next_of, state_at}
-use Rattle.mg_image.specs.Opening.{Holds, Opened, sound_image}
+use Rattle.mg_image.specs.Opening.{sound_image}
 use Rattle.mg_image.specs.RecordRules.{Facts, TakesKey, committed_in, table_in}
-use Rattle.mg_image.specs.Records.{Change, Reading, cells_of, change_in, key_of, record_key, shown, writer}
+use Rattle.mg_image.specs.Records.{Change, Reading, change_in, key_of, record_key, shown, writer}
 use Rattle.mg_image.specs.Sound.{IsSoundBy, facts_by}
 use Rattle.mg_image.specs.Tables.{Layout, stands_of}
 use Rattle.mg_image_steps.specs.TableOwners.{one_of_name}
@@ -32,7 +32,7 @@ both_true : (a b : Bool) → (a && b) ≡ true → (a ≡ true) × (b ≡ true)
 both_true true b is = (refl, is)
 both_true false b is = absurd cc
 
-limbo_true : (s : TxState) → is_limbo s ≡ true → s ≡ Limbo
+pub limbo_true : (s : TxState) → is_limbo s ≡ true → s ≡ Limbo
 limbo_true Active is = absurd cc
 limbo_true Limbo is = refl
 limbo_true Dead is = absurd cc
@@ -112,7 +112,7 @@ module _ (form : Form) (size : ℕ) (state : ℕ → TxState) (pages : Pages) (l
       else None) shows.row_shown ∙ rw is here)
 
   -- one record shows a row under a name and a key
-  one_record : (p q : RecId) (a b : Table) (x y : Row) → Shows f (committed_in f) r p a x
+  pub one_record : (p q : RecId) (a b : Table) (x y : Row) → Shows f (committed_in f) r p a x
       → Shows f (committed_in f) r q b y → a.name ≡ b.name → key_of a x ≡ key_of b y → p ≡ q
   one_record p q a b x y first second names keys_same =
       let same : a ≡ b = one_of_name form size state pages layout r sound p q a b first.of_table
@@ -244,7 +244,7 @@ module _ (form : Form) (size : ℕ) (state : ℕ → TxState) (pages : Pages) (l
 
   -- ---- what is held
 
-  not_empty : (p : RecId) (row : Row) → shown (committed_in f) (r p) ≡ Some row → r p ≢ []
+  pub not_empty : (p : RecId) (row : Row) → shown (committed_in f) (r p) ≡ Some row → r p ≢ []
   not_empty p row is none =
       let both : None ≡ Some row = ap (shown (committed_in f)) (sym none) ∙ is in absurd cc
 
@@ -331,7 +331,7 @@ module _ (form : Form) (size : ℕ) (state : ℕ → TxState) (pages : Pages) (l
       ∙ (ap (change_under f (writer e) table table.name (key_of table e.row)) has.newest ∙ here)
 
   -- one record has a limbo version under a name and a key
-  one_limbo : (p q : RecId) (a b : Table) (d e : Entry) → HasLimbo f r p a d → HasLimbo f r q b e
+  pub one_limbo : (p q : RecId) (a b : Table) (d e : Entry) → HasLimbo f r p a d → HasLimbo f r q b e
       → a.name ≡ b.name → key_of a d.row ≡ key_of b e.row → p ≡ q
   one_limbo p q a b d e first second names keys_same =
       let same : a ≡ b = one_of_name form size state pages layout r sound p q a b first.of_table

@@ -1,11 +1,11 @@
 -- The places of an image where a record may begin, as a list.
-use Rattle.std.proofs.Common.{◌≡◌, ◌≢◌, ◌⊎◌, inl, inr, ap, sym, subst, ◌∙◌, refl, arith, le-ltb, nat_lt, ◌<◌, ◌≤◌, ◌&&◌, ℕ, zero, suc, Bool, true, false, List, [], ◌∷◌, ◌++◌, Option, None, Some}
+use Rattle.std.proofs.Common.{◌≡◌, ◌≢◌, ◌⊎◌, inl, inr, ap, sym, subst, ◌∙◌, refl, arith, le-ltb, nat_lt, ◌<◌, ◌≤◌, ℕ, zero, suc, Bool, true, false, List, [], ◌∷◌, ◌++◌, Option, None, Some}
 use Rattle.std.proofs.lemmas.Bool.{cases_eq, cases_lt}
 use Rattle.std.specs.List.{flat_map}
 use Rattle.std.specs.Prelude.{if◌then◌else◌}
 use Rattle.mg_base.specs.declared.numbers.RecId.{RecId}
 use Rattle.mg_model.specs.declared.table.Table.{Table}
-use Rattle.mg_slots.specs.DataPage.{cell_of, offset_at, slot_count}
+use Rattle.mg_slots.specs.DataPage.{cell_of, slot_count}
 use Rattle.mg_image.specs.Form.{Coding, Pages}
 use Rattle.mg_image.specs.RecordRules.{AreRecords, Facts, table_in}
 use Rattle.mg_image.specs.Records.{Chain, Reading, cells_of, newest_of, slot_cell}
@@ -14,7 +14,6 @@ use Rattle.mg_image_steps.specs.Cuts.{reads_none}
 use Rattle.mg_image_steps.specs.Growth.{has_back, has_front}
 use Rattle.mg_kept_images.specs.Reach.{has_it}
 use Rattle.mg_version.specs.declared.cell.Cell.{Cell}
-use Rattle.mg_version.specs.declared.cell.Link.{Link}
 
 -- the slots of a page below a number
 abbrev pub slots_below : ℕ → ℕ → List RecId

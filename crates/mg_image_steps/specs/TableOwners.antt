@@ -121,13 +121,13 @@ own_tables_stay f g r s catalog stay each p table of =
 -- ---- no transaction in limbo takes a table away
 
 -- a table of that name is one of these, and has a property that each has
-table_named : (P : Table → Type 0) (tables : List Table) (name : List ℕ) → HasTableOf tables name
+pub table_named : (P : Table → Type 0) (tables : List Table) (name : List ℕ) → HasTableOf tables name
     → EachTable P tables → (t : Table) × ((t.name ≡ name) × P t)
 table_named P [] name has_ each = absurd has_
 table_named P (t ∷ ts) name (inl is) each = (t, (is, each.0))
 table_named P (t ∷ ts) name (inr more) each = table_named P ts name more each.1
 
-among_named : (tables : List Table) (table : Table) → StaysAmong tables table
+pub among_named : (tables : List Table) (table : Table) → StaysAmong tables table
     → HasTableOf tables table.name
 among_named [] table stays = absurd stays
 among_named (t ∷ ts) table (inl same) = inl same.name
@@ -258,7 +258,7 @@ IsOneOf [] table = ⊥
 IsOneOf (t ∷ ts) table = (t ≡ table) ⊎ IsOneOf ts table
 
 -- each of these is one of those that a list of stands has
-has_stand : (stands : List Stand) (n : ℕ) (table : Table) → table_at stands n ≡ Some table
+pub has_stand : (stands : List Stand) (n : ℕ) (table : Table) → table_at stands n ≡ Some table
     → IsOneOf (map (λ s. s.table) stands) table
 has_stand [] n table is = absurd cc
 has_stand (s ∷ ss) n table is = at (has s.data_pages n) is (has_stand ss n table)
@@ -269,7 +269,7 @@ has_stand (s ∷ ss) n table is = at (has s.data_pages n) is (has_stand ss n tab
     at true here more = let same : s.table ≡ table = cc in inl same
     at false there more = inr (more there)
 
-one_each : (P : Table → Type 0) (tables : List Table) (table : Table) → EachTable P tables
+pub one_each : (P : Table → Type 0) (tables : List Table) (table : Table) → EachTable P tables
     → IsOneOf tables table → P table
 one_each P [] table each is = absurd is
 one_each P (t ∷ ts) table each (inl same) = subst P same each.0
@@ -304,7 +304,7 @@ module _ (form : Form) (size : ℕ) (state : ℕ → TxState) (pages : Pages) (l
   catalog_named : layout.catalog.table.name ≡ catalog_name
   catalog_named = ap (λ (x : Table). x.name) sound.catalog
 
-  named_other : (table : Table) → IsOneOf (map (λ s. s.table) layout.tables) table
+  pub named_other : (table : Table) → IsOneOf (map (λ s. s.table) layout.tables) table
       → table.name ≢ catalog_name
   named_other table is same = lawful.other same
     where

@@ -6,16 +6,15 @@ use Rattle.mg_base.specs.declared.numbers.RecId.{RecId}
 use Rattle.mg_base.specs.declared.transaction.TxState.{TxState}
 use Rattle.mg_value.specs.declared.value.Value.{Value}
 use Rattle.mg_model.specs.declared.table.Table.{Table}
-use Rattle.mg_image.specs.Catalog.{CatalogNames, HasNames, committed_with}
+use Rattle.mg_image.specs.Catalog.{CatalogNames, committed_with}
 use Rattle.mg_image.specs.Form.{Form, Pages, Row}
-use Rattle.mg_image.specs.Held.{AreRows}
 use Rattle.mg_image.specs.Indexes.{EachPage}
 use Rattle.mg_image.specs.ReadingLaws.{RowsAreOne, chain_once, reading_once}
-use Rattle.mg_image.specs.RecordRules.{AreRecords, Each, Facts, IsVersion, table_in}
+use Rattle.mg_image.specs.RecordRules.{AreRecords, Facts, IsVersion, table_in}
 use Rattle.mg_image.specs.FactLaws.{each_has}
 use Rattle.mg_image.specs.Records.{Reading, cells_of, newest_of, record_key, shown}
 use Rattle.mg_image.specs.Sound.{HasTablePages, IsSoundBy, facts_by}
-use Rattle.mg_image.specs.Tables.{EachStand, Has, Layout, Stand, has, stands_of, table_at}
+use Rattle.mg_image.specs.Tables.{EachStand, Layout, Stand, has, stands_of, table_at}
 use Rattle.mg_image.specs.declared.entry.Entry.{Entry}
 use Rattle.mg_image_steps.specs.Kinds.{HasNoSequences}
 use Rattle.mg_catalog.specs.TableLaws.{tables_once}

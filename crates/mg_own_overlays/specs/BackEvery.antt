@@ -1,6 +1,6 @@
 -- A record's newest version is taken out, from the pool's change to every overlay: by its transaction,
 -- which takes it back, or by nobody's work, where its transaction is dead.
-use Rattle.std.proofs.Common.{◌≡◌, ◌≢◌, inl, inr, ap, sym, subst, ◌∙◌, refl, ℕ, Bool, true, false, List, [], ◌∷◌, Option, None, Some}
+use Rattle.std.proofs.Common.{◌≡◌, ◌≢◌, inr, ap, sym, subst, ◌∙◌, refl, ℕ, Bool, true, false, List, [], ◌∷◌, Option, None}
 use Rattle.std.specs.Prelude.{unwrap_or}
 use Rattle.mg_base.specs.declared.numbers.RecId.{RecId}
 use Rattle.mg_base.specs.declared.transaction.TxState.{TxState}
@@ -20,10 +20,9 @@ use Rattle.mg_image.specs.FactLaws.{each_has}
 use Rattle.mg_image.specs.Form.{Form}
 use Rattle.mg_image.specs.Held.{Changes}
 use Rattle.mg_image.specs.Histories.{newest_at}
-use Rattle.mg_image.specs.Indexes.{IsFoundIn}
 use Rattle.mg_image.specs.ReadingLaws.{RowsAreOne}
-use Rattle.mg_image.specs.RecordRules.{AreRecords, Each, Facts, IsVersion, TakesKey, committed_in, table_in}
-use Rattle.mg_image.specs.Records.{Chain, Reading, Stands, cells_of, key_of, newest_of, record_key, shown, writer}
+use Rattle.mg_image.specs.RecordRules.{AreRecords, Each, Facts, IsVersion, TakesKey, committed_in}
+use Rattle.mg_image.specs.Records.{Chain, Reading, Stands, cells_of, key_of, record_key, shown, writer}
 use Rattle.mg_image.specs.Sound.{IsSoundBy, facts_by}
 use Rattle.mg_image.specs.StepLaws.{chain_stays, put_reading}
 use Rattle.mg_image.specs.Tables.{Layout}
@@ -35,7 +34,6 @@ use Rattle.mg_kept_images.specs.EndLaws.{longer_for}
 use Rattle.mg_kept_images.specs.KeptImages.{IsKept, keeping}
 use Rattle.mg_overlays.specs.BatchLaws.{change_keeps, change_keeps_always}
 use Rattle.mg_overlays.specs.Overlays.{ChangesCache, EveryOverlay, KeepsLaidAlways, KeepsNeeds, LaysBatch, NeedsAllDirty, laid, left_by, left_state}
-use Rattle.mg_overlays.specs.Views.{LaysPage}
 use Rattle.mg_own_overlays.specs.BackPart.{OrdersTakeOut, TakesOutPages, take_out_part}
 use Rattle.mg_own_overlays.specs.FreePart.{IsTurned, free_in}
 use Rattle.mg_own_overlays.specs.OwnThere.{behind, newest_writer, none_reads, older_off, older_settled}

@@ -1,14 +1,13 @@
 -- A record's newest version is taken out, in part: on an image in which its writer counts as dead. The
 -- slot leads past it first, and then its cell is freed. The image has both pages, the first alone, or
 -- none.
-use Rattle.std.proofs.Common.{◌≡◌, ◌≢◌, ◌⊎◌, inl, inr, ap, sym, subst, ◌∙◌, refl, ℕ, Bool, true, false, List, [], ◌∷◌, Option, None, Some}
+use Rattle.std.proofs.Common.{◌≡◌, ◌≢◌, ◌⊎◌, inl, inr, ap, sym, subst, ◌∙◌, refl, ℕ, Bool, true, false, List, [], Option, None, Some}
 use Rattle.std.proofs.lemmas.Bool.{cases_eq}
 use Rattle.mg_base.specs.declared.numbers.RecId.{RecId}
 use Rattle.mg_base.specs.declared.transaction.TxState.{TxState}
 use Rattle.mg_base.specs.declared.transaction.TxState.TheVariants.{Committed, Dead}
 use Rattle.mg_careful.specs.CarefulWrite.{PageSet}
 use Rattle.mg_careful.specs.Precedence.{Orders}
-use Rattle.mg_version.specs.declared.cell.Cell.{Cell}
 use Rattle.mg_version.specs.declared.cell.Cell.TheVariants as cells
 use Rattle.mg_version.specs.declared.cell.Link.{Link}
 use Rattle.mg_version.specs.declared.cell.Version.{Version}
@@ -17,22 +16,18 @@ use Rattle.mg_model.specs.declared.table.Table.{Table}
 use Rattle.mg_model.specs.History.{Entries}
 use Rattle.mg_image.specs.declared.entry.Entry.{Entry}
 use Rattle.mg_image.specs.Form.{Form, Pages}
-use Rattle.mg_image.specs.ReadingLaws.{Opens, RowsAreOne, chain_opens}
-use Rattle.mg_image.specs.RecordRules.{AreRecords, Each, EachBack, Facts, IsRecord, committed_in, table_in}
-use Rattle.mg_image.specs.Records.{Chain, Changes, Reading, Stands, cells_of, newest_of, shown, writer}
+use Rattle.mg_image.specs.ReadingLaws.{RowsAreOne}
+use Rattle.mg_image.specs.RecordRules.{Facts, table_in}
+use Rattle.mg_image.specs.Records.{Chain, Changes, Reading, Stands, cells_of, newest_of, writer}
 use Rattle.mg_image.specs.Sound.{IsSoundBy, facts_by}
-use Rattle.mg_image.specs.StepLaws.{chain_stays, put_cases, put_reading}
-use Rattle.mg_image.specs.Tables.{Layout, stands_of}
-use Rattle.mg_image_steps.specs.Cuts.{reads_none}
+use Rattle.mg_image.specs.StepLaws.{chain_stays, put_reading}
+use Rattle.mg_image.specs.Tables.{Layout}
 use Rattle.mg_image_steps.specs.DataPages.{ChangesData}
-use Rattle.mg_image_steps.specs.DataSound.{facts_same}
-use Rattle.mg_image_steps.specs.Fronts.{IsFront, IsLike, living}
+use Rattle.mg_image_steps.specs.Fronts.{living}
 use Rattle.mg_image_steps.specs.Kinds.{HasNoSequences}
-use Rattle.mg_image_steps.specs.QuietVersions.{AreQuiet, IsQuiet}
-use Rattle.mg_image_steps.specs.Relink.{chain_from}
-use Rattle.mg_image_steps.specs.Rest.{LeavesRest, LeavesRests}
+use Rattle.mg_image_steps.specs.Rest.{LeavesRests}
 use Rattle.mg_kept_images.specs.KeptImages.{IsKept}
-use Rattle.mg_kept_images.specs.Reach.{IsEntered, entered_with, table_in_image}
+use Rattle.mg_kept_images.specs.Reach.{IsEntered, entered_with}
 use Rattle.mg_overlays.specs.Overlays.{LaysBatch, laid}
 use Rattle.mg_overlays.specs.Views.{LaysPage, first_view, last_view, ordered_same, partly, step_in, step_out}
 use Rattle.mg_own_overlays.specs.FreePart.{FreesPage, IsTurned, free_views}

@@ -1,6 +1,6 @@
 -- A cell that no record reads any longer is freed: on an image that has the page of the slot that led to
 -- it, or on one that has neither.
-use Rattle.std.proofs.Common.{◌≡◌, ap, sym, subst, ◌∙◌, refl, ℕ, Bool, true, false, List, Option, None, Some}
+use Rattle.std.proofs.Common.{◌≡◌, sym, subst, ◌∙◌, refl, ℕ, Bool, true, false, None, Some}
 use Rattle.mg_base.specs.declared.numbers.RecId.{RecId}
 use Rattle.mg_base.specs.declared.transaction.TxState.{TxState}
 use Rattle.mg_careful.specs.CarefulWrite.{PageSet}

@@ -1,5 +1,5 @@
 -- Of a record that the pool shows no row of, an overlay shows none.
-use Rattle.std.proofs.Common.{◌≡◌, ◌⊎◌, inl, inr, sym, ap, ◌∙◌, subst, refl, ℕ, List, Option, None, Some}
+use Rattle.std.proofs.Common.{◌≡◌, ◌⊎◌, inl, inr, sym, ◌∙◌, subst, ℕ, List, None, Some}
 use Rattle.std.proofs.Math.Path.{fun_ext}
 use Rattle.mg_base.specs.declared.numbers.RecId.{RecId}
 use Rattle.mg_base.specs.declared.transaction.TxState.{TxState}
@@ -7,8 +7,8 @@ use Rattle.mg_value.specs.declared.value.Value.{Value}
 use Rattle.mg_model.specs.declared.opening.Opening.{Opening}
 use Rattle.mg_model.specs.declared.table.Table.{Table}
 use Rattle.mg_model.specs.History.{Entries}
-use Rattle.mg_image.specs.Form.{Form, Pages, Rows}
-use Rattle.mg_image.specs.Held.{Database, HasTable, IsHeld}
+use Rattle.mg_image.specs.Form.{Form, Pages}
+use Rattle.mg_image.specs.Held.{HasTable, IsHeld}
 use Rattle.mg_image.specs.ReadingLaws.{RowsAreOne}
 use Rattle.mg_image.specs.RecordRules.{Facts, committed_in, table_in}
 use Rattle.mg_image.specs.Records.{Reading, cells_of, shown}

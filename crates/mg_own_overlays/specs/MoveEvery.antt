@@ -1,6 +1,6 @@
 -- A transaction replaces its own version of a record by one in another cell, from the pool's change to
 -- every overlay.
-use Rattle.std.proofs.Common.{◌≡◌, ◌≢◌, inl, inr, ap, sym, subst, ◌∙◌, refl, ℕ, Bool, true, false, List, [], ◌∷◌, Option, None, Some}
+use Rattle.std.proofs.Common.{◌≡◌, ◌≢◌, inl, inr, ap, sym, subst, ◌∙◌, refl, ℕ, Bool, true, false, List, ◌∷◌, Option, None, Some}
 use Rattle.mg_base.specs.declared.numbers.RecId.{RecId}
 use Rattle.mg_base.specs.declared.transaction.TxState.{TxState}
 use Rattle.mg_base.specs.declared.transaction.TxState.TheVariants.{Active, Committed, Dead, Limbo}
@@ -19,7 +19,7 @@ use Rattle.mg_image.specs.FactLaws.{each_has}
 use Rattle.mg_image.specs.Form.{Form}
 use Rattle.mg_image.specs.Indexes.{IsFoundIn}
 use Rattle.mg_image.specs.ReadingLaws.{RowsAreOne}
-use Rattle.mg_image.specs.RecordRules.{AreRecords, Each, Facts, IsVersion, TakesKey, committed_in, table_in}
+use Rattle.mg_image.specs.RecordRules.{AreRecords, Each, Facts, IsVersion, TakesKey, committed_in}
 use Rattle.mg_image.specs.Records.{Chain, Reading, Stands, cells_of, key_of, record_key, shown, writer}
 use Rattle.mg_image.specs.Sound.{IsSoundBy, facts_by}
 use Rattle.mg_image.specs.StepLaws.{chain_stays, put_reading}
@@ -35,8 +35,8 @@ use Rattle.mg_overlays.specs.BatchLaws.{change_keeps}
 use Rattle.mg_overlays.specs.Overlays.{ChangesCache, EveryOverlay, KeepsNeeds, LaysBatch, NeedsAllDirty, laid, left_state}
 use Rattle.mg_own_overlays.specs.FreePart.{IsTurned, free_in}
 use Rattle.mg_own_overlays.specs.MovePart.{IsPlaced, MovesPages, OrdersMove, move_part, move_put_in}
-use Rattle.mg_own_overlays.specs.MoveRecords.{Moves, move_sound}
-use Rattle.mg_own_overlays.specs.OwnThere.{behind, newest_writer, none_reads, older_off, older_settled, stood}
+use Rattle.mg_own_overlays.specs.MoveRecords.{move_sound}
+use Rattle.mg_own_overlays.specs.OwnThere.{behind, none_reads, older_off, older_settled, stood}
 use Rattle.mg_own_overlays.specs.OwnVersion.{FindsNewest, FindsOwn, RewritesRow, stands_as}
 use Rattle.mg_own_overlays.specs.Overwrite.{not_committed}
 use Rattle.mg_own_overlays.specs.TakeOut.{slot_off}

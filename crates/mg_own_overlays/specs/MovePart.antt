@@ -9,7 +9,6 @@ use Rattle.mg_base.specs.declared.transaction.TxState.TheVariants.{Committed, De
 use Rattle.mg_careful.specs.CarefulWrite.{PageSet}
 use Rattle.mg_careful.specs.Precedence.{Orders}
 use Rattle.mg_value.specs.declared.value.Value.{Value}
-use Rattle.mg_version.specs.declared.cell.Cell.{Cell}
 use Rattle.mg_version.specs.declared.cell.Cell.TheVariants as cells
 use Rattle.mg_version.specs.declared.cell.Link.{Link}
 use Rattle.mg_version.specs.declared.cell.Version.{Version}
@@ -19,10 +18,10 @@ use Rattle.mg_model.specs.History.{Entries}
 use Rattle.mg_image.specs.declared.entry.Entry.{Entry}
 use Rattle.mg_image.specs.Form.{Form, Pages}
 use Rattle.mg_image.specs.ReadingLaws.{RowsAreOne}
-use Rattle.mg_image.specs.RecordRules.{AreRecords, Each, Facts, IsVersion, table_in}
+use Rattle.mg_image.specs.RecordRules.{Each, Facts, IsVersion, table_in}
 use Rattle.mg_image.specs.Records.{Chain, Changes, Reading, Stands, cells_of, ended, key_of, record_key, writer}
 use Rattle.mg_image.specs.Sound.{IsSoundBy, facts_by}
-use Rattle.mg_image.specs.StepLaws.{chain_stays, put_cases, put_reading}
+use Rattle.mg_image.specs.StepLaws.{chain_stays, put_reading}
 use Rattle.mg_image.specs.Tables.{Layout, stands_of}
 use Rattle.mg_image_steps.specs.DataPages.{ChangesData}
 use Rattle.mg_image_steps.specs.DataSound.{facts_same}
@@ -35,11 +34,11 @@ use Rattle.mg_kept_images.specs.Reach.{IsEntered, entered_with, table_in_image}
 use Rattle.mg_overlays.specs.Overlays.{LaysBatch, laid}
 use Rattle.mg_overlays.specs.Views.{LaysPage, first_view, last_view, ordered_same, partly, step_in, step_out}
 use Rattle.mg_own_overlays.specs.FreePart.{FreesPage, IsTurned, free_views}
-use Rattle.mg_own_overlays.specs.MoveRecords.{Moves, move_living, move_settled, move_sound, was_living}
+use Rattle.mg_own_overlays.specs.MoveRecords.{Moves, move_living, move_sound, was_living}
 use Rattle.mg_own_overlays.specs.OwnThere.{HasIt, found_there, goes_quietly, has_it, none_reads, older_off, pool_behind, pool_empty, reached, rest_key, rest_leads, stood}
 use Rattle.mg_own_overlays.specs.OwnVersion.{FindsNewest, FindsOwn}
 use Rattle.mg_own_overlays.specs.SlotPart.{TurnsTo, turn_in, turn_out}
-use Rattle.mg_own_overlays.specs.TakeOut.{living_settled, slot_off}
+use Rattle.mg_own_overlays.specs.TakeOut.{slot_off}
 use Rattle.mg_record_overlays.specs.DeadSteps.{StepsDead, dead_in, dead_out}
 use Rattle.mg_record_overlays.specs.PushPart.{cells_alike, cells_laid, page_laid}
 use Rattle.mg_record_overlays.specs.QuietSteps.{quiet_in, quiet_out}
@@ -327,8 +326,11 @@ module _ (form : Form) (one : RowsAreOne form.coding) (none : HasNoSequences for
                   (rest_leads form one none size o h state placed image of_pool put.kept p x table v l found
                   moves.slot dead slot_there slot_entered (cells_of laid_) (Some (cells.Anchor link))
                   turn_there m some))
-                  (inl (refl, lawful.keyed ∙ rest_key form one none size o h state placed image of_pool
-                  put.kept p x table v l found moves.slot dead slot_there slot_entered m some))
+                  (inl (
+                    refl,
+                    lawful.keyed ∙ rest_key form one none size o h state placed image of_pool
+                        put.kept p x table v l found moves.slot dead slot_there slot_entered m some,
+                  ))
 
               same : living state (n ∷ it.rest) ≡ living state (put.kept.reading p)
               same = move_living form.coding g (cells_of image) (cells_of laid_) put.kept.reading p table l

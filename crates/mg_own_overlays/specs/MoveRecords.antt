@@ -1,24 +1,21 @@
 -- The slot of a record comes to lead to another version of the same transaction, in place of its newest
 -- one: what is read of the records then.
-use Rattle.std.proofs.Common.{◌≡◌, ◌≢◌, ◌⊎◌, inl, inr, refl, sym, ap, ◌∙◌, subst, ℕ, false, List, [], ◌∷◌, Option, None, Some}
+use Rattle.std.proofs.Common.{◌≡◌, ◌≢◌, ◌⊎◌, inl, inr, refl, sym, ap, ◌∙◌, subst, false, List, [], ◌∷◌, None, Some}
 use Rattle.mg_base.specs.declared.numbers.RecId.{RecId}
-use Rattle.mg_base.specs.declared.transaction.TxState.{TxState}
 use Rattle.mg_base.specs.declared.transaction.TxState.TheVariants.{Committed, Dead, Limbo}
 use Rattle.mg_value.specs.declared.value.Value.{Value}
-use Rattle.mg_version.specs.declared.cell.Cell.{Cell}
 use Rattle.mg_version.specs.declared.cell.Cell.TheVariants as cells
 use Rattle.mg_version.specs.declared.cell.Link.{Link}
 use Rattle.mg_version.specs.declared.cell.Version.{Version}
 use Rattle.mg_model.specs.declared.table.Table.{Table}
-use Rattle.mg_image.specs.Form.{Coding, Row}
-use Rattle.mg_image.specs.RecordRules.{AreOnce, AreRecords, Each, EachBack, Facts, IsRecord, IsVersion, TakesKey, committed_in, table_in}
-use Rattle.mg_image.specs.Records.{Cells, Chain, Changes, Reading, Stands, goes, key_of, newest_of, record_key, shown, writer}
+use Rattle.mg_image.specs.Form.{Coding}
+use Rattle.mg_image.specs.RecordRules.{AreOnce, AreRecords, Each, Facts, IsRecord, IsVersion, TakesKey, committed_in, table_in}
+use Rattle.mg_image.specs.Records.{Cells, Chain, Changes, Reading, Stands, goes, key_of, record_key, shown, writer}
 use Rattle.mg_image.specs.StepLaws.{put_reading}
 use Rattle.mg_image.specs.declared.entry.Entry.{Entry}
 use Rattle.mg_image_steps.specs.Fronts.{living}
 use Rattle.mg_image_steps.specs.Relink.{relink_sound}
 use Rattle.mg_own_overlays.specs.Overwrite.{not_committed}
-use Rattle.mg_own_overlays.specs.TakeOut.{living_settled}
 
 -- What is known: the record's newest version d and those behind it, the new version n in its cell, and
 -- which versions lie behind that: the same, under one key, or none any more, where its writer is dead.

@@ -1,5 +1,5 @@
 -- The newest version of a record is written over in its cell: what is read of the records then.
-use Rattle.std.proofs.Common.{◌≡◌, ◌≢◌, ◌⊎◌, inl, inr, refl, sym, ap, ◌∙◌, subst, ℕ, Bool, true, false, List, [], ◌∷◌, Option, None, Some}
+use Rattle.std.proofs.Common.{◌≡◌, ◌≢◌, ◌⊎◌, inl, inr, refl, sym, ap, ◌∙◌, subst, true, false, List, [], ◌∷◌, Option, None, Some}
 use Rattle.std.specs.Prelude.{if◌then◌else◌}
 use Rattle.mg_base.specs.declared.numbers.RecId.{RecId}
 use Rattle.mg_base.specs.declared.transaction.TxState.{TxState}
@@ -11,7 +11,7 @@ use Rattle.mg_version.specs.declared.cell.Link.{Link}
 use Rattle.mg_version.specs.declared.cell.Version.{Version}
 use Rattle.mg_model.specs.Answers.{is_committed}
 use Rattle.mg_model.specs.declared.table.Table.{Table}
-use Rattle.mg_image.specs.Form.{Coding, Row}
+use Rattle.mg_image.specs.Form.{Coding}
 use Rattle.mg_image.specs.ReadingLaws.{Opens, chain_opens}
 use Rattle.mg_image.specs.RecordRules.{AreRecords, Each, EachBack, Facts, IsRecord, IsVersion, TakesKey, committed_in, table_in}
 use Rattle.mg_image.specs.Records.{Cells, Chain, Changes, Reading, Stands, ended, goes, key_of, newest_of, record_key, shown, writer}

@@ -1,6 +1,6 @@
 -- What an overlay has of a record whose newest version is of a writer that counts as dead, where it has
 -- the page of the record's slot as the pool has it.
-use Rattle.std.proofs.Common.{◌≡◌, ◌≢◌, ◌⊎◌, inl, inr, ap, sym, subst, ◌∙◌, refl, ℕ, Bool, true, false, List, [], ◌∷◌, Option, None, Some}
+use Rattle.std.proofs.Common.{◌≡◌, ◌≢◌, inl, ap, sym, subst, ◌∙◌, refl, ℕ, false, List, [], ◌∷◌, Option, None, Some}
 use Rattle.mg_base.specs.declared.numbers.RecId.{RecId}
 use Rattle.mg_base.specs.declared.transaction.TxState.{TxState}
 use Rattle.mg_base.specs.declared.transaction.TxState.TheVariants.{Committed, Dead}
@@ -29,7 +29,6 @@ use Rattle.mg_kept_images.specs.Reach.{IsEntered, table_in_image}
 use Rattle.mg_own_overlays.specs.Hidden.{overlay_shows_none}
 use Rattle.mg_own_overlays.specs.OwnVersion.{FindsNewest, in_pool_too}
 use Rattle.mg_own_overlays.specs.Overwrite.{not_committed}
-use Rattle.mg_own_overlays.specs.TakeOut.{living_settled}
 
 -- ---- the newest version of a record in the pool
 

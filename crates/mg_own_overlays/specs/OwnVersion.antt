@@ -1,5 +1,5 @@
 -- What is known of a record whose newest version is a transaction's own, in the pool and in an overlay.
-use Rattle.std.proofs.Common.{◌≡◌, ◌≢◌, ◌⊎◌, inl, inr, refl, sym, ap, ◌∙◌, subst, ◌≤◌, ◌<◌, ℕ, false, List, [], ◌∷◌, ◌++◌, Option, None, Some}
+use Rattle.std.proofs.Common.{◌≡◌, ◌≢◌, inl, inr, sym, ap, ◌∙◌, subst, ◌≤◌, ◌<◌, ℕ, false, List, [], ◌∷◌, ◌++◌, Some}
 use Rattle.std.specs.List.{flat_map}
 use Rattle.mg_base.specs.declared.numbers.RecId.{RecId}
 use Rattle.mg_base.specs.declared.transaction.TxState.{TxState}
@@ -9,10 +9,10 @@ use Rattle.mg_model.specs.declared.opening.Opening.{Opening}
 use Rattle.mg_model.specs.declared.table.Table.{Table}
 use Rattle.mg_model.specs.History.{Entries, Entry as Event}
 use Rattle.mg_model.specs.Machine.{own}
-use Rattle.mg_base.specs.declared.transaction.TxState.TheVariants.{Dead, Limbo}
+use Rattle.mg_base.specs.declared.transaction.TxState.TheVariants.{Limbo}
 use Rattle.mg_image.specs.declared.entry.Entry.{Entry}
 use Rattle.mg_image.specs.Catalog.{HasMade, MayStandIn}
-use Rattle.mg_image.specs.Form.{Coding, Form, Pages, Row}
+use Rattle.mg_image.specs.Form.{Coding, Form, Pages}
 use Rattle.mg_image.specs.Held.{Changes}
 use Rattle.mg_image.specs.Histories.{newest_at}
 use Rattle.mg_image.specs.Indexes.{IsFoundIn}

@@ -1,6 +1,6 @@
 -- The slot of a record is turned, which led to a version at some cell, and leads to others then: on an
 -- image with the slot's page, or without.
-use Rattle.std.proofs.Common.{◌≡◌, ◌≢◌, ◌⊎◌, inl, inr, refl, ℕ, Bool, true, false, List, [], Option}
+use Rattle.std.proofs.Common.{◌≡◌, ◌⊎◌, inl, inr, refl, ℕ, true, false, List, []}
 use Rattle.mg_base.specs.declared.numbers.RecId.{RecId}
 use Rattle.mg_base.specs.declared.transaction.TxState.{TxState}
 use Rattle.mg_model.specs.declared.opening.Opening.{Opening}
@@ -13,7 +13,7 @@ use Rattle.mg_image.specs.Sound.{facts_by}
 use Rattle.mg_image.specs.StepLaws.{put_cases, put_reading}
 use Rattle.mg_image_steps.specs.DataPages.{ChangesData}
 use Rattle.mg_image_steps.specs.Fronts.{living}
-use Rattle.mg_image_steps.specs.QuietVersions.{AreQuiet, IsQuiet}
+use Rattle.mg_image_steps.specs.QuietVersions.{IsQuiet}
 use Rattle.mg_image_steps.specs.Rest.{LeavesRest, LeavesRests}
 use Rattle.mg_kept_images.specs.KeptImages.{IsKept}
 use Rattle.mg_overlays.specs.Views.{LaysPage}

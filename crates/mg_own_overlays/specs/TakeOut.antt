@@ -1,6 +1,6 @@
 -- The slot of a record comes to lead past its newest version, or nowhere: what is read of the records
 -- then.
-use Rattle.std.proofs.Common.{◌≡◌, ◌≢◌, ◌⊎◌, inl, inr, refl, sym, ap, ◌∙◌, subst, ℕ, false, List, [], ◌∷◌, Option, None, Some}
+use Rattle.std.proofs.Common.{◌≡◌, ◌≢◌, inl, inr, refl, sym, ap, ◌∙◌, subst, ℕ, false, List, [], ◌∷◌, Option, None, Some}
 use Rattle.mg_base.specs.declared.numbers.RecId.{RecId}
 use Rattle.mg_base.specs.declared.transaction.TxState.{TxState}
 use Rattle.mg_base.specs.declared.transaction.TxState.TheVariants.{Committed, Dead, Limbo}
@@ -10,10 +10,10 @@ use Rattle.mg_version.specs.declared.cell.Cell.TheVariants as cells
 use Rattle.mg_version.specs.declared.cell.Link.{Link}
 use Rattle.mg_version.specs.declared.cell.Version.{Version}
 use Rattle.mg_model.specs.declared.table.Table.{Table}
-use Rattle.mg_image.specs.Form.{Coding, Row}
-use Rattle.mg_image.specs.RecordRules.{AreOnce, AreRecords, Each, EachBack, Facts, IsRecord, IsVersion, TakesKey, committed_in, table_in}
+use Rattle.mg_image.specs.Form.{Coding}
+use Rattle.mg_image.specs.RecordRules.{AreOnce, AreRecords, Each, Facts, IsRecord, IsVersion, TakesKey, committed_in, table_in}
 use Rattle.mg_image.specs.Records.{Cells, Chain, Changes, Reading, Stands, ended, newest_of, record_key, shown, writer}
-use Rattle.mg_image.specs.StepLaws.{chain_stays, put_reading, unread_sound}
+use Rattle.mg_image.specs.StepLaws.{put_reading, unread_sound}
 use Rattle.mg_image.specs.declared.entry.Entry.{Entry}
 use Rattle.mg_image_steps.specs.Cuts.{chain_cell, reads_none}
 use Rattle.mg_image_steps.specs.Fronts.{living}

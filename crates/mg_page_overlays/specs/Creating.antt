@@ -131,13 +131,12 @@ pub record NamesMore (size : ℕ) (g : Facts) (t : ℕ) (r : Reading) (catalog :
       → EachTable (StaysAmong (named more)) (named chosen)
 
 module _ (form : Form) (size : ℕ) (state now : ℕ → TxState) (t : ℕ) (raises : Raises state now t)
-    (pages : Pages) (catalog : Stand) (sequences : List ℕ) (before after : List Stand) (stand : Stand)
-    (r : Reading) where
+    (pages : Pages) (catalog : Stand) (sequences : List ℕ) (tables more : List Stand) (r : Reading) where
   abbrev pub layout : Layout
-  layout = record { catalog = catalog; tables = before ++ after; sequences = sequences }
+  layout = record { catalog = catalog; tables = tables; sequences = sequences }
 
   abbrev pub layout_more : Layout
-  layout_more = record { catalog = catalog; tables = before ++ (stand ∷ after); sequences = sequences }
+  layout_more = record { catalog = catalog; tables = more; sequences = sequences }
 
   abbrev f : Facts
   f = facts_by state pages layout
@@ -145,24 +144,23 @@ module _ (form : Form) (size : ℕ) (state now : ℕ → TxState) (t : ℕ) (rai
   abbrev g : Facts
   g = facts_by now pages layout_more
 
-  -- What a table that is made owes: its pages, which nothing else links, have no data page yet; the
-  -- maker's versions take free keys and are found; and the catalog's rows name it.
-  pub record MakesTable : Type 0 where
-    pub table_pages : HasTablePages form.in_primary size pages stand
-    pub empty : stand.data_pages ≡ []
-    pub once : IsOnce (pages_of stand)
-    pub apart : (m : ℕ) → Has (pages_of stand) m → Has (linked_pages size pages layout) m → ⊥
+  -- What tables that are made owe: each has its pages, which nothing else links, and none has a data page
+  -- yet; the maker's versions take free keys and are found.
+  pub record MakesTables : Type 0 where
+    pub tables_pages : EachStand (HasTablePages form.in_primary size pages) more
+    pub same : (k : ℕ) → table_at (catalog ∷ more) k ≡ table_at (catalog ∷ tables) k
+    pub once : IsOnce (linked_pages size pages layout_more)
     pub oldest : oldest_active_of pages ≤ t
     pub own_tables : HasOwnTables g r catalog.table
     pub keys : KeysOnce g r
     pub found : (p : RecId) (table : Table) (e : Entry) → HasLimbo g r p table e → writer e ≡ t
         → e.version.deleted ≡ false → IsFoundIn pages table.indexes p e.row
 
-  module _ (sound : IsSoundBy form size state pages layout r) (makes : MakesTable)
+  module _ (sound : IsSoundBy form size state pages layout r) (makes : MakesTables)
       (names : NamesMore size g t r catalog.table sound.names.named
-      (map (λ s. s.table) (before ++ (stand ∷ after)))) where
+      (map (λ s. s.table) more)) where
     tables_same : (k : ℕ) → table_at (stands_of layout_more) k ≡ table_at (stands_of layout) k
-    tables_same k = table_stays (catalog ∷ before) after stand makes.empty k
+    tables_same k = makes.same k
 
     -- a choice without it is as it was
     counts_same : (chosen : ℕ → Bool) → chosen t ≡ false → (u : ℕ)
@@ -204,7 +202,7 @@ module _ (form : Form) (size : ℕ) (state now : ℕ → TxState) (t : ℕ) (rai
           keyed,
         )
 
-    pub names_more : HasNames size g r catalog.table (map (λ s. s.table) (before ++ (stand ∷ after)))
+    pub names_more : HasNames size g r catalog.table (map (λ s. s.table) more)
     names_more = record {
       named = names.named;
       lawful = λ chosen. lawful chosen (chosen t) refl;
@@ -244,17 +242,10 @@ module _ (form : Form) (size : ℕ) (state now : ℕ → TxState) (t : ℕ) (rai
       transactions = sound.transactions;
       inventory = sound.inventory;
       catalog = sound.catalog;
-      tables = each_more (HasTablePages form.in_primary size pages) (catalog ∷ before) after stand
-          makes.table_pages sound.tables;
+      tables = (sound.tables.0, makes.tables_pages);
       sequences = sound.sequences;
       names = names_more;
-      once = once_with_all (pages_of stand) (linked_pages size pages layout)
-          (linked_pages size pages layout_more)
-          (with_all_back (pages_of stand) (tips_of size pages ++ flat_map pages_of (stands_of layout))
-          (tips_of size pages ++ flat_map pages_of (stands_of layout_more)) sequences
-          (with_all_front (pages_of stand) (tips_of size pages) (flat_map pages_of (stands_of layout))
-          (flat_map pages_of (stands_of layout_more)) (stands_with_all (catalog ∷ before) after stand)))
-          makes.once sound.once makes.apart;
+      once = makes.once;
       records = records_under form.coding f g (cells_of pages) r (record {
         tables = λ n table is. tables_same n ∙ is;
         next = omega arith;
@@ -303,55 +294,95 @@ module _ (form : Form) (size : ℕ) (state now : ℕ → TxState) (t : ℕ) (rai
           rows = λ p. ap (λ (c : ℕ → Bool). shown c (r p)) committed_is;
         }) held) rows_are changed changes_are
 
+-- ---- one table
+
+-- What one table that is made owes, in its place.
+pub record MakesTable (form : Form) (size : ℕ) (state now : ℕ → TxState) (t : ℕ) (pages : Pages)
+    (catalog : Stand) (sequences : List ℕ) (tables before after : List Stand) (stand : Stand)
+    (r : Reading) : Type 0 where
+  pub is_ : tables ≡ before ++ after
+  pub table_pages : HasTablePages form.in_primary size pages stand
+  pub empty : stand.data_pages ≡ []
+  pub once : IsOnce (pages_of stand)
+  pub apart : (m : ℕ) → Has (pages_of stand) m → Has (linked_pages size pages (record {
+    catalog = catalog;
+    tables = tables;
+    sequences = sequences;
+  })) m → ⊥
+  pub oldest : oldest_active_of pages ≤ t
+  pub own_tables : HasOwnTables (facts_by now pages (record {
+    catalog = catalog;
+    tables = before ++ (stand ∷ after);
+    sequences = sequences;
+  })) r catalog.table
+  pub keys : KeysOnce (facts_by now pages (record {
+    catalog = catalog;
+    tables = before ++ (stand ∷ after);
+    sequences = sequences;
+  })) r
+  pub found : (p : RecId) (table : Table) (e : Entry) → HasLimbo (facts_by now pages (record {
+    catalog = catalog;
+    tables = before ++ (stand ∷ after);
+    sequences = sequences;
+  })) r p table e → writer e ≡ t → e.version.deleted ≡ false → IsFoundIn pages table.indexes p e.row
+
+-- so it owes what tables owe
+pub makes_one : (form : Form) (size : ℕ) (state now : ℕ → TxState) (t : ℕ)
+    (raises : Raises state now t) (pages : Pages) (catalog : Stand) (sequences : List ℕ)
+    (tables before after : List Stand) (stand : Stand) (r : Reading)
+    → IsSoundBy form size state pages (record { catalog = catalog; tables = tables; sequences = sequences }) r
+    → MakesTable form size state now t pages catalog sequences tables before after stand r
+    → MakesTables form size state now t raises pages catalog sequences tables (before ++ (stand ∷ after)) r
+makes_one form size state now t raises pages catalog sequences tables before after stand r sound makes = record {
+  tables_pages = each_more (HasTablePages form.in_primary size pages) before after stand makes.table_pages
+      (subst (EachStand (HasTablePages form.in_primary size pages)) makes.is_ sound.tables.1);
+  same = λ k. table_stays (catalog ∷ before) after stand makes.empty k
+      ∙ ap (λ (ss : List Stand). table_at (catalog ∷ ss) k) (sym makes.is_);
+  once = once_with_all (pages_of stand) (linked_pages size pages (with_stands (before ++ after)))
+      (linked_pages size pages (with_stands (before ++ (stand ∷ after))))
+      (with_all_back (pages_of stand) (tips_of size pages ++ flat_map pages_of (catalog ∷ (before ++ after)))
+      (tips_of size pages ++ flat_map pages_of (catalog ∷ (before ++ (stand ∷ after)))) sequences
+      (with_all_front (pages_of stand) (tips_of size pages)
+      (flat_map pages_of (catalog ∷ (before ++ after)))
+      (flat_map pages_of (catalog ∷ (before ++ (stand ∷ after))))
+      (stands_with_all (catalog ∷ before) after stand)))
+      makes.once
+      (subst (λ (ss : List Stand). IsOnce (linked_pages size pages (with_stands ss))) makes.is_ sound.once)
+      (subst (λ (ss : List Stand). (m : ℕ) → Has (pages_of stand) m
+      → Has (linked_pages size pages (with_stands ss)) m → ⊥) makes.is_ makes.apart);
+  oldest = makes.oldest;
+  own_tables = makes.own_tables;
+  keys = makes.keys;
+  found = makes.found;
+}
+  where
+    with_stands : List Stand → Layout
+    with_stands ss = record { catalog = catalog; tables = ss; sequences = sequences }
 -- ---- the batch of CREATE TABLE
 
 -- What the statement knows of an image that has all its pages and in which its transaction counts as
--- dead: the table has a place among those of the layout, and what it owes there; the changes with it.
-pub record CreatesTable (form : Form) (size : ℕ) (o : Opening) (h : Entries) (state now : ℕ → TxState)
+-- dead: the tables with those that it has made, what they owe there, and the changes with them.
+pub record CreatesTables (form : Form) (size : ℕ) (o : Opening) (h : Entries) (state now : ℕ → TxState)
     (t : ℕ) (raises : Raises state now t) (pages : Pages) (kept : IsKept form size o h state pages pages)
     : Type 0 where
-  pub before : List Stand
-  pub stand : Stand
-  pub after : List Stand
-  pub is_ : kept.layout.tables ≡ before ++ after
-  pub makes : MakesTable form size state now t raises pages kept.layout.catalog kept.layout.sequences
-      before after stand kept.reading
-  pub names : NamesMore size
-      (facts_by now pages (record kept.layout { tables = before ++ (stand ∷ after) })) t kept.reading
-      kept.layout.catalog.table kept.sound.names.named
-      (map (λ s. s.table) (before ++ (stand ∷ after)))
+  pub more : List Stand
+  pub makes : MakesTables form size state now t raises pages kept.layout.catalog kept.layout.sequences
+      kept.layout.tables more kept.reading
+  -- the catalog's rows name them
+  pub names : NamesMore size (facts_by now pages (record kept.layout { tables = more })) t kept.reading
+      kept.layout.catalog.table kept.sound.names.named (map (λ s. s.table) more)
   pub changes : Changes
-  pub changed : AreChanges (facts_by now pages (record kept.layout {
-    tables = before ++ (stand ∷ after);
-  })) kept.reading changes
+  pub changed : AreChanges (facts_by now pages (record kept.layout { tables = more })) kept.reading changes
   pub changes_are : (u : ℕ) (name : List ℕ) (key : Value) → now u ≡ Limbo
       → changes u name key ≡ newest_at (own o h u) name key
 
-module _ (form : Form) (size : ℕ) (o : Opening) (h : Entries) (state now : ℕ → TxState) (t : ℕ)
+pub create_kept : (form : Form) (size : ℕ) (o : Opening) (h : Entries) (state now : ℕ → TxState) (t : ℕ)
     (raises : Raises state now t) (pages : Pages) (kept : IsKept form size o h state pages pages)
-    (creates : CreatesTable form size o h state now t raises pages kept) where
-  abbrev more : Layout
-  more = record kept.layout { tables = creates.before ++ (creates.stand ∷ creates.after) }
-
-  abbrev with_stands : List Stand → Layout
-  with_stands ss = record kept.layout { tables = ss }
-
-  -- what is told of the image's layout, of its stands in another list
-  abbrev OfStands : List Stand → Type 0
-  OfStands ss = (sound : IsSoundBy form size state pages (with_stands ss) kept.reading)
-      × NamesMore size (facts_by now pages more) t kept.reading kept.layout.catalog.table
-      sound.names.named (map (λ s. s.table) more.tables)
-      × IsHeld (facts_by state pages (with_stands ss))
-      (committed_in (facts_by state pages (with_stands ss))) kept.reading kept.rows
-
-  pub create_kept : IsKept form size o h now pages pages
-  create_kept = at (subst OfStands creates.is_ (kept.sound, creates.names, kept.held))
-    where
-      at : OfStands (creates.before ++ creates.after) → IsKept form size o h now pages pages
-      at (sound, names, held) = raise_kept form size state now t raises pages kept.layout.catalog
-          kept.layout.sequences creates.before creates.after creates.stand kept.reading sound
-          creates.makes names o h kept.rows held kept.rows_are creates.changes creates.changed
-          creates.changes_are
+    → CreatesTables form size o h state now t raises pages kept → IsKept form size o h now pages pages
+create_kept form size o h state now t raises pages kept creates = raise_kept form size state now t raises
+    pages kept.layout.catalog kept.layout.sequences kept.layout.tables creates.more kept.reading kept.sound
+    creates.makes creates.names o h kept.rows kept.held kept.rows_are creates.changes creates.changed
+    creates.changes_are
 
 -- in the family: the writer as in limbo, from the choice without it
 pub without_raises : (state : ℕ → TxState) (t : ℕ) (chosen : ℕ → Bool) → state t ≡ Active
@@ -365,8 +396,9 @@ without_raises state t chosen active is = record {
     other : (u : ℕ) → u ≢ t → without t chosen u ≡ chosen u
     other u ne = rw (ne_eqb u t ne) refl
 
--- a table is made by an active transaction that has made none: where the batch is kept with its writer
--- dead, and the writer may come to count as in limbo with the table, every overlay is kept
+-- a table is made by an active transaction, maybe after others: where the batch is kept with its writer
+-- dead, and the writer may come to count as in limbo with all tables that it has made, every overlay is
+-- kept
 abbrev pub CreateKeeps : Form → Type 0
 CreateKeeps form = (size : ℕ) (o : Opening) (h later : Entries) (state : ℕ → TxState)
     (by : ℕ) (old new : Cache) (gone : PageSet) (batch : ℕ → Option (List ℕ)) (orders : Orders)
@@ -384,7 +416,7 @@ CreateKeeps form = (size : ℕ) (o : Opening) (h later : Entries) (state : ℕ �
     → ((chosen : ℕ → Bool) (is : chosen by ≡ true)
     → IsKept form size o h (left_state chosen state) old.pool old.pool
     → (kept : IsKept form size o later (left_state (without by chosen) state) new.pool new.pool)
-    → CreatesTable form size o later (left_state (without by chosen) state) (left_state chosen state) by
+    → CreatesTables form size o later (left_state (without by chosen) state) (left_state chosen state) by
     (without_raises state by chosen active is) new.pool kept)
     → EveryOverlay (keeping form size o h) state old needs
     → EveryOverlay (keeping form size o later) state new now

@@ -4,7 +4,7 @@
 //! Owns: these batches as changes of pages, and the laws that each keeps what every overlay has to be.
 //! A number is drawn (`DrawsNumber`: the header alone), a table gets a data page (`GrowsPages`: a bit of
 //! the page inventory, the new page, an entry of the table's last pointer page), a table is made
-//! (`CreatesTable`: its maker comes to count as in limbo, and the layout gets the table), pages that
+//! (`CreatesTables`: its maker comes to count as in limbo, and the layout gets its tables), pages that
 //! nothing links are changed (`FrameKept`).
 //!
 //! An overlay may reach a table's last pointer page or not. Where it does, each pointer page before it

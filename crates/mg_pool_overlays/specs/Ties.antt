@@ -1,14 +1,10 @@
 -- The page cache gives what the laws of overlays take.
-use Rattle.std.proofs.Common.{◌≡◌, ◌⊎◌, inl, inr, refl, sym, ap, ◌∙◌, ℕ, Bool, true, false, not, ◌&&◌, ◌||◌, List, Option, None, Some}
+use Rattle.std.proofs.Common.{◌≡◌, ◌⊎◌, inl, inr, refl, sym, ◌∙◌, ℕ, Bool, true, false, not, ◌&&◌, ◌||◌, List, Option, None, Some}
 use Rattle.std.specs.Prelude.{is_some, unwrap_or}
 use Rattle.mg_base.specs.Disk.{Meaning}
 use Rattle.mg_base.specs.Image.{Image, page_at}
-use Rattle.mg_careful.specs.CarefulWrite.{PageSet}
-use Rattle.mg_careful.specs.declared.graph.Order.{Order}
-use Rattle.mg_pool.specs.Change.{ChangesPages}
 use Rattle.mg_pool.specs.Dirty.{DirtyPages, content_of, is_dirty, is_marked}
 use Rattle.mg_pool.specs.Pool.{shown, taken_out}
-use Rattle.mg_pool.specs.declared.pool.Pool.{Pool}
 use Rattle.mg_pool_overlays.specs.Laws.{ChangesAre, ChangesKeepNeeds, NoneMarkedNone, NotAskedNeedsAll, RunsAre, RunsKeepNeeds}
 use Rattle.mg_pool_overlays.specs.Needs.{Asked, Sessions, needs_by}
 

@@ -1,5 +1,4 @@
 -- A writer that counts as dead changes one data page: what an overlay has to be it is afterwards.
-use Rattle.mg_base.specs.declared.numbers.RecId.{RecId}
 use Rattle.mg_base.specs.declared.transaction.TxState.{TxState}
 use Rattle.mg_image.specs.Form.{Form, Pages}
 use Rattle.mg_image.specs.RecordRules.{AreRecords, Facts}

@@ -11,7 +11,7 @@ use Rattle.mg_image.specs.declared.entry.Entry.{Entry}
 use Rattle.mg_image_steps.specs.DataPages.{ChangesData}
 use Rattle.mg_image_steps.specs.DataSound.{data_sound, facts_same}
 use Rattle.mg_image_steps.specs.Fronts.{HasFronts, IsFront, living}
-use Rattle.mg_image_steps.specs.QuietVersions.{AreQuiet, GoesQuietly, IsQuiet, changes_still, held_still, indexed_still, owns_still, shows_with}
+use Rattle.mg_image_steps.specs.QuietVersions.{AreQuiet, IsQuiet, changes_still, held_still, indexed_still, owns_still, shows_with}
 use Rattle.mg_image_steps.specs.Rest.{LeavesRest}
 use Rattle.mg_kept_images.specs.KeptImages.{IsKept}
 use Rattle.mg_model.specs.History.{Entries}

@@ -4,7 +4,6 @@ use Rattle.mg_image_steps.specs.Trees.{trees_stay}
 use Rattle.mg_pointer.specs.PointerPage.{next_in}
 use Rattle.mg_base.specs.Checks.{PassesAll}
 use Rattle.mg_base.specs.Fields.{byte}
-use Rattle.mg_base.specs.declared.numbers.RecId.{RecId}
 use Rattle.mg_base.specs.declared.transaction.TxState.{TxState}
 use Rattle.mg_base.specs.declared.transaction.TxState.TheVariants.{Active, Committed, Dead, Limbo}
 use Rattle.mg_careful.specs.CarefulWrite.{Cache, PageSet}
@@ -13,17 +12,15 @@ use Rattle.mg_header.specs.HeaderPage.{database_checks, header_in, page_checks}
 use Rattle.mg_image.specs.Catalog.{catalog_table}
 use Rattle.mg_image.specs.FactLaws.{records_grow, records_on_same_cells, same_names}
 use Rattle.mg_image.specs.Form.{Form, Pages}
-use Rattle.mg_image.specs.Held.{AreChanges, Changes, HasLimbo, IsChangedAt}
 use Rattle.mg_image.specs.HeldLaws.{same_held}
 use Rattle.mg_image.specs.Indexes.{EachPage}
 use Rattle.mg_image.specs.Inventory.{header_of, inventory_page, is_used, last_sequence, next_of, oldest_active_of, oldest_of, tip_before, tip_page}
 use Rattle.mg_image.specs.KeptPageLaws.{wanted_kept}
 use Rattle.mg_image.specs.Reached.{IsAsWanted, linked_pages, tips_below, tips_of}
 use Rattle.mg_image.specs.RecordRules.{Facts, committed_in}
-use Rattle.mg_image.specs.Records.{Change, Reading, slot_cell}
+use Rattle.mg_image.specs.Records.{Reading, slot_cell}
 use Rattle.mg_image.specs.Sound.{HasInventory, HasNoOldLimbo, HasNoneUndrawn, HasRegion, HasTips, IsSoundBy, IsUndrawn, facts_by}
 use Rattle.mg_image.specs.Tables.{Has, IsOnce, Layout, pages_of, stands_of}
-use Rattle.mg_image.specs.declared.entry.Entry.{Entry}
 use Rattle.mg_image_steps.specs.DataPages.{kind_of}
 use Rattle.mg_image_steps.specs.DataSound.{KeepsTrees}
 use Rattle.mg_image_steps.specs.Growth.{has_back, has_front}
@@ -34,21 +31,17 @@ use Rattle.mg_kept_images.specs.KeptImages.{IsKept, keeping}
 use Rattle.mg_kept_images.specs.Reach.{page_there}
 use Rattle.mg_model.specs.History.{Entries}
 use Rattle.mg_model.specs.declared.opening.Opening.{Opening}
-use Rattle.mg_model.specs.declared.table.Table.{Table}
 use Rattle.mg_overlays.specs.BatchLaws.{change_keeps_always}
-use Rattle.mg_overlays.specs.Overlays.{ChangesCache, EveryOverlay, KeepsLaidAlways, KeepsNeeds, laid, left_by, left_state}
+use Rattle.mg_overlays.specs.Overlays.{ChangesCache, EveryOverlay, KeepsLaidAlways, KeepsNeeds, left_by, left_state}
 use Rattle.mg_page_overlays.specs.Draw.{changes_on}
 use Rattle.mg_page_overlays.specs.GrowPages.{stands_still}
 use Rattle.mg_overlays.specs.Views.{first_view, last_view, partly, step_in, step_out}
 use Rattle.mg_overlays.specs.Views.{LaysPage}
-use Rattle.mg_overlays.specs.Overlays.{LaysBatch}
 use Rattle.mg_taken_overlays.specs.TakePart.{IsTaken, TakesPage, bits_alike, take_views}
 use Rattle.mg_pip.specs.PipPage.{bits, pip_checks, used_in}
 use Rattle.mg_slots.specs.DataPage.{cell_of}
 use Rattle.mg_tip.specs.TipPage.{places, prev_in, state_in, tip_checks}
-use Rattle.mg_value.specs.declared.value.Value.{Value}
 use Rattle.std.proofs.Common.{Bool, List, None, Option, [], ap, arith, false, inl, inr, length, refl, subst, suc, sym, true, zero, ℕ, ◌%◌, ◌++◌, ◌+◌, ◌-◌, ◌/◌, ◌<◌, ◌∙◌, ◌∷◌, ◌≡◌, ◌≢◌, ◌≤◌, ◌⊎◌}
-use Rattle.std.proofs.Math.Path.{fun_ext}
 use Rattle.std.proofs.lemmas.Bool.{cases_eq}
 use Rattle.std.specs.List.{flat_map}
 use Rattle.std.specs.Prelude.{map}

@@ -1,6 +1,6 @@
 -- A table, or the catalog, gets a data page: a page that was taken is made an empty one, and then the
 -- last of its pointer pages has an entry for it.
-use Rattle.std.proofs.Common.{◌≡◌, ◌≢◌, ◌⊎◌, inl, inr, ap, sym, subst, ◌∙◌, refl, arith, suc, ◌<◌, ◌+◌, ◌==◌, ◌||◌, ℕ, Bool, true, false, List, [], ◌∷◌, ◌++◌, length, None}
+use Rattle.std.proofs.Common.{◌≡◌, ◌≢◌, inl, inr, ap, sym, subst, ◌∙◌, refl, arith, ◌<◌, ◌+◌, ◌==◌, ◌||◌, ℕ, Bool, true, false, List, [], ◌∷◌, ◌++◌, length, None}
 use Rattle.std.proofs.lemmas.Bool.{ne_eqb}
 use Rattle.mg_base.specs.Checks.{PassesAll, common_checks}
 use Rattle.mg_base.specs.declared.geometry.TheConstants.{GREATEST_LIMIT}
@@ -10,11 +10,10 @@ use Rattle.mg_slots.specs.declared.page.TheConstants.{DATA_KIND}
 use Rattle.mg_image.specs.Form.{Pages}
 use Rattle.mg_image.specs.Indexes.{AreTrees}
 use Rattle.mg_image.specs.Inventory.{is_used}
-use Rattle.mg_image.specs.Sound.{HasTablePages, IsTableData, IsTablePointer}
+use Rattle.mg_image.specs.Sound.{HasTablePages, IsTablePointer}
 use Rattle.mg_image.specs.Tables.{EachFrom, Has, IsOnce, Stand, has, pages_of, tree_pages}
 use Rattle.mg_image_steps.specs.Grow.{with_back, with_front, with_last}
-use Rattle.mg_image_steps.specs.Growth.{grown, has_back, has_front, table_grows}
-use Rattle.mg_kept_images.specs.KeptImages.{IsFrontStand}
+use Rattle.mg_image_steps.specs.Growth.{grown, has_back, table_grows}
 use Rattle.mg_kept_images.specs.Reach.{once_apart, once_front}
 use Rattle.mg_page_overlays.specs.GrowKept.{front_both, front_last}
 use Rattle.mg_page_overlays.specs.GrowPages.{each_last}

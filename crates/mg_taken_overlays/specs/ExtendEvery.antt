@@ -1,13 +1,12 @@
 -- A table, or the catalog, gets a page more, of pointers or of data, from the pool's change to every
 -- overlay.
-use Rattle.std.proofs.Common.{◌≡◌, ◌≢◌, ap, sym, subst, ◌∙◌, refl, ℕ, Bool, true, false, List, Option, None}
+use Rattle.std.proofs.Common.{◌≡◌, ◌≢◌, sym, subst, ◌∙◌, refl, ℕ, Bool, true, false, List, Option, None}
 use Rattle.mg_base.specs.declared.transaction.TxState.{TxState}
 use Rattle.mg_careful.specs.CarefulWrite.{Cache, PageSet, Pages}
 use Rattle.mg_careful.specs.Precedence.{Orders}
 use Rattle.mg_model.specs.declared.opening.Opening.{Opening}
 use Rattle.mg_model.specs.History.{Entries}
 use Rattle.mg_image.specs.Form.{Form}
-use Rattle.mg_image.specs.Inventory.{is_used}
 use Rattle.mg_image.specs.Records.{Reading}
 use Rattle.mg_image.specs.Sound.{IsSoundBy}
 use Rattle.mg_image.specs.Tables.{Layout}
@@ -16,10 +15,10 @@ use Rattle.mg_image_steps.specs.Rest.{TreesStay}
 use Rattle.mg_image_steps.specs.Trees.{trees_stay}
 use Rattle.mg_kept_images.specs.KeptImages.{IsKept, keeping}
 use Rattle.mg_overlays.specs.BatchLaws.{change_keeps_always}
-use Rattle.mg_overlays.specs.Overlays.{ChangesCache, EveryOverlay, KeepsLaidAlways, KeepsNeeds, LaysBatch, laid, left_state}
+use Rattle.mg_overlays.specs.Overlays.{ChangesCache, EveryOverlay, KeepsLaidAlways, KeepsNeeds, left_state}
 use Rattle.mg_overlays.specs.Views.{first_view, last_view, ordered_same, partly, step_in, step_out}
 use Rattle.mg_taken_overlays.specs.EntryPage.{EntersPage, entry_makes}
-use Rattle.mg_taken_overlays.specs.ExtendStep.{HasLast, HasTaken, MakesMore, step_with, step_without}
+use Rattle.mg_taken_overlays.specs.ExtendStep.{HasLast, MakesMore, step_with, step_without}
 use Rattle.mg_taken_overlays.specs.LinkPage.{LinksPage, link_makes}
 use Rattle.mg_taken_overlays.specs.PointerPage.{ChangesPointer}
 use Rattle.mg_taken_overlays.specs.TakePart.{IsTaken, TakesPage, bits_alike, take_views}

@@ -17,7 +17,7 @@ use Rattle.mg_model.specs.declared.opening.Opening.{Opening}
 use Rattle.mg_pointer.specs.PointerPage.{next_in}
 use Rattle.mg_taken_overlays.specs.ExtendSound.{Extends, extend_changes, extend_held, extend_sound, header_as}
 use Rattle.mg_tip.specs.TipPage.{places}
-use Rattle.std.proofs.Common.{List, ap, arith, refl, subst, sym, true, ℕ, ◌-◌, ◌∙◌, ◌≡◌, ◌≢◌, ◌≤◌}
+use Rattle.std.proofs.Common.{ap, arith, refl, subst, sym, true, ℕ, ◌-◌, ◌∙◌, ◌≡◌, ◌≢◌, ◌≤◌}
 
 module _ (form : Form) (size : ℕ) (o : Opening) (h : Entries) (state : ℕ → TxState)
     (pool changed image laid : Pages) (n : ℕ) (kept : IsKept form size o h state pool image)

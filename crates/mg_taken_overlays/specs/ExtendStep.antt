@@ -1,11 +1,10 @@
 -- The last pointer page of a table is changed so that the table has a page more, which was taken before:
 -- in the pool, and in an overlay that has the pointer page, or has not.
-use Rattle.std.proofs.Common.{◌≡◌, ◌≢◌, ◌⊎◌, inl, inr, ap, sym, subst, ◌∙◌, refl, ℕ, Bool, true, false, List, [], ◌∷◌, ◌++◌, length, Option, None}
+use Rattle.std.proofs.Common.{◌≡◌, ◌≢◌, ◌⊎◌, inl, inr, ap, sym, subst, ◌∙◌, refl, ℕ, Bool, true, false, List, [], ◌∷◌, ◌++◌, length, None}
 use Rattle.std.proofs.lemmas.Bool.{cases_eq}
 use Rattle.std.specs.List.{flat_map}
 use Rattle.mg_base.specs.Fields.{byte}
 use Rattle.mg_base.specs.declared.transaction.TxState.{TxState}
-use Rattle.mg_careful.specs.CarefulWrite.{PageSet}
 use Rattle.mg_model.specs.declared.opening.Opening.{Opening}
 use Rattle.mg_model.specs.declared.table.Table.{Table}
 use Rattle.mg_model.specs.History.{Entries}
@@ -15,8 +14,7 @@ use Rattle.mg_image.specs.Indexes.{AreTrees}
 use Rattle.mg_image.specs.Inventory.{is_used}
 use Rattle.mg_image.specs.KeptPageLaws.{entries_kept}
 use Rattle.mg_image.specs.Reached.{linked_pages, tips_of}
-use Rattle.mg_image.specs.Records.{Reading}
-use Rattle.mg_image.specs.Sound.{HasTablePages, IsSoundBy}
+use Rattle.mg_image.specs.Sound.{HasTablePages}
 use Rattle.mg_image.specs.Tables.{EachStand, Has, IsOnce, Layout, PointerChain, Stand, entries_in, has, pages_of, stands_of, tree_pages}
 use Rattle.mg_image_steps.specs.Grow.{each_mid}
 use Rattle.mg_image_steps.specs.Growth.{has_back, has_either, has_front}
@@ -24,7 +22,7 @@ use Rattle.mg_image_steps.specs.Kinds.{HasNoSequences, chain_last, chain_next, l
 use Rattle.mg_image_steps.specs.Rest.{TreesStay}
 use Rattle.mg_kept_images.specs.KeptImages.{AreFrontStands, IsFrontOf, IsFrontStand, IsKept}
 use Rattle.mg_kept_images.specs.Reach.{has_it, has_so, once_apart, once_back, once_front, pointers_front}
-use Rattle.mg_overlays.specs.Views.{LaysPage, partly, step_in, step_out}
+use Rattle.mg_overlays.specs.Views.{LaysPage}
 use Rattle.mg_page_overlays.specs.GrowEvery.{SplitsAt, front_whole, pointers_mid, pointers_there, split}
 use Rattle.mg_page_overlays.specs.GrowKept.{fronts_joined}
 use Rattle.mg_page_overlays.specs.GrowPages.{off_first, off_last, once_mid}

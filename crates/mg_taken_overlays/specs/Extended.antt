@@ -1,16 +1,14 @@
 -- A stand of a layout is replaced by one with a page more: the layout, and what an image owes for it.
 use Rattle.std.proofs.Common.{◌≡◌, ◌≢◌, ◌⊎◌, inl, inr, ap, sym, subst, ◌∙◌, refl, arith, ℕ, Bool, true, false, List, [], ◌∷◌, ◌++◌, Option, None, Some}
-use Rattle.std.proofs.lemmas.Bool.{cases_eq}
 use Rattle.std.specs.List.{flat_map}
 use Rattle.std.specs.Prelude.{if◌then◌else◌, map}
 use Rattle.mg_base.specs.Fields.{byte}
-use Rattle.mg_base.specs.declared.numbers.RecId.{RecId}
 use Rattle.mg_base.specs.declared.transaction.TxState.{TxState}
 use Rattle.mg_image.specs.Form.{Form, Pages}
 use Rattle.mg_image.specs.Indexes.{AreTrees, EachPage}
 use Rattle.mg_image.specs.Inventory.{is_used}
 use Rattle.mg_image.specs.Reached.{linked_pages, tips_of}
-use Rattle.mg_image.specs.Records.{Reading, cells_of, newest_of, slot_cell}
+use Rattle.mg_image.specs.Records.{Reading, newest_of, slot_cell}
 use Rattle.mg_image.specs.Sound.{HasTablePages, IsSoundBy}
 use Rattle.mg_image.specs.Tables.{EachStand, Has, IsOnce, Layout, Stand, has, pages_of, stands_of, table_at, tree_pages}
 use Rattle.mg_image_steps.specs.DataSound.{KeepsTrees}

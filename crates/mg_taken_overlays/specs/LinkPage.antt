@@ -12,8 +12,7 @@ use Rattle.mg_image.specs.Sound.{HasTablePages, IsTableData, IsTablePointer}
 use Rattle.mg_image.specs.Tables.{EachFrom, Has, IsOnce, LinkChain, Stand, ended, entries_in, goes, pages_of, tree_pages}
 use Rattle.mg_image_steps.specs.Grow.{with_back, with_last}
 use Rattle.mg_image.specs.KeptPageLaws.{each_from_has}
-use Rattle.mg_image_steps.specs.Growth.{has_back, has_either, has_front, wanted_still}
-use Rattle.mg_kept_images.specs.KeptImages.{IsFrontStand}
+use Rattle.mg_image_steps.specs.Growth.{has_back, has_either, wanted_still}
 use Rattle.mg_kept_images.specs.Reach.{once_apart, once_front}
 use Rattle.mg_page_overlays.specs.GrowKept.{front_both, front_last}
 use Rattle.mg_taken_overlays.specs.Extended.{HasMore}

@@ -1,7 +1,6 @@
 -- A pointer page is changed: all that other pages say of an image stays.
-use Rattle.std.proofs.Common.{◌≡◌, ◌≢◌, ◌⊎◌, inl, inr, ap, sym, subst, suc, ◌∙◌, refl, arith, ◌<◌, ◌≤◌, ◌/◌, ◌%◌, ℕ, Bool, true, false, List, [], ◌∷◌, ◌++◌, length, Option, None, Some}
+use Rattle.std.proofs.Common.{◌≡◌, ◌≢◌, ◌⊎◌, inl, inr, ap, sym, subst, suc, ◌∙◌, refl, arith, ◌<◌, ◌≤◌, ◌/◌, ◌%◌, ℕ, Bool, true, false, List, [], ◌∷◌, length, Some}
 use Rattle.std.proofs.lemmas.Bool.{cases_eq}
-use Rattle.std.specs.List.{flat_map}
 use Rattle.std.specs.Prelude.{if◌then◌else◌}
 use Rattle.mg_base.specs.Checks.{common_checks}
 use Rattle.mg_base.specs.Fields.{byte}
@@ -10,14 +9,14 @@ use Rattle.mg_base.specs.declared.transaction.TxState.{TxState}
 use Rattle.mg_image.specs.Form.{Form, Pages}
 use Rattle.mg_image.specs.Indexes.{EachPage}
 use Rattle.mg_image.specs.Inventory.{inventory_page, is_used, last_sequence, tip_page}
-use Rattle.mg_image.specs.Reached.{linked_pages, tips_below, tips_of}
+use Rattle.mg_image.specs.Reached.{linked_pages}
 use Rattle.mg_image.specs.Records.{Reading}
 use Rattle.mg_image.specs.Sound.{HasInventory, HasRegion, HasTablePages, IsSoundBy, IsTableData}
-use Rattle.mg_image.specs.Tables.{EachFrom, EachStand, Has, Layout, Stand, has, pages_of, stands_of, table_at}
+use Rattle.mg_image.specs.Tables.{EachFrom, EachStand, Has, Layout, Stand, has, table_at}
 use Rattle.mg_image_steps.specs.DataPages.{all_passes, byte_blank, kind_of}
 use Rattle.mg_image_steps.specs.DataSound.{KeepsTrees}
 use Rattle.mg_image_steps.specs.Frame.{KeepsLinked}
-use Rattle.mg_image_steps.specs.Growth.{has_front, wanted_still}
+use Rattle.mg_image_steps.specs.Growth.{wanted_still}
 use Rattle.mg_image_steps.specs.Kinds.{HasNoSequences}
 use Rattle.mg_image_steps.specs.Rest.{TreesStay}
 use Rattle.mg_kept_images.specs.Reach.{has_it}

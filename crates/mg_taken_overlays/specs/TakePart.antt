@@ -3,7 +3,7 @@
 use Rattle.std.proofs.Common.{◌≡◌, ◌≢◌, ◌⊎◌, inl, inr, ap, sym, subst, ◌∙◌, refl, arith, ◌<◌, ◌≤◌, ◌/◌, ◌%◌, ℕ, Bool, true, false, List, [], ◌∷◌, ◌++◌, length}
 use Rattle.std.specs.Prelude.{if◌then◌else◌}
 use Rattle.std.proofs.lemmas.Bool.{cases_eq}
-use Rattle.mg_base.specs.Checks.{PassesAll, common_checks}
+use Rattle.mg_base.specs.Checks.{PassesAll}
 use Rattle.mg_base.specs.Fields.{byte}
 use Rattle.mg_base.specs.declared.geometry.TheConstants.{GREATEST_LIMIT}
 use Rattle.mg_base.specs.declared.transaction.TxState.{TxState}
@@ -19,7 +19,6 @@ use Rattle.mg_image.specs.Records.{Reading}
 use Rattle.mg_image.specs.Sound.{HasInventory, HasRegion, IsSoundBy}
 use Rattle.mg_image.specs.Tables.{Has, Layout, pages_of, stands_of}
 use Rattle.std.specs.List.{flat_map}
-use Rattle.mg_image_steps.specs.DataPages.{all_passes, byte_blank, kind_of}
 use Rattle.mg_image_steps.specs.Frame.{KeepsLinked, tip_kept}
 use Rattle.mg_image_steps.specs.Grow.{tips_are}
 use Rattle.mg_image_steps.specs.Growth.{wanted_still}

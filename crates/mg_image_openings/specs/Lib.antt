@@ -1,0 +1,9 @@
+pub mod Gathered
+pub mod Told
+pub mod Chosen
+pub mod Items
+pub mod Catalogs
+pub mod Fits
+pub mod Begun
+pub mod Laws
+pub mod Openings

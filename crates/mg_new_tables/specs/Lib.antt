@@ -1,0 +1,3 @@
+pub mod JoinedRows
+pub mod MadeRows
+pub mod Making
