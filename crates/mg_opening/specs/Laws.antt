@@ -2,6 +2,7 @@
 use Rattle.std.specs.Prelude.{◌≡◌}
 use Rattle.mg_model.specs.declared.opening.Opening.{Opening}
 use Rattle.mg_model.specs.Legal.{MayBegin}
+use Rattle.mg_model.specs.Openings.{IsOpening}
 use Rattle.mg_image.specs.Form.{Pages, plain_coding, plain_form}
 use Rattle.mg_image.specs.Histories.{Begins}
 use Rattle.mg_image.specs.Inventory.{next_of}
@@ -34,8 +35,8 @@ FormOpens = RowsAreOne plain_coding → (s : Served) (pages : Pages) (o : Openin
     → Starts s (pages HEADER.0) (pages TRANSACTIONS.0) (pages KV_ROWS.0) (next_of pages)
     → (first : Slots) → HasSlots (pages KV_ROWS.0) first → Opens s pages first o
 
--- and a history can begin with what it holds
+-- and a history can begin with what it holds: it gives a whole opening
 abbrev pub FormHasOpening : Type 0
 FormHasOpening = RowsAreOne plain_coding → (pages : Pages) → IsFirstForm pages
-    → (o : Opening) × (opened : Opened) × IsOpened plain_form PAGE pages opened × MayBegin o
+    → (o : Opening) × (opened : Opened) × IsOpened plain_form PAGE pages opened × IsOpening o
     × Begins opened o × (o.limit ≡ LAST)

@@ -1,10 +1,7 @@
-pub mod BegunFormLaws
-pub mod BegunKnownLaws
-pub mod BegunLimboLaws
-pub mod BegunRowsLaws
 pub mod ChangesOnceLaws
 pub mod EntryLaws
 pub mod FormLayoutLaws
+pub mod FormOpeningLaws
 pub mod FormRestLaws
 pub mod KnownFormLaws
 pub mod Laws

@@ -226,9 +226,13 @@ fn what_a_stopped_creation_leaves_is_unmade(rt: HostRuntime) -> Result<(), Fail>
     let made = Image::new(alloc, PAGE, pages).ok().ok_or("memory")?;
     let image = made.ok_or("pages of one size")?;
     for n in 0..9u32 {
-        let unmade = is_unmade_page(alloc, PageNo(n), image.page(n));
+        let page = image.page(n);
+        if page.len() != PAGE_LEN {
+            return Err("a page of another length")?;
+        }
+        let unmade = is_unmade_page(alloc, PageNo(n), page);
         assert_eq!(rt; unmade, Ok(true), "page {n}");
-        let next = is_unmade_page(alloc, PageNo(n + 1), image.page(n));
+        let next = is_unmade_page(alloc, PageNo(n + 1), page);
         assert_eq!(rt; next, Ok(n == 0 || n > 6), "page {n} in the next place");
     }
     // The judge of images of every page size says so too, by its own definition of these pages.

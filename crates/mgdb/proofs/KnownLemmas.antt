@@ -5,7 +5,8 @@ use Rattle.mg_base.specs.Image.{Image, page_at}
 use Rattle.mg_base.specs.declared.mem_disk.MemDisk.{MemDisk}
 use Rattle.mg_base.specs.MemDisk.{mem_meaning}
 use Rattle.mg_model.specs.declared.opening.Opening.{Opening}
-use Rattle.mg_model.specs.Legal.{MayBegin}
+use Rattle.mg_model.specs.OpeningLaws.{opening_may_begin}
+use Rattle.mg_model.specs.Openings.{IsOpening}
 use Rattle.mg_model.specs.NewDatabase.{new_opening}
 use Rattle.mg_image.specs.Form.{Pages, plain_form}
 use Rattle.mg_image.specs.Histories.{Begins}
@@ -22,7 +23,7 @@ use Rattle.mgdb.specs.Top.{KnownIsEntry}
 -- a history can begin with pages of the first form, and their KV page has slots with cells
 abbrev pub HasOpening : Pages → Type 0
 HasOpening pages = (o : Opening) × (opened : Opened) × IsOpened plain_form PAGE pages opened
-    × MayBegin o × Begins opened o × (o.limit ≡ LAST)
+    × IsOpening o × Begins opened o × (o.limit ≡ LAST)
 
 abbrev pub HasCells : Pages → Type 0
 HasCells pages = (first : Slots) × HasSlots (pages KV_ROWS.0) first
@@ -41,7 +42,7 @@ form_is_entry disk image sized held settled form (o, opened, is, opening, begins
         sized = sized;
         held = held;
         settled = settled;
-        opening = of_sound opened o is opening begins limit;
+        opening = of_sound opened o is (opening_may_begin o opening) begins limit;
         cells = record {
           of_blank = λ none. absurd (form_is_not_blank (page_at PAGE image) form.form none.header);
           of_form = λ same. slots;
