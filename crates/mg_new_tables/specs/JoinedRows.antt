@@ -1,19 +1,16 @@
 -- Rows of two catalogs that name no table both: together they are lawful, and name the tables of both.
-use Rattle.std.proofs.Common.{◌≡◌, ◌≢◌, ◌⊎◌, inl, inr, ap, sym, subst, ◌∙◌, refl, ◌+◌, ◌<◌, ℕ, zero, suc, Bool, true, false, List, [], ◌∷◌, Option, None, Some}
+use Rattle.std.proofs.Common.{◌≡◌, ◌⊎◌, inl, inr, ap, sym, subst, ◌∙◌, refl, ◌+◌, ◌<◌, ℕ, zero, suc, List, [], ◌∷◌, Option, None, Some}
 use Rattle.std.specs.Cmp.Lexicographic.{slice_cmp}
 use Rattle.std.specs.Ordering.{nat_cmp}
 use Rattle.std.specs.Prelude.{if◌then◌else◌}
 use Rattle.std.specs.declared.cmp.Ordering.{Ordering}
 use Rattle.std.specs.declared.cmp.Ordering.TheVariants.{Less, Equal, Greater}
-use Rattle.mg_value.specs.declared.shape.Column.{Column}
-use Rattle.mg_value.specs.declared.shape.Shape.{Shape}
 use Rattle.mg_value.specs.declared.value.Value.{Value}
-use Rattle.mg_catalog.specs.KeyLaws.{table_key_equal, column_key_equal}
-use Rattle.mg_catalog.specs.LawfulLaws.{column_lawful, column_row_of, index_lawful, index_row_of, table_lawful, table_row_of}
+use Rattle.mg_catalog.specs.LawfulLaws.{column_lawful, index_lawful}
 use Rattle.mg_catalog.specs.NameLaws.{After, all_after, ascend_join, ascend_split, before_of_greater, names_equal, not_before_self}
 use Rattle.mg_catalog.specs.Names.{HasName}
-use Rattle.mg_model.specs.Catalog.{CatalogRows, column_key, columns_said, count_said, index_key, is_key_row, key_said, said_b, said_c, said_name, shape_said, table_key, with_column}
-use Rattle.mg_model.specs.CatalogRules.{AreIndexes, AreTables, Ascend, EachIndex, EachTable, HasIndex, HasTableOf, IsBefore, IsCatalog, IsCatalogRow, IsColumnRow, IsIndexOf, IsIndexRow, IsKeyColumn, IsTable, IsTableRow, table_names}
+use Rattle.mg_model.specs.Catalog.{CatalogRows, column_key, columns_said, count_said, index_key, is_key_row, key_said, said_b, said_name, shape_said, table_key, with_column}
+use Rattle.mg_model.specs.CatalogRules.{AreIndexes, AreTables, Ascend, EachIndex, EachTable, HasTableOf, IsBefore, IsCatalog, IsCatalogRow, IsColumnRow, IsIndexOf, IsIndexRow, IsKeyColumn, IsTable, IsTableRow, table_names}
 use Rattle.mg_model.specs.Changes.{Cells, by_order}
 use Rattle.mg_model.specs.declared.table.Index.{Index}
 use Rattle.mg_model.specs.declared.table.Table.{Table}

@@ -8,13 +8,12 @@ use Rattle.std.specs.declared.cmp.Ordering.{Ordering}
 use Rattle.std.specs.declared.cmp.Ordering.TheVariants.{Less, Equal, Greater}
 use Rattle.mg_base.specs.declared.numbers.RecId.{RecId}
 use Rattle.mg_base.specs.declared.transaction.TxState.{TxState}
-use Rattle.mg_base.specs.declared.transaction.TxState.TheVariants.{Active, Committed, Dead, Limbo}
-use Rattle.mg_catalog.specs.TableLaws.{tables_once}
+use Rattle.mg_base.specs.declared.transaction.TxState.TheVariants.{Committed, Dead}
 use Rattle.mg_value.specs.declared.value.Value.{Value}
 use Rattle.mg_model.specs.Answers.{is_committed}
 use Rattle.mg_model.specs.Catalog.{table_key}
-use Rattle.mg_model.specs.CatalogRules.{AreTables, EachTable, IsCatalog}
-use Rattle.mg_model.specs.Changes.{Cells, by_order}
+use Rattle.mg_model.specs.CatalogRules.{AreTables, EachTable}
+use Rattle.mg_model.specs.Changes.{by_order}
 use Rattle.mg_model.specs.Legal.{is_limbo}
 use Rattle.mg_model.specs.declared.table.Table.{Table}
 use Rattle.mg_image.specs.declared.entry.Entry.{Entry}
@@ -26,7 +25,7 @@ use Rattle.mg_image.specs.RecordRules.{AreRecords, Each, EachBack, Facts, table_
 use Rattle.mg_image.specs.Records.{Cells as AllCells, Reading, key_of, shown, writer}
 use Rattle.mg_image_steps.specs.Begins.{Raises}
 use Rattle.mg_page_overlays.specs.Creating.{NamesMore}
-use Rattle.mg_new_tables.specs.JoinedRows.{IsJoined, each_of_all, join_names, with_table, with_tables}
+use Rattle.mg_new_tables.specs.JoinedRows.{each_of_all, join_names, with_table, with_tables}
 
 -- ---- rows together
 
@@ -123,7 +122,7 @@ module _ (coding : Coding) (size : ℕ) (f g : Facts) (h : AllCells) (t : ℕ) (
   backs_alike chosen [] backs = tt
   backs_alike chosen (d ∷ ds) backs = (
     alike chosen (writer d) (λ is. let both : Dead ≡ Committed = sym raised.raises.dead
-    ∙ (ap f.state (sym is) ∙ backs.0) in absurd cc),
+        ∙ (ap f.state (sym is) ∙ backs.0) in absurd cc),
     backs_alike chosen ds backs.1,
   )
 

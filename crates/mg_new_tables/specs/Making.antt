@@ -1,6 +1,5 @@
 -- Tables are made: what the statement owes of the catalog are the rows of its transaction alone.
-use Rattle.std.proofs.Common.{◌≡◌, ap, sym, subst, ◌∙◌, refl, ℕ, Bool, true, false, List, ◌∷◌, ◌++◌, Option, map}
-use Rattle.mg_base.specs.declared.numbers.RecId.{RecId}
+use Rattle.std.proofs.Common.{◌≡◌, subst, ℕ, Bool, true, false, List, Option, map}
 use Rattle.mg_base.specs.declared.transaction.TxState.{TxState}
 use Rattle.mg_base.specs.declared.transaction.TxState.TheVariants.{Active, Limbo}
 use Rattle.mg_careful.specs.CarefulWrite.{Cache, PageSet}
@@ -13,10 +12,9 @@ use Rattle.mg_model.specs.declared.table.Table.{Table}
 use Rattle.mg_image.specs.Form.{Form, Pages}
 use Rattle.mg_image.specs.Held.{AreChanges, Changes}
 use Rattle.mg_image.specs.Histories.{newest_at}
-use Rattle.mg_image.specs.RecordRules.{Facts}
 use Rattle.mg_image.specs.Records.{cells_of}
 use Rattle.mg_image.specs.Sound.{facts_by}
-use Rattle.mg_image.specs.Tables.{Layout, Stand, table_at}
+use Rattle.mg_image.specs.Tables.{Stand}
 use Rattle.mg_image_steps.specs.Begins.{Raises}
 use Rattle.mg_kept_images.specs.KeptImages.{IsKept, keeping}
 use Rattle.mg_overlays.specs.Overlays.{ChangesCache, EveryOverlay, KeepsNeeds, LaysBatch, NeedsAllDirty, laid, left_state, without}

@@ -358,6 +358,7 @@ makes_one form size state now t raises pages catalog sequences tables before aft
   where
     with_stands : List Stand → Layout
     with_stands ss = record { catalog = catalog; tables = ss; sequences = sequences }
+
 -- ---- the batch of CREATE TABLE
 
 -- What the statement knows of an image that has all its pages and in which its transaction counts as
