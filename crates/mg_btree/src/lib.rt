@@ -28,3 +28,6 @@ mod search;
 
 pub use range::range_step;
 pub use removing::remove;
+
+#[cfg(test)]
+mod tests;
