@@ -13,3 +13,5 @@ pub mod Ranges
 pub mod RangeLaws
 pub mod Scans
 pub mod ScanLaws
+pub mod SplitSteps
+pub mod SplitRows

@@ -36,7 +36,7 @@ viewed_same m old new image batch keeps = rw keeps.dirty refl
 
 -- ---- a page of a tree is an index page on its level
 
-in_node : (size : ℕ) (pages : Pages) (owner : ℕ) (levels : List (List ℕ)) (n : ℕ)
+pub in_node : (size : ℕ) (pages : Pages) (owner : ℕ) (levels : List (List ℕ)) (n : ℕ)
     → AreNodes size pages owner levels → InTree levels n
     → (below : List ℕ) × IsNode size pages owner (level_in (pages n)) below n
 in_node size pages owner [] n nodes placed = absurd placed
