@@ -42,12 +42,12 @@ range_high : (low high : Option Entry) (b : Entry) → high ≡ Some b → IfSom
 range_high None high b is range = tt
 range_high (Some x) high b is range = rw is at range
 
-ascends : (x : Entry) (es : List Entry) (z : Entry) → AreAscending (x ∷ es) → HasEntry es z → IsBelow x z
+pub ascends : (x : Entry) (es : List Entry) (z : Entry) → AreAscending (x ∷ es) → HasEntry es z → IsBelow x z
 ascends x [] z all has = absurd has
 ascends x (f ∷ fs) z all (inl same) = rw same all.0
 ascends x (f ∷ fs) z all (inr later) = entry_cmp_total.trans x f z all.0 (ascends f fs z all.1 later)
 
-tail_ascends : (x : Entry) (es : List Entry) → AreAscending (x ∷ es) → AreAscending es
+pub tail_ascends : (x : Entry) (es : List Entry) → AreAscending (x ∷ es) → AreAscending es
 tail_ascends x [] all = tt
 tail_ascends x (f ∷ fs) all = all.1
 
@@ -55,7 +55,7 @@ pub last_has : (before after : List Entry) (last : Entry) → HasEntry (before +
 last_has [] after last = inl refl
 last_has (b ∷ bs) after last = inr (last_has bs after last)
 
-before_below : (before after : List Entry) (last y : Entry) → AreAscending (before ++ last ∷ after) → HasEntry before y
+pub before_below : (before after : List Entry) (last y : Entry) → AreAscending (before ++ last ∷ after) → HasEntry before y
     → IsBelow y last
 before_below [] after last y all has = absurd has
 before_below (b ∷ bs) after last y all (inl same) = rw same (ascends b (bs ++ last ∷ after) last all (last_has bs after last))

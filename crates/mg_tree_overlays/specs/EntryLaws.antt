@@ -72,14 +72,14 @@ key_not_less : (key : List ℕ) → slice_cmp nat_cmp key [] ≢ Less
 key_not_less [] = λ less. cc
 key_not_less (k ∷ ks) = λ less. cc
 
-number_not_less : (n : ℕ) → nat_cmp n 0 ≢ Less
+pub number_not_less : (n : ℕ) → nat_cmp n 0 ≢ Less
 number_not_less n = rw (le-ltb n 0 (omega arith)) (at (n == 0))
   where
     at : (b : Bool) → (if b then Equal else Greater) ≢ Less
     at true = λ less. cc
     at false = λ less. cc
 
-then_not_less : (a b : Ordering) → a ≢ Less → b ≢ Less → ordering_then a b ≢ Less
+pub then_not_less : (a b : Ordering) → a ≢ Less → b ≢ Less → ordering_then a b ≢ Less
 then_not_less Less b first second = absurd (first refl)
 then_not_less Equal b first second = second
 then_not_less Greater b first second = λ less. cc

@@ -1,0 +1,17 @@
+pub mod Reading
+pub mod ReadingLaws
+pub mod Searching
+pub mod SearchLaws
+pub mod Ways
+pub mod WayLaws
+pub mod Roots
+pub mod RootLaws
+pub mod Changing
+pub mod ChangeLaws
+pub mod LeafLaws
+pub mod Ranges
+pub mod RangeLaws
+pub mod Scans
+pub mod ScanLaws
+pub mod SplitSteps
+pub mod SplitRows

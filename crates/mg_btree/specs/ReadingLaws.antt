@@ -1,0 +1,58 @@
+-- Laws of calls that read index pages.
+use Rattle.std.proofs.Common.{◌≡◌, ap, refl, sym, subst, ◌∙◌, ℕ, zero, suc, List, Result, Ok, Err}
+use Rattle.std.specs.Prelude.{IsErrAnd, MatchResult}
+use Rattle.mg_base.specs.Checks.{PassesAll, common_checks}
+use Rattle.mg_base.specs.Disk.{Meaning}
+use Rattle.mg_base.specs.Fields.{byte}
+use Rattle.mg_base.specs.Image.{blank}
+use Rattle.mg_node.specs.NodePage.{node_checks}
+use Rattle.mg_pool.specs.Fault.{TellsFault}
+use Rattle.mg_pool.specs.declared.pool.Pool.{Pool}
+use Rattle.mg_space.specs.View.{pool_answer}
+use Rattle.mg_space.specs.ViewLaws.{CountsNow, fault_on, keeps_on}
+use Rattle.mg_space.specs.declared.fault.SpaceFault.{SpaceFault}
+use Rattle.mg_space.specs.declared.fault.SpaceFault.TheVariants.{Full, Pool as OfPool, Damaged as OfPage}
+use Rattle.mg_btree.specs.Reading.{IsNodeOn, Reads, RefusesBytes, RefusesNode}
+use Rattle.mg_btree.specs.declared.node.ReadNode.{ReadNode}
+
+blank_byte : (size : ℕ) → byte (blank size) 0 ≡ 0
+blank_byte zero = refl
+blank_byte (suc size) = refl
+
+kind_is : (bytes : List ℕ) (n owner : ℕ) → PassesAll (node_checks bytes n owner) → byte bytes 0 ≡ 7
+unfolding common_checks
+kind_is bytes n owner passes = passes.0
+
+-- a page of zeros is no index page
+pub blank_is_none : (size owner level n : ℕ) (bytes : List ℕ) → bytes ≡ blank size
+    → IsNodeOn owner level n bytes → ⊥
+blank_is_none size owner level n bytes is node =
+    let kind : byte bytes 0 ≡ 7 = kind_is bytes n owner node.fields in
+    let none : byte bytes 0 ≡ 0 = ap (λ (b : List ℕ). byte b 0) is ∙ blank_byte size in
+    let both : 7 ≡ 0 = sym kind ∙ none in absurd cc
+
+-- where the bytes of a page were refused its node is
+pub refuses_on : (size owner level n : ℕ) (bytes : List ℕ) (fault : SpaceFault)
+    (result : Result ReadNode SpaceFault) → IsErrAnd result (λ f. f ≡ fault)
+    → RefusesBytes size bytes fault
+    → MatchResult result (λ read. read.bytes ≡ bytes) (RefusesNode owner level n bytes)
+refuses_on size owner level n bytes fault (Ok read) none is = absurd none
+refuses_on size owner level n bytes fault (Err f) same is =
+    subst (RefusesNode owner level n bytes) (sym same) (at fault is)
+  where
+    at : (fault : SpaceFault) → RefusesBytes size bytes fault → RefusesNode owner level n bytes fault
+    at (Full limit) none = none
+    at (OfPage damage) zero_ = blank_is_none size owner level n bytes zero_
+    at (OfPool f) is = tt
+
+-- two calls that have only read are one
+pub reads_on : {D L T S : Type 0} (m : Meaning D) → CountsNow m → (a b c : Pool D L)
+    (first : Result T SpaceFault) (x : T) (result : Result S SpaceFault) → first ≡ Ok x
+    → Reads m a b first → Reads m b c result → Reads m a c result
+reads_on m counts a b c first x result ok before then_ =
+    let fine = subst (λ r. TellsFault m a b (pool_answer r)) ok before.fault in
+    record {
+      keeps = keeps_on m counts a b c before.keeps then_.keeps;
+      fault = fault_on m a b c (pool_answer result) before.keeps fine.2 then_.fault;
+      own = then_.own;
+    }

@@ -1,0 +1,190 @@
+-- Laws of the steps of a scan along the leaves.
+use Rattle.std.proofs.Common.{◌≡◌, ◌≢◌, ◌∙◌, ap, refl, sym, subst, ◌+◌, ℕ, suc, List, [], Option, None, Result, Ok, Err, arith}
+use Rattle.std.specs.Prelude.{IsErrAnd}
+use Rattle.mg_base.specs.Disk.{Meaning}
+use Rattle.mg_base.specs.Fields.{u32_at}
+use Rattle.mg_base.specs.Image.{Image}
+use Rattle.mg_base.specs.declared.damage.Damaged.{Damaged}
+use Rattle.mg_base.specs.declared.fields.TheConstants.{OWNER_AT}
+use Rattle.mg_base.specs.declared.geometry.TheConstants.{GREATEST_LIMIT}
+use Rattle.mg_node.specs.declared.entry.Entry.{Entry}
+use Rattle.mg_node.specs.NodePage.{right_in}
+use Rattle.mg_image.specs.Form.{Pages}
+use Rattle.mg_image.specs.Indexes.{HasEntry, IsTree}
+use Rattle.mg_pool.specs.Batch.{Changed}
+use Rattle.mg_pool.specs.Pool.{IsPool}
+use Rattle.mg_pool.specs.declared.pool.Pool.{Pool}
+use Rattle.mg_pool.specs.declared.fault.PoolFault.TheVariants.{Memory}
+use Rattle.mg_space.specs.View.{KeepsStore, Tells, pool_answer, viewed}
+use Rattle.mg_space.specs.ViewLaws.{CountsNow, fault_on, keeps_itself, keeps_on, tells_on}
+use Rattle.mg_space.specs.declared.fault.SpaceFault.{SpaceFault}
+use Rattle.mg_space.specs.declared.fault.SpaceFault.TheVariants.{Full, Pool as OfPool, Damaged as OfPage}
+use Rattle.mg_btree.specs.declared.node.ReadNode.{ReadNode}
+use Rattle.mg_btree.specs.Reading.{IsNodeOn, IsReadNode, Reads, RefusesNode}
+use Rattle.mg_btree.specs.Searching.{IsShort}
+use Rattle.mg_btree.specs.SearchLaws.{short_ends, short_right, tree_page, tree_short, viewed_same}
+use Rattle.mg_btree.specs.Ranges.{GivesRange, IsInRange, ScansFrom, no_pages}
+use Rattle.mg_btree.specs.RangeLaws.{goes_right, owner_of_leaf, right_is_node}
+use Rattle.mg_btree.specs.Scans.{IsScanning}
+
+pub scan_starts : {D L : Type 0} (m : Meaning D) (store : Pool D L) (batch : Changed)
+    (first : ReadNode) (low : List ℕ) (bound : Option Entry) → IsPool m store → store.offline ≡ None
+    → IsScanning m store store batch first first low bound 0
+scan_starts m store batch first low bound pool online = record {
+  keeps = keeps_itself m store pool;
+  faults = refl;
+  online = online;
+  scans = λ image owner root levels tells scan. scan;
+  short = λ image owner root levels left tells scan all.
+      let same : left ≡ GREATEST_LIMIT = omega (arith, all) in
+      subst (IsShort (viewed store image batch) first.page.0) (sym same)
+      (tree_short store.geometry.size (viewed store image batch) owner root levels first.page.0 scan.tree
+      scan.placed);
+}
+
+module _ {D L : Type 0} (m : Meaning D) (counts : CountsNow m) (old a : Pool D L) (batch : Changed)
+    (first read : ReadNode) (low : List ℕ) (bound : Option Entry) (count : ℕ)
+    (online : old.offline ≡ None) (scanning : IsScanning m old a batch first read low bound count)
+  where
+    -- no fault was met so far
+    pub scan_fine : {T : Type 0} (x : T) → Reads m old a (Ok x)
+    scan_fine x = record {
+      keeps = scanning.keeps;
+      fault = (online, scanning.online, scanning.faults);
+      own = tt;
+    }
+
+    pub scan_damaged : {T : Type 0} (damage : Damaged) → Reads {T = T} m old a (Err (OfPage damage))
+    scan_damaged damage = record {
+      keeps = scanning.keeps;
+      fault = (online, scanning.online, scanning.faults);
+      own = tt;
+    }
+
+    pub scan_memory : {T : Type 0} (result : Result T SpaceFault)
+        → IsErrAnd result (λ fault. fault ≡ OfPool Memory) → Reads m old a result
+    scan_memory (Ok x) none = absurd none
+    scan_memory (Err fault) same = rw same (record {
+      keeps = scanning.keeps;
+      fault = (online, scanning.online, scanning.faults);
+      own = tt;
+    })
+
+    pub scan_reads : {T : Type 0} (b : Pool D L) (result : Result T SpaceFault) → Reads m a b result
+        → Reads m old b result
+    scan_reads b result reads = record {
+      keeps = keeps_on m counts old a b scanning.keeps reads.keeps;
+      fault = fault_on m old a b (pool_answer result) scanning.keeps scanning.faults reads.fault;
+      own = reads.own;
+    }
+
+    pub scan_refused : (owner_ : ℕ) (fault : SpaceFault) (result : Result (Option Entry) SpaceFault)
+        → IsErrAnd result (λ f. f ≡ fault) → owner_ ≡ u32_at first.bytes OWNER_AT
+        → read.node.right.0 ≢ 0
+        → ((image : Image) → Tells m a.disk image
+        → RefusesNode owner_ 0 read.node.right.0 (viewed a image batch read.node.right.0) fault)
+        → (image : Image) (owner root : ℕ) (levels : List (List ℕ)) → Tells m old.disk image
+        → ScansFrom old.geometry.size (viewed old image batch) owner root levels low bound first
+        → GivesRange (viewed old image batch) root low bound result
+    scan_refused owner_ fault (Ok found) none owner_is some refuses image owner root levels tells scan =
+        absurd none
+    scan_refused owner_ fault (Err f) same owner_is some refuses image owner root levels tells scan =
+        subst (λ (x : SpaceFault). GivesRange (viewed old image batch) root low bound (Err x)) (sym same)
+        (by fault (subst (λ (pages : Pages). RefusesNode owner_ 0 read.node.right.0 (pages read.node.right.0) fault)
+        (viewed_same m old a image batch scanning.keeps) (refuses image (tells_on m old a image scanning.keeps tells))))
+      where
+        node : IsNodeOn owner_ 0 read.node.right.0 (viewed old image batch read.node.right.0)
+        node = subst (λ (k : ℕ). IsNodeOn k 0 read.node.right.0 (viewed old image batch read.node.right.0))
+            (sym (owner_is ∙ owner_of_leaf old.geometry.size (viewed old image batch) owner root levels low bound first scan))
+            (right_is_node old.geometry.size (viewed old image batch) owner root levels low bound read
+            (scanning.scans image owner root levels tells scan) some)
+
+        by : (fault : SpaceFault)
+            → RefusesNode owner_ 0 read.node.right.0 (viewed old image batch read.node.right.0) fault
+            → GivesRange (viewed old image batch) root low bound (Err fault)
+        by (Full limit) none = none
+        by (OfPage damage) refuted = refuted node
+        by (OfPool f) is = tt
+
+    pub scan_next : (b : Pool D L) (next : ReadNode) (owner_ : ℕ) → Reads m a b (Ok next)
+        → ((f : Entry) → HasEntry read.node.entries.items f → IsInRange low bound f → ⊥)
+        → read.node.right.0 ≢ 0 → IsReadNode old.geometry.size owner_ 0 read.node.right.0 next
+        → ((image : Image) → Tells m a.disk image → next.bytes ≡ viewed a image batch read.node.right.0)
+        → IsScanning m old b batch first next low bound (count + 1)
+    scan_next b next owner_ reads none some is seen =
+        let whole = scan_reads b (Ok next) reads in
+        record {
+          keeps = whole.keeps;
+          faults = whole.fault.2;
+          online = whole.fault.1;
+          scans = λ image owner root levels tells scan. on image owner root levels tells scan;
+          short = λ image owner root levels left tells scan all.
+              let there = scanning.scans image owner root levels tells scan in
+              subst (λ (n : ℕ). IsShort (viewed old image batch) n left)
+              (sym (is.number ∙ (there.says.right ∙ ap right_in there.bytes)))
+              (short_right (viewed old image batch) read.page.0 left
+              (tree_page old.geometry.size (viewed old image batch) owner root levels read.page.0 there.tree
+              there.placed)
+              (scanning.short image owner root levels (suc left) tells scan (omega (arith, all))));
+        }
+      where
+        on : (image : Image) (owner root : ℕ) (levels : List (List ℕ)) → Tells m old.disk image
+            → ScansFrom old.geometry.size (viewed old image batch) owner root levels low bound first
+            → ScansFrom old.geometry.size (viewed old image batch) owner root levels low bound next
+        on image owner root levels tells scan =
+            goes_right old.geometry.size (viewed old image batch) owner root levels low bound read
+            (scanning.scans image owner root levels tells scan) next none some is.number
+            (seen image (tells_on m old a image scanning.keeps tells)
+            ∙ (ap (λ (pages : Pages). pages read.node.right.0) (viewed_same m old a image batch scanning.keeps)
+            ∙ ap (viewed old image batch) (sym is.number))) is.says
+
+    pub scan_ends : count ≡ GREATEST_LIMIT → (image : Image) (owner root : ℕ) (levels : List (List ℕ))
+        → Tells m old.disk image
+        → ScansFrom old.geometry.size (viewed old image batch) owner root levels low bound first → ⊥
+    scan_ends all image owner root levels tells scan =
+        let there = scanning.scans image owner root levels tells scan in
+        tree_page old.geometry.size (viewed old image batch) owner root levels read.page.0 there.tree
+        there.placed (short_ends (viewed old image batch) read.page.0
+        (scanning.short image owner root levels 0 tells scan (omega (arith, all))))
+
+-- the same fault of two kinds of calls
+err_as : {D L A B : Type 0} (m : Meaning D) (old new : Pool D L) (fault : SpaceFault)
+    → Reads {T = A} m old new (Err fault) → Reads {T = B} m old new (Err fault)
+err_as m old new (Full limit) reads =
+    record { keeps = reads.keeps; fault = reads.fault; own = reads.own }
+err_as m old new (OfPage damage) reads =
+    record { keeps = reads.keeps; fault = reads.fault; own = reads.own }
+err_as m old new (OfPool fault) reads =
+    record { keeps = reads.keeps; fault = reads.fault; own = reads.own }
+
+pub reads_err : {D L B : Type 0} (A : Type 0) (m : Meaning D) (old new : Pool D L) (fault : SpaceFault)
+    (result : Result B SpaceFault) → IsErrAnd result (λ f. f ≡ fault)
+    → Reads {T = A} m old new (Err fault) → Reads m old new result
+reads_err A m old new fault (Ok x) none reads = absurd none
+reads_err A m old new fault (Err f) same reads = rw same (err_as m old new fault reads)
+
+-- a range is scanned from the leaf at which it begins
+pub range_gives : {D L : Type 0} (m : Meaning D) (old a : Pool D L) (batch : Changed) (page : ℕ)
+    (low : List ℕ) (bound : Option Entry) (start : ReadNode) (result : Result (Option Entry) SpaceFault)
+    → KeepsStore m old a → batch.pages ≡ []
+    → ((image : Image) (owner : ℕ) (levels : List (List ℕ)) → Tells m old.disk image
+    → IsTree old.geometry.size (viewed old image batch) owner page levels
+    → ScansFrom old.geometry.size (viewed old image batch) owner page levels low bound start)
+    → ((image : Image) (owner root : ℕ) (levels : List (List ℕ)) → Tells m a.disk image
+    → ScansFrom a.geometry.size (viewed a image batch) owner root levels low bound start
+    → GivesRange (viewed a image batch) root low bound result)
+    → (image : Image) (owner : ℕ) (levels : List (List ℕ)) → Tells m old.disk image
+    → IsTree old.geometry.size (viewed old image no_pages) owner page levels
+    → GivesRange (viewed old image no_pages) page low bound result
+range_gives m old a batch page low bound start result keeps empty starts gives image owner levels tells tree =
+    subst (λ (pages : Pages). GivesRange pages page low bound result)
+    (viewed_same m old a image batch keeps ∙ plain)
+    (gives image owner page levels (tells_on m old a image keeps tells)
+    (subst (λ (pages : Pages). ScansFrom a.geometry.size pages owner page levels low bound start)
+    (sym (viewed_same m old a image batch keeps))
+    (subst (λ (size : ℕ). ScansFrom size (viewed old image batch) owner page levels low bound start)
+    (sym (ap (λ g. g.size) keeps.geometry)) (starts image owner levels tells
+    (subst (λ (pages : Pages). IsTree old.geometry.size pages owner page levels) (sym plain) tree)))))
+  where
+    plain : viewed old image batch ≡ viewed old image no_pages
+    plain = rw empty refl

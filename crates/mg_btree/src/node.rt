@@ -1,0 +1,106 @@
+//! An index page that a tree is asked for: read, tested, and on the level where it is wanted.
+
+ghost use Rattle.std.specs.Prelude.{◌≡◌, ◌≤◌, ◌↔◌, IfOk, IsOk, MatchResult, length};
+ghost use Rattle.mg_base.specs.Checks.{PassesAll};
+ghost use Rattle.mg_base.specs.Image.{Image};
+ghost use Rattle.mg_node.specs.NodePage.{IsNodePage, level_in, node_checks};
+ghost use Rattle.mg_node.specs.NodeTests.{HasEnough};
+ghost use Rattle.mg_pool.specs.Pool.{IsPool};
+ghost use Rattle.mg_space.specs.Taking.{IsGeometry};
+ghost use Rattle.mg_space.specs.View.{AreWhole, Tells, viewed};
+ghost use Rattle.mg_btree.specs.Reading.{IsReadNode, Reads, RefusesBytes, RefusesNode};
+
+use mg_base::{Bytes, Damaged, Disk, Field, PageNo, check_field};
+use mg_node::{Node, check_node, level_of, read_node};
+use mg_pool::Batch;
+use mg_space::{Found, SpaceFault, Store, find_page};
+
+/// An index page that was read.
+#[derive(Debug, Drop)]
+pub(crate) struct ReadNode {
+    pub page: PageNo,
+    pub bytes: Bytes,
+    /// What the bytes say.
+    pub node: Node,
+}
+
+/// The bytes of a page as one sees them who fills a batch.
+///
+/// # Errors
+///
+/// `Damaged` at `Presence` where the page is not there; else the cache's.
+pub(crate) fn bytes_of<D: Disk>(
+    store: &mut Store<D>,
+    batch: &Batch,
+    page: PageNo,
+) -> Result<Bytes, SpaceFault>
+    requires pool { IsPool D.meaning store.old }
+    requires whole { AreWhole store.old.geometry.size batch.now.pages }
+
+    ensures reads { Reads D.meaning store.old store.new result }
+    ensures len { IfOk result (λ b. length b ≡ store.old.geometry.size) }
+    ensures seen { (image : Image) → Tells D.meaning store.old.disk image → MatchResult result
+        (λ b. b ≡ viewed store.old image batch.now page.0)
+        (RefusesBytes store.old.geometry.size (viewed store.old image batch.now page.0)) }
+{
+    match find_page(store, batch, page)? {
+        Found::Page(bytes) => Ok(bytes),
+        Found::Absent { pages } => Err(SpaceFault::Damaged(absence(page, pages))),
+    }
+}
+
+/// Names a page that is not there, by the number of pages that are.
+fn absence(page: PageNo, pages: u32) -> Damaged {
+    Damaged {
+        page,
+        field: Field::Presence,
+        found: u64::from(pages),
+        wanted: u64::from(page.0) + 1,
+    }
+}
+
+/// Tests whether `b` is an index page with this number and owner, on this level.
+///
+/// # Errors
+///
+/// `Damaged` at the first field that differs, the level last.
+fn check_on(b: &[u8], page: PageNo, owner: u32, level: u16) -> Result<(), Damaged>
+    requires least { 1024 ≤ length b.now }
+    requires most { length b.now ≤ 16384 }
+    ensures { IsOk result ↔ (PassesAll (node_checks b.now page.0 owner) × IsNodePage b.now
+        × HasEnough b.now × (level_in b.now ≡ level)) }
+{
+    check_node(b, page, owner)?;
+    check_field(page, Field::Level, u32::from(level_of(b)), u32::from(level))
+}
+
+/// Reads an index page of an owner on a level.
+///
+/// # Errors
+///
+/// `Damaged` exactly where the page is none; else the cache's.
+pub(crate) fn node_on<D: Disk>(
+    store: &mut Store<D>,
+    batch: &Batch,
+    owner: u32,
+    page: PageNo,
+    level: u16,
+) -> Result<ReadNode, SpaceFault>
+    requires pool { IsPool D.meaning store.old }
+    requires geometry { IsGeometry store.old.geometry }
+    requires whole { AreWhole store.old.geometry.size batch.now.pages }
+
+    ensures reads { Reads D.meaning store.old store.new result }
+    ensures read { IfOk result (IsReadNode store.old.geometry.size owner level page.0) }
+    ensures seen { (image : Image) → Tells D.meaning store.old.disk image → MatchResult result
+        (λ read. read.bytes ≡ viewed store.old image batch.now page.0)
+        (RefusesNode owner level page.0
+        (viewed store.old image batch.now page.0)) }
+{
+    let bytes = bytes_of(store, batch, page)?;
+    check_on(bytes.as_slice(), page, owner, level)?;
+    let Some(node) = read_node(store.alloc(), bytes.as_slice())? else {
+        unreachable!()
+    };
+    Ok(ReadNode { page, bytes, node })
+}

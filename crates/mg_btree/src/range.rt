@@ -1,0 +1,207 @@
+//! The next entry of a range.
+
+ghost use Rattle.std.specs.Prelude.{◌≡◌, ◌↔◌, IfOk, IfSome, IsTrue, List, None, ℕ};
+ghost use Rattle.std.specs.Ordering.{nat_cmp};
+ghost use Rattle.std.specs.Cmp.Lexicographic.{slice_cmp};
+ghost use Rattle.std.specs.declared.cmp.Ordering.TheVariants.{Less as Below};
+ghost use Rattle.std.specs.Option.{option_copied};
+ghost use Rattle.mg_base.specs.Image.{Image};
+ghost use Rattle.mg_image.specs.Indexes.{IsTree};
+ghost use Rattle.mg_node.specs.NodePage.{IsBelow};
+ghost use Rattle.mg_pool.specs.Pool.{IsPool};
+ghost use Rattle.mg_space.specs.Taking.{IsGeometry};
+ghost use Rattle.mg_space.specs.View.{AreWhole, Tells, viewed};
+ghost use Rattle.mg_btree.specs.Changing.{IsLeaf};
+ghost use Rattle.mg_btree.specs.Reading.{Reads};
+ghost use Rattle.mg_btree.specs.Ranges.{GivesRange, IsFirstInRange, IsInRange, ScansFrom, StartsRange, least_with as least_with_of, no_pages};
+
+use crate::node::{ReadNode, node_on};
+use crate::search::{circle, leaf_for};
+use mg_base::{Bytes, Disk, GREATEST_LIMIT, Memory, OWNER_AT, PageNo, RecId, get_u32};
+use mg_node::{Entry, is_below};
+use mg_pool::Batch;
+use mg_space::{SpaceFault, Store};
+use std::alloc::Global;
+use std::cmp::Ordering;
+
+/// Whether an entry's key lies below `low`.
+fn is_before(e: &Entry, low: &[u8]) -> bool
+    ensures { IsTrue result ↔ (slice_cmp nat_cmp e.now.key low.now ≡ Below) }
+{
+    e.key.as_slice().cmp(low) == Ordering::Less
+}
+
+/// Whether an entry comes behind another, where there is one.
+fn is_behind(e: &Entry, after: Option<&Entry>) -> bool
+    ensures { IsTrue result ↔ IfSome (option_copied after.entry) (λ a. IsBelow a e.now) }
+{
+    match after {
+        None => true,
+        Some(bound) => is_below(bound, e),
+    }
+}
+
+/// Whether an entry's key is at or above `low`, and the entry above `after`.
+fn is_in_range(e: &Entry, low: &[u8], after: Option<&Entry>) -> bool
+    ensures { IsTrue result ↔ IsInRange low.now (option_copied after.entry) e.now }
+{
+    if is_before(e, low) {
+        return false;
+    }
+    is_behind(e, after)
+}
+
+/// A copy of an entry.
+///
+/// # Errors
+///
+/// `Memory` only.
+fn copy_of(alloc: Global, e: &Entry) -> Result<Entry, Memory>
+    ensures { IfOk result (λ copy. copy ≡ e.now) }
+{
+    Ok(Entry {
+        key: e.key.copy(alloc)?,
+        rec: e.rec,
+        child: e.child,
+    })
+}
+
+/// The first of these entries that lies in a range.
+///
+/// # Errors
+///
+/// `Memory` only.
+fn first_in(
+    alloc: Global,
+    entries: &[Entry],
+    low: &[u8],
+    after: Option<&Entry>,
+) -> Result<Option<Entry>, Memory>
+    ensures { IfOk result (IsFirstInRange low.now (option_copied after.entry) entries.now) }
+{
+    let mut rest = entries;
+    while let Some((next, later)) = rest.split_first() {
+        if is_in_range(next, low, after) {
+            return Ok(Some(copy_of(alloc, next)?));
+        }
+        rest = later;
+    }
+    Ok(None)
+}
+
+/// The least entry with a key.
+///
+/// # Errors
+///
+/// `Memory` only.
+fn least_with(alloc: Global, key: &[u8]) -> Result<Entry, Memory>
+    ensures { IfOk result (λ e. e ≡ least_with_of key.now) }
+{
+    Ok(Entry {
+        key: Bytes::new(Vec::from_slice(alloc, key)?),
+        rec: RecId {
+            page: PageNo(0),
+            slot: 0,
+        },
+        child: PageNo(0),
+    })
+}
+
+/// Reads the leaf at which a range begins.
+///
+/// # Errors
+///
+/// `Damaged` only where no tree stands there; else the cache's.
+fn first_leaf<D: Disk>(
+    store: &mut Store<D>,
+    batch: &Batch,
+    root: PageNo,
+    low: &[u8],
+    after: Option<&Entry>,
+) -> Result<ReadNode, SpaceFault>
+    requires pool { IsPool D.meaning store.old }
+    requires geometry { IsGeometry store.old.geometry }
+    requires whole { AreWhole store.old.geometry.size batch.now.pages }
+
+    ensures reads { Reads D.meaning store.old store.new result }
+    ensures leaf { IfOk result (IsLeaf store.old.geometry.size) }
+    ensures starts { (image : Image) (owner : ℕ) (levels : List (List ℕ))
+        → Tells D.meaning store.old.disk image
+        → IsTree store.old.geometry.size (viewed store.old image batch.now) owner root.0 levels
+        → StartsRange store.old.geometry.size (viewed store.old image batch.now) owner root.0 levels
+        low.now (option_copied after.entry) result }
+{
+    store.online()?;
+    match after {
+        None => {
+            let start = least_with(store.alloc(), low)?;
+            leaf_for(store, batch, root, &start)
+        }
+        Some(bound) => leaf_for(store, batch, root, bound),
+    }
+}
+
+/// The first entry of a range from a leaf on.
+///
+/// # Errors
+///
+/// `Damaged` only where no tree stands there; else the cache's.
+fn next_from<D: Disk>(
+    store: &mut Store<D>,
+    batch: &Batch,
+    start: ReadNode,
+    low: &[u8],
+    after: Option<&Entry>,
+) -> Result<Option<Entry>, SpaceFault>
+    requires pool { IsPool D.meaning store.old }
+    requires geometry { IsGeometry store.old.geometry }
+    requires whole { AreWhole store.old.geometry.size batch.now.pages }
+    requires leaf { IsLeaf store.old.geometry.size start }
+    requires online { store.old.offline ≡ None }
+
+    ensures reads { Reads D.meaning store.old store.new result }
+    ensures gives { (image : Image) (owner root : ℕ) (levels : List (List ℕ))
+        → Tells D.meaning store.old.disk image
+        → ScansFrom store.old.geometry.size (viewed store.old image batch.now) owner root levels
+        low.now (option_copied after.entry) start
+        → GivesRange (viewed store.old image batch.now) root low.now (option_copied after.entry) result }
+{
+    let owner = get_u32(start.bytes.as_slice(), OWNER_AT);
+    let mut read = start;
+    for _ in 0..GREATEST_LIMIT {
+        if let Some(e) = first_in(store.alloc(), &read.node.entries, low, after)? {
+            return Ok(Some(e));
+        }
+        if read.node.right.0 == 0 {
+            return Ok(None);
+        }
+        read = node_on(store, batch, owner, read.node.right, 0)?;
+    }
+    Err(SpaceFault::Damaged(circle(read.page)))
+}
+
+/// The least entry of a tree whose key is at or above `low` and that comes behind `after`; `None`
+/// exactly where there is none. Nothing is changed.
+///
+/// # Errors
+///
+/// `Damaged` only where no tree stands there; `Pool` with `DiskRead`, `Offline` or `Memory`.
+pub fn range_step<D: Disk>(
+    store: &mut Store<D>,
+    root: PageNo,
+    low: &[u8],
+    after: Option<&Entry>,
+) -> Result<Option<Entry>, SpaceFault>
+    requires pool { IsPool D.meaning store.old }
+    requires geometry { IsGeometry store.old.geometry }
+
+    ensures reads { Reads D.meaning store.old store.new result }
+    ensures gives { (image : Image) (owner : ℕ) (levels : List (List ℕ))
+        → Tells D.meaning store.old.disk image
+        → IsTree store.old.geometry.size (viewed store.old image no_pages) owner root.0 levels
+        → GivesRange (viewed store.old image no_pages) root.0 low.now (option_copied after.entry) result }
+{
+    let batch = Batch::new(store.alloc());
+    let start = first_leaf(store, &batch, root, low, after)?;
+    next_from(store, &batch, start, low, after)
+}

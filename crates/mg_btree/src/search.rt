@@ -1,0 +1,173 @@
+//! The search for the page of a level between whose fences an entry lies.
+
+ghost use Rattle.std.specs.Prelude.{◌≡◌, ◌≤◌, ◌↔◌, ◌∷◌, [], IfOk, IfSome, IsOk, List, length, ℕ};
+ghost use Rattle.mg_base.specs.Image.{Image};
+ghost use Rattle.mg_image.specs.Indexes.{IsTree};
+ghost use Rattle.mg_node.specs.NodePage.{IsAtLeast};
+ghost use Rattle.mg_pool.specs.Pool.{IsPool};
+ghost use Rattle.mg_space.specs.Taking.{IsGeometry};
+ghost use Rattle.mg_space.specs.View.{AreWhole, Tells, viewed};
+ghost use Rattle.mg_btree.specs.Changing.{IsLeaf, ReadsLeaf};
+ghost use Rattle.mg_btree.specs.Reading.{Reads};
+ghost use Rattle.mg_btree.specs.Searching.{BeginsAt, ComesTo, IsReached, IsShort, child_to};
+
+use crate::node::{ReadNode, node_on};
+use crate::root::root_of;
+use mg_base::{Damaged, Disk, Field, GREATEST_LIMIT, PageNo};
+use mg_node::{Entry, is_below, is_up_to, order};
+use mg_pool::Batch;
+use mg_space::{SpaceFault, Store};
+use std::cmp::Ordering;
+
+/// Tests that an entry does not come before the low fence of a page.
+fn check_from(low: &Option<Entry>, page: PageNo, e: &Entry) -> Result<(), Damaged>
+    ensures { IsOk result ↔ IfSome low.now (λ fence. IsAtLeast e.now fence) }
+{
+    match low {
+        None => Ok(()),
+        Some(fence) => {
+            if is_below(e, fence) {
+                Err(Damaged {
+                    page,
+                    field: Field::Fence,
+                    found: 1,
+                    wanted: 0,
+                })
+            } else {
+                Ok(())
+            }
+        }
+    }
+}
+
+/// The child to go down by, after one entry more: that of the entry where it does not come behind
+/// the one that is looked for.
+fn child_after(child: u32, e: &Entry, next: &Entry) -> u32
+    ensures { result ≡ child_to e.now child (next.now ∷ []) }
+{
+    match order(e, next) {
+        Ordering::Less => child,
+        Ordering::Equal => next.child.0,
+        Ordering::Greater => next.child.0,
+    }
+}
+
+/// The child of the last of these entries that does not come behind the one that is looked for.
+fn child_for(entries: &[Entry], e: &Entry) -> u32
+    ensures { result ≡ child_to e.now 0 entries.now }
+{
+    let mut child = 0;
+    let mut rest = entries;
+    while let Some((next, later)) = rest.split_first() {
+        child = child_after(child, e, next);
+        rest = later;
+    }
+    child
+}
+
+/// Goes to the right on a level, from a page to the one whose high fence an entry lies below.
+///
+/// # Errors
+///
+/// `Damaged` only where the page is in no tree; else the cache's.
+fn land<D: Disk>(
+    store: &mut Store<D>,
+    batch: &Batch,
+    owner: u32,
+    page: PageNo,
+    level: u16,
+    e: &Entry,
+) -> Result<ReadNode, SpaceFault>
+    requires pool { IsPool D.meaning store.old }
+    requires geometry { IsGeometry store.old.geometry }
+    requires whole { AreWhole store.old.geometry.size batch.now.pages }
+
+    ensures reads { Reads D.meaning store.old store.new result }
+    ensures reached { IfOk result (IsReached store.old.geometry.size owner level e.now) }
+    ensures comes { (image : Image) (root : ℕ) (levels : List (List ℕ))
+        → Tells D.meaning store.old.disk image
+        → BeginsAt store.old.geometry.size (viewed store.old image batch.now) owner root levels e.now
+        level page.0 → ComesTo (viewed store.old image batch.now) levels result }
+{
+    let mut at = page;
+    for _ in 0..GREATEST_LIMIT {
+        let read = node_on(store, batch, owner, at, level)?;
+        check_from(&read.node.low, at, e)?;
+        if is_up_to(&read.node.high, e) {
+            return Ok(read);
+        }
+        at = read.node.right;
+    }
+    Err(SpaceFault::Damaged(circle(at)))
+}
+
+/// Names the right neighbour that comes back: more pages follow than there are.
+pub(crate) fn circle(page: PageNo) -> Damaged {
+    Damaged {
+        page,
+        field: Field::Link,
+        found: u64::from(page.0),
+        wanted: 0,
+    }
+}
+
+/// Goes down from a page of a level to the page of a lower one between whose fences an entry lies.
+///
+/// # Errors
+///
+/// `Damaged` only where the page is in no tree; else the cache's.
+fn descend<D: Disk>(
+    store: &mut Store<D>,
+    batch: &Batch,
+    owner: u32,
+    page: PageNo,
+    from: u16,
+    level: u16,
+    e: &Entry,
+) -> Result<ReadNode, SpaceFault>
+    requires pool { IsPool D.meaning store.old }
+    requires geometry { IsGeometry store.old.geometry }
+    requires whole { AreWhole store.old.geometry.size batch.now.pages }
+    requires lower { level ≤ from }
+
+    ensures reads { Reads D.meaning store.old store.new result }
+    ensures reached { IfOk result (IsReached store.old.geometry.size owner level e.now) }
+    ensures comes { (image : Image) (root : ℕ) (levels : List (List ℕ))
+        → Tells D.meaning store.old.disk image
+        → BeginsAt store.old.geometry.size (viewed store.old image batch.now) owner root levels e.now
+        from page.0 → ComesTo (viewed store.old image batch.now) levels result }
+{
+    let read = land(store, batch, owner, page, from, e)?;
+    if from == level {
+        return Ok(read);
+    }
+    let child = child_for(&read.node.entries, e);
+    descend(store, batch, owner, PageNo(child), from - 1, level, e)
+}
+
+/// Reads the leaf of a tree between whose fences an entry lies.
+///
+/// # Errors
+///
+/// `Damaged` only where no tree stands there; else the cache's.
+pub(crate) fn leaf_for<D: Disk>(
+    store: &mut Store<D>,
+    batch: &Batch,
+    root: PageNo,
+    e: &Entry,
+) -> Result<ReadNode, SpaceFault>
+    requires pool { IsPool D.meaning store.old }
+    requires geometry { IsGeometry store.old.geometry }
+    requires whole { AreWhole store.old.geometry.size batch.now.pages }
+
+    ensures reads { Reads D.meaning store.old store.new result }
+    ensures leaf { IfOk result (IsLeaf store.old.geometry.size) }
+    ensures seen { (image : Image) (owner : ℕ) (levels : List (List ℕ))
+        → Tells D.meaning store.old.disk image
+        → IsTree store.old.geometry.size (viewed store.old image batch.now) owner root.0 levels
+        → ReadsLeaf store.old.geometry.size (viewed store.old image batch.now) owner levels e.now
+        result }
+{
+    let top = root_of(store, batch, root)?;
+    descend(store, batch, top.owner, root, top.level, 0, e)
+}

@@ -1,0 +1,159 @@
+//! What no clause says: that calls succeed with ample memory, on a tree of three pages, byte by byte.
+
+ghost use Rattle.std.specs.Prelude.{◌≡◌, ◌≤◌, ◌+◌, Some, None, IfOk, length};
+ghost use Rattle.mg_pool.specs.Pool.{IsPool};
+ghost use Rattle.mg_space.specs.Taking.{IsGeometry};
+ghost use Rattle.mg_space.specs.View.{AreWhole};
+
+use super::*;
+use mg_base::{Bytes, Damaged, Disk, Field, Geometry, MemDisk, Memory, PageNo, RecId, new_common};
+use mg_node::{Entry, NODE_KIND};
+use mg_pool::{Batch, Pool};
+use mg_space::{SpaceFault, Store};
+use std::alloc::Global;
+use std::test::Fail;
+
+/// The root, page 5 on level 1: the children 6 from the least entry on, and 7 from the key `m` on.
+const ROOT: &[u8] = &[
+    1, 0, 2, 0, 0, 0, 0, 0, 53, 0, 0, 0, 0, 0, 0, 0, 0, 0, 0, 0, 6, 0, 0, 0, 1, 0, 109, 0, 0, 0, 0,
+    0, 0, 7, 0, 0, 0,
+];
+/// The leaf 6, below the key `m`, left of page 7: the keys `a` and `c`, of the records 9, 0 and 9, 1.
+const LEFT: &[u8] = &[
+    0, 0, 2, 0, 7, 0, 0, 0, 55, 0, 2, 0, 1, 0, 109, 0, 0, 0, 0, 0, 0, 1, 0, 97, 9, 0, 0, 0, 0, 0,
+    1, 0, 99, 9, 0, 0, 0, 1, 0,
+];
+/// The leaf 7, from the key `m` on: the key `x`, of the record 9, 2.
+const RIGHT: &[u8] = &[
+    0, 0, 1, 0, 0, 0, 0, 0, 46, 0, 1, 0, 1, 0, 109, 0, 0, 0, 0, 0, 0, 1, 0, 120, 9, 0, 0, 0, 2, 0,
+];
+
+/// Writes an index page of the table 4 with these bytes behind its common part.
+fn write_node(disk: &mut MemDisk, page: PageNo, content: &[u8]) -> Result<(), Fail>
+    requires size { ⟦<MemDisk as Disk>⟧.meaning.size disk.old ≡ Some 1024 }
+    requires content { length content.now ≤ 1000 }
+    ensures size { ⟦<MemDisk as Disk>⟧.meaning.size disk.new ≡ Some 1024 }
+{
+    let mut bytes = [0; 1024];
+    new_common(&mut bytes, page, NODE_KIND, 4, 0);
+    bytes[16..16 + content.len()].copy_from_slice(content);
+    match disk.write(page, &bytes) {
+        Ok(()) => Ok(()),
+        Err(_) => Err(Fail::from(Memory)),
+    }
+}
+
+/// A store over the tree of three pages, whose root has these bytes.
+fn store_with(alloc: Global, root: &[u8]) -> Result<Store<MemDisk>, Fail>
+    requires root { length root.now ≤ 1000 }
+    ensures pool { IfOk result (λ store. IsPool ⟦<MemDisk as Disk>⟧.meaning store) }
+    ensures geometry { IfOk result (λ store. IsGeometry store.geometry) }
+    ensures size { IfOk result (λ store. store.geometry.size ≡ 1024) }
+{
+    let mut disk = MemDisk::new(alloc, 1024, 8, 8)?;
+    write_node(&mut disk, PageNo(5), root)?;
+    write_node(&mut disk, PageNo(6), LEFT)?;
+    write_node(&mut disk, PageNo(7), RIGHT)?;
+    let geometry = Geometry {
+        size: 1024,
+        limit: 16,
+    };
+    match Pool::new(alloc, disk, geometry) {
+        Ok(store) => Ok(store),
+        Err(_) => Err(Fail::from(Memory)),
+    }
+}
+
+/// The entry of a key of one byte and a slot of page 9.
+fn entry_of(alloc: Global, key: u8, slot: u16) -> Result<Entry, Fail> {
+    Ok(Entry {
+        key: Bytes::new(vec![in alloc; key; 1]?),
+        rec: RecId {
+            page: PageNo(9),
+            slot,
+        },
+        child: PageNo(0),
+    })
+}
+
+/// The next entry of a range by its slot, 99 where there is none.
+fn next_slot(
+    store: &mut Store<MemDisk>,
+    low: &[u8],
+    after: Option<&Entry>,
+) -> Result<u16, SpaceFault>
+    requires pool { IsPool ⟦<MemDisk as Disk>⟧.meaning store.old }
+    requires geometry { IsGeometry store.old.geometry }
+    ensures pool { IsPool ⟦<MemDisk as Disk>⟧.meaning store.new }
+    ensures geometry { store.new.geometry ≡ store.old.geometry }
+{
+    match range_step(store, PageNo(5), low, after)? {
+        Some(e) => Ok(e.rec.slot),
+        None => Ok(99),
+    }
+}
+
+#[test]
+fn a_range_goes_along_the_leaves(rt: HostRuntime) -> Result<(), Fail> {
+    let alloc = rt.alloc();
+    let mut store = store_with(alloc, ROOT)?;
+    assert_eq!(rt; next_slot(&mut store, b"", None), Ok(0));
+    assert_eq!(rt; next_slot(&mut store, b"b", None), Ok(1));
+    assert_eq!(rt; next_slot(&mut store, b"d", None), Ok(2));
+    assert_eq!(rt; next_slot(&mut store, b"y", None), Ok(99));
+    let last = entry_of(alloc, 99, 1)?;
+    assert_eq!(rt; next_slot(&mut store, b"b", Some(&last)), Ok(2));
+    Ok(())
+}
+
+#[test]
+fn a_child_that_comes_back_is_refused(rt: HostRuntime) -> Result<(), Fail> {
+    let alloc = rt.alloc();
+    let circle: &[u8] = &[
+        1, 0, 2, 0, 0, 0, 0, 0, 53, 0, 0, 0, 0, 0, 0, 0, 0, 0, 0, 0, 5, 0, 0, 0, 1, 0, 109, 0, 0,
+        0, 0, 0, 0, 7, 0, 0, 0,
+    ];
+    let mut store = store_with(alloc, circle)?;
+    assert_eq!(rt;
+        next_slot(&mut store, b"", None),
+        Err(SpaceFault::Damaged(Damaged {
+            page: PageNo(5),
+            field: Field::Level,
+            found: 1,
+            wanted: 0,
+        }))
+    );
+    Ok(())
+}
+
+/// Takes an entry out, and keeps what the next call needs.
+fn take(store: &mut Store<MemDisk>, batch: &mut Batch, e: &Entry) -> Result<bool, SpaceFault>
+    requires pool { IsPool ⟦<MemDisk as Disk>⟧.meaning store.old }
+    requires geometry { IsGeometry store.old.geometry }
+    requires whole { AreWhole store.old.geometry.size batch.old.pages }
+    ensures pool { IsPool ⟦<MemDisk as Disk>⟧.meaning store.new }
+    ensures geometry { store.new.geometry ≡ store.old.geometry }
+    ensures whole { AreWhole store.old.geometry.size batch.new.pages }
+{
+    remove(store, batch, PageNo(5), e)
+}
+
+/// A batch without pages.
+fn no_batch(alloc: Global) -> Batch
+    ensures { AreWhole 1024 result.pages }
+{
+    Batch::new(alloc)
+}
+
+#[test]
+fn an_entry_is_taken_out_once(rt: HostRuntime) -> Result<(), Fail> {
+    let alloc = rt.alloc();
+    let mut store = store_with(alloc, ROOT)?;
+    let mut batch = no_batch(alloc);
+    let entry = entry_of(alloc, 120, 2)?;
+    let other = entry_of(alloc, 120, 3)?;
+    assert_eq!(rt; take(&mut store, &mut batch, &other), Ok(false));
+    assert_eq!(rt; take(&mut store, &mut batch, &entry), Ok(true));
+    assert_eq!(rt; take(&mut store, &mut batch, &entry), Ok(false));
+    Ok(())
+}
