@@ -1,1 +1,2 @@
 pub mod ChangingLemmas
+pub mod ReadingLemmas
