@@ -1,3 +1,4 @@
 mod Reading
 mod Steps
 mod Views
+mod Bases

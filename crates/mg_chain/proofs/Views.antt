@@ -1,10 +1,10 @@
 -- What a transaction sees of a record, and the machine's view.
-use Rattle.std.specs.Prelude.{◌≡◌, ◌⊎◌, ℕ, ◌==◌, ◌||◌, ◌&&◌, Bool, true, false, List, [], ◌∷◌, Option, Some, None, cond, refl}
-use Rattle.std.proofs.Common.{sym, ◌∙◌, ap, inl, inr}
-use Rattle.std.proofs.lemmas.Bool.{false≢true, both_ways, cases_eq, ne_eqb}
+use Rattle.std.specs.Prelude.{◌≡◌, ℕ, ◌==◌, ◌||◌, Bool, true, false, List, [], ◌∷◌, Option, Some, None, cond, refl}
+use Rattle.std.proofs.Common.{sym, ◌∙◌, ap}
+use Rattle.std.proofs.lemmas.Bool.{false≢true, both_ways, ne_eqb}
 use Rattle.mg_base.specs.declared.transaction.TxState.{TxState}
 use Rattle.mg_base.specs.declared.transaction.TxState.TheVariants.{Active, Limbo, Dead, Committed}
-use Rattle.mg_generations.specs.Generations.{Generation, generation, shown_by, sees as sees_told}
+use Rattle.mg_generations.specs.Generations.{generation, shown_by, sees as sees_told}
 use Rattle.mg_generations.specs.Laws.{VersionsShowViews}
 use Rattle.mg_image.specs.Records.{shown, writer}
 use Rattle.mg_image.specs.declared.entry.Entry.{Entry}
@@ -13,8 +13,7 @@ use Rattle.mg_model.specs.Changes.{Cells}
 use Rattle.mg_model.specs.History.{Entries}
 use Rattle.mg_model.specs.Machine.{state_of}
 use Rattle.mg_model.specs.declared.opening.Opening.{Opening}
-use Rattle.mg_snap.specs.Live.{State, sees}
-use Rattle.mg_version.specs.declared.cell.Version.{Version}
+use Rattle.mg_snap.specs.Live.{State}
 use Rattle.mg_chain.specs.Chains.{first_taken, takes_version}
 use Rattle.mg_chain.specs.Views.{is_dead, row_given, generations_in, first_entry, BaseIsTold, SeesItsView, FoundIsShown}
 
@@ -41,8 +40,8 @@ module _ (o : Opening) (h : Entries) (live : State) (t : ℕ) (open_ : is_open (
   dead_not_taken : (u : ℕ) → is_dead (state_of o h u) ≡ true → takes u ≡ false
   dead_not_taken u dead =
       let other : (u == t) ≡ false = ne_eqb u t (λ same. both_ways (is_open (state_of o h u))
-          (not_open (state_of o h u) dead)
-          (ap (λ n. is_open (state_of o h n)) same ∙ open_)) in
+      (not_open (state_of o h u) dead)
+      (ap (λ n. is_open (state_of o h n)) same ∙ open_)) in
       let none : is_committed (state_of o h u) ≡ false = no_dead (state_of o h u) dead in
       rw other (rw none refl)
 

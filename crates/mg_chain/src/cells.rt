@@ -1,6 +1,6 @@
 //! Cells by their places, and versions by their links.
 
-ghost use Rattle.std.specs.Prelude.{◌≡◌, ◌≤◌, Some, IfErr, IfOk, MatchResult, length};
+ghost use Rattle.std.specs.Prelude.{◌≡◌, ◌≤◌, ◌<◌, Some, IfErr, IfOk, MatchResult, length};
 ghost use Rattle.mg_base.specs.Image.{Image};
 ghost use Rattle.mg_base.specs.declared.damage.Field.TheVariants.{Target};
 ghost use Rattle.mg_heap.specs.Reading.{ReadsData};
@@ -112,6 +112,7 @@ pub(crate) fn version_at<D: Disk>(
     ensures keeps { KeepsStore D.meaning store.old store.new }
     ensures fault { TellsFault D.meaning store.old store.new (pool_answer result) }
     ensures own { ReadsData result }
+    ensures below { IfOk result (λ version. link.rec.page.0 < store.old.geometry.limit) }
     ensures gives { (image : Image) → Tells D.meaning store.old.disk image → MatchResult result
         (Meets (cells_of (viewed store.old image batch.now)) link)
         (RefusesVersion D.meaning store.new batch.now.pages store.old.geometry.limit

@@ -1,6 +1,7 @@
 //! What is found of a chain of versions, in every reading of an image, and what the history machine says
 //! of it. Each function does nothing: its contract is a law.
 
+ghost use Rattle.mg_chain.specs.Bases.{LiveBegins, LiveFollows};
 ghost use Rattle.mg_chain.specs.Chains.{FindsOfReadings};
 ghost use Rattle.mg_chain.specs.Views.{FoundIsShown, SeesItsView};
 
@@ -20,3 +21,10 @@ pub fn a_transaction_sees_its_view()
 {
     versions_show();
 }
+
+/// A table of the transactions that have not ended, which follows the effects of a history, tells of
+/// each active transaction which of the committed ones were so when it took its base.
+pub fn bases_follow_the_machine()
+    ensures begins { LiveBegins }
+    ensures follows { LiveFollows }
+{}

@@ -19,7 +19,9 @@ mod laws;
 mod states;
 mod walk;
 
-pub use laws::{a_transaction_sees_its_view, versions_are_those_of_every_reading};
+pub use laws::{
+    a_transaction_sees_its_view, bases_follow_the_machine, versions_are_those_of_every_reading,
+};
 pub use states::States;
 pub use walk::{newest, visible};
 
