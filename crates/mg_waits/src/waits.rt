@@ -40,11 +40,12 @@ impl Waits {
     ///
     /// # Errors
     ///
-    /// `Memory` only. Then nothing has changed.
+    /// `Memory` only, and only where the transaction waited for nobody. Then nothing has changed.
     pub fn note(&mut self, t: TxNo, on: TxNo) -> Result<(), Memory>
         ensures ok { OnOk result
             (NowWaits (edges_in self.old) (edges_in self.new) t.0 (Some on.0)) }
         ensures err { OnErr result (self.new ≡ self.old) }
+        ensures absent { OnErr result (edges_in self.old t.0 ≡ None) }
     {
         self.on.insert(t.0, on.0)?;
         Ok(())
