@@ -1,1 +1,3 @@
 pub mod ChangingLemmas
+pub mod TableLemmas
+pub mod WalkLemmas

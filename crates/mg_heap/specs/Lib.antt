@@ -1,3 +1,7 @@
 pub mod Changing
 pub mod ChangingLaws
+pub mod Growth
 pub mod Reading
+pub mod Table
+pub mod TableLaws
+pub mod Walk

@@ -2,7 +2,11 @@
 #![tactic(auto)]
 
 mod changing;
+mod growth;
 mod reading;
+mod table;
+mod walk;
 
 pub use changing::{free, least_slot, place};
 pub use reading::cell;
+pub use walk::next;
