@@ -1,3 +1,5 @@
 pub mod ChangingLemmas
 pub mod TableLemmas
 pub mod WalkLemmas
+pub mod GrowthLemmas
+pub mod RoomLemmas

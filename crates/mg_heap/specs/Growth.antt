@@ -1,15 +1,19 @@
 -- A table gets a data page: what a batch has more, step by step.
 use Rattle.std.specs.Prelude.{◌≡◌, ◌<◌, ◌≤◌, ◌⊎◌, ◌+◌, ℕ, List, [], ◌∷◌, ◌++◌, length}
+use Rattle.mg_base.specs.Disk.{Meaning}
 use Rattle.mg_base.specs.Image.{Image}
 use Rattle.mg_base.specs.declared.geometry.Geometry.{Geometry}
+use Rattle.mg_base.specs.declared.numbers.PageNo.{PageNo}
 use Rattle.mg_careful.specs.declared.graph.Order.{Order}
 use Rattle.mg_image.specs.Inventory.{inventory_page}
 use Rattle.mg_pointer.specs.PointerPage.{AddsEntry, SetsNext, capacity, entries_of, new_pointer_page}
 use Rattle.mg_pool.specs.Batch.{Changed, PutsPage}
 use Rattle.mg_pool.specs.declared.pool.Pool.{Pool}
 use Rattle.mg_slots.specs.DataPage.{IsNewPage}
-use Rattle.mg_space.specs.Taking.{TakesPage, region_of}
+use Rattle.mg_space.specs.Taking.{RefusesTake, TakesPage, region_of}
 use Rattle.mg_space.specs.View.{viewed}
+use Rattle.mg_space.specs.declared.fault.SpaceFault.{SpaceFault}
+use Rattle.mg_heap.specs.Table.{RefusesPointerPage}
 
 -- a page is to be written before another
 abbrev pub before : ℕ → ℕ → Order
@@ -79,3 +83,38 @@ GrowsTable g store image old new owner place at q pointer n bytes =
     (HasEntryRoom pointer × ListsInLast g store image old new owner place q n pointer bytes)
     ⊎ ((HasEntryRoom pointer → ⊥)
     × ((p : ℕ) × ListsInNew g store image old new owner place (at + 1) q p n pointer bytes))
+
+-- Two pages have been taken, one after the other.
+pub record TakesTwo {D L : Type 0} (g : Geometry) (store : Pool D L) (image : Image)
+    (old new : Changed) (first second : ℕ) : Type 0 where
+  pub with_bit : Changed
+  pub takes_first : TakesPage g (viewed store image old) (viewed store image with_bit) first
+  pub takes_second : TakesPage g (viewed store image with_bit) (viewed store image new) second
+
+-- One page has been taken, and no second one is.
+pub record RefusesSecond {D L : Type 0} (g : Geometry) (store : Pool D L) (image : Image)
+    (old : Changed) (fault : SpaceFault) : Type 0 where
+  pub with_bit : Changed
+  pub first : ℕ
+  pub takes_first : TakesPage g (viewed store image old) (viewed store image with_bit) first
+  pub refused : RefusesTake g (viewed store image with_bit) fault
+
+-- why two pages are not taken
+abbrev pub RefusesTwo : {D L : Type 0} → Geometry → Pool D L → Image → Changed → SpaceFault → Type 0
+RefusesTwo g store image old fault =
+    RefusesTake g (viewed store image old) fault ⊎ RefusesSecond g store image old fault
+
+-- a page of the batch is made a pointer page with one entry
+pub record MakesPointer (size : ℕ) (old new : Changed) (owner at p n : ℕ) : Type 0 where
+  pub page : List ℕ
+  pub adds : AddsEntry (new_pointer_page size p owner at) page n
+  pub puts : PutsPage old new p page
+
+-- why a table gets no page, but for faults of the cache: its last pointer page is not as wanted at its
+-- place, or the page, or the two, that are needed are not taken
+abbrev pub RefusesGrowth : {D L : Type 0} → Meaning D → Pool D L → Pool D L → Image → Changed → ℕ → ℕ
+    → PageNo → SpaceFault → Type 0
+RefusesGrowth m old new image batch owner at q fault =
+    RefusesPointerPage m new batch.pages (viewed old image batch q.0) owner at q fault
+    ⊎ (RefusesTake old.geometry (viewed old image batch) fault
+    ⊎ RefusesTwo old.geometry old image batch fault)

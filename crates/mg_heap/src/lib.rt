@@ -4,6 +4,7 @@
 mod changing;
 mod growth;
 mod reading;
+mod room;
 mod table;
 mod walk;
 
