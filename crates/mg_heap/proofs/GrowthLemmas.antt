@@ -147,10 +147,13 @@ module _ {D L : Type 0} (m : Meaning D) (a b : Pool D L) (image : Image) (kept :
   grows_in_new store old new owner place at behind q page slice pointer (Ok it) same is full seen lists =
       inr (
         (λ room. full (subst HasEntryRoom (sym seen) room)),
-        (lists.0, subst (λ (k : ℕ). ListsInNew a.geometry a image old new owner place k q lists.0
-            it.page.0 (viewed a image old q) it.bytes.items) is
-            (new_on old new owner place behind q lists.0 it.page.0 slice (viewed a image old q)
-            it.bytes.items (same ∙ seen) lists.1)),
+        (
+          lists.0,
+          subst (λ (k : ℕ). ListsInNew a.geometry a image old new owner place k q lists.0
+              it.page.0 (viewed a image old q) it.bytes.items) is
+              (new_on old new owner place behind q lists.0 it.page.0 slice (viewed a image old q)
+              it.bytes.items (same ∙ seen) lists.1),
+        ),
       )
   grows_in_new store old new owner place at behind q page slice pointer (Err fault) same is full seen refused =
       inr (inr (two_on old fault refused))

@@ -106,8 +106,11 @@ pub none_behind : {D L : Type 0} (m : Meaning D) (store : Pool D L) (batch : Lis
     → MatchResult result (GivesBehind pages owner (Some x.page)) (RefusesWalk m store batch pages owner)
     → MatchResult result (GivesNext pages owner (Some x)) (RefusesNext m store batch pages owner (Some x))
 none_behind m store batch pages owner from x read slice (Ok found) seen same is none next =
-    λ ps ds table. inr (subst (λ (b : List ℕ). HasNoRecord b (x.slot + 1)) (same ∙ seen)
-    (subst (λ (k : ℕ). HasNoRecord slice k) is none), next ps ds table)
+    λ ps ds table. inr (
+      subst (λ (b : List ℕ). HasNoRecord b (x.slot + 1)) (same ∙ seen)
+          (subst (λ (k : ℕ). HasNoRecord slice k) is none),
+      next ps ds table,
+    )
 none_behind m store batch pages owner from x read slice (Err fault) seen same is none refused =
     inr refused
 

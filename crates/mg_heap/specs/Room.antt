@@ -12,8 +12,8 @@ use Rattle.mg_slots.specs.Room.{room_of}
 use Rattle.mg_space.specs.View.{viewed}
 use Rattle.mg_space.specs.declared.fault.SpaceFault.{SpaceFault}
 use Rattle.mg_heap.specs.Growth.{GrowsTable, RefusesGrowth}
-use Rattle.mg_heap.specs.Table.{IsTable}
-use Rattle.mg_heap.specs.Walk.{RefusesWalk, RefusesWalkOf}
+use Rattle.mg_heap.specs.Table.{IsTable, RefusesTable}
+use Rattle.mg_heap.specs.Walk.{RefusesWalkOf}
 use Rattle.mg_heap.specs.declared.growth.DataPage.{DataPage}
 
 -- the page that was found is a data page with room for so many bytes
@@ -24,7 +24,8 @@ pub record HasRoomFor (need : ℕ) (it : DataPage) : Type 0 where
 -- one page was looked at: it has room, or it has not
 abbrev pub LooksAt : Pages → ℕ → ℕ → Option DataPage → Type 0
 LooksAt pages n need None = room_of (pages n) < need
-LooksAt pages n need (Some it) = (it.page.0 ≡ n) × (it.bytes.items ≡ pages n)
+LooksAt pages n need (Some it) =
+    (it.page.0 ≡ n) × (it.bytes.items ≡ pages n) × (need ≤ room_of (pages n))
 
 -- the place that is looked at after so many others: the last one first, then the others in their order
 abbrev pub looked_at : ℕ → ℕ → ℕ
@@ -37,6 +38,7 @@ pub record IsFirstWithRoom (pages : Pages) (data_pages : List ℕ) (need : ℕ) 
   pub inside : after < length data_pages
   pub page_is : it.page.0 ≡ slice_index data_pages (looked_at after (length data_pages))
   pub bytes_are : it.bytes.items ≡ pages it.page.0
+  pub room : need ≤ room_of (pages it.page.0)
   pub earlier : (k : ℕ) → k < after
       → room_of (pages (slice_index data_pages (looked_at k (length data_pages)))) < need
 
@@ -49,3 +51,48 @@ NoneHasRoom pages data_pages need =
 abbrev pub FindsRoom : Pages → List ℕ → ℕ → Option DataPage → Type 0
 FindsRoom pages data_pages need None = NoneHasRoom pages data_pages need
 FindsRoom pages data_pages need (Some it) = IsFirstWithRoom pages data_pages need it
+
+-- A page with room was found and the batch is as before, or no data page has room, and the table has
+-- got one more, behind its last pointer page.
+abbrev pub FindsOrGrows : {D L : Type 0} → Pool D L → Image → Changed → Changed → ℕ → List ℕ → List ℕ → ℕ
+    → DataPage → Type 0
+FindsOrGrows store image old new owner pointers data_pages need it =
+    ((new ≡ old) × IsFirstWithRoom (viewed store image old) data_pages need it)
+    ⊎ (NoneHasRoom (viewed store image old) data_pages need
+    × GrowsTable store.geometry store image old new owner (length data_pages) (length pointers - 1)
+    (slice_index pointers (length pointers - 1))
+    (viewed store image old (slice_index pointers (length pointers - 1))) it.page.0 it.bytes.items)
+
+-- the same, in the table that begins with a pointer page
+pub record GivesRoom {D L : Type 0} (store : Pool D L) (image : Image) (old new : Changed)
+    (owner need : ℕ) (n : PageNo) : Type 0 where
+  pub pointers : List ℕ
+  pub data_pages : List ℕ
+  pub table : IsTable (viewed store image old) owner pointers data_pages
+  pub it : DataPage
+  pub page_is : it.page ≡ n
+  pub found : FindsOrGrows store image old new owner pointers data_pages need it
+
+-- why no page with room is found, but for faults of the cache: one of the data pages is not as wanted,
+-- or the table does not grow
+abbrev pub RefusesRoomIn : {D L : Type 0} → Meaning D → Pool D L → Pool D L → Image → Changed → ℕ
+    → List ℕ → List ℕ → SpaceFault → Type 0
+RefusesRoomIn m old new image batch owner pointers data_pages fault =
+    RefusesWalkOf m new batch.pages (viewed old image batch) owner data_pages fault
+    ⊎ RefusesGrowth m old new image batch owner (length pointers - 1)
+    (record { 0 = slice_index pointers (length pointers - 1) }) fault
+
+-- The pages of a table are found, and in it no page with room, nor a new one.
+pub record RefusesRoomOf {D L : Type 0} (m : Meaning D) (old new : Pool D L) (image : Image)
+    (batch : Changed) (owner : ℕ) (fault : SpaceFault) : Type 0 where
+  pub pointers : List ℕ
+  pub data_pages : List ℕ
+  pub table : IsTable (viewed old image batch) owner pointers data_pages
+  pub refused : RefusesRoomIn m old new image batch owner pointers data_pages fault
+
+-- why no page with room is given
+abbrev pub RefusesRoom : {D L : Type 0} → Meaning D → Pool D L → Pool D L → Image → Changed → ℕ
+    → SpaceFault → Type 0
+RefusesRoom m old new image batch owner fault =
+    RefusesTable m new batch.pages (viewed old image batch) owner fault
+    ⊎ RefusesRoomOf m old new image batch owner fault

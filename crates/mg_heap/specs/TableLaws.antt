@@ -31,9 +31,11 @@ each_push P at [] n each here = (subst (λ (k : ℕ). P k n) (nothing at) here, 
   where
     nothing : (at : ℕ) → at + 0 ≡ at
     nothing at = omega arith
-each_push P at (m ∷ ms) n each here =
-    (each.0, each_push P (suc at) ms n each.1
-    (subst (λ (k : ℕ). P k n) (further at (length ms)) here))
+each_push P at (m ∷ ms) n each here = (
+  each.0,
+  each_push P (suc at) ms n each.1
+      (subst (λ (k : ℕ). P k n) (further at (length ms)) here),
+)
   where
     further : (at k : ℕ) → at + suc k ≡ suc at + k
     further at k = omega arith

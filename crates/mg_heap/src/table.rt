@@ -45,6 +45,8 @@ pub(crate) fn table_pages<D: Disk>(
     ensures fault { TellsFault D.meaning store.old store.new (pool_answer result) }
     ensures own { ReadsData result }
     ensures few { IfOk result (λ table. length table.data_pages.items < 2 ^ 32) }
+    ensures short { IfOk result (λ table. length table.pointers.items < 2 ^ 31) }
+    ensures some { owner.0 ≢ 0 → IfOk result (λ table. 0 < length table.pointers.items) }
     ensures finds { (image : Image) → Tells D.meaning store.old.disk image → MatchResult result
         (λ table. IsTable (viewed store.old image batch.now) owner.0 table.pointers.items
         table.data_pages.items)

@@ -8,7 +8,7 @@ pub returns-in_err-order_to-clause-whole : goal.returns-in_err-order_to-clause-w
 returns-in_err-order_to-clause-whole g c =
     let size = c.args.store.now.geometry.size in
     let adds = on_true c.add_entry.result (c.add_entry.ensures.room.1 c.requires.room)
-        c.add_entry.ensures.added in
+    c.add_entry.ensures.added in
     whole_same size c.put.new.self c.order_to.new.batch
     (whole_on size c.make_data.new.batch c.put.new.self c.args.q.0 c.add_entry.new.b
     (whole_made size c.take_page.new.batch c.make_data.new.batch c.args.owner.0 c.args.place
@@ -24,7 +24,7 @@ pub returns-clause-whole : goal.returns-clause-whole
 returns-clause-whole g c =
     let size = c.args.store.now.geometry.size in
     let adds = on_true c.add_entry.result (c.add_entry.ensures.room.1 c.requires.room)
-        c.add_entry.ensures.added in
+    c.add_entry.ensures.added in
     whole_same size c.put.new.self c.order_to.new.batch
     (whole_on size c.make_data.new.batch c.put.new.self c.args.q.0 c.add_entry.new.b
     (whole_made size c.take_page.new.batch c.make_data.new.batch c.args.owner.0 c.args.place

@@ -60,33 +60,35 @@ returns-clause-lists g c = λ image tells.
     let begins = pointer_as c.take_two.new.store.geometry c.args.store.now.geometry c.make_data.new.batch
     c.make_pointer.new.batch c.args.owner.0 c.args.at.pointer c.in_ok-taken.taken.first.0
     c.in_ok-taken.taken.second.0 c.in_ok-taken.ensures.keeps.geometry
-    c.in_ok-make_pointer.ensures.made in
-    (c.in_ok-taken.taken.first.0, record {
-      with_bit = two.with_bit;
-      taken = c.take_two.new.batch;
-      made = c.make_data.new.batch;
-      begun = c.make_pointer.new.batch;
-      linked = c.put.new.self;
-      takes_pointer = two.takes_first;
-      takes = two.takes_second;
-      makes = makes_as c.take_two.new.store.geometry c.args.store.now.geometry c.take_two.new.batch
-          c.make_data.new.batch c.args.owner.0 c.args.at.data c.in_ok-taken.taken.second.0
-          c.in_ok-bytes.bytes.items c.in_ok-taken.ensures.keeps.geometry c.in_ok-bytes.ensures.made;
-      page = begins.page;
-      adds = begins.adds;
-      puts = begins.puts;
-      link = c.set_next.new.b;
-      links = c.set_next.ensures;
-      puts_link = c.in_ok-put.ensures.puts;
-      orders = orders_on c.put.new.self c.order_to.new.batch c.order_to-2.new.batch
-          (orders_to c.args.store.now.geometry.size c.in_ok-taken.taken.second.0
-          c.in_ok-taken.taken.first.0)
-          (orders_to c.args.store.now.geometry.size c.in_ok-taken.taken.first.0 c.args.q.0)
-          (orders_as c.geometry.result c.args.store.now.geometry c.put.new.self c.order_to.new.batch
-          c.in_ok-taken.taken.second.0 c.in_ok-taken.taken.first.0
-          (c.geometry.ensures ∙ c.in_ok-taken.ensures.keeps.geometry) c.in_ok-order_to.ensures.adds)
-          (orders_as c.geometry-2.result c.args.store.now.geometry c.order_to.new.batch
-          c.order_to-2.new.batch c.in_ok-taken.taken.first.0 c.args.q.0
-          (c.geometry-2.ensures ∙ c.in_ok-taken.ensures.keeps.geometry)
-          c.in_ok-order_to-2.ensures.adds);
-    })
+    c.in_ok-make_pointer.ensures.made in (
+      c.in_ok-taken.taken.first.0,
+      record {
+        with_bit = two.with_bit;
+        taken = c.take_two.new.batch;
+        made = c.make_data.new.batch;
+        begun = c.make_pointer.new.batch;
+        linked = c.put.new.self;
+        takes_pointer = two.takes_first;
+        takes = two.takes_second;
+        makes = makes_as c.take_two.new.store.geometry c.args.store.now.geometry c.take_two.new.batch
+            c.make_data.new.batch c.args.owner.0 c.args.at.data c.in_ok-taken.taken.second.0
+            c.in_ok-bytes.bytes.items c.in_ok-taken.ensures.keeps.geometry c.in_ok-bytes.ensures.made;
+        page = begins.page;
+        adds = begins.adds;
+        puts = begins.puts;
+        link = c.set_next.new.b;
+        links = c.set_next.ensures;
+        puts_link = c.in_ok-put.ensures.puts;
+        orders = orders_on c.put.new.self c.order_to.new.batch c.order_to-2.new.batch
+            (orders_to c.args.store.now.geometry.size c.in_ok-taken.taken.second.0
+            c.in_ok-taken.taken.first.0)
+            (orders_to c.args.store.now.geometry.size c.in_ok-taken.taken.first.0 c.args.q.0)
+            (orders_as c.geometry.result c.args.store.now.geometry c.put.new.self c.order_to.new.batch
+            c.in_ok-taken.taken.second.0 c.in_ok-taken.taken.first.0
+            (c.geometry.ensures ∙ c.in_ok-taken.ensures.keeps.geometry) c.in_ok-order_to.ensures.adds)
+            (orders_as c.geometry-2.result c.args.store.now.geometry c.order_to.new.batch
+            c.order_to-2.new.batch c.in_ok-taken.taken.first.0 c.args.q.0
+            (c.geometry-2.ensures ∙ c.in_ok-taken.ensures.keeps.geometry)
+            c.in_ok-order_to-2.ensures.adds);
+      },
+    )

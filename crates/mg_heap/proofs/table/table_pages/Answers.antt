@@ -16,6 +16,7 @@ loop-n-init g c = record {
   once = subst IsOnce (sym c.new-pointers.ensures.items) tt;
   small = λ m is. absurd (subst (λ (ns : List ℕ). Has ns m) c.new-pointers.ensures.items is);
   below = c.requires.owner;
+  some = λ other. absurd (other refl);
   few = omega (arith, ap (length {A = ℕ}) c.new-data_pages.ensures.items);
   new_one = λ some is. subst (λ (ns : List ℕ). Has ns c.args.owner.0) c.new-pointers.ensures.items is;
   leads = λ image tells. subst (λ (ns : List ℕ). LeadsTo (viewed c.args.store.now image c.args.batch.now)
@@ -51,8 +52,12 @@ loop-n-smaller g c =
     let short : length c.loop-n.pointers.items < GREATEST_LIMIT =
     few c.loop-n.pointers.items c.loop-n.n.0 GREATEST_LIMIT c.loop-n.invariant.once
     c.loop-n.invariant.small c.loop-n.invariant.new_one c.loop-n-test.true c.loop-n.invariant.below in
-    omega (arith, short, ap length c.in_ok-n.ensures.lists.listed,
-    length-append c.loop-n.pointers.items (c.loop-n.n.0 ∷ []))
+    omega (
+      arith,
+      short,
+      ap length c.in_ok-n.ensures.lists.listed,
+      length-append c.loop-n.pointers.items (c.loop-n.n.0 ∷ []),
+    )
 
 pub loop-n-preserved : goal.loop-n-preserved
 loop-n-preserved g c = record {
@@ -65,9 +70,18 @@ loop-n-preserved g c = record {
   small = still_small c.loop-n.pointers.items c.follow.new.pointers.items c.loop-n.n.0
       GREATEST_LIMIT c.loop-n.invariant.small c.loop-n.invariant.below c.in_ok-n.ensures.lists.listed;
   below = c.in_ok-n.ensures.lists.below;
-  few = omega (arith, c.in_ok-n.ensures.few, c.loop-n.invariant.few,
-      ap (length {A = ℕ}) c.in_ok-n.ensures.lists.listed,
-      length-append c.loop-n.pointers.items (c.loop-n.n.0 ∷ []));
+  some = λ other. omega (
+    arith,
+    ap (length {A = ℕ}) c.in_ok-n.ensures.lists.listed,
+    length-append c.loop-n.pointers.items (c.loop-n.n.0 ∷ []),
+  );
+  few = omega (
+    arith,
+    c.in_ok-n.ensures.few,
+    c.loop-n.invariant.few,
+    ap (length {A = ℕ}) c.in_ok-n.ensures.lists.listed,
+    length-append c.loop-n.pointers.items (c.loop-n.n.0 ∷ []),
+  );
   new_one = c.in_ok-n.ensures.lists.new_one;
   leads = λ image tells. leads_further (viewed c.args.store.now image c.args.batch.now)
       c.args.owner.0 c.loop-n.pointers.items c.follow.new.pointers.items c.loop-n.n.0
@@ -98,3 +112,13 @@ returns-clause-few g c =
     once_short c.loop-n.pointers.items GREATEST_LIMIT c.loop-n.invariant.once
     c.loop-n.invariant.small in
     omega (arith, short, c.loop-n.invariant.few)
+
+pub returns-clause-short : goal.returns-clause-short
+returns-clause-short g c =
+    let short : length c.loop-n.pointers.items ≤ GREATEST_LIMIT =
+    once_short c.loop-n.pointers.items GREATEST_LIMIT c.loop-n.invariant.once
+    c.loop-n.invariant.small in
+    omega (arith, short)
+
+pub returns-clause-some : goal.returns-clause-some
+returns-clause-some g c = λ first. c.loop-n.invariant.some (λ same. first (sym same ∙ c.loop-n-test.false))

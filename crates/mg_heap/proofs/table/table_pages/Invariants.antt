@@ -13,6 +13,7 @@ invariant-loop-n g l = record {
   once : IsOnce l.pointers.items;
   small : (m : ℕ) → Has l.pointers.items m → m < GREATEST_LIMIT;
   below : l.n.0 < GREATEST_LIMIT;
+  some : l.n.0 ≢ l.owner.0 → 0 < length l.pointers.items;
   few : length l.data_pages.items ≤ 4090 * length l.pointers.items;
   new_one : l.n.0 ≢ 0 → Has l.pointers.items l.n.0 → ⊥;
   leads : (image : Image) → Tells g.D.Disk.meaning l.initial.store.disk image
