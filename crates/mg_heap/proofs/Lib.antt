@@ -3,3 +3,4 @@ pub mod TableLemmas
 pub mod WalkLemmas
 pub mod GrowthLemmas
 pub mod RoomLemmas
+pub mod AddingLemmas

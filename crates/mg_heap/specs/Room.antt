@@ -4,14 +4,17 @@ use Rattle.std.specs.Prelude.{◌≡◌, ◌<◌, ◌≤◌, ◌⊎◌, ◌+◌,
 use Rattle.mg_base.specs.Disk.{Meaning}
 use Rattle.mg_base.specs.Image.{Image}
 use Rattle.mg_base.specs.declared.numbers.PageNo.{PageNo}
+use Rattle.mg_base.specs.declared.numbers.RecId.{RecId}
 use Rattle.mg_image.specs.Form.{Pages}
 use Rattle.mg_pool.specs.Batch.{Changed}
 use Rattle.mg_pool.specs.declared.pool.Pool.{Pool}
 use Rattle.mg_slots.specs.DataPage.{IsDataPage}
-use Rattle.mg_slots.specs.Room.{room_of}
+use Rattle.mg_slots.specs.Room.{least_free, need_of, room_of}
 use Rattle.mg_space.specs.View.{viewed}
 use Rattle.mg_space.specs.declared.fault.SpaceFault.{SpaceFault}
+use Rattle.mg_heap.specs.Changing.{PutsCellAt}
 use Rattle.mg_heap.specs.Growth.{GrowsTable, RefusesGrowth}
+use Rattle.mg_heap.specs.Reading.{IsSomeData, RefusesData}
 use Rattle.mg_heap.specs.Table.{IsTable, RefusesTable}
 use Rattle.mg_heap.specs.Walk.{RefusesWalkOf}
 use Rattle.mg_heap.specs.declared.growth.DataPage.{DataPage}
@@ -96,3 +99,38 @@ abbrev pub RefusesRoom : {D L : Type 0} → Meaning D → Pool D L → Pool D L 
 RefusesRoom m old new image batch owner fault =
     RefusesTable m new batch.pages (viewed old image batch) owner fault
     ⊎ RefusesRoomOf m old new image batch owner fault
+
+-- The cell stands in the least free slot of a page.
+pub record PutsIn (old new : Pages) (page : PageNo) (cell : List ℕ) (at : RecId) : Type 0 where
+  pub page_is : at.page ≡ page
+  pub least : at.slot ≡ least_free (old at.page.0)
+  pub puts : PutsCellAt old new at cell
+
+-- A cell is added: a page with room was given, between whose giving and the end the batch is `given`,
+-- and the cell was put into its least free slot.
+pub record AddsCell {D L : Type 0} (store : Pool D L) (image : Image) (old new : Changed) (owner : ℕ)
+    (cell : List ℕ) (at : RecId) : Type 0 where
+  pub given : Changed
+  pub gives : GivesRoom store image old given owner (need_of cell) at.page
+  pub puts : PutsIn (viewed store image given) (viewed store image new) at.page cell at
+
+-- why a cell is not put into the least free slot of a page, but for faults of the cache: it is no data
+-- page, or the cell has no room there
+abbrev pub RefusesPutIn : {D L : Type 0} → Meaning D → Pool D L → Changed → List ℕ → PageNo → List ℕ
+    → SpaceFault → Type 0
+RefusesPutIn m store batch b page cell fault = RefusesData m store batch.pages page b fault
+    ⊎ (IsSomeData page b × (room_of b < need_of cell))
+
+-- a page was given, and the cell was not put there: it is no data page, or has no room
+pub record RefusesPut {D L : Type 0} (m : Meaning D) (old new : Pool D L) (image : Image)
+    (batch : Changed) (owner : ℕ) (cell : List ℕ) (fault : SpaceFault) : Type 0 where
+  pub given : Changed
+  pub page : PageNo
+  pub gives : GivesRoom old image batch given owner (need_of cell) page
+  pub refused : RefusesPutIn m new given (viewed old image given page.0) page cell fault
+
+-- why a cell is not added
+abbrev pub RefusesAdd : {D L : Type 0} → Meaning D → Pool D L → Pool D L → Image → Changed → ℕ → List ℕ
+    → SpaceFault → Type 0
+RefusesAdd m old new image batch owner cell fault =
+    RefusesRoom m old new image batch owner fault ⊎ RefusesPut m old new image batch owner cell fault

@@ -22,6 +22,7 @@
 //! Not here: what a cell says, and when a batch is changed.
 #![tactic(auto)]
 
+mod adding;
 mod changing;
 mod growth;
 mod reading;
@@ -29,6 +30,7 @@ mod room;
 mod table;
 mod walk;
 
+pub use adding::add;
 pub use changing::{free, least_slot, place};
 pub use reading::cell;
 pub use room::page_with_room;

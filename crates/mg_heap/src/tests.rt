@@ -1,6 +1,6 @@
 //! What no clause says: that calls succeed with ample memory, and worked rows of a small table.
 
-ghost use Rattle.std.specs.Prelude.{◌≡◌, ◌<◌, ◌≤◌, ◌^◌, Some, IfOk, length};
+ghost use Rattle.std.specs.Prelude.{◌≡◌, ◌≤◌, Some, IfOk, length};
 ghost use Rattle.mg_pool.specs.Pool.{IsPool};
 ghost use Rattle.mg_space.specs.Taking.{IsGeometry};
 ghost use Rattle.mg_space.specs.View.{AreWhole};
@@ -51,22 +51,18 @@ fn empty_table(alloc: Global) -> Result<Batch, Memory>
     Ok(batch)
 }
 
-/// Puts a cell into the least free slot of a page with room for it.
+/// Adds a cell, and keeps what the next call needs.
 fn put<D: Disk>(store: &mut Store<D>, batch: &mut Batch, cell: &[u8]) -> Result<RecId, SpaceFault>
     requires pool { IsPool D.meaning store.old }
     requires geometry { IsGeometry store.old.geometry }
     requires size { store.old.geometry.size ≡ 1024 }
     requires whole { AreWhole 1024 batch.old.pages }
-    requires length { length cell.now < 2 ^ 31 }
+    requires length { length cell.now ≤ 1000 }
     ensures pool { IsPool D.meaning store.new }
     ensures geometry { store.new.geometry ≡ store.old.geometry }
     ensures whole { AreWhole 1024 batch.new.pages }
 {
-    let page = page_with_room(store, batch, OWNER, cell.len() as u32)?;
-    let slot = least_slot(store, batch, page)?;
-    let at = RecId { page, slot };
-    place(store, batch, at, cell)?;
-    Ok(at)
+    add(store, batch, OWNER, cell)
 }
 
 #[test]
