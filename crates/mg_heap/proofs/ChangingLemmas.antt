@@ -68,9 +68,12 @@ module _ {D L : Type 0} (store : Pool D L) (image : Image) (old new : Changed) (
 
   pub places_at : (cell : List ℕ) → MayHave slice at.slot cell → PutsCell slice after at.slot cell
       → PlacesCell (viewed store image old) (viewed store image new) at cell true
-  places_at cell may puts_cell = (record {
-    data_page = some_old;
-    puts = subst (λ (b : List ℕ). PutsCell (viewed store image old at.page.0) b at.slot cell) after_is
-        (subst (λ (b : List ℕ). PutsCell b after at.slot cell) slice_is puts_cell);
-    others = viewed_else store image old new at.page.0 put puts;
-  }, subst (λ (b : List ℕ). MayHave b at.slot cell) slice_is may)
+  places_at cell may puts_cell = (
+    record {
+      data_page = some_old;
+      puts = subst (λ (b : List ℕ). PutsCell (viewed store image old at.page.0) b at.slot cell) after_is
+          (subst (λ (b : List ℕ). PutsCell b after at.slot cell) slice_is puts_cell);
+      others = viewed_else store image old new at.page.0 put puts;
+    },
+    subst (λ (b : List ℕ). MayHave b at.slot cell) slice_is may,
+  )

@@ -1,3 +1,9 @@
 pub mod Changing
 pub mod ChangingLaws
+pub mod Growth
+pub mod GrowthLaws
 pub mod Reading
+pub mod Room
+pub mod Table
+pub mod TableLaws
+pub mod Walk

@@ -65,11 +65,7 @@ pub fn place<D: Disk>(
 /// # Errors
 ///
 /// As `cell`. The batch is then as before.
-pub fn free<D: Disk>(
-    store: &mut Store<D>,
-    batch: &mut Batch,
-    at: RecId,
-) -> Result<(), SpaceFault>
+pub fn free<D: Disk>(store: &mut Store<D>, batch: &mut Batch, at: RecId) -> Result<(), SpaceFault>
     requires pool { IsPool D.meaning store.old }
     requires geometry { IsGeometry store.old.geometry }
     requires whole { AreWhole store.old.geometry.size batch.old.pages }

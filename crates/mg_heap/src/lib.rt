@@ -1,8 +1,40 @@
-//! The data pages of a table: a map from record number to cell.
+//! The data pages of a table: a map from record number to cell. A cell is read, put into a slot or
+//! freed; the records of a table are walked; and a data page with room is found, or the table gets
+//! a new one.
+//!
+//! Owns: which data page of a table gets a cell, and how a table grows. A table is named by its
+//! first pointer page, the owner of all its pages.
+//!
+//! Each call that changes pages fills a batch that its caller lends, and sees the pages as that
+//! batch has them. Its contract says what it does to the pages as seen, page by page, and which
+//! orders of page writes it adds: those of `FILE-FORMAT`, "a pointer to a page".
+//!
+//! Invariant: none of its own; it keeps that of the cache (`IsPool`), and each content of a batch
+//! is one page long (`AreWhole`). After a fault of a call that puts one page the batch is as
+//! before; after one of a growing table it may have a part of the growth, and is dropped.
+//!
+//! A record number tells its page alone. So `cell`, `place` and `free` test that page as the data
+//! page of the owner and the place that it names itself (`IsSomeData`), while the walk and the
+//! growth test each page as the table's at its place. A chain of pointer pages that leads past the
+//! last page of a database, or back, is refused (`IsLinkDamage`), so each call ends.
+//! Below: `mg_slots` and `mg_pointer` for the bytes of a page, `mg_space` for reading and taking
+//! pages. Above: `mg_chain`, which keeps the versions of records in these cells.
+//! Not here: what a cell says, and when a batch is changed.
 #![tactic(auto)]
 
+mod adding;
 mod changing;
+mod growth;
 mod reading;
+mod room;
+mod table;
+mod walk;
 
+pub use adding::add;
 pub use changing::{free, least_slot, place};
 pub use reading::cell;
+pub use room::page_with_room;
+pub use walk::next;
+
+#[cfg(test)]
+mod tests;

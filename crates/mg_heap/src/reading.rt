@@ -1,6 +1,6 @@
 //! A data page is read, and a cell of it.
 
-ghost use Rattle.std.specs.Prelude.{◌≡◌, ◌≤◌, ◌↔◌, IfErr, IfOk, IsOk, MatchResult, length};
+ghost use Rattle.std.specs.Prelude.{◌≡◌, ◌≤◌, ◌↔◌, IfErr, IfOk, IfSome, IsOk, MatchResult, length};
 ghost use Rattle.std.specs.Option.{option_copied};
 ghost use Rattle.mg_base.specs.Image.{Image};
 ghost use Rattle.mg_pool.specs.Fault.{TellsFault};
@@ -39,6 +39,7 @@ pub fn cell<D: Disk>(
     ensures keeps { KeepsStore D.meaning store.old store.new }
     ensures fault { TellsFault D.meaning store.old store.new (pool_answer result) }
     ensures own { ReadsData result }
+    ensures len { IfOk result (λ found. IfSome found (λ c. length c ≤ GREATEST_SIZE)) }
     ensures gives { (image : Image) → Tells D.meaning store.old.disk image → MatchResult result
         (GivesCell at (viewed store.old image batch.now at.page.0))
         (RefusesData D.meaning store.new batch.now.pages at.page
@@ -90,7 +91,8 @@ fn check_some_data(b: &[u8], page: PageNo) -> Result<(), Damaged>
 /// A copy of the cell of a slot.
 fn cell_copy(alloc: Global, b: &[u8], slot: u16) -> Result<Option<Bytes>, Memory>
     requires { IsDataPage b.now }
-    ensures { IfOk result (λ found. found ≡ cell_of b.now slot) }
+    ensures is_cell { IfOk result (λ found. found ≡ cell_of b.now slot) }
+    ensures len { IfOk result (λ found. IfSome found (λ c. length c ≤ length b.now)) }
 {
     match mg_slots::cell(b, slot) {
         None => Ok(None),

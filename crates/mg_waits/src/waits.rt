@@ -40,10 +40,12 @@ impl Waits {
     ///
     /// # Errors
     ///
-    /// `Memory` only. Then nothing has changed.
+    /// `Memory` only, and only where the transaction waited for nobody. Then nothing has changed.
     pub fn note(&mut self, t: TxNo, on: TxNo) -> Result<(), Memory>
-        ensures ok { OnOk result (NowWaits (edges_in self.old) (edges_in self.new) t.0 (Some on.0)) }
+        ensures ok { OnOk result
+            (NowWaits (edges_in self.old) (edges_in self.new) t.0 (Some on.0)) }
         ensures err { OnErr result (self.new ≡ self.old) }
+        ensures absent { OnErr result (edges_in self.old t.0 ≡ None) }
     {
         self.on.insert(t.0, on.0)?;
         Ok(())
@@ -74,8 +76,8 @@ impl Waits {
         at == to
     }
 
-    /// Tells whether the transaction would never end to wait for the other one: whom that waits for,
-    /// and so on, leads to it.
+    /// Tells whether to wait for the other one would never end: whom that one waits for, and so on,
+    /// leads to the transaction.
     fn closes(&self, t: TxNo, by: TxNo) -> bool
         ensures { IsTrue result ↔ Leads (edges_in self.now) t.0 by.0 }
     {

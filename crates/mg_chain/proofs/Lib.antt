@@ -1,0 +1,4 @@
+mod Reading
+mod Steps
+mod Views
+mod Bases

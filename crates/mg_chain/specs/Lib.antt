@@ -1,0 +1,4 @@
+pub mod Chains
+pub mod Refusals
+pub mod Views
+pub mod Bases

@@ -1,0 +1,43 @@
+//! What is told of a chain that can't be followed.
+
+ghost use Rattle.std.specs.Prelude.{◌≡◌};
+ghost use Rattle.mg_chain.specs.Refusals.{damage};
+
+use mg_base::{Damaged, Field, PageNo};
+use mg_version::Link;
+
+/// Bytes that spell no cell: they begin one up to a place.
+pub(crate) fn cell_damage(page: PageNo, at: u32, len: usize) -> Damaged
+    ensures { result ≡ damage page.0 Field.Cell at len }
+{
+    Damaged {
+        page,
+        field: Field::Cell,
+        found: u64::from(at),
+        wanted: len as u64,
+    }
+}
+
+/// A link to a page that it may not name: the limit is wanted, or 0 where a chain comes back.
+pub(crate) fn link_damage(holder: PageNo, link: Link, wanted: u32) -> Damaged
+    ensures { result ≡ damage holder.0 Field.Link link.rec.page.0 wanted }
+{
+    Damaged {
+        page: holder,
+        field: Field::Link,
+        found: u64::from(link.rec.page.0),
+        wanted: u64::from(wanted),
+    }
+}
+
+/// A link that meets no version of the transaction that it names.
+pub(crate) fn target_damage(link: Link, found: u32) -> Damaged
+    ensures { result ≡ damage link.rec.page.0 Field.Target found link.tx.0 }
+{
+    Damaged {
+        page: link.rec.page,
+        field: Field::Target,
+        found: u64::from(found),
+        wanted: u64::from(link.tx.0),
+    }
+}

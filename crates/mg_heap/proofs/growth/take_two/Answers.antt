@@ -1,0 +1,36 @@
+use Rattle.std.proofs.Common.{inr}
+use Rattle.mg_space.specs.View.{viewed}
+use Rattle.mg_space.specs.ViewLaws.{keeps_on, tells_on}
+use Rattle.mg_heap.specs.Growth.{RefusesTwo}
+use Rattle.mg_heap.proofs.GrowthLemmas.{refuses_on, takes_on}
+use Rattle.mg_heap.proofs.TableLemmas.{handed_on}
+use Rattle.mg_heap.proofs.growth.take_two.Goals as goal
+
+pub returns-in_err-second-clause-takes : goal.returns-in_err-second-clause-takes
+returns-in_err-second-clause-takes g c = λ image tells. handed_on c.from_residual-in_err-second.result
+    c.in_err-second.field-0.0 _
+    (RefusesTwo c.args.store.now.geometry c.args.store.now image c.args.batch.now)
+    c.from_residual-in_err-second.ensures.0 c.from_residual-in_err-second.ensures.1
+    (inr (record {
+      with_bit = c.take_page.new.batch;
+      first = c.in_ok-first.first.0;
+      takes_first = c.in_ok-first.ensures.takes image tells;
+      refused = refuses_on g.D.Disk.meaning c.args.store.now c.take_page.new.store image
+          c.in_ok-first.ensures.keeps c.take_page.new.batch c.in_err-second.field-0.0
+          (c.in_err-second.ensures.takes image (tells_on g.D.Disk.meaning c.args.store.now
+          c.take_page.new.store image c.in_ok-first.ensures.keeps tells));
+    }))
+
+pub returns-clause-keeps : goal.returns-clause-keeps
+returns-clause-keeps g c = keeps_on g.D.Disk.meaning g.met.D.Disk.counts_now c.args.store.now
+    c.take_page.new.store c.take_page-2.new.store c.in_ok-first.ensures.keeps c.in_ok-second.ensures.keeps
+
+pub returns-clause-takes : goal.returns-clause-takes
+returns-clause-takes g c = λ image tells. record {
+  with_bit = c.take_page.new.batch;
+  takes_first = c.in_ok-first.ensures.takes image tells;
+  takes_second = takes_on g.D.Disk.meaning c.args.store.now c.take_page.new.store image
+      c.in_ok-first.ensures.keeps c.take_page.new.batch c.take_page-2.new.batch c.in_ok-second.second.0
+      (c.in_ok-second.ensures.takes image (tells_on g.D.Disk.meaning c.args.store.now
+      c.take_page.new.store image c.in_ok-first.ensures.keeps tells));
+}

@@ -1,0 +1,31 @@
+use Rattle.std.proofs.Common.{◌≡◌, ◌-◌, List, ℕ, Option, arith, inl, subst, get_or}
+use Rattle.mg_space.specs.View.{viewed}
+use Rattle.mg_space.specs.ViewLaws.{tells_on}
+use Rattle.mg_heap.specs.Room.{FindsRoom, RefusesRoomIn}
+use Rattle.mg_heap.specs.declared.growth.DataPage.{DataPage}
+use Rattle.mg_heap.proofs.RoomLemmas.{last_is, room_grown}
+use Rattle.mg_heap.proofs.TableLemmas.{handed_on}
+use Rattle.mg_heap.proofs.room.room_in.Goals as goal
+
+pub returns-in_err-found-clause-gives : goal.returns-in_err-found-clause-gives
+returns-in_err-found-clause-gives g c = λ image tells. handed_on c.from_residual.result
+    c.in_err-found.field-0.0 _
+    (RefusesRoomIn g.D.Disk.meaning c.args.store.now c.page_with.new.store image c.args.batch.now
+    c.args.owner.0 c.args.table.now.pointers.items c.args.table.now.data_pages.items)
+    c.from_residual.ensures.0 c.from_residual.ensures.1
+    (inl (rw c.deref.ensures.value at (c.in_err-found.ensures.finds image tells)))
+
+pub returns-clause-gives : goal.returns-clause-gives
+returns-clause-gives g c = λ image tells. room_grown g.D.Disk.meaning c.args.store.now
+    c.page_with.new.store image c.in_ok-found.ensures.keeps c.grow.new.store c.args.batch.now
+    c.grow.new.batch c.args.owner.0 c.len.result (c.len-last.result - 1)
+    (record { 0 = c.index.result.now })
+    c.args.table.now.pointers.items c.args.table.now.data_pages.items c.args.need c.grow.result
+    (omega arith) (omega arith)
+    (last_is c.args.table.now.pointers.items (c.len-last.result - 1) c.index.result.now c.requires.some
+    (omega arith) c.index.ensures)
+    (rw c.deref.ensures.value at (subst (λ (x : Option DataPage).
+    FindsRoom (viewed c.args.store.now image c.args.batch.now) c.deref.result.now c.args.need x)
+    c.in_default.is (c.in_ok-found.ensures.finds image tells)))
+    (c.grow.ensures.grows image (tells_on g.D.Disk.meaning c.args.store.now
+    c.page_with.new.store image c.in_ok-found.ensures.keeps tells))

@@ -1,0 +1,173 @@
+//! A data page with room for a cell: one that the table has, or a new one.
+
+ghost use Rattle.std.specs.Prelude.{◌≡◌, ◌≢◌, ◌≤◌, ◌<◌, ◌^◌, IfOk, IfSome, MatchResult, None, length, slice_index};
+ghost use Rattle.mg_base.specs.Image.{Image};
+ghost use Rattle.mg_pool.specs.Fault.{TellsFault};
+ghost use Rattle.mg_pool.specs.Pool.{IsPool};
+ghost use Rattle.mg_space.specs.Taking.{IsGeometry};
+ghost use Rattle.mg_space.specs.View.{AreWhole, KeepsStore, ReadsAlone, Tells, pool_answer, viewed};
+ghost use Rattle.mg_heap.specs.Reading.{ReadsData};
+ghost use Rattle.mg_heap.specs.Room.{FindsOrGrows, FindsRoom, GivesRoom, HasRoomFor, LooksAt, RefusesRoom, RefusesRoomIn, looked_at as place_after};
+ghost use Rattle.mg_heap.specs.Walk.{RefusesWalkOf};
+
+use crate::growth::{DataPage, Places, grow};
+use crate::table::{TablePages, table_pages};
+use crate::walk::table_data_page;
+use mg_base::{Disk, GREATEST_LIMIT, PageNo};
+use mg_pool::Batch;
+use mg_slots::room;
+use mg_space::{SpaceFault, Store};
+
+/// A data page of the table with room for so many bytes: the last one if it has room, else the first
+/// one that has; where none has, the table gets a new one, which is empty.
+///
+/// `owner` is the table's first pointer page. A new data page is listed by the table's last pointer
+/// page, or by a new one behind it exactly where that is full. In the batch are then the inventory
+/// pages with the bits of the pages that were taken, these pages, and the pointer page that was the
+/// last one. The orders of page writes that are added: for each page that was taken, the inventory
+/// page with its bit, and the page itself, before the pointer page that points to it.
+///
+/// # Errors
+///
+/// `Damaged` at the first pointer page that is not as wanted, or at the first data page that is
+/// looked at and is not the owner's at its place, or as `take_page`; `Full` as `take_page`; `Pool`
+/// with `DiskRead`, `Offline` or `Memory`. The batch may then have a part of the growth, and its
+/// contents are one page long: the caller drops it.
+pub fn page_with_room<D: Disk>(
+    store: &mut Store<D>,
+    batch: &mut Batch,
+    owner: PageNo,
+    need: u32,
+) -> Result<PageNo, SpaceFault>
+    requires pool { IsPool D.meaning store.old }
+    requires geometry { IsGeometry store.old.geometry }
+    requires whole { AreWhole store.old.geometry.size batch.old.pages }
+    requires owner { owner.0 < GREATEST_LIMIT }
+    requires some { owner.0 ≢ 0 }
+
+    ensures keeps { KeepsStore D.meaning store.old store.new }
+    ensures fault { TellsFault D.meaning store.old store.new (pool_answer result) }
+    ensures own { ReadsAlone result }
+    ensures whole { AreWhole store.old.geometry.size batch.new.pages }
+    ensures gives { (image : Image) → Tells D.meaning store.old.disk image → MatchResult result
+        (GivesRoom store.old image batch.old batch.new owner.0 need)
+        (RefusesRoom D.meaning store.old store.new image batch.old owner.0) }
+{
+    let table = table_pages(store, batch, owner)?;
+    let found = room_in(store, batch, owner, &table, need)?;
+    Ok(found.page)
+}
+
+/// A data page of a table with room for so many bytes, found or made.
+fn room_in<D: Disk>(
+    store: &mut Store<D>,
+    batch: &mut Batch,
+    owner: PageNo,
+    table: &TablePages,
+    need: u32,
+) -> Result<DataPage, SpaceFault>
+    requires pool { IsPool D.meaning store.old }
+    requires geometry { IsGeometry store.old.geometry }
+    requires whole { AreWhole store.old.geometry.size batch.old.pages }
+    requires online { store.old.offline ≡ None }
+    requires few { length table.now.data_pages.items < 2 ^ 32 }
+    requires some { 0 < length table.now.pointers.items }
+    requires short { length table.now.pointers.items < 2 ^ 31 }
+
+    ensures keeps { KeepsStore D.meaning store.old store.new }
+    ensures fault { TellsFault D.meaning store.old store.new (pool_answer result) }
+    ensures own { ReadsAlone result }
+    ensures whole { AreWhole store.old.geometry.size batch.new.pages }
+    ensures gives { (image : Image) → Tells D.meaning store.old.disk image → MatchResult result
+        (FindsOrGrows store.old image batch.old batch.new owner.0 table.now.pointers.items
+        table.now.data_pages.items need)
+        (RefusesRoomIn D.meaning store.old store.new image batch.old owner.0
+        table.now.pointers.items table.now.data_pages.items) }
+{
+    if let Some(found) = page_with(store, batch, owner, &table.data_pages, need)? {
+        return Ok(found);
+    }
+    let last = table.pointers.len() - 1;
+    let at = Places {
+        data: table.data_pages.len() as u32,
+        pointer: last as u32,
+    };
+    grow(store, batch, owner, at, PageNo(table.pointers[last]))
+}
+
+/// The first of the listed data pages with room for so many bytes: the last one is looked at first,
+/// then the others in their order.
+fn page_with<D: Disk>(
+    store: &mut Store<D>,
+    batch: &Batch,
+    owner: PageNo,
+    data_pages: &[u32],
+    need: u32,
+) -> Result<Option<DataPage>, SpaceFault>
+    requires pool { IsPool D.meaning store.old }
+    requires geometry { IsGeometry store.old.geometry }
+    requires whole { AreWhole store.old.geometry.size batch.now.pages }
+    requires online { store.old.offline ≡ None }
+    requires few { length data_pages.now < 2 ^ 32 }
+
+    ensures keeps { KeepsStore D.meaning store.old store.new }
+    ensures fault { TellsFault D.meaning store.old store.new (pool_answer result) }
+    ensures own { ReadsData result }
+    ensures room { IfOk result (λ found. IfSome found (HasRoomFor need)) }
+    ensures finds { (image : Image) → Tells D.meaning store.old.disk image → MatchResult result
+        (FindsRoom (viewed store.old image batch.now) data_pages.now need)
+        (RefusesWalkOf D.meaning store.new batch.now.pages (viewed store.old image batch.now) owner.0
+        data_pages.now) }
+{
+    for k in 0..data_pages.len() {
+        let place = looked_at(k, data_pages.len());
+        if let Some(found) = page_at(store, batch, owner, data_pages, place, need)? {
+            return Ok(Some(found));
+        }
+    }
+    Ok(None)
+}
+
+/// The place that is looked at after `k` others, of `len` places.
+fn looked_at(k: usize, len: usize) -> usize
+    requires { k < len }
+    ensures is { result ≡ place_after k len }
+    ensures inside { result < len }
+{
+    if k == 0 { len - 1 } else { k - 1 }
+}
+
+/// The data page at a place of a table's list, if it has room for so many bytes.
+fn page_at<D: Disk>(
+    store: &mut Store<D>,
+    batch: &Batch,
+    owner: PageNo,
+    data_pages: &[u32],
+    place: usize,
+    need: u32,
+) -> Result<Option<DataPage>, SpaceFault>
+    requires pool { IsPool D.meaning store.old }
+    requires geometry { IsGeometry store.old.geometry }
+    requires whole { AreWhole store.old.geometry.size batch.now.pages }
+    requires inside { place < length data_pages.now }
+    requires few { length data_pages.now < 2 ^ 32 }
+
+    ensures keeps { KeepsStore D.meaning store.old store.new }
+    ensures fault { TellsFault D.meaning store.old store.new (pool_answer result) }
+    ensures own { ReadsData result }
+    ensures room { IfOk result (λ found. IfSome found (HasRoomFor need)) }
+    ensures looks { (image : Image) → Tells D.meaning store.old.disk image → MatchResult result
+        (LooksAt (viewed store.old image batch.now) (slice_index data_pages.now place) need)
+        (RefusesWalkOf D.meaning store.new batch.now.pages (viewed store.old image batch.now) owner.0
+        data_pages.now) }
+{
+    let n = PageNo(data_pages[place]);
+    let bytes = table_data_page(store, batch, owner, n, place as u32)?;
+    if room(bytes.as_slice()) < need {
+        return Ok(None);
+    }
+    Ok(Some(DataPage {
+        page: n,
+        bytes: bytes.into_vec(),
+    }))
+}

@@ -1,0 +1,95 @@
+//! What no clause says: that calls succeed with ample memory, and worked rows of a small table.
+
+ghost use Rattle.std.specs.Prelude.{◌≡◌, ◌≤◌, Some, IfOk, length};
+ghost use Rattle.mg_pool.specs.Pool.{IsPool};
+ghost use Rattle.mg_space.specs.Taking.{IsGeometry};
+ghost use Rattle.mg_space.specs.View.{AreWhole};
+
+use super::*;
+use mg_base::{Disk, Geometry, MemDisk, Memory, PageNo, RecId};
+use mg_pip::{new_pip, set_used};
+use mg_pointer::new_pointer;
+use mg_pool::{Batch, Pool};
+use mg_space::{SpaceFault, Store};
+use std::alloc::Global;
+use std::test::*;
+
+/// The first pointer page of the table.
+const OWNER: PageNo = PageNo(5);
+
+/// A store over an empty disk with pages of 1024 bytes.
+fn store_over<D: Disk + Drop>(alloc: Global, disk: D) -> Result<Store<D>, Memory>
+    requires size { D.meaning.size disk ≡ Some 1024 }
+    ensures pool { IfOk result (λ store. IsPool D.meaning store) }
+    ensures geometry { IfOk result (λ store. IsGeometry store.geometry) }
+    ensures size { IfOk result (λ store. store.geometry.size ≡ 1024) }
+{
+    let geometry = Geometry {
+        size: 1024,
+        limit: 1000,
+    };
+    match Pool::new(alloc, disk, geometry) {
+        Ok(store) => Ok(store),
+        Err(_) => Err(Memory),
+    }
+}
+
+/// A batch with the first inventory page, on which pages 0 to 6 are used, and an empty table.
+fn empty_table(alloc: Global) -> Result<Batch, Memory>
+    ensures whole { IfOk result (λ batch. AreWhole 1024 batch.pages) }
+{
+    let mut bits = [0; 1024];
+    new_pip(&mut bits, PageNo(1), 0);
+    for bit in 0..7u32 {
+        set_used(&mut bits, bit, true);
+    }
+    let mut first = [0; 1024];
+    new_pointer(&mut first, OWNER, OWNER.0, 0);
+    let mut batch = Batch::new(alloc);
+    batch.put(PageNo(1), &bits)?;
+    batch.put(OWNER, &first)?;
+    Ok(batch)
+}
+
+/// Adds a cell, and keeps what the next call needs.
+fn put<D: Disk>(store: &mut Store<D>, batch: &mut Batch, cell: &[u8]) -> Result<RecId, SpaceFault>
+    requires pool { IsPool D.meaning store.old }
+    requires geometry { IsGeometry store.old.geometry }
+    requires size { store.old.geometry.size ≡ 1024 }
+    requires whole { AreWhole 1024 batch.old.pages }
+    requires length { length cell.now ≤ 1000 }
+    ensures pool { IsPool D.meaning store.new }
+    ensures geometry { store.new.geometry ≡ store.old.geometry }
+    ensures whole { AreWhole 1024 batch.new.pages }
+{
+    add(store, batch, OWNER, cell)
+}
+
+#[test]
+fn the_251st_data_page_is_listed_by_a_second_pointer_page(rt: HostRuntime) -> Result<(), Fail> {
+    let alloc = rt.alloc();
+    let mut store = store_over(alloc, MemDisk::new(alloc, 1024, 8, 8)?)?;
+    let mut batch = empty_table(alloc)?;
+    let cell = [1; 1000];
+    for n in 7..257u32 {
+        let at = RecId {
+            page: PageNo(n),
+            slot: 0,
+        };
+        assert_eq!(rt; put(&mut store, &mut batch, &cell), Ok(at));
+    }
+    // Page 257 is the new pointer page.
+    let last = RecId {
+        page: PageNo(258),
+        slot: 0,
+    };
+    assert_eq!(rt; put(&mut store, &mut batch, &cell), Ok(last));
+    let first = batch.bytes(OWNER).unwrap_or(&[]);
+    assert_eq!(rt; first.get(16..22), Some([1, 1, 0, 0, 250, 0].as_slice()));
+    let second = batch.bytes(PageNo(257)).unwrap_or(&[]);
+    assert_eq!(rt;
+        second.get(8..28),
+        Some([5, 0, 0, 0, 1, 0, 0, 0, 0, 0, 0, 0, 1, 0, 0, 0, 2, 1, 0, 0].as_slice())
+    );
+    Ok(())
+}

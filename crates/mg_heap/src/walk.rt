@@ -1,0 +1,263 @@
+//! The walk over the records of a table.
+
+ghost use Rattle.std.specs.Prelude.{◌≡◌, ◌≤◌, ◌<◌, ◌^◌, ◌==◌, ◌||◌, [], None, Some, IfErr, IfOk, MatchResult, OnOk, Ok, drop, length};
+ghost use Rattle.mg_base.specs.Fields.{byte};
+ghost use Rattle.mg_base.specs.Image.{Image};
+ghost use Rattle.mg_pool.specs.Fault.{TellsFault};
+ghost use Rattle.mg_pool.specs.Pool.{IsPool, shown};
+ghost use Rattle.mg_slots.specs.Damage.{IsFirstDamage};
+ghost use Rattle.mg_slots.specs.DataPage.{IsDataPage, cell_of};
+ghost use Rattle.mg_slots.specs.Verdict.{common_verdict};
+ghost use Rattle.mg_space.specs.Taking.{IsGeometry};
+ghost use Rattle.mg_space.specs.View.{AreWhole, KeepsStore, Tells, pool_answer, viewed};
+ghost use Rattle.mg_heap.specs.Reading.{ReadsData};
+ghost use Rattle.mg_heap.specs.Walk.{FindsRecord, GivesBehind, GivesNext, IsNextIn, RefusesNext, RefusesTableData, RefusesWalk, RefusesWalkOf, behind, behind_page, is_primary as is_primary_of};
+
+use crate::reading::data_page;
+use crate::table::table_pages;
+use mg_base::{Bytes, Damaged, Disk, GREATEST_LIMIT, PageNo, RecId};
+use mg_image::PRIMARY_VERSION;
+use mg_pool::Batch;
+use mg_slots::{DATA_KIND, GREATEST_SIZE, LEAST_SIZE, cell, check_data, slots};
+use mg_space::{SpaceFault, Store, page_of};
+use mg_version::ANCHOR;
+
+/// The record behind another in the order of the table's data pages and their slots, or the first
+/// one: its primary slot, whose cell is an anchor, or a version that stands in its primary slot.
+/// `None` exactly where there is no other.
+///
+/// `owner` is the table's first pointer page, and `after` stands in a data page of the table. One
+/// page is read where another record stands behind `after` in its page; else the table's pointer
+/// pages and the data pages up to the next record.
+///
+/// # Errors
+///
+/// `Damaged`: at the page of `after`, as `cell`; or at the first pointer page that is not as
+/// wanted; or at the first of the data pages in question that is not the owner's at its place.
+/// `Pool` with `DiskRead`, `Offline` or `Memory`.
+pub fn next<D: Disk>(
+    store: &mut Store<D>,
+    owner: PageNo,
+    after: Option<RecId>,
+) -> Result<Option<RecId>, SpaceFault>
+    requires pool { IsPool D.meaning store.old }
+    requires geometry { IsGeometry store.old.geometry }
+    requires owner { owner.0 < GREATEST_LIMIT }
+
+    ensures keeps { KeepsStore D.meaning store.old store.new }
+    ensures fault { TellsFault D.meaning store.old store.new (pool_answer result) }
+    ensures own { ReadsData result }
+    ensures gives { (image : Image) → Tells D.meaning store.old.disk image → MatchResult result
+        (GivesNext (shown store.old.dirty image) owner.0 after)
+        (RefusesNext D.meaning store.new [] (shown store.old.dirty image) owner.0 after) }
+{
+    let batch = Batch::new(store.alloc());
+    next_in(store, &batch, owner, after)
+}
+
+/// As `next`, as one sees the pages who fills a batch.
+fn next_in<D: Disk>(
+    store: &mut Store<D>,
+    batch: &Batch,
+    owner: PageNo,
+    after: Option<RecId>,
+) -> Result<Option<RecId>, SpaceFault>
+    requires pool { IsPool D.meaning store.old }
+    requires geometry { IsGeometry store.old.geometry }
+    requires whole { AreWhole store.old.geometry.size batch.now.pages }
+    requires owner { owner.0 < GREATEST_LIMIT }
+
+    ensures keeps { KeepsStore D.meaning store.old store.new }
+    ensures fault { TellsFault D.meaning store.old store.new (pool_answer result) }
+    ensures own { ReadsData result }
+    ensures gives { (image : Image) → Tells D.meaning store.old.disk image → MatchResult result
+        (GivesNext (viewed store.old image batch.now) owner.0 after)
+        (RefusesNext D.meaning store.new batch.now.pages (viewed store.old image batch.now) owner.0
+        after) }
+{
+    match after {
+        None => behind_in(store, batch, owner, None),
+        Some(at) => next_after(store, batch, owner, at),
+    }
+}
+
+/// The record behind another.
+fn next_after<D: Disk>(
+    store: &mut Store<D>,
+    batch: &Batch,
+    owner: PageNo,
+    at: RecId,
+) -> Result<Option<RecId>, SpaceFault>
+    requires pool { IsPool D.meaning store.old }
+    requires geometry { IsGeometry store.old.geometry }
+    requires whole { AreWhole store.old.geometry.size batch.now.pages }
+    requires owner { owner.0 < GREATEST_LIMIT }
+
+    ensures keeps { KeepsStore D.meaning store.old store.new }
+    ensures fault { TellsFault D.meaning store.old store.new (pool_answer result) }
+    ensures own { ReadsData result }
+    ensures gives { (image : Image) → Tells D.meaning store.old.disk image → MatchResult result
+        (GivesNext (viewed store.old image batch.now) owner.0 (Some at))
+        (RefusesNext D.meaning store.new batch.now.pages (viewed store.old image batch.now) owner.0
+        (Some at)) }
+{
+    let page = data_page(store, batch, at.page)?;
+    if let Some(found) = first_record(page.as_slice(), at.page, u32::from(at.slot) + 1) {
+        return Ok(Some(found));
+    }
+    behind_in(store, batch, owner, Some(at.page))
+}
+
+/// The first record on the data pages behind one of a table, or on all of them.
+fn behind_in<D: Disk>(
+    store: &mut Store<D>,
+    batch: &Batch,
+    owner: PageNo,
+    page: Option<PageNo>,
+) -> Result<Option<RecId>, SpaceFault>
+    requires pool { IsPool D.meaning store.old }
+    requires geometry { IsGeometry store.old.geometry }
+    requires whole { AreWhole store.old.geometry.size batch.now.pages }
+    requires owner { owner.0 < GREATEST_LIMIT }
+
+    ensures keeps { KeepsStore D.meaning store.old store.new }
+    ensures fault { TellsFault D.meaning store.old store.new (pool_answer result) }
+    ensures own { ReadsData result }
+    ensures gives { (image : Image) → Tells D.meaning store.old.disk image → MatchResult result
+        (GivesBehind (viewed store.old image batch.now) owner.0 page)
+        (RefusesWalk D.meaning store.new batch.now.pages (viewed store.old image batch.now)
+        owner.0) }
+{
+    let table = table_pages(store, batch, owner)?;
+    let start = start_behind(&table.data_pages, page);
+    first_from(store, batch, owner, &table.data_pages, start)
+}
+
+/// Where the pages behind one begin in a list, or all of them.
+fn start_behind(numbers: &[u32], page: Option<PageNo>) -> usize
+    ensures { drop result numbers.now ≡ behind_page numbers.now page }
+{
+    match page {
+        None => 0,
+        Some(n) => place_behind(numbers, n.0),
+    }
+}
+
+/// Where the numbers behind the first place of one begin.
+fn place_behind(numbers: &[u32], n: u32) -> usize
+    ensures { drop result numbers.now ≡ behind numbers.now n }
+{
+    for (i, m) in numbers.iter().enumerate() {
+        if *m == n {
+            return i + 1;
+        }
+    }
+    numbers.len()
+}
+
+/// The first record on some data pages of a table, those from a place of their list on.
+fn first_from<D: Disk>(
+    store: &mut Store<D>,
+    batch: &Batch,
+    owner: PageNo,
+    data_pages: &[u32],
+    start: usize,
+) -> Result<Option<RecId>, SpaceFault>
+    requires pool { IsPool D.meaning store.old }
+    requires geometry { IsGeometry store.old.geometry }
+    requires whole { AreWhole store.old.geometry.size batch.now.pages }
+    requires online { store.old.offline ≡ None }
+    requires few { length data_pages.now < 2 ^ 32 }
+
+    ensures keeps { KeepsStore D.meaning store.old store.new }
+    ensures fault { TellsFault D.meaning store.old store.new (pool_answer result) }
+    ensures own { ReadsData result }
+    ensures gives { (image : Image) → Tells D.meaning store.old.disk image → MatchResult result
+        (IsNextIn (viewed store.old image batch.now) (drop start data_pages.now) 0)
+        (RefusesWalkOf D.meaning store.new batch.now.pages (viewed store.old image batch.now) owner.0
+        data_pages.now) }
+{
+    for place in start..data_pages.len() {
+        let n = PageNo(data_pages[place]);
+        let page = table_data_page(store, batch, owner, n, place as u32)?;
+        if let Some(found) = first_record(page.as_slice(), n, 0) {
+            return Ok(Some(found));
+        }
+    }
+    Ok(None)
+}
+
+/// The content of the data page of an owner at a place.
+///
+/// # Errors
+///
+/// `Damaged` at `Presence` where the page is missing, else at the first field that differs. `Pool`
+/// with `DiskRead`, `Offline` or `Memory`.
+pub(crate) fn table_data_page<D: Disk>(
+    store: &mut Store<D>,
+    batch: &Batch,
+    owner: PageNo,
+    n: PageNo,
+    at: u32,
+) -> Result<Bytes, SpaceFault>
+    requires pool { IsPool D.meaning store.old }
+    requires geometry { IsGeometry store.old.geometry }
+    requires whole { AreWhole store.old.geometry.size batch.now.pages }
+
+    ensures keeps { KeepsStore D.meaning store.old store.new }
+    ensures fault { TellsFault D.meaning store.old store.new (pool_answer result) }
+    ensures own { ReadsData result }
+    ensures common { IfOk result (λ b. common_verdict b n DATA_KIND owner.0 at ≡ Ok tt) }
+    ensures lawful { IfOk result IsDataPage }
+    ensures seen { (image : Image) → Tells D.meaning store.old.disk image → MatchResult result
+        (λ b. b ≡ viewed store.old image batch.now n.0)
+        (RefusesTableData D.meaning store.new batch.now.pages
+        (viewed store.old image batch.now n.0) owner.0 at n) }
+{
+    let page = page_of(store, batch, n)?;
+    check_table_data(page.as_slice(), n, owner.0, at)?;
+    Ok(page)
+}
+
+/// Tests the data page of an owner at a place.
+fn check_table_data(b: &[u8], page: PageNo, owner: u32, at: u32) -> Result<(), Damaged>
+    requires least { LEAST_SIZE ≤ length b.now }
+    requires greatest { length b.now ≤ GREATEST_SIZE }
+    ensures common { OnOk result (common_verdict b.now page DATA_KIND owner at ≡ Ok tt) }
+    ensures lawful { OnOk result (IsDataPage b.now) }
+    ensures damaged { IfErr result (IsFirstDamage b.now page owner at) }
+{
+    check_data(b, page, owner, at)
+}
+
+/// The first record of a page from a slot on.
+fn first_record(b: &[u8], page: PageNo, from: u32) -> Option<RecId>
+    requires { IsDataPage b.now }
+    ensures { FindsRecord b.now page.0 from result }
+{
+    for slot in 0..slots(b) {
+        if u32::from(slot) >= from && is_primary(b, slot) {
+            return Some(RecId { page, slot });
+        }
+    }
+    None
+}
+
+/// Tells whether a slot is the primary slot of a record.
+fn is_primary(b: &[u8], slot: u16) -> bool
+    requires { IsDataPage b.now }
+    ensures { result ≡ is_primary_of (cell_of b.now slot) }
+{
+    match cell(b, slot) {
+        None => false,
+        Some(bytes) => begins_record(bytes),
+    }
+}
+
+/// Tells whether a cell stands in a primary slot, by its first byte.
+fn begins_record(bytes: &[u8]) -> bool
+    ensures { result ≡ (byte bytes.now 0 == ANCHOR || byte bytes.now 0 == PRIMARY_VERSION) }
+{
+    let kind = bytes.first().copied().unwrap_or(0);
+    kind == ANCHOR || kind == PRIMARY_VERSION
+}
