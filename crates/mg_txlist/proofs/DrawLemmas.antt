@@ -1,0 +1,342 @@
+-- A number is drawn: the header, the page, and the batch of both.
+use Rattle.std.proofs.Common.{◌≡◌, ◌≢◌, ◌<◌, ◌≤◌, ◌⊎◌, ◌+◌, ◌/◌, ◌%◌, ◌++◌, ◌&&◌, ◌||◌, ◌==◌, min, ℕ, Bool, true, false, List, [], ◌∷◌, length, take, refl, sym, ap, subst, ◌∙◌, arith, append_assoc, inl, inr, if◌then◌else◌, unwrap_or}
+use Rattle.std.proofs.Common.{Option, Some, None, Result, Ok, Err, is_some}
+use Rattle.std.proofs.Math.Seq.{take-append_seam}
+use Rattle.std.proofs.lemmas.Bool.{and_parts, cases_eq, eqb-true, or_cases}
+use Rattle.mg_base.specs.Checks.{Check, PassesAll, common_checks}
+use Rattle.mg_base.specs.Disk.{Meaning}
+use Rattle.mg_base.specs.Fields.{u16_at}
+use Rattle.mg_base.specs.Image.{Image}
+use Rattle.mg_base.specs.declared.geometry.Geometry.{Geometry}
+use Rattle.mg_careful.specs.Precedence.{Precedes}
+use Rattle.mg_careful.specs.Precedence.Precedes.{directly, through}
+use Rattle.mg_careful.specs.declared.graph.Order.{Order}
+use Rattle.mg_header.specs.HeaderPage.{AreMarkers, database_checks, marker_checks, reading}
+use Rattle.mg_header.specs.HeaderPageLaws.{reading_ok}
+use Rattle.mg_header.specs.declared.header.Header.{Header}
+use Rattle.mg_header.specs.declared.header.TheConstants.{GREATEST_MINOR, GREATEST_NEXT, HEADER_KIND, MINOR_AT}
+use Rattle.mg_image.specs.Form.{Pages}
+use Rattle.mg_image.specs.Inventory.{header_of, inventory_page}
+use Rattle.mg_pool.specs.Batch.{Changed, IsLawful, PutsPage, content_in, is_in, lists}
+use Rattle.mg_pool.specs.Pool.{shown}
+use Rattle.mg_pool.specs.declared.batch.BatchPage.{BatchPage}
+use Rattle.mg_pool.specs.declared.batch.TheConstants.{BATCH_PAGES}
+use Rattle.mg_pool.specs.declared.pool.Pool.{Pool}
+use Rattle.mg_space.specs.Taking.{TakesPage, region_of}
+use Rattle.mg_space.specs.View.{AreWhole, KeepsStore, Tells, viewed}
+use Rattle.mg_space.specs.ViewLaws.{tells_on, viewed_else, viewed_here, viewed_on, whole_on}
+use Rattle.mg_tip.specs.TipPage.{new_tip_page, places}
+use Rattle.mg_tip.specs.TipPageLaws.{length-new_tip_page}
+use Rattle.mg_txlist.specs.Drawing.{DrawsOn, MayBeHeader, PutsHead, PutsTip, RaisesHead, raised_header, tip_orders}
+use Rattle.mg_txlist.specs.Drawing.DrawsOn.{on_last, on_new}
+use Rattle.mg_txlist.specs.declared.list.TipPage.{TipPage}
+use Rattle.mg_txlist.proofs.ChainLemmas.{head_markers}
+
+-- bytes that were written through a slice
+pub written_back : (len : ℕ) (made rest put : List ℕ) → len ≡ length made
+    → put ≡ take len (made ++ rest) → put ≡ made
+written_back len made rest put same is = is
+    ∙ (ap (λ (n : ℕ). take n (made ++ rest)) same ∙ take-append_seam made rest)
+
+-- ---- the header
+
+pub head_again : (size : ℕ) (header : Header) (page items opened made put : List ℕ)
+    → length page ≡ size → items ≡ page → opened ≡ items → put ≡ made
+    → (header.minor ≤ GREATEST_MINOR
+    → AreMarkers header.oit.0 header.ost.0 header.oat.0 header.next.0
+    → PassesAll (common_checks opened 0 HEADER_KIND 0 0) → reading made (length opened) ≡ Ok header)
+    → MayBeHeader header page → reading put size ≡ Ok header
+head_again size header page items opened made put len same_items same_opened back read may =
+    let same : opened ≡ page = same_opened ∙ same_items in
+    let again : reading made (length opened) ≡ Ok header = read may.minor may.markers
+    (subst (λ (b : List ℕ). PassesAll (common_checks b 0 HEADER_KIND 0 0)) (sym same) may.common) in
+    let long : length opened ≡ size = ap (λ (b : List ℕ). length b) same ∙ len in
+    subst (λ (b : List ℕ). reading b size ≡ Ok header) (sym back)
+    (subst (λ (n : ℕ). reading made n ≡ Ok header) long again)
+
+passes_first : (first others : List Check) → PassesAll (first ++ others) → PassesAll first
+passes_first [] others passes = tt
+passes_first (x ∷ xs) others passes = (passes.0, passes_first xs others passes.1)
+
+at_most : (a k : ℕ) → a ≡ min a k → a ≤ k
+at_most a k is = omega (arith, is)
+
+minor_low : (b : List ℕ) (size : ℕ) → PassesAll (database_checks b size)
+    → u16_at b MINOR_AT ≤ GREATEST_MINOR
+unfolding database_checks
+minor_low b size passes = at_most (u16_at b MINOR_AT) GREATEST_MINOR passes.1.1.0
+
+-- a header that was read may have its next number one higher
+pub may_raise : (b : List ℕ) (size last : ℕ) (h : Header) → reading b size ≡ Ok h
+    → h.next.0 < GREATEST_NEXT → MayBeHeader (raised_header h last) b
+may_raise b size last h is below =
+    let parts = reading_ok b size h is in
+    let markers = head_markers b b size h (Ok h) refl (sym is) refl in record {
+      common = passes_first (common_checks b 0 HEADER_KIND 0 0) (marker_checks b) parts.1;
+      minor = subst (λ (x : Header). x.minor ≤ GREATEST_MINOR) (sym parts.2)
+          (minor_low b size parts.0);
+      markers = record {
+        least = markers.least;
+        oit_ost = markers.oit_ost;
+        ost_oat = markers.ost_oat;
+        oat_next = let most = markers.oat_next in omega (arith, most);
+        greatest = omega (arith, below);
+      };
+    }
+
+pub head_raises : {D L : Type 0} (m : Meaning D) (start mid : Pool D L) (image : Image)
+    (old new : Changed) (before : Pages) (h raised : Header) (last : ℕ)
+    → KeepsStore m start mid → Tells m start.disk image
+    → before 0 ≡ viewed start image old 0 → PutsHead mid.geometry.size old new
+    → reading (before 0) start.geometry.size ≡ Ok h → h.next.0 < GREATEST_NEXT
+    → raised ≡ raised_header h last
+    → ((i : Image) → Tells m mid.disk i → MayBeHeader raised (viewed mid i old 0)
+    → reading (viewed mid i new 0) mid.geometry.size ≡ Ok raised)
+    → RaisesHead start.geometry.size before (viewed start image new) last
+head_raises m start mid image old new before h raised last kept tells first puts is below
+    raised_is again = record {
+  reads = subst (λ (v : Pages). reading (v 0) start.geometry.size
+          ≡ Ok (raised_header (header_of before) last)) (viewed_on m start mid image new kept)
+      (subst (λ (n : ℕ). reading (viewed mid image new 0) n
+          ≡ Ok (raised_header (header_of before) last)) size_same
+      (subst (λ (x : Header). reading (viewed mid image new 0) mid.geometry.size ≡ Ok x)
+      (raised_is ∙ ap (λ (x : Header). raised_header x last) h_is) raw));
+  len = ap (λ (b : List ℕ). length b)
+      (viewed_here start image old new 0 puts.bytes puts.puts) ∙ (puts.len ∙ size_same);
+}
+  where
+    size_same : mid.geometry.size ≡ start.geometry.size
+    size_same = ap (λ (g : Geometry). g.size) kept.geometry
+
+    h_is : h ≡ header_of before
+    h_is = (reading_ok (before 0) start.geometry.size h is).2
+
+    same : before 0 ≡ viewed mid image old 0
+    same = first ∙ ap (λ (v : Pages). v 0) (sym (viewed_on m start mid image old kept))
+
+    raw : reading (viewed mid image new 0) mid.geometry.size ≡ Ok raised
+    raw = again image (tells_on m start mid image kept tells)
+        (subst (λ (b : List ℕ). MayBeHeader raised b) same
+        (subst (λ (x : Header). MayBeHeader x (before 0)) (sym raised_is)
+        (may_raise (before 0) start.geometry.size last h is below)))
+
+-- ---- the page
+
+pub tip_made : (size t at last k : ℕ) (opened made put : List ℕ) → length opened ≡ size
+    → k ≡ places size → made ≡ new_tip_page (length opened) at (t / k) last → put ≡ made
+    → put ≡ new_tip_page size at (t / places size) last
+tip_made size t at last k opened made put len k_is is back =
+    back ∙ (is ∙ (ap (λ (n : ℕ). new_tip_page n at (t / k) last) len
+    ∙ ap (λ (n : ℕ). new_tip_page size at (t / n) last) k_is))
+
+pub orders_made : (size at inventory : ℕ) (a b c d e : List Order) → b ≡ a → c ≡ b
+    → d ≡ c ++ record { first = at; later = 0 } ∷ []
+    → e ≡ d ++ record { first = inventory; later = 0 } ∷ []
+    → inventory ≡ inventory_page size (region_of size at) → e ≡ a ++ tip_orders size at
+orders_made size at inventory a b c d e taken put first second is =
+    second ∙ (ap (λ (x : List Order). x ++ record { first = inventory; later = 0 } ∷ [])
+    (first ∙ ap (λ (x : List Order). x ++ record { first = at; later = 0 } ∷ []) (put ∙ taken))
+    ∙ (ap (λ (n : ℕ). (a ++ record { first = at; later = 0 } ∷ [])
+    ++ record { first = n; later = 0 } ∷ []) is
+    ∙ append_assoc a (record { first = at; later = 0 } ∷ [])
+    (record { first = inventory_page size (region_of size at); later = 0 } ∷ [])))
+
+-- ---- the batch
+
+pub empty_whole : (size : ℕ) (pages : List BatchPage) → pages ≡ [] → AreWhole size pages
+empty_whole size pages none page bytes is =
+    let no : None ≡ Some bytes = sym (ap (λ (xs : List BatchPage). content_in xs page) none) ∙ is in
+    absurd cc
+
+count_most : (q : Bool) (n : ℕ) → (if q then n else (n + 1)) ≤ n + 1
+count_most true n = omega arith
+count_most false n = omega arith
+
+one_more : (old new : Changed) (page : ℕ) (bytes : List ℕ) → PutsPage old new page bytes
+    → length new.pages ≤ length old.pages + 1
+one_more old new page bytes puts =
+    subst (λ (n : ℕ). n ≤ length old.pages + 1) (sym puts.count)
+    (count_most (is_in old.pages page) (length old.pages))
+
+-- each order is one before the header page
+abbrev BeforeHead : List Order → Type 0
+BeforeHead orders = (a b : ℕ) → lists orders a b ≡ true → (b ≡ 0) × (a ≢ 0)
+
+ends : (orders : List Order) → BeforeHead orders → (a b : ℕ) → Precedes (lists orders) a b
+    → (b ≡ 0) × (a ≢ 0)
+ends orders before a b (directly is) = before a b is
+ends orders before a b (through x y) = ((ends orders before _ b y).0, (ends orders before a _ x).1)
+
+lawful_of : (size : ℕ) (old new : Changed) → length old.pages ≤ 2 → AreWhole size old.pages
+    → PutsHead size old new → BeforeHead new.orders → IsLawful size new.pages new.orders
+lawful_of size old new few whole puts before = record {
+  few = let most = one_more old new 0 puts.bytes puts.puts in omega (arith, few, most);
+  whole = whole_on size old new 0 puts.bytes whole puts.len puts.puts;
+  acyclic = λ page chain. (ends new.orders before page page chain).1
+      (ends new.orders before page page chain).0;
+  later_in = λ a b is. subst (λ (n : ℕ). is_in new.pages n ≡ true) (sym (before a b is).0)
+      (ap (λ (o : Option (List ℕ)). is_some o) puts.puts.here);
+}
+
+none_before : (orders : List Order) → orders ≡ [] → BeforeHead orders
+none_before orders none a b is =
+    let no : false ≡ true = sym (ap (λ (os : List Order). lists os a b) none) ∙ is in absurd cc
+
+pub lawful_last : (size : ℕ) (old new : Changed) → old.pages ≡ [] → old.orders ≡ []
+    → PutsHead size old new → IsLawful size new.pages new.orders
+lawful_last size old new none unordered puts =
+    lawful_of size old new
+    (let long : length old.pages ≡ 0 = ap (λ (xs : List BatchPage). length xs) none in
+    omega (arith, long)) (empty_whole size old.pages none) puts
+    (none_before new.orders (puts.puts.same_orders ∙ unordered))
+
+one_order : (x a b : ℕ) → x ≢ 0 → (x == a && 0 == b) ≡ true → (b ≡ 0) × (a ≢ 0)
+one_order x a b some is =
+    let parts = and_parts (x == a) (0 == b) is in
+    (sym (eqb-true 0 b parts.1), λ zero. some (eqb-true x a parts.0 ∙ zero))
+
+tip_before_head : (size at : ℕ) → at ≢ 0 → BeforeHead (tip_orders size at)
+tip_before_head size at some a b is = of (or_cases _ _ is)
+  where
+    inventory : ℕ
+    inventory = inventory_page size (region_of size at)
+
+    rest : ((inventory == a && 0 == b) ≡ true) ⊎ (false ≡ true) → (b ≡ 0) × (a ≢ 0)
+    rest (inl here) = one_order inventory a b (λ zero. absurd (omega (arith, zero))) here
+    rest (inr never) = absurd cc
+
+    of : ((at == a && 0 == b) ≡ true) ⊎ (((inventory == a && 0 == b) || false) ≡ true)
+        → (b ≡ 0) × (a ≢ 0)
+    of (inl here) = one_order at a b some here
+    of (inr more) = rest (or_cases _ _ more)
+
+module _ {D L : Type 0} (m : Meaning D) (store : Pool D L) (old new : Changed) (t last : ℕ)
+    (page : TipPage) (tip : PutsTip m store old new t last page) where
+  abbrev size : ℕ
+  size = store.geometry.size
+
+  pub tip_len : length page.bytes ≡ size
+  tip_len = ap (λ (b : List ℕ). length b) tip.bytes_are
+      ∙ length-new_tip_page size page.page (t / places size) last
+
+  pub tip_whole : old.pages ≡ [] → AreWhole size new.pages
+  tip_whole none = subst (λ (xs : List BatchPage). AreWhole size xs) (sym tip.pages)
+      (whole_on size tip.taken tip.put page.page page.bytes
+      (whole_on size old tip.taken (inventory_page size (region_of size page.page))
+      tip.inventory.bytes (empty_whole size old.pages none) tip.inventory.len tip.inventory.puts)
+      tip_len tip.puts)
+
+  tip_few : old.pages ≡ [] → length new.pages ≤ 2
+  tip_few none =
+      let long : length old.pages ≡ 0 = ap (λ (xs : List BatchPage). length xs) none in
+      let one = one_more old tip.taken (inventory_page size (region_of size page.page))
+      tip.inventory.bytes tip.inventory.puts in
+      let two = one_more tip.taken tip.put page.page page.bytes tip.puts in
+      let same : length new.pages ≡ length tip.put.pages =
+      ap (λ (xs : List BatchPage). length xs) tip.pages in omega (arith, long, one, two, same)
+
+  pub tip_orders_are : old.orders ≡ [] → new.orders ≡ tip_orders size page.page
+  tip_orders_are none = tip.orders
+      ∙ ap (λ (os : List Order). os ++ tip_orders size page.page) none
+
+  pub lawful_new : (last_ : Changed) → old.pages ≡ [] → old.orders ≡ [] → PutsHead size new last_
+      → IsLawful size last_.pages last_.orders
+  lawful_new last_ none unordered puts = lawful_of size new last_ (tip_few none) (tip_whole none)
+      puts (subst (λ (os : List Order). BeforeHead os)
+      (sym (puts.puts.same_orders ∙ tip_orders_are unordered))
+      (tip_before_head size page.page tip.inventory.no_header))
+
+-- ---- what is seen
+
+pub empty_view : {D L : Type 0} (store : Pool D L) (image : Image) (batch : Changed)
+    → batch.pages ≡ [] → viewed store image batch ≡ shown store.dirty image
+empty_view store image batch none = ap (λ (xs : List BatchPage). λ (n : ℕ).
+    unwrap_or (content_in xs n) (shown store.dirty image n)) none
+
+module _ {D L : Type 0} (m : Meaning D) (start : Pool D L) (t : ℕ) (image : Image)
+    (tells : Tells m start.disk image) (old : Changed) (none : old.pages ≡ [])
+    (unordered : old.orders ≡ []) (h raised : Header)
+    (is : reading (shown start.dirty image 0) start.geometry.size ≡ Ok h)
+    (below : h.next.0 < GREATEST_NEXT) where
+  abbrev before : Pages
+  before = shown start.dirty image
+
+  abbrev size_ : ℕ
+  size_ = start.geometry.size
+
+  head_is : h ≡ header_of before
+  head_is = (reading_ok (before 0) size_ h is).2
+
+  seen : (p : ℕ) → viewed start image old p ≡ before p
+  seen p = ap (λ (v : Pages). v p) (empty_view start image old none)
+
+  pub draws_last : (mid : Pool D L) (new : Changed) → KeepsStore m start mid
+      → PutsHead mid.geometry.size old new → raised ≡ raised_header h h.last_tip.0
+      → ((i : Image) → Tells m mid.disk i → MayBeHeader raised (viewed mid i old 0)
+      → reading (viewed mid i new 0) mid.geometry.size ≡ Ok raised)
+      → DrawsOn start.geometry t before (viewed start image new) None new.orders
+  draws_last mid new kept puts raised_is again =
+      subst (λ (os : List Order). DrawsOn start.geometry t before (viewed start image new) None os)
+      (sym (puts.puts.same_orders ∙ unordered))
+      (on_last (subst (λ (x : Header). RaisesHead size_ before (viewed start image new) x.last_tip.0)
+      head_is (head_raises m start mid image old new before h raised h.last_tip.0 kept tells
+      (sym (seen 0)) puts is below raised_is again))
+      (λ p apart. viewed_else start image old new 0 puts.bytes puts.puts p apart ∙ seen p))
+
+  pub draws_new : (one two : Pool D L) (mid new : Changed) (page : TipPage) → KeepsStore m start one
+      → KeepsStore m start two → PutsTip m one old mid t h.last_tip.0 page
+      → PutsHead two.geometry.size mid new → raised ≡ raised_header h page.page
+      → ((i : Image) → Tells m two.disk i → MayBeHeader raised (viewed two i mid 0)
+      → reading (viewed two i new 0) two.geometry.size ≡ Ok raised)
+      → DrawsOn start.geometry t before (viewed start image new) (Some page) new.orders
+  draws_new one two mid new page kept_one kept_two tip puts raised_is again =
+      subst (λ (os : List Order). DrawsOn start.geometry t before (viewed start image new)
+      (Some page) os) (sym orders)
+      (on_new page (viewed start image tip.taken) taking bytes here raises others)
+    where
+      orders : new.orders ≡ tip_orders size_ page.page
+      orders = puts.puts.same_orders ∙ (tip_orders_are m one old mid t h.last_tip.0 page tip unordered
+          ∙ ap (λ (g : Geometry). tip_orders g.size page.page) kept_one.geometry)
+
+      taking : TakesPage start.geometry before (viewed start image tip.taken) page.page
+      taking = subst (λ (v : Pages). TakesPage start.geometry v (viewed start image tip.taken) page.page)
+          (empty_view start image old none)
+          (subst (λ (v : Pages). TakesPage start.geometry v (viewed start image tip.taken) page.page)
+          (viewed_on m start one image old kept_one)
+          (subst (λ (v : Pages). TakesPage start.geometry (viewed one image old) v page.page)
+          (viewed_on m start one image tip.taken kept_one)
+          (subst (λ (g : Geometry). TakesPage g (viewed one image old) (viewed one image tip.taken)
+          page.page) kept_one.geometry (tip.takes image (tells_on m start one image kept_one tells)))))
+
+      bytes : page.bytes ≡ new_tip_page size_ page.page (t / places size_) (header_of before).last_tip.0
+      bytes = subst (λ (g : Geometry). page.bytes
+          ≡ new_tip_page g.size page.page (t / places g.size) h.last_tip.0) kept_one.geometry
+          tip.bytes_are
+          ∙ ap (λ (x : Header). new_tip_page size_ page.page (t / places size_) x.last_tip.0) head_is
+
+      put_view : (p : ℕ) → viewed start image mid p ≡ viewed start image tip.put p
+      put_view p = ap (λ (xs : List BatchPage). unwrap_or (content_in xs p) (before p)) tip.pages
+
+      here : viewed start image new page.page ≡ page.bytes
+      here = viewed_else start image mid new 0 puts.bytes puts.puts page.page
+          tip.inventory.no_header ∙ (put_view page.page
+          ∙ viewed_here start image tip.taken tip.put page.page page.bytes tip.puts)
+
+      others : (p : ℕ) → p ≢ 0 → p ≢ page.page
+          → viewed start image new p ≡ viewed start image tip.taken p
+      others p no_head apart = viewed_else start image mid new 0 puts.bytes puts.puts p no_head
+          ∙ (put_view p
+          ∙ viewed_else start image tip.taken tip.put page.page page.bytes tip.puts p apart)
+
+      head_same : viewed start image mid 0 ≡ before 0
+      head_same = put_view 0
+          ∙ (viewed_else start image tip.taken tip.put page.page page.bytes tip.puts 0
+          (λ zero. tip.inventory.no_header (sym zero))
+          ∙ (viewed_else start image old tip.taken
+          (inventory_page one.geometry.size (region_of one.geometry.size page.page))
+          tip.inventory.bytes tip.inventory.puts 0 (λ zero. absurd (omega (arith, zero)))
+          ∙ seen 0))
+
+      raises : RaisesHead size_ before (viewed start image new) page.page
+      raises = head_raises m start two image mid new before h raised page.page kept_two tells
+          (sym head_same) puts is below raised_is again

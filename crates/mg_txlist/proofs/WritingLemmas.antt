@@ -1,0 +1,83 @@
+-- Page writes that go on, and one that fails.
+use Rattle.std.proofs.Common.{◌≡◌, ◌∙◌, ◌/◌, ◌%◌, sym, subst, None, Some, ℕ, true, false, List, Result, Ok, Err, OnOk, IfErr}
+use Rattle.mg_base.specs.Image.{Image}
+use Rattle.mg_base.specs.declared.numbers.PageNo.{PageNo}
+use Rattle.mg_base.specs.declared.transaction.TxState.TheVariants.{Committed}
+use Rattle.mg_pool.specs.Dirty.{is_dirty}
+use Rattle.mg_pool.specs.Pool.{KeepsContent}
+use Rattle.mg_space.specs.declared.fault.SpaceFault.{SpaceFault}
+use Rattle.mg_space.specs.declared.fault.SpaceFault.TheVariants as faults
+use Rattle.mg_tip.specs.TipPage.{SetsState, places}
+use Rattle.mg_txlist.specs.declared.list.TxList.{TxList}
+use Rattle.mg_txlist.specs.Ending.{ChangesBits, FailsCommit, FailsToSettle, SettlesPage, not_settled}
+use Rattle.mg_txlist.specs.TxList.{tip_in}
+use Rattle.mg_base.specs.Disk.{MayLeave, Meaning}
+use Rattle.mg_pool.specs.Fault.{OnlyWrites, TellsFault}
+use Rattle.mg_pool.specs.Law.{JoinsRuns}
+use Rattle.mg_pool.specs.Refusal.{LeavesRefused}
+use Rattle.mg_pool.specs.Run.{HasWritten}
+use Rattle.mg_pool.specs.declared.fault.PoolFault.{PoolFault}
+use Rattle.mg_pool.specs.declared.fault.PoolFault.TheVariants.{DiskRead, DiskWrite, Offline, Absent, Memory}
+use Rattle.mg_pool.specs.declared.pool.Pool.{Pool}
+
+-- what a page write leaves that fails after others, since the first of them
+pub refused_on : {D L : Type 0} (m : Meaning D) (a b c : Pool D L) (fault : PoolFault)
+    → JoinsRuns D L m → HasWritten m a b → b.offline ≡ None
+    → OnlyWrites {T = Unit {0}} (Err fault) → TellsFault {T = Unit {0}} m b c (Err fault)
+    → LeavesRefused {T = Unit {0}} m b c (Err fault)
+    → LeavesRefused {T = Unit {0}} m a c (Err fault)
+refused_on m a b c (DiskRead n) joins run online own tells leaves = absurd own
+refused_on m a b c (DiskWrite n) joins run online own tells leaves = record {
+  before = leaves.before;
+  written = joins a b leaves.before run leaves.written;
+  fails = leaves.fails;
+}
+refused_on m a b c (Offline n) joins run online own tells leaves =
+    let same : Some n ≡ None = sym tells.0 ∙ online in absurd cc
+refused_on m a b c (Absent n) joins run online own tells leaves = absurd own
+refused_on m a b c Memory joins run online own tells leaves = absurd own
+
+-- ---- the bits of a transaction
+
+module _ {D L : Type 0} (m : Meaning D) (old changed written new : Pool D L) (page : PageNo)
+    (bytes : List ℕ) (changes : ChangesBits m old changed page bytes)
+    (writes : HasWritten m changed written) (out : is_dirty written.dirty page.0 ≡ false)
+    (settles : KeepsContent m written.disk new.disk)
+    (same : new ≡ record written { disk = new.disk; faults = new.faults; offline = new.offline })
+    where
+  pub settled : (result : Result (Unit {0}) PoolFault)
+      → OnOk result (m.tells written.disk ≡ true → (image : Image) → MayLeave m new.disk image
+      → m.held new.disk ≡ Some image) → OnOk result (SettlesPage m old new page bytes)
+  settled (Ok x) durable = record {
+    changed = changed;
+    written = written;
+    changes = changes;
+    writes = writes;
+    out = out;
+    settles = settles;
+    same = same;
+    durable = durable;
+  }
+  settled (Err e) durable = tt
+
+  pub unsettled : (result : Result (Unit {0}) PoolFault)
+      → IfErr result (FailsToSettle m old new page bytes)
+  unsettled (Ok x) = tt
+  unsettled (Err e) = not_settled changed written changes writes out settles same
+
+pub fails_commit : {D L : Type 0} (m : Meaning D) (list : TxList) (before after : Pool D L) (t : ℕ)
+    (fault given : PoolFault) (page : PageNo) (bytes : List ℕ)
+    → ◌≡◌ {A = Result (Unit {0}) SpaceFault} (Err (faults.Pool fault)) (Err (faults.Pool given))
+    → page.0 ≡ (tip_in list (t / places list.size)).page
+    → SetsState (tip_in list (t / places list.size)).bytes bytes (t % places list.size) Committed
+    → FailsToSettle m before after page bytes fault
+    → FailsCommit m list before after t given
+fails_commit m list before after t fault given page bytes is number sets fails =
+    let same : fault ≡ given = cc in record {
+      bytes = bytes;
+      sets = sets;
+      fails = subst (λ (f : PoolFault). FailsToSettle m before after
+          (record { 0 = (tip_in list (t / places list.size)).page }) bytes f) same
+          (subst (λ (n : ℕ). FailsToSettle m before after (record { 0 = n }) bytes fault) number
+          fails);
+    }

@@ -1,0 +1,87 @@
+use Rattle.std.proofs.Common.{◌≡◌, ◌<◌, ◌∙◌, ◌%◌, ap, arith, subst, sym, ℕ}
+use Rattle.mg_base.specs.declared.geometry.Geometry.{Geometry}
+use Rattle.mg_header.specs.declared.header.Header.{Header}
+use Rattle.mg_header.specs.declared.header.TheConstants.{GREATEST_NEXT}
+use Rattle.mg_pool.specs.Batch.{IsLawful}
+use Rattle.mg_space.specs.View.{AreWhole}
+use Rattle.mg_space.specs.ViewLaws.{keeps_on}
+use Rattle.mg_tip.specs.TipPage.{places}
+use Rattle.mg_txlist.specs.Drawing.{PutsHead, raised_header}
+use Rattle.mg_txlist.proofs.AddLemmas.{same_number}
+use Rattle.mg_txlist.proofs.DrawLemmas.{draws_last, draws_new, lawful_last, lawful_new, tip_len, tip_whole}
+use Rattle.mg_txlist.proofs.drawing.fill.Goals as goal
+
+pub returns-then-t-places_of-ne0-clause-lawful : goal.returns-then-t-places_of-ne0-clause-lawful
+returns-then-t-places_of-ne0-clause-lawful g c =
+    subst (λ (x : Geometry). IsLawful x.size c.put_head.new.batch.pages c.put_head.new.batch.orders)
+    c.read_head.ensures.keeps.geometry
+    (lawful_last c.read_head.new.store.geometry.size c.args.batch.now c.put_head.new.batch
+    c.requires.empty c.requires.unordered c.in_ok-put_head.ensures.puts)
+
+pub returns-then-t-places_of-ne0-clause-draws : goal.returns-then-t-places_of-ne0-clause-draws
+returns-then-t-places_of-ne0-clause-draws g c = λ image tells.
+    let below : c.in_ok-header.header.next.0 < GREATEST_NEXT =
+    same_number c.in_ok-header.header.next.0 c.args.t.0 c.if-header-t.false c.requires.below in
+    draws_last g.D.Disk.meaning c.args.store.now c.args.t.0 image tells c.args.batch.now
+    c.requires.empty c.requires.unordered c.in_ok-header.header c.raised.result
+    (c.in_ok-header.ensures.says image tells) below c.read_head.new.store c.put_head.new.batch
+    c.read_head.ensures.keeps c.in_ok-put_head.ensures.puts c.raised.ensures
+    c.in_ok-put_head.ensures.head
+
+pub put_head-requires-2-clause-whole : goal.put_head-requires-2-clause-whole
+put_head-requires-2-clause-whole g c =
+    subst (λ (x : Geometry). AreWhole x.size c.put_tip.new.batch.pages)
+    (sym c.put_tip.ensures.keeps.geometry)
+    (tip_whole g.D.Disk.meaning c.read_head.new.store c.args.batch.now c.put_tip.new.batch c.args.t.0
+    c.in_ok-header.header.last_tip.0 c.in_ok-page.page c.in_ok-page.ensures.puts c.requires.empty)
+
+pub returns-in_err-put_head-2-clause-keeps : goal.returns-in_err-put_head-2-clause-keeps
+returns-in_err-put_head-2-clause-keeps g c =
+    keeps_on g.D.Disk.meaning g.met.D.Disk.counts_now c.args.store.now c.read_head.new.store
+    c.put_head-2.new.store c.read_head.ensures.keeps
+    (keeps_on g.D.Disk.meaning g.met.D.Disk.counts_now c.read_head.new.store c.put_tip.new.store
+    c.put_head-2.new.store c.put_tip.ensures.keeps c.put_head-2.ensures.keeps)
+
+pub returns-clause-keeps : goal.returns-clause-keeps
+returns-clause-keeps g c =
+    keeps_on g.D.Disk.meaning g.met.D.Disk.counts_now c.args.store.now c.read_head.new.store
+    c.put_head-2.new.store c.read_head.ensures.keeps
+    (keeps_on g.D.Disk.meaning g.met.D.Disk.counts_now c.read_head.new.store c.put_tip.new.store
+    c.put_head-2.new.store c.put_tip.ensures.keeps c.put_head-2.ensures.keeps)
+
+pub returns-clause-lawful : goal.returns-clause-lawful
+returns-clause-lawful g c =
+    let same = c.put_tip.ensures.keeps.geometry in
+    subst (λ (x : Geometry). IsLawful x.size c.put_head-2.new.batch.pages c.put_head-2.new.batch.orders)
+    c.read_head.ensures.keeps.geometry
+    (lawful_new g.D.Disk.meaning c.read_head.new.store c.args.batch.now c.put_tip.new.batch c.args.t.0
+    c.in_ok-header.header.last_tip.0 c.in_ok-page.page c.in_ok-page.ensures.puts
+    c.put_head-2.new.batch c.requires.empty c.requires.unordered
+    (subst (λ (x : Geometry). PutsHead x.size c.put_tip.new.batch c.put_head-2.new.batch) same
+    c.in_ok-put_head-2.ensures.puts))
+
+pub returns-clause-page : goal.returns-clause-page
+returns-clause-page g c =
+    let size = ap (λ (x : Geometry). x.size) c.geometry-size.ensures
+    ∙ ap (λ (x : Geometry). x.size) c.read_head.ensures.keeps.geometry in
+    (
+      ap (λ (k : ℕ). c.args.t.0 % k) (sym (c.places_of.ensures ∙ ap places size))
+          ∙ c.if-t-places_of-ne0.false,
+      c.in_ok-page.ensures.puts.inventory.no_header,
+      tip_len g.D.Disk.meaning c.read_head.new.store c.args.batch.now c.put_tip.new.batch c.args.t.0
+          c.in_ok-header.header.last_tip.0 c.in_ok-page.page c.in_ok-page.ensures.puts
+          ∙ ap (λ (x : Geometry). x.size) c.read_head.ensures.keeps.geometry,
+    )
+
+pub returns-clause-draws : goal.returns-clause-draws
+returns-clause-draws g c = λ image tells.
+    let below : c.in_ok-header.header.next.0 < GREATEST_NEXT =
+    same_number c.in_ok-header.header.next.0 c.args.t.0 c.if-header-t.false c.requires.below in
+    draws_new g.D.Disk.meaning c.args.store.now c.args.t.0 image tells c.args.batch.now
+    c.requires.empty c.requires.unordered c.in_ok-header.header c.raised-2.result
+    (c.in_ok-header.ensures.says image tells) below c.read_head.new.store c.put_tip.new.store
+    c.put_tip.new.batch c.put_head-2.new.batch c.in_ok-page.page c.read_head.ensures.keeps
+    (keeps_on g.D.Disk.meaning g.met.D.Disk.counts_now c.args.store.now c.read_head.new.store
+    c.put_tip.new.store c.read_head.ensures.keeps c.put_tip.ensures.keeps)
+    c.in_ok-page.ensures.puts c.in_ok-put_head-2.ensures.puts c.raised-2.ensures
+    c.in_ok-put_head-2.ensures.head

@@ -1,0 +1,39 @@
+use Rattle.std.proofs.Common.{◌≡◌, ◌∙◌, subst, sym, ℕ}
+use Rattle.mg_pool.specs.Pool.{shown}
+use Rattle.mg_space.specs.View.{viewed}
+use Rattle.mg_txlist.specs.Drawing.{DrawsOn}
+use Rattle.mg_txlist.proofs.AddLemmas.{adds_number, own_back, pages_back, same_list}
+use Rattle.mg_txlist.proofs.list.TxList.draw.Goals as goal
+
+pub returns-in-Ok-clause-adds : goal.returns-in-Ok-clause-adds
+returns-in-Ok-clause-adds g c = adds_number c.args.self.now c.add.new.self c.in_ok-page.page
+    c.requires.list c.in_ok-add.ensures.pages c.in_ok-add.ensures.own c.add.ensures.first
+    c.add.ensures.size
+
+pub returns-in-Ok-clause-draws : goal.returns-in-Ok-clause-draws
+returns-in-Ok-clause-draws g c = record {
+  ready = c.fill.new.store;
+  batch = c.fill.new.batch;
+  page = c.in_ok-page.page;
+  keeps = c.in_ok-page.ensures.keeps;
+  changes = c.in-Ok.ensures.changes;
+  frame = c.in-Ok.ensures.frame;
+  crash = c.in-Ok.ensures.crash;
+  views = λ image tells. subst (λ (t : ℕ). DrawsOn c.args.store.now.geometry t
+      (shown c.args.store.now.dirty image) (viewed c.args.store.now image c.fill.new.batch)
+      c.in_ok-page.page c.fill.new.batch.orders) c.next-t.ensures
+      (c.in_ok-page.ensures.draws image tells);
+  adds = c.in_ok-add.ensures.pages;
+}
+
+pub returns-in-Err-clause-list : goal.returns-in-Err-clause-list
+returns-in-Err-clause-list g c = same_list c.args.self.now _ (record {
+      pages = pages_back c.args.self.now c.add.new.self c.in_ok-page.page c.len-pages.result
+          c.truncate.new.self.items c.in_ok-add.ensures.pages (c.len-pages.ensures ∙ c.args.self.now.pages.ok.0)
+          c.truncate.ensures.items;
+      own = own_back c.args.self.now.own.items c.add.new.self.own.items c.len-own.result
+          c.truncate-in-Err.new.self.items c.in_ok-add.ensures.own (c.len-own.ensures ∙ c.args.self.now.own.ok.0)
+          c.truncate-in-Err.ensures.items;
+      first = c.add.ensures.first;
+      size = c.add.ensures.size;
+    }) c.requires.list

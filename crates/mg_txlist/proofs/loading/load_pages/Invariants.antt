@@ -1,0 +1,18 @@
+use Rattle.std.proofs.Common.{◌≡◌, ◌≤◌, ◌-◌, ◌++◌, length}
+use Rattle.mg_base.specs.Image.{Image}
+use Rattle.mg_pool.specs.Pool.{shown}
+use Rattle.mg_space.specs.View.{KeepsStore, Tells}
+use Rattle.mg_txlist.specs.Chain.{AreTested, AreWholePages, tips_below}
+use Rattle.mg_txlist.proofs.loading.load_pages.Given as goal
+
+abbrev pub invariant-loop-k : goal.invariant-loop-k
+invariant-loop-k g l = record {
+  keeps : KeepsStore g.D.Disk.meaning l.initial.store l.store;
+  faults : l.store.faults ≡ l.initial.store.faults;
+  read : length l.pages.items ≡ l.k;
+  whole : AreWholePages l.initial.store.geometry.size l.pages.items;
+  tested : AreTested (l.count - l.k) l.pages.items;
+  says : (image : Image) → Tells g.D.Disk.meaning l.initial.store.disk image
+      → tips_below (shown l.initial.store.dirty image) l.initial.at.0 l.count
+      ≡ tips_below (shown l.initial.store.dirty image) l.at.0 (l.count - l.k) ++ l.pages.items;
+}

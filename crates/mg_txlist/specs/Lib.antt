@@ -1,0 +1,4 @@
+pub mod Chain
+pub mod Drawing
+pub mod Ending
+pub mod TxList
