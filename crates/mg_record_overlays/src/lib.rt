@@ -10,8 +10,8 @@
 //! batch or not, as the orders allow (`DeadSteps`); with the writer in limbo the pool's own image is
 //! looked at alone.
 //!
-//! All stands in `specs/`: `DeadSteps` and `Behind` for one page; `PushPart`, `PushKept` and
-//! `PushEvery`; `AddPart` and `AddEvery`; `OwnWrites` for any version of a writer in limbo; `Cut` and
+//! All stands in `specs/`: `QuietSteps`, `DeadSteps` and `Behind` for one page; `PushPart`, `PushKept`
+//! and `PushEvery`; `AddPart` and `AddEvery`; `OwnWrites` for any version of a writer in limbo; `Cut` and
 //! `CutEvery`. There is no program here: each function does nothing,
 //! and its contract is a law.
 //!
