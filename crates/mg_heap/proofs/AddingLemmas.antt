@@ -1,5 +1,5 @@
 -- Lemmas of a cell that is added.
-use Rattle.std.proofs.Common.{◌≡◌, ◌≢◌, ◌<◌, ◌∙◌, ◌⊎◌, inl, inr, ℕ, List, refl, sym, ap, subst, Result, Ok, Err}
+use Rattle.std.proofs.Common.{◌≡◌, ◌<◌, ◌∙◌, inr, ℕ, List, refl, sym, ap, subst, Result, Ok, Err}
 use Rattle.std.specs.Prelude.{MatchResult}
 use Rattle.mg_base.specs.Disk.{Meaning}
 use Rattle.mg_base.specs.Image.{Image}
@@ -11,8 +11,8 @@ use Rattle.mg_pool.specs.Batch.{Changed, PutsPage}
 use Rattle.mg_pool.specs.declared.pool.Pool.{Pool}
 use Rattle.mg_slots.specs.Changes.{PutsCell}
 use Rattle.mg_slots.specs.Room.{least_free, need_of, room_of}
-use Rattle.mg_space.specs.View.{KeepsStore, Tells, viewed}
-use Rattle.mg_space.specs.ViewLaws.{tells_on, viewed_else, viewed_here, viewed_on}
+use Rattle.mg_space.specs.View.{KeepsStore, viewed}
+use Rattle.mg_space.specs.ViewLaws.{viewed_else, viewed_here, viewed_on}
 use Rattle.mg_space.specs.declared.fault.SpaceFault.{SpaceFault}
 use Rattle.mg_space.specs.declared.fault.SpaceFault.TheVariants as faults
 use Rattle.mg_heap.specs.Reading.{IsSomeData}

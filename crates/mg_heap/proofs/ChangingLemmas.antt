@@ -1,7 +1,7 @@
 -- Lemmas of changes of one data page.
-use Rattle.std.proofs.Common.{◌≡◌, ◌≢◌, ◌<◌, ◌+◌, ◌≤◌, ◌++◌, ◌∙◌, ℕ, Bool, true, false, List, Option, None, Some, take, drop, length, refl, sym, ap, subst, arith}
+use Rattle.std.proofs.Common.{◌≡◌, ◌<◌, ◌+◌, ◌++◌, ◌∙◌, ℕ, Bool, true, false, List, Option, None, Some, take, length, refl, sym, ap, subst, arith}
 use Rattle.std.proofs.Math.Seq.{take-append_seam}
-use Rattle.std.specs.Prelude.{is_some, IsSome}
+use Rattle.std.specs.Prelude.{is_some}
 use Rattle.mg_base.specs.Image.{Image}
 use Rattle.mg_base.specs.declared.numbers.RecId.{RecId}
 use Rattle.mg_pool.specs.Batch.{Changed, PutsPage}
@@ -12,7 +12,7 @@ use Rattle.mg_slots.specs.Room.{first_without, least_free}
 use Rattle.mg_slots.specs.RoomLaws.{first_without_found, first_without_more}
 use Rattle.mg_space.specs.View.{viewed}
 use Rattle.mg_space.specs.ViewLaws.{viewed_else, viewed_here}
-use Rattle.mg_heap.specs.Changing.{FreesCellAt, MayHave, PlacesCell, PutsCellAt}
+use Rattle.mg_heap.specs.Changing.{FreesCellAt, MayHave, PlacesCell}
 use Rattle.mg_heap.specs.Reading.{IsSomeData}
 
 -- bytes that were written through a slice

@@ -1,5 +1,5 @@
 -- Lemmas of a table that gets a data page.
-use Rattle.std.proofs.Common.{◌≡◌, ◌++◌, ◌∷◌, [], ◌∙◌, ◌<◌, ◌+◌, ◌-◌, ◌/◌, ◌⊎◌, arith, inl, inr, ℕ, Bool, true, false, List, length, append_assoc, refl, sym, ap, subst, Result, Ok, Err}
+use Rattle.std.proofs.Common.{◌≡◌, ◌++◌, ◌∙◌, ◌<◌, ◌+◌, ◌-◌, ◌/◌, ◌⊎◌, arith, inl, inr, ℕ, Bool, true, false, List, length, append_assoc, sym, ap, subst, Result, Ok, Err}
 use Rattle.std.specs.Prelude.{IsTrue, MatchResult, nat_lt, ◌↔◌}
 use Rattle.std.proofs.lemmas.Bool.{lt-ltb, ltb-true}
 use Rattle.std.specs.Bool.{OnTrue}
@@ -21,7 +21,7 @@ use Rattle.mg_heap.specs.GrowthLaws.{whole_begun, whole_made}
 use Rattle.mg_space.specs.declared.fault.SpaceFault.{SpaceFault}
 use Rattle.mg_heap.specs.declared.growth.DataPage.{DataPage}
 use Rattle.mg_heap.specs.Table.{RefusesPointerPage}
-use Rattle.mg_heap.specs.Growth.{AddsOrders, GrowsTable, HasEntryRoom, ListsInLast, ListsInNew, MakesData, MakesPointer, RefusesSecond, RefusesTwo, TakesTwo, orders_to}
+use Rattle.mg_heap.specs.Growth.{AddsOrders, GrowsTable, HasEntryRoom, ListsInLast, ListsInNew, MakesData, MakesPointer, RefusesTwo, orders_to}
 
 pub on_true : {P : Type 0} (b : Bool) → IsTrue b → OnTrue b P → P
 on_true true is holds = holds

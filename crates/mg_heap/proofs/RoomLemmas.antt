@@ -1,6 +1,6 @@
 -- Lemmas of the search for a data page with room.
-use Rattle.std.proofs.Common.{[], ◌∷◌, zero, suc, ◌≡◌, ◌≢◌, ◌<◌, ◌≤◌, ◌+◌, ◌-◌, ◌∙◌, ◌⊎◌, inl, inr, ℕ, Bool, true, false, List, Option, None, Some, length, get_or, refl, sym, ap, subst, arith, below_more, Result, Ok, Err}
-use Rattle.std.proofs.lemmas.Bool.{cases_eq, eq-eqb, ne_eqb}
+use Rattle.std.proofs.Common.{[], ◌∷◌, zero, suc, ◌≡◌, ◌≢◌, ◌<◌, ◌≤◌, ◌+◌, ◌-◌, ◌∙◌, ◌⊎◌, inl, inr, ℕ, List, length, get_or, sym, ap, subst, arith, below_more, Result, Ok, Err}
+use Rattle.std.proofs.lemmas.Bool.{cases_eq, ne_eqb}
 use Rattle.mg_base.specs.Disk.{Meaning}
 use Rattle.std.specs.Prelude.{MatchResult}
 use Rattle.mg_base.specs.Image.{Image}

@@ -1,6 +1,6 @@
 -- Lemmas of following the chain of a table's pointer pages.
-use Rattle.std.proofs.Common.{◌≡◌, ◌≢◌, ◌<◌, ◌≤◌, ◌+◌, ◌-◌, ◌^◌, ◌++◌, ◌∷◌, [], ◌∙◌, ◌⊎◌, inl, inr, ℕ, true, false, List, length, length-append, refl, sym, ap, subst, arith, Result, Ok, Err}
-use Rattle.std.specs.Prelude.{IsErr, IsErrAnd, MatchResult, OnOk, unwrap_or}
+use Rattle.std.proofs.Common.{◌≡◌, ◌≢◌, ◌<◌, ◌≤◌, ◌+◌, ◌^◌, ◌++◌, ◌∷◌, [], ◌∙◌, ◌⊎◌, inl, inr, ℕ, true, List, length, length-append, refl, sym, ap, subst, arith, Result, Ok, Err}
+use Rattle.std.specs.Prelude.{IsErr, IsErrAnd, MatchResult, OnOk}
 use Rattle.mg_base.specs.Checks.{PassesAll, verdict}
 use Rattle.mg_base.specs.CheckLaws.{passes_from_verdict}
 use Rattle.mg_base.specs.Disk.{Meaning}
@@ -21,7 +21,7 @@ use Rattle.mg_space.specs.View.{KeepsStore, Tells, viewed}
 use Rattle.mg_space.specs.ViewLaws.{tells_on, viewed_on}
 use Rattle.mg_space.specs.declared.fault.SpaceFault.{SpaceFault}
 use Rattle.mg_space.specs.declared.fault.SpaceFault.TheVariants as faults
-use Rattle.mg_heap.specs.Table.{FollowsPage, IsBrokenChain, IsLinkDamage, IsPointerAt, IsPointerDamage, LeadsTo, LinksTo, ListsPage, RefusesPointer, RefusesPointerPage, RefusesTable, back, link_damage, misled, past, unlike}
+use Rattle.mg_heap.specs.Table.{FollowsPage, IsLinkDamage, IsPointerAt, IsPointerDamage, LeadsTo, LinksTo, ListsPage, RefusesPointer, RefusesPointerPage, RefusesTable, back, link_damage, misled, past, unlike}
 use Rattle.mg_heap.specs.TableLaws.{entries_push, has_push, leads_on, once_push, once_short}
 
 pub handed_on : {T : Type 0} (result : Result T SpaceFault) (fault : SpaceFault)

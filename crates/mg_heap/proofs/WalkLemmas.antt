@@ -1,5 +1,5 @@
 -- Lemmas of the walk over the records of a table.
-use Rattle.std.proofs.Common.{◌≡◌, ◌<◌, ◌≤◌, ◌+◌, ◌∷◌, [], ◌∙◌, ◌⊎◌, inl, inr, ℕ, suc, true, false, List, Option, None, Some, length, drop, drop-cons, get_or, refl, sym, ap, subst, arith, add-one, Result, Ok, Err}
+use Rattle.std.proofs.Common.{◌≡◌, ◌<◌, ◌≤◌, ◌+◌, ◌∷◌, [], ◌∙◌, ◌⊎◌, inl, inr, ℕ, suc, false, List, Option, None, Some, length, drop, drop-cons, get_or, refl, sym, ap, subst, arith, add-one, Result, Ok, Err}
 use Rattle.std.proofs.lemmas.Bool.{cases_lt}
 use Rattle.std.specs.Prelude.{MatchResult, unwrap_or}
 use Rattle.mg_base.specs.Disk.{Meaning}
@@ -15,10 +15,9 @@ use Rattle.mg_slots.specs.DataPage.{cell_of, slot_count}
 use Rattle.mg_slots.specs.DataPageLaws.{cell_past}
 use Rattle.mg_space.specs.declared.fault.SpaceFault.{SpaceFault}
 use Rattle.mg_space.specs.declared.fault.SpaceFault.TheVariants as faults
-use Rattle.mg_heap.specs.Reading.{RefusesData}
 use Rattle.mg_heap.specs.Table.{IsTable, RefusesTable}
 use Rattle.mg_heap.specs.TableLaws.{table_once}
-use Rattle.mg_heap.specs.Walk.{FindsRecord, GivesBehind, GivesNext, HasNoRecord, IsFirstRecord, IsNextIn, RefusesNext, RefusesTableData, RefusesWalk, RefusesWalkOf, behind, behind_page, is_primary}
+use Rattle.mg_heap.specs.Walk.{GivesBehind, GivesNext, HasNoRecord, IsFirstRecord, IsNextIn, RefusesNext, RefusesTableData, RefusesWalk, RefusesWalkOf, behind_page, is_primary}
 
 -- ---- on one page
 

@@ -1,5 +1,5 @@
 -- What a batch is after a change of one page.
-use Rattle.std.specs.Prelude.{◌≡◌, ◌⊎◌, ℕ, Bool, true, false}
+use Rattle.std.specs.Prelude.{ℕ, Bool, true, false}
 use Rattle.std.proofs.Common.{inl, inr, sym, subst}
 use Rattle.mg_pool.specs.Batch.{Changed}
 use Rattle.mg_space.specs.View.{AreWhole}

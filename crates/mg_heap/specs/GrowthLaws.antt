@@ -1,6 +1,6 @@
 -- What a batch is while a table gets a data page.
-use Rattle.std.specs.Prelude.{◌≡◌, ℕ, List, length}
-use Rattle.std.proofs.Common.{sym, subst, ◌∙◌, ap}
+use Rattle.std.specs.Prelude.{◌≡◌, ℕ, List}
+use Rattle.std.proofs.Common.{sym, subst, ◌∙◌}
 use Rattle.mg_base.specs.declared.geometry.Geometry.{Geometry}
 use Rattle.mg_pointer.specs.PointerPageLaws.{length-new_pointer_page}
 use Rattle.mg_pool.specs.Batch.{Changed}

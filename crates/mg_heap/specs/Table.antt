@@ -1,5 +1,5 @@
 -- The pages of a table: the chain of its pointer pages, and the data pages that they list.
-use Rattle.std.specs.Prelude.{◌≡◌, ◌≢◌, ◌<◌, ◌≤◌, ◌⊎◌, ◌+◌, ℕ, List, [], ◌∷◌, ◌++◌, length, Err}
+use Rattle.std.specs.Prelude.{◌≡◌, ◌≢◌, ◌<◌, ◌≤◌, ◌⊎◌, ℕ, List, [], ◌∷◌, ◌++◌, length, Err}
 use Rattle.mg_base.specs.Checks.{PassesAll, verdict}
 use Rattle.mg_base.specs.Disk.{Meaning}
 use Rattle.mg_base.specs.declared.damage.Damaged.{Damaged}
@@ -7,7 +7,7 @@ use Rattle.mg_base.specs.declared.damage.Field.TheVariants.{Link}
 use Rattle.mg_base.specs.declared.geometry.TheConstants.{GREATEST_LIMIT}
 use Rattle.mg_base.specs.declared.numbers.PageNo.{PageNo}
 use Rattle.mg_image.specs.Form.{Pages}
-use Rattle.mg_image.specs.Tables.{EachFrom, Has, IsOnce, PointerChain, entries_in}
+use Rattle.mg_image.specs.Tables.{EachFrom, Has, PointerChain, entries_in}
 use Rattle.mg_pointer.specs.PointerPage.{entries_of, next_in, pointer_checks}
 use Rattle.mg_pool.specs.declared.batch.BatchPage.{BatchPage}
 use Rattle.mg_pool.specs.declared.pool.Pool.{Pool}

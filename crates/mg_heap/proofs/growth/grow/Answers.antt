@@ -1,6 +1,5 @@
-use Rattle.std.proofs.Common.{◌≡◌, ◌∙◌, ◌+◌, List, ℕ, refl, subst}
+use Rattle.std.proofs.Common.{◌∙◌, ◌+◌, refl, subst}
 use Rattle.mg_heap.specs.Growth.{HasEntryRoom}
-use Rattle.mg_space.specs.View.{viewed}
 use Rattle.mg_space.specs.ViewLaws.{tells_on}
 use Rattle.mg_heap.proofs.GrowthLemmas.{grows_in_last, grows_in_new, no_room}
 use Rattle.mg_heap.proofs.growth.grow.Goals as goal

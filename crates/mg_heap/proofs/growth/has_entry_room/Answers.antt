@@ -1,6 +1,3 @@
-use Rattle.std.proofs.Common.{arith}
-use Rattle.std.proofs.lemmas.Bool.{lt-ltb, ltb-true}
-use Rattle.mg_pointer.specs.PointerPageLaws.{length-entries_of}
 use Rattle.mg_heap.proofs.GrowthLemmas.{has_room}
 use Rattle.mg_heap.proofs.growth.has_entry_room.Goals as goal
 

@@ -1,4 +1,4 @@
-use Rattle.std.proofs.Common.{◌≡◌, ◌∙◌, length}
+use Rattle.std.proofs.Common.{◌∙◌}
 use Rattle.mg_heap.proofs.GrowthLemmas.{makes_as, on_true, orders_as}
 use Rattle.mg_heap.specs.GrowthLaws.{whole_made, whole_same, whole_taken}
 use Rattle.mg_space.specs.ViewLaws.{whole_on}

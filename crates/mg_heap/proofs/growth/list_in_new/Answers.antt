@@ -1,4 +1,4 @@
-use Rattle.std.proofs.Common.{◌≡◌, ◌∙◌, ap}
+use Rattle.std.proofs.Common.{◌∙◌, ap}
 use Rattle.mg_pool.specs.Batch.{Changed}
 use Rattle.mg_heap.proofs.GrowthLemmas.{makes_as, orders_as, orders_on, pointer_as, whole_linked}
 use Rattle.mg_heap.specs.Growth.{orders_to}

@@ -1,5 +1,4 @@
 use Rattle.std.proofs.Common.{inr}
-use Rattle.mg_space.specs.View.{viewed}
 use Rattle.mg_space.specs.ViewLaws.{keeps_on, tells_on}
 use Rattle.mg_heap.specs.Growth.{RefusesTwo}
 use Rattle.mg_heap.proofs.GrowthLemmas.{refuses_on, takes_on}

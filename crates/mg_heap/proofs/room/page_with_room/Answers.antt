@@ -1,4 +1,4 @@
-use Rattle.std.proofs.Common.{◌≡◌, inr, refl}
+use Rattle.std.proofs.Common.{inr, refl}
 use Rattle.mg_space.specs.ViewLaws.{tells_on}
 use Rattle.mg_heap.specs.Room.{RefusesRoom}
 use Rattle.mg_heap.proofs.RoomLemmas.{finds_on, room_refused_on}

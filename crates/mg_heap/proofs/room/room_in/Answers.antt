@@ -1,4 +1,4 @@
-use Rattle.std.proofs.Common.{◌≡◌, ◌-◌, List, ℕ, Option, arith, inl, subst, get_or}
+use Rattle.std.proofs.Common.{◌-◌, Option, arith, inl, subst}
 use Rattle.mg_space.specs.View.{viewed}
 use Rattle.mg_space.specs.ViewLaws.{tells_on}
 use Rattle.mg_heap.specs.Room.{FindsRoom, RefusesRoomIn}

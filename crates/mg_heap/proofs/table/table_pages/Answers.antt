@@ -1,10 +1,10 @@
-use Rattle.std.proofs.Common.{◌≡◌, ◌≤◌, ◌∙◌, ◌++◌, ◌∷◌, [], ◌<◌, ◌^◌, ℕ, List, length, length-append, ap, subst, sym, refl, arith}
+use Rattle.std.proofs.Common.{◌≤◌, ◌∙◌, ◌∷◌, [], ◌<◌, ℕ, List, length, length-append, ap, subst, sym, refl, arith}
 use Rattle.mg_base.specs.declared.geometry.TheConstants.{GREATEST_LIMIT}
 use Rattle.mg_image.specs.Form.{Pages}
 use Rattle.mg_image.specs.Tables.{Has, IsOnce, entries_in}
 use Rattle.mg_space.specs.View.{viewed}
 use Rattle.mg_space.specs.ViewLaws.{keeps_itself, keeps_on}
-use Rattle.mg_heap.specs.Table.{FollowsPage, IsTable, LeadsTo, RefusesPointer, RefusesTable, none}
+use Rattle.mg_heap.specs.Table.{FollowsPage, LeadsTo, RefusesPointer, RefusesTable, none}
 use Rattle.mg_heap.specs.TableLaws.{once_short, table_ends}
 use Rattle.mg_heap.proofs.TableLemmas.{as_started, broken, entries_further, few, handed_on, leads_further, still_once, still_small}
 use Rattle.mg_heap.proofs.table.table_pages.Goals as goal

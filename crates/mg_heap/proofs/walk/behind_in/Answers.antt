@@ -1,8 +1,8 @@
-use Rattle.std.proofs.Common.{◌≡◌, drop}
+use Rattle.std.proofs.Common.{drop}
 use Rattle.std.specs.Prelude.{MatchResult}
 use Rattle.mg_image.specs.Form.{Pages}
 use Rattle.mg_space.specs.View.{viewed}
-use Rattle.mg_heap.specs.Walk.{IsNextIn, RefusesWalkOf, behind_page}
+use Rattle.mg_heap.specs.Walk.{IsNextIn, RefusesWalkOf}
 use Rattle.mg_heap.proofs.TableLemmas.{as_started}
 use Rattle.mg_heap.proofs.WalkLemmas.{walked}
 use Rattle.mg_heap.proofs.walk.behind_in.Goals as goal

@@ -1,8 +1,8 @@
-use Rattle.std.proofs.Common.{◌≡◌, ◌∙◌, Some, List, ℕ, arith, drop, refl, length, get_or}
+use Rattle.std.proofs.Common.{◌≡◌, ◌∙◌, Some, arith, refl, get_or}
 use Rattle.mg_image.specs.Form.{Pages}
 use Rattle.mg_space.specs.View.{viewed}
 use Rattle.mg_space.specs.ViewLaws.{keeps_on}
-use Rattle.mg_heap.specs.Walk.{IsNextIn, RefusesTableData, RefusesWalkOf}
+use Rattle.mg_heap.specs.Walk.{RefusesTableData, RefusesWalkOf}
 use Rattle.mg_heap.proofs.TableLemmas.{as_started, handed_on}
 use Rattle.mg_heap.proofs.WalkLemmas.{found_here, none_here, page_broken}
 use Rattle.mg_heap.proofs.walk.first_from.Goals as goal

@@ -1,4 +1,4 @@
-use Rattle.std.proofs.Common.{◌≡◌, ◌+◌, Some, arith}
+use Rattle.std.proofs.Common.{◌+◌, Some, arith}
 use Rattle.std.specs.Prelude.{MatchResult}
 use Rattle.mg_image.specs.Form.{Pages}
 use Rattle.mg_space.specs.View.{viewed}
