@@ -1,6 +1,6 @@
 -- The chain as it is read, from its last page back.
-use Rattle.std.proofs.Common.{◌≡◌, ◌≢◌, ◌<◌, ◌≤◌, ◌+◌, ◌-◌, ◌++◌, ℕ, zero, suc, List, [], ◌∷◌, length, get_or, refl, sym, ap, subst, ◌∙◌, arith, append_assoc}
-use Rattle.std.proofs.Common.{Result, Ok, Err}
+use Rattle.std.proofs.Common.{◌≡◌, ◌≢◌, ◌<◌, ◌≤◌, ◌+◌, ◌-◌, ◌++◌, ℕ, zero, suc, List, [], ◌∷◌, length, get_or, sym, ap, subst, ◌∙◌, arith, append_assoc}
+use Rattle.std.proofs.Common.{Result, Ok}
 use Rattle.mg_base.specs.CheckLaws.{passes_from_verdict}
 use Rattle.mg_base.specs.Checks.{Check, PassesAll, common_checks, verdict}
 use Rattle.mg_base.specs.declared.damage.Damaged.{Damaged}

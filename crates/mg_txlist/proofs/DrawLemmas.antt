@@ -1,8 +1,8 @@
 -- A number is drawn: the header, the page, and the batch of both.
-use Rattle.std.proofs.Common.{◌≡◌, ◌≢◌, ◌<◌, ◌≤◌, ◌⊎◌, ◌+◌, ◌/◌, ◌%◌, ◌++◌, ◌&&◌, ◌||◌, ◌==◌, min, ℕ, Bool, true, false, List, [], ◌∷◌, length, take, refl, sym, ap, subst, ◌∙◌, arith, append_assoc, inl, inr, if◌then◌else◌, unwrap_or}
-use Rattle.std.proofs.Common.{Option, Some, None, Result, Ok, Err, is_some}
+use Rattle.std.proofs.Common.{◌≡◌, ◌≢◌, ◌<◌, ◌≤◌, ◌⊎◌, ◌+◌, ◌/◌, ◌++◌, ◌&&◌, ◌||◌, ◌==◌, min, ℕ, Bool, true, false, List, [], ◌∷◌, length, take, refl, sym, ap, subst, ◌∙◌, arith, append_assoc, inl, inr, if◌then◌else◌, unwrap_or}
+use Rattle.std.proofs.Common.{Option, Some, None, Ok, is_some}
 use Rattle.std.proofs.Math.Seq.{take-append_seam}
-use Rattle.std.proofs.lemmas.Bool.{and_parts, cases_eq, eqb-true, or_cases}
+use Rattle.std.proofs.lemmas.Bool.{and_parts, eqb-true, or_cases}
 use Rattle.mg_base.specs.Checks.{Check, PassesAll, common_checks}
 use Rattle.mg_base.specs.Disk.{Meaning}
 use Rattle.mg_base.specs.Fields.{u16_at}
@@ -20,7 +20,6 @@ use Rattle.mg_image.specs.Inventory.{header_of, inventory_page}
 use Rattle.mg_pool.specs.Batch.{Changed, IsLawful, PutsPage, content_in, is_in, lists}
 use Rattle.mg_pool.specs.Pool.{shown}
 use Rattle.mg_pool.specs.declared.batch.BatchPage.{BatchPage}
-use Rattle.mg_pool.specs.declared.batch.TheConstants.{BATCH_PAGES}
 use Rattle.mg_pool.specs.declared.pool.Pool.{Pool}
 use Rattle.mg_space.specs.Taking.{TakesPage, region_of}
 use Rattle.mg_space.specs.View.{AreWhole, KeepsStore, Tells, viewed}
@@ -95,15 +94,15 @@ pub head_raises : {D L : Type 0} (m : Meaning D) (start mid : Pool D L) (image :
     → RaisesHead start.geometry.size before (viewed start image new) last
 head_raises m start mid image old new before h raised last kept tells first puts is below
     raised_is again = record {
-  reads = subst (λ (v : Pages). reading (v 0) start.geometry.size
+      reads = subst (λ (v : Pages). reading (v 0) start.geometry.size
           ≡ Ok (raised_header (header_of before) last)) (viewed_on m start mid image new kept)
-      (subst (λ (n : ℕ). reading (viewed mid image new 0) n
+          (subst (λ (n : ℕ). reading (viewed mid image new 0) n
           ≡ Ok (raised_header (header_of before) last)) size_same
-      (subst (λ (x : Header). reading (viewed mid image new 0) mid.geometry.size ≡ Ok x)
-      (raised_is ∙ ap (λ (x : Header). raised_header x last) h_is) raw));
-  len = ap (λ (b : List ℕ). length b)
-      (viewed_here start image old new 0 puts.bytes puts.puts) ∙ (puts.len ∙ size_same);
-}
+          (subst (λ (x : Header). reading (viewed mid image new 0) mid.geometry.size ≡ Ok x)
+          (raised_is ∙ ap (λ (x : Header). raised_header x last) h_is) raw));
+      len = ap (λ (b : List ℕ). length b)
+          (viewed_here start image old new 0 puts.bytes puts.puts) ∙ (puts.len ∙ size_same);
+    }
   where
     size_same : mid.geometry.size ≡ start.geometry.size
     size_same = ap (λ (g : Geometry). g.size) kept.geometry

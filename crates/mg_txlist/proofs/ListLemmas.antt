@@ -1,18 +1,18 @@
 -- What the list says, and what is said once one of its numbers has ended.
-use Rattle.std.proofs.Common.{◌≡◌, ◌≢◌, ◌<◌, ◌≤◌, ◌⊎◌, ◌+◌, ◌-◌, ◌*◌, ◌/◌, ◌%◌, ◌==◌, ℕ, Bool, true, false, List, length, get_or, nat_lt, refl, sym, ap, subst, ◌∙◌, arith, inl, inr, if◌then◌else◌, slice_index_or, slice_set}
+use Rattle.std.proofs.Common.{◌≡◌, ◌≢◌, ◌<◌, ◌≤◌, ◌⊎◌, ◌+◌, ◌-◌, ◌/◌, ◌%◌, ◌==◌, ℕ, Bool, true, false, length, get_or, nat_lt, refl, sym, ap, subst, ◌∙◌, arith, inl, inr, if◌then◌else◌, slice_set}
 use Rattle.std.proofs.Math.Nat.{div-mul-le_self}
 use Rattle.std.proofs.lemmas.Nat.{le-div}
 use Rattle.std.proofs.Math.ListN.{set}
-use Rattle.std.proofs.lemmas.Bool.{both_ways, cases_eq, cases_lt, eq-eqb, eqb-true, ne_eqb}
+use Rattle.std.proofs.lemmas.Bool.{cases_eq, cases_lt, ne_eqb}
 use Rattle.std.proofs.lemmas.Bool.Decides.{nat_tests}
 use Rattle.std.proofs.lemmas.List.{get_or-set_other, get_or-set_same, get_or_past, length-set}
 use Rattle.mg_base.specs.declared.transaction.TxState.{TxState}
 use Rattle.mg_base.specs.declared.transaction.TxState.TheVariants.{Active, Committed, Dead, Limbo}
 use Rattle.mg_image.specs.Inventory.{settled}
-use Rattle.mg_tip.specs.TipPage.{SetsState, places, state_in}
+use Rattle.mg_tip.specs.TipPage.{places, state_in}
 use Rattle.mg_txlist.specs.declared.list.TipPage.{TipPage}
 use Rattle.mg_txlist.specs.declared.list.TxList.{TxList}
-use Rattle.mg_txlist.specs.TxList.{EndsIn, IsTxList, KeepsBits, bits_said, next_said, own_said, said, tip_in}
+use Rattle.mg_txlist.specs.TxList.{EndsIn, bits_said, next_said, own_said, said, tip_in}
 
 -- a lesser number has no later page
 pub div_le : (a b k : ℕ) → 0 < k → a ≤ b → a / k ≤ b / k

@@ -44,26 +44,26 @@ module _ {D L : Type 0} (m : Meaning D) (old changed written new : Pool D L) (pa
     (writes : HasWritten m changed written) (out : is_dirty written.dirty page.0 ≡ false)
     (settles : KeepsContent m written.disk new.disk)
     (same : new ≡ record written { disk = new.disk; faults = new.faults; offline = new.offline })
-    where
-  pub settled : (result : Result (Unit {0}) PoolFault)
-      → OnOk result (m.tells written.disk ≡ true → (image : Image) → MayLeave m new.disk image
-      → m.held new.disk ≡ Some image) → OnOk result (SettlesPage m old new page bytes)
-  settled (Ok x) durable = record {
-    changed = changed;
-    written = written;
-    changes = changes;
-    writes = writes;
-    out = out;
-    settles = settles;
-    same = same;
-    durable = durable;
-  }
-  settled (Err e) durable = tt
+  where
+    pub settled : (result : Result (Unit {0}) PoolFault)
+        → OnOk result (m.tells written.disk ≡ true → (image : Image) → MayLeave m new.disk image
+        → m.held new.disk ≡ Some image) → OnOk result (SettlesPage m old new page bytes)
+    settled (Ok x) durable = record {
+      changed = changed;
+      written = written;
+      changes = changes;
+      writes = writes;
+      out = out;
+      settles = settles;
+      same = same;
+      durable = durable;
+    }
+    settled (Err e) durable = tt
 
-  pub unsettled : (result : Result (Unit {0}) PoolFault)
-      → IfErr result (FailsToSettle m old new page bytes)
-  unsettled (Ok x) = tt
-  unsettled (Err e) = not_settled changed written changes writes out settles same
+    pub unsettled : (result : Result (Unit {0}) PoolFault)
+        → IfErr result (FailsToSettle m old new page bytes)
+    unsettled (Ok x) = tt
+    unsettled (Err e) = not_settled changed written changes writes out settles same
 
 pub fails_commit : {D L : Type 0} (m : Meaning D) (list : TxList) (before after : Pool D L) (t : ℕ)
     (fault given : PoolFault) (page : PageNo) (bytes : List ℕ)

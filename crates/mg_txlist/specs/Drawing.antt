@@ -1,5 +1,5 @@
 -- A number is drawn: what becomes of the list, of the batch, and of the pages as viewed.
-use Rattle.std.specs.Prelude.{◌≡◌, ◌≢◌, ◌<◌, ◌≤◌, ◌+◌, ◌/◌, ◌%◌, ◌++◌, ◌∷◌, [], ℕ, List, Option, None, Some, Ok, length}
+use Rattle.std.specs.Prelude.{◌≡◌, ◌≢◌, ◌≤◌, ◌+◌, ◌/◌, ◌%◌, ◌++◌, ◌∷◌, [], ℕ, List, Option, None, Some, Ok, length}
 use Rattle.mg_base.specs.Checks.{PassesAll, common_checks}
 use Rattle.mg_base.specs.Disk.{Meaning}
 use Rattle.mg_base.specs.Image.{Image}
@@ -11,7 +11,6 @@ use Rattle.mg_header.specs.declared.header.Header.{Header}
 use Rattle.mg_header.specs.declared.header.TheConstants.{GREATEST_MINOR, HEADER_KIND}
 use Rattle.mg_image.specs.Form.{Pages}
 use Rattle.mg_image.specs.Inventory.{header_of, inventory_page}
-use Rattle.mg_pip.specs.PipPage.{bits}
 use Rattle.mg_pool.specs.Batch.{Changed, PutsPage, content_in}
 use Rattle.mg_pool.specs.Change.{Changes, ChangesOverlays}
 use Rattle.mg_pool.specs.Pool.{LeavesOverlays, shown}

@@ -1,13 +1,11 @@
 -- What the transaction list says, and how it goes with the pages.
-use Rattle.std.specs.Prelude.{◌≡◌, ◌≢◌, ◌<◌, ◌≤◌, ◌+◌, ◌-◌, ◌/◌, ◌%◌, ◌==◌, ℕ, zero, suc, true, List, [], length, nat_lt, slice_index_or, if◌then◌else◌}
-use Rattle.mg_base.specs.Checks.{PassesAll}
+use Rattle.std.specs.Prelude.{◌≡◌, ◌≢◌, ◌<◌, ◌≤◌, ◌+◌, ◌-◌, ◌/◌, ◌%◌, ◌==◌, ℕ, true, List, [], length, nat_lt, slice_index_or, if◌then◌else◌}
 use Rattle.mg_base.specs.Geometry.{is_page_size}
 use Rattle.mg_base.specs.declared.transaction.TxState.{TxState}
-use Rattle.mg_base.specs.declared.transaction.TxState.TheVariants.{Active, Committed, Dead, Limbo}
+use Rattle.mg_base.specs.declared.transaction.TxState.TheVariants.{Committed, Dead}
 use Rattle.mg_header.specs.declared.header.TheConstants.{GREATEST_NEXT}
-use Rattle.mg_image.specs.Form.{Pages}
-use Rattle.mg_image.specs.Inventory.{last_sequence, next_of, settled, tip_page}
-use Rattle.mg_tip.specs.TipPage.{places, state_in, tip_checks}
+use Rattle.mg_image.specs.Inventory.{settled}
+use Rattle.mg_tip.specs.TipPage.{places, state_in}
 use Rattle.mg_txlist.specs.declared.list.TipPage.{TipPage}
 use Rattle.mg_txlist.specs.declared.list.TxList.{TxList}
 

@@ -124,11 +124,7 @@ fn keep_bytes(pages: &mut Vec<TipPage>, at: usize, bytes: &[u8])
 }
 
 /// Changes a page, writes it after the header, and settles.
-fn settle_page<D: Disk>(
-    store: &mut Store<D>,
-    page: PageNo,
-    bytes: &[u8],
-) -> Result<(), PoolFault>
+fn settle_page<D: Disk>(store: &mut Store<D>, page: PageNo, bytes: &[u8]) -> Result<(), PoolFault>
     requires pool { IsPool D.meaning store.old }
     requires whole { length bytes.now ≡ store.old.geometry.size }
     requires apart { page.0 ≢ 0 }

@@ -56,10 +56,7 @@ impl TxList {
 }
 
 /// The header of a database.
-pub(crate) fn read_head<D: Disk>(
-    store: &mut Store<D>,
-    batch: &Batch,
-) -> Result<Header, SpaceFault>
+pub(crate) fn read_head<D: Disk>(store: &mut Store<D>, batch: &Batch) -> Result<Header, SpaceFault>
     requires pool { IsPool D.meaning store.old }
     requires geometry { IsGeometry store.old.geometry }
     requires empty { batch.now.pages ≡ [] }

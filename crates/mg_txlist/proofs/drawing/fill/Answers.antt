@@ -1,12 +1,11 @@
-use Rattle.std.proofs.Common.{◌≡◌, ◌<◌, ◌∙◌, ◌%◌, ap, arith, subst, sym, ℕ}
+use Rattle.std.proofs.Common.{◌<◌, ◌∙◌, ◌%◌, ap, subst, sym, ℕ}
 use Rattle.mg_base.specs.declared.geometry.Geometry.{Geometry}
-use Rattle.mg_header.specs.declared.header.Header.{Header}
 use Rattle.mg_header.specs.declared.header.TheConstants.{GREATEST_NEXT}
 use Rattle.mg_pool.specs.Batch.{IsLawful}
 use Rattle.mg_space.specs.View.{AreWhole}
 use Rattle.mg_space.specs.ViewLaws.{keeps_on}
 use Rattle.mg_tip.specs.TipPage.{places}
-use Rattle.mg_txlist.specs.Drawing.{PutsHead, raised_header}
+use Rattle.mg_txlist.specs.Drawing.{PutsHead}
 use Rattle.mg_txlist.proofs.AddLemmas.{same_number}
 use Rattle.mg_txlist.proofs.DrawLemmas.{draws_last, draws_new, lawful_last, lawful_new, tip_len, tip_whole}
 use Rattle.mg_txlist.proofs.drawing.fill.Goals as goal
@@ -63,8 +62,7 @@ returns-clause-lawful g c =
 pub returns-clause-page : goal.returns-clause-page
 returns-clause-page g c =
     let size = ap (λ (x : Geometry). x.size) c.geometry-size.ensures
-    ∙ ap (λ (x : Geometry). x.size) c.read_head.ensures.keeps.geometry in
-    (
+    ∙ ap (λ (x : Geometry). x.size) c.read_head.ensures.keeps.geometry in (
       ap (λ (k : ℕ). c.args.t.0 % k) (sym (c.places_of.ensures ∙ ap places size))
           ∙ c.if-t-places_of-ne0.false,
       c.in_ok-page.ensures.puts.inventory.no_header,

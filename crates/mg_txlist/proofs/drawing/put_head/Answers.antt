@@ -1,6 +1,5 @@
-use Rattle.std.proofs.Common.{◌≡◌, ◌∙◌, List, ap, arith, drop, length, subst, sym, ℕ, Ok}
+use Rattle.std.proofs.Common.{◌≡◌, List, arith, drop, length, subst, sym, ℕ, Ok}
 use Rattle.mg_header.specs.HeaderPage.{reading}
-use Rattle.mg_space.specs.View.{viewed}
 use Rattle.mg_space.specs.ViewLaws.{viewed_here}
 use Rattle.mg_txlist.specs.Drawing.{MayBeHeader}
 use Rattle.mg_txlist.proofs.DrawLemmas.{head_again, written_back}

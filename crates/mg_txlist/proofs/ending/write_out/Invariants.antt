@@ -1,6 +1,4 @@
 use Rattle.std.proofs.Common.{◌≡◌, None, length}
-use Rattle.mg_base.specs.Disk.{Meaning}
-use Rattle.mg_pool.specs.Pool.{IsPool}
 use Rattle.mg_pool.specs.Run.{HasWritten}
 use Rattle.mg_txlist.proofs.ending.write_out.Given as goal
 

@@ -1,5 +1,4 @@
-use Rattle.std.proofs.Common.{◌≡◌, ◌+◌, ◌-◌, ◌∙◌, ℕ, List, ap, arith, length, subst, sym}
-use Rattle.mg_pool.specs.Pool.{shown}
+use Rattle.std.proofs.Common.{◌∙◌, ap, arith, length}
 use Rattle.mg_space.specs.ViewLaws.{keeps_on, tells_on}
 use Rattle.mg_txlist.proofs.ChainLemmas.{read_at, read_tested, read_whole}
 use Rattle.mg_txlist.proofs.loading.load_pages.Goals as goal

@@ -1,4 +1,4 @@
-use Rattle.std.proofs.Common.{◌≡◌, ◌∙◌, subst, sym, ℕ}
+use Rattle.std.proofs.Common.{◌∙◌, subst, ℕ}
 use Rattle.mg_pool.specs.Pool.{shown}
 use Rattle.mg_space.specs.View.{viewed}
 use Rattle.mg_txlist.specs.Drawing.{DrawsOn}
@@ -28,12 +28,12 @@ returns-in-Ok-clause-draws g c = record {
 
 pub returns-in-Err-clause-list : goal.returns-in-Err-clause-list
 returns-in-Err-clause-list g c = same_list c.args.self.now _ (record {
-      pages = pages_back c.args.self.now c.add.new.self c.in_ok-page.page c.len-pages.result
-          c.truncate.new.self.items c.in_ok-add.ensures.pages (c.len-pages.ensures ∙ c.args.self.now.pages.ok.0)
-          c.truncate.ensures.items;
-      own = own_back c.args.self.now.own.items c.add.new.self.own.items c.len-own.result
-          c.truncate-in-Err.new.self.items c.in_ok-add.ensures.own (c.len-own.ensures ∙ c.args.self.now.own.ok.0)
-          c.truncate-in-Err.ensures.items;
-      first = c.add.ensures.first;
-      size = c.add.ensures.size;
-    }) c.requires.list
+  pages = pages_back c.args.self.now c.add.new.self c.in_ok-page.page c.len-pages.result
+      c.truncate.new.self.items c.in_ok-add.ensures.pages (c.len-pages.ensures ∙ c.args.self.now.pages.ok.0)
+      c.truncate.ensures.items;
+  own = own_back c.args.self.now.own.items c.add.new.self.own.items c.len-own.result
+      c.truncate-in-Err.new.self.items c.in_ok-add.ensures.own (c.len-own.ensures ∙ c.args.self.now.own.ok.0)
+      c.truncate-in-Err.ensures.items;
+  first = c.add.ensures.first;
+  size = c.add.ensures.size;
+}) c.requires.list

@@ -1,4 +1,4 @@
-use Rattle.std.proofs.Common.{refl, ap, ℕ, ◌/◌, sym}
+use Rattle.std.proofs.Common.{refl, ap, ℕ, ◌/◌}
 use Rattle.mg_txlist.proofs.EndLemmas.{else_commits, then_commits}
 use Rattle.mg_txlist.proofs.list.TxList.keep_committed.Goals as goal
 
