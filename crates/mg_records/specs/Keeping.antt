@@ -77,14 +77,15 @@ Lessens None now = Unit {0}
 Lessens (Some count) None = ⊥
 Lessens (Some count) (Some left) = left ≤ count
 
--- A call that adds no entry: what it stands for and what others see stays. The walks of one
+-- A call that adds no entry: it stands for what it stood for, and tables stay. The walks of one
 -- transaction may have gone on, or its commit been asked for.
 pub record Reads {R P : Type 0} (m : Means R P) (old new : R) (refusal : Option Refusal)
     (walks : Option ℕ) : Type 0 where
   pub stays : (o : Opening) (h : Entries) → m.stands old o h → m.stands new o h
   pub keeps : Keeps m old new refusal
-  pub tables : TablesStay m old new None
-  pub walks_stay : WalksStay m old new walks
+  pub tables : (u : ℕ) (name : List ℕ) → m.table new u name ≡ m.table old u name
+  pub walks_stay : (u : ℕ) (table : Table) (after : Option P) (rows : List Cells)
+      → is_of u walks ≡ false → m.to_come old u table after rows → m.to_come new u table after rows
   pub commits : (u : ℕ) → is_of u walks ≡ false → Lessens (m.unwritten old u) (m.unwritten new u)
 
 -- A call that gives events: the tables of one transaction may come to be others, and its walks.
