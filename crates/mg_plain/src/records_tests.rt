@@ -1,3 +1,5 @@
+ghost use Rattle.std.specs.Prelude.{◌<◌};
+
 use super::*;
 use crate::tests::{name, new_opening, row};
 use mg_base::TxNo;
