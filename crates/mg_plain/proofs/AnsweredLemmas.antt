@@ -8,7 +8,7 @@ use Rattle.mg_base.specs.declared.transaction.TxState.{TxState}
 use Rattle.mg_base.specs.declared.transaction.TxState.TheVariants.{Active, Limbo, Dead, Committed}
 use Rattle.mg_model.specs.declared.answer.Answer.{Answer}
 use Rattle.mg_model.specs.declared.answer.Answer.TheVariants.{Fine, Tx, Rows, No}
-use Rattle.mg_model.specs.declared.refusal.Refusal.TheVariants.{Waits, TransactionLimit}
+use Rattle.mg_model.specs.declared.refusal.Refusal.TheVariants.{Waits, TransactionLimit, Memory}
 use Rattle.mg_model.specs.declared.event.Event.{Event}
 use Rattle.mg_model.specs.declared.event.Event.TheVariants.{Begin, Look, Find, Claim, Insert, Change, Erase, Mark, UndoMark, Savepoint, BackTo, Prepare, Commit, Rollback, Decide}
 use Rattle.mg_model.specs.declared.event.Mode.{Mode}
@@ -322,11 +322,13 @@ longer k Nothing = omega arith
 
 -- ---- an event with its answer
 
-pub stands_after : (o : Opening) (h : Entries) (e : Event) (a : Answer) (k : Keeping) → StandsFor o h k
-    → a ≡ answer_by (told_in k) e → StandsFor o (entry e a ∷ h) (kept_after e a k)
-stands_after o h e a k s is =
+-- an effect that is allowed, with what is noted of waits
+pub stands_noted : (o : Opening) (h : Entries) (e : Event) (a : Answer) (k : Keeping) → StandsFor o h k
+    → IsAllowed k (effect_with e a)
+    → ((u : ℕ) → transaction_of e ≡ Some u → length k.known ≤ u → waited_on a ≡ None)
+    → StandsFor o (entry e a ∷ h) (kept_after e a k)
+stands_noted o h e a k s allows undrawn =
     let eff : Effect = effect_with e a in
-    let allows : IsAllowed k eff = allowed k e a is in
     let k' : Keeping = kept_by eff k in
     let f : Follows o h eff k' = follows o h eff k s allows in
     let of : Option ℕ = transaction_of e in
@@ -334,7 +336,7 @@ stands_after o h e a k s is =
     let same : (t : ℕ) → SameButWaits (known_of (noted_in of on k') t) (known_of k' t) = noted_same k' of on in
     let rest = noted_rest k' of on in
     let none : (u : ℕ) → of ≡ Some u → length k'.known ≤ u → waited_on a ≡ None =
-    λ u its past. ap waited_on is ∙ undrawn_waits k e u its (let l = longer k eff in omega arith) in
+    λ u its past. undrawn u its (let l = longer k eff in omega arith) in
     record {
       limit = rest.0 ∙ (limit_kept k eff ∙ s.limit);
       next = noted_length k' of on ∙ f.next;
@@ -351,3 +353,14 @@ stands_after o h e a k s is =
       places = λ t. rw ((same t).place, rest.2) (f.places t);
       first = rw (noted_length k' of on) f.first;
     }
+
+pub stands_after : (o : Opening) (h : Entries) (e : Event) (a : Answer) (k : Keeping) → StandsFor o h k
+    → a ≡ answer_by (told_in k) e → StandsFor o (entry e a ∷ h) (kept_after e a k)
+stands_after o h e a k s is =
+    stands_noted o h e a k s (allowed k e a is)
+    (λ u its past. ap waited_on is ∙ undrawn_waits k e u its past)
+
+-- an event that is refused for want of memory does nothing, and waits on none
+pub stands_refused : (o : Opening) (h : Entries) (e : Event) (k : Keeping) → StandsFor o h k
+    → StandsFor o (entry e (No Memory) ∷ h) (noted_in (transaction_of e) None k)
+stands_refused o h e k s = stands_noted o h e (No Memory) k s tt (λ u its past. refl)

@@ -7,3 +7,5 @@ mod TakenBackLemmas
 mod StandsLemmas
 mod AnsweredLemmas
 mod FirstLemmas
+mod ObeyLemmas
+mod CallLemmas

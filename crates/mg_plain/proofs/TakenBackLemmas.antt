@@ -1,5 +1,6 @@
 -- A transaction taken back: back to the newest step that sets the point.
 use Rattle.std.proofs.Common.{◌≡◌, ℕ, zero, suc, ◌+◌, ◌-◌, ◌<◌, ◌≤◌, ◌==◌, ◌&&◌, ◌||◌, Bool, true, false, List, [], ◌∷◌, ◌++◌, length, take, drop, Option, Some, None, refl, sym, ◌∙◌, ap, subst, cond, get_or, arith}
+use Rattle.std.specs.Prelude.{is_some}
 use Rattle.std.specs.List.{remove}
 use Rattle.mg_model.specs.declared.change.Deed.{Deed}
 use Rattle.mg_model.specs.declared.change.Step.{Step}
@@ -161,3 +162,9 @@ pub place_inside : (t place : ℕ) (point : Point) (s : List Step)
     → first_point t point s ≡ Some place → place < length s
 place_inside t place point s some =
     let back = is_back 0 t place point s some in let i = back.inside in omega arith
+
+-- a point was set where some step sets it
+pub point_there : (t : ℕ) (point : Point) (s : List Step) (found : Option ℕ) → found ≡ first_point t point s
+    → is_some found ≡ has_point t point s
+point_there t point s None is = sym (no_point 0 t point s (sym is))
+point_there t point s (Some place) is = sym (is_back 0 t place point s (sym is)).there

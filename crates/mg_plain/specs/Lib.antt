@@ -4,3 +4,6 @@ pub mod Kept
 pub mod Places
 pub mod TakenBack
 pub mod Beginning
+pub mod Obeying
+pub mod Records
+pub mod RecordsLaws

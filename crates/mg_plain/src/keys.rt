@@ -1,10 +1,10 @@
 //! The keys of the rows of the catalog.
 
-ghost use Rattle.std.specs.Prelude.{◌≡◌, ◌<◌, ◌≤◌, IfOk, length, slice_index_or};
-ghost use Rattle.mg_model.specs.Catalog.{table_key as table_key_of, column_key as column_key_of, count_said as count_said_of, says_key as says_key_test, natural_of};
+ghost use Rattle.std.specs.Prelude.{◌≡◌, ◌<◌, ◌≤◌, IfOk, IfSome, length, slice_index_or};
+ghost use Rattle.mg_model.specs.Catalog.{table_key as table_key_of, column_key as column_key_of, count_said as count_said_of, says_key as says_key_test, natural_of, said_name, kind_said, column_said};
 
 use mg_base::Memory;
-use mg_value::{Row, Txt, Value};
+use mg_value::{Column, Kind, Name, Row, Txt, Value};
 use std::alloc::Global;
 
 /// The text of these bytes as a value.
@@ -69,4 +69,47 @@ pub fn says_key(row: &Row) -> bool
     ensures { result ≡ says_key_test row.now }
 {
     number_at(row, 3) >= 2
+}
+
+/// The bytes of the name that a row says, empty where it says none.
+fn name_at(row: &Row) -> &[u8]
+    ensures { result.now ≡ said_name row.now }
+{
+    match row.as_slice().get(1) {
+        Some(Value::Text(text)) => text.as_slice(),
+        Some(Value::Null) => &[],
+        Some(Value::Int(_)) => &[],
+        None => &[],
+    }
+}
+
+/// The kind that a column's row says: BIGINT, or a text of so many bytes.
+fn kind_in(most: u16) -> Kind
+    ensures { result ≡ kind_said most }
+{
+    if most == 0 {
+        Kind::Int
+    } else {
+        Kind::Text(most)
+    }
+}
+
+/// The column that a row says, if its name is one and its numbers are of two bytes.
+pub fn column_in_row(row: &Row) -> Option<Column>
+    ensures { IfSome result (λ column. column ≡ column_said row.now) }
+{
+    let Some(name) = Name::new(name_at(row)) else {
+        return None;
+    };
+    let most = number_at(row, 2);
+    let since = number_at(row, 4);
+    if most > 65_535 || since > 65_535 {
+        return None;
+    }
+    Some(Column {
+        name,
+        kind: kind_in(most as u16),
+        not_null: number_at(row, 3) > 0,
+        since: since as u16,
+    })
 }

@@ -7,8 +7,12 @@
 //!
 //! Invariant: what it keeps stands for the history of the events that it answered (`StandsFor` in
 //! `specs/Keeping`): read from what it holds, since no history is stored.
-//! Below: `mg_model`, which says what the answers are. Above: tests of every faster machine.
-//! Not here: pages, statements, threads.
+//! It is a keeper of records too (`Records`): it has no pages, so no page size refuses a table, and a
+//! place is the number of a row among those that the transaction sees.
+//!
+//! Below: `mg_model`, which says what the answers are, and `mg_records`. Above: tests of every faster
+//! machine, and statements without a disk.
+//! Not here: pages, threads.
 #![tactic(auto)]
 
 mod beginning;
@@ -20,5 +24,7 @@ mod rows;
 
 pub use plain::Plain;
 
+#[cfg(test)]
+mod records_tests;
 #[cfg(test)]
 mod tests;

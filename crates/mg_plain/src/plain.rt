@@ -3,8 +3,8 @@
 ghost use Rattle.std.specs.Prelude.{◌≡◌, ◌+◌, ◌≤◌, ◌∷◌, [], IfOk, OnErr, length};
 ghost use Rattle.mg_model.specs.Changes.{row_at};
 ghost use Rattle.mg_model.specs.Catalog.{catalog_name};
-ghost use Rattle.mg_model.specs.Answers.{answer as answer_after};
-ghost use Rattle.mg_plain.specs.Keeping.{StandsFor};
+ghost use Rattle.mg_model.specs.Answers.{answer as answer_after, answer_by};
+ghost use Rattle.mg_plain.specs.Keeping.{StandsFor, told_in};
 ghost use Rattle.mg_model.specs.History.{Entries, entry};
 ghost use Rattle.mg_model.specs.declared.opening.Opening.{Opening as AnyOpening};
 
@@ -16,8 +16,11 @@ use mg_model::{Answer, Change, Event, Opening, Step};
 use std::alloc::Global;
 
 mod judging;
+mod obeying;
+mod records;
 pub mod seeing;
-mod taking;
+mod tables;
+pub(crate) mod taking;
 
 /// The plain machine. It keeps what the answers depend on, and searches it from the newest to the
 /// oldest: faster machines are compared with it.
@@ -89,6 +92,7 @@ impl Plain {
         ensures stands { (o : AnyOpening) (h : Entries) → StandsFor o h (kept self.old)
             → IfOk result (λ given. (given ≡ answer_after o h event.now)
             × StandsFor o (entry event.now given ∷ h) (kept self.new)) }
+        ensures given { IfOk result (λ given. given ≡ answer_by (told_in (kept self.old)) event.now) }
         ensures err { OnErr result (kept self.new ≡ kept self.old) }
     {
         let answer = self.judge(event)?;

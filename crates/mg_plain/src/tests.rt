@@ -37,7 +37,7 @@ enum Act {
     Decide(u32, bool),
 }
 
-fn name(rt: &impl Abort, bytes: &[u8]) -> Name {
+pub(crate) fn name(rt: &impl Abort, bytes: &[u8]) -> Name {
     match Name::new(bytes) {
         Some(name) => name,
         None => panic!(rt; "no name"),
@@ -51,7 +51,7 @@ fn key(rt: &impl Abort, number: i64) -> Key {
     }
 }
 
-fn row(alloc: Global, k: i64, v: i64) -> Result<Row, Fail> {
+pub(crate) fn row(alloc: Global, k: i64, v: i64) -> Result<Row, Fail> {
     Ok(Row::new(vec![in alloc; Value::Int(k), Value::Int(v)]?))
 }
 
@@ -88,7 +88,7 @@ fn catalog_row(
 }
 
 /// A new database.
-fn new_opening(rt: &impl Abort, alloc: Global, limit: u32) -> Result<Opening, Fail>
+pub(crate) fn new_opening(rt: &impl Abort, alloc: Global, limit: u32) -> Result<Opening, Fail>
     ensures states { IfOk result (λ opening. length opening.states ≡ 0) }
     ensures next { IfOk result (λ opening. opening.next.0 ≡ 1) }
     ensures limit { IfOk result (λ opening. opening.limit.0 ≡ limit) }

@@ -1,0 +1,56 @@
+-- What the plain machine tells as a keeper of records is what the history tells.
+use Rattle.std.specs.Prelude.{◌≡◌, ℕ, List, [], ◌++◌, map, Option, Some, None, IsPermutation}
+use Rattle.std.proofs.Common.{refl, sym, ap, subst, ◌∙◌}
+use Rattle.std.proofs.lemmas.List.Sorted.{IsPermutation-refl}
+use Rattle.mg_base.specs.declared.transaction.TxState.TheVariants.{Active}
+use Rattle.mg_value.specs.declared.shape.Shape.{Shape}
+use Rattle.mg_model.specs.declared.change.Change.{Change}
+use Rattle.mg_model.specs.declared.opening.Opening.{Opening}
+use Rattle.mg_model.specs.declared.table.Table.{Table}
+use Rattle.mg_model.specs.Changes.{Cells, row_at, rows_of}
+use Rattle.mg_model.specs.Catalog.{CatalogRows, catalog_name}
+use Rattle.mg_model.specs.History.{Entries}
+use Rattle.mg_model.specs.Machine.{state_of, changes_by, view}
+use Rattle.mg_model.specs.Answers.{told}
+use Rattle.mg_records.specs.Reading.{TablesAreSeen, WalksAreWhole, shape_named}
+use Rattle.mg_plain.specs.declared.plain.Plain.{Plain}
+use Rattle.mg_plain.specs.Keeping.{Keeping, StandsFor, told_in, base_in}
+use Rattle.mg_plain.specs.Kept.{kept}
+use Rattle.mg_plain.specs.Records.{means, rows_seen, shape_kept, with_shape}
+
+-- a transaction sees what the history says
+pub same_view : (o : Opening) (h : Entries) (k : Keeping) (t : ℕ) → StandsFor o h k
+    → (told_in k).view t ≡ view o h t
+same_view o h k t s = λ i. changes_by t (s.steps_are i) ++ s.base t i
+
+pub same_shape : (o : Opening) (h : Entries) (k : Keeping) (t : ℕ) (name : List ℕ) → StandsFor o h k
+    → shape_kept k t name ≡ shape_named (row_at (view o h t) catalog_name) name
+same_shape o h k t name s =
+    ap (λ (cs : List Change). shape_named (row_at cs catalog_name) name) (same_view o h k t s)
+
+pub same_rows : (o : Opening) (h : Entries) (k : Keeping) (t : ℕ) (name : List ℕ) → StandsFor o h k
+    → rows_seen k t name ≡ map (λ r. r.1) (rows_of (view o h t) name)
+same_rows o h k t name s =
+    ap (λ (cs : List Change). map (λ r. r.1) (rows_of cs name)) (same_view o h k t s)
+
+-- the table with a shape has the name, and the shape
+shaped : (name : List ℕ) (shape : Option Shape) (table : Table) → with_shape name shape ≡ Some table
+    → (table.name ≡ name) × (shape ≡ Some table.shape)
+shaped name None table is = absurd cc
+shaped name (Some shape) table is =
+    let same : record { name = name; shape = shape; pointer = record { 0 = 0 }; indexes = [] } ≡ table = cc in
+    (ap (λ (t : Table). t.name) (sym same), ap (λ (t : Table). Some t.shape) same)
+
+pub tables_are_seen : TablesAreSeen means
+tables_are_seen p o h t name table s active is =
+    let parts = shaped name (shape_kept (kept p) t name) table is in
+    (parts.0, sym (same_shape o h (kept p) t name s) ∙ parts.1)
+
+pub walks_are_whole : WalksAreWhole means
+walks_are_whole p o h t table s active is =
+    let rows = rows_seen (kept p) t table.name in (
+      rows,
+      refl,
+      subst (λ (found : List Cells). IsPermutation rows found)
+          (same_rows o h (kept p) t table.name s) (IsPermutation-refl rows),
+    )

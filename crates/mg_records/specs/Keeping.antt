@@ -1,0 +1,97 @@
+-- What every call of a keeper of records keeps, and the causes of refusals from outside the machine.
+use Rattle.std.specs.Prelude.{◌≡◌, ◌⊎◌, ℕ, ◌≤◌, List, true, false, Option, Some, None, Result, Ok, Err}
+use Rattle.mg_base.specs.Image.{Image}
+use Rattle.mg_base.specs.Disk.{Rose}
+use Rattle.mg_model.specs.declared.opening.Opening.{Opening}
+use Rattle.mg_model.specs.declared.refusal.Refusal.{Refusal}
+use Rattle.mg_model.specs.declared.refusal.Refusal.TheVariants.{DatabaseFull, DiskRead, DiskWrite, Offline, Damaged, Memory}
+use Rattle.mg_model.specs.declared.table.Table.{Table}
+use Rattle.mg_model.specs.Changes.{Cells}
+use Rattle.mg_model.specs.History.{Entries}
+use Rattle.mg_model.specs.Machine.{is_of}
+use Rattle.mg_records.specs.Meaning.{Means}
+
+-- why a call was refused, none where it was not
+abbrev pub refusal_in : {T : Type 0} → Result T Refusal → Option Refusal
+refusal_in (Ok x) = None
+refusal_in (Err r) = Some r
+
+-- a refusal has no other cause than this
+abbrev pub Causes : {R P : Type 0} → Means R P → R → R → Option Refusal → Type 0
+Causes m old new (Some (DiskRead count)) = Rose (m.faults old) (m.faults new)
+Causes m old new (Some (DiskWrite count)) = Rose (m.faults old) (m.faults new)
+Causes m old new (Some (Damaged page field found wanted)) = Rose (m.damage old) (m.damage new)
+Causes m old new (Some (DatabaseFull limit)) = Rose (m.shortages old) (m.shortages new)
+Causes m old new (Some (Offline count)) = m.down old ≡ Some count
+Causes m old new refusal = Unit {0}
+
+-- once a page write has failed, each call is refused so, with its count, or for want of memory
+abbrev pub IsOffline : Option ℕ → Option Refusal → Type 0
+IsOffline None refusal = Unit {0}
+IsOffline (Some count) (Some (Offline named)) = named ≡ count
+IsOffline (Some count) (Some Memory) = Unit {0}
+IsOffline (Some count) refusal = ⊥
+
+-- the count of a failed page write after a call
+abbrev pub down_after : Option ℕ → Option Refusal → Option ℕ
+down_after before (Some (DiskWrite count)) = Some count
+down_after before refusal = before
+
+-- time goes on: what a crash might have left before it might still have left, and nothing is added
+-- but what a crash now may leave
+pub record Elapses {R P : Type 0} (m : Means R P) (old new : R) : Type 0 where
+  pub later : m.moment old ≤ m.moment new
+  pub nothing_else : (t : ℕ) (c : Image) → t ≤ m.moment old → m.left new t c
+      → m.left old t c ⊎ m.left new (m.moment new) c
+  pub keeps : (t : ℕ) (c : Image) → t ≤ m.moment old → m.left old t c → m.left new t c
+
+-- What every call keeps, whatever it answers.
+pub record Keeps {R P : Type 0} (m : Means R P) (old new : R) (refusal : Option Refusal)
+    : Type 0 where
+  pub faults : m.faults old ≤ m.faults new
+  pub damage : m.damage old ≤ m.damage new
+  pub shortages : m.shortages old ≤ m.shortages new
+  pub cause : Causes m old new refusal
+  pub offline : IsOffline (m.down old) refusal
+  pub down : m.down new ≡ down_after (m.down old) refusal
+  pub tells : m.tells new ≡ m.tells old
+  pub time : m.tells old ≡ true → Elapses m old new
+  pub sizes : (size : ℕ) → m.is_size new size ≡ m.is_size old size
+  pub given : (table : Table) → m.was_given old table → m.was_given new table
+  pub places : (table : Table) (place : P) → m.is_place old table place → m.is_place new table place
+
+-- the tables that transactions see stay, but for those of one transaction, if one is named
+abbrev pub TablesStay : {R P : Type 0} → Means R P → R → R → Option ℕ → Type 0
+TablesStay m old new who = (o : Opening) (h : Entries) → m.stands old o h
+    → (u : ℕ) (name : List ℕ) → is_of u who ≡ false → m.table new u name ≡ m.table old u name
+
+-- the walks of transactions go on as they would have, but for those of one, if one is named
+abbrev pub WalksStay : {R P : Type 0} → Means R P → R → R → Option ℕ → Type 0
+WalksStay {P = P} m old new who = (o : Opening) (h : Entries) → m.stands old o h
+    → (u : ℕ) (table : Table) (after : Option P) (rows : List Cells) → is_of u who ≡ false
+    → m.to_come old u table after rows → m.to_come new u table after rows
+
+-- of a commit that was asked for no more is unwritten than before
+abbrev pub Lessens : Option ℕ → Option ℕ → Type 0
+Lessens None now = Unit {0}
+Lessens (Some count) None = ⊥
+Lessens (Some count) (Some left) = left ≤ count
+
+-- A call that adds no entry: it stands for what it stood for, and tables stay. The walks of one
+-- transaction may have gone on, or its commit been asked for.
+pub record Reads {R P : Type 0} (m : Means R P) (old new : R) (refusal : Option Refusal)
+    (walks : Option ℕ) : Type 0 where
+  pub stays : (o : Opening) (h : Entries) → m.stands old o h → m.stands new o h
+  pub keeps : Keeps m old new refusal
+  pub tables : (u : ℕ) (name : List ℕ) → m.table new u name ≡ m.table old u name
+  pub walks_stay : (u : ℕ) (table : Table) (after : Option P) (rows : List Cells)
+      → is_of u walks ≡ false → m.to_come old u table after rows → m.to_come new u table after rows
+  pub commits : (u : ℕ) → is_of u walks ≡ false → Lessens (m.unwritten old u) (m.unwritten new u)
+
+-- A call that gives events: the tables of one transaction may come to be others, and its walks.
+pub record Leaves {R P : Type 0} (m : Means R P) (old new : R) (refusal : Option Refusal)
+    (tables walks : Option ℕ) : Type 0 where
+  pub keeps : Keeps m old new refusal
+  pub tables_stay : TablesStay m old new tables
+  pub walks_stay : WalksStay m old new walks
+  pub commits : (u : ℕ) → is_of u walks ≡ false → Lessens (m.unwritten old u) (m.unwritten new u)

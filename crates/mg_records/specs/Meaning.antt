@@ -1,0 +1,37 @@
+-- What a keeper of records means.
+use Rattle.std.specs.Prelude.{ℕ, Bool, List, Option}
+use Rattle.mg_base.specs.Image.{Image}
+use Rattle.mg_model.specs.declared.opening.Opening.{Opening}
+use Rattle.mg_model.specs.declared.table.Table.{Table}
+use Rattle.mg_model.specs.Changes.{Cells}
+use Rattle.mg_model.specs.History.{Entries}
+
+-- What is known of a keeper of records. Moments are numbers of its own clock, which never falls.
+pub record Means (R P : Type 0) : Type 1 where
+  -- it stands for the history that begins so and has these entries; read from what it holds now
+  pub stands : R → Opening → Entries → Type 0
+  -- the table of a name that a transaction sees which is active
+  pub table : R → ℕ → List ℕ → Option Table
+  -- this table was given; this place was given for the table
+  pub was_given : R → Table → Type 0
+  pub is_place : R → Table → P → Type 0
+  -- the rows of a table that a transaction still comes to behind a place, none for the beginning,
+  -- in the order in which they are visited
+  pub to_come : R → ℕ → Table → Option P → List Cells → Type 0
+  -- a number that falls with each visit, so that a walk ends
+  pub still : R → ℕ → Table → Option P → ℕ
+  -- how many pages of a commit are unwritten, once it was asked for
+  pub unwritten : R → ℕ → Option ℕ
+  -- whether it tells what a crash may leave, and what a crash at that moment or a later one might
+  -- have left
+  pub tells : R → Bool
+  pub moment : R → ℕ
+  pub left : R → ℕ → Image → Type 0
+  -- how often the disk failed, how often a page was found damaged, and how often pages were short
+  pub faults : R → ℕ
+  pub damage : R → ℕ
+  pub shortages : R → ℕ
+  -- the count with which a page write failed, once one has
+  pub down : R → Option ℕ
+  -- the sizes of its pages; one that has no pages has each size
+  pub is_size : R → ℕ → Bool

@@ -1,0 +1,11 @@
+//! A record that a walk has come to.
+
+use mg_value::Row;
+
+/// A record that a walk has come to.
+#[derive(Debug, Drop)]
+pub struct Found<P> {
+    pub place: P,
+    /// The row that the transaction sees there, None where it sees none.
+    pub row: Option<Row>,
+}

@@ -1,0 +1,27 @@
+//! The keeper of records that statements run over: what every engine promises of its calls, told by
+//! the history of events that it stands for.
+//!
+//! Owns: the trait `Records` and its meaning (`specs/Meaning`): a relation "it stands for this
+//! history", the tables and rows that transactions see, what a crash may leave, and counts of
+//! faults. `Write` is a change of a row, `Found` a record that a walk has come to.
+//!
+//! Each call takes a value that stands for a history, whatever that is, to one that stands for the
+//! same history with the call's entries (`specs/Adding`, `Writing`, `TakingBack`). Calls that only
+//! read add none (`specs/Reading`). A refusal from outside the machine comes only by its cause, and
+//! once a page write has failed every call is refused (`specs/Keeping`).
+//!
+//! Not every clause of a call holds of every history: where the machine speaks of an active
+//! transaction only, so does the clause. What a value stands for is known to proofs alone.
+//!
+//! Below: `mg_model`, whose machine says the answers, and `mg_catalog`, whose rows say tables.
+//! Above: `mg_plain`, which keeps records in memory, the engine, and the statements' steps.
+//! Not here: indexes, and what becomes of garbage.
+#![tactic(auto)]
+
+mod found;
+mod records;
+mod write;
+
+pub use found::Found;
+pub use records::Records;
+pub use write::Write;
