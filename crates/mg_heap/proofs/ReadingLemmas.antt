@@ -17,6 +17,10 @@ cell_short b slot c d is same =
         let it : take (length_at b slot) (drop (offset_at b slot) b) ≡ c = cc in
         let long : length d ≡ length (take (length_at b slot) (drop (offset_at b slot) b)) =
         ap (λ (x : List ℕ). length x) (same ∙ sym it) in
-        omega (arith, long, length-take (length_at b slot) (drop (offset_at b slot) b),
-        length-drop (offset_at b slot) b)
+        omega (
+          arith,
+          long,
+          length-take (length_at b slot) (drop (offset_at b slot) b),
+          length-drop (offset_at b slot) b,
+        )
     at false is = absurd cc
