@@ -3,5 +3,6 @@ mod ChainLemmas
 mod DrawLemmas
 mod EndLemmas
 mod ListLemmas
+mod LoadedLemmas
 mod LoadLemmas
 mod WritingLemmas

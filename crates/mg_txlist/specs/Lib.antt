@@ -1,4 +1,5 @@
 pub mod Chain
 pub mod Drawing
 pub mod Ending
+pub mod Laws
 pub mod TxList

@@ -18,7 +18,9 @@
 
 mod drawing;
 mod ending;
+mod laws;
 mod list;
 mod loading;
 
+pub use laws::loaded_lists_say_what_images_say;
 pub use list::{TipPage, TxList};
