@@ -9,6 +9,8 @@ use Rattle.mg_space.specs.declared.fault.SpaceFault.{SpaceFault}
 use Rattle.mg_space.specs.declared.fault.SpaceFault.TheVariants as faults
 use Rattle.mg_tip.specs.TipPage.{SetsState, places}
 use Rattle.mg_txlist.specs.declared.list.TxList.{TxList}
+use Rattle.mg_space.specs.View.{KeepsStore}
+use Rattle.mg_txlist.specs.Drawing.{FailsDraw, only_read}
 use Rattle.mg_txlist.specs.Ending.{ChangesBits, FailsCommit, FailsToSettle, SettlesPage, not_settled}
 use Rattle.mg_txlist.specs.TxList.{tip_in}
 use Rattle.mg_base.specs.Disk.{MayLeave, Meaning}
@@ -81,3 +83,9 @@ fails_commit m list before after t fault given page bytes is number sets fails =
           (subst (λ (n : ℕ). FailsToSettle m before after (record { 0 = n }) bytes fault) number
           fails);
     }
+
+-- a drawing that fails has only read
+pub reads_alone : {D L T : Type 0} (m : Meaning D) (old new : Pool D L) (result : Result T SpaceFault)
+    → KeepsStore m old new → IfErr result (FailsDraw m old new)
+reads_alone m old new (Ok x) keeps = tt
+reads_alone m old new (Err fault) keeps = only_read fault keeps

@@ -1,5 +1,5 @@
 -- A number is drawn: what becomes of the list, of the batch, and of the pages as viewed.
-use Rattle.std.specs.Prelude.{◌≡◌, ◌≢◌, ◌≤◌, ◌+◌, ◌/◌, ◌%◌, ◌++◌, ◌∷◌, [], ℕ, List, Option, None, Some, Ok, length}
+use Rattle.std.specs.Prelude.{◌≡◌, ◌≢◌, ◌≤◌, ◌+◌, ◌/◌, ◌%◌, ◌++◌, ◌∷◌, [], ℕ, List, Option, None, Some, Ok, Err, length}
 use Rattle.mg_base.specs.Checks.{PassesAll, common_checks}
 use Rattle.mg_base.specs.Disk.{Meaning}
 use Rattle.mg_base.specs.Image.{Image}
@@ -14,7 +14,11 @@ use Rattle.mg_image.specs.Inventory.{header_of, inventory_page}
 use Rattle.mg_pool.specs.Batch.{Changed, PutsPage, content_in}
 use Rattle.mg_pool.specs.Change.{Changes, ChangesOverlays}
 use Rattle.mg_pool.specs.Pool.{LeavesOverlays, shown}
+use Rattle.mg_pool.specs.Refusal.{LeavesRefused}
+use Rattle.mg_pool.specs.declared.fault.PoolFault.{PoolFault}
 use Rattle.mg_pool.specs.declared.pool.Pool.{Pool}
+use Rattle.mg_space.specs.declared.fault.SpaceFault.{SpaceFault}
+use Rattle.mg_space.specs.declared.fault.SpaceFault.TheVariants as faults
 use Rattle.mg_space.specs.Taking.{PutsInventory, TakesPage, region_of}
 use Rattle.mg_space.specs.View.{KeepsStore, Tells, viewed}
 use Rattle.mg_tip.specs.TipPage.{new_tip_page, places}
@@ -123,3 +127,11 @@ pub record DrawsIn {D L : Type 0} (m : Meaning D) (old new : TxList) (before aft
   pub views : (image : Image) → Tells m before.disk image → DrawsOn before.geometry
       (next_said old) (shown before.dirty image) (viewed before image batch) page batch.orders
   pub adds : AddsPage old new page
+
+-- What a drawing leaves that is refused: it has only read, or it had read and then its batch was not
+-- changed.
+pub data FailsDraw {D L : Type 0} (m : Meaning D) (old new : Pool D L) : SpaceFault → Type 0 where
+  only_read : (fault : SpaceFault) → KeepsStore m old new → FailsDraw m old new fault
+  not_changed : (ready : Pool D L) (fault : PoolFault) → KeepsStore m old ready
+      → LeavesRefused {T = Unit {0}} m ready new (Err fault)
+      → FailsDraw m old new (faults.Pool fault)

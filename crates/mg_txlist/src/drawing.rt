@@ -1,7 +1,7 @@
 //! A number is drawn: the header has a higher next one, and the first transaction of a transaction
 //! inventory page gets that page.
 
-ghost use Rattle.std.specs.Prelude.{◌≡◌, ◌≢◌, ◌<◌, ◌≤◌, ◌+◌, ◌/◌, ◌%◌, ◌↔◌, ◌++◌, ◌∷◌, [], Ok, ℕ, IfOk, OnErr, OnOk};
+ghost use Rattle.std.specs.Prelude.{◌≡◌, ◌≢◌, ◌<◌, ◌≤◌, ◌+◌, ◌/◌, ◌%◌, ◌↔◌, ◌++◌, ◌∷◌, [], Ok, ℕ, IfErr, IfOk, OnErr, OnOk};
 ghost use Rattle.mg_base.specs.Image.{Image};
 ghost use Rattle.mg_base.specs.declared.transaction.TxState.TheVariants.{Active as ActiveState};
 ghost use Rattle.mg_header.specs.HeaderPage.{reading};
@@ -10,7 +10,7 @@ ghost use Rattle.mg_pool.specs.Batch.{IsLawful};
 ghost use Rattle.mg_pool.specs.Pool.{IsPool, shown};
 ghost use Rattle.mg_space.specs.Taking.{IsGeometry};
 ghost use Rattle.mg_space.specs.View.{AreWhole, KeepsStore, ReadsAlone, Tells, viewed};
-ghost use Rattle.mg_txlist.specs.Drawing.{AddsNumber, AddsPage, DrawsIn, DrawsOn, IsTipFor, MayBeHeader, PutsHead, PutsTip, SaysSame, raised_header};
+ghost use Rattle.mg_txlist.specs.Drawing.{AddsNumber, AddsPage, DrawsIn, DrawsOn, FailsDraw, IsTipFor, MayBeHeader, PutsHead, PutsTip, SaysSame, raised_header};
 ghost use Rattle.mg_txlist.specs.TxList.{IsTxList, next_said};
 
 use crate::list::{TipPage, TxList};
@@ -33,7 +33,8 @@ impl TxList {
     /// # Errors
     ///
     /// `Full` where a page is needed and none is free; `Damaged` at a field of the header or of a
-    /// page inventory page; `Pool`. The list says then what it said.
+    /// page inventory page; `Pool`. The list says then what it said, and the cache is as before, but for
+    /// page writes that were made before one failed.
     pub fn draw<D: Disk>(&mut self, store: &mut Store<D>) -> Result<TxNo, SpaceFault>
         requires list { IsTxList self.old }
         requires pool { IsPool D.meaning store.old }
@@ -48,6 +49,7 @@ impl TxList {
         ensures number { IfOk result (λ t. t.0 ≡ next_said self.old) }
         ensures adds { OnOk result (AddsNumber self.old self.new) }
         ensures draws { OnOk result (DrawsIn D.meaning self.old self.new store.old store.new) }
+        ensures left { IfErr result (FailsDraw D.meaning store.old store.new) }
     {
         let t = self.next();
         let mut batch = Batch::new(store.alloc());

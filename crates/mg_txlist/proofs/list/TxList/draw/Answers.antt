@@ -1,8 +1,9 @@
 use Rattle.std.proofs.Common.{◌∙◌, subst, ℕ}
 use Rattle.mg_pool.specs.Pool.{shown}
 use Rattle.mg_space.specs.View.{viewed}
-use Rattle.mg_txlist.specs.Drawing.{DrawsOn}
+use Rattle.mg_txlist.specs.Drawing.{DrawsOn, not_changed}
 use Rattle.mg_txlist.proofs.AddLemmas.{adds_number, own_back, pages_back, same_list}
+use Rattle.mg_txlist.proofs.WritingLemmas.{reads_alone}
 use Rattle.mg_txlist.proofs.list.TxList.draw.Goals as goal
 
 pub returns-in-Ok-clause-adds : goal.returns-in-Ok-clause-adds
@@ -37,3 +38,15 @@ returns-in-Err-clause-list g c = same_list c.args.self.now _ (record {
   first = c.add.ensures.first;
   size = c.add.ensures.size;
 }) c.requires.list
+
+pub returns-in-Err-clause-left : goal.returns-in-Err-clause-left
+returns-in-Err-clause-left g c =
+    not_changed c.fill.new.store c.in-Err.fault c.in_ok-page.ensures.keeps c.in-Err.ensures.refused
+
+pub returns-in_err-page-clause-left : goal.returns-in_err-page-clause-left
+returns-in_err-page-clause-left g c =
+    reads_alone g.D.Disk.meaning c.args.store.now c.fill.new.store c.from_residual.result c.fill.ensures.keeps
+
+pub returns-in_err-add-clause-left : goal.returns-in_err-add-clause-left
+returns-in_err-add-clause-left g c = reads_alone g.D.Disk.meaning c.args.store.now c.fill.new.store
+    c.from_residual-in_err-add.result c.in_ok-page.ensures.keeps
