@@ -7,9 +7,10 @@ ghost use Rattle.mg_base.specs.declared.transaction.TxState.TheVariants.{Active 
 ghost use Rattle.mg_header.specs.HeaderPage.{reading};
 ghost use Rattle.mg_header.specs.declared.header.TheConstants.{GREATEST_NEXT as MOST_NEXT};
 ghost use Rattle.mg_pool.specs.Batch.{IsLawful};
+ghost use Rattle.mg_pool.specs.Fault.{TellsFault};
 ghost use Rattle.mg_pool.specs.Pool.{IsPool, shown};
 ghost use Rattle.mg_space.specs.Taking.{IsGeometry};
-ghost use Rattle.mg_space.specs.View.{AreWhole, KeepsStore, ReadsAlone, Tells, viewed};
+ghost use Rattle.mg_space.specs.View.{AreWhole, KeepsStore, ReadsAlone, Tells, pool_answer, viewed};
 ghost use Rattle.mg_txlist.specs.Drawing.{AddsNumber, AddsPage, DrawsIn, DrawsOn, FailsDraw, IsTipFor, MayBeHeader, PutsHead, PutsTip, SaysSame, raised_header};
 ghost use Rattle.mg_txlist.specs.TxList.{IsTxList, next_said};
 
@@ -45,6 +46,7 @@ impl TxList {
         ensures list { IsTxList self.new }
         ensures pool { IsPool D.meaning store.new }
         ensures geometry { store.new.geometry ≡ store.old.geometry }
+        ensures fault { TellsFault D.meaning store.old store.new (pool_answer result) }
         ensures same { OnErr result (SaysSame self.old self.new) }
         ensures number { IfOk result (λ t. t.0 ≡ next_said self.old) }
         ensures adds { OnOk result (AddsNumber self.old self.new) }
@@ -77,6 +79,7 @@ impl TxList {
         ensures pages { OnOk result (AddsPage self.old self.new page) }
         ensures size { self.new.size ≡ self.old.size }
         ensures first { self.new.first ≡ self.old.first }
+        ensures memory { IfErr result (λ fault. fault ≡ SpaceFault.Pool PoolFault.Memory) }
         ensures same_own { OnErr result (self.new.own.items ≡ self.old.own.items) }
         ensures same_pages { OnErr result (self.new.pages.items ≡ self.old.pages.items) }
     {
@@ -108,6 +111,7 @@ fn fill<D: Disk>(
     requires below { t.0 < MOST_NEXT }
 
     ensures keeps { KeepsStore D.meaning store.old store.new }
+    ensures fault { TellsFault D.meaning store.old store.new (pool_answer result) }
     ensures own { ReadsAlone result }
     ensures lawful { OnOk result
         (IsLawful store.old.geometry.size batch.new.pages batch.new.orders) }
@@ -168,6 +172,7 @@ fn put_head<D: Disk>(
     requires whole { AreWhole store.old.geometry.size batch.old.pages }
 
     ensures keeps { KeepsStore D.meaning store.old store.new }
+    ensures fault { TellsFault D.meaning store.old store.new (pool_answer result) }
     ensures own { ReadsAlone result }
     ensures puts { OnOk result (PutsHead store.old.geometry.size batch.old batch.new) }
     ensures head { (image : Image) → Tells D.meaning store.old.disk image → OnOk result
@@ -194,6 +199,7 @@ fn put_tip<D: Disk>(
     requires whole { AreWhole store.old.geometry.size batch.old.pages }
 
     ensures keeps { KeepsStore D.meaning store.old store.new }
+    ensures fault { TellsFault D.meaning store.old store.new (pool_answer result) }
     ensures own { ReadsAlone result }
     ensures puts { IfOk result (PutsTip D.meaning store.old batch.old batch.new t.0 last_tip.0) }
 {
