@@ -5,3 +5,6 @@ pub mod WalkLemmas
 pub mod GrowthLemmas
 pub mod RoomLemmas
 pub mod AddingLemmas
+pub mod StandLemmas
+pub mod StackedLemmas
+pub mod ChainLemmas

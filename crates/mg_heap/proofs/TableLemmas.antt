@@ -158,12 +158,13 @@ entries_further pages owner pointers listed n old new next are follows is =
 
 pub broken : {D L : Type 0} (m : Meaning D) (store : Pool D L) (batch : List BatchPage)
     (pages : Pages) (owner : ℕ) (pointers : List ℕ) (n : PageNo) (fault : SpaceFault)
-    → LeadsTo pages owner pointers n.0 → RefusesPointer m store batch pages owner pointers n fault
+    → LeadsTo pages owner pointers n.0 → n.0 ≢ 0
+    → RefusesPointer m store batch pages owner pointers n fault
     → RefusesTable m store batch pages owner fault
-broken m store batch pages owner pointers n (faults.Full limit) leads refused = refused
-broken m store batch pages owner pointers n (faults.Damaged damage) leads refused =
-    record { pointers = pointers; page = n; leads = leads; refused = refused }
-broken m store batch pages owner pointers n (faults.Pool fault) leads refused = tt
+broken m store batch pages owner pointers n (faults.Full limit) leads some refused = refused
+broken m store batch pages owner pointers n (faults.Damaged damage) leads some refused =
+    record { pointers = pointers; page = n; leads = leads; some = some; refused = refused }
+broken m store batch pages owner pointers n (faults.Pool fault) leads some refused = tt
 
 -- ---- a page that passes may be read
 

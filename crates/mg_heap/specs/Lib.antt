@@ -4,6 +4,8 @@ pub mod Growth
 pub mod GrowthLaws
 pub mod Reading
 pub mod Room
+pub mod Stacked
+pub mod Stands
 pub mod Table
 pub mod TableLaws
 pub mod Walk

@@ -88,6 +88,7 @@ pub record IsBrokenChain {D L : Type 0} (m : Meaning D) (store : Pool D L) (batc
   pub pointers : List ℕ
   pub page : PageNo
   pub leads : LeadsTo pages owner pointers page.0
+  pub some : page.0 ≢ 0
   pub refused : RefusesPointer m store batch pages owner pointers page fault
 
 -- why the pages of a table are not found, but for faults of the cache: its chain is broken

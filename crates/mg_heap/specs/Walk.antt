@@ -1,5 +1,5 @@
 -- The walk over the records of a table, in the order of its data pages and their slots.
-use Rattle.std.specs.Prelude.{◌≡◌, ◌<◌, ◌≤◌, ◌⊎◌, ◌+◌, ◌==◌, ◌||◌, ℕ, Bool, true, false, List, [], ◌∷◌, Option, None, Some, slice_index, if◌then◌else◌}
+use Rattle.std.specs.Prelude.{◌≡◌, ◌<◌, ◌≤◌, ◌⊎◌, ◌+◌, ◌==◌, ◌||◌, ℕ, Bool, true, false, List, [], ◌∷◌, Option, None, Some, length, slice_index, if◌then◌else◌}
 use Rattle.mg_base.specs.Disk.{Meaning}
 use Rattle.mg_base.specs.Fields.{byte}
 use Rattle.mg_base.specs.declared.numbers.PageNo.{PageNo}
@@ -84,6 +84,7 @@ RefusesTableData m store batch b owner at n (faults.Pool fault) = Unit {0}
 pub record IsBrokenPage {D L : Type 0} (m : Meaning D) (store : Pool D L) (batch : List BatchPage)
     (pages : Pages) (owner : ℕ) (data_pages : List ℕ) (fault : SpaceFault) : Type 0 where
   pub place : ℕ
+  pub inside : place < length data_pages
   pub page : PageNo
   pub listed : slice_index data_pages place ≡ page.0
   pub refused : RefusesTableData m store batch (pages page.0) owner place page fault

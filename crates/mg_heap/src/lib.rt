@@ -25,13 +25,16 @@
 mod adding;
 mod changing;
 mod growth;
+mod laws;
 mod reading;
 mod room;
+mod stacked;
 mod table;
 mod walk;
 
 pub use adding::add;
 pub use changing::{free, least_slot, place};
+pub use laws::{tables_of_layouts_are_walked, walks_of_layouts_meet_no_damage};
 pub use reading::cell;
 pub use room::page_with_room;
 pub use walk::next;

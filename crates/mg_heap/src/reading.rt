@@ -10,9 +10,10 @@ ghost use Rattle.mg_space.specs.Taking.{IsGeometry};
 ghost use Rattle.mg_space.specs.View.{AreWhole, KeepsStore, Tells, pool_answer, viewed};
 ghost use Rattle.mg_heap.specs.Reading.{GivesCell, IsNoData, IsSomeData, ReadsData, RefusesData};
 
+use crate::stacked::check_page;
 use mg_base::{Bytes, Damaged, Disk, Memory, OWNER_AT, PageNo, RecId, SEQUENCE_AT, get_u32};
 use mg_pool::Batch;
-use mg_slots::{GREATEST_SIZE, LEAST_SIZE, check_data};
+use mg_slots::{GREATEST_SIZE, LEAST_SIZE};
 use mg_space::{SpaceFault, Store, page_of};
 use std::alloc::Global;
 
@@ -85,7 +86,7 @@ fn check_some_data(b: &[u8], page: PageNo) -> Result<(), Damaged>
     ensures when { IsOk result ↔ IsSomeData page b.now }
     ensures damaged { IfErr result (IsNoData page b.now) }
 {
-    check_data(b, page, get_u32(b, OWNER_AT), get_u32(b, SEQUENCE_AT))
+    check_page(b, page, get_u32(b, OWNER_AT), get_u32(b, SEQUENCE_AT))
 }
 
 /// A copy of the cell of a slot.

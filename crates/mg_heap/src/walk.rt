@@ -14,11 +14,12 @@ ghost use Rattle.mg_heap.specs.Reading.{ReadsData};
 ghost use Rattle.mg_heap.specs.Walk.{FindsRecord, GivesBehind, GivesNext, IsNextIn, RefusesNext, RefusesTableData, RefusesWalk, RefusesWalkOf, behind, behind_page, is_primary as is_primary_of};
 
 use crate::reading::data_page;
+use crate::stacked::check_page;
 use crate::table::table_pages;
 use mg_base::{Bytes, Damaged, Disk, GREATEST_LIMIT, PageNo, RecId};
 use mg_image::PRIMARY_VERSION;
 use mg_pool::Batch;
-use mg_slots::{DATA_KIND, GREATEST_SIZE, LEAST_SIZE, cell, check_data, slots};
+use mg_slots::{DATA_KIND, GREATEST_SIZE, LEAST_SIZE, cell, slots};
 use mg_space::{SpaceFault, Store, page_of};
 use mg_version::ANCHOR;
 
@@ -227,7 +228,7 @@ fn check_table_data(b: &[u8], page: PageNo, owner: u32, at: u32) -> Result<(), D
     ensures lawful { OnOk result (IsDataPage b.now) }
     ensures damaged { IfErr result (IsFirstDamage b.now page owner at) }
 {
-    check_data(b, page, owner, at)
+    check_page(b, page, owner, at)
 }
 
 /// The first record of a page from a slot on.

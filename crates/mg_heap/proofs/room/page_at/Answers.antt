@@ -14,4 +14,4 @@ returns-in_err-bytes-clause-looks g c = λ image tells. handed_on c.from_residua
     (page_broken g.D.Disk.meaning c.table_data_page.new.store c.args.batch.now.pages
     (viewed c.args.store.now image c.args.batch.now) c.args.owner.0 c.args.place
     c.args.place c.args.data_pages.now (record { 0 = get_or c.args.data_pages.now c.args.place 0 })
-    c.in_err-bytes.field-0.0 refl refl (c.in_err-bytes.ensures.seen image tells))
+    c.in_err-bytes.field-0.0 c.requires.inside refl refl (c.in_err-bytes.ensures.seen image tells))

@@ -19,7 +19,8 @@ returns-in_err-page-clause-gives g c = λ image tells. handed_on c.from_residual
     (page_broken g.D.Disk.meaning c.table_data_page.new.store c.args.batch.now.pages
     (viewed c.args.store.now image c.args.batch.now) c.args.owner.0 c.loop-place.place
     c.loop-place.place c.args.data_pages.now
-    (record { 0 = get_or c.args.data_pages.now c.loop-place.place 0 }) c.in_err-page.field-0.0 refl refl
+    (record { 0 = get_or c.args.data_pages.now c.loop-place.place 0 }) c.in_err-page.field-0.0
+    (omega arith) refl refl
     (as_started g.D.Disk.meaning c.args.store.now c.loop-place.store image c.args.batch.now
     c.loop-place.invariant.keeps tells (λ (pages : Pages). RefusesTableData g.D.Disk.meaning
     c.table_data_page.new.store c.args.batch.now.pages
