@@ -5,4 +5,5 @@ mod EndLemmas
 mod ListLemmas
 mod LoadedLemmas
 mod LoadLemmas
+mod RefusalLemmas
 mod WritingLemmas

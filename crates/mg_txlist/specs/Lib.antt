@@ -2,4 +2,5 @@ pub mod Chain
 pub mod Drawing
 pub mod Ending
 pub mod Laws
+pub mod Refusals
 pub mod TxList

@@ -4,14 +4,15 @@
 ghost use Rattle.std.specs.Prelude.{◌≡◌, ◌≢◌, ◌<◌, ◌≤◌, ◌+◌, ◌/◌, ◌%◌, ◌↔◌, ◌++◌, ◌∷◌, [], Ok, ℕ, IfErr, IfOk, OnErr, OnOk};
 ghost use Rattle.mg_base.specs.Image.{Image};
 ghost use Rattle.mg_base.specs.declared.transaction.TxState.TheVariants.{Active as ActiveState};
-ghost use Rattle.mg_header.specs.HeaderPage.{reading};
+ghost use Rattle.mg_header.specs.HeaderPage.{reading, the_page};
 ghost use Rattle.mg_header.specs.declared.header.TheConstants.{GREATEST_NEXT as MOST_NEXT};
 ghost use Rattle.mg_pool.specs.Batch.{IsLawful};
 ghost use Rattle.mg_pool.specs.Fault.{TellsFault};
 ghost use Rattle.mg_pool.specs.Pool.{IsPool, shown};
-ghost use Rattle.mg_space.specs.Taking.{IsGeometry};
+ghost use Rattle.mg_space.specs.Taking.{IsGeometry, RefusesTake};
 ghost use Rattle.mg_space.specs.View.{AreWhole, KeepsStore, ReadsAlone, Tells, pool_answer, viewed};
 ghost use Rattle.mg_txlist.specs.Drawing.{AddsNumber, AddsPage, DrawsIn, DrawsOn, FailsDraw, IsTipFor, MayBeHeader, PutsHead, PutsTip, SaysSame, raised_header};
+ghost use Rattle.mg_txlist.specs.Refusals.{LacksHead, RefusesDraw};
 ghost use Rattle.mg_txlist.specs.TxList.{IsTxList, next_said};
 
 use crate::list::{TipPage, TxList};
@@ -52,6 +53,9 @@ impl TxList {
         ensures adds { OnOk result (AddsNumber self.old self.new) }
         ensures draws { OnOk result (DrawsIn D.meaning self.old self.new store.old store.new) }
         ensures left { IfErr result (FailsDraw D.meaning store.old store.new) }
+        ensures refused { (image : Image) → Tells D.meaning store.old.disk image → IfErr result
+            (RefusesDraw D.meaning store.new store.old.geometry (next_said self.old)
+            (shown store.old.dirty image)) }
     {
         let t = self.next();
         let mut batch = Batch::new(store.alloc());
@@ -119,6 +123,8 @@ fn fill<D: Disk>(
     ensures draws { (image : Image) → Tells D.meaning store.old.disk image → IfOk result
         (λ page. DrawsOn store.old.geometry t.0 (shown store.old.dirty image)
         (viewed store.old image batch.new) page batch.new.orders) }
+    ensures refused { (image : Image) → Tells D.meaning store.old.disk image → IfErr result
+        (RefusesDraw D.meaning store.new store.old.geometry t.0 (shown store.old.dirty image)) }
 {
     let header = read_head(store, batch)?;
     if header.next.0 != t.0 {
@@ -135,7 +141,9 @@ fn fill<D: Disk>(
 }
 
 /// Names a next number that is not the list's.
-fn other_next(found: TxNo, wanted: TxNo) -> Damaged {
+fn other_next(found: TxNo, wanted: TxNo) -> Damaged
+    ensures { result ≡ record { page = the_page; field = Field.Next; found = found.0; wanted = wanted.0 } }
+{
     Damaged {
         page: PageNo(0),
         field: Field::Next,
@@ -178,6 +186,7 @@ fn put_head<D: Disk>(
     ensures head { (image : Image) → Tells D.meaning store.old.disk image → OnOk result
         (MayBeHeader header.now (viewed store.old image batch.old 0)
         → reading (viewed store.old image batch.new 0) store.old.geometry.size ≡ Ok header.now) }
+    ensures lacks { IfErr result (LacksHead D.meaning store.new) }
 {
     let page = page_of(store, batch, PageNo(0))?;
     let mut bytes = page.into_vec();
@@ -202,6 +211,8 @@ fn put_tip<D: Disk>(
     ensures fault { TellsFault D.meaning store.old store.new (pool_answer result) }
     ensures own { ReadsAlone result }
     ensures puts { IfOk result (PutsTip D.meaning store.old batch.old batch.new t.0 last_tip.0) }
+    ensures refused { (image : Image) → Tells D.meaning store.old.disk image → IfErr result
+        (RefusesTake store.old.geometry (viewed store.old image batch.old)) }
 {
     let size = store.geometry().size;
     let at = take_page(store, batch)?;

@@ -10,6 +10,7 @@ ghost use Rattle.mg_pool.specs.Pool.{IsPool, shown};
 ghost use Rattle.mg_space.specs.Taking.{IsGeometry};
 ghost use Rattle.mg_space.specs.View.{KeepsStore, ReadsAlone, Tells, pool_answer};
 ghost use Rattle.mg_txlist.specs.Chain.{AreTested, AreWholePages, HasHead, IsTipOf, tips_below};
+ghost use Rattle.mg_txlist.specs.Refusals.{RefusesHead, RefusesLoad, RefusesTip, RefusesTips, link_to_head, wanted_in};
 ghost use Rattle.mg_txlist.specs.TxList.{IsTxList};
 
 use crate::list::{TipPage, TxList};
@@ -40,6 +41,8 @@ impl TxList {
         ensures says { (image : Image) → Tells D.meaning store.old.disk image → IfOk result
             (λ list. HasHead store.old.geometry.size (shown store.old.dirty image)
             list.first list.pages.items) }
+        ensures refused { (image : Image) → Tells D.meaning store.old.disk image → IfErr result
+            (RefusesLoad D.meaning store.new store.old.geometry (shown store.old.dirty image)) }
     {
         let batch = Batch::new(store.alloc());
         let header = read_head(store, &batch)?;
@@ -68,6 +71,8 @@ pub(crate) fn read_head<D: Disk>(store: &mut Store<D>, batch: &Batch) -> Result<
     ensures most { IfOk result (λ header. header.next.0 ≤ MOST_NEXT) }
     ensures says { (image : Image) → Tells D.meaning store.old.disk image → IfOk result
         (λ header. reading (shown store.old.dirty image 0) store.old.geometry.size ≡ Ok header) }
+    ensures refused { (image : Image) → Tells D.meaning store.old.disk image → IfErr result
+        (RefusesHead D.meaning store.new store.old.geometry.size (shown store.old.dirty image 0)) }
 {
     let size = store.geometry().size;
     let page = page_of(store, batch, PageNo(0))?;
@@ -84,7 +89,9 @@ pub(crate) fn read_head<D: Disk>(store: &mut Store<D>, batch: &Batch) -> Result<
 }
 
 /// What is wanted of a field that tells a database.
-fn wanted_of(field: Field, size: u32) -> u64 {
+fn wanted_of(field: Field, size: u32) -> u64
+    ensures { result ≡ wanted_in size field }
+{
     match field {
         Field::Magic => u64::from(MAGIC),
         Field::Major => u64::from(MAJOR),
@@ -112,6 +119,9 @@ fn load_pages<D: Disk>(
     ensures tested { IfOk result (λ pages. AreTested 0 pages.items) }
     ensures says { (image : Image) → Tells D.meaning store.old.disk image → IfOk result
         (λ pages. pages.items ≡ tips_below (shown store.old.dirty image) last.0 count) }
+    ensures refused { (image : Image) → Tells D.meaning store.old.disk image → IfErr result
+        (RefusesTips D.meaning store.new store.old.geometry.limit (shown store.old.dirty image) last.0
+        count) }
 {
     store.online()?;
     let mut pages = Vec::new(store.alloc());
@@ -143,6 +153,9 @@ fn load_page<D: Disk>(
     ensures tested { IfOk result (λ page. IsTipOf sequence page) }
     ensures says { (image : Image) → Tells D.meaning store.old.disk image → IfOk result
         (λ page. page.bytes ≡ shown store.old.dirty image at.0) }
+    ensures refused { (image : Image) → Tells D.meaning store.old.disk image → IfErr result
+        (RefusesTip D.meaning store.new store.old.geometry.limit (shown store.old.dirty image) sequence
+        at) }
 {
     store.online()?;
     if at.0 == 0 {
@@ -154,7 +167,9 @@ fn load_page<D: Disk>(
 }
 
 /// Names a link of the chain that leads to the header page.
-fn no_link<D: Disk>(store: &Store<D>) -> Damaged {
+fn no_link<D: Disk>(store: &Store<D>) -> Damaged
+    ensures { result ≡ link_to_head store.now.geometry.limit }
+{
     Damaged {
         page: PageNo(0),
         field: Field::Link,

@@ -8,6 +8,9 @@ use Rattle.mg_tip.specs.TipPage.{places}
 use Rattle.mg_txlist.specs.Drawing.{PutsHead}
 use Rattle.mg_txlist.proofs.AddLemmas.{same_number}
 use Rattle.mg_txlist.proofs.DrawLemmas.{draws_last, draws_new, lawful_last, lawful_new, tip_len, tip_whole}
+use Rattle.mg_pool.specs.Pool.{shown}
+use Rattle.mg_txlist.specs.Refusals.{RefusesDraw}
+use Rattle.mg_txlist.proofs.RefusalLemmas.{err_as, head_draw, tip_draw}
 use Rattle.mg_txlist.proofs.drawing.fill.Goals as goal
 
 pub returns-then-t-places_of-ne0-clause-lawful : goal.returns-then-t-places_of-ne0-clause-lawful
@@ -83,3 +86,22 @@ returns-clause-draws g c = λ image tells.
     c.put_tip.new.store c.read_head.ensures.keeps c.put_tip.ensures.keeps)
     c.in_ok-page.ensures.puts c.in_ok-put_head-2.ensures.puts c.raised-2.ensures
     c.in_ok-put_head-2.ensures.head
+
+pub returns-in_err-header-clause-refused : goal.returns-in_err-header-clause-refused
+returns-in_err-header-clause-refused g c = λ image tells. err_as c.from_residual.result
+    c.in_err-header.field-0.0
+    (RefusesDraw g.D.Disk.meaning c.read_head.new.store c.args.store.now.geometry c.args.t.0
+    (shown c.args.store.now.dirty image)) c.from_residual.ensures.1
+    (head_draw g.D.Disk.meaning c.read_head.new.store c.args.store.now.geometry c.args.t.0
+    (shown c.args.store.now.dirty image) c.in_err-header.field-0.0
+    (c.in_err-header.ensures.refused image tells))
+
+pub returns-in_err-page-clause-refused : goal.returns-in_err-page-clause-refused
+returns-in_err-page-clause-refused g c = λ image tells. err_as c.from_residual-in_err-page.result
+    c.in_err-page.field-0.0
+    (RefusesDraw g.D.Disk.meaning c.put_tip.new.store c.args.store.now.geometry c.args.t.0
+    (shown c.args.store.now.dirty image)) c.from_residual-in_err-page.ensures.1
+    (tip_draw g.D.Disk.meaning c.args.store.now c.read_head.new.store c.put_tip.new.store image
+    c.args.batch.now c.args.t.0 c.places_of.result c.geometry-size.result c.in_err-page.field-0.0
+    c.in_ok-header.ensures.keeps tells c.requires.empty c.geometry-size.ensures c.places_of.ensures
+    c.if-t-places_of-ne0.false (c.in_err-page.ensures.refused image))

@@ -1,5 +1,6 @@
 use Rattle.std.proofs.Common.{◌≡◌, ◌-◌, ◌++◌, length}
 use Rattle.mg_base.specs.Image.{Image}
+use Rattle.mg_image.specs.Inventory.{tip_before}
 use Rattle.mg_pool.specs.Pool.{shown}
 use Rattle.mg_space.specs.View.{KeepsStore, Tells}
 use Rattle.mg_txlist.specs.Chain.{AreTested, AreWholePages, tips_below}
@@ -15,4 +16,6 @@ invariant-loop-k g l = record {
   says : (image : Image) → Tells g.D.Disk.meaning l.initial.store.disk image
       → tips_below (shown l.initial.store.dirty image) l.initial.at.0 l.count
       ≡ tips_below (shown l.initial.store.dirty image) l.at.0 (l.count - l.k) ++ l.pages.items;
+  stands : (image : Image) → Tells g.D.Disk.meaning l.initial.store.disk image
+      → l.at.0 ≡ tip_before (shown l.initial.store.dirty image) l.fn.last.0 l.k;
 }
