@@ -178,9 +178,9 @@ fn the_walk_gives_each_primary_slot_once_in_the_order_of_pages_and_slots(
     drop_slot(&mut store, &mut batch, slot_of(7, 0))?;
     drop_slot(&mut store, &mut batch, slot_of(7, 5))?;
     drop_slot(&mut store, &mut batch, slot_of(8, 2))?;
-    for page in [5, 7, 8] {
-        let _ = change_page(&mut store, &batch, page);
-    }
+    assert_eq!(rt; change_page(&mut store, &batch, 5), Ok(()));
+    assert_eq!(rt; change_page(&mut store, &batch, 7), Ok(()));
+    assert_eq!(rt; change_page(&mut store, &batch, 8), Ok(()));
     let wanted = [
         slot_of(7, 2),
         slot_of(7, 3),

@@ -47,6 +47,10 @@ pub fn find_page<D: Disk>(
     if let Some(bytes) = batch.bytes(page) {
         return Ok(Found::Page(copy_of(store.alloc(), bytes)?));
     }
+    // A resident page is looked up once, and not twice as by the reading of another.
+    if let Some(bytes) = store.bytes(page) {
+        return Ok(Found::Page(copy_of(store.alloc(), bytes)?));
+    }
     match store.fetch(page) {
         Ok(()) => {}
         Err(PoolFault::Absent { pages }) => return Ok(Found::Absent { pages }),

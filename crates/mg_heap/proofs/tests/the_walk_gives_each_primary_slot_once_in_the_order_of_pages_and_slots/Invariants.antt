@@ -8,7 +8,3 @@ use Rattle.mg_heap.proofs.tests.the_walk_gives_each_primary_slot_once_in_the_ord
 abbrev pub invariant-loop-kind : goal.invariant-loop-kind
 invariant-loop-kind g l = IsPool mem_meaning l.store × IsGeometry l.store.geometry
     × (l.store.geometry.size ≡ 1024) × AreWhole 1024 l.batch.pages
-
-abbrev pub invariant-loop-page : goal.invariant-loop-page
-invariant-loop-page g l = IsPool mem_meaning l.store × IsGeometry l.store.geometry
-    × (l.store.geometry.size ≡ 1024) × AreWhole 1024 l.batch.pages
