@@ -16,11 +16,11 @@ use Rattle.mg_rows.specs.Selecting.{each_value}
 abbrev pub null_row : List Column → Cells
 null_row columns = replicate (length columns) Null
 
--- a row with values put into the columns at these places, one after another
+-- a row with values put into the columns at these places, of which none is named twice
 abbrev pub put_all : List ℕ → List Value → Cells → Cells
 put_all [] values row = row
 put_all (place ∷ places) [] row = row
-put_all (place ∷ places) (value ∷ values) row = put_all places values (slice_set row place value)
+put_all (place ∷ places) (value ∷ values) row = slice_set (put_all places values row) place value
 
 -- a NOT NULL column has NULL
 abbrev pub has_null : List Column → Cells → Bool

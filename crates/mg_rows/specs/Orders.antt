@@ -1,8 +1,9 @@
 -- The orders of rows.
-use Rattle.std.specs.Prelude.{◌≡◌, ℕ, Bool, true, false, List, Option, Some, None, slice_index_or}
+use Rattle.std.specs.Prelude.{◌≡◌, ℕ, Bool, true, false, List, [], ◌∷◌, slice_index_or}
 use Rattle.std.specs.List.Sorted.{IsPermutation, IsSorted}
 use Rattle.std.specs.Ordering.{ordering_then, ordering_reverse}
 use Rattle.std.specs.declared.cmp.Ordering.{Ordering}
+use Rattle.std.specs.declared.cmp.Ordering.TheVariants.{Less}
 use Rattle.mg_value.specs.declared.value.Value.{Value}
 use Rattle.mg_value.specs.declared.value.Value.TheVariants.{Null}
 use Rattle.mg_value.specs.Values.{value_cmp}
@@ -33,3 +34,13 @@ column_cmp by key a b =
 pub record AreSorted (cmp : Cells → Cells → Ordering) (rows sorted : List Cells) : Type 0 where
   pub same : IsPermutation rows sorted
   pub ascend : IsSorted cmp sorted
+
+-- each of these rows comes behind a row
+abbrev pub ComesBefore : (Cells → Cells → Ordering) → Cells → List Cells → Type 0
+ComesBefore cmp row [] = Unit {0}
+ComesBefore cmp row (other ∷ others) = (cmp row other ≡ Less) × ComesBefore cmp row others
+
+-- rows ascend: each comes before those behind it, and no two tie
+abbrev pub Ascend : (Cells → Cells → Ordering) → List Cells → Type 0
+Ascend cmp [] = Unit {0}
+Ascend cmp (row ∷ rows) = ComesBefore cmp row rows × Ascend cmp rows

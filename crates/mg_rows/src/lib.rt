@@ -22,6 +22,7 @@
 mod fault;
 mod filling;
 mod filtering;
+mod laws;
 mod new_rows;
 mod ordering;
 mod outcome;
@@ -31,6 +32,7 @@ mod totals;
 
 pub use fault::NewRowFault;
 pub use filtering::{keep, passes};
+pub use laws::order_of_visits_is_nothing;
 pub use new_rows::{insert_row, update_rows};
 pub use ordering::{OrderBy, sort_by_column, sort_by_key};
 pub use outcome::Outcome;

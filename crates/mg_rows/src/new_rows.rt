@@ -115,12 +115,7 @@ fn row_fault(columns: &[Column], row: &[Value]) -> Option<NewRowFault>
 }
 
 /// The row that values make of an older one.
-fn make_row(
-    columns: &[Column],
-    places: &[u16],
-    values: Row,
-    row: Row,
-) -> Result<Row, NewRowFault>
+fn make_row(columns: &[Column], places: &[u16], values: Row, row: Row) -> Result<Row, NewRowFault>
     requires { length places.now ≡ length values }
     ensures { Makes (λ row. row) (row_with columns.now places.now (Some values) row) result }
 {

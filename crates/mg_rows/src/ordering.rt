@@ -1,7 +1,6 @@
 //! The orders of rows.
 
 ghost use Rattle.std.specs.Prelude.{◌≡◌};
-ghost use Rattle.std.specs.Option.{option_copied};
 ghost use Rattle.mg_value.specs.Values.{value_cmp};
 ghost use Rattle.mg_rows.specs.Orders.{value_at as value_at_place, key_cmp, directed as directed_order, column_cmp, AreSorted};
 
@@ -41,16 +40,16 @@ fn order_by(a: &Row, b: &Row, by: OrderBy, key: u16) -> Ordering
 }
 
 /// Sorts rows by their primary keys, whose column is at a place. It takes no memory.
-pub fn sort_by_key(rows: &mut [Row], key: u16)
-    ensures { AreSorted (key_cmp key) rows.old rows.new }
+pub fn sort_by_key(rows: &mut Vec<Row>, key: u16)
+    ensures { AreSorted (key_cmp key) rows.old.items rows.new.items }
 {
     rows.sort_unstable_by(|a, b| order_at(a, b, key));
 }
 
 /// Sorts rows by a column, NULL least, and where they tie there by their primary keys, whose column
 /// is at a place, and which ascend also where the column descends. It takes no memory.
-pub fn sort_by_column(rows: &mut [Row], by: OrderBy, key: u16)
-    ensures { AreSorted (column_cmp by key) rows.old rows.new }
+pub fn sort_by_column(rows: &mut Vec<Row>, by: OrderBy, key: u16)
+    ensures { AreSorted (column_cmp by key) rows.old.items rows.new.items }
 {
     rows.sort_unstable_by(|a, b| order_by(a, b, by, key));
 }

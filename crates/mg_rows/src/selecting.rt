@@ -36,11 +36,7 @@ fn select_one(alloc: Global, values: &Option<Vec<Expr>>, row: &Row) -> Result<Ro
 }
 
 /// What a SELECT gives of each of these rows.
-fn select_each(
-    alloc: Global,
-    values: &Option<Vec<Expr>>,
-    rows: &[Row],
-) -> Result<Rows, EvalFault>
+fn select_each(alloc: Global, values: &Option<Vec<Expr>>, rows: &[Row]) -> Result<Rows, EvalFault>
     ensures { Answers (each_selected (trees_in values.now) rows.now) result }
 {
     let mut out = Vec::new(alloc);
