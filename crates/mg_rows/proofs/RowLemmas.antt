@@ -6,7 +6,7 @@ use Rattle.mg_expr.specs.Trees.{Tree}
 use Rattle.mg_model.specs.Changes.{Cells}
 use Rattle.mg_rows.specs.declared.fault.NewRowFault.{NewRowFault}
 use Rattle.mg_rows.specs.Selecting.{with_front, each_of, each_value, tree_value}
-use Rattle.mg_rows.specs.NewRows.{put_all, before}
+use Rattle.mg_rows.specs.NewRows.{put_all}
 
 -- those that were made in front of the others, where these can be made
 abbrev pub made_before : List Cells → Result (List Cells) NewRowFault → Result (List Cells) NewRowFault

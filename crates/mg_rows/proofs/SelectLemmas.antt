@@ -1,5 +1,5 @@
 -- A SELECT with ORDER BY.
-use Rattle.std.proofs.Common.{◌≡◌, ℕ, List, Option, Some, Result, Ok, Err, subst}
+use Rattle.std.proofs.Common.{ℕ, List, Option, Some, Result, Ok, Err}
 use Rattle.mg_expr.specs.declared.fault.EvalFault.{EvalFault}
 use Rattle.mg_expr.specs.declared.fault.EvalFault.TheVariants.{Arithmetic, Memory}
 use Rattle.mg_expr.specs.Trees.{Tree}

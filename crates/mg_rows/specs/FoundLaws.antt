@@ -1,5 +1,5 @@
 -- The rows found don't depend on the order in which they are visited.
-use Rattle.std.proofs.Common.{◌≡◌, ℕ, ◌||◌, Bool, true, false, List, [], ◌∷◌, ◌++◌, filter, map, cond, Option, Some, None, Result, Ok, Err, is_none, refl, sym, ap, ◌∙◌}
+use Rattle.std.proofs.Common.{◌≡◌, ℕ, ◌||◌, Bool, true, false, List, [], ◌∷◌, ◌++◌, filter, map, cond, Option, Some, None, Ok, Err, is_none, refl, sym, ap, ◌∙◌}
 use Rattle.std.specs.List.{list_any, sum_by}
 use Rattle.std.proofs.lemmas.List.{append-nil}
 use Rattle.std.specs.List.Sorted.{IsPermutation}

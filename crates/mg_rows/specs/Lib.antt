@@ -9,4 +9,6 @@ pub mod NewRows
 pub mod Faults
 pub mod SortLaws
 pub mod FoundLaws
+pub mod NewRowLaws
+pub mod BoundLaws
 pub mod Laws

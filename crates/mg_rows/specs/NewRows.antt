@@ -1,5 +1,5 @@
 -- The rows that an INSERT and an UPDATE make, and why they can't be made.
-use Rattle.std.specs.Prelude.{◌≡◌, ℕ, ◌^◌, ◌-◌, ◌&&◌, ◌||◌, min, nat_lt, Bool, true, false, List, [], ◌∷◌, length, replicate, slice_set, Option, Some, None, Result, Ok, Err, if◌then◌else◌}
+use Rattle.std.specs.Prelude.{◌≡◌, ℕ, ◌^◌, ◌-◌, ◌&&◌, ◌||◌, min, nat_lt, Bool, false, List, [], ◌∷◌, length, replicate, slice_set, Option, Some, None, Result, Ok, Err, if◌then◌else◌}
 use Rattle.mg_value.specs.declared.shape.Kind.{Kind}
 use Rattle.mg_value.specs.declared.shape.Kind.TheVariants as kinds
 use Rattle.mg_value.specs.declared.shape.Column.{Column}
@@ -65,13 +65,14 @@ row_with columns places None row = Err Arithmetic
 row_with columns places (Some values) row =
     unless (row_fault columns (put_all places values row)) (put_all places values row)
 
--- the row that expressions make of an older one, at whose values they are evaluated
+-- the row that an UPDATE makes of an older one, at which its expressions are evaluated
 abbrev pub new_row : List Column → List ℕ → List Tree → Cells → Result Cells NewRowFault
 new_row columns places ts row = row_with columns places (each_value ts row) row
 
--- the row that an INSERT makes: the columns that it doesn't list have NULL
+-- the row that an INSERT makes, whose expressions are evaluated at no row: the columns that it
+-- doesn't list have NULL
 abbrev pub inserted : List Column → List ℕ → List Tree → Result Cells NewRowFault
-inserted columns places ts = new_row columns places ts (null_row columns)
+inserted columns places ts = row_with columns places (each_value ts []) (null_row columns)
 
 -- one in front of others, or the first fault
 abbrev pub before : Result Cells NewRowFault → Result (List Cells) NewRowFault

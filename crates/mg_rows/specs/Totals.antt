@@ -2,7 +2,6 @@
 use Rattle.std.specs.Prelude.{ℤ, pos, ◌+ℤ◌, List, [], ◌∷◌, length, Option, Some, None}
 use Rattle.mg_value.specs.declared.value.Value.{Value}
 use Rattle.mg_value.specs.declared.value.Value.TheVariants.{Null, Int, Text}
-use Rattle.mg_expr.specs.Trees.{Tree}
 use Rattle.mg_expr.specs.Meaning.{within}
 use Rattle.mg_sql.specs.Plain.{Total, Count, SumOf}
 use Rattle.mg_model.specs.Changes.{Cells}

@@ -144,9 +144,8 @@ pub fn insert_row(
     requires { length places.now ≡ length values.now }
     ensures { Makes (λ row. row) (inserted columns.now places.now (map tree_of values.now)) result }
 {
-    let row = null_row(alloc, columns)?;
-    let values = each_value(alloc, values, &row)?;
-    make_row(columns, places, values, row)
+    let values = each_value(alloc, values, &Row::new(Vec::new(alloc)))?;
+    make_row(columns, places, values, null_row(alloc, columns)?)
 }
 
 /// The values that an UPDATE sets, at a row.

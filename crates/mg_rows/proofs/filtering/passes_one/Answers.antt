@@ -1,5 +1,3 @@
-use Rattle.std.proofs.Common.{Option, Bool, subst}
-use Rattle.mg_expr.specs.Outcomes.{Answers}
 use Rattle.mg_rows.proofs.FilterLemmas.{passes_and}
 use Rattle.mg_rows.proofs.filtering.passes_one.Goals as goal
 
