@@ -8,7 +8,7 @@ use Rattle.mg_model.specs.Changes.{Cells}
 use Rattle.mg_rows.specs.declared.ordering.OrderBy.{OrderBy}
 use Rattle.mg_rows.specs.Orders.{column_cmp, AreSorted}
 use Rattle.mg_rows.specs.Selecting.{selected, each_selected, Selects}
-use Rattle.mg_rows.specs.EachLaws.{each_none_moved}
+use Rattle.mg_rows.proofs.EachLemmas.{each_none_moved}
 
 pub selects_sorted : (values : Option (List Tree)) (by : OrderBy) (key : ℕ) (found sorted : List Cells)
     (r : Result (List Cells) EvalFault) → AreSorted (column_cmp by key) found sorted

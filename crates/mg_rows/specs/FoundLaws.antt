@@ -24,7 +24,7 @@ use Rattle.mg_rows.specs.SortLaws.{HaveSame, same_from_moved, same_filtered, sor
 -- ---- what is found, by what each row gives
 
 -- a row passes, and the filter doesn't fault
-abbrev pub lets : Option Tree → Cells → Bool
+abbrev lets : Option Tree → Cells → Bool
 lets filter_ row = is_passed (passes_filter filter_ row)
 
 abbrev faults_at : Option Tree → Cells → Bool

@@ -2,7 +2,6 @@ pub mod Found
 pub mod Orders
 pub mod OrderLaws
 pub mod Selecting
-pub mod EachLaws
 pub mod Totals
 pub mod Running
 pub mod NewRows

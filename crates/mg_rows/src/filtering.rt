@@ -48,7 +48,7 @@ fn passes_one(alloc: Global, e: &Expr, row: &Row) -> Result<bool, EvalFault>
 /// # Errors
 ///
 /// `Arithmetic` exactly where a part that is evaluated faults; or `Memory`.
-pub fn passes(alloc: Global, filter: &Option<Expr>, row: &Row) -> Result<bool, EvalFault>
+fn passes(alloc: Global, filter: &Option<Expr>, row: &Row) -> Result<bool, EvalFault>
     ensures { Answers (passes_filter (tree_in filter.now) row.now) result }
 {
     match filter {

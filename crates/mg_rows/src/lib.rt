@@ -31,7 +31,7 @@ mod statement_fault;
 mod totals;
 
 pub use fault::NewRowFault;
-pub use filtering::{keep, passes};
+pub use filtering::keep;
 pub use laws::{bound_values_fit, new_rows_fit, order_of_visits_is_nothing};
 pub use new_rows::{insert_row, update_rows};
 pub use ordering::{OrderBy, sort_by_column, sort_by_key};
