@@ -1,0 +1,6 @@
+use Rattle.mg_rows.proofs.FilterLemmas.{passes_and}
+use Rattle.mg_rows.proofs.filtering.passes_one.Goals as goal
+
+pub returns-in-And : goal.returns-in-And
+returns-in-And c =
+    rw (← passes_and _ _ _ c.args.row.now c.in-And.is c.deref.ensures.value) c.all_hold.ensures

@@ -1,0 +1,13 @@
+pub mod Found
+pub mod Orders
+pub mod OrderLaws
+pub mod Selecting
+pub mod Totals
+pub mod Running
+pub mod NewRows
+pub mod Faults
+pub mod SortLaws
+pub mod FoundLaws
+pub mod NewRowLaws
+pub mod BoundLaws
+pub mod Laws
