@@ -1,4 +1,5 @@
 pub mod ChangingLemmas
+pub mod ReachLemmas
 pub mod ReadingLemmas
 pub mod TableLemmas
 pub mod WalkLemmas
@@ -8,3 +9,4 @@ pub mod AddingLemmas
 pub mod StandLemmas
 pub mod StackedLemmas
 pub mod ChainLemmas
+pub mod ApartLemmas

@@ -23,9 +23,11 @@
 #![tactic(auto)]
 
 mod adding;
+mod apart;
 mod changing;
 mod growth;
 mod laws;
+mod reach;
 mod reading;
 mod room;
 mod stacked;
@@ -33,8 +35,10 @@ mod table;
 mod walk;
 
 pub use adding::add;
+pub use apart::add_apart;
 pub use changing::{free, least_slot, place};
 pub use laws::{tables_of_layouts_are_walked, walks_of_layouts_meet_no_damage};
+pub use reach::{owner_of, pointers_to};
 pub use reading::cell;
 pub use room::page_with_room;
 pub use walk::next;
