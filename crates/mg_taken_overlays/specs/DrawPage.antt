@@ -37,7 +37,7 @@ use Rattle.mg_page_overlays.specs.Draw.{changes_on}
 use Rattle.mg_page_overlays.specs.GrowPages.{stands_still}
 use Rattle.mg_overlays.specs.Views.{first_view, last_view, partly, step_in, step_out}
 use Rattle.mg_overlays.specs.Views.{LaysPage}
-use Rattle.mg_taken_overlays.specs.TakePart.{IsTaken, TakesPage, bits_alike, take_views}
+use Rattle.mg_taken_overlays.specs.TakePart.{IsTaken, OccupiesPage, bits_alike, take_views}
 use Rattle.mg_pip.specs.PipPage.{bits, pip_checks, used_in}
 use Rattle.mg_slots.specs.DataPage.{cell_of}
 use Rattle.mg_tip.specs.TipPage.{places, prev_in, state_in, tip_checks}
@@ -469,7 +469,7 @@ DrawPageKeeps form = (size : ℕ) (o : Opening) (h : Entries) (state : ℕ → T
     (needs now : ℕ → PageSet) (i page : ℕ)
     → ChangesCache old new gone batch orders
     → KeepsNeeds old gone needs now
-    → TakesPage size old.pool mid i page → DrawsPage size mid new.pool page
+    → OccupiesPage size old.pool mid i page → DrawsPage size mid new.pool page
     → OrdersDrawPage orders batch i page
     -- nobody who is active or in limbo lies below the oldest active one
     → ((t : ℕ) → t < oldest_active_of new.pool → (state t ≢ Active) × (state t ≢ Limbo))
