@@ -1,9 +1,10 @@
 -- Lemmas of a cell that is added.
 use Rattle.std.proofs.Common.{◌≡◌, ◌<◌, ◌∙◌, inr, ℕ, List, refl, sym, ap, subst, Result, Ok, Err}
-use Rattle.std.specs.Prelude.{MatchResult}
+use Rattle.std.specs.Prelude.{IfOk, MatchResult}
 use Rattle.mg_base.specs.Disk.{Meaning}
 use Rattle.mg_base.specs.Image.{Image}
 use Rattle.mg_base.specs.declared.damage.Damaged.{Damaged}
+use Rattle.mg_base.specs.declared.geometry.Geometry.{Geometry}
 use Rattle.mg_base.specs.declared.numbers.PageNo.{PageNo}
 use Rattle.mg_base.specs.declared.numbers.RecId.{RecId}
 use Rattle.mg_image.specs.Form.{Pages}
@@ -15,6 +16,7 @@ use Rattle.mg_space.specs.View.{KeepsStore, viewed}
 use Rattle.mg_space.specs.ViewLaws.{viewed_else, viewed_here, viewed_on}
 use Rattle.mg_space.specs.declared.fault.SpaceFault.{SpaceFault}
 use Rattle.mg_space.specs.declared.fault.SpaceFault.TheVariants as faults
+use Rattle.mg_heap.specs.Changing.{ChangesOne}
 use Rattle.mg_heap.specs.Reading.{IsSomeData}
 use Rattle.mg_heap.specs.Room.{AddsCell, GivesRoom, PutsIn, RefusesAdd, RefusesPutIn}
 
@@ -58,17 +60,19 @@ module _ {D L : Type 0} (m : Meaning D) (a b : Pool D L) (image : Image) (kept :
   pub added : (store : Pool D L) (old given new : Changed) (owner need : ℕ) (page : PageNo) (cell : List ℕ)
       (result : Result RecId SpaceFault) → need ≡ need_of cell
       → GivesRoom a image old given owner need page
+      → IfOk result (λ at. ChangesOne b.geometry.size given new at.page.0)
       → MatchResult result (PutsIn (viewed b image given) (viewed b image new) page cell)
       (RefusesPutIn m store given (viewed b image given page.0) page cell)
       → MatchResult result (AddsCell a image old new owner cell) (RefusesAdd m a store image old owner cell)
-  added store old given new owner need page cell (Ok at) is gives puts = record {
+  added store old given new owner need page cell (Ok at) is gives changes puts = record {
     given = given;
     gives = subst (λ (n : PageNo). GivesRoom a image old given owner (need_of cell) n) (sym puts.page_is)
         (subst (λ (k : ℕ). GivesRoom a image old given owner k page) is gives);
+    one = subst (λ (g : Geometry). ChangesOne g.size given new at.page.0) kept.geometry changes;
     puts = subst (λ (n : PageNo). PutsIn (viewed a image given) (viewed a image new) n cell at)
         (sym puts.page_is) (puts_on given new page cell at puts);
   }
-  added store old given new owner need page cell (Err fault) is gives refused = inr (record {
+  added store old given new owner need page cell (Err fault) is gives changes refused = inr (record {
     given = given;
     page = page;
     gives = subst (λ (k : ℕ). GivesRoom a image old given owner k page) is gives;

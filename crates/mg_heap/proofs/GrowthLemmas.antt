@@ -18,6 +18,7 @@ use Rattle.mg_space.specs.Taking.{RefusesTake, TakesPage}
 use Rattle.mg_space.specs.View.{AreWhole, KeepsStore, viewed}
 use Rattle.mg_space.specs.ViewLaws.{viewed_on, whole_on}
 use Rattle.mg_heap.specs.GrowthLaws.{whole_begun, whole_made}
+use Rattle.mg_heap.specs.RoomLaws.{bits_on, last_on, new_on, takes_on}
 use Rattle.mg_space.specs.declared.fault.SpaceFault.{SpaceFault}
 use Rattle.mg_heap.specs.declared.growth.DataPage.{DataPage}
 use Rattle.mg_heap.specs.Table.{RefusesPointerPage}
@@ -55,15 +56,6 @@ orders_on old mid new first second one two = record {
 -- ---- calls on a cache that has been read
 
 module _ {D L : Type 0} (m : Meaning D) (a b : Pool D L) (image : Image) (kept : KeepsStore m a b) where
-  pub takes_on : (old new : Changed) (n : ℕ)
-      → TakesPage b.geometry (viewed b image old) (viewed b image new) n
-      → TakesPage a.geometry (viewed a image old) (viewed a image new) n
-  takes_on old new n takes = subst (λ (g : Geometry). TakesPage g (viewed a image old) (viewed a image new) n)
-      kept.geometry (subst (λ (pages : Pages). TakesPage b.geometry pages (viewed a image new) n)
-      (viewed_on m a b image old kept)
-      (subst (λ (pages : Pages). TakesPage b.geometry (viewed b image old) pages n)
-      (viewed_on m a b image new kept) takes))
-
   pub refuses_on : (old : Changed) (fault : SpaceFault)
       → RefusesTake b.geometry (viewed b image old) fault
       → RefusesTake a.geometry (viewed a image old) fault
@@ -77,47 +69,10 @@ module _ {D L : Type 0} (m : Meaning D) (a b : Pool D L) (image : Image) (kept :
   two_on old fault (inr second) = inr (record {
     with_bit = second.with_bit;
     first = second.first;
-    takes_first = takes_on old second.with_bit second.first second.takes_first;
+    bit_first = bits_on m a b kept old second.with_bit second.first second.bit_first;
+    takes_first = takes_on m a b kept image old second.with_bit second.first second.takes_first;
     refused = refuses_on second.with_bit fault second.refused;
   })
-
-  pub last_on : (old new : Changed) (owner place q n : ℕ) (slice pointer bytes : List ℕ)
-      → slice ≡ pointer → ListsInLast b.geometry b image old new owner place q n slice bytes
-      → ListsInLast a.geometry a image old new owner place q n pointer bytes
-  last_on old new owner place q n slice pointer bytes same it = record {
-    taken = it.taken;
-    made = it.made;
-    listed = it.listed;
-    takes = takes_on old it.taken n it.takes;
-    makes = makes_as b.geometry a.geometry it.taken it.made owner place n bytes kept.geometry it.makes;
-    page = it.page;
-    adds = subst (λ (p : List ℕ). AddsEntry p it.page n) same it.adds;
-    puts = it.puts;
-    orders = orders_as b.geometry a.geometry it.listed new n q kept.geometry it.orders;
-  }
-
-  pub new_on : (old new : Changed) (owner place at q p n : ℕ) (slice pointer bytes : List ℕ)
-      → slice ≡ pointer → ListsInNew b.geometry b image old new owner place at q p n slice bytes
-      → ListsInNew a.geometry a image old new owner place at q p n pointer bytes
-  new_on old new owner place at q p n slice pointer bytes same it = record {
-    with_bit = it.with_bit;
-    taken = it.taken;
-    made = it.made;
-    begun = it.begun;
-    linked = it.linked;
-    takes_pointer = takes_on old it.with_bit p it.takes_pointer;
-    takes = takes_on it.with_bit it.taken n it.takes;
-    makes = makes_as b.geometry a.geometry it.taken it.made owner place n bytes kept.geometry it.makes;
-    page = it.page;
-    adds = subst (λ (g : Geometry). AddsEntry (new_pointer_page g.size p owner at) it.page n)
-        kept.geometry it.adds;
-    puts = it.puts;
-    link = it.link;
-    links = subst (λ (x : List ℕ). SetsNext x it.link p) same it.links;
-    puts_link = it.puts_link;
-    orders = subst (λ (g : Geometry). AddsOrders it.linked new (orders_to g.size n p ++ orders_to g.size p q))
-        kept.geometry it.orders;
-  }
 
   pub grows_in_last : (store : Pool D L) (old new : Changed) (owner place at q : ℕ) (page : PageNo)
       (slice pointer : List ℕ) (result : Result DataPage SpaceFault) → slice ≡ pointer
@@ -130,7 +85,7 @@ module _ {D L : Type 0} (m : Meaning D) (a b : Pool D L) (image : Image) (kept :
       ⊎ (RefusesTake a.geometry (viewed a image old) fault ⊎ RefusesTwo a.geometry a image old fault))
   grows_in_last store old new owner place at q page slice pointer (Ok it) same room seen lists = inl (
     subst HasEntryRoom seen room,
-    last_on old new owner place q it.page.0 slice (viewed a image old q) it.bytes.items (same ∙ seen) lists,
+    last_on m a b kept image old new owner place q it.page.0 slice (viewed a image old q) it.bytes.items (same ∙ seen) lists,
   )
   grows_in_last store old new owner place at q page slice pointer (Err fault) same room seen refused =
       inr (inl (refuses_on old fault refused))
@@ -151,7 +106,7 @@ module _ {D L : Type 0} (m : Meaning D) (a b : Pool D L) (image : Image) (kept :
           lists.0,
           subst (λ (k : ℕ). ListsInNew a.geometry a image old new owner place k q lists.0
               it.page.0 (viewed a image old q) it.bytes.items) is
-              (new_on old new owner place behind q lists.0 it.page.0 slice (viewed a image old q)
+              (new_on m a b kept image old new owner place behind q lists.0 it.page.0 slice (viewed a image old q)
               it.bytes.items (same ∙ seen) lists.1),
         ),
       )

@@ -1,7 +1,9 @@
 pub mod ChangingLemmas
+pub mod ReachLemmas
 pub mod ReadingLemmas
 pub mod TableLemmas
 pub mod WalkLemmas
 pub mod GrowthLemmas
 pub mod RoomLemmas
 pub mod AddingLemmas
+pub mod ApartLemmas

@@ -15,7 +15,8 @@ use Rattle.mg_space.specs.declared.fault.SpaceFault.{SpaceFault}
 use Rattle.mg_heap.specs.Growth.{GrowsTable, HasEntryRoom, RefusesGrowth}
 use Rattle.mg_heap.specs.Table.{RefusesPointerPage}
 use Rattle.mg_heap.specs.Walk.{RefusesWalkOf}
-use Rattle.mg_heap.proofs.GrowthLemmas.{last_on, new_on, refuses_on, two_on}
+use Rattle.mg_heap.proofs.GrowthLemmas.{refuses_on, two_on}
+use Rattle.mg_heap.specs.RoomLaws.{grows_on}
 use Rattle.mg_heap.specs.Room.{FindsOrGrows, IsFirstWithRoom, NoneHasRoom, RefusesRoomIn, looked_at}
 use Rattle.mg_heap.specs.declared.growth.DataPage.{DataPage}
 
@@ -73,23 +74,6 @@ module _ {D L : Type 0} (m : Meaning D) (a b : Pool D L) (image : Image) (kept :
   seen_at : (batch : Changed) (q : ℕ) → viewed b image batch q ≡ viewed a image batch q
   seen_at batch q = ap (λ (pages : Pages). pages q) (viewed_on m a b image batch kept)
 
-  grows_on : (old new : Changed) (owner place at q n : ℕ) (bytes : List ℕ)
-      → GrowsTable b.geometry b image old new owner place at q (viewed b image old q) n bytes
-      → GrowsTable a.geometry a image old new owner place at q (viewed a image old q) n bytes
-  grows_on old new owner place at q n bytes (inl (room, lists)) = inl (
-    subst HasEntryRoom (seen_at old q) room,
-    last_on m a b image kept old new owner place q n (viewed b image old q) (viewed a image old q) bytes
-        (seen_at old q) lists,
-  )
-  grows_on old new owner place at q n bytes (inr (full, (p, lists))) = inr (
-    (λ room. full (subst HasEntryRoom (sym (seen_at old q)) room)),
-    (
-      p,
-      new_on m a b image kept old new owner place (at + 1) q p n (viewed b image old q)
-          (viewed a image old q) bytes (seen_at old q) lists,
-    ),
-  )
-
   growth_refused_on : (store : Pool D L) (batch : Changed) (owner at : ℕ) (q : PageNo)
       (fault : SpaceFault) → RefusesGrowth m b store image batch owner at q fault
       → RefusesGrowth m a store image batch owner at q fault
@@ -117,25 +101,13 @@ module _ {D L : Type 0} (m : Meaning D) (a b : Pool D L) (image : Image) (kept :
         (viewed a image old q.0) it.page.0 it.bytes.items) at_is
         (subst (λ (k : ℕ). GrowsTable a.geometry a image old new owner k at q.0
         (viewed a image old q.0) it.page.0 it.bytes.items) place_is
-        (grows_on old new owner place at q.0 it.page.0 it.bytes.items grows))),
+        (grows_on m a b kept image old new owner place at q.0 it.page.0 (viewed b image old q.0)
+        (viewed a image old q.0) it.bytes.items (seen_at old q.0) grows))),
   )
   room_grown store old new owner place at q ps ds need (Err fault) place_is at_is q_is none refused = inr (
       subst (λ (k : ℕ). RefusesGrowth m a store image old owner (length ps - 1) (record { 0 = k }) fault) q_is
       (subst (λ (k : ℕ). RefusesGrowth m a store image old owner k q fault) at_is
       (growth_refused_on store old owner at q fault refused)))
-
-  pub finds_on : (old new : Changed) (owner : ℕ) (ps ds : List ℕ) (need : ℕ) (it : DataPage)
-      → FindsOrGrows b image old new owner ps ds need it
-      → FindsOrGrows a image old new owner ps ds need it
-  finds_on old new owner ps ds need it (inl (same, first)) = inl (
-    same,
-    subst (λ (pages : Pages). IsFirstWithRoom pages ds need it) (viewed_on m a b image old kept) first,
-  )
-  finds_on old new owner ps ds need it (inr (none, grows)) = inr (
-    subst (λ (pages : Pages). NoneHasRoom pages ds need) (viewed_on m a b image old kept) none,
-    grows_on old new owner (length ds) (length ps - 1) (get_or ps (length ps - 1) 0) it.page.0
-        it.bytes.items grows,
-  )
 
   pub room_refused_on : (store : Pool D L) (old : Changed) (owner : ℕ) (ps ds : List ℕ)
       (fault : SpaceFault) → RefusesRoomIn m b store image old owner ps ds fault

@@ -10,7 +10,7 @@ use Rattle.mg_pointer.specs.PointerPage.{AddsEntry, SetsNext, capacity, entries_
 use Rattle.mg_pool.specs.Batch.{Changed, PutsPage}
 use Rattle.mg_pool.specs.declared.pool.Pool.{Pool}
 use Rattle.mg_slots.specs.DataPage.{IsNewPage}
-use Rattle.mg_space.specs.Taking.{RefusesTake, TakesPage, region_of}
+use Rattle.mg_space.specs.Taking.{PutsInventory, RefusesTake, TakesPage, region_of}
 use Rattle.mg_space.specs.View.{viewed}
 use Rattle.mg_space.specs.declared.fault.SpaceFault.{SpaceFault}
 use Rattle.mg_heap.specs.Table.{RefusesPointerPage}
@@ -43,6 +43,7 @@ pub record ListsInLast {D L : Type 0} (g : Geometry) (store : Pool D L) (image :
   pub taken : Changed
   pub made : Changed
   pub listed : Changed
+  pub bit : PutsInventory g old taken n
   pub takes : TakesPage g (viewed store image old) (viewed store image taken) n
   pub makes : MakesData g.size taken made owner place n bytes
   pub page : List ℕ
@@ -60,7 +61,9 @@ pub record ListsInNew {D L : Type 0} (g : Geometry) (store : Pool D L) (image : 
   pub made : Changed
   pub begun : Changed
   pub linked : Changed
+  pub bit_pointer : PutsInventory g old with_bit p
   pub takes_pointer : TakesPage g (viewed store image old) (viewed store image with_bit) p
+  pub bit : PutsInventory g with_bit taken n
   pub takes : TakesPage g (viewed store image with_bit) (viewed store image taken) n
   pub makes : MakesData g.size taken made owner place n bytes
   pub page : List ℕ
@@ -88,7 +91,9 @@ GrowsTable g store image old new owner place at q pointer n bytes =
 pub record TakesTwo {D L : Type 0} (g : Geometry) (store : Pool D L) (image : Image)
     (old new : Changed) (first second : ℕ) : Type 0 where
   pub with_bit : Changed
+  pub bit_first : PutsInventory g old with_bit first
   pub takes_first : TakesPage g (viewed store image old) (viewed store image with_bit) first
+  pub bit_second : PutsInventory g with_bit new second
   pub takes_second : TakesPage g (viewed store image with_bit) (viewed store image new) second
 
 -- One page has been taken, and no second one is.
@@ -96,6 +101,7 @@ pub record RefusesSecond {D L : Type 0} (g : Geometry) (store : Pool D L) (image
     (old : Changed) (fault : SpaceFault) : Type 0 where
   pub with_bit : Changed
   pub first : ℕ
+  pub bit_first : PutsInventory g old with_bit first
   pub takes_first : TakesPage g (viewed store image old) (viewed store image with_bit) first
   pub refused : RefusesTake g (viewed store image with_bit) fault
 

@@ -1,9 +1,12 @@
+pub mod Apart
 pub mod Changing
 pub mod ChangingLaws
 pub mod Growth
 pub mod GrowthLaws
+pub mod Reach
 pub mod Reading
 pub mod Room
+pub mod RoomLaws
 pub mod Table
 pub mod TableLaws
 pub mod Walk

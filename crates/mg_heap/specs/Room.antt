@@ -12,7 +12,7 @@ use Rattle.mg_slots.specs.DataPage.{IsDataPage}
 use Rattle.mg_slots.specs.Room.{least_free, need_of, room_of}
 use Rattle.mg_space.specs.View.{viewed}
 use Rattle.mg_space.specs.declared.fault.SpaceFault.{SpaceFault}
-use Rattle.mg_heap.specs.Changing.{PutsCellAt}
+use Rattle.mg_heap.specs.Changing.{ChangesOne, PutsCellAt}
 use Rattle.mg_heap.specs.Growth.{GrowsTable, RefusesGrowth}
 use Rattle.mg_heap.specs.Reading.{IsSomeData, RefusesData}
 use Rattle.mg_heap.specs.Table.{IsTable, RefusesTable}
@@ -112,6 +112,7 @@ pub record AddsCell {D L : Type 0} (store : Pool D L) (image : Image) (old new :
     (cell : List ℕ) (at : RecId) : Type 0 where
   pub given : Changed
   pub gives : GivesRoom store image old given owner (need_of cell) at.page
+  pub one : ChangesOne store.geometry.size given new at.page.0
   pub puts : PutsIn (viewed store image given) (viewed store image new) at.page cell at
 
 -- why a cell is not put into the least free slot of a page, but for faults of the cache: it is no data

@@ -9,6 +9,7 @@ ghost use Rattle.mg_slots.specs.DataPage.{IsDataPage};
 ghost use Rattle.mg_slots.specs.Room.{least_free, need_of, room_of};
 ghost use Rattle.mg_space.specs.Taking.{IsGeometry};
 ghost use Rattle.mg_space.specs.View.{AreWhole, KeepsStore, ReadsAlone, Tells, pool_answer, viewed};
+ghost use Rattle.mg_heap.specs.Changing.{ChangesOne};
 ghost use Rattle.mg_heap.specs.Reading.{ReadsData};
 ghost use Rattle.mg_heap.specs.Room.{AddsCell, PutsIn, RefusesAdd, RefusesPutIn};
 
@@ -78,6 +79,8 @@ fn put_in<D: Disk>(
     ensures fault { TellsFault D.meaning store.old store.new (pool_answer result) }
     ensures own { ReadsData result }
     ensures whole { AreWhole store.old.geometry.size batch.new.pages }
+    ensures changes { IfOk result
+        (λ at. ChangesOne store.old.geometry.size batch.old batch.new at.page.0) }
     ensures puts { (image : Image) → Tells D.meaning store.old.disk image → MatchResult result
         (PutsIn (viewed store.old image batch.old) (viewed store.old image batch.new) page cell.now)
         (RefusesPutIn D.meaning store.new batch.old (viewed store.old image batch.old page.0) page

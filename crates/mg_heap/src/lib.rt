@@ -23,15 +23,19 @@
 #![tactic(auto)]
 
 mod adding;
+mod apart;
 mod changing;
 mod growth;
+mod reach;
 mod reading;
 mod room;
 mod table;
 mod walk;
 
 pub use adding::add;
+pub use apart::add_apart;
 pub use changing::{free, least_slot, place};
+pub use reach::{owner_of, pointers_to};
 pub use reading::cell;
 pub use room::page_with_room;
 pub use walk::next;

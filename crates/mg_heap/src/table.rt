@@ -71,7 +71,7 @@ pub(crate) fn table_pages<D: Disk>(
 /// # Errors
 ///
 /// As `table_pages`, of this page.
-fn follow<D: Disk>(
+pub(crate) fn follow<D: Disk>(
     store: &mut Store<D>,
     batch: &Batch,
     owner: PageNo,
@@ -190,7 +190,7 @@ fn wrong_link(page: PageNo, found: PageNo, wanted: u32) -> Damaged
 }
 
 /// Tells whether a number is one of these.
-fn has_number(numbers: &[u32], n: u32) -> bool
+pub(crate) fn has_number(numbers: &[u32], n: u32) -> bool
     ensures { IsTrue result ↔ Has numbers.now n }
 {
     let mut rest = numbers;

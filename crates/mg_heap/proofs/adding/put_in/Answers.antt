@@ -46,3 +46,17 @@ returns-clause-whole g c =
     ∙ c.in_ok-data_page.ensures.len)) in
     whole_on c.args.store.now.geometry.size c.args.batch.now c.put.new.self c.args.page.0
     c.deref.result.now c.requires.whole long c.in_ok-put.ensures.puts
+
+pub returns-clause-changes : goal.returns-clause-changes
+returns-clause-changes g c =
+    let len : c.into_vec-bytes.result.len ≡ length c.put_least.new.b =
+    omega (arith, c.put_least.ensures.len, c.deref_mut.ensures.len) in
+    record {
+      bytes = c.deref.result.now;
+      len = ap (length {A = ℕ}) (written_back c.into_vec-bytes.result.len c.put_least.new.b
+          (drop (length c.put_least.new.b) c.into_vec-bytes.result.items) c.deref.result.now len
+          c.deref.ensures.value) ∙ (c.put_least.ensures.len
+          ∙ (ap (length {A = ℕ}) (c.deref_mut.ensures.value ∙ c.into_vec-bytes.ensures)
+          ∙ c.in_ok-data_page.ensures.len));
+      puts = c.in_ok-put.ensures.puts;
+    }

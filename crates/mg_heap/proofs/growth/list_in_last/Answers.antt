@@ -41,6 +41,7 @@ returns-clause-lists g c = λ image tells. record {
   taken = c.take_page.new.batch;
   made = c.make_data.new.batch;
   listed = c.put.new.self;
+  bit = c.in_ok-n.ensures.puts;
   takes = c.in_ok-n.ensures.takes image tells;
   makes = makes_as c.take_page.new.store.geometry c.args.store.now.geometry c.take_page.new.batch
       c.make_data.new.batch c.args.owner.0 c.args.place c.in_ok-n.n.0 c.in_ok-bytes.bytes.items

@@ -68,7 +68,9 @@ returns-clause-lists g c = λ image tells.
         made = c.make_data.new.batch;
         begun = c.make_pointer.new.batch;
         linked = c.put.new.self;
+        bit_pointer = two.bit_first;
         takes_pointer = two.takes_first;
+        bit = two.bit_second;
         takes = two.takes_second;
         makes = makes_as c.take_two.new.store.geometry c.args.store.now.geometry c.take_two.new.batch
             c.make_data.new.batch c.args.owner.0 c.args.at.data c.in_ok-taken.taken.second.0

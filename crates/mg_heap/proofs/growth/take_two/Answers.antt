@@ -1,7 +1,8 @@
 use Rattle.std.proofs.Common.{inr}
 use Rattle.mg_space.specs.ViewLaws.{keeps_on, tells_on}
 use Rattle.mg_heap.specs.Growth.{RefusesTwo}
-use Rattle.mg_heap.proofs.GrowthLemmas.{refuses_on, takes_on}
+use Rattle.mg_heap.proofs.GrowthLemmas.{refuses_on}
+use Rattle.mg_heap.specs.RoomLaws.{bits_on, takes_on}
 use Rattle.mg_heap.proofs.TableLemmas.{handed_on}
 use Rattle.mg_heap.proofs.growth.take_two.Goals as goal
 
@@ -13,6 +14,7 @@ returns-in_err-second-clause-takes g c = λ image tells. handed_on c.from_residu
     (inr (record {
       with_bit = c.take_page.new.batch;
       first = c.in_ok-first.first.0;
+      bit_first = c.in_ok-first.ensures.puts;
       takes_first = c.in_ok-first.ensures.takes image tells;
       refused = refuses_on g.D.Disk.meaning c.args.store.now c.take_page.new.store image
           c.in_ok-first.ensures.keeps c.take_page.new.batch c.in_err-second.field-0.0
@@ -27,9 +29,13 @@ returns-clause-keeps g c = keeps_on g.D.Disk.meaning g.met.D.Disk.counts_now c.a
 pub returns-clause-takes : goal.returns-clause-takes
 returns-clause-takes g c = λ image tells. record {
   with_bit = c.take_page.new.batch;
+  bit_first = c.in_ok-first.ensures.puts;
   takes_first = c.in_ok-first.ensures.takes image tells;
-  takes_second = takes_on g.D.Disk.meaning c.args.store.now c.take_page.new.store image
+  bit_second = bits_on g.D.Disk.meaning c.args.store.now c.take_page.new.store
       c.in_ok-first.ensures.keeps c.take_page.new.batch c.take_page-2.new.batch c.in_ok-second.second.0
+      c.in_ok-second.ensures.puts;
+  takes_second = takes_on g.D.Disk.meaning c.args.store.now c.take_page.new.store
+      c.in_ok-first.ensures.keeps image c.take_page.new.batch c.take_page-2.new.batch c.in_ok-second.second.0
       (c.in_ok-second.ensures.takes image (tells_on g.D.Disk.meaning c.args.store.now
       c.take_page.new.store image c.in_ok-first.ensures.keeps tells));
 }

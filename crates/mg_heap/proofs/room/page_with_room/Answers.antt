@@ -1,7 +1,8 @@
 use Rattle.std.proofs.Common.{inr, refl}
 use Rattle.mg_space.specs.ViewLaws.{tells_on}
 use Rattle.mg_heap.specs.Room.{RefusesRoom}
-use Rattle.mg_heap.proofs.RoomLemmas.{finds_on, room_refused_on}
+use Rattle.mg_heap.specs.RoomLaws.{finds_on}
+use Rattle.mg_heap.proofs.RoomLemmas.{room_refused_on}
 use Rattle.mg_heap.proofs.TableLemmas.{handed_on}
 use Rattle.mg_heap.proofs.room.page_with_room.Goals as goal
 
@@ -30,9 +31,9 @@ returns-clause-gives g c = λ image tells. record {
   table = c.in_ok-table.ensures.finds image tells;
   it = c.in_ok-found.found;
   page_is = refl;
-  found = finds_on g.D.Disk.meaning c.args.store.now c.table_pages.new.store image
-      c.in_ok-table.ensures.keeps c.args.batch.now c.room_in.new.batch c.args.owner.0
-      c.in_ok-table.table.pointers.items c.in_ok-table.table.data_pages.items c.args.need
+  found = finds_on g.D.Disk.meaning c.args.store.now c.table_pages.new.store
+      c.in_ok-table.ensures.keeps image c.args.batch.now c.room_in.new.batch c.args.owner.0
+      c.args.need c.in_ok-table.table.pointers.items c.in_ok-table.table.data_pages.items
       c.in_ok-found.found
       (c.in_ok-found.ensures.gives image (tells_on g.D.Disk.meaning c.args.store.now
       c.table_pages.new.store image c.in_ok-table.ensures.keeps tells));

@@ -1,0 +1,84 @@
+-- A cell is added to a table apart from a place that is to be filled after it: where both come to stand
+-- on one page, the place stays free, and has room for an anchor.
+use Rattle.std.specs.Prelude.{◌≡◌, ◌≢◌, ◌<◌, ◌⊎◌, ◌+◌, ◌==◌, ℕ, List, Option, None, Some, if◌then◌else◌}
+use Rattle.mg_base.specs.Disk.{Meaning}
+use Rattle.mg_base.specs.Image.{Image}
+use Rattle.mg_base.specs.declared.numbers.PageNo.{PageNo}
+use Rattle.mg_base.specs.declared.numbers.RecId.{RecId}
+use Rattle.mg_image.specs.Form.{Pages}
+use Rattle.mg_pool.specs.Batch.{Changed}
+use Rattle.mg_pool.specs.declared.pool.Pool.{Pool}
+use Rattle.mg_slots.specs.Changes.{PutsCell, SetsCell}
+use Rattle.mg_slots.specs.DataPage.{cell_of}
+use Rattle.mg_slots.specs.Room.{need_of, room_for, room_of}
+use Rattle.mg_slots.specs.declared.page.TheConstants.{LEAST_TAKEN}
+use Rattle.mg_space.specs.View.{viewed}
+use Rattle.mg_space.specs.declared.fault.SpaceFault.{SpaceFault}
+use Rattle.mg_space.specs.declared.fault.SpaceFault.TheVariants as faults
+use Rattle.mg_heap.specs.Changing.{ChangesOne}
+use Rattle.mg_heap.specs.Reading.{IsSomeData, RefusesData}
+use Rattle.mg_heap.specs.Room.{GivesRoom, RefusesRoom}
+
+-- the room that a page has to have: for the cell, and for an anchor with its slot
+abbrev pub need_with_anchor : List ℕ → ℕ
+need_with_anchor cell = need_of cell + 15
+
+-- the slot that is kept free on a page: that of the place, where it is on the page
+abbrev pub kept_on : PageNo → RecId → Option ℕ
+kept_on page place = if page.0 == place.page.0 then Some place.slot else None
+
+-- A cell is put into a free slot of a data page, another one than this.
+pub record PutsBeside (old new : List ℕ) (kept : Option ℕ) (cell : List ℕ) (slot : ℕ) : Type 0 where
+  pub apart : kept ≢ Some slot
+  pub was_free : cell_of old slot ≡ None
+  pub sets : SetsCell old new slot (Some cell)
+
+-- A cell is put into a free slot of a page, another one than this place. No other cell of the page has
+-- changed, and no other page.
+pub record PutsApart (old new : Pages) (place at : RecId) (cell : List ℕ) : Type 0 where
+  pub data_page : IsSomeData at.page (old at.page.0)
+  pub apart : at.page.0 ≡ place.page.0 → at.slot ≢ place.slot
+  pub was_free : cell_of (old at.page.0) at.slot ≡ None
+  pub sets : SetsCell (old at.page.0) (new at.page.0) at.slot (Some cell)
+  pub others : (n : ℕ) → n ≢ at.page.0 → new n ≡ old n
+
+-- A cell is added: a page with room was given, between whose giving and the end the batch is `given`,
+-- and the cell was put there apart from the place.
+pub record AddsApart {D L : Type 0} (store : Pool D L) (image : Image) (old new : Changed)
+    (owner : ℕ) (place : RecId) (cell : List ℕ) (at : RecId) : Type 0 where
+  pub given : Changed
+  pub gives : GivesRoom store image old given owner (need_with_anchor cell) at.page
+  pub one : ChangesOne store.geometry.size given new at.page.0
+  pub puts : PutsApart (viewed store image given) (viewed store image new) place at cell
+
+-- An anchor holds a slot that is kept: it has no room there, or the cell has none beside it.
+abbrev pub HasNoRoomWith : List ℕ → Option ℕ → List ℕ → Type 0
+HasNoRoomWith b None cell = ⊥
+HasNoRoomWith b (Some kept) cell = (room_for b kept < LEAST_TAKEN)
+    ⊎ ((held : List ℕ) × (anchor : List ℕ) × PutsCell b held kept anchor
+    × (room_of held < need_of cell))
+
+-- a cell has no room on a page, or none beside the slot that is kept
+abbrev pub HasNoRoomBeside : List ℕ → Option ℕ → List ℕ → Type 0
+HasNoRoomBeside b kept cell = (room_of b < need_of cell) ⊎ HasNoRoomWith b kept cell
+
+-- why a cell is not put apart from a place on a page, but for faults of the cache
+abbrev pub RefusesPutApart : {D L : Type 0} → Meaning D → Pool D L → Changed → List ℕ → PageNo → RecId
+    → List ℕ → SpaceFault → Type 0
+RefusesPutApart m store batch b page place cell fault = RefusesData m store batch.pages page b fault
+    ⊎ (IsSomeData page b × HasNoRoomBeside b (kept_on page place) cell)
+
+-- a page was given, and the cell was not put there
+pub record RefusesApartThere {D L : Type 0} (m : Meaning D) (old new : Pool D L) (image : Image)
+    (batch : Changed) (owner : ℕ) (place : RecId) (cell : List ℕ) (fault : SpaceFault) : Type 0 where
+  pub given : Changed
+  pub page : PageNo
+  pub gives : GivesRoom old image batch given owner (need_with_anchor cell) page
+  pub refused : RefusesPutApart m new given (viewed old image given page.0) page place cell fault
+
+-- why a cell is not added apart from a place
+abbrev pub RefusesAddApart : {D L : Type 0} → Meaning D → Pool D L → Pool D L → Image → Changed → ℕ
+    → RecId → List ℕ → SpaceFault → Type 0
+RefusesAddApart m old new image batch owner place cell fault =
+    RefusesRoom m old new image batch owner fault
+    ⊎ RefusesApartThere m old new image batch owner place cell fault
