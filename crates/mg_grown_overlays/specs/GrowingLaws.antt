@@ -21,10 +21,10 @@ use Rattle.mg_image.specs.Sound.{IsSoundBy}
 use Rattle.mg_image.specs.Tables.{Has, IsOnce, Layout, Stand, pages_of, stands_of, table_at, tree_pages}
 use Rattle.mg_image_steps.specs.Frame.{KeepsLinked, frame_sound}
 use Rattle.mg_image_steps.specs.Growth.{grown, has_back}
-use Rattle.mg_image_steps.specs.Kinds.{HasNoSequences}
+use Rattle.mg_image_steps.specs.Kinds.{HasNoSequences, stands_linked}
 use Rattle.mg_image_steps.specs.Rest.{TreesStay}
 use Rattle.mg_kept_images.specs.KeptImages.{IsKept}
-use Rattle.mg_kept_images.specs.Reach.{once_back, once_front}
+use Rattle.mg_kept_images.specs.Reach.{once_back, once_front, page_there}
 use Rattle.mg_one_layout.specs.OneLayout.{StandsOneWay}
 use Rattle.mg_overlays.specs.Views.{partly}
 use Rattle.mg_page_overlays.specs.GrowPages.{once_mid}
@@ -34,7 +34,7 @@ use Rattle.mg_taken_overlays.specs.ExtendEvery.{OrdersPage, extend_views}
 use Rattle.mg_taken_overlays.specs.ExtendSound.{Extends, extend_sound}
 use Rattle.mg_taken_overlays.specs.ExtendStep.{HasLast, MakesMore}
 use Rattle.mg_taken_overlays.specs.LinkPage.{LinksPage, length_last, link_makes, longer}
-use Rattle.mg_taken_overlays.specs.PointerPage.{ChangesPointer, used_on}
+use Rattle.mg_taken_overlays.specs.PointerPage.{ChangesPointer, data_five, used_on}
 use Rattle.mg_taken_overlays.specs.TakePart.{OccupiesPage, keeps_linked, off, stays as linked_stays, taken_whole, used_still}
 use Rattle.mg_grown_overlays.specs.Entries.{StaysFound, found_with}
 use Rattle.mg_grown_overlays.specs.Growing.{EndsAt, Grows, HasGrown, IsTableOf, TableEnd, enters, entered_end, linked_end, links, stays}
@@ -99,6 +99,8 @@ pub record StandsTo (form : Form) (size : ℕ) (state : ℕ → TxState) (old ne
   pub grown : HasGrown from layout r
   pub header : new 0 ≡ old 0
   pub found : StaysFound table old new
+  -- a data page of a table is as it was
+  pub data_same : (m : ℕ) (t : Table) → table_at (stands_of from) m ≡ Some t → new m ≡ old m
 
 module _ (form : Form) (one : StandsOneWay form) (none : HasNoSequences form) (size : ℕ)
     (trees : TreesStay form size) (state : ℕ → TxState) (table : Table) where
@@ -193,6 +195,19 @@ module _ (form : Form) (one : StandsOneWay form) (none : HasNoSequences form) (s
         (λ m is seven. linked_stays form size state view taken view taken i n none trees takes layout r
         sound (λ m is. is) (taken_whole view taken i n takes.others) m is) p row found)
 
+    named_data : (m : ℕ) (t : Table) → table_at (stands_of layout) m ≡ Some t → next m ≡ view m
+    named_data m t is = change.others m off_last
+        ∙ linked_stays form size state view taken view taken i n none trees takes layout r sound (λ k is_. is_)
+        (taken_whole view taken i n takes.others) m (stands_linked size view layout m
+        (page_there (stands_of layout) m t is))
+      where
+        off_last : m ≢ end.last
+        off_last e =
+            let five : byte (taken m) 0 ≡ 5 =
+            data_five form.in_primary size taken (stands_of layout) mid_sound.tables m t is in
+            let four : byte (taken m) 0 ≡ 4 = ap (λ (k : ℕ). byte (taken k) 0) e ∙ change.kind in
+            omega (arith, five, four)
+
     pub named_to : (final : TableEnd) → EndsAt layout_next table final
         → StandsTo form size state view next layout r table final
     named_to final ends_next = record {
@@ -202,6 +217,7 @@ module _ (form : Form) (one : StandsOneWay form) (none : HasNoSequences form) (s
       grown = named_grown;
       header = named_header;
       found = named_found;
+      data_same = named_data;
     }
 
     -- what an image has to be that has a set of the batch's pages
@@ -291,6 +307,7 @@ module _ (form : Form) (one : StandsOneWay form) (none : HasNoSequences form) (s
     grown = grown_more layout first.layout rest.layout r first.grown rest.grown;
     header = rest.header ∙ first.header;
     found = λ p row is. rest.found p row (first.found p row is);
+    data_same = λ m t is. rest.data_same m t (first.grown.stays m t is) ∙ first.data_same m t is;
   }
 
   pub grows_pool : (orders : Orders) (batch : ℕ → Option (List ℕ)) (view last : Pages)
@@ -305,6 +322,7 @@ module _ (form : Form) (one : StandsOneWay form) (none : HasNoSequences form) (s
     grown = grown_self layout r;
     header = refl;
     found = λ p row is. is;
+    data_same = λ m t is. refl;
   }
   grows_pool orders batch view last end final (links v taken next l e f i n takes names order in_batch more)
       layout r sound ends =

@@ -78,11 +78,11 @@ entered_along P old new n m (later k some is entered) ns (goes j js ne more) sam
 module _ (form : Form) (size : ℕ) (state : ℕ → TxState) (view : Pages) (layout : Layout) (r : Reading)
     (sound : IsSoundBy form size state view layout r) (table : Table) (its : IsTableOf layout table)
   where
-    its_pages : HasTablePages form.in_primary size view its.stand
+    pub its_pages : HasTablePages form.in_primary size view its.stand
     its_pages = (trees_mid (HasTablePages form.in_primary size view) its.before its.after its.stand
         (subst (EachStand (HasTablePages form.in_primary size view)) its.is_ sound.tables)).1
 
-    its_once : IsOnce (flat_map pages_of (its.before ++ (its.stand ∷ its.after)))
+    pub its_once : IsOnce (flat_map pages_of (its.before ++ (its.stand ∷ its.after)))
     its_once = subst (λ (ss : List Stand). IsOnce (flat_map pages_of ss)) its.is_
         (once_back (tips_of size view) (flat_map pages_of (stands_of layout))
         (once_front (tips_of size view ++ flat_map pages_of (stands_of layout)) layout.sequences sound.once))

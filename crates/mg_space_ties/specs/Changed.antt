@@ -1,12 +1,16 @@
 -- A batch that the cache has changed, as the laws on overlays take it: with what was read before.
-use Rattle.std.proofs.Common.{◌≡◌, ap, sym, subst, ◌∙◌, refl, ℕ, Bool, true, false, List, Option, None, Some}
+use Rattle.std.proofs.Common.{◌≡◌, ap, sym, subst, ◌∙◌, refl, ℕ, Bool, true, false, List, [], Option, None, Some}
 use Rattle.std.proofs.Math.Path.{fun_ext}
 use Rattle.std.specs.Prelude.{unwrap_or}
 use Rattle.mg_base.specs.Disk.{Meaning}
 use Rattle.mg_base.specs.Image.{Image}
+use Rattle.mg_base.specs.declared.transaction.TxState.{TxState}
 use Rattle.mg_careful.specs.CarefulWrite.{Cache, PageSet}
-use Rattle.mg_image.specs.Form.{Pages}
-use Rattle.mg_overlays.specs.Overlays.{ChangesCache, KeepsNeeds, NeedsAllDirty}
+use Rattle.mg_image.specs.Form.{Form, Pages}
+use Rattle.mg_kept_images.specs.KeptImages.{keeping}
+use Rattle.mg_model.specs.declared.opening.Opening.{Opening}
+use Rattle.mg_model.specs.History.{Entries}
+use Rattle.mg_overlays.specs.Overlays.{ChangesCache, EveryOverlay, KeepsNeeds, NeedsAllDirty}
 use Rattle.mg_pool.specs.Batch.{Changed, content_in, lists}
 use Rattle.mg_pool.specs.Change.{ChangesOverlays, ChangesPages}
 use Rattle.mg_pool.specs.Dirty.{DirtyPages}
@@ -14,6 +18,7 @@ use Rattle.mg_pool.specs.Pool.{cache_of, shown}
 use Rattle.mg_pool.specs.declared.pool.Pool.{Pool}
 use Rattle.mg_pool_overlays.specs.Needs.{Asked, Sessions, needs_by}
 use Rattle.mg_pool_overlays.specs.Ties.{changes_are, changes_keep_needs, not_asked_needs_all}
+use Rattle.mg_space.specs.Taking.{IsGeometry}
 use Rattle.mg_space.specs.View.{KeepsStore, Tells, viewed}
 
 -- the cache over an image of its disk
@@ -71,3 +76,30 @@ pub needs_all : {D L : Type 0} (store : Pool D L) (i : Image) (asked : Asked) (s
     (by : ℕ) → asked by ≡ false
     → NeedsAllDirty (cache_over store i) (needs_in asked session store) by
 needs_all store i asked session by none = not_asked_needs_all store.dirty store.graph i asked session by none
+
+-- a batch that has nothing yet
+abbrev pub fresh : Changed
+fresh = record { pages = []; orders = [] }
+
+-- A fresh batch was filled by calls that only read, and then changed; the disk tells its images.
+pub record ChangesFresh {D L : Type 0} (m : Meaning D) (before after : Pool D L) (i j : Image)
+    (batch : Changed) : Type 0 where
+  pub ready : Pool D L
+  pub geometry : IsGeometry before.geometry
+  pub keeps : KeepsStore m before ready
+  pub frame : ChangesOverlays m (content_in batch.pages) batch.orders ready after
+  pub tells : Tells m before.disk i
+  pub held : m.held after.disk ≡ Some j
+
+pub changed_fresh : {D L : Type 0} (m : Meaning D) (before after : Pool D L) (i j : Image)
+    (batch : Changed) (asked : Asked) (session : Sessions) → ChangesFresh m before after i j batch
+    → BatchIsChanged before after i j batch asked session
+changed_fresh {D} {L} m before after i j batch asked session changes =
+    changed_batches_are D L m before changes.ready after i j batch asked session changes.keeps changes.frame
+    changes.tells changes.held
+
+-- every overlay of a cache over an image is what it has to be
+abbrev pub KeptIn : {D L : Type 0} → Form → ℕ → Opening → Entries → (ℕ → TxState) → Asked → Sessions
+    → Pool D L → Image → Type 0
+KeptIn form size o h state asked session store image =
+    EveryOverlay (keeping form size o h) state (cache_over store image) (needs_in asked session store)
