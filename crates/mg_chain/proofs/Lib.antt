@@ -2,3 +2,11 @@ mod Reading
 mod Steps
 mod Views
 mod Bases
+mod WritingLemmas
+mod HeadLemmas
+mod ListLemmas
+mod OrderLemmas
+mod TurnLemmas
+mod PushLemmas
+mod MakeLemmas
+mod SpellingLemmas

@@ -3,6 +3,7 @@
 
 ghost use Rattle.mg_chain.specs.Bases.{LiveBegins, LiveFollows};
 ghost use Rattle.mg_chain.specs.Chains.{FindsOfReadings};
+ghost use Rattle.mg_chain.specs.Lists.{FreesSlot, MakesLists, OverwritesLists, PushesLists, PutsSpelled, TakesOutLists};
 ghost use Rattle.mg_chain.specs.Views.{FoundIsShown, SeesItsView};
 
 use mg_generations::versions_show;
@@ -27,4 +28,24 @@ pub fn a_transaction_sees_its_view()
 pub fn bases_follow_the_machine()
     ensures begins { LiveBegins }
     ensures follows { LiveFollows }
+{}
+
+/// What is put by its bytes, or freed, is one cell that is changed.
+pub fn cells_are_changed()
+    ensures put { PutsSpelled }
+    ensures freed { FreesSlot }
+{}
+
+/// In every reading of the cells: a first version makes a record with one version, and a push adds a
+/// version in front; every other record has the versions that it had.
+pub fn versions_are_added()
+    ensures made { MakesLists }
+    ensures pushed { PushesLists }
+{}
+
+/// In every reading of the cells in which no other version stands in its cell: the newest version of a
+/// record is written over, or taken out; every other record has the versions that it had.
+pub fn newest_versions_are_changed()
+    ensures overwritten { OverwritesLists }
+    ensures taken_out { TakesOutLists }
 {}

@@ -1,0 +1,72 @@
+use Rattle.std.proofs.Common.{refl}
+use Rattle.mg_image.specs.Form.{Pages}
+use Rattle.mg_pool.specs.declared.fault.PoolFault.TheVariants as pool_faults
+use Rattle.mg_space.specs.ViewLaws.{keeps_on, tells_on}
+use Rattle.mg_space.specs.declared.fault.SpaceFault.TheVariants as faults
+use Rattle.mg_chain.specs.WritingRefusals.{RefusesFirstCell, RefusesTurn, first_memory, first_puts, first_turns}
+use Rattle.mg_chain.proofs.HeadLemmas.{seen_before}
+use Rattle.mg_chain.proofs.MakeLemmas.{makes_cell}
+use Rattle.mg_chain.proofs.PushLemmas.{whole_ordered}
+use Rattle.mg_chain.proofs.Steps.{handed_on}
+use Rattle.mg_chain.proofs.TurnLemmas.{whole_as}
+use Rattle.mg_chain.proofs.making.first_cell.Goals as goal
+
+pub returns-in_err-put-clause-makes : goal.returns-in_err-put-clause-makes
+returns-in_err-put-clause-makes g c = λ image tells.
+    handed_on c.from_residual.result c.in_err-put.field-0.0 _
+    (RefusesFirstCell g.D.Disk.meaning c.args.store.now c.put_first.new.store image c.args.batch.now
+    c.args.owner.0 c.args.rec c.args.cell.now) c.from_residual.ensures.0
+    c.from_residual.ensures.1 (first_puts (c.in_err-put.ensures.puts image tells))
+
+pub returns-in_err-turn-clause-makes : goal.returns-in_err-turn-clause-makes
+returns-in_err-turn-clause-makes g c = λ image tells.
+    handed_on c.from_residual-in_err-turn.result c.in_err-turn.field-0.0 _
+    (RefusesFirstCell g.D.Disk.meaning c.args.store.now c.turn.new.store image c.args.batch.now
+    c.args.owner.0 c.args.rec c.args.cell.now) c.from_residual-in_err-turn.ensures.0
+    c.from_residual-in_err-turn.ensures.1
+    (first_turns c.in_ok-put.put.at c.put_first.new.batch ((c.in_ok-put.ensures.puts image tells).0)
+    (seen_before g.D.Disk.meaning c.args.store.now c.put_first.new.store image c.put_first.new.batch
+    c.in_ok-put.ensures.keeps tells (λ (pages : Pages).
+    RefusesTurn g.D.Disk.meaning c.turn.new.store c.put_first.new.batch.pages pages c.args.rec
+    c.in_err-turn.field-0.0) c.in_err-turn.ensures.gives))
+
+pub returns-in_err-order_first-clause-makes : goal.returns-in_err-order_first-clause-makes
+returns-in_err-order_first-clause-makes g c = λ image tells.
+    handed_on c.from_residual-in_err-order_first.result (faults.Pool pool_faults.Memory) _
+    (RefusesFirstCell g.D.Disk.meaning c.args.store.now c.turn.new.store image c.args.batch.now
+    c.args.owner.0 c.args.rec c.args.cell.now) c.from_residual-in_err-order_first.ensures.0
+    c.from_residual-in_err-order_first.ensures.1 (first_memory refl)
+
+pub returns-in_err-order_first-clause-keeps : goal.returns-in_err-order_first-clause-keeps
+returns-in_err-order_first-clause-keeps g c = keeps_on g.D.Disk.meaning g.met.D.Disk.counts_now
+    c.args.store.now c.put_first.new.store c.turn.new.store c.in_ok-put.ensures.keeps
+    c.in_ok-turn.ensures.keeps
+
+pub returns-in_err-order_first-clause-whole : goal.returns-in_err-order_first-clause-whole
+returns-in_err-order_first-clause-whole g c = whole_ordered c.args.store.now.geometry.size
+    c.turn.new.batch c.order_first.new.batch c.in_err-order_first.ensures.pages
+    (whole_as c.put_first.new.store.geometry c.args.store.now.geometry c.turn.new.batch.pages
+    c.in_ok-put.ensures.keeps.geometry c.in_ok-turn.ensures.whole)
+
+pub returns-clause-keeps : goal.returns-clause-keeps
+returns-clause-keeps g c = keeps_on g.D.Disk.meaning g.met.D.Disk.counts_now
+    c.args.store.now c.put_first.new.store c.turn.new.store c.in_ok-put.ensures.keeps
+    c.in_ok-turn.ensures.keeps
+
+pub returns-clause-whole : goal.returns-clause-whole
+returns-clause-whole g c = whole_ordered c.args.store.now.geometry.size
+    c.turn.new.batch c.order_first.new.batch c.in_ok-order_first.ensures.pages
+    (whole_as c.put_first.new.store.geometry c.args.store.now.geometry c.turn.new.batch.pages
+    c.in_ok-put.ensures.keeps.geometry c.in_ok-turn.ensures.whole)
+
+pub returns-clause-makes : goal.returns-clause-makes
+returns-clause-makes g c = λ image tells.
+    let put = c.in_ok-put.ensures.puts image tells in
+    makes_cell g.D.Disk.meaning c.args.store.now c.put_first.new.store c.in_ok-put.ensures.keeps
+    image c.args.batch.now c.put_first.new.batch c.turn.new.batch c.order_first.new.batch c.args.owner.0
+    c.args.rec c.in_ok-put.put.at c.args.cell.now c.in_ok-put.put.pointers.items
+    c.in_ok-put.put.slot_pointers.items c.deref.result.now c.deref-2.result.now c.args.tx
+    put.0 put.1 put.2
+    (c.in_ok-turn.ensures.gives image (tells_on g.D.Disk.meaning c.args.store.now
+    c.put_first.new.store image c.in_ok-put.ensures.keeps tells)) c.deref.ensures.value
+    c.deref-2.ensures.value c.in_ok-order_first.ensures.adds

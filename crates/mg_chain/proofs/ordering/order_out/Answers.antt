@@ -1,0 +1,14 @@
+use Rattle.std.proofs.Common.{◌++◌, [], ◌∷◌}
+use Rattle.mg_chain.specs.Orders.{before_page, unchanged_page}
+use Rattle.mg_chain.proofs.OrderLemmas.{orders_then}
+use Rattle.mg_chain.proofs.ordering.order_out.Goals as goal
+
+pub returns-clause-adds : goal.returns-clause-adds
+returns-clause-adds c =
+    let first = before_page (unchanged_page c.args.batch.now.pages c.args.back) c.args.slot_page.0 in
+    let second = before_page c.args.slot_pointers.now c.args.slot_page.0 in
+    orders_then c.args.batch.now c.order_before.new.batch c.order_one.new.batch (first ++ second)
+    (before_page (c.args.slot_page.0 ∷ []) c.args.freed.0)
+    (orders_then c.args.batch.now c.order_unchanged.new.batch c.order_before.new.batch first second
+    c.in_ok-order_unchanged.ensures.adds c.in_ok-order_before.ensures.adds)
+    c.in_ok-order_one.ensures.adds

@@ -1,0 +1,32 @@
+use Rattle.std.proofs.Common.{refl}
+use Rattle.mg_pool.specs.declared.fault.PoolFault.TheVariants as pool_faults
+use Rattle.mg_space.specs.ViewLaws.{tells_on}
+use Rattle.mg_space.specs.declared.fault.SpaceFault.TheVariants as faults
+use Rattle.mg_chain.specs.WritingRefusals.{RefusesPush, pushed_memory, pushed_head}
+use Rattle.mg_chain.proofs.PushLemmas.{pushed}
+use Rattle.mg_chain.proofs.Steps.{handed_on}
+use Rattle.mg_chain.proofs.pushing.push.Goals as goal
+
+pub returns-in_err-head-clause-pushes : goal.returns-in_err-head-clause-pushes
+returns-in_err-head-clause-pushes g c = λ image tells.
+    handed_on c.from_residual.result c.in_err-head.field-0.0 _
+    (RefusesPush g.D.Disk.meaning c.args.store.now c.head_of.new.store image c.args.batch.now c.args.rec
+    c.args.v.now) c.from_residual.ensures.0 c.from_residual.ensures.1
+    (pushed_head (c.in_err-head.ensures.gives image tells))
+
+pub returns-in_err-cell-clause-pushes : goal.returns-in_err-cell-clause-pushes
+returns-in_err-cell-clause-pushes g c = λ image tells.
+    handed_on c.from_residual-in_err-cell.result (faults.Pool pool_faults.Memory) _
+    (RefusesPush g.D.Disk.meaning c.args.store.now c.head_of.new.store image c.args.batch.now c.args.rec
+    c.args.v.now) c.from_residual-in_err-cell.ensures.0 c.from_residual-in_err-cell.ensures.1
+    (pushed_memory refl)
+
+pub returns-clause-pushes : goal.returns-clause-pushes
+returns-clause-pushes g c = λ image tells.
+    pushed g.D.Disk.meaning c.args.store.now c.head_of.new.store c.in_ok-head.ensures.keeps image
+    c.push_cell.new.store c.args.batch.now c.push_cell.new.batch c.args.rec c.args.v.now
+    c.in_ok-head.head.newest c.in_ok-head.head.owner.0 c.deref.result.now c.in_ok-cell.cell.items
+    c.push_cell.result c.deref.ensures.value (c.in_ok-head.ensures.gives image tells)
+    c.in_ok-cell.ensures.spells
+    (c.push_cell.ensures.pushes image (tells_on g.D.Disk.meaning c.args.store.now c.head_of.new.store image
+    c.in_ok-head.ensures.keeps tells))

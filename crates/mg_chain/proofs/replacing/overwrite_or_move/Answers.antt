@@ -1,0 +1,43 @@
+use Rattle.std.proofs.Common.{inl, refl, subst, sym}
+use Rattle.mg_heap.specs.ChangingLaws.{whole_where}
+use Rattle.mg_pool.specs.Batch.{Changed}
+use Rattle.mg_space.specs.View.{AreWhole}
+use Rattle.mg_space.specs.ViewLaws.{tells_on}
+use Rattle.mg_chain.specs.WritingRefusals.{RefusesOverwrite, over_reads}
+use Rattle.mg_chain.proofs.MakeLemmas.{moved_then}
+use Rattle.mg_chain.proofs.Steps.{handed_on}
+use Rattle.mg_chain.proofs.TurnLemmas.{puts_where}
+use Rattle.mg_chain.proofs.replacing.overwrite_or_move.Goals as goal
+
+pub returns-in_err-placed-clause-writes : goal.returns-in_err-placed-clause-writes
+returns-in_err-placed-clause-writes g c = λ image tells.
+    handed_on c.from_residual.result c.in_err-placed.field-0.0 _
+    (RefusesOverwrite g.D.Disk.meaning c.args.store.now c.place.new.store image c.args.batch.now
+    c.args.rec c.args.head.newest c.args.head.owner.0 c.args.cell.now c.args.tx)
+    c.from_residual.ensures.0 c.from_residual.ensures.1
+    (over_reads (c.in_err-placed.ensures.places image tells))
+
+pub returns-in_err-placed-clause-whole : goal.returns-in_err-placed-clause-whole
+returns-in_err-placed-clause-whole g c =
+    subst (λ (b : Changed). AreWhole c.args.store.now.geometry.size b.pages)
+    (sym c.in_err-placed.ensures.same) c.requires.whole
+
+pub returns-then-placed-clause-writes : goal.returns-then-placed-clause-writes
+returns-then-placed-clause-writes g c = λ image tells. inl (puts_where c.args.store.now image
+    c.args.batch.now c.place.new.batch c.args.head.newest.rec c.args.cell.now c.args.cell.now
+    c.in_ok-placed.placed c.if-placed.true refl c.in_ok-placed.ensures.changes
+    (c.in_ok-placed.ensures.places image tells))
+
+pub returns-then-placed-clause-whole : goal.returns-then-placed-clause-whole
+returns-then-placed-clause-whole g c = whole_where c.args.store.now.geometry.size c.args.batch.now
+    c.place.new.batch c.args.head.newest.rec.page.0 c.in_ok-placed.placed c.requires.whole
+    c.in_ok-placed.ensures.changes
+
+pub returns-clause-writes : goal.returns-clause-writes
+returns-clause-writes g c = λ image tells. moved_then g.D.Disk.meaning c.args.store.now
+    c.place.new.store c.in_ok-placed.ensures.keeps image c.move_cell.new.store c.args.batch.now
+    c.place.new.batch c.move_cell.new.batch c.args.rec c.args.head.newest c.args.head.owner.0
+    c.args.cell.now c.args.tx c.args.back c.in_ok-placed.placed c.move_cell.result
+    c.if-placed.false c.in_ok-placed.ensures.changes (c.in_ok-placed.ensures.places image tells)
+    (c.move_cell.ensures.moves image (tells_on g.D.Disk.meaning c.args.store.now c.place.new.store image
+    c.in_ok-placed.ensures.keeps tells))
