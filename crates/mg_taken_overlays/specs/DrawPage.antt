@@ -35,16 +35,16 @@ use Rattle.mg_overlays.specs.BatchLaws.{change_keeps_always}
 use Rattle.mg_overlays.specs.Overlays.{ChangesCache, EveryOverlay, KeepsLaidAlways, KeepsNeeds, left_by, left_state}
 use Rattle.mg_page_overlays.specs.Draw.{changes_on}
 use Rattle.mg_page_overlays.specs.GrowPages.{stands_still}
-use Rattle.mg_overlays.specs.Views.{first_view, last_view, partly, step_in, step_out}
+use Rattle.mg_overlays.specs.Views.{first_view, last_view, ordered_same, partly, step_in, step_out}
 use Rattle.mg_overlays.specs.Views.{LaysPage}
-use Rattle.mg_taken_overlays.specs.TakePart.{IsTaken, TakesPage, bits_alike, take_views}
+use Rattle.mg_taken_overlays.specs.TakePart.{IsTaken, OccupiesPage, bits_alike, take_views}
 use Rattle.mg_pip.specs.PipPage.{bits, pip_checks, used_in}
 use Rattle.mg_slots.specs.DataPage.{cell_of}
 use Rattle.mg_tip.specs.TipPage.{places, prev_in, state_in, tip_checks}
 use Rattle.std.proofs.Common.{Bool, List, None, Option, [], ap, arith, false, inl, inr, length, refl, subst, suc, sym, true, zero, ℕ, ◌%◌, ◌++◌, ◌+◌, ◌-◌, ◌/◌, ◌<◌, ◌∙◌, ◌∷◌, ◌≡◌, ◌≢◌, ◌≤◌, ◌⊎◌}
 use Rattle.std.proofs.lemmas.Bool.{cases_eq}
 use Rattle.std.specs.List.{flat_map}
-use Rattle.std.specs.Prelude.{map}
+use Rattle.std.specs.Prelude.{map, unwrap_or}
 
 -- The header page has a higher Next, for which a new page of transactions is the last one, and names that;
 -- else it has the fields that other pages rely on. The new page comes behind the one that was the last,
@@ -460,7 +460,6 @@ pub record OrdersDrawPage (orders : Orders) (batch : ℕ → Option (List ℕ)) 
   pub bits : orders i 0 ≡ true
   pub page_first : orders page 0 ≡ true
   pub bits_in : batch i ≢ None
-  pub page_in : batch page ≢ None
 
 -- a number is drawn with a new page of transactions, by nobody's work, and every overlay is kept
 abbrev pub DrawPageKeeps : Form → Type 0
@@ -469,7 +468,7 @@ DrawPageKeeps form = (size : ℕ) (o : Opening) (h : Entries) (state : ℕ → T
     (needs now : ℕ → PageSet) (i page : ℕ)
     → ChangesCache old new gone batch orders
     → KeepsNeeds old gone needs now
-    → TakesPage size old.pool mid i page → DrawsPage size mid new.pool page
+    → OccupiesPage size old.pool mid i page → DrawsPage size mid new.pool page
     → OrdersDrawPage orders batch i page
     -- nobody who is active or in limbo lies below the oldest active one
     → ((t : ℕ) → t < oldest_active_of new.pool → (state t ≢ Active) × (state t ≢ Limbo))
@@ -519,11 +518,19 @@ draw_page_every form none size o h state old new mid gone batch orders needs now
             bits_set : set_ i ≡ true
             bits_set = lays.together i 0 ordered.bits ordered.bits_in in_set
 
-            page_set : set_ page ≡ true
-            page_set = lays.together page 0 ordered.page_first ordered.page_in in_set
+            -- what the batch leaves is as it was before the header changed
+            left_by_batch : (m : ℕ) → batch m ≡ None → mid m ≡ new.pool m
+            left_by_batch m none_ = at (cases_eq m 0)
+              where
+                at : (m ≡ 0) ⊎ (m ≢ 0) → mid m ≡ new.pool m
+                at (inr ne) = sym (draws.others m ne)
+                at (inl e) = ap mid e ∙ (takes.others 0 takes.off_header.0 takes.off_header.1
+                    ∙ (ap old.pool (sym e) ∙ sym (changes.pool m
+                    ∙ ap (λ (c : Option (List ℕ)). unwrap_or c (old.pool m)) none_)))
 
             there : partly set_ mid image page ≡ mid page
-            there = rw page_set refl
+            there = ordered_same old.pool new.pool batch orders set_ image mid lays left_by_batch page 0
+                ordered.page_first in_set
 
             used : is_used size (partly set_ mid image) page ≡ true
             used = bits_alike size (partly set_ mid image) mid page i takes.of_bit (rw bits_set refl)

@@ -45,7 +45,7 @@ has_last (m ∷ ms) n k = at (k == m) (has_last ms n k)
     at true more = refl
     at false more = more
 
-grown_has : (n : ℕ) (s : Stand) → HasMore n s (grown s n)
+pub grown_has : (n : ℕ) (s : Stand) → HasMore n s (grown s n)
 grown_has n s = record {
   table = refl;
   pages = with_back n (s.pointers ++ s.data_pages) (s.pointers ++ (s.data_pages ++ (n ∷ [])))
@@ -61,7 +61,7 @@ grown_has n s = record {
 
 module _ (in_primary : Bool) (size : ℕ) (pool changed : Pages) (owner place pointers q n : ℕ)
     (enters : EntersPage in_primary size pool changed owner place q n) where
-  grown_its : (image laid : Pages) → HasTaken size pool changed image laid q n
+  pub grown_its : (image laid : Pages) → HasTaken size pool changed image laid q n
       → ((m : ℕ) → is_used size image m ≡ true → is_used size laid m ≡ true) → (s : Stand)
       → (front : List ℕ) → s.pointers ≡ front ++ (q ∷ []) → length front ≡ pointers
       → length s.data_pages ≡ place → s.table.pointer.0 ≡ owner
@@ -127,7 +127,7 @@ module _ (in_primary : Bool) (size : ℕ) (pool changed : Pages) (owner place po
       last_was = each_last (IsTablePointer size image s.table.pointer.0) 0 front q
           (subst (EachFrom (IsTablePointer size image s.table.pointer.0) 0) are has.pointers)
 
-  pub entry_makes : MakesMore in_primary size pool changed owner place pointers q n
+  unfoldable pub entry_makes : MakesMore in_primary size pool changed owner place pointers q n
   entry_makes = record {
     more = λ s. grown s n;
     has_more = grown_has n;

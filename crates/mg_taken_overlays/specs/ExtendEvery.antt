@@ -21,7 +21,7 @@ use Rattle.mg_taken_overlays.specs.EntryPage.{EntersPage, entry_makes}
 use Rattle.mg_taken_overlays.specs.ExtendStep.{HasLast, MakesMore, step_with, step_without}
 use Rattle.mg_taken_overlays.specs.LinkPage.{LinksPage, link_makes}
 use Rattle.mg_taken_overlays.specs.PointerPage.{ChangesPointer}
-use Rattle.mg_taken_overlays.specs.TakePart.{IsTaken, TakesPage, bits_alike, take_views}
+use Rattle.mg_taken_overlays.specs.TakePart.{IsTaken, OccupiesPage, bits_alike, take_views}
 
 -- The orders of its batch: the new page, and the inventory page with its bit, before the pointer page.
 pub record OrdersPage (orders : Orders) (batch : ℕ → Option (List ℕ)) (i q n : ℕ) : Type 0 where
@@ -33,7 +33,7 @@ pub record OrdersPage (orders : Orders) (batch : ℕ → Option (List ℕ)) (i q
 pub extend_views : (form : Form) (size : ℕ) (o : Opening) (h : Entries) (state : ℕ → TxState)
     (view mid next : Pages) (orders : Orders) (set_ : PageSet) (image : Pages)
     (owner place pointers i q n : ℕ) → HasNoSequences form → TreesStay form size
-    → TakesPage size view mid i n → ChangesPointer mid next q → n ≢ q
+    → OccupiesPage size view mid i n → ChangesPointer mid next q → n ≢ q
     → MakesMore form.in_primary size mid next owner place pointers q n
     → (set_ q ≡ true → set_ i ≡ true) → (set_ q ≡ true → partly set_ mid image n ≡ mid n)
     → ((layout : Layout) (r : Reading) → IsSoundBy form size state mid layout r
@@ -70,7 +70,7 @@ LinkKeeps form = (size : ℕ) (o : Opening) (h : Entries) (state : ℕ → TxSta
     (mid : Pages) (gone : PageSet) (batch : ℕ → Option (List ℕ)) (orders : Orders)
     (needs now : ℕ → PageSet) (owner place pointers i q n : ℕ)
     → ChangesCache old new gone batch orders → KeepsNeeds old gone needs now
-    → TakesPage size old.pool mid i n → LinksPage size mid new.pool owner pointers q n
+    → OccupiesPage size old.pool mid i n → LinksPage size mid new.pool owner pointers q n
     → ((m : ℕ) → batch m ≡ None → mid m ≡ new.pool m) → OrdersPage orders batch i q n
     → ((chosen : ℕ → Bool) (layout : Layout) (r : Reading)
     → IsSoundBy form size (left_state chosen state) mid layout r → HasLast layout owner place pointers q)
@@ -83,7 +83,7 @@ EnterKeeps form = (size : ℕ) (o : Opening) (h : Entries) (state : ℕ → TxSt
     (mid : Pages) (gone : PageSet) (batch : ℕ → Option (List ℕ)) (orders : Orders)
     (needs now : ℕ → PageSet) (owner place pointers i q n : ℕ)
     → ChangesCache old new gone batch orders → KeepsNeeds old gone needs now
-    → TakesPage size old.pool mid i n
+    → OccupiesPage size old.pool mid i n
     → EntersPage form.in_primary size mid new.pool owner place q n
     → ((m : ℕ) → batch m ≡ None → mid m ≡ new.pool m) → OrdersPage orders batch i q n
     → ((chosen : ℕ → Bool) (layout : Layout) (r : Reading)
@@ -95,7 +95,7 @@ module _ (form : Form) (none : HasNoSequences form) (size : ℕ) (o : Opening) (
     (state : ℕ → TxState) (old new : Cache) (mid : Pages) (gone : PageSet)
     (batch : ℕ → Option (List ℕ)) (orders : Orders) (needs now : ℕ → PageSet)
     (owner place pointers i q n : ℕ) (changes : ChangesCache old new gone batch orders)
-    (left : KeepsNeeds old gone needs now) (takes : TakesPage size old.pool mid i n)
+    (left : KeepsNeeds old gone needs now) (takes : OccupiesPage size old.pool mid i n)
     (change : ChangesPointer mid new.pool q) (apart : n ≢ q)
     (makes : MakesMore form.in_primary size mid new.pool owner place pointers q n)
     (left_by_batch : (m : ℕ) → batch m ≡ None → mid m ≡ new.pool m)

@@ -39,7 +39,7 @@ pub record LinksPage (size : ℕ) (old new : Pages) (owner pointers q n : ℕ) :
 abbrev pub longer : ℕ → Stand → Stand
 longer n stand = record stand { pointers = stand.pointers ++ (n ∷ []) }
 
-longer_has : (n : ℕ) (s : Stand) → HasMore n s (longer n s)
+pub longer_has : (n : ℕ) (s : Stand) → HasMore n s (longer n s)
 longer_has n s = record {
   table = refl;
   pages = with_back n (s.pointers ++ s.data_pages) ((s.pointers ++ (n ∷ [])) ++ s.data_pages)
@@ -96,14 +96,14 @@ each_too P k (m ∷ ms) q each here =
     let same : k + suc (length ms) ≡ suc k + length ms = omega arith in
     (each.0, each_too P (suc k) ms q each.1 (subst (λ (j : ℕ). P j q) same here))
 
-length_last : (ms : List ℕ) (q : ℕ) → length (ms ++ (q ∷ [])) ≡ length ms + 1
+pub length_last : (ms : List ℕ) (q : ℕ) → length (ms ++ (q ∷ [])) ≡ length ms + 1
 length_last [] q = refl
 length_last (m ∷ ms) q = let rest : length (ms ++ (q ∷ [])) ≡ length ms + 1 = length_last ms q in
     omega (arith, rest)
 
 module _ (in_primary : Bool) (size : ℕ) (pool changed : Pages) (owner place pointers q n : ℕ)
     (links : LinksPage size pool changed owner pointers q n) where
-  longer_its : (image laid : Pages) → HasTaken size pool changed image laid q n
+  pub longer_its : (image laid : Pages) → HasTaken size pool changed image laid q n
       → ((m : ℕ) → is_used size image m ≡ true → is_used size laid m ≡ true) → (s : Stand)
       → (front : List ℕ) → s.pointers ≡ front ++ (q ∷ []) → length front ≡ pointers
       → length s.data_pages ≡ place → s.table.pointer.0 ≡ owner
@@ -203,7 +203,7 @@ module _ (in_primary : Bool) (size : ℕ) (pool changed : Pages) (owner place po
         cells = rw (data_same m is) was.cells;
       }
 
-  pub link_makes : MakesMore in_primary size pool changed owner place pointers q n
+  unfoldable pub link_makes : MakesMore in_primary size pool changed owner place pointers q n
   link_makes = record {
     more = longer n;
     has_more = longer_has n;

@@ -29,7 +29,7 @@ use Rattle.mg_overlays.specs.Views.{partly}
 use Rattle.mg_page_overlays.specs.FrameKept.{frame_kept, frame_layout}
 
 -- A page n that was free comes to be used, by its bit in the inventory page i, and has another content.
-pub record TakesPage (size : ℕ) (old new : Pages) (i n : ℕ) : Type 0 where
+pub record OccupiesPage (size : ℕ) (old new : Pages) (i n : ℕ) : Type 0 where
   pub others : (m : ℕ) → m ≢ i → m ≢ n → new m ≡ old m
   pub off_header : (0 ≢ i) × (0 ≢ n)
   pub whole : (m : ℕ) → length (new m) ≡ size
@@ -59,7 +59,7 @@ bits_alike size one other m i on same =
 
 module _ (form : Form) (size : ℕ) (state : ℕ → TxState) (pool changed image laid : Pages)
     (i n : ℕ) (none : HasNoSequences form) (trees : TreesStay form size)
-    (pages : TakesPage size pool changed i n) (layout : Layout) (r : Reading)
+    (pages : OccupiesPage size pool changed i n) (layout : Layout) (r : Reading)
     (sound : IsSoundBy form size state image layout r)
     (used_in_pool : (m : ℕ) → is_used size image m ≡ true → is_used size pool m ≡ true)
     (taken : IsTakenIn pool changed image laid i n) where
@@ -211,7 +211,7 @@ pub record IsTaken (form : Form) (size : ℕ) (o : Opening) (h : Entries) (state
 
 pub take_kept : (form : Form) (size : ℕ) (o : Opening) (h : Entries) (state : ℕ → TxState)
     (pool changed image laid : Pages) (i n : ℕ) → HasNoSequences form → TreesStay form size
-    → TakesPage size pool changed i n → IsTakenIn pool changed image laid i n
+    → OccupiesPage size pool changed i n → IsTakenIn pool changed image laid i n
     → IsKept form size o h state pool image → IsTaken form size o h state changed n laid
 take_kept form size o h state pool changed image laid i n none trees pages taken kept = record {
   kept = frame_kept form size o h state pool changed image laid kept of_pool of_image within;
@@ -244,7 +244,7 @@ take_kept form size o h state pool changed image laid i n none trees pages taken
 -- as a step of the views of a batch
 pub take_views : (form : Form) (size : ℕ) (o : Opening) (h : Entries) (state : ℕ → TxState)
     (view next : Pages) (set_ : PageSet) (image : Pages) (i n : ℕ) → HasNoSequences form
-    → TreesStay form size → TakesPage size view next i n
+    → TreesStay form size → OccupiesPage size view next i n
     → IsKept form size o h state view (partly set_ view image)
     → IsTaken form size o h state next n (partly set_ next image)
 take_views form size o h state view next set_ image i n none trees pages kept =

@@ -2,7 +2,7 @@
 //! batch owes, from the pool's change to every overlay.
 //!
 //! Owns: these batches as two steps. First a page that was free comes to be used, and has a new content
-//! (`TakesPage`): nothing that is linked changes, in the pool, and in an overlay that has its page, the
+//! (`OccupiesPage`): nothing that is linked changes, in the pool, and in an overlay that has its page, the
 //! page with its bit, both, or none. Then one page comes to name it, and an overlay with that page has
 //! the other two by the orders:
 //!

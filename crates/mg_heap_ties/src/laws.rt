@@ -1,0 +1,15 @@
+//! What the heap gives to the laws on overlays. Each function's contract is the law.
+
+ghost use Rattle.mg_heap_ties.specs.SpotTies.{SpotRowKeeps};
+ghost use Rattle.mg_image.specs.Form.{packed_form};
+
+use mg_base::Disk;
+use mg_careful::Links;
+use mg_image::one_reading;
+
+/// A page that is given to a table keeps every overlay.
+pub fn given_pages_keep<D: Disk, L: Links>()
+    ensures { SpotRowKeeps packed_form D L D.meaning }
+{
+    one_reading();
+}

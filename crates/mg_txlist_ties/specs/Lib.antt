@@ -1,0 +1,2 @@
+pub mod DrawTies
+pub mod CommitTies
