@@ -1,0 +1,6 @@
+pub mod Frames
+pub mod Undoing
+pub mod Writes
+pub mod Steps
+pub mod Walks
+pub mod FrameLaws
