@@ -4,3 +4,5 @@ pub mod Writes
 pub mod Steps
 pub mod Walks
 pub mod FrameLaws
+pub mod FindLaws
+pub mod WalkLaws

@@ -11,10 +11,12 @@
 //! Not here: what is written, and what a statement is.
 #![tactic(auto)]
 
+mod laws;
 mod steps;
 mod walking;
 mod writing;
 
+pub use laws::{the_machine_finds_what_is_seen, walks_go_on_beside_others};
 pub use steps::{Writes, Wrote, mark_and_write, write_next};
 pub use walking::{Visit, Walk, start_walk, visit_next};
 pub use writing::{Written, write_or_undo};
