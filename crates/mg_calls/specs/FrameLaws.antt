@@ -1,0 +1,213 @@
+-- What one call leaves, and what several calls leave together.
+use Rattle.std.proofs.Common.{◌≡◌, ℕ, ◌+◌, ◌-◌, ◌^◌, ◌≤◌, ◌<◌, Bool, true, false, List, Option, Some, None, inl, inr, refl, sym, ap, subst, ◌∙◌, arith}
+use Rattle.std.specs.Prelude.{◌⊎◌}
+use Rattle.mg_base.specs.Image.{Image}
+use Rattle.mg_base.specs.Disk.{Rose}
+use Rattle.mg_model.specs.declared.opening.Opening.{Opening}
+use Rattle.mg_model.specs.declared.refusal.Refusal.{Refusal}
+use Rattle.mg_model.specs.declared.refusal.Refusal.TheVariants.{DatabaseFull, DiskRead, DiskWrite, Offline, Damaged}
+use Rattle.mg_model.specs.declared.table.Table.{Table}
+use Rattle.mg_model.specs.Changes.{Cells}
+use Rattle.mg_model.specs.History.{Entries}
+use Rattle.mg_model.specs.Machine.{is_of}
+use Rattle.mg_records.specs.Meaning.{Means}
+use Rattle.mg_records.specs.Keeping.{Causes, Elapses, Keeps, Leaves, Lessens, Reads, down_after}
+use Rattle.mg_calls.specs.Frames.{Blames, Passes, Frames}
+
+-- ---- one call
+
+blamed : {R P : Type 0} (m : Means R P) (old new : R) (refusal : Option Refusal)
+    → Causes m old new refusal → Blames m old new refusal
+blamed m old new None cause = tt
+blamed m old new (Some (DiskRead count)) cause = cause
+blamed m old new (Some (DiskWrite count)) cause = cause
+blamed m old new (Some (Damaged page field found wanted)) cause = cause
+blamed m old new (Some (DatabaseFull limit)) cause = cause
+blamed m old new (Some (Offline count)) cause = inl cause
+blamed m old new (Some refusal) cause = tt
+
+fallen : {R P : Type 0} (m : Means R P) (old new : R) (refusal : Option Refusal)
+    → Causes m old new refusal → m.down new ≡ down_after (m.down old) refusal
+    → (m.down new ≡ m.down old) ⊎ Rose (m.faults old) (m.faults new)
+fallen m old new None cause down = inl down
+fallen m old new (Some (DiskWrite count)) cause down = inr cause
+fallen m old new (Some refusal) cause down = inl down
+
+passed : {R P : Type 0} (m : Means R P) (old new : R) → Elapses m old new → Passes m old new
+passed m old new e = record { later = e.later; keeps = e.keeps }
+
+framed : {R P : Type 0} (m : Means R P) (old new : R) (t : ℕ) (refusal : Option Refusal)
+    → Keeps m old new refusal
+    → ((u : ℕ) (name : List ℕ) → is_of u (Some t) ≡ false → m.table new u name ≡ m.table old u name)
+    → ((u : ℕ) (table : Table) (after : Option P) (rows : List Cells) → is_of u (Some t) ≡ false
+    → m.to_come old u table after rows → m.to_come new u table after rows)
+    → ((u : ℕ) → is_of u (Some t) ≡ false → Lessens (m.unwritten old u) (m.unwritten new u))
+    → Frames m old new t refusal
+framed m old new t refusal keeps tables walks commits = record {
+  faults = keeps.faults;
+  damage = keeps.damage;
+  shortages = keeps.shortages;
+  cause = blamed m old new refusal keeps.cause;
+  down = fallen m old new refusal keeps.cause keeps.down;
+  tells = keeps.tells;
+  time = λ told. passed m old new (keeps.time told);
+  sizes = keeps.sizes;
+  given = keeps.given;
+  places = keeps.places;
+  tables = tables;
+  walks = walks;
+  commits = commits;
+}
+
+-- a call that adds no entry
+pub frames_reads : {R P : Type 0} (m : Means R P) (old new : R) (t : ℕ) (refusal : Option Refusal)
+    → Reads m old new refusal (Some t) → Frames m old new t refusal
+frames_reads m old new t refusal reads =
+    framed m old new t refusal reads.keeps (λ u name other. reads.tables u name) reads.walks_stay
+    reads.commits
+
+pub frames_reads_nothing : {R P : Type 0} (m : Means R P) (old new : R) (t : ℕ)
+    (refusal : Option Refusal) → Reads m old new refusal None → Frames m old new t refusal
+frames_reads_nothing m old new t refusal reads =
+    framed m old new t refusal reads.keeps (λ u name other. reads.tables u name)
+    (λ u table after rows other come. reads.walks_stay u table after rows refl come)
+    (λ u other. reads.commits u refl)
+
+-- a call that gives events, after which nothing, walks, or tables too of the transaction may be other
+pub frames_leaves : {R P : Type 0} (m : Means R P) (old new : R) (o : Opening) (h : Entries) (t : ℕ)
+    (refusal : Option Refusal) → m.stands old o h → Leaves m old new refusal None None
+    → Frames m old new t refusal
+frames_leaves m old new o h t refusal stands leaves =
+    framed m old new t refusal leaves.keeps (λ u name other. leaves.tables_stay o h stands u name refl)
+    (λ u table after rows other come. leaves.walks_stay o h stands u table after rows refl come)
+    (λ u other. leaves.commits u refl)
+
+pub frames_writes : {R P : Type 0} (m : Means R P) (old new : R) (o : Opening) (h : Entries) (t : ℕ)
+    (refusal : Option Refusal) → m.stands old o h → Leaves m old new refusal None (Some t)
+    → Frames m old new t refusal
+frames_writes m old new o h t refusal stands leaves =
+    framed m old new t refusal leaves.keeps (λ u name other. leaves.tables_stay o h stands u name refl)
+    (λ u table after rows other come. leaves.walks_stay o h stands u table after rows other come)
+    leaves.commits
+
+pub frames_changes : {R P : Type 0} (m : Means R P) (old new : R) (o : Opening) (h : Entries) (t : ℕ)
+    (refusal : Option Refusal) → m.stands old o h → Leaves m old new refusal (Some t) (Some t)
+    → Frames m old new t refusal
+frames_changes m old new o h t refusal stands leaves =
+    framed m old new t refusal leaves.keeps (λ u name other. leaves.tables_stay o h stands u name other)
+    (λ u table after rows other come. leaves.walks_stay o h stands u table after rows other come)
+    leaves.commits
+
+-- ---- two calls
+
+at_most : (a b c : ℕ) → a ≤ b → b ≤ c → a ≤ c
+at_most a b c less more = omega (arith, less, more)
+
+rose_before : (a b c : ℕ) → Rose a b → b ≤ c → Rose a c
+rose_before a b c (inl less) more = inl (omega (arith, less, more))
+rose_before a b c (inr end) more = inr (at_most (2 ^ 64 - 1) b c end more)
+
+rose_behind : (a b c : ℕ) → a ≤ b → Rose b c → Rose a c
+rose_behind a b c less (inl more) = inl (omega (arith, less, more))
+rose_behind a b c less (inr end) = inr end
+
+lessens : (a b c : Option ℕ) → Lessens a b → Lessens b c → Lessens a c
+lessens None b c first second = tt
+lessens (Some n) None c first second = absurd first
+lessens (Some n) (Some k) None first second = absurd second
+lessens (Some n) (Some k) (Some i) first second = at_most i k n second first
+
+goes_down : (down mid new : Option ℕ) (a b c : ℕ) → a ≤ b → b ≤ c
+    → (mid ≡ down) ⊎ Rose a b → (new ≡ mid) ⊎ Rose b c → (new ≡ down) ⊎ Rose a c
+goes_down down mid new a b c less more (inl same) (inl stays) = inl (stays ∙ same)
+goes_down down mid new a b c less more (inl same) (inr rose) = inr (rose_behind a b c less rose)
+goes_down down mid new a b c less more (inr rose) second = inr (rose_before a b c rose more)
+
+-- the cause of what the first of two calls answered, and of what the second did
+blames_first : {R P : Type 0} (m : Means R P) (old mid new : R) (refusal : Option Refusal)
+    → m.faults mid ≤ m.faults new → m.damage mid ≤ m.damage new → m.shortages mid ≤ m.shortages new
+    → Blames m old mid refusal → Blames m old new refusal
+blames_first m old mid new None faults damage shortages cause = tt
+blames_first m old mid new (Some (DiskRead count)) faults damage shortages cause =
+    rose_before (m.faults old) (m.faults mid) (m.faults new) cause faults
+blames_first m old mid new (Some (DiskWrite count)) faults damage shortages cause =
+    rose_before (m.faults old) (m.faults mid) (m.faults new) cause faults
+blames_first m old mid new (Some (Damaged page field found wanted)) faults damage shortages cause =
+    rose_before (m.damage old) (m.damage mid) (m.damage new) cause damage
+blames_first m old mid new (Some (DatabaseFull limit)) faults damage shortages cause =
+    rose_before (m.shortages old) (m.shortages mid) (m.shortages new) cause shortages
+blames_first m old mid new (Some (Offline count)) faults damage shortages (inl was) = inl was
+blames_first m old mid new (Some (Offline count)) faults damage shortages (inr rose) =
+    inr (rose_before (m.faults old) (m.faults mid) (m.faults new) rose faults)
+blames_first m old mid new (Some refusal) faults damage shortages cause = tt
+
+was_down : {R P : Type 0} (m : Means R P) (old mid new : R) (count : ℕ)
+    → m.faults old ≤ m.faults mid → m.faults mid ≤ m.faults new
+    → (m.down mid ≡ m.down old) ⊎ Rose (m.faults old) (m.faults mid)
+    → (m.down mid ≡ Some count) ⊎ Rose (m.faults mid) (m.faults new)
+    → (m.down old ≡ Some count) ⊎ Rose (m.faults old) (m.faults new)
+was_down m old mid new count less more (inl same) (inl was) = inl (sym same ∙ was)
+was_down m old mid new count less more (inr rose) (inl was) =
+    inr (rose_before (m.faults old) (m.faults mid) (m.faults new) rose more)
+was_down m old mid new count less more first (inr rose) =
+    inr (rose_behind (m.faults old) (m.faults mid) (m.faults new) less rose)
+
+blames_last : {R P : Type 0} (m : Means R P) (old mid new : R) (refusal other : Option Refusal) (t : ℕ)
+    → Frames m old mid t other → m.faults mid ≤ m.faults new
+    → Blames m mid new refusal → Blames m old new refusal
+blames_last m old mid new None other t first faults cause = tt
+blames_last m old mid new (Some (DiskRead count)) other t first faults cause =
+    rose_behind (m.faults old) (m.faults mid) (m.faults new) first.faults cause
+blames_last m old mid new (Some (DiskWrite count)) other t first faults cause =
+    rose_behind (m.faults old) (m.faults mid) (m.faults new) first.faults cause
+blames_last m old mid new (Some (Damaged page field found wanted)) other t first faults cause =
+    rose_behind (m.damage old) (m.damage mid) (m.damage new) first.damage cause
+blames_last m old mid new (Some (DatabaseFull limit)) other t first faults cause =
+    rose_behind (m.shortages old) (m.shortages mid) (m.shortages new) first.shortages cause
+blames_last m old mid new (Some (Offline count)) other t first faults cause =
+    was_down m old mid new count first.faults faults first.down cause
+blames_last m old mid new (Some refusal) other t first faults cause = tt
+
+passes_then : {R P : Type 0} (m : Means R P) (old mid new : R) → Passes m old mid → Passes m mid new
+    → Passes m old new
+passes_then m old mid new first second = record {
+  later = at_most (m.moment old) (m.moment mid) (m.moment new) first.later second.later;
+  keeps = λ t c within was. second.keeps t c (at_most t (m.moment old) (m.moment mid) within first.later) (first.keeps t c within was);
+}
+
+-- two in a row, where this is the cause of what is answered
+joined : {R P : Type 0} (m : Means R P) (old mid new : R) (t : ℕ) (a b refusal : Option Refusal)
+    → Frames m old mid t a → Frames m mid new t b → Blames m old new refusal
+    → Frames m old new t refusal
+joined m old mid new t a b refusal first second cause = record {
+  faults = at_most (m.faults old) (m.faults mid) (m.faults new) first.faults second.faults;
+  damage = at_most (m.damage old) (m.damage mid) (m.damage new) first.damage second.damage;
+  shortages = at_most (m.shortages old) (m.shortages mid) (m.shortages new) first.shortages second.shortages;
+  cause = cause;
+  down = goes_down (m.down old) (m.down mid) (m.down new) (m.faults old) (m.faults mid) (m.faults new)
+      first.faults second.faults first.down second.down;
+  tells = second.tells ∙ first.tells;
+  time = λ told. passes_then m old mid new (first.time told) (second.time (first.tells ∙ told));
+  sizes = λ size. second.sizes size ∙ first.sizes size;
+  given = λ table was. second.given table (first.given table was);
+  places = λ table place was. second.places table place (first.places table place was);
+  tables = λ u name other. second.tables u name other ∙ first.tables u name other;
+  walks = λ u table after rows other come.
+      second.walks u table after rows other (first.walks u table after rows other come);
+  commits = λ u other. lessens (m.unwritten old u) (m.unwritten mid u) (m.unwritten new u)
+      (first.commits u other) (second.commits u other);
+}
+
+-- the second of two calls says what is answered
+pub frames_then : {R P : Type 0} (m : Means R P) (old mid new : R) (t : ℕ) (a refusal : Option Refusal)
+    → Frames m old mid t a → Frames m mid new t refusal → Frames m old new t refusal
+frames_then m old mid new t a refusal first second =
+    joined m old mid new t a refusal refusal first second
+    (blames_last m old mid new refusal a t first second.faults second.cause)
+
+-- the first of two calls says what is answered
+pub frames_first : {R P : Type 0} (m : Means R P) (old mid new : R) (t : ℕ) (refusal b : Option Refusal)
+    → Frames m old mid t refusal → Frames m mid new t b → Frames m old new t refusal
+frames_first m old mid new t refusal b first second =
+    joined m old mid new t refusal b refusal first second
+    (blames_first m old mid new refusal second.faults second.damage second.shortages first.cause)

@@ -1,0 +1,42 @@
+//! A write of a statement that has set its mark.
+
+ghost use Rattle.std.specs.Prelude.{◌≡◌, Some};
+ghost use Rattle.mg_model.specs.declared.opening.Opening.{Opening};
+ghost use Rattle.mg_model.specs.History.{Entries};
+ghost use Rattle.mg_records.specs.Writing.{FitsShape, event_of};
+ghost use Rattle.mg_calls.specs.Writes.{WritesOrUndoes};
+
+use mg_base::TxNo;
+use mg_model::{Refusal, Table};
+use mg_records::{Records, Write};
+
+/// What became of a write.
+#[derive(Clone, Copy, Debug, PartialEq, Eq)]
+pub enum Written {
+    /// It took effect.
+    Done,
+    /// It waits for this transaction, and can be tried again.
+    Waits(TxNo),
+    /// It was refused and its statement undone, all since its mark. The refusal is that of the
+    /// undoing, where this was refused too.
+    Refused(Refusal),
+}
+
+/// Writes a row for a statement that has set its mark. Where the write is refused, and doesn't wait,
+/// the statement is undone.
+pub fn write_or_undo<R: Records>(r: &mut R, t: TxNo, table: &Table, write: &Write) -> Written
+    requires table { R.meaning.table r.old t.0 table.now.name ≡ Some table.now }
+    requires fits { FitsShape table.now.shape write.now }
+    ensures writes { (o : Opening) (h : Entries) → R.meaning.stands r.old o h
+        → WritesOrUndoes R.meaning r.old r.new o h t (event_of t table.now.name write.now) result }
+{
+    let refusal = match r.write_step(t, table, write) {
+        Ok(()) => return Written::Done,
+        Err(Refusal::Waits { on }) => return Written::Waits(on),
+        Err(refusal) => refusal,
+    };
+    match r.undo_mark(t) {
+        Ok(()) => Written::Refused(refusal),
+        Err(later) => Written::Refused(later),
+    }
+}
