@@ -83,9 +83,10 @@ is_unlisted m store batch pages owner pointers n page damage leads end none is =
 -- a pointer page is not followed
 pub breaks_off : {D L : Type 0} (m : Meaning D) (store : Pool D L) (batch : List BatchPage)
     (pages : Pages) (owner : ℕ) (pointers : List ℕ) (n page : PageNo) (fault : SpaceFault)
-    → LeadsTo pages owner pointers n.0 → RefusesPointer m store batch pages owner pointers n fault
+    → LeadsTo pages owner pointers n.0 → n.0 ≢ 0
+    → RefusesPointer m store batch pages owner pointers n fault
     → RefusesReach m store batch pages owner page fault
-breaks_off m store batch pages owner pointers n page (faults.Full limit) leads refused = refused
-breaks_off m store batch pages owner pointers n page (faults.Damaged damage) leads refused =
-    inl (broken m store batch pages owner pointers n (faults.Damaged damage) leads refused)
-breaks_off m store batch pages owner pointers n page (faults.Pool fault) leads refused = tt
+breaks_off m store batch pages owner pointers n page (faults.Full limit) leads some refused = refused
+breaks_off m store batch pages owner pointers n page (faults.Damaged damage) leads some refused =
+    inl (broken m store batch pages owner pointers n (faults.Damaged damage) leads some refused)
+breaks_off m store batch pages owner pointers n page (faults.Pool fault) leads some refused = tt

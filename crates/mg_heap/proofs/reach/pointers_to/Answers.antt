@@ -42,7 +42,7 @@ returns-in_err-n-clause-reaches g c = λ image tells. handed_on c.from_residual-
     c.from_residual-in_err-n.ensures.0 c.from_residual-in_err-n.ensures.1
     (breaks_off g.D.Disk.meaning c.follow.new.store c.args.batch.now.pages
     (viewed c.args.store.now image c.args.batch.now) c.args.owner.0 c.loop-n.pointers.items
-    c.loop-n.n c.args.page c.in_err-n.field-0.0 (c.loop-n.invariant.leads image tells)
+    c.loop-n.n c.args.page c.in_err-n.field-0.0 (c.loop-n.invariant.leads image tells) c.loop-n-test.true
     (as_started g.D.Disk.meaning c.args.store.now c.loop-n.store image c.args.batch.now
     c.loop-n.invariant.keeps tells (λ (pages : Pages). RefusesPointer g.D.Disk.meaning
     c.follow.new.store c.args.batch.now.pages pages c.args.owner.0 c.loop-n.pointers.items c.loop-n.n
