@@ -1,0 +1,23 @@
+//! Scripts: the lines of sessions, and what is printed of them.
+//!
+//! Owns: the form of a line (`Line`, `LineKind`) and the reading of a script (`read_script`). Each
+//! byte of a script is in one line: lines end with LF, a CR before it is dropped, and the last may
+//! lack its LF. A line is of exactly one form, and a bad one is of none.
+//!
+//! The definitions stand in `specs/Lines`. Numbers are decimal digits without a sign or a leading
+//! zero; keys and values of `@put` and `@get` may have `-` before a number other than 0.
+//!
+//! Invariant: none, it keeps no state.
+//! Below: `mg_sql`, which says of a text which statement it is. Above: the program.
+//! Not here: what a line does.
+#![tactic(auto)]
+
+mod line;
+mod number;
+mod reading;
+mod script;
+mod splitting;
+
+pub use line::{Line, LineKind, MOST_STEPS, SESSIONS, Session};
+pub use script::{Script, read_script};
+
