@@ -1,0 +1,5 @@
+pub mod EachLemmas
+pub mod SumLemmas
+pub mod RowLemmas
+pub mod FilterLemmas
+pub mod SelectLemmas

@@ -1,0 +1,12 @@
+pub mod Found
+pub mod Orders
+pub mod OrderLaws
+pub mod Selecting
+pub mod EachLaws
+pub mod Totals
+pub mod Running
+pub mod NewRows
+pub mod Faults
+pub mod SortLaws
+pub mod FoundLaws
+pub mod Laws

@@ -1,0 +1,71 @@
+//! Why a row can't be made.
+
+ghost use Rattle.std.specs.Prelude.{◌≡◌};
+ghost use Rattle.mg_rows.specs.declared.fault.NewRowFault.TheVariants as faults;
+
+use mg_base::Memory;
+use mg_expr::EvalFault;
+use std::alloc::{AllocError, AllocFailed};
+use std::fmt;
+
+/// Why a row can't be made, in the order of the tests. `Display` gives the printed text.
+#[derive(Clone, Copy, Debug, PartialEq, Eq)]
+pub enum NewRowFault {
+    /// A result that is evaluated leaves 64 bits, or a divisor is 0.
+    Arithmetic,
+    /// A column that may not be NULL would be.
+    NullNotAllowed,
+    /// A text would be longer than its column. Both numbers are in bytes.
+    TextTooLong { len: u32, most: u32 },
+    Memory,
+}
+
+impl From<Memory> for NewRowFault {
+    ghost from_gives = { λ _ fault. fault ≡ faults.Memory };
+
+    fn from(_: Memory) -> Self {
+        NewRowFault::Memory
+    }
+}
+
+impl From<AllocError> for NewRowFault {
+    ghost from_gives = { λ _ fault. fault ≡ faults.Memory };
+
+    fn from(_: AllocError) -> Self {
+        NewRowFault::Memory
+    }
+}
+
+impl<T: Drop> From<AllocFailed<T>> for NewRowFault {
+    ghost from_gives = { λ _ fault. fault ≡ faults.Memory };
+
+    fn from(_: AllocFailed<T>) -> Self {
+        NewRowFault::Memory
+    }
+}
+
+impl From<EvalFault> for NewRowFault {
+    ghost use Rattle.mg_rows.specs.Faults.{of_value};
+
+    ghost from_gives = { λ lower fault. fault ≡ of_value lower };
+
+    fn from(lower: EvalFault) -> Self {
+        match lower {
+            EvalFault::Arithmetic => NewRowFault::Arithmetic,
+            EvalFault::Memory => NewRowFault::Memory,
+        }
+    }
+}
+
+impl fmt::Display for NewRowFault {
+    fn fmt<W: fmt::Write>(&self, f: &mut fmt::Formatter<W>) -> fmt::Result {
+        match self {
+            NewRowFault::Arithmetic => write!(f, "ARITHMETIC"),
+            NewRowFault::NullNotAllowed => write!(f, "NULL NOT ALLOWED"),
+            NewRowFault::TextTooLong { len, most } => {
+                write!(f, "TEXT TOO LONG {len} LIMIT {most}")
+            }
+            NewRowFault::Memory => write!(f, "OUT OF MEMORY"),
+        }
+    }
+}
