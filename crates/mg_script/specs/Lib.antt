@@ -1,2 +1,4 @@
 pub mod Lines
 pub mod Spelling
+pub mod Texts
+pub mod Transcript

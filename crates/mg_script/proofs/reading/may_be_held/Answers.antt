@@ -6,11 +6,12 @@ use Rattle.mg_script.proofs.ReadingLemmas.{faulty_held}
 use Rattle.mg_script.proofs.reading.may_be_held.Goals as goal
 
 pub returns-in-Ok : goal.returns-in-Ok
-returns-in-Ok c =
-    (λ takes s parses.
-    ap takes_steps (c.texts_are_one_statement.ensures c.args.text.now s (plain_of c.in-Ok.statement) parses c.in-Ok.ensures)
-    ∙ (sym c.is_in_steps.ensures ∙ takes),
-    λ held. c.is_in_steps.ensures ∙ held (plain_of c.in-Ok.statement) c.in-Ok.ensures)
+returns-in-Ok c = (
+  λ takes s parses.
+      ap takes_steps (c.texts_are_one_statement.ensures c.args.text.now s (plain_of c.in-Ok.statement) parses c.in-Ok.ensures)
+      ∙ (sym c.is_in_steps.ensures ∙ takes),
+  λ held. c.is_in_steps.ensures ∙ held (plain_of c.in-Ok.statement) c.in-Ok.ensures,
+)
 
 pub returns-in-Err-Syntax : goal.returns-in-Err-Syntax
 returns-in-Err-Syntax c =
