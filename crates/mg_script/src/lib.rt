@@ -15,6 +15,7 @@
 #![tactic(auto)]
 
 mod answer;
+mod laws;
 mod line;
 mod number;
 mod putting;
@@ -25,6 +26,7 @@ mod script;
 mod splitting;
 
 pub use answer::answer_text;
+pub use laws::lines_say_one_thing;
 pub use line::{Line, LineKind, MOST_STEPS, SESSIONS, Session};
 pub use reply::Reply;
 pub use script::{Script, read_script};
