@@ -1,0 +1,4 @@
+pub mod FormLemmas
+pub mod PuttingLemmas
+pub mod ReadingLemmas
+pub mod SplittingLemmas

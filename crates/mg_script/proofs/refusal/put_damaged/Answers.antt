@@ -1,0 +1,18 @@
+use Rattle.std.proofs.Common.{◌≡◌, ℕ, List, ◌++◌}
+use Rattle.std.specs.Prelude.{codes, decimal}
+use Rattle.mg_script.specs.Texts.{field_word, refusal_text}
+use Rattle.mg_model.specs.declared.refusal.Refusal.TheVariants.{Damaged}
+use Rattle.mg_script.proofs.PuttingLemmas.{damaged_put, on_ok}
+use Rattle.mg_script.proofs.refusal.put_damaged.Goals as goal
+
+pub returns-clause-ok : goal.returns-clause-ok
+returns-clause-ok c =
+    on_ok c.put_count-2.result
+    (c.put_count-2.new.out.items ≡ c.put_count.new.out.items ++ (codes " WANTED " ++ decimal c.args.wanted))
+    (c.put_count-2.new.out.items
+    ≡ c.args.out.now.items ++ refusal_text (Damaged c.args.page c.args.field c.args.found c.args.wanted))
+    (damaged_put c.args.out.now.items c.put_named.new.out.items c.put_words.new.out.items c.put_count.new.out.items
+    c.put_count-2.new.out.items (codes "DAMAGED PAGE ") (decimal c.args.page.0) (codes " ") c.field_word.result.now
+    (field_word c.args.field) (codes " FOUND ") (decimal c.args.found) (codes " WANTED ") (decimal c.args.wanted)
+    c.field_word.ensures c.in_ok-put_named.ensures.ok c.in_ok-put_words.ensures.ok c.in_ok-put_count.ensures.ok)
+    c.put_count-2.ensures.ok

@@ -1,0 +1,5 @@
+pub mod Laws
+pub mod Lines
+pub mod Spelling
+pub mod Texts
+pub mod Transcript
