@@ -50,3 +50,5 @@ pub use walk::{newest, visible};
 
 #[cfg(test)]
 mod tests;
+#[cfg(test)]
+mod writing_tests;
