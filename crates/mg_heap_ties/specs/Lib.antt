@@ -4,3 +4,4 @@ pub mod LinkTies
 pub mod RoomTies
 pub mod CellTies
 pub mod SpotTies
+pub mod GivenTies

@@ -171,40 +171,55 @@ module _ (form : Form) (size : ℕ) (state : ℕ → TxState) (view : Pages) (la
   unfolding pointer_checks
   pointer_four n k wanted = kind_of (view n) n 4 its.stand.table.pointer.0 k _ wanted.fields
 
-  pub last_may : MayBeLast size view (slice_index pointers (length pointers - 1))
-  last_may = record {
+  pub pointer_may : (n : ℕ) → Has pointers n → MayBeLast size view n
+  pointer_may n there = record {
     below = found.1.below;
     used = found.1.used;
     kind = four;
     no_inventory = λ region same. at region same (sound.inventory region
-        (subst (λ (n : ℕ). n < GREATEST_LIMIT) (sym same) found.1.below));
+        (subst (λ (k : ℕ). k < GREATEST_LIMIT) (sym same) found.1.below));
   }
     where
-      there : Has pointers (slice_index pointers (length pointers - 1))
-      there = subst (Has pointers) (sym last_same) (subst (λ (ns : List ℕ). Has ns split.last)
-          (sym split.are) (has_back split.front (split.last ∷ []) split.last (inl refl)))
+      found : (k : ℕ) × IsTablePointer size view its.stand.table.pointer.0 k n
+      found = pointer_at n there
 
-      found : (k : ℕ) × IsTablePointer size view its.stand.table.pointer.0 k
-          (slice_index pointers (length pointers - 1))
-      found = pointer_at (slice_index pointers (length pointers - 1)) there
+      four : byte (view n) 0 ≡ 4
+      four = pointer_four n found.0 found.1
 
-      four : byte (view (slice_index pointers (length pointers - 1))) 0 ≡ 4
-      four = pointer_four (slice_index pointers (length pointers - 1)) found.0 found.1
-
-      at : (region : ℕ) → inventory_page size region ≡ slice_index pointers (length pointers - 1)
+      at : (region : ℕ) → inventory_page size region ≡ n
           → HasRegion size view (inventory_page size region) region → ⊥
       at region same (inl empty) =
           let zero_ : byte (view (inventory_page size region)) 0 ≡ 0 =
           ap (λ (page : List ℕ). byte page 0) empty ∙ byte_blank size in
           let also : byte (view (inventory_page size region)) 0 ≡ 4 =
-          ap (λ (n : ℕ). byte (view n) 0) same ∙ four in omega (arith, zero_, also)
+          ap (λ (k : ℕ). byte (view k) 0) same ∙ four in omega (arith, zero_, also)
       at region same (inr wanted) =
           let two : byte (view (inventory_page size region)) 0 ≡ 2 =
           kind_of (view (inventory_page size region)) (inventory_page size region) 2 0 region []
           (all_passes (pip_checks (view (inventory_page size region)) (inventory_page size region) region)
           wanted.fields) in
           let also : byte (view (inventory_page size region)) 0 ≡ 4 =
-          ap (λ (n : ℕ). byte (view n) 0) same ∙ four in omega (arith, two, also)
+          ap (λ (k : ℕ). byte (view k) 0) same ∙ four in omega (arith, two, also)
+
+  -- the last of them, with those before it
+  pub last_front : List ℕ
+  last_front = split.front
+
+  pub last_are : pointers ≡ last_front ++ (slice_index pointers (length pointers - 1) ∷ [])
+  unfolding last_front split
+  last_are = split.are ∙ ap (λ (q : ℕ). split.front ++ (q ∷ [])) (sym last_same)
+
+  pub last_there : Has pointers (slice_index pointers (length pointers - 1))
+  last_there = subst (λ (ns : List ℕ). Has ns (slice_index pointers (length pointers - 1))) (sym last_are)
+      (has_back last_front (slice_index pointers (length pointers - 1) ∷ [])
+      (slice_index pointers (length pointers - 1)) (inl refl))
+
+  pub pointers_once : IsOnce pointers
+  pointers_once = subst IsOnce same_pointers (once_front its.stand.pointers its.stand.data_pages
+      (once_front (its.stand.pointers ++ its.stand.data_pages) (tree_pages its.stand.trees) stand_once))
+
+  pub last_may : MayBeLast size view (slice_index pointers (length pointers - 1))
+  last_may = pointer_may (slice_index pointers (length pointers - 1)) last_there
 
 -- ---- the growth
 

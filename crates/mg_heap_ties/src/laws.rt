@@ -1,5 +1,6 @@
 //! What the heap gives to the laws on overlays. Each function's contract is the law.
 
+ghost use Rattle.mg_heap_ties.specs.GivenTies.{GivenPagesAre};
 ghost use Rattle.mg_heap_ties.specs.SpotTies.{SpotRowKeeps};
 ghost use Rattle.mg_image.specs.Form.{packed_form};
 
@@ -10,6 +11,13 @@ use mg_image::one_reading;
 /// A page that is given to a table keeps every overlay.
 pub fn given_pages_keep<D: Disk, L: Links>()
     ensures { SpotRowKeeps packed_form D L D.meaning }
+{
+    one_reading();
+}
+
+/// A page that was given to a table is the table's in each layout afterwards.
+pub fn given_pages_are<D: Disk, L: Links>()
+    ensures { GivenPagesAre packed_form D L D.meaning }
 {
     one_reading();
 }

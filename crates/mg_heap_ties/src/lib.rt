@@ -4,7 +4,7 @@
 //! (`GrowthTies`), on a new pointer page too (`LinkTies`: the page is linked while it is empty, in a view
 //! that no disk and no pool has). A page that is given to a table is such a growth, or none, and the table
 //! ends in every layout where its pages say (`RoomTies`); a batch with nothing else keeps every overlay
-//! (`SpotRowKeeps`). And a cell that is put or freed changes a data page (`CellTies`).
+//! (`SpotRowKeeps`), and the page is the table's then (`GivenPagesAre`). And a cell that is put or freed changes a data page (`CellTies`).
 //!
 //! All that is asked of the pages follows from the clauses of the calls and from a sound pool.
 //!
@@ -18,4 +18,4 @@
 
 mod laws;
 
-pub use laws::given_pages_keep;
+pub use laws::{given_pages_are, given_pages_keep};

@@ -1,0 +1,10 @@
+pub mod Rows
+pub mod PutTies
+pub mod Newest
+pub mod SpotTies
+pub mod PushTies
+pub mod FirstTies
+pub mod FreeTies
+pub mod PlaceTies
+pub mod MoveTies
+pub mod BackTies

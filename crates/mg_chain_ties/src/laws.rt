@@ -1,0 +1,55 @@
+//! What version chains give to the laws on overlays. Each function's contract is the law.
+
+ghost use Rattle.mg_chain_ties.specs.BackTies.{BackRowKeeps};
+ghost use Rattle.mg_chain_ties.specs.FirstTies.{FirstRowKeeps};
+ghost use Rattle.mg_chain_ties.specs.MoveTies.{MoveRowKeeps};
+ghost use Rattle.mg_chain_ties.specs.PlaceTies.{PlaceRowKeeps};
+ghost use Rattle.mg_chain_ties.specs.PushTies.{PushRowKeeps};
+ghost use Rattle.mg_chain_ties.specs.SpotTies.{SpotRowGives};
+ghost use Rattle.mg_image.specs.Form.{packed_form};
+
+use mg_base::Disk;
+use mg_careful::Links;
+use mg_image::one_reading;
+
+/// A pushed version keeps every overlay.
+pub fn pushes_keep<D: Disk, L: Links>()
+    ensures { PushRowKeeps packed_form D L D.meaning }
+{
+    one_reading();
+}
+
+/// A record's first version keeps every overlay.
+pub fn first_versions_keep<D: Disk, L: Links>()
+    ensures { FirstRowKeeps packed_form D L D.meaning }
+{
+    one_reading();
+}
+
+/// An own version that is replaced in its cell keeps every overlay.
+pub fn replacements_keep<D: Disk, L: Links>()
+    ensures { PlaceRowKeeps packed_form D L D.meaning }
+{
+    one_reading();
+}
+
+/// An own version that moves to another cell keeps every overlay.
+pub fn moves_keep<D: Disk, L: Links>()
+    ensures { MoveRowKeeps packed_form D L D.meaning }
+{
+    one_reading();
+}
+
+/// A version that is taken back keeps every overlay.
+pub fn taking_back_keeps<D: Disk, L: Links>()
+    ensures { BackRowKeeps packed_form D L D.meaning }
+{
+    one_reading();
+}
+
+/// A place that is given keeps every overlay, and is free and the table's.
+pub fn given_places_keep<D: Disk, L: Links>()
+    ensures { SpotRowGives packed_form D L D.meaning }
+{
+    one_reading();
+}

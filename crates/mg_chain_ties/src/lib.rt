@@ -1,0 +1,27 @@
+//! What version chains give to the laws on overlays.
+//!
+//! Owns: the tie between `mg_chain` and those laws, one law for each row that a call fills into a batch of
+//! its own, from the call's clause and the cache's change to every overlay:
+//!
+//! - `spot` (`SpotRowGives`), after which the place is what `first` asks for;
+//! - `push` (`PushRowKeeps`) and `first` (`FirstRowKeeps`), whose cell may have given the table a page, on
+//!   a new pointer page too, in the same batch;
+//! - `replace_own`, in its cell (`PlaceRowKeeps`) or moved to another one (`MoveRowKeeps`);
+//! - `back_out` (`BackRowKeeps`).
+//!
+//! Asked is what a statement knows of the pool before the batch: whose table the record's page is, and that
+//! the version may be written there. What the pages are comes from the clauses alone.
+//!
+//! All stands in `specs/`. There is no program here: each function's contract is a law.
+//!
+//! Invariant: none, it keeps no state.
+//! Below: `mg_chain`, `mg_heap_ties`. Above: the engine.
+//! Not here: collection, and several rows in one batch.
+#![tactic(auto)]
+
+mod laws;
+
+pub use laws::{
+    first_versions_keep, given_places_keep, moves_keep, pushes_keep, replacements_keep,
+    taking_back_keeps,
+};
