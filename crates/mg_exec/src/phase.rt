@@ -1,0 +1,61 @@
+//! Where a statement stands.
+
+use mg_calls::{Walk, Writes};
+use mg_model::Table;
+use mg_plan::Bound;
+use mg_rows::{Outcome, StatementFault};
+use mg_value::{Name, Row};
+
+/// What a step of a statement came to.
+#[derive(Debug, Drop)]
+pub enum Step {
+    /// There is more to do.
+    More,
+    /// The statement is at its end.
+    Done(Outcome),
+}
+
+/// An INSERT that has not computed its row.
+#[derive(Drop)]
+pub struct Inserting {
+    pub table: Table,
+    pub bound: Bound,
+}
+
+/// A SELECT that reads.
+#[derive(Drop)]
+pub struct Reading<P> {
+    pub walk: Walk<P>,
+    pub bound: Bound,
+    /// The rows that passed the filter so far, in the order in which they were visited.
+    pub kept: Vec<Row>,
+}
+
+/// A statement that has set its mark.
+#[derive(Drop)]
+pub struct Changing {
+    pub writes: Writes,
+    /// How many writes it makes in all.
+    pub count: u64,
+}
+
+/// Where a statement stands.
+#[derive(Drop)]
+pub enum Phase<P> {
+    /// It is to set a savepoint.
+    Saving(Name),
+    /// It is to go back to a savepoint.
+    Returning(Name),
+    Inserting(Inserting),
+    Reading(Reading<P>),
+    Changing(Changing),
+    /// It is at its end.
+    Ended,
+}
+
+/// Where a statement stands after a step, and what the step is answered.
+#[derive(Drop)]
+pub struct Turn<P> {
+    pub phase: Phase<P>,
+    pub answer: Result<Step, StatementFault>,
+}
