@@ -34,7 +34,8 @@ pub use adding::add;
 pub use changing::{free, least_slot, place};
 pub use reading::cell;
 pub use room::page_with_room;
-pub use walk::next;
+pub use table::{TablePages, table_pages};
+pub use walk::{is_primary, next, table_data_page};
 
 #[cfg(test)]
 mod tests;
