@@ -19,6 +19,7 @@ mod laws;
 mod states;
 mod walk;
 
+pub use cells::{newest_link, version_at};
 pub use laws::{
     a_transaction_sees_its_view, bases_follow_the_machine, versions_are_those_of_every_reading,
 };
