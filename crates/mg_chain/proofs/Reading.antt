@@ -1,14 +1,21 @@
 -- Cells as they are read, and what is found of every reading.
-use Rattle.std.specs.Prelude.{◌≡◌, ℕ, true, false, List, [], ◌∷◌, None, Some, refl}
-use Rattle.std.proofs.Common.{sym, ◌∙◌, ap, subst}
+use Rattle.std.specs.Prelude.{◌≡◌, ◌≤◌, ◌==◌, ℕ, Bool, true, false, List, [], ◌∷◌, length, drop, cond, None, Some, refl}
+use Rattle.std.proofs.Common.{sym, ◌∙◌, ap, subst, arith}
+use Rattle.std.proofs.lemmas.List.{length-drop}
+use Rattle.mg_base.specs.Fields.{byte}
 use Rattle.mg_version.specs.declared.cell.Cell.{Cell}
 use Rattle.mg_version.specs.declared.cell.Cell.TheVariants as cells
 use Rattle.mg_version.specs.declared.cell.Link.{Link}
 use Rattle.mg_version.specs.declared.cell.Version.{Version}
 use Rattle.mg_version.specs.Cells.{IsSpelling, IsCell, cell_bytes}
 use Rattle.mg_version.specs.CellLaws.{cell_again}
+use Rattle.mg_version.specs.CellReading.{body_at, link_in, version_in}
+use Rattle.mg_version.specs.declared.cell.TheConstants.{ANCHOR, NEWEST_AT}
+use Rattle.mg_slots.specs.declared.page.TheConstants.{GREATEST_SIZE}
+use Rattle.mg_image.specs.declared.entry.TheConstants.{PRIMARY_VERSION}
 use Rattle.mg_image.specs.Records.{Cells, Chain, ended as chain_ended, goes, cell_spelled, writer}
 use Rattle.mg_image.specs.declared.entry.Entry.{Entry}
+use Rattle.mg_chain.specs.Refusals.{HasShortBody}
 use Rattle.mg_chain.specs.Chains.{ended, here, behind, first_taken, FindsOfReadings}
 
 -- bytes that spell a cell are read as that cell
@@ -19,6 +26,21 @@ spelled_is b cell spells = rw (spells.spelled) (at cell spells.is_cell)
     at : (cell : Cell) → IsCell cell → cell ≡ cell_spelled (cell_bytes cell)
     at (cells.Anchor link) lawful = sym (cell_again (cells.Anchor link) lawful)
     at (cells.Version v) lawful = sym (cell_again (cells.Version v) lawful)
+
+-- bytes of a page spell no longer body
+pub short_spelled : (b : List ℕ) (cell : Cell) → IsSpelling b cell → length b ≤ GREATEST_SIZE
+    → HasShortBody cell
+short_spelled b cell spells short =
+    subst HasShortBody (sym (spelled_is b cell spells)) (at (byte b 0 == PRIMARY_VERSION) (byte b 0 == ANCHOR))
+  where
+    rest : (k : ℕ) → length (drop k b) ≤ GREATEST_SIZE
+    rest k = omega (arith, length-drop k b, short)
+
+    at : (p a : Bool) → HasShortBody (cond p (cells.Version (record (version_in b) { primary = true }))
+        (cond a (cells.Anchor (link_in b NEWEST_AT)) (cells.Version (version_in b))))
+    at true a = rest (body_at b)
+    at false true = tt
+    at false false = rest (body_at b)
 
 -- what a chain from a link on begins with
 record BeginsWith (h : Cells) (l : Link) (es : List Entry) : Type 0 where

@@ -12,6 +12,7 @@ use Rattle.mg_pool.specs.declared.batch.BatchPage.{BatchPage}
 use Rattle.mg_pool.specs.declared.fault.PoolFault.TheVariants as pool_faults
 use Rattle.mg_pool.specs.declared.pool.Pool.{Pool}
 use Rattle.mg_slots.specs.DataPage.{cell_of}
+use Rattle.mg_slots.specs.declared.page.TheConstants.{GREATEST_SIZE}
 use Rattle.mg_space.specs.declared.fault.SpaceFault.{SpaceFault}
 use Rattle.mg_space.specs.declared.fault.SpaceFault.TheVariants as faults
 use Rattle.mg_version.specs.Cells.{RefusesCell}
@@ -46,6 +47,11 @@ RefusesCellAt m store pages view at (faults.Damaged it) =
     ⊎ ((bytes : List ℕ) × (cell_of (view at.page.0) at.slot ≡ Some bytes)
     × IsCellDamage at.page.0 bytes it)
 RefusesCellAt m store pages view at (faults.Pool fault) = Unit {0}
+
+-- the body of a cell's version is no longer than a page
+abbrev pub HasShortBody : Cell → Type 0
+HasShortBody (cells.Anchor link) = Unit {0}
+HasShortBody (cells.Version v) = length v.body ≤ GREATEST_SIZE
 
 -- the transaction of a cell, 2^32 - 1 where it is no version
 abbrev pub writer_in : Option Cell → ℕ

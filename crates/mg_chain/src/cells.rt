@@ -1,6 +1,6 @@
 //! Cells by their places, and versions by their links.
 
-ghost use Rattle.std.specs.Prelude.{◌≡◌, ◌≤◌, ◌<◌, Some, IfErr, IfOk, MatchResult, length};
+ghost use Rattle.std.specs.Prelude.{◌≡◌, ◌≤◌, ◌<◌, Some, IfErr, IfOk, IfSome, MatchResult, length};
 ghost use Rattle.mg_base.specs.Image.{Image};
 ghost use Rattle.mg_base.specs.declared.damage.Field.TheVariants.{Target};
 ghost use Rattle.mg_heap.specs.Reading.{ReadsData};
@@ -11,7 +11,7 @@ ghost use Rattle.mg_slots.specs.declared.page.TheConstants.{GREATEST_SIZE};
 ghost use Rattle.mg_space.specs.Taking.{IsGeometry};
 ghost use Rattle.mg_space.specs.View.{AreWhole, KeepsStore, Tells, pool_answer, viewed};
 ghost use Rattle.mg_chain.specs.Chains.{Meets, newest_link as link_of};
-ghost use Rattle.mg_chain.specs.Refusals.{IsOfOther, RefusesBytes, RefusesCellAt, RefusesVersion, damage, writer_in as writer_of};
+ghost use Rattle.mg_chain.specs.Refusals.{HasShortBody, IsOfOther, RefusesBytes, RefusesCellAt, RefusesVersion, damage, writer_in as writer_of};
 
 use crate::damage::{cell_damage, link_damage, target_damage};
 use mg_base::{Damaged, Disk, PageNo, RecId};
@@ -24,6 +24,7 @@ use std::alloc::Global;
 fn cell_of_bytes(alloc: Global, page: PageNo, bytes: &[u8]) -> Result<Cell, SpaceFault>
     requires { length bytes.now ≤ GREATEST_SIZE }
     ensures spelled { IfOk result (λ cell. cell ≡ cell_spelled bytes.now) }
+    ensures short { IfOk result HasShortBody }
     ensures refusal { IfErr result (RefusesBytes page.0 bytes.now) }
 {
     match read_cell(alloc, bytes) {
@@ -48,6 +49,7 @@ pub(crate) fn cell_at<D: Disk>(
     ensures keeps { KeepsStore D.meaning store.old store.new }
     ensures fault { TellsFault D.meaning store.old store.new (pool_answer result) }
     ensures own { ReadsData result }
+    ensures short { IfOk result (λ found. IfSome found HasShortBody) }
     ensures gives { (image : Image) → Tells D.meaning store.old.disk image → MatchResult result
         (λ found. found ≡ cells_of (viewed store.old image batch.now) at)
         (RefusesCellAt D.meaning store.new batch.now.pages (viewed store.old image batch.now) at) }
@@ -59,7 +61,7 @@ pub(crate) fn cell_at<D: Disk>(
 }
 
 /// Where the newest version of a record is.
-pub(crate) fn newest_link<D: Disk>(
+pub fn newest_link<D: Disk>(
     store: &mut Store<D>,
     batch: &Batch,
     rec: RecId,
@@ -99,7 +101,7 @@ fn link_from(rec: RecId, cell: &Option<Cell>) -> Option<Link>
 }
 
 /// The version that a link meets. `holder` is the page where the link stands.
-pub(crate) fn version_at<D: Disk>(
+pub fn version_at<D: Disk>(
     store: &mut Store<D>,
     batch: &Batch,
     holder: PageNo,
@@ -113,6 +115,7 @@ pub(crate) fn version_at<D: Disk>(
     ensures fault { TellsFault D.meaning store.old store.new (pool_answer result) }
     ensures own { ReadsData result }
     ensures below { IfOk result (λ version. link.rec.page.0 < store.old.geometry.limit) }
+    ensures short { IfOk result (λ version. length version.body ≤ GREATEST_SIZE) }
     ensures gives { (image : Image) → Tells D.meaning store.old.disk image → MatchResult result
         (Meets (cells_of (viewed store.old image batch.now)) link)
         (RefusesVersion D.meaning store.new batch.now.pages store.old.geometry.limit

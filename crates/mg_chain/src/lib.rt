@@ -36,6 +36,7 @@ mod taking_out;
 mod turning;
 mod walk;
 
+pub use cells::{newest_link, version_at};
 pub use laws::{
     a_transaction_sees_its_view, bases_follow_the_machine, cells_are_changed,
     newest_versions_are_changed, versions_are_added, versions_are_those_of_every_reading,

@@ -41,7 +41,8 @@ pub use laws::{tables_of_layouts_are_walked, walks_of_layouts_meet_no_damage};
 pub use reach::{owner_of, pointers_to};
 pub use reading::cell;
 pub use room::page_with_room;
-pub use walk::next;
+pub use table::{TablePages, table_pages};
+pub use walk::{is_primary, next, table_data_page};
 
 #[cfg(test)]
 mod tests;

@@ -19,9 +19,9 @@ use mg_space::{SpaceFault, Store, page_of};
 
 /// The pages of a table, in the order of their places.
 #[derive(Debug, Drop)]
-pub(crate) struct TablePages {
-    pub(crate) pointers: Vec<u32>,
-    pub(crate) data_pages: Vec<u32>,
+pub struct TablePages {
+    pub pointers: Vec<u32>,
+    pub data_pages: Vec<u32>,
 }
 
 /// Follows the chain of pointer pages of a table from the first one on. Page 0 stands for none.
@@ -31,7 +31,7 @@ pub(crate) struct TablePages {
 /// `Damaged` at the first pointer page that is missing, or not as wanted at its place in the chain,
 /// or that leads past the last page that a database may have, or back to one of the chain (`Link`).
 /// `Pool` with `DiskRead`, `Offline` or `Memory`.
-pub(crate) fn table_pages<D: Disk>(
+pub fn table_pages<D: Disk>(
     store: &mut Store<D>,
     batch: &Batch,
     owner: PageNo,

@@ -194,7 +194,7 @@ fn first_from<D: Disk>(
 ///
 /// `Damaged` at `Presence` where the page is missing, else at the first field that differs. `Pool`
 /// with `DiskRead`, `Offline` or `Memory`.
-pub(crate) fn table_data_page<D: Disk>(
+pub fn table_data_page<D: Disk>(
     store: &mut Store<D>,
     batch: &Batch,
     owner: PageNo,
@@ -245,7 +245,7 @@ fn first_record(b: &[u8], page: PageNo, from: u32) -> Option<RecId>
 }
 
 /// Tells whether a slot is the primary slot of a record.
-fn is_primary(b: &[u8], slot: u16) -> bool
+pub fn is_primary(b: &[u8], slot: u16) -> bool
     requires { IsDataPage b.now }
     ensures { result ≡ is_primary_of (cell_of b.now slot) }
 {

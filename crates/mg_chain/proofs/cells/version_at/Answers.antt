@@ -1,10 +1,12 @@
-use Rattle.std.proofs.Common.{ap}
+use Rattle.std.proofs.Common.{Option, ap, subst}
+use Rattle.std.specs.Prelude.{IfSome}
 use Rattle.mg_base.specs.declared.geometry.Geometry.{Geometry}
 use Rattle.mg_image.specs.Records.{cells_of}
 use Rattle.mg_space.specs.View.{viewed}
 use Rattle.mg_space.specs.declared.fault.SpaceFault.TheVariants as faults
 use Rattle.mg_chain.specs.Chains.{Meets}
-use Rattle.mg_chain.specs.Refusals.{RefusesVersion}
+use Rattle.mg_chain.specs.Refusals.{HasShortBody, RefusesVersion}
+use Rattle.mg_version.specs.declared.cell.Cell.{Cell}
 use Rattle.mg_chain.proofs.Steps.{cell_refuses, handed_on, past_refuses, target_refuses}
 use Rattle.mg_chain.proofs.cells.version_at.Goals as goal
 
@@ -41,3 +43,7 @@ returns-in_err-version_of-clause-gives g c = λ image tells.
     c.args.holder.0 c.args.link c.in_ok-cell_at.field-0 c.in_err-version_of.field-0.0
     (c.in_ok-cell_at.ensures.gives image tells) c.in_err-version_of.ensures.damaged.0
     c.in_err-version_of.ensures.damaged.1)
+
+pub returns-clause-short : goal.returns-clause-short
+returns-clause-short g c = subst (λ (found : Option Cell). IfSome found HasShortBody)
+    c.in_ok-version_of.ensures.ok.0 c.in_ok-cell_at.ensures.short

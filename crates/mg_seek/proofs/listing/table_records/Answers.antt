@@ -1,0 +1,31 @@
+use Rattle.std.proofs.Common.{◌≡◌, ℕ}
+use Rattle.std.specs.Prelude.{MatchResult}
+use Rattle.mg_heap.specs.Walk.{RefusesWalk, RefusesWalkOf}
+use Rattle.mg_image.specs.Form.{Pages}
+use Rattle.mg_space.specs.View.{viewed}
+use Rattle.mg_seek.specs.TableRecords.{AreTableRecords, records_in}
+use Rattle.mg_seek.proofs.RecordLemmas.{as_kept}
+use Rattle.mg_seek.proofs.Steps.{handed_on}
+use Rattle.mg_seek.proofs.TableLemmas.{table_broken, table_listed}
+use Rattle.mg_seek.proofs.listing.table_records.Goals as goal
+
+pub returns-in_err-table-clause-gives : goal.returns-in_err-table-clause-gives
+returns-in_err-table-clause-gives g c = λ image tells.
+    handed_on c.from_residual.result c.in_err-table.field-0.0
+    (λ records. AreTableRecords (viewed c.args.store.now image c.args.batch.now) c.args.owner.0 records.items)
+    (RefusesWalk g.D.Disk.meaning c.table_pages.new.store c.args.batch.now.pages (viewed c.args.store.now image c.args.batch.now) c.args.owner.0)
+    c.from_residual.ensures.0 c.from_residual.ensures.1
+    (table_broken g.D.Disk.meaning c.table_pages.new.store c.args.batch.now.pages (viewed c.args.store.now image c.args.batch.now) c.args.owner.0
+    c.in_err-table.field-0.0 (c.in_err-table.ensures.finds image tells))
+
+pub returns-clause-gives : goal.returns-clause-gives
+returns-clause-gives g c = λ image tells.
+    table_listed g.D.Disk.meaning c.page_records.new.store c.args.batch.now.pages (viewed c.args.store.now image c.args.batch.now) c.args.owner.0
+    c.in_ok-table.table.pointers.items c.in_ok-table.table.data_pages.items (λ records. records.items)
+    c.page_records.result (c.in_ok-table.ensures.finds image tells)
+    (as_kept g.D.Disk.meaning c.args.store.now c.table_pages.new.store image c.args.batch.now
+    (λ (limit : ℕ). λ (view : Pages). MatchResult c.page_records.result
+    (λ records. records.items ≡ records_in view c.in_ok-table.table.data_pages.items)
+    (RefusesWalkOf g.D.Disk.meaning c.page_records.new.store c.args.batch.now.pages view c.args.owner.0
+    c.in_ok-table.table.data_pages.items)) c.in_ok-table.ensures.keeps tells
+    (rw c.deref.ensures.value at (c.page_records.ensures.gives image)))

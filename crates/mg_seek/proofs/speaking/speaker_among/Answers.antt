@@ -1,0 +1,68 @@
+use Rattle.std.proofs.Common.{arith, ◌≡◌, ◌∙◌, ℕ, List, Some, None, Option, inl, inr, refl, subst, sym}
+use Rattle.std.specs.Prelude.{◌↔◌, IsTrue}
+use Rattle.std.proofs.lemmas.Bool.{false≢true}
+use Rattle.mg_base.specs.declared.numbers.RecId.{RecId}
+use Rattle.mg_image.specs.Form.{Pages}
+use Rattle.mg_space.specs.View.{viewed}
+use Rattle.mg_space.specs.ViewLaws.{keeps_on}
+use Rattle.mg_seek.specs.Refusals.{RefusesRecord}
+use Rattle.mg_seek.specs.Speaking.{RefusesRecords, Speaks, SpeaksAmong}
+use Rattle.mg_seek.specs.TableRecords.{IsAmong}
+use Rattle.mg_seek.specs.Versions.{wants}
+use Rattle.mg_seek.specs.declared.whose.Wanted.TheVariants.{Living}
+use Rattle.mg_seek.proofs.RecordLemmas.{as_kept}
+use Rattle.mg_seek.proofs.Steps.{handed_on}
+use Rattle.mg_seek.proofs.TableLemmas.{none_left, passed_over, record_refuses}
+use Rattle.mg_seek.proofs.speaking.speaker_among.Goals as goal
+
+pub returns-in_err-does-clause-gives : goal.returns-in_err-does-clause-gives
+returns-in_err-does-clause-gives g c = λ image tells.
+    handed_on c.from_residual.result c.in_err-does.field-0.0
+    (SpeaksAmong (g.S.States.state_of c.args.states.now) c.args.live.now (viewed c.args.store.now image c.args.batch.now) c.args.table.now c.args.key.now c.args.records.now)
+    (RefusesRecords g.D.Disk.meaning c.speaks.new.store c.args.batch.now.pages c.args.store.now.geometry.limit (viewed c.args.store.now image c.args.batch.now) (wants (g.S.States.state_of c.args.states.now) c.args.live.now Living) c.args.table.now c.args.records.now)
+    c.from_residual.ensures.0 c.from_residual.ensures.1
+    (record_refuses g.D.Disk.meaning c.speaks.new.store c.args.batch.now.pages c.args.store.now.geometry.limit (viewed c.args.store.now image c.args.batch.now) (wants (g.S.States.state_of c.args.states.now) c.args.live.now Living) c.args.table.now c.args.records.now
+    c.in-Some.rec.now c.in_err-does.field-0.0
+    (c.loop-rec.invariant.among c.in-Some.rec.now (subst (λ (recs : List RecId). IsAmong recs c.in-Some.rec.now)
+    (sym c.in-Some.ensures.cases.0) (inl refl)))
+    (as_kept g.D.Disk.meaning c.args.store.now c.loop-rec.store image c.args.batch.now
+    (λ (limit : ℕ). λ (view : Pages). RefusesRecord g.D.Disk.meaning c.speaks.new.store c.args.batch.now.pages limit view (wants (g.S.States.state_of c.args.states.now) c.args.live.now Living)
+    c.args.table.now c.in-Some.rec.now c.in_err-does.field-0.0) c.loop-rec.invariant.keeps tells
+    (c.in_err-does.ensures.gives image)))
+
+pub returns-then-does-clause-gives : goal.returns-then-does-clause-gives
+returns-then-does-clause-gives g c = λ image tells.
+    c.loop-rec.invariant.further image tells (Some c.in-Some.rec.now)
+    (subst (λ (recs : List RecId). SpeaksAmong (g.S.States.state_of c.args.states.now) c.args.live.now (viewed c.args.store.now image c.args.batch.now) c.args.table.now c.args.key.now recs
+    (Some c.in-Some.rec.now)) (sym c.in-Some.ensures.cases.0) (
+      inl refl,
+      (as_kept g.D.Disk.meaning c.args.store.now c.loop-rec.store image c.args.batch.now
+          (λ (limit : ℕ). λ (view : Pages). IsTrue c.in_ok-does.does ↔ Speaks (g.S.States.state_of c.args.states.now) c.args.live.now view
+          c.args.table.now c.args.key.now c.in-Some.rec.now) c.loop-rec.invariant.keeps tells
+          (c.in_ok-does.ensures.gives image)).0 c.if-does.true,
+    ))
+
+pub loop-rec-preserved : goal.loop-rec-preserved
+loop-rec-preserved g c = record {
+  keeps = keeps_on g.D.Disk.meaning g.met.D.Disk.counts_now c.args.store.now c.loop-rec.store
+      c.speaks.new.store c.loop-rec.invariant.keeps c.in_ok-does.ensures.keeps;
+  faults = c.in_ok-does.ensures.fault.2 ∙ c.loop-rec.invariant.faults;
+  among = λ x is. c.loop-rec.invariant.among x (subst (λ (recs : List RecId). IsAmong recs x)
+      (sym c.in-Some.ensures.cases.0) (inr is));
+  further = λ image tells found later. c.loop-rec.invariant.further image tells found
+      (subst (λ (recs : List RecId). SpeaksAmong (g.S.States.state_of c.args.states.now) c.args.live.now (viewed c.args.store.now image c.args.batch.now) c.args.table.now c.args.key.now
+      recs found) (sym c.in-Some.ensures.cases.0)
+      (passed_over (g.S.States.state_of c.args.states.now) c.args.live.now (viewed c.args.store.now image c.args.batch.now) c.args.table.now c.args.key.now c.in-Some.rec.now
+      c.in-Some.later.now found
+      (λ speaks. false≢true (sym c.if-does.false ∙
+      (as_kept g.D.Disk.meaning c.args.store.now c.loop-rec.store image c.args.batch.now
+      (λ (limit : ℕ). λ (view : Pages). IsTrue c.in_ok-does.does ↔ Speaks (g.S.States.state_of c.args.states.now) c.args.live.now view
+      c.args.table.now c.args.key.now c.in-Some.rec.now) c.loop-rec.invariant.keeps tells
+      (c.in_ok-does.ensures.gives image)).1 speaks)) later));
+}
+
+pub returns-clause-gives : goal.returns-clause-gives
+returns-clause-gives g c = λ image tells.
+    c.loop-rec.invariant.further image tells None
+    (subst (λ (recs : List RecId). SpeaksAmong (g.S.States.state_of c.args.states.now) c.args.live.now (viewed c.args.store.now image c.args.batch.now) c.args.table.now c.args.key.now recs
+    None) (sym (none_left c.loop-rec.rest.now (omega (arith, c.in_default.ensures.cases)))) tt)

@@ -1,0 +1,23 @@
+use Rattle.mg_space.specs.View.{viewed}
+use Rattle.mg_seek.specs.Refusals.{RefusesRecord}
+use Rattle.mg_seek.specs.Versions.{wants}
+use Rattle.mg_seek.specs.declared.whose.Wanted.TheVariants.{SeenBy}
+use Rattle.mg_seek.proofs.SeenLemmas.{adds_none, adds_row}
+use Rattle.mg_seek.proofs.Steps.{handed_on}
+use Rattle.mg_seek.proofs.tables.add_row.Goals as goal
+
+pub returns-in_err-row-clause-gives : goal.returns-in_err-row-clause-gives
+returns-in_err-row-clause-gives g c = λ image tells.
+    handed_on c.from_residual.result c.in_err-row.field-0.0 _
+    (RefusesRecord g.D.Disk.meaning c.row_in_view.new.store c.args.batch.now.pages c.args.store.now.geometry.limit (viewed c.args.store.now image c.args.batch.now) (wants (g.S.States.state_of c.args.states.now) c.args.live.now (SeenBy c.args.t)) c.args.table.now c.args.rec)
+    c.from_residual.ensures.0 c.from_residual.ensures.1 (c.in_err-row.ensures.gives image tells)
+
+pub returns-in_default-clause-gives : goal.returns-in_default-clause-gives
+returns-in_default-clause-gives g c = λ image tells. adds_none (g.S.States.state_of c.args.states.now) c.args.live.now c.args.t (viewed c.args.store.now image c.args.batch.now)
+    c.args.table.now c.args.rec c.in_ok-row.field-0 c.args.rows.now.items
+    (c.in_ok-row.ensures.gives image tells) c.in_default.is
+
+pub returns-clause-gives : goal.returns-clause-gives
+returns-clause-gives g c = λ image tells. adds_row (g.S.States.state_of c.args.states.now) c.args.live.now c.args.t (viewed c.args.store.now image c.args.batch.now)
+    c.args.table.now c.args.rec c.in_ok-row.field-0 c.in-Some.row c.args.rows.now.items
+    c.push.new.self.items (c.in_ok-row.ensures.gives image tells) c.in-Some.is c.in_ok-push.ensures.items

@@ -1,0 +1,10 @@
+pub mod Versions
+pub mod Rows
+pub mod Refusals
+pub mod Views
+pub mod TableRecords
+pub mod Speaking
+pub mod TableRows
+pub mod Readings
+pub mod Histories
+pub mod Walks
