@@ -55,18 +55,19 @@ pages_listed view ds place old all past whole = sym (append_nil old)
 
 pub page_broken : {D L : Type 0} (m : Meaning D) (store : Pool D L) (batch : List BatchPage)
     (pages : Pages) (owner place at : ℕ) (ds : List ℕ) (n : PageNo) (fault : SpaceFault)
-    → n.0 ≡ get_or ds place 0 → at ≡ place
+    → place < length ds → n.0 ≡ get_or ds place 0 → at ≡ place
     → RefusesTableData m store batch (pages n.0) owner at n fault
     → RefusesWalkOf m store batch pages owner ds fault
-page_broken m store batch pages owner place at ds n (faults.Full limit) is same refused = refused
-page_broken m store batch pages owner place at ds n (faults.Damaged damage) is same refused = record {
+page_broken m store batch pages owner place at ds n (faults.Full limit) inside is same refused = refused
+page_broken m store batch pages owner place at ds n (faults.Damaged damage) inside is same refused = record {
   place = place;
+  inside = inside;
   page = n;
   listed = sym is;
   refused = subst (λ (k : ℕ). RefusesTableData m store batch (pages n.0) owner k n (faults.Damaged damage))
       same refused;
 }
-page_broken m store batch pages owner place at ds n (faults.Pool fault) is same refused = tt
+page_broken m store batch pages owner place at ds n (faults.Pool fault) inside is same refused = tt
 
 pub table_broken : {D L : Type 0} (m : Meaning D) (store : Pool D L) (batch : List BatchPage)
     (pages : Pages) (owner : ℕ) (fault : SpaceFault) → RefusesTable m store batch pages owner fault

@@ -19,7 +19,7 @@ returns-in_err-add_page-clause-gives g c = λ image tells. handed_on c.from_resi
     c.from_residual.ensures.0 c.from_residual.ensures.1
     (page_broken g.D.Disk.meaning c.add_page.new.store c.args.batch.now.pages (viewed c.args.store.now image c.args.batch.now) c.args.owner.0 c.loop-place.place
     c.loop-place.place c.args.data_pages.now
-    (record { 0 = get_or c.args.data_pages.now c.loop-place.place 0 }) c.in_err-add_page.field-0.0 refl refl
+    (record { 0 = get_or c.args.data_pages.now c.loop-place.place 0 }) c.in_err-add_page.field-0.0 (omega arith) refl refl
     (as_kept g.D.Disk.meaning c.args.store.now c.loop-place.store image c.args.batch.now
     (λ (limit : ℕ). λ (pages : Pages). RefusesTableData g.D.Disk.meaning c.add_page.new.store c.args.batch.now.pages
     (pages (get_or c.args.data_pages.now c.loop-place.place 0)) c.args.owner.0 c.loop-place.place
