@@ -1,9 +1,7 @@
 -- A table that grows within a batch: the pool is sound with its table grown, and what an image has to be
 -- that has a set of the batch's pages is kept.
-use Rattle.std.proofs.Common.{◌≡◌, ◌≢◌, ◌⊎◌, inl, inr, ap, sym, subst, ◌∙◌, refl, arith, ℕ, ◌+◌, Bool, true, false, List, [], ◌∷◌, ◌++◌, length, Option, None, Some}
-use Rattle.std.specs.Prelude.{if◌then◌else◌}
+use Rattle.std.proofs.Common.{◌≡◌, ◌≢◌, ◌⊎◌, inl, inr, ap, sym, subst, ◌∙◌, refl, arith, ℕ, ◌+◌, Bool, true, List, [], ◌∷◌, ◌++◌, length, Option, None, Some}
 use Rattle.std.proofs.lemmas.Bool.{cases_eq}
-use Rattle.std.proofs.Math.Path.{fun_ext}
 use Rattle.std.specs.List.{flat_map}
 use Rattle.mg_base.specs.Fields.{byte}
 use Rattle.mg_base.specs.declared.numbers.RecId.{RecId}
@@ -14,12 +12,11 @@ use Rattle.mg_model.specs.declared.opening.Opening.{Opening}
 use Rattle.mg_model.specs.declared.table.Table.{Table}
 use Rattle.mg_model.specs.History.{Entries}
 use Rattle.mg_image.specs.Form.{Form, Pages}
-use Rattle.mg_image.specs.Inventory.{is_used}
 use Rattle.mg_image.specs.Reached.{linked_pages, tips_of}
 use Rattle.mg_image.specs.Records.{Reading}
 use Rattle.mg_image.specs.Sound.{IsSoundBy}
-use Rattle.mg_image.specs.Tables.{Has, IsOnce, Layout, Stand, pages_of, stands_of, table_at, tree_pages}
-use Rattle.mg_image_steps.specs.Frame.{KeepsLinked, frame_sound}
+use Rattle.mg_image.specs.Tables.{Has, IsOnce, Layout, Stand, pages_of, stands_of, table_at}
+use Rattle.mg_image_steps.specs.Frame.{frame_sound}
 use Rattle.mg_image_steps.specs.Growth.{grown, has_back}
 use Rattle.mg_image_steps.specs.Kinds.{HasNoSequences, stands_linked}
 use Rattle.mg_image_steps.specs.Rest.{TreesStay}
