@@ -128,11 +128,3 @@ module _ {D L : Type 0} (in_primary : Bool) (store : Pool D L) (image : Image) (
   back_has None turns = frees_has in_primary store image old new rec turns (cells.Anchor l) slot
   back_has (Some link) turns =
       has_here old new rec.page.0 turns.puts.one.bytes turns.puts.one.puts
-
-pub back_within : {D L : Type 0} (store : Pool D L) (image : Image) (batch : ℕ → Option (List ℕ))
-    (orders : Orders) (old new : Changed) (rec : RecId) (back : Option Link)
-    → TurnsBack store image old new rec back → IsWithin batch orders new → IsWithin batch orders old
-back_within store image batch orders old new rec None turns within =
-    frees_within store image batch orders old new rec turns within
-back_within store image batch orders old new rec (Some link) turns within =
-    within_put batch orders old new rec.page.0 turns.puts.one.bytes turns.puts.one.puts within
