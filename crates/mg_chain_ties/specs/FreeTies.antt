@@ -1,18 +1,16 @@
 -- A slot that is freed, and one that is turned back: what the pages are then to the laws on overlays.
-use Rattle.std.proofs.Common.{◌≡◌, ◌≢◌, ◌⊎◌, inl, inr, ap, sym, subst, ◌∙◌, refl, ℕ, Bool, true, false, List, Option, None, Some}
-use Rattle.std.proofs.lemmas.Bool.{cases_eq}
-use Rattle.std.specs.Prelude.{IsSome, is_some}
+use Rattle.std.proofs.Common.{◌≡◌, inl, inr, ap, sym, subst, ◌∙◌, refl, ℕ, Bool, false, List, Option, None, Some}
+use Rattle.std.specs.Prelude.{IsSome}
 use Rattle.mg_base.specs.Image.{Image}
 use Rattle.mg_base.specs.declared.numbers.RecId.{RecId}
 use Rattle.mg_careful.specs.Precedence.{Orders}
 use Rattle.mg_image.specs.Form.{Pages}
 use Rattle.mg_image.specs.Records.{Changes, cell_spelled, cells_of, slot_cell}
-use Rattle.mg_image.specs.Sound.{IsCellOf}
 use Rattle.mg_image_steps.specs.DataPages.{ChangesData}
 use Rattle.mg_own_overlays.specs.TakeOut.{back_cell}
 use Rattle.mg_pool.specs.Batch.{Changed}
 use Rattle.mg_pool.specs.declared.pool.Pool.{Pool}
-use Rattle.mg_slots.specs.Changes.{FreesCell, SetsCell}
+use Rattle.mg_slots.specs.Changes.{SetsCell}
 use Rattle.mg_slots.specs.DataPage.{cell_of}
 use Rattle.mg_space.specs.View.{viewed}
 use Rattle.mg_space.specs.ViewLaws.{viewed_else}
@@ -21,7 +19,7 @@ use Rattle.mg_version.specs.declared.cell.Cell.TheVariants as cells
 use Rattle.mg_version.specs.declared.cell.Link.{Link}
 use Rattle.mg_version.specs.declared.cell.Version.{Version}
 use Rattle.mg_heap.specs.Changing.{ChangesAtMost}
-use Rattle.mg_chain.specs.Writing.{FreesAt, TurnsBack, TurnsTo}
+use Rattle.mg_chain.specs.Writing.{FreesAt, TurnsBack}
 use Rattle.mg_heap_ties.specs.Batches.{HasContent, IsWithin, has_here}
 use Rattle.mg_heap_ties.specs.CellTies.{HasLawfulCells, read_apart, sets_cells, sets_page, spelled_is}
 use Rattle.mg_chain_ties.specs.PutTies.{anchor_may}
@@ -130,11 +128,3 @@ module _ {D L : Type 0} (in_primary : Bool) (store : Pool D L) (image : Image) (
   back_has None turns = frees_has in_primary store image old new rec turns (cells.Anchor l) slot
   back_has (Some link) turns =
       has_here old new rec.page.0 turns.puts.one.bytes turns.puts.one.puts
-
-pub back_within : {D L : Type 0} (store : Pool D L) (image : Image) (batch : ℕ → Option (List ℕ))
-    (orders : Orders) (old new : Changed) (rec : RecId) (back : Option Link)
-    → TurnsBack store image old new rec back → IsWithin batch orders new → IsWithin batch orders old
-back_within store image batch orders old new rec None turns within =
-    frees_within store image batch orders old new rec turns within
-back_within store image batch orders old new rec (Some link) turns within =
-    within_put batch orders old new rec.page.0 turns.puts.one.bytes turns.puts.one.puts within

@@ -11,7 +11,7 @@ use Rattle.mg_image.specs.Form.{Form, Pages, Row}
 use Rattle.mg_image.specs.ReadingLaws.{RowsAreOne}
 use Rattle.mg_image.specs.Records.{Changes, cells_of, record_key, slot_cell}
 use Rattle.mg_image.specs.Sound.{facts_by}
-use Rattle.mg_image.specs.Tables.{Has, stands_of, table_at}
+use Rattle.mg_image.specs.Tables.{stands_of, table_at}
 use Rattle.mg_image_steps.specs.DataPages.{ChangesData}
 use Rattle.mg_image_steps.specs.Kinds.{HasNoSequences}
 use Rattle.mg_kept_images.specs.CommitLaws.{LeavesOthers}
@@ -43,7 +43,7 @@ use Rattle.mg_chain.specs.Orders.{before_page, move_orders, push_orders, slot_or
 use Rattle.mg_chain.specs.Writing.{Moves, Replaces, SlotIsReached, TurnsTo, leading_to, link_to}
 use Rattle.mg_grown_overlays.specs.Growing.{EndsAt, MayBeWritten}
 use Rattle.mg_grown_overlays.specs.MoveGrown.{move_grown_every}
-use Rattle.mg_heap_ties.specs.Batches.{within_self, HasContent, IsWithin, has_here, lists_later, lists_sooner, viewed_same}
+use Rattle.mg_heap_ties.specs.Batches.{within_self, IsWithin, has_here, lists_later, lists_sooner, viewed_same}
 use Rattle.mg_heap_ties.specs.CellTies.{HasLawfulCells, cells_still, lawful_cells, owner_told}
 use Rattle.mg_heap_ties.specs.RoomTies.{GrowsSome, end_of, ends_there}
 use Rattle.mg_chain_ties.specs.FreeTies.{frees_cells, frees_else, frees_page, frees_within, version_apart}

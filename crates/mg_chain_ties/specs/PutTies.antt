@@ -1,6 +1,6 @@
 -- A version's cell is put on a page that was given to a table, and then a slot is turned to it: what the
 -- pages are then to the laws on overlays.
-use Rattle.std.proofs.Common.{◌≡◌, ◌≢◌, inl, inr, ap, sym, subst, ◌∙◌, refl, arith, ℕ, Bool, true, false, List, [], Option, None, Some}
+use Rattle.std.proofs.Common.{◌≡◌, ◌≢◌, inl, ap, subst, ◌∙◌, arith, ℕ, Bool, true, false, List, [], Option, None, Some}
 use Rattle.mg_base.specs.CheckLaws.{passes_from_verdict}
 use Rattle.mg_base.specs.Checks.{common_checks}
 use Rattle.mg_base.specs.Fields.{byte}
@@ -11,7 +11,7 @@ use Rattle.mg_base.specs.declared.transaction.TxState.{TxState}
 use Rattle.mg_careful.specs.Precedence.{Orders}
 use Rattle.mg_image.specs.Form.{Form, Pages}
 use Rattle.mg_image.specs.ReadingLaws.{RowsAreOne}
-use Rattle.mg_image.specs.Records.{Changes, Reading, cell_spelled, cells_of, slot_cell}
+use Rattle.mg_image.specs.Records.{Changes, Reading, cells_of, slot_cell}
 use Rattle.mg_image.specs.Sound.{IsCellOf, IsSoundBy}
 use Rattle.mg_image.specs.Tables.{Has, Layout, stands_of, table_at}
 use Rattle.mg_image_steps.specs.DataPages.{ChangesData, all_passes, kind_of}
@@ -39,7 +39,7 @@ use Rattle.mg_heap.specs.Reach.{IsReached}
 use Rattle.mg_heap.specs.Reading.{IsSomeData, owner_in, sequence_in}
 use Rattle.mg_heap.specs.Room.{GivesRoom}
 use Rattle.mg_chain.specs.Writing.{TurnsTo}
-use Rattle.mg_grown_overlays.specs.Growing.{EndsAt, IsTableOf}
+use Rattle.mg_grown_overlays.specs.Growing.{IsTableOf}
 use Rattle.mg_grown_overlays.specs.GrowingLaws.{StandsTo, grows_pool, table_of_end}
 use Rattle.mg_grown_overlays.specs.Knowing.{entered_of, pointers_keep}
 use Rattle.mg_heap_ties.specs.Batches.{IsWithin}

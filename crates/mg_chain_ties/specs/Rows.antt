@@ -1,5 +1,5 @@
 -- What the rows of version chains have in common: batches in part, orders, walks, and the table of a page.
-use Rattle.std.proofs.Common.{◌≡◌, ◌≢◌, ◌⊎◌, inl, inr, ap, sym, subst, ◌∙◌, refl, arith, suc, ℕ, Bool, true, false, List, [], ◌∷◌, ◌++◌, length, Option, None, Some}
+use Rattle.std.proofs.Common.{◌≡◌, ◌≢◌, ◌⊎◌, inl, inr, ap, sym, subst, ◌∙◌, refl, arith, suc, ℕ, Bool, true, false, List, [], ◌∷◌, ◌++◌, length, Option, Some}
 use Rattle.std.specs.Prelude.{if◌then◌else◌, ◌==◌}
 use Rattle.std.proofs.lemmas.Bool.{cases_eq, ne_eqb}
 use Rattle.mg_base.specs.Fields.{byte}
@@ -16,7 +16,7 @@ use Rattle.mg_kept_images.specs.Reach.{IsEntered, here, later}
 use Rattle.mg_model.specs.declared.table.Table.{Table}
 use Rattle.mg_overlays.specs.Overlays.{left_state}
 use Rattle.mg_pointer.specs.PointerPage.{entries_of, next_in, pointer_checks}
-use Rattle.mg_pool.specs.Batch.{Changed, PutsPage, content_in, lists}
+use Rattle.mg_pool.specs.Batch.{Changed, PutsPage, lists}
 use Rattle.mg_heap.specs.Growth.{AddsOrders, before}
 use Rattle.mg_heap.specs.Reach.{IsReached}
 use Rattle.mg_heap.specs.Table.{IsPointerAt, LinkRun, more, none}

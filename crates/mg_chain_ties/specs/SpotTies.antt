@@ -1,5 +1,5 @@
 -- A place for a record that version chains give keeps every overlay, and is what a first version asks for.
-use Rattle.std.proofs.Common.{◌≡◌, ap, ◌∙◌, ℕ, Bool, List, Option, None, Some}
+use Rattle.std.proofs.Common.{◌≡◌, ap, ◌∙◌, ℕ, None, Some}
 use Rattle.mg_base.specs.Disk.{Meaning}
 use Rattle.mg_base.specs.Image.{Image}
 use Rattle.mg_base.specs.declared.numbers.RecId.{RecId}

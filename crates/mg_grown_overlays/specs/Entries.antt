@@ -1,5 +1,5 @@
 -- What is found by the indexes of a table is found still, where pages of other kinds change.
-use Rattle.std.proofs.Common.{◌≡◌, ◌≢◌, ap, sym, subst, ◌∙◌, arith, ℕ, Bool, true, List, [], ◌∷◌, ◌++◌}
+use Rattle.std.proofs.Common.{◌≡◌, ap, sym, subst, ◌∙◌, arith, ℕ, true, List, [], ◌∷◌, ◌++◌}
 use Rattle.std.specs.List.{flat_map}
 use Rattle.mg_base.specs.Fields.{byte}
 use Rattle.mg_base.specs.declared.numbers.RecId.{RecId}

@@ -1,9 +1,7 @@
 -- A table that grows within a batch: the pool is sound with its table grown, and what an image has to be
 -- that has a set of the batch's pages is kept.
-use Rattle.std.proofs.Common.{◌≡◌, ◌≢◌, ◌⊎◌, inl, inr, ap, sym, subst, ◌∙◌, refl, arith, ℕ, ◌+◌, Bool, true, false, List, [], ◌∷◌, ◌++◌, length, Option, None, Some}
-use Rattle.std.specs.Prelude.{if◌then◌else◌}
+use Rattle.std.proofs.Common.{◌≡◌, ◌≢◌, ◌⊎◌, inl, inr, ap, sym, subst, ◌∙◌, refl, arith, ℕ, ◌+◌, true, List, [], ◌∷◌, ◌++◌, length, Option, None, Some}
 use Rattle.std.proofs.lemmas.Bool.{cases_eq}
-use Rattle.std.proofs.Math.Path.{fun_ext}
 use Rattle.std.specs.List.{flat_map}
 use Rattle.mg_base.specs.Fields.{byte}
 use Rattle.mg_base.specs.declared.numbers.RecId.{RecId}
@@ -14,12 +12,11 @@ use Rattle.mg_model.specs.declared.opening.Opening.{Opening}
 use Rattle.mg_model.specs.declared.table.Table.{Table}
 use Rattle.mg_model.specs.History.{Entries}
 use Rattle.mg_image.specs.Form.{Form, Pages}
-use Rattle.mg_image.specs.Inventory.{is_used}
 use Rattle.mg_image.specs.Reached.{linked_pages, tips_of}
 use Rattle.mg_image.specs.Records.{Reading}
 use Rattle.mg_image.specs.Sound.{IsSoundBy}
-use Rattle.mg_image.specs.Tables.{Has, IsOnce, Layout, Stand, pages_of, stands_of, table_at, tree_pages}
-use Rattle.mg_image_steps.specs.Frame.{KeepsLinked, frame_sound}
+use Rattle.mg_image.specs.Tables.{Has, IsOnce, Layout, Stand, pages_of, stands_of, table_at}
+use Rattle.mg_image_steps.specs.Frame.{frame_sound}
 use Rattle.mg_image_steps.specs.Growth.{grown, has_back}
 use Rattle.mg_image_steps.specs.Kinds.{HasNoSequences, stands_linked}
 use Rattle.mg_image_steps.specs.Rest.{TreesStay}
@@ -153,9 +150,6 @@ module _ (form : Form) (one : StandsOneWay form) (none : HasNoSequences form) (s
 
     pub named_sound : IsSoundBy form size state next layout_next r
     named_sound = extend_sound form size state taken next layout layout_next r n mid_sound pool_extends
-
-    pub named_stands : stands_of layout_next ≡ ends.before ++ (makes.more ends.stand ∷ ends.after)
-    named_stands = stands_relaid layout ends.before ends.after (makes.more ends.stand)
 
     pub named_grown : HasGrown layout layout_next r
     named_grown = record {
@@ -369,19 +363,3 @@ module _ (form : Form) (one : StandsOneWay form) (none : HasNoSequences form) (s
   grows_whole o h orders batch view last end final row layout r sound ends kept =
       grows_part o h orders batch (λ n. true) view (λ a b ordered in_batch in_set. refl) view last end final
       row layout r sound ends kept
-
--- two rows, one after the other
-pub grows_on : (in_primary : Bool) (size owner : ℕ) (orders : Orders) (batch : ℕ → Option (List ℕ))
-    (view mid last : Pages) (end then_ final : TableEnd)
-    → Grows in_primary size owner orders batch view end mid then_
-    → Grows in_primary size owner orders batch mid then_ last final
-    → Grows in_primary size owner orders batch view end last final
-grows_on in_primary size owner orders batch view mid last end then_ final (stays v e) second = second
-grows_on in_primary size owner orders batch view mid last end then_ final
-    (links v taken next l e f i n takes names order in_batch more) second =
-    links view taken next last end final i n takes names order in_batch
-    (grows_on in_primary size owner orders batch next mid last (linked_end end n) then_ final more second)
-grows_on in_primary size owner orders batch view mid last end then_ final
-    (enters v taken next l e f i n takes names order in_batch more) second =
-    enters view taken next last end final i n takes names order in_batch
-    (grows_on in_primary size owner orders batch next mid last (entered_end end) then_ final more second)

@@ -1,5 +1,5 @@
 -- A table, or the catalog, gets pages in a batch of its own, from the pool's change to every overlay.
-use Rattle.std.proofs.Common.{◌≡◌, ◌≢◌, sym, subst, ℕ, Bool, List, Option}
+use Rattle.std.proofs.Common.{sym, subst, ℕ, Bool, List, Option}
 use Rattle.mg_base.specs.declared.transaction.TxState.{TxState}
 use Rattle.mg_careful.specs.CarefulWrite.{Cache, PageSet}
 use Rattle.mg_careful.specs.Precedence.{Orders}

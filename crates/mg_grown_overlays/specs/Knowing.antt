@@ -17,9 +17,9 @@ use Rattle.mg_pointer.specs.PointerPage.{entries_of, next_in, pointer_checks}
 use Rattle.mg_image.specs.Catalog.{MayStandIn}
 use Rattle.mg_image.specs.declared.entry.Entry.{Entry}
 use Rattle.mg_image.specs.Form.{Coding, Form, Pages}
-use Rattle.mg_image.specs.Held.{AreChanges, Changes, HasLimbo, IsChangedAt, told_change}
+use Rattle.mg_image.specs.Held.{AreChanges, Changes, HasLimbo, IsChangedAt}
 use Rattle.mg_image.specs.RecordRules.{Facts, IsVersion, TakesKey, table_in}
-use Rattle.mg_image.specs.Records.{Change, Changes as CellChanges, Reading, cells_of, change_in, key_of, record_key, writer}
+use Rattle.mg_image.specs.Records.{Change, Changes as CellChanges, Reading, cells_of, key_of, record_key, writer}
 use Rattle.mg_image.specs.Reached.{tips_of}
 use Rattle.mg_image.specs.Sound.{HasTablePages, IsSoundBy, IsTablePointer, facts_by}
 use Rattle.mg_image.specs.Tables.{EachFrom, EachStand, Has, IsOnce, Layout, LinkChain, Stand, ended, entries_in, goes, has, pages_of, stands_of, table_at}

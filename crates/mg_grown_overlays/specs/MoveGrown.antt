@@ -28,7 +28,7 @@ use Rattle.mg_kept_images.specs.Reach.{IsEntered}
 use Rattle.mg_one_layout.specs.OneLayout.{sound_once}
 use Rattle.mg_overlays.specs.BatchLaws.{change_keeps}
 use Rattle.mg_overlays.specs.Overlays.{ChangesCache, EveryOverlay, KeepsNeeds, LaysBatch, NeedsAllDirty, laid, left_state}
-use Rattle.mg_overlays.specs.Views.{first_view, last_view, ordered_same, partly}
+use Rattle.mg_overlays.specs.Views.{first_view, last_view, ordered_same}
 use Rattle.mg_own_overlays.specs.MoveEvery.{moved_whole}
 use Rattle.mg_own_overlays.specs.MovePart.{IsPlaced, MovesPages, OrdersMove, move_put_in, move_views}
 use Rattle.mg_own_overlays.specs.OwnVersion.{FindsNewest, FindsOwn, RewritesRow}

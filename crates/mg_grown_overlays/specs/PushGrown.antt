@@ -27,7 +27,7 @@ use Rattle.mg_kept_images.specs.Reach.{IsEntered, entered_with}
 use Rattle.mg_one_layout.specs.OneLayout.{sound_once}
 use Rattle.mg_overlays.specs.BatchLaws.{change_keeps}
 use Rattle.mg_overlays.specs.Overlays.{ChangesCache, EveryOverlay, KeepsNeeds, LaysBatch, NeedsAllDirty, laid, left_state}
-use Rattle.mg_overlays.specs.Views.{first_view, last_view, ordered_same, partly}
+use Rattle.mg_overlays.specs.Views.{first_view, last_view, ordered_same}
 use Rattle.mg_record_overlays.specs.PushEvery.{push_whole}
 use Rattle.mg_record_overlays.specs.PushPart.{FindsRecord, OrdersPush, PushesPages, push_views}
 use Rattle.mg_record_overlays.specs.OwnWrites.{WritesRow}

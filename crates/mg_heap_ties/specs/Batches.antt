@@ -1,6 +1,6 @@
 -- A batch as it grows: what it has of pages and orders stays in the whole of it.
-use Rattle.std.proofs.Common.{◌≡◌, ◌≢◌, ◌⊎◌, inl, inr, ap, sym, subst, ◌∙◌, refl, ℕ, Bool, true, false, List, [], ◌∷◌, ◌++◌, Option, None, Some}
-use Rattle.std.specs.Prelude.{◌||◌, ◌&&◌, ◌==◌, if◌then◌else◌, unwrap_or}
+use Rattle.std.proofs.Common.{◌≡◌, ◌≢◌, ◌⊎◌, inl, inr, ap, sym, ◌∙◌, refl, ℕ, Bool, true, false, List, [], ◌∷◌, ◌++◌, Option, None, Some}
+use Rattle.std.specs.Prelude.{◌||◌, ◌&&◌, ◌==◌, unwrap_or}
 use Rattle.std.proofs.lemmas.Bool.{cases_eq, eq-eqb}
 use Rattle.mg_base.specs.Image.{Image}
 use Rattle.mg_careful.specs.Precedence.{Orders}
@@ -10,7 +10,7 @@ use Rattle.mg_pool.specs.declared.batch.BatchPage.{BatchPage}
 use Rattle.mg_pool.specs.Pool.{shown}
 use Rattle.mg_pool.specs.declared.pool.Pool.{Pool}
 use Rattle.mg_space.specs.View.{viewed}
-use Rattle.mg_heap.specs.Growth.{AddsOrders, before}
+use Rattle.mg_heap.specs.Growth.{before}
 
 -- a batch has a content of a page
 abbrev pub HasContent : Changed → ℕ → Type 0

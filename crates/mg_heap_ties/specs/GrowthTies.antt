@@ -1,5 +1,5 @@
 -- A table that gets a data page by the heap grows as the laws on overlays take it.
-use Rattle.std.proofs.Common.{◌≡◌, ◌≢◌, ◌⊎◌, inl, inr, ap, sym, subst, ◌∙◌, refl, arith, ℕ, ◌+◌, ◌<◌, ◌≤◌, ◌^◌, Bool, true, false, List, [], ◌∷◌, ◌++◌, length, Option, None, Some}
+use Rattle.std.proofs.Common.{◌≡◌, ◌≢◌, ◌⊎◌, inl, inr, ap, sym, subst, ◌∙◌, refl, arith, ℕ, ◌+◌, ◌<◌, ◌≤◌, ◌^◌, Bool, true, false, List, [], ◌∷◌, length, Option, None}
 use Rattle.std.specs.Prelude.{take}
 use Rattle.std.proofs.lemmas.Bool.{cases_eq}
 use Rattle.mg_base.specs.CheckLaws.{front_checks, new_passes}
@@ -12,7 +12,7 @@ use Rattle.mg_base.specs.declared.geometry.TheConstants.{GREATEST_LIMIT}
 use Rattle.mg_careful.specs.Precedence.{Orders}
 use Rattle.mg_image.specs.Form.{Pages}
 use Rattle.mg_image.specs.Inventory.{inventory_page, is_used}
-use Rattle.mg_pointer.specs.PointerPage.{AddsEntry, new_pointer_page}
+use Rattle.mg_pointer.specs.PointerPage.{AddsEntry}
 use Rattle.mg_careful.specs.declared.graph.Order.{Order}
 use Rattle.mg_pool.specs.Batch.{Changed, lists}
 use Rattle.mg_pool.specs.declared.pool.Pool.{Pool}
@@ -27,7 +27,7 @@ use Rattle.mg_taken_overlays.specs.EntryPage.{EntersPage}
 use Rattle.mg_taken_overlays.specs.ExtendEvery.{OrdersPage}
 use Rattle.mg_taken_overlays.specs.TakePart.{OccupiesPage}
 use Rattle.mg_heap.specs.Growth.{ListsInLast, before, orders_to}
-use Rattle.mg_grown_overlays.specs.Growing.{Grows, TableEnd, entered_end, enters, stays}
+use Rattle.mg_grown_overlays.specs.Growing.{Grows, enters, stays}
 use Rattle.mg_heap_ties.specs.Batches.{IsWithin, has_here, has_on, has_same, lists_head, lists_later, lists_tail, viewed_same}
 
 -- A page may be a table's last pointer page: it is used, a pointer page by its kind, and none of the page

@@ -1,14 +1,13 @@
 -- A table that gets a data page on a new pointer page by the heap grows as the laws on overlays take it:
 -- first the pointer page, which is linked while it is empty, and then the data page. The views in between
 -- are on no disk and in no pool.
-use Rattle.std.proofs.Common.{◌≡◌, ◌≢◌, ◌⊎◌, inl, inr, ap, sym, subst, ◌∙◌, refl, arith, ℕ, ◌+◌, ◌<◌, ◌≤◌, ◌^◌, Bool, true, false, List, [], ◌∷◌, ◌++◌, length, Option, None, Some}
+use Rattle.std.proofs.Common.{◌≡◌, ◌≢◌, ◌⊎◌, inl, inr, ap, sym, subst, ◌∙◌, refl, arith, ℕ, ◌+◌, ◌<◌, ◌≤◌, ◌^◌, Bool, true, false, List, [], ◌∷◌, ◌++◌, length, Option, None}
 use Rattle.std.specs.Prelude.{if◌then◌else◌, ◌==◌}
 use Rattle.std.proofs.lemmas.Bool.{cases_eq, eq-eqb, ne_eqb}
 use Rattle.mg_base.specs.Checks.{PassesAll, common_checks}
 use Rattle.mg_base.specs.Fields.{byte}
 use Rattle.mg_base.specs.Image.{Image}
 use Rattle.mg_base.specs.declared.geometry.Geometry.{Geometry}
-use Rattle.mg_base.specs.declared.geometry.TheConstants.{GREATEST_LIMIT}
 use Rattle.mg_careful.specs.Precedence.{Orders}
 use Rattle.mg_careful.specs.declared.graph.Order.{Order}
 use Rattle.mg_image.specs.Form.{Pages}
@@ -31,7 +30,7 @@ use Rattle.mg_taken_overlays.specs.ExtendEvery.{OrdersPage}
 use Rattle.mg_taken_overlays.specs.LinkPage.{LinksPage}
 use Rattle.mg_taken_overlays.specs.TakePart.{OccupiesPage}
 use Rattle.mg_heap.specs.Growth.{ListsInNew, before, orders_to}
-use Rattle.mg_grown_overlays.specs.Growing.{Grows, TableEnd, enters, links, stays}
+use Rattle.mg_grown_overlays.specs.Growing.{Grows, enters, links, stays}
 use Rattle.mg_heap_ties.specs.Batches.{IsWithin, has_here, has_on, has_same, lists_head, lists_later, lists_sooner, lists_tail, viewed_same}
 use Rattle.mg_heap_ties.specs.GrowthTies.{MayBeLast, new_data_passes}
 

@@ -1,8 +1,7 @@
 -- A page with room is given to a table: the table has grown as the laws on overlays take it, or its pages
 -- are as they were.
-use Rattle.std.proofs.Common.{◌≡◌, ◌≢◌, ◌⊎◌, inl, inr, ap, sym, subst, ◌∙◌, refl, arith, suc, ℕ, Bool, ◌+◌, ◌-◌, ◌<◌, ◌≤◌, ◌^◌, List, [], ◌∷◌, ◌++◌, length, Option}
+use Rattle.std.proofs.Common.{◌≡◌, ◌≢◌, inl, inr, ap, sym, subst, ◌∙◌, refl, arith, suc, ℕ, Bool, ◌+◌, ◌-◌, ◌<◌, ◌≤◌, ◌^◌, List, [], ◌∷◌, ◌++◌, length, Option}
 use Rattle.std.specs.Prelude.{get_or, slice_index}
-use Rattle.std.specs.List.{flat_map}
 use Rattle.mg_base.specs.Fields.{byte}
 use Rattle.mg_base.specs.Image.{Image}
 use Rattle.mg_base.specs.declared.geometry.TheConstants.{GREATEST_LIMIT}
@@ -13,7 +12,7 @@ use Rattle.mg_image.specs.Form.{Form, Pages}
 use Rattle.mg_image.specs.Inventory.{inventory_page}
 use Rattle.mg_image.specs.Records.{Reading}
 use Rattle.mg_image.specs.Sound.{HasRegion, HasTablePages, IsSoundBy, IsTableData, IsTablePointer}
-use Rattle.mg_image.specs.Tables.{EachFrom, Has, IsOnce, Layout, LinkChain, PointerChain, ended, entries_in, goes, pages_of, tree_pages}
+use Rattle.mg_image.specs.Tables.{EachFrom, Has, IsOnce, Layout, LinkChain, PointerChain, ended, entries_in, goes, tree_pages}
 use Rattle.mg_image_steps.specs.DataPages.{all_passes, byte_blank, kind_of}
 use Rattle.mg_image_steps.specs.Growth.{has_back}
 use Rattle.mg_kept_images.specs.Reach.{once_back, once_front}
@@ -28,7 +27,6 @@ use Rattle.mg_space.specs.Taking.{IsGeometry}
 use Rattle.mg_space.specs.TakingLaws.{page_sizes}
 use Rattle.mg_space.specs.View.{viewed}
 use Rattle.mg_taken_overlays.specs.LinkPage.{length_last}
-use Rattle.mg_heap.specs.Growth.{GrowsTable}
 use Rattle.mg_heap.specs.Room.{FindsOrGrows, GivesRoom}
 use Rattle.mg_heap.specs.Table.{IsTable}
 use Rattle.mg_heap.specs.TableLaws.{once_short}

@@ -1,5 +1,5 @@
 -- A page that the heap gives to a table, in a batch of its own, keeps every overlay.
-use Rattle.std.proofs.Common.{◌≡◌, sym, subst, ℕ, Bool, true, List, []}
+use Rattle.std.proofs.Common.{sym, subst, ℕ, Bool}
 use Rattle.mg_base.specs.Disk.{Meaning}
 use Rattle.mg_base.specs.Image.{Image}
 use Rattle.mg_base.specs.declared.numbers.PageNo.{PageNo}

@@ -1,9 +1,8 @@
 -- A page that was taken, and then made, is occupied.
-use Rattle.std.proofs.Common.{◌≡◌, ◌≢◌, ◌⊎◌, inl, inr, refl, ap, sym, subst, ◌∙◌, arith, ℕ, ◌<◌, ◌/◌, ◌%◌, Bool, true, List, [], length}
+use Rattle.std.proofs.Common.{◌≡◌, ◌≢◌, inl, inr, refl, ap, sym, subst, ◌∙◌, arith, ℕ, ◌<◌, ◌/◌, ◌%◌, List, [], length}
 use Rattle.mg_base.specs.Checks.{PassesAll}
 use Rattle.mg_base.specs.Fields.{byte}
 use Rattle.mg_base.specs.declared.geometry.Geometry.{Geometry}
-use Rattle.mg_base.specs.declared.geometry.TheConstants.{GREATEST_LIMIT}
 use Rattle.mg_image.specs.Form.{Pages}
 use Rattle.mg_image.specs.Inventory.{inventory_page, is_used}
 use Rattle.mg_image.specs.Sound.{HasRegion}

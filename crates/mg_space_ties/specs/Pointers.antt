@@ -1,8 +1,8 @@
 -- The tests of a pointer page: a new one passes them, one with an entry more does, and one that names
 -- another next page.
-use Rattle.std.proofs.Common.{◌≡◌, ◌≢◌, ap, sym, subst, ◌∙◌, arith, ℕ, ◌+◌, ◌<◌, ◌≤◌, List, ◌∷◌, ◌++◌, [], length}
+use Rattle.std.proofs.Common.{◌≡◌, sym, subst, arith, ℕ, List, ◌∷◌, ◌++◌, [], length}
 use Rattle.std.specs.Prelude.{min, take}
-use Rattle.mg_base.specs.CheckLaws.{byte_front, front_checks, passes-append}
+use Rattle.mg_base.specs.CheckLaws.{front_checks, passes-append}
 use Rattle.mg_base.specs.Checks.{Check, PassesAll, common_checks}
 use Rattle.mg_base.specs.Fields.{byte, u16_at}
 use Rattle.mg_base.specs.declared.fields.TheConstants.{COMMON}

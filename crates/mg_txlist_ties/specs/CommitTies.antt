@@ -1,6 +1,6 @@
 -- A commit by the transaction list: its bits are changed, written and settled.
-use Rattle.std.proofs.Common.{◌≡◌, ◌≢◌, ◌⊎◌, inl, inr, ap, sym, subst, ◌∙◌, refl, arith, zero, suc, ℕ, ◌+◌, ◌*◌, ◌-◌, ◌/◌, ◌%◌, ◌<◌, ◌≤◌, Bool, true, false, List, [], ◌∷◌, ◌++◌, Option, None, Some}
-use Rattle.std.specs.Prelude.{if◌then◌else◌, ◌==◌, ◌&&◌, ◌||◌, not, unwrap_or}
+use Rattle.std.proofs.Common.{◌≡◌, ◌≢◌, ◌⊎◌, inl, inr, ap, sym, subst, ◌∙◌, refl, arith, zero, suc, ℕ, ◌+◌, ◌*◌, ◌-◌, ◌/◌, ◌%◌, ◌<◌, ◌≤◌, true, false, List, ◌∷◌, ◌++◌, Option, None, Some}
+use Rattle.std.specs.Prelude.{unwrap_or}
 use Rattle.std.specs.List.{flat_map}
 use Rattle.std.proofs.Math.Nat.{mod-add-div'}
 use Rattle.std.proofs.lemmas.Bool.{cases_eq, eq-eqb, ne_eqb}
@@ -9,14 +9,11 @@ use Rattle.mg_base.specs.Fields.{byte}
 use Rattle.mg_base.specs.Image.{Image}
 use Rattle.mg_base.specs.declared.transaction.TxState.{TxState}
 use Rattle.mg_base.specs.declared.transaction.TxState.TheVariants.{Active, Committed}
-use Rattle.mg_careful.specs.CarefulWrite.{Cache}
-use Rattle.mg_careful.specs.Graph.{PageGraph}
 use Rattle.mg_commit_overlays.specs.Midway.{EveryMidway, IsDrawnPlace}
 use Rattle.mg_commit_overlays.specs.MidwayLaws.{commit_changes_every, midway_written}
 use Rattle.mg_image.specs.Form.{Form, Pages}
 use Rattle.mg_image.specs.Inventory.{last_sequence, next_of, tip_page}
 use Rattle.mg_image.specs.Reached.{IsAsWanted, tips_below, tips_of}
-use Rattle.mg_image.specs.Sound.{IsSoundBy}
 use Rattle.mg_image.specs.Tables.{Has, IsOnce, pages_of, stands_of}
 use Rattle.mg_image_steps.specs.Bits.{ChangesTip}
 use Rattle.mg_image_steps.specs.DataPages.{kind_of}
@@ -30,20 +27,17 @@ use Rattle.mg_model.specs.History.{Entries, Entry as Event}
 use Rattle.mg_overlays.specs.BatchLaws.{good_of_pool}
 use Rattle.mg_overlays.specs.Overlays.{OthersStay, WritesPages, left_state, nobody}
 use Rattle.mg_pool.specs.Batch.{Changed, content_in, lists, one_page, orders_of}
-use Rattle.mg_pool.specs.Dirty.{DirtyPages, is_dirty}
-use Rattle.mg_pool.specs.Pool.{IsPool, KeepsContent, cache_of, shown, taken_out}
+use Rattle.mg_pool.specs.Pool.{IsPool, shown, taken_out}
 use Rattle.mg_pool.specs.declared.pool.Pool.{Pool}
-use Rattle.mg_pool_overlays.specs.Needs.{Asked, Sessions, needs_by}
+use Rattle.mg_pool_overlays.specs.Needs.{Asked, Sessions}
 use Rattle.mg_pool_overlays.specs.Ties.{runs_are, runs_keep_needs}
-use Rattle.mg_record_overlays.specs.CutEvery.{IsOnePage}
-use Rattle.mg_space.specs.View.{Tells, viewed}
+use Rattle.mg_space.specs.View.{Tells}
 use Rattle.mg_space.specs.ViewLaws.{keeps_itself}
 use Rattle.mg_space_ties.specs.Changed.{BatchIsChanged, KeptIn, cache_over, changed_batches_are, needs_in}
-use Rattle.mg_tip.specs.TipPage.{SetsState, places, state_in, tip_checks}
+use Rattle.mg_tip.specs.TipPage.{SetsState, places, tip_checks}
 use Rattle.mg_tip.specs.TipPageLaws.{same_prev, same_tests}
 use Rattle.mg_txlist.specs.Ending.{CommitsBits, header_first}
 use Rattle.mg_txlist.specs.TxList.{tip_in}
-use Rattle.mg_txlist.specs.declared.list.TipPage.{TipPage}
 use Rattle.mg_txlist.specs.declared.list.TxList.{TxList}
 
 -- the list's copy of the page of a number is the page that the cache shows there
