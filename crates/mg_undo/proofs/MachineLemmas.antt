@@ -18,7 +18,7 @@ use Rattle.mg_undo.specs.declared.changes.Was.{Was}
 use Rattle.mg_undo.specs.declared.changes.Change.{Change}
 use Rattle.mg_undo.specs.declared.points.Standing.{Standing}
 use Rattle.mg_undo.specs.Undo.{State, state_of, is_named, is_goal, has_point, from_goal, AreWithin, is_same_place, since, first_changes, TakesBack}
-use Rattle.mg_undo.specs.Machine.{was_in, changes_of, points_of, undo_of, NotesDeeds, going_to, changes_since, has_same, first_of, given_from, TellsApart, GoesBackAsTheMachine, GivesWhatWas}
+use Rattle.mg_undo.specs.Machine.{was_in, changes_of, points_of, undo_of, NotesDeeds, going_to, changes_since, has_same, first_of, given_from, TellsApart, TellsFrom, GoesBackAsTheMachine, GivesWhatWas}
 use Rattle.mg_undo.proofs.Steps.{within_more, from_within}
 use Rattle.mg_undo.proofs.Given.{gives_first_changes}
 
@@ -210,55 +210,55 @@ module _ (number : List ℕ → ℕ) where
       let parts = or_false (is_at d c.table c.key) (has_same c news) none in
       rw (parts.0) (was_past news olds c parts.1)
 
-  module _ (apart : TellsApart number) where
-    same_number : (a b : List ℕ) → (number b == number a) ≡ same_name b a
-    same_number a b = at (same_name b a) refl
-      where
-        at : (it : Bool) → same_name b a ≡ it → (number b == number a) ≡ it
-        at true is = eq-eqb (number b) (number a) (ap number (same_text b a (sym is)))
-        at false is =
-            ne_eqb (number b) (number a) (λ same. both_ways (same_name b a) is (apart b a same))
+  same_number : (a b : List ℕ) → (number b ≡ number a → same_name b a ≡ true)
+      → (number b == number a) ≡ same_name b a
+  same_number a b apart = at (same_name b a) refl
+    where
+      at : (it : Bool) → same_name b a ≡ it → (number b == number a) ≡ it
+      at true is = eq-eqb (number b) (number a) (ap number (same_text b a (sym is)))
+      at false is =
+          ne_eqb (number b) (number a) (λ same. both_ways (same_name b a) is (apart same))
 
-    any_same : (c : AnyChange) (news olds : List Deed) (was : Was)
-        → list_any (is_same_place (record { table = number c.table; key = c.key; was = was }))
-        (kept_over news olds) ≡ has_same c (changes_in news)
-    any_same c [] olds was = refl
-    any_same c (Changed d ∷ news) olds was =
-        ap (λ b. b && same_key d.key c.key
-        || list_any (is_same_place (record { table = number c.table; key = c.key; was = was }))
-        (kept_over news olds)) (same_number c.table d.table)
-        ∙ ap (λ b. is_at d c.table c.key || b) (any_same c news olds was)
-    any_same c (Marked ∷ news) olds was = any_same c news olds was
-    any_same c (Saved name ∷ news) olds was = any_same c news olds was
+  any_same : (c : AnyChange) (news olds : List Deed) (was : Was) → TellsFrom number c (changes_in news)
+      → list_any (is_same_place (record { table = number c.table; key = c.key; was = was }))
+      (kept_over news olds) ≡ has_same c (changes_in news)
+  any_same c [] olds was apart = refl
+  any_same c (Changed d ∷ news) olds was apart =
+      ap (λ b. b && same_key d.key c.key
+      || list_any (is_same_place (record { table = number c.table; key = c.key; was = was }))
+      (kept_over news olds)) (same_number c.table d.table apart.0)
+      ∙ ap (λ b. is_at d c.table c.key || b) (any_same c news olds was apart.1)
+  any_same c (Marked ∷ news) olds was apart = any_same c news olds was apart
+  any_same c (Saved name ∷ news) olds was apart = any_same c news olds was apart
 
-    first_kept_over : (news olds : List Deed)
-        → first_changes (kept_over news olds)
-        ≡ map (given_from number (changes_in olds)) (first_of (changes_in news))
-    first_kept_over [] olds = refl
-    first_kept_over (Marked ∷ news) olds = first_kept_over news olds
-    first_kept_over (Saved name ∷ news) olds = first_kept_over news olds
-    first_kept_over (Changed c ∷ news) olds =
-        ap (λ b. cond b (first_changes (kept_over news olds))
-        (kept c (news ++ olds) ∷ first_changes (kept_over news olds)))
-        (any_same c news olds (was_in (changes_in (news ++ olds)) c.table c.key))
-        ∙ at (has_same c (changes_in news)) refl (first_kept_over news olds)
-      where
-        at : (b : Bool) → has_same c (changes_in news) ≡ b
-            → first_changes (kept_over news olds)
-            ≡ map (given_from number (changes_in olds)) (first_of (changes_in news))
-            → cond b (first_changes (kept_over news olds))
-            (kept c (news ++ olds) ∷ first_changes (kept_over news olds))
-            ≡ map (given_from number (changes_in olds))
-            (cond b (first_of (changes_in news)) (c ∷ first_of (changes_in news)))
-        at true again more = more
-        at false first more =
-            let was : was_in (changes_in (news ++ olds)) c.table c.key
-            ≡ was_in (changes_in olds) c.table c.key =
-            ap (λ (cs : List AnyChange). was_in cs c.table c.key) (changes_in-append news olds)
-            ∙ was_past (changes_in news) (changes_in olds) c first in
-            ap (λ (w : Was). record { table = number c.table; key = c.key; was = w }
-            ∷ first_changes (kept_over news olds)) was
-            ∙ ap (λ (cs : List Change). given_from number (changes_in olds) c ∷ cs) more
+  first_kept_over : (news olds : List Deed) → TellsApart number (changes_in news)
+      → first_changes (kept_over news olds)
+      ≡ map (given_from number (changes_in olds)) (first_of (changes_in news))
+  first_kept_over [] olds apart = refl
+  first_kept_over (Marked ∷ news) olds apart = first_kept_over news olds apart
+  first_kept_over (Saved name ∷ news) olds apart = first_kept_over news olds apart
+  first_kept_over (Changed c ∷ news) olds apart =
+      ap (λ b. cond b (first_changes (kept_over news olds))
+      (kept c (news ++ olds) ∷ first_changes (kept_over news olds)))
+      (any_same c news olds (was_in (changes_in (news ++ olds)) c.table c.key) apart.0)
+      ∙ at (has_same c (changes_in news)) refl (first_kept_over news olds apart.1)
+    where
+      at : (b : Bool) → has_same c (changes_in news) ≡ b
+          → first_changes (kept_over news olds)
+          ≡ map (given_from number (changes_in olds)) (first_of (changes_in news))
+          → cond b (first_changes (kept_over news olds))
+          (kept c (news ++ olds) ∷ first_changes (kept_over news olds))
+          ≡ map (given_from number (changes_in olds))
+          (cond b (first_of (changes_in news)) (c ∷ first_of (changes_in news)))
+      at true again more = more
+      at false first more =
+          let was : was_in (changes_in (news ++ olds)) c.table c.key
+          ≡ was_in (changes_in olds) c.table c.key =
+          ap (λ (cs : List AnyChange). was_in cs c.table c.key) (changes_in-append news olds)
+          ∙ was_past (changes_in news) (changes_in olds) c first in
+          ap (λ (w : Was). record { table = number c.table; key = c.key; was = w }
+          ∷ first_changes (kept_over news olds)) was
+          ∙ ap (λ (cs : List Change). given_from number (changes_in olds) c ∷ cs) more
 
 pub notes_deeds : NotesDeeds
 notes_deeds = record {
@@ -347,7 +347,7 @@ module _ (number : List ℕ → ℕ) (news olds : List Deed) (new : State) (give
 abbrev AllTaken : (List ℕ → ℕ) → Point → List Deed → State → List Change → Type 0
 AllTaken number point deeds new given =
     (new ≡ undo_of number (deeds_left point deeds))
-    × (TellsApart number → given ≡ map (given_from number (changes_in (deeds_left point deeds)))
+    × (TellsApart number (changes_since point deeds) → given ≡ map (given_from number (changes_in (deeds_left point deeds)))
     (first_of (changes_since point deeds)))
 
 all_given : (number : List ℕ → ℕ) (point : Point) (news : List Deed) (d : Deed) (olds left : List Deed)
@@ -355,11 +355,12 @@ all_given : (number : List ℕ → ℕ) (point : Point) (news : List Deed) (d : 
     → changes_in (d ∷ olds) ≡ changes_in left
     → deeds_left point (news ++ (d ∷ olds)) ≡ left
     → given ≡ first_changes (kept_over number news (d ∷ olds))
-    → TellsApart number
+    → TellsApart number (changes_since point (news ++ (d ∷ olds)))
     → given ≡ map (given_from number (changes_in (deeds_left point (news ++ (d ∷ olds)))))
     (first_of (changes_since point (news ++ (d ∷ olds))))
 all_given number point news d olds left given none sets same left_is is apart =
-    is ∙ first_kept_over number apart news (d ∷ olds)
+    is ∙ first_kept_over number news (d ∷ olds)
+    (subst (TellsApart number) (since_split point news d olds none sets) apart)
     ∙ ap (λ (cs : List AnyChange). map (given_from number cs) (first_of (changes_in news)))
     (same ∙ ap changes_in (sym left_is))
     ∙ ap (λ (cs : List AnyChange). map (given_from number (changes_in (deeds_left point (news ++ (d ∷ olds)))))

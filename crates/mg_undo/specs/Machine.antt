@@ -94,9 +94,16 @@ abbrev pub given_from : (List ℕ → ℕ) → List AnyChange → AnyChange → 
 given_from number changes c =
     record { table = number c.table; key = c.key; was = was_in changes c.table c.key }
 
--- tables are told apart by their numbers
-abbrev pub TellsApart : (List ℕ → ℕ) → Type 0
-TellsApart number = (a b : List ℕ) → number a ≡ number b → same_name a b ≡ true
+-- the table of a change is told apart from those of others by its number
+abbrev pub TellsFrom : (List ℕ → ℕ) → AnyChange → List AnyChange → Type 0
+TellsFrom number c [] = Unit {0}
+TellsFrom number c (d ∷ ds) = (number d.table ≡ number c.table → same_name d.table c.table ≡ true)
+    × TellsFrom number c ds
+
+-- the tables of these changes are told apart by their numbers
+abbrev pub TellsApart : (List ℕ → ℕ) → List AnyChange → Type 0
+TellsApart number [] = Unit {0}
+TellsApart number (c ∷ cs) = TellsFrom number c cs × TellsApart number cs
 
 -- once all is taken back to a point, the list is that of what the machine leaves
 abbrev pub GoesBackAsTheMachine : Type 0
@@ -109,7 +116,8 @@ GoesBackAsTheMachine = (number : List ℕ → ℕ) (deeds : List Deed) (point : 
 -- are left have there: each key once, and the one that was changed first comes last
 abbrev pub GivesWhatWas : Type 0
 GivesWhatWas = (number : List ℕ → ℕ) (deeds : List Deed) (point : Point)
-    (new : State) (given : List Change) → TellsApart number → has_deed point deeds ≡ true
+    (new : State) (given : List Change) → TellsApart number (changes_since point deeds)
+    → has_deed point deeds ≡ true
     → TakesBack (going_to (undo_of number deeds) point) given new
     → given ≡ map (given_from number (changes_in (deeds_left point deeds)))
     (first_of (changes_since point deeds))

@@ -1,0 +1,17 @@
+pub mod Crashes
+pub mod Lasting
+pub mod Entries
+pub mod Bits
+pub mod Laws
+pub mod CommitStatements
+pub mod CrashStatements
+pub mod Settling
+pub mod Changing
+pub mod StepLaws
+pub mod CommitLaws
+pub mod CrashLaws
+pub mod PoolLaws
+pub mod SettlingLaws
+pub mod ChangingLaws
+pub mod StartLaws
+pub mod StartingLaws
