@@ -142,7 +142,12 @@ fn fill<D: Disk>(
 
 /// Names a next number that is not the list's.
 fn other_next(found: TxNo, wanted: TxNo) -> Damaged
-    ensures { result ≡ record { page = the_page; field = Field.Next; found = found.0; wanted = wanted.0 } }
+    ensures { result ≡ record {
+      page = the_page;
+      field = Field.Next;
+      found = found.0;
+      wanted = wanted.0;
+    } }
 {
     Damaged {
         page: PageNo(0),
