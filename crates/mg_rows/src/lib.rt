@@ -34,7 +34,7 @@ pub use fault::NewRowFault;
 pub use filtering::keep;
 pub use laws::{bound_values_fit, new_rows_fit, order_of_visits_is_nothing};
 pub use new_rows::{insert_row, update_rows};
-pub use ordering::{OrderBy, sort_by_column, sort_by_key};
+pub use ordering::{OrderBy, sort_by_key};
 pub use outcome::Outcome;
 pub use selecting::select;
 pub use statement_fault::StatementFault;

@@ -48,7 +48,7 @@ pub fn sort_by_key(rows: &mut Vec<Row>, key: u16)
 
 /// Sorts rows by a column, NULL least, and where they tie there by their primary keys, whose column
 /// is at a place, and which ascend also where the column descends. It takes no memory.
-pub fn sort_by_column(rows: &mut Vec<Row>, by: OrderBy, key: u16)
+pub(crate) fn sort_by_column(rows: &mut Vec<Row>, by: OrderBy, key: u16)
     ensures { AreSorted (column_cmp by key) rows.old.items rows.new.items }
 {
     rows.sort_unstable_by(|a, b| order_by(a, b, by, key));
