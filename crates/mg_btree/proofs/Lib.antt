@@ -1,0 +1,4 @@
+pub mod HalvesLemmas
+pub mod PutLemmas
+pub mod GrowingLemmas
+pub mod InsertingLemmas

@@ -27,7 +27,7 @@ own_is : (bytes : List ℕ) (n owner : ℕ) → PassesAll (node_checks bytes n o
 unfolding common_checks
 own_is bytes n owner passes = passes.1.1.1.0
 
-own_passes : (bytes : List ℕ) (n owner : ℕ) → PassesAll (node_checks bytes n owner)
+pub own_passes : (bytes : List ℕ) (n owner : ℕ) → PassesAll (node_checks bytes n owner)
     → PassesAll (node_checks bytes (u32_at bytes OWN_AT) owner)
 own_passes bytes n owner passes =
     subst (λ (k : ℕ). PassesAll (node_checks bytes k owner)) (sym (own_is bytes n owner passes)) passes

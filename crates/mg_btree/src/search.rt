@@ -116,7 +116,7 @@ pub(crate) fn circle(page: PageNo) -> Damaged {
 /// # Errors
 ///
 /// `Damaged` only where the page is in no tree; else the cache's.
-fn descend<D: Disk>(
+pub(crate) fn descend<D: Disk>(
     store: &mut Store<D>,
     batch: &Batch,
     owner: u32,

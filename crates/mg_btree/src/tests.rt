@@ -157,3 +157,104 @@ fn an_entry_is_taken_out_once(rt: HostRuntime) -> Result<(), Fail> {
     assert_eq!(rt; take(&mut store, &mut batch, &entry), Ok(false));
     Ok(())
 }
+
+/// A leaf without entries, as the only page of a tree.
+const EMPTY: &[u8] = &[0, 0, 0, 0, 0, 0, 0, 0, 28, 0, 0, 0];
+
+/// The entry of a key of 120 equal bytes, and a slot of page 9.
+fn long_entry(alloc: Global, key: u8) -> Result<Entry, Fail>
+    ensures len { IfOk result (λ e. length e.key ≡ 120) }
+    ensures child { IfOk result (λ e. e.child.0 ≡ 0) }
+{
+    Ok(Entry {
+        key: Bytes::new(vec![in alloc; key; 120]?),
+        rec: RecId {
+            page: PageNo(9),
+            slot: u16::from(key),
+        },
+        child: PageNo(0),
+    })
+}
+
+/// Puts such an entry into the tree, and keeps what the next call needs.
+fn put(store: &mut Store<MemDisk>, batch: &mut Batch, key: u8) -> Result<(), Fail>
+    requires pool { IsPool ⟦<MemDisk as Disk>⟧.meaning store.old }
+    requires geometry { IsGeometry store.old.geometry }
+    requires size { store.old.geometry.size ≡ 1024 }
+    requires whole { AreWhole 1024 batch.old.pages }
+    ensures pool { IsPool ⟦<MemDisk as Disk>⟧.meaning store.new }
+    ensures geometry { store.new.geometry ≡ store.old.geometry }
+    ensures whole { AreWhole 1024 batch.new.pages }
+{
+    let e = long_entry(store.alloc(), key)?;
+    match insert(store, batch, PageNo(5), &e) {
+        Ok(()) => Ok(()),
+        Err(_) => Err(Fail::from(Memory)),
+    }
+}
+
+/// Puts seven such entries into the tree: 28 + 7 * 128 bytes of its root are taken then.
+fn fill(store: &mut Store<MemDisk>, batch: &mut Batch) -> Result<(), Fail>
+    requires pool { IsPool ⟦<MemDisk as Disk>⟧.meaning store.old }
+    requires geometry { IsGeometry store.old.geometry }
+    requires size { store.old.geometry.size ≡ 1024 }
+    requires whole { AreWhole 1024 batch.old.pages }
+    ensures pool { IsPool ⟦<MemDisk as Disk>⟧.meaning store.new }
+    ensures geometry { store.new.geometry ≡ store.old.geometry }
+    ensures whole { AreWhole 1024 batch.new.pages }
+{
+    put(store, batch, 1)?;
+    put(store, batch, 2)?;
+    put(store, batch, 3)?;
+    put(store, batch, 4)?;
+    put(store, batch, 5)?;
+    put(store, batch, 6)?;
+    put(store, batch, 7)
+}
+
+/// Tells whether a batch has a page whose content begins so, behind the common part.
+fn has_content(batch: &Batch, page: PageNo, wanted: &[u8]) -> bool {
+    match batch.bytes(page) {
+        Some(bytes) => bytes.len() > 16 && bytes[16..].starts_with(wanted),
+        None => false,
+    }
+}
+
+#[test]
+fn a_root_splits_at_the_entry_that_does_not_fit(rt: HostRuntime) -> Result<(), Fail> {
+    let alloc = rt.alloc();
+    let mut store = store_with(alloc, EMPTY)?;
+    let mut batch = no_batch(alloc);
+    fill(&mut store, &mut batch)?;
+    // A leaf with seven entries, and no page was taken.
+    assert!(rt; has_content(&batch, PageNo(5), &[0, 0, 7, 0, 0, 0, 0, 0, 156, 3, 0, 0]));
+    assert!(rt; batch.bytes(PageNo(2)).is_none());
+    put(&mut store, &mut batch, 8)?;
+    // The root names page 2 by the least entry, and page 3 by the key of the fifth one.
+    assert!(rt;
+        has_content(
+            &batch,
+            PageNo(5),
+            &[
+                1, 0, 2, 0, 0, 0, 0, 0, 172, 0, 0, 0, 0, 0, 0, 0, 0, 0, 0, 0, 2, 0, 0, 0, 120, 0,
+                5, 5,
+            ]
+        )
+    );
+    // Page 2 has the first four entries and a high fence, and page 3 to its right the other four.
+    assert!(rt;
+        has_content(
+            &batch,
+            PageNo(2),
+            &[0, 0, 4, 0, 3, 0, 0, 0, 156, 2, 2, 0, 120, 0, 5, 5,]
+        )
+    );
+    assert!(rt;
+        has_content(
+            &batch,
+            PageNo(3),
+            &[0, 0, 4, 0, 0, 0, 0, 0, 156, 2, 1, 0, 120, 0, 5, 5,]
+        )
+    );
+    Ok(())
+}

@@ -1,0 +1,27 @@
+use Rattle.std.proofs.Common.{rules, ◌≡◌, ◌∙◌, length}
+use Rattle.mg_btree.specs.ChangeLaws.{written_back}
+use Rattle.mg_btree.proofs.HalvesLemmas.{pair_as}
+use Rattle.mg_btree.proofs.halves.split_pair.Goals as goal
+
+pub returns : goal.returns
+returns c =
+    let left = c.split.ensures.splits.left_size in
+    let right = c.split.ensures.splits.right_size in
+    let sizes = c.requires.sizes in
+    let left_len : c.into_vec-left.result.len ≡ length c.split.new.left = (search rules) in
+    let right_len : c.into_vec-right.result.len ≡ length c.split.new.right = (search rules) in
+    pair_as c.args.left c.deref_mut.result.now c.split.new.left c.split.new.right c.new.result
+    c.new-2.result c.args.at.0 (c.deref_mut.ensures.value ∙ c.into_vec-left.ensures)
+    (c.new.ensures ∙ written_back c.split.new.left c.into_vec-left.result.items
+    c.into_vec-left.result.len left_len)
+    (c.new-2.ensures ∙ written_back c.split.new.right c.into_vec-right.result.items
+    c.into_vec-right.result.len right_len)
+    (record {
+      splits = c.split.ensures.splits;
+      left_lawful = c.split.ensures.left_lawful;
+      right_lawful = c.split.ensures.right_lawful;
+      left_two = c.split.ensures.left_two;
+      right_two = c.split.ensures.right_two;
+      left_room = c.split.ensures.left_room;
+      right_room = c.split.ensures.right_room;
+    })

@@ -1,0 +1,42 @@
+use Rattle.std.proofs.Common.{refl, subst, Ok}
+use Rattle.mg_base.specs.declared.geometry.Geometry.{Geometry}
+use Rattle.mg_space.specs.View.{viewed}
+use Rattle.mg_btree.specs.declared.inserting.Leaf.{Leaf}
+use Rattle.mg_btree.specs.OrderLaws.{widens_same}
+use Rattle.mg_btree.specs.Ordering.{Widens}
+use Rattle.mg_btree.specs.PutAtLaws.{find_refused, insert_all}
+use Rattle.mg_btree.specs.ReadingLaws.{reads_on}
+use Rattle.mg_btree.specs.ScanLaws.{reads_err}
+use Rattle.mg_btree.proofs.inserting.insert.Goals as goal
+
+pub returns-in_err-leaf-clause-reads : goal.returns-in_err-leaf-clause-reads
+returns-in_err-leaf-clause-reads g c = reads_err Leaf g.D.Disk.meaning c.args.store.now
+    c.find_leaf.new.store c.in_err-leaf.field-0.0 c.from_residual.result c.from_residual.ensures.1
+    c.in_err-leaf.ensures.reads
+
+pub returns-in_err-leaf-clause-widens : goal.returns-in_err-leaf-clause-widens
+returns-in_err-leaf-clause-widens g c = widens_same c.args.store.now.geometry.size c.args.batch.now
+    c.args.batch.now refl
+
+pub returns-in_err-leaf-clause-inserts : goal.returns-in_err-leaf-clause-inserts
+returns-in_err-leaf-clause-inserts g c = λ image owner levels tells tree no_inventory. find_refused
+    c.args.store.now.geometry (viewed c.args.store.now image c.args.batch.now)
+    (viewed c.find_leaf.new.store image c.args.batch.now) c.args.batch.now c.args.batch.now owner
+    c.args.root.0 levels c.args.e.now c.in_err-leaf.field-0.0 c.from_residual.result
+    (c.in_err-leaf.ensures.finds image owner levels tells tree) c.from_residual.ensures.1
+
+pub returns-clause-reads : goal.returns-clause-reads
+returns-clause-reads g c = reads_on g.D.Disk.meaning g.met.D.Disk.counts_now c.args.store.now
+    c.find_leaf.new.store c.put_at.new.store (Ok c.in_ok-leaf.leaf) c.in_ok-leaf.leaf c.put_at.result
+    refl c.in_ok-leaf.ensures.reads c.put_at.ensures.reads
+
+pub returns-clause-widens : goal.returns-clause-widens
+returns-clause-widens g c = subst (λ (k : Geometry). Widens k.size c.args.batch.now c.put_at.new.batch)
+    c.in_ok-leaf.ensures.reads.keeps.geometry c.put_at.ensures.widens
+
+pub returns-clause-inserts : goal.returns-clause-inserts
+returns-clause-inserts g c = λ image owner levels tells tree no_inventory. insert_all g.D.Disk.meaning
+    c.args.store.now c.find_leaf.new.store c.put_at.new.store image c.in_ok-leaf.ensures.reads.keeps
+    c.put_at.ensures.reads.keeps c.args.batch.now c.put_at.new.batch owner c.args.root.0 levels
+    c.in_ok-leaf.leaf c.args.e.now c.put_at.result tells tree no_inventory
+    (c.in_ok-leaf.ensures.finds image owner levels tells tree) c.put_at.ensures.inserts

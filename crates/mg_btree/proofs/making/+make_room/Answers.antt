@@ -1,0 +1,141 @@
+use Rattle.std.proofs.Common.{rules, ◌≡◌, ◌≤◌, ◌<◌, ◌+◌, ◌/◌, ◌∙◌, refl, sym, subst, Ok, Err, ℕ, length, arith, None}
+use Rattle.mg_base.specs.declared.geometry.Geometry.{Geometry}
+use Rattle.mg_space.specs.Taking.{IsGeometry}
+use Rattle.mg_space.specs.View.{AreWhole, viewed}
+use Rattle.mg_btree.specs.declared.halves.PageBytes.{PageBytes}
+use Rattle.mg_btree.specs.ExitLaws.{reads_split}
+use Rattle.mg_btree.specs.Halves.{IsPlaceFor, IsRoomy}
+use Rattle.mg_btree.specs.Making.{SplitsIn}
+use Rattle.mg_btree.specs.MakingLaws.{above_made, rec_refused, split_put, take_refused}
+use Rattle.mg_btree.specs.OrderLaws.{widens_on}
+use Rattle.mg_btree.specs.Ordering.{Widens}
+use Rattle.mg_btree.specs.PutAtLaws.{reached_place}
+use Rattle.mg_btree.specs.ReadingLaws.{reads_on}
+use Rattle.mg_btree.specs.RoomLaws.{makes_nothing}
+use Rattle.mg_btree.specs.RoomyLaws.{split_roomy}
+use Rattle.mg_btree.specs.ScanLaws.{reads_err}
+use Rattle.mg_btree.specs.Searching.{IsReached}
+use Rattle.mg_btree.proofs.making.+make_room.Goals as goal
+
+pub returns-then-has_room-clause-makes : goal.returns-then-has_room-clause-makes
+returns-then-has_room-clause-makes g t c = λ image levels tells top stands. makes_nothing
+    c.args.store.now.geometry.size (viewed c.args.store.now image c.args.batch.now) c.args.batch.now
+    c.args.top.owner c.args.top.page.0 levels c.args.level c.args.full stands
+
+pub returns-in_err-split-clause-makes : goal.returns-in_err-split-clause-makes
+returns-in_err-split-clause-makes g t c = λ image levels tells top stands. take_refused
+    c.args.store.now.geometry (viewed c.args.store.now image c.args.batch.now)
+    (viewed c.args.store.now image c.take_above.new.batch) c.take_above.new.batch c.args.top.owner
+    c.args.top.page.0 c.args.level levels c.in_err-split.field-0.0 c.from_residual.result
+    (c.in_err-split.ensures.takes image levels tells top stands) c.from_residual.ensures.1
+
+pub make_room-requires : goal.make_room-requires
+make_room-requires g t c =
+    let keeps = c.in_ok-split.ensures.reads.keeps in
+    let is = c.in_ok-split.ensures.split in
+    let lower : c.args.level < c.args.top.level = (search rules) in
+    let geometry : IsGeometry c.take_above.new.store.geometry =
+    subst IsGeometry (sym keeps.geometry) c.requires.geometry in
+    let whole : AreWhole c.take_above.new.store.geometry.size c.take_above.new.batch.pages =
+    subst (λ (k : Geometry). AreWhole k.size c.take_above.new.batch.pages) (sym keeps.geometry)
+    (c.in_ok-split.ensures.widens.whole c.requires.whole) in
+    let online : c.take_above.new.store.offline ≡ None = keeps.offline ∙ c.requires.online in
+    let low : c.args.level + 1 ≤ c.args.top.level = omega (arith, lower) in
+    let place : IsPlaceFor c.take_above.new.store.geometry.size c.args.top.owner (c.args.level + 1)
+    c.in_ok-split.split.halves.fence c.as_place.result =
+    subst (λ (k : Geometry). IsPlaceFor k.size c.args.top.owner (c.args.level + 1)
+    c.in_ok-split.split.halves.fence c.as_place.result) (sym keeps.geometry)
+    (reached_place c.args.store.now.geometry.size c.args.top.owner (c.args.level + 1)
+    c.in_ok-split.split.halves.fence c.in_ok-split.split.above c.as_place.result
+    c.as_place.ensures.page c.as_place.ensures.bytes
+    (subst (λ (k : ℕ). IsReached c.args.store.now.geometry.size c.args.top.owner k
+    c.in_ok-split.split.halves.fence c.in_ok-split.split.above) (omega arith) is.above)) in
+    let short : length c.in_ok-split.split.halves.fence.key ≤ c.take_above.new.store.geometry.size / 8 =
+    subst (λ (k : Geometry). length c.in_ok-split.split.halves.fence.key ≤ k.size / 8)
+    (sym keeps.geometry) is.short in
+    (search rules)
+
+pub returns-in_err-roomy-clause-reads : goal.returns-in_err-roomy-clause-reads
+returns-in_err-roomy-clause-reads g t c = reads_on g.D.Disk.meaning g.met.D.Disk.counts_now
+    c.args.store.now c.take_above.new.store c.make_room.new.store (Ok c.in_ok-split.split)
+    c.in_ok-split.split c.from_residual-in_err-roomy.result refl c.in_ok-split.ensures.reads
+    (reads_err PageBytes g.D.Disk.meaning c.take_above.new.store c.make_room.new.store
+    c.in_err-roomy.field-0.0 c.from_residual-in_err-roomy.result c.from_residual-in_err-roomy.ensures.1
+    c.in_err-roomy.ensures.reads)
+
+pub returns-in_err-roomy-clause-widens : goal.returns-in_err-roomy-clause-widens
+returns-in_err-roomy-clause-widens g t c = widens_on c.args.store.now.geometry.size c.args.batch.now
+    c.take_above.new.batch c.make_room.new.batch c.in_ok-split.ensures.widens
+    (subst (λ (k : Geometry). Widens k.size c.take_above.new.batch c.make_room.new.batch)
+    c.in_ok-split.ensures.reads.keeps.geometry c.in_err-roomy.ensures.widens)
+
+pub returns-in_err-roomy-clause-makes : goal.returns-in_err-roomy-clause-makes
+returns-in_err-roomy-clause-makes g t c = λ image levels tells top stands.
+    let lower : c.args.level < c.args.top.level = (search rules) in
+    rec_refused g.D.Disk.meaning c.args.store.now c.take_above.new.store image
+    c.in_ok-split.ensures.reads.keeps c.requires.geometry c.args.batch.now c.take_above.new.batch
+    c.make_room.new.batch c.args.top.owner c.args.top.page.0 c.args.level c.args.top.level levels
+    c.args.full c.in_ok-split.split c.as_place.result (Err c.in_err-roomy.field-0.0)
+    c.as_place.ensures.page c.as_place.ensures.bytes tells lower top stands
+    (c.in_ok-split.ensures.takes image levels tells top stands) c.in_err-roomy.ensures.makes
+    c.make_room.new.batch (viewed c.args.store.now image c.make_room.new.batch) c.in_err-roomy.field-0.0
+    c.from_residual-in_err-roomy.result refl c.from_residual-in_err-roomy.ensures.1
+
+pub returns-clause-reads : goal.returns-clause-reads
+returns-clause-reads g t c = reads_split g.D.Disk.meaning c.args.store.now c.make_room.new.store
+    (Ok c.in_ok-roomy.roomy) c.in_ok-roomy.roomy c.make_room.new.store.geometry.size
+    c.make_room.new.batch c.put_split.new.batch c.in_ok-split.split.halves c.in_ok-roomy.roomy
+    c.args.e.now c.put_split.result refl
+    (reads_on g.D.Disk.meaning g.met.D.Disk.counts_now c.args.store.now c.take_above.new.store
+    c.make_room.new.store (Ok c.in_ok-split.split) c.in_ok-split.split (Ok c.in_ok-roomy.roomy) refl
+    c.in_ok-split.ensures.reads c.in_ok-roomy.ensures.reads) c.put_split.ensures.splits
+
+pub returns-clause-widens : goal.returns-clause-widens
+returns-clause-widens g t c =
+    let first = c.in_ok-split.ensures.reads.keeps.geometry in
+    let second = c.in_ok-roomy.ensures.reads.keeps.geometry ∙ first in
+    widens_on c.args.store.now.geometry.size c.args.batch.now c.make_room.new.batch
+    c.put_split.new.batch (widens_on c.args.store.now.geometry.size c.args.batch.now
+    c.take_above.new.batch c.make_room.new.batch c.in_ok-split.ensures.widens
+    (subst (λ (k : Geometry). Widens k.size c.take_above.new.batch c.make_room.new.batch) first
+    c.in_ok-roomy.ensures.widens))
+    (subst (λ (k : Geometry). Widens k.size c.make_room.new.batch c.put_split.new.batch) second
+    c.put_split.ensures.widens)
+
+pub returns-clause-roomy : goal.returns-clause-roomy
+returns-clause-roomy g t c =
+    let second = c.in_ok-roomy.ensures.reads.keeps.geometry ∙ c.in_ok-split.ensures.reads.keeps.geometry in
+    split_roomy c.args.store.now.geometry.size c.args.top.owner c.args.level c.make_room.new.batch
+    c.put_split.new.batch c.args.full c.in_ok-roomy.roomy c.in_ok-split.ensures.split.at
+    c.in_ok-split.split.halves c.args.e.now c.put_split.result c.requires.place c.requires.short
+    c.in_ok-split.ensures.split.halves
+    (subst (λ (k : Geometry). SplitsIn k.size c.make_room.new.batch c.put_split.new.batch
+    c.in_ok-split.split.halves c.in_ok-roomy.roomy c.args.e.now c.put_split.result) second
+    c.put_split.ensures.splits)
+
+pub returns-clause-makes : goal.returns-clause-makes
+returns-clause-makes g t c = λ image levels tells top stands.
+    let lower : c.args.level < c.args.top.level = (search rules) in
+    let first = c.in_ok-split.ensures.reads.keeps.geometry in
+    let second = c.in_ok-roomy.ensures.reads.keeps.geometry ∙ first in
+    let takes = c.in_ok-split.ensures.takes image levels tells top stands in
+    split_put c.args.store.now image c.requires.geometry c.args.batch.now c.take_above.new.batch
+    c.make_room.new.batch c.put_split.new.batch c.args.top.owner c.args.top.page.0 c.args.level
+    c.args.top.level levels c.args.full c.in_ok-roomy.roomy c.in_ok-split.split c.args.e.now
+    c.requires.place lower top stands c.in_ok-split.ensures.split takes
+    (subst (λ (k : ℕ). IsRoomy c.args.store.now.geometry.size c.args.top.owner k
+    c.in_ok-split.split.halves.fence c.in_ok-roomy.roomy) (omega arith)
+    (subst (λ (k : Geometry). IsRoomy k.size c.args.top.owner (c.args.level + 1)
+    c.in_ok-split.split.halves.fence c.in_ok-roomy.roomy) first c.in_ok-roomy.ensures.roomy))
+    (above_made g.D.Disk.meaning c.args.store.now c.take_above.new.store image
+    c.in_ok-split.ensures.reads.keeps c.requires.geometry c.args.batch.now c.take_above.new.batch
+    c.make_room.new.batch c.args.top.owner c.args.top.page.0 c.args.level c.args.top.level levels
+    c.args.full c.in_ok-split.split c.as_place.result (Ok c.in_ok-roomy.roomy) c.as_place.ensures.page
+    c.as_place.ensures.bytes tells lower top stands takes c.in_ok-roomy.ensures.makes)
+    (subst (λ (k : Geometry). Widens k.size c.take_above.new.batch c.make_room.new.batch) first
+    c.in_ok-roomy.ensures.widens)
+    (subst (λ (k : Geometry). Widens k.size c.make_room.new.batch c.put_split.new.batch) second
+    c.put_split.ensures.widens) c.put_split.result
+    (subst (λ (k : Geometry). SplitsIn k.size c.make_room.new.batch c.put_split.new.batch
+    c.in_ok-split.split.halves c.in_ok-roomy.roomy c.args.e.now c.put_split.result) second
+    c.put_split.ensures.splits)

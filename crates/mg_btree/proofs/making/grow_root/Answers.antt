@@ -1,0 +1,72 @@
+use Rattle.std.proofs.Common.{refl, subst, Ok, Err, arith}
+use Rattle.mg_base.specs.declared.geometry.Geometry.{Geometry}
+use Rattle.mg_space.specs.View.{viewed}
+use Rattle.mg_space.specs.declared.fault.SpaceFault.TheVariants.{Damaged as OfPage}
+use Rattle.mg_btree.specs.declared.growing.TwoPages.{TwoPages}
+use Rattle.mg_btree.specs.ExitLaws.{online_itself, reads_damage, reads_ok}
+use Rattle.mg_btree.specs.GrownLaws.{high_refused, root_put, two_refused}
+use Rattle.mg_btree.specs.Making.{SplitsRoot}
+use Rattle.mg_btree.specs.OrderLaws.{widens_on, widens_same}
+use Rattle.mg_btree.specs.Ordering.{Widens}
+use Rattle.mg_btree.specs.RoomyLaws.{root_roomy}
+use Rattle.mg_btree.specs.ScanLaws.{reads_err}
+use Rattle.mg_btree.proofs.making.grow_root.Goals as goal
+
+pub returns-then-top-eq65535-clause-reads : goal.returns-then-top-eq65535-clause-reads
+returns-then-top-eq65535-clause-reads g c = reads_damage g.D.Disk.meaning c.args.store.now
+    c.args.store.now (Ok tt) tt (Err (OfPage c.too_high.result)) c.too_high.result refl
+    (online_itself g.D.Disk.meaning c.args.store.now c.requires.pool c.requires.online) refl
+
+pub returns-then-top-eq65535-clause-widens : goal.returns-then-top-eq65535-clause-widens
+returns-then-top-eq65535-clause-widens g c = widens_same c.args.store.now.geometry.size
+    c.args.batch.now c.args.batch.now refl
+
+pub returns-then-top-eq65535-clause-makes : goal.returns-then-top-eq65535-clause-makes
+returns-then-top-eq65535-clause-makes g c = λ image levels tells top stands. high_refused
+    c.args.store.now.geometry (viewed c.args.store.now image c.args.batch.now)
+    (viewed c.args.store.now image c.args.batch.now) c.args.batch.now c.args.top.owner
+    c.args.top.page.0 c.args.top.level levels c.too_high.result (Err (OfPage c.too_high.result)) top
+    (omega arith) refl
+
+pub returns-in_err-two-clause-reads : goal.returns-in_err-two-clause-reads
+returns-in_err-two-clause-reads g c = reads_err TwoPages g.D.Disk.meaning c.args.store.now
+    c.take_two.new.store c.in_err-two.field-0.0 c.from_residual.result c.from_residual.ensures.1
+    c.in_err-two.ensures.reads
+
+pub returns-in_err-two-clause-makes : goal.returns-in_err-two-clause-makes
+returns-in_err-two-clause-makes g c = λ image levels tells top stands. two_refused
+    c.args.store.now.geometry (viewed c.args.store.now image c.args.batch.now)
+    (viewed c.args.store.now image c.take_two.new.batch) c.take_two.new.batch c.args.top.owner
+    c.args.top.page.0 c.args.top.level levels c.in_err-two.field-0.0 c.from_residual.result top
+    (c.in_err-two.ensures.takes image tells) c.from_residual.ensures.1
+
+pub returns-clause-reads : goal.returns-clause-reads
+returns-clause-reads g c = reads_ok g.D.Disk.meaning c.args.store.now c.take_two.new.store
+    (Ok c.in_ok-two.two) c.in_ok-two.two c.in_ok-put_growth.field-0 refl c.in_ok-two.ensures.reads
+
+pub returns-clause-widens : goal.returns-clause-widens
+returns-clause-widens g c = widens_on c.args.store.now.geometry.size c.args.batch.now
+    c.take_two.new.batch c.put_growth.new.batch c.in_ok-two.ensures.widens
+    (subst (λ (k : Geometry). Widens k.size c.take_two.new.batch c.put_growth.new.batch)
+    c.in_ok-two.ensures.reads.keeps.geometry c.in_ok-put_growth.ensures.widens)
+
+pub returns-clause-roomy : goal.returns-clause-roomy
+returns-clause-roomy g c = root_roomy c.args.store.now.geometry.size c.args.top.owner c.args.top.level
+    c.take_two.new.batch c.put_growth.new.batch c.args.full c.in_ok-two.two c.args.e.now
+    c.in_ok-put_growth.field-0 c.requires.place c.requires.short
+    (subst (λ (k : Geometry). SplitsRoot k.size c.take_two.new.batch c.put_growth.new.batch
+    c.args.top.owner c.args.top.level c.args.full c.in_ok-two.two c.args.e.now
+    c.in_ok-put_growth.field-0) c.in_ok-two.ensures.reads.keeps.geometry
+    c.in_ok-put_growth.ensures.splits)
+
+pub returns-clause-makes : goal.returns-clause-makes
+returns-clause-makes g c = λ image levels tells top stands. root_put c.args.store.now image
+    c.requires.geometry c.args.batch.now c.take_two.new.batch c.put_growth.new.batch c.args.top.owner
+    c.args.top.page.0 c.args.top.level levels c.args.full c.in_ok-two.two c.args.e.now
+    c.in_ok-put_growth.field-0 stands c.requires.place top (c.in_ok-two.ensures.takes image tells)
+    (subst (λ (k : Geometry). Widens k.size c.take_two.new.batch c.put_growth.new.batch)
+    c.in_ok-two.ensures.reads.keeps.geometry c.in_ok-put_growth.ensures.widens)
+    (subst (λ (k : Geometry). SplitsRoot k.size c.take_two.new.batch c.put_growth.new.batch
+    c.args.top.owner c.args.top.level c.args.full c.in_ok-two.two c.args.e.now
+    c.in_ok-put_growth.field-0) c.in_ok-two.ensures.reads.keeps.geometry
+    c.in_ok-put_growth.ensures.splits)

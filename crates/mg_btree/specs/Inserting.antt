@@ -1,0 +1,71 @@
+-- An entry is put into a tree.
+use Rattle.std.specs.Prelude.{◌≡◌, ◌≢◌, ◌⊎◌, ℕ, List, length, Result, Ok, Err}
+use Rattle.mg_base.specs.declared.geometry.Geometry.{Geometry}
+use Rattle.mg_node.specs.declared.entry.Entry.{Entry}
+use Rattle.mg_node.specs.NodePage.{IsNodePage, level_in}
+use Rattle.mg_image.specs.Form.{Pages}
+use Rattle.mg_image.specs.Indexes.{Finds, IsTree}
+use Rattle.mg_node_writing.specs.NodeChanges.{InsertsEntry, IsEntryOf}
+use Rattle.mg_pool.specs.Batch.{Changed, PutsPage, content_in, lists}
+use Rattle.mg_space.specs.declared.fault.SpaceFault.{SpaceFault}
+use Rattle.mg_space.specs.declared.fault.SpaceFault.TheVariants.{Full, Pool as OfPool, Damaged as OfPage}
+use Rattle.mg_tree_overlays.specs.TreeSteps.{InTree}
+use Rattle.mg_tree_overlays.specs.TreesBehind.{Covers}
+use Rattle.mg_tree_overlays.specs.TreeBatches.{Add, ChangesTree}
+use Rattle.mg_btree.specs.declared.halves.PageBytes.{PageBytes}
+use Rattle.mg_btree.specs.declared.inserting.Leaf.{Leaf}
+use Rattle.mg_btree.specs.Changing.{HasNoInventory}
+use Rattle.mg_btree.specs.Halves.{HasRoom}
+use Rattle.mg_btree.specs.Rooms.{RefusesRoom}
+
+-- in a tree the leaf that covers an entry was read, with what the root says of its tree
+abbrev pub FindsLeaf : Pages → ℕ → ℕ → List (List ℕ) → Result Leaf SpaceFault → Type 0
+FindsLeaf pages owner root levels (Ok leaf) = (leaf.top.page.0 ≡ root) × (leaf.top.owner ≡ owner)
+    × (leaf.top.level ≡ level_in (pages root)) × (leaf.read.bytes ≡ pages leaf.read.page.0)
+    × InTree levels leaf.read.page.0
+FindsLeaf pages owner root levels (Err (Full limit)) = ⊥
+FindsLeaf pages owner root levels (Err (OfPage damage)) = ⊥
+FindsLeaf pages owner root levels (Err (OfPool fault)) = Unit {0}
+
+-- A batch gets a leaf with an entry more, unless the leaf had it.
+pub record PutsWith (old new : Changed) (page : PageBytes) (e : Entry) : Type 0 where
+  pub bytes : List ℕ
+  pub inserts : (IsEntryOf page.bytes e → ⊥) → InsertsEntry page.bytes bytes e
+  pub lawful : IsNodePage bytes
+  pub len : length bytes ≡ length page.bytes
+  pub puts : PutsPage old new page.page.0 bytes
+
+-- An entry is in a tree that was not there, by a row of steps: it is found now, beside those that
+-- were, and no other. Where its leaf has room for it the leaf alone changes, without an order.
+pub record PutsIn (size : ℕ) (old new : Pages) (before batch : Changed) (owner root : ℕ)
+    (levels : List (List ℕ)) (e : Entry) : Type 0 where
+  pub ends : List (List ℕ)
+  pub row : ChangesTree size owner root (content_in batch.pages) (lists batch.orders) (Add e) old
+      levels new ends
+  pub tree : IsTree size new owner root ends
+  pub no_inventory : HasNoInventory size ends
+  pub has : Finds new e root
+  pub keeps : (f : Entry) → Finds old f root → Finds new f root
+  pub only : (f : Entry) → Finds new f root → Finds old f root ⊎ (f ≡ e)
+  pub once : Finds old e root → batch ≡ before
+  pub in_place : (n : ℕ) → InTree levels n → level_in (old n) ≡ 0 → Covers old n e
+      → HasRoom (old n) e → ((m : ℕ) → m ≢ n → new m ≡ old m) × (batch.orders ≡ before.orders)
+
+-- why an entry is not put into a tree: a page that is needed is not taken, which comes only where the
+-- entry is not there and its leaf has no room; or the cache refuses
+pub record RefusesInsert (g : Geometry) (old : Pages) (root : ℕ) (levels : List (List ℕ)) (e : Entry)
+    (fault : SpaceFault) : Type 0 where
+  pub refused : RefusesRoom g old root 0 fault
+  pub absent : Finds old e root → ⊥
+  pub no_room : (n : ℕ) → InTree levels n → level_in (old n) ≡ 0 → Covers old n e
+      → HasRoom (old n) e → ⊥
+
+abbrev pub Inserts : Geometry → Pages → Pages → Changed → Changed → ℕ → ℕ → List (List ℕ) → Entry
+    → Result (Unit {0}) SpaceFault → Type 0
+Inserts g old new before batch owner root levels e (Ok done_) =
+    PutsIn g.size old new before batch owner root levels e
+Inserts g old new before batch owner root levels e (Err (Full limit)) =
+    RefusesInsert g old root levels e (Full limit)
+Inserts g old new before batch owner root levels e (Err (OfPage damage)) =
+    RefusesInsert g old root levels e (OfPage damage)
+Inserts g old new before batch owner root levels e (Err (OfPool fault)) = Unit {0}

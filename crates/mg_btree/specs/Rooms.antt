@@ -1,0 +1,69 @@
+-- A page of a level gets room for an entry: what becomes of the tree, and why it may be refused.
+use Rattle.std.specs.Prelude.{◌≡◌, ◌≢◌, ◌<◌, ◌≤◌, ◌-◌, ◌⊎◌, ◌∷◌, [], ℕ, suc, false, List, length, None, Result, Ok, Err}
+use Rattle.mg_base.specs.declared.geometry.Geometry.{Geometry}
+use Rattle.mg_node.specs.NodePage.{level_in}
+use Rattle.mg_image.specs.Form.{Pages}
+use Rattle.mg_image.specs.Indexes.{IsTree}
+use Rattle.mg_image.specs.Inventory.{is_used}
+use Rattle.mg_pool.specs.Batch.{Changed, content_in, lists}
+use Rattle.mg_space.specs.Taking.{RefusesTake, TakesPage}
+use Rattle.mg_space.specs.declared.fault.SpaceFault.{SpaceFault}
+use Rattle.mg_space.specs.declared.fault.SpaceFault.TheVariants.{Full, Pool as OfPool, Damaged as OfPage}
+use Rattle.mg_tree_overlays.specs.TreeSteps.{InTree, StaysUsed}
+use Rattle.mg_tree_overlays.specs.TreeBatches.{ChangesTree, Stay, inventory_of}
+use Rattle.mg_btree.specs.declared.halves.PageBytes.{PageBytes}
+use Rattle.mg_btree.specs.Changing.{HasNoInventory}
+
+-- pages are taken, one after another
+abbrev pub TakesEach : Geometry → Pages → List ℕ → Pages → Type 0
+TakesEach g old [] new = new ≡ old
+TakesEach g old (n ∷ ns) new = (next : Pages) × TakesPage g old next n × TakesEach g next ns new
+
+-- A page was taken, and its inventory page is one of a batch.
+pub record TakesInto (g : Geometry) (old new : Pages) (batch : Changed) (n : ℕ) : Type 0 where
+  pub takes : TakesPage g old new n
+  pub put : content_in batch.pages (inventory_of g.size n) ≢ None
+
+-- A page is refused after so many were taken, at most.
+pub record RefusesAfter (g : Geometry) (old : Pages) (most : ℕ) (fault : SpaceFault) : Type 0 where
+  pub taken : List ℕ
+  pub few : length taken ≤ most
+  pub mid : Pages
+  pub takes : TakesEach g old taken mid
+  pub refused : RefusesTake g mid fault
+
+-- In a tree, as one that fills a batch sees it, a page of a level has the bytes that were read.
+pub record StandsIn (size : ℕ) (pages : Pages) (owner root : ℕ) (levels : List (List ℕ))
+    (page : PageBytes) : Type 0 where
+  pub tree : IsTree size pages owner root levels
+  pub no_inventory : HasNoInventory size levels
+  pub bytes : page.bytes ≡ pages page.page.0
+  pub placed : InTree levels page.page.0
+
+-- A tree is changed by a row of steps that leave its entries, after which a page of it has these
+-- bytes. Its pages below a level stay as they were; it has new pages, which were not used.
+pub record MakesRoom (size : ℕ) (old new : Pages) (batch : Changed) (owner root : ℕ)
+    (levels : List (List ℕ)) (level : ℕ) (page : PageBytes) : Type 0 where
+  pub ends : List (List ℕ)
+  pub row : ChangesTree size owner root (content_in batch.pages) (lists batch.orders) Stay old levels
+      new ends
+  pub stands : StandsIn size new owner root ends page
+  pub wider : (n : ℕ) → InTree levels n → InTree ends n
+  pub used : StaysUsed size old new
+  pub fresh : (n : ℕ) → InTree ends n → InTree levels n ⊎ (is_used size old n ≡ false)
+  pub stays : (n : ℕ) → InTree levels n → level_in (old n) < level → new n ≡ old n
+
+-- in a tree a page is refused only after the pages that it needs above a level were taken, but for the
+-- last of them; or the root stands on the highest level that there is
+abbrev pub RefusesRoom : Geometry → Pages → ℕ → ℕ → SpaceFault → Type 0
+RefusesRoom g old root level (Full limit) = RefusesAfter g old (suc (level_in (old root)) - level) (Full limit)
+RefusesRoom g old root level (OfPage damage) = RefusesAfter g old (suc (level_in (old root)) - level) (OfPage damage)
+    ⊎ (level_in (old root) ≡ 65535)
+RefusesRoom g old root level (OfPool fault) = Unit {0}
+
+-- in a tree room is made, or it is refused
+abbrev pub MakesRoomIn : Geometry → Pages → Pages → Changed → ℕ → ℕ → List (List ℕ) → ℕ
+    → Result PageBytes SpaceFault → Type 0
+MakesRoomIn g old new batch owner root levels level (Ok page) =
+    MakesRoom g.size old new batch owner root levels level page
+MakesRoomIn g old new batch owner root levels level (Err fault) = RefusesRoom g old root level fault
