@@ -17,9 +17,9 @@ use Rattle.mg_version.specs.declared.cell.Cell.TheVariants as cells
 use Rattle.mg_version.specs.declared.cell.Link.{Link}
 use Rattle.mg_version.specs.declared.cell.Version.{Version}
 use Rattle.mg_seek.specs.declared.walk.Placed.{Placed}
-use Rattle.mg_seek.specs.declared.whose.Wanted.TheVariants.{Living, SeenBy}
-use Rattle.mg_seek.specs.Readings.{IsReadAt, ObstaclesOfReadings, PlacesOfReadings, RowsOfReadings, SpeakIn, SpeakersOfReadings, obstacle_by, placed_if}
-use Rattle.mg_seek.specs.Rows.{GivesRow, IsRowFound, IsRowOr}
+use Rattle.mg_seek.specs.declared.whose.Wanted.TheVariants.{Any, Living, SeenBy}
+use Rattle.mg_seek.specs.Readings.{IsReadAt, KeysOfReadings, ObstaclesOfReadings, PlacesOfReadings, RowsOfReadings, SpeakIn, SpeakersOfReadings, key_in, obstacle_by, placed_if}
+use Rattle.mg_seek.specs.Rows.{GivesRow, IsKeyFound, IsRowFound, IsRowOr}
 use Rattle.mg_seek.specs.Speaking.{Speaks, is_erased_for_all}
 use Rattle.mg_seek.specs.Versions.{FirstAt, is_it, is_older, placed, stops, wants}
 use Rattle.mg_seek.specs.Views.{IsObstacle, IsRowSeen, obstacle_in, obstacle_of}
@@ -187,6 +187,37 @@ module _ (one : RowsAreOne packed_coding) (view : Pages) (table : Table) (rec : 
         given = gives_read (wants state live Living) speak.newest speak.first;
         keyed = keyed_read (wants state live Living) speak.newest speak.first ∙ speak.keyed;
       }
+
+  key_of_first : (state : ℕ → TxState) (live : State) (found : Option Placed) (key : Option Value)
+      → FirstAt (cells_of view) (wants state live Any) (newest_link view rec) found
+      → IsKeyFound table found key → key ≡ key_in table (r rec)
+  key_of_first state live None key first gives = gives ∙ at (r rec) refl
+      (none_placed (first_entry (wants state live Any) (r rec)) (places (wants state live Any) None first))
+    where
+      at : (es : List Entry) → r rec ≡ es → first_entry (wants state live Any) es ≡ None
+          → None ≡ key_in table es
+      at [] is none = refl
+      at (e ∷ es) is none = absurd cc
+  key_of_first state live (Some p) key first gives =
+      at (some_placed (first_entry (wants state live Any) (r rec)) p
+      (places (wants state live Any) (Some p) first))
+    where
+      whole : (es : List Entry) (e : Entry) → first_entry (wants state live Any) es ≡ Some e
+          → Some (record_key table es) ≡ key_in table es
+      whole [] e is = absurd cc
+      whole (d ∷ es) e is = refl
+
+      at : (e : Entry) × (first_entry (wants state live Any) (r rec) ≡ Some e)
+          × (placed e.at e.version ≡ p) → key ≡ key_in table (r rec)
+      at (e, is, same) = gives.2
+          ∙ ap (λ (x : Row). Some (key_of table x)) (same_row_given p.version e.version gives.0 e.row
+          (sym (ap (λ (x : Placed). x.version) same)) gives.1 (gives_read (wants state live Any) e is))
+          ∙ ap (λ (v : Value). Some v) (keyed_read (wants state live Any) e is)
+          ∙ whole (r rec) e is
+
+pub keys_of_readings : RowsAreOne packed_coding → KeysOfReadings
+keys_of_readings one state live view table rec key f r read is =
+    key_of_first one view table rec f r read state live is.newest key is.first is.gives
 
 pub rows_of_readings : RowsAreOne packed_coding → RowsOfReadings
 rows_of_readings one state live t view table rec row f r read seen =

@@ -32,12 +32,12 @@ use Rattle.mg_version.specs.declared.cell.Cell.TheVariants as cells
 use Rattle.mg_version.specs.declared.cell.Link.{Link}
 use Rattle.mg_version.specs.declared.cell.Version.{Version}
 use Rattle.mg_seek.specs.declared.walk.Placed.{Placed}
-use Rattle.mg_seek.specs.declared.whose.Wanted.TheVariants.{Living, SeenBy}
+use Rattle.mg_seek.specs.declared.whose.Wanted.TheVariants.{Any, Living, SeenBy}
 use Rattle.mg_seek.specs.Refusals.{IsRecordDamage, RefusesRecord, bad_body, bad_chain}
-use Rattle.mg_seek.specs.Rows.{GivesRow, IsRowFound, IsRowOr, RefusesRowOf}
+use Rattle.mg_seek.specs.Rows.{GivesRow, IsKeyFound, IsRowFound, IsRowOr, RefusesRowOf}
 use Rattle.mg_seek.specs.Speaking.{Speaks, is_erased_for_all}
 use Rattle.mg_seek.specs.Versions.{FirstAt, IsFirst, is_it, is_older, placed, stops, wants}
-use Rattle.mg_seek.specs.Views.{IsRowSeen}
+use Rattle.mg_seek.specs.Views.{IsKeyOf, IsRowSeen}
 
 -- ---- what a later call tells
 
@@ -187,6 +187,28 @@ module _ (state : ℕ → TxState) (live : State) (t : TxNo) (view : Pages) (tab
       gives = subst (λ (x : Option Placed). IsRowFound table x (Some row)) (sym is)
           (its_row p false (Some row) alive (row, refl, given));
     }
+
+-- ---- the key
+
+pub no_key : (state : ℕ → TxState) (live : State) (view : Pages) (table : Table) (rec : RecId)
+    (found : Option Placed) → IsFirst view (wants state live Any) rec found → found ≡ None
+    → IsKeyOf state live view table rec None
+no_key state live view table rec found first is = record {
+  newest = found;
+  first = first;
+  gives = subst (λ (x : Option Placed). IsKeyFound table x None) (sym is) refl;
+}
+
+pub key_given : (state : ℕ → TxState) (live : State) (view : Pages) (table : Table) (rec : RecId)
+    (found : Option Placed) (p : Placed) (row : Row) (key : Value)
+    → IsFirst view (wants state live Any) rec found → found ≡ Some p → GivesRow table p.version row
+    → key ≡ key_of table row → IsKeyOf state live view table rec (Some key)
+key_given state live view table rec found p row key first is given keyed = record {
+  newest = found;
+  first = first;
+  gives = subst (λ (x : Option Placed). IsKeyFound table x (Some key)) (sym is)
+      (row, given, ap (λ (v : Value). Some v) keyed);
+}
 
 -- ---- whether a record speaks
 

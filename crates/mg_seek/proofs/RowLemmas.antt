@@ -92,13 +92,6 @@ row_given table p columns (Ok row) is coded storable refused = record {
 row_given table p columns (Err fault) is coded storable refused =
     subst (λ (cs : List Column). RefusesBody cs p fault) is refused
 
--- memory was wanting before a body was read
-pub memory_refuses : (table : Table) (p : Placed) (result : Result Row SpaceFault) (fault : SpaceFault)
-    → IsErr result → IsErrAnd result (λ given. given ≡ fault) → RefusesRowOf table p fault
-    → MatchResult result (GivesRow table p.version) (RefusesRowOf table p)
-memory_refuses table p (Ok row) fault err is refused = absurd cc
-memory_refuses table p (Err given) fault err is refused = subst (RefusesRowOf table p) (sym is) refused
-
 -- ---- damage
 
 -- a body that is no packed text, as it is told

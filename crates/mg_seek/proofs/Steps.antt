@@ -69,18 +69,6 @@ met_on m a b c image batch holder l result kept tells gives =
     subst Q kept.geometry
     (subst P (viewed_on m a b image batch kept) (gives image (tells_on m a b image kept tells)))
 
--- an empty batch shows what the cache shows
-pub through_empty : {D L T : Type 0} (store : Pool D L) (image : Image) (batch : Changed)
-    (result : Result T SpaceFault) (P : Pages → T → Type 0)
-    (Q : List BatchPage → Pages → SpaceFault → Type 0) → batch.pages ≡ []
-    → MatchResult result (P (viewed store image batch)) (Q batch.pages (viewed store image batch))
-    → MatchResult result (P (shown store.dirty image)) (Q [] (shown store.dirty image))
-through_empty store image batch result P Q empty given =
-    let R : List BatchPage → Type 0 = λ pages. MatchResult result
-    (P (λ n. unwrap_or (content_in pages n) (shown store.dirty image n)))
-    (Q pages (λ n. unwrap_or (content_in pages n) (shown store.dirty image n))) in
-    subst R empty given
-
 -- ---- the walk
 
 pub starts_at : (view : Pages) (rec : RecId) (found : Option Link) (l : Link)

@@ -1,5 +1,5 @@
 -- What is found of a record, in the terms of a reading of the image.
-use Rattle.std.specs.Prelude.{◌≡◌, ◌↔◌, ℕ, Bool, false, List, Option, None, Some}
+use Rattle.std.specs.Prelude.{◌≡◌, ◌↔◌, ℕ, Bool, false, List, [], ◌∷◌, Option, None, Some}
 use Rattle.mg_base.specs.declared.numbers.RecId.{RecId}
 use Rattle.mg_base.specs.declared.numbers.TxNo.{TxNo}
 use Rattle.mg_base.specs.declared.transaction.TxState.{TxState}
@@ -18,7 +18,7 @@ use Rattle.mg_seek.specs.declared.walk.Placed.{Placed}
 use Rattle.mg_seek.specs.declared.whose.Wanted.TheVariants.{Living}
 use Rattle.mg_seek.specs.Speaking.{Speaks, is_erased_for_all}
 use Rattle.mg_seek.specs.Versions.{FirstAt, placed, wants}
-use Rattle.mg_seek.specs.Views.{IsObstacle, IsRowSeen, obstacle_of}
+use Rattle.mg_seek.specs.Views.{IsKeyOf, IsObstacle, IsRowSeen, obstacle_of}
 
 -- an entry's version where it stands, if there is one
 abbrev pub placed_if : Option Entry → Option Placed
@@ -43,6 +43,16 @@ RowsOfReadings = (state : ℕ → TxState) (live : State) (t : TxNo) (view : Pag
     (rec : RecId) (row : Option Row) (f : Facts) (r : Reading) → IsReadAt view f r table rec
     → IsRowSeen state live t view table rec row
     → row ≡ shown (takes_version state live t.0) (r rec)
+
+-- the key of a record is that of its versions in every reading, none where it has none
+abbrev pub key_in : Table → List Entry → Option Value
+key_in table [] = None
+key_in table (e ∷ es) = Some (record_key table (e ∷ es))
+
+abbrev pub KeysOfReadings : Type 0
+KeysOfReadings = (state : ℕ → TxState) (live : State) (view : Pages) (table : Table) (rec : RecId)
+    (key : Option Value) (f : Facts) (r : Reading) → IsReadAt view f r table rec
+    → IsKeyOf state live view table rec key → key ≡ key_in table (r rec)
 
 -- These versions of a record speak for a key: the newest that is no dead transaction's is no
 -- committed deletion that every base sees, and the record has the key.

@@ -5,6 +5,7 @@ use Rattle.mg_base.specs.declared.damage.Field.TheVariants as fields
 use Rattle.mg_chain.specs.Refusals.{damage}
 use Rattle.mg_image.specs.Form.{Row}
 use Rattle.mg_image.specs.RecordRules.{columns_for}
+use Rattle.mg_image.specs.Records.{key_of}
 use Rattle.mg_model.specs.declared.table.Table.{Table}
 use Rattle.mg_pool.specs.declared.fault.PoolFault.TheVariants as pool_faults
 use Rattle.mg_rle.specs.Runs.{BreaksAt}
@@ -69,3 +70,9 @@ IsRowOr false table v row = (its : Row) × (row ≡ Some its) × GivesRow table 
 abbrev pub IsRowFound : Table → Option Placed → Option Row → Type 0
 IsRowFound table None row = row ≡ None
 IsRowFound table (Some p) row = IsRowOr p.version.deleted table p.version row
+
+-- the key of the row that the version found gives, none where none was found
+abbrev pub IsKeyFound : Table → Option Placed → Option Value → Type 0
+IsKeyFound table None key = key ≡ None
+IsKeyFound table (Some p) key =
+    (row : Row) × GivesRow table p.version row × (key ≡ Some (key_of table row))

@@ -8,11 +8,12 @@ use Rattle.mg_image.specs.Form.{Pages, Row}
 use Rattle.mg_model.specs.Answers.{is_committed, is_open}
 use Rattle.mg_model.specs.declared.table.Table.{Table}
 use Rattle.mg_snap.specs.Live.{State, sees}
+use Rattle.mg_value.specs.declared.value.Value.{Value}
 use Rattle.mg_seek.specs.declared.views.Obstacle.{Obstacle}
 use Rattle.mg_seek.specs.declared.views.Visit.{Visit}
 use Rattle.mg_seek.specs.declared.walk.Placed.{Placed}
-use Rattle.mg_seek.specs.declared.whose.Wanted.TheVariants.{Living, SeenBy}
-use Rattle.mg_seek.specs.Rows.{IsRowFound}
+use Rattle.mg_seek.specs.declared.whose.Wanted.TheVariants.{Any, Living, SeenBy}
+use Rattle.mg_seek.specs.Rows.{IsKeyFound, IsRowFound}
 use Rattle.mg_seek.specs.Versions.{IsFirst, wants}
 
 -- The row that a transaction sees of a record: that of the first version that it sees, none where
@@ -22,6 +23,14 @@ pub record IsRowSeen (state : ℕ → TxState) (live : State) (t : TxNo) (view :
   pub found : Option Placed
   pub first : IsFirst view (wants state live (SeenBy t)) rec found
   pub gives : IsRowFound table found row
+
+-- The key of a record: that of its newest version, which may be a deletion; none where the slot is none
+-- of a record.
+pub record IsKeyOf (state : ℕ → TxState) (live : State) (view : Pages) (table : Table) (rec : RecId)
+    (key : Option Value) : Type 0 where
+  pub newest : Option Placed
+  pub first : IsFirst view (wants state live Any) rec newest
+  pub gives : IsKeyFound table newest key
 
 -- a transaction can be in the way of t: it is another one, which is active, in limbo, or committed
 -- and not seen by t's base

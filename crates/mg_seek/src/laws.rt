@@ -2,7 +2,7 @@
 //! it. Each function does nothing: its contract is a law.
 
 ghost use Rattle.mg_seek.specs.Histories.{NothingIsThere, ObstaclesAreTold, RowsAreOfViews, SpeakersStand};
-ghost use Rattle.mg_seek.specs.Readings.{ObstaclesOfReadings, PlacesOfReadings, RowsOfReadings, SpeakersOfReadings};
+ghost use Rattle.mg_seek.specs.Readings.{KeysOfReadings, ObstaclesOfReadings, PlacesOfReadings, RowsOfReadings, SpeakersOfReadings};
 ghost use Rattle.mg_seek.specs.Walks.{WalksInOrder, WalksShowViews};
 
 use mg_generations::{chains_tell, garbage_may_go};
@@ -13,6 +13,7 @@ use mg_snap::a_new_base_sees_what_has_ended;
 pub fn records_are_those_of_every_reading()
     ensures places { PlacesOfReadings }
     ensures rows { RowsOfReadings }
+    ensures keys { KeysOfReadings }
     ensures speakers { SpeakersOfReadings }
     ensures obstacles { ObstaclesOfReadings }
 {

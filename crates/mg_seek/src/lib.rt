@@ -33,6 +33,6 @@ pub use listing::table_records;
 pub use rows::row_of;
 pub use speaking::speaker;
 pub use tables::{rows_in_view, table_named};
-pub use views::{Obstacle, Visit, obstacle_for, row_in_view, view_step};
+pub use views::{Obstacle, Visit, obstacle_for, record_key, row_in_view, view_step};
 pub use walk::{Placed, first_version};
 pub use whose::Wanted;

@@ -11,9 +11,9 @@ ghost use Rattle.mg_space.specs.Taking.{IsGeometry};
 ghost use Rattle.mg_space.specs.View.{AreWhole, KeepsStore, Tells, pool_answer, viewed};
 ghost use Rattle.mg_seek.specs.Refusals.{RefusesRecord, RefusesVisit};
 ghost use Rattle.mg_seek.specs.Versions.{wants};
-ghost use Rattle.mg_seek.specs.Views.{IsObstacle, IsRowSeen, IsVisit, hinders as hinders_of, obstacle_of};
+ghost use Rattle.mg_seek.specs.Views.{IsKeyOf, IsObstacle, IsRowSeen, IsVisit, hinders as hinders_of, obstacle_of};
 
-use crate::rows::row_of;
+use crate::rows::{key_copy, row_of};
 use crate::walk::first_version;
 use crate::whose::Wanted;
 use mg_base::{Disk, GREATEST_LIMIT, RecId, TxNo, TxState};
@@ -23,7 +23,7 @@ use mg_model::Table;
 use mg_pool::Batch;
 use mg_snap::Live;
 use mg_space::{SpaceFault, Store};
-use mg_value::{MOST_COLUMNS, Row};
+use mg_value::{MOST_COLUMNS, Row, Value};
 
 /// Who is in the way of a write.
 #[derive(Clone, Copy, Debug, PartialEq, Eq)]
@@ -77,6 +77,41 @@ pub fn row_in_view<D: Disk, S: States>(
         return Ok(None);
     }
     Ok(Some(row_of(store.alloc(), table, &found)?))
+}
+
+/// The key of a record of a table: that of its newest version, which may be a deletion. None where the
+/// slot is none of a record.
+///
+/// # Errors
+///
+/// As `first_version`; and as `row_of`, of the newest version.
+pub fn record_key<D: Disk, S: States>(
+    store: &mut Store<D>,
+    batch: &Batch,
+    table: &Table,
+    rec: RecId,
+    states: &S,
+    live: &Live,
+) -> Result<Option<Value>, SpaceFault>
+    requires pool { IsPool D.meaning store.old }
+    requires geometry { IsGeometry store.old.geometry }
+    requires whole { AreWhole store.old.geometry.size batch.now.pages }
+    requires columns { length table.now.shape.columns ≤ MOST_COLUMNS }
+
+    ensures keeps { KeepsStore D.meaning store.old store.new }
+    ensures fault { TellsFault D.meaning store.old store.new (pool_answer result) }
+    ensures own { ReadsData result }
+    ensures gives { (image : Image) → Tells D.meaning store.old.disk image → MatchResult result
+        (IsKeyOf (S.state_of states.now) live.now (viewed store.old image batch.now) table.now rec)
+        (RefusesRecord D.meaning store.new batch.now.pages store.old.geometry.limit
+        (viewed store.old image batch.now) (wants (S.state_of states.now) live.now Wanted.Any)
+        table.now rec) }
+{
+    let Some(newest) = first_version(store, batch, rec, states, live, Wanted::Any)? else {
+        return Ok(None);
+    };
+    let row = row_of(store.alloc(), table, &newest)?;
+    Ok(Some(key_copy(store.alloc(), table, &row)?))
 }
 
 /// The obstacle of a record for t: the writer of its newest version that is no dead transaction's,

@@ -1,4 +1,4 @@
-use Rattle.mg_seek.proofs.Readings.{obstacles_of_readings, places_of_readings, rows_of_readings, speakers_of_readings}
+use Rattle.mg_seek.proofs.Readings.{keys_of_readings, obstacles_of_readings, places_of_readings, rows_of_readings, speakers_of_readings}
 use Rattle.mg_seek.proofs.laws.records_are_those_of_every_reading.Goals as goal
 
 pub returns-clause-places : goal.returns-clause-places
@@ -12,3 +12,6 @@ returns-clause-speakers c = speakers_of_readings c.one_reading.ensures.packed_ro
 
 pub returns-clause-obstacles : goal.returns-clause-obstacles
 returns-clause-obstacles c = obstacles_of_readings c.one_reading.ensures.packed_rows
+
+pub returns-clause-keys : goal.returns-clause-keys
+returns-clause-keys c = keys_of_readings c.one_reading.ensures.packed_rows

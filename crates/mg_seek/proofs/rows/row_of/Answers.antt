@@ -1,6 +1,6 @@
 use Rattle.std.proofs.Common.{◌∙◌, ap, sym}
 use Rattle.mg_image.specs.RecordRules.{columns_for}
-use Rattle.mg_seek.proofs.RowLemmas.{memory_refuses, row_given}
+use Rattle.mg_seek.proofs.RowLemmas.{row_given}
 use Rattle.mg_seek.proofs.rows.row_of.Goals as goal
 
 pub returns-then-placed : goal.returns-then-placed
