@@ -1,6 +1,7 @@
 //! The steps of statements over any keeper of records.
 //!
-//! Owns: `Step`, what a step of a statement came to, `Phase`, where a statement stands, and the steps of
+//! Owns: `Step`, what a step of a statement came to, `Phase`, where a statement stands, the beginning of
+//! a SELECT or an INSERT with all that is tested before a row is read (`look_and_test`), the steps of
 //! SAVEPOINT and ROLLBACK TO (`save`, `go_back`), of a statement that has set its mark and writes
 //! (`change`), and what a SELECT answers of the rows that it found (`answer`, `as_answer`).
 //!
@@ -12,7 +13,7 @@
 //!
 //! Below: `mg_calls`, whose writes undo a refused statement, `mg_plan` and `mg_rows`. Above: sessions
 //! and scripts.
-//! Not here: the bodies that begin a statement and that read, the beginning and the end of
+//! Not here: the bodies that read and that compute new rows, the beginning and the end of
 //! transactions, CREATE TABLE, UPDATE and DELETE.
 #![tactic(auto)]
 
@@ -21,9 +22,11 @@ mod parts;
 mod phase;
 mod points;
 mod selecting;
+mod starting;
 
 pub use changing::{change, turned};
 pub use parts::{filter_of, is_insert, values_in};
 pub use phase::{Changing, Inserting, Phase, Reading, Step, Turn};
 pub use points::{go_back, save};
 pub use selecting::{answer, as_answer};
+pub use starting::look_and_test;
