@@ -1,1 +1,4 @@
+mod FrameLemmas
 mod ChangeLemmas
+mod StartLemmas
+mod InsertLemmas

@@ -1,0 +1,48 @@
+-- Frames of calls that are not made, and of answers that have no cause outside.
+use Rattle.std.proofs.Common.{◌≡◌, ℕ, ◌≤◌, List, Option, Some, None, inl, refl, arith}
+use Rattle.mg_model.specs.declared.refusal.Refusal.{Refusal}
+use Rattle.mg_records.specs.Keeping.{Lessens}
+use Rattle.mg_records.specs.Meaning.{Means}
+use Rattle.mg_calls.specs.Frames.{Blames, Frames}
+
+-- a refusal that has no cause outside may be answered in place of none
+pub frames_quiet : {R P : Type 0} (m : Means R P) (old new : R) (t : ℕ) (refusal : Option Refusal)
+    → Blames m old new refusal → Frames m old new t None → Frames m old new t refusal
+frames_quiet m old new t refusal cause frames = record {
+  faults = frames.faults;
+  damage = frames.damage;
+  shortages = frames.shortages;
+  cause = cause;
+  down = frames.down;
+  tells = frames.tells;
+  time = frames.time;
+  sizes = frames.sizes;
+  given = frames.given;
+  places = frames.places;
+  tables = frames.tables;
+  walks = frames.walks;
+  commits = frames.commits;
+}
+
+no_less : (a : Option ℕ) → Lessens a a
+no_less None = tt
+no_less (Some n) = omega arith
+
+-- no call at all
+pub frames_none : {R P : Type 0} (m : Means R P) (r : R) (t : ℕ) (refusal : Option Refusal)
+    → Blames m r r refusal → Frames m r r t refusal
+frames_none m r t refusal cause = record {
+  faults = omega arith;
+  damage = omega arith;
+  shortages = omega arith;
+  cause = cause;
+  down = inl refl;
+  tells = refl;
+  time = λ told. record { later = omega arith; keeps = λ t c within was. was };
+  sizes = λ size. refl;
+  given = λ table was. was;
+  places = λ table place was. was;
+  tables = λ u name other. refl;
+  walks = λ u table after rows other come. come;
+  commits = λ u other. no_less (m.unwritten r u);
+}

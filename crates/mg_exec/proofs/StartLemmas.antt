@@ -1,0 +1,181 @@
+-- What the tests of a statement find.
+use Rattle.std.proofs.Common.{◌≡◌, ℕ, not, Bool, true, false, List, [], Option, Some, None, Result, Ok, Err, refl, sym, ap, subst, ◌∙◌}
+use Rattle.std.specs.Prelude.{◌/◌, nat_lt}
+use Rattle.mg_value.specs.declared.shape.Column.{Column}
+use Rattle.mg_value.specs.declared.shape.Shape.{Shape}
+use Rattle.mg_value.specs.declared.shape.TheConstants.{MOST_COLUMNS}
+use Rattle.mg_sql.specs.Plain.{Plain, plain_of, SetTransaction, Commit, Rollback, RollbackTo, Savepoint, Table, Insert, Update, Delete, Totals, Select}
+use Rattle.mg_plan.specs.declared.bound.Bound.{Bound}
+use Rattle.mg_plan.specs.declared.fault.PlanFault.{PlanFault}
+use Rattle.mg_plan.specs.declared.fault.PlanFault.TheVariants as plans
+use Rattle.mg_plan.specs.Names.{has_twice}
+use Rattle.mg_plan.specs.Refusing.{refused, first_refusal, IsBoundAs, Binds}
+use Rattle.mg_plan.specs.Statements.{columns_listed, count_defined, is_all_known, has_one_key, do_counts_match, sets_key, bound_plain, places_in, is_typed, new_row_len, new_key_len}
+use Rattle.mg_model.specs.declared.opening.Opening.{Opening}
+use Rattle.mg_model.specs.declared.refusal.Refusal.{Refusal}
+use Rattle.mg_model.specs.declared.refusal.Refusal.TheVariants.{NoTable, ReadOnly}
+use Rattle.mg_model.specs.declared.table.Table.{Table as AnyTable}
+use Rattle.mg_base.specs.declared.transaction.TxState.TheVariants.{Active}
+use Rattle.mg_model.specs.History.{Entries}
+use Rattle.mg_model.specs.Machine.{state_of}
+use Rattle.mg_records.specs.Keeping.{Reads}
+use Rattle.mg_records.specs.Meaning.{Means}
+use Rattle.mg_records.specs.Reading.{IsPlace, IsTableGiven, TellsTable, shape_seen}
+use Rattle.mg_rows.specs.declared.statement_fault.StatementFault.{StatementFault}
+use Rattle.mg_rows.specs.declared.statement_fault.StatementFault.TheVariants.{Engine}
+use Rattle.mg_rows.specs.Faults.{of_plan}
+use Rattle.mg_exec.specs.declared.phase.Phase.{Phase}
+use Rattle.mg_exec.specs.declared.phase.Phase.TheVariants as phases
+use Rattle.mg_exec.specs.Phases.{IsReady, StandsAt, is_insert, is_select}
+use Rattle.mg_exec.specs.Starting.{HasRows, IsBegun, IsStarted, IsWhyNot, it_writes, no_table, not_told, not_bound, no_memory, may_not_write}
+
+-- the keeper tells no table
+pub why_no_table : {R P : Type 0} (m : Means R P) (old : R) (o : Opening) (h : Entries) (t : ℕ)
+    (read_only : Bool) (s : Plain) (name : List ℕ) (size : ℕ) (refusal : Refusal)
+    → may_not_write read_only s ≡ false → TellsTable m old t name (Err refusal) → m.stands old o h
+    → IsWhyNot o h t read_only s name size (Engine refusal)
+why_no_table m old o h t read_only s name size NoTable may tells stands =
+    no_table may (tells o h stands).1
+why_no_table m old o h t read_only s name size refusal may tells stands =
+    not_told refusal may (tells o h stands)
+
+-- the statement can't be bound
+pub why_not_bound : (o : Opening) (h : Entries) (t : ℕ) (read_only : Bool) (s : Plain)
+    (name : List ℕ) (size : ℕ) (shape : Shape) (fault : PlanFault)
+    → may_not_write read_only s ≡ false → shape_seen o h t name ≡ Some shape
+    → Binds shape.columns shape.key size s (Err fault)
+    → IsWhyNot o h t read_only s name size (of_plan fault)
+why_not_bound o h t read_only s name size shape plans.Memory may seen binds = no_memory
+why_not_bound o h t read_only s name size shape fault may seen binds =
+    not_bound shape fault may seen binds
+
+-- ---- where nothing refuses it, it is typed
+
+passed : (test : Bool) (fault : PlanFault) (next : Option PlanFault) → refused test fault next ≡ None
+    → (test ≡ false) × (next ≡ None)
+passed true fault next is = absurd cc
+passed false fault next is = (refl, is)
+
+not_not : (b : Bool) → not b ≡ false → b ≡ true
+not_not true is = refl
+not_not false is = absurd cc
+
+pub typed_where_none : (columns : List Column) (key size : ℕ) (s : Plain)
+    → first_refusal columns key size s ≡ None
+    → is_typed columns (places_in columns s) (bound_plain columns s) ≡ true
+typed_where_none columns key size s none =
+    let a = passed (has_twice (columns_listed s)) plans.ColumnExists _ none in
+    let b = passed (nat_lt MOST_COLUMNS (count_defined s)) (plans.TooMany MOST_COLUMNS) _ a.1 in
+    let c = passed (not (is_all_known columns s)) plans.NoColumn _ b.1 in
+    let d = passed (not (has_one_key s)) plans.OneKey _ c.1 in
+    let e = passed (not (do_counts_match columns s)) plans.CountMismatch _ d.1 in
+    let f = passed (sets_key columns key s) plans.KeyChange _ e.1 in
+    let g = passed (not (is_typed columns (places_in columns s) (bound_plain columns s))) plans.TypeMismatch _ f.1 in
+    not_not (is_typed columns (places_in columns s) (bound_plain columns s)) g.0
+
+pub bound_typed : (columns : List Column) (key size : ℕ) (s : Plain) (b : Bound)
+    → first_refusal columns key size s ≡ None → IsBoundAs columns s b
+    → is_typed columns b.places.items (plain_of b.statement) ≡ true
+bound_typed columns key size s b none binds =
+    ap (λ (places : List ℕ). is_typed columns places (plain_of b.statement)) binds.places
+    ∙ ap (λ (p : Plain). is_typed columns (places_in columns s) p) binds.statement
+    ∙ typed_where_none columns key size s none
+
+-- a statement that has rows, and is no INSERT, is a SELECT; also once it is bound
+selects : (columns : List Column) (s : Plain) → HasRows s → is_insert (bound_plain columns s) ≡ false
+    → is_select (bound_plain columns s) ≡ true
+selects columns (Insert table names values) rows no_insert = absurd cc no_insert
+selects columns (Totals table totals filter) rows no_insert = refl
+selects columns (Select table values filter sorted) rows no_insert = refl
+selects columns s rows no_insert = absurd rows
+
+pub bound_selects : (columns : List Column) (s : Plain) (b : Bound) → HasRows s
+    → IsBoundAs columns s b → is_insert (plain_of b.statement) ≡ false
+    → is_select (plain_of b.statement) ≡ true
+bound_selects columns s b rows binds no_insert =
+    ap is_select binds.statement
+    ∙ selects columns s rows (ap is_insert (sym binds.statement) ∙ no_insert)
+
+-- ---- the answers of the tests
+
+pub barred : {R P : Type 0} (m : Means R P) (r : R) (o : Opening) (h : Entries) (t : ℕ)
+    (read_only : Bool) (s : Plain) (name : List ℕ) (size : ℕ) (test : Bool)
+    → test ≡ may_not_write read_only s → test ≡ true → m.stands r o h
+    → m.stands r o h × IsWhyNot o h t read_only s name size (Engine ReadOnly)
+barred m r o h t read_only s name size test is yes_ stands = (stands, it_writes (sym is ∙ yes_))
+
+pub untold : {R P : Type 0} (m : Means R P) (old new : R) (o : Opening) (h : Entries) (t : ℕ)
+    (read_only : Bool) (s : Plain) (name : List ℕ) (size : ℕ) (test : Bool) (refusal : Refusal)
+    → test ≡ may_not_write read_only s → test ≡ false
+    → TellsTable m old t name (Err refusal) → Reads m old new (Some refusal) None → m.stands old o h
+    → m.stands new o h × IsWhyNot o h t read_only s name size (Engine refusal)
+untold m old new o h t read_only s name size test refusal is not_ tells reads stands = (
+  reads.stays o h stands,
+  why_no_table m old o h t read_only s name size refusal (sym is ∙ not_) tells stands,
+)
+
+pub unbound : {R P : Type 0} (m : Means R P) (old new : R) (o : Opening) (h : Entries) (t : ℕ)
+    (read_only : Bool) (s : Plain) (name : List ℕ) (size : ℕ) (test : Bool) (table : AnyTable)
+    (fault : PlanFault) (given : StatementFault)
+    → test ≡ may_not_write read_only s → test ≡ false
+    → TellsTable m old t name (Ok table) → Reads m old new None None
+    → Binds table.shape.columns table.shape.key size s (Err fault) → given ≡ of_plan fault
+    → m.stands old o h → m.stands new o h × IsWhyNot o h t read_only s name size given
+unbound m old new o h t read_only s name size test table fault given is not_ tells reads binds told stands = (
+  reads.stays o h stands,
+  subst (λ (f : StatementFault). IsWhyNot o h t read_only s name size f) (sym told)
+      (why_not_bound o h t read_only s name size table.shape fault (sym is ∙ not_) (tells o h stands).1 binds),
+)
+
+pub started : {R P : Type 0} (m : Means R P) (old new : R) (o : Opening) (h : Entries) (t : ℕ)
+    (read_only : Bool) (s : Plain) (name : List ℕ) (size : ℕ) (test : Bool) (table : AnyTable)
+    (bound : Bound) (phase : Phase P)
+    → test ≡ may_not_write read_only s → test ≡ false
+    → TellsTable m old t name (Ok table) → IsTableGiven m new t name table → Reads m old new None None
+    → Binds table.shape.columns table.shape.key size s (Ok bound) → IsBegun table bound phase
+    → ((o : Opening) (h : Entries) (t : ℕ) → m.stands new o h → state_of o h t ≡ Active
+    → m.table new t table.name ≡ Some table → StandsAt m new o h t phase)
+    → m.stands old o h → m.stands new o h × IsStarted m new o h t read_only s name size phase
+started m old new o h t read_only s name size test table bound phase is not_ tells given reads binds begun
+    at stands = (
+      reads.stays o h stands,
+      record {
+        may = sym is ∙ not_;
+        table = table;
+        named = given.named;
+        seen = (tells o h stands).1;
+        passes = binds.0;
+        bound = bound;
+        binds = binds.1;
+        begins = begun;
+        reads = at o h t (reads.stays o h stands) (tells o h stands).0
+            (subst (λ (n : List ℕ). m.table new t n ≡ Some table) (sym given.named) given.again);
+      },
+    )
+
+-- a statement that begins is ready for its first step
+pub ready_at_start : {R P : Type 0} (m : Means R P) (new : R) (t : ℕ) (s : Plain) (name : List ℕ)
+    (size : ℕ) (table : AnyTable) (bound : Bound) (phase : Phase P) → HasRows s
+    → IsTableGiven m new t name table → Binds table.shape.columns table.shape.key size s (Ok bound)
+    → IsBegun table bound phase → IsReady m new t phase
+ready_at_start m new t s name size table bound (phases.Inserting i) rows given binds begun =
+    let again = subst (λ (n : List ℕ). m.table new t n ≡ Some table) (sym given.named) given.again in
+    record {
+      table = subst (λ (table : AnyTable). m.table new t table.name ≡ Some table) (sym begun.1) again;
+      typed = record {
+        inserts = subst (λ (b : Bound). is_insert (plain_of b.statement) ≡ true) (sym begun.2) begun.0;
+        typed = subst (λ (x : AnyTable × Bound). is_typed x.0.shape.columns x.1.places.items (plain_of x.1.statement) ≡ true)
+            (sym (λ k. (begun.1 k, begun.2 k))) (bound_typed table.shape.columns table.shape.key size s bound binds.0 binds.1);
+      };
+    }
+ready_at_start {P = P} m new t s name size table bound (phases.Reading reading) rows given binds begun =
+    let again = subst (λ (n : List ℕ). m.table new t n ≡ Some table) (sym given.named) given.again in
+    record {
+      way = record {
+        table = subst (λ (table : AnyTable). m.table new t table.name ≡ Some table) (sym begun.1) again;
+        place = subst (λ (place : Option P). IsPlace m new reading.walk.table place) (sym begun.2) tt;
+      };
+      selects = subst (λ (b : Bound). is_select (plain_of b.statement) ≡ true) (sym begun.3)
+          (bound_selects table.shape.columns s bound rows binds.1 begun.0);
+    }
+ready_at_start m new t s name size table bound phase rows given binds begun = absurd begun

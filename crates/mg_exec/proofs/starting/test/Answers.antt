@@ -1,0 +1,35 @@
+use Rattle.mg_sql.specs.Plain.{plain_of}
+use Rattle.mg_exec.proofs.StartLemmas.{barred, untold, unbound, started, ready_at_start}
+use Rattle.mg_exec.proofs.starting.test.Goals as goal
+
+pub returns-in-Err-clause-tests : goal.returns-in-Err-clause-tests
+returns-in-Err-clause-tests g c = λ o h stands.
+    untold g.R.Records.meaning c.args.r.now c.table.new.self o h c.args.t.0 c.args.read_only
+    (plain_of c.args.s.now) c.args.name.now c.args.size c.is_barred.result c.in-Err.refusal
+    c.is_barred.ensures c.if-is_barred.false c.in-Err.ensures.table c.in-Err.ensures.reads stands
+
+pub returns-in-Ok-bind-clause-tests : goal.returns-in-Ok-bind-clause-tests
+returns-in-Ok-bind-clause-tests g c = λ o h stands.
+    started g.R.Records.meaning c.args.r.now c.table.new.self o h c.args.t.0 c.args.read_only
+    (plain_of c.args.s.now) c.args.name.now c.args.size c.is_barred.result c.in-Ok.table
+    c.in-Ok-bind.bound c.begin.result c.is_barred.ensures c.if-is_barred.false c.in-Ok.ensures.table
+    c.in-Ok.ensures.given c.in-Ok.ensures.reads c.in-Ok-bind.ensures c.begin.ensures.begins
+    c.begin.ensures.reads stands
+
+pub returns-in-Ok-bind-clause-ready : goal.returns-in-Ok-bind-clause-ready
+returns-in-Ok-bind-clause-ready g c =
+    ready_at_start g.R.Records.meaning c.table.new.self c.args.t.0 (plain_of c.args.s.now)
+    c.args.name.now c.args.size c.in-Ok.table c.in-Ok-bind.bound c.begin.result c.requires.rows
+    c.in-Ok.ensures.given c.in-Ok-bind.ensures c.begin.ensures.begins
+
+pub returns-in-Err-bind-clause-tests : goal.returns-in-Err-bind-clause-tests
+returns-in-Err-bind-clause-tests g c = λ o h stands.
+    unbound g.R.Records.meaning c.args.r.now c.table.new.self o h c.args.t.0 c.args.read_only
+    (plain_of c.args.s.now) c.args.name.now c.args.size c.is_barred.result c.in-Ok.table
+    c.in-Err-bind.fault c.from.result c.is_barred.ensures c.if-is_barred.false c.in-Ok.ensures.table
+    c.in-Ok.ensures.reads c.in-Err-bind.ensures c.from.ensures stands
+
+pub returns-then-is_barred-clause-tests : goal.returns-then-is_barred-clause-tests
+returns-then-is_barred-clause-tests g c = λ o h stands.
+    barred g.R.Records.meaning c.args.r.now o h c.args.t.0 c.args.read_only (plain_of c.args.s.now)
+    c.args.name.now c.args.size c.is_barred.result c.is_barred.ensures c.if-is_barred.true stands
