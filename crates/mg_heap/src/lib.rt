@@ -2,8 +2,9 @@
 //! freed; the records of a table are walked; and a data page with room is found, or the table gets
 //! a new one.
 //!
-//! Owns: which data page of a table gets a cell, and how a table grows. A table is named by its
-//! first pointer page, the owner of all its pages.
+//! Owns: which data page of a table gets a cell, beside a place that is kept free too
+//! (`add_apart`); how a table grows; and which pointer pages lead to a data page (`pointers_to`). A
+//! table is named by its first pointer page, the owner of all its pages.
 //!
 //! Each call that changes pages fills a batch that its caller lends, and sees the pages as that
 //! batch has them. Its contract says what it does to the pages as seen, page by page, and which
