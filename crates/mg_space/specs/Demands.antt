@@ -11,6 +11,7 @@ use Rattle.mg_careful.specs.declared.links.Demand.{Demand}
 use Rattle.mg_header.specs.HeaderPage.{header_in, reading}
 use Rattle.mg_image.specs.Inventory.{inventory_page}
 use Rattle.mg_image.specs.Records.{slot_cell}
+use Rattle.mg_node.specs.NodePage.{count_in as node_count, entry_at, is_inner, level_in, node_checks, place_of as node_place, right_in}
 use Rattle.mg_pip.specs.PipPage.{bits, pip_checks, used_in}
 use Rattle.mg_pointer.specs.PointerPage.{capacity, count_in, next_in, place_of, pointer_checks}
 use Rattle.mg_slots.specs.DataPage.{cell_of, slot_count}
@@ -20,7 +21,7 @@ use Rattle.mg_version.specs.declared.cell.Cell.{Cell}
 use Rattle.mg_version.specs.declared.cell.Cell.TheVariants as cells
 use Rattle.mg_version.specs.declared.cell.Link.{Link}
 use Rattle.mg_version.specs.declared.cell.Version.{Version}
-use Rattle.mg_space.specs.declared.links.TheConstants.{HEADER, NEXT, TRANSACTIONS, POINTER, DATA, VERSION, BIT}
+use Rattle.mg_space.specs.declared.links.TheConstants.{HEADER, NEXT, TRANSACTIONS, POINTER, DATA, VERSION, TREE, NODE, BIT}
 
 -- a demand, where its numbers fit its fields; no database has a page or transaction that does not
 unfoldable pub demand : ℕ → ℕ → ℕ → ℕ → List Demand
@@ -119,6 +120,30 @@ wanted_demands None = []
 wanted_demands (Some (cells.Anchor link)) = []
 wanted_demands (Some (cells.Version v)) = version_demands v
 
+-- by the entry of an inner index page at a place: its child, on the level below
+abbrev pub child_demand : ℕ → List ℕ → ℕ → ℕ → List Demand
+child_demand size b owner at = linked size (entry_at true b at).child.0 NODE owner (level_in b - 1)
+
+-- by the entries of an inner index page before one
+abbrev pub child_demands : ℕ → List ℕ → ℕ → ℕ → List Demand
+child_demands size b owner zero = []
+child_demands size b owner (suc n) =
+    child_demands size b owner n ++ child_demand size b owner (node_place b n)
+
+-- by an index page, as the top of a tree: its children; a leaf has none
+abbrev pub tree_demands : ℕ → List ℕ → ℕ → List Demand
+tree_demands size b owner =
+    if is_inner b then child_demands size b owner (node_count b) else []
+
+-- by an index page: its right neighbour, on its own level
+abbrev pub right_demands : ℕ → List ℕ → ℕ → List Demand
+right_demands size b owner =
+    if right_in b == 0 then [] else linked size (right_in b) NODE owner (level_in b)
+
+-- by an index page, as one of its level
+abbrev pub node_demands : ℕ → List ℕ → ℕ → List Demand
+node_demands size b owner = right_demands size b owner ++ tree_demands size b owner
+
 -- by a page with so many bytes, of which a thing is wanted
 abbrev pub demands_by : ℕ → List ℕ → Demand → List Demand
 demands_by size b want =
@@ -127,6 +152,8 @@ demands_by size b want =
     else if want.what == POINTER then pointer_demands size b want.a want.b
     else if want.what == DATA then data_demands b
     else if want.what == VERSION then wanted_demands (slot_cell (cell_of b want.a))
+    else if want.what == TREE then tree_demands size b want.a
+    else if want.what == NODE then node_demands size b want.a
     else []
 
 -- by bytes: only a page demands something
@@ -150,6 +177,10 @@ abbrev pub meets_bit : ℕ → List ℕ → PageNo → ℕ → Bool
 meets_bit size b page n =
     is_ok (verdict page (pip_checks b page.0 (n / bits size))) && used_in b (n % bits size)
 
+-- whether a page is an index page of an owner
+abbrev pub meets_tree : List ℕ → PageNo → ℕ → Bool
+meets_tree b page owner = is_ok (verdict page (node_checks b page.0 owner))
+
 -- the page that is wanted
 abbrev pub target_of : Demand → PageNo
 target_of want = record { 0 = want.target }
@@ -166,6 +197,9 @@ meets_by size b want =
     else if want.what == DATA
     then is_ok (verdict (target_of want) (common_checks b want.target DATA_KIND want.a want.b))
     else if want.what == VERSION then is_version_of want.b (slot_cell (cell_of b want.a))
+    else if want.what == TREE then meets_tree b (target_of want) want.a
+    else if want.what == NODE
+    then meets_tree b (target_of want) want.a && (level_in b == want.b)
     else if want.what == BIT
     then meets_bit size b (target_of want) want.a
     else false

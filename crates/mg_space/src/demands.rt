@@ -1,9 +1,10 @@
 //! What the things on a page demand of other pages: one list for each kind of thing.
 
-ghost use Rattle.std.specs.Prelude.{◌≡◌, ◌<◌, ◌++◌, ◌&&◌, Some, nat_lt, true, length, OnErr, OnOk};
+ghost use Rattle.std.specs.Prelude.{◌≡◌, ◌<◌, ◌^◌, ◌++◌, ◌&&◌, Some, nat_lt, true, length, OnErr, OnOk};
 ghost use Rattle.mg_base.specs.Geometry.{is_page_size};
 ghost use Rattle.mg_image.specs.Records.{cell_spelled, slot_cell};
-ghost use Rattle.mg_space.specs.Demands.{Begins, back_demands, bit_demand, cell_demands, data_demands, demand, demands_by, drawn_demands, entry_demand, entry_demands, header_demands, is_decided as decided_test, link_demand, linked, pointer_demands, slot_demands, state_demands, tip_demands, version_demands, wanted_demands};
+ghost use Rattle.mg_space.specs.Demands.{Begins, back_demands, bit_demand, cell_demands, child_demand, child_demands, data_demands, demand, demands_by, drawn_demands, entry_demand, entry_demands, header_demands, is_decided as decided_test, link_demand, linked, node_demands, pointer_demands, right_demands, slot_demands, state_demands, tip_demands, tree_demands, version_demands, wanted_demands};
+ghost use Rattle.mg_node.specs.NodePage.{count_in as node_count, is_inner as inner_test};
 ghost use Rattle.mg_pointer.specs.PointerPage.{count_in};
 ghost use Rattle.mg_slots.specs.DataPage.{cell_of};
 ghost use Rattle.mg_tip.specs.TipPage.{places as places_in};
@@ -11,12 +12,13 @@ ghost use Rattle.mg_version.specs.CellReading.{version_in};
 
 use crate::cells::{back_at, cell_at, link_at};
 use crate::fields::{byte_or_zero, u16_or_zero, u32_or_zero};
-use crate::links::{BIT, DATA, HEADER, NEXT, POINTER, TRANSACTIONS, VERSION};
+use crate::links::{BIT, DATA, HEADER, NEXT, NODE, POINTER, TRANSACTIONS, TREE, VERSION};
 use crate::taking::region_len;
 use mg_base::{Memory, TxState};
 use mg_careful::Demand;
 use mg_header::{CATALOG_AT, LAST_TIP_AT, NEXT_AT};
 use mg_image::PRIMARY_VERSION;
+use mg_node::{CHILD_LEN, count, end_of, first_at, is_inner, level_of, right_of};
 use mg_pointer::{COUNT_AT as ENTRY_COUNT_AT, ENTRIES_AT, ENTRY_LEN, NEXT_AT as NEXT_POINTER_AT};
 use mg_slots::COUNT_AT;
 use mg_tip::{PREV_AT, STATES_AT, state_at};
@@ -43,6 +45,8 @@ pub(crate) fn put_demands(
         POINTER => put_pointer(b, size, want.a, want.b, out),
         DATA => put_slots(b, out),
         VERSION => put_wanted(b, want.a, out),
+        TREE => put_tree(b, size, want.a, out),
+        NODE => put_node(b, size, want.a, out),
         _ => Ok(()),
     }
 }
@@ -297,6 +301,83 @@ fn put_link(link: Link, out: &mut Vec<Demand>) -> Result<(), Memory>
         slot,
         u64::from(link.tx.0),
     )
+}
+
+/// What an index page demands that is wanted as one of its level: its right neighbour and its
+/// children.
+fn put_node(b: &[u8], size: u32, owner: u32, out: &mut Vec<Demand>) -> Result<(), Memory>
+    requires size { is_page_size size ≡ true }
+    requires len { length b.now ≡ size }
+    ensures ok { OnOk result (out.new.items ≡ out.old.items ++ node_demands size b.now owner) }
+    ensures err { OnErr result (Begins out.old.items out.new.items) }
+{
+    put_right(b, size, owner, out)?;
+    put_tree(b, size, owner, out)
+}
+
+/// The right neighbour of an index page, on the same level.
+fn put_right(b: &[u8], size: u32, owner: u32, out: &mut Vec<Demand>) -> Result<(), Memory>
+    requires size { is_page_size size ≡ true }
+    requires len { length b.now ≡ size }
+    ensures ok { OnOk result (out.new.items ≡ out.old.items ++ right_demands size b.now owner) }
+    ensures err { OnErr result (Begins out.old.items out.new.items) }
+{
+    let right = right_of(b).0;
+    if right == 0 {
+        return Ok(());
+    }
+    let level = u64::from(level_of(b));
+    put_linked(out, size, right, NODE, u64::from(owner), level)
+}
+
+/// What an index page demands that is wanted as the top of a tree: its children.
+fn put_tree(b: &[u8], size: u32, owner: u32, out: &mut Vec<Demand>) -> Result<(), Memory>
+    requires size { is_page_size size ≡ true }
+    requires len { length b.now ≡ size }
+    ensures ok { OnOk result (out.new.items ≡ out.old.items ++ tree_demands size b.now owner) }
+    ensures err { OnErr result (Begins out.old.items out.new.items) }
+{
+    if is_inner(b) {
+        put_children(b, size, owner, out)
+    } else {
+        Ok(())
+    }
+}
+
+/// The children of an inner index page.
+fn put_children(b: &[u8], size: u32, owner: u32, out: &mut Vec<Demand>) -> Result<(), Memory>
+    requires size { is_page_size size ≡ true }
+    requires len { length b.now ≡ size }
+    requires inner { inner_test b.now ≡ true }
+    ensures ok { OnOk result (out.new.items
+        ≡ out.old.items ++ child_demands size b.now owner (node_count b.now)) }
+    ensures err { OnErr result (Begins out.old.items out.new.items) }
+{
+    let mut at = first_at(b);
+    for _ in 0..count(b) {
+        put_child(b, size, owner, at, out)?;
+        at = end_of(b, at, true);
+    }
+    Ok(())
+}
+
+/// The child that the entry at a place names, on the level below.
+fn put_child(
+    b: &[u8],
+    size: u32,
+    owner: u32,
+    at: usize,
+    out: &mut Vec<Demand>,
+) -> Result<(), Memory>
+    requires size { is_page_size size ≡ true }
+    requires len { length b.now ≡ size }
+    requires at { at < 2 ^ 39 }
+    ensures ok { OnOk result (out.new.items ≡ out.old.items ++ child_demand size b.now owner at) }
+    ensures err { OnErr result (Begins out.old.items out.new.items) }
+{
+    let child = u32_or_zero(b, end_of(b, at, true) - CHILD_LEN);
+    let level = level_of(b).saturating_sub(1);
+    put_linked(out, size, child, NODE, u64::from(owner), u64::from(level))
 }
 
 /// A thing on another page, and that page's bit.

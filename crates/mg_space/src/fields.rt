@@ -21,7 +21,7 @@ pub(crate) fn u16_or_zero(b: &[u8], at: usize) -> u16
 
 /// The field of four bytes at a place, the low byte first.
 pub(crate) fn u32_or_zero(b: &[u8], at: usize) -> u32
-    requires { at < 2 ^ 32 }
+    requires { at < 2 ^ 40 }
     ensures { result ≡ u32_at b.now at }
 {
     u32::from_le_bytes([

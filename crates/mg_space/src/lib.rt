@@ -26,6 +26,8 @@ mod taking;
 
 pub use demands::places_of;
 pub use fault::SpaceFault;
-pub use links::{BIT, DATA, FireLinks, HEADER, NEXT, POINTER, Store, TRANSACTIONS, VERSION};
+pub use links::{
+    BIT, DATA, FireLinks, HEADER, NEXT, NODE, POINTER, Store, TRANSACTIONS, TREE, VERSION,
+};
 pub use reading::{Found, find_page, page_of};
 pub use taking::{inventory_page_of, region_len, take_page};

@@ -1,11 +1,11 @@
 //! The links of the file's format: which things on one page lead to which things on others.
 
-ghost use Rattle.std.specs.Prelude.{◌≡◌, ◌&&◌, ◌==◌, true, length};
+ghost use Rattle.std.specs.Prelude.{◌≡◌, ◌≤◌, ◌&&◌, ◌==◌, true, length};
 ghost use Rattle.mg_base.specs.Geometry.{is_page_size};
 ghost use Rattle.mg_image.specs.Records.{slot_cell};
 ghost use Rattle.mg_pip.specs.PipPage.{bits as bits_of_size};
 ghost use Rattle.mg_slots.specs.DataPage.{cell_of};
-ghost use Rattle.mg_space.specs.Demands.{is_header as header_test, is_version_of as version_test, meets_by as meets_test, meets_bit};
+ghost use Rattle.mg_space.specs.Demands.{is_header as header_test, is_version_of as version_test, meets_by as meets_test, meets_bit, meets_tree};
 
 use crate::cells::{cell_at, is_version_of};
 use crate::demands::put_demands;
@@ -14,6 +14,7 @@ use crate::taking::region_len;
 use mg_base::{Memory, PageNo, check_common, get_u32};
 use mg_careful::{Demand, Links};
 use mg_header::{NEXT_AT, read_header};
+use mg_node::{check_node_common, level_of};
 use mg_pip::{check_pip, is_used};
 use mg_pointer::check_pointer;
 use mg_pool::Pool;
@@ -32,6 +33,10 @@ pub const POINTER: u8 = 4;
 pub const DATA: u8 = 5;
 /// A version of the transaction `b` in the slot `a`.
 pub const VERSION: u8 = 6;
+/// An index page of the owner `a`.
+pub const TREE: u8 = 7;
+/// An index page of the owner `a`, on the level `b`.
+pub const NODE: u8 = 8;
 /// The bit of the page `a` in its inventory page.
 pub const BIT: u8 = 9;
 
@@ -45,8 +50,10 @@ pub const BIT: u8 = 9;
 /// | `POINTER` | its data pages, each at its place; the next pointer page |
 /// | `DATA` | the version that each anchor leads to; what a version in a primary slot demands |
 /// | `VERSION` | `NEXT` for its transaction; the version before it |
+/// | `TREE` | its children, each a `NODE` of the level below |
+/// | `NODE` | its right neighbour, a `NODE` of its level; its children, each of the level below |
 ///
-/// A page is demanded together with its bit. Index pages are no part of it yet.
+/// A page is demanded together with its bit.
 pub struct FireLinks;
 
 /// The cache of the pages of a database.
@@ -97,6 +104,8 @@ fn has_wanted(b: &[u8], size: u32, want: &Demand) -> bool
         POINTER => check_pointer(b, page, want.a, want.b).is_ok(),
         DATA => check_common(b, page, DATA_KIND, want.a, want.b).is_ok(),
         VERSION => has_version(b, want.a, want.b),
+        TREE => is_tree(b, page, want.a),
+        NODE => is_tree(b, page, want.a) && u32::from(level_of(b)) == want.b,
         BIT => has_bit(b, size, page, want.a),
         _ => false,
     }
@@ -119,6 +128,14 @@ fn has_version(b: &[u8], slot: u32, t: u32) -> bool
         Some(cell) => is_version_of(cell, t),
         None => false,
     }
+}
+
+/// Tells whether a page is an index page of an owner.
+fn is_tree(b: &[u8], page: PageNo, owner: u32) -> bool
+    requires { 16 ≤ length b.now }
+    ensures { result ≡ meets_tree b.now page owner }
+{
+    check_node_common(b, page, owner).is_ok()
 }
 
 /// Tells whether a page is the inventory page of another one, and has its bit.

@@ -1,8 +1,9 @@
-//! Worked rows of the links of a new database.
+//! Worked rows of the links of a new database, and of an index tree.
 
 use super::*;
-use mg_base::{TxNo, new_common};
+use mg_base::{TxNo, new_common, put_u16, put_u32};
 use mg_header::{HEADER_KIND, Header, write_header};
+use mg_node::{COUNT_AT, LEVEL_AT, NODE_KIND, RIGHT_AT};
 use mg_pointer::{add_entry, new_pointer};
 use std::alloc::Global;
 use std::test::Fail;
@@ -59,5 +60,80 @@ fn a_pointer_page_leads_to_its_data_pages_and_the_next_one(rt: HostRuntime) -> R
     let wanted = [demand(8066, DATA, 5, 250), demand(8065, BIT, 8066, 0)];
     let found = demands(rt.alloc(), &page, want)?;
     assert_eq!(rt; found.as_slice(), wanted.as_slice());
+    Ok(())
+}
+
+/// The inner page 20 of the tree of the owner 5, on the level 2: a neighbour to its right, no fences,
+/// and children under an empty key, a key of one byte and a key of three.
+fn inner_page() -> [u8; 1024] {
+    let mut page = [0; 1024];
+    new_common(&mut page, PageNo(20), NODE_KIND, 5, 0);
+    put_u16(&mut page, LEVEL_AT, 2);
+    put_u16(&mut page, COUNT_AT, 3);
+    put_u32(&mut page, RIGHT_AT, 8066);
+    put_u32(&mut page, 36, 21);
+    put_u16(&mut page, 40, 1);
+    put_u32(&mut page, 49, 22);
+    put_u16(&mut page, 53, 3);
+    put_u32(&mut page, 64, 23);
+    page
+}
+
+#[test]
+fn an_inner_page_leads_to_its_neighbour_and_its_children(rt: HostRuntime) -> Result<(), Fail> {
+    let page = inner_page();
+    let want = demand(20, NODE, 5, 2);
+    assert!(rt; FireLinks::meets(&page, &want));
+    assert!(rt; !FireLinks::meets(&page, &demand(20, NODE, 5, 1)));
+    assert!(rt; !FireLinks::meets(&page, &demand(20, NODE, 6, 2)));
+    assert!(rt; !FireLinks::meets(&page, &demand(21, NODE, 5, 2)));
+    let wanted = [
+        demand(8066, NODE, 5, 2),
+        demand(8065, BIT, 8066, 0),
+        demand(21, NODE, 5, 1),
+        demand(1, BIT, 21, 0),
+        demand(22, NODE, 5, 1),
+        demand(1, BIT, 22, 0),
+        demand(23, NODE, 5, 1),
+        demand(1, BIT, 23, 0),
+    ];
+    let found = demands(rt.alloc(), &page, want)?;
+    assert_eq!(rt; found.as_slice(), wanted.as_slice());
+    Ok(())
+}
+
+#[test]
+fn the_top_of_a_tree_leads_to_its_children(rt: HostRuntime) -> Result<(), Fail> {
+    let page = inner_page();
+    let want = demand(20, TREE, 5, 0);
+    assert!(rt; FireLinks::meets(&page, &want));
+    assert!(rt; !FireLinks::meets(&page, &demand(20, TREE, 6, 0)));
+    let wanted = [
+        demand(21, NODE, 5, 1),
+        demand(1, BIT, 21, 0),
+        demand(22, NODE, 5, 1),
+        demand(1, BIT, 22, 0),
+        demand(23, NODE, 5, 1),
+        demand(1, BIT, 23, 0),
+    ];
+    let found = demands(rt.alloc(), &page, want)?;
+    assert_eq!(rt; found.as_slice(), wanted.as_slice());
+    Ok(())
+}
+
+#[test]
+fn a_leaf_leads_to_its_neighbour_alone(rt: HostRuntime) -> Result<(), Fail> {
+    let mut page = inner_page();
+    put_u16(&mut page, LEVEL_AT, 0);
+    let want = demand(20, NODE, 5, 0);
+    assert!(rt; FireLinks::meets(&page, &want));
+    let wanted = [demand(8066, NODE, 5, 0), demand(8065, BIT, 8066, 0)];
+    let found = demands(rt.alloc(), &page, want)?;
+    assert_eq!(rt; found.as_slice(), wanted.as_slice());
+    let top = demands(rt.alloc(), &page, demand(20, TREE, 5, 0))?;
+    assert_eq!(rt; top.len(), 0);
+    put_u32(&mut page, RIGHT_AT, 0);
+    let alone = demands(rt.alloc(), &page, want)?;
+    assert_eq!(rt; alone.len(), 0);
     Ok(())
 }
