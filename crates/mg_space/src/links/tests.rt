@@ -63,8 +63,8 @@ fn a_pointer_page_leads_to_its_data_pages_and_the_next_one(rt: HostRuntime) -> R
     Ok(())
 }
 
-/// The inner page 20 of the tree of the owner 5, on the level 2: a neighbour to its right, no fences,
-/// and children under an empty key, a key of one byte and a key of three.
+/// The inner page 20 of the tree of the owner 5, on the level 2: a neighbour to its right, no
+/// fences, and children under an empty key, a key of one byte and a key of three.
 fn inner_page() -> [u8; 1024] {
     let mut page = [0; 1024];
     new_common(&mut page, PageNo(20), NODE_KIND, 5, 0);
