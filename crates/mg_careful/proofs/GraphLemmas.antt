@@ -111,6 +111,15 @@ enter_again g page entered = record {
   room = refl;
 }
 
+-- adding an order that is there
+pub add_again : (g : PageGraph) (first later : ℕ) → is_ordered g first later ≡ true → AddsOrder g g first later
+add_again g first later there = record {
+  entered = λ p. refl;
+  ordered = λ a b. same_test _ _ (λ x. or_left _ _ x) (λ x. elim (or_cases (is_ordered g a b) _ x) [ inl y ↦ y | inr y ↦ let parts = and_parts _ _ y in rw (eqb-true a first parts.0, eqb-true b later parts.1) there ]);
+  count = refl;
+  room = refl;
+}
+
 and_turned : (x y z : Bool) → (x && (y && z)) ≡ (x && (z && y))
 and_turned true true true = refl
 and_turned true true false = refl

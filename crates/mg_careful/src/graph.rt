@@ -154,6 +154,10 @@ impl Graph {
         let size = self.pages.len();
         let from = place_of(&self.pages, first);
         let to = place_of(&self.pages, later);
+        // An order that is there already is closed already: closing costs up to size * size steps.
+        if is_set(&self.before, size, to, from) {
+            return;
+        }
         set_bit(&mut self.before, size, to, from);
         close(&mut self.after, &mut self.row, size, from, to);
     }
