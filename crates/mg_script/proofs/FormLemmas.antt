@@ -98,10 +98,11 @@ same_numbers text k v l w a b =
     ∙ sym (first_spelled text (codes " ") (omega arith) (omega arith) l w end at b) in
     let two : codes " " ++ signed_decimal v ≡ codes " " ++ signed_decimal w =
     sym (rest_spelled text (codes " ") (omega arith) (omega arith) k v end at a)
-    ∙ rest_spelled text (codes " ") (omega arith) (omega arith) l w end at b in
-    (signed_decimal_injective k l a.first_fits.sfits b.first_fits.sfits one,
-    signed_decimal_injective v w a.second_fits.sfits b.second_fits.sfits
-    (same_rest (codes " ") (signed_decimal v) (signed_decimal w) two))
+    ∙ rest_spelled text (codes " ") (omega arith) (omega arith) l w end at b in (
+      signed_decimal_injective k l a.first_fits.sfits b.first_fits.sfits one,
+      signed_decimal_injective v w a.second_fits.sfits b.second_fits.sfits
+          (same_rest (codes " ") (signed_decimal v) (signed_decimal w) two),
+    )
 
 same : (text : List ℕ) (a b : LineKind) → form a ≡ form b → Asks text a → Asks text b → a ≡ b
 same text (Sql s t) (Sql u v) alike x y =
