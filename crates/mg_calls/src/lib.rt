@@ -1,11 +1,14 @@
 //! Several calls of a keeper of records, made for one transaction.
 //!
-//! Owns: `Written` and `write_or_undo`, a write of a statement that has set its mark.
+//! Owns: a write of a statement that has set its mark (`Written`, `write_or_undo`); the writes of a
+//! statement, one a step (`Writes`, `mark_and_write`, `write_next`); and a walk over the records of a
+//! table (`Walk`, `start_walk`, `visit_next`).
 //!
 //! The definitions stand in `specs/`: `Frames` (what calls for one transaction leave of all others and
 //! of the keeper as a whole, however many they are, with the cause of the refusal that is answered),
-//! `Undoing` (the undoing of a refused statement) and `Writes` (a write, with what becomes of the
-//! statement where it is refused). `FrameLaws` has what makes one of several calls.
+//! `Undoing` (the undoing of a refused statement), `Writes` (a write, with what becomes of the
+//! statement where it is refused), `Steps` (the writes of a statement) and `Walks`. `FrameLaws` has
+//! what makes one of several calls, `FindLaws` and `WalkLaws` what a walk comes to.
 //!
 //! Below: `mg_records`. Above: the statements' steps.
 //! Not here: what is written, and what a statement is.
