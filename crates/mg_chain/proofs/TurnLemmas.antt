@@ -1,11 +1,12 @@
 -- A slot is turned, and a cell freed.
-use Rattle.std.proofs.Common.{◌≡◌, ◌∙◌, inr, ℕ, Bool, true, false, List, Option, None, Some, length, sym, ap, subst, Result, Ok, Err}
+use Rattle.std.proofs.Common.{◌≡◌, ◌+◌, ◌∙◌, inr, ℕ, Bool, true, false, List, Option, None, Some, length, sym, ap, subst, Result, Ok, Err}
 use Rattle.std.specs.Prelude.{MatchResult, OnErr, OnOk}
 use Rattle.std.specs.declared.alloc.Global.{Global}
 use Rattle.std.specs.declared.vec.Vec.{Vec}
 use Rattle.mg_base.specs.Disk.{Meaning}
 use Rattle.mg_base.specs.Image.{Image}
 use Rattle.mg_base.specs.declared.damage.Damaged.{Damaged}
+use Rattle.mg_base.specs.declared.damage.Field.TheVariants.{Count}
 use Rattle.mg_base.specs.declared.geometry.Geometry.{Geometry}
 use Rattle.mg_base.specs.declared.numbers.RecId.{RecId}
 use Rattle.mg_heap.specs.Changing.{ChangesAtMost, ChangesWhere, FreesCellAt, PlacesCell}
@@ -25,6 +26,7 @@ use Rattle.mg_version.specs.declared.cell.Cell.TheVariants as cells
 use Rattle.mg_version.specs.declared.cell.Link.{Link}
 use Rattle.mg_version.specs.declared.cell.TheConstants.{ANCHOR_LEN}
 use Rattle.mg_chain.specs.Writing.{FreesAt, PutsAt, SlotIsReached, Swings, TurnsBack, TurnsTo}
+use Rattle.mg_chain.specs.Refusals.{damage}
 use Rattle.mg_chain.specs.WritingRefusals.{RefusesSwing, RefusesTurn, swing_frees}
 use Rattle.mg_chain.proofs.HeadLemmas.{turn_data}
 use Rattle.mg_chain.proofs.WritingLemmas.{frees_at_on}
@@ -54,10 +56,17 @@ turns_where store image old new rec link cell bytes placed is same spells change
 pub no_turn : {D L : Type 0} (m : Meaning D) (store : Pool D L) (pages : List BatchPage)
     (view new : Pages) (rec : RecId) (cell bytes : List ℕ) (placed : Bool) (it : Damaged)
     → placed ≡ false → cell ≡ bytes → length bytes ≡ ANCHOR_LEN → PlacesCell view new rec cell placed
+    → it ≡ damage rec.page.0 Count rec.slot (rec.slot + 1)
     → RefusesTurn m store pages view rec (faults.Damaged it)
-no_turn m store pages view new rec cell bytes true it is same len places = absurd cc
-no_turn m store pages view new rec cell bytes false it is same len places =
-    inr (places.0, (cell, ap (length {A = ℕ}) same ∙ len, places.1))
+no_turn m store pages view new rec cell bytes true it is same len places told = absurd cc
+no_turn m store pages view new rec cell bytes false it is same len places told =
+    inr record {
+      page_is = places.0;
+      bytes = cell;
+      len = ap (length {A = ℕ}) same ∙ len;
+      none = places.1;
+      is = told;
+    }
 
 -- a slot is turned to a version, as one of two things that may be
 pub back_some : {D L : Type 0} (store : Pool D L) (image : Image) (old new : Changed) (rec : RecId)

@@ -1,5 +1,5 @@
 -- Why the versions of a record are not written.
-use Rattle.std.specs.Prelude.{◌≡◌, ◌≢◌, ◌⊎◌, ℕ, List, length, Option, None, Some}
+use Rattle.std.specs.Prelude.{◌≡◌, ◌≢◌, ◌⊎◌, ◌+◌, ℕ, List, length, Option, None, Some}
 use Rattle.mg_base.specs.Disk.{Meaning}
 use Rattle.mg_base.specs.Image.{Image}
 use Rattle.mg_base.specs.declared.damage.Damaged.{Damaged}
@@ -59,15 +59,21 @@ RefusesNewest m store pages limit view rec (faults.Damaged it) =
     × RefusesVersion m store pages limit view rec.page.0 link (faults.Damaged it))
 RefusesNewest m store pages limit view rec (faults.Pool fault) = Unit {0}
 
+-- No anchor may stand in a slot: found is its number, and one slot more than that is wanted.
+pub record HasNoPlace (view : Pages) (at : RecId) (it : Damaged) : Type 0 where
+  pub page_is : IsSomeData at.page (view at.page.0)
+  pub bytes : List ℕ
+  pub len : length bytes ≡ ANCHOR_LEN
+  pub none : MayHave (view at.page.0) at.slot bytes → ⊥
+  pub is : it ≡ damage at.page.0 fields.Count at.slot (at.slot + 1)
+
 -- why a slot is not turned, but for faults of the cache: its page is no data page, or no anchor may
 -- stand there
 abbrev pub RefusesTurn : {D L : Type 0} → Meaning D → Pool D L → List BatchPage → Pages → RecId
     → SpaceFault → Type 0
 RefusesTurn m store pages view at (faults.Full most) = ⊥
 RefusesTurn m store pages view at (faults.Damaged it) =
-    RefusesData m store pages at.page (view at.page.0) (faults.Damaged it)
-    ⊎ (IsSomeData at.page (view at.page.0) × ((bytes : List ℕ) × (length bytes ≡ ANCHOR_LEN)
-    × (MayHave (view at.page.0) at.slot bytes → ⊥)))
+    RefusesData m store pages at.page (view at.page.0) (faults.Damaged it) ⊎ HasNoPlace view at it
 RefusesTurn m store pages view at (faults.Pool fault) = Unit {0}
 
 -- why no place is given for a record

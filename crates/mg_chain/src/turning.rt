@@ -1,6 +1,6 @@
 //! The primary slot of a record is turned: it comes to lead to another version, or is freed.
 
-ghost use Rattle.std.specs.Prelude.{◌≡◌, MatchResult, OnErr, OnOk, Some, None};
+ghost use Rattle.std.specs.Prelude.{◌≡◌, ◌+◌, MatchResult, OnErr, OnOk, Some, None};
 ghost use Rattle.mg_base.specs.Image.{Image};
 ghost use Rattle.mg_heap.specs.Reach.{MayOwn, RefusesReach};
 ghost use Rattle.mg_heap.specs.Reading.{ReadsData};
@@ -8,6 +8,7 @@ ghost use Rattle.mg_pool.specs.Fault.{TellsFault};
 ghost use Rattle.mg_pool.specs.Pool.{IsPool};
 ghost use Rattle.mg_space.specs.Taking.{IsGeometry};
 ghost use Rattle.mg_space.specs.View.{AreWhole, KeepsStore, Tells, pool_answer, viewed};
+ghost use Rattle.mg_chain.specs.Refusals.{damage};
 ghost use Rattle.mg_chain.specs.Writing.{SlotIsReached, Swings, TurnsBack, TurnsTo};
 ghost use Rattle.mg_chain.specs.WritingRefusals.{RefusesSwing, RefusesTurn};
 
@@ -51,13 +52,15 @@ pub(crate) fn turn<D: Disk>(
     Ok(())
 }
 
-/// Names a slot where no anchor may stand.
-fn no_place(rec: RecId) -> Damaged {
+/// Names a slot where no anchor may stand: its page is one slot too short for it.
+fn no_place(rec: RecId) -> Damaged
+    ensures { result ≡ damage rec.page.0 Field.Count rec.slot (rec.slot + 1) }
+{
     Damaged {
         page: rec.page,
         field: Field::Count,
         found: u64::from(rec.slot),
-        wanted: 0,
+        wanted: u64::from(rec.slot) + 1,
     }
 }
 

@@ -24,7 +24,7 @@ returns-then-not-placed-clause-gives g c = λ image tells.
     (viewed c.args.store.now image c.args.batch.now) (viewed c.args.store.now image c.place.new.batch)
     c.args.rec c.deref.result.now c.in_ok-bytes.bytes.items c.in_ok-placed.placed c.no_place.result
     c.if-not-placed.true c.deref.ensures.value c.in_ok-bytes.ensures.len
-    (c.in_ok-placed.ensures.places image tells)
+    (c.in_ok-placed.ensures.places image tells) c.no_place.ensures
 
 pub returns-clause-gives : goal.returns-clause-gives
 returns-clause-gives g c = λ image tells.
