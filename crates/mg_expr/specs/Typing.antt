@@ -1,5 +1,5 @@
 -- The types of expressions.
-use Rattle.std.specs.Prelude.{◌≡◌, ℕ, zero, suc, ◌<◌, Bool, true, false, ◌&&◌, if◌then◌else◌, List, [], ◌∷◌, Option, Some, None, IsSome}
+use Rattle.std.specs.Prelude.{◌≡◌, ℕ, zero, suc, ◌<◌, Bool, true, false, ◌&&◌, if◌then◌else◌, List, [], ◌∷◌, Option, Some, None}
 use Rattle.std.specs.List.{list_all}
 use Rattle.mg_value.specs.declared.shape.Kind.{Kind}
 use Rattle.mg_value.specs.declared.shape.Kind.TheVariants as kinds
@@ -131,17 +131,9 @@ abbrev mutual
   ArePartsBound done count = Unit {0}
   ArePartsBound (part inverse t ps) count = IsBoundTree t count × ArePartsBound ps count
 
--- an expression is bound over so many columns: it names nothing, and each column in it is there
-abbrev pub IsBound : Expr → ℕ → Type 0
-IsBound e count = IsBoundTree (tree_of e) count
-
 -- the type of an expression over a table's columns, none where it isn't well typed
 abbrev pub sort_of_expr : Expr → List AnyColumn → Option Sort
 sort_of_expr e columns = sort_of (tree_of e) columns
-
--- an expression is well typed over a table's columns
-abbrev pub IsTyped : Expr → List AnyColumn → Type 0
-IsTyped e columns = IsSome (sort_of_expr e columns)
 
 -- a value is of a type: NULL is of each but that of truths
 abbrev pub FitsSort : Sort → Value → Type 0

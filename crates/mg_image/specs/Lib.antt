@@ -12,7 +12,6 @@ pub mod NewDatabase
 pub mod Opening
 pub mod Histories
 pub mod HistoryLaws
-pub mod Leftovers
 pub mod StepLaws
 pub mod PageLaws
 pub mod FactLaws

@@ -78,3 +78,8 @@ table_at (stand ∷ stands) n =
 abbrev pub EachStand : (Stand → Type 0) → List Stand → Type 0
 EachStand P [] = Unit {0}
 EachStand P (stand ∷ stands) = P stand × EachStand P stands
+
+-- a stand is one of these
+abbrev pub HasStand : List Stand → Stand → Type 0
+HasStand [] stand = ⊥
+HasStand (other ∷ stands) stand = (stand ≡ other) ⊎ HasStand stands stand

@@ -3,7 +3,7 @@
 //!
 //! Owns: the meaning of all pages together (`specs/`). From below upward: the states of
 //! transactions and the page inventory, the pages of tables, the versions of records, index trees,
-//! soundness, what is held, and what is left over.
+//! soundness, and what is held.
 //!
 //! What a reader finds for each record of an image is a `Reading`: the list of its versions, the
 //! newest first. An image has one at most. An image is sound where it has a reading and a layout

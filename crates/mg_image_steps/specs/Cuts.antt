@@ -45,14 +45,6 @@ stands_of_committed f x [] is = absurd is
 stands_of_committed f x (e ∷ es) (inl (at, is)) = inl at
 stands_of_committed f x (e ∷ es) (inr is) = inr (stands_of_committed f x es is)
 
--- two places are one
-pub one_place : (a b : RecId) → same_place a b ≡ true → a ≡ b
-one_place a b yes_ = by (cases_place a b)
-  where
-    by : ((a ≡ b) × (same_place a b ≡ true)) ⊎ ((a ≢ b) × (same_place a b ≡ false)) → a ≡ b
-    by (inl (e, _)) = e
-    by (inr (_, no_)) = absurd cc
-
 pub cut_stands : (x y : RecId) (es : List Entry) → Stands (cut_at x es) y → Stands es y
 cut_stands x y [] is = is
 cut_stands x y (e ∷ es) is = by (same_place e.at x) (cut_stands x y es) is
@@ -405,15 +397,6 @@ living_behind f x y (e ∷ es) once is stands =
         absurd (once.0 (subst (Stands es) (sym at) (stands_of_committed f x es more)))
     by Dead s_is (inr (ne, no_)) is stands = rw s_is (subst (λ (b : Bool). Stands
         (if b then es else behind x es) y) no_ stands)
-
-pub living_stands : (state : ℕ → TxState) (y : RecId) (es : List Entry)
-    → Stands (living state es) y → Stands es y
-living_stands state y [] is = is
-living_stands state y (e ∷ es) is = by (is_dead (state (writer e))) is
-  where
-    by : (b : Bool) → Stands (if b then es else e ∷ es) y → (e.at ≡ y) ⊎ Stands es y
-    by true more = inr more
-    by false is = is
 
 pub behind_living : (state : ℕ → TxState) (x y : RecId) (es : List Entry)
     → Stands (behind x (living state es)) y → Stands (behind x es) y

@@ -24,10 +24,6 @@ use Rattle.std.proofs.lemmas.Bool.{cases_eq}
 
 -- ---- a page is of one kind
 
-front_passes : (first rest : List Check) → PassesAll (first ++ rest) → PassesAll first
-front_passes [] rest passes = tt
-front_passes (check ∷ checks) rest passes = (passes.0, front_passes checks rest passes.1)
-
 pub kind_of : (page : List ℕ) (n kind owner seq : ℕ) (rest : List Check)
     → PassesAll (common_checks page n kind owner seq ++ rest) → byte page 0 ≡ kind
 unfolding common_checks

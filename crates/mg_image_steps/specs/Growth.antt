@@ -10,7 +10,7 @@ use Rattle.mg_image.specs.Reached.{IsAsWanted}
 use Rattle.mg_image.specs.RecordRules.{AreRecords, Facts, IsInLimbo, IsRecord, IsVersion, TakesKey, table_in}
 use Rattle.mg_image.specs.Records.{Cells, Chain, Reading, ended, newest_of, record_key, shown}
 use Rattle.mg_image.specs.Sound.{HasTablePages, IsTableData, IsTablePointer}
-use Rattle.mg_image.specs.Tables.{EachFrom, Has, IsOnce, LinkChain, Stand, ended as chain_ended, entries_in, goes, has}
+use Rattle.mg_image.specs.Tables.{EachFrom, Has, LinkChain, Stand, ended as chain_ended, entries_in, goes, has}
 use Rattle.mg_image.specs.declared.entry.Entry.{Entry}
 use Rattle.mg_model.specs.Answers.{is_committed}
 use Rattle.mg_model.specs.declared.table.Table.{Table}
@@ -39,20 +39,6 @@ has_either (m ∷ ms) ns n (inr more) = by (has_either ms ns n more)
     by : Has ms n ⊎ Has ns n → Has (m ∷ ms) n ⊎ Has ns n
     by (inl is) = inl (inr is)
     by (inr is) = inr is
-
--- a number more, somewhere among numbers none of which it is
-pub once_with : (ms ns : List ℕ) (n : ℕ) → IsOnce (ms ++ ns) → (Has (ms ++ ns) n → ⊥)
-    → IsOnce (ms ++ (n ∷ ns))
-once_with [] ns n once out = (out, once)
-once_with (m ∷ ms) ns n once out = (
-  (λ is. at (has_either ms (n ∷ ns) m is)),
-  once_with ms ns n once.1 (λ is. out (inr is)),
-)
-  where
-    at : Has ms m ⊎ Has (n ∷ ns) m → ⊥
-    at (inl is) = once.0 (has_front ms ns m is)
-    at (inr (inl e)) = out (inl (sym e))
-    at (inr (inr is)) = once.0 (has_back ms ns m is)
 
 each_with_last : (P : ℕ → ℕ → Type 0) (at : ℕ) (ns : List ℕ) (n : ℕ) → EachFrom P at ns
     → P (at + length ns) n → EachFrom P at (ns ++ (n ∷ []))

@@ -4,10 +4,9 @@ use Rattle.std.proofs.Common.{◌≡◌, ◌≢◌, ◌⊎◌, inl, inr, refl, s
 use Rattle.std.specs.Prelude.{if◌then◌else◌}
 use Rattle.std.proofs.Math.Path.{fun_ext}
 use Rattle.std.proofs.lemmas.Bool.{cases_eq}
-use Rattle.mg_base.specs.declared.transaction.TxState.{TxState}
 use Rattle.mg_careful.specs.Precedence.{Orders}
 use Rattle.mg_careful.specs.CarefulWrite.{Pages, PageSet}
-use Rattle.mg_overlays.specs.Overlays.{Keeping, LaysBatch, laid}
+use Rattle.mg_overlays.specs.Overlays.{LaysBatch, laid}
 
 -- One page of an image is changed: it was as in the pool, and it is as in the pool then.
 pub record LaysPage (pool changed image laid : Pages) (b : ℕ) : Type 0 where
@@ -92,42 +91,3 @@ ordered_same pool changed batch orders set_ image view lays left m b ordered in_
         some bytes is none = let both = sym is ∙ none in absurd cc
 
 -- ---- a batch as its steps
-
--- What each step of a batch owes: with its page in the set, and without. The image has the other
--- pages of the set as the view has them.
-pub record KeepsStep (good : Keeping) (state : ℕ → TxState) (view next : Pages) (b : ℕ) : Type 0
-  where
-    pub within : (image laid_ : Pages) → LaysPage view next image laid_ b → good state view image
-        → good state next laid_
-    pub without : (image : Pages) → good state view image → good state next image
-
--- two steps, where the second page comes only with the first
-pub two_steps : (good : Keeping) (state : ℕ → TxState) (pool mid changed : Pages)
-    (batch : ℕ → Option (List ℕ)) (orders : Orders) (a b : ℕ)
-    → ((n : ℕ) → n ≢ a → mid n ≡ pool n) → ((n : ℕ) → n ≢ b → changed n ≡ mid n)
-    → KeepsStep good state pool mid a
-    -- the second is within a set with the first page only, or without
-    → ((image laid_ : Pages) → image a ≡ mid a → LaysPage mid changed image laid_ b
-    → good state mid image → good state changed laid_)
-    → ((image : Pages) → good state mid image → good state changed image)
-    → (set_ : PageSet) (image : Pages) → (set_ b ≡ true → partly set_ mid image a ≡ mid a)
-    → LaysBatch pool changed batch orders set_ image
-    → good state pool image → good state changed (laid batch set_ image)
-two_steps good state pool mid changed batch orders a b first second one two_in two_out set_ image with_b
-    lays was = subst (good state changed) (last_view pool changed batch orders set_ image lays)
-    (by_b (set_ b) refl)
-  where
-    start : good state pool (partly set_ pool image)
-    start = subst (good state pool) (sym (first_view pool changed batch orders set_ image lays)) was
-
-    middle : (c : Bool) → set_ a ≡ c → good state mid (partly set_ mid image)
-    middle true in_set = one.within (partly set_ pool image) (partly set_ mid image)
-        (step_in set_ pool mid image a first in_set) start
-    middle false out = subst (good state mid) (sym (step_out set_ pool mid image a first out))
-        (one.without (partly set_ pool image) start)
-
-    by_b : (c : Bool) → set_ b ≡ c → good state changed (partly set_ changed image)
-    by_b true in_set = two_in (partly set_ mid image) (partly set_ changed image) (with_b in_set)
-        (step_in set_ mid changed image b second in_set) (middle (set_ a) refl)
-    by_b false out = subst (good state changed) (sym (step_out set_ mid changed image b second out))
-        (two_out (partly set_ mid image) (middle (set_ a) refl))

@@ -14,13 +14,12 @@ use Rattle.mg_image.specs.HeldLaws.{same_held}
 use Rattle.mg_image.specs.Histories.{newest_at}
 use Rattle.mg_image.specs.Indexes.{IsFoundIn}
 use Rattle.mg_image.specs.Inventory.{oldest_active_of}
-use Rattle.mg_image.specs.Reached.{linked_pages, tips_of}
+use Rattle.mg_image.specs.Reached.{linked_pages}
 use Rattle.mg_image.specs.RecordRules.{Facts, committed_in, table_in}
 use Rattle.mg_image.specs.Records.{Reading, cells_of, key_of, newest_of, shown, writer}
 use Rattle.mg_image.specs.Sound.{HasTablePages, IsSoundBy, facts_by}
 use Rattle.mg_image.specs.Tables.{EachStand, Has, IsOnce, Layout, Stand, has, pages_of, stands_of, table_at}
 use Rattle.mg_image.specs.declared.entry.Entry.{Entry}
-use Rattle.mg_image_steps.specs.Growth.{has_either}
 use Rattle.mg_kept_images.specs.KeptImages.{IsKept, keeping}
 use Rattle.mg_kept_images.specs.StartLaws.{kept_by_itself}
 use Rattle.mg_model.specs.Answers.{is_committed}
@@ -37,84 +36,14 @@ use Rattle.mg_value.specs.declared.value.Value.{Value}
 use Rattle.std.proofs.Common.{Bool, List, None, Option, Some, [], ap, arith, false, inl, inr, refl, subst, sym, true, ℕ, ◌&&◌, ◌++◌, ◌<◌, ◌||◌, ◌∙◌, ◌∷◌, ◌≡◌, ◌≢◌, ◌≤◌, ◌⊎◌}
 use Rattle.std.proofs.Math.Path.{fun_ext}
 use Rattle.std.proofs.lemmas.Bool.{cases_eq, eq-eqb, ne_eqb}
-use Rattle.std.specs.List.{flat_map}
 use Rattle.std.specs.Prelude.{if◌then◌else◌, map}
 
 -- ---- a table more
-
--- a stand without data pages leaves the table of each page
-pub table_stays : (before after : List Stand) (stand : Stand) → stand.data_pages ≡ [] → (k : ℕ)
-    → table_at (before ++ (stand ∷ after)) k ≡ table_at (before ++ after) k
-table_stays [] after stand empty k =
-    ap (λ (ns : List ℕ). if has ns k then Some stand.table else table_at after k) empty
-table_stays (other ∷ before) after stand empty k =
-    ap (λ (rest : Option Table). if has other.data_pages k then Some other.table else rest)
-    (table_stays before after stand empty k)
 
 each_more : (P : Stand → Type 0) (before after : List Stand) (stand : Stand) → P stand
     → EachStand P (before ++ after) → EachStand P (before ++ (stand ∷ after))
 each_more P [] after stand is each = (is, each)
 each_more P (other ∷ before) after stand is each = (each.0, each_more P before after stand is each.1)
-
--- numbers more, somewhere among numbers none of which they are
-data IsWithAll (ks : List ℕ) : List ℕ → List ℕ → Type 0 where
-  all_here : (ns : List ℕ) → IsWithAll ks ns (ks ++ ns)
-  all_later : (m : ℕ) (ms ns : List ℕ) → IsWithAll ks ms ns → IsWithAll ks (m ∷ ms) (m ∷ ns)
-
-has_with_all : (ks ms ns : List ℕ) (k : ℕ) → IsWithAll ks ms ns → Has ns k → Has ks k ⊎ Has ms k
-has_with_all ks ms ns k (all_here ls) there = has_either ks ls k there
-has_with_all ks ms ns k (all_later m ls os is) (inl e) = inr (inl e)
-has_with_all ks ms ns k (all_later m ls os is) (inr more) = at (has_with_all ks ls os k is more)
-  where
-    at : Has ks k ⊎ Has ls k → Has ks k ⊎ Has (m ∷ ls) k
-    at (inl here) = inl here
-    at (inr there) = inr (inr there)
-
-once_joined : (ks ns : List ℕ) → IsOnce ks → IsOnce ns → ((k : ℕ) → Has ks k → Has ns k → ⊥)
-    → IsOnce (ks ++ ns)
-once_joined [] ns once_ks once_ns apart = once_ns
-once_joined (j ∷ ks) ns once_ks once_ns apart = (
-  (λ there. at (has_either ks ns j there)),
-  once_joined ks ns once_ks.1 once_ns (λ k here there. apart k (inr here) there),
-)
-  where
-    at : Has ks j ⊎ Has ns j → ⊥
-    at (inl here) = once_ks.0 here
-    at (inr there) = apart j (inl refl) there
-
-once_with_all : (ks ms ns : List ℕ) → IsWithAll ks ms ns → IsOnce ks → IsOnce ms
-    → ((k : ℕ) → Has ks k → Has ms k → ⊥) → IsOnce ns
-once_with_all ks ms ns (all_here ls) once_ks once apart = once_joined ks ls once_ks once apart
-once_with_all ks ms ns (all_later m ls os is) once_ks once apart = (
-  (λ there. at (has_with_all ks ls os m is there)),
-  once_with_all ks ls os is once_ks once.1 (λ k here there. apart k here (inr there)),
-)
-  where
-    at : Has ks m ⊎ Has ls m → ⊥
-    at (inl here) = apart m here (inl refl)
-    at (inr there) = once.0 there
-
-with_all_front : (ks fs ms ns : List ℕ) → IsWithAll ks ms ns → IsWithAll ks (fs ++ ms) (fs ++ ns)
-with_all_front ks [] ms ns is = is
-with_all_front ks (f ∷ fs) ms ns is = all_later f (fs ++ ms) (fs ++ ns) (with_all_front ks fs ms ns is)
-
-with_all_back : (ks ms ns bs : List ℕ) → IsWithAll ks ms ns → IsWithAll ks (ms ++ bs) (ns ++ bs)
-with_all_back ks ms ns bs (all_here ls) =
-    subst (IsWithAll ks (ls ++ bs)) (sym (assoc ks ls bs)) (all_here (ls ++ bs))
-  where
-    assoc : (fs gs hs : List ℕ) → (fs ++ gs) ++ hs ≡ fs ++ (gs ++ hs)
-    assoc [] gs hs = refl
-    assoc (f ∷ fs) gs hs = ap (λ (js : List ℕ). f ∷ js) (assoc fs gs hs)
-with_all_back ks ms ns bs (all_later m ls os is) =
-    all_later m (ls ++ bs) (os ++ bs) (with_all_back ks ls os bs is)
-
-stands_with_all : (before after : List Stand) (stand : Stand)
-    → IsWithAll (pages_of stand) (flat_map pages_of (before ++ after))
-    (flat_map pages_of (before ++ (stand ∷ after)))
-stands_with_all [] after stand = all_here (flat_map pages_of after)
-stands_with_all (other ∷ before) after stand = with_all_front (pages_of stand) (pages_of other)
-    (flat_map pages_of (before ++ after)) (flat_map pages_of (before ++ (stand ∷ after)))
-    (stands_with_all before after stand)
 
 -- ---- the names of tables, under every choice
 
@@ -325,39 +254,6 @@ pub record MakesTable (form : Form) (size : ℕ) (state now : ℕ → TxState) (
     tables = before ++ (stand ∷ after);
     sequences = sequences;
   })) r p table e → writer e ≡ t → e.version.deleted ≡ false → IsFoundIn pages table.indexes p e.row
-
--- so it owes what tables owe
-pub makes_one : (form : Form) (size : ℕ) (state now : ℕ → TxState) (t : ℕ)
-    (raises : Raises state now t) (pages : Pages) (catalog : Stand) (sequences : List ℕ)
-    (tables before after : List Stand) (stand : Stand) (r : Reading)
-    → IsSoundBy form size state pages (record { catalog = catalog; tables = tables; sequences = sequences }) r
-    → MakesTable form size state now t pages catalog sequences tables before after stand r
-    → MakesTables form size state now t raises pages catalog sequences tables (before ++ (stand ∷ after)) r
-makes_one form size state now t raises pages catalog sequences tables before after stand r sound makes = record {
-  tables_pages = each_more (HasTablePages form.in_primary size pages) before after stand makes.table_pages
-      (subst (EachStand (HasTablePages form.in_primary size pages)) makes.is_ sound.tables.1);
-  same = λ k. table_stays (catalog ∷ before) after stand makes.empty k
-      ∙ ap (λ (ss : List Stand). table_at (catalog ∷ ss) k) (sym makes.is_);
-  once = once_with_all (pages_of stand) (linked_pages size pages (with_stands (before ++ after)))
-      (linked_pages size pages (with_stands (before ++ (stand ∷ after))))
-      (with_all_back (pages_of stand) (tips_of size pages ++ flat_map pages_of (catalog ∷ (before ++ after)))
-      (tips_of size pages ++ flat_map pages_of (catalog ∷ (before ++ (stand ∷ after)))) sequences
-      (with_all_front (pages_of stand) (tips_of size pages)
-      (flat_map pages_of (catalog ∷ (before ++ after)))
-      (flat_map pages_of (catalog ∷ (before ++ (stand ∷ after))))
-      (stands_with_all (catalog ∷ before) after stand)))
-      makes.once
-      (subst (λ (ss : List Stand). IsOnce (linked_pages size pages (with_stands ss))) makes.is_ sound.once)
-      (subst (λ (ss : List Stand). (m : ℕ) → Has (pages_of stand) m
-      → Has (linked_pages size pages (with_stands ss)) m → ⊥) makes.is_ makes.apart);
-  oldest = makes.oldest;
-  own_tables = makes.own_tables;
-  keys = makes.keys;
-  found = makes.found;
-}
-  where
-    with_stands : List Stand → Layout
-    with_stands ss = record { catalog = catalog; tables = ss; sequences = sequences }
 
 -- ---- the batch of CREATE TABLE
 

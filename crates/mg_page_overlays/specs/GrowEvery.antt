@@ -24,8 +24,7 @@ use Rattle.mg_model.specs.History.{Entries}
 use Rattle.mg_model.specs.declared.opening.Opening.{Opening}
 use Rattle.mg_model.specs.declared.table.Table.{Table}
 use Rattle.mg_overlays.specs.BatchLaws.{change_keeps_always}
-use Rattle.mg_overlays.specs.Overlays.{ChangesCache, EveryOverlay, KeepsLaidAlways, KeepsNeeds, LaysBatch, laid, left_state}
-use Rattle.mg_overlays.specs.Views.{ordered_same, partly}
+use Rattle.mg_overlays.specs.Overlays.{ChangesCache, EveryOverlay, KeepsLaidAlways, KeepsNeeds, laid, left_state}
 use Rattle.mg_page_overlays.specs.GrowKept.{KeptAs, front_last, fronts_joined, grow_in, grow_out, kept_as, kept_of}
 use Rattle.mg_page_overlays.specs.GrowPages.{GrowsPages, HasGrowth, IsBetween, grows_image, grows_unreached, linked, node_stays, off_first, off_last, once_mid, stays, trees_mid, used_still, used_within}
 use Rattle.std.proofs.Common.{Bool, List, None, Option, [], ap, false, inl, inr, length, refl, subst, sym, true, ℕ, ◌++◌, ◌∙◌, ◌∷◌, ◌≡◌, ◌≢◌, ◌⊎◌}
@@ -436,32 +435,6 @@ pub record OrdersGrowth (orders : Orders) (batch : ℕ → Option (List ℕ)) (i
   pub bits : orders i q ≡ true
   pub page : orders n q ≡ true
   pub in_batch : batch i ≢ None
-
--- growth as a step of the views of a larger batch
-pub grow_views : (form : Form) (size : ℕ) (o : Opening) (h : Entries) (state : ℕ → TxState)
-    (pool view next changed : Pages) (batch : ℕ → Option (List ℕ)) (orders : Orders) (set_ : PageSet)
-    (image : Pages) (owner place i q n : ℕ)
-    → HasNoSequences form → TreesStay form size
-    → GrowsPages form.in_primary size view next owner place i q n → OrdersGrowth orders batch i q n
-    → LaysBatch pool changed batch orders set_ image
-    → ((m : ℕ) → batch m ≡ None → next m ≡ changed m)
-    → ((layout : Layout) (r : Reading) → IsSoundBy form size state view layout r
-    → GrowsTable layout owner place q)
-    → IsKept form size o h state view (partly set_ view image)
-    → IsKept form size o h state next (partly set_ next image)
-grow_views form size o h state pool view next changed batch orders set_ image owner place i q n none trees
-    pages ordered lays left finds = grow_step form size o h state view next (partly set_ view image)
-    (partly set_ next image) set_ owner place i q n none trees pages (record {
-      was = λ m in_set. rw in_set refl;
-      is = λ m in_set. rw in_set refl;
-      out = λ m out_. rw out_ refl;
-      bits = λ in_set. has_bits (lays.together i q ordered.bits ordered.in_batch in_set);
-      page = λ in_set. ordered_same pool changed batch orders set_ image next lays left n q ordered.page
-          in_set;
-    }) finds
-  where
-    has_bits : set_ i ≡ true → (partly set_ view image i ≡ view i) × (partly set_ next image i ≡ next i)
-    has_bits in_set = (rw in_set refl, rw in_set refl)
 
 -- a table gets a data page, by nobody's work: every overlay is kept
 abbrev pub GrowKeeps : Form → Type 0

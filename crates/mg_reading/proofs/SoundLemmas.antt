@@ -1,10 +1,9 @@
 -- The tables of a sound image are readable.
 use Rattle.std.proofs.Common.{subst, false, List, [], ◌∷◌}
 use Rattle.mg_model.specs.declared.table.Table.{Table}
-use Rattle.mg_image.specs.Leftovers.{HasStand}
 use Rattle.mg_image.specs.Records.{Reading}
 use Rattle.mg_image.specs.Sound.{HasTablePages, IsSound, IsTableData}
-use Rattle.mg_image.specs.Tables.{EachFrom, Layout, Stand, stands_of}
+use Rattle.mg_image.specs.Tables.{EachFrom, HasStand, Layout, Stand, stands_of}
 use Rattle.mg_reading.specs.declared.image.Image.{Image}
 use Rattle.mg_reading.specs.declared.rows.RowCoding.{RowCoding}
 use Rattle.mg_reading.specs.ImageView.{pages_in}

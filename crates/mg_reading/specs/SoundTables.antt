@@ -3,10 +3,9 @@ use Rattle.std.specs.Prelude.{◌≡◌, ◌≤◌, false, List, [], ◌∷◌, 
 use Rattle.mg_value.specs.declared.shape.TheConstants.{MOST_COLUMNS}
 use Rattle.mg_model.specs.declared.table.Table.{Table}
 use Rattle.mg_image.specs.Form.{Form, NoSequence}
-use Rattle.mg_image.specs.Leftovers.{HasStand}
 use Rattle.mg_image.specs.Records.{Reading}
 use Rattle.mg_image.specs.Sound.{IsSound}
-use Rattle.mg_image.specs.Tables.{Layout, Stand, stands_of}
+use Rattle.mg_image.specs.Tables.{HasStand, Layout, Stand, stands_of}
 use Rattle.mg_reading.specs.declared.image.Image.{Image}
 use Rattle.mg_reading.specs.declared.rows.RowCoding.{RowCoding}
 use Rattle.mg_reading.specs.Codings.{coding_of}

@@ -7,11 +7,10 @@ use Rattle.mg_base.specs.declared.numbers.RecId.{RecId}
 use Rattle.mg_model.specs.declared.table.Table.{Table}
 use Rattle.mg_pointer.specs.PointerPage.{next_in}
 use Rattle.mg_image.specs.Form.{Pages}
-use Rattle.mg_image.specs.Leftovers.{HasStand}
 use Rattle.mg_image.specs.Reached.{linked_pages, tips_of}
 use Rattle.mg_image.specs.Records.{Reading}
 use Rattle.mg_image.specs.Sound.{HasTablePages}
-use Rattle.mg_image.specs.Tables.{EachStand, Has, IsOnce, Layout, PointerChain, Stand, entries_in, has, pages_of, stands_of, table_at, tree_pages}
+use Rattle.mg_image.specs.Tables.{EachStand, Has, HasStand, IsOnce, Layout, PointerChain, Stand, entries_in, has, pages_of, stands_of, table_at, tree_pages}
 use Rattle.mg_reading.specs.ChainLaws.{link_once}
 use Rattle.mg_reading.specs.OneTable.{stand_with}
 

@@ -4,11 +4,10 @@ use Rattle.std.specs.List.{flat_map}
 use Rattle.mg_base.specs.declared.numbers.RecId.{RecId}
 use Rattle.mg_model.specs.declared.table.Table.{Table}
 use Rattle.mg_image.specs.declared.entry.Entry.{Entry}
-use Rattle.mg_image.specs.Leftovers.{HasStand}
 use Rattle.mg_image.specs.RecordRules.{Each, table_in}
 use Rattle.mg_image.specs.Records.{Chain, Reading, Stands, cells_of, newest_of}
 use Rattle.mg_image.specs.Sound.{HasTablePages}
-use Rattle.mg_image.specs.Tables.{EachStand, IsOnce, Stand, has, pages_of, table_at}
+use Rattle.mg_image.specs.Tables.{EachStand, HasStand, IsOnce, Stand, has, pages_of, table_at}
 use Rattle.mg_reading.specs.declared.found.Found.{Found}
 use Rattle.mg_reading.specs.declared.image.Image.{Image}
 use Rattle.mg_reading.specs.declared.rows.RowCoding.{RowCoding}

@@ -1,7 +1,6 @@
 -- What the loop over the tables needs.
 use Rattle.std.proofs.Common.{◌≡◌, inl, List, [], ◌∷◌, ◌++◌, append-nil, append_assoc, length, arith}
-use Rattle.mg_image.specs.Leftovers.{HasStand}
-use Rattle.mg_image.specs.Tables.{Layout, Stand, stands_of}
+use Rattle.mg_image.specs.Tables.{HasStand, Layout, Stand, stands_of}
 use Rattle.mg_layout.specs.declared.standing.TableStand.{TableStand}
 use Rattle.mg_layout.specs.Standing.{stand_in, stands_in}
 use Rattle.mg_reading.specs.declared.found.Found.{Found}

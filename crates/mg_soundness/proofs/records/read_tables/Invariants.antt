@@ -1,6 +1,5 @@
 use Rattle.std.proofs.Common.{List, ◌++◌, length}
-use Rattle.mg_image.specs.Leftovers.{HasStand}
-use Rattle.mg_image.specs.Tables.{Stand, stands_of}
+use Rattle.mg_image.specs.Tables.{HasStand, Stand, stands_of}
 use Rattle.mg_layout.specs.Standing.{layout_in, stands_in}
 use Rattle.mg_reading.specs.declared.found.Found.{Found}
 use Rattle.mg_soundness.specs.Joined.{EachTable, IsTableRead, founds_in}
