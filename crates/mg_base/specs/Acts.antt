@@ -88,6 +88,9 @@ pub acts_more : (es : List Obeyed) (settled : Bool) (n : ℕ) (bytes : List ℕ)
 acts_more es true n bytes = fold_push after_obeyed [] es _
 acts_more es false n bytes = fold_push after_obeyed [] es _
 
+pub times_write : (size : ℕ) (old new : List Act) (n : ℕ) (bytes : List ℕ) → new ≡ Write n bytes ∷ old → Times size old new
+times_write size old new n bytes is = rw is (times_one size old (Write n bytes))
+
 pub crash_write : (size : ℕ) (old new : List Act) (n : ℕ) (bytes : List ℕ) → new ≡ Write n bytes ∷ old → (c : Image) → Left size new (length new) c → Left size old (length old) c ⊎ (Some (image_of size new) ≡ Some c)
 crash_write size old new n bytes is = rw is at
   where

@@ -34,6 +34,31 @@ unordered_leaves [] c left = left
 unordered_leaves (act ∷ acts) c (inl now) = now
 unordered_leaves (act ∷ acts) c (inr (le, _)) = absurd (omega arith)
 
+-- time as it goes on over a list of acts
+pub record TimesUnordered (old new : List Act) : Type 0 where
+  pub later : length old ≤ length new
+  pub nothing_else : (t : ℕ) (c : Image) → t ≤ length old → LeftUnordered new t c → LeftUnordered old t c ⊎ LeftUnordered new (length new) c
+  pub keeps : (t : ℕ) (c : Image) → t ≤ length old → LeftUnordered old t c → LeftUnordered new t c
+
+pub unordered_one : (old : List Act) (act : Act) → TimesUnordered old (act ∷ old)
+unordered_one old act = record { later = omega arith; nothing_else = λ t c le left. other t c left; keeps = λ t c le left. inr (le, left) }
+  where
+    other : (t : ℕ) (c : Image) → LeftUnordered (act ∷ old) t c → LeftUnordered old t c ⊎ LeftUnordered (act ∷ old) (length (act ∷ old)) c
+    other t c (inl now) = inr (inl now)
+    other t c (inr past) = inl past.1
+
+pub unordered_none : (old : List Act) → TimesUnordered old old
+unordered_none old = record { later = omega arith; nothing_else = λ t c le left. inl left; keeps = λ t c le left. left }
+
+-- a sync, also after a sync
+pub unordered_sync : (es : List Obeyed) (settled : Bool) → TimesUnordered (acts_of es settled) (acts_of es true)
+unordered_sync es true = unordered_none (acts_of es true)
+unordered_sync es false = unordered_one (acts_of es false) Settle
+
+pub synced_sync : (es : List Obeyed) (settled : Bool) → synced_in (acts_of es true) ≡ after_writes (synced_in (acts_of es settled)) (pending_in (acts_of es settled))
+synced_sync es true = refl
+synced_sync es false = refl
+
 -- Where each page write is one page long, what a disk in memory holds is what was synced with what is pending.
 
 abbrev IsThrough : ℕ → List Act → Type 0

@@ -6,7 +6,7 @@ use Rattle.mg_model.specs.declared.opening.Opening.{Opening}
 use Rattle.mg_model.specs.declared.refusal.Refusal.{Refusal}
 use Rattle.mg_model.specs.declared.refusal.Refusal.TheVariants.{DatabaseFull, DiskRead, DiskWrite, Offline, Damaged, Memory}
 use Rattle.mg_model.specs.declared.table.Table.{Table}
-use Rattle.mg_model.specs.Changes.{Cells}
+use Rattle.mg_model.specs.Changes.{KeyedRows}
 use Rattle.mg_model.specs.History.{Entries}
 use Rattle.mg_model.specs.Machine.{is_of}
 use Rattle.mg_records.specs.Meaning.{Means}
@@ -62,14 +62,13 @@ pub record Keeps {R P : Type 0} (m : Means R P) (old new : R) (refusal : Option 
 
 -- the tables that transactions see stay, but for those of one transaction, if one is named
 abbrev pub TablesStay : {R P : Type 0} → Means R P → R → R → Option ℕ → Type 0
-TablesStay m old new who = (o : Opening) (h : Entries) → m.stands old o h
-    → (u : ℕ) (name : List ℕ) → is_of u who ≡ false → m.table new u name ≡ m.table old u name
+TablesStay m old new who = (u : ℕ) (name : List ℕ) → is_of u who ≡ false
+    → m.table new u name ≡ m.table old u name
 
 -- the walks of transactions go on as they would have, but for those of one, if one is named
 abbrev pub WalksStay : {R P : Type 0} → Means R P → R → R → Option ℕ → Type 0
-WalksStay {P = P} m old new who = (o : Opening) (h : Entries) → m.stands old o h
-    → (u : ℕ) (table : Table) (after : Option P) (rows : List Cells) → is_of u who ≡ false
-    → m.to_come old u table after rows → m.to_come new u table after rows
+WalksStay {P = P} m old new who = (u : ℕ) (table : Table) (after : Option P) (rows : KeyedRows)
+    → is_of u who ≡ false → m.to_come old u table after rows → m.to_come new u table after rows
 
 -- of a commit that was asked for no more is unwritten than before
 abbrev pub Lessens : Option ℕ → Option ℕ → Type 0
@@ -83,9 +82,8 @@ pub record Reads {R P : Type 0} (m : Means R P) (old new : R) (refusal : Option 
     (walks : Option ℕ) : Type 0 where
   pub stays : (o : Opening) (h : Entries) → m.stands old o h → m.stands new o h
   pub keeps : Keeps m old new refusal
-  pub tables : (u : ℕ) (name : List ℕ) → m.table new u name ≡ m.table old u name
-  pub walks_stay : (u : ℕ) (table : Table) (after : Option P) (rows : List Cells)
-      → is_of u walks ≡ false → m.to_come old u table after rows → m.to_come new u table after rows
+  pub tables : TablesStay m old new None
+  pub walks_stay : WalksStay m old new walks
   pub commits : (u : ℕ) → is_of u walks ≡ false → Lessens (m.unwritten old u) (m.unwritten new u)
 
 -- A call that gives events: the tables of one transaction may come to be others, and its walks.

@@ -1,5 +1,6 @@
 pub mod Meaning
 pub mod Keeping
+pub mod Beginning
 pub mod Adding
 pub mod Reading
 pub mod Writing

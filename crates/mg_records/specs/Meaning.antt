@@ -3,7 +3,7 @@ use Rattle.std.specs.Prelude.{ℕ, Bool, List, Option}
 use Rattle.mg_base.specs.Image.{Image}
 use Rattle.mg_model.specs.declared.opening.Opening.{Opening}
 use Rattle.mg_model.specs.declared.table.Table.{Table}
-use Rattle.mg_model.specs.Changes.{Cells}
+use Rattle.mg_model.specs.Changes.{KeyedRows}
 use Rattle.mg_model.specs.History.{Entries}
 
 -- What is known of a keeper of records. Moments are numbers of its own clock, which never falls.
@@ -15,9 +15,9 @@ pub record Means (R P : Type 0) : Type 1 where
   -- this table was given; this place was given for the table
   pub was_given : R → Table → Type 0
   pub is_place : R → Table → P → Type 0
-  -- the rows of a table that a transaction still comes to behind a place, none for the beginning,
-  -- in the order in which they are visited
-  pub to_come : R → ℕ → Table → Option P → List Cells → Type 0
+  -- the rows of a table, with their keys, that a transaction still comes to behind a place, none for
+  -- the beginning, in the order in which they are visited
+  pub to_come : R → ℕ → Table → Option P → KeyedRows → Type 0
   -- a number that falls with each visit, so that a walk ends
   pub still : R → ℕ → Table → Option P → ℕ
   -- how many pages of a commit are unwritten, once it was asked for

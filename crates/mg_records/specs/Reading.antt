@@ -1,5 +1,5 @@
 -- Tables and rows as a transaction sees them.
-use Rattle.std.specs.Prelude.{◌≡◌, ℕ, ◌<◌, ◌≤◌, List, [], ◌∷◌, length, map, Option, Some, None, Result, Ok, Err, IsPermutation, if◌then◌else◌}
+use Rattle.std.specs.Prelude.{◌≡◌, ℕ, ◌<◌, ◌≤◌, List, [], ◌∷◌, length, Option, Some, None, Result, Ok, Err, IsPermutation, if◌then◌else◌}
 use Rattle.mg_base.specs.declared.numbers.TxNo.{TxNo}
 use Rattle.mg_base.specs.declared.transaction.TxState.TheVariants.{Active}
 use Rattle.mg_value.specs.declared.shape.Shape.{Shape}
@@ -11,7 +11,8 @@ use Rattle.mg_model.specs.declared.opening.Opening.{Opening}
 use Rattle.mg_model.specs.declared.refusal.Refusal.{Refusal}
 use Rattle.mg_model.specs.declared.refusal.Refusal.TheVariants.{NoTable}
 use Rattle.mg_model.specs.declared.table.Table.{Table}
-use Rattle.mg_model.specs.Changes.{Cells, same_name, rows_of}
+use Rattle.mg_value.specs.declared.value.Value.{Value}
+use Rattle.mg_model.specs.Changes.{Cells, KeyedRows, same_name, rows_of}
 use Rattle.mg_model.specs.Catalog.{CatalogRows, catalog_name, table_key, shape_said}
 use Rattle.mg_model.specs.History.{Entries, entry}
 use Rattle.mg_model.specs.Machine.{state_of, view}
@@ -71,16 +72,16 @@ Nears m old new t table after (Ok None) = Unit {0}
 Nears m old new t table after (Err r) = Unit {0}
 
 -- rows behind a row, if there is one
-abbrev pub with_found : Option Cells → List Cells → List Cells
+abbrev pub with_found : Option (Value × Cells) → KeyedRows → KeyedRows
 with_found None rows = rows
 with_found (Some row) rows = row ∷ rows
 
 -- a visit comes to the next of the rows to come, or to a record in which the transaction sees none;
 -- it is the end exactly where no row and no record is to come
 abbrev pub Visits : {R P : Type 0} → Means R P → R → ℕ → Table
-    → Result (Option (Found P)) Refusal → List Cells → Type 0
+    → Result (Option (Found P)) Refusal → KeyedRows → Type 0
 Visits m new t table (Ok None) rows = rows ≡ []
-Visits m new t table (Ok (Some found)) rows = (more : List Cells)
+Visits m new t table (Ok (Some found)) rows = (more : KeyedRows)
     × (rows ≡ with_found found.row more) × m.to_come new t table (Some found.place) more
 Visits m new t table (Err r) rows = Unit {0}
 
@@ -88,8 +89,8 @@ Visits m new t table (Err r) rows = Unit {0}
 abbrev pub WalksAreWhole : {R P : Type 0} → Means R P → Type 0
 WalksAreWhole {R = R} m = (r : R) (o : Opening) (h : Entries) (t : ℕ) (table : Table)
     → m.stands r o h → state_of o h t ≡ Active → m.table r t table.name ≡ Some table
-    → (rows : List Cells) × m.to_come r t table None rows
-    × IsPermutation rows (map (λ r. r.1) (rows_of (view o h t) table.name))
+    → (rows : KeyedRows) × m.to_come r t table None rows
+    × IsPermutation rows (rows_of (view o h t) table.name)
 
 -- a statement tells what it found: where that is what the machine finds, the entry has these rows
 abbrev pub FindAdds : {R P : Type 0} → Means R P → R → R → TxNo → List ℕ → Option Expr → List Cells

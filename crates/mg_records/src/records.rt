@@ -1,12 +1,13 @@
 //! The keeper of records.
 
-ghost use Rattle.std.specs.Prelude.{◌≡◌, ◌≢◌, ◌<◌, ◌≤◌, ℕ, List, Option, Some, None, IfOk, IsSome};
+ghost use Rattle.std.specs.Prelude.{◌≡◌, ◌≢◌, ◌<◌, ◌≤◌, ℕ, Option, Some, None, IfOk, IsSome};
 ghost use Rattle.std.specs.Option.{option_copied};
 ghost use Rattle.mg_model.specs.declared.event.Event.{Event};
-ghost use Rattle.mg_model.specs.Changes.{Cells};
+ghost use Rattle.mg_model.specs.Changes.{KeyedRows};
 ghost use Rattle.mg_model.specs.Catalog.{catalog_name};
 ghost use Rattle.mg_records.specs.Meaning.{Means};
 ghost use Rattle.mg_records.specs.Keeping.{Leaves, Reads, refusal_in};
+ghost use Rattle.mg_records.specs.Beginning.{IsFree};
 ghost use Rattle.mg_records.specs.Adding.{Adds, AnswersAll, fine_or, number_or, drawn_in};
 ghost use Rattle.mg_records.specs.Reading.{TellsTable, IsTableGiven, TablesAreSeen, IsPlace, Nears, Visits, WalksAreWhole, FindAdds};
 ghost use Rattle.mg_records.specs.Writing.{FitsShape, FitsPages, IsNewShape, MakesTable, event_of};
@@ -37,9 +38,10 @@ pub trait Records {
     fn copy_place(alloc: Global, place: &Self::Place) -> Result<Self::Place, Memory>
         ensures { IfOk result (λ copied. copied ≡ place.now) };
 
-    /// Begins a transaction for a session, with the next number.
+    /// Begins a transaction for a session that has no active one, with the next number.
     fn begin(&mut self, session: u8, mode: Mode) -> Result<TxNo, Refusal>
         requires session { session < 32 }
+        requires free { IsFree meaning self.old session }
         ensures adds { Adds meaning self.old self.new (Event.Begin session mode) (number_or result) }
         ensures leaves { Leaves meaning self.old self.new (refusal_in result) (drawn_in result) (drawn_in result) };
 
@@ -71,7 +73,7 @@ pub trait Records {
         requires place { IsPlace meaning self.old table.now (option_copied after) }
         ensures answers { AnswersAll meaning self.old t.0 result }
         ensures nears { Nears meaning self.old self.new t.0 table.now (option_copied after.entry) result }
-        ensures visits { (rows : List Cells)
+        ensures visits { (rows : KeyedRows)
             → meaning.to_come self.old t.0 table.now (option_copied after.entry) rows
             → Visits meaning self.new t.0 table.now result rows }
         ensures reads { Reads meaning self.old self.new (refusal_in result) (Some t.0) };

@@ -4,7 +4,8 @@ use Rattle.std.specs.Prelude.{is_some, if◌then◌else◌}
 use Rattle.std.proofs.lemmas.Bool.{cases_eq, cases_lt, lt-ltb, le-ltb}
 use Rattle.std.proofs.lemmas.List.{length-take-le, length-drop}
 use Rattle.mg_slots.specs.declared.page.TheConstants.{SLOTS_AT, SLOT_LEN}
-use Rattle.mg_slots.specs.DataPage.{Cells, IsDataPage, cell_of, slot_count, offset_at, length_at, taken, taken_by, taken_below, all_taken}
+use Rattle.mg_slots.specs.DataPage.{Cells, IsDataPage, IsNewPage, cell_of, slot_count, offset_at, length_at, taken, taken_by, taken_below, all_taken}
+use Rattle.mg_slots.specs.Room.{room_of}
 use Rattle.mg_slots.specs.TakenLaws.{taken_below_mono}
 use Rattle.mg_slots.specs.Disjoint.{AreApart, sum_below, sum_bound}
 
@@ -138,3 +139,11 @@ used_below b slot some = at (cases_lt slot (slot_count b))
     at (inl below) = below
     at (inr past) = let none : is_some (cell_of b slot) ≡ false =
         ap is_some (cell_past b slot past) in absurd cc
+
+-- a new page has room for one cell and its slot
+pub new_page_room : (b : List ℕ) (size page owner seq : ℕ) → IsNewPage b size page owner seq
+    → room_of b ≡ size - SLOTS_AT - SLOT_LEN
+new_page_room b size page owner seq new =
+    let len : length b ≡ size = new.len in
+    let count : slot_count b ≡ 0 = new.count in
+    rw (count, len) (omega arith)

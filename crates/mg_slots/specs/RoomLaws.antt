@@ -82,6 +82,13 @@ first_without_at cells (suc n) lt = at (first_without cells n == n) refl (cells 
             eq-eqb (first_without cells n) n e in absurd cc
         at_less (inr ne) = omega (arith, first_without_le cells n)
 
+pub last_end_here : (passes : ℕ → Bool) (n : ℕ) → passes n ≡ true → last_end passes (n + 1) ≡ n + 1
+last_end_here passes n passed = rw (add-one n, passed) (omega arith)
+
+pub last_end_drop : (passes : ℕ → Bool) (n : ℕ) → passes n ≡ false
+    → last_end passes (n + 1) ≡ last_end passes n
+last_end_drop passes n failed = rw (add-one n, failed) refl
+
 pub last_end_le : (passes : ℕ → Bool) (n : ℕ) → last_end passes n ≤ n
 last_end_le passes zero = omega arith
 last_end_le passes (suc n) = at (passes n) (last_end_le passes n)

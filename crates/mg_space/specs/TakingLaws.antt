@@ -43,6 +43,9 @@ page_sizes size is = four (or_cases _ _ is)
 pub bits_some : (size : ℕ) → is_page_size size ≡ true → 8064 ≤ bits size
 bits_some size is = let sizes = page_sizes size is in let least = sizes.0 in omega arith
 
+pub bits_few : (size : ℕ) → is_page_size size ≡ true → bits size ≤ 130944
+bits_few size is = let sizes = page_sizes size is in let most = sizes.1 in omega arith
+
 -- a page is told by its region and its bit
 pub page_is : (size n : ℕ) → n / bits size * bits size + n % bits size ≡ n
 page_is size n = let whole = mod-add-div' n (bits size) in omega (arith, whole)

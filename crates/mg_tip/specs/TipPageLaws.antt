@@ -91,7 +91,39 @@ bits_of-state_of (suc (suc zero)) below = refl
 bits_of-state_of (suc (suc (suc zero))) below = refl
 bits_of-state_of (suc (suc (suc (suc bits)))) below = absurd (omega arith)
 
+-- a byte is told by its four states
+pub byte_of_states : (page : List ℕ) (at : ℕ) → byte page (STATES_AT + at) < 2 ^ 8
+    → byte page (STATES_AT + at) ≡ bits_of (state_in page (4 * at))
+    + 4 * bits_of (state_in page (4 * at + 1)) + 16 * bits_of (state_in page (4 * at + 2))
+    + 64 * bits_of (state_in page (4 * at + 3))
 unfolding state_in
+byte_of_states page at small =
+    let place : (k : ℕ) → k < 4 → (4 * at + k) / 4 ≡ at = λ k below. omega arith in
+    let bits : (k : ℕ) → k < 4 → (4 * at + k) % 4 ≡ k = λ k below. omega arith in
+    let first_place : 4 * at / 4 ≡ at = omega arith in
+    let first_bits : 4 * at % 4 ≡ 0 = omega arith in
+    rw (
+      first_place,
+      first_bits,
+      place 1 (omega arith),
+      bits 1 (omega arith),
+      place 2 (omega arith),
+      bits 2 (omega arith),
+      place 3 (omega arith),
+      bits 3 (omega arith),
+    )
+    (quarters (byte page (20 + at)) small)
+  where
+    quarters : (b : ℕ) → b < 2 ^ 8 → b ≡ bits_of (state_of (two_bits b 0))
+        + 4 * bits_of (state_of (two_bits b 1)) + 16 * bits_of (state_of (two_bits b 2))
+        + 64 * bits_of (state_of (two_bits b 3))
+    quarters b below = rw (
+      bits_of-state_of (b % 4) (omega arith),
+      bits_of-state_of (b / 4 % 4) (omega arith),
+      bits_of-state_of (b / 16 % 4) (omega arith),
+      bits_of-state_of (b / 64 % 4) (omega arith),
+    ) (omega arith)
+
 -- what stands before the states tells the page before, and the tests
 pub same_prev : (old new : List ℕ) → take STATES_AT new ≡ take STATES_AT old → prev_in new
     ≡ prev_in old
