@@ -1,4 +1,5 @@
 pub mod Meaning
+pub mod Crashing
 pub mod Keeping
 pub mod Beginning
 pub mod Adding

@@ -27,6 +27,9 @@ pub record Means (R P : Type 0) : Type 1 where
   pub tells : R → Bool
   pub moment : R → ℕ
   pub left : R → ℕ → Image → Type 0
+  -- an image holds what outlasts a crash after some durable event of a history, and after so many at
+  -- least
+  pub holds : R → Opening → Entries → ℕ → Image → Type 0
   -- how often the disk failed, how often a page was found damaged, and how often pages were short
   pub faults : R → ℕ
   pub damage : R → ℕ
