@@ -1,5 +1,5 @@
 -- The dirty pages of a cache, and what a change of the table leaves.
-use Rattle.std.specs.Prelude.{◌≡◌, ◌≢◌, ℕ, ◌+◌, ◌<◌, ◌≤◌, Bool, true, false, ◌==◌, List, [], ◌∷◌, length, Option, Some, None, is_some, slice_index_or, slice_set, count_by, if◌then◌else◌, not}
+use Rattle.std.specs.Prelude.{◌≡◌, ◌≢◌, ℕ, ◌+◌, ◌<◌, ◌≤◌, Bool, true, false, ◌==◌, List, [], ◌∷◌, length, Option, Some, None, is_some, slice_index_or, slice_set, if◌then◌else◌, not}
 use Rattle.std.specs.List.{filter}
 use Rattle.mg_pool.specs.declared.dirty_page.DirtyPage.{DirtyPage}
 
@@ -33,10 +33,6 @@ is_marked t page who = marked_by (entry_in t.pages page) who
 -- whether a page is dirty
 abbrev pub is_dirty : DirtyPages → ℕ → Bool
 is_dirty t page = is_some (content_of t page)
-
--- how many pages who has marked
-abbrev pub marked_count : DirtyPages → ℕ → ℕ
-marked_count t who = count_by (λ d. slice_index_or d.marks who false) t.pages
 
 -- one dirty page gets a content, all others keep theirs, and all marks stay
 pub record PutsContent (old new : DirtyPages) (page : ℕ) (bytes : List ℕ) : Type 0 where

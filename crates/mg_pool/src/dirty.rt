@@ -2,7 +2,7 @@
 
 ghost use Rattle.std.specs.Prelude.{◌≡◌, ◌≢◌, ◌<◌, ◌↔◌, ℕ, IsTrue, IfOk, IsSome, IfSome, IfNone, Some, None, length, [], map, slice_index_or, vec_capacity, ◌≤◌, true, not, ◌&&◌};
 ghost use Rattle.std.specs.Option.{option_copied};
-ghost use Rattle.mg_pool.specs.Dirty.{content_of, is_dirty as dirty_test, PutsContent, TakesOut, IsSpare, IsLeastPage, MarksAll, is_marked, marked_count as marked_count_in, marked_in, with_mark};
+ghost use Rattle.mg_pool.specs.Dirty.{content_of, is_dirty as dirty_test, PutsContent, TakesOut, IsSpare, IsLeastPage, MarksAll, is_marked, marked_in, with_mark};
 ghost use Rattle.mg_pool.specs.Batch.{is_in, outside_in, dirty_with};
 ghost use Rattle.mg_careful.specs.Rows.{lesser_of};
 ghost use Rattle.mg_pool.specs.declared.dirty_page.DirtyPage.{DirtyPage};
@@ -78,6 +78,17 @@ impl DirtyTable {
         Some(self.pages[place].bytes.as_slice())
     }
 
+    /// Tells whether `who` has marked a dirty page.
+    pub fn has_mark(&self, page: u32, who: usize) -> bool
+        requires { who < MARKERS }
+        ensures { result ≡ is_marked self.now page who }
+    {
+        match find(&self.pages, page) {
+            Some(place) => self.pages[place].marks[who],
+            None => false,
+        }
+    }
+
     /// Puts a content, one page long, into a page's place, without memory. A page that wasn't dirty
     /// takes a place of its own and has no mark.
     pub fn put(&mut self, page: u32, bytes: &[u8])
@@ -131,20 +142,6 @@ impl DirtyTable {
             least = lesser(least, marked_page(&self.pages, i, who));
         }
         least
-    }
-
-    /// How many pages `who` has marked.
-    pub fn marked_count(&self, who: usize) -> usize
-        requires { who < MARKERS }
-        ensures { result ≡ marked_count_in self.now who }
-    {
-        let mut count = 0;
-        for i in 0..self.pages.len() {
-            if self.pages[i].marks[who] {
-                count += 1;
-            }
-        }
-        count
     }
 
     /// The dirty page of least number that isn't in a batch, none where there is none.
