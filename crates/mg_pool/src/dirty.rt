@@ -78,17 +78,6 @@ impl DirtyTable {
         Some(self.pages[place].bytes.as_slice())
     }
 
-    /// Tells whether `who` has marked a dirty page.
-    pub fn has_mark(&self, page: u32, who: usize) -> bool
-        requires { who < MARKERS }
-        ensures { result ≡ is_marked self.now page who }
-    {
-        match find(&self.pages, page) {
-            Some(place) => self.pages[place].marks[who],
-            None => false,
-        }
-    }
-
     /// Puts a content, one page long, into a page's place, without memory. A page that wasn't dirty
     /// takes a place of its own and has no mark.
     pub fn put(&mut self, page: u32, bytes: &[u8])

@@ -5,7 +5,7 @@ ghost use Rattle.std.specs.Prelude.{◌≡◌, ◌≢◌, ◌⊎◌, ◌<◌, �
 ghost use Rattle.mg_base.specs.Image.{Image, page_at};
 ghost use Rattle.mg_base.specs.Disk.{MayLeave, Calm};
 ghost use Rattle.mg_careful.specs.Graph.{IsFirstReady};
-ghost use Rattle.mg_pool.specs.Dirty.{is_dirty as dirty_test, is_marked as mark_test, IsLeastPage, MarksAll};
+ghost use Rattle.mg_pool.specs.Dirty.{is_dirty as dirty_test, is_marked, IsLeastPage, MarksAll};
 ghost use Rattle.mg_pool.specs.Fault.{TellsFault, OnlyWrites, OnlyRefuses};
 ghost use Rattle.mg_pool.specs.Refusal.{LeavesRefused};
 ghost use Rattle.mg_pool.specs.Run.{HasWritten, WritesPage};
@@ -137,20 +137,12 @@ impl<D: Disk, L: Links> Pool<D, L> {
     /// there is none.
     pub fn least_marked(&self, who: u8) -> Option<PageNo>
         requires { who < MARKERS }
-        ensures { IsLeastPage (λ page. mark_test self.now.dirty page who) (number_of result) }
+        ensures { IsLeastPage (λ page. is_marked self.now.dirty page who) (number_of result) }
     {
         match self.dirty.least_marked(who as usize) {
             Some(page) => Some(PageNo(page)),
             None => None,
         }
-    }
-
-    /// Tells whether `who` has marked a page that wasn't written since.
-    pub fn is_marked(&self, page: PageNo, who: u8) -> bool
-        requires { who < MARKERS }
-        ensures { result ≡ mark_test self.now.dirty page.0 who }
-    {
-        self.dirty.has_mark(page.0, who as usize)
     }
 
     /// The content of a resident page. Every dirty page is resident.
