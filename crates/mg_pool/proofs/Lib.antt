@@ -12,3 +12,4 @@ mod CauseLemmas
 mod BatchLemmas
 mod PutLemmas
 mod OutsideLemmas
+mod LawfulLemmas

@@ -3,6 +3,7 @@ pub mod Change
 pub mod Dirty
 pub mod Fault
 pub mod Law
+pub mod Lawful
 pub mod Pool
 pub mod Refusal
 pub mod Run

@@ -14,6 +14,8 @@ use std::marker::Model;
 /// can be made by writing pages outside it.
 pub const BATCH_PAGES: usize = 256;
 
+mod lawful;
+
 /// A page that is to be changed, with its new content.
 #[derive(Drop)]
 pub struct BatchPage {

@@ -39,7 +39,7 @@ pub const DIRTY_PAGES: u32 = 512;
 
 mod change;
 mod change_one;
-mod orders;
+pub(crate) mod orders;
 #[cfg(test)]
 mod tests;
 mod write;
