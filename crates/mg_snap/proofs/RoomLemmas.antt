@@ -3,7 +3,7 @@ use Rattle.std.proofs.Common.{◌≡◌, ℕ, zero, suc, ◌+◌, ◌<◌, ◌�
 use Rattle.std.proofs.lemmas.List.{length-append, length-map, map-append}
 use Rattle.std.proofs.lemmas.Bool.{eqb-true, or_cases}
 use Rattle.mg_snap.specs.Live.{AreDrawn, Entered, after_enter, is_among, numbers_of, without}
-use Rattle.mg_snap.specs.LiveLaws.{among_more, drawn_after_drop, numbers_more}
+use Rattle.mg_snap.specs.LiveLaws.{among_more, drawn_after_drop, drawn_after_retract, numbers_more}
 use Rattle.mg_snap.specs.Room.{AreWide, IsWide, Roomy, Stored, all_entered, entered_of, has_other_number, is_other}
 
 -- ---- room
@@ -327,3 +327,14 @@ pub entered_state : (next drawn t : ℕ) (numbers unended : List ℕ) (old wider
 entered_state next drawn t numbers unended old wider new table same is others made =
     ap (λ (es : List Stored). record { next = drawn; entered = all_entered es }) made
     ∙ enters next drawn t (length unended) numbers unended old wider table same is others
+
+-- the entry of the last transaction is gone, and it is the next one again
+pub table_retracted : (next t : ℕ) (numbers : List ℕ) (es : List Stored) → IsTable next numbers es
+    → ((u : ℕ) → is_among (numbers_of (all_entered es)) u ≡ true → u ≤ t)
+    → IsTable t (filter (is_other t) numbers) (filter (has_other_number t) es)
+table_retracted next t numbers es table last = (
+  drawn_after_retract t (all_entered es) (all_entered (filter (has_other_number t) es))
+      (entered_left t es) last,
+  (table_left next t numbers es table).1,
+  (table_left next t numbers es table).2,
+)

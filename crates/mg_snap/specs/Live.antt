@@ -71,6 +71,10 @@ after_enter state t = record {
 abbrev pub after_leave : State → ℕ → State
 after_leave state t = record { next = state.next; entered = without t state.entered }
 
+-- the number that was entered last is taken back: it is drawn next, and has not entered
+abbrev pub after_retract : State → ℕ → State
+after_retract state t = record { next = t; entered = without t state.entered }
+
 -- an entry has another base, if it is of a transaction and had one
 abbrev pub rebased : ℕ → Snapshot → Entered → Entered
 rebased t base e = record {
@@ -106,6 +110,11 @@ all_see state by = not (list_any (misses by) state.entered)
 -- each transaction that has not ended was drawn
 abbrev pub AreDrawn : State → Type 0
 AreDrawn state = (t : ℕ) → is_among (unended_in state) t ≡ true → t < state.next
+
+-- the next transaction enters and is taken back: then all is as before
+abbrev pub RetractsEntering : Type 0
+RetractsEntering = (state : State) → AreDrawn state
+    → after_retract (after_enter state state.next) state.next ≡ state
 
 -- what another transaction does changes nothing of what a base sees
 pub record OthersChangeNothing : Type 0 where

@@ -3,7 +3,7 @@ use Rattle.std.proofs.Common.{◌≡◌, ◌≢◌, ℕ, ◌+◌, ◌<◌, ◌�
 use Rattle.std.specs.List.{list_any}
 use Rattle.std.proofs.lemmas.Bool.{cases_eq, ne_eqb, eqb-true, ltb-true, ltb-false, or_parts, false_from_ne_true, both_ways}
 use Rattle.std.proofs.lemmas.List.{map-append}
-use Rattle.mg_snap.specs.Live.{Snapshot, Entered, State, is_among, numbers_of, without, unended_in, has_ended, base_among, base_sees, sees, MayEnter, after_enter, after_leave, AreDrawn, rebased, undecided, base_now, misses, NewBaseSeesWhatHasEnded, LimboSeesNothing, AllSee, Call, Enters, Leaves, Rebases, Undecided, after_call, after_calls, AreOfOthers, BaseSeesNoOthers, caller, OthersChangeNothing, EndsByLeaving, BaseSeesWhatHasEnded}
+use Rattle.mg_snap.specs.Live.{Snapshot, Entered, State, is_among, numbers_of, without, unended_in, has_ended, base_among, base_sees, sees, MayEnter, after_enter, after_leave, AreDrawn, RetractsEntering, rebased, undecided, base_now, misses, NewBaseSeesWhatHasEnded, LimboSeesNothing, AllSee, Call, Enters, Leaves, Rebases, Undecided, after_call, after_calls, AreOfOthers, BaseSeesNoOthers, caller, OthersChangeNothing, EndsByLeaving, BaseSeesWhatHasEnded}
 
 or_nothing : (b : Bool) → (b || false) ≡ b
 or_nothing true = refl
@@ -313,3 +313,42 @@ drawn_after_drop next u before after dropped drawn t there =
           (subst (λ (n : ℕ). is_among (numbers_of (without u before)) n ≡ true) (sym same) still))
       | inr other ↦ drawn t (sym (others_among_rest before u t other) ∙ still)
     ]
+
+-- where no number is greater than the one that is taken back, the others are below it
+pub drawn_after_retract : (t : ℕ) (before after : List Entered) → after ≡ without t before
+    → ((u : ℕ) → is_among (numbers_of before) u ≡ true → u ≤ t)
+    → AreDrawn (record { next = t; entered = after })
+drawn_after_retract t before after dropped last u there =
+    let still : is_among (numbers_of (without t before)) u ≡ true =
+    ap (λ (es : List Entered). is_among (numbers_of es) u) (sym dropped) ∙ there in
+    elim (cases_eq t u) [
+      | inl same ↦
+          absurd (both_ways _ (none_among_rest before t)
+          (subst (λ (n : ℕ). is_among (numbers_of (without t before)) n ≡ true) (sym same) still))
+      | inr other ↦
+          let most : u ≤ t = last u (sym (others_among_rest before t u other) ∙ still) in
+          omega (arith, most, other)
+    ]
+
+-- the last one is left out, where no other has its number
+without_last : (es : List Entered) (e : Entered) → is_among (numbers_of es) e.number ≡ false
+    → without e.number (es ++ e ∷ []) ≡ es
+without_last [] e new = rw (eq-eqb e.number e.number refl) refl
+without_last (x ∷ xs) e new = at (x.number == e.number) refl new (without_last xs e)
+  where
+    at : (b : Bool) → (x.number == e.number) ≡ b → (b || is_among (numbers_of xs) e.number) ≡ false
+        → (is_among (numbers_of xs) e.number ≡ false → without e.number (xs ++ e ∷ []) ≡ xs)
+        → without e.number (x ∷ xs ++ e ∷ []) ≡ x ∷ xs
+    at true is new more = absurd cc
+    at false is new more = rw is (ap (λ (es : List Entered). x ∷ es) (more new))
+
+pub retracts_entering : RetractsEntering
+retracts_entering state drawn =
+    ap (λ (es : List Entered). record { next = state.next; entered = es })
+    (without_last state.entered (record {
+      number = state.next;
+      base = Some record {
+        drawn = max state.next (state.next + 1);
+        unended = unended_in state ++ state.next ∷ [];
+      };
+    }) (new_by_may_enter state state.next drawn (inl refl)))

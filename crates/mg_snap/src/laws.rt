@@ -1,7 +1,7 @@
 //! What holds over any run of calls: the laws stand in `specs/LiveLaws.antt`.
 
 ghost use Rattle.mg_snap.specs.Live.{OthersChangeNothing, EndsByLeaving};
-ghost use Rattle.mg_snap.specs.Live.{BaseSeesWhatHasEnded, BaseSeesNoOthers};
+ghost use Rattle.mg_snap.specs.Live.{BaseSeesWhatHasEnded, BaseSeesNoOthers, RetractsEntering};
 ghost use Rattle.mg_snap.specs.Live.{AllSee, LimboSeesNothing, NewBaseSeesWhatHasEnded};
 
 /// A base stays as it was taken: what other transactions do changes nothing of what it sees.
@@ -15,6 +15,7 @@ pub fn a_base_sees_what_had_ended()
     ensures base { BaseSeesWhatHasEnded }
     ensures since { BaseSeesNoOthers }
     ensures ends { EndsByLeaving }
+    ensures retracts { RetractsEntering }
 {}
 
 /// A new base sees exactly what has ended when it is taken; one in limbo sees nothing; and what every

@@ -1,7 +1,7 @@
 //! The transactions that have not ended.
 
-ghost use Rattle.std.specs.Prelude.{◌≡◌, ℕ, ◌-◌, ◌+◌, ◌^◌, ◌<◌, ◌≤◌, ◌++◌, ◌∷◌, [], length, map, filter, IfOk, OnOk, OnErr};
-ghost use Rattle.mg_snap.specs.Live.{MayEnter, has_ended, after_enter, after_leave, after_limbo, after_rebase, all_see as all_see_in, is_among as is_among_numbers, rebased, sees as sees_of, undecided, unended_in};
+ghost use Rattle.std.specs.Prelude.{◌≡◌, true, ℕ, ◌-◌, ◌+◌, ◌^◌, ◌<◌, ◌≤◌, ◌++◌, ◌∷◌, [], length, map, filter, IfOk, OnOk, OnErr};
+ghost use Rattle.mg_snap.specs.Live.{MayEnter, has_ended, after_enter, after_leave, after_limbo, after_rebase, after_retract, all_see as all_see_in, is_among as is_among_numbers, rebased, sees as sees_of, undecided, unended_in};
 ghost use Rattle.mg_snap.specs.Room.{AreWide, all_entered, has_other_number, is_other};
 
 use crate::base::{Base, Entry, is_among};
@@ -145,6 +145,17 @@ impl Live {
     {
         drop_number(&mut self.numbers, t);
         drop_entry(&mut self.entries, t);
+    }
+
+    /// Takes back that the transaction entered: it is the next one again. It is the last one that was
+    /// drawn, and nobody may have taken a base since. It takes no memory.
+    pub fn retract(&mut self, t: TxNo)
+        requires { (u : ℕ) → is_among_numbers (unended_in self.old) u ≡ true → u ≤ t.0 }
+        ensures { self.new ≡ after_retract self.old t.0 }
+    {
+        drop_number(&mut self.numbers, t);
+        drop_entry(&mut self.entries, t);
+        self.next = t.0;
     }
 
     /// The transaction takes a new base in place of the one that it has, as each statement does under
