@@ -1,5 +1,5 @@
 -- What is kept after an event with its answer stands for the history after it.
-use Rattle.std.proofs.Common.{◌≡◌, ◌≢◌, ℕ, zero, suc, ◌+◌, ◌-◌, ◌<◌, ◌≤◌, ◌==◌, ◌&&◌, nat_le, Bool, true, false, List, [], ◌∷◌, ◌++◌, length, drop, Option, Some, None, inl, inr, refl, sym, ◌∙◌, ap, subst, cond, get_or, arith, length-append}
+use Rattle.std.proofs.Common.{◌≡◌, ℕ, zero, suc, ◌+◌, ◌-◌, ◌<◌, ◌≤◌, ◌==◌, ◌&&◌, nat_le, Bool, true, false, List, [], ◌∷◌, length, drop, Option, Some, None, inl, inr, refl, sym, ◌∙◌, ap, subst, cond, get_or, arith, length-append}
 use Rattle.std.proofs.lemmas.Bool.{cases_eq, cases_lt, eq-eqb, ne_eqb}
 use Rattle.std.proofs.lemmas.List.{get_or_past, length-set}
 use Rattle.std.proofs.Math.ListN.{set}
@@ -14,11 +14,11 @@ use Rattle.mg_model.specs.declared.event.Event.TheVariants.{Begin, Look, Find, C
 use Rattle.mg_model.specs.declared.event.Mode.{Mode}
 use Rattle.mg_plain.specs.declared.known.Known.{Known}
 use Rattle.mg_model.specs.declared.opening.Opening.{Opening}
-use Rattle.mg_model.specs.History.{Entry, Entries, entry, transaction_of, effect_with, Effect, Begins, Looks, Makes, Gives, Marks, Saves, TakesBack, Ends, Nothing}
-use Rattle.mg_model.specs.Machine.{waited_on, is_of, last_wait, mode_of}
-use Rattle.mg_model.specs.Answers.{answer_by, answer_of, answer_active, answer_begin, if_active, if_limbo, is_open, is_committed}
-use Rattle.mg_plain.specs.Keeping.{Keeping, unknown, known_of, number_in, saw_in, base_in, told_in, StandsFor, with_known, noted_in, waits_by, kept_by, kept_after, begun, looked, ended}
-use Rattle.mg_plain.proofs.StandsLemmas.{IsAllowed, Follows, follows, KnownAt, known_set, known_begun, drawn}
+use Rattle.mg_model.specs.History.{Entries, entry, transaction_of, effect_with, Effect, Begins, Looks, Makes, Gives, Marks, Saves, TakesBack, Ends, Nothing}
+use Rattle.mg_model.specs.Machine.{waited_on, is_of, last_wait}
+use Rattle.mg_model.specs.Answers.{answer_by, if_active, if_limbo, is_open, is_committed}
+use Rattle.mg_plain.specs.Keeping.{Keeping, unknown, known_of, number_in, told_in, StandsFor, with_known, noted_in, waits_by, kept_by, kept_after}
+use Rattle.mg_plain.proofs.StandsLemmas.{IsAllowed, Follows, follows, known_set, known_begun, drawn}
 
 -- ---- a legal answer allows its effect
 
@@ -206,7 +206,7 @@ waits_kept k Nothing is t = refl
 
 -- ---- noting what a transaction waits on
 
-set_past : (xs : List Known) (n : ℕ) (x : Known) → length xs ≤ n → set xs n x ≡ xs
+pub set_past : (xs : List Known) (n : ℕ) (x : Known) → length xs ≤ n → set xs n x ≡ xs
 set_past [] n x past = refl
 set_past (y ∷ xs) zero x past = absurd (omega arith)
 set_past (y ∷ xs) (suc n) x past = ap (λ (z : List Known). y ∷ z) (set_past xs n x (omega arith))
@@ -228,7 +228,7 @@ same_known x y is = record {
   place = ap (λ (z : Known). z.place) is;
 }
 
-noted_same : (k : Keeping) (of : Option ℕ) (on : Option TxNo) (t : ℕ)
+pub noted_same : (k : Keeping) (of : Option ℕ) (on : Option TxNo) (t : ℕ)
     → SameButWaits (known_of (noted_in of on k) t) (known_of k t)
 noted_same k None on t = same_known _ _ refl
 noted_same k (Some u) on t = elim (cases_lt u (length k.known)) [
@@ -276,7 +276,7 @@ noted_length k None on = refl
 noted_length k (Some u) on = length-set k.known u _
 
 -- what else is kept is as before
-noted_rest : (k : Keeping) (of : Option ℕ) (on : Option TxNo)
+pub noted_rest : (k : Keeping) (of : Option ℕ) (on : Option TxNo)
     → ((noted_in of on k).limit ≡ k.limit) × ((noted_in of on k).opened ≡ k.opened) × ((noted_in of on k).committed ≡ k.committed)
     × ((noted_in of on k).steps ≡ k.steps) × ((noted_in of on k).database ≡ k.database)
 noted_rest k None on = (refl, refl, refl, refl, refl)

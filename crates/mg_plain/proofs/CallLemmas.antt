@@ -1,5 +1,5 @@
 -- What the calls of a keeper of records do in the plain machine.
-use Rattle.std.proofs.Common.{◌≡◌, ℕ, zero, suc, ◌+◌, ◌-◌, ◌<◌, ◌≤◌, ◌^◌, ◌==◌, ◌&&◌, not, Bool, true, false, List, [], ◌∷◌, ◌++◌, map, drop, length, Option, Some, None, Result, Ok, Err, IfErr, inl, inr, refl, sym, ◌∙◌, ap, subst, cond, get_or, arith, lit≤}
+use Rattle.std.proofs.Common.{◌≡◌, ℕ, zero, suc, ◌+◌, ◌<◌, ◌≤◌, ◌==◌, ◌&&◌, not, Bool, true, false, List, [], ◌∷◌, ◌++◌, drop, length, Option, Some, None, Result, Ok, Err, IfErr, inl, inr, refl, sym, ◌∙◌, ap, subst, cond, get_or, arith, lit≤}
 use Rattle.std.specs.Prelude.{slice_get}
 use Rattle.std.proofs.Math.Path.{fun_ext}
 use Rattle.std.proofs.lemmas.Bool.{false≢true}
@@ -25,28 +25,27 @@ use Rattle.mg_model.specs.declared.opening.Opening.{Opening}
 use Rattle.mg_model.specs.declared.refusal.Refusal.{Refusal}
 use Rattle.mg_model.specs.declared.refusal.Refusal.TheVariants.{DatabaseFull, DiskRead, DiskWrite, Offline, Damaged, NotActive, NoTable, TransactionLimit, Memory}
 use Rattle.mg_model.specs.declared.table.Table.{Table}
-use Rattle.mg_model.specs.Changes.{Cells, row_at, rows_of, same_name, same_key}
+use Rattle.mg_model.specs.Changes.{Cells, KeyedRows, row_at, rows_of, same_name, same_key}
 use Rattle.mg_model.specs.Catalog.{CatalogRows, catalog_name, table_key, shape_said, key_in}
 use Rattle.mg_model.specs.History.{Entries, entry, transaction_of, effect_with}
-use Rattle.mg_model.specs.Machine.{is_of, state_of, has_point, steps, base, view, changes_in, changes_by, deeds_by}
-use Rattle.mg_model.specs.Answers.{Told, told, is_active, if_active, answer_begin, answer_by, catalog_of}
+use Rattle.mg_model.specs.Machine.{is_of, state_of, has_point, changes_in, deeds_by}
+use Rattle.mg_model.specs.Answers.{Told, is_active, if_active, answer_begin, answer_by, catalog_of}
 use Rattle.mg_model.specs.Effects.{drawn}
-use Rattle.mg_model.specs.EntryLaws.{others_by_event, view_others_entry}
 use Rattle.mg_catalog.specs.RowsSaid.{table_row}
 use Rattle.mg_records.specs.declared.found.Found.{Found}
-use Rattle.mg_records.specs.Meaning.{Means}
 use Rattle.mg_records.specs.Keeping.{Causes, down_after, Keeps, Leaves, Reads, TablesStay, WalksStay, refusal_in}
 use Rattle.mg_records.specs.Adding.{Adds, AnswersAll, IsRefused, fine_or, number_or, drawn_in}
 use Rattle.mg_records.specs.Reading.{FindAdds, Nears, TellsTable, Visits, shape_named, with_found}
 use Rattle.mg_records.specs.Writing.{InsertsEach, MakesTable, new_table, rows_made}
 use Rattle.mg_records.specs.TakingBack.{GivesUp, GoesBack, Undoes, is_given_up}
 use Rattle.mg_plain.specs.declared.plain.Plain.{Plain}
-use Rattle.mg_plain.specs.Keeping.{Keeping, StandsFor, known_of, noted_in, told_in}
+use Rattle.mg_plain.specs.Keeping.{Keeping, LieWithin, StandsFor, base_in, kept_by, known_of, noted_in, told_in, waits_by}
 use Rattle.mg_plain.specs.Kept.{kept}
 use Rattle.mg_plain.specs.Obeying.{is_inner, as_number, told_by, event_back, ExpectsActive, IsAnswer, IsDone, Obeys, ViewsStay}
 use Rattle.mg_plain.specs.Records.{FoundAt, GoesOn, InsertsAll, behind, means, rows_seen, shape_kept, with_shape}
-use Rattle.mg_plain.specs.RecordsLaws.{same_shape, same_view}
+use Rattle.mg_plain.specs.RecordsLaws.{same_shape}
 use Rattle.mg_plain.proofs.StandsLemmas.{told_same}
+use Rattle.mg_plain.proofs.ViewLemmas.{noted_view, view_kept}
 use Rattle.mg_plain.proofs.ObeyLemmas.{inactive, obeys_by, refused_obeys, views_refused}
 
 -- a refusal from inside has no cause outside, and no page write failed
@@ -77,6 +76,7 @@ keeps_plain old new refusal inner = record {
   tells = refl;
   time = λ told. absurd (false≢true told);
   sizes = λ size. refl;
+  holds = λ o h least image is. is;
   given = λ table was. tt;
   places = λ table place was. was;
 }
@@ -84,15 +84,14 @@ keeps_plain old new refusal inner = record {
 -- what transactions see stays, so their tables and walks do
 pub tables_plain : (old new : Plain) (who : Option ℕ) → ViewsStay (kept old) (kept new) who
     → TablesStay means old new who
-tables_plain old new who views = λ o h s u name apart.
+tables_plain old new who views = λ u name apart.
     ap (λ (cs : List Change). with_shape name (shape_named (row_at cs catalog_name) name))
-    (views o h s u apart)
+    (views u apart)
 
 pub walks_plain : (old new : Plain) (who : Option ℕ) → ViewsStay (kept old) (kept new) who
     → WalksStay means old new who
-walks_plain old new who views = λ o h s u table after rows apart is.
-    is ∙ ap (λ (cs : List Change). drop (behind after) (map (λ r. r.1) (rows_of cs table.name)))
-    (sym (views o h s u apart))
+walks_plain old new who views = λ u table after rows apart is.
+    is ∙ ap (λ (cs : List Change). drop (behind after) (rows_of cs table.name)) (sym (views u apart))
 
 pub leaves_plain : (old new : Plain) (refusal : Option Refusal) (who : Option ℕ)
     → is_inner refusal ≡ true → ViewsStay (kept old) (kept new) who
@@ -110,7 +109,7 @@ pub reads_plain : (p : Plain) (refusal : Option Refusal) (walks : Option ℕ)
 reads_plain p refusal walks inner = record {
   stays = λ o h s. s;
   keeps = keeps_plain p p refusal inner;
-  tables = λ u name. refl;
+  tables = λ u name apart. refl;
   walks_stay = λ u table after rows apart is. is;
   commits = λ u apart. lit≤ tt;
 }
@@ -143,39 +142,36 @@ IsWrite (EventChange t table key row) name = table ≡ name
 IsWrite (Erase t table key) name = table ≡ name
 IsWrite e name = ⊥
 
-catalog_stays : (o : Opening) (h : Entries) (e : Event) (a : Answer) (name : List ℕ) (u : ℕ)
+catalog_stays : (k : Keeping) (e : Event) (a : Answer) (name : List ℕ) (u : ℕ)
     → IsWrite e name → same_name name catalog_name ≡ false
-    → row_at (view o (entry e a ∷ h) u) catalog_name ≡ row_at (view o h u) catalog_name
-catalog_stays o h (Insert t table row) Fine name u is apart =
-    step_apart (t.0 == u) (record { table = table; key = key_in (row_at (changes_by t.0 (steps o h) ++ base o h t.0) catalog_name) table row; row = Some row })
-    (deeds_by u (steps o h)) (base o h u) catalog_name (ap (λ n. same_name n catalog_name) is ∙ apart)
-catalog_stays o h (Insert t table row) (Tx v) name u is apart = refl
-catalog_stays o h (Insert t table row) (Rows rows) name u is apart = refl
-catalog_stays o h (Insert t table row) (No refusal) name u is apart = refl
-catalog_stays o h (EventChange t table key row) Fine name u is apart =
+    → row_at ((told_in (kept_by (effect_with e a) k)).view u) catalog_name
+    ≡ row_at ((told_in k).view u) catalog_name
+catalog_stays k (Insert t table row) Fine name u is apart =
+    step_apart (t.0 == u) (record { table = table; key = key_in (catalog_of (told_in k) t.0) table row; row = Some row })
+    (deeds_by u k.steps) (base_in k u) catalog_name (ap (λ n. same_name n catalog_name) is ∙ apart)
+catalog_stays k (EventChange t table key row) Fine name u is apart =
     step_apart (t.0 == u) (record { table = table; key = key; row = Some row })
-    (deeds_by u (steps o h)) (base o h u) catalog_name (ap (λ n. same_name n catalog_name) is ∙ apart)
-catalog_stays o h (EventChange t table key row) (Tx v) name u is apart = refl
-catalog_stays o h (EventChange t table key row) (Rows rows) name u is apart = refl
-catalog_stays o h (EventChange t table key row) (No refusal) name u is apart = refl
-catalog_stays o h (Erase t table key) Fine name u is apart =
+    (deeds_by u k.steps) (base_in k u) catalog_name (ap (λ n. same_name n catalog_name) is ∙ apart)
+catalog_stays k (Erase t table key) Fine name u is apart =
     step_apart (t.0 == u) (record { table = table; key = key; row = None })
-    (deeds_by u (steps o h)) (base o h u) catalog_name (ap (λ n. same_name n catalog_name) is ∙ apart)
-catalog_stays o h (Erase t table key) (Tx v) name u is apart = refl
-catalog_stays o h (Erase t table key) (Rows rows) name u is apart = refl
-catalog_stays o h (Erase t table key) (No refusal) name u is apart = refl
-catalog_stays o h (Begin session mode) a name u is apart = absurd is
-catalog_stays o h (Look t) a name u is apart = absurd is
-catalog_stays o h (Find t table test) a name u is apart = absurd is
-catalog_stays o h (Claim t table) a name u is apart = absurd is
-catalog_stays o h (Mark t) a name u is apart = absurd is
-catalog_stays o h (UndoMark t) a name u is apart = absurd is
-catalog_stays o h (Savepoint t n) a name u is apart = absurd is
-catalog_stays o h (BackTo t n) a name u is apart = absurd is
-catalog_stays o h (Prepare t) a name u is apart = absurd is
-catalog_stays o h (Commit t) a name u is apart = absurd is
-catalog_stays o h (Rollback t) a name u is apart = absurd is
-catalog_stays o h (Decide t commit) a name u is apart = absurd is
+    (deeds_by u k.steps) (base_in k u) catalog_name (ap (λ n. same_name n catalog_name) is ∙ apart)
+catalog_stays k (Insert t table row) (Tx v) name u is apart = refl
+catalog_stays k (EventChange t table key row) (Tx v) name u is apart = refl
+catalog_stays k (Erase t table key) (Tx v) name u is apart = refl
+catalog_stays k e (Rows rows) name u is apart = refl
+catalog_stays k e (No refusal) name u is apart = refl
+catalog_stays k (Begin session mode) a name u is apart = absurd is
+catalog_stays k (Look t) a name u is apart = absurd is
+catalog_stays k (Find t table test) a name u is apart = absurd is
+catalog_stays k (Claim t table) a name u is apart = absurd is
+catalog_stays k (Mark t) a name u is apart = absurd is
+catalog_stays k (UndoMark t) a name u is apart = absurd is
+catalog_stays k (Savepoint t n) a name u is apart = absurd is
+catalog_stays k (BackTo t n) a name u is apart = absurd is
+catalog_stays k (Prepare t) a name u is apart = absurd is
+catalog_stays k (Commit t) a name u is apart = absurd is
+catalog_stays k (Rollback t) a name u is apart = absurd is
+catalog_stays k (Decide t commit) a name u is apart = absurd is
 
 no_table : (table : Table) → None ≡ Some table → ⊥
 no_table table is = absurd cc
@@ -198,12 +194,12 @@ pub write_leaves : (old new : Plain) (e : Event) (result : Result (Unit {0}) Ref
     → Leaves means old new (refusal_in result) None (Some t)
 write_leaves old new e result t table is given done = record {
   keeps = keeps_plain old new (refusal_in result) done.inner;
-  tables_stay = λ o h s u name apart.
+  tables_stay = λ u name apart.
       ap (λ (rows : CatalogRows). with_shape name (shape_named rows name))
-      (ap (λ (cs : List Change). row_at cs catalog_name)
-      (same_view o (entry e (fine_or result) ∷ h) (kept new) u (done.obeys.stands o h s).1)
-      ∙ (catalog_stays o h e (fine_or result) table.name u is (given_apart table.name (kept old) t table given)
-      ∙ ap (λ (cs : List Change). row_at cs catalog_name) (sym (same_view o h (kept old) u s))));
+      (ap (λ (k : Keeping). row_at ((told_in k).view u) catalog_name) done.obeys.kept_is
+      ∙ (ap (λ (cs : List Change). row_at cs catalog_name)
+      (noted_view (kept_by (effect_with e (fine_or result)) (kept old)) (transaction_of e) (waits_by (fine_or result)) u)
+      ∙ catalog_stays (kept old) e (fine_or result) table.name u is (given_apart table.name (kept old) t table given)));
   walks_stay = walks_plain old new (Some t) done.views;
   commits = λ u apart. lit≤ tt;
 }
@@ -226,13 +222,11 @@ begin_inner k a is = subst is_begun (sym is) (at (k.next == k.limit))
     at false = tt
 
 views_begun : (old new : Keeping) (session : ℕ) (mode : Mode) (a : Answer) (who : Option ℕ)
-    → Obeys old new (Begin session mode) a → drawn (effect_with (Begin session mode) a) ≡ who
-    → ViewsStay old new who
-views_begun old new session mode a who obeys its = λ o h s u apart.
-    same_view o (entry (Begin session mode) a ∷ h) new u (obeys.stands o h s).1
-    ∙ (view_others_entry o h (entry (Begin session mode) a) u
-    (others_by_event u (entry (Begin session mode) a) refl (ap (is_of u) its ∙ apart))
-    ∙ sym (same_view o h old u s))
+    → LieWithin (length old.database) old.opened old.known → Obeys old new (Begin session mode) a
+    → drawn (effect_with (Begin session mode) a) ≡ who → ViewsStay old new who
+views_begun old new session mode a who within obeys its = λ u apart.
+    ap (λ (k : Keeping). (told_in k).view u) obeys.kept_is
+    ∙ view_kept old (Begin session mode) a u within obeys.is refl (ap (is_of u) its ∙ apart)
 
 pub begin_adds : (old new : Plain) (session : ℕ) (mode : Mode) (given : Result Answer Refusal)
     → Obeys (kept old) (kept new) (Begin session mode) (told_by given)
@@ -255,7 +249,7 @@ pub begin_leaves : (old new : Plain) (session : ℕ) (mode : Mode) (given : Resu
     → Leaves means old new (refusal_in (as_number given)) (drawn_in (as_number given)) (drawn_in (as_number given))
 begin_leaves old new session mode (Ok Fine) obeys = absurd (begin_inner (told_in (kept old)) Fine obeys.is)
 begin_leaves old new session mode (Ok (Tx t)) obeys =
-    leaves_plain old new None (Some t.0) refl (views_begun (kept old) (kept new) session mode (Tx t) (Some t.0) obeys refl)
+    leaves_plain old new None (Some t.0) refl (views_begun (kept old) (kept new) session mode (Tx t) (Some t.0) old.bases obeys refl)
 begin_leaves old new session mode (Ok (Rows rows)) obeys =
     absurd (begin_inner (told_in (kept old)) (Rows rows) obeys.is)
 begin_leaves old new session mode (Ok (No r)) obeys =
@@ -266,13 +260,6 @@ begin_leaves old new session mode (Err r) obeys =
     (views_refused (kept old) (kept new) (Begin session mode) r None obeys)
 
 -- ---- what was found
-
-find_view : (o : Opening) (h : Entries) (t : TxNo) (name : List ℕ) (filter : Option Expr) (a : Answer) (u : ℕ)
-    → view o (entry (Find t name filter) a ∷ h) u ≡ view o h u
-find_view o h t name filter Fine u = refl
-find_view o h t name filter (Tx v) u = refl
-find_view o h t name filter (Rows rows) u = refl
-find_view o h t name filter (No r) u = refl
 
 pub found_adds : (old new : Plain) (t : TxNo) (name : List ℕ) (filter : Option Expr) (rows : List Cells)
     (active : Result (Unit {0}) Refusal) → ExpectsActive (known_of (kept old) t.0).state active
@@ -347,25 +334,25 @@ tells_memory p t name = λ o h s. refl
 
 -- ---- walks
 
-drop_get : (xs : List Cells) (i : ℕ) (x : Cells) → Some x ≡ slice_get xs i → drop i xs ≡ x ∷ drop (i + 1) xs
+drop_get : (xs : KeyedRows) (i : ℕ) (x : Value × Cells) → Some x ≡ slice_get xs i → drop i xs ≡ x ∷ drop (i + 1) xs
 drop_get [] i x is = absurd cc
-drop_get (y ∷ xs) zero x is = let same : x ≡ y = cc in ap (λ (z : Cells). z ∷ xs) (sym same)
+drop_get (y ∷ xs) zero x is = let same : x ≡ y = cc in ap (λ (z : Value × Cells). z ∷ xs) (sym same)
 drop_get (y ∷ xs) (suc i) x is =
     let further : suc i + 1 ≡ suc (i + 1) = omega arith in rw further (drop_get xs i x is)
 
-drop_none : (xs : List Cells) (i : ℕ) → None ≡ slice_get xs i → drop i xs ≡ []
+drop_none : (xs : KeyedRows) (i : ℕ) → None ≡ slice_get xs i → drop i xs ≡ []
 drop_none [] zero is = refl
 drop_none [] (suc i) is = refl
 drop_none (y ∷ xs) zero is = absurd cc
 drop_none (y ∷ xs) (suc i) is = drop_none xs i is
 
 -- past the last row there is none
-pub get_past : {X : Type 0} (xs : List X) (f : X → Cells) (i : ℕ) → length xs ≤ i → None ≡ slice_get (map f xs) i
-get_past [] f i past = refl
-get_past (x ∷ xs) f zero past = absurd (omega arith)
-get_past (x ∷ xs) f (suc i) past = get_past xs f i (omega arith)
+pub get_past : {X : Type 0} (xs : List X) (i : ℕ) → length xs ≤ i → None ≡ slice_get xs i
+get_past [] i past = refl
+get_past (x ∷ xs) zero past = absurd (omega arith)
+get_past (x ∷ xs) (suc i) past = get_past xs i (omega arith)
 
-some_found : (x : Option Cells) (rows : List Cells) (i : ℕ) → x ≡ slice_get rows i → i < length rows
+some_found : (x : Option (Value × Cells)) (rows : KeyedRows) (i : ℕ) → x ≡ slice_get rows i → i < length rows
     → drop i rows ≡ with_found x (drop (i + 1) rows)
 some_found (Some row) rows i is below = drop_get rows i row is
 some_found None [] i is below = absurd (omega arith)
@@ -375,7 +362,7 @@ some_found None (y ∷ rows) (suc i) is below =
     rw further (some_found None rows i is (omega arith))
 
 pub visits_found : (p : Plain) (t : ℕ) (table : Table) (after : Option ℕ) (found : Option (Found ℕ))
-    (rows : List Cells) → FoundAt (rows_seen (kept p) t table.name) (behind after) (Ok found)
+    (rows : KeyedRows) → FoundAt (rows_seen (kept p) t table.name) (behind after) (Ok found)
     → rows ≡ drop (behind after) (rows_seen (kept p) t table.name)
     → Visits means p t table (Ok found) rows
 visits_found p t table after None rows is come =
@@ -487,11 +474,9 @@ goes_to_end old now t rows left none goes = λ o h s.
     part.2 now None (subst (λ (xs : List Cells). InsertsEach means now o t xs part.0 None) (sym none) part.1)
 
 -- views after one event more
-pub views_further : (old now new : Plain) (t : TxNo) (rows left : List Cells) → GoesOn old now t rows left
-    → ViewsStay (kept old) (kept now) (Some t.0) → ViewsStay (kept now) (kept new) (Some t.0)
-    → ViewsStay (kept old) (kept new) (Some t.0)
-views_further old now new t rows left goes first more = λ o h s u apart.
-    let part = goes o h s in more o part.0 part.1 u apart ∙ first o h s u apart
+pub views_further : (old now new : Keeping) (t : TxNo) → ViewsStay old now (Some t.0)
+    → ViewsStay now new (Some t.0) → ViewsStay old new (Some t.0)
+views_further old now new t first more = λ u apart. more u apart ∙ first u apart
 
 pub fails_to_make : (old new : Plain) (t : TxNo) (name : List ℕ) (shape : Shape)
     (result : Result (Unit {0}) Refusal) → result ≡ Err Memory

@@ -1,6 +1,6 @@
 -- What is kept at an opening stands for the history without entries.
-use Rattle.std.proofs.Common.{◌≡◌, ℕ, zero, suc, ◌+◌, ◌-◌, ◌<◌, ◌≤◌, ◌==◌, ◌&&◌, nat_le, nat_lt, Bool, true, false, List, [], ◌∷◌, length, map, drop, Option, None, inl, inr, refl, sym, ◌∙◌, ap, subst, cond, get_or, arith}
-use Rattle.std.proofs.lemmas.Bool.{cases_lt, ne_eqb, le-leb}
+use Rattle.std.proofs.Common.{◌≡◌, ℕ, zero, suc, ◌+◌, ◌-◌, ◌==◌, ◌&&◌, nat_le, false, List, [], ◌∷◌, length, map, drop, inl, inr, refl, sym, ◌∙◌, ap, subst, get_or, arith}
+use Rattle.std.proofs.lemmas.Bool.{ne_eqb, le-leb}
 use Rattle.std.proofs.lemmas.Bool.Decides.{leb_tells}
 use Rattle.std.proofs.lemmas.List.{get_or_past}
 use Rattle.std.proofs.Math.Bool.{and-true}
@@ -14,7 +14,7 @@ use Rattle.mg_model.specs.declared.opening.Opening.{Opening}
 use Rattle.mg_model.specs.Machine.{opening_state, opening_rows, limbo_step}
 use Rattle.mg_model.specs.Answers.{is_committed}
 use Rattle.mg_plain.specs.Beginning.{known_all}
-use Rattle.mg_plain.specs.Keeping.{Keeping, known_of, known_at_opening, saw_in, number_in, StandsFor}
+use Rattle.mg_plain.specs.Keeping.{Keeping, known_of, known_at_opening, number_in, StandsFor}
 
 -- what is kept at an opening
 abbrev pub first_kept : Opening → Keeping

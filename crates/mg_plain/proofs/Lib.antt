@@ -7,5 +7,6 @@ mod TakenBackLemmas
 mod StandsLemmas
 mod AnsweredLemmas
 mod FirstLemmas
+mod ViewLemmas
 mod ObeyLemmas
 mod CallLemmas

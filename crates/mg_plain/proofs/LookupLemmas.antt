@@ -1,8 +1,8 @@
 -- The newest change of a key, in one list of changes before another.
-use Rattle.std.proofs.Common.{◌≡◌, ℕ, Bool, true, false, List, [], ◌∷◌, ◌++◌, Option, Some, None, refl, sym, ◌∙◌, ap, cond}
+use Rattle.std.proofs.Common.{◌≡◌, ℕ, Bool, true, false, List, [], ◌∷◌, ◌++◌, Some, None, refl, cond}
 use Rattle.mg_value.specs.declared.value.Value.{Value}
 use Rattle.mg_model.specs.declared.change.Change.{Change}
-use Rattle.mg_model.specs.Changes.{Cells, is_at, row_at}
+use Rattle.mg_model.specs.Changes.{is_at, row_at}
 use Rattle.mg_plain.specs.Lookups.{change_at, row_of}
 
 -- a change in the front decides

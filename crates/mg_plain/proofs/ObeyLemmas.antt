@@ -1,5 +1,5 @@
 -- What the machine answers to short events, and whose view an event leaves.
-use Rattle.std.proofs.Common.{◌≡◌, ℕ, ◌+◌, ◌<◌, ◌≤◌, ◌==◌, Bool, true, false, List, [], ◌∷◌, ◌++◌, map, drop, Option, Some, None, Result, Ok, Err, inl, inr, refl, sym, ◌∙◌, ap, subst, cond, arith, lit≤}
+use Rattle.std.proofs.Common.{◌≡◌, ℕ, ◌==◌, Bool, true, false, List, ◌∷◌, ◌++◌, length, Option, Some, None, Result, Ok, Err, inl, inr, refl, sym, ◌∙◌, ap, subst, cond}
 use Rattle.std.proofs.lemmas.Bool.{false≢true}
 use Rattle.mg_base.specs.declared.numbers.TxNo.{TxNo}
 use Rattle.mg_base.specs.declared.transaction.TxState.{TxState}
@@ -10,29 +10,22 @@ use Rattle.mg_model.specs.declared.answer.Answer.TheVariants.{Fine, Tx, Rows, No
 use Rattle.mg_model.specs.declared.change.Change.{Change as AnyChange}
 use Rattle.mg_model.specs.declared.change.Deed.{Deed}
 use Rattle.mg_model.specs.declared.change.Deed.TheVariants.{Marked, Saved}
-use Rattle.mg_model.specs.declared.change.Step.{Step}
 use Rattle.mg_model.specs.declared.refusal.Refusal.{Refusal}
-use Rattle.mg_model.specs.declared.refusal.Refusal.TheVariants.{DuplicateKey, NoRow, ReadOnly, NotActive, NoTable, TransactionLimit, Memory}
+use Rattle.mg_model.specs.declared.refusal.Refusal.TheVariants.{DuplicateKey, NoRow, ReadOnly, NotActive, NoTable, Memory}
 use Rattle.mg_model.specs.declared.event.Event.{Event}
 use Rattle.mg_model.specs.declared.event.Event.TheVariants.{Begin, Look, Find, Claim, Insert, Change, Erase, Mark, UndoMark, Savepoint, BackTo, Prepare, Commit, Rollback, Decide}
-use Rattle.mg_model.specs.declared.event.Mode.{Mode}
-use Rattle.mg_model.specs.declared.opening.Opening.{Opening}
 use Rattle.mg_model.specs.declared.change.Point.{Point}
 use Rattle.mg_model.specs.declared.change.Point.TheVariants.{LastMark, SavepointNamed}
 use Rattle.mg_model.specs.Catalog.{key_in}
-use Rattle.mg_model.specs.History.{Entries, entry, transaction_of, effect_with, beginning_of}
-use Rattle.mg_model.specs.Machine.{is_of, taken_back, deeds_by, changes_in, changes_by, steps, base, view}
+use Rattle.mg_model.specs.History.{entry, transaction_of, effect_with, Marks, Saves}
+use Rattle.mg_model.specs.Machine.{is_of, taken_back, deeds_by, changes_in}
 use Rattle.mg_model.specs.Effects.{drawn}
-use Rattle.mg_model.specs.EntryLaws.{others_by_event, view_others_entry}
-use Rattle.mg_model.specs.Answers.{Told, is_active, verdict_by, verdict, past, if_active, if_limbo, catalog_of, has_table, has_row, if_writable, obstacle, table_obstacle, claim_obstacle, answer_insert, answer_give, answer_claim, answer_find, answer_begin, answer_by, closes}
-use Rattle.mg_model.specs.Legal.{IsLawful, is_outer}
-use Rattle.mg_records.specs.Adding.{fine_or}
-use Rattle.mg_records.specs.Keeping.{refusal_in}
-use Rattle.mg_plain.specs.Keeping.{Keeping, StandsFor, told_in, known_of, noted_in, waits_by, kept_after}
+use Rattle.mg_model.specs.Answers.{Told, is_active, verdict_by, verdict, past, if_active, if_limbo, catalog_of, has_table, has_row, if_writable, obstacle, table_obstacle, claim_obstacle, answer_insert, answer_give, answer_claim, answer_by, closes}
+use Rattle.mg_plain.specs.Keeping.{Keeping, StandsFor, LieWithin, told_in, base_in, known_of, noted_in, waits_by, kept_by, kept_after}
 use Rattle.mg_plain.proofs.StandsLemmas.{told_same}
 use Rattle.mg_plain.proofs.AnsweredLemmas.{stands_after, stands_refused}
-use Rattle.mg_plain.specs.Obeying.{told_by, is_short, is_inner, is_short_event, seer_of, IsAnswer, Obeys, ViewsStay, IsDone, event_back, as_done, as_number}
-use Rattle.mg_plain.specs.RecordsLaws.{same_view}
+use Rattle.mg_plain.specs.Obeying.{told_by, is_inner, is_short_event, seer_of, IsAnswer, Obeys, ViewsStay, IsDone, event_back, as_done}
+use Rattle.mg_plain.proofs.ViewLemmas.{noted_view, view_kept}
 
 -- ---- short answers from inside
 
@@ -162,12 +155,12 @@ none_drawn (Commit t) (Tx u) short = refl
 none_drawn (Rollback t) (Tx u) short = refl
 none_drawn (Decide t commit) (Tx u) short = refl
 
-others_view : (o : Opening) (h : Entries) (e : Event) (a : Answer) (u : ℕ)
+others_view : (k : Keeping) (e : Event) (a : Answer) (u : ℕ)
+    → LieWithin (length k.database) k.opened k.known → IsAnswer k e a
     → is_short_event e ≡ true → is_of u (transaction_of e) ≡ false
-    → view o (entry e a ∷ h) u ≡ view o h u
-others_view o h e a u short apart =
-    view_others_entry o h (entry e a) u (others_by_event u (entry e a) apart
-    (ap (is_of u) (none_drawn e a short)))
+    → (told_in (kept_after e a k)).view u ≡ (told_in k).view u
+others_view k e a u within is short apart =
+    view_kept k e a u within is apart (ap (is_of u) (none_drawn e a short))
 
 -- a point among the deeds is no change
 point_unseen : (b : Bool) (d : Deed) (deeds : List Deed) → changes_in (d ∷ deeds) ≡ changes_in deeds
@@ -175,48 +168,69 @@ point_unseen : (b : Bool) (d : Deed) (deeds : List Deed) → changes_in (d ∷ d
 point_unseen true d deeds same = same
 point_unseen false d deeds same = refl
 
-quiet_view : (o : Opening) (h : Entries) (e : Event) (a : Answer) (u : ℕ)
+quiet_view : (k : Keeping) (e : Event) (a : Answer) (u : ℕ)
+    → LieWithin (length k.database) k.opened k.known → IsAnswer k e a
     → is_short_event e ≡ true → is_of u (seer_of e) ≡ false
-    → view o (entry e a ∷ h) u ≡ view o h u
-quiet_view o h (Mark t) Fine u short apart =
-    ap (λ (cs : List AnyChange). cs ++ base o h u)
-    (point_unseen (t.0 == u) Marked (deeds_by u (steps o h)) refl)
-quiet_view o h (Mark t) (Tx v) u short apart = refl
-quiet_view o h (Mark t) (Rows rows) u short apart = refl
-quiet_view o h (Mark t) (No refusal) u short apart = refl
-quiet_view o h (Savepoint t name) Fine u short apart =
-    ap (λ (cs : List AnyChange). cs ++ base o h u)
-    (point_unseen (t.0 == u) (Saved name) (deeds_by u (steps o h)) refl)
-quiet_view o h (Savepoint t name) (Tx v) u short apart = refl
-quiet_view o h (Savepoint t name) (Rows rows) u short apart = refl
-quiet_view o h (Savepoint t name) (No refusal) u short apart = refl
-quiet_view o h (Begin session mode) a u short apart = absurd cc
-quiet_view o h (Find t table test) a u short apart = absurd cc
-quiet_view o h (Look t) a u short apart = others_view o h (Look t) a u short apart
-quiet_view o h (Claim t table) a u short apart = others_view o h (Claim t table) a u short apart
-quiet_view o h (Insert t table row) a u short apart = others_view o h (Insert t table row) a u short apart
-quiet_view o h (Change t table key row) a u short apart =
-    others_view o h (Change t table key row) a u short apart
-quiet_view o h (Erase t table key) a u short apart = others_view o h (Erase t table key) a u short apart
-quiet_view o h (UndoMark t) a u short apart = others_view o h (UndoMark t) a u short apart
-quiet_view o h (BackTo t name) a u short apart = others_view o h (BackTo t name) a u short apart
-quiet_view o h (Prepare t) a u short apart = others_view o h (Prepare t) a u short apart
-quiet_view o h (Commit t) a u short apart = others_view o h (Commit t) a u short apart
-quiet_view o h (Rollback t) a u short apart = others_view o h (Rollback t) a u short apart
-quiet_view o h (Decide t commit) a u short apart = others_view o h (Decide t commit) a u short apart
+    → (told_in (kept_after e a k)).view u ≡ (told_in k).view u
+quiet_view k (Mark t) Fine u within is short apart =
+    noted_view (kept_by (Marks t.0) k) (Some t.0) None u
+    ∙ ap (λ (cs : List AnyChange). cs ++ base_in k u)
+    (point_unseen (t.0 == u) Marked (deeds_by u k.steps) refl)
+quiet_view k (Mark t) (Tx v) u within is short apart = noted_view k (Some t.0) None u
+quiet_view k (Mark t) (Rows rows) u within is short apart = noted_view k (Some t.0) None u
+quiet_view k (Mark t) (No refusal) u within is short apart =
+    noted_view k (Some t.0) (waits_by (No refusal)) u
+quiet_view k (Savepoint t name) Fine u within is short apart =
+    noted_view (kept_by (Saves t.0 name) k) (Some t.0) None u
+    ∙ ap (λ (cs : List AnyChange). cs ++ base_in k u)
+    (point_unseen (t.0 == u) (Saved name) (deeds_by u k.steps) refl)
+quiet_view k (Savepoint t name) (Tx v) u within is short apart = noted_view k (Some t.0) None u
+quiet_view k (Savepoint t name) (Rows rows) u within is short apart = noted_view k (Some t.0) None u
+quiet_view k (Savepoint t name) (No refusal) u within is short apart =
+    noted_view k (Some t.0) (waits_by (No refusal)) u
+quiet_view k (Begin session mode) a u within is short apart = absurd cc
+quiet_view k (Find t table test) a u within is short apart = absurd cc
+quiet_view k (Look t) a u within is short apart = others_view k (Look t) a u within is short apart
+quiet_view k (Claim t table) a u within is short apart =
+    others_view k (Claim t table) a u within is short apart
+quiet_view k (Insert t table row) a u within is short apart =
+    others_view k (Insert t table row) a u within is short apart
+quiet_view k (Change t table key row) a u within is short apart =
+    others_view k (Change t table key row) a u within is short apart
+quiet_view k (Erase t table key) a u within is short apart =
+    others_view k (Erase t table key) a u within is short apart
+quiet_view k (UndoMark t) a u within is short apart =
+    others_view k (UndoMark t) a u within is short apart
+quiet_view k (BackTo t name) a u within is short apart =
+    others_view k (BackTo t name) a u within is short apart
+quiet_view k (Prepare t) a u within is short apart =
+    others_view k (Prepare t) a u within is short apart
+quiet_view k (Commit t) a u within is short apart =
+    others_view k (Commit t) a u within is short apart
+quiet_view k (Rollback t) a u within is short apart =
+    others_view k (Rollback t) a u within is short apart
+quiet_view k (Decide t commit) a u within is short apart =
+    others_view k (Decide t commit) a u within is short apart
 
-pub views_stay : (old new : Keeping) (e : Event) (a : Answer) → Obeys old new e a
+-- what is seen of the new is what is seen of what is kept after the event
+views_by : (old new : Keeping) (e : Event) (a : Answer) (u : ℕ) → new ≡ kept_after e a old
+    → (told_in (kept_after e a old)).view u ≡ (told_in old).view u
+    → (told_in new).view u ≡ (told_in old).view u
+views_by old new e a u kept_is same = ap (λ (k : Keeping). (told_in k).view u) kept_is ∙ same
+
+pub views_stay : (old new : Keeping) (e : Event) (a : Answer)
+    → LieWithin (length old.database) old.opened old.known → Obeys old new e a
     → is_short_event e ≡ true → ViewsStay old new (seer_of e)
-views_stay old new e a obeys short = λ o h s u apart.
-    same_view o (entry e a ∷ h) new u (obeys.stands o h s).1
-    ∙ (quiet_view o h e a u short apart ∙ sym (same_view o h old u s))
+views_stay old new e a within obeys short = λ u apart.
+    views_by old new e a u obeys.kept_is (quiet_view old e a u within obeys.is short apart)
 
 -- with another transaction named, which is the event's
-pub views_stay_but : (old new : Keeping) (e : Event) (a : Answer) (who : Option ℕ) → Obeys old new e a
+pub views_stay_but : (old new : Keeping) (e : Event) (a : Answer) (who : Option ℕ)
+    → LieWithin (length old.database) old.opened old.known → Obeys old new e a
     → is_short_event e ≡ true → transaction_of e ≡ who → ViewsStay old new who
-views_stay_but old new e a who obeys short its = λ o h s u apart.
-    same_view o (entry e a ∷ h) new u (obeys.stands o h s).1
-    ∙ (others_view o h e a u short (ap (is_of u) its ∙ apart) ∙ sym (same_view o h old u s))
+views_stay_but old new e a who within obeys short its = λ u apart.
+    views_by old new e a u obeys.kept_is
+    (others_view old e a u within obeys.is short (ap (is_of u) its ∙ apart))
 
 -- ---- results
 
@@ -231,23 +245,23 @@ inner_said k e Memory short is = refl
 inner_said k e r short is = said_plain (told_in k) e (No r) short is
 
 pub finish_done : (old new : Keeping) (e : Event) (given : Result Answer Refusal)
-    → Obeys old new e (told_by given) → is_short_event e ≡ true
-    → IsDone old new e (as_done given) (seer_of e)
-finish_done old new e (Ok Fine) obeys short =
-    record { obeys = obeys; inner = refl; views = views_stay old new e Fine obeys short }
-finish_done old new e (Ok (Tx t)) obeys short =
+    → LieWithin (length old.database) old.opened old.known → Obeys old new e (told_by given)
+    → is_short_event e ≡ true → IsDone old new e (as_done given) (seer_of e)
+finish_done old new e (Ok Fine) within obeys short =
+    record { obeys = obeys; inner = refl; views = views_stay old new e Fine within obeys short }
+finish_done old new e (Ok (Tx t)) within obeys short =
     absurd (false≢true (said_plain (told_in old) e (Tx t) short obeys.is))
-finish_done old new e (Ok (Rows rows)) obeys short =
+finish_done old new e (Ok (Rows rows)) within obeys short =
     absurd (false≢true (said_plain (told_in old) e (Rows rows) short obeys.is))
-finish_done old new e (Ok (No r)) obeys short = record {
+finish_done old new e (Ok (No r)) within obeys short = record {
   obeys = obeys;
   inner = inner_said old e r short obeys.is;
-  views = views_stay old new e (No r) obeys short;
+  views = views_stay old new e (No r) within obeys short;
 }
-finish_done old new e (Err r) obeys short = record {
+finish_done old new e (Err r) within obeys short = record {
   obeys = obeys;
   inner = inner_said old e r short obeys.is;
-  views = views_stay old new e (No r) obeys short;
+  views = views_stay old new e (No r) within obeys short;
 }
 
 -- ---- answers from what is kept
@@ -260,6 +274,7 @@ pub obeys_by : (old new : Keeping) (e : Event) (a : Answer) → a ≡ answer_by 
     → new ≡ kept_after e a old → Obeys old new e a
 obeys_by old new e a is kept_is = record {
   is = answer_is old e a is;
+  kept_is = kept_is;
   stands = λ o h s. (
     inl (is ∙ ap (λ (k : Told). answer_by k e) (told_same o h old s)),
     subst (λ (k : Keeping). StandsFor o (entry e a ∷ h) k) (sym kept_is) (stands_after o h e a old s is),
@@ -270,6 +285,7 @@ pub refused_obeys : (old mid new : Keeping) (e : Event) (of : Option ℕ) → mi
     → of ≡ transaction_of e → new ≡ noted_in of None mid → Obeys old new e (No Memory)
 refused_obeys old mid new e of same its noted = record {
   is = tt;
+  kept_is = noted ∙ (λ i. noted_in (its i) None (same i));
   stands = λ o h s. (
     inr refl,
     subst (λ (k : Keeping). StandsFor o (entry e (No Memory) ∷ h) k)
@@ -280,8 +296,8 @@ refused_obeys old mid new e of same its noted = record {
 -- a refused event changes no view
 pub views_refused : (old new : Keeping) (e : Event) (r : Refusal) (who : Option ℕ)
     → Obeys old new e (No r) → ViewsStay old new who
-views_refused old new e r who obeys = λ o h s u apart.
-    same_view o (entry e (No r) ∷ h) new u (obeys.stands o h s).1 ∙ sym (same_view o h old u s)
+views_refused old new e r who obeys = λ u apart.
+    views_by old new e (No r) u obeys.kept_is (noted_view old (transaction_of e) (waits_by (No r)) u)
 
 pub fails : (old new : Keeping) (e : Event) (t : ℕ) → transaction_of e ≡ Some t
     → new ≡ noted_in (Some t) None old → IsDone old new e (Err Memory) (Some t)
@@ -339,15 +355,16 @@ back_taken old mid new t LastMark taken noted = noted ∙ ap (λ (k : Keeping). 
 back_taken old mid new t (SavepointNamed name) taken noted =
     noted ∙ ap (λ (k : Keeping). noted_in (Some t.0) None k) taken
 
-pub back_done : (old new : Keeping) (t : TxNo) (point : Point) → (known_of old t.0).state ≡ Active
+pub back_done : (old new : Keeping) (t : TxNo) (point : Point)
+    → LieWithin (length old.database) old.opened old.known → (known_of old t.0).state ≡ Active
     → new ≡ kept_after (event_back t point) Fine old
     → IsDone old new (event_back t point) (Ok tt) (Some t.0)
-back_done old new t point active kept_is =
+back_done old new t point within active kept_is =
     let obeys : Obeys old new (event_back t point) Fine =
     obeys_by old new (event_back t point) Fine
     (ap (λ (x : TxState). if_active x Fine) (sym active) ∙ sym (back_answer old t point)) kept_is in
     record {
       obeys = obeys;
       inner = refl;
-      views = views_stay_but old new (event_back t point) Fine (Some t.0) obeys (back_short t point) (back_of t point);
+      views = views_stay_but old new (event_back t point) Fine (Some t.0) within obeys (back_short t point) (back_of t point);
     }

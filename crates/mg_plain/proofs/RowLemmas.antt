@@ -1,7 +1,6 @@
 -- Rows in key order: where a key stands, and what changes make of them.
-use Rattle.std.proofs.Common.{◌≡◌, ℕ, zero, suc, ◌+◌, ◌<◌, ◌≤◌, ◌==◌, Bool, true, false, List, [], ◌∷◌, ◌++◌, length, take, drop, Option, Some, None, refl, sym, ◌∙◌, ap, subst, cond, get_or, arith, append_assoc}
+use Rattle.std.proofs.Common.{◌≡◌, ℕ, zero, suc, ◌+◌, ◌<◌, ◌≤◌, ◌==◌, Bool, true, false, List, [], ◌∷◌, ◌++◌, length, drop, Option, refl, sym, ◌∙◌, ap, subst, cond, get_or, arith}
 use Rattle.std.proofs.lemmas.List.{drop_more, length-drop}
-use Rattle.std.specs.declared.cmp.Ordering.{Ordering}
 use Rattle.std.specs.declared.cmp.Ordering.TheVariants.{Less, Equal, Greater}
 use Rattle.mg_value.specs.declared.value.Value.{Value}
 use Rattle.mg_value.specs.Values.{value_cmp}
@@ -9,7 +8,7 @@ use Rattle.mg_model.specs.declared.change.Change.{Change}
 use Rattle.mg_model.specs.declared.change.Deed.{Deed}
 use Rattle.mg_model.specs.declared.change.Deed.TheVariants.{Changed, Marked, Saved}
 use Rattle.mg_model.specs.declared.change.Step.{Step}
-use Rattle.mg_model.specs.Changes.{Cells, KeyedRows, same_name, with_row, by_order, put_row, rows_over}
+use Rattle.mg_model.specs.Changes.{Cells, KeyedRows, same_name, put_row, rows_over}
 use Rattle.mg_model.specs.Machine.{deeds_by, changes_in, changes_by}
 use Rattle.mg_plain.specs.Places.{IsPlace, without_row, with_row_at}
 

@@ -1,11 +1,10 @@
 -- What is kept after an effect stands for the history after it.
-use Rattle.std.proofs.Common.{◌≡◌, ◌≢◌, ℕ, zero, suc, ◌+◌, ◌-◌, ◌<◌, ◌≤◌, ◌==◌, ◌&&◌, not, nat_le, nat_lt, Bool, true, false, List, [], ◌∷◌, ◌++◌, length, drop, Option, Some, None, inl, inr, refl, sym, ◌∙◌, ap, subst, cond, get_or, arith, length-append}
+use Rattle.std.proofs.Common.{◌≡◌, ◌≢◌, ℕ, zero, suc, ◌+◌, ◌-◌, ◌<◌, ◌≤◌, ◌==◌, ◌&&◌, not, nat_le, Bool, true, false, List, [], ◌∷◌, ◌++◌, length, drop, Some, None, inl, inr, refl, sym, ◌∙◌, ap, subst, cond, get_or, arith, length-append}
 use Rattle.std.proofs.lemmas.Bool.{cases_eq, eq-eqb, ne_eqb, le-leb}
 use Rattle.std.proofs.lemmas.Bool.Decides.{leb_tells}
 use Rattle.std.proofs.Math.Bool.{and-true}
 use Rattle.std.proofs.Math.Seq.{drop-append-add}
 use Rattle.std.proofs.lemmas.List.{get_or-set_same, get_or-set_other, get_or_past, length-set}
-use Rattle.std.proofs.Math.ListN.{set}
 use Rattle.mg_base.specs.declared.transaction.TxState.{TxState}
 use Rattle.mg_base.specs.declared.transaction.TxState.TheVariants.{Active, Limbo, Dead, Committed}
 use Rattle.mg_model.specs.declared.change.Change.{Change}
@@ -16,10 +15,10 @@ use Rattle.mg_plain.specs.declared.known.Known.{Known}
 use Rattle.mg_model.specs.declared.opening.Opening.{Opening}
 use Rattle.mg_model.specs.Changes.{row_at}
 use Rattle.mg_model.specs.Catalog.{catalog_name, key_in}
-use Rattle.mg_model.specs.History.{Entry, Entries, Effect, Begins, Looks, Makes, Gives, Marks, Saves, TakesBack, Ends, Nothing}
+use Rattle.mg_model.specs.History.{Entries, Effect, Begins, Looks, Makes, Gives, Marks, Saves, TakesBack, Ends, Nothing}
 use Rattle.mg_model.specs.Machine.{next_number, next_after, mode_of, mode_after, state_of, state_after, steps, steps_after, database, database_after, base, takes_base, changes_by, cut_at_base, step, changed, taken_back}
-use Rattle.mg_model.specs.Answers.{Told, told, is_open, is_committed}
-use Rattle.mg_plain.specs.Keeping.{Keeping, unknown, known_of, base_in, saw_in, told_in, StandsFor, with_known, rebased, looked, stepped, ended, begun, kept_by}
+use Rattle.mg_model.specs.Answers.{told, is_open, is_committed}
+use Rattle.mg_plain.specs.Keeping.{Keeping, unknown, known_of, base_in, saw_in, told_in, StandsFor, with_known, rebased, looked, ended, begun, kept_by}
 
 -- what is kept tells what the history tells
 pub told_same : (o : Opening) (h : Entries) (k : Keeping) → StandsFor o h k → told_in k ≡ told o h
@@ -108,7 +107,7 @@ pub not_drawn : (k : Keeping) → known_of k (length k.known) ≡ unknown k.open
 not_drawn k = get_or_past k.known (length k.known) (unknown k.opened) (omega arith)
 
 -- a test of two numbers, each way
-same_test : (u t : ℕ) → t ≡ u → (u == t) ≡ true
+pub same_test : (u t : ℕ) → t ≡ u → (u == t) ≡ true
 same_test u t is = eq-eqb u t (sym is)
 
 other_test : (u t : ℕ) → t ≢ u → (u == t) ≡ false

@@ -1,7 +1,7 @@
 -- A way of waits, one turn on.
-use Rattle.std.proofs.Common.{◌≡◌, ℕ, zero, suc, ◌+◌, ◌-◌, ◌<◌, ◌==◌, Bool, true, false, Option, Some, refl, arith, ◌∙◌, ap, sym}
+use Rattle.std.proofs.Common.{◌≡◌, ℕ, suc, ◌+◌, ◌-◌, ◌<◌, Option, Some, refl, arith, ◌∙◌, ap}
 use Rattle.std.proofs.lemmas.Bool.{ne_eqb}
-use Rattle.mg_model.specs.Answers.{leads_to, if_some}
+use Rattle.mg_model.specs.Answers.{leads_to}
 
 pub leads_on : (waits : ℕ → Option ℕ) (most u v t : ℕ) → (u ≡ t → ⊥) → waits u ≡ Some v
     → leads_to waits (suc most) u t ≡ leads_to waits most v t

@@ -1,5 +1,5 @@
 -- What a plain machine keeps at an opening.
-use Rattle.std.specs.Prelude.{ℕ, List, [], ◌∷◌, map, None}
+use Rattle.std.specs.Prelude.{ℕ, List, ◌∷◌, map}
 use Rattle.mg_base.specs.declared.transaction.TxState.{TxState}
 use Rattle.mg_base.specs.declared.transaction.TxState.TheVariants.{Committed}
 use Rattle.mg_plain.specs.declared.known.Known.{Known}

@@ -48,6 +48,10 @@ unknown opened = record {
 abbrev pub known_at_opening : ℕ → TxState → Known
 known_at_opening opened state = record (unknown opened) { state = state }
 
+-- the base of each number lies within a database of so many changes
+abbrev pub LieWithin : ℕ → ℕ → List Known → Type 0
+LieWithin count opened known = (t : ℕ) → (slice_index_or known t (unknown opened)).base ≤ count
+
 -- what is known of a transaction
 abbrev pub known_of : Keeping → ℕ → Known
 known_of k t = slice_index_or k.known t (unknown k.opened)
@@ -90,7 +94,7 @@ pub record StandsFor (o : Opening) (h : Entries) (k : Keeping) : Type 0 where
   pub base : (t : ℕ) → base_in k t ≡ base o h t
   -- bases, places and sights are of what has been
   pub opened : k.opened ≤ length k.database
-  pub bases : (t : ℕ) → (known_of k t).base ≤ length k.database
+  pub bases : LieWithin (length k.database) k.opened k.known
   pub sights : (t : ℕ) → (known_of k t).saw ≤ length k.committed
   pub places : (t : ℕ) → (known_of k t).place ≤ length k.committed
   pub first : 0 < length k.known

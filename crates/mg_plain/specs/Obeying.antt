@@ -18,7 +18,7 @@ use Rattle.mg_model.specs.Legal.{IsLawful}
 use Rattle.mg_model.specs.Machine.{is_of}
 use Rattle.mg_records.specs.Keeping.{refusal_in}
 use Rattle.mg_records.specs.Adding.{fine_or}
-use Rattle.mg_plain.specs.Keeping.{Keeping, StandsFor, told_in}
+use Rattle.mg_plain.specs.Keeping.{Keeping, StandsFor, told_in, kept_after}
 
 -- the answer that a result is
 abbrev pub told_by : Result Answer Refusal → Answer
@@ -37,9 +37,11 @@ abbrev pub IsAnswer : Keeping → Event → Answer → Type 0
 IsAnswer k event (No Memory) = Unit {0}
 IsAnswer k event answer = answer ≡ answer_by (told_in k) event
 
--- an event was answered, and stands so in each history that what is kept stands for
+-- an event was answered, with what is then kept, and stands so in each history that what was kept
+-- stands for
 pub record Obeys (old new : Keeping) (event : Event) (answer : Answer) : Type 0 where
   pub is : IsAnswer old event answer
+  pub kept_is : new ≡ kept_after event answer old
   pub stands : (o : Opening) (h : Entries) → StandsFor o h old
       → IsLawful o h (entry event answer) × StandsFor o (entry event answer ∷ h) new
 
@@ -72,8 +74,8 @@ event_back t (SavepointNamed name) = BackTo t name
 
 -- what a transaction sees stays, but for one, if one is named
 abbrev pub ViewsStay : Keeping → Keeping → Option ℕ → Type 0
-ViewsStay old new who = (o : Opening) (h : Entries) → StandsFor o h old
-    → (u : ℕ) → is_of u who ≡ false → (told_in new).view u ≡ (told_in old).view u
+ViewsStay old new who =
+    (u : ℕ) → is_of u who ≡ false → (told_in new).view u ≡ (told_in old).view u
 
 -- an event of a transaction was answered by Fine or a refusal
 pub record IsDone (old new : Keeping) (event : Event) (result : Result (Unit {0}) Refusal) (who : Option ℕ)

@@ -1,6 +1,7 @@
--- The plain machine as a keeper of records: it has no pages, and a place is how many of the rows that
--- the transaction sees, in key order, a walk has come to.
-use Rattle.std.specs.Prelude.{◌≡◌, ℕ, ◌+◌, ◌-◌, ◌<◌, ◌≤◌, true, false, List, [], map, drop, length, Option, Some, None, Result, Ok, Err, slice_get}
+-- The plain machine as a keeper of records: it has no pages, each session may begin a transaction at
+-- any time, and a place is how many of the rows that the transaction sees, in key order, a walk has come
+-- to.
+use Rattle.std.specs.Prelude.{◌≡◌, ℕ, ◌+◌, ◌-◌, ◌<◌, ◌≤◌, true, false, List, [], drop, length, Option, Some, None, Result, Ok, Err, slice_get}
 use Rattle.mg_base.specs.declared.memory.Memory.{Memory}
 use Rattle.mg_base.specs.Geometry.{is_page_size}
 use Rattle.mg_base.specs.declared.numbers.TxNo.{TxNo}
@@ -9,7 +10,7 @@ use Rattle.mg_value.specs.declared.shape.TheConstants.{MOST_COLUMNS}
 use Rattle.mg_model.specs.declared.opening.Opening.{Opening}
 use Rattle.mg_model.specs.declared.refusal.Refusal.{Refusal}
 use Rattle.mg_model.specs.declared.table.Table.{Table}
-use Rattle.mg_model.specs.Changes.{Cells, rows_of}
+use Rattle.mg_model.specs.Changes.{Cells, KeyedRows, rows_of}
 use Rattle.mg_model.specs.History.{Entries}
 use Rattle.mg_model.specs.Answers.{catalog_of}
 use Rattle.mg_records.specs.declared.found.Found.{Found}
@@ -22,9 +23,9 @@ use Rattle.mg_plain.specs.declared.plain.Plain.{Plain}
 use Rattle.mg_plain.specs.Keeping.{Keeping, StandsFor, told_in}
 use Rattle.mg_plain.specs.Kept.{kept}
 
--- the rows of a table that a transaction sees, in key order
-abbrev pub rows_seen : Keeping → ℕ → List ℕ → List Cells
-rows_seen k t name = map (λ r. r.1) (rows_of ((told_in k).view t) name)
+-- the rows of a table that a transaction sees with their keys, in key order
+abbrev pub rows_seen : Keeping → ℕ → List ℕ → KeyedRows
+rows_seen k t name = rows_of ((told_in k).view t) name
 
 -- how many rows stand up to a place, that row included
 abbrev pub behind : Option ℕ → ℕ
@@ -50,6 +51,8 @@ abbrev pub means : Means Plain ℕ
 means = record {
   stands = λ p o h. StandsFor o h (kept p);
   table = λ p t name. with_shape name (shape_kept (kept p) t name);
+  is_free = λ p session. Unit {0};
+  works = λ p t session. Unit {0};
   was_given = λ p table. Unit {0};
   is_place = λ p table place. Unit {0};
   to_come = λ p t table after rows. rows ≡ drop (behind after) (rows_seen (kept p) t table.name);
@@ -58,6 +61,7 @@ means = record {
   tells = λ p. false;
   moment = λ p. 0;
   left = λ p t image. ⊥;
+  holds = λ p o h least image. ⊥;
   faults = λ p. 0;
   damage = λ p. 0;
   shortages = λ p. 0;
@@ -81,7 +85,7 @@ GoesOn old now t rows left = (o : Opening) (h : Entries) → StandsFor o h (kept
     → InsertsEach means new o t rows h refusal)
 
 -- the row with a number among rows, with the place behind it; none past the last one
-abbrev pub FoundAt : List Cells → ℕ → Result (Option (Found ℕ)) Memory → Type 0
+abbrev pub FoundAt : KeyedRows → ℕ → Result (Option (Found ℕ)) Memory → Type 0
 FoundAt rows at (Ok None) = None ≡ slice_get rows at
 FoundAt rows at (Ok (Some found)) = (found.place ≡ at + 1) × (found.row ≡ slice_get rows at) × (at < length rows)
 FoundAt rows at (Err memory) = Unit {0}

@@ -1,20 +1,20 @@
 -- What the plain machine tells as a keeper of records is what the history tells.
-use Rattle.std.specs.Prelude.{◌≡◌, ℕ, List, [], ◌++◌, map, Option, Some, None, IsPermutation}
+use Rattle.std.specs.Prelude.{◌≡◌, ℕ, List, [], ◌++◌, Option, Some, None, IsPermutation}
 use Rattle.std.proofs.Common.{refl, sym, ap, subst, ◌∙◌}
+use Rattle.std.proofs.lemmas.Bool.{false≢true}
 use Rattle.std.proofs.lemmas.List.Sorted.{IsPermutation-refl}
-use Rattle.mg_base.specs.declared.transaction.TxState.TheVariants.{Active}
 use Rattle.mg_value.specs.declared.shape.Shape.{Shape}
 use Rattle.mg_model.specs.declared.change.Change.{Change}
 use Rattle.mg_model.specs.declared.opening.Opening.{Opening}
 use Rattle.mg_model.specs.declared.table.Table.{Table}
-use Rattle.mg_model.specs.Changes.{Cells, row_at, rows_of}
-use Rattle.mg_model.specs.Catalog.{CatalogRows, catalog_name}
+use Rattle.mg_model.specs.Changes.{KeyedRows, row_at, rows_of}
+use Rattle.mg_model.specs.Catalog.{catalog_name}
 use Rattle.mg_model.specs.History.{Entries}
-use Rattle.mg_model.specs.Machine.{state_of, changes_by, view}
+use Rattle.mg_model.specs.Machine.{changes_by, view}
 use Rattle.mg_model.specs.Answers.{told}
+use Rattle.mg_records.specs.Crashing.{CrashesHold, HoldsOn}
 use Rattle.mg_records.specs.Reading.{TablesAreSeen, WalksAreWhole, shape_named}
-use Rattle.mg_plain.specs.declared.plain.Plain.{Plain}
-use Rattle.mg_plain.specs.Keeping.{Keeping, StandsFor, told_in, base_in}
+use Rattle.mg_plain.specs.Keeping.{Keeping, StandsFor, told_in}
 use Rattle.mg_plain.specs.Kept.{kept}
 use Rattle.mg_plain.specs.Records.{means, rows_seen, shape_kept, with_shape}
 
@@ -29,9 +29,9 @@ same_shape o h k t name s =
     ap (λ (cs : List Change). shape_named (row_at cs catalog_name) name) (same_view o h k t s)
 
 pub same_rows : (o : Opening) (h : Entries) (k : Keeping) (t : ℕ) (name : List ℕ) → StandsFor o h k
-    → rows_seen k t name ≡ map (λ r. r.1) (rows_of (view o h t) name)
+    → rows_seen k t name ≡ rows_of (view o h t) name
 same_rows o h k t name s =
-    ap (λ (cs : List Change). map (λ r. r.1) (rows_of cs name)) (same_view o h k t s)
+    ap (λ (cs : List Change). rows_of cs name) (same_view o h k t s)
 
 -- the table with a shape has the name, and the shape
 shaped : (name : List ℕ) (shape : Option Shape) (table : Table) → with_shape name shape ≡ Some table
@@ -51,6 +51,18 @@ walks_are_whole p o h t table s active is =
     let rows = rows_seen (kept p) t table.name in (
       rows,
       refl,
-      subst (λ (found : List Cells). IsPermutation rows found)
+      subst (λ (found : KeyedRows). IsPermutation rows found)
           (same_rows o h (kept p) t table.name s) (IsPermutation-refl rows),
     )
+
+-- it tells of no crash, so no image holds anything of it
+pub crashes_hold : CrashesHold means
+crashes_hold p o h s told = absurd (false≢true told)
+
+pub holds_on : HoldsOn means
+holds_on = record {
+  more = λ p o h e least image none is. is;
+  fewer = λ p o h e least image none is. is;
+  longer = λ p o h e least image s up is. is;
+  least = λ p o h few many image le is. is;
+}

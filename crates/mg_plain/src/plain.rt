@@ -4,7 +4,7 @@ ghost use Rattle.std.specs.Prelude.{◌≡◌, ◌+◌, ◌≤◌, ◌∷◌, []
 ghost use Rattle.mg_model.specs.Changes.{row_at};
 ghost use Rattle.mg_model.specs.Catalog.{catalog_name};
 ghost use Rattle.mg_model.specs.Answers.{answer as answer_after, answer_by};
-ghost use Rattle.mg_plain.specs.Keeping.{StandsFor, told_in};
+ghost use Rattle.mg_plain.specs.Keeping.{StandsFor, told_in, kept_after, LieWithin};
 ghost use Rattle.mg_model.specs.History.{Entries, entry};
 ghost use Rattle.mg_model.specs.declared.opening.Opening.{Opening as AnyOpening};
 
@@ -34,6 +34,7 @@ pub struct Plain {
     steps: Vec<Step>,
     database: Vec<Change>,
     ghost drawn: { length known.items ≤ limit },
+    ghost bases: { LieWithin (length database.items) opened known.items },
 }
 
 impl Plain {
@@ -93,6 +94,7 @@ impl Plain {
             → IfOk result (λ given. (given ≡ answer_after o h event.now)
             × StandsFor o (entry event.now given ∷ h) (kept self.new)) }
         ensures given { IfOk result (λ given. given ≡ answer_by (told_in (kept self.old)) event.now) }
+        ensures kept { IfOk result (λ given. kept self.new ≡ kept_after event.now given (kept self.old)) }
         ensures err { OnErr result (kept self.new ≡ kept self.old) }
     {
         let answer = self.judge(event)?;

@@ -5,7 +5,7 @@ use crate::tests::{name, new_opening, row};
 use mg_base::TxNo;
 use mg_model::{Mode, Refusal, Rows};
 use mg_records::{Records, Write};
-use mg_value::{Name, Row, Value, row_fits};
+use mg_value::{Key, Name, Row, Value, row_fits};
 use std::alloc::Global;
 use std::process::Abort;
 use std::test::Fail;
@@ -31,11 +31,11 @@ fn insert(plain: &mut Plain, t: TxNo, table: &Name, row: Row) -> Result<(), Refu
     plain.write_step(t, &table, &Write::Insert(row))
 }
 
-/// The number in the first column of a row.
-fn number_in(row: &Option<Row>) -> Option<i64> {
+/// The number that is a row's key and stands in its first column.
+fn number_in(row: &Option<(Key, Row)>) -> Option<i64> {
     match row {
-        Some(row) => match row.as_slice().first() {
-            Some(Value::Int(number)) => Some(*number),
+        Some((key, row)) => match (key.value(), row.as_slice().first()) {
+            (Value::Int(key), Some(Value::Int(number))) if key == number => Some(*number),
             _ => None,
         },
         None => None,

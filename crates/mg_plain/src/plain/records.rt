@@ -10,7 +10,7 @@ ghost use Rattle.mg_model.specs.Catalog.{catalog_name};
 ghost use Rattle.mg_plain.specs.Obeying.{as_number as as_number_of};
 ghost use Rattle.mg_records.specs.Writing.{rows_made as rows_made_of};
 ghost use Rattle.mg_plain.specs.Records.{means, behind, rows_seen, FoundAt, InsertsAll};
-ghost use Rattle.mg_plain.specs.RecordsLaws.{tables_are_seen, walks_are_whole};
+ghost use Rattle.mg_plain.specs.RecordsLaws.{crashes_hold, holds_on, tables_are_seen, walks_are_whole};
 ghost use Rattle.mg_plain.specs.Kept.{kept};
 
 use crate::Plain;
@@ -20,7 +20,7 @@ use mg_catalog::rows_of;
 use mg_expr::Expr;
 use mg_model::{Answer, CATALOG, Event, Indexes, Mode, Point, Refusal, Rows, Table};
 use mg_records::{Found, Records, Write};
-use mg_value::{Name, Row, Shape};
+use mg_value::{Key, Name, Row, Shape, Value};
 use std::alloc::Global;
 
 /// How many rows stand up to a place.
@@ -50,6 +50,16 @@ fn rows_made(alloc: Global, name: &Name, shape: &Shape) -> Result<Vec<Row>, Memo
     };
     rows.insert(0, first)?;
     Ok(rows)
+}
+
+/// A copy of a row with its key. One whose key is NULL is told as want of memory.
+fn keyed(alloc: Global, row: &(Value, Row)) -> Result<(Key, Row), Memory>
+    ensures { IfOk result (λ keyed. keyed ≡ row.now) }
+{
+    let Some(key) = Key::new(row.0.copy(alloc)?) else {
+        return Err(Memory);
+    };
+    Ok((key, row.1.copy(alloc)?))
 }
 
 /// The answer to a beginning as a result.
@@ -85,6 +95,8 @@ impl Plain {
     }
 
     /// A copy of the row with a number among those that a transaction sees, None past the last one.
+    ///
+    /// A row that stands under NULL, as none does that fits its table, is told as want of memory.
     fn seen_at(&self, t: u32, table: &Name, at: usize) -> Result<Option<Found<usize>>, Memory>
         ensures { FoundAt (rows_seen (kept self.now) t table.now) at result }
     {
@@ -95,7 +107,7 @@ impl Plain {
         match rows.get(at) {
             Some(row) => Ok(Some(Found {
                 place: at + 1,
-                row: Some(row.1.copy(self.alloc)?),
+                row: Some(keyed(self.alloc, row)?),
             })),
             None => Ok(None),
         }
@@ -243,4 +255,8 @@ impl Records for Plain {
     ghost seen = { tables_are_seen };
 
     ghost whole = { walks_are_whole };
+
+    ghost crashes = { crashes_hold };
+
+    ghost lasts = { holds_on };
 }

@@ -22,6 +22,7 @@ use mg_value::{Key, Name, Row};
 impl Plain {
     /// What is known of a transaction becomes this; a number that was not drawn stays unknown.
     pub(crate) fn set_known(&mut self, t: u32, known: Known)
+        requires { known.base ≤ length (kept self.old).database }
         ensures { kept self.new ≡ with_known (kept self.old) t known }
     {
         let at = t as usize;

@@ -1,5 +1,5 @@
 -- The rows before have less keys.
-use Rattle.std.proofs.Common.{◌∙◌, sym, arith}
+use Rattle.std.proofs.Common.{sym, arith}
 use Rattle.mg_plain.proofs.RowLemmas.{goes_on, is_less, is_equal, is_end}
 use Rattle.mg_plain.proofs.rows.place_of.Goals as goal
 

@@ -1,5 +1,5 @@
 -- A change of rows is one at the place of its key.
-use Rattle.std.proofs.Common.{◌≡◌, ◌∙◌, sym, ap, subst, Bool, true}
+use Rattle.std.proofs.Common.{◌≡◌, ◌∙◌, ap, subst, Bool}
 use Rattle.std.specs.Result.{OnOk}
 use Rattle.std.specs.Option.{option_copied}
 use Rattle.mg_model.specs.Changes.{KeyedRows}

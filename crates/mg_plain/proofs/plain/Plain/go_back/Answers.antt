@@ -7,7 +7,7 @@ use Rattle.mg_plain.proofs.plain.Plain.go_back.Goals as goal
 
 pub returns-clause-done : goal.returns-clause-done
 returns-clause-done c =
-    back_done (kept c.args.self.now) (kept c.note-2.new.self) c.args.t c.args.point c.in-Ok.ensures
+    back_done (kept c.args.self.now) (kept c.note-2.new.self) c.args.t c.args.point c.args.self.now.bases c.in-Ok.ensures
     (back_taken (kept c.args.self.now) (kept c.take_back.new.self) (kept c.note-2.new.self) c.args.t c.args.point c.take_back.ensures c.note-2.ensures)
 
 pub returns-in-Err-clause-done : goal.returns-in-Err-clause-done

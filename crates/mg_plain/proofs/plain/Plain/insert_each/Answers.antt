@@ -20,12 +20,12 @@ returns-in-Err c =
           (goes_at c.args.self.now c.loop-row.self c.args.t c.args.rows.now (drop c.loop-row.row-index c.args.rows.now) c.row-item.result (drop (c.loop-row.row-index + 1) c.args.rows.now)
           (drop_item c.args.rows.now c.loop-row.row-index c.row-item.result c.loop-row-test.true c.row-item.is) c.loop-row.invariant.goes_on) done;
       inner = c.in-Err.ensures.inner;
-      views = views_further c.args.self.now c.loop-row.self c.insert_row.new.self c.args.t c.args.rows.now (drop c.loop-row.row-index c.args.rows.now) c.loop-row.invariant.goes_on c.loop-row.invariant.views c.in-Err.ensures.views;
+      views = views_further (kept c.args.self.now) (kept c.loop-row.self) (kept c.insert_row.new.self) c.args.t c.loop-row.invariant.views c.in-Err.ensures.views;
     }
 
 pub loop-row-init : goal.loop-row-init
 loop-row-init c =
-    record { goes_on = goes_first c.args.self.now c.args.t c.args.rows.now; views = λ o h s u apart. refl }
+    record { goes_on = goes_first c.args.self.now c.args.t c.args.rows.now; views = λ u apart. refl }
 
 pub loop-row-preserved : goal.loop-row-preserved
 loop-row-preserved c =
@@ -34,5 +34,5 @@ loop-row-preserved c =
       goes_on = goes_further c.args.self.now c.loop-row.self c.insert_row.new.self c.args.t c.args.rows.now c.row-item.result (drop (c.loop-row.row-index + 1) c.args.rows.now)
           (goes_at c.args.self.now c.loop-row.self c.args.t c.args.rows.now (drop c.loop-row.row-index c.args.rows.now) c.row-item.result (drop (c.loop-row.row-index + 1) c.args.rows.now)
           (drop_item c.args.rows.now c.loop-row.row-index c.row-item.result c.loop-row-test.true c.row-item.is) c.loop-row.invariant.goes_on) done;
-      views = views_further c.args.self.now c.loop-row.self c.insert_row.new.self c.args.t c.args.rows.now (drop c.loop-row.row-index c.args.rows.now) c.loop-row.invariant.goes_on c.loop-row.invariant.views c.in-Ok.ensures.views;
+      views = views_further (kept c.args.self.now) (kept c.loop-row.self) (kept c.insert_row.new.self) c.args.t c.loop-row.invariant.views c.in-Ok.ensures.views;
     }

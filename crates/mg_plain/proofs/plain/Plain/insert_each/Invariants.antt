@@ -1,14 +1,8 @@
 -- The rows so far were brought in, and what becomes of those that are left becomes of all.
-use Rattle.std.proofs.Common.{drop, Some, Option}
-use Rattle.mg_model.specs.declared.opening.Opening.{Opening}
-use Rattle.mg_model.specs.declared.refusal.Refusal.{Refusal}
-use Rattle.mg_model.specs.History.{Entries}
-use Rattle.mg_records.specs.Writing.{InsertsEach}
-use Rattle.mg_plain.specs.declared.plain.Plain.{Plain}
-use Rattle.mg_plain.specs.Keeping.{StandsFor}
+use Rattle.std.proofs.Common.{drop, Some}
 use Rattle.mg_plain.specs.Kept.{kept}
 use Rattle.mg_plain.specs.Obeying.{ViewsStay}
-use Rattle.mg_plain.specs.Records.{means, GoesOn}
+use Rattle.mg_plain.specs.Records.{GoesOn}
 use Rattle.mg_plain.proofs.plain.Plain.insert_each.Given as goal
 
 abbrev pub invariant-loop-row : goal.invariant-loop-row

@@ -1,13 +1,13 @@
 -- What is kept at an opening.
 use Rattle.std.proofs.Common.{◌≡◌, ◌∙◌, ap, length, List, map}
 use Rattle.mg_base.specs.declared.transaction.TxState.{TxState}
-use Rattle.mg_model.specs.declared.opening.PlacedRow.{PlacedRow}
 use Rattle.mg_model.specs.declared.opening.LimboChange.{LimboChange}
-use Rattle.mg_model.specs.Catalog.{CatalogRows, catalog_name}
+use Rattle.mg_model.specs.Catalog.{catalog_name}
 use Rattle.mg_model.specs.Changes.{row_at}
 use Rattle.mg_model.specs.Machine.{placed, opening_rows, limbo_step, catalog_changes}
 use Rattle.mg_plain.specs.Beginning.{known_all, catalog_of_one}
 use Rattle.mg_plain.proofs.FirstLemmas.{stands_made}
+use Rattle.mg_plain.proofs.ViewLemmas.{within_made}
 use Rattle.mg_plain.proofs.plain.Plain.new.Goals as goal
 
 pub returns : goal.returns
@@ -21,3 +21,8 @@ returns c =
     let steps = c.in_ok-steps.ensures ∙ ap (λ (l : List LimboChange). map limbo_step l) c.as_slice-2.ensures in
     stands_made o (length c.as_slice-opened.result.now) c.in_ok-known.known.items c.new.result.items c.in_ok-steps.steps.items c.in_ok-database.database.items
     c.requires.states (ap length c.as_slice-opened.ensures.value) known c.new.ensures.items steps database
+
+pub invariant_of-result-clause-bases : goal.invariant_of-result-clause-bases
+invariant_of-result-clause-bases c =
+    within_made (length c.in_ok-database.database.items) (length c.as_slice-opened.result.now) c.in_ok-known.known.items _
+    c.in_ok-known.ensures (ap length c.as_slice-opened.ensures.value)

@@ -1,10 +1,10 @@
 -- A change among the transaction's own decides, and else one of its base.
-use Rattle.std.proofs.Common.{sym, ◌∙◌, ap, refl, ◌≡◌, ◌-◌, length, drop, List, vec_len}
+use Rattle.std.proofs.Common.{sym, ◌∙◌, ap, refl, ◌≡◌, length, List, vec_len}
 use Rattle.mg_model.specs.declared.change.Change.{Change}
 use Rattle.mg_model.specs.declared.change.Step.{Step}
 use Rattle.mg_model.specs.Machine.{changes_by}
 use Rattle.mg_plain.specs.Kept.{kept}
-use Rattle.mg_plain.specs.Keeping.{known_of, base_in}
+use Rattle.mg_plain.specs.Keeping.{base_in}
 use Rattle.mg_plain.specs.Lookups.{change_at}
 use Rattle.mg_plain.proofs.LookupLemmas.{change_in_front, change_behind}
 use Rattle.mg_plain.proofs.plain.Plain.seen_change.Goals as goal

@@ -1,8 +1,6 @@
 -- The base's changes come first, and then the transaction's own.
-use Rattle.std.proofs.Common.{◌≡◌, ◌∙◌, ap, sym, refl, [], length, vec_len, List}
-use Rattle.mg_model.specs.declared.change.Change.{Change}
-use Rattle.mg_model.specs.declared.change.Step.{Step}
-use Rattle.mg_model.specs.Changes.{KeyedRows, rows_over}
+use Rattle.std.proofs.Common.{◌≡◌, ◌∙◌, ap, sym, refl, [], length, vec_len}
+use Rattle.mg_model.specs.Changes.{rows_over}
 use Rattle.mg_model.specs.Machine.{changes_by}
 use Rattle.mg_plain.specs.Keeping.{base_in}
 use Rattle.mg_plain.specs.Kept.{kept}

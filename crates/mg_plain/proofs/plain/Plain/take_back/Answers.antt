@@ -1,5 +1,5 @@
 -- Back to the newest step that sets the point.
-use Rattle.std.proofs.Common.{◌≡◌, ◌∙◌, sym, ap, List}
+use Rattle.std.proofs.Common.{◌∙◌, sym, ap, List}
 use Rattle.mg_model.specs.declared.change.Step.{Step}
 use Rattle.mg_plain.specs.Kept.{kept}
 use Rattle.mg_plain.specs.Keeping.{Keeping}

@@ -1,4 +1,3 @@
-use Rattle.std.proofs.Common.{refl}
 use Rattle.mg_model.specs.declared.change.Point.TheVariants.{LastMark}
 use Rattle.mg_plain.specs.Obeying.{event_back}
 use Rattle.mg_plain.proofs.CallLemmas.{undoes, done_leaves}
