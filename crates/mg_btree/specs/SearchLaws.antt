@@ -169,7 +169,7 @@ rest_of next first ns n (goes k ks some more) (inr later) =
     let there = rest_of next (next k) ks n more later in
     (there.0, there.1, let less = there.2 in omega (arith, less))
 
-chain_once : (next : ℕ → ℕ) (first : ℕ) (ns : List ℕ) → LinkChain next first ns → IsOnce ns
+pub chain_once : (next : ℕ → ℕ) (first : ℕ) (ns : List ℕ) → LinkChain next first ns → IsOnce ns
 chain_once next first ns ended = tt
 chain_once next first ns (goes k ks some more) = (back, chain_once next (next k) ks more)
   where
@@ -224,14 +224,14 @@ begins_short size pages owner root levels e level n begins = short_in size pages
 
 -- ---- down
 
-stays_to : (e : Entry) (child : ℕ) (es : List Entry) → ((f : Entry) → HasEntry es f → IsBelow e f)
+pub stays_to : (e : Entry) (child : ℕ) (es : List Entry) → ((f : Entry) → HasEntry es f → IsBelow e f)
     → child_to e child es ≡ child
 stays_to e child [] all = refl
 stays_to e child (f ∷ fs) all =
     stays_to e (by_order (entry_cmp e f) child f.child.0) fs (λ g has. all g (inr has))
     ∙ ap (λ (o : Ordering). by_order o child f.child.0) (all f (inl refl))
 
-taken_to : (o : Ordering) (child next : ℕ) → o ≢ Less → by_order o child next ≡ next
+pub taken_to : (o : Ordering) (child next : ℕ) → o ≢ Less → by_order o child next ≡ next
 taken_to Less child next up = absurd (up refl)
 taken_to Equal child next up = refl
 taken_to Greater child next up = refl

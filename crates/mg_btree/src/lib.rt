@@ -27,8 +27,10 @@
 mod growing;
 mod halves;
 mod inserting;
+mod laws;
 mod making;
 mod node;
+mod on_page;
 mod ordering;
 mod range;
 mod removing;
@@ -36,6 +38,7 @@ mod root;
 mod search;
 
 pub use inserting::insert;
+pub use laws::inserted_orders_close_no_cycle;
 pub use range::range_step;
 pub use removing::remove;
 
