@@ -1,0 +1,88 @@
+-- A transaction's place is set to another work.
+use Rattle.std.proofs.Common.{◌≡◌, ◌<◌, ℕ, zero, suc, List, [], ◌∷◌, arith, Option, Result, Ok, Err, get_or, set, length, sym, ◌∙◌, ap, refl, subst}
+use Rattle.std.specs.Prelude.{OnErr, OnOk}
+use Rattle.mg_base.specs.declared.memory.Memory.{Memory}
+use Rattle.mg_model.specs.declared.table.Table.{Table}
+use Rattle.mg_works.specs.Works.{AreApart, IsNowhere, IsPlaceOf, IsWork, MayBeGiven, Working, has_asked, with_point, with_table, with_work, without_tables}
+use Rattle.mg_works.specs.WorksLaws.{none_untouched, nowhere_none, set_is_with, with_apart}
+
+-- what a call makes of a work keeps its number and its session, and is lawful
+pub record Keeps (made : Working → Working) : Type 0 where
+  pub number : (w : Working) → (made w).number ≡ w.number
+  pub session : (w : Working) → (made w).session ≡ w.session
+  pub lawful : (w : Working) → IsWork w → IsWork (made w)
+
+pub asking_keeps : Keeps has_asked
+asking_keeps = record {
+  number = λ w. refl;
+  session = λ w. refl;
+  lawful = λ w is. record { session_below = is.session_below; lawful = is.lawful };
+}
+
+pub forgetting_keeps : Keeps without_tables
+forgetting_keeps = record {
+  number = λ w. refl;
+  session = λ w. refl;
+  lawful = λ w is. record { session_below = is.session_below; lawful = tt };
+}
+
+pub point_keeps : (name : Option (List ℕ)) → Keeps (with_point name)
+point_keeps name = record {
+  number = λ w. refl;
+  session = λ w. refl;
+  lawful = λ w is. record { session_below = is.session_below; lawful = is.lawful };
+}
+
+pub giving_keeps : (table : Table) → MayBeGiven table → Keeps (with_table table)
+giving_keeps table may = record {
+  number = λ w. refl;
+  session = λ w. refl;
+  lawful = λ w is. record { session_below = is.session_below; lawful = (may, is.lawful) };
+}
+
+nothing_keeps : Keeps (λ w. w)
+nothing_keeps = record { number = λ w. refl; session = λ w. refl; lawful = λ w is. is }
+
+module _ (works : List Working) (t place : ℕ) (made : Working → Working) (keeps : Keeps made)
+    (was now : Working) (apart : AreApart works) (is : IsPlaceOf works t place)
+    (value : was ≡ get_or works place was) where
+  pub place_set : now ≡ made was → set works place now ≡ with_work t made works
+  place_set made_is = ap (set works place) (made_is ∙ ap made value) ∙ set_is_with works t place made was apart is
+
+  pub set_is_apart : now ≡ made was → AreApart (set works place now)
+  set_is_apart made_is = subst AreApart (sym (place_set made_is))
+      (with_apart t made keeps.number keeps.session keeps.lawful works apart)
+
+-- the same where the call may want memory
+module _ (works : List Working) (t place : ℕ) (made : Working → Working) (keeps : Keeps made)
+    (was now : Working) (apart : AreApart works) (is : IsPlaceOf works t place)
+    (value : was ≡ get_or works place was) where
+  pub maybe_set : (result : Result (Unit {0}) Memory) → OnOk result (now ≡ made was)
+      → OnOk result (set works place now ≡ with_work t made works)
+  maybe_set (Ok x) ok = place_set works t place made keeps was now apart is value ok
+  maybe_set (Err e) ok = tt
+
+  pub maybe_apart : (result : Result (Unit {0}) Memory) → OnOk result (now ≡ made was)
+      → OnErr result (now ≡ was) → AreApart (set works place now)
+  maybe_apart (Ok x) ok err = set_is_apart works t place made keeps was now apart is value ok
+  maybe_apart (Err e) ok err = set_is_apart works t place (λ w. w) nothing_keeps was now apart is value err
+
+-- it has no place
+pub untouched : (works view : List Working) (t : ℕ) (made : Working → Working) → works ≡ view
+    → IsNowhere works t → view ≡ with_work t made view
+untouched works view t made same nowhere = subst (λ (ws : List Working). ws ≡ with_work t made ws) same
+    (sym (none_untouched works t made (nowhere_none works t nowhere)))
+
+-- what a call made of the fields, said of the view
+pub on_view : (result : Result (Unit {0}) Memory) (new works view : List Working) (t : ℕ)
+    (made : Working → Working) → works ≡ view → OnOk result (new ≡ with_work t made works)
+    → OnOk result (new ≡ with_work t made view)
+on_view result new works view t made same ok =
+    subst (λ (ws : List Working). OnOk result (new ≡ with_work t made ws)) same ok
+
+-- what stands at a place is lawful
+pub lawful_at : (works : List Working) (place : ℕ) (d : Working) → AreApart works → place < length works
+    → IsWork (get_or works place d)
+lawful_at [] place d apart inside = absurd (omega (arith, inside))
+lawful_at (w ∷ works) zero d apart inside = apart.2
+lawful_at (w ∷ works) (suc place) d apart inside = lawful_at works place d apart.3 (omega (arith, inside))

@@ -1,0 +1,112 @@
+-- The active transactions that are in memory, and what calls make of them.
+use Rattle.std.specs.Prelude.{◌≡◌, ◌≢◌, ◌<◌, ◌≤◌, ◌==◌, ◌||◌, ◌∷◌, ℕ, Bool, true, false, not, List, [], length, Option, None, Some, if◌then◌else◌, slice_index_or}
+use Rattle.std.specs.List.{filter}
+use Rattle.mg_value.specs.declared.shape.TheConstants.{MOST_COLUMNS}
+use Rattle.mg_model.specs.declared.event.Mode.{Mode}
+use Rattle.mg_model.specs.declared.table.Table.{Table}
+use Rattle.mg_model.specs.Changes.{same_name}
+use Rattle.mg_undo.specs.Undo.{State as Undo, after_point}
+
+-- What is known of an active transaction.
+pub record Working : Type 0 where
+  pub number : ℕ
+  pub session : ℕ
+  pub mode : Mode
+  -- what it has to take back
+  pub undo : Undo
+  -- the tables that were given to it, the last one first
+  pub tables : List Table
+  -- whether it has asked for its commit
+  pub asked : Bool
+
+-- a transaction that has just begun
+abbrev pub begun : ℕ → ℕ → Mode → Working
+begun number session mode = record {
+  number = number;
+  session = session;
+  mode = mode;
+  undo = record { changes = []; points = []; going_back = false };
+  tables = [];
+  asked = false;
+}
+
+-- what is known of a transaction, none where it is not active
+abbrev pub work_of : List Working → ℕ → Option Working
+work_of [] t = None
+work_of (w ∷ works) t = if w.number == t then Some w else work_of works t
+
+-- whether a session has an active transaction
+abbrev pub has_session : List Working → ℕ → Bool
+has_session [] session = false
+has_session (w ∷ works) session = w.session == session || has_session works session
+
+-- the works, with another one in place of a transaction's, if it is active
+abbrev pub with_work : ℕ → (Working → Working) → List Working → List Working
+with_work t made [] = []
+with_work t made (w ∷ works) = (if w.number == t then made w else w) ∷ with_work t made works
+
+-- the works of the others
+abbrev pub without_work : ℕ → List Working → List Working
+without_work t works = filter (λ w. not (w.number == t)) works
+
+-- the table of a name among those that were given
+abbrev pub given_in : List Table → List ℕ → Option Table
+given_in [] name = None
+given_in (table ∷ tables) name = if same_name name table.name then Some table else given_in tables name
+
+abbrev pub given_by : Option Working → List ℕ → Option Table
+given_by None name = None
+given_by (Some w) name = given_in w.tables name
+
+-- the table of a name that was given to a transaction
+abbrev pub given_to : List Working → ℕ → List ℕ → Option Table
+given_to works t name = given_by (work_of works t) name
+
+-- ---- what a work becomes
+
+-- a mark is set where no name is given, else a savepoint of the name
+abbrev pub with_point : Option (List ℕ) → Working → Working
+with_point name w = record w { undo = after_point w.undo name }
+
+-- the tables that were given are no longer known
+abbrev pub without_tables : Working → Working
+without_tables w = record w { tables = [] }
+
+-- a table was given
+abbrev pub with_table : Table → Working → Working
+with_table table w = record w { tables = table ∷ w.tables }
+
+-- the commit was asked for
+abbrev pub has_asked : Working → Working
+has_asked w = record w { asked = true }
+
+-- ---- what always holds
+
+-- a table that may be given: its columns are no more than tables have
+abbrev pub MayBeGiven : Table → Type 0
+MayBeGiven table = length table.shape.columns ≤ MOST_COLUMNS
+
+abbrev pub AllMayBeGiven : List Table → Type 0
+AllMayBeGiven [] = Unit {0}
+AllMayBeGiven (table ∷ tables) = MayBeGiven table × AllMayBeGiven tables
+
+-- what is known of a transaction is lawful by itself
+pub record IsWork (w : Working) : Type 0 where
+  pub session_below : w.session < 32
+  pub lawful : AllMayBeGiven w.tables
+
+-- each transaction and each session stands once
+abbrev pub AreApart : List Working → Type 0
+AreApart [] = Unit {0}
+AreApart (w ∷ works) = (work_of works w.number ≡ None) × (has_session works w.session ≡ false)
+    × IsWork w × AreApart works
+
+-- A place is the first one of a transaction.
+pub record IsPlaceOf (works : List Working) (t place : ℕ) : Type 0 where
+  pub inside : place < length works
+  pub its : (d : Working) → (slice_index_or works place d).number ≡ t
+  pub first : (k : ℕ) (d : Working) → k < place → (slice_index_or works k d).number ≢ t
+
+-- no place is a transaction's
+abbrev pub IsNowhere : List Working → ℕ → Type 0
+IsNowhere works t = (k : ℕ) (d : Working) → k < length works → (slice_index_or works k d).number ≢ t

@@ -1,0 +1,161 @@
+//! What is known of an active transaction.
+
+ghost use Rattle.std.specs.Prelude.{◌≡◌, ◌==◌, ◌∷◌, None, Some, OnOk, OnErr};
+ghost use Rattle.std.specs.Option.{option_copied};
+ghost use Rattle.mg_model.specs.Changes.{same_name};
+ghost use Rattle.mg_works.specs.Works.{begun, given_in, has_asked as asked_for, with_point, with_table, without_tables};
+
+use mg_base::{Memory, TxNo};
+use mg_model::{Mode, Table};
+use mg_undo::Undo;
+use mg_value::Name;
+use std::alloc::Global;
+use std::marker::Model;
+
+/// What is known of an active transaction.
+#[derive(Drop)]
+pub struct Work {
+    number: TxNo,
+    session: u8,
+    mode: Mode,
+    undo: Undo,
+    // The last one that was given comes first.
+    tables: Vec<Table>,
+    asked: bool,
+}
+
+impl Model for Work {
+    ghost use Rattle.mg_works.specs.Works.{Working};
+
+    ghost Value = { Working };
+
+    ghost view = { λ w. record {
+      number = w.number.0;
+      session = w.session;
+      mode = w.mode;
+      undo = w.undo;
+      tables = w.tables.items;
+      asked = w.asked;
+    } };
+}
+
+impl Work {
+    /// A transaction that has just begun. It takes no memory.
+    pub fn new(alloc: Global, number: TxNo, session: u8, mode: Mode) -> Work
+        ensures { result ≡ begun number.0 session mode }
+    {
+        Work {
+            number,
+            session,
+            mode,
+            undo: Undo::new(alloc),
+            tables: Vec::new(alloc),
+            asked: false,
+        }
+    }
+
+    /// Its number.
+    pub fn number(&self) -> TxNo
+        ensures { result.0 ≡ self.now.number }
+    {
+        self.number
+    }
+
+    /// Tells whether it is of this transaction.
+    pub fn is_of(&self, t: TxNo) -> bool
+        ensures { result ≡ (self.now.number == t.0) }
+    {
+        self.number.0 == t.0
+    }
+
+    /// The session that began it, by which pages are marked for its commit.
+    pub fn session(&self) -> u8
+        ensures { result ≡ self.now.session }
+    {
+        self.session
+    }
+
+    /// How it runs.
+    pub fn mode(&self) -> Mode
+        ensures { result ≡ self.now.mode }
+    {
+        self.mode
+    }
+
+    /// Whether it has asked for its commit.
+    pub fn has_asked(&self) -> bool
+        ensures { result ≡ self.now.asked }
+    {
+        self.asked
+    }
+
+    /// Sets a mark.
+    ///
+    /// # Errors
+    ///
+    /// `Memory` only. Nothing has changed then.
+    pub fn set_mark(&mut self) -> Result<(), Memory>
+        ensures ok { OnOk result (self.new ≡ with_point None self.old) }
+        ensures err { OnErr result (self.new ≡ self.old) }
+    {
+        self.undo.mark()
+    }
+
+    /// Sets a savepoint.
+    ///
+    /// # Errors
+    ///
+    /// `Memory` only. Nothing has changed then.
+    pub fn set_savepoint(&mut self, name: &Name) -> Result<(), Memory>
+        ensures ok { OnOk result (self.new ≡ with_point (Some name.now) self.old) }
+        ensures err { OnErr result (self.new ≡ self.old) }
+    {
+        self.undo.name(name)
+    }
+
+    /// Forgets the tables that were given.
+    pub fn forget_tables(&mut self)
+        ensures { self.new ≡ without_tables self.old }
+    {
+        self.tables.clear();
+    }
+
+    /// Keeps a table that was given.
+    ///
+    /// # Errors
+    ///
+    /// `Memory` only. Nothing has changed then.
+    pub fn give_table(&mut self, table: Table) -> Result<(), Memory>
+        ensures ok { OnOk result (self.new ≡ with_table table self.old) }
+        ensures err { OnErr result (self.new ≡ self.old) }
+    {
+        self.tables.insert(0, table)?;
+        Ok(())
+    }
+
+    /// The commit was asked for.
+    pub fn ask(&mut self)
+        ensures { self.new ≡ asked_for self.old }
+    {
+        self.asked = true;
+    }
+
+    /// The table of a name that was given last.
+    pub fn table(&self, name: &Name) -> Option<&Table>
+        ensures { option_copied result ≡ given_in self.now.tables name.now }
+    {
+        for table in &self.tables {
+            if is_same(name, &table.name) {
+                return Some(table);
+            }
+        }
+        None
+    }
+}
+
+/// Tells whether two names are the same.
+fn is_same(a: &Name, b: &Name) -> bool
+    ensures { result ≡ same_name a.now b.now }
+{
+    a.as_slice() == b.as_slice()
+}
