@@ -1,11 +1,10 @@
 -- What the machine finds in a table that a transaction sees.
-use Rattle.std.proofs.Common.{◌≡◌, ℕ, Bool, true, false, List, filter, Option, Some, None, refl, ap, ◌∙◌}
+use Rattle.std.proofs.Common.{◌≡◌, ℕ, Bool, true, false, List, filter, Option, Some, None, ap, ◌∙◌}
 use Rattle.std.specs.Prelude.{is_some, if◌then◌else◌}
 use Rattle.mg_base.specs.declared.numbers.TxNo.{TxNo}
 use Rattle.mg_base.specs.declared.transaction.TxState.TheVariants.{Active}
 use Rattle.mg_value.specs.declared.shape.Shape.{Shape}
 use Rattle.mg_expr.specs.declared.expr.Expr.{Expr}
-use Rattle.mg_model.specs.declared.answer.Answer.{Answer}
 use Rattle.mg_model.specs.declared.answer.Answer.TheVariants.{Rows, No}
 use Rattle.mg_model.specs.declared.event.Event.TheVariants.{Find}
 use Rattle.mg_model.specs.declared.opening.Opening.{Opening}

@@ -1,14 +1,11 @@
 -- What one call leaves, and what several calls leave together.
-use Rattle.std.proofs.Common.{◌≡◌, ℕ, ◌+◌, ◌-◌, ◌^◌, ◌≤◌, ◌<◌, Bool, true, false, List, Option, Some, None, inl, inr, refl, sym, ap, subst, ◌∙◌, arith}
+use Rattle.std.proofs.Common.{◌≡◌, ℕ, ◌-◌, ◌^◌, ◌≤◌, false, List, Option, Some, None, inl, inr, refl, sym, ◌∙◌, arith}
 use Rattle.std.specs.Prelude.{◌⊎◌}
-use Rattle.mg_base.specs.Image.{Image}
 use Rattle.mg_base.specs.Disk.{Rose}
-use Rattle.mg_model.specs.declared.opening.Opening.{Opening}
 use Rattle.mg_model.specs.declared.refusal.Refusal.{Refusal}
 use Rattle.mg_model.specs.declared.refusal.Refusal.TheVariants.{DatabaseFull, DiskRead, DiskWrite, Offline, Damaged}
 use Rattle.mg_model.specs.declared.table.Table.{Table}
-use Rattle.mg_model.specs.Changes.{Cells}
-use Rattle.mg_model.specs.History.{Entries}
+use Rattle.mg_model.specs.Changes.{KeyedRows}
 use Rattle.mg_model.specs.Machine.{is_of}
 use Rattle.mg_records.specs.Meaning.{Means}
 use Rattle.mg_records.specs.Keeping.{Causes, Elapses, Keeps, Leaves, Lessens, Reads, down_after}
@@ -39,7 +36,7 @@ passed m old new e = record { later = e.later; keeps = e.keeps }
 framed : {R P : Type 0} (m : Means R P) (old new : R) (t : ℕ) (refusal : Option Refusal)
     → Keeps m old new refusal
     → ((u : ℕ) (name : List ℕ) → is_of u (Some t) ≡ false → m.table new u name ≡ m.table old u name)
-    → ((u : ℕ) (table : Table) (after : Option P) (rows : List Cells) → is_of u (Some t) ≡ false
+    → ((u : ℕ) (table : Table) (after : Option P) (rows : KeyedRows) → is_of u (Some t) ≡ false
     → m.to_come old u table after rows → m.to_come new u table after rows)
     → ((u : ℕ) → is_of u (Some t) ≡ false → Lessens (m.unwritten old u) (m.unwritten new u))
     → Frames m old new t refusal
@@ -63,39 +60,39 @@ framed m old new t refusal keeps tables walks commits = record {
 pub frames_reads : {R P : Type 0} (m : Means R P) (old new : R) (t : ℕ) (refusal : Option Refusal)
     → Reads m old new refusal (Some t) → Frames m old new t refusal
 frames_reads m old new t refusal reads =
-    framed m old new t refusal reads.keeps (λ u name other. reads.tables u name) reads.walks_stay
+    framed m old new t refusal reads.keeps (λ u name other. reads.tables u name refl) reads.walks_stay
     reads.commits
 
 pub frames_reads_nothing : {R P : Type 0} (m : Means R P) (old new : R) (t : ℕ)
     (refusal : Option Refusal) → Reads m old new refusal None → Frames m old new t refusal
 frames_reads_nothing m old new t refusal reads =
-    framed m old new t refusal reads.keeps (λ u name other. reads.tables u name)
+    framed m old new t refusal reads.keeps (λ u name other. reads.tables u name refl)
     (λ u table after rows other come. reads.walks_stay u table after rows refl come)
     (λ u other. reads.commits u refl)
 
 -- a call that gives events, after which nothing, walks, or tables too of the transaction may be other
-pub frames_leaves : {R P : Type 0} (m : Means R P) (old new : R) (o : Opening) (h : Entries) (t : ℕ)
-    (refusal : Option Refusal) → m.stands old o h → Leaves m old new refusal None None
+pub frames_leaves : {R P : Type 0} (m : Means R P) (old new : R) (t : ℕ) (refusal : Option Refusal)
+    → Leaves m old new refusal None None
     → Frames m old new t refusal
-frames_leaves m old new o h t refusal stands leaves =
-    framed m old new t refusal leaves.keeps (λ u name other. leaves.tables_stay o h stands u name refl)
-    (λ u table after rows other come. leaves.walks_stay o h stands u table after rows refl come)
+frames_leaves m old new t refusal leaves =
+    framed m old new t refusal leaves.keeps (λ u name other. leaves.tables_stay u name refl)
+    (λ u table after rows other come. leaves.walks_stay u table after rows refl come)
     (λ u other. leaves.commits u refl)
 
-pub frames_writes : {R P : Type 0} (m : Means R P) (old new : R) (o : Opening) (h : Entries) (t : ℕ)
-    (refusal : Option Refusal) → m.stands old o h → Leaves m old new refusal None (Some t)
+pub frames_writes : {R P : Type 0} (m : Means R P) (old new : R) (t : ℕ) (refusal : Option Refusal)
+    → Leaves m old new refusal None (Some t)
     → Frames m old new t refusal
-frames_writes m old new o h t refusal stands leaves =
-    framed m old new t refusal leaves.keeps (λ u name other. leaves.tables_stay o h stands u name refl)
-    (λ u table after rows other come. leaves.walks_stay o h stands u table after rows other come)
+frames_writes m old new t refusal leaves =
+    framed m old new t refusal leaves.keeps (λ u name other. leaves.tables_stay u name refl)
+    (λ u table after rows other come. leaves.walks_stay u table after rows other come)
     leaves.commits
 
-pub frames_changes : {R P : Type 0} (m : Means R P) (old new : R) (o : Opening) (h : Entries) (t : ℕ)
-    (refusal : Option Refusal) → m.stands old o h → Leaves m old new refusal (Some t) (Some t)
+pub frames_changes : {R P : Type 0} (m : Means R P) (old new : R) (t : ℕ) (refusal : Option Refusal)
+    → Leaves m old new refusal (Some t) (Some t)
     → Frames m old new t refusal
-frames_changes m old new o h t refusal stands leaves =
-    framed m old new t refusal leaves.keeps (λ u name other. leaves.tables_stay o h stands u name other)
-    (λ u table after rows other come. leaves.walks_stay o h stands u table after rows other come)
+frames_changes m old new t refusal leaves =
+    framed m old new t refusal leaves.keeps (λ u name other. leaves.tables_stay u name other)
+    (λ u table after rows other come. leaves.walks_stay u table after rows other come)
     leaves.commits
 
 -- ---- two calls

@@ -1,12 +1,12 @@
 -- What the calls for one transaction leave of all others and of the keeper as a whole, however many
 -- calls they are.
-use Rattle.std.specs.Prelude.{◌≡◌, ◌⊎◌, ℕ, ◌≤◌, List, true, false, Option, Some, None}
+use Rattle.std.specs.Prelude.{◌≡◌, ◌⊎◌, ℕ, ◌≤◌, List, true, false, Option, Some}
 use Rattle.mg_base.specs.Image.{Image}
 use Rattle.mg_base.specs.Disk.{Rose}
 use Rattle.mg_model.specs.declared.refusal.Refusal.{Refusal}
 use Rattle.mg_model.specs.declared.refusal.Refusal.TheVariants.{DatabaseFull, DiskRead, DiskWrite, Offline, Damaged}
 use Rattle.mg_model.specs.declared.table.Table.{Table}
-use Rattle.mg_model.specs.Changes.{Cells}
+use Rattle.mg_model.specs.Changes.{KeyedRows}
 use Rattle.mg_model.specs.Machine.{is_of}
 use Rattle.mg_records.specs.Meaning.{Means}
 use Rattle.mg_records.specs.Keeping.{Lessens}
@@ -43,6 +43,6 @@ pub record Frames {R P : Type 0} (m : Means R P) (old new : R) (t : ℕ) (refusa
   -- the tables that other transactions see stay, their walks go on, and their commits
   pub tables : (u : ℕ) (name : List ℕ) → is_of u (Some t) ≡ false
       → m.table new u name ≡ m.table old u name
-  pub walks : (u : ℕ) (table : Table) (after : Option P) (rows : List Cells)
+  pub walks : (u : ℕ) (table : Table) (after : Option P) (rows : KeyedRows)
       → is_of u (Some t) ≡ false → m.to_come old u table after rows → m.to_come new u table after rows
   pub commits : (u : ℕ) → is_of u (Some t) ≡ false → Lessens (m.unwritten old u) (m.unwritten new u)

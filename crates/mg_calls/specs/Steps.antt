@@ -17,10 +17,6 @@ use Rattle.mg_calls.specs.declared.steps.Wrote.TheVariants as wrote
 use Rattle.mg_calls.specs.Frames.{Frames}
 use Rattle.mg_calls.specs.Writes.{Comes, ComesToNothing}
 
--- it stands for some history
-abbrev pub StandsForSome : {R P : Type 0} → Means R P → R → Type 0
-StandsForSome m r = (o : Opening) × (h : Entries) × m.stands r o h
-
 -- the transaction sees the table, and each write fits its shape
 pub record AreReady {R P : Type 0} (m : Means R P) (r : R) (t : ℕ) (w : Writes) : Type 0 where
   pub table : m.table r t w.table.name ≡ Some w.table

@@ -1,5 +1,5 @@
 -- The undoing of a refused statement.
-use Rattle.std.specs.Prelude.{◌≡◌, ◌∷◌}
+use Rattle.std.specs.Prelude.{◌∷◌}
 use Rattle.mg_base.specs.declared.numbers.TxNo.{TxNo}
 use Rattle.mg_model.specs.declared.answer.Answer.TheVariants.{Fine, No}
 use Rattle.mg_model.specs.declared.event.Event.TheVariants.{UndoMark}

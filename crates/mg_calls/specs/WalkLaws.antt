@@ -1,11 +1,11 @@
 -- A walk goes on where calls for other transactions come between its steps.
-use Rattle.std.proofs.Common.{◌≡◌, ℕ, Bool, false, List, ◌∷◌, ◌++◌, map, Option, Some, None, refl, sym, ap, subst}
+use Rattle.std.proofs.Common.{◌≡◌, ℕ, false, List, ◌∷◌, ◌++◌, Option, Some, None, sym, ap, subst}
 use Rattle.std.specs.Prelude.{IsPermutation}
 use Rattle.mg_model.specs.declared.change.Change.{Change}
 use Rattle.mg_model.specs.declared.opening.Opening.{Opening}
 use Rattle.mg_model.specs.declared.refusal.Refusal.{Refusal}
 use Rattle.mg_model.specs.declared.table.Table.{Table}
-use Rattle.mg_model.specs.Changes.{Cells, rows_of}
+use Rattle.mg_model.specs.Changes.{KeyedRows, rows_of}
 use Rattle.mg_model.specs.Effects.{is_its}
 use Rattle.mg_model.specs.EntryLaws.{view_others_entry}
 use Rattle.mg_model.specs.History.{Entries, Entry}
@@ -14,18 +14,18 @@ use Rattle.mg_records.specs.Meaning.{Means}
 use Rattle.mg_records.specs.Reading.{IsPlace}
 use Rattle.mg_calls.specs.declared.walking.Walk.{Walk}
 use Rattle.mg_calls.specs.Frames.{Frames}
-use Rattle.mg_calls.specs.Walks.{HasCome, IsOnItsWay, rows_seen}
+use Rattle.mg_calls.specs.Walks.{HasCome, IsOnItsWay}
 
 -- an entry that is not the transaction's leaves the rows that it sees
 rows_stay : (o : Opening) (h : Entries) (e : Entry) (t : ℕ) (name : List ℕ) → is_its t e ≡ false
-    → rows_seen o (e ∷ h) t name ≡ rows_seen o h t name
+    → rows_of (view o (e ∷ h) t) name ≡ rows_of (view o h t) name
 rows_stay o h e t name others =
-    ap (λ (cs : List Change). map (λ r. r.1) (rows_of cs name)) (view_others_entry o h e t others)
+    ap (λ (cs : List Change). rows_of cs name) (view_others_entry o h e t others)
 
 -- calls for another transaction u leave a walk of t where it is
 abbrev pub WalksGoOn : {R P : Type 0} → Means R P → Type 0
 WalksGoOn {R = R} {P = P} m = (old new : R) (o : Opening) (h : Entries) (e : Entry) (t u : ℕ)
-    (refusal : Option Refusal) (walk : Walk P) (visited : List Cells) → Frames m old new u refusal
+    (refusal : Option Refusal) (walk : Walk P) (visited : KeyedRows) → Frames m old new u refusal
     → is_of t (Some u) ≡ false → is_its t e ≡ false → HasCome m old o h t walk visited
     → HasCome m new o (e ∷ h) t walk visited
 
@@ -33,7 +33,7 @@ pub walks_go_on : {R P : Type 0} (m : Means R P) → WalksGoOn m
 walks_go_on m old new o h e t u refusal walk visited frames apart others come = record {
   rest = come.rest;
   to_come = frames.walks t walk.table walk.place come.rest apart come.to_come;
-  whole = subst (λ (rows : List Cells). IsPermutation (visited ++ come.rest) rows)
+  whole = subst (λ (rows : KeyedRows). IsPermutation (visited ++ come.rest) rows)
       (sym (rows_stay o h e t walk.table.name others)) come.whole;
 }
 

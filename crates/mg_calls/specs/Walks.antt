@@ -1,15 +1,15 @@
 -- A walk over the rows of a table that a transaction sees.
 use Rattle.std.specs.Prelude.{◌≡◌, ℕ, ◌<◌, List, [], ◌∷◌, ◌++◌, map, Option, Some, None, Result, Ok, Err, IsPermutation}
-use Rattle.mg_base.specs.declared.numbers.TxNo.{TxNo}
 use Rattle.mg_base.specs.declared.transaction.TxState.TheVariants.{Active}
 use Rattle.mg_model.specs.declared.opening.Opening.{Opening}
 use Rattle.mg_model.specs.declared.refusal.Refusal.{Refusal}
-use Rattle.mg_model.specs.Changes.{Cells, rows_of}
+use Rattle.mg_value.specs.declared.value.Value.{Value}
+use Rattle.mg_model.specs.Changes.{Cells, KeyedRows, rows_of}
 use Rattle.mg_model.specs.History.{Entries}
 use Rattle.mg_model.specs.Machine.{state_of, view}
 use Rattle.mg_records.specs.Adding.{IsRefused}
 use Rattle.mg_records.specs.Meaning.{Means}
-use Rattle.mg_records.specs.Reading.{IsPlace, with_found}
+use Rattle.mg_records.specs.Reading.{IsPlace}
 use Rattle.mg_calls.specs.declared.walking.Walk.{Walk}
 use Rattle.mg_calls.specs.declared.walking.Visit.{Visit}
 use Rattle.mg_calls.specs.declared.walking.Visit.TheVariants as visits
@@ -23,26 +23,26 @@ pub record IsOnItsWay {R P : Type 0} (m : Means R P) (r : R) (t : ℕ) (walk : W
   pub table : m.table r t walk.table.name ≡ Some walk.table
   pub place : IsPlace m r walk.table walk.place
 
--- A walk has come to these rows so far; with those to come they are the rows that the transaction
--- sees, in some order.
+-- A walk has come to these rows so far, each with its key; with those to come they are the rows that
+-- the transaction sees, in some order.
 pub record HasCome {R P : Type 0} (m : Means R P) (r : R) (o : Opening) (h : Entries) (t : ℕ)
-    (walk : Walk P) (visited : List Cells) : Type 0 where
-  pub rest : List Cells
+    (walk : Walk P) (visited : KeyedRows) : Type 0 where
+  pub rest : KeyedRows
   pub to_come : m.to_come r t walk.table walk.place rest
-  pub whole : IsPermutation (visited ++ rest) (rows_seen o h t walk.table.name)
+  pub whole : IsPermutation (visited ++ rest) (rows_of (view o h t) walk.table.name)
 
 -- the rows of a record: one, or none
-abbrev pub rows_in : Option Cells → List Cells
+abbrev pub rows_in : Option (Value × Cells) → KeyedRows
 rows_in None = []
 rows_in (Some row) = row ∷ []
 
 -- A walk goes on: it comes to a record and its row, if the transaction sees one there; or it is at
 -- its end, and has come to all rows; or it is refused.
-abbrev pub GoesOn : {R P : Type 0} → Means R P → R → Opening → Entries → ℕ → Walk P → List Cells
+abbrev pub GoesOn : {R P : Type 0} → Means R P → R → Opening → Entries → ℕ → Walk P → KeyedRows
     → Result Visit Refusal → Type 0
 GoesOn m new o h t walk visited (Ok (visits.Record row)) = HasCome m new o h t walk (visited ++ rows_in row)
 GoesOn m new o h t walk visited (Ok visits.End) =
-    (state_of o h t ≡ Active) × IsPermutation visited (rows_seen o h t walk.table.name)
+    (state_of o h t ≡ Active) × IsPermutation visited (rows_of (view o h t) walk.table.name)
 GoesOn m new o h t walk visited (Err refusal) = IsRefused o h t refusal
 
 -- a walk that comes to a record is nearer to its end, behind another place; else it stays

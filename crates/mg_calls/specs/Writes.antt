@@ -48,10 +48,9 @@ goes_on written.Done = true
 goes_on (written.Waits on) = true
 goes_on (written.Refused refusal) = false
 
--- What such a write does, and what it leaves. As long as the statement goes on, its transaction sees
--- the tables that it saw.
-pub record WritesOrUndoes {R P : Type 0} (m : Means R P) (old new : R) (o : Opening) (h : Entries)
-    (t : TxNo) (event : Event) (result : Written) : Type 0 where
-  pub does : WritesOne m new o h t event result
-  pub frames : Frames m old new t.0 (refusal_written result)
-  pub tables : goes_on result ≡ true → (name : List ℕ) → m.table new t.0 name ≡ m.table old t.0 name
+-- What such a write leaves. As long as the statement goes on, its transaction sees the tables that it
+-- saw.
+pub record IsWritten {R P : Type 0} (m : Means R P) (old new : R) (t : ℕ) (result : Written)
+    : Type 0 where
+  pub frames : Frames m old new t (refusal_written result)
+  pub tables : goes_on result ≡ true → (name : List ℕ) → m.table new t name ≡ m.table old t name

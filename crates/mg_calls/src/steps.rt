@@ -3,7 +3,7 @@
 ghost use Rattle.std.specs.Prelude.{◌≡◌};
 ghost use Rattle.mg_model.specs.declared.opening.Opening.{Opening};
 ghost use Rattle.mg_model.specs.History.{Entries};
-ghost use Rattle.mg_calls.specs.Steps.{StandsForSome, AreReady, WritesNext, MarksAndWrites, StepsOn};
+ghost use Rattle.mg_calls.specs.Steps.{AreReady, WritesNext, MarksAndWrites, StepsOn};
 
 use crate::writing::{Written, write_or_undo};
 use mg_base::TxNo;
@@ -37,8 +37,7 @@ pub fn write_next<R: Records>(r: &mut R, t: TxNo, w: &mut Writes) -> Wrote
     requires ready { AreReady R.meaning r.old t.0 w.old }
     ensures writes { (o : Opening) (h : Entries) → R.meaning.stands r.old o h
         → WritesNext R.meaning r.new o h t w.old.table.name w.old.left.items w.new.left.items result }
-    ensures steps { (o : Opening) (h : Entries) → R.meaning.stands r.old o h
-        → StepsOn R.meaning r.old r.new t.0 w.old w.new result }
+    ensures steps { StepsOn R.meaning r.old r.new t.0 w.old w.new result }
 {
     let Some(first) = w.left.front() else {
         return Wrote::Done;
@@ -59,12 +58,10 @@ pub fn write_next<R: Records>(r: &mut R, t: TxNo, w: &mut Writes) -> Wrote
 /// Sets the mark of a statement, and makes the first of its writes. Where the mark is refused there
 /// is nothing to undo.
 pub fn mark_and_write<R: Records>(r: &mut R, t: TxNo, w: &mut Writes) -> Wrote
-    requires stands { StandsForSome R.meaning r.old }
     requires ready { AreReady R.meaning r.old t.0 w.old }
     ensures writes { (o : Opening) (h : Entries) → R.meaning.stands r.old o h
         → MarksAndWrites R.meaning r.new o h t w.old.table.name w.old.left.items w.new.left.items result }
-    ensures steps { (o : Opening) (h : Entries) → R.meaning.stands r.old o h
-        → StepsOn R.meaning r.old r.new t.0 w.old w.new result }
+    ensures steps { StepsOn R.meaning r.old r.new t.0 w.old w.new result }
 {
     match r.mark(t) {
         Ok(()) => write_next(r, t, w),

@@ -1,9 +1,9 @@
 //! A walk over the records of a table.
 
-ghost use Rattle.std.specs.Prelude.{◌≡◌, [], ℕ, List, Some, None};
+ghost use Rattle.std.specs.Prelude.{◌≡◌, [], ℕ, Some, None};
 ghost use Rattle.mg_base.specs.declared.transaction.TxState.TheVariants.{Active};
 ghost use Rattle.mg_model.specs.declared.opening.Opening.{Opening};
-ghost use Rattle.mg_model.specs.Changes.{Cells};
+ghost use Rattle.mg_model.specs.Changes.{KeyedRows};
 ghost use Rattle.mg_model.specs.History.{Entries};
 ghost use Rattle.mg_model.specs.Machine.{state_of};
 ghost use Rattle.mg_records.specs.Keeping.{Reads, refusal_in};
@@ -12,7 +12,7 @@ ghost use Rattle.mg_calls.specs.Walks.{IsOnItsWay, HasCome, GoesOn, Progresses};
 use mg_base::TxNo;
 use mg_model::{Refusal, Table};
 use mg_records::Records;
-use mg_value::Row;
+use mg_value::{Key, Row};
 
 /// A walk over the records of a table.
 #[derive(Drop)]
@@ -25,8 +25,8 @@ pub struct Walk<P> {
 /// What a walk has come to.
 #[derive(Debug, Drop)]
 pub enum Visit {
-    /// A record, with the row that the transaction sees there, if there is one.
-    Record(Option<Row>),
+    /// A record, with the row that the transaction sees there and its key, if there is one.
+    Record(Option<(Key, Row)>),
     /// The end: there is no further record.
     End,
 }
@@ -55,7 +55,7 @@ where
     ensures table { walk.new.table ≡ walk.old.table }
     ensures progress { Progresses R.meaning r.old r.new t.0 walk.old walk.new result }
     ensures reads { Reads R.meaning r.old r.new (refusal_in result) (Some t.0) }
-    ensures comes { (o : Opening) (h : Entries) (visited : List Cells) → R.meaning.stands r.old o h
+    ensures comes { (o : Opening) (h : Entries) (visited : KeyedRows) → R.meaning.stands r.old o h
         → HasCome R.meaning r.old o h t.0 walk.old visited
         → GoesOn R.meaning r.new o h t.0 walk.new visited result }
 {

@@ -4,7 +4,7 @@ ghost use Rattle.std.specs.Prelude.{◌≡◌, Some};
 ghost use Rattle.mg_model.specs.declared.opening.Opening.{Opening};
 ghost use Rattle.mg_model.specs.History.{Entries};
 ghost use Rattle.mg_records.specs.Writing.{FitsShape, event_of};
-ghost use Rattle.mg_calls.specs.Writes.{WritesOrUndoes};
+ghost use Rattle.mg_calls.specs.Writes.{WritesOne, IsWritten};
 
 use mg_base::TxNo;
 use mg_model::{Refusal, Table};
@@ -28,7 +28,8 @@ pub fn write_or_undo<R: Records>(r: &mut R, t: TxNo, table: &Table, write: &Writ
     requires table { R.meaning.table r.old t.0 table.now.name ≡ Some table.now }
     requires fits { FitsShape table.now.shape write.now }
     ensures writes { (o : Opening) (h : Entries) → R.meaning.stands r.old o h
-        → WritesOrUndoes R.meaning r.old r.new o h t (event_of t table.now.name write.now) result }
+        → WritesOne R.meaning r.new o h t (event_of t table.now.name write.now) result }
+    ensures leaves { IsWritten R.meaning r.old r.new t.0 result }
 {
     let refusal = match r.write_step(t, table, write) {
         Ok(()) => return Written::Done,

@@ -38,11 +38,11 @@ down_after before (Some (DiskWrite count)) = Some count
 down_after before refusal = before
 
 -- time goes on: what a crash might have left before it might still have left, and nothing is added
--- but what a crash now may leave
+-- but what a crash since then might have left
 pub record Elapses {R P : Type 0} (m : Means R P) (old new : R) : Type 0 where
   pub later : m.moment old ≤ m.moment new
   pub nothing_else : (t : ℕ) (c : Image) → t ≤ m.moment old → m.left new t c
-      → m.left old t c ⊎ m.left new (m.moment new) c
+      → m.left old t c ⊎ m.left new (m.moment old) c
   pub keeps : (t : ℕ) (c : Image) → t ≤ m.moment old → m.left old t c → m.left new t c
 
 -- What every call keeps, whatever it answers.
@@ -57,6 +57,8 @@ pub record Keeps {R P : Type 0} (m : Means R P) (old new : R) (refusal : Option 
   pub tells : m.tells new ≡ m.tells old
   pub time : m.tells old ≡ true → Elapses m old new
   pub sizes : (size : ℕ) → m.is_size new size ≡ m.is_size old size
+  pub holds : (o : Opening) (h : Entries) (least : ℕ) (c : Image) → m.holds old o h least c
+      → m.holds new o h least c
   pub given : (table : Table) → m.was_given old table → m.was_given new table
   pub places : (table : Table) (place : P) → m.is_place old table place → m.is_place new table place
 

@@ -1,8 +1,9 @@
 pub mod Meaning
+pub mod Crashing
 pub mod Keeping
-pub mod Beginning
 pub mod Adding
 pub mod Reading
 pub mod Writing
 pub mod TakingBack
+pub mod Sessions
 pub mod Committing

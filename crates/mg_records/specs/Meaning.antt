@@ -12,6 +12,9 @@ pub record Means (R P : Type 0) : Type 1 where
   pub stands : R → Opening → Entries → Type 0
   -- the table of a name that a transaction sees which is active
   pub table : R → ℕ → List ℕ → Option Table
+  -- no active transaction was begun by this session; this active transaction was begun by this session
+  pub is_free : R → ℕ → Type 0
+  pub works : R → ℕ → ℕ → Type 0
   -- this table was given; this place was given for the table
   pub was_given : R → Table → Type 0
   pub is_place : R → Table → P → Type 0
@@ -27,6 +30,9 @@ pub record Means (R P : Type 0) : Type 1 where
   pub tells : R → Bool
   pub moment : R → ℕ
   pub left : R → ℕ → Image → Type 0
+  -- an image holds what outlasts a crash after some durable event of a history, and after so many at
+  -- least
+  pub holds : R → Opening → Entries → ℕ → Image → Type 0
   -- how often the disk failed, how often a page was found damaged, and how often pages were short
   pub faults : R → ℕ
   pub damage : R → ℕ

@@ -6,9 +6,10 @@
 //! faults. `Write` is a change of a row, `Found` a record that a walk has come to.
 //!
 //! Each call takes a value that stands for a history, whatever that is, to one that stands for the
-//! same history with the call's entries (`specs/Beginning`, `Adding`, `Writing`, `TakingBack`). Calls that only
-//! read add none (`specs/Reading`). A refusal from outside the machine comes only by its cause, and
-//! once a page write has failed every call is refused (`specs/Keeping`).
+//! same history with the call's entries (`specs/Adding`, `Writing`, `TakingBack`). Calls
+//! that only read add none (`specs/Reading`). What a crash leaves holds the history
+//! (`specs/Crashing`). A session has one active transaction at most (`specs/Sessions`). A refusal from outside the machine comes only by its cause, and once a page
+//! write has failed every call is refused (`specs/Keeping`).
 //!
 //! Not every clause of a call holds of every history: where the machine speaks of an active
 //! transaction only, so does the clause. What a value stands for is known to proofs alone.

@@ -7,7 +7,8 @@ ghost use Rattle.mg_model.specs.Changes.{KeyedRows};
 ghost use Rattle.mg_model.specs.Catalog.{catalog_name};
 ghost use Rattle.mg_records.specs.Meaning.{Means};
 ghost use Rattle.mg_records.specs.Keeping.{Leaves, Reads, refusal_in};
-ghost use Rattle.mg_records.specs.Beginning.{IsFree};
+ghost use Rattle.mg_records.specs.Crashing.{CrashesHold, HoldsOn, LeavesQuietly, LeavesWith};
+ghost use Rattle.mg_records.specs.Sessions.{SessionsStay, begun_in, ended_in, given_up_in};
 ghost use Rattle.mg_records.specs.Adding.{Adds, AnswersAll, fine_or, number_or, drawn_in};
 ghost use Rattle.mg_records.specs.Reading.{TellsTable, IsTableGiven, TablesAreSeen, IsPlace, Nears, Visits, WalksAreWhole, FindAdds};
 ghost use Rattle.mg_records.specs.Writing.{FitsShape, FitsPages, IsNewShape, MakesTable, event_of};
@@ -41,14 +42,19 @@ pub trait Records {
     /// Begins a transaction for a session that has no active one, with the next number.
     fn begin(&mut self, session: u8, mode: Mode) -> Result<TxNo, Refusal>
         requires session { session < 32 }
-        requires free { IsFree meaning self.old session }
+        requires free { meaning.is_free self.old session }
         ensures adds { Adds meaning self.old self.new (Event.Begin session mode) (number_or result) }
-        ensures leaves { Leaves meaning self.old self.new (refusal_in result) (drawn_in result) (drawn_in result) };
+        ensures leaves { Leaves meaning self.old self.new (refusal_in result) (drawn_in result) (drawn_in result) }
+        ensures crash { LeavesQuietly meaning self.old self.new }
+        ensures sessions { SessionsStay meaning self.old self.new (begun_in session result) None }
+        ensures works { IfOk result (λ t. meaning.works self.new t.0 session) };
 
     /// Begins a statement: under READ COMMITTED the transaction takes a new base.
     fn look(&mut self, t: TxNo) -> Result<(), Refusal>
         ensures adds { Adds meaning self.old self.new (Event.Look t) (fine_or result) }
-        ensures leaves { Leaves meaning self.old self.new (refusal_in result) (Some t.0) (Some t.0) };
+        ensures leaves { Leaves meaning self.old self.new (refusal_in result) (Some t.0) (Some t.0) }
+        ensures crash { LeavesQuietly meaning self.old self.new }
+        ensures sessions { SessionsStay meaning self.old self.new None None };
 
     /// The table of a name that the transaction sees.
     ///
@@ -59,7 +65,9 @@ pub trait Records {
     fn table(&mut self, t: TxNo, name: &Name) -> Result<Table, Refusal>
         ensures table { TellsTable meaning self.old t.0 name.now result }
         ensures given { IfOk result (IsTableGiven meaning self.new t.0 name.now) }
-        ensures reads { Reads meaning self.old self.new (refusal_in result) None };
+        ensures reads { Reads meaning self.old self.new (refusal_in result) None }
+        ensures crash { LeavesQuietly meaning self.old self.new }
+        ensures sessions { SessionsStay meaning self.old self.new None None };
 
     /// Visits the next record of a table after a place, the first one for None. It answers None
     /// exactly where there is no further record.
@@ -76,7 +84,9 @@ pub trait Records {
         ensures visits { (rows : KeyedRows)
             → meaning.to_come self.old t.0 table.now (option_copied after.entry) rows
             → Visits meaning self.new t.0 table.now result rows }
-        ensures reads { Reads meaning self.old self.new (refusal_in result) (Some t.0) };
+        ensures reads { Reads meaning self.old self.new (refusal_in result) (Some t.0) }
+        ensures crash { LeavesQuietly meaning self.old self.new }
+        ensures sessions { SessionsStay meaning self.old self.new None None };
 
     /// Tells what a statement found: the rows are those that the machine finds.
     fn found(
@@ -87,7 +97,9 @@ pub trait Records {
         rows: &Rows,
     ) -> Result<(), Refusal>
         ensures adds { FindAdds meaning self.old self.new t name.now filter.now rows.now result }
-        ensures leaves { Leaves meaning self.old self.new (refusal_in result) None None };
+        ensures leaves { Leaves meaning self.old self.new (refusal_in result) None None }
+        ensures crash { LeavesQuietly meaning self.old self.new }
+        ensures sessions { SessionsStay meaning self.old self.new None None };
 
     /// Writes a row. A refusal changes nothing but whom the transaction waits on.
     fn write_step(&mut self, t: TxNo, table: &Table, write: &Write) -> Result<(), Refusal>
@@ -95,7 +107,9 @@ pub trait Records {
         requires fits { FitsShape table.now.shape write.now }
         ensures adds { Adds meaning self.old self.new
             (event_of t table.now.name write.now) (fine_or result) }
-        ensures leaves { Leaves meaning self.old self.new (refusal_in result) None (Some t.0) };
+        ensures leaves { Leaves meaning self.old self.new (refusal_in result) None (Some t.0) }
+        ensures crash { LeavesQuietly meaning self.old self.new }
+        ensures sessions { SessionsStay meaning self.old self.new None None };
 
     /// Makes a table: the rows of the catalog that say it come one after another, that of the table
     /// first.
@@ -104,12 +118,16 @@ pub trait Records {
         requires shape { IsNewShape shape.now }
         requires pages { FitsPages meaning self.old shape.now }
         ensures adds { MakesTable meaning self.old self.new t name.now shape.now (refusal_in result) }
-        ensures leaves { Leaves meaning self.old self.new (refusal_in result) (Some t.0) (Some t.0) };
+        ensures leaves { Leaves meaning self.old self.new (refusal_in result) (Some t.0) (Some t.0) }
+        ensures crash { LeavesQuietly meaning self.old self.new }
+        ensures sessions { SessionsStay meaning self.old self.new None None };
 
     /// Sets a mark, to which one statement can be taken back.
     fn mark(&mut self, t: TxNo) -> Result<(), Refusal>
         ensures adds { Adds meaning self.old self.new (Event.Mark t) (fine_or result) }
-        ensures leaves { Leaves meaning self.old self.new (refusal_in result) None None };
+        ensures leaves { Leaves meaning self.old self.new (refusal_in result) None None }
+        ensures crash { LeavesQuietly meaning self.old self.new }
+        ensures sessions { SessionsStay meaning self.old self.new None None };
 
     /// Takes back all since the last mark, which ends; where there is none, nothing.
     ///
@@ -119,12 +137,16 @@ pub trait Records {
     /// rolled back.
     fn undo_mark(&mut self, t: TxNo) -> Result<(), Refusal>
         ensures undoes { Undoes meaning self.old self.new t result }
-        ensures leaves { Leaves meaning self.old self.new (refusal_in result) (Some t.0) (Some t.0) };
+        ensures leaves { Leaves meaning self.old self.new (refusal_in result) (Some t.0) (Some t.0) }
+        ensures crash { LeavesQuietly meaning self.old self.new }
+        ensures sessions { SessionsStay meaning self.old self.new None (given_up_in t.0 result) };
 
     /// Sets a savepoint.
     fn savepoint(&mut self, t: TxNo, name: &Name) -> Result<(), Refusal>
         ensures adds { Adds meaning self.old self.new (Event.Savepoint t name.now) (fine_or result) }
-        ensures leaves { Leaves meaning self.old self.new (refusal_in result) None None };
+        ensures leaves { Leaves meaning self.old self.new (refusal_in result) None None }
+        ensures crash { LeavesQuietly meaning self.old self.new }
+        ensures sessions { SessionsStay meaning self.old self.new None None };
 
     /// Takes back all since the last savepoint of a name, which stays; later ones go. It answers
     /// false exactly where there is no such savepoint, and then nothing has changed.
@@ -134,13 +156,17 @@ pub trait Records {
     /// As `undo_mark`.
     fn back_to(&mut self, t: TxNo, name: &Name) -> Result<bool, Refusal>
         ensures goes { GoesBack meaning self.old self.new t name.now result }
-        ensures leaves { Leaves meaning self.old self.new (refusal_in result) (Some t.0) (Some t.0) };
+        ensures leaves { Leaves meaning self.old self.new (refusal_in result) (Some t.0) (Some t.0) }
+        ensures crash { LeavesQuietly meaning self.old self.new }
+        ensures sessions { SessionsStay meaning self.old self.new None (given_up_in t.0 result) };
 
     /// Asks for a commit: what the transaction's commit has to write first is noted.
     fn commit_ask(&mut self, t: TxNo) -> Result<(), Refusal>
         ensures answers { AnswersAll meaning self.old t.0 result }
         ensures asks { Asks meaning self.new t.0 result }
-        ensures reads { Reads meaning self.old self.new (refusal_in result) (Some t.0) };
+        ensures reads { Reads meaning self.old self.new (refusal_in result) (Some t.0) }
+        ensures crash { LeavesQuietly meaning self.old self.new }
+        ensures sessions { SessionsStay meaning self.old self.new None None };
 
     /// Writes one page for a commit that was asked for. It answers true exactly where all that was
     /// noted is written.
@@ -148,20 +174,30 @@ pub trait Records {
         requires asked { IsSome (meaning.unwritten self.old t.0) }
         ensures answers { AnswersAll meaning self.old t.0 result }
         ensures one { WritesOne meaning self.old self.new t.0 result }
-        ensures reads { Reads meaning self.old self.new (refusal_in result) None };
+        ensures reads { Reads meaning self.old self.new (refusal_in result) None }
+        ensures crash { LeavesQuietly meaning self.old self.new }
+        ensures sessions { SessionsStay meaning self.old self.new None None };
 
     /// Commits a transaction, once all that was noted is written.
     fn commit_end(&mut self, t: TxNo) -> Result<(), Refusal>
         requires written { meaning.unwritten self.old t.0 ≡ Some 0 }
         ensures adds { Adds meaning self.old self.new (Event.Commit t) (fine_or result) }
-        ensures leaves { Leaves meaning self.old self.new (refusal_in result) (Some t.0) (Some t.0) };
+        ensures leaves { Leaves meaning self.old self.new (refusal_in result) (Some t.0) (Some t.0) }
+        ensures crash { LeavesWith meaning self.old self.new (Event.Commit t) (fine_or result) }
+        ensures sessions { SessionsStay meaning self.old self.new None (ended_in t.0 result) };
 
     /// Rolls a transaction back.
     fn rollback(&mut self, t: TxNo) -> Result<(), Refusal>
         ensures adds { Adds meaning self.old self.new (Event.Rollback t) (fine_or result) }
-        ensures leaves { Leaves meaning self.old self.new (refusal_in result) (Some t.0) (Some t.0) };
+        ensures leaves { Leaves meaning self.old self.new (refusal_in result) (Some t.0) (Some t.0) }
+        ensures crash { LeavesQuietly meaning self.old self.new }
+        ensures sessions { SessionsStay meaning self.old self.new None (ended_in t.0 result) };
 
     ghost seen: { TablesAreSeen meaning };
 
     ghost whole: { WalksAreWhole meaning };
+
+    ghost crashes: { CrashesHold meaning };
+
+    ghost lasts: { HoldsOn meaning };
 }
