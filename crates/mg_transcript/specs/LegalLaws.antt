@@ -71,14 +71,14 @@ undone_legal {o = o} {h = h} {t = t} (given_up later lawful) legal =
 writes_legal : {o : Opening} {h after : Entries} {t : TxNo} {event : Event} {more : List Event}
     {outcome : Outcome} {comes : Comes}
     → Writes o h t event more outcome after comes → IsLegal o h → IsLegal o after
-writes_legal (done lawful) legal = (lawful, legal)
-writes_legal (waits on lawful) legal = (lawful, legal)
-writes_legal (undone first answered after final lawful undoing) legal = undone_legal undoing (lawful, legal)
+writes_legal (done its lawful) legal = (lawful, legal)
+writes_legal (waits on its lawful) legal = (lawful, legal)
+writes_legal (undone first answered after its final lawful undoing) legal = undone_legal undoing (lawful, legal)
 
 all_legal : {o : Opening} {t : TxNo} {outcome : Outcome} {h after : Entries} {news : List Event}
     {comes : Comes} → WritesAll o t outcome h news after comes → IsLegal o h → IsLegal o after
 all_legal none_left legal = legal
-all_legal (one_more lawful more) legal = all_legal more (lawful, legal)
+all_legal (one_more its lawful more) legal = all_legal more (lawful, legal)
 all_legal (parks write) legal = writes_legal write legal
 all_legal (fails write) legal = writes_legal write legal
 
@@ -198,6 +198,7 @@ own_legal each (short.begins_one t after reply none lawful does) legal =
 does_legal : {o : Opening} {h after : Entries} {size : ℕ} {pending then_ : List Unfinished}
     {kind : LineKind} {reply : Reply}
     → line.Does o h size pending kind reply after then_ → IsLegal o h → IsLegal o after
+does_legal (line.wants_memory kind) legal = legal
 does_legal line.silent legal = legal
 does_legal line.bad legal = legal
 does_legal (line.declines session text fault why) legal = legal

@@ -8,3 +8,5 @@ pub mod Lines
 pub mod Scripts
 pub mod Transcript
 pub mod LegalLaws
+pub mod Growing
+pub mod OwnEventLaws

@@ -81,6 +81,9 @@ tends_pages kind = false
 -- then that go on later.
 pub data Does (o : Opening) (h : Entries) (size : ℕ) (pending : List Unfinished)
     : LineKind → Reply → Entries → List Unfinished → Type 0 where
+  -- memory is short before anything is done
+  wants_memory : (kind : LineKind)
+      → Does o h size pending kind (replies.No (Engine refusals.Memory)) h pending
   silent : Does o h size pending kinds.Silent (replies.Ok outcomes.Fine) h pending
   bad : Does o h size pending kinds.Bad replies.Bad h pending
   -- `A: sql`

@@ -18,7 +18,7 @@ use Rattle.mg_model.specs.declared.opening.Opening.{Opening}
 use Rattle.mg_model.specs.declared.refusal.Refusal.{Refusal}
 use Rattle.mg_model.specs.declared.refusal.Refusal.TheVariants as refusals
 use Rattle.mg_model.specs.Changes.{KeyedRows, Cells}
-use Rattle.mg_model.specs.History.{Entries, entry}
+use Rattle.mg_model.specs.History.{Entries, entry, transaction_of}
 use Rattle.mg_model.specs.Legal.{IsLawful, is_outer}
 use Rattle.mg_model.specs.Machine.{steps, has_point}
 use Rattle.mg_records.specs.Reading.{shape_seen}
@@ -69,16 +69,18 @@ pub data IsUndone (o : Opening) (h : Entries) (t : TxNo) (first : Refusal) : Ent
     given_up : (later : Refusal) → IsLawful o h (entry (events.UndoMark t) (answers.No later))
         → IsUndone o h t first (after_refusal o h t (events.UndoMark t) later) later
 
--- The next event of a statement comes: it takes effect; it waits, and is tried again later; or it is
+-- The next event of a statement of t comes: it takes effect; it waits, and is tried again later; or it is
 -- refused, and all since the statement's mark is taken back.
 pub data Writes (o : Opening) (h : Entries) (t : TxNo) (event : Event) (more : List Event)
     (outcome : Outcome) : Entries → Comes → Type 0 where
-  done : IsLawful o h (entry event answers.Fine)
+  done : transaction_of event ≡ Some t.0 → IsLawful o h (entry event answers.Fine)
       → Writes o h t event more outcome (entry event answers.Fine ∷ h) (with_left more outcome)
-  waits : (on : TxNo) → IsLawful o h (entry event (answers.No (refusals.Waits on)))
+  waits : (on : TxNo) → transaction_of event ≡ Some t.0
+      → IsLawful o h (entry event (answers.No (refusals.Waits on)))
       → Writes o h t event more outcome (entry event (answers.No (refusals.Waits on)) ∷ h)
       (Parks on (Writing (event ∷ more) outcome))
-  undone : (first answered : Refusal) (after : Entries) → is_final first ≡ true
+  undone : (first answered : Refusal) (after : Entries) → transaction_of event ≡ Some t.0
+      → is_final first ≡ true
       → IsLawful o h (entry event (answers.No first))
       → IsUndone o (entry event (answers.No first) ∷ h) t first after answered
       → Writes o h t event more outcome after (refused answered)
@@ -89,7 +91,7 @@ pub data WritesAll (o : Opening) (t : TxNo) (outcome : Outcome) : Entries → Li
   none_left : {h : Entries}
       → WritesAll o t outcome h [] h (Ends (replies.Ok outcome))
   one_more : {h after : Entries} {event : Event} {more : List Event} {comes : Comes}
-      → IsLawful o h (entry event answers.Fine)
+      → transaction_of event ≡ Some t.0 → IsLawful o h (entry event answers.Fine)
       → WritesAll o t outcome (entry event answers.Fine ∷ h) more after comes
       → WritesAll o t outcome h (event ∷ more) after comes
   parks : {h after : Entries} {event : Event} {more : List Event} {on : TxNo} {course : Course}
