@@ -8,8 +8,8 @@ use Rattle.mg_model.specs.declared.table.Table.{Table}
 use Rattle.mg_model.specs.Changes.{KeyedRows}
 use Rattle.mg_model.specs.Machine.{is_of}
 use Rattle.mg_records.specs.Meaning.{Means}
-use Rattle.mg_records.specs.Keeping.{Causes, Elapses, Keeps, Leaves, Lessens, Reads, down_after}
-use Rattle.mg_calls.specs.Frames.{Blames, Passes, Frames}
+use Rattle.mg_records.specs.Keeping.{Causes, CommitsStay, Elapses, Keeps, Leaves, Reads, TablesStay, WalksStay, down_after}
+use Rattle.mg_calls.specs.Frames.{Blames, Frames}
 
 -- ---- one call
 
@@ -30,16 +30,9 @@ fallen m old new None cause down = inl down
 fallen m old new (Some (DiskWrite count)) cause down = inr cause
 fallen m old new (Some refusal) cause down = inl down
 
-passed : {R P : Type 0} (m : Means R P) (old new : R) → Elapses m old new → Passes m old new
-passed m old new e = record { later = e.later; keeps = e.keeps }
-
 framed : {R P : Type 0} (m : Means R P) (old new : R) (t : ℕ) (refusal : Option Refusal)
-    → Keeps m old new refusal
-    → ((u : ℕ) (name : List ℕ) → is_of u (Some t) ≡ false → m.table new u name ≡ m.table old u name)
-    → ((u : ℕ) (table : Table) (after : Option P) (rows : KeyedRows) → is_of u (Some t) ≡ false
-    → m.to_come old u table after rows → m.to_come new u table after rows)
-    → ((u : ℕ) → is_of u (Some t) ≡ false → Lessens (m.unwritten old u) (m.unwritten new u))
-    → Frames m old new t refusal
+    → Keeps m old new refusal → TablesStay m old new (Some t) → WalksStay m old new (Some t)
+    → CommitsStay m old new (Some t) → Frames m old new t refusal
 framed m old new t refusal keeps tables walks commits = record {
   faults = keeps.faults;
   damage = keeps.damage;
@@ -47,7 +40,7 @@ framed m old new t refusal keeps tables walks commits = record {
   cause = blamed m old new refusal keeps.cause;
   down = fallen m old new refusal keeps.cause keeps.down;
   tells = keeps.tells;
-  time = λ told. passed m old new (keeps.time told);
+  time = keeps.time;
   sizes = keeps.sizes;
   given = keeps.given;
   places = keeps.places;
@@ -56,44 +49,52 @@ framed m old new t refusal keeps tables walks commits = record {
   commits = commits;
 }
 
+-- what stays for each transaction stays for all but one
+tables_for : {R P : Type 0} (m : Means R P) (old new : R) (t : ℕ) → TablesStay m old new None
+    → TablesStay m old new (Some t)
+tables_for m old new t stay u name table other was = stay u name table refl was
+
+walks_for : {R P : Type 0} (m : Means R P) (old new : R) (t : ℕ) → WalksStay m old new None
+    → WalksStay m old new (Some t)
+walks_for m old new t stay u table after rows other come = stay u table after rows refl come
+
+commits_for : {R P : Type 0} (m : Means R P) (old new : R) (t : ℕ) → CommitsStay m old new None
+    → CommitsStay m old new (Some t)
+commits_for m old new t stay = record {
+  asked = λ u other was. stay.asked u refl was;
+  written = λ u other was. stay.written u refl was;
+}
+
 -- a call that adds no entry
 pub frames_reads : {R P : Type 0} (m : Means R P) (old new : R) (t : ℕ) (refusal : Option Refusal)
     → Reads m old new refusal (Some t) → Frames m old new t refusal
 frames_reads m old new t refusal reads =
-    framed m old new t refusal reads.keeps (λ u name other. reads.tables u name refl) reads.walks_stay
+    framed m old new t refusal reads.keeps (tables_for m old new t reads.tables) reads.walks_stay
     reads.commits
 
 pub frames_reads_nothing : {R P : Type 0} (m : Means R P) (old new : R) (t : ℕ)
     (refusal : Option Refusal) → Reads m old new refusal None → Frames m old new t refusal
 frames_reads_nothing m old new t refusal reads =
-    framed m old new t refusal reads.keeps (λ u name other. reads.tables u name refl)
-    (λ u table after rows other come. reads.walks_stay u table after rows refl come)
-    (λ u other. reads.commits u refl)
+    framed m old new t refusal reads.keeps (tables_for m old new t reads.tables)
+    (walks_for m old new t reads.walks_stay) (commits_for m old new t reads.commits)
 
 -- a call that gives events, after which nothing, walks, or tables too of the transaction may be other
 pub frames_leaves : {R P : Type 0} (m : Means R P) (old new : R) (t : ℕ) (refusal : Option Refusal)
-    → Leaves m old new refusal None None
-    → Frames m old new t refusal
+    → Leaves m old new refusal None None → Frames m old new t refusal
 frames_leaves m old new t refusal leaves =
-    framed m old new t refusal leaves.keeps (λ u name other. leaves.tables_stay u name refl)
-    (λ u table after rows other come. leaves.walks_stay u table after rows refl come)
-    (λ u other. leaves.commits u refl)
+    framed m old new t refusal leaves.keeps (tables_for m old new t leaves.tables_stay)
+    (walks_for m old new t leaves.walks_stay) (commits_for m old new t leaves.commits)
 
 pub frames_writes : {R P : Type 0} (m : Means R P) (old new : R) (t : ℕ) (refusal : Option Refusal)
-    → Leaves m old new refusal None (Some t)
-    → Frames m old new t refusal
+    → Leaves m old new refusal None (Some t) → Frames m old new t refusal
 frames_writes m old new t refusal leaves =
-    framed m old new t refusal leaves.keeps (λ u name other. leaves.tables_stay u name refl)
-    (λ u table after rows other come. leaves.walks_stay u table after rows other come)
-    leaves.commits
+    framed m old new t refusal leaves.keeps (tables_for m old new t leaves.tables_stay)
+    leaves.walks_stay leaves.commits
 
 pub frames_changes : {R P : Type 0} (m : Means R P) (old new : R) (t : ℕ) (refusal : Option Refusal)
-    → Leaves m old new refusal (Some t) (Some t)
-    → Frames m old new t refusal
+    → Leaves m old new refusal (Some t) (Some t) → Frames m old new t refusal
 frames_changes m old new t refusal leaves =
-    framed m old new t refusal leaves.keeps (λ u name other. leaves.tables_stay u name other)
-    (λ u table after rows other come. leaves.walks_stay u table after rows other come)
-    leaves.commits
+    framed m old new t refusal leaves.keeps leaves.tables_stay leaves.walks_stay leaves.commits
 
 -- ---- two calls
 
@@ -107,12 +108,6 @@ rose_before a b c (inr end) more = inr (at_most (2 ^ 64 - 1) b c end more)
 rose_behind : (a b c : ℕ) → a ≤ b → Rose b c → Rose a c
 rose_behind a b c less (inl more) = inl (omega (arith, less, more))
 rose_behind a b c less (inr end) = inr end
-
-lessens : (a b c : Option ℕ) → Lessens a b → Lessens b c → Lessens a c
-lessens None b c first second = tt
-lessens (Some n) None c first second = absurd first
-lessens (Some n) (Some k) None first second = absurd second
-lessens (Some n) (Some k) (Some i) first second = at_most i k n second first
 
 goes_down : (down mid new : Option ℕ) (a b c : ℕ) → a ≤ b → b ≤ c
     → (mid ≡ down) ⊎ Rose a b → (new ≡ mid) ⊎ Rose b c → (new ≡ down) ⊎ Rose a c
@@ -165,11 +160,12 @@ blames_last m old mid new (Some (Offline count)) other t first faults cause =
     was_down m old mid new count first.faults faults first.down cause
 blames_last m old mid new (Some refusal) other t first faults cause = tt
 
-passes_then : {R P : Type 0} (m : Means R P) (old mid new : R) → Passes m old mid → Passes m mid new
-    → Passes m old new
-passes_then m old mid new first second = record {
+pub elapses_then : {R P : Type 0} (m : Means R P) (old mid new : R) → Elapses m old mid
+    → Elapses m mid new → Elapses m old new
+elapses_then m old mid new first second = record {
   later = at_most (m.moment old) (m.moment mid) (m.moment new) first.later second.later;
-  keeps = λ t c within was. second.keeps t c (at_most t (m.moment old) (m.moment mid) within first.later) (first.keeps t c within was);
+  keeps = λ t c within was. second.keeps t c
+      (at_most t (m.moment old) (m.moment mid) within first.later) (first.keeps t c within was);
 }
 
 -- two in a row, where this is the cause of what is answered
@@ -184,15 +180,18 @@ joined m old mid new t a b refusal first second cause = record {
   down = goes_down (m.down old) (m.down mid) (m.down new) (m.faults old) (m.faults mid) (m.faults new)
       first.faults second.faults first.down second.down;
   tells = second.tells ∙ first.tells;
-  time = λ told. passes_then m old mid new (first.time told) (second.time (first.tells ∙ told));
+  time = λ told. elapses_then m old mid new (first.time told) (second.time (first.tells ∙ told));
   sizes = λ size. second.sizes size ∙ first.sizes size;
   given = λ table was. second.given table (first.given table was);
   places = λ table place was. second.places table place (first.places table place was);
-  tables = λ u name other. second.tables u name other ∙ first.tables u name other;
+  tables = λ u name table other was. second.tables u name table other
+      (first.tables u name table other was);
   walks = λ u table after rows other come.
       second.walks u table after rows other (first.walks u table after rows other come);
-  commits = λ u other. lessens (m.unwritten old u) (m.unwritten mid u) (m.unwritten new u)
-      (first.commits u other) (second.commits u other);
+  commits = record {
+    asked = λ u other was. second.commits.asked u other (first.commits.asked u other was);
+    written = λ u other was. second.commits.written u other (first.commits.written u other was);
+  };
 }
 
 -- the second of two calls says what is answered

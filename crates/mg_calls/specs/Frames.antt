@@ -9,7 +9,7 @@ use Rattle.mg_model.specs.declared.table.Table.{Table}
 use Rattle.mg_model.specs.Changes.{KeyedRows}
 use Rattle.mg_model.specs.Machine.{is_of}
 use Rattle.mg_records.specs.Meaning.{Means}
-use Rattle.mg_records.specs.Keeping.{Lessens}
+use Rattle.mg_records.specs.Keeping.{CommitsStay, Elapses, TablesStay, WalksStay}
 
 -- The cause of a refusal that is answered after some calls: a fault of the disk, damage or want of
 -- pages since then; or a page write had failed before, or did since then.
@@ -22,11 +22,6 @@ Blames m old new (Some (Offline count)) =
     (m.down old ≡ Some count) ⊎ Rose (m.faults old) (m.faults new)
 Blames m old new refusal = Unit {0}
 
--- time goes on: what a crash might have left before it might still have left
-pub record Passes {R P : Type 0} (m : Means R P) (old new : R) : Type 0 where
-  pub later : m.moment old ≤ m.moment new
-  pub keeps : (t : ℕ) (c : Image) → t ≤ m.moment old → m.left old t c → m.left new t c
-
 -- What calls for a transaction keep, and why the refusal that they answer came.
 pub record Frames {R P : Type 0} (m : Means R P) (old new : R) (t : ℕ) (refusal : Option Refusal)
     : Type 0 where
@@ -36,13 +31,11 @@ pub record Frames {R P : Type 0} (m : Means R P) (old new : R) (t : ℕ) (refusa
   pub cause : Blames m old new refusal
   pub down : (m.down new ≡ m.down old) ⊎ Rose (m.faults old) (m.faults new)
   pub tells : m.tells new ≡ m.tells old
-  pub time : m.tells old ≡ true → Passes m old new
+  pub time : m.tells old ≡ true → Elapses m old new
   pub sizes : (size : ℕ) → m.is_size new size ≡ m.is_size old size
   pub given : (table : Table) → m.was_given old table → m.was_given new table
   pub places : (table : Table) (place : P) → m.is_place old table place → m.is_place new table place
   -- the tables that other transactions see stay, their walks go on, and their commits
-  pub tables : (u : ℕ) (name : List ℕ) → is_of u (Some t) ≡ false
-      → m.table new u name ≡ m.table old u name
-  pub walks : (u : ℕ) (table : Table) (after : Option P) (rows : KeyedRows)
-      → is_of u (Some t) ≡ false → m.to_come old u table after rows → m.to_come new u table after rows
-  pub commits : (u : ℕ) → is_of u (Some t) ≡ false → Lessens (m.unwritten old u) (m.unwritten new u)
+  pub tables : TablesStay m old new (Some t)
+  pub walks : WalksStay m old new (Some t)
+  pub commits : CommitsStay m old new (Some t)

@@ -1,8 +1,10 @@
 pub mod Frames
+pub mod Quiet
 pub mod Undoing
 pub mod Writes
 pub mod Steps
 pub mod Walks
 pub mod FrameLaws
+pub mod QuietLaws
 pub mod FindLaws
 pub mod WalkLaws

@@ -15,7 +15,7 @@ use Rattle.mg_calls.specs.declared.steps.Writes.{Writes}
 use Rattle.mg_calls.specs.declared.steps.Wrote.{Wrote}
 use Rattle.mg_calls.specs.declared.steps.Wrote.TheVariants as wrote
 use Rattle.mg_calls.specs.Frames.{Frames}
-use Rattle.mg_calls.specs.Writes.{Comes, ComesToNothing}
+use Rattle.mg_calls.specs.Writes.{Comes, ComesToAnEnd, ComesToNothing}
 
 -- the transaction sees the table, and each write fits its shape
 pub record AreReady {R P : Type 0} (m : Means R P) (r : R) (t : ℕ) (w : Writes) : Type 0 where
@@ -28,6 +28,7 @@ AreReadyIf m r t w wrote.More = AreReady m r t w
 AreReadyIf m r t w wrote.Done = Unit {0}
 AreReadyIf m r t w (wrote.Waits on) = AreReady m r t w
 AreReadyIf m r t w (wrote.Refused refusal) = Unit {0}
+AreReadyIf m r t w (wrote.RolledBack refusal) = Unit {0}
 
 -- the refusal that is answered
 abbrev pub refusal_wrote : Wrote → Option Refusal
@@ -35,9 +36,18 @@ refusal_wrote wrote.More = None
 refusal_wrote wrote.Done = None
 refusal_wrote (wrote.Waits on) = Some (Waits on)
 refusal_wrote (wrote.Refused refusal) = Some refusal
+refusal_wrote (wrote.RolledBack refusal) = Some refusal
+
+-- the transaction that has ended
+abbrev pub ended_at : ℕ → Wrote → Option ℕ
+ended_at t wrote.More = None
+ended_at t wrote.Done = None
+ended_at t (wrote.Waits on) = None
+ended_at t (wrote.Refused refusal) = None
+ended_at t (wrote.RolledBack refusal) = Some t
 
 -- The first of some writes is made: it is the only one, or more are left. Where it waits it is still
--- the first; where it is refused the statement is undone.
+-- the first; where it is refused the statement is undone, or the transaction rolled back.
 abbrev pub WritesFirst : {R P : Type 0} → Means R P → R → Opening → Entries → TxNo → List ℕ → Write
     → List Write → List Write → Wrote → Type 0
 WritesFirst m new o h t table first rest left wrote.More =
@@ -48,6 +58,8 @@ WritesFirst m new o h t table first rest left (wrote.Waits on) =
     Comes m new o h (event_of t table first) (No (Waits on)) × (left ≡ first ∷ rest)
 WritesFirst m new o h t table first rest left (wrote.Refused answer) =
     ComesToNothing m new o h t (event_of t table first) answer
+WritesFirst m new o h t table first rest left (wrote.RolledBack answer) =
+    ComesToAnEnd m new o h t (event_of t table first) answer
 
 -- the next of some writes is made; where there is none, nothing is done
 abbrev pub WritesNext : {R P : Type 0} → Means R P → R → Opening → Entries → TxNo → List ℕ

@@ -51,7 +51,6 @@ WalksStayReady {R = R} {P = P} m = (old new : R) (t u : ℕ) (refusal : Option R
 
 pub walks_stay_ready : {R P : Type 0} (m : Means R P) → WalksStayReady m
 walks_stay_ready m old new t u refusal walk frames apart way = record {
-  table = subst (λ (table : Option Table). table ≡ Some walk.table)
-      (sym (frames.tables t walk.table.name apart)) way.table;
+  table = frames.tables t walk.table.name walk.table apart way.table;
   place = placed m old new walk walk.place (frames.places walk.table) way.place;
 }

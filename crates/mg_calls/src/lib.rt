@@ -6,9 +6,10 @@
 //!
 //! The definitions stand in `specs/`: `Frames` (what calls for one transaction leave of all others and
 //! of the keeper as a whole, however many they are, with the cause of the refusal that is answered),
+//! `Quiet` (that no crash loses or adds anything by such calls, and whose session is free after them),
 //! `Undoing` (the undoing of a refused statement), `Writes` (a write, with what becomes of the
-//! statement where it is refused), `Steps` (the writes of a statement) and `Walks`. `FrameLaws` has
-//! what makes one of several calls, `FindLaws` and `WalkLaws` what a walk comes to.
+//! statement where it is refused), `Steps` (the writes of a statement) and `Walks`. `FrameLaws` and
+//! `QuietLaws` have what makes one of several calls, `FindLaws` and `WalkLaws` what a walk comes to.
 //!
 //! Below: `mg_records`. Above: the statements' steps.
 //! Not here: what is written, and what a statement is.

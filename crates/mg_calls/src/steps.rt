@@ -3,7 +3,8 @@
 ghost use Rattle.std.specs.Prelude.{◌≡◌};
 ghost use Rattle.mg_model.specs.declared.opening.Opening.{Opening};
 ghost use Rattle.mg_model.specs.History.{Entries};
-ghost use Rattle.mg_calls.specs.Steps.{AreReady, WritesNext, MarksAndWrites, StepsOn};
+ghost use Rattle.mg_calls.specs.Steps.{AreReady, WritesNext, MarksAndWrites, StepsOn, ended_at};
+ghost use Rattle.mg_calls.specs.Quiet.{AreQuiet};
 
 use crate::writing::{Written, write_or_undo};
 use mg_base::TxNo;
@@ -27,9 +28,11 @@ pub enum Wrote {
     Done,
     /// The next write waits for this transaction, and can be tried again.
     Waits(TxNo),
-    /// It was refused, and the statement undone. The refusal is that of the undoing, where this was
-    /// refused too.
+    /// It was refused, and the statement undone. Where the undoing was refused too, the refusal is
+    /// its own, and nothing was undone.
     Refused(Refusal),
+    /// It was refused, and so was the undoing, with this refusal: the transaction is rolled back.
+    RolledBack(Refusal),
 }
 
 /// Makes the next write of a statement that has set its mark.
@@ -38,6 +41,7 @@ pub fn write_next<R: Records>(r: &mut R, t: TxNo, w: &mut Writes) -> Wrote
     ensures writes { (o : Opening) (h : Entries) → R.meaning.stands r.old o h
         → WritesNext R.meaning r.new o h t w.old.table.name w.old.left.items w.new.left.items result }
     ensures steps { StepsOn R.meaning r.old r.new t.0 w.old w.new result }
+    ensures quiet { AreQuiet R.meaning r.old r.new (ended_at t.0 result) }
 {
     let Some(first) = w.left.front() else {
         return Wrote::Done;
@@ -46,6 +50,7 @@ pub fn write_next<R: Records>(r: &mut R, t: TxNo, w: &mut Writes) -> Wrote
         Written::Done => {}
         Written::Waits(on) => return Wrote::Waits(on),
         Written::Refused(refusal) => return Wrote::Refused(refusal),
+        Written::RolledBack(refusal) => return Wrote::RolledBack(refusal),
     }
     w.left.pop_front();
     if w.left.is_empty() {
@@ -62,6 +67,7 @@ pub fn mark_and_write<R: Records>(r: &mut R, t: TxNo, w: &mut Writes) -> Wrote
     ensures writes { (o : Opening) (h : Entries) → R.meaning.stands r.old o h
         → MarksAndWrites R.meaning r.new o h t w.old.table.name w.old.left.items w.new.left.items result }
     ensures steps { StepsOn R.meaning r.old r.new t.0 w.old w.new result }
+    ensures quiet { AreQuiet R.meaning r.old r.new (ended_at t.0 result) }
 {
     match r.mark(t) {
         Ok(()) => write_next(r, t, w),

@@ -4,11 +4,12 @@ ghost use Rattle.std.specs.Prelude.{◌≡◌, Some};
 ghost use Rattle.mg_model.specs.declared.opening.Opening.{Opening};
 ghost use Rattle.mg_model.specs.History.{Entries};
 ghost use Rattle.mg_records.specs.Writing.{FitsShape, event_of};
-ghost use Rattle.mg_calls.specs.Writes.{WritesOne, IsWritten};
+ghost use Rattle.mg_calls.specs.Writes.{WritesOne, IsWritten, ended_by, refused_twice};
+ghost use Rattle.mg_calls.specs.Quiet.{AreQuiet};
 
 use mg_base::TxNo;
 use mg_model::{Refusal, Table};
-use mg_records::{Records, Write};
+use mg_records::{Records, Write, gives_up};
 
 /// What became of a write.
 #[derive(Clone, Copy, Debug, PartialEq, Eq)]
@@ -17,19 +18,23 @@ pub enum Written {
     Done,
     /// It waits for this transaction, and can be tried again.
     Waits(TxNo),
-    /// It was refused and its statement undone, all since its mark. The refusal is that of the
-    /// undoing, where this was refused too.
+    /// It was refused and its statement undone, all since its mark. Where the undoing was refused
+    /// too, the refusal is its own, and nothing was undone.
     Refused(Refusal),
+    /// It was refused, and so was the undoing of its statement, with this refusal: the transaction is
+    /// rolled back.
+    RolledBack(Refusal),
 }
 
 /// Writes a row for a statement that has set its mark. Where the write is refused, and doesn't wait,
-/// the statement is undone.
+/// the statement is undone, or the transaction rolled back.
 pub fn write_or_undo<R: Records>(r: &mut R, t: TxNo, table: &Table, write: &Write) -> Written
     requires table { R.meaning.table r.old t.0 table.now.name ≡ Some table.now }
     requires fits { FitsShape table.now.shape write.now }
     ensures writes { (o : Opening) (h : Entries) → R.meaning.stands r.old o h
         → WritesOne R.meaning r.new o h t (event_of t table.now.name write.now) result }
     ensures leaves { IsWritten R.meaning r.old r.new t.0 result }
+    ensures quiet { AreQuiet R.meaning r.old r.new (ended_by t.0 result) }
 {
     let refusal = match r.write_step(t, table, write) {
         Ok(()) => return Written::Done,
@@ -38,6 +43,17 @@ pub fn write_or_undo<R: Records>(r: &mut R, t: TxNo, table: &Table, write: &Writ
     };
     match r.undo_mark(t) {
         Ok(()) => Written::Refused(refusal),
-        Err(later) => Written::Refused(later),
+        Err(later) => not_undone(later),
+    }
+}
+
+/// What became of a write that was refused, and whose undoing was refused so.
+fn not_undone(later: Refusal) -> Written
+    ensures { result ≡ refused_twice later }
+{
+    if gives_up(later) {
+        Written::RolledBack(later)
+    } else {
+        Written::Refused(later)
     }
 }

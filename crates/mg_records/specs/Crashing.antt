@@ -17,18 +17,23 @@ CrashesHold {R = R} m = (r : R) (o : Opening) (h : Entries) → m.stands r o h �
 
 -- ---- what a call leaves
 
--- each image that a crash since the start of a call might have left holds the history from before it,
--- with all durable events that it had then
+-- Each image that a crash since the start of a call might have left has a property. One that a crash
+-- since an earlier moment might have left might have been left before the call, or has it too.
+pub record LeavesOnly {R P : Type 0} (m : Means R P) (old new : R) (Q : Image → Type 0) : Type 0 where
+  pub each : (c : Image) → m.left new (m.moment old) c → Q c
+  pub before : (t : ℕ) (c : Image) → t ≤ m.moment old → m.left new t c → m.left old t c ⊎ Q c
+
+-- they hold the history from before the call, with all durable events that it had then
 abbrev pub LeavesQuietly : {R P : Type 0} → Means R P → R → R → Type 0
 LeavesQuietly m old new = (o : Opening) (h : Entries) → m.stands old o h → m.tells old ≡ true
-    → (c : Image) → m.left new (m.moment old) c → m.holds new o h (durable_count h) c
+    → LeavesOnly m old new (m.holds new o h (durable_count h))
 
--- it holds the history with an entry more, whose event was under way, with all durable events from
+-- they hold the history with an entry more, whose event was under way, with all durable events from
 -- before
 abbrev pub LeavesWith : {R P : Type 0} → Means R P → R → R → Event → Answer → Type 0
 LeavesWith m old new event answer = (o : Opening) (h : Entries) → m.stands old o h
-    → m.tells old ≡ true → (c : Image) → m.left new (m.moment old) c
-    → m.holds new o (entry event answer ∷ h) (durable_count h) c
+    → m.tells old ≡ true
+    → LeavesOnly m old new (m.holds new o (entry event answer ∷ h) (durable_count h))
 
 -- ---- what holds goes on
 

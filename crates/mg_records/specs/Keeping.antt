@@ -37,12 +37,9 @@ abbrev pub down_after : Option ℕ → Option Refusal → Option ℕ
 down_after before (Some (DiskWrite count)) = Some count
 down_after before refusal = before
 
--- time goes on: what a crash might have left before it might still have left, and nothing is added
--- but what a crash since then might have left
+-- time goes on: what a crash might have left before it might still have left
 pub record Elapses {R P : Type 0} (m : Means R P) (old new : R) : Type 0 where
   pub later : m.moment old ≤ m.moment new
-  pub nothing_else : (t : ℕ) (c : Image) → t ≤ m.moment old → m.left new t c
-      → m.left old t c ⊎ m.left new (m.moment old) c
   pub keeps : (t : ℕ) (c : Image) → t ≤ m.moment old → m.left old t c → m.left new t c
 
 -- What every call keeps, whatever it answers.
@@ -62,21 +59,22 @@ pub record Keeps {R P : Type 0} (m : Means R P) (old new : R) (refusal : Option 
   pub given : (table : Table) → m.was_given old table → m.was_given new table
   pub places : (table : Table) (place : P) → m.is_place old table place → m.is_place new table place
 
--- the tables that transactions see stay, but for those of one transaction, if one is named
+-- a table that was given to a transaction is given to it still, but for one transaction, if one is
+-- named
 abbrev pub TablesStay : {R P : Type 0} → Means R P → R → R → Option ℕ → Type 0
-TablesStay m old new who = (u : ℕ) (name : List ℕ) → is_of u who ≡ false
-    → m.table new u name ≡ m.table old u name
+TablesStay m old new who = (u : ℕ) (name : List ℕ) (table : Table) → is_of u who ≡ false
+    → m.table old u name ≡ Some table → m.table new u name ≡ Some table
 
 -- the walks of transactions go on as they would have, but for those of one, if one is named
 abbrev pub WalksStay : {R P : Type 0} → Means R P → R → R → Option ℕ → Type 0
 WalksStay {P = P} m old new who = (u : ℕ) (table : Table) (after : Option P) (rows : KeyedRows)
     → is_of u who ≡ false → m.to_come old u table after rows → m.to_come new u table after rows
 
--- of a commit that was asked for no more is unwritten than before
-abbrev pub Lessens : Option ℕ → Option ℕ → Type 0
-Lessens None now = Unit {0}
-Lessens (Some count) None = ⊥
-Lessens (Some count) (Some left) = left ≤ count
+-- commits that were asked for stay so, and what was written for them stays written, but for one
+-- transaction, if one is named
+pub record CommitsStay {R P : Type 0} (m : Means R P) (old new : R) (who : Option ℕ) : Type 0 where
+  pub asked : (u : ℕ) → is_of u who ≡ false → m.is_asked old u → m.is_asked new u
+  pub written : (u : ℕ) → is_of u who ≡ false → m.is_written old u → m.is_written new u
 
 -- A call that adds no entry: it stands for what it stood for, and tables stay. The walks of one
 -- transaction may have gone on, or its commit been asked for.
@@ -86,7 +84,7 @@ pub record Reads {R P : Type 0} (m : Means R P) (old new : R) (refusal : Option 
   pub keeps : Keeps m old new refusal
   pub tables : TablesStay m old new None
   pub walks_stay : WalksStay m old new walks
-  pub commits : (u : ℕ) → is_of u walks ≡ false → Lessens (m.unwritten old u) (m.unwritten new u)
+  pub commits : CommitsStay m old new walks
 
 -- A call that gives events: the tables of one transaction may come to be others, and its walks.
 pub record Leaves {R P : Type 0} (m : Means R P) (old new : R) (refusal : Option Refusal)
@@ -94,4 +92,4 @@ pub record Leaves {R P : Type 0} (m : Means R P) (old new : R) (refusal : Option
   pub keeps : Keeps m old new refusal
   pub tables_stay : TablesStay m old new tables
   pub walks_stay : WalksStay m old new walks
-  pub commits : (u : ℕ) → is_of u walks ≡ false → Lessens (m.unwritten old u) (m.unwritten new u)
+  pub commits : CommitsStay m old new walks

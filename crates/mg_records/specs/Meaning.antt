@@ -10,7 +10,7 @@ use Rattle.mg_model.specs.History.{Entries}
 pub record Means (R P : Type 0) : Type 1 where
   -- it stands for the history that begins so and has these entries; read from what it holds now
   pub stands : R → Opening → Entries → Type 0
-  -- the table of a name that a transaction sees which is active
+  -- the table of a name that was given to a transaction and that it still sees
   pub table : R → ℕ → List ℕ → Option Table
   -- no active transaction was begun by this session; this active transaction was begun by this session
   pub is_free : R → ℕ → Type 0
@@ -23,8 +23,11 @@ pub record Means (R P : Type 0) : Type 1 where
   pub to_come : R → ℕ → Table → Option P → KeyedRows → Type 0
   -- a number that falls with each visit, so that a walk ends
   pub still : R → ℕ → Table → Option P → ℕ
-  -- how many pages of a commit are unwritten, once it was asked for
-  pub unwritten : R → ℕ → Option ℕ
+  -- how many pages are changed and not written
+  pub unwritten : R → ℕ
+  -- a transaction's commit was asked for; all that was noted for it was written since
+  pub is_asked : R → ℕ → Type 0
+  pub is_written : R → ℕ → Type 0
   -- whether it tells what a crash may leave, and what a crash at that moment or a later one might
   -- have left
   pub tells : R → Bool

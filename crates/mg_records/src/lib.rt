@@ -3,7 +3,8 @@
 //!
 //! Owns: the trait `Records` and its meaning (`specs/Meaning`): a relation "it stands for this
 //! history", the tables and rows that transactions see, what a crash may leave, and counts of
-//! faults. `Write` is a change of a row, `Found` a record that a walk has come to.
+//! faults. `Write` is a change of a row, `Found` a record that a walk has come to; `gives_up` tells
+//! after which refusals of an undoing the transaction is rolled back.
 //!
 //! Each call takes a value that stands for a history, whatever that is, to one that stands for the
 //! same history with the call's entries (`specs/Adding`, `Writing`, `TakingBack`). Calls
@@ -20,9 +21,11 @@
 #![tactic(auto)]
 
 mod found;
+mod giving_up;
 mod records;
 mod write;
 
 pub use found::Found;
+pub use giving_up::gives_up;
 pub use records::Records;
 pub use write::Write;

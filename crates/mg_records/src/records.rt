@@ -1,6 +1,6 @@
 //! The keeper of records.
 
-ghost use Rattle.std.specs.Prelude.{◌≡◌, ◌≢◌, ◌<◌, ◌≤◌, ℕ, Option, Some, None, IfOk, IsSome};
+ghost use Rattle.std.specs.Prelude.{◌≡◌, ◌≢◌, ◌<◌, ◌≤◌, ℕ, Option, Some, None, IfOk, OnOk};
 ghost use Rattle.std.specs.Option.{option_copied};
 ghost use Rattle.mg_model.specs.declared.event.Event.{Event};
 ghost use Rattle.mg_model.specs.Changes.{KeyedRows};
@@ -13,7 +13,7 @@ ghost use Rattle.mg_records.specs.Adding.{Adds, AnswersAll, fine_or, number_or, 
 ghost use Rattle.mg_records.specs.Reading.{TellsTable, IsTableGiven, TablesAreSeen, IsPlace, Nears, Visits, WalksAreWhole, FindAdds};
 ghost use Rattle.mg_records.specs.Writing.{FitsShape, FitsPages, IsNewShape, MakesTable, event_of};
 ghost use Rattle.mg_records.specs.TakingBack.{GoesBack, Undoes};
-ghost use Rattle.mg_records.specs.Committing.{Asks, WritesOne};
+ghost use Rattle.mg_records.specs.Committing.{PagesAreFew, WritesOne};
 
 use crate::{Found, Write};
 use mg_base::{Memory, TxNo};
@@ -163,15 +163,16 @@ pub trait Records {
     /// Asks for a commit: what the transaction's commit has to write first is noted.
     fn commit_ask(&mut self, t: TxNo) -> Result<(), Refusal>
         ensures answers { AnswersAll meaning self.old t.0 result }
-        ensures asks { Asks meaning self.new t.0 result }
+        ensures asks { OnOk result (meaning.is_asked self.new t.0) }
         ensures reads { Reads meaning self.old self.new (refusal_in result) (Some t.0) }
         ensures crash { LeavesQuietly meaning self.old self.new }
         ensures sessions { SessionsStay meaning self.old self.new None None };
 
-    /// Writes one page for a commit that was asked for. It answers true exactly where all that was
-    /// noted is written.
+    /// Writes one page for a commit that was asked for: one that was noted, or one that has to be
+    /// written before it. It answers true exactly where all that was noted is written, and then it
+    /// writes none.
     fn commit_step(&mut self, t: TxNo) -> Result<bool, Refusal>
-        requires asked { IsSome (meaning.unwritten self.old t.0) }
+        requires asked { meaning.is_asked self.old t.0 }
         ensures answers { AnswersAll meaning self.old t.0 result }
         ensures one { WritesOne meaning self.old self.new t.0 result }
         ensures reads { Reads meaning self.old self.new (refusal_in result) None }
@@ -180,7 +181,7 @@ pub trait Records {
 
     /// Commits a transaction, once all that was noted is written.
     fn commit_end(&mut self, t: TxNo) -> Result<(), Refusal>
-        requires written { meaning.unwritten self.old t.0 ≡ Some 0 }
+        requires written { meaning.is_written self.old t.0 }
         ensures adds { Adds meaning self.old self.new (Event.Commit t) (fine_or result) }
         ensures leaves { Leaves meaning self.old self.new (refusal_in result) (Some t.0) (Some t.0) }
         ensures crash { LeavesWith meaning self.old self.new (Event.Commit t) (fine_or result) }
@@ -196,6 +197,8 @@ pub trait Records {
     ghost seen: { TablesAreSeen meaning };
 
     ghost whole: { WalksAreWhole meaning };
+
+    ghost few: { PagesAreFew meaning };
 
     ghost crashes: { CrashesHold meaning };
 
