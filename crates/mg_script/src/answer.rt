@@ -34,6 +34,24 @@ pub fn answer_text(line: &Line, reply: &Reply, out: &mut Vec<u8>) -> Result<(), 
     result
 }
 
+/// Appends what a session is answered, each line with its end.
+///
+/// # Errors
+///
+/// `Memory` only. Then `out` is as before.
+pub fn session_text(session: Session, reply: &Reply, out: &mut Vec<u8>) -> Result<(), Memory>
+    requires { session.0 < SESSIONS }
+    ensures ok { OnOk result (out.new.items ≡ out.old.items ++ said session reply.now) }
+    ensures err { OnErr result (out.new.items ≡ out.old.items) }
+{
+    let begun = out.len();
+    let result = put_said(session, reply, out);
+    if result.is_err() {
+        out.truncate(begun);
+    }
+    result
+}
+
 // Appends what is printed of a line. Where memory runs out, a part of it may stand in `out`.
 fn put_answer(number: u32, kind: &LineKind, reply: &Reply, out: &mut Vec<u8>) -> Result<(), Memory>
     requires { HasLetter kind.now }

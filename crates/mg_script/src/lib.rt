@@ -25,7 +25,7 @@ mod reply;
 mod script;
 mod splitting;
 
-pub use answer::answer_text;
+pub use answer::{answer_text, session_text};
 pub use laws::lines_say_one_thing;
 pub use line::{Line, LineKind, MOST_STEPS, SESSIONS, Session};
 pub use reply::Reply;

@@ -1,0 +1,4 @@
+mod WorkLemmas
+mod StartLemmas
+mod SoFar
+mod SoFarLemmas

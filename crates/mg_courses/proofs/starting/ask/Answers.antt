@@ -1,0 +1,28 @@
+use Rattle.std.proofs.Common.{ap, refl, false}
+use Rattle.mg_model.specs.Answers.{is_active}
+use Rattle.mg_model.specs.Machine.{state_of}
+use Rattle.mg_transcript.specs.Courses.{Later, Committing}
+use Rattle.mg_transcript.specs.Steps.{asks, asks_not, refused}
+use Rattle.mg_courses.proofs.WorkLemmas.{still_active, refused_outside}
+use Rattle.mg_courses.proofs.starting.ask.Goals as goal
+
+pub returns-in-Ok-clause-starts : goal.returns-in-Ok-clause-starts
+returns-in-Ok-clause-starts g c = λ o h stands active size. record {
+  after = h;
+  comes = Later (Committing false);
+  does = asks;
+  stands = c.in-Ok.ensures.reads.stays o h stands;
+  told = refl;
+  active = ap is_active active;
+}
+
+pub returns-in-Err-clause-starts : goal.returns-in-Err-clause-starts
+returns-in-Err-clause-starts g c = λ o h stands active size. record {
+  after = h;
+  comes = refused c.in-Err.refusal;
+  does = asks_not c.in-Err.refusal
+      (refused_outside o h c.args.t.0 c.in-Err.refusal active (c.in-Err.ensures.answers o h stands));
+  stands = c.in-Err.ensures.reads.stays o h stands;
+  told = c.refused.ensures.reply;
+  active = still_active (state_of o h c.args.t.0) c.refused.result.over active c.refused.ensures.over;
+}

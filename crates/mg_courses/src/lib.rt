@@ -1,0 +1,25 @@
+//! The course of a statement of a session, over any keeper of records: its beginning, one step, so
+//! many steps, and all steps until it waits or is at its end.
+//!
+//! Owns: the trait `Statements`, a keeper on which statements run, with its meaning (`specs/Running`);
+//! `Work`, a statement that has begun, a COMMIT among them; `start`, `step`, `take`, `run`.
+//!
+//! What is done is said by `mg_transcript` (`Starts`, `Steps`, `Takes`, `Runs`): for each history that
+//! the keeper stood for, and each course at which the work stood. `specs/Working` says when it stands
+//! there, and when its next step may be made. What other transactions do beside it changes nothing of
+//! that (`Beside`).
+//!
+//! Invariant: none, it keeps no state.
+//! Below: `mg_calls`, `mg_transcript`. Above: sessions.
+//! Not here: which statement a session runs, and what is printed.
+#![tactic(auto)]
+
+mod starting;
+mod statements;
+mod stepping;
+mod work;
+
+pub use starting::{Started, start};
+pub use statements::{Ending, Statements, Stepped};
+pub use stepping::{run, take};
+pub use work::{Work, step};

@@ -1,0 +1,12 @@
+pub mod Courses
+pub mod Statements
+pub mod Selects
+pub mod Steps
+pub mod Sessions
+pub mod Shorthand
+pub mod Lines
+pub mod Scripts
+pub mod Transcript
+pub mod LegalLaws
+pub mod Growing
+pub mod OwnEventLaws
