@@ -33,7 +33,7 @@ use Rattle.mg_model.specs.Answers.{Told, is_active, if_active, answer_begin, ans
 use Rattle.mg_model.specs.Effects.{drawn}
 use Rattle.mg_catalog.specs.RowsSaid.{table_row}
 use Rattle.mg_records.specs.declared.found.Found.{Found}
-use Rattle.mg_records.specs.Keeping.{Causes, down_after, Keeps, Leaves, Reads, TablesStay, WalksStay, refusal_in}
+use Rattle.mg_records.specs.Keeping.{Causes, CommitsStay, down_after, Keeps, Leaves, Reads, TablesStay, WalksStay, refusal_in}
 use Rattle.mg_records.specs.Adding.{Adds, AnswersAll, IsRefused, fine_or, number_or, drawn_in}
 use Rattle.mg_records.specs.Reading.{FindAdds, Nears, TellsTable, Visits, shape_named, with_found}
 use Rattle.mg_records.specs.Writing.{InsertsEach, MakesTable, new_table, rows_made}
@@ -84,9 +84,13 @@ keeps_plain old new refusal inner = record {
 -- what transactions see stays, so their tables and walks do
 pub tables_plain : (old new : Plain) (who : Option ℕ) → ViewsStay (kept old) (kept new) who
     → TablesStay means old new who
-tables_plain old new who views = λ u name apart.
+tables_plain old new who views = λ u name table apart was.
     ap (λ (cs : List Change). with_shape name (shape_named (row_at cs catalog_name) name))
-    (views u apart)
+    (views u apart) ∙ was
+
+-- no commit has pages
+commits_plain : (old new : Plain) (who : Option ℕ) → CommitsStay means old new who
+commits_plain old new who = record { asked = λ u apart was. tt; written = λ u apart was. tt }
 
 pub walks_plain : (old new : Plain) (who : Option ℕ) → ViewsStay (kept old) (kept new) who
     → WalksStay means old new who
@@ -100,7 +104,7 @@ leaves_plain old new refusal who inner views = record {
   keeps = keeps_plain old new refusal inner;
   tables_stay = tables_plain old new who views;
   walks_stay = walks_plain old new who views;
-  commits = λ u apart. lit≤ tt;
+  commits = commits_plain old new who;
 }
 
 -- a call that changes nothing
@@ -109,9 +113,9 @@ pub reads_plain : (p : Plain) (refusal : Option Refusal) (walks : Option ℕ)
 reads_plain p refusal walks inner = record {
   stays = λ o h s. s;
   keeps = keeps_plain p p refusal inner;
-  tables = λ u name apart. refl;
+  tables = λ u name table apart was. was;
   walks_stay = λ u table after rows apart is. is;
-  commits = λ u apart. lit≤ tt;
+  commits = commits_plain p p walks;
 }
 
 -- ---- a short event
@@ -194,14 +198,15 @@ pub write_leaves : (old new : Plain) (e : Event) (result : Result (Unit {0}) Ref
     → Leaves means old new (refusal_in result) None (Some t)
 write_leaves old new e result t table is given done = record {
   keeps = keeps_plain old new (refusal_in result) done.inner;
-  tables_stay = λ u name apart.
+  tables_stay = λ u name seen apart was.
       ap (λ (rows : CatalogRows). with_shape name (shape_named rows name))
       (ap (λ (k : Keeping). row_at ((told_in k).view u) catalog_name) done.obeys.kept_is
       ∙ (ap (λ (cs : List Change). row_at cs catalog_name)
       (noted_view (kept_by (effect_with e (fine_or result)) (kept old)) (transaction_of e) (waits_by (fine_or result)) u)
-      ∙ catalog_stays (kept old) e (fine_or result) table.name u is (given_apart table.name (kept old) t table given)));
+      ∙ catalog_stays (kept old) e (fine_or result) table.name u is (given_apart table.name (kept old) t table given)))
+      ∙ was;
   walks_stay = walks_plain old new (Some t) done.views;
-  commits = λ u apart. lit≤ tt;
+  commits = commits_plain old new (Some t);
 }
 
 -- ---- beginnings

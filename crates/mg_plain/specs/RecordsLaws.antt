@@ -1,6 +1,6 @@
 -- What the plain machine tells as a keeper of records is what the history tells.
 use Rattle.std.specs.Prelude.{◌≡◌, ℕ, List, [], ◌++◌, Option, Some, None, IsPermutation}
-use Rattle.std.proofs.Common.{refl, sym, ap, subst, ◌∙◌}
+use Rattle.std.proofs.Common.{refl, sym, ap, subst, arith, ◌∙◌}
 use Rattle.std.proofs.lemmas.Bool.{false≢true}
 use Rattle.std.proofs.lemmas.List.Sorted.{IsPermutation-refl}
 use Rattle.mg_value.specs.declared.shape.Shape.{Shape}
@@ -12,6 +12,7 @@ use Rattle.mg_model.specs.Catalog.{catalog_name}
 use Rattle.mg_model.specs.History.{Entries}
 use Rattle.mg_model.specs.Machine.{changes_by, view}
 use Rattle.mg_model.specs.Answers.{told}
+use Rattle.mg_records.specs.Committing.{PagesAreFew}
 use Rattle.mg_records.specs.Crashing.{CrashesHold, HoldsOn}
 use Rattle.mg_records.specs.Reading.{TablesAreSeen, WalksAreWhole, shape_named}
 use Rattle.mg_plain.specs.Keeping.{Keeping, StandsFor, told_in}
@@ -66,3 +67,7 @@ holds_on = record {
   longer = λ p o h e least image s up is. is;
   least = λ p o h few many image le is. is;
 }
+
+-- it has no page that is not written
+pub pages_are_few : PagesAreFew means
+pages_are_few p = omega arith

@@ -10,7 +10,7 @@ ghost use Rattle.mg_model.specs.Catalog.{catalog_name};
 ghost use Rattle.mg_plain.specs.Obeying.{as_number as as_number_of};
 ghost use Rattle.mg_records.specs.Writing.{rows_made as rows_made_of};
 ghost use Rattle.mg_plain.specs.Records.{means, behind, rows_seen, FoundAt, InsertsAll};
-ghost use Rattle.mg_plain.specs.RecordsLaws.{crashes_hold, holds_on, tables_are_seen, walks_are_whole};
+ghost use Rattle.mg_plain.specs.RecordsLaws.{crashes_hold, holds_on, pages_are_few, tables_are_seen, walks_are_whole};
 ghost use Rattle.mg_plain.specs.Kept.{kept};
 
 use crate::Plain;
@@ -255,6 +255,8 @@ impl Records for Plain {
     ghost seen = { tables_are_seen };
 
     ghost whole = { walks_are_whole };
+
+    ghost few = { pages_are_few };
 
     ghost crashes = { crashes_hold };
 
