@@ -1,0 +1,9 @@
+pub mod Unmade
+pub mod OutSteps
+pub mod OwnBatch
+pub mod FirstFor
+pub mod PushFor
+pub mod MoveFor
+pub mod ReplaceFor
+pub mod BackFor
+pub mod GrowthFor
