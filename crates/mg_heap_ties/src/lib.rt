@@ -18,4 +18,4 @@
 
 mod laws;
 
-pub use laws::{given_pages_are, given_pages_keep};
+pub use laws::{given_pages_are, given_pages_are_for, given_pages_keep, given_pages_keep_for};

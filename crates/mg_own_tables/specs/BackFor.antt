@@ -22,7 +22,7 @@ use Rattle.mg_own_overlays.specs.BackPart.{OrdersTakeOut, TakesOutPages, take_ou
 use Rattle.mg_own_overlays.specs.OwnVersion.{FindsNewest}
 use Rattle.mg_own_tables.specs.OutSteps.{data_out}
 use Rattle.mg_own_tables.specs.OwnBatch.{writes_for}
-use Rattle.mg_own_tables.specs.Unmade.{HasNoData}
+use Rattle.mg_own_tables.specs.NotThere.{HasNoData}
 use Rattle.mg_value.specs.declared.value.Value.{Value}
 use Rattle.mg_version.specs.declared.cell.Link.{Link}
 use Rattle.mg_version.specs.declared.cell.Version.{Version}

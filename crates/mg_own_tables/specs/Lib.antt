@@ -1,4 +1,5 @@
-pub mod Unmade
+pub mod NotThere
+pub mod Whose
 pub mod OutSteps
 pub mod OwnBatch
 pub mod FirstFor

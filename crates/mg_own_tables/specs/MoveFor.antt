@@ -24,7 +24,7 @@ use Rattle.mg_own_overlays.specs.MovePart.{MovesPages, OrdersMove}
 use Rattle.mg_own_overlays.specs.OwnVersion.{FindsNewest, RewritesRow}
 use Rattle.mg_own_tables.specs.OutSteps.{data_out, grown_out}
 use Rattle.mg_own_tables.specs.OwnBatch.{writes_for}
-use Rattle.mg_own_tables.specs.Unmade.{HasNoneOf}
+use Rattle.mg_own_tables.specs.NotThere.{HasNoneOf}
 use Rattle.mg_version.specs.CellLaws.{cell_in}
 use Rattle.mg_version.specs.declared.cell.Link.{Link}
 use Rattle.mg_version.specs.declared.cell.Version.{Version}

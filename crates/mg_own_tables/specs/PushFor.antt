@@ -22,7 +22,7 @@ use Rattle.mg_model.specs.declared.table.Table.{Table}
 use Rattle.mg_overlays.specs.Overlays.{ChangesCache, EveryOverlay, KeepsNeeds, NeedsAllDirty, left_state}
 use Rattle.mg_own_tables.specs.OutSteps.{data_out, grown_out}
 use Rattle.mg_own_tables.specs.OwnBatch.{writes_for}
-use Rattle.mg_own_tables.specs.Unmade.{HasNoneOf}
+use Rattle.mg_own_tables.specs.NotThere.{HasNoneOf}
 use Rattle.mg_record_overlays.specs.OwnWrites.{WritesRow}
 use Rattle.mg_record_overlays.specs.PushPart.{OrdersPush, PushesPages}
 use Rattle.mg_version.specs.declared.cell.Link.{Link}

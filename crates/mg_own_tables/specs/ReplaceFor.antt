@@ -23,7 +23,7 @@ use Rattle.mg_own_overlays.specs.ReplaceEvery.{replace_whole}
 use Rattle.mg_own_overlays.specs.ReplacePart.{ReplacesPage, replace_part}
 use Rattle.mg_own_tables.specs.OutSteps.{data_out}
 use Rattle.mg_own_tables.specs.OwnBatch.{writes_for}
-use Rattle.mg_own_tables.specs.Unmade.{HasNoData}
+use Rattle.mg_own_tables.specs.NotThere.{HasNoData}
 use Rattle.mg_version.specs.declared.cell.Version.{Version}
 use Rattle.std.proofs.Common.{Bool, List, Option, [], ap, inl, refl, true, ℕ, ◌∙◌, ◌∷◌, ◌≡◌, ◌⊎◌}
 use Rattle.mg_model.specs.History.{Entry as Event}

@@ -2,7 +2,7 @@
 //! Each function does nothing: its contract is the law.
 //!
 //! Owns: whose table it is, said once (`OrUnmade`): under each choice of transactions the table stands in the
-//! layout, or its maker counts as dead and none of its pages is one of the layout's (`IsUnmade`). The laws on
+//! layout, or its maker counts as dead and none of its pages is one of the layout's (`IsNotThere`). The laws on
 //! writes are here under that condition: where the table stands they are those of the crates below; where it
 //! does not, only pages change that no table of the layout has (`OutSteps`). So one law serves the catalog,
 //! committed tables and those that the writer itself has made.

@@ -6,7 +6,7 @@ use Rattle.mg_image.specs.Form.{Pages}
 use Rattle.mg_image.specs.Tables.{Has, Layout, PointerChain, entries_in, stands_of, table_at}
 use Rattle.mg_image_steps.specs.Kinds.{pointers_of}
 use Rattle.mg_model.specs.declared.table.Table.{Table}
-use Rattle.std.proofs.Common.{List, None, ℕ, ◌≡◌, ◌⊎◌}
+use Rattle.std.proofs.Common.{List, None, ℕ, ◌≡◌}
 
 -- None of the pages of a table is one of a layout's tables: no page of its chain of pointer pages is one
 -- of their pointer pages, and none of the pages that these list is one of their data pages.
@@ -18,14 +18,10 @@ pub record IsOutOf (pages : Pages) (layout : Layout) (first : ℕ) : Type 0 wher
 
 -- Under one choice of transactions a table is not there: who has made it counts as dead, and none of its
 -- pages is the layout's.
-pub record IsUnmade (by : ℕ) (state : ℕ → TxState) (pages : Pages) (layout : Layout) (table : Table)
+pub record IsNotThere (by : ℕ) (state : ℕ → TxState) (pages : Pages) (layout : Layout) (table : Table)
     : Type 0 where
   pub dead : state by ≡ Dead
   pub out : IsOutOf pages layout table.pointer.0
-
--- a table is there under one choice of transactions, or its maker counts as dead and it is not
-abbrev pub OrUnmade : ℕ → (ℕ → TxState) → Pages → Layout → Table → Type 0 → Type 0
-OrUnmade by state pages layout table There = There ⊎ IsUnmade by state pages layout table
 
 -- none of these is a data page of a table of the layout
 abbrev pub HasNoData : Layout → List ℕ → Type 0

@@ -1,0 +1,4 @@
+pub mod Filling
+pub mod Within
+pub mod Filled
+pub mod CatalogRows
