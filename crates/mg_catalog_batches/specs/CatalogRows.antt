@@ -1,4 +1,38 @@
 -- All catalog rows of tables that a transaction makes, in one batch: every overlay is kept.
+use Rattle.mg_model.specs.History.{Entry as Event}
+use Rattle.mg_base.specs.Disk.{Meaning}
+use Rattle.mg_base.specs.Image.{Image}
+use Rattle.mg_base.specs.declared.transaction.TxState.{TxState}
+use Rattle.mg_base.specs.declared.transaction.TxState.TheVariants.{Active, Dead, Limbo}
+use Rattle.mg_careful.specs.CarefulWrite.{PageSet}
+use Rattle.mg_catalog_batches.specs.Filled.{IsFilled, MayFill, catalog_of, fills_to}
+use Rattle.mg_catalog_batches.specs.Filling.{Fills, NewRow, fills_as}
+use Rattle.mg_chain_ties.specs.FirstPages.{left_within}
+use Rattle.mg_chain_ties.specs.PushTies.{written}
+use Rattle.mg_chain_ties.specs.Rows.{ForEach}
+use Rattle.mg_grown_overlays.specs.Growing.{MayBeWritten}
+use Rattle.mg_heap_ties.specs.Batches.{within_self}
+use Rattle.mg_image.specs.Form.{Form, Pages}
+use Rattle.mg_image.specs.ReadingLaws.{RowsAreOne}
+use Rattle.mg_image.specs.Records.{key_of}
+use Rattle.mg_image.specs.Sound.{facts_by}
+use Rattle.mg_image_steps.specs.Kinds.{HasNoSequences}
+use Rattle.mg_kept_images.specs.CommitLaws.{LeavesOthers}
+use Rattle.mg_kept_images.specs.EndLaws.{longer_for}
+use Rattle.mg_kept_images.specs.KeptImages.{IsKept}
+use Rattle.mg_model.specs.History.{Entries}
+use Rattle.mg_model.specs.declared.opening.Opening.{Opening}
+use Rattle.mg_new_tables.specs.Making.{MakesNamed, make_every}
+use Rattle.mg_overlays.specs.Overlays.{LaysBatch, laid, left_state, without}
+use Rattle.mg_overlays.specs.Views.{first_view, last_view}
+use Rattle.mg_page_overlays.specs.Creating.{without_raises}
+use Rattle.mg_pool.specs.Batch.{Changed, content_in, lists}
+use Rattle.mg_pool.specs.Pool.{shown}
+use Rattle.mg_pool.specs.declared.pool.Pool.{Pool}
+use Rattle.mg_pool_overlays.specs.Needs.{Asked, Sessions}
+use Rattle.mg_space.specs.View.{viewed}
+use Rattle.mg_space_ties.specs.Changed.{BatchIsChanged, ChangesFresh, KeptIn, cache_over, changed_fresh, fresh, needs_all, needs_in}
+use Rattle.std.proofs.Common.{Bool, None, ap, false, refl, subst, sym, true, ℕ, ◌∙◌, ◌∷◌, ◌≡◌, ◌≢◌}
 
 -- What is known of each row: it is of the transaction, and may be written into the catalog.
 abbrev pub IsRowOf : Form → ℕ → ℕ → (ℕ → TxState) → Pages → NewRow → Type 0

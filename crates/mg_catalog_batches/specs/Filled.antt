@@ -1,5 +1,62 @@
 -- A batch that is filled with rows of the catalog, on an image in which their writer counts as dead: what an
 -- image has to be that has a set of the batch's pages is kept, step by step.
+use Rattle.mg_base.specs.Image.{Image}
+use Rattle.mg_base.specs.declared.numbers.RecId.{RecId}
+use Rattle.mg_base.specs.declared.transaction.TxState.{TxState}
+use Rattle.mg_base.specs.declared.transaction.TxState.TheVariants.{Dead}
+use Rattle.mg_careful.specs.CarefulWrite.{PageSet}
+use Rattle.mg_careful.specs.Precedence.{Orders}
+use Rattle.mg_careful.specs.declared.graph.Order.{Order}
+use Rattle.mg_catalog_batches.specs.Filling.{Fills, NewRow, TakesAndMakes, filled, makes, orders_more, takes}
+use Rattle.mg_catalog_batches.specs.Within.{fills_within, given_within, made_within}
+use Rattle.mg_chain.specs.Writing.{GivesSpot, MakesRecord, link_to}
+use Rattle.mg_chain_ties.specs.FirstPages.{MakesPages, left_within, made_pages}
+use Rattle.mg_chain_ties.specs.PushTies.{written}
+use Rattle.mg_chain_ties.specs.Rows.{off_header}
+use Rattle.mg_grown_overlays.specs.Growing.{EndsAt, IsTableOf, MayBeWritten}
+use Rattle.mg_grown_overlays.specs.GrowingLaws.{StandsTo, grows_part, grows_pool, table_of_end}
+use Rattle.mg_grown_overlays.specs.Knowing.{entered_of, lawful_there, pointers_keep}
+use Rattle.mg_header.specs.HeaderPage.{header_in}
+use Rattle.mg_heap.specs.Growth.{AddsOrders}
+use Rattle.mg_heap_ties.specs.Batches.{IsWithin, viewed_same}
+use Rattle.mg_heap_ties.specs.GivenTies.{given_entered}
+use Rattle.mg_heap_ties.specs.RoomTies.{GrowsSome, end_of, ends_there, room_grows}
+use Rattle.mg_image.specs.Catalog.{catalog_table}
+use Rattle.mg_image.specs.Form.{Coding, Form, Pages, Row}
+use Rattle.mg_image.specs.Inventory.{inventory_page}
+use Rattle.mg_image.specs.ReadingLaws.{RowsAreOne}
+use Rattle.mg_image.specs.RecordRules.{Facts}
+use Rattle.mg_image.specs.Records.{Reading, cells_of, key_of, slot_cell}
+use Rattle.mg_image.specs.Sound.{IsSoundBy, facts_by}
+use Rattle.mg_image.specs.Tables.{Layout, stands_of, table_at}
+use Rattle.mg_image.specs.declared.entry.Entry.{Entry}
+use Rattle.mg_image_steps.specs.Kinds.{HasNoSequences}
+use Rattle.mg_image_steps.specs.Trees.{data_leaves, trees_stay}
+use Rattle.mg_kept_images.specs.KeptImages.{IsKept}
+use Rattle.mg_model.specs.History.{Entries}
+use Rattle.mg_model.specs.declared.opening.Opening.{Opening}
+use Rattle.mg_model.specs.declared.table.Table.{Table}
+use Rattle.mg_one_layout.specs.OneLayout.{sound_once}
+use Rattle.mg_overlays.specs.Overlays.{LaysBatch}
+use Rattle.mg_overlays.specs.Views.{ordered_same, partly}
+use Rattle.mg_own_tables.specs.OutSteps.{everywhere}
+use Rattle.mg_pool.specs.Batch.{Changed}
+use Rattle.mg_pool.specs.Pool.{shown}
+use Rattle.mg_pool.specs.declared.pool.Pool.{Pool}
+use Rattle.mg_record_overlays.specs.AddPart.{FindsPlace, add_views}
+use Rattle.mg_slots.specs.DataPage.{cell_of}
+use Rattle.mg_slots.specs.RoomLaws.{least_free_is_free}
+use Rattle.mg_space.specs.Taking.{IsGeometry, region_of}
+use Rattle.mg_space.specs.View.{viewed}
+use Rattle.mg_space.specs.ViewLaws.{viewed_else, viewed_here}
+use Rattle.mg_space_ties.specs.Occupied.{taken_are_occupied}
+use Rattle.mg_taken_overlays.specs.PointerPage.{data_five}
+use Rattle.mg_taken_overlays.specs.TakePart.{OccupiesPage, take_views}
+use Rattle.mg_value.specs.declared.value.Value.{Value}
+use Rattle.mg_version.specs.declared.cell.TheConstants.{ANCHOR_LEN}
+use Rattle.mg_version.specs.declared.cell.Version.{Version}
+use Rattle.std.proofs.Common.{List, None, Option, Some, [], ap, inl, inr, length, refl, subst, sym, true, ℕ, ◌∙◌, ◌≡◌, ◌≢◌, ◌⊎◌}
+use Rattle.std.proofs.lemmas.Bool.{cases_eq}
 
 -- where a version may be written does not depend on the place of its cell
 may_anywhere : (coding : Coding) (f : Facts) (table : Table) (key : Value) (v : Version) (row : Row)

@@ -1,4 +1,16 @@
 -- What a statement fills into one batch: several records of one table, and pages that nothing names yet.
+use Rattle.mg_base.specs.Image.{Image}
+use Rattle.mg_base.specs.declared.numbers.RecId.{RecId}
+use Rattle.mg_careful.specs.declared.graph.Order.{Order}
+use Rattle.mg_chain.specs.Writing.{GivesSpot, MakesRecord}
+use Rattle.mg_heap.specs.Growth.{AddsOrders}
+use Rattle.mg_image.specs.Form.{Row}
+use Rattle.mg_pool.specs.Batch.{Changed, PutsPage}
+use Rattle.mg_pool.specs.declared.pool.Pool.{Pool}
+use Rattle.mg_space.specs.Taking.{PutsInventory, TakesPage}
+use Rattle.mg_space.specs.View.{viewed}
+use Rattle.mg_version.specs.declared.cell.Version.{Version}
+use Rattle.std.proofs.Common.{List, length, ℕ, ◌≡◌}
 
 -- A row that is written: where its record begins, its version, and the values that this codes.
 pub record NewRow : Type 0 where

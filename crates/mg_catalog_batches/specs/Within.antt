@@ -1,4 +1,24 @@
 -- What a batch has at one of its steps, it has in the end.
+use Rattle.mg_base.specs.Image.{Image}
+use Rattle.mg_base.specs.declared.numbers.PageNo.{PageNo}
+use Rattle.mg_base.specs.declared.numbers.RecId.{RecId}
+use Rattle.mg_careful.specs.Precedence.{Orders}
+use Rattle.mg_catalog_batches.specs.Filling.{Fills, NewRow, TakesAndMakes, filled, makes, orders_more, takes}
+use Rattle.mg_chain.specs.Orders.{first_orders}
+use Rattle.mg_chain.specs.Writing.{MakesRecord}
+use Rattle.mg_chain_ties.specs.Rows.{within_orders, within_put}
+use Rattle.mg_heap.specs.Apart.{need_with_anchor}
+use Rattle.mg_heap.specs.Growth.{orders_to}
+use Rattle.mg_heap.specs.Room.{FindsOrGrows, GivesRoom}
+use Rattle.mg_heap_ties.specs.Batches.{IsWithin}
+use Rattle.mg_image.specs.Inventory.{inventory_page}
+use Rattle.mg_pool.specs.Batch.{Changed}
+use Rattle.mg_pool.specs.declared.pool.Pool.{Pool}
+use Rattle.mg_space.specs.Taking.{region_of}
+use Rattle.mg_version.specs.declared.cell.TheConstants.{ANCHOR_LEN}
+use Rattle.mg_version.specs.declared.cell.Version.{Version}
+use Rattle.std.proofs.Common.{List, Option, inl, inr, length, subst, ℕ, ◌++◌, ◌-◌}
+use Rattle.std.specs.Prelude.{slice_index}
 
 module _ {D L : Type 0} (store : Pool D L) (image : Image) (contents : ℕ → Option (List ℕ))
     (orders : Orders) where

@@ -1,5 +1,4 @@
 use Rattle.mg_image.specs.Form.{packed_form}
-use Rattle.mg_own_tables.specs.Whose.{unused_none, not_both, page_beyond, maker_has}
 use Rattle.mg_own_tables.specs.GrowthFor.{growth_for_every}
 use Rattle.mg_own_tables.proofs.laws.growth_keeps_for.Goals as goal
 
