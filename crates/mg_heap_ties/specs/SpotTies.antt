@@ -17,7 +17,6 @@ use Rattle.mg_image.specs.Sound.{IsSoundBy}
 use Rattle.mg_image.specs.Tables.{Has, Layout, stands_of}
 use Rattle.mg_image_steps.specs.Kinds.{HasNoSequences, pointers_of}
 use Rattle.mg_kept_images.specs.KeptImages.{IsKept, keeping}
-use Rattle.mg_kept_images.specs.Reach.{here}
 use Rattle.mg_model.specs.History.{Entries}
 use Rattle.mg_model.specs.declared.opening.Opening.{Opening}
 use Rattle.mg_model.specs.declared.table.Table.{Table}

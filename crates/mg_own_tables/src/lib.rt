@@ -17,6 +17,6 @@
 mod laws;
 
 pub use laws::{
-    first_versions_keep_for, growth_keeps_for, moves_keep_for, pushes_keep_for, replacements_keep_for,
-    taking_back_keeps_for,
+    first_versions_keep_for, growth_keeps_for, moves_keep_for, pushes_keep_for,
+    replacements_keep_for, taking_back_keeps_for,
 };
