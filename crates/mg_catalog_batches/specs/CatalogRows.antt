@@ -116,8 +116,10 @@ filled_catalog_keeps form one none D L m before after i j batch asked session o 
             (MayFill form one none before i changes.geometry (left_state chosen state) o h
             (content_in batch.pages) (lists batch.orders) (viewed before i batch) set_ image lays_view left
             of_pool.layout)
-            (λ row is. (ap (left_state chosen state) is.0 ∙ dead,
-            is.1 chosen of_pool.layout of_pool.reading of_pool.sound)) fresh batch fills
+            (λ row is. (
+              ap (left_state chosen state) is.0 ∙ dead,
+              is.1 chosen of_pool.layout of_pool.reading of_pool.sound,
+            )) fresh batch fills
 
         done : IsFilled form one none before i changes.geometry (left_state chosen state) o h
             (content_in batch.pages) (lists batch.orders) (viewed before i batch) set_ image lays_view left

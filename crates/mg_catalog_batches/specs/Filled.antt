@@ -8,7 +8,7 @@ use Rattle.mg_careful.specs.CarefulWrite.{PageSet}
 use Rattle.mg_careful.specs.Precedence.{Orders}
 use Rattle.mg_careful.specs.declared.graph.Order.{Order}
 use Rattle.mg_catalog_batches.specs.Filling.{Fills, NewRow, TakesAndMakes, filled, makes, orders_more, takes}
-use Rattle.mg_catalog_batches.specs.Within.{fills_within, given_within, made_within}
+use Rattle.mg_catalog_batches.specs.Within.{fills_within, made_within}
 use Rattle.mg_chain.specs.Writing.{GivesSpot, MakesRecord, link_to}
 use Rattle.mg_chain_ties.specs.FirstPages.{MakesPages, left_within, made_pages}
 use Rattle.mg_chain_ties.specs.PushTies.{written}

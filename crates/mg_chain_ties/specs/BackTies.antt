@@ -11,7 +11,6 @@ use Rattle.mg_chain.specs.Orders.{before_page, out_orders, unchanged_page}
 use Rattle.mg_chain.specs.Writing.{SlotIsReached, TakesOut}
 use Rattle.mg_chain_ties.specs.FreeTies.{back_cells, back_has, back_page, frees_cells, frees_page, frees_within, version_apart}
 use Rattle.mg_chain_ties.specs.Newest.{newest_found, newest_placed}
-use Rattle.mg_chain_ties.specs.PutTies.{apart}
 use Rattle.mg_chain_ties.specs.Rows.{ForEach, ordered_page, reached_entered, table_of_page, walk_four, within_orders}
 use Rattle.mg_grown_overlays.specs.Growing.{IsTableOf}
 use Rattle.mg_heap.specs.Reach.{IsReached}

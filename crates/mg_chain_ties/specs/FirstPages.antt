@@ -117,7 +117,7 @@ module _ (form : Form) (one : RowsAreOne form.coding) (none : HasNoSequences for
       (viewed store image old) (end_of puts.gives.pointers puts.gives.data_pages)
       (viewed store image given)
   some_grows = grows form one none store image lawful old state layout r sound rec table of given put
-            need at makes.bytes makes.makes.pointers puts w makes.spells contents orders within_
+      need at makes.bytes makes.makes.pointers puts w makes.spells contents orders within_
 
   apart_at : rec ≢ at
   apart_at same = makes.makes.adds.puts.apart (ap (λ (x : RecId). x.page.0) (sym same))
@@ -177,15 +177,15 @@ module _ (form : Form) (one : RowsAreOne form.coding) (none : HasNoSequences for
   orders_add : OrdersAdd orders (viewed store image put) table at rec
   orders_add = record {
     header = first_slot 0 (inl refl) (header_off form one none store image lawful old state layout r sound rec table of given put
-            need at makes.bytes makes.makes.pointers puts w makes.spells contents orders within_);
+        need at makes.bytes makes.makes.pointers puts w makes.spells contents orders within_);
     cell = λ ne. first_slot at.page.0 (inr (inl refl)) ne;
     pointers = walk_ordered form one none store image lawful old state layout r sound rec table of given put
-            need at makes.bytes makes.makes.pointers puts w makes.spells contents orders within_ at.page.0
+        need at makes.bytes makes.makes.pointers puts w makes.spells contents orders within_ at.page.0
         makes.makes.pointers reached (λ k there ne. in_slot k rec.page.0 (lists_later
         (before_page (0 ∷ at.page.0 ∷ []) rec.page.0) (before_page makes.makes.pointers rec.page.0) k
         rec.page.0 (ordered_page makes.makes.pointers k rec.page.0 there ne)));
     slot_pointers = walk_ordered form one none store image lawful old state layout r sound rec table of given put
-            need at makes.bytes makes.makes.pointers puts w makes.spells contents orders within_ rec.page.0
+        need at makes.bytes makes.makes.pointers puts w makes.spells contents orders within_ rec.page.0
         makes.makes.slot_pointers makes.makes.slot_reached (λ k there ne. in_walk k rec.page.0
         (ordered_page makes.makes.slot_pointers k rec.page.0 there ne));
   }

@@ -138,13 +138,16 @@ module _ (form : Form) (one : RowsAreOne form.coding) (none : HasNoSequences for
         makes.makes.adds.gives.pointers makes.makes.adds.gives.data_pages makes.makes.adds.gives.table,
     may chosen layout r sound there,
   )
-  at chosen layout r sound (inr unmade) = inr (unmade.dead, record {
-    pointer = last_beyond form none before i fresh makes.makes.adds.given table
-        (need_with_anchor makes.bytes) makes.makes.at.page changes.geometry makes.makes.adds.gives
-        (left_state (alone by) state) start.layout start.reading start.sound its
-        (left_state chosen state) layout r sound unmade.out;
-    data_pages = λ k is. none_of k is;
-  })
+  at chosen layout r sound (inr unmade) = inr (
+    unmade.dead,
+    record {
+      pointer = last_beyond form none before i fresh makes.makes.adds.given table
+          (need_with_anchor makes.bytes) makes.makes.at.page changes.geometry makes.makes.adds.gives
+          (left_state (alone by) state) start.layout start.reading start.sound its
+          (left_state chosen state) layout r sound unmade.out;
+      data_pages = λ k is. none_of k is;
+    },
+  )
     where
       none_of : (k : ℕ) → Has (n.at.page.0 ∷ rec.page.0 ∷ []) k → table_at (stands_of layout) k ≡ None
       none_of k (inl e) = ap (table_at (stands_of layout)) e ∙ given_beyond form none before i fresh

@@ -8,7 +8,7 @@ use Rattle.mg_chain.specs.Writing.{PutsAt, Replaces, leading_to}
 use Rattle.mg_chain_ties.specs.FreeTies.{version_apart}
 use Rattle.mg_chain_ties.specs.Newest.{newest_found, newest_placed}
 use Rattle.mg_chain_ties.specs.PushTies.{written}
-use Rattle.mg_chain_ties.specs.PutTies.{apart, version_may}
+use Rattle.mg_chain_ties.specs.PutTies.{version_may}
 use Rattle.mg_chain_ties.specs.Rows.{ForEach, table_of_page}
 use Rattle.mg_grown_overlays.specs.Entries.{StaysFound, found_beside}
 use Rattle.mg_grown_overlays.specs.Growing.{IsTableOf, MayBeWritten}

@@ -296,10 +296,13 @@ module _ (form : Form) (one : RowsAreOne form.coding) (none : HasNoSequences for
             ∙ left_committed (chosen pushes.newest.tx.0)),
         may chosen layout r sound there,
       )
-      by_whose (inr unmade) = inr (unmade.dead, beyond_two form none before i fresh given table
-          (need_of pushes.bytes) at.page changes.geometry puts.gives (left_state (alone by) state)
-          start.layout start.reading start.sound its (left_state chosen state) layout r sound unmade.out
-          rec.page.0 of)
+      by_whose (inr unmade) = inr (
+        unmade.dead,
+        beyond_two form none before i fresh given table
+            (need_of pushes.bytes) at.page changes.geometry puts.gives (left_state (alone by) state)
+            start.layout start.reading start.sound its (left_state chosen state) layout r sound unmade.out
+            rec.page.0 of,
+      )
 
   pub push_row : (event : Event) (row : Row) → v.tx.0 ≡ by → asked by ≡ false
       → ForEach form size state pool (λ s layout r. IsTableOf layout table

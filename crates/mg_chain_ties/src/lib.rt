@@ -22,7 +22,7 @@
 mod laws;
 
 pub use laws::{
-    first_versions_keep, first_versions_keep_for, given_places_keep, given_places_keep_for, moves_keep,
-    moves_keep_for, pushes_keep, pushes_keep_for, replacements_keep, replacements_keep_for,
-    taking_back_keeps, taking_back_keeps_for,
+    first_versions_keep, first_versions_keep_for, given_places_keep, given_places_keep_for,
+    moves_keep, moves_keep_for, pushes_keep, pushes_keep_for, replacements_keep,
+    replacements_keep_for, taking_back_keeps, taking_back_keeps_for,
 };
