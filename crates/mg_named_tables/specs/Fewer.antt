@@ -4,7 +4,6 @@ use Rattle.mg_base.specs.declared.numbers.RecId.{RecId}
 use Rattle.mg_base.specs.declared.transaction.TxState.{TxState}
 use Rattle.mg_base.specs.declared.transaction.TxState.TheVariants.{Active, Committed, Dead, Limbo}
 use Rattle.mg_catalog.specs.TableLaws.{tables_once}
-use Rattle.mg_grown_overlays.specs.Knowing.{of_table}
 use Rattle.mg_image.specs.Catalog.{CatalogNames, IsSameTable, StaysAmong, committed_with}
 use Rattle.mg_image.specs.FactLaws.{each_has}
 use Rattle.mg_image.specs.Form.{Form, Pages, Row, Rows}
@@ -223,15 +222,22 @@ module _ (form : Form) (one : RowsAreOne form.coding) (size by : ℕ) (state : �
       (second.names.stay (all_but by) (λ t. true) (λ t is. refl)))
 
   pub twin : (x : Stand) → HasStand (stands_of a) x → (y : Stand) × HasStand (stands_of b) y × IsTwin x y
-  twin x (inl e) = (b.catalog, inl refl, twin_of form.in_primary size pages x b.catalog
-      (subst (HasTablePages form.in_primary size pages) (sym e) first.tables.0) second.tables.0
-      (ap (λ (t : Table). t.name) (sym catalog_table_is) ∙ ap (λ (y : Stand). y.table.name) (sym e))
-      (ap (λ (t : Table). t.pointer) (sym catalog_table_is)
-      ∙ ap (λ (y : Stand). y.table.pointer) (sym e)))
+  twin x (inl e) = (
+    b.catalog,
+    inl refl,
+    twin_of form.in_primary size pages x b.catalog
+        (subst (HasTablePages form.in_primary size pages) (sym e) first.tables.0) second.tables.0
+        (ap (λ (t : Table). t.name) (sym catalog_table_is) ∙ ap (λ (y : Stand). y.table.name) (sym e))
+        (ap (λ (t : Table). t.pointer) (sym catalog_table_is)
+        ∙ ap (λ (y : Stand). y.table.pointer) (sym e)),
+  )
   twin x (inr more) =
       let (y, there, same) = stand_among b.tables x.table
-      (table_has (StaysAmong (tables_of b)) a.tables x stay more) in
-      (y, inr there, twin_of form.in_primary size pages x y
-      (stand_has (HasTablePages form.in_primary size pages) a.tables x first.tables.1 more)
-      (stand_has (HasTablePages form.in_primary size pages) b.tables y second.tables.1 there) same.name
-      same.pointer)
+      (table_has (StaysAmong (tables_of b)) a.tables x stay more) in (
+        y,
+        inr there,
+        twin_of form.in_primary size pages x y
+            (stand_has (HasTablePages form.in_primary size pages) a.tables x first.tables.1 more)
+            (stand_has (HasTablePages form.in_primary size pages) b.tables y second.tables.1 there) same.name
+            same.pointer,
+      )
