@@ -1,5 +1,6 @@
 -- A batch that is filled with rows of the catalog, on an image in which their writer counts as dead: what an
 -- image has to be that has a set of the batch's pages is kept, step by step.
+use Rattle.mg_base.specs.Fields.{byte}
 use Rattle.mg_base.specs.Image.{Image}
 use Rattle.mg_base.specs.declared.numbers.RecId.{RecId}
 use Rattle.mg_base.specs.declared.transaction.TxState.{TxState}
@@ -7,18 +8,22 @@ use Rattle.mg_base.specs.declared.transaction.TxState.TheVariants.{Dead}
 use Rattle.mg_careful.specs.CarefulWrite.{PageSet}
 use Rattle.mg_careful.specs.Precedence.{Orders}
 use Rattle.mg_careful.specs.declared.graph.Order.{Order}
-use Rattle.mg_catalog_batches.specs.Filling.{Fills, NewRow, TakesAndMakes, filled, makes, orders_more, takes}
+use Rattle.mg_catalog_batches.specs.Filling.{Fills, HasTaken, NewRow, TakesAndMakes, filled, makes, orders_more, takes}
+use Rattle.mg_catalog_batches.specs.Others.{IsLeft, IsOther, data_leaves_it, growth_leaves, left_then, occupied_leaves}
 use Rattle.mg_catalog_batches.specs.Within.{fills_within, made_within}
+use Rattle.mg_catalog_batches.specs.Within.{made_within}
 use Rattle.mg_chain.specs.Writing.{GivesSpot, MakesRecord, link_to}
 use Rattle.mg_chain_ties.specs.FirstPages.{MakesPages, left_within, made_pages}
 use Rattle.mg_chain_ties.specs.PushTies.{written}
 use Rattle.mg_chain_ties.specs.Rows.{off_header}
 use Rattle.mg_grown_overlays.specs.Growing.{EndsAt, IsTableOf, MayBeWritten}
 use Rattle.mg_grown_overlays.specs.GrowingLaws.{StandsTo, grows_part, grows_pool, table_of_end}
-use Rattle.mg_grown_overlays.specs.Knowing.{entered_of, lawful_there, pointers_keep}
+use Rattle.mg_grown_overlays.specs.Knowing.{entered_of, lawful_there, pointers_keep, put_still}
 use Rattle.mg_header.specs.HeaderPage.{header_in}
 use Rattle.mg_heap.specs.Growth.{AddsOrders}
+use Rattle.mg_heap.specs.Reading.{owner_in}
 use Rattle.mg_heap_ties.specs.Batches.{IsWithin, viewed_same}
+use Rattle.mg_heap_ties.specs.CellTies.{owner_told}
 use Rattle.mg_heap_ties.specs.GivenTies.{given_entered}
 use Rattle.mg_heap_ties.specs.RoomTies.{GrowsSome, end_of, ends_there, room_grows}
 use Rattle.mg_image.specs.Catalog.{catalog_table}
@@ -55,7 +60,7 @@ use Rattle.mg_taken_overlays.specs.TakePart.{OccupiesPage, take_views}
 use Rattle.mg_value.specs.declared.value.Value.{Value}
 use Rattle.mg_version.specs.declared.cell.TheConstants.{ANCHOR_LEN}
 use Rattle.mg_version.specs.declared.cell.Version.{Version}
-use Rattle.std.proofs.Common.{List, None, Option, Some, [], ap, inl, inr, length, refl, subst, sym, true, ℕ, ◌∙◌, ◌≡◌, ◌≢◌, ◌⊎◌}
+use Rattle.std.proofs.Common.{List, None, Option, Some, [], ap, inl, inr, length, refl, subst, sym, true, ℕ, ◌∙◌, ◌≡◌, ◌≢◌, ◌≤◌, ◌⊎◌}
 use Rattle.std.proofs.lemmas.Bool.{cases_eq}
 
 -- where a version may be written does not depend on the place of its cell
@@ -152,16 +157,43 @@ module _ (form : Form) (one : RowsAreOne form.coding) (none : HasNoSequences for
       header = made_others 0 occupies.off_header.0 occupies.off_header.1 ∙ at.header;
     }
 
+    take_leaves : (m : ℕ) → IsOther size (view old) owner m → IsLeft size (view old) (view made) owner m
+    take_leaves m other = occupied_leaves size (view old) (view made)
+        (inventory_page size (region_of size n)) n owner m occupies other
+
+    -- and it has these bytes then
+    take_makes : 3 ≤ byte bytes 0 → owner_in bytes ≢ owner
+        → (view made n ≡ bytes) × IsOther size (view made) owner n
+    take_makes kind owned = (
+      is,
+      record {
+        used = occupies.bit;
+        kind = subst (λ (page : List ℕ). 3 ≤ byte page 0) (sym is) kind;
+        owned = subst (λ (page : List ℕ). owner_in page ≢ owner) (sym is) owned;
+      },
+    )
+      where
+        is : view made n ≡ bytes
+        is = viewed_here store image taking.taken made n bytes taking.puts
+
   -- ---- orders come to the batch
+
+  order_view : (old mid : Changed) (os : List Order) → AddsOrders old mid os → view mid ≡ view old
+  order_view old mid os adds = viewed_same store image old mid adds.same_pages
 
   order_step : (old mid : Changed) (os : List Order) → AddsOrders old mid os → IsFilled old → IsFilled mid
   order_step old mid os adds at = record {
-    kept = subst (λ (v : Pages). IsKept form size o h state v (partly set_ v img)) (sym same) at.kept;
-    header = ap (λ (v : Pages). v 0) same ∙ at.header;
+    kept = subst (λ (v : Pages). IsKept form size o h state v (partly set_ v img))
+        (sym (order_view old mid os adds)) at.kept;
+    header = ap (λ (v : Pages). v 0) (order_view old mid os adds) ∙ at.header;
   }
-    where
-      same : view mid ≡ view old
-      same = viewed_same store image old mid adds.same_pages
+
+  order_leaves : (old mid : Changed) (os : List Order) → AddsOrders old mid os → (m : ℕ)
+      → IsOther size (view old) owner m → IsLeft size (view old) (view mid) owner m
+  order_leaves old mid os adds m other = record {
+    same = ap (λ (v : Pages). v m) (order_view old mid os adds);
+    other = subst (λ (v : Pages). IsOther size v owner m) (sym (order_view old mid os adds)) other;
+  }
 
   -- ---- a record is made
 
@@ -302,6 +334,42 @@ module _ (form : Form) (one : RowsAreOne form.coding) (none : HasNoSequences for
           ∙ (pages.adds.put_page.others 0 cell_off ∙ room_header);
     }
 
+    -- ---- the pages of others stay
+
+    put_sound_there : IsSoundBy form size state (view put) room_to.layout r
+    put_sound_there = put_still form size state (view grown_again) room_to.layout r room_to.sound catalog
+        room_its (view put) n.at n.version (data_leaves form size n.at.page.0 none (trees_stay form size))
+        pages.adds.put_page pages.adds.put pages.adds.free pages.adds.apart
+
+    spot_leaves : (m : ℕ) → IsOther size (view old) owner m → IsLeft size (view old) (view given) owner m
+    spot_leaves m other = growth_leaves form one none size state catalog m orders contents (view old)
+        (view given) (end_of spot.gives.pointers spot.gives.data_pages) spot_grows.final spot_grows.grows
+        at.kept.of_pool r sound spot_ends other
+
+    room_leaves : (m : ℕ) → IsOther size (view given) owner m
+        → IsLeft size (view given) (view grown_again) owner m
+    room_leaves m other = growth_leaves form one none size state catalog m orders contents (view given)
+        (view grown_again) (end_of record_.makes.adds.gives.pointers record_.makes.adds.gives.data_pages)
+        pages.final pages.grows spot_to.layout r spot_to.sound room_ends other
+
+    cell_leaves : (m : ℕ) → IsOther size (view grown_again) owner m
+        → IsLeft size (view grown_again) (view put) owner m
+    cell_leaves m other = data_leaves_it form none size state (view grown_again) (view put) room_to.layout r
+        room_to.sound owner m n.at.page.0 (owner_told form size state (view grown_again) room_to.layout r
+        room_to.sound n.at.page.0 catalog cell_placed) other pages.adds.put_page
+
+    slot_leaves : (m : ℕ) → IsOther size (view put) owner m → IsLeft size (view put) (view made) owner m
+    slot_leaves m other = data_leaves_it form none size state (view put) (view made) room_to.layout r
+        put_sound_there owner m row.at.page.0 (owner_told form size state (view put) room_to.layout r
+        put_sound_there row.at.page.0 catalog slot_placed) other pages.adds.slot_page
+
+    row_leaves : (m : ℕ) → IsOther size (view old) owner m → IsLeft size (view old) (view made) owner m
+    row_leaves m other =
+        let a = spot_leaves m other in
+        let b = left_then size (view old) (view given) (view grown_again) owner m a (room_leaves m a.other) in
+        let c = left_then size (view old) (view grown_again) (view put) owner m b (cell_leaves m b.other) in
+        left_then size (view old) (view put) (view made) owner m c (slot_leaves m c.other)
+
   -- ---- the batch
 
   -- the writer of a row counts as dead, and the row may be written
@@ -321,3 +389,47 @@ module _ (form : Form) (one : RowsAreOne form.coding) (none : HasNoSequences for
   fills_to first old new (makes a b c d row is spot record_ more) within at =
       fills_to first c new more within (row_step old b c row spot record_
       (fills_within store image contents orders owner (MayFill first) c new more within) is.0 first is.1 at)
+
+  -- a page in use of another owner than the catalog is as it was
+  pub fills_leave : (first : Layout) (old new : Changed)
+      → Fills store image owner (MayFill first) old new → IsWithin contents orders new → IsFilled old
+      → (m : ℕ) → IsOther size (view old) owner m → IsLeft size (view old) (view new) owner m
+  fills_leave first old new (filled b) within at m other = record { same = refl; other = other }
+  fills_leave first old new (takes a b c n bytes taking more) within at m other =
+      let here_ = take_leaves old b n bytes taking at m other in
+      left_then size (view old) (view b) (view new) owner m here_
+      (fills_leave first b new more within (take_step old b n bytes taking at) m here_.other)
+  fills_leave first old new (orders_more a b c os adds more) within at m other =
+      let here_ = order_leaves old b os adds m other in
+      left_then size (view old) (view b) (view new) owner m here_
+      (fills_leave first b new more within (order_step old b os adds at) m here_.other)
+  fills_leave first old new (makes a b c d row is spot record_ more) within at m other =
+      let to = fills_within store image contents orders owner (MayFill first) c new more within in
+      let here_ = row_leaves old b c row spot record_ to is.0 first is.1 at m other in
+      left_then size (view old) (view c) (view new) owner m here_
+      (fills_leave first c new more within (row_step old b c row spot record_ to is.0 first is.1 at) m
+      here_.other)
+
+  -- and one that was taken has the bytes with which it was made
+  pub fills_take : (first : Layout) (old new : Changed)
+      (fills : Fills store image owner (MayFill first) old new) → IsWithin contents orders new
+      → IsFilled old → (n : ℕ) (bytes : List ℕ)
+      → HasTaken store image owner (MayFill first) old new fills n bytes → 3 ≤ byte bytes 0
+      → owner_in bytes ≢ owner → (view new n ≡ bytes) × IsOther size (view new) owner n
+  fills_take first old new (filled b) within at n bytes has_ kind owned = absurd has_
+  fills_take first old new (takes a b c k content taking more) within at n bytes (inl (same, are)) kind owned =
+      let made_ = take_makes old b k content taking at
+      (subst (λ (page : List ℕ). 3 ≤ byte page 0) are kind)
+      (subst (λ (page : List ℕ). owner_in page ≢ owner) are owned) in
+      let stays_ = fills_leave first b new more within (take_step old b k content taking at) k made_.1 in (
+        ap (view new) same ∙ (stays_.same ∙ (made_.0 ∙ sym are)),
+        subst (IsOther size (view new) owner) (sym same) stays_.other,
+      )
+  fills_take first old new (takes a b c k content taking more) within at n bytes (inr later_) kind owned =
+      fills_take first b new more within (take_step old b k content taking at) n bytes later_ kind owned
+  fills_take first old new (orders_more a b c os adds more) within at n bytes has_ kind owned =
+      fills_take first b new more within (order_step old b os adds at) n bytes has_ kind owned
+  fills_take first old new (makes a b c d row is spot record_ more) within at n bytes has_ kind owned =
+      let to = fills_within store image contents orders owner (MayFill first) c new more within in
+      fills_take first c new more within (row_step old b c row spot record_ to is.0 first is.1 at) n bytes has_
+      kind owned

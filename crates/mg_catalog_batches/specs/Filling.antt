@@ -10,7 +10,7 @@ use Rattle.mg_pool.specs.declared.pool.Pool.{Pool}
 use Rattle.mg_space.specs.Taking.{PutsInventory, TakesPage}
 use Rattle.mg_space.specs.View.{viewed}
 use Rattle.mg_version.specs.declared.cell.Version.{Version}
-use Rattle.std.proofs.Common.{List, length, ℕ, ◌≡◌}
+use Rattle.std.proofs.Common.{List, inl, inr, length, ℕ, ◌≡◌, ◌⊎◌}
 
 -- A row that is written: where its record begins, its version, and the values that this codes.
 pub record NewRow : Type 0 where
@@ -54,3 +54,29 @@ fills_as store image owner P Q gives old new (orders_more a b c os adds more) =
     orders_more a b c os adds (fills_as store image owner P Q gives b c more)
 fills_as store image owner P Q gives old new (makes a b c d row is spot record_ more) =
     makes a b c d row (gives row is) spot record_ (fills_as store image owner P Q gives c d more)
+
+-- a page was taken in it, and made with these bytes
+abbrev pub HasTaken : {D L : Type 0} (store : Pool D L) (image : Image) (owner : ℕ) (P : NewRow → Type 0)
+    (old new : Changed) → Fills store image owner P old new → ℕ → List ℕ → Type 0
+HasTaken store image owner P old new (filled b) n bytes = ⊥
+HasTaken store image owner P old new (takes a b c k content taking more) n bytes =
+    ((n ≡ k) × (bytes ≡ content)) ⊎ HasTaken store image owner P b new more n bytes
+HasTaken store image owner P old new (orders_more a b c os adds more) n bytes =
+    HasTaken store image owner P b new more n bytes
+HasTaken store image owner P old new (makes a b c d row is spot record_ more) n bytes =
+    HasTaken store image owner P c new more n bytes
+
+-- and so it is where of each row something else is said
+pub taken_as : {D L : Type 0} (store : Pool D L) (image : Image) (owner : ℕ) (P Q : NewRow → Type 0)
+    (gives : (row : NewRow) → P row → Q row) (old new : Changed) (fills : Fills store image owner P old new)
+    (n : ℕ) (bytes : List ℕ) → HasTaken store image owner P old new fills n bytes
+    → HasTaken store image owner Q old new (fills_as store image owner P Q gives old new fills) n bytes
+unfolding fills_as
+taken_as store image owner P Q gives old new (filled b) n bytes has_ = has_
+taken_as store image owner P Q gives old new (takes a b c k content taking more) n bytes (inl here_) = inl here_
+taken_as store image owner P Q gives old new (takes a b c k content taking more) n bytes (inr later_) =
+    inr (taken_as store image owner P Q gives b c more n bytes later_)
+taken_as store image owner P Q gives old new (orders_more a b c os adds more) n bytes has_ =
+    taken_as store image owner P Q gives b c more n bytes has_
+taken_as store image owner P Q gives old new (makes a b c d row is spot record_ more) n bytes has_ =
+    taken_as store image owner P Q gives c d more n bytes has_

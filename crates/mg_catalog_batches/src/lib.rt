@@ -7,6 +7,10 @@
 //! (`Filled`); with the writer in limbo the tables come to stand (`MakesNamed` of `mg_new_tables`). Together
 //! they keep every overlay (`FilledCatalogKeeps`).
 //!
+//! And what such a batch leaves of pages (`FilledPagesStay`): one in use of another owner than the catalog is as
+//! it was, since each page of a table says whose it is; one that was taken has the bytes with which it was made.
+//! So the tables that stood do so still, and the new ones have their first pages.
+//!
 //! Invariant: none, it keeps no state.
 //! Below: `mg_chain_ties`, `mg_new_tables`. Above: the engine's CREATE TABLE.
 //! Not here: which rows say a table (`mg_catalog`), and what they owe (`mg_new_tables`).
@@ -14,4 +18,4 @@
 
 mod laws;
 
-pub use laws::filled_catalogs_keep;
+pub use laws::{filled_catalogs_keep, filled_pages_stay};
