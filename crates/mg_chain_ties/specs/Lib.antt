@@ -3,6 +3,7 @@ pub mod PutTies
 pub mod Newest
 pub mod SpotTies
 pub mod PushTies
+pub mod FirstPages
 pub mod FirstTies
 pub mod FreeTies
 pub mod PlaceTies

@@ -21,14 +21,12 @@ use Rattle.mg_kept_images.specs.Reach.{IsEntered}
 use Rattle.mg_model.specs.declared.table.Table.{Table}
 use Rattle.mg_one_layout.specs.OneLayout.{sound_once}
 use Rattle.mg_pool.specs.Batch.{Changed}
-use Rattle.mg_pool.specs.Pool.{shown}
 use Rattle.mg_pool.specs.declared.pool.Pool.{Pool}
 use Rattle.mg_slots.specs.Changes.{SetsCell}
 use Rattle.mg_slots.specs.DataPage.{cell_of}
 use Rattle.mg_slots.specs.declared.page.TheConstants.{DATA_KIND}
 use Rattle.mg_space.specs.Taking.{IsGeometry}
 use Rattle.mg_space.specs.View.{viewed}
-use Rattle.mg_space_ties.specs.Changed.{fresh}
 use Rattle.mg_version.specs.Cells.{IsSpelling}
 use Rattle.mg_version.specs.declared.cell.Cell.{Cell}
 use Rattle.mg_version.specs.declared.cell.Cell.TheVariants as cells
@@ -67,9 +65,9 @@ anchor_may in_primary bytes other l spells is =
     subst (IsCellOf in_primary) same (inl (cells.Anchor l, spells))
 
 -- A cell is put into a free slot of a page that was given.
-pub record PutsGiven {D L : Type 0} (store : Pool D L) (image : Image) (given put : Changed)
-    (owner need : ℕ) (at : RecId) (bytes : List ℕ) (pointers : List ℕ) : Type 0 where
-  pub gives : GivesRoom store image fresh given owner need at.page
+pub record PutsGiven {D L : Type 0} (store : Pool D L) (image : Image)
+    (old given put : Changed) (owner need : ℕ) (at : RecId) (bytes : List ℕ) (pointers : List ℕ) : Type 0 where
+  pub gives : GivesRoom store image old given owner need at.page
   pub one : ChangesOne store.geometry.size given put at.page.0
   pub data_page : IsSomeData at.page (viewed store image given at.page.0)
   pub was_free : cell_of (viewed store image given at.page.0) at.slot ≡ None
@@ -79,19 +77,19 @@ pub record PutsGiven {D L : Type 0} (store : Pool D L) (image : Image) (given pu
   pub reached : IsReached (viewed store image put) owner at.page.0 pointers
 
 module _ (form : Form) (one : RowsAreOne form.coding) (none : HasNoSequences form) {D L : Type 0}
-    (store : Pool D L) (image : Image) (lawful : IsGeometry store.geometry) (state : ℕ → TxState)
-    (layout : Layout) (r : Reading)
-    (sound : IsSoundBy form store.geometry.size state (shown store.dirty image) layout r) (rec : RecId)
+    (store : Pool D L) (image : Image) (lawful : IsGeometry store.geometry) (old : Changed)
+    (state : ℕ → TxState) (layout : Layout) (r : Reading)
+    (sound : IsSoundBy form store.geometry.size state (viewed store image old) layout r) (rec : RecId)
     (table : Table) (of : table_at (stands_of layout) rec.page.0 ≡ Some table) (given put : Changed)
     (need : ℕ) (at : RecId) (bytes : List ℕ) (pointers : List ℕ)
-    (puts : PutsGiven store image given put table.pointer.0 need at bytes pointers) (w : Version)
+    (puts : PutsGiven store image old given put table.pointer.0 need at bytes pointers) (w : Version)
     (spells : IsSpelling bytes (cells.Version w)) (batch : ℕ → Option (List ℕ)) (orders : Orders)
     (within : IsWithin batch orders put) where
   abbrev size : ℕ
   size = store.geometry.size
 
   abbrev pool : Pages
-  pool = shown store.dirty image
+  pool = viewed store image old
 
   abbrev given_view : Pages
   given_view = viewed store image given
@@ -107,7 +105,7 @@ module _ (form : Form) (one : RowsAreOne form.coding) (none : HasNoSequences for
 
   pub grows : GrowsSome form.in_primary size table.pointer.0 orders batch pool
       (end_of puts.gives.pointers puts.gives.data_pages) given_view
-  grows = room_grows form store image state layout r fresh given table need at.page orders batch lawful
+  grows = room_grows form store image state layout r old given table need at.page orders batch lawful
       sound its within_given puts.gives
 
   pub to : StandsTo form size state pool given_view layout r table grows.final

@@ -1,11 +1,11 @@
 //! What version chains give to the laws on overlays. Each function's contract is the law.
 
-ghost use Rattle.mg_chain_ties.specs.BackTies.{BackRowKeeps};
-ghost use Rattle.mg_chain_ties.specs.FirstTies.{FirstRowKeeps};
-ghost use Rattle.mg_chain_ties.specs.MoveTies.{MoveRowKeeps};
-ghost use Rattle.mg_chain_ties.specs.PlaceTies.{PlaceRowKeeps};
-ghost use Rattle.mg_chain_ties.specs.PushTies.{PushRowKeeps};
-ghost use Rattle.mg_chain_ties.specs.SpotTies.{SpotRowGives};
+ghost use Rattle.mg_chain_ties.specs.BackTies.{BackRowKeeps, BackRowKeepsFor};
+ghost use Rattle.mg_chain_ties.specs.FirstTies.{FirstRowKeeps, FirstRowKeepsFor};
+ghost use Rattle.mg_chain_ties.specs.MoveTies.{MoveRowKeeps, MoveRowKeepsFor};
+ghost use Rattle.mg_chain_ties.specs.PlaceTies.{PlaceRowKeeps, PlaceRowKeepsFor};
+ghost use Rattle.mg_chain_ties.specs.PushTies.{PushRowKeeps, PushRowKeepsFor};
+ghost use Rattle.mg_chain_ties.specs.SpotTies.{SpotRowGives, SpotRowGivesFor};
 ghost use Rattle.mg_image.specs.Form.{packed_form};
 
 use mg_base::Disk;
@@ -50,6 +50,49 @@ pub fn taking_back_keeps<D: Disk, L: Links>()
 /// A place that is given keeps every overlay, and is free and the table's.
 pub fn given_places_keep<D: Disk, L: Links>()
     ensures { SpotRowGives packed_form D L D.meaning }
+{
+    one_reading();
+}
+
+/// A record's first version, in a table that may be its writer's own, keeps every overlay.
+pub fn first_versions_keep_for<D: Disk, L: Links>()
+    ensures { FirstRowKeepsFor packed_form D L D.meaning }
+{
+    one_reading();
+}
+
+/// A pushed version, in a table that may be its writer's own, keeps every overlay.
+pub fn pushes_keep_for<D: Disk, L: Links>()
+    ensures { PushRowKeepsFor packed_form D L D.meaning }
+{
+    one_reading();
+}
+
+/// An own version that is replaced in its cell, in a table that may be its writer's own, keeps every overlay.
+pub fn replacements_keep_for<D: Disk, L: Links>()
+    ensures { PlaceRowKeepsFor packed_form D L D.meaning }
+{
+    one_reading();
+}
+
+/// An own version that moves to another cell, in a table that may be its writer's own, keeps every overlay.
+pub fn moves_keep_for<D: Disk, L: Links>()
+    ensures { MoveRowKeepsFor packed_form D L D.meaning }
+{
+    one_reading();
+}
+
+/// A version that is taken back, in a table that may be its writer's own, keeps every overlay.
+pub fn taking_back_keeps_for<D: Disk, L: Links>()
+    ensures { BackRowKeepsFor packed_form D L D.meaning }
+{
+    one_reading();
+}
+
+/// A place that is given in a table that may be a transaction's own keeps every overlay, and is free and the
+/// table's.
+pub fn given_places_keep_for<D: Disk, L: Links>()
+    ensures { SpotRowGivesFor packed_form D L D.meaning }
 {
     one_reading();
 }

@@ -68,12 +68,12 @@ last_entered old new n m q (f ∷ front) (goes k ks ne more) same entered =
     (sym (ap next_in (same f (inl refl))))
     (last_entered old new n (next_in (old f)) q front more (λ i is. same i (inr is)) entered))
 
-has_at : (ns : List ℕ) (k : ℕ) → k < length ns → Has ns (get_or ns k 0)
+pub has_at : (ns : List ℕ) (k : ℕ) → k < length ns → Has ns (get_or ns k 0)
 has_at [] k less = absurd (omega (arith, less))
 has_at (n ∷ ns) zero less = inl refl
 has_at (n ∷ ns) (suc k) less = inr (has_at ns k (omega (arith, less)))
 
-looked_within : (k len : ℕ) → k < len → looked_at k len < len
+pub looked_within : (k len : ℕ) → k < len → looked_at k len < len
 looked_within k len less = at (k == 0)
   where
     at : (b : Bool) → (if b then len - 1 else k - 1) < len
@@ -216,7 +216,7 @@ module _ {D L : Type 0} (form : Form) (store : Pool D L) (image : Image) (state 
           ∙ it.takes_pointer.others k (λ e. (front_may k there).no_inventory (region_of size p)
           (sym e))))))
 
-  given_entered : IsEntered (λ k. Unit {0}) next n.0 table.pointer.0
+  pub given_entered : IsEntered (λ k. Unit {0}) next n.0 table.pointer.0
   given_entered = subst (λ (k : PageNo). IsEntered (λ i. Unit {0}) next k.0 table.pointer.0)
       gives.page_is (by gives.found)
     where

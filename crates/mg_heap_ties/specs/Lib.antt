@@ -3,5 +3,7 @@ pub mod GrowthTies
 pub mod LinkTies
 pub mod RoomTies
 pub mod CellTies
+pub mod OutTies
 pub mod SpotTies
 pub mod GivenTies
+pub mod GivenForTies

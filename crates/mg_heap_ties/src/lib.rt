@@ -6,6 +6,9 @@
 //! ends in every layout where its pages say (`RoomTies`); a batch with nothing else keeps every overlay
 //! (`SpotRowKeeps`), and the page is the table's then (`GivenPagesAre`). And a cell that is put or freed changes a data page (`CellTies`).
 //!
+//! The table may be one that a transaction has made and not committed (`SpotRowKeepsFor`, `GivenPagesAreFor`):
+//! the pages are none of a layout that does not have it then (`OutTies`).
+//!
 //! All that is asked of the pages follows from the clauses of the calls and from a sound pool.
 //!
 //! All stands in `specs/`. There is no program here: each function's contract is a law.
@@ -18,4 +21,4 @@
 
 mod laws;
 
-pub use laws::{given_pages_are, given_pages_keep};
+pub use laws::{given_pages_are, given_pages_are_for, given_pages_keep, given_pages_keep_for};

@@ -1,0 +1,10 @@
+pub mod NotThere
+pub mod Whose
+pub mod OutSteps
+pub mod OwnBatch
+pub mod FirstFor
+pub mod PushFor
+pub mod MoveFor
+pub mod ReplaceFor
+pub mod BackFor
+pub mod GrowthFor
