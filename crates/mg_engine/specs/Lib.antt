@@ -1,0 +1,5 @@
+pub mod Cores
+pub mod Refusing
+pub mod Events
+pub mod Committing
+pub mod Ending

@@ -1,0 +1,26 @@
+-- Faults of the cache as refusals.
+use Rattle.std.specs.Prelude.{◌≡◌}
+use Rattle.mg_base.specs.declared.damage.Field.TheVariants.{Presence}
+use Rattle.mg_model.specs.declared.refusal.Refusal.{Refusal}
+use Rattle.mg_model.specs.declared.refusal.Refusal.TheVariants as refusals
+use Rattle.mg_pool.specs.declared.fault.PoolFault.{PoolFault}
+use Rattle.mg_pool.specs.declared.fault.PoolFault.TheVariants as faults
+use Rattle.mg_space.specs.declared.fault.SpaceFault.{SpaceFault}
+use Rattle.mg_space.specs.declared.fault.SpaceFault.TheVariants as space
+
+-- the refusal that a fault of the cache is; an absent page is told as damage, and never so
+abbrev pub IsRefusalOf : PoolFault → Refusal → Type 0
+IsRefusalOf (faults.DiskRead n) refusal = refusal ≡ refusals.DiskRead n
+IsRefusalOf (faults.DiskWrite n) refusal = refusal ≡ refusals.DiskWrite n
+IsRefusalOf (faults.Offline n) refusal = refusal ≡ refusals.Offline n
+IsRefusalOf (faults.Absent n) refusal = ⊥
+IsRefusalOf faults.Memory refusal = refusal ≡ refusals.Memory
+
+-- the refusal that a fault of a call on the pages is; an absent page of the cache's is damage, too
+abbrev pub IsRefusal : SpaceFault → Refusal → Type 0
+IsRefusal (space.Full limit) refusal = refusal ≡ refusals.DatabaseFull limit
+IsRefusal (space.Damaged damage) refusal =
+    refusal ≡ refusals.Damaged damage.page damage.field damage.found damage.wanted
+IsRefusal (space.Pool (faults.Absent pages)) refusal =
+    refusal ≡ refusals.Damaged (record { 0 = 0 }) Presence pages pages
+IsRefusal (space.Pool fault) refusal = IsRefusalOf fault refusal

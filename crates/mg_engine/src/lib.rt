@@ -1,0 +1,23 @@
+//! The engine's calls over its memory and its pages, as far as they do not depend on a history.
+//!
+//! Owns: `Core`, what an engine has: the pages with their cache, what has become of each transaction, the
+//! bases, the waits, and the active transactions. Each call says exactly what becomes of these parts.
+//!
+//! Every call of a transaction begins so: once a page write has failed it is refused by `Offline`; else it
+//! is refused by `NotActive` where the transaction isn't active. An event ends the wait of its transaction
+//! first. A refusal changes nothing else, but for what was read and counted.
+//!
+//! Invariant (`IsCore`): the cache and the transaction list are lawful and of one page size; the active
+//! transactions are those that the list says are active; the bases' next number is the list's.
+//! Below: `mg_space`, for the pages; `mg_txlist`, `mg_snap`, `mg_waits` and `mg_works`, for the memory.
+//! Above: the engine as a keeper of records, which stands for a history.
+//! Not here: histories, what crashes leave, and the records of tables.
+#![tactic(auto)]
+
+mod committing;
+mod ending;
+mod events;
+mod parts;
+mod refusing;
+
+pub use parts::Core;
