@@ -1,8 +1,10 @@
 -- The root splits: the tree goes through a row of steps, and has a level more.
-use Rattle.std.proofs.Common.{◌≡◌, ◌≢◌, ◌⊎◌, inl, inr, ◌∙◌, ap, refl, sym, subst, ◌<◌, ℕ, true, false, List, [], ◌∷◌, None, arith}
+use Rattle.std.proofs.Common.{◌≡◌, ◌≢◌, ◌⊎◌, inl, inr, ◌∙◌, ap, refl, sym, subst, ◌<◌, ℕ, true, false, List, [], ◌∷◌, ◌++◌, None, arith}
 use Rattle.std.specs.Prelude.{IfSome}
 use Rattle.mg_base.specs.Checks.{PassesAll}
 use Rattle.mg_base.specs.declared.geometry.Geometry.{Geometry}
+use Rattle.mg_base.specs.declared.numbers.PageNo.{PageNo}
+use Rattle.mg_careful.specs.declared.graph.Order.{Order}
 use Rattle.mg_node.specs.declared.entry.Entry.{Entry}
 use Rattle.mg_node.specs.NodePage.{IsAtLeast, IsBelow, has_high, high_of, level_in, low_of, node_checks}
 use Rattle.mg_image.specs.Form.{Pages}
@@ -21,13 +23,17 @@ use Rattle.mg_btree.specs.declared.growing.Growth.{Growth}
 use Rattle.mg_btree.specs.declared.halves.PageBytes.{PageBytes}
 use Rattle.mg_btree.specs.Changing.{HasNoInventory}
 use Rattle.mg_btree.specs.Growing.{IsGrowth}
-use Rattle.mg_btree.specs.Halves.{IsPlaceFor}
+use Rattle.mg_btree.specs.Halves.{HasRoom, IsPlaceFor, names_in}
+use Rattle.mg_btree.specs.EachOrderLaws.{each_root}
+use Rattle.mg_btree.specs.Ordering.{EachOrder, root_orders}
+use Rattle.mg_btree.specs.RowOrders.{row_orders}
+use Rattle.mg_btree.specs.RowOrderLaws.{RoomRow}
 use Rattle.mg_btree.specs.ParentLaws.{one_in_tree}
 use Rattle.mg_btree.specs.Rooms.{MakesRoom, StandsIn}
 use Rattle.mg_btree.specs.SearchLaws.{in_node}
 use Rattle.mg_btree.specs.SplitRows.{GrowsUnder, grows_row, with_here, with_other, with_page}
 use Rattle.mg_btree.specs.SplitSteps.{IsGrownRoot}
-use Rattle.mg_btree.specs.TakeLaws.{no_true, row_used, taken_below, taken_fresh, taken_here, taken_none, taken_row, taken_same, taken_tree, taken_used, unused_before}
+use Rattle.mg_btree.specs.TakeLaws.{no_true, row_used, taken_below, taken_fresh, taken_here, taken_none, taken_room, taken_same, taken_tree, taken_used, unused_before}
 
 -- a root has no fences, so it covers each entry
 pub root_covers : (size : ℕ) (pages : Pages) (owner root : ℕ) (levels : List (List ℕ)) (e : Entry)
@@ -159,24 +165,49 @@ module _ (g : Geometry) (lawful : IsGeometry g) (owner root level a b : ℕ) (le
     module _ (new : Pages)
         (laid : new ≡ with_page (with_page (with_page late a growth.halves.left.bytes) b
         growth.halves.right.bytes) root growth.root.bytes)
-        (batch : Changed) (bit_a : content_in batch.pages (inventory_of g.size a) ≢ None)
+        (before batch : Changed)
+        (adds : batch.orders ≡ before.orders ++ root_orders g.size growth.names.items
+        growth.halves.names.items root a b) (no_room : HasRoom full.bytes e → ⊥)
+        (bit_a : content_in batch.pages (inventory_of g.size a) ≢ None)
         (bit_b : content_in batch.pages (inventory_of g.size b) ≢ None)
         (put_a : content_in batch.pages a ≢ None) (put_b : content_in batch.pages b ≢ None)
         (order : OrdersRoot g.size (content_in batch.pages) (lists batch.orders) root a b) where
       abbrev ends : List (List ℕ)
       ends = grow_levels root a b levels
 
-      row : ChangesTree g.size owner root (content_in batch.pages) (lists batch.orders) Stay old levels
-          new ends
-      row = taken_row g lawful owner root levels stands.no_inventory old mid a takes_a stands.tree
-          (content_in batch.pages) (lists batch.orders) Stay new ends bit_a
-          (taken_row g lawful owner root levels stands.no_inventory mid late b takes_b mid_tree
-          (content_in batch.pages) (lists batch.orders) Stay new ends bit_b
-          (subst (λ (pages : Pages). ChangesTree g.size owner root (content_in batch.pages)
-          (lists batch.orders) Stay late levels pages ends) (sym laid)
+      abbrev own_orders : List Order
+      own_orders = root_orders g.size (names_in growth.halves.left.bytes)
+          (names_in growth.halves.right.bytes) root a b
+
+      steps : RoomRow g.size owner root (content_in batch.pages) (lists batch.orders) Stay old levels
+          new ends e e own_orders
+      steps = taken_room g lawful owner root levels stands.no_inventory old mid a takes_a stands.tree
+          (content_in batch.pages) (lists batch.orders) Stay new ends e e own_orders bit_a
+          (taken_room g lawful owner root levels stands.no_inventory mid late b takes_b mid_tree
+          (content_in batch.pages) (lists batch.orders) Stay new ends e e own_orders bit_b
+          (subst (λ (pages : Pages). RoomRow g.size owner root (content_in batch.pages)
+          (lists batch.orders) Stay late levels pages ends e e own_orders) (sym laid)
           (grows_row g.size owner root (content_in batch.pages) (lists batch.orders) Stay late levels a b
-          is.copy growth.halves.left.bytes growth.halves.right.bytes growth.root.bytes grows_under order
-          put_a put_b)))
+          is.copy growth.halves.left.bytes growth.halves.right.bytes growth.root.bytes e grows_under order
+          put_a put_b (λ room. no_room (subst (λ (p : List ℕ). HasRoom p e) late_root room)))))
+
+      abbrev row : ChangesTree g.size owner root (content_in batch.pages) (lists batch.orders) Stay old
+          levels new ends
+      row = steps.row
+
+      all_orders : batch.orders ≡ before.orders ++ row_orders g.size owner root (content_in batch.pages)
+          (lists batch.orders) Stay old new levels ends row
+      all_orders = adds ∙ ap (λ (os : List Order). before.orders ++ os)
+          (ap (λ (ns : List PageNo). root_orders g.size ns growth.halves.names.items root a b) is.names
+          ∙ (ap (λ (ns : List PageNo). root_orders g.size (names_in growth.halves.left.bytes) ns root a b)
+          is.halves.names ∙ sym steps.adds))
+
+      held : EachOrder (λ x y. content_in batch.pages y ≢ None) (row_orders g.size owner root
+          (content_in batch.pages) (lists batch.orders) Stay old new levels ends row)
+      held = subst (EachOrder (λ x y. content_in batch.pages y ≢ None)) (sym steps.adds)
+          (each_root (λ x y. content_in batch.pages y ≢ None) g.size (names_in growth.halves.left.bytes)
+          (names_in growth.halves.right.bytes) root a b (λ m. put_b) (λ n has. put_b) (λ m. put_a)
+          (λ n has. put_a) (λ m. order.has_root) order.has_root order.has_root)
 
       new_a : new a ≡ growth.halves.left.bytes
       new_a = ap (λ (pages : Pages). pages a) laid
@@ -239,10 +270,13 @@ module _ (g : Geometry) (lawful : IsGeometry g) (owner root level a b : ℕ) (le
           )
 
       pub grow_makes : (half : PageBytes) → (half ≡ growth.halves.left) ⊎ (half ≡ growth.halves.right)
-          → MakesRoom g.size old new batch owner root levels level half
+          → MakesRoom g.size old new before batch owner root levels level e half
       grow_makes half which = record {
         ends = ends;
         row = row;
+        adds = all_orders;
+        held = held;
+        full = steps.full;
         stands = record {
           tree = (pool_changed g.size owner root (content_in batch.pages) (lists batch.orders) Stay old new
               levels ends row stands.tree).tree;

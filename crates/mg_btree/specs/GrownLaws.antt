@@ -1,5 +1,5 @@
 -- The exits of the call that splits a root.
-use Rattle.std.proofs.Common.{◌≡◌, ◌≢◌, inr, ◌∙◌, refl, sym, subst, ℕ, List, None, Result, Ok, Err, arith}
+use Rattle.std.proofs.Common.{◌≡◌, ◌≢◌, inr, ◌∙◌, ◌++◌, refl, sym, subst, ℕ, List, None, Result, Ok, Err, arith}
 use Rattle.std.specs.Prelude.{IsErrAnd}
 use Rattle.mg_base.specs.Image.{Image}
 use Rattle.mg_base.specs.declared.damage.Damaged.{Damaged}
@@ -19,30 +19,31 @@ use Rattle.mg_btree.specs.declared.growing.TwoPages.{TwoPages}
 use Rattle.mg_btree.specs.declared.halves.PageBytes.{PageBytes}
 use Rattle.mg_btree.specs.Growing.{TakesTwo}
 use Rattle.mg_btree.specs.GrowingLaws.{grow_makes, root_is}
-use Rattle.mg_btree.specs.Halves.{IsPlaceFor}
+use Rattle.mg_btree.specs.Halves.{HasRoom, IsPlaceFor}
 use Rattle.mg_btree.specs.Making.{SplitsRoot}
 use Rattle.mg_btree.specs.MakingLaws.{either_half, viewed_same_pages}
-use Rattle.mg_btree.specs.OrderLaws.{first_there, root_ordered, second_there, third_there, three_laid}
-use Rattle.mg_btree.specs.Ordering.{Widens}
+use Rattle.mg_btree.specs.OrderLaws.{added_after, first_there, root_ordered, second_there, third_there, three_laid, three_orders}
+use Rattle.mg_btree.specs.Ordering.{Widens, root_orders}
 use Rattle.mg_btree.specs.RefusalLaws.{err_room, room_refused}
-use Rattle.mg_btree.specs.Rooms.{MakesRoom, MakesRoomIn, RefusesAfter, StandsIn}
+use Rattle.mg_btree.specs.Rooms.{MakesRoom, MakesRoomIn, RefusesAfter, StandsIn, too_high}
 use Rattle.mg_btree.specs.SplitRows.{with_page}
 
 -- the root stands on the highest level
-pub high_refused : (g : Geometry) (was last : Pages) (batch : Changed) (owner root level : ℕ)
-    (levels : List (List ℕ)) (damage : Damaged) (result : Result PageBytes SpaceFault)
-    → level ≡ level_in (was root) → level ≡ 65535 → result ≡ Err (OfPage damage)
-    → MakesRoomIn g was last batch owner root levels level result
-high_refused g was last batch owner root level levels damage result top high is =
-    rw is (inr (sym top ∙ high))
+pub high_refused : (g : Geometry) (was last : Pages) (before batch : Changed) (owner root level : ℕ)
+    (levels : List (List ℕ)) (e : Entry) (damage : Damaged) (result : Result PageBytes SpaceFault)
+    → level ≡ level_in (was root) → level ≡ 65535 → damage ≡ too_high root
+    → result ≡ Err (OfPage damage)
+    → MakesRoomIn g was last before batch owner root levels level e result
+high_refused g was last before batch owner root level levels e damage result top high named is =
+    rw is (inr (sym top ∙ high, named))
 
 -- one of two pages was not taken
-pub two_refused : (g : Geometry) (was last : Pages) (batch : Changed) (owner root level : ℕ)
-    (levels : List (List ℕ)) (fault : SpaceFault) (result : Result PageBytes SpaceFault)
+pub two_refused : (g : Geometry) (was last : Pages) (before batch : Changed) (owner root level : ℕ)
+    (levels : List (List ℕ)) (e : Entry) (fault : SpaceFault) (result : Result PageBytes SpaceFault)
     → level ≡ level_in (was root) → RefusesAfter g was 1 fault → IsErrAnd result (λ f. f ≡ fault)
-    → MakesRoomIn g was last batch owner root levels level result
-two_refused g was last batch owner root level levels fault result top refused is =
-    err_room g was last batch owner root levels level fault result is
+    → MakesRoomIn g was last before batch owner root levels level e result
+two_refused g was last before batch owner root level levels e fault result top refused is =
+    err_room g was last before batch owner root levels level e fault result is
     (room_refused g was root level fault
     (subst (λ (k : ℕ). RefusesAfter g was k fault) (omega (arith, top)) refused))
 
@@ -58,12 +59,12 @@ pub root_put : {D L : Type 0} (old : Pool D L) (image : Image) → IsGeometry ol
     → StandsIn old.geometry.size (viewed old image start) owner root levels full
     → IsPlaceFor old.geometry.size owner level e full → level ≡ level_in (viewed old image start root)
     → TakesTwo old.geometry (viewed old image start) (viewed old image first) first (Ok two)
-    → Widens old.geometry.size first last
+    → first.orders ≡ start.orders → (HasRoom full.bytes e → ⊥) → Widens old.geometry.size first last
     → SplitsRoot old.geometry.size first last owner level full two e half
-    → MakesRoom old.geometry.size (viewed old image start) (viewed old image last) last owner root levels
-    level half
+    → MakesRoom old.geometry.size (viewed old image start) (viewed old image last) start last owner root
+    levels level e half
 root_put old image lawful start first last owner root level levels full two e half stands place top takes
-    widens is =
+    kept no_room widens is =
     grow_makes old.geometry lawful owner root level two.first.0 two.second.0 levels (viewed old image start)
     takes.0 (viewed old image first) full e is.growth stands place top takes.1.takes takes.2.takes is.is
     (viewed old image last)
@@ -74,7 +75,20 @@ root_put old image lawful start first last owner root level levels full two e ha
     ∙ same_three (viewed old image first) is.growth.halves.left.page.0 two.first.0
     is.growth.halves.right.page.0 two.second.0 is.growth.root.page.0 root is.growth.halves.left.bytes
     is.growth.halves.right.bytes is.growth.root.bytes is.is.halves.left_own is.is.halves.right_own own))
-    last (widens.has (inventory_of old.geometry.size two.first.0) takes.1.put)
+    start last (subst (λ (n : ℕ). last.orders ≡ start.orders ++ root_orders old.geometry.size
+    is.growth.names.items is.growth.halves.names.items n two.first.0 two.second.0) own
+    (subst (λ (n : ℕ). last.orders ≡ start.orders ++ root_orders old.geometry.size is.growth.names.items
+    is.growth.halves.names.items is.growth.root.page.0 n two.second.0) is.is.halves.left_own
+    (subst (λ (n : ℕ). last.orders ≡ start.orders ++ root_orders old.geometry.size is.growth.names.items
+    is.growth.halves.names.items is.growth.root.page.0 is.growth.halves.left.page.0 n)
+    is.is.halves.right_own (added_after start first is.puts.put last
+    (root_orders old.geometry.size is.growth.names.items is.growth.halves.names.items
+    is.growth.root.page.0 is.growth.halves.left.page.0 is.growth.halves.right.page.0) kept
+    (three_orders first is.puts.put is.growth.halves.left.page.0 is.growth.halves.right.page.0
+    is.growth.root.page.0 is.growth.halves.left.bytes is.growth.halves.right.bytes is.growth.root.bytes
+    is.puts.puts) is.puts.orders.added))))
+    no_room
+    (widens.has (inventory_of old.geometry.size two.first.0) takes.1.put)
     (widens.has (inventory_of old.geometry.size two.second.0) takes.2.put)
     (there two.first.0 is.growth.halves.left.page.0 is.is.halves.left_own
     (first_there first is.puts.put is.growth.halves.left.page.0 is.growth.halves.right.page.0

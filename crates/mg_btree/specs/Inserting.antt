@@ -1,5 +1,5 @@
 -- An entry is put into a tree.
-use Rattle.std.specs.Prelude.{◌≡◌, ◌≢◌, ◌⊎◌, ℕ, List, length, Result, Ok, Err}
+use Rattle.std.specs.Prelude.{◌≡◌, ◌≢◌, ◌⊎◌, ◌++◌, ℕ, List, length, None, Result, Ok, Err}
 use Rattle.mg_base.specs.declared.geometry.Geometry.{Geometry}
 use Rattle.mg_node.specs.declared.entry.Entry.{Entry}
 use Rattle.mg_node.specs.NodePage.{IsNodePage, level_in}
@@ -17,6 +17,8 @@ use Rattle.mg_btree.specs.declared.inserting.Leaf.{Leaf}
 use Rattle.mg_btree.specs.Changing.{HasNoInventory}
 use Rattle.mg_btree.specs.Halves.{HasRoom}
 use Rattle.mg_btree.specs.Rooms.{RefusesRoom}
+use Rattle.mg_btree.specs.Ordering.{EachOrder}
+use Rattle.mg_btree.specs.RowOrders.{SplitsFull, row_orders}
 
 -- in a tree the leaf that covers an entry was read, with what the root says of its tree
 abbrev pub FindsLeaf : Pages → ℕ → ℕ → List (List ℕ) → Result Leaf SpaceFault → Type 0
@@ -36,12 +38,21 @@ pub record PutsWith (old new : Changed) (page : PageBytes) (e : Entry) : Type 0 
   pub puts : PutsPage old new page.page.0 bytes
 
 -- An entry is in a tree that was not there, by a row of steps: it is found now, beside those that
--- were, and no other. Where its leaf has room for it the leaf alone changes, without an order.
+-- were, and no other. The batch has the orders of the row more, one by one, and no others; and a page
+-- splits only where the entry that it is to have does not fit. So where the leaf has room for the entry
+-- it alone changes, without an order.
 pub record PutsIn (size : ℕ) (old new : Pages) (before batch : Changed) (owner root : ℕ)
     (levels : List (List ℕ)) (e : Entry) : Type 0 where
   pub ends : List (List ℕ)
   pub row : ChangesTree size owner root (content_in batch.pages) (lists batch.orders) (Add e) old
       levels new ends
+  pub adds : batch.orders ≡ before.orders ++ row_orders size owner root (content_in batch.pages)
+      (lists batch.orders) (Add e) old new levels ends row
+  -- the later page of each is in the batch
+  pub held : EachOrder (λ a b. content_in batch.pages b ≢ None) (row_orders size owner root
+      (content_in batch.pages) (lists batch.orders) (Add e) old new levels ends row)
+  pub full : SplitsFull size owner root (content_in batch.pages) (lists batch.orders) (Add e) old new
+      levels ends row e
   pub tree : IsTree size new owner root ends
   pub no_inventory : HasNoInventory size ends
   pub has : Finds new e root

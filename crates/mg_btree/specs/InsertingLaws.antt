@@ -7,6 +7,7 @@ use Rattle.mg_base.specs.Image.{Image}
 use Rattle.mg_base.specs.declared.geometry.Geometry.{Geometry}
 use Rattle.mg_node.specs.declared.entry.Entry.{Entry}
 use Rattle.mg_node.specs.NodePage.{IsAtLeast, IsBelow, SamePlace, entries_of, high_of, is_inner, level_in, low_of, node_checks}
+use Rattle.mg_careful.specs.declared.graph.Order.{Order}
 use Rattle.mg_image.specs.Form.{Pages}
 use Rattle.mg_image.specs.Indexes.{Finds, HasEntry}
 use Rattle.mg_node_writing.specs.LeafLaws.{leaf_child}
@@ -23,16 +24,18 @@ use Rattle.mg_tree_overlays.specs.GrowLaws.{chains_of}
 use Rattle.mg_tree_overlays.specs.KeptLaws.{leaf_found}
 use Rattle.mg_tree_overlays.specs.LeafLaws.{back_has}
 use Rattle.mg_tree_overlays.specs.PoolLaws.{pool_changed}
-use Rattle.mg_tree_overlays.specs.RowLaws.{row_append, row_as, row_more}
 use Rattle.mg_tree_overlays.specs.SearchLaws.{leaf_has_found}
 use Rattle.mg_btree.specs.declared.halves.PageBytes.{PageBytes}
 use Rattle.mg_btree.specs.ChangeLaws.{either_parts, entry_has, is_entry, leaf_rewrites, viewed_other, viewed_put}
 use Rattle.mg_btree.specs.Halves.{HasPlace, HasRoom, IsPlaceFor, IsRoomy}
 use Rattle.mg_btree.specs.Inserting.{Inserts, PutsIn, PutsWith, RefusesInsert}
 use Rattle.mg_btree.specs.OrderLaws.{widens_put, widens_sized}
-use Rattle.mg_btree.specs.Ordering.{Widens}
+use Rattle.mg_btree.specs.EachOrderLaws.{each_more, each_none}
+use Rattle.mg_btree.specs.Ordering.{EachOrder, Widens}
 use Rattle.mg_btree.specs.ParentLaws.{one_in_tree}
 use Rattle.mg_btree.specs.Rooms.{MakesRoom, RefusesRoom, StandsIn}
+use Rattle.mg_btree.specs.RowOrders.{row_next, row_orders}
+use Rattle.mg_btree.specs.RowOrderLaws.{RoomRow, append_room, ended}
 
 -- ---- an entry of a leaf, and its place
 
@@ -129,6 +132,9 @@ module _ (g : Geometry) (owner root : ℕ) (levels : List (List ℕ)) (was : Pag
     inserts_nothing batch has = record {
       ends = levels;
       row = done was levels;
+      adds = sym (ended batch.orders);
+      held = each_none (λ a b. content_in batch.pages b ≢ None);
+      full = tt;
       tree = stands.tree;
       no_inventory = stands.no_inventory;
       has = found_there has;
@@ -169,7 +175,7 @@ module _ (g : Geometry) (owner root : ℕ) (levels : List (List ℕ)) (was : Pag
         (page : PageBytes) (viewed_was : was ≡ viewed store image start)
         (no_place : HasPlace (entries_of full.bytes) e → ⊥)
         (roomy : IsRoomy g.size owner 0 e page)
-        (made : MakesRoom g.size was (viewed store image second) second owner root levels 0 page)
+        (made : MakesRoom g.size was (viewed store image second) start second owner root levels 0 e page)
         (in_place : HasRoom full.bytes e → (page ≡ full) × (second ≡ start))
         (puts : PutsWith second last page e)
       where
@@ -219,21 +225,45 @@ module _ (g : Geometry) (owner root : ℕ) (levels : List (List ℕ)) (was : Pag
             roomy.place.fields) late_low puts.lawful
             (subst (λ (b : List ℕ). InsertsEntry b puts.bytes e) made.stands.bytes inserts).keeps
 
-        row : ChangesTree g.size owner root (content_in last.pages) (lists last.orders) (Add e) was levels
-            new made.ends
-        row = row_append g.size owner root (content_in last.pages) (lists last.orders) (Add e) was late new
-            levels made.ends made.ends
-            (row_as g.size owner root (content_in last.pages) (lists last.orders) (Add e) was late levels
-            made.ends
-            (row_more g.size owner root (content_in second.pages) (content_in last.pages)
-            (lists second.orders) (lists last.orders) Stay was late levels made.ends
-            (record { has = widens.has; ordered = widens.ordered }) made.row))
-            (leaf late new new made.ends made.ends page.page.0 rewrites late_low
-            (subst (λ (b : List ℕ). ChangesEntries (Add e) (entries_of (late page.page.0)) (entries_of b))
-            (sym new_n) (subst (λ (b : List ℕ). ChangesEntries (Add e) (entries_of b)
-            (entries_of puts.bytes)) made.stands.bytes (inserted page.bytes puts.bytes e inserts)))
-            (λ none_. let both : Some puts.bytes ≡ None = sym puts.puts.here ∙ none_ in absurd cc)
-            (made.stands.no_inventory page.page.0 made.stands.placed) (done new made.ends))
+        abbrev made_orders : List Order
+        made_orders = row_orders g.size owner root (content_in second.pages) (lists second.orders) Stay was
+            late levels made.ends made.row
+
+        leaf_row : RoomRow g.size owner root (content_in last.pages) (lists last.orders) (Add e) late
+            made.ends new made.ends e e []
+        leaf_row = record {
+          row = leaf late new new made.ends made.ends page.page.0 rewrites late_low
+              (subst (λ (b : List ℕ). ChangesEntries (Add e) (entries_of (late page.page.0)) (entries_of b))
+              (sym new_n) (subst (λ (b : List ℕ). ChangesEntries (Add e) (entries_of b)
+              (entries_of puts.bytes)) made.stands.bytes (inserted page.bytes puts.bytes e inserts)))
+              (λ none_. let both : Some puts.bytes ≡ None = sym puts.puts.here ∙ none_ in absurd cc)
+              (made.stands.no_inventory page.page.0 made.stands.placed) (done new made.ends);
+          adds = refl;
+          full = tt;
+          next = refl;
+        }
+
+        steps : RoomRow g.size owner root (content_in last.pages) (lists last.orders) (Add e) was levels
+            new made.ends e (row_next g.size owner root (content_in second.pages) (lists second.orders) Stay
+            was late levels made.ends made.row e) (made_orders ++ [])
+        steps = append_room g.size owner root (content_in second.pages) (content_in last.pages)
+            (lists second.orders) (lists last.orders) (Add e) was late new levels made.ends made.ends e e []
+            (record { has = widens.has; ordered = widens.ordered }) made.row made.full leaf_row
+
+        abbrev row : ChangesTree g.size owner root (content_in last.pages) (lists last.orders) (Add e) was
+            levels new made.ends
+        row = steps.row
+
+        all_orders : last.orders ≡ start.orders ++ row_orders g.size owner root (content_in last.pages)
+            (lists last.orders) (Add e) was new levels made.ends row
+        all_orders = puts.puts.same_orders ∙ (made.adds
+            ∙ ap (λ (os : List Order). start.orders ++ os) (sym (steps.adds ∙ ended made_orders)))
+
+        held : EachOrder (λ a b. content_in last.pages b ≢ None) (row_orders g.size owner root
+            (content_in last.pages) (lists last.orders) (Add e) was new levels made.ends row)
+        held = subst (EachOrder (λ a b. content_in last.pages b ≢ None)) (sym (steps.adds ∙ ended made_orders))
+            (each_more (λ a b. content_in second.pages b ≢ None) (λ a b. content_in last.pages b ≢ None)
+            made_orders (λ a b some. widens.has b some) made.held)
 
         changed : HasChanged g.size owner root (Add e) was new made.ends
         changed = pool_changed g.size owner root (content_in last.pages) (lists last.orders) (Add e) was new
@@ -262,6 +292,9 @@ module _ (g : Geometry) (owner root : ℕ) (levels : List (List ℕ)) (was : Pag
         inserts_it = record {
           ends = made.ends;
           row = row;
+          adds = all_orders;
+          held = held;
+          full = steps.full;
           tree = changed.tree;
           no_inventory = made.stands.no_inventory;
           has = has_it;

@@ -17,12 +17,15 @@ pub mod SplitSteps
 pub mod SplitRows
 pub mod Halves
 pub mod Ordering
+pub mod EachOrderLaws
+pub mod RowOrders
 pub mod Rooms
 pub mod Growing
 pub mod Making
 pub mod Inserting
 pub mod TakeLaws
 pub mod ParentLaws
+pub mod RowOrderLaws
 pub mod RoomLaws
 pub mod GrowingLaws
 pub mod OrderLaws
@@ -35,3 +38,5 @@ pub mod AboveLaws
 pub mod PutAtLaws
 pub mod TwoLaws
 pub mod RoomyLaws
+pub mod Climbing
+pub mod ClimbLaws

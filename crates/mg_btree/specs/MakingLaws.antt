@@ -1,5 +1,5 @@
 -- The exits of the call that makes room.
-use Rattle.std.proofs.Common.{◌≡◌, ◌≢◌, ◌⊎◌, inl, inr, ◌∙◌, ap, refl, sym, subst, ◌<◌, ◌+◌, ◌-◌, ℕ, suc, List, None, Result, Ok, Err, arith}
+use Rattle.std.proofs.Common.{◌≡◌, ◌≢◌, ◌⊎◌, inl, inr, ◌∙◌, ap, refl, sym, subst, ◌<◌, ◌+◌, ◌++◌, ◌-◌, ℕ, suc, List, None, Result, Ok, Err, arith}
 use Rattle.std.specs.Prelude.{IsErrAnd}
 use Rattle.std.specs.declared.cmp.Ordering.{Ordering}
 use Rattle.std.specs.declared.cmp.Ordering.TheVariants.{Less, Equal, Greater}
@@ -23,10 +23,10 @@ use Rattle.mg_tree_overlays.specs.GrowParts.{root_in}
 use Rattle.mg_btree.specs.declared.halves.Halves.{Halves}
 use Rattle.mg_btree.specs.declared.halves.PageBytes.{PageBytes}
 use Rattle.mg_btree.specs.declared.making.Split.{Split}
-use Rattle.mg_btree.specs.Halves.{AreHalves, IsHalfFor, IsPlaceFor, IsRoomy, RefusesName}
+use Rattle.mg_btree.specs.Halves.{AreHalves, HasRoom, IsHalfFor, IsPlaceFor, IsRoomy, RefusesName}
 use Rattle.mg_btree.specs.Making.{IsSplit, SplitsIn, SplitsPage, TakesAbove}
-use Rattle.mg_btree.specs.OrderLaws.{first_there, second_there, split_ordered, third_there, three_laid}
-use Rattle.mg_btree.specs.Ordering.{Widens}
+use Rattle.mg_btree.specs.OrderLaws.{added_after, first_there, second_there, split_ordered, third_there, three_laid, three_orders}
+use Rattle.mg_btree.specs.Ordering.{Widens, split_orders}
 use Rattle.mg_btree.specs.RefusalLaws.{err_room, refuses_now, room_refused, room_up}
 use Rattle.mg_btree.specs.RoomLaws.{place_is_free, split_makes}
 use Rattle.mg_btree.specs.Rooms.{MakesRoom, MakesRoomIn, StandsIn}
@@ -55,34 +55,34 @@ module _ {D L : Type 0} (m : Meaning D) (old a : Pool D L) (image : Image) (keep
       (sym (viewed_on m old a image batch keeps)) is)
 
   pub makes_on : (first second : Changed) (owner root : ℕ) (levels : List (List ℕ)) (level : ℕ)
-      (result : Result PageBytes SpaceFault)
-      → MakesRoomIn a.geometry (viewed a image first) (viewed a image second) second owner root levels
-      level result
-      → MakesRoomIn old.geometry (viewed old image first) (viewed old image second) second owner root
-      levels level result
-  makes_on first second owner root levels level result is =
-      subst (λ (g : Geometry). MakesRoomIn g (viewed old image first) (viewed old image second) second
-      owner root levels level result) keeps.geometry
-      (subst (λ (pages : Pages). MakesRoomIn a.geometry pages (viewed old image second) second owner root
-      levels level result) (viewed_on m old a image first keeps)
-      (subst (λ (pages : Pages). MakesRoomIn a.geometry (viewed a image first) pages second owner root
-      levels level result) (viewed_on m old a image second keeps) is))
+      (e : Entry) (result : Result PageBytes SpaceFault)
+      → MakesRoomIn a.geometry (viewed a image first) (viewed a image second) first second owner root
+      levels level e result
+      → MakesRoomIn old.geometry (viewed old image first) (viewed old image second) first second owner
+      root levels level e result
+  makes_on first second owner root levels level e result is =
+      subst (λ (g : Geometry). MakesRoomIn g (viewed old image first) (viewed old image second) first second
+      owner root levels level e result) keeps.geometry
+      (subst (λ (pages : Pages). MakesRoomIn a.geometry pages (viewed old image second) first second owner
+      root levels level e result) (viewed_on m old a image first keeps)
+      (subst (λ (pages : Pages). MakesRoomIn a.geometry (viewed a image first) pages first second owner
+      root levels level e result) (viewed_on m old a image second keeps) is))
 
 -- the page above got no room
-pub above_refused : (g : Geometry) (was mid new last : Pages) (second third : Changed)
-    (owner root level n : ℕ) (levels : List (List ℕ)) (fault : SpaceFault)
+pub above_refused : (g : Geometry) (was mid new last : Pages) (start first second third : Changed)
+    (owner root level n : ℕ) (levels : List (List ℕ)) (e f : Entry) (fault : SpaceFault)
     (result : Result PageBytes SpaceFault) → TakesPage g was mid n → mid root ≡ was root
     → level < level_in (was root)
-    → MakesRoomIn g mid new second owner root levels (suc level) (Err fault)
-    → IsErrAnd result (λ f. f ≡ fault)
-    → MakesRoomIn g was last third owner root levels level result
-above_refused g was mid new last second third owner root level n levels fault result takes same lower
-    refused is = err_room g was last third owner root levels level fault result is
+    → MakesRoomIn g mid new first second owner root levels (suc level) f (Err fault)
+    → IsErrAnd result (λ given. given ≡ fault)
+    → MakesRoomIn g was last start third owner root levels level e result
+above_refused g was mid new last start first second third owner root level n levels e f fault result takes
+    same lower refused is = err_room g was last start third owner root levels level e fault result is
     (room_up g was mid root level n fault takes same lower refused)
 
 module _ {D L : Type 0} (m : Meaning D) (old a : Pool D L) (image : Image) (keeps : KeepsStore m old a)
     (lawful : IsGeometry old.geometry) (start first second : Changed) (owner root level top : ℕ)
-    (levels : List (List ℕ)) (full : PageBytes) (split : Split) (above : PageBytes)
+    (levels : List (List ℕ)) (full : PageBytes) (e : Entry) (split : Split) (above : PageBytes)
     (result : Result PageBytes SpaceFault)
     (page_is : above.page ≡ split.above.page) (bytes_are : above.bytes ≡ split.above.bytes)
     (tells : Tells m old.disk image) (lower : level < top)
@@ -93,8 +93,8 @@ module _ {D L : Type 0} (m : Meaning D) (old a : Pool D L) (image : Image) (keep
     (makes : (image : Image) (levels : List (List ℕ)) → Tells m a.disk image
     → top ≡ level_in (viewed a image first root)
     → StandsIn a.geometry.size (viewed a image first) owner root levels above
-    → MakesRoomIn a.geometry (viewed a image first) (viewed a image second) second owner root levels
-    (level + 1) result)
+    → MakesRoomIn a.geometry (viewed a image first) (viewed a image second) first second owner root levels
+    (level + 1) split.halves.fence result)
   where
     abbrev was : Pages
     was = viewed old image start
@@ -119,11 +119,12 @@ module _ {D L : Type 0} (m : Meaning D) (old a : Pool D L) (image : Image) (keep
     }
 
     -- the page above got room, or not
-    pub above_made : MakesRoomIn old.geometry (viewed old image first) (viewed old image second) second
-        owner root levels (suc level) result
-    above_made = makes_on m old a image keeps first second owner root levels (suc level) result
-        (subst (λ (k : ℕ). MakesRoomIn a.geometry (viewed a image first) (viewed a image second) second
-        owner root levels k result) (omega arith)
+    pub above_made : MakesRoomIn old.geometry (viewed old image first) (viewed old image second) first
+        second owner root levels (suc level) split.halves.fence result
+    above_made = makes_on m old a image keeps first second owner root levels (suc level)
+        split.halves.fence result
+        (subst (λ (k : ℕ). MakesRoomIn a.geometry (viewed a image first) (viewed a image second) first
+        second owner root levels k split.halves.fence result) (omega arith)
         (makes image levels (tells_on m old a image keeps tells)
         (top_is ∙ ap level_in (sym mid_root ∙ ap (λ (pages : Pages). pages root)
         (sym (viewed_on m old a image first keeps))))
@@ -132,21 +133,21 @@ module _ {D L : Type 0} (m : Meaning D) (old a : Pool D L) (image : Image) (keep
     -- so this page gets none
     pub rec_refused : (last : Changed) (new : Pages) (fault : SpaceFault)
         (out : Result PageBytes SpaceFault) → result ≡ Err fault → IsErrAnd out (λ f. f ≡ fault)
-        → MakesRoomIn old.geometry (viewed old image start) new last owner root levels level out
+        → MakesRoomIn old.geometry (viewed old image start) new start last owner root levels level e out
     rec_refused last new fault out is same = above_refused old.geometry (viewed old image start)
-        (viewed old image first) (viewed old image second) new second last owner root level
-        split.halves.right.page.0 levels fault out takes.0.takes mid_root
+        (viewed old image first) (viewed old image second) new start first second last owner root level
+        split.halves.right.page.0 levels e split.halves.fence fault out takes.0.takes mid_root
         (subst (λ (k : ℕ). level < k) top_is lower)
-        (subst (MakesRoomIn old.geometry (viewed old image first) (viewed old image second) second owner
-        root levels (suc level)) is above_made) same
+        (subst (MakesRoomIn old.geometry (viewed old image first) (viewed old image second) first second
+        owner root levels (suc level) split.halves.fence) is above_made) same
 
 -- a page was not taken, or the page above was not read
-pub take_refused : (g : Geometry) (was last : Pages) (third : Changed) (owner root level : ℕ)
-    (levels : List (List ℕ)) (fault : SpaceFault) (result : Result PageBytes SpaceFault)
+pub take_refused : (g : Geometry) (was last : Pages) (start third : Changed) (owner root level : ℕ)
+    (levels : List (List ℕ)) (e : Entry) (fault : SpaceFault) (result : Result PageBytes SpaceFault)
     → RefusesTake g was fault → IsErrAnd result (λ f. f ≡ fault)
-    → MakesRoomIn g was last third owner root levels level result
-take_refused g was last third owner root level levels fault result refused is =
-    err_room g was last third owner root levels level fault result is
+    → MakesRoomIn g was last start third owner root levels level e result
+take_refused g was last start third owner root level levels e fault result refused is =
+    err_room g was last start third owner root levels level e fault result is
     (room_refused g was root level fault
     (refuses_now g was (suc (level_in (was root)) - level) fault refused))
 
@@ -166,8 +167,9 @@ module _ {D L : Type 0} (old : Pool D L) (image : Image) (lawful : IsGeometry ol
     (takes : TakesAbove old.geometry (viewed old image start) (viewed old image first) first levels
     (Ok split))
     (roomy : IsRoomy old.geometry.size owner (suc level) split.halves.fence above)
-    (made : MakesRoom old.geometry.size (viewed old image first) (viewed old image second) second owner
-    root levels (suc level) above)
+    (made : MakesRoom old.geometry.size (viewed old image first) (viewed old image second) first second
+    owner root levels (suc level) split.halves.fence above)
+    (taken_alone : first.orders ≡ start.orders) (no_room : HasRoom full.bytes e → ⊥)
     (between : Widens old.geometry.size first second) (widens : Widens old.geometry.size second last)
   where
     abbrev late : Pages
@@ -182,8 +184,10 @@ module _ {D L : Type 0} (old : Pool D L) (image : Image) (lawful : IsGeometry ol
 
     done_ : (half : PageBytes)
         → SplitsPage old.geometry.size second last split.halves above e half
-        → MakesRoom old.geometry.size (viewed old image start) (viewed old image last) last owner root levels level half
-    done_ half is = split_makes old.geometry lawful owner root level levels (viewed old image start) (viewed old image first) late second full e
+        → MakesRoom old.geometry.size (viewed old image start) (viewed old image last) start last owner root
+        levels level e half
+    done_ half is = split_makes old.geometry lawful owner root level levels (viewed old image start)
+        (viewed old image first) late first second full e
         split.halves above stands place below takes.0.takes halves_are roomy made is.named is.names
         (viewed old image last)
         ((viewed_same_pages old image is.puts.put last is.puts.orders.same_pages)
@@ -191,7 +195,14 @@ module _ {D L : Type 0} (old : Pool D L) (image : Image) (lawful : IsGeometry ol
         split.halves.right.bytes split.halves.left.bytes is.named is.puts.puts old image
         ∙ ap (λ (k : ℕ). with_page (with_page (with_page late split.halves.right.page.0
         split.halves.right.bytes) k split.halves.left.bytes) above.page.0 is.named) halves_are.left_own))
-        last widens (widens.has (inventory_of old.geometry.size split.halves.right.page.0)
+        start last taken_alone
+        (subst (λ (k : ℕ). last.orders ≡ second.orders ++ split_orders old.geometry.size
+        split.halves.names.items k split.halves.right.page.0 above.page.0) halves_are.left_own
+        (added_after second second is.puts.put last (split_orders old.geometry.size
+        split.halves.names.items split.halves.left.page.0 split.halves.right.page.0 above.page.0) refl
+        (three_orders second is.puts.put split.halves.right.page.0 split.halves.left.page.0 above.page.0
+        split.halves.right.bytes split.halves.left.bytes is.named is.puts.puts) is.puts.orders.added))
+        no_room widens (widens.has (inventory_of old.geometry.size split.halves.right.page.0)
         (between.has (inventory_of old.geometry.size split.halves.right.page.0) takes.0.put))
         (subst (λ (pages : List BatchPage). content_in pages split.halves.right.page.0 ≢ None)
         (sym is.puts.orders.same_pages) (first_there second is.puts.put split.halves.right.page.0
@@ -209,13 +220,13 @@ module _ {D L : Type 0} (old : Pool D L) (image : Image) (lawful : IsGeometry ol
 
     pub split_put : (result : Result PageBytes SpaceFault)
         → SplitsIn old.geometry.size second last split.halves above e result
-        → MakesRoomIn old.geometry (viewed old image start) (viewed old image last) last owner root levels
-        level result
+        → MakesRoomIn old.geometry (viewed old image start) (viewed old image last) start last owner root
+        levels level e result
     split_put (Ok half) is = done_ half is
     split_put (Err (Full limit)) none = absurd none
     split_put (Err (OfPage damage)) has = absurd (place_is_free old.geometry lawful owner root level levels
-        (viewed old image start) (viewed old image first) late second full e split.halves above stands place below takes.0.takes halves_are roomy
-        made has)
+        (viewed old image start) (viewed old image first) late first second full e split.halves above stands
+        place below takes.0.takes halves_are roomy made has)
     split_put (Err (OfPool fault)) is = tt
 
 -- the page above does not take the right half

@@ -1,5 +1,5 @@
 -- Laws of batches that grow: of their pages, their orders, and of three pages that are put.
-use Rattle.std.proofs.Common.{◌≡◌, ◌≢◌, ◌⊎◌, inl, inr, ◌∙◌, refl, sym, subst, ℕ, true, ◌==◌, ◌&&◌, List, [], ◌∷◌, ◌++◌, Some, None, length, eq-eqb}
+use Rattle.std.proofs.Common.{◌≡◌, ◌≢◌, ◌⊎◌, inl, inr, ◌∙◌, ap, refl, sym, subst, ℕ, true, ◌==◌, ◌&&◌, List, [], ◌∷◌, ◌++◌, Some, None, length, eq-eqb}
 use Rattle.std.proofs.Math.Path.{fun_ext}
 use Rattle.std.proofs.lemmas.Bool.{cases_eq, or_cases, or_left, or_right}
 use Rattle.mg_base.specs.Image.{Image}
@@ -193,6 +193,10 @@ module _ (old new : Changed) (a b c : ℕ) (of_a of_b of_c : List ℕ)
           ∙ (sym (with_other (viewed store image old) a of_a n not_a)
           ∙ (sym (with_other one b of_b n not_b) ∙ sym (with_other two c of_c n not_c)))))
 
+  -- the orders stay
+  pub three_orders : new.orders ≡ old.orders
+  three_orders = puts.puts_c.same_orders ∙ (puts.puts_b.same_orders ∙ puts.puts_a.same_orders)
+
   -- each of them is in the batch
   pub third_there : content_in new.pages c ≢ None
   third_there = some_put puts.second new c of_c puts.puts_c
@@ -205,3 +209,9 @@ module _ (old new : Changed) (a b c : ℕ) (of_a of_b of_c : List ℕ)
   first_there = (widens_put puts.second new c of_c puts.puts_c).has a
       ((widens_put puts.first puts.second b of_b puts.puts_b).has a
       (some_put old puts.first a of_a puts.puts_a))
+
+-- orders that are added after pages were taken, and others put
+pub added_after : (start first put last : Changed) (more : List Order) → first.orders ≡ start.orders
+    → put.orders ≡ first.orders → last.orders ≡ put.orders ++ more → last.orders ≡ start.orders ++ more
+added_after start first put last more taken same added =
+    added ∙ ap (λ (os : List Order). os ++ more) (same ∙ taken)

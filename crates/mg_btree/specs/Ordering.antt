@@ -10,6 +10,10 @@ use Rattle.mg_tree_overlays.specs.TreeBatches.{inventory_of}
 abbrev pub before : ℕ → ℕ → Order
 before first later = record { first = first; later = later }
 
+-- each order of a list has a property
+abbrev pub EachOrder : (ℕ → ℕ → Type 0) → List Order → Type 0
+EachOrder P os = (a b : ℕ) → lists os a b ≡ true → P a b
+
 -- a page comes to name another: that one, and the inventory page with its bit, are written before it
 abbrev pub orders_to : ℕ → ℕ → ℕ → List Order
 orders_to size n later = before (inventory_of size n) later ∷ before n later ∷ []

@@ -118,14 +118,14 @@ module _ {D L : Type 0} (m : Meaning D) (store : Pool D L) (image : Image) (star
         (makes : (image : Image) (levels : List (List ℕ)) → Tells m store.disk image
         → leaf.top.level ≡ level_in (viewed store image start leaf.top.page.0)
         → StandsIn store.geometry.size (viewed store image start) leaf.top.owner leaf.top.page.0 levels full
-        → MakesRoomIn store.geometry (viewed store image start) (viewed store image second) second
-        leaf.top.owner leaf.top.page.0 levels 0 given) where
-      made : MakesRoomIn store.geometry (viewed store image start) (viewed store image second) second owner
-          root levels 0 given
+        → MakesRoomIn store.geometry (viewed store image start) (viewed store image second) start second
+        leaf.top.owner leaf.top.page.0 levels 0 e given) where
+      made : MakesRoomIn store.geometry (viewed store image start) (viewed store image second) start second
+          owner root levels 0 e given
       made = subst (λ (k : ℕ). MakesRoomIn store.geometry (viewed store image start)
-          (viewed store image second) second k root levels 0 given) finds.1
+          (viewed store image second) start second k root levels 0 e given) finds.1
           (subst (λ (k : ℕ). MakesRoomIn store.geometry (viewed store image start)
-          (viewed store image second) second leaf.top.owner k levels 0 given) finds.0
+          (viewed store image second) start second leaf.top.owner k levels 0 e given) finds.0
           (makes image levels tells
           (finds.2 ∙ ap (λ (k : ℕ). level_in (viewed store image start k)) (sym finds.0))
           (subst (λ (k : ℕ). StandsIn store.geometry.size (viewed store image start) k leaf.top.page.0
@@ -142,7 +142,7 @@ module _ {D L : Type 0} (m : Meaning D) (store : Pool D L) (image : Image) (star
       put_refused new last fault result is same = inserts_refused store.geometry owner root levels
           (viewed store image start) full e leaf_stands leaf_place none new start last fault result no_place
           (no_room fault is) (subst (MakesRoomIn store.geometry (viewed store image start)
-          (viewed store image second) second owner root levels 0) is made) same
+          (viewed store image second) start second owner root levels 0 e) is made) same
 
       pub put_it : (page : PageBytes) (last : Changed) → given ≡ Ok page
           → IsRoomy store.geometry.size leaf.top.owner 0 e page → PutsWith second last page e
@@ -151,8 +151,8 @@ module _ {D L : Type 0} (m : Meaning D) (store : Pool D L) (image : Image) (star
       put_it page last is roomy puts = inserts_it store.geometry owner root levels (viewed store image start)
           full e leaf_stands leaf_place none store image start second last page refl no_place
           (subst (λ (k : ℕ). IsRoomy store.geometry.size k 0 e page) finds.1 roomy)
-          (subst (MakesRoomIn store.geometry (viewed store image start) (viewed store image second) second
-          owner root levels 0) is made)
+          (subst (MakesRoomIn store.geometry (viewed store image start) (viewed store image second) start
+          second owner root levels 0 e) is made)
           (λ room. let kept = in_place room in
           (one page full (sym is ∙ kept.0), kept.1)) puts
         where

@@ -2,6 +2,7 @@
 use Rattle.std.proofs.Common.{◌≡◌, inl, inr, ◌∙◌, ap, refl, sym, subst, ◌<◌, ◌-◌, ℕ, suc, List, [], ◌∷◌, Result, Ok, Err, arith}
 use Rattle.std.specs.Prelude.{IsErrAnd}
 use Rattle.mg_base.specs.declared.geometry.Geometry.{Geometry}
+use Rattle.mg_node.specs.declared.entry.Entry.{Entry}
 use Rattle.mg_node.specs.NodePage.{level_in}
 use Rattle.mg_image.specs.Form.{Pages}
 use Rattle.mg_pool.specs.Batch.{Changed}
@@ -50,13 +51,14 @@ room_up g old mid root level n (OfPage damage) takes same lower (inl after) =
     inl (refuses_next g old mid n (suc (level_in (mid root)) - suc level)
     (suc (level_in (old root)) - level) (OfPage damage) takes (omega (arith, top, lower)) after)
 room_up g old mid root level n (OfPage damage) takes same lower (inr high) =
-    inr (ap level_in (sym same) ∙ high)
+    inr (ap level_in (sym same) ∙ high.0, high.1)
 room_up g old mid root level n (OfPool fault) takes same lower after = tt
 
-pub err_room : (g : Geometry) (old new : Pages) (batch : Changed) (owner root : ℕ)
-    (levels : List (List ℕ)) (level : ℕ) (fault : SpaceFault) (result : Result PageBytes SpaceFault)
+pub err_room : (g : Geometry) (old new : Pages) (before batch : Changed) (owner root : ℕ)
+    (levels : List (List ℕ)) (level : ℕ) (e : Entry) (fault : SpaceFault)
+    (result : Result PageBytes SpaceFault)
     → IsErrAnd result (λ f. f ≡ fault) → RefusesRoom g old root level fault
-    → MakesRoomIn g old new batch owner root levels level result
-err_room g old new batch owner root levels level fault (Ok page) none refused = absurd none
-err_room g old new batch owner root levels level fault (Err f) same refused =
+    → MakesRoomIn g old new before batch owner root levels level e result
+err_room g old new before batch owner root levels level e fault (Ok page) none refused = absurd none
+err_room g old new before batch owner root levels level e fault (Err f) same refused =
     subst (RefusesRoom g old root level) (sym same) refused

@@ -3,6 +3,8 @@ use Rattle.std.proofs.Common.{◌≡◌, ◌≢◌, ◌⊎◌, inl, inr, ◌∙�
 use Rattle.std.specs.Prelude.{IfSome}
 use Rattle.mg_base.specs.Checks.{PassesAll}
 use Rattle.mg_base.specs.declared.geometry.Geometry.{Geometry}
+use Rattle.mg_base.specs.declared.numbers.PageNo.{PageNo}
+use Rattle.mg_careful.specs.declared.graph.Order.{Order}
 use Rattle.mg_node.specs.declared.entry.Entry.{Entry}
 use Rattle.mg_node.specs.NodePage.{AreAscending, IsAtLeast, IsBelow, entries_of, high_of, level_in, low_of, node_checks}
 use Rattle.mg_image.specs.Form.{Pages}
@@ -16,28 +18,34 @@ use Rattle.mg_space.specs.Taking.{IsGeometry, TakesPage}
 use Rattle.mg_tree_overlays.specs.TreeSteps.{InTree, split_levels}
 use Rattle.mg_tree_overlays.specs.TreesBehind.{Covers}
 use Rattle.mg_tree_overlays.specs.TreeBatches.{ChangesTree, IsNoInventory, OrdersSplit, Stay, done, inventory_of}
-use Rattle.mg_tree_overlays.specs.RowLaws.{row_append, row_more}
 use Rattle.mg_tree_overlays.specs.SplitParts.{tree_back, tree_right, tree_wider}
 use Rattle.mg_tree_overlays.specs.DescentLaws.{ascends, covers_own, last_has}
 use Rattle.mg_tree_overlays.specs.PoolLaws.{pool_changed}
 use Rattle.mg_btree.specs.declared.halves.Halves.{Halves}
 use Rattle.mg_btree.specs.declared.halves.PageBytes.{PageBytes}
 use Rattle.mg_btree.specs.Changing.{HasNoInventory}
-use Rattle.mg_btree.specs.Halves.{AreHalves, HasPlace, IsPlaceFor, IsRoomy, NamesMore}
-use Rattle.mg_btree.specs.Ordering.{Widens}
+use Rattle.mg_btree.specs.Halves.{AreHalves, HasPlace, HasRoom, IsPlaceFor, IsRoomy, NamesMore, names_in}
+use Rattle.mg_btree.specs.EachOrderLaws.{each_append, each_more, each_none, each_split}
+use Rattle.mg_btree.specs.Ordering.{EachOrder, Widens, split_orders}
 use Rattle.mg_btree.specs.ParentLaws.{none_of_place}
 use Rattle.mg_btree.specs.Rooms.{MakesRoom, StandsIn}
+use Rattle.mg_btree.specs.RowOrders.{row_next, row_orders}
+use Rattle.mg_btree.specs.RowOrderLaws.{RoomRow, append_room, ended, joined}
 use Rattle.mg_btree.specs.SearchLaws.{in_node}
 use Rattle.mg_btree.specs.SplitRows.{SplitsUnder, splits_row, with_here, with_other, with_page}
-use Rattle.mg_btree.specs.TakeLaws.{no_true, row_used, taken_below, taken_fresh, taken_here, taken_none, taken_row, taken_same, taken_used, unused_before}
+use Rattle.mg_btree.specs.TakeLaws.{no_true, row_used, taken_below, taken_fresh, taken_here, taken_none, taken_room, taken_same, taken_used, unused_before}
 
 -- a page that has room already
 pub makes_nothing : (size : ℕ) (old : Pages) (batch : Changed) (owner root : ℕ)
-    (levels : List (List ℕ)) (level : ℕ) (page : PageBytes) → StandsIn size old owner root levels page
-    → MakesRoom size old old batch owner root levels level page
-makes_nothing size old batch owner root levels level page stands = record {
+    (levels : List (List ℕ)) (level : ℕ) (e : Entry) (page : PageBytes)
+    → StandsIn size old owner root levels page
+    → MakesRoom size old old batch batch owner root levels level e page
+makes_nothing size old batch owner root levels level e page stands = record {
   ends = levels;
   row = done old levels;
+  adds = sym (ended batch.orders);
+  held = each_none (λ a b. content_in batch.pages b ≢ None);
+  full = tt;
   stands = stands;
   wider = λ n placed. placed;
   used = λ m is. is;
@@ -57,7 +65,7 @@ fence_by old left right at fence low splits =
     let both : Some (as_fence fence) ≡ Some (as_fence splits.given) = sym low ∙ splits.fence in cc
 
 module _ (g : Geometry) (lawful : IsGeometry g) (owner root level : ℕ) (levels : List (List ℕ))
-    (old mid late : Pages) (mid_batch : Changed) (full : PageBytes) (e : Entry) (halves : Halves)
+    (old mid late : Pages) (first_batch mid_batch : Changed) (full : PageBytes) (e : Entry) (halves : Halves)
     (above : PageBytes)
     (stands : StandsIn g.size old owner root levels full)
     (place : IsPlaceFor g.size owner level e full)
@@ -65,7 +73,7 @@ module _ (g : Geometry) (lawful : IsGeometry g) (owner root level : ℕ) (levels
     (takes : TakesPage g old mid halves.right.page.0)
     (is : AreHalves full.bytes full.page.0 halves.right.page.0 halves)
     (roomy : IsRoomy g.size owner (suc level) halves.fence above)
-    (made : MakesRoom g.size mid late mid_batch owner root levels (suc level) above)
+    (made : MakesRoom g.size mid late first_batch mid_batch owner root levels (suc level) halves.fence above)
   where
     abbrev l : ℕ
     l = full.page.0
@@ -205,7 +213,10 @@ module _ (g : Geometry) (lawful : IsGeometry g) (owner root level : ℕ) (levels
     module _ (named : List ℕ) (names : NamesMore above.bytes named halves.fence) (new : Pages)
         (laid : new ≡ with_page (with_page (with_page late halves.right.page.0 halves.right.bytes)
         full.page.0 halves.left.bytes) above.page.0 named)
-        (batch : Changed) (widens : Widens g.size mid_batch batch)
+        (before batch : Changed) (taken_alone : first_batch.orders ≡ before.orders)
+        (adds : batch.orders ≡ mid_batch.orders ++ split_orders g.size halves.names.items full.page.0
+        halves.right.page.0 above.page.0) (no_room : HasRoom full.bytes e → ⊥)
+        (widens : Widens g.size mid_batch batch)
         (bit : content_in batch.pages (inventory_of g.size halves.right.page.0) ≢ None)
         (right_put : content_in batch.pages halves.right.page.0 ≢ None)
         (order : OrdersSplit g.size (content_in batch.pages) (lists batch.orders) full.page.0
@@ -213,23 +224,60 @@ module _ (g : Geometry) (lawful : IsGeometry g) (owner root level : ℕ) (levels
       abbrev ends : List (List ℕ)
       ends = split_levels full.page.0 halves.right.page.0 made.ends
 
-      row_late : ChangesTree g.size owner root (content_in batch.pages) (lists batch.orders) Stay late
-          made.ends new ends
-      row_late = subst (λ (pages : Pages). ChangesTree g.size owner root (content_in batch.pages)
-          (lists batch.orders) Stay late made.ends pages ends) (sym laid)
+      abbrev own_orders : List Order
+      own_orders = split_orders g.size (names_in halves.right.bytes) full.page.0 halves.right.page.0
+          above.page.0
+
+      abbrev made_orders : List Order
+      made_orders = row_orders g.size owner root (content_in mid_batch.pages) (lists mid_batch.orders)
+          Stay mid late levels made.ends made.row
+
+      row_late : RoomRow g.size owner root (content_in batch.pages) (lists batch.orders) Stay late
+          made.ends new ends e halves.fence own_orders
+      row_late = subst (λ (pages : Pages). RoomRow g.size owner root (content_in batch.pages)
+          (lists batch.orders) Stay late made.ends pages ends e halves.fence own_orders) (sym laid)
           (splits_row g.size owner root (content_in batch.pages) (lists batch.orders) Stay late made.ends
           full.page.0 halves.right.page.0 above.page.0 halves.left.bytes halves.right.bytes named
-          halves.fence halves.fence (splits_under named names) order right_put)
+          halves.fence halves.fence e (splits_under named names) order right_put
+          (λ room. no_room (subst (λ (b : List ℕ). HasRoom b e) late_l room)))
 
-      row : ChangesTree g.size owner root (content_in batch.pages) (lists batch.orders) Stay old levels
-          new ends
-      row = taken_row g lawful owner root levels stands.no_inventory old mid halves.right.page.0 takes
-          stands.tree (content_in batch.pages) (lists batch.orders) Stay new ends bit
-          (row_append g.size owner root (content_in batch.pages) (lists batch.orders) Stay mid late new
-          levels made.ends ends
-          (row_more g.size owner root (content_in mid_batch.pages) (content_in batch.pages)
-          (lists mid_batch.orders) (lists batch.orders) Stay mid late levels made.ends
-          (record { has = widens.has; ordered = widens.ordered }) made.row) row_late)
+      steps : RoomRow g.size owner root (content_in batch.pages) (lists batch.orders) Stay old levels
+          new ends e (row_next g.size owner root (content_in mid_batch.pages) (lists mid_batch.orders) Stay
+          mid late levels made.ends made.row halves.fence) (made_orders ++ own_orders)
+      steps = taken_room g lawful owner root levels stands.no_inventory old mid halves.right.page.0 takes
+          stands.tree (content_in batch.pages) (lists batch.orders) Stay new ends e
+          (row_next g.size owner root (content_in mid_batch.pages) (lists mid_batch.orders) Stay mid late
+          levels made.ends made.row halves.fence) (made_orders ++ own_orders) bit
+          (append_room g.size owner root (content_in mid_batch.pages) (content_in batch.pages)
+          (lists mid_batch.orders) (lists batch.orders) Stay mid late new levels made.ends ends e
+          halves.fence own_orders (record { has = widens.has; ordered = widens.ordered }) made.row
+          made.full row_late)
+
+      abbrev row : ChangesTree g.size owner root (content_in batch.pages) (lists batch.orders) Stay old
+          levels new ends
+      row = steps.row
+
+      -- the orders of the levels above, and then those of this split
+      all_orders : batch.orders ≡ before.orders ++ row_orders g.size owner root (content_in batch.pages)
+          (lists batch.orders) Stay old new levels ends row
+      all_orders = adds
+          ∙ (ap (λ (os : List Order). os ++ split_orders g.size halves.names.items full.page.0
+          halves.right.page.0 above.page.0) (made.adds ∙ ap (λ (os : List Order). os ++ made_orders) taken_alone)
+          ∙ (sym (joined before.orders made_orders (split_orders g.size halves.names.items full.page.0
+          halves.right.page.0 above.page.0))
+          ∙ ap (λ (os : List Order). before.orders ++ os)
+          (ap (λ (ns : List PageNo). made_orders ++ split_orders g.size ns full.page.0 halves.right.page.0
+          above.page.0) is.names ∙ sym steps.adds)))
+
+      held : EachOrder (λ a b. content_in batch.pages b ≢ None) (row_orders g.size owner root
+          (content_in batch.pages) (lists batch.orders) Stay old new levels ends row)
+      held = subst (EachOrder (λ a b. content_in batch.pages b ≢ None)) (sym steps.adds)
+          (each_append (λ a b. content_in batch.pages b ≢ None) made_orders own_orders
+          (each_more (λ a b. content_in mid_batch.pages b ≢ None) (λ a b. content_in batch.pages b ≢ None)
+          made_orders (λ a b some. widens.has b some) made.held)
+          (each_split (λ a b. content_in batch.pages b ≢ None) g.size (names_in halves.right.bytes)
+          full.page.0 halves.right.page.0 above.page.0 (λ m. right_put) (λ n has. right_put) order.has_left
+          order.has_left order.has_parent order.has_parent order.has_parent))
 
       apart_rl : halves.right.page.0 ≢ full.page.0
       apart_rl same = fresh_late (subst (InTree made.ends) (sym same) placed_l)
@@ -330,10 +378,13 @@ module _ (g : Geometry) (lawful : IsGeometry g) (owner root level : ℕ) (levels
               (sym same) (sym new_r, tree_right full.page.0 halves.right.page.0 made.ends placed_l)
 
       pub split_makes : (half : PageBytes) → (half ≡ halves.left) ⊎ (half ≡ halves.right)
-          → MakesRoom g.size old new batch owner root levels level half
+          → MakesRoom g.size old new before batch owner root levels level e half
       split_makes half which = record {
         ends = ends;
         row = row;
+        adds = all_orders;
+        held = held;
+        full = steps.full;
         stands = half_stands half which;
         wider = λ n placed. tree_wider full.page.0 halves.right.page.0 made.ends n (made.wider n placed);
         used = row_used g.size owner root (content_in batch.pages) (lists batch.orders) Stay old new levels

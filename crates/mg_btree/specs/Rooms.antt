@@ -1,6 +1,9 @@
 -- A page of a level gets room for an entry: what becomes of the tree, and why it may be refused.
-use Rattle.std.specs.Prelude.{◌≡◌, ◌≢◌, ◌<◌, ◌≤◌, ◌-◌, ◌⊎◌, ◌∷◌, [], ℕ, suc, false, List, length, None, Result, Ok, Err}
+use Rattle.std.specs.Prelude.{◌≡◌, ◌≢◌, ◌<◌, ◌≤◌, ◌-◌, ◌⊎◌, ◌∷◌, ◌++◌, [], ℕ, suc, false, List, length, None, Result, Ok, Err}
+use Rattle.mg_base.specs.declared.damage.Damaged.{Damaged}
+use Rattle.mg_base.specs.declared.damage.Field.TheVariants.{Level}
 use Rattle.mg_base.specs.declared.geometry.Geometry.{Geometry}
+use Rattle.mg_node.specs.declared.entry.Entry.{Entry}
 use Rattle.mg_node.specs.NodePage.{level_in}
 use Rattle.mg_image.specs.Form.{Pages}
 use Rattle.mg_image.specs.Indexes.{IsTree}
@@ -13,6 +16,8 @@ use Rattle.mg_tree_overlays.specs.TreeSteps.{InTree, StaysUsed}
 use Rattle.mg_tree_overlays.specs.TreeBatches.{ChangesTree, Stay, inventory_of}
 use Rattle.mg_btree.specs.declared.halves.PageBytes.{PageBytes}
 use Rattle.mg_btree.specs.Changing.{HasNoInventory}
+use Rattle.mg_btree.specs.Ordering.{EachOrder}
+use Rattle.mg_btree.specs.RowOrders.{SplitsFull, row_orders}
 
 -- pages are taken, one after another
 abbrev pub TakesEach : Geometry → Pages → List ℕ → Pages → Type 0
@@ -40,30 +45,45 @@ pub record StandsIn (size : ℕ) (pages : Pages) (owner root : ℕ) (levels : Li
   pub bytes : page.bytes ≡ pages page.page.0
   pub placed : InTree levels page.page.0
 
--- A tree is changed by a row of steps that leave its entries, after which a page of it has these
--- bytes. Its pages below a level stay as they were; it has new pages, which were not used.
-pub record MakesRoom (size : ℕ) (old new : Pages) (batch : Changed) (owner root : ℕ)
-    (levels : List (List ℕ)) (level : ℕ) (page : PageBytes) : Type 0 where
+-- A tree is changed by a row of steps that leave its entries, so that an entry has room, after which a
+-- page of it has these bytes. Its pages below a level stay as they were; it has new pages, which were
+-- not used. The batch has the orders of the row more, one by one, and a page splits only where the
+-- entry that it is to have does not fit.
+pub record MakesRoom (size : ℕ) (old new : Pages) (before batch : Changed) (owner root : ℕ)
+    (levels : List (List ℕ)) (level : ℕ) (e : Entry) (page : PageBytes) : Type 0 where
   pub ends : List (List ℕ)
   pub row : ChangesTree size owner root (content_in batch.pages) (lists batch.orders) Stay old levels
       new ends
+  pub adds : batch.orders ≡ before.orders ++ row_orders size owner root (content_in batch.pages)
+      (lists batch.orders) Stay old new levels ends row
+  -- the later page of each is in the batch
+  pub held : EachOrder (λ a b. content_in batch.pages b ≢ None) (row_orders size owner root
+      (content_in batch.pages) (lists batch.orders) Stay old new levels ends row)
+  pub full : SplitsFull size owner root (content_in batch.pages) (lists batch.orders) Stay old new levels
+      ends row e
   pub stands : StandsIn size new owner root ends page
   pub wider : (n : ℕ) → InTree levels n → InTree ends n
   pub used : StaysUsed size old new
   pub fresh : (n : ℕ) → InTree ends n → InTree levels n ⊎ (is_used size old n ≡ false)
   pub stays : (n : ℕ) → InTree levels n → level_in (old n) < level → new n ≡ old n
 
+-- the damage of a root that is to split and stands on the highest level that there is
+abbrev pub too_high : ℕ → Damaged
+too_high root =
+    record { page = record { 0 = root }; field = Level; found = 65535; wanted = 65534 }
+
 -- in a tree a page is refused only after the pages that it needs above a level were taken, but for the
 -- last of them; or the root stands on the highest level that there is
 abbrev pub RefusesRoom : Geometry → Pages → ℕ → ℕ → SpaceFault → Type 0
 RefusesRoom g old root level (Full limit) = RefusesAfter g old (suc (level_in (old root)) - level) (Full limit)
 RefusesRoom g old root level (OfPage damage) = RefusesAfter g old (suc (level_in (old root)) - level) (OfPage damage)
-    ⊎ (level_in (old root) ≡ 65535)
+    ⊎ ((level_in (old root) ≡ 65535) × (damage ≡ too_high root))
 RefusesRoom g old root level (OfPool fault) = Unit {0}
 
 -- in a tree room is made, or it is refused
-abbrev pub MakesRoomIn : Geometry → Pages → Pages → Changed → ℕ → ℕ → List (List ℕ) → ℕ
-    → Result PageBytes SpaceFault → Type 0
-MakesRoomIn g old new batch owner root levels level (Ok page) =
-    MakesRoom g.size old new batch owner root levels level page
-MakesRoomIn g old new batch owner root levels level (Err fault) = RefusesRoom g old root level fault
+abbrev pub MakesRoomIn : Geometry → Pages → Pages → Changed → Changed → ℕ → ℕ → List (List ℕ) → ℕ
+    → Entry → Result PageBytes SpaceFault → Type 0
+MakesRoomIn g old new before batch owner root levels level e (Ok page) =
+    MakesRoom g.size old new before batch owner root levels level e page
+MakesRoomIn g old new before batch owner root levels level e (Err fault) =
+    RefusesRoom g old root level fault

@@ -169,7 +169,7 @@ rest_of next first ns n (goes k ks some more) (inr later) =
     let there = rest_of next (next k) ks n more later in
     (there.0, there.1, let less = there.2 in omega (arith, less))
 
-chain_once : (next : ℕ → ℕ) (first : ℕ) (ns : List ℕ) → LinkChain next first ns → IsOnce ns
+pub chain_once : (next : ℕ → ℕ) (first : ℕ) (ns : List ℕ) → LinkChain next first ns → IsOnce ns
 chain_once next first ns ended = tt
 chain_once next first ns (goes k ks some more) = (back, chain_once next (next k) ks more)
   where

@@ -16,11 +16,14 @@ use Rattle.mg_node_writing.specs.NodeChanges.{KeepsNode}
 use Rattle.mg_node_writing.specs.Splits.{SplitsNode}
 use Rattle.mg_tree_overlays.specs.TreeSteps.{InTree, StaysUsed, grow_levels, split_levels}
 use Rattle.mg_tree_overlays.specs.TreesBehind.{Covers}
-use Rattle.mg_tree_overlays.specs.TreeBatches.{ChangesTree, EntryChange, IsNoInventory, OrdersRoot, OrdersSplit, beside, done, grows, splits}
+use Rattle.mg_tree_overlays.specs.TreeBatches.{EntryChange, IsNoInventory, OrdersRoot, OrdersSplit, done, grows, splits}
 use Rattle.mg_tree_overlays.specs.GrowParts.{root_in}
 use Rattle.mg_tree_overlays.specs.PoolLaws.{beside_tree}
 use Rattle.mg_tree_overlays.specs.SearchLaws.{covers_parent}
 use Rattle.mg_btree.specs.ChangeLaws.{used_stays}
+use Rattle.mg_btree.specs.Halves.{HasRoom, names_in}
+use Rattle.mg_btree.specs.Ordering.{root_orders, split_orders}
+use Rattle.mg_btree.specs.RowOrderLaws.{RoomRow, beside_room, ended}
 use Rattle.mg_btree.specs.SearchLaws.{in_node}
 use Rattle.mg_btree.specs.SplitSteps.{IsGrownRoot, grows_step, inner_rewrites, names_step, splits_step}
 
@@ -70,14 +73,17 @@ pub record SplitsUnder (size : ℕ) (old : Pages) (owner root : ℕ) (levels : L
 -- the right half in place, then the left one, then the page above: the tree is split
 pub splits_row : (size owner root : ℕ) (batch : ℕ → Option (List ℕ)) (orders : Orders)
     (change : EntryChange) (old : Pages) (levels : List (List ℕ)) (l r p : ℕ)
-    (left right named : List ℕ) (e f : Entry)
+    (left right named : List ℕ) (e f x : Entry)
     → SplitsUnder size old owner root levels l r p left right named e f
-    → OrdersSplit size batch orders l r p → batch r ≢ None
-    → ChangesTree size owner root batch orders change old levels
-    (with_page (with_page (with_page old r right) l left) p named) (split_levels l r levels)
-splits_row size owner root batch orders change old levels l r p left right named e f is order some_r =
-    beside old in_place whole levels (split_levels l r levels) r (with_other old r right) used_r some_r is.fresh
-    (splits in_place halved whole whole levels (split_levels l r levels) l r p e (record {
+    → OrdersSplit size batch orders l r p → batch r ≢ None → (HasRoom (old l) x → ⊥)
+    → RoomRow size owner root batch orders change old levels
+    (with_page (with_page (with_page old r right) l left) p named) (split_levels l r levels) x e
+    (split_orders size (names_in right) l r p)
+splits_row size owner root batch orders change old levels l r p left right named e f x is order some_r
+    no_room = beside_room size owner root batch orders change old in_place whole levels
+    (split_levels l r levels) r x e (split_orders size (names_in right) l r p) (with_other old r right) used_r
+    some_r is.fresh (record {
+    row = splits in_place halved whole whole levels (split_levels l r levels) l r p e (record {
       splits = splits_step size in_place halved owner l r left right
           (subst (λ (b : List ℕ). SplitsNode b left right r) (sym old_l) is.halves) is.lawful.0 is.lawful.1
           is.two.0 is.two.1 (with_other in_place l left) (with_here in_place l left) (with_here old r right)
@@ -97,7 +103,12 @@ splits_row size owner root batch orders change old levels l r p left right named
           (ap level_in in_p ∙ (is.level ∙ ap (λ (b : List ℕ). suc (level_in b)) (sym old_l)))
           (subst (λ (b : List ℕ). CoversBy b f) (sym in_p) is.covers.0)
           (subst (λ (b : List ℕ). CoversBy b f) (sym old_l) is.covers.1);
-    }) order is.no_inventory.0 is.no_inventory.2 is.below_root is.fresh (done whole (split_levels l r levels)))
+    }) order is.no_inventory.0 is.no_inventory.2 is.below_root is.fresh (done whole (split_levels l r levels));
+    adds = ended (split_orders size (names_in (with_page old r right r)) l r p)
+        ∙ ap (λ (b : List ℕ). split_orders size (names_in b) l r p) (with_here old r right);
+    full = (λ room. no_room (subst (λ (b : List ℕ). HasRoom b x) old_l room), tt);
+    next = refl;
+    })
   where
     in_place : Pages
     in_place = with_page old r right
@@ -161,16 +172,21 @@ pub record GrowsUnder (size : ℕ) (old : Pages) (owner root : ℕ) (levels : Li
 -- both halves in place, then the root: the tree has a level more
 pub grows_row : (size owner root : ℕ) (batch : ℕ → Option (List ℕ)) (orders : Orders)
     (change : EntryChange) (old : Pages) (levels : List (List ℕ)) (a b : ℕ)
-    (copy left right grown : List ℕ)
+    (copy left right grown : List ℕ) (x : Entry)
     → GrowsUnder size old owner root levels a b copy left right grown
     → OrdersRoot size batch orders root a b → batch a ≢ None → batch b ≢ None
-    → ChangesTree size owner root batch orders change old levels
-    (with_page (with_page (with_page old a left) b right) root grown) (grow_levels root a b levels)
-grows_row size owner root batch orders change old levels a b copy left right grown is order some_a some_b =
-    beside old first whole levels (grow_levels root a b levels) a (with_other old a left) used_a some_a is.fresh.0
-    (beside first second whole levels (grow_levels root a b levels) b (with_other first b right) used_b some_b
-    is.fresh.1
-    (grows second whole whole levels (grow_levels root a b levels) a b
+    → (HasRoom (old root) x → ⊥)
+    → RoomRow size owner root batch orders change old levels
+    (with_page (with_page (with_page old a left) b right) root grown) (grow_levels root a b levels) x x
+    (root_orders size (names_in left) (names_in right) root a b)
+grows_row size owner root batch orders change old levels a b copy left right grown x is order some_a some_b
+    no_room =
+    beside_room size owner root batch orders change old first whole levels (grow_levels root a b levels) a x x
+    (root_orders size (names_in left) (names_in right) root a b) (with_other old a left) used_a some_a is.fresh.0
+    (beside_room size owner root batch orders change first second whole levels (grow_levels root a b levels) b
+    x x (root_orders size (names_in left) (names_in right) root a b) (with_other first b right) used_b some_b
+    is.fresh.1 (record {
+    row = grows second whole whole levels (grow_levels root a b levels) a b
     (grows_step size second whole owner root a b copy left right grown
     (subst (λ (p : List ℕ). CopiesNode p copy a) (sym old_root) is.copies) is.halves is.lawful.0 is.lawful.1
     is.two.0 is.two.1
@@ -182,7 +198,15 @@ grows_row size owner root batch orders change old levels a b copy left right gro
     (subst (λ (p : List ℕ). PassesAll (node_checks p root owner)) (sym old_root) is.fields)
     (ap low_of old_root ∙ rw is.tree.root_low refl) (ap high_of old_root ∙ no_high)
     (ap right_in old_root ∙ is.tree.root_right))
-    order is.no_inventory.0 (done whole (grow_levels root a b levels))))
+    order is.no_inventory.0 (done whole (grow_levels root a b levels));
+    adds = ended (root_orders size (names_in (second a)) (names_in (second b)) root a b)
+        ∙ (ap (λ (p : List ℕ). root_orders size (names_in p) (names_in (second b)) root a b)
+        (with_other first b right a is.apart ∙ with_here old a left)
+        ∙ ap (λ (p : List ℕ). root_orders size (names_in left) (names_in p) root a b)
+        (with_here first b right));
+    full = (λ room. no_room (subst (λ (p : List ℕ). HasRoom p x) old_root room), tt);
+    next = refl;
+    }))
   where
     first : Pages
     first = with_page old a left

@@ -3,6 +3,8 @@ use Rattle.std.proofs.Common.{◌≡◌, ◌≢◌, refl, sym, ◌<◌, ◌/◌,
 use Rattle.mg_base.specs.declared.geometry.Geometry.{Geometry}
 use Rattle.mg_base.specs.declared.geometry.TheConstants.{GREATEST_LIMIT}
 use Rattle.mg_careful.specs.Precedence.{Orders}
+use Rattle.mg_careful.specs.declared.graph.Order.{Order}
+use Rattle.mg_node.specs.declared.entry.Entry.{Entry}
 use Rattle.mg_image.specs.Form.{Pages}
 use Rattle.mg_image.specs.Indexes.{IsTree}
 use Rattle.mg_image.specs.Inventory.{is_used}
@@ -14,6 +16,7 @@ use Rattle.mg_tree_overlays.specs.TreeBatches.{ChangesTree, EntryChange, IsNoInv
 use Rattle.mg_tree_overlays.specs.GrowParts.{unused_fresh}
 use Rattle.mg_tree_overlays.specs.PoolLaws.{beside_tree}
 use Rattle.mg_btree.specs.Changing.{HasNoInventory}
+use Rattle.mg_btree.specs.RowOrderLaws.{RoomRow, beside_room}
 
 -- what a row of steps used is used still
 pub row_used : (size owner root : ℕ) (batch : ℕ → Option (List ℕ)) (orders : Orders)
@@ -78,9 +81,11 @@ module _ (g : Geometry) (lawful : IsGeometry g) (owner root : ℕ) (levels : Lis
   taken_below = let below = takes.free.below in let most = lawful.limit in omega arith
 
   -- the step of its inventory page
-  pub taken_row : (batch : ℕ → Option (List ℕ)) (orders : Orders) (change : EntryChange) (last : Pages)
-      (ends : List (List ℕ)) → batch (inventory_of g.size n) ≢ None
-      → ChangesTree g.size owner root batch orders change new levels last ends
-      → ChangesTree g.size owner root batch orders change old levels last ends
-  taken_row batch orders change last ends some more = beside old new last levels ends
-      (inventory_of g.size n) takes.others taken_used some taken_beside more
+  pub taken_room : (batch : ℕ → Option (List ℕ)) (orders : Orders) (change : EntryChange) (last : Pages)
+      (ends : List (List ℕ)) (e first : Entry) (added : List Order)
+      → batch (inventory_of g.size n) ≢ None
+      → RoomRow g.size owner root batch orders change new levels last ends e first added
+      → RoomRow g.size owner root batch orders change old levels last ends e first added
+  taken_room batch orders change last ends e first added some more = beside_room g.size owner root batch
+      orders change old new last levels ends (inventory_of g.size n) e first added takes.others taken_used
+      some taken_beside more

@@ -1,6 +1,6 @@
 //! The growth of a tree: its root splits, and keeps its page.
 
-ghost use Rattle.std.specs.Prelude.{◌≡◌, ◌<◌, ◌≤◌, ◌/◌, [], IfOk, length};
+ghost use Rattle.std.specs.Prelude.{◌≡◌, ◌<◌, ◌≤◌, ◌/◌, [], IfOk, OnOk, length};
 ghost use Rattle.mg_base.specs.Image.{Image};
 ghost use Rattle.mg_base.specs.Fields.{with_u32};
 ghost use Rattle.mg_node.specs.NodePage.{IsLeast, IsNodePage};
@@ -55,6 +55,7 @@ pub(crate) fn take_two<D: Disk>(
     ensures takes { (image : Image) → Tells D.meaning store.old.disk image
         → TakesTwo store.old.geometry (viewed store.old image batch.old)
         (viewed store.old image batch.new) batch.new result }
+    ensures orders { OnOk result (batch.new.orders ≡ batch.old.orders) }
 {
     let first = take_page(store, batch)?;
     let second = take_page(store, batch)?;

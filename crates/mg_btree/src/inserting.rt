@@ -44,8 +44,8 @@ pub(crate) struct Leaf {
 /// # Errors
 ///
 /// `Full` where a page splits and no page is free; `Damaged` only where no tree stands there, where a
-/// page of the inventory is damaged, or where the root stands on level 65535; `Pool` with `DiskRead`,
-/// `Offline` or `Memory`. The batch may then have a part of the changes; the caller drops it.
+/// page of the inventory is damaged, or, at `Level` of the root, where that is to split and stands on
+/// level 65535 (wanted 65534); `Pool` with `DiskRead`, `Offline` or `Memory`. The batch may then have a part of the changes; the caller drops it.
 pub fn insert<D: Disk>(
     store: &mut Store<D>,
     batch: &mut Batch,

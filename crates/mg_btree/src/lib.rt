@@ -27,6 +27,7 @@
 mod growing;
 mod halves;
 mod inserting;
+mod laws;
 mod making;
 mod node;
 mod ordering;
@@ -36,6 +37,7 @@ mod root;
 mod search;
 
 pub use inserting::insert;
+pub use laws::inserted_orders_close_no_cycle;
 pub use range::range_step;
 pub use removing::remove;
 

@@ -14,7 +14,7 @@ ghost use Rattle.mg_btree.specs.Halves.{AreHalves, CoversBy, HasRoom, IsPlaceFor
 ghost use Rattle.mg_btree.specs.Making.{IsSplit, PutsRoot, PutsSplit, SplitsIn, SplitsRoot, TakesAbove, TakesRight};
 ghost use Rattle.mg_btree.specs.Ordering.{Widens};
 ghost use Rattle.mg_btree.specs.Reading.{Reads};
-ghost use Rattle.mg_btree.specs.Rooms.{MakesRoomIn, RefusesRoom, StandsIn};
+ghost use Rattle.mg_btree.specs.Rooms.{MakesRoomIn, RefusesRoom, StandsIn, too_high};
 ghost use Rattle.mg_btree.specs.Searching.{IsReached};
 
 use crate::growing::{Growth, TwoPages, grow, take_two};
@@ -23,7 +23,7 @@ use crate::node::ReadNode;
 use crate::ordering::{SplitPages, order_root, order_split, put_three};
 use crate::root::Root;
 use crate::search::descend;
-use mg_base::{Damaged, Disk, Field, Memory};
+use mg_base::{Damaged, Disk, Field, Memory, PageNo};
 use mg_node::Entry;
 use mg_pool::Batch;
 use mg_space::{SpaceFault, Store, take_page};
@@ -41,8 +41,8 @@ pub(crate) struct Split {
 /// # Errors
 ///
 /// `Full` where a page splits and no page is free; `Damaged` only where no tree stands there, where a
-/// page of the inventory is damaged, or where the root stands on the highest level that there is;
-/// else the cache's. The batch may then have the bits of the pages that were taken.
+/// page of the inventory is damaged, or, at `Level`, where the root is to split and stands on the
+/// highest level that there is; else the cache's. The batch may then have the bits of the pages that were taken.
 pub(crate) fn make_room<D: Disk>(
     store: &mut Store<D>,
     batch: &mut Batch,
@@ -68,7 +68,8 @@ pub(crate) fn make_room<D: Disk>(
         → StandsIn store.old.geometry.size (viewed store.old image batch.old) top.owner top.page.0
         levels full
         → MakesRoomIn store.old.geometry (viewed store.old image batch.old)
-        (viewed store.old image batch.new) batch.new top.owner top.page.0 levels level result }
+        (viewed store.old image batch.new) batch.old batch.new top.owner top.page.0 levels level e.now
+        result }
 {
     if has_room(full.bytes.as_slice(), e) {
         return Ok(full);
@@ -114,6 +115,7 @@ fn take_above<D: Disk>(
     ensures reads { Reads D.meaning store.old store.new result }
     ensures widens { Widens store.old.geometry.size batch.old batch.new }
     ensures split { IfOk result (IsSplit store.old.geometry.size top.owner level full) }
+    ensures orders { OnOk result (batch.new.orders ≡ batch.old.orders) }
     ensures takes { (image : Image) (levels : List (List ℕ)) → Tells D.meaning store.old.disk image
         → top.level ≡ level_in (viewed store.old image batch.old top.page.0)
         → StandsIn store.old.geometry.size (viewed store.old image batch.old) top.owner top.page.0
@@ -155,6 +157,7 @@ fn take_right<D: Disk>(
     ensures widens { Widens store.old.geometry.size batch.old batch.new }
     ensures halves { IfOk result (λ halves.
         AreHalves full.bytes full.page.0 halves.right.page.0 halves) }
+    ensures orders { OnOk result (batch.new.orders ≡ batch.old.orders) }
     ensures takes { (image : Image) → Tells D.meaning store.old.disk image
         → TakesRight store.old.geometry (viewed store.old image batch.old)
         (viewed store.old image batch.new) batch.new result }
@@ -217,13 +220,16 @@ fn put_named(batch: &mut Batch, size: u32, halves: &Halves, named: &PageBytes) -
     order_split(batch, size, &halves.names, at)
 }
 
-/// Names the root of a tree that has as many levels as there can be.
-fn too_high(top: Root) -> Damaged {
+/// Names a root that is to split and stands on the highest level that there is: the level above has no
+/// number. The level wanted is the highest from which a root can go up.
+fn high_root(root: PageNo) -> Damaged
+    ensures { result ≡ too_high root.0 }
+{
     Damaged {
-        page: top.page,
+        page: root,
         field: Field::Level,
-        found: u64::from(top.level),
-        wanted: 0,
+        found: u64::from(u16::MAX),
+        wanted: u64::from(u16::MAX) - 1,
     }
 }
 
@@ -246,6 +252,7 @@ fn grow_root<D: Disk>(
     requires place { IsPlaceFor store.old.geometry.size top.owner top.level e.now full }
     requires short { length e.now.key ≤ store.old.geometry.size / 8 }
     requires full { room_in full.bytes < most_need full.bytes }
+    requires no_room { HasRoom full.bytes e.now → ⊥ }
 
     ensures reads { Reads D.meaning store.old store.new result }
     ensures widens { Widens store.old.geometry.size batch.old batch.new }
@@ -255,10 +262,11 @@ fn grow_root<D: Disk>(
         → StandsIn store.old.geometry.size (viewed store.old image batch.old) top.owner top.page.0
         levels full
         → MakesRoomIn store.old.geometry (viewed store.old image batch.old)
-        (viewed store.old image batch.new) batch.new top.owner top.page.0 levels top.level result }
+        (viewed store.old image batch.new) batch.old batch.new top.owner top.page.0 levels top.level
+        e.now result }
 {
     if top.level == u16::MAX {
-        return Err(SpaceFault::Damaged(too_high(top)));
+        return Err(SpaceFault::Damaged(high_root(top.page)));
     }
     let two = take_two(store, batch)?;
     Ok(put_growth(store, batch, top, full, two, e)?)

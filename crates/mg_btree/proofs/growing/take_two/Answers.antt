@@ -1,4 +1,4 @@
-use Rattle.std.proofs.Common.{refl, Ok}
+use Rattle.std.proofs.Common.{◌∙◌, refl, Ok}
 use Rattle.mg_base.specs.declared.numbers.PageNo.{PageNo}
 use Rattle.mg_space.specs.View.{viewed}
 use Rattle.mg_space.specs.ViewLaws.{tells_on}
@@ -95,3 +95,7 @@ returns-clause-takes g c = λ image tells.
             c.in_ok-second.ensures.puts;
       },
     )
+
+pub returns-clause-orders : goal.returns-clause-orders
+returns-clause-orders g c = c.in_ok-second.ensures.puts.puts.same_orders
+    ∙ c.in_ok-first.ensures.puts.puts.same_orders

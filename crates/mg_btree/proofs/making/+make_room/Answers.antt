@@ -1,10 +1,10 @@
-use Rattle.std.proofs.Common.{rules, ◌≡◌, ◌≤◌, ◌<◌, ◌+◌, ◌/◌, ◌∙◌, refl, sym, subst, Ok, Err, ℕ, length, arith, None}
+use Rattle.std.proofs.Common.{rules, ◌≡◌, ◌≤◌, ◌<◌, ◌+◌, ◌/◌, ◌∙◌, refl, sym, subst, Ok, Err, ℕ, List, length, arith, None}
 use Rattle.mg_base.specs.declared.geometry.Geometry.{Geometry}
 use Rattle.mg_space.specs.Taking.{IsGeometry}
 use Rattle.mg_space.specs.View.{AreWhole, viewed}
 use Rattle.mg_btree.specs.declared.halves.PageBytes.{PageBytes}
 use Rattle.mg_btree.specs.ExitLaws.{reads_split}
-use Rattle.mg_btree.specs.Halves.{IsPlaceFor, IsRoomy}
+use Rattle.mg_btree.specs.Halves.{HasRoom, IsPlaceFor, IsRoomy}
 use Rattle.mg_btree.specs.Making.{SplitsIn}
 use Rattle.mg_btree.specs.MakingLaws.{above_made, rec_refused, split_put, take_refused}
 use Rattle.mg_btree.specs.OrderLaws.{widens_on}
@@ -12,6 +12,7 @@ use Rattle.mg_btree.specs.Ordering.{Widens}
 use Rattle.mg_btree.specs.PutAtLaws.{reached_place}
 use Rattle.mg_btree.specs.ReadingLaws.{reads_on}
 use Rattle.mg_btree.specs.RoomLaws.{makes_nothing}
+use Rattle.mg_btree.specs.RowOrderLaws.{not_there}
 use Rattle.mg_btree.specs.RoomyLaws.{split_roomy}
 use Rattle.mg_btree.specs.ScanLaws.{reads_err}
 use Rattle.mg_btree.specs.Searching.{IsReached}
@@ -20,13 +21,14 @@ use Rattle.mg_btree.proofs.making.+make_room.Goals as goal
 pub returns-then-has_room-clause-makes : goal.returns-then-has_room-clause-makes
 returns-then-has_room-clause-makes g t c = λ image levels tells top stands. makes_nothing
     c.args.store.now.geometry.size (viewed c.args.store.now image c.args.batch.now) c.args.batch.now
-    c.args.top.owner c.args.top.page.0 levels c.args.level c.args.full stands
+    c.args.top.owner c.args.top.page.0 levels c.args.level c.args.e.now c.args.full stands
 
 pub returns-in_err-split-clause-makes : goal.returns-in_err-split-clause-makes
 returns-in_err-split-clause-makes g t c = λ image levels tells top stands. take_refused
     c.args.store.now.geometry (viewed c.args.store.now image c.args.batch.now)
-    (viewed c.args.store.now image c.take_above.new.batch) c.take_above.new.batch c.args.top.owner
-    c.args.top.page.0 c.args.level levels c.in_err-split.field-0.0 c.from_residual.result
+    (viewed c.args.store.now image c.take_above.new.batch) c.args.batch.now c.take_above.new.batch
+    c.args.top.owner c.args.top.page.0 c.args.level levels c.args.e.now c.in_err-split.field-0.0
+    c.from_residual.result
     (c.in_err-split.ensures.takes image levels tells top stands) c.from_residual.ensures.1
 
 pub make_room-requires : goal.make_room-requires
@@ -75,7 +77,7 @@ returns-in_err-roomy-clause-makes g t c = λ image levels tells top stands.
     rec_refused g.D.Disk.meaning c.args.store.now c.take_above.new.store image
     c.in_ok-split.ensures.reads.keeps c.requires.geometry c.args.batch.now c.take_above.new.batch
     c.make_room.new.batch c.args.top.owner c.args.top.page.0 c.args.level c.args.top.level levels
-    c.args.full c.in_ok-split.split c.as_place.result (Err c.in_err-roomy.field-0.0)
+    c.args.full c.args.e.now c.in_ok-split.split c.as_place.result (Err c.in_err-roomy.field-0.0)
     c.as_place.ensures.page c.as_place.ensures.bytes tells lower top stands
     (c.in_ok-split.ensures.takes image levels tells top stands) c.in_err-roomy.ensures.makes
     c.make_room.new.batch (viewed c.args.store.now image c.make_room.new.batch) c.in_err-roomy.field-0.0
@@ -130,8 +132,11 @@ returns-clause-makes g t c = λ image levels tells top stands.
     (above_made g.D.Disk.meaning c.args.store.now c.take_above.new.store image
     c.in_ok-split.ensures.reads.keeps c.requires.geometry c.args.batch.now c.take_above.new.batch
     c.make_room.new.batch c.args.top.owner c.args.top.page.0 c.args.level c.args.top.level levels
-    c.args.full c.in_ok-split.split c.as_place.result (Ok c.in_ok-roomy.roomy) c.as_place.ensures.page
-    c.as_place.ensures.bytes tells lower top stands takes c.in_ok-roomy.ensures.makes)
+    c.args.full c.args.e.now c.in_ok-split.split c.as_place.result (Ok c.in_ok-roomy.roomy)
+    c.as_place.ensures.page c.as_place.ensures.bytes tells lower top stands takes c.in_ok-roomy.ensures.makes)
+    c.in_ok-split.ensures.orders
+    (λ room. not_there c.has_room.result c.has_room.ensures.1 c.if-has_room.false
+    (subst (λ (b : List ℕ). HasRoom b c.args.e.now) (sym c.as_slice.ensures) room))
     (subst (λ (k : Geometry). Widens k.size c.take_above.new.batch c.make_room.new.batch) first
     c.in_ok-roomy.ensures.widens)
     (subst (λ (k : Geometry). Widens k.size c.make_room.new.batch c.put_split.new.batch) second
@@ -139,3 +144,8 @@ returns-clause-makes g t c = λ image levels tells top stands.
     (subst (λ (k : Geometry). SplitsIn k.size c.make_room.new.batch c.put_split.new.batch
     c.in_ok-split.split.halves c.in_ok-roomy.roomy c.args.e.now c.put_split.result) second
     c.put_split.ensures.splits)
+
+pub grow_root-requires-clause-no_room : goal.grow_root-requires-clause-no_room
+grow_root-requires-clause-no_room g t c =
+    λ room. not_there c.has_room.result c.has_room.ensures.1 c.if-has_room.false
+    (subst (λ (b : List ℕ). HasRoom b c.args.e.now) (sym c.as_slice.ensures) room)

@@ -14,7 +14,7 @@ use Rattle.mg_btree.proofs.making.grow_root.Goals as goal
 
 pub returns-then-top-eq65535-clause-reads : goal.returns-then-top-eq65535-clause-reads
 returns-then-top-eq65535-clause-reads g c = reads_damage g.D.Disk.meaning c.args.store.now
-    c.args.store.now (Ok tt) tt (Err (OfPage c.too_high.result)) c.too_high.result refl
+    c.args.store.now (Ok tt) tt (Err (OfPage c.high_root.result)) c.high_root.result refl
     (online_itself g.D.Disk.meaning c.args.store.now c.requires.pool c.requires.online) refl
 
 pub returns-then-top-eq65535-clause-widens : goal.returns-then-top-eq65535-clause-widens
@@ -24,9 +24,9 @@ returns-then-top-eq65535-clause-widens g c = widens_same c.args.store.now.geomet
 pub returns-then-top-eq65535-clause-makes : goal.returns-then-top-eq65535-clause-makes
 returns-then-top-eq65535-clause-makes g c = λ image levels tells top stands. high_refused
     c.args.store.now.geometry (viewed c.args.store.now image c.args.batch.now)
-    (viewed c.args.store.now image c.args.batch.now) c.args.batch.now c.args.top.owner
-    c.args.top.page.0 c.args.top.level levels c.too_high.result (Err (OfPage c.too_high.result)) top
-    (omega arith) refl
+    (viewed c.args.store.now image c.args.batch.now) c.args.batch.now c.args.batch.now c.args.top.owner
+    c.args.top.page.0 c.args.top.level levels c.args.e.now c.high_root.result
+    (Err (OfPage c.high_root.result)) top (omega arith) c.high_root.ensures refl
 
 pub returns-in_err-two-clause-reads : goal.returns-in_err-two-clause-reads
 returns-in_err-two-clause-reads g c = reads_err TwoPages g.D.Disk.meaning c.args.store.now
@@ -36,8 +36,9 @@ returns-in_err-two-clause-reads g c = reads_err TwoPages g.D.Disk.meaning c.args
 pub returns-in_err-two-clause-makes : goal.returns-in_err-two-clause-makes
 returns-in_err-two-clause-makes g c = λ image levels tells top stands. two_refused
     c.args.store.now.geometry (viewed c.args.store.now image c.args.batch.now)
-    (viewed c.args.store.now image c.take_two.new.batch) c.take_two.new.batch c.args.top.owner
-    c.args.top.page.0 c.args.top.level levels c.in_err-two.field-0.0 c.from_residual.result top
+    (viewed c.args.store.now image c.take_two.new.batch) c.args.batch.now c.take_two.new.batch
+    c.args.top.owner c.args.top.page.0 c.args.top.level levels c.args.e.now c.in_err-two.field-0.0
+    c.from_residual.result top
     (c.in_err-two.ensures.takes image tells) c.from_residual.ensures.1
 
 pub returns-clause-reads : goal.returns-clause-reads
@@ -64,6 +65,7 @@ returns-clause-makes g c = λ image levels tells top stands. root_put c.args.sto
     c.requires.geometry c.args.batch.now c.take_two.new.batch c.put_growth.new.batch c.args.top.owner
     c.args.top.page.0 c.args.top.level levels c.args.full c.in_ok-two.two c.args.e.now
     c.in_ok-put_growth.field-0 stands c.requires.place top (c.in_ok-two.ensures.takes image tells)
+    c.in_ok-two.ensures.orders c.requires.no_room
     (subst (λ (k : Geometry). Widens k.size c.take_two.new.batch c.put_growth.new.batch)
     c.in_ok-two.ensures.reads.keeps.geometry c.in_ok-put_growth.ensures.widens)
     (subst (λ (k : Geometry). SplitsRoot k.size c.take_two.new.batch c.put_growth.new.batch

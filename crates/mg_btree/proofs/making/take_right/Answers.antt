@@ -62,3 +62,6 @@ returns-clause-takes g c = λ image tells. right_taken c.args.store.now.geometry
     (viewed c.args.store.now image c.args.batch.now) (viewed c.args.store.now image c.take_page.new.batch)
     c.args.batch.now c.take_page.new.batch c.args.full c.in_ok-at.at.0 c.in_ok-halve.field-0
     c.in_ok-halve.ensures (c.in_ok-at.ensures.takes image tells) c.in_ok-at.ensures.puts
+
+pub returns-clause-orders : goal.returns-clause-orders
+returns-clause-orders g c = c.in_ok-at.ensures.puts.puts.same_orders
