@@ -40,3 +40,6 @@ pub mod TwoLaws
 pub mod RoomyLaws
 pub mod Climbing
 pub mod ClimbLaws
+pub mod OnPage
+pub mod OnPageLaws
+pub mod PassLaws

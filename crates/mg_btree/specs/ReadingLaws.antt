@@ -1,7 +1,10 @@
 -- Laws of calls that read index pages.
-use Rattle.std.proofs.Common.{◌≡◌, ap, refl, sym, subst, ◌∙◌, ℕ, zero, suc, List, Result, Ok, Err}
-use Rattle.std.specs.Prelude.{IsErrAnd, MatchResult}
-use Rattle.mg_base.specs.Checks.{PassesAll, common_checks}
+use Rattle.std.proofs.Common.{◌≡◌, ap, refl, sym, subst, ◌∙◌, ℕ, zero, suc, true, false, List, Result, Ok, Err}
+use Rattle.std.specs.Prelude.{◌↔◌, IsErrAnd, IsOk, MatchResult}
+use Rattle.mg_base.specs.CheckLaws.{passes_from_verdict, verdict_from_passes}
+use Rattle.mg_base.specs.Checks.{Check, PassesAll, common_checks, verdict}
+use Rattle.mg_base.specs.declared.damage.Damaged.{Damaged}
+use Rattle.mg_base.specs.declared.numbers.PageNo.{PageNo}
 use Rattle.mg_base.specs.Disk.{Meaning}
 use Rattle.mg_base.specs.Fields.{byte}
 use Rattle.mg_base.specs.Image.{blank}
@@ -56,3 +59,14 @@ reads_on m counts a b c first x result ok before then_ =
       fault = fault_on m a b c (pool_answer result) before.keeps fine.2 then_.fault;
       own = then_.own;
     }
+
+-- a test passes exactly where each of its checks does
+pub tells_passes : (page : PageNo) (checks : List Check) (result : Result (Unit {0}) Damaged)
+    → result ≡ verdict page checks → IsOk result ↔ PassesAll checks
+tells_passes page checks (Ok x) is =
+    ((λ fine. passes_from_verdict page checks (sym is)), (λ passes. refl))
+tells_passes page checks (Err damage) is = (
+  (λ fine. let both : false ≡ true = fine in absurd cc),
+  (λ passes. let both : ◌≡◌ {A = Result (Unit {0}) Damaged} (Err damage) (Ok tt) =
+      is ∙ verdict_from_passes page checks passes in absurd cc),
+)

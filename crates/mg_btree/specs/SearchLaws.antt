@@ -224,14 +224,14 @@ begins_short size pages owner root levels e level n begins = short_in size pages
 
 -- ---- down
 
-stays_to : (e : Entry) (child : ℕ) (es : List Entry) → ((f : Entry) → HasEntry es f → IsBelow e f)
+pub stays_to : (e : Entry) (child : ℕ) (es : List Entry) → ((f : Entry) → HasEntry es f → IsBelow e f)
     → child_to e child es ≡ child
 stays_to e child [] all = refl
 stays_to e child (f ∷ fs) all =
     stays_to e (by_order (entry_cmp e f) child f.child.0) fs (λ g has. all g (inr has))
     ∙ ap (λ (o : Ordering). by_order o child f.child.0) (all f (inl refl))
 
-taken_to : (o : Ordering) (child next : ℕ) → o ≢ Less → by_order o child next ≡ next
+pub taken_to : (o : Ordering) (child next : ℕ) → o ≢ Less → by_order o child next ≡ next
 taken_to Less child next up = absurd (up refl)
 taken_to Equal child next up = refl
 taken_to Greater child next up = refl

@@ -1,7 +1,8 @@
 -- The search for the page of a level between whose fences an entry lies.
-use Rattle.std.specs.Prelude.{◌≡◌, ◌≤◌, ℕ, List, [], ◌∷◌, length, Result, Ok, Err, IfSome}
+use Rattle.std.specs.Prelude.{◌≡◌, ◌≤◌, ℕ, suc, List, [], ◌∷◌, length, Result, Ok, Err, IfSome}
 use Rattle.std.specs.declared.cmp.Ordering.{Ordering}
 use Rattle.std.specs.declared.cmp.Ordering.TheVariants.{Less, Equal, Greater}
+use Rattle.mg_base.specs.declared.numbers.PageNo.{PageNo}
 use Rattle.mg_node.specs.declared.entry.Entry.{Entry}
 use Rattle.mg_node.specs.NodePage.{IsAtLeast, IsBelow, entry_cmp, high_of, level_in, low_of}
 use Rattle.mg_node.specs.NodeReading.{IsNodeOf}
@@ -36,6 +37,14 @@ ComesTo pages levels (Ok read) = (read.bytes ≡ pages read.page.0) × InTree le
 ComesTo pages levels (Err (Full limit)) = ⊥
 ComesTo pages levels (Err (OfPage damage)) = ⊥
 ComesTo pages levels (Err (OfPool fault)) = Unit {0}
+
+-- in a tree a search on a level above the leaves goes on from a child, and meets no damage
+abbrev pub PassesTo : ℕ → Pages → ℕ → ℕ → List (List ℕ) → Entry → ℕ → Result PageNo SpaceFault → Type 0
+PassesTo size pages owner root levels e level (Ok child) = (lower : ℕ) → level ≡ suc lower
+    → BeginsAt size pages owner root levels e lower child.0
+PassesTo size pages owner root levels e level (Err (Full limit)) = ⊥
+PassesTo size pages owner root levels e level (Err (OfPage damage)) = ⊥
+PassesTo size pages owner root levels e level (Err (OfPool fault)) = Unit {0}
 
 -- so many pages follow from a page on, at most
 pub record IsShort (pages : Pages) (n most : ℕ) : Type 0 where

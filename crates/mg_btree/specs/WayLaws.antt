@@ -6,7 +6,7 @@ use Rattle.mg_base.specs.Image.{Image}
 use Rattle.mg_base.specs.declared.damage.Damaged.{Damaged}
 use Rattle.mg_base.specs.declared.geometry.TheConstants.{GREATEST_LIMIT}
 use Rattle.mg_node.specs.declared.entry.Entry.{Entry}
-use Rattle.mg_node.specs.NodePage.{IsAtLeast, IsBelow, entries_of, high_of, level_in, low_of, right_in}
+use Rattle.mg_node.specs.NodePage.{IsAtLeast, IsBelow, IsNodePage, entries_of, high_of, level_in, low_of, right_in}
 use Rattle.mg_image.specs.Form.{Pages}
 use Rattle.mg_image.specs.Indexes.{IsTree}
 use Rattle.mg_pool.specs.Batch.{Changed}
@@ -87,14 +87,14 @@ way_refused m old a batch owner level e page at count fault (Err f) way same ref
     by (OfPool f) is = tt
 
 -- the search goes on to the right
-pub way_next : {D L : Type 0} (m : Meaning D) → CountsNow m → (old a b : Pool D L) (batch : Changed)
-    (owner level : ℕ) (e : Entry) (page at count right : ℕ) (result : Result ReadNode SpaceFault)
-    (read : ReadNode) → IsOnWay m old a batch owner level e page at count → result ≡ Ok read
+pub way_next : {D L T : Type 0} (m : Meaning D) → CountsNow m → (old a b : Pool D L) (batch : Changed)
+    (owner level : ℕ) (e : Entry) (page at count right : ℕ) (result : Result T SpaceFault) (x : T)
+    (bytes : List ℕ) → IsOnWay m old a batch owner level e page at count → result ≡ Ok x
     → Reads m a b result
-    → ((image : Image) → Tells m a.disk image → read.bytes ≡ viewed a image batch at)
-    → (IfSome (high_of read.bytes) (λ fence. IsBelow e fence) → ⊥) → right ≡ right_in read.bytes
-    → IsOnWay m old b batch owner level e page right (count + 1)
-way_next m counts old a b batch owner level e page at count right result read way ok reads seen past is =
+    → ((image : Image) → Tells m a.disk image → bytes ≡ viewed a image batch at)
+    → (IsNodePage bytes → IfSome (high_of bytes) (λ fence. IsBelow e fence) → ⊥)
+    → right ≡ right_in bytes → IsOnWay m old b batch owner level e page right (count + 1)
+way_next m counts old a b batch owner level e page at count right result x bytes way ok reads seen past is =
     let whole = way_reads m counts old a b batch owner level e page at count result way reads in
     let told = subst (λ r. TellsFault m old b (pool_answer r)) ok whole.fault in
     record {
@@ -111,7 +111,7 @@ way_next m counts old a b batch owner level e page at count right result read wa
           (way.short image root levels (suc left) tells begins (omega (arith, all))));
     }
   where
-    same : (image : Image) → Tells m old.disk image → read.bytes ≡ viewed old image batch at
+    same : (image : Image) → Tells m old.disk image → bytes ≡ viewed old image batch at
     same image tells = seen image (tells_on m old a image way.keeps tells)
         ∙ ap (λ (pages : Pages). pages at) (viewed_same m old a image batch way.keeps)
 
@@ -122,7 +122,9 @@ way_next m counts old a b batch owner level e page at count right result read wa
         subst (BeginsAt old.geometry.size (viewed old image batch) owner root levels e level)
         (ap right_in (sym (same image tells)) ∙ sym is)
         (begins_right old.geometry.size (viewed old image batch) owner root levels e level at there
-        (λ before. past (subst (λ (b : List ℕ). IfSome (high_of b) (λ fence. IsBelow e fence))
+        (λ before. past (subst IsNodePage (sym (same image tells)) (begins_node old.geometry.size
+        (viewed old image batch) owner root levels e level at there).lawful)
+        (subst (λ (b : List ℕ). IfSome (high_of b) (λ fence. IsBelow e fence))
         (sym (same image tells)) before)))
 
 -- a level does not come back
@@ -135,53 +137,3 @@ way_ends m old a batch owner level e page at count way all image root levels tel
     begins_some old.geometry.size (viewed old image batch) owner root levels e level at
     (way.begins image root levels tells begins)
     (short_ends (viewed old image batch) at (way.short image root levels 0 tells begins (omega (arith, all))))
-
--- a page of a tree that a search has come to is one from which it goes on
-pub begins_read : (size : ℕ) (pages : Pages) (owner root : ℕ) (levels : List (List ℕ)) (e : Entry)
-    (level : ℕ) (read : ReadNode) → IsTree size pages owner root levels
-    → IsReached size owner level e read → ComesTo pages levels (Ok read)
-    → BeginsAt size pages owner root levels e level read.page.0
-begins_read size pages owner root levels e level read tree reached comes = record {
-  tree = tree;
-  placed = comes.1;
-  on_level = ap level_in (sym comes.0) ∙ reached.is.on_level;
-  from = subst (λ (b : List ℕ). IfSome (low_of b) (λ fence. IsAtLeast e fence)) comes.0 reached.from;
-}
-
--- below a page the search comes to where it comes from the child
-pub comes_down : {D L : Type 0} (m : Meaning D) (old a : Pool D L) (batch : Changed)
-    (owner from lower : ℕ) (e : Entry) (page child : ℕ) (read : ReadNode)
-    (result : Result ReadNode SpaceFault) → KeepsStore m old a
-    → IsReached old.geometry.size owner from e read → from ≡ suc lower
-    → child ≡ child_to e 0 read.node.entries.items
-    → ((image : Image) (root : ℕ) (levels : List (List ℕ)) → Tells m old.disk image
-    → BeginsAt old.geometry.size (viewed old image batch) owner root levels e from page
-    → ComesTo (viewed old image batch) levels (Ok read))
-    → ((image : Image) (root : ℕ) (levels : List (List ℕ)) → Tells m a.disk image
-    → BeginsAt a.geometry.size (viewed a image batch) owner root levels e lower child
-    → ComesTo (viewed a image batch) levels result)
-    → (image : Image) (root : ℕ) (levels : List (List ℕ)) → Tells m old.disk image
-    → BeginsAt old.geometry.size (viewed old image batch) owner root levels e from page
-    → ComesTo (viewed old image batch) levels result
-comes_down m old a batch owner from lower e page child read result keeps reached up child_is first second
-    image root levels tells begins =
-    subst (λ (pages : Pages). ComesTo pages levels result) (viewed_same m old a image batch keeps)
-    (second image root levels (tells_on m old a image keeps tells)
-    (subst (λ (pages : Pages). BeginsAt a.geometry.size pages owner root levels e lower child)
-    (sym (viewed_same m old a image batch keeps))
-    (subst (λ (size : ℕ). BeginsAt size (viewed old image batch) owner root levels e lower child)
-    (sym (ap (λ g. g.size) keeps.geometry)) there)))
-  where
-    comes : ComesTo (viewed old image batch) levels (Ok read)
-    comes = first image root levels tells begins
-
-    same : child ≡ child_to e 0 (entries_of (viewed old image batch read.page.0))
-    same = child_is ∙ (ap (child_to e 0) reached.says.entries
-        ∙ ap (λ (b : List ℕ). child_to e 0 (entries_of b)) comes.0)
-
-    there : BeginsAt old.geometry.size (viewed old image batch) owner root levels e lower child
-    there = subst (BeginsAt old.geometry.size (viewed old image batch) owner root levels e lower) (sym same)
-        (begins_down old.geometry.size (viewed old image batch) owner root levels e lower read.page.0
-        (subst (λ (k : ℕ). BeginsAt old.geometry.size (viewed old image batch) owner root levels e k
-        read.page.0) up (begins_read old.geometry.size (viewed old image batch) owner root levels e from read
-        begins.tree reached comes)))

@@ -30,6 +30,7 @@ mod inserting;
 mod laws;
 mod making;
 mod node;
+mod on_page;
 mod ordering;
 mod range;
 mod removing;

@@ -11,7 +11,7 @@ ghost use Rattle.mg_space.specs.View.{AreWhole, Tells, viewed};
 ghost use Rattle.mg_btree.specs.Reading.{IsReadNode, Reads, RefusesBytes, RefusesNode};
 
 use mg_base::{Bytes, Damaged, Disk, Field, PageNo, check_field};
-use mg_node::{Node, check_node, level_of, read_node};
+use mg_node::{Node, check_node, check_node_common, count, is_inner, level_of, read_node};
 use mg_pool::Batch;
 use mg_space::{Found, SpaceFault, Store, find_page};
 
@@ -59,19 +59,79 @@ fn absence(page: PageNo, pages: u32) -> Damaged {
     }
 }
 
-/// Tests whether `b` is an index page with this number and owner, on this level.
+/// Tests the common part of an index page with this number and owner.
 ///
 /// # Errors
 ///
-/// `Damaged` at the first field that differs, the level last.
-fn check_on(b: &[u8], page: PageNo, owner: u32, level: u16) -> Result<(), Damaged>
+/// `Damaged` at the first field that differs.
+fn check_part(b: &[u8], page: PageNo, owner: u32) -> Result<(), Damaged>
+    requires { 1024 ≤ length b.now }
+    ensures { IsOk result ↔ PassesAll (node_checks b.now page.0 owner) }
+{
+    check_node_common(b, page, owner)
+}
+
+/// Tests the common part of an index page, and its level.
+///
+/// # Errors
+///
+/// `Damaged` at the first field that differs.
+pub(crate) fn check_above(b: &[u8], page: PageNo, owner: u32, level: u16) -> Result<(), Damaged>
+    requires { 1024 ≤ length b.now }
+    ensures { IsOk result ↔ (PassesAll (node_checks b.now page.0 owner) × (level_in b.now ≡ level)) }
+{
+    check_part(b, page, owner)?;
+    check_field(page, Field::Level, u32::from(level_of(b)), u32::from(level))
+}
+
+/// Tests that an inner page has two entries.
+///
+/// # Errors
+///
+/// `Damaged` at `Count`, wanted 2.
+fn check_enough(b: &[u8], page: PageNo) -> Result<(), Damaged>
+    requires { 1024 ≤ length b.now }
+    ensures { IsOk result ↔ HasEnough b.now }
+{
+    if !is_inner(b) {
+        return Ok(());
+    }
+    if count(b) < 2 {
+        return Err(Damaged {
+            page,
+            field: Field::Count,
+            found: count(b) as u64,
+            wanted: 2,
+        });
+    }
+    Ok(())
+}
+
+/// Tests of an index page whose content is lawful whether it has this number and owner, stands on this
+/// level, and has enough entries there.
+///
+/// # Errors
+///
+/// `Damaged` at a field that differs, the count last.
+fn check_as(b: &[u8], page: PageNo, owner: u32, level: u16) -> Result<(), Damaged>
+    requires { 1024 ≤ length b.now }
+    ensures { IsOk result ↔ (PassesAll (node_checks b.now page.0 owner) × HasEnough b.now
+        × (level_in b.now ≡ level)) }
+{
+    check_above(b, page, owner, level)?;
+    check_enough(b, page)
+}
+
+/// Names what is damaged of a page whose content is not lawful.
+fn damage_of(b: &[u8], page: PageNo, owner: u32) -> Damaged
     requires least { 1024 ≤ length b.now }
     requires most { length b.now ≤ 16384 }
-    ensures { IsOk result ↔ (PassesAll (node_checks b.now page.0 owner) × IsNodePage b.now
-        × HasEnough b.now × (level_in b.now ≡ level)) }
+    requires not_lawful { IsNodePage b.now → ⊥ }
 {
-    check_node(b, page, owner)?;
-    check_field(page, Field::Level, u32::from(level_of(b)), u32::from(level))
+    match check_node(b, page, owner) {
+        Err(damaged) => damaged,
+        Ok(()) => unreachable!(),
+    }
 }
 
 /// Reads an index page of an owner on a level.
@@ -98,9 +158,10 @@ pub(crate) fn node_on<D: Disk>(
         (viewed store.old image batch.now page.0)) }
 {
     let bytes = bytes_of(store, batch, page)?;
-    check_on(bytes.as_slice(), page, owner, level)?;
+    // The reading tests the content, so a second test only has to name what is damaged.
     let Some(node) = read_node(store.alloc(), bytes.as_slice())? else {
-        unreachable!()
+        return Err(SpaceFault::Damaged(damage_of(bytes.as_slice(), page, owner)));
     };
+    check_as(bytes.as_slice(), page, owner, level)?;
     Ok(ReadNode { page, bytes, node })
 }

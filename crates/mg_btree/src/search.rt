@@ -1,6 +1,6 @@
 //! The search for the page of a level between whose fences an entry lies.
 
-ghost use Rattle.std.specs.Prelude.{◌≡◌, ◌≤◌, ◌↔◌, ◌∷◌, [], IfOk, IfSome, IsOk, List, length, ℕ};
+ghost use Rattle.std.specs.Prelude.{◌≡◌, ◌<◌, ◌≤◌, ◌↔◌, IfOk, IfSome, IsOk, List, length, ℕ};
 ghost use Rattle.mg_base.specs.Image.{Image};
 ghost use Rattle.mg_image.specs.Indexes.{IsTree};
 ghost use Rattle.mg_node.specs.NodePage.{IsAtLeast};
@@ -9,15 +9,15 @@ ghost use Rattle.mg_space.specs.Taking.{IsGeometry};
 ghost use Rattle.mg_space.specs.View.{AreWhole, Tells, viewed};
 ghost use Rattle.mg_btree.specs.Changing.{IsLeaf, ReadsLeaf};
 ghost use Rattle.mg_btree.specs.Reading.{Reads};
-ghost use Rattle.mg_btree.specs.Searching.{BeginsAt, ComesTo, IsReached, IsShort, child_to};
+ghost use Rattle.mg_btree.specs.Searching.{BeginsAt, ComesTo, IsReached, PassesTo};
 
-use crate::node::{ReadNode, node_on};
+use crate::node::{ReadNode, bytes_of, check_above, node_on};
+use crate::on_page::{child_on, is_under};
 use crate::root::root_of;
 use mg_base::{Damaged, Disk, Field, GREATEST_LIMIT, PageNo};
-use mg_node::{Entry, is_below, is_up_to, order};
+use mg_node::{Entry, is_below, is_up_to, right_of};
 use mg_pool::Batch;
 use mg_space::{SpaceFault, Store};
-use std::cmp::Ordering;
 
 /// Tests that an entry does not come before the low fence of a page.
 fn check_from(low: &Option<Entry>, page: PageNo, e: &Entry) -> Result<(), Damaged>
@@ -38,31 +38,6 @@ fn check_from(low: &Option<Entry>, page: PageNo, e: &Entry) -> Result<(), Damage
             }
         }
     }
-}
-
-/// The child to go down by, after one entry more: that of the entry where it does not come behind
-/// the one that is looked for.
-fn child_after(child: u32, e: &Entry, next: &Entry) -> u32
-    ensures { result ≡ child_to e.now child (next.now ∷ []) }
-{
-    match order(e, next) {
-        Ordering::Less => child,
-        Ordering::Equal => next.child.0,
-        Ordering::Greater => next.child.0,
-    }
-}
-
-/// The child of the last of these entries that does not come behind the one that is looked for.
-fn child_for(entries: &[Entry], e: &Entry) -> u32
-    ensures { result ≡ child_to e.now 0 entries.now }
-{
-    let mut child = 0;
-    let mut rest = entries;
-    while let Some((next, later)) = rest.split_first() {
-        child = child_after(child, e, next);
-        rest = later;
-    }
-    child
 }
 
 /// Goes to the right on a level, from a page to the one whose high fence an entry lies below.
@@ -111,6 +86,44 @@ pub(crate) fn circle(page: PageNo) -> Damaged {
     }
 }
 
+/// Goes to the right on a level above the leaves, as `land`, and gives the child to go down by. Of the
+/// pages on the way no more is tested than their common part and their level: they are not changed.
+///
+/// # Errors
+///
+/// `Damaged` only where the page is in no tree; else the cache's.
+fn pass<D: Disk>(
+    store: &mut Store<D>,
+    batch: &Batch,
+    owner: u32,
+    page: PageNo,
+    level: u16,
+    e: &Entry,
+) -> Result<PageNo, SpaceFault>
+    requires pool { IsPool D.meaning store.old }
+    requires geometry { IsGeometry store.old.geometry }
+    requires whole { AreWhole store.old.geometry.size batch.now.pages }
+    requires inner { 0 < level }
+
+    ensures reads { Reads D.meaning store.old store.new result }
+    ensures passes { (image : Image) (root : ℕ) (levels : List (List ℕ))
+        → Tells D.meaning store.old.disk image
+        → BeginsAt store.old.geometry.size (viewed store.old image batch.now) owner root levels e.now
+        level page.0 → PassesTo store.old.geometry.size (viewed store.old image batch.now) owner root
+        levels e.now level result }
+{
+    let mut at = page;
+    for _ in 0..GREATEST_LIMIT {
+        let bytes = bytes_of(store, batch, at)?;
+        check_above(bytes.as_slice(), at, owner, level)?;
+        if is_under(bytes.as_slice(), e) {
+            return Ok(PageNo(child_on(bytes.as_slice(), e)));
+        }
+        at = right_of(bytes.as_slice());
+    }
+    Err(SpaceFault::Damaged(circle(at)))
+}
+
 /// Goes down from a page of a level to the page of a lower one between whose fences an entry lies.
 ///
 /// # Errors
@@ -137,12 +150,11 @@ pub(crate) fn descend<D: Disk>(
         → BeginsAt store.old.geometry.size (viewed store.old image batch.now) owner root levels e.now
         from page.0 → ComesTo (viewed store.old image batch.now) levels result }
 {
-    let read = land(store, batch, owner, page, from, e)?;
     if from == level {
-        return Ok(read);
+        return land(store, batch, owner, page, level, e);
     }
-    let child = child_for(&read.node.entries, e);
-    descend(store, batch, owner, PageNo(child), from - 1, level, e)
+    let child = pass(store, batch, owner, page, from, e)?;
+    descend(store, batch, owner, child, from - 1, level, e)
 }
 
 /// Reads the leaf of a tree between whose fences an entry lies.

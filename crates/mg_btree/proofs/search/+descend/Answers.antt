@@ -1,18 +1,32 @@
-use Rattle.std.proofs.Common.{rules, ◌-◌, refl, Ok}
+use Rattle.std.proofs.Common.{rules, ◌≡◌, ◌-◌, refl, Ok}
+use Rattle.mg_base.specs.declared.numbers.PageNo.{PageNo}
+use Rattle.mg_space.specs.View.{viewed}
+use Rattle.mg_btree.specs.PassLaws.{comes_below, pass_refused}
 use Rattle.mg_btree.specs.ReadingLaws.{reads_on}
-use Rattle.mg_btree.specs.WayLaws.{comes_down}
+use Rattle.mg_btree.specs.ScanLaws.{reads_err}
 use Rattle.mg_btree.proofs.search.+descend.Goals as goal
+
+pub returns-in_err-child-clause-reads : goal.returns-in_err-child-clause-reads
+returns-in_err-child-clause-reads g t c = reads_err PageNo g.D.Disk.meaning c.args.store.now
+    c.pass.new.store c.in_err-child.field-0.0 c.from_residual.result c.from_residual.ensures.1
+    c.in_err-child.ensures.reads
+
+pub returns-in_err-child-clause-comes : goal.returns-in_err-child-clause-comes
+returns-in_err-child-clause-comes g t c = λ image root levels tells begins. pass_refused
+    c.args.store.now.geometry.size (viewed c.args.store.now image c.args.batch.now) c.args.owner root
+    levels c.args.e.now c.args.from c.in_err-child.field-0.0 c.from_residual.result
+    c.from_residual.ensures.1 (c.in_err-child.ensures.passes image root levels tells begins)
 
 pub returns-clause-reads : goal.returns-clause-reads
 returns-clause-reads g t c = reads_on g.D.Disk.meaning g.met.D.Disk.counts_now c.args.store.now
-    c.land.new.store c.descend.new.store (Ok c.in_ok-read.read) c.in_ok-read.read c.descend.result refl
-    c.in_ok-read.ensures.reads c.descend.ensures.reads
+    c.pass.new.store c.descend.new.store (Ok c.in_ok-child.child) c.in_ok-child.child c.descend.result refl
+    c.in_ok-child.ensures.reads c.descend.ensures.reads
 
 pub returns-clause-comes : goal.returns-clause-comes
 returns-clause-comes g t c =
     let lower = c.requires.lower in
     let other = c.if-from-level.false in
-    comes_down g.D.Disk.meaning c.args.store.now c.land.new.store c.args.batch.now c.args.owner c.args.from
-    (c.args.from - 1) c.args.e.now c.args.page.0 c.child_for-child.result c.in_ok-read.read
-    c.descend.result c.in_ok-read.ensures.reads.keeps c.in_ok-read.ensures.reached
-    (search rules) (search rules) c.in_ok-read.ensures.comes c.descend.ensures.comes
+    comes_below g.D.Disk.meaning c.args.store.now c.pass.new.store c.args.batch.now c.args.owner c.args.from
+    (c.args.from - 1) c.args.e.now c.args.page.0 c.in_ok-child.child c.descend.result
+    c.in_ok-child.ensures.reads.keeps (search rules) c.in_ok-child.ensures.passes
+    c.descend.ensures.comes

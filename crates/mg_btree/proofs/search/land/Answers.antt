@@ -31,8 +31,8 @@ pub loop-preserved : goal.loop-preserved
 loop-preserved g c = way_next g.D.Disk.meaning g.met.D.Disk.counts_now c.args.store.now c.loop.store
     c.node_on.new.store c.args.batch.now c.args.owner c.args.level c.args.e.now c.args.page.0
     c.loop.at.0 c.loop.counter c.in_ok-read.read.node.right.0 (Ok c.in_ok-read.read) c.in_ok-read.read
-    c.loop.invariant refl c.in_ok-read.ensures.reads c.in_ok-read.ensures.seen
-    (λ before. let passed = c.if-is_up_to.ensures.1 (subst (λ (high : Option Entry). IfSome high
+    c.in_ok-read.read.bytes c.loop.invariant refl c.in_ok-read.ensures.reads c.in_ok-read.ensures.seen
+    (λ lawful before. let passed = c.if-is_up_to.ensures.1 (subst (λ (high : Option Entry). IfSome high
     (λ fence. IsBelow c.args.e.now fence)) (sym c.in_ok-read.ensures.read.says.high) before) in absurd cc)
     c.in_ok-read.ensures.read.says.right
 

@@ -1,0 +1,62 @@
+use Rattle.std.proofs.Common.{rules, refl, sym, Ok, Err, ap, ◌∙◌}
+use Rattle.mg_node.specs.NodePage.{right_in}
+use Rattle.mg_btree.specs.ExitLaws.{reads_ok}
+use Rattle.mg_btree.specs.PassLaws.{pass_down, pass_tested, pass_unread}
+use Rattle.mg_btree.specs.RowOrderLaws.{not_there}
+use Rattle.mg_btree.specs.WayLaws.{way_damaged, way_ends, way_next, way_reads, way_starts}
+use Rattle.mg_btree.proofs.search.pass.Goals as goal
+
+pub loop-init : goal.loop-init
+loop-init g c = way_starts g.D.Disk.meaning c.args.store.now c.args.batch.now c.args.owner c.args.level
+    c.args.e.now c.args.page.0 c.requires.pool
+
+pub returns-in_err-bytes-clause-passes : goal.returns-in_err-bytes-clause-passes
+returns-in_err-bytes-clause-passes g c = pass_unread g.D.Disk.meaning c.args.store.now c.loop.store
+    c.args.batch.now c.args.owner c.args.level c.args.e.now c.args.page.0 c.loop.at.0 c.loop.counter
+    c.loop.invariant c.in_err-bytes.field-0.0 c.from_residual.result c.from_residual.ensures.1
+    c.in_err-bytes.ensures.seen
+
+pub returns-in_err-check_above-clause-reads : goal.returns-in_err-check_above-clause-reads
+returns-in_err-check_above-clause-reads g c = way_damaged g.D.Disk.meaning g.met.D.Disk.counts_now
+    c.args.store.now c.loop.store c.bytes_of.new.store c.args.batch.now c.args.owner c.args.level
+    c.args.e.now c.args.page.0 c.loop.at.0 c.loop.counter (Ok c.in_ok-bytes.bytes) c.in_ok-bytes.bytes
+    c.in_err-check_above.field-0.0 c.from_residual-in_err-check_above.result c.loop.invariant
+    refl c.in_ok-bytes.ensures.reads c.from_residual-in_err-check_above.ensures.1
+
+pub returns-in_err-check_above-clause-passes : goal.returns-in_err-check_above-clause-passes
+returns-in_err-check_above-clause-passes g c = pass_tested g.D.Disk.meaning c.args.store.now c.loop.store
+    c.args.batch.now c.args.owner c.args.level c.args.e.now c.args.page.0 c.loop.at.0 c.loop.counter
+    c.loop.invariant c.as_slice.result.now (Err c.in_err-check_above.field-0.0)
+    c.in_err-check_above.field-0.0 c.from_residual-in_err-check_above.result refl
+    c.from_residual-in_err-check_above.ensures.1
+    (λ image tells. c.as_slice.ensures ∙ c.in_ok-bytes.ensures.seen image tells)
+    c.in_err-check_above.ensures.1
+
+pub returns-then-is_under-clause-reads : goal.returns-then-is_under-clause-reads
+returns-then-is_under-clause-reads g c = reads_ok g.D.Disk.meaning c.args.store.now
+    c.bytes_of.new.store (Ok c.in_ok-bytes.bytes) c.in_ok-bytes.bytes (record { 0 = c.child_on.result }) refl
+    (way_reads g.D.Disk.meaning g.met.D.Disk.counts_now
+    c.args.store.now c.loop.store c.bytes_of.new.store c.args.batch.now c.args.owner c.args.level
+    c.args.e.now c.args.page.0 c.loop.at.0 c.loop.counter (Ok c.in_ok-bytes.bytes) c.loop.invariant
+    c.in_ok-bytes.ensures.reads)
+
+pub returns-then-is_under-clause-passes : goal.returns-then-is_under-clause-passes
+returns-then-is_under-clause-passes g c = pass_down g.D.Disk.meaning c.args.store.now c.loop.store
+    c.args.batch.now c.args.owner c.args.level c.args.e.now c.args.page.0 c.loop.at.0 c.loop.counter
+    c.loop.invariant c.as_slice-then-is_under.result.now c.child_on.result
+    (λ image tells. c.as_slice-then-is_under.ensures ∙ c.in_ok-bytes.ensures.seen image tells)
+    c.child_on.ensures
+
+pub loop-preserved : goal.loop-preserved
+loop-preserved g c = way_next g.D.Disk.meaning g.met.D.Disk.counts_now c.args.store.now c.loop.store
+    c.bytes_of.new.store c.args.batch.now c.args.owner c.args.level c.args.e.now c.args.page.0
+    c.loop.at.0 c.loop.counter c.right_of-at.result.0 (Ok c.in_ok-bytes.bytes) c.in_ok-bytes.bytes
+    c.as_slice-in-loop.result.now c.loop.invariant refl c.in_ok-bytes.ensures.reads
+    (λ image tells. c.as_slice-in-loop.ensures ∙ c.in_ok-bytes.ensures.seen image tells)
+    (λ lawful. not_there c.is_under.result (c.is_under.ensures lawful).1 c.if-is_under.false)
+    (c.right_of-at.ensures ∙ ap right_in (c.as_slice-in-loop-2.ensures ∙ sym c.as_slice-in-loop.ensures))
+
+pub returns-clause-passes : goal.returns-clause-passes
+returns-clause-passes g c = λ image root levels tells begins. absurd (way_ends g.D.Disk.meaning
+    c.args.store.now c.loop.store c.args.batch.now c.args.owner c.args.level c.args.e.now
+    c.args.page.0 c.loop.at.0 c.loop.counter c.loop.invariant (search rules) image root levels tells begins)
