@@ -12,7 +12,7 @@ use Rattle.mg_version.specs.declared.cell.Cell.TheVariants as cells
 use Rattle.mg_version.specs.declared.cell.Link.{Link}
 use Rattle.mg_version.specs.declared.cell.Version.{Version}
 use Rattle.std.proofs.lemmas.Bool.{cases_eq}
-use Rattle.mg_chain.specs.Lists.{FreesSlot, MakesLists, OverwritesLists, PushesLists, PutsEntry, PutsSpelled, Reads, TakesOutLists, slot_cell_to}
+use Rattle.mg_chain.specs.Lists.{FreesSlot, MakesLists, MovesLists, OverwritesLists, PushesLists, PutsEntry, PutsSpelled, Reads, TakesOutLists, slot_cell_to}
 use Rattle.mg_chain.specs.Writing.{link_to}
 use Rattle.mg_chain.proofs.Reading.{spelled_is}
 
@@ -249,3 +249,57 @@ takes_out_lists old mid new p l v takes = record {
         (begins_elsewhere mid q l.rec v was_mid takes.was_apart same)
         (ap (λ (y : RecId). newest_of q (new y)) same ∙ ap (newest_of q) takes.freed.here) chain
     by q es out chain (inr (ne, no_)) = stays_at mid new l.rec None takes.freed q es ne chain out
+
+pub moves_lists : MovesLists
+moves_lists old put turned new p l v e moves = record {
+  replaced = record {
+    its = λ d es out chain.
+        let before : Chain old (Some l) (d ∷ es) =
+        subst (λ (c : Option Cell). Chain old (newest_of p c) (d ∷ es)) moves.slot chain in
+        let behind : Chain old v.back es = opens_to old l v d es moves.was before in
+        let kept : Chain put v.back es = chain_stays old put e.at (Some (cells.Version e.version))
+        moves.puts.put v.back es behind (off_free old v.back es e.at moves.puts.free behind) in
+        stays_at turned new l.rec None moves.freed p (e ∷ es) (λ same. away (sym same))
+        (leads_on put turned p e moves.puts.put.here apart moves.turn es
+        (subst (λ (k : Option Link). Chain put k es) (sym moves.back) kept)
+        (off_anchor put v.back es p l slot kept)) (out_of es out);
+    others = λ q es ne out chain.
+        let kept : Reads put q es = put_keeps old put e moves.puts q es chain in
+        by q es out (stays_at put turned p (Some (cells.Anchor (link_to e.at e.version.tx))) moves.turn q es
+        ne kept (off_anchor put (newest_of q (put q)) es p l slot kept)) (cases_place q l.rec);
+  };
+  left = λ q es chain there. off_free new (newest_of q (new q)) es l.rec moves.freed.here chain there;
+}
+  where
+    apart : e.at ≢ p
+    apart same =
+        let both : None ≡ Some (cells.Anchor l) =
+        sym moves.puts.free ∙ (ap old same ∙ moves.slot) in absurd cc
+
+    elsewhere : e.at ≢ l.rec
+    elsewhere same =
+        let both : None ≡ Some (cells.Version v) =
+        sym moves.puts.free ∙ (ap old same ∙ moves.was) in absurd cc
+
+    away : l.rec ≢ p
+    away same =
+        let both : Some (cells.Version v) ≡ Some (cells.Anchor l) =
+        sym moves.was ∙ (ap old same ∙ moves.slot) in absurd cc
+
+    slot : put p ≡ Some (cells.Anchor l)
+    slot = moves.puts.put.others p (λ same. apart (sym same)) ∙ moves.slot
+
+    was_turned : turned l.rec ≡ Some (cells.Version v)
+    was_turned = moves.turn.others l.rec away
+        ∙ (moves.puts.put.others l.rec (λ same. elsewhere (sym same)) ∙ moves.was)
+
+    out_of : (es : List Entry) → (Stands es l.rec → ⊥) → Stands (e ∷ es) l.rec → ⊥
+    out_of es out (inl same) = elsewhere same
+    out_of es out (inr there) = out there
+
+    by : (q : RecId) (es : List Entry) → (Stands es l.rec → ⊥) → Reads turned q es
+        → ((q ≡ l.rec) × (same_place q l.rec ≡ true)) ⊎ ((q ≢ l.rec) × (same_place q l.rec ≡ false)) → Reads new q es
+    by q es out chain (inl (same, yes_)) = stays_none turned new l.rec None moves.freed q es
+        (begins_elsewhere turned q l.rec v was_turned moves.was_apart same)
+        (ap (λ (y : RecId). newest_of q (new y)) same ∙ ap (newest_of q) moves.freed.here) chain
+    by q es out chain (inr (ne, no_)) = stays_at turned new l.rec None moves.freed q es ne chain out

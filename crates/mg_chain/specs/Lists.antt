@@ -62,6 +62,17 @@ pub record OverwritesList (old new : Cells) (p : RecId) (l : Link) (v : Version)
     pub apart : e.version.primary ≡ false
     pub was_apart : v.primary ≡ false
 
+-- A version's cell is put, the slot is turned from the old cell to it, and the old cell is freed.
+pub record MovesList (old put turned new : Cells) (p : RecId) (l : Link) (v : Version) (e : Entry)
+    : Type 0 where
+  pub slot : old p ≡ Some (cells.Anchor l)
+  pub was : old l.rec ≡ Some (cells.Version v)
+  pub was_apart : v.primary ≡ false
+  pub puts : PutsEntry old put e
+  pub back : e.version.back ≡ v.back
+  pub turn : Changes put turned p (Some (cells.Anchor (link_to e.at e.version.tx)))
+  pub freed : Changes turned new l.rec None
+
 pub record TakesOutList (old mid new : Cells) (p : RecId) (l : Link) (v : Version) : Type 0 where
   pub slot : old p ≡ Some (cells.Anchor l)
   pub was : old l.rec ≡ Some (cells.Version v)
@@ -110,6 +121,15 @@ pub record ReplacedList (old new : Cells) (p x : RecId) (e : Entry) : Type 0 whe
 abbrev pub OverwritesLists : Type 0
 OverwritesLists = (old new : Cells) (p : RecId) (l : Link) (v : Version) (e : Entry)
     → OverwritesList old new p l v e → ReplacedList old new p l.rec e
+
+-- The same of a version that is moved from a cell, and no record reads that cell any more.
+pub record MovedList (old new : Cells) (p x : RecId) (e : Entry) : Type 0 where
+  pub replaced : ReplacedList old new p x e
+  pub left : (q : RecId) (es : List Entry) → Reads new q es → Stands es x → ⊥
+
+abbrev pub MovesLists : Type 0
+MovesLists = (old put turned new : Cells) (p : RecId) (l : Link) (v : Version) (e : Entry)
+    → MovesList old put turned new p l v e → MovedList old new p l.rec e
 
 -- The newest of a record's versions is gone, where none behind it stands in its cell; and every other
 -- record that does not read that cell has the versions that it had.

@@ -3,7 +3,7 @@
 
 ghost use Rattle.mg_chain.specs.Bases.{LiveBegins, LiveFollows};
 ghost use Rattle.mg_chain.specs.Chains.{FindsOfReadings};
-ghost use Rattle.mg_chain.specs.Lists.{FreesSlot, MakesLists, OverwritesLists, PushesLists, PutsSpelled, TakesOutLists};
+ghost use Rattle.mg_chain.specs.Lists.{FreesSlot, MakesLists, MovesLists, OverwritesLists, PushesLists, PutsSpelled, TakesOutLists};
 ghost use Rattle.mg_chain.specs.Views.{FoundIsShown, SeesItsView};
 
 use mg_generations::versions_show;
@@ -44,8 +44,10 @@ pub fn versions_are_added()
 {}
 
 /// In every reading of the cells in which no other version stands in its cell: the newest version of a
-/// record is written over, or taken out; every other record has the versions that it had.
+/// record is written over, or moved to another cell, or taken out; every other record has the versions
+/// that it had.
 pub fn newest_versions_are_changed()
     ensures overwritten { OverwritesLists }
+    ensures moved { MovesLists }
     ensures taken_out { TakesOutLists }
 {}
