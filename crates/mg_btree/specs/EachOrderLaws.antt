@@ -90,4 +90,3 @@ module _ (P : ℕ → ℕ → Type 0) where
 pub each_more : (P Q : ℕ → ℕ → Type 0) (os : List Order) → ((a b : ℕ) → P a b → Q a b) → EachOrder P os
     → EachOrder Q os
 each_more P Q os more each a b is = more a b (each a b is)
-

@@ -39,6 +39,7 @@ pub mod PutAtLaws
 pub mod TwoLaws
 pub mod RoomyLaws
 pub mod Climbing
+pub mod AheadLaws
 pub mod ClimbLaws
 pub mod OnPage
 pub mod OnPageLaws

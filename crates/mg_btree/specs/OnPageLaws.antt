@@ -1,5 +1,5 @@
 -- Laws of what is read of an index page in its place.
-use Rattle.std.proofs.Common.{◌≡◌, ◌≢◌, ◌⊎◌, inl, inr, ◌∙◌, ap, refl, sym, subst, add-one, ◌<◌, ◌≤◌, ◌+◌, ◌-◌, ◌==◌, ℕ, suc, Bool, true, false, List, [], ◌∷◌, ◌++◌, Option, Some, None, length, arith}
+use Rattle.std.proofs.Common.{◌≡◌, inl, inr, ◌∙◌, ap, refl, sym, subst, add-one, ◌<◌, ◌≤◌, ◌+◌, ◌-◌, ◌==◌, ℕ, suc, Bool, true, false, List, [], ◌∷◌, ◌++◌, length, arith}
 use Rattle.std.specs.Prelude.{◌↔◌, IfSome, IsTrue}
 use Rattle.std.specs.Ordering.{ordering_index, ordering_reverse}
 use Rattle.std.specs.declared.cmp.Ordering.{Ordering}
@@ -13,7 +13,7 @@ use Rattle.mg_node.specs.NodeWalkLaws.{entries_from-add, entries_of-walk, place_
 use Rattle.mg_image.specs.Indexes.{HasEntry}
 use Rattle.mg_tree_overlays.specs.DescentLaws.{ascends, tail_ascends}
 use Rattle.mg_btree.specs.OnPage.{IsAlong}
-use Rattle.mg_btree.specs.Searching.{by_order, child_to}
+use Rattle.mg_btree.specs.Searching.{child_to}
 use Rattle.mg_btree.specs.SearchLaws.{stays_to, taken_to}
 
 -- ---- the order of two entries, read from either side

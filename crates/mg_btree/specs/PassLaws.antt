@@ -1,6 +1,6 @@
 -- Laws of a search on the levels above the one that it goes to.
-use Rattle.std.proofs.Common.{◌≡◌, ◌∙◌, ap, refl, sym, subst, ◌+◌, ℕ, suc, List, Result, Ok, Err, arith}
-use Rattle.std.specs.Prelude.{◌↔◌, IfSome, IsErrAnd, IsOk}
+use Rattle.std.proofs.Common.{◌≡◌, ◌∙◌, ap, sym, subst, ℕ, suc, List, Result, Ok, Err}
+use Rattle.std.specs.Prelude.{IsErrAnd, IsOk}
 use Rattle.mg_base.specs.Checks.{PassesAll}
 use Rattle.mg_base.specs.Disk.{Meaning}
 use Rattle.mg_base.specs.Image.{Image}

@@ -1,6 +1,6 @@
 -- Rows of steps by their orders: how they are put together.
 use Rattle.std.specs.Prelude.{Bool, IsTrue, false}
-use Rattle.std.proofs.Common.{◌≡◌, ◌≢◌, ◌⊎◌, inl, inr, ◌∙◌, ap, refl, sym, subst, ℕ, true, List, [], ◌∷◌, ◌++◌, Option, None}
+use Rattle.std.proofs.Common.{◌≡◌, ◌≢◌, ◌⊎◌, inl, inr, ◌∙◌, ap, refl, subst, ℕ, true, List, [], ◌∷◌, ◌++◌, Option, None}
 use Rattle.mg_careful.specs.Precedence.{Orders}
 use Rattle.mg_careful.specs.declared.graph.Order.{Order}
 use Rattle.mg_node.specs.declared.entry.Entry.{Entry}
@@ -34,11 +34,11 @@ pub beside_room : (size owner root : ℕ) (batch : ℕ → Option (List ℕ)) (o
     → RoomRow size owner root batch orders change pool levels last ends e first added
 beside_room size owner root batch orders change pool between last levels ends n e first added others used
     some fresh is = record {
-  row = beside pool between last levels ends n others used some fresh is.row;
-  adds = is.adds;
-  full = is.full;
-  next = is.next;
-}
+      row = beside pool between last levels ends n others used some fresh is.row;
+      adds = is.adds;
+      full = is.full;
+      next = is.next;
+    }
 
 pub ended : (xs : List Order) → xs ++ [] ≡ xs
 ended [] = refl

@@ -83,31 +83,31 @@ splits_row size owner root batch orders change old levels l r p left right named
     no_room = beside_room size owner root batch orders change old in_place whole levels
     (split_levels l r levels) r x e (split_orders size (names_in right) l r p) (with_other old r right) used_r
     some_r is.fresh (record {
-    row = splits in_place halved whole whole levels (split_levels l r levels) l r p e (record {
-      splits = splits_step size in_place halved owner l r left right
-          (subst (λ (b : List ℕ). SplitsNode b left right r) (sym old_l) is.halves) is.lawful.0 is.lawful.1
-          is.two.0 is.two.1 (with_other in_place l left) (with_here in_place l left) (with_here old r right)
-          is.no_inventory.0 apart_rl is.some is.limit (used_r r is.used)
-          (subst (λ (b : List ℕ). PassesAll (node_checks b l owner)) (sym old_l) is.fields.0);
-      rewrites = inner_rewrites size halved whole owner p named e (with_other halved p named)
-          (with_here halved p named) is.no_inventory.2
-          (subst (λ (b : List ℕ). PassesAll (node_checks b p owner)) (sym old_p) is.fields.1) is.lawful.2
-          (subst (λ (b : List ℕ). KeepsNode b named) (sym old_p) is.keeps)
-          (subst (λ (b : List ℕ). InsertsBehindFirst b named e) (sym old_p) is.inserts);
-      names = names_step halved whole p named e
-          (subst (λ (b : List ℕ). InsertsBehindFirst b named e) (sym old_p) is.inserts) (with_here halved p named)
-          fence_r;
-      child = is.child;
-      apart = (apart_pl, apart_pr);
-      parent = covers_parent size owner root in_place levels f p l there is.above is.placed
-          (ap level_in in_p ∙ (is.level ∙ ap (λ (b : List ℕ). suc (level_in b)) (sym old_l)))
-          (subst (λ (b : List ℕ). CoversBy b f) (sym in_p) is.covers.0)
-          (subst (λ (b : List ℕ). CoversBy b f) (sym old_l) is.covers.1);
-    }) order is.no_inventory.0 is.no_inventory.2 is.below_root is.fresh (done whole (split_levels l r levels));
-    adds = ended (split_orders size (names_in (with_page old r right r)) l r p)
-        ∙ ap (λ (b : List ℕ). split_orders size (names_in b) l r p) (with_here old r right);
-    full = (λ room. no_room (subst (λ (b : List ℕ). HasRoom b x) old_l room), tt);
-    next = refl;
+      row = splits in_place halved whole whole levels (split_levels l r levels) l r p e (record {
+        splits = splits_step size in_place halved owner l r left right
+            (subst (λ (b : List ℕ). SplitsNode b left right r) (sym old_l) is.halves) is.lawful.0 is.lawful.1
+            is.two.0 is.two.1 (with_other in_place l left) (with_here in_place l left) (with_here old r right)
+            is.no_inventory.0 apart_rl is.some is.limit (used_r r is.used)
+            (subst (λ (b : List ℕ). PassesAll (node_checks b l owner)) (sym old_l) is.fields.0);
+        rewrites = inner_rewrites size halved whole owner p named e (with_other halved p named)
+            (with_here halved p named) is.no_inventory.2
+            (subst (λ (b : List ℕ). PassesAll (node_checks b p owner)) (sym old_p) is.fields.1) is.lawful.2
+            (subst (λ (b : List ℕ). KeepsNode b named) (sym old_p) is.keeps)
+            (subst (λ (b : List ℕ). InsertsBehindFirst b named e) (sym old_p) is.inserts);
+        names = names_step halved whole p named e
+            (subst (λ (b : List ℕ). InsertsBehindFirst b named e) (sym old_p) is.inserts) (with_here halved p named)
+            fence_r;
+        child = is.child;
+        apart = (apart_pl, apart_pr);
+        parent = covers_parent size owner root in_place levels f p l there is.above is.placed
+            (ap level_in in_p ∙ (is.level ∙ ap (λ (b : List ℕ). suc (level_in b)) (sym old_l)))
+            (subst (λ (b : List ℕ). CoversBy b f) (sym in_p) is.covers.0)
+            (subst (λ (b : List ℕ). CoversBy b f) (sym old_l) is.covers.1);
+      }) order is.no_inventory.0 is.no_inventory.2 is.below_root is.fresh (done whole (split_levels l r levels));
+      adds = ended (split_orders size (names_in (with_page old r right r)) l r p)
+          ∙ ap (λ (b : List ℕ). split_orders size (names_in b) l r p) (with_here old r right);
+      full = (λ room. no_room (subst (λ (b : List ℕ). HasRoom b x) old_l room), tt);
+      next = refl;
     })
   where
     in_place : Pages
@@ -186,26 +186,26 @@ grows_row size owner root batch orders change old levels a b copy left right gro
     (beside_room size owner root batch orders change first second whole levels (grow_levels root a b levels) b
     x x (root_orders size (names_in left) (names_in right) root a b) (with_other first b right) used_b some_b
     is.fresh.1 (record {
-    row = grows second whole whole levels (grow_levels root a b levels) a b
-    (grows_step size second whole owner root a b copy left right grown
-    (subst (λ (p : List ℕ). CopiesNode p copy a) (sym old_root) is.copies) is.halves is.lawful.0 is.lawful.1
-    is.two.0 is.two.1
-    (subst (λ (p : List ℕ). IsGrownRoot owner root (level_in p) a b is.halves.given grown) (sym old_root)
-    is.new_root) (with_other second root grown) (with_here second root grown)
-    (with_other first b right a is.apart ∙ with_here old a left) (with_here first b right) is.no_inventory.0
-    (is.tree.rooted, is.some.0, is.some.1) (apart_a, apart_b) is.limit
-    (used_b a (used_a a is.used.0), used_b b (used_a b is.used.1))
-    (subst (λ (p : List ℕ). PassesAll (node_checks p root owner)) (sym old_root) is.fields)
-    (ap low_of old_root ∙ rw is.tree.root_low refl) (ap high_of old_root ∙ no_high)
-    (ap right_in old_root ∙ is.tree.root_right))
-    order is.no_inventory.0 (done whole (grow_levels root a b levels));
-    adds = ended (root_orders size (names_in (second a)) (names_in (second b)) root a b)
-        ∙ (ap (λ (p : List ℕ). root_orders size (names_in p) (names_in (second b)) root a b)
-        (with_other first b right a is.apart ∙ with_here old a left)
-        ∙ ap (λ (p : List ℕ). root_orders size (names_in left) (names_in p) root a b)
-        (with_here first b right));
-    full = (λ room. no_room (subst (λ (p : List ℕ). HasRoom p x) old_root room), tt);
-    next = refl;
+      row = grows second whole whole levels (grow_levels root a b levels) a b
+          (grows_step size second whole owner root a b copy left right grown
+          (subst (λ (p : List ℕ). CopiesNode p copy a) (sym old_root) is.copies) is.halves is.lawful.0 is.lawful.1
+          is.two.0 is.two.1
+          (subst (λ (p : List ℕ). IsGrownRoot owner root (level_in p) a b is.halves.given grown) (sym old_root)
+          is.new_root) (with_other second root grown) (with_here second root grown)
+          (with_other first b right a is.apart ∙ with_here old a left) (with_here first b right) is.no_inventory.0
+          (is.tree.rooted, is.some.0, is.some.1) (apart_a, apart_b) is.limit
+          (used_b a (used_a a is.used.0), used_b b (used_a b is.used.1))
+          (subst (λ (p : List ℕ). PassesAll (node_checks p root owner)) (sym old_root) is.fields)
+          (ap low_of old_root ∙ rw is.tree.root_low refl) (ap high_of old_root ∙ no_high)
+          (ap right_in old_root ∙ is.tree.root_right))
+          order is.no_inventory.0 (done whole (grow_levels root a b levels));
+      adds = ended (root_orders size (names_in (second a)) (names_in (second b)) root a b)
+          ∙ (ap (λ (p : List ℕ). root_orders size (names_in p) (names_in (second b)) root a b)
+          (with_other first b right a is.apart ∙ with_here old a left)
+          ∙ ap (λ (p : List ℕ). root_orders size (names_in left) (names_in p) root a b)
+          (with_here first b right));
+      full = (λ room. no_room (subst (λ (p : List ℕ). HasRoom p x) old_root room), tt);
+      next = refl;
     }))
   where
     first : Pages

@@ -6,21 +6,20 @@ use Rattle.mg_base.specs.Image.{Image}
 use Rattle.mg_base.specs.declared.damage.Damaged.{Damaged}
 use Rattle.mg_base.specs.declared.geometry.TheConstants.{GREATEST_LIMIT}
 use Rattle.mg_node.specs.declared.entry.Entry.{Entry}
-use Rattle.mg_node.specs.NodePage.{IsAtLeast, IsBelow, IsNodePage, entries_of, high_of, level_in, low_of, right_in}
+use Rattle.mg_node.specs.NodePage.{IsBelow, IsNodePage, high_of, right_in}
 use Rattle.mg_image.specs.Form.{Pages}
-use Rattle.mg_image.specs.Indexes.{IsTree}
 use Rattle.mg_pool.specs.Batch.{Changed}
 use Rattle.mg_pool.specs.Fault.{TellsFault}
 use Rattle.mg_pool.specs.Pool.{IsPool}
 use Rattle.mg_pool.specs.declared.pool.Pool.{Pool}
-use Rattle.mg_space.specs.View.{KeepsStore, Tells, pool_answer, viewed}
+use Rattle.mg_space.specs.View.{Tells, pool_answer, viewed}
 use Rattle.mg_space.specs.ViewLaws.{CountsNow, fault_on, keeps_itself, keeps_on, tells_on}
 use Rattle.mg_space.specs.declared.fault.SpaceFault.{SpaceFault}
 use Rattle.mg_space.specs.declared.fault.SpaceFault.TheVariants.{Full, Pool as OfPool, Damaged as OfPage}
 use Rattle.mg_btree.specs.declared.node.ReadNode.{ReadNode}
 use Rattle.mg_btree.specs.Reading.{IsNodeOn, Reads, RefusesNode}
-use Rattle.mg_btree.specs.Searching.{BeginsAt, ComesTo, IsReached, IsShort, child_to}
-use Rattle.mg_btree.specs.SearchLaws.{begins_down, begins_node, begins_right, begins_short, begins_some, short_ends, short_right, viewed_same}
+use Rattle.mg_btree.specs.Searching.{BeginsAt, ComesTo, IsShort}
+use Rattle.mg_btree.specs.SearchLaws.{begins_node, begins_right, begins_short, begins_some, short_ends, short_right, viewed_same}
 use Rattle.mg_btree.specs.Ways.{IsOnWay}
 
 pub way_starts : {D L : Type 0} (m : Meaning D) (store : Pool D L) (batch : Changed)

@@ -15,7 +15,7 @@
 //! before a page splits. The root keeps its page: its halves go to two new ones.
 //!
 //! A call looks at no more than it needs, so it speaks of damage only where it met some: no tree stands
-//! there then. Where pages lead in a circle the call ends: it makes as many steps on a level as a file
+//! there then. Of the pages above the one that it goes to it tests the common part and the level alone. Where pages lead in a circle the call ends: it makes as many steps on a level as a file
 //! has pages, at most.
 //!
 //! Invariant: none, it keeps no state.

@@ -1,5 +1,5 @@
-use Rattle.std.proofs.Common.{◌≡◌, ◌<◌, ◌≤◌, ◌∙◌, sym, false, true, length, arith}
-use Rattle.mg_node.specs.NodePage.{count_in, end_of, entry_at}
+use Rattle.std.proofs.Common.{◌<◌, ◌≤◌, ◌∙◌, true, length, arith}
+use Rattle.mg_node.specs.NodePage.{count_in, end_of}
 use Rattle.mg_btree.specs.OnPageLaws.{along_ends, along_fits, along_next, along_starts, along_stops, child_at}
 use Rattle.mg_btree.specs.RowOrderLaws.{not_there}
 use Rattle.mg_btree.proofs.on_page.child_on.Goals as goal

@@ -1,4 +1,4 @@
-use Rattle.std.proofs.Common.{◌≡◌, ◌≤◌, ◌∙◌, sym, subst, false, length, ℕ}
+use Rattle.std.proofs.Common.{◌≤◌, ◌∙◌, sym, subst, false, length, ℕ}
 use Rattle.std.specs.Prelude.{◌↔◌, IsTrue}
 use Rattle.mg_node.specs.NodePage.{IsBelow, end_of, entry_at}
 use Rattle.mg_btree.specs.OnPageLaws.{high_fits, is_under_none, is_under_some}

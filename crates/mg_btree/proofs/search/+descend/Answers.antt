@@ -1,4 +1,4 @@
-use Rattle.std.proofs.Common.{rules, ◌≡◌, ◌-◌, refl, Ok}
+use Rattle.std.proofs.Common.{rules, ◌-◌, refl, Ok}
 use Rattle.mg_base.specs.declared.numbers.PageNo.{PageNo}
 use Rattle.mg_space.specs.View.{viewed}
 use Rattle.mg_btree.specs.PassLaws.{comes_below, pass_refused}
