@@ -156,3 +156,7 @@ abbrev pub CoursesStay : {R P Run : Type 0} → Means R P → RunMeans R Run →
 CoursesStay {R = R} {Run = Run} m runs = (old new : R) (o : Opening) (h after : Entries) (t : TxNo)
     (run : Run) (course : Course) → Spares m old new t.0 → GoesOnBeside t.0 h after
     → runs.is_at old o h t run course → runs.is_at new o after t run course
+
+-- a transaction was begun by one session
+abbrev pub WorksForOne : {R P : Type 0} → Means R P → Type 0
+WorksForOne {R = R} m = (r : R) (t n k : ℕ) → m.works r t n → m.works r t k → n ≡ k

@@ -14,11 +14,13 @@
 //! Not here: which statement a session runs, and what is printed.
 #![tactic(auto)]
 
+mod laws;
 mod starting;
 mod statements;
 mod stepping;
 mod work;
 
+pub use laws::works_stay_beside_others;
 pub use starting::{Started, start};
 pub use statements::{Ending, Statements, Stepped};
 pub use stepping::{run, take};

@@ -9,7 +9,7 @@ ghost use Rattle.mg_sql.specs.Plain.{plain_of};
 ghost use Rattle.mg_calls.specs.Frames.{Frames};
 ghost use Rattle.mg_calls.specs.Quiet.{AreQuiet};
 ghost use Rattle.mg_transcript.specs.Courses.{Course};
-ghost use Rattle.mg_courses.specs.Running.{RunMeans, IsTested, StepDone, IsReadyIf, IsNearer, RunsStay, CoursesStay, refusal_tested, refusal_told, over_in, rests, runs_in_steps};
+ghost use Rattle.mg_courses.specs.Running.{RunMeans, IsTested, StepDone, IsReadyIf, IsNearer, RunsStay, CoursesStay, WorksForOne, refusal_tested, refusal_told, over_in, rests, runs_in_steps};
 
 use mg_base::TxNo;
 use mg_records::Records;
@@ -88,4 +88,6 @@ pub trait Statements: Records {
     ghost stay: { RunsStay Self.meaning runs };
 
     ghost courses: { CoursesStay Self.meaning runs };
+
+    ghost one: { WorksForOne Self.meaning };
 }

@@ -119,7 +119,7 @@ steps_legal (writes_page written) legal = legal
 steps_legal (writes_no_page refusal is) legal = legal
 steps_legal (commits answer lawful) legal = (lawful, legal)
 
-starts_legal : {o : Opening} {h after : Entries} {t : TxNo} {size : ℕ} {s : Plain} {comes : Comes}
+pub starts_legal : {o : Opening} {h after : Entries} {t : TxNo} {size : ℕ} {s : Plain} {comes : Comes}
     → Starts o h t size s after comes → IsLegal o h → IsLegal o after
 starts_legal (looks_not s refusal is lawful) legal = (lawful, legal)
 starts_legal (fails_test s fault is lawful found) legal = (lawful, legal)
@@ -131,13 +131,13 @@ starts_legal asks legal = legal
 starts_legal (asks_not refusal is) legal = legal
 starts_legal (rolls_back answer lawful) legal = (lawful, legal)
 
-runs_legal : {o : Opening} {t : TxNo} {h after : Entries} {from comes : Comes}
+pub runs_legal : {o : Opening} {t : TxNo} {h after : Entries} {from comes : Comes}
     → Runs o t h from after comes → IsLegal o h → IsLegal o after
 runs_legal (waits_now on course) legal = legal
 runs_legal (ends_now reply) legal = legal
 runs_legal (one_step step more) legal = runs_legal more (steps_legal step legal)
 
-takes_legal : {o : Opening} {t : TxNo} {n : ℕ} {h after : Entries} {from comes : Comes}
+pub takes_legal : {o : Opening} {t : TxNo} {n : ℕ} {h after : Entries} {from comes : Comes}
     → Takes o t n h from after comes → IsLegal o h → IsLegal o after
 takes_legal (enough_now course) legal = legal
 takes_legal (waits_then on course) legal = legal
@@ -195,7 +195,7 @@ own_legal each (short.begins_one t after reply none lawful does) legal =
 
 -- ---- lines
 
-does_legal : {o : Opening} {h after : Entries} {size : ℕ} {pending then_ : List Unfinished}
+pub does_legal : {o : Opening} {h after : Entries} {size : ℕ} {pending then_ : List Unfinished}
     {kind : LineKind} {reply : Reply}
     → line.Does o h size pending kind reply after then_ → IsLegal o h → IsLegal o after
 does_legal (line.wants_memory kind) legal = legal

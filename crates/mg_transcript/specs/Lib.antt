@@ -10,3 +10,4 @@ pub mod Transcript
 pub mod LegalLaws
 pub mod Growing
 pub mod OwnEventLaws
+pub mod SessionLaws

@@ -221,7 +221,7 @@ pub data Steps (o : Opening) (h : Entries) (t : TxNo) : Course → Entries → C
   writes_on : (event : Event) (more : List Event) (outcome : Outcome) (after : Entries) (comes : Comes)
       → Writes o h t event more outcome after comes
       → Steps o h t (Writing (event ∷ more) outcome) after comes
-  -- a page is written that a COMMIT needs; it may be the last
+  -- a step of the pages of a COMMIT: one of them is written, or all were before
   writes_page : (written : Bool)
       → Steps o h t (Committing false) h (Later (Committing written))
   -- that is refused from outside

@@ -8,7 +8,8 @@
 //! events that it gives, step by step), `Sessions` (the transaction of a session, and statements that
 //! are held or wait), `Shorthand` (`@put` and `@get`), `Lines` (what a line does, and which statements
 //! go on at it), `Scripts` (all lines, and the end), `Transcript` (what is printed, and whether all was
-//! answered Ok).
+//! answered Ok). `LegalLaws`, `OwnEventLaws` and `SessionLaws` have what follows of them, `Growing` what
+//! stays where a history goes on by the events of one transaction.
 //!
 //! The history of a script is a relation between opening, script and history. It leaves free how many
 //! steps a reading and a COMMIT take, and where a refusal comes from outside the machine: want of
@@ -25,5 +26,8 @@
 mod laws;
 mod turn;
 
-pub use laws::{events_are_own, histories_are_legal};
+pub use laws::{events_are_own, histories_are_legal, transactions_are_apart};
 pub use turn::{Flow, Spoken, Turn, flow_of, is_fine, turn_text};
+
+#[cfg(test)]
+mod tests;
