@@ -349,6 +349,13 @@ fn faults_print_as_they_are_told(rt: HostRuntime) -> Result<(), Fail> {
     Ok(())
 }
 
+/// A list of the row with this key and this V.
+fn one_kept(alloc: Global, k: i64, v: Option<i64>) -> Result<Vec<(Key, Row)>, Fail> {
+    let row = row(alloc, k, v)?;
+    let key = key(alloc, &row)?;
+    Ok(vec![in alloc; (key, row)]?)
+}
+
 /// Keeps a row with the key in its first column.
 fn keep_one(
     alloc: Global,
@@ -359,20 +366,31 @@ fn keep_one(
     keep(alloc, filter, key(alloc, &row)?, row, kept)
 }
 
+/// Tells whether the filter faults on the row with this key and this V.
+fn faults(
+    alloc: Global,
+    filter: &Option<Expr>,
+    k: i64,
+    v: Option<i64>,
+    kept: &mut Vec<(Key, Row)>,
+) -> Result<bool, Fail> {
+    let row = row(alloc, k, v)?;
+    Ok(keep_one(alloc, filter, row, kept).is_err())
+}
+
 #[test]
 fn a_row_that_is_not_kept_leaves_what_was(rt: HostRuntime) -> Result<(), Fail> {
     let alloc = rt.alloc();
     let table = kv(&rt, alloc)?;
     let bound = bound(&rt, alloc, &table, b"DELETE FROM KV WHERE 1 / V = 1");
-    let seven = row(alloc, 7, Some(1))?;
-    let mut kept = vec![in alloc; (key(alloc, &seven)?, seven)]?;
+    let mut kept = one_kept(alloc, 7, Some(1))?;
     match &bound.statement {
         Statement::Delete { filter, .. } => {
-            assert!(&rt; keep_one(alloc, filter, row(alloc, 1, Some(0))?, &mut kept).is_err());
+            assert!(&rt; faults(alloc, filter, 1, Some(0), &mut kept)?);
             assert_eq!(&rt; kept.len(), 1);
-            assert!(&rt; keep_one(alloc, filter, row(alloc, 2, None)?, &mut kept).is_ok());
+            assert!(&rt; !faults(alloc, filter, 2, None, &mut kept)?);
             assert_eq!(&rt; kept.len(), 1);
-            assert!(&rt; keep_one(alloc, filter, row(alloc, 3, Some(1))?, &mut kept).is_ok());
+            assert!(&rt; !faults(alloc, filter, 3, Some(1), &mut kept)?);
             assert_eq!(&rt; kept.len(), 2);
         }
         _ => panic!(&rt; "no DELETE"),
