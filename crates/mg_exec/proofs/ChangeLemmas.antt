@@ -26,6 +26,8 @@ step_leaves m old new t before after count (wrote.Waits on) s =
     record { frames = s.frames; ready = s.ready }
 step_leaves m old new t before after count (wrote.Refused refusal) s =
     record { frames = s.frames; ready = tt }
+step_leaves m old new t before after count (wrote.RolledBack refusal) s =
+    record { frames = s.frames; ready = tt }
 
 pub turned_leaves : {R P : Type 0} (m : Means R P) (old new : R) (t : ℕ) (before after : Writes)
     (count : ℕ) (result : Wrote) (turn : Turn P) → turn ≡ turned (with_left after count) result
@@ -54,6 +56,7 @@ behind P after count wrote.More = refl
 behind P after count wrote.Done = refl
 behind P after count (wrote.Waits on) = refl
 behind P after count (wrote.Refused refusal) = refl
+behind P after count (wrote.RolledBack refusal) = refl
 
 -- a statement that writes reads no more
 pub turned_behind : (P : Type 0) (after : Writes) (count : ℕ) (result : Wrote) (turn : Turn P)

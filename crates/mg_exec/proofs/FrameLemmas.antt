@@ -1,7 +1,6 @@
 -- Frames of calls that are not made, and of answers that have no cause outside.
 use Rattle.std.proofs.Common.{◌≡◌, ℕ, ◌≤◌, List, Option, Some, None, inl, refl, arith}
 use Rattle.mg_model.specs.declared.refusal.Refusal.{Refusal}
-use Rattle.mg_records.specs.Keeping.{Lessens}
 use Rattle.mg_records.specs.Meaning.{Means}
 use Rattle.mg_calls.specs.Frames.{Blames, Frames}
 
@@ -24,10 +23,6 @@ frames_quiet m old new t refusal cause frames = record {
   commits = frames.commits;
 }
 
-no_less : (a : Option ℕ) → Lessens a a
-no_less None = tt
-no_less (Some n) = omega arith
-
 -- no call at all
 pub frames_none : {R P : Type 0} (m : Means R P) (r : R) (t : ℕ) (refusal : Option Refusal)
     → Blames m r r refusal → Frames m r r t refusal
@@ -42,7 +37,7 @@ frames_none m r t refusal cause = record {
   sizes = λ size. refl;
   given = λ table was. was;
   places = λ table place was. was;
-  tables = λ u name other. refl;
+  tables = λ u name table other was. was;
   walks = λ u table after rows other come. come;
-  commits = λ u other. no_less (m.unwritten r u);
+  commits = record { asked = λ u other was. was; written = λ u other was. was };
 }

@@ -34,7 +34,7 @@ use Rattle.mg_calls.specs.declared.steps.Writes.{Writes}
 use Rattle.mg_calls.specs.declared.steps.Wrote.{Wrote}
 use Rattle.mg_calls.specs.declared.steps.Wrote.TheVariants as wrote_
 use Rattle.mg_calls.specs.Steps.{MarksAndWrites, WritesNext}
-use Rattle.mg_calls.specs.Undoing.{IsUndone, taken_back, given_up}
+use Rattle.mg_calls.specs.Undoing.{IsUndone, left_so, taken_back}
 use Rattle.mg_exec.specs.declared.phase.Phase.{Phase}
 use Rattle.mg_exec.specs.declared.phase.Phase.TheVariants as phases
 use Rattle.mg_exec.specs.declared.phase.Step.{Step}
@@ -259,9 +259,9 @@ is_undone m new o looked h a table bound given first rest count refusal answer b
       so = undone table bound first rest count given (entry (events.UndoMark a.t) Fine ∷ []) (e ∷ h)
           refusal refusal b w refl (taken_back_so refl refl) refl refl;
     }
-is_undone m new o looked h a table bound given first rest count refusal answer b w law (given_up later lawful stands) =
-    gave_up m new o looked h a table bound given first rest count refusal later
-    (does_give_up o (entry (event_of a.t table.name first) (No refusal) ∷ h) a.t later) b w law refl
+is_undone m new o looked h a table bound given first rest count refusal answer b w law (left_so later keeps lawful stands) =
+    gave_up m new o looked h a table bound given first rest count refusal later false b w law
+    (ap (λ (g : Bool). g && is_active (state_of o (entry (event_of a.t table.name first) (No refusal) ∷ h) a.t.0)) keeps)
     lawful stands
 
 -- the next of its writes is made
@@ -296,6 +296,10 @@ writing m new o looked h a table bound given (first ∷ rest) left count (wrote_
 writing m new o looked h a table bound given (first ∷ rest) left count (wrote_.Refused answer) b w same next =
     is_undone m new o looked h a table bound given first rest count next.first answer b w next.lawful
     next.undone
+writing m new o looked h a table bound given (first ∷ rest) left count (wrote_.RolledBack answer) b w same next =
+    gave_up m new o looked h a table bound given first rest count next.first answer
+    (does_give_up o (entry (event_of a.t table.name first) (No next.first) ∷ h) a.t answer) b w next.lawful
+    refl next.undoing next.stands
 
 marking : {R P : Type 0} (m : Means R P) (new : R) (o : Opening) (looked h : Entries) (a : Asked)
     (table : Table) (bound : Bound) (rows : List Cells) (made : List Write) (left : Writes)
@@ -510,7 +514,7 @@ seen_again : {R P : Type 0} (m : Means R P) (old new : R) (t u : ℕ) (refusal :
     (table : Table) → Frames m old new u refusal → is_of t (Some u) ≡ false
     → m.table old t table.name ≡ Some table → m.table new t table.name ≡ Some table
 seen_again m old new t u refusal table frames apart is =
-    frames.tables t table.name apart ∙ is
+    frames.tables t table.name table apart is
 
 pub statements_stay_ready : {R P : Type 0} (m : Means R P) → StatementsStayReady m
 statements_stay_ready m old new t u refusal (phases.Saving name) frames apart ready = tt

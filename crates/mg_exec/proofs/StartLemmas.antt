@@ -14,6 +14,7 @@ use Rattle.mg_plan.specs.Statements.{columns_listed, count_defined, is_all_known
 use Rattle.mg_model.specs.declared.opening.Opening.{Opening}
 use Rattle.mg_model.specs.declared.refusal.Refusal.{Refusal}
 use Rattle.mg_model.specs.declared.refusal.Refusal.TheVariants.{NoTable, ReadOnly}
+use Rattle.mg_model.specs.declared.refusal.Refusal.TheVariants as refusals
 use Rattle.mg_model.specs.declared.table.Table.{Table as AnyTable}
 use Rattle.mg_base.specs.declared.transaction.TxState.TheVariants.{Active}
 use Rattle.mg_model.specs.History.{Entries}
@@ -24,10 +25,13 @@ use Rattle.mg_records.specs.Reading.{IsPlace, IsTableGiven, TellsTable, shape_se
 use Rattle.mg_rows.specs.declared.statement_fault.StatementFault.{StatementFault}
 use Rattle.mg_rows.specs.declared.statement_fault.StatementFault.TheVariants.{Engine}
 use Rattle.mg_rows.specs.Faults.{of_plan}
+use Rattle.mg_calls.specs.Frames.{Frames}
+use Rattle.mg_calls.specs.FrameLaws.{frames_reads_nothing}
+use Rattle.mg_exec.proofs.FrameLemmas.{frames_quiet}
 use Rattle.mg_exec.specs.declared.phase.Phase.{Phase}
 use Rattle.mg_exec.specs.declared.phase.Phase.TheVariants as phases
 use Rattle.mg_exec.specs.Phases.{IsReady, StandsAt, is_finding, is_insert}
-use Rattle.mg_exec.specs.Starting.{HasRows, IsBegun, IsStarted, IsWhyNot, it_writes, no_table, not_told, not_bound, no_memory, may_not_write}
+use Rattle.mg_exec.specs.Starting.{refusal_at, HasRows, IsBegun, IsStarted, IsWhyNot, it_writes, no_table, not_told, not_bound, no_memory, may_not_write}
 
 -- the keeper tells no table
 pub why_no_table : {R P : Type 0} (m : Means R P) (old : R) (o : Opening) (h : Entries) (t : ℕ)
@@ -181,3 +185,27 @@ ready_at_start {P = P} m new t s name size table bound (phases.Reading reading) 
           (sym (λ k. (begun.1 k, begun.3 k))) (bound_typed table.shape.columns table.shape.key size s bound binds.0 binds.1);
     }
 ready_at_start m new t s name size table bound phase rows given binds begun = absurd begun
+
+-- a fault of the binding has no cause outside
+pub unbound_frames : {R P : Type 0} (m : Means R P) (old new : R) (t : ℕ) (fault : PlanFault)
+    (given : StatementFault) → given ≡ of_plan fault → Reads m old new None None
+    → Frames m old new t (refusal_at {T = Phase P} (Err given))
+unbound_frames {P = P} m old new t fault given is reads =
+    subst (λ (f : StatementFault). Frames m old new t (refusal_at {T = Phase P} (Err f))) (sym is)
+    (at fault)
+  where
+    frames : Frames m old new t None
+    frames = frames_reads_nothing m old new t None reads
+
+    at : (fault : PlanFault) → Frames m old new t (refusal_at {T = Phase P} (Err (of_plan fault)))
+    at plans.ColumnExists = frames
+    at (plans.TooMany limit) = frames
+    at plans.NoColumn = frames
+    at plans.OneKey = frames
+    at plans.CountMismatch = frames
+    at plans.KeyChange = frames
+    at plans.TypeMismatch = frames
+    at (plans.RowTooLong len limit) =
+        frames_quiet m old new t (Some (refusals.RowTooLong len limit)) tt frames
+    at (plans.KeyTooLong len limit) = frames
+    at plans.Memory = frames_quiet m old new t (Some refusals.Memory) tt frames

@@ -31,6 +31,7 @@ turned c wrote.More = record { phase = phases.Changing c; answer = Ok steps.More
 turned c wrote.Done = ended (Ok (steps.Done (Count c.count)))
 turned c (wrote.Waits on) = record { phase = phases.Changing c; answer = Err (Engine (Waits on)) }
 turned c (wrote.Refused refusal) = ended (Err (Engine refusal))
+turned c (wrote.RolledBack refusal) = ended (Err (Engine refusal))
 
 -- these writes are left, of so many
 abbrev pub with_left : Writes → ℕ → Changing

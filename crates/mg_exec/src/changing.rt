@@ -42,6 +42,10 @@ pub fn turned<P: Drop>(changing: Changing, wrote: Wrote) -> Turn<P>
             phase: Phase::Ended,
             answer: Err(StatementFault::Engine(refusal)),
         },
+        Wrote::RolledBack(refusal) => Turn {
+            phase: Phase::Ended,
+            answer: Err(StatementFault::Engine(refusal)),
+        },
     }
 }
 

@@ -1,4 +1,4 @@
-use Rattle.std.proofs.Common.{Some, Ok, refl, ap, subst, ◌∙◌}
+use Rattle.std.proofs.Common.{None, Some, Ok, refl, ap, subst, ◌∙◌}
 use Rattle.mg_calls.specs.declared.walking.Visit.{Visit}
 use Rattle.mg_calls.specs.declared.walking.Visit.TheVariants as visits
 use Rattle.mg_calls.specs.Walks.{GoesOn}
@@ -6,7 +6,7 @@ use Rattle.mg_calls.specs.FrameLaws.{frames_reads}
 use Rattle.mg_value.specs.declared.value.Value.{Value}
 use Rattle.mg_model.specs.Changes.{Cells}
 use Rattle.mg_exec.specs.Reading.{KeepsRow, comes_on}
-use Rattle.mg_exec.proofs.ReadLemmas.{a_row, no_row, at_end, is_refused, refused_leaves}
+use Rattle.mg_exec.proofs.ReadLemmas.{a_row, no_row, at_end, is_refused, keeps_leaves, reads_on, refused_leaves}
 use Rattle.mg_exec.proofs.reading.read.Goals as goal
 
 pub returns-in-Ok-Record-Some-clause-reads : goal.returns-in-Ok-Record-Some-clause-reads
@@ -56,3 +56,14 @@ returns-in-Err-clause-leaves g c =
     c.stop.result
     (frames_reads g.R.Records.meaning c.args.r.now c.visit_next.new.r c.args.t.0 (Some c.in-Err.refusal)
     c.in-Err.ensures.reads) c.stop.ensures
+
+pub returns-in-Ok-Record-Some-clause-leaves : goal.returns-in-Ok-Record-Some-clause-leaves
+returns-in-Ok-Record-Some-clause-leaves g c =
+    keeps_leaves g.R.Records.meaning c.args.r.now c.visit_next.new.r c.args.t.0
+    (record { walk = c.visit_next.new.walk; bound = c.args.reading.bound; kept = c.args.reading.kept })
+    _ c.keep_row.result.phase c.keep_row.result.answer
+    (frames_reads g.R.Records.meaning c.args.r.now c.visit_next.new.r c.args.t.0 None
+    c.in-Ok-Record-Some.ensures.reads)
+    (reads_on g.R.Records.meaning c.args.r.now c.visit_next.new.r c.args.t.0 c.args.reading
+    c.visit_next.new.walk c.requires.ready c.visit_next.ensures.table c.visit_next.ensures.ready)
+    c.keep_row.ensures

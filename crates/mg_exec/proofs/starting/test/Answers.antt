@@ -1,5 +1,5 @@
 use Rattle.mg_sql.specs.Plain.{plain_of}
-use Rattle.mg_exec.proofs.StartLemmas.{barred, untold, unbound, started, ready_at_start}
+use Rattle.mg_exec.proofs.StartLemmas.{barred, untold, unbound, unbound_frames, started, ready_at_start}
 use Rattle.mg_exec.proofs.starting.test.Goals as goal
 
 pub returns-in-Err-clause-tests : goal.returns-in-Err-clause-tests
@@ -33,3 +33,8 @@ pub returns-then-is_barred-clause-tests : goal.returns-then-is_barred-clause-tes
 returns-then-is_barred-clause-tests g c = λ o h stands.
     barred g.R.Records.meaning c.args.r.now o h c.args.t.0 c.args.read_only (plain_of c.args.s.now)
     c.args.name.now c.args.size c.is_barred.result c.is_barred.ensures c.if-is_barred.true stands
+
+pub returns-in-Err-bind-clause-frames : goal.returns-in-Err-bind-clause-frames
+returns-in-Err-bind-clause-frames g c =
+    unbound_frames g.R.Records.meaning c.args.r.now c.table.new.self c.args.t.0 c.in-Err-bind.fault
+    c.from.result c.from.ensures c.in-Ok.ensures.reads
