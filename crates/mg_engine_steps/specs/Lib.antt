@@ -1,0 +1,4 @@
+pub mod Batches
+pub mod BatchLaws
+pub mod Writes
+pub mod WritesLaws

@@ -1,0 +1,6 @@
+//! Steps.
+#![tactic(auto)]
+
+mod laws;
+
+pub use laws::trial;
