@@ -8,7 +8,7 @@ use Rattle.mg_model.specs.History.{Entries, Entry}
 use Rattle.mg_model.specs.Legal.{IsLegal, MayBegin, is_durable}
 use Rattle.mg_model.specs.Machine.{next_number, state_of}
 use Rattle.mg_image.specs.Form.{Form}
-use Rattle.mg_image.specs.Inventory.{next_of, state_at}
+use Rattle.mg_image.specs.Inventory.{next_of}
 use Rattle.mg_pool.specs.Batch.{Changed, content_in}
 use Rattle.mg_pool.specs.Change.{ChangesOverlays}
 use Rattle.mg_pool.specs.Pool.{IsPool, LeavesOverlays, shown}
@@ -16,6 +16,7 @@ use Rattle.mg_pool.specs.declared.pool.Pool.{Pool}
 use Rattle.mg_pool_overlays.specs.Needs.{Asked, Sessions}
 use Rattle.mg_space.specs.View.{KeepsStore, Tells}
 use Rattle.mg_space_ties.specs.Changed.{ChangesFresh, KeptIn}
+use Rattle.mg_table_stands.specs.DataKept.{KeepsBits}
 use Rattle.mg_lasting.specs.Bits.{IsSettled}
 use Rattle.mg_lasting.specs.Crashes.{HoldsAcknowledged, LeavesSince, asked, may_last}
 use Rattle.mg_lasting.specs.Lasting.{Lasts, LastsOn}
@@ -29,11 +30,6 @@ abbrev pub PoolBitsAre : Form → Type 0
 PoolBitsAre form = (size : ℕ) (o : Opening) (h : Entries) (cache : Cache) (has_asked : Asked)
     (needs : ℕ → PageSet) → Lasts form size o h cache has_asked needs
     → ArePoolBits size cache.pool (state_of o h)
-
--- pages say the same of each transaction, and have the same next number
-pub record KeepsBits (size : ℕ) (old new : Pages) : Type 0 where
-  pub bits : (t : ℕ) → state_at size new t ≡ state_at size old t
-  pub next : next_of new ≡ next_of old
 
 -- ---- calls that only read
 

@@ -2,3 +2,6 @@ pub mod Batches
 pub mod BatchLaws
 pub mod Writes
 pub mod WritesLaws
+pub mod Reads
+pub mod ReadsOwn
+pub mod ReadsMoved

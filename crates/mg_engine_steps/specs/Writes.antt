@@ -75,8 +75,8 @@ pub record WritesVersion (form : Form) (size : ℕ) (o : Opening) (h : Entries) 
   pub reads : ReadsAfter form size (left_state everyone s.state) pages later shows.layout shows.reading p
       (n ∷ older)
   pub behind : StaysBehind form size o h s pages shows t name key p older
-  -- the version
-  pub of_table : table_at (stands_of reads.layout) p.page.0 ≡ Some table
+  -- the record's page is the table's, and the version
+  pub of_table : table_at (stands_of shows.layout) p.page.0 ≡ Some table
   pub named : table.name ≡ name
   pub its : writer n ≡ t
   pub keyed : key_of table n.row ≡ key

@@ -187,11 +187,13 @@ module _ (form : Form) (size : ℕ) (o : Opening) (h : Entries) (e : Event) (s n
       ∙ (ap (map (told_version table)) (living_head state n older (ap is_dead its_limbo))
       ∙ (λ i. record { writer = written.its i; row = written.given i } ∷ map (told_version table) older)))
 
+  of_new : table_in g p ≡ Some table
+  of_new = written.reads.grown.stays p.page.0 table written.of_table
+
   -- the record was of the table, where it had versions
   was_its : (other : Table) → table_in f p ≡ Some other → other ≡ table
   was_its other of =
-      let both : Some other ≡ Some table = sym (written.reads.grown.stays p.page.0 other of) ∙ written.of_table in
-      cc
+      let both : Some other ≡ Some table = sym of ∙ written.of_table in cc
 
   still_its : (q : RecId) → shows.reading q ≢ [] → table_in g q ≡ table_in f q
   still_its q some = at (table_in f q) refl
@@ -209,7 +211,7 @@ module _ (form : Form) (size : ℕ) (o : Opening) (h : Entries) (e : Event) (s n
   record_by have spoke rest = record {
     state = λ u. ap (left_by true) (states_same u);
     table = table;
-    of_table = written.of_table;
+    of_table = of_new;
     named = written.named;
     some = λ none. let both : n ∷ older ≡ [] = sym written.reads.here ∙ none in absurd cc;
     keyed = ap (record_key table) written.reads.here ∙ written.keyed;
@@ -272,7 +274,7 @@ module _ (form : Form) (size : ℕ) (o : Opening) (h : Entries) (e : Event) (s n
           (new.number t x)) (sym same) (subst (λ (page : ℕ). HasFirstPage (stands_of written.reads.layout) name
           page) (sym written.number) (subst (λ (x : List ℕ). HasFirstPage (stands_of written.reads.layout) x
           table.pointer.0) written.named (first_of written.reads.layout table
-          (table_at_stands written.reads.layout p.page.0 table written.of_table))))
+          (table_at_stands written.reads.layout p.page.0 table of_new))))
       at other k (inr (ne, had)) = subst (λ (page : ℕ). HasFirstPage (stands_of written.reads.layout) other page)
           (sym (written.other_numbers other ne))
           ((finds_on o h s shows.layout written.reads.layout shows.reading t written.reads.grown

@@ -22,17 +22,35 @@ use Rattle.mg_image.specs.Records.{Cells, Chain, Reading, cells_of, ended, goes,
 use Rattle.mg_image.specs.Sound.{HasTablePages, IsSoundBy, facts_by}
 use Rattle.mg_image.specs.Tables.{EachStand, Layout, Stand, has, stands_of, table_at}
 use Rattle.mg_image.specs.declared.entry.Entry.{Entry}
-use Rattle.mg_image_steps.specs.DataPages.{ChangesData, header_same, stands_kept}
-use Rattle.mg_image_steps.specs.DataSound.{facts_same}
 use Rattle.mg_image_steps.specs.Kinds.{HasNoSequences}
-use Rattle.mg_image_steps.specs.Rest.{LeavesRest}
-use Rattle.mg_image_steps.specs.Trees.{data_leaves, trees_stay}
 use Rattle.mg_one_layout.specs.OneChain.{same_stand, same_stands}
+use Rattle.mg_table_stands.specs.DataKept.{IsDataChanged, data_facts}
 use Rattle.mg_table_stands.specs.OneTable.{data_of}
 
 no_pages : (P : ℕ → Type 0) → ((n : ℕ) → P n → ⊥) → (ns : List ℕ) → EachPage P ns → ns ≡ []
 no_pages P none [] each = refl
 no_pages P none (n ∷ ns) each = absurd (none n each.0)
+
+-- cells of the catalog's pages are as they were
+abbrev pub LeavesCatalog : (ℕ → TxState) → Pages → Pages → Layout → Type 0
+LeavesCatalog state old new a = (x : RecId)
+    → table_in (facts_by state old a) x ≡ Some a.catalog.table → cells_of new x ≡ cells_of old x
+
+-- a page that is a table's, which is not the catalog, leaves them
+pub page_leaves : (state : ℕ → TxState) (old new : Pages) (a : Layout) (b : ℕ) (table : Table)
+    → ((n : ℕ) → n ≢ b → new n ≡ old n) → table_at (stands_of a) b ≡ Some table
+    → table ≢ a.catalog.table → LeavesCatalog state old new a
+page_leaves state old new a b table others of other x is =
+    ap (λ (page : List ℕ). slot_cell (cell_of page x.slot)) (others x.page.0 off)
+  where
+    off : x.page.0 ≢ b
+    off same =
+        let both : Some a.catalog.table ≡ Some table = sym is ∙ (ap (table_at (stands_of a)) same ∙ of) in
+        let one_table : table ≡ a.catalog.table = cc in other one_table
+
+pub leaves_on : (state : ℕ → TxState) (old mid new : Pages) (a : Layout) → LeavesCatalog state old mid a
+    → LeavesCatalog state mid new a → LeavesCatalog state old new a
+leaves_on state old mid new a first second x is = second x is ∙ first x is
 
 -- ---- chains whose cells stay
 
@@ -44,30 +62,24 @@ chain_stays h k l es (goes m e fs at cell tx more) each =
     goes m e fs at (each.0 ∙ cell) tx (chain_stays h k e.version.back fs more each.1)
 
 module _ (form : Form) (one : RowsAreOne form.coding) (none : HasNoSequences form) (size : ℕ)
-    (state : ℕ → TxState) (old new : Pages) (b : ℕ) (a c : Layout) (r s : Reading) (table : Table)
+    (state : ℕ → TxState) (old new : Pages) (a c : Layout) (r s : Reading)
     (first : IsSoundBy form size state old a r) (second : IsSoundBy form size state new c s)
-    (change : ChangesData form.in_primary old new b) (of : table_at (stands_of a) b ≡ Some table)
-    (other : table ≢ a.catalog.table) where
+    (change : IsDataChanged form size old new a) (others : LeavesCatalog state old new a) where
   abbrev f : Facts
   f = facts_by state old a
 
   abbrev g : Facts
   g = facts_by state new c
 
-  rest : LeavesRest form size old new a
-  rest = data_leaves form size b none (trees_stay form size) state old new a r first change
-
-  tables_still : EachStand (HasTablePages form.in_primary size new) (stands_of a)
-  tables_still = stands_kept form.in_primary size old new b change first.header first.inventory
-      first.transactions (stands_of a) rest.trees.trees first.tables
+  abbrev tables_still : EachStand (HasTablePages form.in_primary size new) (stands_of a)
+  tables_still = change.tables
 
   facts_still : facts_by state new a ≡ f
-  facts_still = facts_same form size state old new b a r s first change rest.trees
+  facts_still = data_facts form size state old a r first new change
 
   catalog_table_is : a.catalog.table ≡ c.catalog.table
-  catalog_table_is = first.catalog ∙ (ap (λ (h : Header). catalog_table h.catalog.0) (sym (header_same
-      form.in_primary size old new b change first.header first.inventory first.transactions))
-      ∙ sym second.catalog)
+  catalog_table_is = first.catalog ∙ (ap (λ (h : Header). catalog_table h.catalog.0)
+      (sym change.header_is) ∙ sym second.catalog)
 
   catalog_is : a.catalog ≡ c.catalog
   catalog_is = same_stand form.in_primary size new a.catalog c.catalog tables_still.0 second.tables.0
@@ -109,15 +121,8 @@ module _ (form : Form) (one : RowsAreOne form.coding) (none : HasNoSequences for
       next_still : facts_by state new c ≡ record f { table_of = table_at (stands_of c) }
       next_still = ap (λ (x : Facts). record x { table_of = table_at (stands_of c) }) facts_still
 
-  -- the page is none of the catalog's
-  off_page : (n : ℕ) → f.table_of n ≡ Some cat → n ≢ b
-  off_page n is same =
-      let both : Some cat ≡ Some table = sym is ∙ (ap f.table_of same ∙ of) in
-      let one_table : table ≡ cat = cc in other one_table
-
   cell_still : (x : RecId) → table_in f x ≡ Some cat → cells_of new x ≡ cells_of old x
-  cell_still x is = ap (λ (page : List ℕ). slot_cell (cell_of page x.slot))
-      (change.others x.page.0 (off_page x.page.0 is))
+  cell_still = others
 
   read_still : (p : RecId) → table_in f p ≡ Some cat
       → Chain (cells_of new) (newest_of p (cells_of new p)) (r p)
@@ -188,12 +193,12 @@ module _ (form : Form) (one : RowsAreOne form.coding) (none : HasNoSequences for
   pub layout_stays : a ≡ c
   layout_stays = λ i. record {
     catalog = catalog_is i;
-    tables = others i;
+    tables = tables_same i;
     sequences = sequences i;
   }
     where
-      others : a.tables ≡ c.tables
-      others = same_stands form.in_primary size new a.tables c.tables tables_still.1 second.tables.1
+      tables_same : a.tables ≡ c.tables
+      tables_same = same_stands form.in_primary size new a.tables c.tables tables_still.1 second.tables.1
           tables_are
 
       sequences : a.sequences ≡ c.sequences

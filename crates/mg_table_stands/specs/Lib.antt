@@ -1,2 +1,4 @@
 pub mod OneTable
+pub mod DataKept
 pub mod LayoutStays
+pub mod Chains
