@@ -7,7 +7,7 @@ use Rattle.mg_base.specs.Image.{Image}
 use Rattle.mg_base.specs.Moments.{LeavesOnly, goes_on, joined, started}
 use Rattle.mg_base.specs.declared.transaction.TxState.{TxState}
 use Rattle.mg_base.specs.declared.transaction.TxState.TheVariants.{Active, Committed, Dead, Limbo}
-use Rattle.mg_careful.specs.CarefulWrite.{Cache, IsClosed, PageSet, Pages, overlay}
+use Rattle.mg_careful.specs.CarefulWrite.{Cache}
 use Rattle.mg_careful.specs.Graph.{PageGraph}
 use Rattle.mg_model.specs.declared.opening.Opening.{Opening}
 use Rattle.mg_model.specs.History.{Entries, Entry}
@@ -16,7 +16,8 @@ use Rattle.mg_model.specs.Machine.{next_number, state_of}
 use Rattle.mg_image.specs.Form.{Form}
 use Rattle.mg_image.specs.Inventory.{next_of, state_at}
 use Rattle.mg_kept_images.specs.KeptImages.{keeping}
-use Rattle.mg_overlays.specs.Overlays.{EveryOverlay, left_by}
+use Rattle.mg_overlays.specs.BatchLaws.{good_of_pool}
+use Rattle.mg_overlays.specs.Overlays.{EveryOverlay, left_by, left_state, nobody}
 use Rattle.mg_pool.specs.Batch.{Changed, content_in}
 use Rattle.mg_pool.specs.Change.{ChangesPages}
 use Rattle.mg_pool.specs.Dirty.{DirtyPages}
@@ -36,21 +37,10 @@ use Rattle.mg_engine_steps.specs.Batches.{BatchesLast, ChangesRow, ChangesTo, Le
 -- ---- bits
 
 pub pool_bits_are : (form : Form) → PoolBitsAre form
-pool_bits_are form size o h cache has_asked needs lasts t =
-    ap (λ (pages : Pages). state_at size pages t) (sym same) ∙ lasts.bits cache.dirty closed t
-  where
-    closed : IsClosed cache cache.dirty
-    closed = record {
-      only_dirty = λ p is. is;
-      before = λ p q precedes dirty in_it. dirty;
-    }
-
-    same : overlay cache cache.dirty ≡ cache.pool
-    same = fun_ext (λ p. by p (cache.dirty p) refl)
-      where
-        by : (p : ℕ) (b : Bool) → cache.dirty p ≡ b → overlay cache cache.dirty p ≡ cache.pool p
-        by p true is = rw is refl
-        by p false is = rw is (sym (lasts.clean p is))
+pool_bits_are form size o h cache has_asked needs lasts = good_of_pool
+    (λ state pool image. (t : ℕ) → state_at size image t ≡ left_state nobody (state_of o h) t)
+    (state_of o h) cache needs lasts.clean lasts.dirty (λ chosen set_ closed has. lasts.bits set_ closed)
+    nobody
 
 -- ---- reading
 

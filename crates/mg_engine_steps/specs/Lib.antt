@@ -5,3 +5,5 @@ pub mod WritesLaws
 pub mod Reads
 pub mod ReadsOwn
 pub mod ReadsMoved
+pub mod GoesOn
+pub mod GoesOnLaws

@@ -91,14 +91,14 @@ first_of layout table its = subst (λ (x : Table). HasFirstPage (stands_of layou
 
 module _ (o : Opening) (h : Entries) (e : Event) (t : ℕ) (name : List ℕ) (key : Value)
     (row : Option Cells) (entry : WritesKey o h e t name key row) where
-  states_stay : (u : ℕ) (old : TxState) → state_after (effect_of e) u old ≡ old
+  pub states_stay : (u : ℕ) (old : TxState) → state_after (effect_of e) u old ≡ old
   states_stay u old = at entry
     where
       at : WritesKey o h e t name key row → state_after (effect_of e) u old ≡ old
       at (inl is) = ap (λ (f : Effect). state_after f u old) is
       at (inr (cells, some, is, its)) = ap (λ (f : Effect). state_after f u old) is
 
-  next_stays : (old : ℕ) → next_after (effect_of e) old ≡ old
+  pub next_stays : (old : ℕ) → next_after (effect_of e) old ≡ old
   next_stays old = at entry
     where
       at : WritesKey o h e t name key row → next_after (effect_of e) old ≡ old

@@ -2,3 +2,4 @@ pub mod OneTable
 pub mod DataKept
 pub mod LayoutStays
 pub mod Chains
+pub mod Laws
