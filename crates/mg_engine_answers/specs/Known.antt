@@ -12,8 +12,6 @@ use Rattle.mg_model.specs.Answers.{is_active}
 use Rattle.mg_model.specs.History.{Entries}
 use Rattle.mg_model.specs.Machine.{state_of}
 use Rattle.mg_model.specs.Openings.{everyone}
-use Rattle.mg_generations.specs.Generations.{Generation}
-use Rattle.mg_generations.specs.Kept.{IsErasedForAll}
 use Rattle.mg_chain.specs.Views.{BaseIsTold}
 use Rattle.mg_image.specs.Catalog.{IsSameTable, StaysAmong}
 use Rattle.mg_image.specs.Form.{Pages, packed_coding, packed_form}
@@ -27,9 +25,9 @@ use Rattle.mg_overlays.specs.Overlays.{left_by, left_state}
 use Rattle.mg_grown_overlays.specs.Growing.{IsTableOf}
 use Rattle.mg_seek.specs.Histories.{BasesSeeAll, DieAlike}
 use Rattle.mg_standing.specs.BasedLaws.{tests_all}
-use Rattle.mg_standing.specs.Laws.{IsChainOf}
 use Rattle.mg_standing.specs.Standing.{Remembers, ShowsHistory, Standing}
 use Rattle.mg_table_stands.specs.OneTable.{stands_in}
+use Rattle.mg_engine_steps.specs.Writes.{IsSilentAt}
 
 -- ---- definitions
 
@@ -56,12 +54,10 @@ abbrev pub speaker_of : (size : ℕ) (o : Opening) (h : Entries) (s : Standing) 
     → KnowsPages size o h s pages → List ℕ → Value → Option RecId
 speaker_of size o h s pages knows = knows.shows.versions.speaker
 
--- the versions of the record that speaks for a key are none, or begin with a deletion that all see
+-- no version of a key counts on its pages
 abbrev pub IsSilent : (size : ℕ) (o : Opening) (h : Entries) (s : Standing) (pages : Pages)
     → KnowsPages size o h s pages → List ℕ → Value → Type 0
-IsSilent size o h s pages knows name key = (chain : List Generation)
-    → IsChainOf (facts_shown size o h s pages knows) knows.shows.reading name key
-    (knows.shows.versions.speaker name key) chain → (chain ≡ []) ⊎ IsErasedForAll o h chain
+IsSilent size o h s pages knows name key = IsSilentAt packed_form size o h s pages knows.shows name key
 
 -- ---- what the laws on reading ask
 

@@ -5,3 +5,5 @@ pub mod Listed
 pub mod KeyAnswers
 pub mod Walking
 pub mod WalkAnswers
+pub mod Tables
+pub mod TableAnswers

@@ -100,3 +100,44 @@ pub is_listed : (view : Pages) (ds : List ℕ) (rec : RecId) (e : Entry) (es : L
 is_listed view ds rec e es has chain =
     let it = link_there view (newest_link view rec) e es chain in
     among_pages view ds rec has (newest_primary view rec it.0 it.1)
+
+-- ---- and each of its records is of one of its pages
+
+among_either : (xs ys : List RecId) (rec : RecId) → IsAmong (xs ++ ys) rec
+    → IsAmong xs rec ⊎ IsAmong ys rec
+among_either [] ys rec is = inr is
+among_either (x ∷ xs) ys rec (inl same) = inl (inl same)
+among_either (x ∷ xs) ys rec (inr later) = at (among_either xs ys rec later)
+  where
+    at : IsAmong xs rec ⊎ IsAmong ys rec → IsAmong (x ∷ xs) rec ⊎ IsAmong ys rec
+    at (inl is) = inl (inr is)
+    at (inr is) = inr is
+
+here_page : (b : List ℕ) (n slot : ℕ) (rec : RecId) → IsAmong (record_at b n slot) rec → n ≡ rec.page.0
+here_page b n slot rec = at (is_primary (cell_of b slot))
+  where
+    at : (p : Bool) → IsAmong (cond p (rec_at n slot ∷ []) []) rec → n ≡ rec.page.0
+    at true (inl same) = ap (λ (x : RecId). x.page.0) same
+    at true (inr nothing) = absurd nothing
+    at false is = absurd is
+
+below_page : (b : List ℕ) (n k : ℕ) (rec : RecId) → IsAmong (records_below b n k) rec → n ≡ rec.page.0
+below_page b n zero rec is = absurd is
+below_page b n (suc k) rec is = at (among_either (records_below b n k) (record_at b n k) rec is)
+    (λ earlier. below_page b n k rec earlier)
+  where
+    at : IsAmong (records_below b n k) rec ⊎ IsAmong (record_at b n k) rec
+        → (IsAmong (records_below b n k) rec → n ≡ rec.page.0) → n ≡ rec.page.0
+    at (inl is) earlier = earlier is
+    at (inr is) earlier = here_page b n k rec is
+
+pub page_listed : (view : Pages) (ds : List ℕ) (rec : RecId) → IsAmong (records_in view ds) rec
+    → Has ds rec.page.0
+page_listed view [] rec is = absurd is
+page_listed view (d ∷ ds) rec is = at (among_either (records_on (view d) d) (records_in view ds) rec is)
+    (λ later. page_listed view ds rec later)
+  where
+    at : IsAmong (records_on (view d) d) rec ⊎ IsAmong (records_in view ds) rec
+        → (IsAmong (records_in view ds) rec → Has ds rec.page.0) → Has (d ∷ ds) rec.page.0
+    at (inl here_) further = inl (sym (below_page (view d) d (slot_count (view d)) rec here_))
+    at (inr later) further = inr (further later)

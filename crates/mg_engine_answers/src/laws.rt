@@ -1,6 +1,7 @@
 //! What is found on the pages is what the machine says. Each function's contract is the law.
 
 ghost use Rattle.mg_engine_answers.specs.Laws.{NothingAtKeys, ObstaclesAtKeys, RowsAtKeys, SpeakersAreTold};
+ghost use Rattle.mg_engine_answers.specs.Tables.{TablesAreTold};
 ghost use Rattle.mg_engine_answers.specs.Walking.{WalksBegin, WalksGoOn};
 
 use mg_seek::{
@@ -27,4 +28,12 @@ pub fn walks_are_answered()
 {
     records_are_those_of_every_reading();
     walks_are_whole();
+}
+
+/// The table of a name, as the rows of the catalog say it that a transaction sees.
+pub fn tables_are_answered()
+    ensures { TablesAreTold }
+{
+    records_are_those_of_every_reading();
+    keys_are_answered();
 }

@@ -9,9 +9,11 @@
 //!   row is seen (`ObstaclesAtKeys`, `RowsAtKeys`, `NothingAtKeys`).
 //! - `view_step`: the rows to which a walk still comes are told by the pages alone (`AreToCome`); from the
 //!   beginning on they are those of the view, and each visit comes to the next (`WalksBegin`, `WalksGoOn`).
+//! - `table_named`: the table that is found under a name is the one that the history tells
+//!   (`TablesAreTold`).
 //!
 //! A table is told but for its indexes, since one that a transaction sees may have got indexes (`IsShown`).
-//! The files `Known`, `Laws` and `Walking` of `specs/` have what counts, and the others prove it. There is no
+//! The files `Known`, `Laws`, `Walking` and `Tables` of `specs/` have what counts, and the others prove it. There is no
 //! program here: each function does nothing, and its contract is a law.
 //!
 //! Invariant: none, it keeps no state.
@@ -21,4 +23,4 @@
 
 mod laws;
 
-pub use laws::{keys_are_answered, walks_are_answered};
+pub use laws::{keys_are_answered, tables_are_answered, walks_are_answered};

@@ -24,7 +24,7 @@ use Rattle.mg_grown_overlays.specs.Growing.{HasGrown}
 use Rattle.mg_standing.specs.Following.{FollowsEntry}
 use Rattle.mg_standing.specs.Laws.{IsChainOf}
 use Rattle.mg_standing.specs.Standing.{ShowsHistory, Standing, Stands}
-use Rattle.mg_standing.specs.Versions.{told_given}
+use Rattle.mg_seek.specs.Histories.{told_given}
 use Rattle.mg_standing.specs.Writing.{WritesKey}
 
 -- ---- what is read

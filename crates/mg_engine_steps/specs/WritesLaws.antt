@@ -41,7 +41,8 @@ use Rattle.mg_standing.specs.Laws.{IsChainOf}
 use Rattle.mg_standing.specs.MemoryLaws.{others_keep_tables}
 use Rattle.mg_standing.specs.ShowsLaws.{tables_kept}
 use Rattle.mg_standing.specs.Standing.{FindsTables, HasFirstPage, ShowsHistory, Standing, Stands}
-use Rattle.mg_standing.specs.Versions.{HaveVersions, told_given, told_version, told_versions}
+use Rattle.mg_seek.specs.Histories.{told_given, told_versions}
+use Rattle.mg_standing.specs.Versions.{HaveVersions, told_version}
 use Rattle.mg_standing.specs.Writing.{Silenced, WritesKey, WritesRecord}
 use Rattle.mg_standing.specs.WritingLaws.{erased_may_be_silent}
 use Rattle.mg_table_stands.specs.OneTable.{table_at_stands}

@@ -1,8 +1,7 @@
 -- What is read of pages of one layout, where cells change.
-use Rattle.std.proofs.Common.{◌≡◌, ◌≢◌, inl, inr, refl, sym, ap, ◌∙◌, subst, ℕ, Bool, List, [], ◌∷◌, Option, None, Some}
+use Rattle.std.proofs.Common.{◌≡◌, inl, inr, refl, sym, ap, ◌∙◌, subst, ℕ, List, [], ◌∷◌, Option, None, Some}
 use Rattle.mg_base.specs.declared.numbers.RecId.{RecId}
 use Rattle.mg_base.specs.declared.transaction.TxState.{TxState}
-use Rattle.mg_version.specs.declared.cell.Cell.{Cell}
 use Rattle.mg_version.specs.declared.cell.Cell.TheVariants as cells
 use Rattle.mg_version.specs.declared.cell.Link.{Link}
 use Rattle.mg_version.specs.declared.cell.Version.{Version}
@@ -10,7 +9,7 @@ use Rattle.mg_rowcode.specs.Storable.{AreStorable}
 use Rattle.mg_model.specs.declared.table.Table.{Table}
 use Rattle.mg_image.specs.declared.entry.Entry.{Entry}
 use Rattle.mg_image.specs.FactLaws.{each_has}
-use Rattle.mg_image.specs.Form.{Coding, Form, Pages, Row}
+use Rattle.mg_image.specs.Form.{Coding, Form, Pages}
 use Rattle.mg_image.specs.ReadingLaws.{Opens, RowsAreOne, chain_opens}
 use Rattle.mg_image.specs.RecordRules.{Each, Facts, IsVersion, columns_for, table_in}
 use Rattle.mg_image.specs.Records.{Cells, Chain, Reading, Stands, cells_of, ended, goes, newest_of, record_key}

@@ -1,20 +1,19 @@
 -- Data pages of a sound image are changed, one after another: what stays of the header, of the transactions,
 -- of trees and of the pages of tables.
-use Rattle.std.proofs.Common.{◌≡◌, ◌≢◌, ◌⊎◌, ◌<◌, ◌≤◌, inl, inr, ap, refl, sym, subst, ◌∙◌, ◌-◌, ◌/◌, ◌%◌, arith, ℕ, Bool, true, List, Option, Some}
+use Rattle.std.proofs.Common.{◌≡◌, ◌≢◌, ◌⊎◌, ◌<◌, ◌≤◌, inl, inr, ap, refl, sym, ◌∙◌, ◌-◌, ◌/◌, ◌%◌, arith, ℕ, Bool, List}
 use Rattle.std.proofs.lemmas.Bool.{cases_eq, cases_lt, eq-eqb, le-ltb, lt-ltb, ne_eqb}
 use Rattle.mg_base.specs.Fields.{byte}
-use Rattle.mg_base.specs.declared.numbers.RecId.{RecId}
 use Rattle.mg_base.specs.declared.transaction.TxState.{TxState}
 use Rattle.mg_base.specs.declared.transaction.TxState.TheVariants.{Committed, Dead}
 use Rattle.mg_header.specs.declared.header.Header.{Header}
 use Rattle.mg_tip.specs.TipPage.{places, state_in}
 use Rattle.mg_image.specs.Form.{Form, Pages}
-use Rattle.mg_image.specs.Inventory.{bits_state, header_of, is_used, last_sequence, next_of, settled, state_at, tip_page}
+use Rattle.mg_image.specs.Inventory.{bits_state, header_of, is_used, last_sequence, next_of, settled, state_at}
 use Rattle.mg_image.specs.RecordRules.{Facts}
 use Rattle.mg_image.specs.Records.{Reading}
 use Rattle.mg_image.specs.Sound.{HasHeader, HasInventory, HasTablePages, HasTransactions, IsSoundBy, facts_by}
 use Rattle.mg_image.specs.Tables.{EachStand, Layout, stands_of, table_at}
-use Rattle.mg_image_steps.specs.DataPages.{ChangesData, header_kept, header_same, inventory_kept, last_same, next_same, stands_kept, tip_content, transactions_kept, used_kept}
+use Rattle.mg_image_steps.specs.DataPages.{ChangesData, header_kept, header_same, inventory_kept, next_same, stands_kept, tip_content, transactions_kept, used_kept}
 use Rattle.mg_image_steps.specs.DataSound.{KeepsTrees}
 use Rattle.mg_image_steps.specs.Rest.{div_grows}
 use Rattle.mg_image_steps.specs.Trees.{trees_stay}

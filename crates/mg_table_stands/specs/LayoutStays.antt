@@ -1,13 +1,12 @@
 -- A data page is changed, of a table that is not the catalog: the tables stand where they stood.
-use Rattle.std.proofs.Common.{◌≡◌, ◌≢◌, ◌⊎◌, ◌<◌, ◌≤◌, inl, inr, ap, refl, sym, subst, ◌∙◌, ℕ, Bool, true, false, List, [], ◌∷◌, Option, None, Some}
-use Rattle.std.specs.Prelude.{if◌then◌else◌, map}
+use Rattle.std.proofs.Common.{◌≡◌, ◌≢◌, ◌<◌, ◌≤◌, ap, refl, sym, subst, ◌∙◌, ℕ, Bool, true, List, [], ◌∷◌, Option, None, Some}
+use Rattle.std.specs.Prelude.{map}
 use Rattle.std.proofs.Math.Path.{fun_ext}
 use Rattle.mg_base.specs.declared.numbers.RecId.{RecId}
 use Rattle.mg_base.specs.declared.transaction.TxState.{TxState}
 use Rattle.mg_header.specs.declared.header.Header.{Header}
 use Rattle.mg_value.specs.declared.value.Value.{Value}
 use Rattle.mg_version.specs.declared.cell.Cell.{Cell}
-use Rattle.mg_version.specs.declared.cell.Cell.TheVariants as cells
 use Rattle.mg_version.specs.declared.cell.Link.{Link}
 use Rattle.mg_slots.specs.DataPage.{cell_of}
 use Rattle.mg_model.specs.declared.table.Table.{Table}

@@ -1,0 +1,3 @@
+pub mod DrawnPages
+pub mod Begins
+pub mod BeginLaws
