@@ -1,16 +1,13 @@
 -- A cache that is read, and over which a batch is changed, lasts with the history.
-use Rattle.std.proofs.Common.{◌≡◌, ℕ, Bool, true, false, List, ◌∷◌, Option, None, Some, refl, sym, ap, ◌∙◌, subst}
-use Rattle.std.specs.Prelude.{if◌then◌else◌}
+use Rattle.std.proofs.Common.{◌≡◌, ℕ, false, ◌∷◌, Some, refl, sym, ap, ◌∙◌, subst}
 use Rattle.std.proofs.Math.Path.{fun_ext}
-use Rattle.mg_base.specs.Disk.{MayLeave, Meaning}
+use Rattle.mg_base.specs.Disk.{Meaning}
 use Rattle.mg_base.specs.Image.{Image}
 use Rattle.mg_base.specs.Moments.{LeavesOnly, goes_on, joined, started}
 use Rattle.mg_base.specs.declared.transaction.TxState.{TxState}
-use Rattle.mg_base.specs.declared.transaction.TxState.TheVariants.{Active, Committed, Dead, Limbo}
-use Rattle.mg_careful.specs.CarefulWrite.{Cache}
 use Rattle.mg_careful.specs.Graph.{PageGraph}
 use Rattle.mg_model.specs.declared.opening.Opening.{Opening}
-use Rattle.mg_model.specs.History.{Entries, Entry}
+use Rattle.mg_model.specs.History.{Entries}
 use Rattle.mg_model.specs.Legal.{IsLegal, MayBegin}
 use Rattle.mg_model.specs.Machine.{next_number, state_of}
 use Rattle.mg_image.specs.Form.{Form}
@@ -19,20 +16,17 @@ use Rattle.mg_kept_images.specs.KeptImages.{keeping}
 use Rattle.mg_overlays.specs.BatchLaws.{good_of_pool}
 use Rattle.mg_overlays.specs.Overlays.{EveryOverlay, left_by, left_state, nobody}
 use Rattle.mg_pool.specs.Batch.{Changed, content_in}
-use Rattle.mg_pool.specs.Change.{ChangesPages}
 use Rattle.mg_pool.specs.Dirty.{DirtyPages}
 use Rattle.mg_pool.specs.Pool.{cache_of, shown}
 use Rattle.mg_pool.specs.declared.pool.Pool.{Pool}
 use Rattle.mg_pool_overlays.specs.Needs.{Asked, Sessions, needs_by}
-use Rattle.mg_space.specs.View.{KeepsStore}
 use Rattle.mg_space_ties.specs.Changed.{cache_over, needs_in}
-use Rattle.mg_lasting.specs.Bits.{IsSettled}
 use Rattle.mg_lasting.specs.Changing.{ChangesLast, QuietHolds}
 use Rattle.mg_lasting.specs.CrashLaws.{asked_quiet}
 use Rattle.mg_lasting.specs.Crashes.{HoldsAcknowledged, LeavesSince, asked}
 use Rattle.mg_lasting.specs.Lasting.{Lasts, LastsOn}
 use Rattle.mg_lasting.specs.Laws.{ArePoolBits}
-use Rattle.mg_engine_steps.specs.Batches.{BatchesLast, ChangesRow, ChangesTo, LeavesStates, PoolBitsAre, ReadsLast, RowsLast, RowsLastStill}
+use Rattle.mg_engine_steps.specs.Batches.{BatchesLast, ChangesRow, PoolBitsAre, ReadsLast, RowsLast, RowsLastStill}
 
 -- ---- bits
 

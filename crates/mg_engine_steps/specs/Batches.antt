@@ -1,8 +1,8 @@
 -- A batch that calls have filled is changed over the cache of an engine: its cache lasts with the history.
-use Rattle.std.specs.Prelude.{◌≡◌, ℕ, true, false, List, ◌∷◌, Some}
+use Rattle.std.specs.Prelude.{◌≡◌, ℕ, true, false, ◌∷◌, Some}
 use Rattle.mg_base.specs.Disk.{Meaning}
 use Rattle.mg_base.specs.Image.{Image}
-use Rattle.mg_careful.specs.CarefulWrite.{Cache, PageSet, Pages}
+use Rattle.mg_careful.specs.CarefulWrite.{Cache, PageSet}
 use Rattle.mg_model.specs.declared.opening.Opening.{Opening}
 use Rattle.mg_model.specs.History.{Entries, Entry}
 use Rattle.mg_model.specs.Legal.{IsLegal, MayBegin, is_durable}

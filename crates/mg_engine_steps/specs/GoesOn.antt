@@ -1,5 +1,5 @@
 -- One law for each write of a record: the engine stands for the history with the entry, and its cache lasts with it.
-use Rattle.std.specs.Prelude.{◌≡◌, ◌≢◌, ℕ, Bool, false, List, [], ◌∷◌, Option, None, Some}
+use Rattle.std.specs.Prelude.{◌≡◌, ◌≢◌, ℕ, Bool, false, List, [], ◌∷◌, Option, Some}
 use Rattle.mg_base.specs.Disk.{Meaning}
 use Rattle.mg_base.specs.Image.{Image}
 use Rattle.mg_base.specs.declared.numbers.RecId.{RecId}
@@ -15,8 +15,6 @@ use Rattle.mg_model.specs.declared.table.Table.{Table}
 use Rattle.mg_model.specs.Changes.{Cells}
 use Rattle.mg_model.specs.History.{Entries, Entry as Event}
 use Rattle.mg_model.specs.Legal.{IsLawful, is_durable}
-use Rattle.mg_model.specs.Machine.{state_of}
-use Rattle.mg_model.specs.Openings.{everyone}
 use Rattle.mg_image.specs.declared.entry.Entry.{Entry}
 use Rattle.mg_image.specs.Form.{Form}
 use Rattle.mg_image.specs.Records.{Reading, cells_of}

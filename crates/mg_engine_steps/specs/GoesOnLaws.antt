@@ -1,10 +1,8 @@
 -- Each write of a record takes the engine on to the longer history.
-use Rattle.std.proofs.Common.{◌≡◌, ◌∙◌, sym, ap, subst, ℕ, Bool, ◌∷◌, Some, refl}
+use Rattle.std.proofs.Common.{◌∷◌, refl}
 use Rattle.mg_base.specs.Disk.{Meaning}
-use Rattle.mg_base.specs.declared.transaction.TxState.{TxState}
-use Rattle.mg_model.specs.History.{Effect, Entries, effect_of}
 use Rattle.mg_model.specs.Laws.{OpeningsBegin}
-use Rattle.mg_model.specs.Machine.{next_after, next_number, state_after, state_of}
+use Rattle.mg_model.specs.Machine.{next_number, state_of}
 use Rattle.mg_image.specs.Form.{Form}
 use Rattle.mg_image.specs.ReadingLaws.{RowsAreOne}
 use Rattle.mg_image_steps.specs.Kinds.{HasNoSequences}

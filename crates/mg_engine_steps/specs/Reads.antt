@@ -1,13 +1,12 @@
 -- What is read of pages after a version is pushed, or a record gets its first one, and what becomes of the
 -- bits there.
-use Rattle.std.proofs.Common.{◌≡◌, ◌≢◌, ◌⊎◌, ◌<◌, ◌≤◌, inl, inr, refl, sym, ap, ◌∙◌, subst, arith, ◌-◌, ◌/◌, ◌%◌, ℕ, Bool, true, false, List, [], ◌∷◌, Option, None, Some}
+use Rattle.std.proofs.Common.{◌≡◌, ◌≢◌, ◌⊎◌, ◌<◌, ◌≤◌, inl, inr, refl, sym, ap, ◌∙◌, subst, arith, ◌-◌, ◌/◌, ◌%◌, ℕ, false, List, [], ◌∷◌, Option, None, Some}
 use Rattle.std.proofs.lemmas.Bool.{cases_eq, cases_lt, eq-eqb, le-ltb, lt-ltb, ne_eqb}
 use Rattle.mg_base.specs.declared.numbers.RecId.{RecId}
 use Rattle.mg_base.specs.declared.transaction.TxState.{TxState}
 use Rattle.mg_base.specs.declared.transaction.TxState.TheVariants.{Committed, Dead}
 use Rattle.mg_careful.specs.Precedence.{Orders}
 use Rattle.mg_header.specs.HeaderPage.{header_in}
-use Rattle.mg_header.specs.declared.header.Header.{Header}
 use Rattle.mg_tip.specs.TipPage.{places, state_in}
 use Rattle.mg_version.specs.declared.cell.Cell.{Cell}
 use Rattle.mg_version.specs.declared.cell.Cell.TheVariants as cells
@@ -18,15 +17,14 @@ use Rattle.mg_model.specs.declared.table.Table.{Table}
 use Rattle.mg_model.specs.History.{Entries}
 use Rattle.mg_image.specs.declared.entry.Entry.{Entry}
 use Rattle.mg_image.specs.Form.{Form, Pages}
-use Rattle.mg_image.specs.Inventory.{bits_state, header_of, last_sequence, next_of, settled, state_at}
+use Rattle.mg_image.specs.Inventory.{bits_state, last_sequence, next_of, settled, state_at}
 use Rattle.mg_image.specs.ReadingLaws.{RowsAreOne, chain_opens}
-use Rattle.mg_image.specs.RecordRules.{Facts, table_in}
 use Rattle.mg_image.specs.Records.{Chain, Reading, Stands, cells_of, ended, goes, newest_of}
-use Rattle.mg_image.specs.Sound.{IsSoundBy, facts_by}
+use Rattle.mg_image.specs.Sound.{IsSoundBy}
 use Rattle.mg_image.specs.Tables.{Layout, stands_of, table_at}
 use Rattle.mg_image_steps.specs.Cuts.{chain_cell}
 use Rattle.mg_image_steps.specs.Kinds.{HasNoSequences}
-use Rattle.mg_image_steps.specs.Rest.{LeavesRests, div_grows}
+use Rattle.mg_image_steps.specs.Rest.{div_grows}
 use Rattle.mg_image_steps.specs.Trees.{data_leaves, trees_stay}
 use Rattle.mg_kept_images.specs.KeptImages.{IsBehind, IsKept}
 use Rattle.mg_one_layout.specs.OneLayout.{sound_once}
@@ -189,9 +187,11 @@ module _ (form : Form) (one : RowsAreOne form.coding) (none : HasNoSequences for
         here = read_here form one size state mid changed grown_to.layout r s pushed_mid pushed_sound p table
             of_grown (n ∷ r p) (subst (λ (x : Option Cell). Chain (cells_of changed) (newest_of p x) (n ∷ r p))
             (sym pushes.turn.here)
-            (goes link n (r p) pushes.leads.0 cell_there pushes.leads.1 behind_there))
-            (its_row, rows_were form one size state mid changed grown_to.layout r s pushed_mid pushed_sound p
-            table of_grown);
+            (goes link n (r p) pushes.leads.0 cell_there pushes.leads.1 behind_there)) (
+              its_row,
+              rows_were form one size state mid changed grown_to.layout r s pushed_mid pushed_sound p
+                  table of_grown,
+            );
         others = λ q ne. read_beside form one size state mid changed grown_to.layout r s pushed_mid
             pushed_sound q (ap (newest_of q) (pushes.turn.others q ne)) (λ x there. still q x there);
       }

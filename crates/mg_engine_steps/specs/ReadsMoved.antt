@@ -1,6 +1,6 @@
 -- What is read of pages after a transaction's own version has moved to another cell, or was taken out, and
 -- what becomes of the bits there.
-use Rattle.std.proofs.Common.{◌≡◌, ◌≢◌, ◌⊎◌, inl, inr, refl, sym, ap, ◌∙◌, subst, ℕ, Bool, true, false, List, [], ◌∷◌, Option, None, Some}
+use Rattle.std.proofs.Common.{◌≡◌, ◌≢◌, ◌⊎◌, inl, inr, sym, ap, ◌∙◌, subst, ℕ, true, false, List, ◌∷◌, Option, None, Some}
 use Rattle.mg_base.specs.declared.numbers.RecId.{RecId}
 use Rattle.mg_base.specs.declared.transaction.TxState.{TxState}
 use Rattle.mg_careful.specs.Precedence.{Orders}
@@ -15,7 +15,7 @@ use Rattle.mg_image.specs.declared.entry.Entry.{Entry}
 use Rattle.mg_image.specs.Form.{Form, Pages}
 use Rattle.mg_image.specs.ReadingLaws.{RowsAreOne}
 use Rattle.mg_image.specs.Records.{Chain, Reading, Stands, cells_of, goes, newest_of}
-use Rattle.mg_image.specs.Sound.{IsSoundBy, facts_by}
+use Rattle.mg_image.specs.Sound.{IsSoundBy}
 use Rattle.mg_image.specs.StepLaws.{cases_place, same_place}
 use Rattle.mg_image.specs.Tables.{Layout, stands_of, table_at}
 use Rattle.mg_image_steps.specs.Kinds.{HasNoSequences}
@@ -29,7 +29,7 @@ use Rattle.mg_grown_overlays.specs.GrowingLaws.{StandsTo, grown_self}
 use Rattle.mg_grown_overlays.specs.Knowing.{put_still}
 use Rattle.mg_table_stands.specs.Chains.{HasItsRow, each_standing, read_beside, read_here}
 use Rattle.mg_table_stands.specs.DataKept.{IsDataChanged, KeepsBits, bits_more, data_more, data_self}
-use Rattle.mg_table_stands.specs.LayoutStays.{LeavesCatalog, chain_stays, layout_stays, leaves_on, page_leaves}
+use Rattle.mg_table_stands.specs.LayoutStays.{chain_stays, layout_stays, leaves_on, page_leaves}
 use Rattle.mg_engine_steps.specs.Reads.{grown_bits, grown_of, grown_to, off_anchor, stands_version}
 use Rattle.mg_engine_steps.specs.ReadsOwn.{HasOwnNewest, behind_own, cell_was, newest_apart, no_other, older_off, older_stands, own_stands, rows_behind, slot_apart}
 use Rattle.mg_engine_steps.specs.Writes.{ReadsAfter}
@@ -185,9 +185,11 @@ module _ (form : Form) (one : RowsAreOne form.coding) (none : HasNoSequences for
           ∙ moves.put.here) moves.leads.1
           (subst (λ (k : Option Link). Chain (cells_of changed) k older) (sym moves.back)
           (swung_behind form one none size state mid turned changed to.layout r s placed_sound moved_sound p x
-          table v l d older own moves.frees.apart (Some (cells.Anchor link)) of_grown swung))))
-          (its_row, rows_behind form one none size state mid to.layout r placed_sound p x table v l d older own
-          of_grown);
+          table v l d older own moves.frees.apart (Some (cells.Anchor link)) of_grown swung)))) (
+            its_row,
+            rows_behind form one none size state mid to.layout r placed_sound p x table v l d older own
+                of_grown,
+          );
       others = swung_others form one none size state mid turned changed to.layout r s placed_sound moved_sound
           p x table v l d older own moves.frees.apart (Some (cells.Anchor link)) of_grown swung;
     }

@@ -1,36 +1,27 @@
 -- What is read of pages after a transaction replaces its own version in its cell, and what becomes of the bits
 -- there; what is known of an own version that is the newest of its record.
-use Rattle.std.proofs.Common.{◌≡◌, ◌≢◌, ◌⊎◌, inl, inr, refl, sym, ap, ◌∙◌, subst, ℕ, Bool, true, false, List, [], ◌∷◌, Option, None, Some}
+use Rattle.std.proofs.Common.{◌≡◌, ◌≢◌, ◌⊎◌, inl, inr, refl, sym, ap, ◌∙◌, subst, ℕ, true, false, List, ◌∷◌, Option, None, Some}
 use Rattle.mg_base.specs.declared.numbers.RecId.{RecId}
 use Rattle.mg_base.specs.declared.transaction.TxState.{TxState}
-use Rattle.mg_careful.specs.Precedence.{Orders}
 use Rattle.mg_version.specs.declared.cell.Cell.{Cell}
 use Rattle.mg_version.specs.declared.cell.Cell.TheVariants as cells
 use Rattle.mg_version.specs.declared.cell.Link.{Link}
 use Rattle.mg_version.specs.declared.cell.Version.{Version}
-use Rattle.mg_model.specs.declared.opening.Opening.{Opening}
 use Rattle.mg_model.specs.declared.table.Table.{Table}
-use Rattle.mg_model.specs.History.{Entries}
 use Rattle.mg_image.specs.declared.entry.Entry.{Entry}
 use Rattle.mg_image.specs.Form.{Form, Pages}
 use Rattle.mg_image.specs.ReadingLaws.{Opens, RowsAreOne, chain_opens}
-use Rattle.mg_image.specs.RecordRules.{Each, IsRecord, table_in}
-use Rattle.mg_image.specs.Records.{Cells, Chain, Reading, Stands, cells_of, goes, newest_of}
+use Rattle.mg_image.specs.RecordRules.{Each, IsRecord}
+use Rattle.mg_image.specs.Records.{Chain, Reading, Stands, cells_of, goes, newest_of}
 use Rattle.mg_image.specs.Sound.{IsSoundBy, facts_by}
 use Rattle.mg_image.specs.StepLaws.{cases_place, same_place}
 use Rattle.mg_image.specs.Tables.{Layout, stands_of, table_at}
 use Rattle.mg_image_steps.specs.Kinds.{HasNoSequences}
-use Rattle.mg_image_steps.specs.Trees.{data_leaves, trees_stay}
-use Rattle.mg_kept_images.specs.KeptImages.{IsKept}
-use Rattle.mg_own_overlays.specs.MovePart.{MovesPages}
 use Rattle.mg_own_overlays.specs.ReplacePart.{ReplacesPage}
-use Rattle.mg_grown_overlays.specs.Growing.{EndsAt, Grows, TableEnd}
 use Rattle.mg_grown_overlays.specs.GrowingLaws.{grown_self}
-use Rattle.mg_grown_overlays.specs.Knowing.{put_still}
 use Rattle.mg_table_stands.specs.Chains.{HasItsRow, each_standing, read_beside, read_here, rows_were}
-use Rattle.mg_table_stands.specs.DataKept.{IsDataChanged, KeepsBits, bits_more, data_more, data_self}
-use Rattle.mg_table_stands.specs.LayoutStays.{LeavesCatalog, chain_stays, layout_stays, leaves_on, page_leaves}
-use Rattle.mg_engine_steps.specs.Reads.{grown_bits, grown_of, grown_to, off_anchor, stands_version}
+use Rattle.mg_table_stands.specs.DataKept.{IsDataChanged, KeepsBits, data_more, data_self}
+use Rattle.mg_table_stands.specs.LayoutStays.{chain_stays, layout_stays, page_leaves}
 use Rattle.mg_engine_steps.specs.Writes.{ReadsAfter}
 
 -- A record's slot leads to its newest version, which stands in a cell.

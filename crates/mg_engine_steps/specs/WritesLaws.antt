@@ -6,47 +6,44 @@ use Rattle.std.proofs.Math.Path.{fun_ext}
 use Rattle.std.proofs.lemmas.Bool.{cases_eq, eq-eqb, false≢true, ne_eqb}
 use Rattle.mg_base.specs.declared.numbers.RecId.{RecId}
 use Rattle.mg_base.specs.declared.transaction.TxState.{TxState}
-use Rattle.mg_base.specs.declared.transaction.TxState.TheVariants.{Active, Committed, Dead, Limbo}
+use Rattle.mg_base.specs.declared.transaction.TxState.TheVariants.{Active, Committed, Limbo}
 use Rattle.mg_value.specs.declared.value.Value.{Value}
 use Rattle.mg_model.specs.declared.change.Change.{Change}
 use Rattle.mg_model.specs.declared.opening.Opening.{Opening}
 use Rattle.mg_model.specs.declared.table.Table.{Table}
 use Rattle.mg_model.specs.Answers.{catalog_of, told}
-use Rattle.mg_model.specs.Catalog.{key_in}
 use Rattle.mg_model.specs.Changes.{Cells, has_change, same_key, same_name}
 use Rattle.mg_model.specs.DeedLaws.{deeds_after, deeds_after_entry}
 use Rattle.mg_model.specs.Effects.{doer, is_its}
 use Rattle.mg_model.specs.History.{Effect, Entries, Entry as Event, Gives, Makes, effect_of}
 use Rattle.mg_model.specs.Laws.{OpeningsBegin}
-use Rattle.mg_model.specs.Legal.{IsLawful, IsLegal, MayBegin}
+use Rattle.mg_model.specs.Legal.{IsLegal, MayBegin}
 use Rattle.mg_model.specs.Machine.{changes_in, deeds_by, is_of, next_after, own, state_after, steps}
 use Rattle.mg_model.specs.Openings.{everyone}
 use Rattle.mg_model.specs.ReadLaws.{same_name_itself}
 use Rattle.mg_generations.specs.Generations.{Generation, generation, put, without_newest_by}
-use Rattle.mg_generations.specs.Kept.{IsErasedForAll}
 use Rattle.mg_image.specs.declared.entry.Entry.{Entry}
 use Rattle.mg_image.specs.Catalog.{StaysAmong}
 use Rattle.mg_image.specs.Form.{Form, Pages}
 use Rattle.mg_image.specs.RecordRules.{Facts, table_in}
-use Rattle.mg_image.specs.Records.{Reading, key_of, record_key, writer}
+use Rattle.mg_image.specs.Records.{Reading, record_key, writer}
 use Rattle.mg_image.specs.Sound.{IsSoundBy, facts_by}
-use Rattle.mg_image.specs.Tables.{Layout, Stand, stands_of, table_at}
+use Rattle.mg_image.specs.Tables.{Layout, Stand, stands_of}
 use Rattle.mg_image_steps.specs.Fronts.{is_dead, living}
 use Rattle.mg_overlays.specs.Overlays.{left_by, left_state}
 use Rattle.mg_grown_overlays.specs.Growing.{HasGrown, IsTableOf}
 use Rattle.mg_standing.specs.EndingLaws.{writes_show}
-use Rattle.mg_standing.specs.Ending.{PagesWritten}
-use Rattle.mg_standing.specs.Following.{FollowsEntry, KeepsTables, StandsOn}
+use Rattle.mg_standing.specs.Following.{FollowsEntry, StandsOn}
 use Rattle.mg_standing.specs.Laws.{IsChainOf}
 use Rattle.mg_standing.specs.MemoryLaws.{others_keep_tables}
 use Rattle.mg_standing.specs.ShowsLaws.{tables_kept}
-use Rattle.mg_standing.specs.Standing.{FindsTables, HasFirstPage, ShowsHistory, Standing, Stands}
-use Rattle.mg_seek.specs.Histories.{told_given, told_versions}
+use Rattle.mg_standing.specs.Standing.{FindsTables, HasFirstPage, ShowsHistory, Standing}
+use Rattle.mg_seek.specs.Histories.{told_versions}
 use Rattle.mg_standing.specs.Versions.{HaveVersions, told_version}
-use Rattle.mg_standing.specs.Writing.{Silenced, WritesKey, WritesRecord}
+use Rattle.mg_standing.specs.Writing.{WritesKey, WritesRecord}
 use Rattle.mg_standing.specs.WritingLaws.{erased_may_be_silent}
 use Rattle.mg_table_stands.specs.OneTable.{table_at_stands}
-use Rattle.mg_engine_steps.specs.Writes.{IsSilentAt, ReadsAfter, StaysBehind, WritesShow, WritesStand, WritesVersion, made, pushed, replaced}
+use Rattle.mg_engine_steps.specs.Writes.{StaysBehind, WritesShow, WritesStand, WritesVersion, made, pushed, replaced}
 
 -- ---- tables, where a layout has grown
 

@@ -40,8 +40,8 @@ use Rattle.mg_standing.specs.Standing.{ShowsHistory, Standing, Stands}
 use Rattle.mg_engine_steps.specs.Batches.{BatchesLast}
 use Rattle.mg_engine_steps.specs.BatchLaws.{pool_bits_are}
 use Rattle.mg_engine_steps.specs.GoesOn.{HasGoneOn}
-use Rattle.mg_engine_begins.specs.Begins.{BeginsGoOn, DrawsStaySound}
-use Rattle.mg_engine_begins.specs.DrawnPages.{IsDrawn, drawn_pages}
+use Rattle.mg_engine_entries.specs.Begins.{BeginsGoOn, DrawsStaySound}
+use Rattle.mg_engine_entries.specs.DrawnPages.{IsDrawn, drawn_pages}
 
 pub draws_stay_sound : (D L : Type 0) (m : Meaning D) (form : Form) → RowsAreOne form.coding
     → HasNoSequences form → DrawsStaySound D L m form

@@ -19,7 +19,7 @@ use Rattle.mg_standing.specs.Following.{FollowsEntry}
 use Rattle.mg_standing.specs.QuietPages.{FindsAfter, StaySound}
 use Rattle.mg_standing.specs.Standing.{Standing, Stands}
 use Rattle.mg_engine_steps.specs.GoesOn.{HasGoneOn}
-use Rattle.mg_engine_begins.specs.DrawnPages.{IsDrawn}
+use Rattle.mg_engine_entries.specs.DrawnPages.{IsDrawn}
 
 -- a number that is drawn leaves each sound image sound, with its layout and reading, whatever transactions
 -- count as

@@ -4,8 +4,8 @@ use Rattle.mg_lasting.specs.StepLaws.{begins_first}
 use Rattle.mg_standing.specs.QuietLaws.{begin_shows}
 use Rattle.mg_txlist_ties.specs.DrawTies.{draw_row_keeps}
 use Rattle.mg_engine_steps.specs.BatchLaws.{batches_last}
-use Rattle.mg_engine_begins.specs.BeginLaws.{begins_go_on}
-use Rattle.mg_engine_begins.proofs.laws.begins_go_on.Goals as goal
+use Rattle.mg_engine_entries.specs.BeginLaws.{begins_go_on}
+use Rattle.mg_engine_entries.proofs.laws.begins_go_on.Goals as goal
 
 pub returns : goal.returns
 returns g c = begins_go_on g.row.D.Denot g.row.L.Denot g.D.Disk.meaning packed_form
