@@ -1,9 +1,8 @@
 -- Who speaks for a key, who is in the way there, and which row is seen: by the records of the pages.
-use Rattle.std.proofs.Common.{◌≡◌, ◌⊎◌, ◌↔◌, inl, inr, refl, sym, ap, ◌∙◌, subst, ℕ, suc, Bool, true, false, not, ◌&&◌, List, [], ◌∷◌, Option, None, Some, cond}
+use Rattle.std.proofs.Common.{◌≡◌, ◌⊎◌, inl, inr, refl, sym, ap, ◌∙◌, subst, ℕ, suc, Bool, true, false, not, ◌&&◌, List, [], ◌∷◌, Option, None, Some, cond}
 use Rattle.std.specs.Prelude.{map}
 use Rattle.std.proofs.lemmas.Bool.{false≢true}
 use Rattle.mg_base.specs.declared.numbers.RecId.{RecId}
-use Rattle.mg_base.specs.declared.numbers.TxNo.{TxNo}
 use Rattle.mg_base.specs.declared.transaction.TxState.{TxState}
 use Rattle.mg_base.specs.declared.transaction.TxState.TheVariants.{Active, Committed, Dead, Limbo}
 use Rattle.mg_value.specs.declared.value.Value.{Value}
@@ -22,13 +21,12 @@ use Rattle.mg_heap.specs.TableLaws.{table_once}
 use Rattle.mg_chain.specs.Chains.{newest_link}
 use Rattle.mg_snap.specs.Live.{AllSee, State, all_see, sees}
 use Rattle.mg_image.specs.declared.entry.Entry.{Entry}
-use Rattle.mg_image.specs.Catalog.{IsSameTable}
 use Rattle.mg_image.specs.Form.{Pages, Row, packed_form}
 use Rattle.mg_image.specs.Held.{told_row}
 use Rattle.mg_image.specs.RecordRules.{Each, EachBack, Facts, table_in}
 use Rattle.mg_image.specs.Records.{Chain, Reading, cells_of, record_key, writer}
 use Rattle.mg_image.specs.Sound.{HasTablePages, IsTablePointer}
-use Rattle.mg_image.specs.Tables.{EachFrom, stands_of}
+use Rattle.mg_image.specs.Tables.{EachFrom}
 use Rattle.mg_image_steps.specs.Fronts.{is_dead, living}
 use Rattle.mg_overlays.specs.Overlays.{left_state}
 use Rattle.mg_model.specs.Openings.{everyone}
@@ -36,18 +34,16 @@ use Rattle.mg_grown_overlays.specs.Growing.{IsTableOf}
 use Rattle.mg_grown_overlays.specs.Knowing.{its_pages}
 use Rattle.mg_table_stands.specs.OneTable.{its_data, one_table, table_at_stands}
 use Rattle.mg_seek.specs.declared.whose.Wanted.TheVariants.{Living}
-use Rattle.mg_seek.specs.declared.views.Obstacle.{Obstacle}
 use Rattle.mg_seek.specs.Histories.{AreItsPages, HasSpeaker, NothingIsThere, ObstaclesAreTold, RowsAreOfViews, SpeakersStand, IsStateTold, by_of, told_given, told_if, told_versions, versions_spoken}
-use Rattle.mg_seek.specs.Readings.{IsReadAt, SpeakIn, SpeakersOfReadings}
-use Rattle.mg_seek.specs.Rows.{GivesRow, IsRowFound, IsRowOr}
-use Rattle.mg_seek.specs.Speaking.{IsSpeaker, Speaks, SpeaksAmong, is_erased_for_all}
+use Rattle.mg_seek.specs.Readings.{IsReadAt, SpeakersOfReadings}
+use Rattle.mg_seek.specs.Speaking.{IsSpeaker, Speaks, is_erased_for_all}
 use Rattle.mg_seek.specs.TableRecords.{EachRecord, IsAmong, records_in}
 use Rattle.mg_seek.specs.Versions.{wants}
 use Rattle.mg_seek.specs.Views.{IsObstacle, IsRowSeen}
 use Rattle.mg_standing.specs.Laws.{IsChainOf}
 use Rattle.mg_standing.specs.Standing.{Standing}
-use Rattle.mg_standing.specs.Versions.{IsRecordOf, SpeaksFor, SpeaksOrSilent}
-use Rattle.mg_engine_answers.specs.Known.{IsShown, IsSilent, KnowsPages, bases_see_all, base_is_told, die_alike, facts_shown, is_at_work, lawful_shown, speaker_of, states_are}
+use Rattle.mg_standing.specs.Versions.{SpeaksFor, SpeaksOrSilent}
+use Rattle.mg_engine_answers.specs.Known.{IsSilent, KnowsPages, bases_see_all, base_is_told, die_alike, facts_shown, is_at_work, lawful_shown, speaker_of, states_are}
 use Rattle.mg_engine_answers.specs.Listed.{is_listed}
 use Rattle.mg_engine_answers.specs.OtherIndexes.{as_first, as_other, row_seen_on, speaker_on}
 use Rattle.mg_engine_answers.specs.Laws.{NothingAtKeys, ObstaclesAtKeys, RowsAtKeys, SpeakersAreTold, TellsSpeaker}

@@ -1,5 +1,5 @@
 -- What the pages and the memory of an engine that stands for a history are to one who reads them.
-use Rattle.std.proofs.Common.{◌≡◌, ◌⊎◌, inl, inr, refl, sym, ap, ◌∙◌, subst, ℕ, Bool, true, List, [], ◌∷◌, Option, None, Some}
+use Rattle.std.proofs.Common.{◌≡◌, inl, inr, refl, ap, ◌∙◌, ℕ, true, List, [], ◌∷◌, Option}
 use Rattle.std.specs.Prelude.{map}
 use Rattle.std.proofs.Math.Path.{fun_ext}
 use Rattle.mg_base.specs.declared.numbers.RecId.{RecId}
@@ -16,9 +16,9 @@ use Rattle.mg_chain.specs.Views.{BaseIsTold}
 use Rattle.mg_image.specs.Catalog.{IsSameTable, StaysAmong}
 use Rattle.mg_image.specs.Form.{Pages, packed_coding, packed_form}
 use Rattle.mg_image.specs.RecordRules.{AreRecords, Facts}
-use Rattle.mg_image.specs.Records.{Reading, cells_of}
+use Rattle.mg_image.specs.Records.{cells_of}
 use Rattle.mg_image.specs.Sound.{facts_by}
-use Rattle.mg_image.specs.Tables.{Layout, Stand, stands_of}
+use Rattle.mg_image.specs.Tables.{Layout, stands_of}
 use Rattle.mg_image_steps.specs.Fronts.{is_dead}
 use Rattle.mg_image_steps.specs.TableOwners.{IsOneOf}
 use Rattle.mg_overlays.specs.Overlays.{left_by, left_state}

@@ -6,7 +6,7 @@ use Rattle.mg_base.specs.declared.numbers.RecId.{RecId}
 use Rattle.mg_chain.specs.Chains.{newest_link}
 use Rattle.mg_heap.specs.Walk.{is_primary}
 use Rattle.mg_image.specs.Form.{Pages}
-use Rattle.mg_image.specs.Records.{Chain, Reading, cell_spelled, cells_of, goes, newest_of, slot_cell}
+use Rattle.mg_image.specs.Records.{Chain, cell_spelled, cells_of, goes, newest_of, slot_cell}
 use Rattle.mg_image.specs.Tables.{Has}
 use Rattle.mg_image.specs.declared.entry.Entry.{Entry}
 use Rattle.mg_image.specs.declared.entry.TheConstants.{PRIMARY_VERSION}

@@ -15,7 +15,7 @@ use Rattle.mg_model.specs.declared.table.Table.{Table}
 use Rattle.mg_model.specs.Answers.{catalog_of, is_active, is_committed, told}
 use Rattle.mg_model.specs.Catalog.{catalog_name, catalog_shape, shape_in, shape_said, table_key, told_cells, told_if_there}
 use Rattle.mg_model.specs.CatalogRules.{AreTables, EachTable, HasTableOf, IsTable}
-use Rattle.mg_model.specs.Changes.{Cells, row_at, same_key, same_name}
+use Rattle.mg_model.specs.Changes.{row_at, same_key, same_name}
 use Rattle.mg_model.specs.History.{Entries}
 use Rattle.mg_model.specs.Legal.{IsLegal, MayBegin}
 use Rattle.mg_model.specs.Machine.{state_of, view}
@@ -24,16 +24,14 @@ use Rattle.mg_catalog.specs.LawfulLaws.{table_row_of}
 use Rattle.mg_catalog.specs.ByKey.{by_key, row_key}
 use Rattle.mg_catalog.specs.KeyLaws.{keys_equal, same_key_self}
 use Rattle.mg_records.specs.Reading.{shape_seen}
-use Rattle.mg_generations.specs.Kept.{IsErasedForAll, StandFor}
+use Rattle.mg_generations.specs.Kept.{IsErasedForAll}
 use Rattle.mg_chain.specs.Chains.{newest_link, takes_version}
 use Rattle.mg_snap.specs.Live.{sees}
 use Rattle.mg_image.specs.declared.entry.Entry.{Entry}
-use Rattle.mg_image.specs.Form.{Pages, Row, packed_coding, packed_form}
+use Rattle.mg_image.specs.Form.{Pages, Row, packed_coding}
 use Rattle.mg_image.specs.Held.{told_row}
-use Rattle.mg_image.specs.RecordRules.{Each, EachBack, Facts, IsVersion, table_in}
+use Rattle.mg_image.specs.RecordRules.{Each, Facts, IsVersion, table_in}
 use Rattle.mg_image.specs.Records.{Chain, Reading, cells_of, key_of, record_key, shown, writer}
-use Rattle.mg_image.specs.Sound.{facts_by}
-use Rattle.mg_image.specs.Tables.{stands_of}
 use Rattle.mg_image_steps.specs.Fronts.{is_dead, living}
 use Rattle.mg_image_openings.specs.Catalogs.{shape_named}
 use Rattle.mg_image_openings.specs.Told.{shape_told}
@@ -42,12 +40,12 @@ use Rattle.mg_grown_overlays.specs.Growing.{IsTableOf}
 use Rattle.mg_table_stands.specs.OneTable.{stands_in}
 use Rattle.mg_seek.specs.Readings.{RowsOfReadings}
 use Rattle.mg_seek.specs.Histories.{HasSpeaker}
-use Rattle.mg_seek.specs.TableRecords.{AreTableRecords, IsAmong, records_in}
-use Rattle.mg_seek.specs.TableRows.{AreSeen, FindsNamed, IsTableSeen, with_row}
+use Rattle.mg_seek.specs.TableRecords.{IsAmong, records_in}
+use Rattle.mg_seek.specs.TableRows.{AreSeen, FindsNamed, with_row}
 use Rattle.mg_seek.specs.Views.{IsRowSeen}
 use Rattle.mg_standing.specs.Standing.{IsSeenAs, Standing}
 use Rattle.mg_standing.specs.Versions.{SpeaksFor, SpeaksOrSilent, told_version}
-use Rattle.mg_engine_answers.specs.Known.{IsShown, KnowsPages, catalog_is_shown, die_alike, facts_shown, lawful_shown, speaker_of, states_are}
+use Rattle.mg_engine_answers.specs.Known.{IsShown, KnowsPages, catalog_is_shown, die_alike, facts_shown, speaker_of}
 use Rattle.mg_engine_answers.specs.KeyAnswers.{has_speaker, read_at}
 use Rattle.mg_engine_answers.specs.Laws.{NothingAtKeys, RowsAtKeys}
 use Rattle.mg_engine_answers.specs.Listed.{is_listed, page_listed}
@@ -70,7 +68,7 @@ shown_living f counts dead (e ∷ es) = at (is_dead (f.state (writer e))) refl
     at false alive = refl
 
 -- the key of a shown row is the record's
-shown_key : (f : Facts) (counts : ℕ → Bool) (table : Table) (key : Value) (es : List Entry) (row : Row)
+pub shown_key : (f : Facts) (counts : ℕ → Bool) (table : Table) (key : Value) (es : List Entry) (row : Row)
     → Each (IsVersion packed_coding f table key) es → shown counts es ≡ Some row → key_of table row ≡ key
 shown_key f counts table key [] row each is = absurd cc
 shown_key f counts table key (e ∷ es) row each is = at (counts (writer e)) e.version.deleted is
@@ -133,7 +131,7 @@ module _ (rows_law : RowsOfReadings) (rows_at : RowsAtKeys) (nothing : NothingAt
       either true = refl
       either false = refl
 
-  shows_speaks : (rec : RecId) (row : Row) → table_in f rec ≡ Some cat → shown counts (r rec) ≡ Some row
+  pub shows_speaks : (rec : RecId) (row : Row) → table_in f rec ≡ Some cat → shown counts (r rec) ≡ Some row
       → speaker_of size o h s pages knows cat.name (key_of cat row) ≡ Some rec
   shows_speaks rec row of shows = at (knows.shows.versions.others rec cat of)
     where

@@ -1,17 +1,12 @@
 -- A walk over the records of a table comes to the rows of a view.
-use Rattle.std.proofs.Common.{◌≡◌, ◌↔◌, refl, sym, ap, ◌∙◌, subst, ℕ, Bool, suc, List, [], ◌∷◌, ◌++◌, Option, None, Some}
+use Rattle.std.proofs.Common.{◌≡◌, refl, sym, ap, ◌∙◌, subst, ℕ, Bool, suc, List, [], ◌∷◌, ◌++◌, Option, None, Some}
 use Rattle.std.specs.Prelude.{IsPermutation}
 use Rattle.mg_base.specs.declared.numbers.RecId.{RecId}
 use Rattle.mg_base.specs.declared.numbers.PageNo.{PageNo}
-use Rattle.mg_base.specs.declared.numbers.TxNo.{TxNo}
 use Rattle.mg_base.specs.declared.transaction.TxState.{TxState}
-use Rattle.mg_base.specs.declared.transaction.TxState.TheVariants.{Active}
-use Rattle.mg_value.specs.declared.value.Value.{Value}
-use Rattle.mg_model.specs.declared.opening.Opening.{Opening}
 use Rattle.mg_model.specs.declared.table.Index.{Index}
 use Rattle.mg_model.specs.declared.table.Table.{Table}
 use Rattle.mg_model.specs.Changes.{KeyedRows, rows_of}
-use Rattle.mg_model.specs.History.{Entries}
 use Rattle.mg_model.specs.Machine.{state_of, view}
 use Rattle.mg_model.specs.Openings.{everyone}
 use Rattle.mg_chain.specs.Chains.{takes_version}
@@ -33,12 +28,11 @@ use Rattle.mg_seek.specs.Histories.{AreItsPages}
 use Rattle.mg_seek.specs.Readings.{RowsOfReadings}
 use Rattle.mg_seek.specs.TableRecords.{records_in}
 use Rattle.mg_seek.specs.Views.{IsRowSeen, IsVisit}
-use Rattle.mg_seek.specs.Walks.{ComesTo, StandsAt, WalksInOrder, WalksShowViews, keyed, records_behind, rows_shown}
-use Rattle.mg_standing.specs.Standing.{Standing}
+use Rattle.mg_seek.specs.Walks.{ComesTo, WalksInOrder, WalksShowViews, keyed, records_behind, rows_shown}
 use Rattle.mg_engine_answers.specs.KeyAnswers.{has_speaker}
-use Rattle.mg_engine_answers.specs.Known.{IsShown, KnowsPages, base_is_told, die_alike, is_at_work, lawful_shown, speaker_of, states_are}
+use Rattle.mg_engine_answers.specs.Known.{base_is_told, die_alike, is_at_work, lawful_shown, speaker_of, states_are}
 use Rattle.mg_engine_answers.specs.OtherIndexes.{as_first, as_other, row_seen_on}
-use Rattle.mg_engine_answers.specs.Walking.{AreToCome, VisitsNext, WalksBegin, WalksGoOn}
+use Rattle.mg_engine_answers.specs.Walking.{VisitsNext, WalksBegin, WalksGoOn}
 
 -- ---- the pages of a table in a sound image
 

@@ -1,5 +1,5 @@
 -- The rows of a table to which a walk still comes, by the pages of an engine.
-use Rattle.std.specs.Prelude.{◌≡◌, ℕ, List, [], Option, None, Some, IsPermutation}
+use Rattle.std.specs.Prelude.{◌≡◌, ℕ, [], Option, None, Some, IsPermutation}
 use Rattle.mg_base.specs.declared.numbers.RecId.{RecId}
 use Rattle.mg_base.specs.declared.numbers.TxNo.{TxNo}
 use Rattle.mg_base.specs.declared.transaction.TxState.TheVariants.{Active}

@@ -4,9 +4,7 @@ ghost use Rattle.mg_engine_answers.specs.Laws.{NothingAtKeys, ObstaclesAtKeys, R
 ghost use Rattle.mg_engine_answers.specs.Tables.{TablesAreTold};
 ghost use Rattle.mg_engine_answers.specs.Walking.{WalksBegin, WalksGoOn};
 
-use mg_seek::{
-    keys_are_those_of_the_history, records_are_those_of_every_reading, walks_are_whole,
-};
+use mg_seek::{keys_are_those_of_the_history, records_are_those_of_every_reading, walks_are_whole};
 use mg_snap::a_new_base_sees_what_has_ended;
 
 /// Which record speaks for a key, who is in the way there, and which row is seen.
