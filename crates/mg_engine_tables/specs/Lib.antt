@@ -1,1 +1,2 @@
 pub mod SeenTables
+pub mod DatabaseTables

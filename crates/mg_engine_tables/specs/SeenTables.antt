@@ -71,7 +71,7 @@ SeenTablesStand = (size : ℕ) (o : Opening) (h : Entries) (s : Standing) (pages
 
 -- ---- what is shown, as it is told
 
-shown_told : (table : Table) (counts : ℕ → Bool) (es : List Entry)
+pub shown_told : (table : Table) (counts : ℕ → Bool) (es : List Entry)
     → shown_by counts (map (told_version table) es) ≡ told_if table (shown counts es)
 shown_told table counts [] = refl
 shown_told table counts (e ∷ es) = at (counts (writer e)) e.version.deleted (shown_told table counts es)

@@ -1,5 +1,6 @@
-//! Which tables stand on the pages. The function does nothing: its contract is the law.
+//! Which tables stand on the pages. Each function does nothing: its contract is the law.
 
+ghost use Rattle.mg_engine_tables.specs.DatabaseTables.{DatabaseTablesStand};
 ghost use Rattle.mg_engine_tables.specs.SeenTables.{SeenTablesStand};
 
 use mg_engine_answers::keys_are_answered;
@@ -13,4 +14,11 @@ pub fn seen_tables_stand()
     keys_are_answered();
     chains_tell();
     records_are_those_of_every_reading();
+}
+
+/// The tables of the database stand on the pages.
+pub fn database_tables_stand()
+    ensures { DatabaseTablesStand }
+{
+    chains_tell();
 }
