@@ -1,11 +1,9 @@
 -- A begin takes the engine on to the longer history.
-use Rattle.std.proofs.Common.{◌≡◌, ◌≢◌, ◌⊎◌, ◌<◌, ◌≤◌, ◌+◌, ◌&&◌, ◌||◌, ◌==◌, inl, inr, refl, sym, ap, ◌∙◌, subst, arith, ℕ, Bool, true, false, not, ◌∷◌, Some}
-use Rattle.std.proofs.lemmas.Bool.{cases_eq, cases_lt, eq-eqb, false≢true, le-ltb, ne_eqb}
-use Rattle.std.specs.Prelude.{if◌then◌else◌}
+use Rattle.std.proofs.Common.{◌≡◌, ◌≢◌, ◌⊎◌, ◌<◌, ◌≤◌, ◌+◌, ◌&&◌, ◌||◌, inl, inr, refl, sym, ap, ◌∙◌, subst, arith, ℕ, Bool, true, false, not, ◌∷◌, Some}
+use Rattle.std.proofs.lemmas.Bool.{cases_eq, cases_lt, eq-eqb, le-ltb, ne_eqb}
 use Rattle.mg_base.specs.Disk.{Meaning}
 use Rattle.mg_base.specs.Image.{Image}
-use Rattle.mg_base.specs.declared.transaction.TxState.{TxState}
-use Rattle.mg_base.specs.declared.transaction.TxState.TheVariants.{Active, Committed, Dead, Limbo}
+use Rattle.mg_base.specs.declared.transaction.TxState.TheVariants.{Active, Dead}
 use Rattle.mg_model.specs.declared.event.Mode.{Mode}
 use Rattle.mg_model.specs.declared.opening.Opening.{Opening}
 use Rattle.mg_model.specs.History.{Begins, Effect, Entries, Entry, effect_of}
@@ -19,8 +17,7 @@ use Rattle.mg_image.specs.Inventory.{next_of, state_at}
 use Rattle.mg_image.specs.ReadingLaws.{RowsAreOne}
 use Rattle.mg_image_steps.specs.Begins.{markers_are}
 use Rattle.mg_image_steps.specs.Kinds.{HasNoSequences}
-use Rattle.mg_kept_images.specs.KeptImages.{keeping}
-use Rattle.mg_overlays.specs.Overlays.{EveryOverlay, left_by, left_state}
+use Rattle.mg_overlays.specs.Overlays.{left_by, left_state}
 use Rattle.mg_pool.specs.Dirty.{is_dirty, is_marked}
 use Rattle.mg_pool.specs.Pool.{IsPool, cache_of, shown}
 use Rattle.mg_pool.specs.declared.pool.Pool.{Pool}

@@ -1,5 +1,5 @@
 -- A transaction begins: its number is drawn on the pages, and the engine stands for the history with the begin.
-use Rattle.std.specs.Prelude.{◌≡◌, ℕ, true, false, ◌∷◌, Some}
+use Rattle.std.specs.Prelude.{◌≡◌, ℕ, true, false, Some}
 use Rattle.mg_base.specs.Disk.{Meaning}
 use Rattle.mg_base.specs.Image.{Image}
 use Rattle.mg_base.specs.declared.transaction.TxState.{TxState}
@@ -19,7 +19,6 @@ use Rattle.mg_standing.specs.Following.{FollowsEntry}
 use Rattle.mg_standing.specs.QuietPages.{FindsAfter, StaySound}
 use Rattle.mg_standing.specs.Standing.{Standing, Stands}
 use Rattle.mg_engine_steps.specs.GoesOn.{HasGoneOn}
-use Rattle.mg_engine_entries.specs.DrawnPages.{IsDrawn}
 
 -- a number that is drawn leaves each sound image sound, with its layout and reading, whatever transactions
 -- count as

@@ -243,9 +243,10 @@ module _ (form : Form) (one : RowsAreOne form.coding) (none : HasNoSequences for
       → IsSoundBy form size state view layout r × IsDrawn size pool view
   by_page page os (on_last raises others) adds_page =
       (last_sound raises others adds_page, last_drawn raises others adds_page)
-  by_page page os (on_new made taken takes bytes_are there raises others) adds_page =
-      (new_sound made taken takes bytes_are there raises others adds_page,
-      new_drawn made taken takes bytes_are there raises others adds_page)
+  by_page page os (on_new made taken takes bytes_are there raises others) adds_page = (
+    new_sound made taken takes bytes_are there raises others adds_page,
+    new_drawn made taken takes bytes_are there raises others adds_page,
+  )
 
   view_is : shown after.dirty j ≡ view
   view_is = (changed_batches_are D L m before from.draws.ready after i j from.draws.batch (λ t. false) (λ t. 0)

@@ -1,9 +1,8 @@
 -- Entries without pages take the engine on.
-use Rattle.std.proofs.Common.{◌≡◌, refl, ap, ◌∙◌, ℕ, Bool, true, false, ◌∷◌, Some}
-use Rattle.mg_base.specs.Disk.{MayLeave, Meaning}
+use Rattle.std.proofs.Common.{◌≡◌, refl, ap, ◌∙◌, ℕ, true, false, ◌∷◌, Some}
+use Rattle.mg_base.specs.Disk.{Meaning}
 use Rattle.mg_base.specs.Image.{Image}
 use Rattle.mg_base.specs.declared.transaction.TxState.{TxState}
-use Rattle.mg_base.specs.declared.transaction.TxState.TheVariants.{Active, Dead}
 use Rattle.mg_model.specs.declared.opening.Opening.{Opening}
 use Rattle.mg_model.specs.History.{Begins, Effect, Ends, Entries, Entry, Gives, Looks, Makes, Marks, Nothing, Saves, TakesBack, effect_of}
 use Rattle.mg_model.specs.Laws.{OpeningsBegin}
@@ -22,7 +21,6 @@ use Rattle.mg_lasting.specs.Lasting.{Lasts, LastsOn}
 use Rattle.mg_lasting.specs.Laws.{IdleLasts, RollbackLasts}
 use Rattle.mg_standing.specs.Following.{StandsOn}
 use Rattle.mg_standing.specs.QuietPages.{IdleShows}
-use Rattle.mg_standing.specs.Standing.{Standing}
 use Rattle.mg_engine_entries.specs.Idle.{IdleGoesOn, RollbackLastsOn}
 
 -- what an idle effect leaves
