@@ -1,36 +1,31 @@
 -- The tables of the database stand on the pages: those that a transaction sees which begins.
-use Rattle.std.proofs.Common.{◌≡◌, ◌≢◌, ◌⊎◌, inl, inr, refl, sym, ap, ◌∙◌, subst, ℕ, Bool, true, false, ◌&&◌, ◌||◌, ◌==◌, List, [], ◌∷◌, Option, None, Some, cond}
+use Rattle.std.proofs.Common.{◌≡◌, inl, inr, refl, sym, ap, ◌∙◌, subst, ℕ, Bool, true, false, ◌&&◌, ◌||◌, List, [], ◌∷◌, Option, None, Some, cond}
 use Rattle.std.specs.Prelude.{if◌then◌else◌, map}
-use Rattle.std.specs.Cmp.Lexicographic.{same_text}
 use Rattle.std.specs.Str.{bytes_eq}
 use Rattle.std.proofs.Math.Path.{fun_ext}
-use Rattle.std.proofs.lemmas.Bool.{cases_eq, eq-eqb, eqb-true, false≢true, ne_eqb}
+use Rattle.std.proofs.lemmas.Bool.{false≢true}
 use Rattle.mg_base.specs.declared.numbers.RecId.{RecId}
-use Rattle.mg_base.specs.declared.numbers.TxNo.{TxNo}
 use Rattle.mg_base.specs.declared.transaction.TxState.{TxState}
 use Rattle.mg_base.specs.declared.transaction.TxState.TheVariants.{Active, Committed, Dead, Limbo}
 use Rattle.mg_value.specs.declared.shape.Shape.{Shape}
 use Rattle.mg_value.specs.declared.value.Value.{Value}
 use Rattle.mg_model.specs.declared.opening.Opening.{Opening}
 use Rattle.mg_model.specs.declared.table.Table.{Table}
-use Rattle.mg_model.specs.Answers.{catalog_of, is_active, is_committed, told}
-use Rattle.mg_model.specs.Catalog.{CatalogRows, catalog_name, catalog_shape, shape_in, shape_said, table_key, told_cells, told_if_there}
-use Rattle.mg_model.specs.CatalogRules.{AreTables, EachTable, HasTableOf, IsTable}
-use Rattle.mg_model.specs.Changes.{Cells, row_at, same_name}
+use Rattle.mg_model.specs.Answers.{is_committed}
+use Rattle.mg_model.specs.Catalog.{CatalogRows, catalog_name, shape_in, shape_said, table_key, told_cells, told_if_there}
+use Rattle.mg_model.specs.CatalogRules.{AreTables, EachTable, IsTable}
+use Rattle.mg_model.specs.Changes.{row_at, same_name}
 use Rattle.mg_model.specs.History.{Entries}
-use Rattle.mg_model.specs.Legal.{IsLegal, MayBegin, is_limbo}
+use Rattle.mg_model.specs.Legal.{is_limbo}
 use Rattle.mg_model.specs.Machine.{database, state_of}
-use Rattle.mg_model.specs.Openings.{everyone}
 use Rattle.mg_catalog.specs.TableLaws.{tables_once}
 use Rattle.mg_records.specs.Reading.{shape_named as shape_told_by}
 use Rattle.mg_generations.specs.Generations.{shown_by}
-use Rattle.mg_generations.specs.Kept.{IsErasedForAll, IsSeenByAll, StandFor}
+use Rattle.mg_generations.specs.Kept.{IsErasedForAll}
 use Rattle.mg_generations.specs.Laws.{ChainsShowDatabase}
-use Rattle.mg_chain.specs.Chains.{takes_version}
-use Rattle.mg_snap.specs.Live.{State, sees}
 use Rattle.mg_image.specs.declared.entry.Entry.{Entry}
-use Rattle.mg_image.specs.Catalog.{CatalogNames, IsSameTable, StaysAmong, committed_with}
-use Rattle.mg_image.specs.Form.{Pages, Row, packed_coding}
+use Rattle.mg_image.specs.Catalog.{CatalogNames, StaysAmong, committed_with}
+use Rattle.mg_image.specs.Form.{Pages, Row}
 use Rattle.mg_image.specs.Held.{Shows, told_row}
 use Rattle.mg_image.specs.RecordRules.{Facts, table_in}
 use Rattle.mg_image.specs.Records.{Reading, key_of, record_key, shown, writer}
@@ -40,13 +35,11 @@ use Rattle.mg_image_openings.specs.Catalogs.{rows_once, shape_named}
 use Rattle.mg_image_openings.specs.Told.{shape_told}
 use Rattle.mg_overlays.specs.Overlays.{left_by}
 use Rattle.mg_seek.specs.Histories.{HasSpeaker, told_if, told_versions}
-use Rattle.mg_seek.specs.Readings.{RowsOfReadings}
 use Rattle.mg_standing.specs.Standing.{Standing}
 use Rattle.mg_standing.specs.Versions.{SpeaksOrSilent, told_version}
 use Rattle.mg_table_stands.specs.OneTable.{stands_in}
 use Rattle.mg_engine_answers.specs.KeyAnswers.{has_speaker}
-use Rattle.mg_engine_answers.specs.Known.{KnowsPages, die_alike, facts_shown, speaker_of}
-use Rattle.mg_engine_answers.specs.Laws.{NothingAtKeys, RowsAtKeys}
+use Rattle.mg_engine_answers.specs.Known.{KnowsPages, facts_shown, speaker_of}
 use Rattle.mg_engine_answers.specs.TableAnswers.{shown_key, shown_living}
 use Rattle.mg_engine_tables.specs.SeenTables.{HasTableWith, shown_told}
 

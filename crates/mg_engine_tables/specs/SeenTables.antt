@@ -1,10 +1,9 @@
 -- The tables that a transaction sees which has just taken its base stand on the pages.
-use Rattle.std.proofs.Common.{◌≡◌, ◌≢◌, ◌⊎◌, inl, inr, refl, sym, ap, ◌∙◌, subst, ℕ, Bool, true, false, ◌&&◌, ◌||◌, ◌==◌, List, [], ◌∷◌, Option, None, Some, cond}
+use Rattle.std.proofs.Common.{◌≡◌, inl, refl, sym, ap, ◌∙◌, subst, ℕ, Bool, true, false, ◌&&◌, ◌||◌, ◌==◌, List, [], ◌∷◌, Option, None, Some, cond}
 use Rattle.std.specs.Prelude.{if◌then◌else◌, map}
-use Rattle.std.specs.Cmp.Lexicographic.{same_text}
 use Rattle.std.specs.Str.{bytes_eq}
 use Rattle.std.proofs.Math.Path.{fun_ext}
-use Rattle.std.proofs.lemmas.Bool.{cases_eq, eq-eqb, eqb-true, false≢true, ne_eqb}
+use Rattle.std.proofs.lemmas.Bool.{eqb-true, false≢true}
 use Rattle.mg_base.specs.declared.numbers.RecId.{RecId}
 use Rattle.mg_base.specs.declared.numbers.TxNo.{TxNo}
 use Rattle.mg_base.specs.declared.transaction.TxState.{TxState}
@@ -14,22 +13,21 @@ use Rattle.mg_value.specs.declared.value.Value.{Value}
 use Rattle.mg_model.specs.declared.opening.Opening.{Opening}
 use Rattle.mg_model.specs.declared.table.Table.{Table}
 use Rattle.mg_model.specs.Answers.{catalog_of, is_active, is_committed, told}
-use Rattle.mg_model.specs.Catalog.{CatalogRows, catalog_name, catalog_shape, shape_in, shape_said, table_key, told_cells, told_if_there}
-use Rattle.mg_model.specs.CatalogRules.{AreTables, EachTable, HasTableOf, IsTable}
-use Rattle.mg_model.specs.Changes.{Cells, row_at, same_name}
+use Rattle.mg_model.specs.Catalog.{CatalogRows, catalog_name, shape_in, shape_said, table_key, told_cells, told_if_there}
+use Rattle.mg_model.specs.CatalogRules.{AreTables, EachTable, IsTable}
+use Rattle.mg_model.specs.Changes.{row_at, same_name}
 use Rattle.mg_model.specs.History.{Entries}
-use Rattle.mg_model.specs.Legal.{IsLegal, MayBegin, is_limbo}
+use Rattle.mg_model.specs.Legal.{IsLegal, MayBegin}
 use Rattle.mg_model.specs.Machine.{state_of, view}
-use Rattle.mg_model.specs.Openings.{everyone}
 use Rattle.mg_catalog.specs.TableLaws.{tables_once}
 use Rattle.mg_records.specs.Reading.{shape_seen}
-use Rattle.mg_generations.specs.Generations.{Generation, sees as sees_told, shown_by}
+use Rattle.mg_generations.specs.Generations.{sees as sees_told, shown_by}
 use Rattle.mg_generations.specs.Laws.{ChainsShowViews}
 use Rattle.mg_chain.specs.Chains.{takes_version}
 use Rattle.mg_snap.specs.Live.{State, sees}
 use Rattle.mg_image.specs.declared.entry.Entry.{Entry}
-use Rattle.mg_image.specs.Catalog.{CatalogNames, IsSameTable, StaysAmong, committed_with}
-use Rattle.mg_image.specs.Form.{Pages, Row, packed_coding}
+use Rattle.mg_image.specs.Catalog.{CatalogNames, StaysAmong, committed_with}
+use Rattle.mg_image.specs.Form.{Pages, Row}
 use Rattle.mg_image.specs.Held.{Shows, told_row}
 use Rattle.mg_image.specs.RecordRules.{Facts, table_in}
 use Rattle.mg_image.specs.Records.{Reading, key_of, record_key, shown, writer}
@@ -44,7 +42,7 @@ use Rattle.mg_standing.specs.Standing.{Standing}
 use Rattle.mg_standing.specs.Versions.{told_version}
 use Rattle.mg_table_stands.specs.OneTable.{stands_in}
 use Rattle.mg_engine_answers.specs.KeyAnswers.{has_speaker}
-use Rattle.mg_engine_answers.specs.Known.{KnowsPages, die_alike, facts_shown, speaker_of}
+use Rattle.mg_engine_answers.specs.Known.{KnowsPages, facts_shown, speaker_of}
 use Rattle.mg_engine_answers.specs.Laws.{NothingAtKeys, RowsAtKeys}
 use Rattle.mg_engine_answers.specs.TableAnswers.{shown_key, shown_living, shows_speaks}
 
