@@ -18,7 +18,8 @@ use Rattle.mg_image.specs.Sound.{IsSoundBy, facts_by}
 use Rattle.mg_image.specs.Tables.{Layout}
 use Rattle.mg_overlays.specs.Overlays.{left_state}
 use Rattle.mg_standing.specs.Standing.{FindsTables, ShowsHistory, Standing}
-use Rattle.mg_standing.specs.Versions.{HaveVersions, told_versions}
+use Rattle.mg_seek.specs.Histories.{told_versions}
+use Rattle.mg_standing.specs.Versions.{HaveVersions}
 use Rattle.mg_standing.specs.Writing.{WritesKey, WritesRecord}
 
 -- ---- a rollback

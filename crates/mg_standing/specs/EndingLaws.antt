@@ -27,7 +27,8 @@ use Rattle.mg_overlays.specs.Overlays.{left_state}
 use Rattle.mg_standing.specs.ChainLaws.{erased_still}
 use Rattle.mg_standing.specs.Ending.{Dies, GoesWithTable, StaysRecord, VersionsDie, WritesShow}
 use Rattle.mg_standing.specs.Laws.{IsChainOf}
-use Rattle.mg_standing.specs.Versions.{HaveVersions, SpeaksOrSilent, told_version, told_versions}
+use Rattle.mg_seek.specs.Histories.{told_versions}
+use Rattle.mg_standing.specs.Versions.{HaveVersions, SpeaksOrSilent, told_version}
 use Rattle.mg_standing.specs.VersionsLaws.{versions_follow}
 use Rattle.mg_standing.specs.WritingLaws.{writes_follow_by}
 

@@ -12,7 +12,8 @@ use Rattle.mg_generations.specs.Kept.{StandFor}
 use Rattle.mg_image.specs.RecordRules.{Facts, table_in}
 use Rattle.mg_image.specs.Records.{Reading}
 use Rattle.mg_image_steps.specs.Fronts.{living}
-use Rattle.mg_standing.specs.Versions.{HaveVersions, IsRecordOf, SpeaksOrSilent, told_versions}
+use Rattle.mg_seek.specs.Histories.{told_versions}
+use Rattle.mg_standing.specs.Versions.{HaveVersions, IsRecordOf, SpeaksOrSilent}
 
 -- an entry of a legal history makes of a chain that stands for the versions of a key what its effect says
 abbrev pub ChainsGoOn : Type 0

@@ -34,7 +34,8 @@ use Rattle.mg_standing.specs.Following.{IsFirst, MemoryBegins}
 use Rattle.mg_standing.specs.Speakers.{here_from, here_to, is_in_limbo, none_takes, speaker, speaker_takes, taker_speaks, takes_key, takes_not, takes_some}
 use Rattle.mg_standing.specs.Standing.{Standing, Stands}
 use Rattle.mg_standing.specs.StartVersions.{here_first, none_first}
-use Rattle.mg_standing.specs.Versions.{HaveVersions, SpeaksFor, SpeaksOrSilent, told_versions}
+use Rattle.mg_seek.specs.Histories.{told_versions}
+use Rattle.mg_standing.specs.Versions.{HaveVersions, SpeaksFor, SpeaksOrSilent}
 
 -- an engine over an image that gives this opening stands for the history without entries, where memory is
 -- as it says

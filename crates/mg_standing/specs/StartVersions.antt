@@ -25,7 +25,8 @@ use Rattle.mg_image.specs.Tables.{Layout}
 use Rattle.mg_image_steps.specs.Fronts.{is_dead}
 use Rattle.mg_image_steps.specs.TableOwners.{one_of_name, owned}
 use Rattle.mg_standing.specs.Speakers.{TakesHere, one_here}
-use Rattle.mg_standing.specs.Versions.{told_given, told_version, told_versions}
+use Rattle.mg_seek.specs.Histories.{told_given, told_versions}
+use Rattle.mg_standing.specs.Versions.{told_version}
 
 -- ---- changes as lists
 

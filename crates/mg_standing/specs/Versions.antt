@@ -1,8 +1,7 @@
 -- The versions of a key of a table as the records of an image have them, and which record speaks for the
 -- key.
-use Rattle.std.specs.Prelude.{◌≡◌, ◌≢◌, ◌⊎◌, ℕ, List, [], map, Option, None, Some, if◌then◌else◌}
+use Rattle.std.specs.Prelude.{◌≡◌, ◌≢◌, ◌⊎◌, ℕ, List, [], Option, None, Some}
 use Rattle.mg_base.specs.declared.numbers.RecId.{RecId}
-use Rattle.mg_base.specs.declared.transaction.TxState.{TxState}
 use Rattle.mg_value.specs.declared.value.Value.{Value}
 use Rattle.mg_model.specs.declared.opening.Opening.{Opening}
 use Rattle.mg_model.specs.declared.table.Table.{Table}
@@ -10,23 +9,13 @@ use Rattle.mg_model.specs.History.{Entries}
 use Rattle.mg_generations.specs.Generations.{Generation, generation}
 use Rattle.mg_generations.specs.Kept.{IsErasedForAll, StandFor}
 use Rattle.mg_image.specs.declared.entry.Entry.{Entry}
-use Rattle.mg_image.specs.Form.{Row}
-use Rattle.mg_image.specs.Held.{told_row}
 use Rattle.mg_image.specs.RecordRules.{Facts, table_in}
 use Rattle.mg_image.specs.Records.{Reading, record_key, writer}
-use Rattle.mg_image_steps.specs.Fronts.{living}
-
--- the row that a version gives as a database has it, none where it is a deletion
-abbrev pub told_given : Table → Entry → Option Row
-told_given table e = if e.version.deleted then None else Some (told_row table e.row)
+use Rattle.mg_seek.specs.Histories.{told_given, told_versions}
 
 -- a version as a history says it
 abbrev pub told_version : Table → Entry → Generation
 told_version table e = generation (writer e) (told_given table e)
-
--- the versions of a record as a history says them: those that count
-abbrev pub told_versions : (ℕ → TxState) → Table → List Entry → List Generation
-told_versions state table es = map (told_version table) (living state es)
 
 -- A record of a table of this name has versions, with this key.
 pub record IsRecordOf (f : Facts) (r : Reading) (name : List ℕ) (key : Value) (p : RecId) : Type 0

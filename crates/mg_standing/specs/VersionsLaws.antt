@@ -17,7 +17,8 @@ use Rattle.mg_image.specs.Records.{Reading}
 use Rattle.mg_image_steps.specs.Fronts.{living}
 use Rattle.mg_standing.specs.ChainLaws.{erased_still, left_as_before, stand_goes_on}
 use Rattle.mg_standing.specs.Laws.{IsChainOf, VersionsFollow, VersionsStay}
-use Rattle.mg_standing.specs.Versions.{HaveVersions, SpeaksFor, SpeaksOrSilent, told_version, told_versions}
+use Rattle.mg_seek.specs.Histories.{told_versions}
+use Rattle.mg_standing.specs.Versions.{HaveVersions, SpeaksFor, SpeaksOrSilent, told_version}
 
 -- a chain of the speaker of a key that stands for the history
 speaks_by : (o : Opening) (h : Entries) (f : Facts) (r : Reading) (name : List ℕ) (key : Value)

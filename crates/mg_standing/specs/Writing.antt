@@ -14,7 +14,8 @@ use Rattle.mg_generations.specs.Kept.{IsErasedForAll}
 use Rattle.mg_image.specs.RecordRules.{Facts, table_in}
 use Rattle.mg_image.specs.Records.{Reading, record_key}
 use Rattle.mg_standing.specs.Laws.{IsChainOf}
-use Rattle.mg_standing.specs.Versions.{HaveVersions, told_versions}
+use Rattle.mg_seek.specs.Histories.{told_versions}
+use Rattle.mg_standing.specs.Versions.{HaveVersions}
 
 -- an entry gives a key of a table a row of a transaction's, or none, or makes one with the key
 abbrev pub WritesKey : Opening → Entries → Entry → ℕ → List ℕ → Value → Option Cells → Type 0

@@ -25,7 +25,8 @@ use Rattle.mg_image.specs.StepLaws.{cases_place, same_place}
 use Rattle.mg_image_steps.specs.Fronts.{is_dead, living}
 use Rattle.mg_standing.specs.ChainLaws.{erased_still}
 use Rattle.mg_standing.specs.Laws.{IsChainOf}
-use Rattle.mg_standing.specs.Versions.{HaveVersions, IsRecordOf, SpeaksFor, SpeaksOrSilent, told_version, told_versions}
+use Rattle.mg_seek.specs.Histories.{told_versions}
+use Rattle.mg_standing.specs.Versions.{HaveVersions, IsRecordOf, SpeaksFor, SpeaksOrSilent, told_version}
 use Rattle.mg_standing.specs.VersionsLaws.{versions_follow}
 use Rattle.mg_standing.specs.Writing.{ErasedMayBeSilent, Silenced, WritesFollow, WritesKey, WritesRecord}
 

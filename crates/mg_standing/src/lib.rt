@@ -14,7 +14,7 @@
 //! is no program here: each function does nothing, and its contract is a law.
 //!
 //! Invariant: none, it keeps no state.
-//! Below: `mg_generations`, the versions of a key; `mg_chain`, bases; `mg_waits` and `mg_undo`, what else is
+//! Below: `mg_generations`, the versions of a key; `mg_seek`, a record's versions as a history says them; `mg_chain`, bases; `mg_waits` and `mg_undo`, what else is
 //! in memory; `mg_image`, what is sound. Above: the engine, which stands for a history so.
 //! Not here: what overlays have to be and what crashes leave, which is `mg_lasting`, and that the list of
 //! transactions has the pool's pages, which is `mg_txlist`.

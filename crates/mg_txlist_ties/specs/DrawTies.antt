@@ -65,17 +65,17 @@ DrawRowKeeps form D L m = (old new : TxList) (before after : Pool D L) (i j : Im
 
 -- ---- the header
 
-raised_is : (size last : ℕ) (old new : Pages) → RaisesHead size old new last
+pub raised_is : (size last : ℕ) (old new : Pages) → RaisesHead size old new last
     → PassesAll (database_checks (new 0) size) × PassesAll (page_checks (new 0))
     × (raised_header (header_of old) last ≡ header_of new)
 raised_is size last old new raises =
     reading_ok (new 0) size (raised_header (header_of old) last) raises.reads
 
-raised_next : (size last : ℕ) (old new : Pages) → RaisesHead size old new last
+pub raised_next : (size last : ℕ) (old new : Pages) → RaisesHead size old new last
     → next_of new ≡ next_of old + 1
 raised_next size last old new raises = sym (ap (λ (h : Header). h.next.0) (raised_is size last old new raises).2)
 
-draws_number : (size : ℕ) (old new : Pages) → RaisesHead size old new (header_of old).last_tip.0
+pub draws_number : (size : ℕ) (old new : Pages) → RaisesHead size old new (header_of old).last_tip.0
     → ((m : ℕ) → m ≢ 0 → new m ≡ old m) → last_sequence size new ≡ last_sequence size old
     → DrawsNumber size old new
 draws_number size old new raises others room =
@@ -113,12 +113,12 @@ module _ (old new : TxList) (size : ℕ) (pool view : Pages) (was : IsTxList old
       ∙ ap (λ (k : ℕ). (k - 1) / places size + 1)
       (adds.next ∙ (ap (λ (k : ℕ). k + 1) next ∙ sym raised))
 
-  same_last : AddsPage old new None → last_sequence size view ≡ last_sequence size pool
+  pub same_last : AddsPage old new None → last_sequence size view ≡ last_sequence size pool
   same_last same =
       let lengths : length new.pages.items ≡ length old.pages.items = ap length same in
       let first = old_count in let second = new_count in omega (arith, lengths, first, second)
 
-  next_last : (page : TipPage) → AddsPage old new (Some page)
+  pub next_last : (page : TipPage) → AddsPage old new (Some page)
       → last_sequence size view ≡ suc (last_sequence size pool)
   next_last page more =
       let long : length new.pages.items ≡ length old.pages.items + 1 =
@@ -131,7 +131,7 @@ module _ (old new : TxList) (size : ℕ) (pool view : Pages) (was : IsTxList old
           omega (arith, rest)
 
   -- the sequence of the page of the number that is drawn
-  its_sequence : last_sequence size view ≡ next_said old / places size
+  pub its_sequence : last_sequence size view ≡ next_said old / places size
   its_sequence =
       let number : next_of view - 1 ≡ next_said old = omega (arith, raised, next) in
       ap (λ (k : ℕ). k / places size) number
@@ -139,7 +139,7 @@ module _ (old new : TxList) (size : ℕ) (pool view : Pages) (was : IsTxList old
 -- ---- a new page of transactions
 
 -- pages with the header page of others
-abbrev with_header : Pages → Pages → Pages
+abbrev pub with_header : Pages → Pages → Pages
 with_header pages others m = if m == 0 then others 0 else pages m
 
 header_here : (pages others : Pages) → with_header pages others 0 ≡ others 0

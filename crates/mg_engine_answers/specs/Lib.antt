@@ -1,0 +1,9 @@
+pub mod Known
+pub mod Laws
+pub mod OtherIndexes
+pub mod Listed
+pub mod KeyAnswers
+pub mod Walking
+pub mod WalkAnswers
+pub mod Tables
+pub mod TableAnswers

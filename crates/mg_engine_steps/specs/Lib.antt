@@ -1,0 +1,9 @@
+pub mod Batches
+pub mod BatchLaws
+pub mod Writes
+pub mod WritesLaws
+pub mod Reads
+pub mod ReadsOwn
+pub mod ReadsMoved
+pub mod GoesOn
+pub mod GoesOnLaws

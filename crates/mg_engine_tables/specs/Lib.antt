@@ -1,0 +1,2 @@
+pub mod SeenTables
+pub mod DatabaseTables
