@@ -1,82 +1,62 @@
 -- What a step that writes leaves.
-use Rattle.std.proofs.Common.{◌≡◌, ℕ, List, [], ◌∷◌, Option, Some, None, Result, Ok, Err, inl, inr, refl, sym, subst}
+use Rattle.std.proofs.Common.{◌≡◌, ℕ, false, Result, Ok, Err, refl, sym, subst}
 use Rattle.mg_base.specs.declared.numbers.TxNo.{TxNo}
-use Rattle.mg_model.specs.declared.answer.Answer.TheVariants.{Fine, No}
-use Rattle.mg_model.specs.declared.event.Event.TheVariants.{Mark, UndoMark}
-use Rattle.mg_model.specs.declared.opening.Opening.{Opening}
-use Rattle.mg_model.specs.declared.refusal.Refusal.{Refusal}
-use Rattle.mg_model.specs.declared.refusal.Refusal.TheVariants.{Waits}
-use Rattle.mg_model.specs.History.{Entries, entry}
-use Rattle.mg_records.specs.declared.write.Write.{Write}
+use Rattle.mg_model.specs.declared.refusal.Refusal.TheVariants as refusals
 use Rattle.mg_records.specs.Meaning.{Means}
-use Rattle.mg_records.specs.TakingBack.{after_refusal}
-use Rattle.mg_records.specs.Writing.{event_of}
+use Rattle.mg_rows.specs.declared.fault.NewRowFault.{NewRowFault}
+use Rattle.mg_rows.specs.declared.fault.NewRowFault.TheVariants as faults
+use Rattle.mg_rows.specs.declared.statement_fault.StatementFault.{StatementFault}
+use Rattle.mg_rows.specs.Faults.{of_new_row}
+use Rattle.std.specs.Prelude.{Some, None}
 use Rattle.mg_calls.specs.declared.steps.Writes.{Writes}
 use Rattle.mg_calls.specs.declared.steps.Wrote.{Wrote}
 use Rattle.mg_calls.specs.declared.steps.Wrote.TheVariants as wrote
-use Rattle.mg_calls.specs.Steps.{MarksAndWrites, StandsForSome, StepsOn, WritesNext}
-use Rattle.mg_calls.specs.Undoing.{IsUndone, taken_back, given_up}
-use Rattle.mg_exec.specs.declared.phase.Changing.{Changing}
-use Rattle.mg_exec.specs.declared.phase.Phase.{Phase}
-use Rattle.mg_exec.specs.declared.phase.Phase.TheVariants as phases
+use Rattle.mg_calls.specs.Steps.{StepsOn}
 use Rattle.mg_exec.specs.declared.phase.Turn.{Turn}
-use Rattle.mg_exec.specs.Changing.{turned}
-use Rattle.mg_exec.specs.Phases.{Leaves, StandsAfter}
+use Rattle.mg_exec.specs.Changing.{turned, with_left}
+use Rattle.mg_exec.specs.Phases.{Leaves, ended, is_reading}
+use Rattle.mg_exec.proofs.FrameLemmas.{frames_none}
 
--- once a statement is undone the keeper stands for that
-given_back : {R P : Type 0} (m : Means R P) (new : R) (o : Opening) (h : Entries) (t : TxNo)
-    (later : Refusal) → m.stands new o (after_refusal o h t (UndoMark t) later) → StandsForSome m new
-given_back m new o h t later stands = (o, after_refusal o h t (UndoMark t) later, stands)
+step_leaves : {R P : Type 0} (m : Means R P) (old new : R) (t : ℕ) (before after : Writes) (count : ℕ)
+    (result : Wrote) → StepsOn m old new t before after result
+    → Leaves m old new t (turned {P = P} (with_left after count) result)
+step_leaves m old new t before after count wrote.More s = record { frames = s.frames; ready = s.ready }
+step_leaves m old new t before after count wrote.Done s = record { frames = s.frames; ready = tt }
+step_leaves m old new t before after count (wrote.Waits on) s =
+    record { frames = s.frames; ready = s.ready }
+step_leaves m old new t before after count (wrote.Refused refusal) s =
+    record { frames = s.frames; ready = tt }
 
-undone_stands : {R P : Type 0} (m : Means R P) (new : R) (o : Opening) (h : Entries) (t : TxNo)
-    (first answer : Refusal) → IsUndone m new o h t first answer → StandsForSome m new
-undone_stands m new o h t first answer (taken_back lawful stands) =
-    (o, entry (UndoMark t) Fine ∷ h, stands)
-undone_stands m new o h t first answer (given_up later lawful stands) =
-    given_back m new o h t later stands
+pub turned_leaves : {R P : Type 0} (m : Means R P) (old new : R) (t : ℕ) (before after : Writes)
+    (count : ℕ) (result : Wrote) (turn : Turn P) → turn ≡ turned (with_left after count) result
+    → StepsOn m old new t before after result → Leaves m old new t turn
+turned_leaves {P = P} m old new t before after count result turn is steps =
+    subst (λ (turn : Turn P). Leaves m old new t turn) (sym is)
+    (step_leaves m old new t before after count result steps)
 
--- after a write the keeper stands for what came
-pub goes_on : {R P : Type 0} (m : Means R P) (new : R) (o : Opening) (h : Entries) (t : TxNo)
-    (table : List ℕ) (writes left : List Write) (result : Wrote)
-    → WritesNext m new o h t table writes left result → StandsForSome m new
-goes_on m new o h t table [] left result next = (o, h, next.1)
-goes_on m new o h t table (first ∷ rest) left wrote.More next =
-    (o, entry (event_of t table first) Fine ∷ h, next.0.stands)
-goes_on m new o h t table (first ∷ rest) left wrote.Done next =
-    (o, entry (event_of t table first) Fine ∷ h, next.0.stands)
-goes_on m new o h t table (first ∷ rest) left (wrote.Waits on) next =
-    (o, entry (event_of t table first) (No (Waits on)) ∷ h, next.0.stands)
-goes_on m new o h t table (first ∷ rest) left (wrote.Refused refusal) next =
-    undone_stands m new o (entry (event_of t table first) (No next.first) ∷ h) t next.first refusal next.undone
+-- no write is made, and no call
+pub none_made : {R P : Type 0} (m : Means R P) (r : R) (t : ℕ) (fault : NewRowFault)
+    (given : StatementFault) (turn : Turn P) → given ≡ of_new_row fault → turn ≡ ended (Err given)
+    → Leaves m r r t turn
+none_made {P = P} m r t fault given turn is same =
+    subst (λ (turn : Turn P). Leaves m r r t turn) (sym same)
+    (subst (λ (f : StatementFault). Leaves {P = P} m r r t (ended (Err f))) (sym is) (at fault))
+  where
+    at : (fault : NewRowFault) → Leaves {P = P} m r r t (ended (Err (of_new_row fault)))
+    at faults.Memory = record { frames = frames_none m r t (Some refusals.Memory) tt; ready = tt }
+    at faults.Arithmetic = record { frames = frames_none m r t None tt; ready = tt }
+    at faults.NullNotAllowed = record { frames = frames_none m r t None tt; ready = tt }
+    at (faults.TextTooLong len most) = record { frames = frames_none m r t None tt; ready = tt }
 
-pub goes_on_marked : {R P : Type 0} (m : Means R P) (new : R) (o : Opening) (h : Entries) (t : TxNo)
-    (table : List ℕ) (writes left : List Write) (result : Wrote)
-    → MarksAndWrites m new o h t table writes left result → StandsForSome m new
-goes_on_marked m new o h t table writes left result (inl refused) =
-    (o, entry (Mark t) (No refused.0) ∷ h, refused.2.stands)
-goes_on_marked m new o h t table writes left result (inr marked) =
-    goes_on m new o (entry (Mark t) Fine ∷ h) t table writes left result marked.1
+behind : (P : Type 0) (after : Writes) (count : ℕ) (result : Wrote)
+    → is_reading (turned {P = P} (with_left after count) result).phase ≡ false
+behind P after count wrote.More = refl
+behind P after count wrote.Done = refl
+behind P after count (wrote.Waits on) = refl
+behind P after count (wrote.Refused refusal) = refl
 
-pub step_leaves : {R P : Type 0} (m : Means R P) (old new : R) (t : ℕ) (before : Phase P)
-    (left after : Writes) (count : ℕ) (result : Wrote) → StepsOn m old new t left after result
-    → ((phase : Phase P) → StandsAfter m new before phase)
-    → Leaves m old new t before (turned {P = P} (record { writes = after; count = count }) result)
-step_leaves m old new t before left after count wrote.More s stands =
-    record { frames = s.frames; ready = s.ready; stands = stands _ }
-step_leaves m old new t before left after count wrote.Done s stands =
-    record { frames = s.frames; ready = tt; stands = stands _ }
-step_leaves m old new t before left after count (wrote.Waits on) s stands =
-    record { frames = s.frames; ready = s.ready; stands = stands _ }
-step_leaves m old new t before left after count (wrote.Refused refusal) s stands =
-    record { frames = s.frames; ready = tt; stands = stands _ }
-
-pub changed_leaves : {R P : Type 0} (m : Means R P) (old new : R) (o : Opening) (h : Entries) (t : TxNo)
-    (c : Changing) (left : Writes) (result : Wrote) (turn : Turn P)
-    → turn ≡ turned (record { writes = left; count = c.count }) result
-    → WritesNext m new o h t c.writes.table.name c.writes.left.items left.left.items result
-    → StepsOn m old new t.0 c.writes left result
-    → Leaves m old new t.0 (phases.Changing c) turn
-changed_leaves {P = P} m old new o h t c left result turn is writes steps =
-    subst (λ (turn : Turn P). Leaves m old new t.0 (phases.Changing c) turn) (sym is)
-    (step_leaves m old new t.0 (phases.Changing c) c.writes left c.count result steps
-    (λ phase. goes_on m new o h t c.writes.table.name c.writes.left.items left.left.items result writes))
+-- a statement that writes reads no more
+pub turned_behind : (P : Type 0) (after : Writes) (count : ℕ) (result : Wrote) (turn : Turn P)
+    → turn ≡ turned (with_left after count) result → is_reading turn.phase ≡ false
+turned_behind P after count result turn is =
+    subst (λ (turn : Turn P). is_reading turn.phase ≡ false) (sym is) (behind P after count result)

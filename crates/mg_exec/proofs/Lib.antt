@@ -1,4 +1,6 @@
 mod FrameLemmas
 mod ChangeLemmas
 mod StartLemmas
-mod InsertLemmas
+mod MakingLemmas
+mod ReadLemmas
+mod GiveLemmas

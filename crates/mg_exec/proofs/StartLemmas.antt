@@ -26,7 +26,7 @@ use Rattle.mg_rows.specs.declared.statement_fault.StatementFault.TheVariants.{En
 use Rattle.mg_rows.specs.Faults.{of_plan}
 use Rattle.mg_exec.specs.declared.phase.Phase.{Phase}
 use Rattle.mg_exec.specs.declared.phase.Phase.TheVariants as phases
-use Rattle.mg_exec.specs.Phases.{IsReady, StandsAt, is_insert, is_select}
+use Rattle.mg_exec.specs.Phases.{IsReady, StandsAt, is_finding, is_insert}
 use Rattle.mg_exec.specs.Starting.{HasRows, IsBegun, IsStarted, IsWhyNot, it_writes, no_table, not_told, not_bound, no_memory, may_not_write}
 
 -- the keeper tells no table
@@ -81,20 +81,22 @@ bound_typed columns key size s b none binds =
     ∙ ap (λ (p : Plain). is_typed columns (places_in columns s) p) binds.statement
     ∙ typed_where_none columns key size s none
 
--- a statement that has rows, and is no INSERT, is a SELECT; also once it is bound
-selects : (columns : List Column) (s : Plain) → HasRows s → is_insert (bound_plain columns s) ≡ false
-    → is_select (bound_plain columns s) ≡ true
-selects columns (Insert table names values) rows no_insert = absurd cc no_insert
-selects columns (Totals table totals filter) rows no_insert = refl
-selects columns (Select table values filter sorted) rows no_insert = refl
-selects columns s rows no_insert = absurd rows
+-- a statement that has rows, and is no INSERT, finds rows; also once it is bound
+finds : (columns : List Column) (s : Plain) → HasRows s → is_insert (bound_plain columns s) ≡ false
+    → is_finding (bound_plain columns s) ≡ true
+finds columns (Insert table names values) rows no_insert = absurd cc no_insert
+finds columns (Update table sets filter) rows no_insert = refl
+finds columns (Delete table filter) rows no_insert = refl
+finds columns (Totals table totals filter) rows no_insert = refl
+finds columns (Select table values filter sorted) rows no_insert = refl
+finds columns s rows no_insert = absurd rows
 
-pub bound_selects : (columns : List Column) (s : Plain) (b : Bound) → HasRows s
+pub bound_finds : (columns : List Column) (s : Plain) (b : Bound) → HasRows s
     → IsBoundAs columns s b → is_insert (plain_of b.statement) ≡ false
-    → is_select (plain_of b.statement) ≡ true
-bound_selects columns s b rows binds no_insert =
-    ap is_select binds.statement
-    ∙ selects columns s rows (ap is_insert (sym binds.statement) ∙ no_insert)
+    → is_finding (plain_of b.statement) ≡ true
+bound_finds columns s b rows binds no_insert =
+    ap is_finding binds.statement
+    ∙ finds columns s rows (ap is_insert (sym binds.statement) ∙ no_insert)
 
 -- ---- the answers of the tests
 
@@ -162,11 +164,9 @@ ready_at_start m new t s name size table bound (phases.Inserting i) rows given b
     let again = subst (λ (n : List ℕ). m.table new t n ≡ Some table) (sym given.named) given.again in
     record {
       table = subst (λ (table : AnyTable). m.table new t table.name ≡ Some table) (sym begun.1) again;
-      typed = record {
-        inserts = subst (λ (b : Bound). is_insert (plain_of b.statement) ≡ true) (sym begun.2) begun.0;
-        typed = subst (λ (x : AnyTable × Bound). is_typed x.0.shape.columns x.1.places.items (plain_of x.1.statement) ≡ true)
-            (sym (λ k. (begun.1 k, begun.2 k))) (bound_typed table.shape.columns table.shape.key size s bound binds.0 binds.1);
-      };
+      inserts = subst (λ (b : Bound). is_insert (plain_of b.statement) ≡ true) (sym begun.2) begun.0;
+      typed = subst (λ (x : AnyTable × Bound). is_typed x.0.shape.columns x.1.places.items (plain_of x.1.statement) ≡ true)
+          (sym (λ k. (begun.1 k, begun.2 k))) (bound_typed table.shape.columns table.shape.key size s bound binds.0 binds.1);
     }
 ready_at_start {P = P} m new t s name size table bound (phases.Reading reading) rows given binds begun =
     let again = subst (λ (n : List ℕ). m.table new t n ≡ Some table) (sym given.named) given.again in
@@ -175,7 +175,9 @@ ready_at_start {P = P} m new t s name size table bound (phases.Reading reading) 
         table = subst (λ (table : AnyTable). m.table new t table.name ≡ Some table) (sym begun.1) again;
         place = subst (λ (place : Option P). IsPlace m new reading.walk.table place) (sym begun.2) tt;
       };
-      selects = subst (λ (b : Bound). is_select (plain_of b.statement) ≡ true) (sym begun.3)
-          (bound_selects table.shape.columns s bound rows binds.1 begun.0);
+      finds = subst (λ (b : Bound). is_finding (plain_of b.statement) ≡ true) (sym begun.3)
+          (bound_finds table.shape.columns s bound rows binds.1 begun.0);
+      typed = subst (λ (x : AnyTable × Bound). is_typed x.0.shape.columns x.1.places.items (plain_of x.1.statement) ≡ true)
+          (sym (λ k. (begun.1 k, begun.3 k))) (bound_typed table.shape.columns table.shape.key size s bound binds.0 binds.1);
     }
 ready_at_start m new t s name size table bound phase rows given binds begun = absurd begun

@@ -1,8 +1,9 @@
 pub mod Phases
 pub mod Points
+pub mod Making
 pub mod Changing
-pub mod Inserting
-pub mod Visiting
 pub mod Selecting
+pub mod Reading
 pub mod Starting
 pub mod Running
+pub mod Statements

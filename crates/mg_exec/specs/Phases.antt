@@ -1,21 +1,22 @@
 -- Where a statement stands, and what the next call of it asks.
-use Rattle.std.specs.Prelude.{◌≡◌, ◌⊎◌, ℕ, Bool, true, false, List, [], ◌∷◌, map, Option, Some, None, Result, Ok, Err}
-use Rattle.std.specs.declared.alloc.Global.{Global}
+use Rattle.std.specs.Prelude.{◌≡◌, ℕ, Bool, true, false, List, [], ◌∷◌, map, Option, Some, None, Result, Ok, Err}
 use Rattle.mg_expr.specs.declared.expr.Expr.{Expr}
 use Rattle.mg_sql.specs.declared.statement.Statement.{Statement}
 use Rattle.mg_sql.specs.declared.statement.Statement.TheVariants as statements
-use Rattle.mg_sql.specs.Plain.{Plain, Insert, Totals, Select, plain_of, tree_in}
+use Rattle.mg_sql.specs.Plain.{Plain, Insert, Update, Delete, Totals, Select, plain_of, tree_in}
+use Rattle.mg_plan.specs.declared.bound.Bound.{Bound}
 use Rattle.mg_plan.specs.Statements.{is_typed}
 use Rattle.mg_model.specs.declared.opening.Opening.{Opening}
 use Rattle.mg_model.specs.declared.refusal.Refusal.{Refusal}
-use Rattle.mg_model.specs.Changes.{Cells}
+use Rattle.mg_model.specs.declared.table.Table.{Table}
+use Rattle.mg_model.specs.Changes.{KeyedRows}
 use Rattle.mg_model.specs.History.{Entries}
 use Rattle.mg_records.specs.Meaning.{Means}
 use Rattle.mg_rows.specs.declared.statement_fault.StatementFault.{StatementFault}
 use Rattle.mg_rows.specs.declared.statement_fault.StatementFault.TheVariants.{Engine}
-use Rattle.mg_rows.specs.Found.{found}
+use Rattle.mg_rows.specs.Found.{found_keyed}
 use Rattle.mg_calls.specs.Frames.{Frames}
-use Rattle.mg_calls.specs.Steps.{AreReady, StandsForSome}
+use Rattle.mg_calls.specs.Steps.{AreReady}
 use Rattle.mg_calls.specs.Walks.{HasCome, IsOnItsWay}
 use Rattle.mg_exec.specs.declared.phase.Inserting.{Inserting}
 use Rattle.mg_exec.specs.declared.phase.Reading.{Reading}
@@ -34,12 +35,7 @@ filter_in (statements.Totals table aggs filter) = filter
 filter_in (statements.Select table values filter sorted) = filter
 filter_in s = None
 
--- the values of an INSERT
-abbrev pub values_in : Statement → List Expr
-values_in (statements.Insert table columns values) = values.items
-values_in s = []
-
--- it is an INSERT; it is a SELECT, of expressions or of totals
+-- it is an INSERT; it is a SELECT, of expressions or of totals; it finds rows before it goes on
 abbrev pub is_insert : Plain → Bool
 is_insert (Insert table columns values) = true
 is_insert s = false
@@ -49,22 +45,36 @@ is_select (Totals table aggs filter) = true
 is_select (Select table values filter sorted) = true
 is_select s = false
 
+abbrev pub is_finding : Plain → Bool
+is_finding (Update table sets filter) = true
+is_finding (Delete table filter) = true
+is_finding s = is_select s
+
+-- it writes rows of its table
+abbrev pub is_writing : Plain → Bool
+is_writing (Insert table columns values) = true
+is_writing (Update table sets filter) = true
+is_writing (Delete table filter) = true
+is_writing s = false
+
 -- ---- what the next call asks
 
--- the values of an INSERT may be put into the columns at their places
-pub record IsTypedInsert (i : Inserting) : Type 0 where
-  pub inserts : is_insert (plain_of i.bound.statement) ≡ true
-  pub typed : is_typed i.table.shape.columns i.bound.places.items (plain_of i.bound.statement) ≡ true
+-- the expressions of a statement have the types that the table's columns want
+abbrev pub IsTypedFor : Table → Bound → Type 0
+IsTypedFor table bound =
+    is_typed table.shape.columns bound.places.items (plain_of bound.statement) ≡ true
 
 -- the transaction sees the table
 pub record IsReadyToInsert {R P : Type 0} (m : Means R P) (r : R) (t : ℕ) (i : Inserting) : Type 0 where
   pub table : m.table r t i.table.name ≡ Some i.table
-  pub typed : IsTypedInsert i
+  pub inserts : is_insert (plain_of i.bound.statement) ≡ true
+  pub typed : IsTypedFor i.table i.bound
 
 -- the transaction sees the table, and the walk's place was given
 pub record IsReadyToRead {R P : Type 0} (m : Means R P) (r : R) (t : ℕ) (reading : Reading P) : Type 0 where
   pub way : IsOnItsWay m r t reading.walk
-  pub selects : is_select (plain_of reading.bound.statement) ≡ true
+  pub finds : is_finding (plain_of reading.bound.statement) ≡ true
+  pub typed : IsTypedFor reading.walk.table reading.bound
 
 abbrev pub IsReady : {R P : Type 0} → Means R P → R → ℕ → Phase P → Type 0
 IsReady m r t (phases.Saving name) = Unit {0}
@@ -80,13 +90,18 @@ IsReady m r t phases.Ended = Unit {0}
 -- filter are kept, and it faulted on none.
 pub record HasRead {R P : Type 0} (m : Means R P) (r : R) (o : Opening) (h : Entries) (t : ℕ)
     (reading : Reading P) : Type 0 where
-  pub visited : List Cells
+  pub visited : KeyedRows
   pub come : HasCome m r o h t reading.walk visited
-  pub kept : found (tree_in (filter_in reading.bound.statement)) visited ≡ Some reading.kept.items
+  pub kept : found_keyed (tree_in (filter_in reading.bound.statement)) visited ≡ Some reading.kept.items
 
 abbrev pub StandsAt : {R P : Type 0} → Means R P → R → Opening → Entries → ℕ → Phase P → Type 0
 StandsAt m r o h t (phases.Reading reading) = HasRead m r o h t reading
 StandsAt m r o h t phase = Unit {0}
+
+-- it is a reading
+abbrev pub is_reading : {P : Type 0} → Phase P → Bool
+is_reading (phases.Reading reading) = true
+is_reading phase = false
 
 -- ---- answers
 
@@ -99,14 +114,7 @@ refusal_of answer = None
 abbrev pub ended : {P : Type 0} → Result Step StatementFault → Turn P
 ended answer = record { phase = phases.Ended; answer = answer }
 
--- after a step the keeper stands for a history; of a reading at its end that is told elsewhere
-abbrev pub StandsAfter : {R P : Type 0} → Means R P → R → Phase P → Phase P → Type 0
-StandsAfter m r (phases.Reading reading) phases.Ended = Unit {0}
-StandsAfter m r before after = StandsForSome m r
-
 -- what a step leaves: the statement is ready for the next one
-pub record Leaves {R P : Type 0} (m : Means R P) (old new : R) (t : ℕ) (before : Phase P)
-    (turn : Turn P) : Type 0 where
+pub record Leaves {R P : Type 0} (m : Means R P) (old new : R) (t : ℕ) (turn : Turn P) : Type 0 where
   pub frames : Frames m old new t (refusal_of turn.answer)
   pub ready : IsReady m new t turn.phase
-  pub stands : StandsAfter m new before turn.phase

@@ -2,7 +2,7 @@
 use Rattle.std.specs.Prelude.{◌≡◌, ◌⊎◌, ℕ, ◌&&◌, Bool, true, false, List, [], ◌∷◌, Option, Some, None, Result, Ok, Err}
 use Rattle.mg_base.specs.declared.numbers.TxNo.{TxNo}
 use Rattle.mg_value.specs.declared.shape.Shape.{Shape}
-use Rattle.mg_sql.specs.Plain.{Plain, plain_of, RollbackTo, Savepoint, Insert, Totals, Select}
+use Rattle.mg_sql.specs.Plain.{Plain, plain_of, RollbackTo, Savepoint, Insert, Update, Delete, Totals, Select}
 use Rattle.mg_plan.specs.declared.bound.Bound.{Bound}
 use Rattle.mg_plan.specs.declared.fault.PlanFault.{PlanFault}
 use Rattle.mg_plan.specs.Refusing.{first_refusal, IsBoundAs}
@@ -23,11 +23,13 @@ use Rattle.mg_rows.specs.Faults.{of_plan}
 use Rattle.mg_calls.specs.Writes.{Comes}
 use Rattle.mg_exec.specs.declared.phase.Phase.{Phase}
 use Rattle.mg_exec.specs.declared.phase.Phase.TheVariants as phases
-use Rattle.mg_exec.specs.Phases.{StandsAt, is_insert}
+use Rattle.mg_exec.specs.Phases.{StandsAt, is_insert, is_writing}
 
 -- a statement that has rows of a table
 abbrev pub HasRows : Plain → Type 0
 HasRows (Insert table columns values) = Unit {0}
+HasRows (Update table sets filter) = Unit {0}
+HasRows (Delete table filter) = Unit {0}
 HasRows (Totals table totals filter) = Unit {0}
 HasRows (Select table values filter sorted) = Unit {0}
 HasRows s = ⊥
@@ -38,7 +40,7 @@ Runs (RollbackTo name) = Unit {0}
 Runs (Savepoint name) = Unit {0}
 Runs s = HasRows s
 
--- where a bound statement begins: an INSERT before its row is computed, a SELECT before all rows
+-- where a bound statement begins: an INSERT before its row is computed, any other before all rows
 abbrev pub IsBegun : {P : Type 0} → Table → Bound → Phase P → Type 0
 IsBegun table bound (phases.Inserting i) = (is_insert (plain_of bound.statement) ≡ true)
     × (i.table ≡ table) × (i.bound ≡ bound)
@@ -49,7 +51,7 @@ IsBegun table bound phase = ⊥
 
 -- a statement that would write in a transaction that may not
 abbrev pub may_not_write : Bool → Plain → Bool
-may_not_write read_only s = read_only && is_insert s
+may_not_write read_only s = read_only && is_writing s
 
 -- Why a statement that has looked is refused before a row is read, in the order of the tests.
 pub data IsWhyNot (o : Opening) (h : Entries) (t : ℕ) (read_only : Bool) (s : Plain) (name : List ℕ)
@@ -108,11 +110,15 @@ refusal_at result = None
 abbrev pub Starts : {R P : Type 0} → Means R P → R → R → Opening → Entries → TxNo → Bool → Plain → ℕ
     → Result (Phase P) StatementFault → Type 0
 Starts m old new o h t read_only (Savepoint name) size result =
-    (result ≡ Ok (phases.Saving name)) × (new ≡ old)
+    (result ≡ Ok (phases.Saving name)) × m.stands new o h
 Starts m old new o h t read_only (RollbackTo name) size result =
-    (result ≡ Ok (phases.Returning name)) × (new ≡ old)
+    (result ≡ Ok (phases.Returning name)) × m.stands new o h
 Starts m old new o h t read_only (Insert table columns values) size result =
     Looks m new o h t read_only (Insert table columns values) table size result
+Starts m old new o h t read_only (Update table sets filter) size result =
+    Looks m new o h t read_only (Update table sets filter) table size result
+Starts m old new o h t read_only (Delete table filter) size result =
+    Looks m new o h t read_only (Delete table filter) table size result
 Starts m old new o h t read_only (Totals table totals filter) size result =
     Looks m new o h t read_only (Totals table totals filter) table size result
 Starts m old new o h t read_only (Select table values filter sorted) size result =

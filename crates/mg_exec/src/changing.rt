@@ -1,18 +1,25 @@
 //! The writes of a statement.
 
-ghost use Rattle.std.specs.Prelude.{◌≡◌};
+ghost use Rattle.std.specs.Prelude.{◌≡◌, All, Some, false};
 ghost use Rattle.mg_model.specs.declared.opening.Opening.{Opening};
 ghost use Rattle.mg_model.specs.History.{Entries};
+ghost use Rattle.mg_records.specs.Writing.{FitsShape};
 ghost use Rattle.mg_calls.specs.Steps.{AreReady};
-ghost use Rattle.mg_exec.specs.Phases.{Leaves};
-ghost use Rattle.mg_exec.specs.Changing.{turned as turned_by, Changes};
+ghost use Rattle.mg_exec.specs.Phases.{IsTypedFor, Leaves, is_reading};
+ghost use Rattle.mg_exec.specs.Changing.{turned as turned_by, BeginsToWrite, Changes, StartsToWrite};
 
+use crate::ending::ended;
+use crate::making::make_writes;
 use crate::phase::{Changing, Phase, Step, Turn};
 use mg_base::TxNo;
-use mg_calls::{Wrote, write_next};
-use mg_model::Refusal;
-use mg_records::Records;
+use mg_calls::{Writes, Wrote, mark_and_write, write_next};
+use mg_model::{Refusal, Table};
+use mg_plan::Bound;
+use mg_records::{Records, Write};
 use mg_rows::{Outcome, StatementFault};
+use mg_value::Row;
+use std::alloc::Global;
+use std::collections::VecDeque;
 
 /// Where a statement stands after a step that writes.
 pub fn turned<P: Drop>(changing: Changing, wrote: Wrote) -> Turn<P>
@@ -45,10 +52,59 @@ where
     requires ready { AreReady R.meaning r.old t.0 changing.writes }
     ensures changes { (o : Opening) (h : Entries) → R.meaning.stands r.old o h
         → Changes R.meaning r.new o h t changing result }
-    ensures leaves { (o : Opening) (h : Entries) → R.meaning.stands r.old o h
-        → Leaves R.meaning r.old r.new t.0 (Phase.Changing changing) result }
+    ensures behind { is_reading result.phase ≡ false }
+    ensures leaves { Leaves R.meaning r.old r.new t.0 result }
 {
     let mut changing = changing;
     let wrote = write_next(r, t, &mut changing.writes);
     turned(changing, wrote)
+}
+
+/// The first step of a statement that writes, with the writes that it makes: it sets its mark, and
+/// makes the first of them.
+fn begin_to_write<R: Records>(
+    r: &mut R,
+    t: TxNo,
+    table: Table,
+    made: VecDeque<Write>,
+) -> Turn<R::Place>
+where
+    R::Place: Drop,
+    requires table { R.meaning.table r.old t.0 table.name ≡ Some table }
+    requires fits { All (FitsShape table.shape) made.items }
+    ensures begins { (o : Opening) (h : Entries) → R.meaning.stands r.old o h
+        → BeginsToWrite R.meaning r.new o h t table made.items result }
+    ensures behind { is_reading result.phase ≡ false }
+    ensures leaves { Leaves R.meaning r.old r.new t.0 result }
+{
+    let mut changing = Changing {
+        count: made.len() as u64,
+        writes: Writes { table, left: made },
+    };
+    let wrote = mark_and_write(r, t, &mut changing.writes);
+    turned(changing, wrote)
+}
+
+/// A statement that has all its rows makes its writes of them, and begins to write.
+pub fn start_to_write<R: Records>(
+    r: &mut R,
+    alloc: Global,
+    t: TxNo,
+    table: Table,
+    bound: &Bound,
+    found: &[Row],
+) -> Turn<R::Place>
+where
+    R::Place: Drop,
+    requires table { R.meaning.table r.old t.0 table.name ≡ Some table }
+    requires typed { IsTypedFor table bound.now }
+    ensures starts { (o : Opening) (h : Entries) → R.meaning.stands r.old o h
+        → StartsToWrite R.meaning r.new o h t table bound.now found.now result }
+    ensures behind { is_reading result.phase ≡ false }
+    ensures leaves { Leaves R.meaning r.old r.new t.0 result }
+{
+    match make_writes(alloc, &table, bound, found) {
+        Ok(made) => begin_to_write(r, t, table, made),
+        Err(fault) => ended(Err(StatementFault::from(fault))),
+    }
 }

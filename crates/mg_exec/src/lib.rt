@@ -1,35 +1,44 @@
 //! The steps of statements over any keeper of records.
 //!
-//! Owns: `Step`, what a step of a statement came to, `Phase`, where a statement stands, the beginning of
-//! a SELECT or an INSERT with all that is tested before a row is read (`look_and_test`), the steps of
-//! SAVEPOINT and ROLLBACK TO (`save`, `go_back`), of a statement that has set its mark and writes
-//! (`change`), the first step of an INSERT (`insert`), and what a SELECT answers of the rows that it
-//! found (`answer`, `as_answer`).
+//! Owns: `Run`, a statement of a transaction that runs in steps (`Run::start`, `Run::step`), `Step`,
+//! what a step came to, and the steps of each kind of statement: the tests before a row is read
+//! (`look_and_test`), the reading (`read`), the writes that are made of the rows found (`make_writes`)
+//! and written one a step (`start_to_write`, `change`), what a SELECT answers (`answer`), savepoints
+//! (`save`, `go_back`).
 //!
-//! A statement looks, finds its rows, sets its mark and writes, each an event of the history. The
-//! definitions stand in `specs/`: `Phases` (where a statement stands, and what the next call asks),
-//! `Starting` (what is tested before a row is read), `Selecting`, `Visiting`, `Inserting`, `Changing`,
-//! `Points` (the steps of each kind of statement, with the events that they give and what a refusal
-//! leaves), `Running` (a step of any of them). What is computed of rows is said in `mg_rows`.
+//! A statement looks, finds its rows, sets its mark and writes, each an event of the history. What a
+//! statement gives of events, and what it comes to, is said in `specs/Statements`: `IsAt` where it
+//! stands that has given these entries, `Gives` what a step adds, `ComesTo` its ends. The other
+//! definitions say the steps of each kind: `Starting`, `Reading`, `Selecting`, `Making`, `Changing`,
+//! `Points`, and `Running` for a step of any; `Phases` has what the next call asks. What is computed of
+//! rows is said in `mg_rows`.
 //!
+//! Invariant: a statement that goes on is ready for its next step (`IsReady`), and calls for other
+//! transactions between two steps leave it so, and where it stands.
 //! Below: `mg_calls`, whose writes undo a refused statement, `mg_plan` and `mg_rows`. Above: sessions
 //! and scripts.
-//! Not here: the bodies that read, the beginning and the end of
-//! transactions, CREATE TABLE, UPDATE and DELETE.
+//! Not here: the beginning and the end of transactions, and CREATE TABLE.
 #![tactic(auto)]
 
 mod changing;
-mod inserting;
+mod ending;
+mod laws;
+mod making;
 mod parts;
 mod phase;
 mod points;
+mod reading;
+mod run;
 mod selecting;
 mod starting;
 
-pub use changing::{change, turned};
-pub use inserting::insert;
-pub use parts::{filter_of, is_insert, values_in};
+pub use changing::{change, start_to_write};
+pub use laws::statements_go_on_beside_others;
+pub use making::make_writes;
+pub use parts::{filter_of, is_insert, is_select, is_writing};
 pub use phase::{Changing, Inserting, Phase, Reading, Step, Turn};
 pub use points::{go_back, save};
+pub use reading::read;
+pub use run::Run;
 pub use selecting::{answer, as_answer};
 pub use starting::look_and_test;

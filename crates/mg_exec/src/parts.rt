@@ -2,7 +2,7 @@
 
 ghost use Rattle.std.specs.Prelude.{◌≡◌, None};
 ghost use Rattle.mg_sql.specs.Plain.{plain_of};
-ghost use Rattle.mg_exec.specs.Phases.{filter_in, values_in as values_of, is_insert as is_insert_test};
+ghost use Rattle.mg_exec.specs.Phases.{filter_in, is_insert as is_insert_test, is_select as is_select_test, is_writing as is_writing_test};
 
 use mg_expr::Expr;
 use mg_sql::Statement;
@@ -21,19 +21,26 @@ pub fn filter_of<'a>(s: &'a Statement, none: &'a Option<Expr>) -> &'a Option<Exp
     }
 }
 
-/// The values of an INSERT.
-pub fn values_in(s: &Statement) -> &[Expr]
-    ensures { result.now ≡ values_of s.now }
-{
-    match s {
-        Statement::Insert { values, .. } => values.as_slice(),
-        _ => &[],
-    }
-}
-
 /// Tells whether a statement is an INSERT.
 pub fn is_insert(s: &Statement) -> bool
     ensures { result ≡ is_insert_test (plain_of s.now) }
 {
     matches!(s, Statement::Insert { .. })
+}
+
+/// Tells whether a statement is a SELECT, of expressions or of totals.
+pub fn is_select(s: &Statement) -> bool
+    ensures { result ≡ is_select_test (plain_of s.now) }
+{
+    matches!(s, Statement::Totals { .. } | Statement::Select { .. })
+}
+
+/// Tells whether a statement writes rows of its table.
+pub fn is_writing(s: &Statement) -> bool
+    ensures { result ≡ is_writing_test (plain_of s.now) }
+{
+    matches!(
+        s,
+        Statement::Insert { .. } | Statement::Update { .. } | Statement::Delete { .. }
+    )
 }

@@ -4,7 +4,7 @@ use mg_calls::{Walk, Writes};
 use mg_model::Table;
 use mg_plan::Bound;
 use mg_rows::{Outcome, StatementFault};
-use mg_value::{Name, Row};
+use mg_value::{Key, Name, Row};
 
 /// What a step of a statement came to.
 #[derive(Debug, Drop)]
@@ -22,13 +22,14 @@ pub struct Inserting {
     pub bound: Bound,
 }
 
-/// A SELECT that reads.
+/// A SELECT, an UPDATE or a DELETE that reads.
 #[derive(Drop)]
 pub struct Reading<P> {
     pub walk: Walk<P>,
     pub bound: Bound,
-    /// The rows that passed the filter so far, in the order in which they were visited.
-    pub kept: Vec<Row>,
+    /// The rows that passed the filter so far, with their keys, in the order in which they were
+    /// visited.
+    pub kept: Vec<(Key, Row)>,
 }
 
 /// A statement that has set its mark.

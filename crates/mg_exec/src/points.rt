@@ -17,8 +17,7 @@ use mg_value::Name;
 pub fn save<R: Records>(r: &mut R, t: TxNo, name: &Name) -> Result<Step, StatementFault>
     ensures saves { (o : Opening) (h : Entries) → R.meaning.stands r.old o h
         → Saves R.meaning r.new o h t name.now result }
-    ensures frames { (o : Opening) (h : Entries) → R.meaning.stands r.old o h
-        → Frames R.meaning r.old r.new t.0 (refusal_of result) }
+    ensures frames { Frames R.meaning r.old r.new t.0 (refusal_of result) }
 {
     match r.savepoint(t, name) {
         Ok(()) => Ok(Step::Done(Outcome::Fine)),
@@ -30,8 +29,7 @@ pub fn save<R: Records>(r: &mut R, t: TxNo, name: &Name) -> Result<Step, Stateme
 pub fn go_back<R: Records>(r: &mut R, t: TxNo, name: &Name) -> Result<Step, StatementFault>
     ensures returns { (o : Opening) (h : Entries) → R.meaning.stands r.old o h
         → Returns R.meaning r.new o h t name.now result }
-    ensures frames { (o : Opening) (h : Entries) → R.meaning.stands r.old o h
-        → Frames R.meaning r.old r.new t.0 (refusal_of result) }
+    ensures frames { Frames R.meaning r.old r.new t.0 (refusal_of result) }
 {
     match r.back_to(t, name) {
         Ok(true) => Ok(Step::Done(Outcome::Fine)),

@@ -10,7 +10,7 @@ ghost use Rattle.mg_calls.specs.Frames.{Frames};
 ghost use Rattle.mg_exec.specs.Phases.{IsReady, StandsAt};
 ghost use Rattle.mg_exec.specs.Starting.{HasRows, IsBegun, Looks, Tests, may_not_write, refusal_at};
 
-use crate::parts::is_insert;
+use crate::parts::{is_insert, is_writing};
 use crate::phase::{Inserting, Phase, Reading};
 use mg_base::TxNo;
 use mg_calls::start_walk;
@@ -26,7 +26,7 @@ use std::alloc::Global;
 fn is_barred(read_only: bool, s: &Statement) -> bool
     ensures { result ≡ may_not_write read_only (plain_of s.now) }
 {
-    read_only && is_insert(s)
+    read_only && is_writing(s)
 }
 
 /// Where a bound statement begins.
@@ -89,8 +89,7 @@ pub fn look_and_test<R: Records>(
     ensures looks { (o : Opening) (h : Entries) → R.meaning.stands r.old o h
         → Looks R.meaning r.new o h t read_only (plain_of s.now) name.now size result }
     ensures ready { IfOk result (λ phase. IsReady R.meaning r.new t.0 phase) }
-    ensures frames { (o : Opening) (h : Entries) → R.meaning.stands r.old o h
-        → Frames R.meaning r.old r.new t.0 (refusal_at result) }
+    ensures frames { Frames R.meaning r.old r.new t.0 (refusal_at result) }
 {
     match r.look(t) {
         Ok(()) => test(r, alloc, t, read_only, s, name, size),

@@ -9,26 +9,33 @@ use Rattle.mg_expr.specs.Typing.{sort_of}
 use Rattle.mg_plan.specs.Types.{fit_places}
 use Rattle.mg_value.specs.declared.shape.Column.{Column}
 use Rattle.mg_value.specs.Rows.{RowFits}
-use Rattle.mg_model.specs.Changes.{Cells}
+use Rattle.mg_model.specs.Changes.{Cells, KeyedRows}
+use Rattle.mg_model.specs.RowLaws.{IsAscending}
 use Rattle.mg_model.specs.Answers.{passes}
-use Rattle.mg_rows.specs.Found.{found}
-use Rattle.mg_rows.specs.Orders.{value_at, key_cmp, AreSorted, Ascend}
+use Rattle.mg_rows.specs.Found.{found, found_keyed, without_keys}
+use Rattle.mg_rows.specs.Orders.{value_at, keyed_cmp, AreSorted}
 use Rattle.mg_rows.specs.NewRows.{new_row, inserted, updated}
 use Rattle.mg_rows.specs.NewRowLaws.{EachFrom}
 
 -- rows that are visited in any order, kept and sorted by their keys are found in key order
 abbrev pub FoundInAnyOrder : Type 0
 FoundInAnyOrder =
-    (f : Option Tree) (key : ℕ) (visited ordered kept sorted : List Cells)
-    → IsPermutation visited ordered → Ascend (key_cmp key) ordered
-    → found f visited ≡ Some kept → AreSorted (key_cmp key) kept sorted
-    → found f ordered ≡ Some sorted
+    (f : Option Tree) (visited ordered kept sorted : KeyedRows)
+    → IsPermutation visited ordered → IsAscending ordered
+    → found_keyed f visited ≡ Some kept → AreSorted keyed_cmp kept sorted
+    → found_keyed f ordered ≡ Some sorted
 
 -- a fault at one of the rows is one in each order
 abbrev pub FaultsInAnyOrder : Type 0
 FaultsInAnyOrder =
-    (f : Option Tree) (visited ordered : List Cells) → IsPermutation visited ordered
-    → found f visited ≡ None → found f ordered ≡ None
+    (f : Option Tree) (visited ordered : KeyedRows) → IsPermutation visited ordered
+    → found_keyed f visited ≡ None → found_keyed f ordered ≡ None
+
+-- the rows that are found are the same without their keys
+abbrev pub FoundWithoutKeys : Type 0
+FoundWithoutKeys =
+    (f : Option Tree) (rows : KeyedRows)
+    → found f (map (λ r. r.1) rows) ≡ without_keys (found_keyed f rows)
 
 -- what is found is what the machine answers to a search with this filter
 abbrev pub FoundAsAnswered : Type 0

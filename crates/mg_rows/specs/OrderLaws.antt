@@ -8,10 +8,13 @@ use Rattle.std.proofs.lemmas.Cmp.{then_total, on_total}
 use Rattle.mg_value.specs.Values.{value_cmp}
 use Rattle.mg_value.specs.OrderLaws.{value_cmp_total}
 use Rattle.mg_rows.specs.declared.ordering.OrderBy.{OrderBy}
-use Rattle.mg_rows.specs.Orders.{value_at, key_cmp, directed, column_cmp}
+use Rattle.mg_rows.specs.Orders.{value_at, key_cmp, keyed_cmp, directed, column_cmp}
 
 pub key_cmp_total : (key : ℕ) → IsTotalOrder (key_cmp key)
 key_cmp_total key = on_total (value_at key) value_cmp_total
+
+pub keyed_cmp_total : IsTotalOrder keyed_cmp
+keyed_cmp_total = on_total (λ r. r.0) value_cmp_total
 
 equal_turned : (order : Ordering) → ordering_reverse order ≡ Equal → order ≡ Equal
 equal_turned Less is = absurd cc

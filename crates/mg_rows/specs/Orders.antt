@@ -18,6 +18,10 @@ value_at place row = slice_index_or row place Null
 abbrev pub key_cmp : ℕ → Cells → Cells → Ordering
 key_cmp key a b = value_cmp (value_at key a) (value_at key b)
 
+-- rows by the keys under which they stand
+abbrev pub keyed_cmp : Value × Cells → Value × Cells → Ordering
+keyed_cmp a b = value_cmp a.0 b.0
+
 -- an order, the other way round where it descends
 abbrev pub directed : Bool → Ordering → Ordering
 directed false order = order
@@ -31,7 +35,7 @@ column_cmp by key a b =
     (key_cmp key a b)
 
 -- the same rows in an order: none comes before a lesser one
-pub record AreSorted (cmp : Cells → Cells → Ordering) (rows sorted : List Cells) : Type 0 where
+pub record AreSorted {A : Type 0} (cmp : A → A → Ordering) (rows sorted : List A) : Type 0 where
   pub same : IsPermutation rows sorted
   pub ascend : IsSorted cmp sorted
 

@@ -20,17 +20,17 @@ use Rattle.mg_rows.specs.Orders.{ComesBefore, Ascend}
 
 -- ---- the same rows, whatever their order
 
--- two lists have the same rows, each as often: every sum over them is the same
-abbrev pub HaveSame : List Cells → List Cells → Type 0
-HaveSame xs ys = (f : Cells → ℕ) → sum_by f xs ≡ sum_by f ys
+-- two lists have the same elements, each as often: every sum over them is the same
+abbrev pub HaveSame : {A : Type 0} → List A → List A → Type 0
+HaveSame {A = A} xs ys = (f : A → ℕ) → sum_by f xs ≡ sum_by f ys
 
-pub same_from_moved : (xs ys : List Cells) → IsPermutation xs ys → HaveSame xs ys
+pub same_from_moved : {A : Type 0} (xs ys : List A) → IsPermutation xs ys → HaveSame xs ys
 same_from_moved xs ys moved f = sym (sum_by-IsPermutation f xs ys moved)
 
 abbrev if_passed : Bool → ℕ → ℕ
 if_passed passed n = cond passed n 0
 
-filtered_cons : (p : Cells → Bool) (f : Cells → ℕ) (x : Cells) (xs : List Cells) (passed : Bool)
+filtered_cons : {A : Type 0} (p : A → Bool) (f : A → ℕ) (x : A) (xs : List A) (passed : Bool)
     → sum_by f (filter p xs) ≡ sum_by (λ y. if_passed (p y) (f y)) xs
     → sum_by f (cond passed (x ∷ filter p xs) (filter p xs))
     ≡ if_passed passed (f x) + sum_by (λ y. if_passed (p y) (f y)) xs
@@ -38,15 +38,15 @@ filtered_cons p f x xs true same =
     sum_by-cons f x (filter p xs) ∙ ap (λ (n : ℕ). f x + n) same
 filtered_cons p f x xs false same = same ∙ omega arith
 
-sum_filtered : (p : Cells → Bool) (f : Cells → ℕ) (xs : List Cells)
+sum_filtered : {A : Type 0} (p : A → Bool) (f : A → ℕ) (xs : List A)
     → sum_by f (filter p xs) ≡ sum_by (λ y. if_passed (p y) (f y)) xs
 sum_filtered p f [] = refl
 sum_filtered p f (x ∷ xs) =
     filtered_cons p f x xs (p x) (sum_filtered p f xs)
     ∙ sym (sum_by-cons (λ y. if_passed (p y) (f y)) x xs)
 
--- of the same rows the same ones pass a test
-pub same_filtered : (p : Cells → Bool) (xs ys : List Cells) → HaveSame xs ys
+-- of the same elements the same ones pass a test
+pub same_filtered : {A : Type 0} (p : A → Bool) (xs ys : List A) → HaveSame xs ys
     → HaveSame (filter p xs) (filter p ys)
 same_filtered p xs ys same f =
     sum_filtered p f xs ∙ same (λ y. if_passed (p y) (f y)) ∙ sym (sum_filtered p f ys)

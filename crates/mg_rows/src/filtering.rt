@@ -9,7 +9,7 @@ ghost use Rattle.mg_rows.specs.Found.{passes_filter, Keeps};
 
 use crate::filling::push;
 use mg_expr::{EvalFault, Expr, test};
-use mg_value::{Row, Truth};
+use mg_value::{Key, Row, Truth};
 use std::alloc::Global;
 
 /// Tells whether a condition is TRUE at a row.
@@ -57,7 +57,7 @@ fn passes(alloc: Global, filter: &Option<Expr>, row: &Row) -> Result<bool, EvalF
     }
 }
 
-/// Keeps a row behind those that were kept, where it passes a filter.
+/// Keeps a row, with its key, behind those that were kept, where it passes a filter.
 ///
 /// # Errors
 ///
@@ -65,13 +65,14 @@ fn passes(alloc: Global, filter: &Option<Expr>, row: &Row) -> Result<bool, EvalF
 pub fn keep(
     alloc: Global,
     filter: &Option<Expr>,
+    key: Key,
     row: Row,
-    kept: &mut Vec<Row>,
+    kept: &mut Vec<(Key, Row)>,
 ) -> Result<(), EvalFault>
-    ensures { Keeps (passes_filter (tree_in filter.now) row) row kept.old.items kept.new.items result }
+    ensures { Keeps (passes_filter (tree_in filter.now) row) (key, row) kept.old.items kept.new.items result }
 {
     if passes(alloc, filter, &row)? {
-        push(kept, row)?;
+        push(kept, (key, row))?;
     }
     Ok(())
 }

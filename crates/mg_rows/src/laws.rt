@@ -1,6 +1,6 @@
 //! Laws of what statements compute of rows.
 
-ghost use Rattle.mg_rows.specs.Laws.{FoundInAnyOrder, FaultsInAnyOrder, FoundAsAnswered, InsertedFits, UpdatedFits, KeyStays, UpdatedEach};
+ghost use Rattle.mg_rows.specs.Laws.{FoundInAnyOrder, FaultsInAnyOrder, FoundWithoutKeys, FoundAsAnswered, InsertedFits, UpdatedFits, KeyStays, UpdatedEach};
 ghost use Rattle.mg_rows.specs.BoundLaws.{BoundInsert, BoundUpdate};
 
 /// Rows that are visited in any order, of which those that pass a filter are kept and then sorted by
@@ -9,6 +9,7 @@ ghost use Rattle.mg_rows.specs.BoundLaws.{BoundInsert, BoundUpdate};
 pub fn order_of_visits_is_nothing()
     ensures any { FoundInAnyOrder }
     ensures fault { FaultsInAnyOrder }
+    ensures bare { FoundWithoutKeys }
     ensures answered { FoundAsAnswered }
 {}
 

@@ -2,9 +2,9 @@
 
 ghost use Rattle.std.specs.Prelude.{◌≡◌};
 ghost use Rattle.mg_value.specs.Values.{value_cmp};
-ghost use Rattle.mg_rows.specs.Orders.{value_at as value_at_place, key_cmp, directed as directed_order, column_cmp, AreSorted};
+ghost use Rattle.mg_rows.specs.Orders.{value_at as value_at_place, keyed_cmp, directed as directed_order, column_cmp, AreSorted};
 
-use mg_value::{Row, Value, order};
+use mg_value::{Key, Row, Value, order};
 use std::cmp::Ordering;
 
 /// The order of a SELECT's rows.
@@ -39,11 +39,18 @@ fn order_by(a: &Row, b: &Row, by: OrderBy, key: u16) -> Ordering
     directed(by.descending, order_at(a, b, by.place)).then(order_at(a, b, key))
 }
 
-/// Sorts rows by their primary keys, whose column is at a place. It takes no memory.
-pub fn sort_by_key(rows: &mut Vec<Row>, key: u16)
-    ensures { AreSorted (key_cmp key) rows.old.items rows.new.items }
+/// The order of the keys of two rows.
+fn order_of_keys(a: &(Key, Row), b: &(Key, Row)) -> Ordering
+    ensures { result ≡ keyed_cmp a.now b.now }
 {
-    rows.sort_unstable_by(|a, b| order_at(a, b, key));
+    order(a.0.value(), b.0.value())
+}
+
+/// Sorts rows by their keys. It takes no memory.
+pub fn sort_by_key(rows: &mut Vec<(Key, Row)>)
+    ensures { AreSorted keyed_cmp rows.old.items rows.new.items }
+{
+    rows.sort_unstable_by(|a, b| order_of_keys(a, b));
 }
 
 /// Sorts rows by a column, NULL least, and where they tie there by their primary keys, whose column

@@ -3,11 +3,11 @@ ghost use Rattle.mg_value.specs.declared.shape.TheConstants.{MOST_COLUMNS};
 
 use super::*;
 use mg_base::{Memory, PageNo};
-use mg_expr::Expr;
+use mg_expr::{EvalFault, Expr};
 use mg_model::{Indexes, Refusal, Rows, Table};
 use mg_plan::{Bound, bind};
 use mg_sql::{Assign, Sorted, Statement, parse};
-use mg_value::{Column, Columns, Kind, Name, Row, Shape, Value, print};
+use mg_value::{Column, Columns, Key, Kind, Name, Row, Shape, Value, print};
 use std::alloc::Global;
 use std::process::Abort;
 use std::test::Fail;
@@ -88,14 +88,29 @@ fn bound(rt: &impl Abort, alloc: Global, table: &Table, text: &[u8]) -> Bound
     }
 }
 
-/// The rows that pass, of those that are visited in this order, by their keys.
+/// The rows that pass, of those that are visited in this order, by their keys, which are in their
+/// first column.
 fn find(alloc: Global, filter: &Option<Expr>, visited: &[Row]) -> Result<Vec<Row>, StatementFault> {
     let mut kept = Vec::new(alloc);
     for row in visited {
-        keep(alloc, filter, row.copy(alloc)?, &mut kept)?;
+        keep(alloc, filter, key(alloc, row)?, row.copy(alloc)?, &mut kept)?;
     }
-    sort_by_key(&mut kept, 0);
-    Ok(kept)
+    sort_by_key(&mut kept);
+    let mut rows = Vec::new(alloc);
+    for (_, row) in kept {
+        if rows.push(row).is_err() {
+            return Err(StatementFault::Engine(Refusal::Memory));
+        }
+    }
+    Ok(rows)
+}
+
+/// The value in the first column of a row as a key.
+fn key(alloc: Global, row: &Row) -> Result<Key, Memory> {
+    let Some(value) = row.as_slice().first() else {
+        return Err(Memory);
+    };
+    Key::new(value.copy(alloc)?).ok_or(Memory)
 }
 
 fn order(places: &[u16], sorted: &Option<Sorted>) -> Option<OrderBy> {
@@ -334,19 +349,30 @@ fn faults_print_as_they_are_told(rt: HostRuntime) -> Result<(), Fail> {
     Ok(())
 }
 
+/// Keeps a row with the key in its first column.
+fn keep_one(
+    alloc: Global,
+    filter: &Option<Expr>,
+    row: Row,
+    kept: &mut Vec<(Key, Row)>,
+) -> Result<(), EvalFault> {
+    keep(alloc, filter, key(alloc, &row)?, row, kept)
+}
+
 #[test]
 fn a_row_that_is_not_kept_leaves_what_was(rt: HostRuntime) -> Result<(), Fail> {
     let alloc = rt.alloc();
     let table = kv(&rt, alloc)?;
     let bound = bound(&rt, alloc, &table, b"DELETE FROM KV WHERE 1 / V = 1");
-    let mut kept = rows(alloc, &[(7, Some(1))])?;
+    let seven = row(alloc, 7, Some(1))?;
+    let mut kept = vec![in alloc; (key(alloc, &seven)?, seven)]?;
     match &bound.statement {
         Statement::Delete { filter, .. } => {
-            assert!(&rt; keep(alloc, filter, row(alloc, 1, Some(0))?, &mut kept).is_err());
+            assert!(&rt; keep_one(alloc, filter, row(alloc, 1, Some(0))?, &mut kept).is_err());
             assert_eq!(&rt; kept.len(), 1);
-            assert!(&rt; keep(alloc, filter, row(alloc, 2, None)?, &mut kept).is_ok());
+            assert!(&rt; keep_one(alloc, filter, row(alloc, 2, None)?, &mut kept).is_ok());
             assert_eq!(&rt; kept.len(), 1);
-            assert!(&rt; keep(alloc, filter, row(alloc, 3, Some(1))?, &mut kept).is_ok());
+            assert!(&rt; keep_one(alloc, filter, row(alloc, 3, Some(1))?, &mut kept).is_ok());
             assert_eq!(&rt; kept.len(), 2);
         }
         _ => panic!(&rt; "no DELETE"),

@@ -1,0 +1,58 @@
+use Rattle.std.proofs.Common.{Some, Ok, refl, ap, subst, ◌∙◌}
+use Rattle.mg_calls.specs.declared.walking.Visit.{Visit}
+use Rattle.mg_calls.specs.declared.walking.Visit.TheVariants as visits
+use Rattle.mg_calls.specs.Walks.{GoesOn}
+use Rattle.mg_calls.specs.FrameLaws.{frames_reads}
+use Rattle.mg_value.specs.declared.value.Value.{Value}
+use Rattle.mg_model.specs.Changes.{Cells}
+use Rattle.mg_exec.specs.Reading.{KeepsRow, comes_on}
+use Rattle.mg_exec.proofs.ReadLemmas.{a_row, no_row, at_end, is_refused, refused_leaves}
+use Rattle.mg_exec.proofs.reading.read.Goals as goal
+
+pub returns-in-Ok-Record-Some-clause-reads : goal.returns-in-Ok-Record-Some-clause-reads
+returns-in-Ok-Record-Some-clause-reads g c = λ o h stands read.
+    a_row g.R.Records.meaning c.args.r.now c.visit_next.new.r o h c.args.t c.args.reading
+    c.visit_next.new.walk c.in-Ok-Record-Some.keyed c.keep_row.result c.visit_next.ensures.table
+    (c.visit_next.ensures.reads.stays o h stands) read
+    (subst (λ (visit : Visit). GoesOn g.R.Records.meaning c.visit_next.new.r o h c.args.t.0
+    c.visit_next.new.walk read.visited (Ok visit))
+    (c.in-Ok-Record-Some.field-0-is ∙ ap visits.Record c.in-Ok-Record-Some.field-0-0-is)
+    (c.in-Ok-Record-Some.ensures.comes o h read.visited stands read.come))
+    (subst (λ (r : Value × Cells). KeepsRow (record { walk = c.visit_next.new.walk;
+    bound = c.args.reading.bound; kept = c.args.reading.kept }) r c.keep_row.result.phase c.keep_row.result.answer)
+    c.in-Ok-Record-Some.keyed-is c.keep_row.ensures)
+
+pub returns-in-Ok-Record-None-clause-reads : goal.returns-in-Ok-Record-None-clause-reads
+returns-in-Ok-Record-None-clause-reads g c = λ o h stands read.
+    comes_on _ refl refl c.visit_next.ensures.table (c.visit_next.ensures.reads.stays o h stands)
+    (no_row g.R.Records.meaning c.args.r.now c.visit_next.new.r o h c.args.t.0 c.args.reading
+    c.visit_next.new.walk read
+    (subst (λ (visit : Visit). GoesOn g.R.Records.meaning c.visit_next.new.r o h c.args.t.0
+    c.visit_next.new.walk read.visited (Ok visit))
+    (c.in-Ok-Record-None.field-0-is ∙ ap visits.Record c.in-Ok-Record-None.field-0-0-is)
+    (c.in-Ok-Record-None.ensures.comes o h read.visited stands read.come)))
+
+pub returns-in-Ok-End-clause-reads : goal.returns-in-Ok-End-clause-reads
+returns-in-Ok-End-clause-reads g c = λ o h stands read.
+    let goes = subst (λ (visit : Visit). GoesOn g.R.Records.meaning c.visit_next.new.r o h c.args.t.0
+    c.visit_next.new.walk read.visited (Ok visit)) c.in-Ok-End.field-0-is
+    (c.in-Ok-End.ensures.comes o h read.visited stands read.come) in
+    at_end g.R.Records.meaning c.args.r.now c.visit_next.new.r c.finish.new.r o h c.args.t
+    c.args.reading c.visit_next.new.walk c.finish.result c.visit_next.ensures.table read goes
+    (g.met.R.Records.seen c.args.r.now o h c.args.t.0 c.args.reading.walk.table.name
+    c.args.reading.walk.table stands goes.0 c.requires.ready.way.table).1
+    (c.finish.ensures.ends o h (c.visit_next.ensures.reads.stays o h stands))
+
+pub returns-in-Err-clause-reads : goal.returns-in-Err-clause-reads
+returns-in-Err-clause-reads g c = λ o h stands read.
+    is_refused g.R.Records.meaning c.visit_next.new.r o h c.args.t c.args.reading.walk.table
+    c.args.reading.bound c.in-Err.refusal c.stop.result
+    (c.in-Err.ensures.comes o h read.visited stands read.come)
+    (c.visit_next.ensures.reads.stays o h stands) c.stop.ensures
+
+pub returns-in-Err-clause-leaves : goal.returns-in-Err-clause-leaves
+returns-in-Err-clause-leaves g c =
+    refused_leaves g.R.Records.meaning c.args.r.now c.visit_next.new.r c.args.t.0 c.in-Err.refusal
+    c.stop.result
+    (frames_reads g.R.Records.meaning c.args.r.now c.visit_next.new.r c.args.t.0 (Some c.in-Err.refusal)
+    c.in-Err.ensures.reads) c.stop.ensures

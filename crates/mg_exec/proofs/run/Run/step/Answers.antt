@@ -1,0 +1,14 @@
+use Rattle.std.proofs.Common.{sym, subst}
+use Rattle.mg_base.specs.declared.numbers.TxNo.{TxNo}
+use Rattle.mg_exec.specs.declared.phase.Phase.{Phase}
+use Rattle.mg_exec.specs.Running.{Goes}
+use Rattle.mg_exec.proofs.GiveLemmas.{step_gives}
+use Rattle.mg_exec.proofs.run.Run.step.Goals as goal
+
+pub returns-clause-gives : goal.returns-clause-gives
+returns-clause-gives g c = λ o looked h given a stands same at.
+    step_gives g.R.Records.meaning c.args.r.now c.go-phase.new.r o looked h a given
+    c.args.self.now.phase c.go-phase.result at
+    (subst (λ (x : TxNo × Phase g.row.R-Place.Denot). Goes g.R.Records.meaning c.args.r.now
+    c.go-phase.new.r o h x.0 x.1 c.go-phase.result)
+    (λ k. (sym same k, c.replace-phase.ensures.value k)) (c.go-phase.ensures.goes o h stands))

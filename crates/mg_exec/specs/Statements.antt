@@ -1,0 +1,244 @@
+-- What a statement gives of events, and what it comes to.
+use Rattle.std.specs.Prelude.{◌≡◌, ℕ, ◌&&◌, Bool, true, false, List, [], ◌∷◌, ◌++◌, length, Option, Some, None, Result, Ok, Err, cond}
+use Rattle.mg_base.specs.declared.numbers.TxNo.{TxNo}
+use Rattle.mg_expr.specs.declared.fault.EvalFault.{EvalFault}
+use Rattle.mg_sql.specs.Plain.{Plain, plain_of, RollbackTo, Savepoint, Insert, Update, Delete, Totals, Select}
+use Rattle.mg_plan.specs.declared.bound.Bound.{Bound}
+use Rattle.mg_plan.specs.Refusing.{first_refusal, IsBoundAs}
+use Rattle.mg_model.specs.declared.answer.Answer.TheVariants.{Fine, No, Rows}
+use Rattle.mg_model.specs.declared.change.Point.TheVariants.{SavepointNamed}
+use Rattle.mg_model.specs.declared.event.Event.{Event}
+use Rattle.mg_model.specs.declared.event.Event.TheVariants as events
+use Rattle.mg_model.specs.declared.opening.Opening.{Opening}
+use Rattle.mg_model.specs.declared.refusal.Refusal.{Refusal}
+use Rattle.mg_model.specs.declared.refusal.Refusal.TheVariants.{Waits}
+use Rattle.mg_model.specs.declared.table.Table.{Table}
+use Rattle.mg_model.specs.Answers.{is_active}
+use Rattle.mg_model.specs.Changes.{Cells}
+use Rattle.mg_model.specs.Effects.{is_its}
+use Rattle.mg_model.specs.History.{Entries, Entry, entry}
+use Rattle.mg_model.specs.Legal.{IsLawful}
+use Rattle.mg_model.specs.Machine.{state_of, steps, has_point, is_of}
+use Rattle.mg_records.specs.declared.write.Write.{Write}
+use Rattle.mg_records.specs.Adding.{IsRefused}
+use Rattle.mg_records.specs.Meaning.{Means}
+use Rattle.mg_records.specs.Reading.{shape_seen}
+use Rattle.mg_records.specs.TakingBack.{is_given_up}
+use Rattle.mg_records.specs.Writing.{event_of}
+use Rattle.mg_rows.specs.declared.fault.NewRowFault.{NewRowFault}
+use Rattle.mg_rows.specs.declared.outcome.Outcome.TheVariants as outcomes
+use Rattle.mg_rows.specs.declared.statement_fault.StatementFault.{StatementFault}
+use Rattle.mg_rows.specs.declared.statement_fault.StatementFault.TheVariants.{Engine, Arithmetic, NoSavepoint, NothingHeld}
+use Rattle.mg_rows.specs.Faults.{of_new_row}
+use Rattle.mg_exec.specs.declared.phase.Phase.{Phase}
+use Rattle.mg_exec.specs.declared.phase.Phase.TheVariants as phases
+use Rattle.mg_exec.specs.declared.phase.Step.{Step}
+use Rattle.mg_exec.specs.declared.phase.Step.TheVariants.{More, Done}
+use Rattle.mg_exec.specs.declared.phase.Turn.{Turn}
+use Rattle.mg_exec.specs.Making.{MakesNone, writes_made}
+use Rattle.mg_calls.specs.Frames.{Frames}
+use Rattle.mg_exec.specs.Phases.{HasRead, IsReady, is_insert}
+use Rattle.mg_exec.specs.Reading.{find_of, rows_found}
+use Rattle.mg_exec.specs.Selecting.{Answers, answer_told}
+use Rattle.mg_exec.specs.Starting.{may_not_write}
+
+-- A statement that a transaction is to run: whether it may not write, and the page size.
+pub record Asked : Type 0 where
+  pub t : TxNo
+  pub read_only : Bool
+  pub statement : Plain
+  pub size : ℕ
+
+-- the table that it names
+abbrev pub table_named : Plain → List ℕ
+table_named (Insert table columns values) = table
+table_named (Update table sets filter) = table
+table_named (Delete table filter) = table
+table_named (Totals table totals filter) = table
+table_named (Select table values filter sorted) = table
+table_named s = []
+
+-- It may write, if it does, and is bound to the table that its transaction saw when it had looked.
+pub record IsBoundTo (o : Opening) (looked : Entries) (a : Asked) (table : Table) (bound : Bound)
+    : Type 0 where
+  pub may : may_not_write a.read_only a.statement ≡ false
+  pub named : table.name ≡ table_named a.statement
+  pub seen : shape_seen o looked a.t.0 table.name ≡ Some table.shape
+  pub passes : first_refusal table.shape.columns table.shape.key a.size a.statement ≡ None
+  pub binds : IsBoundAs table.shape.columns a.statement bound
+
+-- ---- its entries, the newest first
+
+-- its `Look`; and the `Find` behind it, where it finds rows
+abbrev pub its_look : Asked → Entries
+its_look a = entry (events.Look a.t) Fine ∷ []
+
+abbrev pub its_find : Asked → Table → Bound → List Cells → Entries
+its_find a table bound rows = entry (find_of a.t table bound) (Rows rows) ∷ its_look a
+
+-- those before its mark: an INSERT finds no rows
+abbrev pub before_mark : Asked → Table → Bound → List Cells → Entries
+before_mark a table bound rows = cond (is_insert a.statement) (its_look a) (its_find a table bound rows)
+
+-- It has set its mark, and of the writes that it makes these are left. A write that waited is tried
+-- again.
+pub data HasWritten (t : TxNo) (table : List ℕ) (before : Entries) (made : List Write)
+    : List Write → Entries → Type 0 where
+  marked : HasWritten t table before made made (entry (events.Mark t) Fine ∷ before)
+  wrote : (first : Write) (left : List Write) (given : Entries)
+      → HasWritten t table before made (first ∷ left) given
+      → HasWritten t table before made left (entry (event_of t table first) Fine ∷ given)
+  waited : (first : Write) (left : List Write) (given : Entries) (on : TxNo)
+      → HasWritten t table before made (first ∷ left) given
+      → HasWritten t table before made (first ∷ left) (entry (event_of t table first) (No (Waits on)) ∷ given)
+
+-- A statement that has all its rows makes its writes of them, one after another: these are left, of so
+-- many.
+pub record IsWriting (a : Asked) (table : Table) (bound : Bound) (left : List Write) (count : ℕ)
+    (given : Entries) : Type 0 where
+  pub rows : List Cells
+  pub made : List Write
+  pub makes : writes_made table bound rows ≡ Ok made
+  pub counts : count ≡ length made
+  pub written : HasWritten a.t table.name (before_mark a table bound rows) made left given
+
+-- an event was to take the transaction back and was refused; the transaction is rolled back then, if the
+-- refusal is one of those that give it up
+abbrev pub entries_given_up : Bool → TxNo → Event → Refusal → Entries
+entries_given_up gives_up t event refusal =
+    cond gives_up (entry (events.Rollback t) Fine ∷ entry event (No refusal) ∷ [])
+    (entry event (No refusal) ∷ [])
+
+abbrev pub does_give_up : Opening → Entries → TxNo → Refusal → Bool
+does_give_up o h t refusal = is_given_up refusal && is_active (state_of o h t.0)
+
+-- A statement whose write was refused is undone by these entries, and this is answered.
+pub data IsUndoneBy (o : Opening) (h : Entries) (t : TxNo) (first : Refusal) (answer : Refusal)
+    (undoing : Entries) : Type 0 where
+  taken_back_so : answer ≡ first → undoing ≡ entry (events.UndoMark t) Fine ∷ []
+      → IsUndoneBy o h t first answer undoing
+  given_up_so : undoing ≡ entries_given_up (does_give_up o h t answer) t (events.UndoMark t) answer
+      → IsUndoneBy o h t first answer undoing
+
+-- ---- what it comes to
+
+-- A statement has given these entries and comes to this answer. The history was `looked` when it had
+-- looked, and is h now.
+pub data ComesTo (o : Opening) (looked h : Entries) (a : Asked) (given : Entries)
+    (answer : Result Step StatementFault) : Type 0 where
+  -- SAVEPOINT
+  saved : (name : List ℕ) → a.statement ≡ Savepoint name
+      → given ≡ entry (events.Savepoint a.t name) Fine ∷ [] → answer ≡ Ok (Done outcomes.Fine)
+      → ComesTo o looked h a given answer
+  not_saved : (name : List ℕ) (refusal : Refusal) → a.statement ≡ Savepoint name
+      → given ≡ entry (events.Savepoint a.t name) (No refusal) ∷ [] → answer ≡ Err (Engine refusal)
+      → ComesTo o looked h a given answer
+  -- ROLLBACK TO
+  returned : (name : List ℕ) → a.statement ≡ RollbackTo name
+      → given ≡ entry (events.BackTo a.t name) Fine ∷ [] → answer ≡ Ok (Done outcomes.Fine)
+      → ComesTo o looked h a given answer
+  no_savepoint : (name : List ℕ) → a.statement ≡ RollbackTo name
+      → has_point a.t.0 (SavepointNamed name) (steps o h) ≡ false → given ≡ []
+      → answer ≡ Err NoSavepoint → ComesTo o looked h a given answer
+  not_returned : (name : List ℕ) (refusal : Refusal) (before : Entries) → a.statement ≡ RollbackTo name
+      → h ≡ given ++ before
+      → given ≡ entries_given_up (does_give_up o before a.t refusal) a.t (events.BackTo a.t name) refusal
+      → answer ≡ Err (Engine refusal) → ComesTo o looked h a given answer
+  -- the reading is refused; the filter faults on a row; what was found can't be told
+  stopped : (table : Table) (bound : Bound) (refusal : Refusal) → IsBoundTo o looked a table bound
+      → IsRefused o h a.t.0 refusal → given ≡ its_look a → answer ≡ Err (Engine refusal)
+      → ComesTo o looked h a given answer
+  faulted : (table : Table) (bound : Bound) → IsBoundTo o looked a table bound
+      → rows_found o h a.t.0 table bound ≡ None → given ≡ its_look a → answer ≡ Err Arithmetic
+      → ComesTo o looked h a given answer
+  not_found : (table : Table) (bound : Bound) (refusal : Refusal) → IsBoundTo o looked a table bound
+      → given ≡ entry (find_of a.t table bound) (No refusal) ∷ its_look a → answer ≡ Err (Engine refusal)
+      → ComesTo o looked h a given answer
+  -- a SELECT answers by the rows that it found
+  selected : (table : Table) (bound : Bound) (rows : List Cells) (told : Result (List Cells) EvalFault)
+      → IsBoundTo o looked a table bound → given ≡ its_find a table bound rows
+      → Answers (plain_of bound.statement) bound.places.items table.shape.key rows told
+      → answer ≡ answer_told told → ComesTo o looked h a given answer
+  -- the rows can't be made; the mark is refused; all is written; or a write is refused, and all since the
+  -- mark is undone
+  none_made : (table : Table) (bound : Bound) (rows : List Cells) (fault : NewRowFault)
+      → IsBoundTo o looked a table bound → given ≡ before_mark a table bound rows
+      → MakesNone (writes_made table bound rows) fault → answer ≡ Err (of_new_row fault)
+      → ComesTo o looked h a given answer
+  not_marked : (table : Table) (bound : Bound) (rows : List Cells) (made : List Write) (refusal : Refusal)
+      → IsBoundTo o looked a table bound → writes_made table bound rows ≡ Ok made
+      → given ≡ entry (events.Mark a.t) (No refusal) ∷ before_mark a table bound rows
+      → answer ≡ Err (Engine refusal) → ComesTo o looked h a given answer
+  written : (table : Table) (bound : Bound) (count : ℕ) → IsBoundTo o looked a table bound
+      → IsWriting a table bound [] count given → answer ≡ Ok (Done (outcomes.Count count))
+      → ComesTo o looked h a given answer
+  undone : (table : Table) (bound : Bound) (first : Write) (left : List Write) (count : ℕ)
+      (wrote undoing before : Entries) (refusal last : Refusal) → IsBoundTo o looked a table bound
+      → IsWriting a table bound (first ∷ left) count wrote
+      → h ≡ undoing ++ before → IsUndoneBy o before a.t refusal last undoing
+      → given ≡ undoing ++ entry (event_of a.t table.name first) (No refusal) ∷ wrote
+      → answer ≡ Err (Engine last) → ComesTo o looked h a given answer
+
+-- ---- where it stands
+
+-- A statement that has given these entries stands here. The history was `looked` when it had looked,
+-- and is h now.
+abbrev pub IsAt : {R P : Type 0} → Means R P → R → Opening → Entries → Entries → Asked → Entries → Phase P
+    → Type 0
+IsAt m r o looked h a given (phases.Saving name) = (a.statement ≡ Savepoint name) × (given ≡ [])
+IsAt m r o looked h a given (phases.Returning name) = (a.statement ≡ RollbackTo name) × (given ≡ [])
+IsAt m r o looked h a given (phases.Inserting i) = (is_insert a.statement ≡ true)
+    × IsBoundTo o looked a i.table i.bound × (given ≡ its_look a)
+IsAt m r o looked h a given (phases.Reading reading) = (is_insert a.statement ≡ false)
+    × IsBoundTo o looked a reading.walk.table reading.bound × (given ≡ its_look a)
+    × HasRead m r o h a.t.0 reading
+IsAt m r o looked h a given (phases.Changing c) = (bound : Bound)
+    × IsBoundTo o looked a c.writes.table bound
+    × IsWriting a c.writes.table bound c.writes.left.items c.count given
+IsAt m r o looked h a given phases.Ended = ⊥
+
+-- an answer after which a statement goes on: there is more to do, or its write waits
+abbrev pub LetsGoOn : Result Step StatementFault → Type 0
+LetsGoOn (Ok More) = Unit {0}
+LetsGoOn (Err (Engine (Waits on))) = Unit {0}
+LetsGoOn answer = ⊥
+
+-- it stands somewhere and goes on, or is at its end and comes to its answer
+abbrev pub StandsSo : {R P : Type 0} → Means R P → R → Opening → Entries → Entries → Asked → Entries
+    → Phase P → Result Step StatementFault → Type 0
+StandsSo m r o looked h a given phases.Ended answer = ComesTo o looked h a given answer
+StandsSo m r o looked h a given phase answer = IsAt m r o looked h a given phase × LetsGoOn answer
+
+-- each of these entries is lawful behind those before it
+abbrev pub AreLawful : Opening → Entries → Entries → Type 0
+AreLawful o h [] = Unit {0}
+AreLawful o h (e ∷ more) = IsLawful o (more ++ h) e × AreLawful o h more
+
+-- A step of a statement gives these further entries, and it stands so.
+pub record Gives {R P : Type 0} (m : Means R P) (new : R) (o : Opening) (looked h : Entries) (a : Asked)
+    (given : Entries) (turn : Turn P) : Type 0 where
+  pub more : Entries
+  pub lawful : AreLawful o h more
+  pub stands : m.stands new o (more ++ h)
+  pub so : StandsSo m new o looked (more ++ h) a (more ++ given) turn.phase turn.answer
+
+-- Where a statement begins: it has given its `Look`, if it has a table, and stands at its first step.
+pub record Begins {R P : Type 0} (m : Means R P) (new : R) (o : Opening) (h : Entries) (a : Asked)
+    (phase : Phase P) : Type 0 where
+  pub given : Entries
+  pub lawful : AreLawful o h given
+  pub stands : m.stands new o (given ++ h)
+  pub at : IsAt m new o (given ++ h) (given ++ h) a given phase
+
+-- calls for other transactions leave it where it stands
+abbrev pub StatementsGoOn : {R P : Type 0} → Means R P → Type 0
+StatementsGoOn {R = R} {P = P} m = (old new : R) (o : Opening) (looked h : Entries) (e : Entry) (u : ℕ)
+    (refusal : Option Refusal) (a : Asked) (given : Entries) (phase : Phase P)
+    → Frames m old new u refusal → is_of a.t.0 (Some u) ≡ false → is_its a.t.0 e ≡ false
+    → IsAt m old o looked h a given phase → IsAt m new o looked (e ∷ h) a given phase
+
+-- and ready for its next step
+abbrev pub StatementsStayReady : {R P : Type 0} → Means R P → Type 0
+StatementsStayReady {R = R} {P = P} m = (old new : R) (t u : ℕ) (refusal : Option Refusal)
+    (phase : Phase P) → Frames m old new u refusal → is_of t (Some u) ≡ false
+    → IsReady m old t phase → IsReady m new t phase
