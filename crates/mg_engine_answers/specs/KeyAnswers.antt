@@ -1,5 +1,5 @@
 -- Who speaks for a key, who is in the way there, and which row is seen: by the records of the pages.
-use Rattle.std.proofs.Common.{◌≡◌, ◌⊎◌, inl, inr, refl, sym, ap, ◌∙◌, subst, ℕ, suc, Bool, true, false, not, ◌&&◌, List, [], ◌∷◌, Option, None, Some, cond}
+use Rattle.std.proofs.Common.{◌≡◌, ◌⊎◌, inl, inr, refl, sym, ap, ◌∙◌, subst, ℕ, Bool, true, false, not, ◌&&◌, List, [], ◌∷◌, Option, None, Some, cond}
 use Rattle.std.specs.Prelude.{map}
 use Rattle.std.proofs.lemmas.Bool.{false≢true}
 use Rattle.mg_base.specs.declared.numbers.RecId.{RecId}
@@ -16,7 +16,7 @@ use Rattle.mg_generations.specs.Generations.{Generation, generation}
 use Rattle.mg_generations.specs.Kept.{IsErasedForAll, IsSeenByAll, StandFor}
 use Rattle.mg_chain.specs.Bases.{StandsFor}
 use Rattle.mg_chain.specs.Views.{first_entry, is_dead as dead_version}
-use Rattle.mg_heap.specs.Table.{IsPointerAt, IsTable}
+use Rattle.mg_heap.specs.Table.{IsTable}
 use Rattle.mg_heap.specs.TableLaws.{table_once}
 use Rattle.mg_chain.specs.Chains.{newest_link}
 use Rattle.mg_snap.specs.Live.{AllSee, State, all_see, sees}
@@ -25,14 +25,11 @@ use Rattle.mg_image.specs.Form.{Pages, Row, packed_form}
 use Rattle.mg_image.specs.Held.{told_row}
 use Rattle.mg_image.specs.RecordRules.{Each, EachBack, Facts, table_in}
 use Rattle.mg_image.specs.Records.{Chain, Reading, cells_of, record_key, writer}
-use Rattle.mg_image.specs.Sound.{HasTablePages, IsTablePointer}
-use Rattle.mg_image.specs.Tables.{EachFrom}
 use Rattle.mg_image_steps.specs.Fronts.{is_dead, living}
 use Rattle.mg_overlays.specs.Overlays.{left_state}
 use Rattle.mg_model.specs.Openings.{everyone}
 use Rattle.mg_grown_overlays.specs.Growing.{IsTableOf}
-use Rattle.mg_grown_overlays.specs.Knowing.{its_pages}
-use Rattle.mg_table_stands.specs.OneTable.{its_data, one_table, table_at_stands}
+use Rattle.mg_table_stands.specs.OneTable.{one_table, table_at_stands}
 use Rattle.mg_seek.specs.declared.whose.Wanted.TheVariants.{Living}
 use Rattle.mg_seek.specs.Histories.{AreItsPages, HasSpeaker, NothingIsThere, ObstaclesAreTold, RowsAreOfViews, SpeakersStand, IsStateTold, by_of, told_given, told_if, told_versions, versions_spoken}
 use Rattle.mg_seek.specs.Readings.{IsReadAt, SpeakersOfReadings}
@@ -45,6 +42,7 @@ use Rattle.mg_standing.specs.Standing.{Standing}
 use Rattle.mg_standing.specs.Versions.{SpeaksFor, SpeaksOrSilent}
 use Rattle.mg_engine_answers.specs.Known.{IsSilent, KnowsPages, bases_see_all, base_is_told, die_alike, facts_shown, is_at_work, lawful_shown, speaker_of, states_are}
 use Rattle.mg_engine_answers.specs.Listed.{is_listed}
+use Rattle.mg_engine_answers.specs.TablePages.{data_there, table_there}
 use Rattle.mg_engine_answers.specs.OtherIndexes.{as_first, as_other, row_seen_on, speaker_on}
 use Rattle.mg_engine_answers.specs.Laws.{NothingAtKeys, ObstaclesAtKeys, RowsAtKeys, SpeakersAreTold, TellsSpeaker}
 
@@ -111,26 +109,11 @@ module _ (size : ℕ) (o : Opening) (h : Entries) (s : Standing) (pages : Pages)
 
   pub is_table : (its : Table) (stands : IsTableOf knows.shows.layout its)
       → IsTable pages its.pointer.0 stands.stand.pointers stands.stand.data_pages
-  is_table its stands = subst (λ (t : Table). IsTable pages t.pointer.0 stands.stand.pointers
-      stands.stand.data_pages) stands.table_is (record {
-        chain = has_.chain;
-        tested = each 0 stands.stand.pointers has_.pointers;
-        entries = has_.entries;
-      })
-    where
-      has_ : HasTablePages packed_form.in_primary size pages stands.stand
-      has_ = its_pages packed_form size state pages knows.shows.layout r knows.shows.sound its stands
-
-      each : (at : ℕ) (ns : List ℕ)
-          → EachFrom (IsTablePointer size pages stands.stand.table.pointer.0) at ns
-          → EachFrom (IsPointerAt pages stands.stand.table.pointer.0) at ns
-      each at [] all = tt
-      each at (n ∷ ns) all = (all.0.fields, each (suc at) ns all.1)
+  is_table its stands = table_there size state pages knows.shows.layout r knows.shows.sound its stands
 
   pub are_its_pages : (its : Table) (stands : IsTableOf knows.shows.layout its)
       → AreItsPages f its stands.stand.data_pages
-  are_its_pages its stands n =
-      its_data packed_form size state pages knows.shows.layout r knows.shows.sound its stands n
+  are_its_pages its stands = data_there size state pages knows.shows.layout r knows.shows.sound its stands
 
 -- ---- who speaks
 

@@ -2,6 +2,7 @@ pub mod Known
 pub mod Laws
 pub mod OtherIndexes
 pub mod Listed
+pub mod TablePages
 pub mod KeyAnswers
 pub mod Walking
 pub mod WalkAnswers

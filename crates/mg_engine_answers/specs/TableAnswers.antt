@@ -50,7 +50,7 @@ use Rattle.mg_engine_answers.specs.KeyAnswers.{has_speaker, read_at}
 use Rattle.mg_engine_answers.specs.Laws.{NothingAtKeys, RowsAtKeys}
 use Rattle.mg_engine_answers.specs.Listed.{is_listed, page_listed}
 use Rattle.mg_engine_answers.specs.Tables.{TablesAreTold}
-use Rattle.mg_engine_answers.specs.WalkAnswers.{data_there, table_there}
+use Rattle.mg_engine_answers.specs.TablePages.{data_there, table_there}
 use Rattle.mg_heap.specs.TableLaws.{table_once}
 
 -- ---- a record that shows a row speaks

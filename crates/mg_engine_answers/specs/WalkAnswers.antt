@@ -1,5 +1,5 @@
 -- A walk over the records of a table comes to the rows of a view.
-use Rattle.std.proofs.Common.{◌≡◌, refl, sym, ap, ◌∙◌, subst, ℕ, Bool, suc, List, [], ◌∷◌, ◌++◌, Option, None, Some}
+use Rattle.std.proofs.Common.{◌≡◌, refl, sym, ap, ◌∙◌, subst, ℕ, Bool, List, [], ◌∷◌, Option, None, Some}
 use Rattle.std.specs.Prelude.{IsPermutation}
 use Rattle.mg_base.specs.declared.numbers.RecId.{RecId}
 use Rattle.mg_base.specs.declared.numbers.PageNo.{PageNo}
@@ -10,21 +10,14 @@ use Rattle.mg_model.specs.Changes.{KeyedRows, rows_of}
 use Rattle.mg_model.specs.Machine.{state_of, view}
 use Rattle.mg_model.specs.Openings.{everyone}
 use Rattle.mg_chain.specs.Chains.{takes_version}
-use Rattle.mg_heap.specs.Table.{IsPointerAt, IsTable}
 use Rattle.mg_heap.specs.Walk.{GivesNext}
-use Rattle.mg_image.specs.Form.{Pages, Row, packed_form}
+use Rattle.mg_image.specs.Form.{Row}
 use Rattle.mg_image.specs.RecordRules.{Facts}
 use Rattle.mg_image.specs.Records.{Reading, shown}
-use Rattle.mg_image.specs.Sound.{HasTablePages, IsSoundBy, IsTablePointer, facts_by}
-use Rattle.mg_image.specs.Tables.{EachFrom, Has, IsOnce, Layout, tree_pages}
-use Rattle.mg_kept_images.specs.Reach.{once_back, once_front}
-use Rattle.mg_page_overlays.specs.GrowPages.{once_mid}
+use Rattle.mg_image.specs.Sound.{facts_by}
+use Rattle.mg_image.specs.Tables.{Has}
 use Rattle.mg_overlays.specs.Overlays.{left_state}
-use Rattle.mg_grown_overlays.specs.Growing.{IsTableOf}
-use Rattle.mg_grown_overlays.specs.Knowing.{its_once, its_pages}
-use Rattle.mg_table_stands.specs.OneTable.{its_data}
 use Rattle.mg_seek.specs.declared.views.Visit.{Visit}
-use Rattle.mg_seek.specs.Histories.{AreItsPages}
 use Rattle.mg_seek.specs.Readings.{RowsOfReadings}
 use Rattle.mg_seek.specs.TableRecords.{records_in}
 use Rattle.mg_seek.specs.Views.{IsRowSeen, IsVisit}
@@ -32,38 +25,8 @@ use Rattle.mg_seek.specs.Walks.{ComesTo, WalksInOrder, WalksShowViews, keyed, re
 use Rattle.mg_engine_answers.specs.KeyAnswers.{has_speaker}
 use Rattle.mg_engine_answers.specs.Known.{base_is_told, die_alike, is_at_work, lawful_shown, speaker_of, states_are}
 use Rattle.mg_engine_answers.specs.OtherIndexes.{as_first, as_other, row_seen_on}
+use Rattle.mg_engine_answers.specs.TablePages.{data_once, data_there, table_there}
 use Rattle.mg_engine_answers.specs.Walking.{VisitsNext, WalksBegin, WalksGoOn}
-
--- ---- the pages of a table in a sound image
-
-module _ (size : ℕ) (state : ℕ → TxState) (pages : Pages) (layout : Layout) (r : Reading)
-    (sound : IsSoundBy packed_form size state pages layout r) (its : Table)
-    (stands : IsTableOf layout its) where
-  pub table_there : IsTable pages its.pointer.0 stands.stand.pointers stands.stand.data_pages
-  table_there = subst (λ (t : Table). IsTable pages t.pointer.0 stands.stand.pointers
-      stands.stand.data_pages) stands.table_is (record {
-        chain = has_.chain;
-        tested = each 0 stands.stand.pointers has_.pointers;
-        entries = has_.entries;
-      })
-    where
-      has_ : HasTablePages packed_form.in_primary size pages stands.stand
-      has_ = its_pages packed_form size state pages layout r sound its stands
-
-      each : (at : ℕ) (ns : List ℕ)
-          → EachFrom (IsTablePointer size pages stands.stand.table.pointer.0) at ns
-          → EachFrom (IsPointerAt pages stands.stand.table.pointer.0) at ns
-      each at [] all = tt
-      each at (n ∷ ns) all = (all.0.fields, each (suc at) ns all.1)
-
-  pub data_there : AreItsPages (facts_by state pages layout) its stands.stand.data_pages
-  data_there n = its_data packed_form size state pages layout r sound its stands n
-
-  pub data_once : IsOnce stands.stand.data_pages
-  data_once = once_back stands.stand.pointers stands.stand.data_pages
-      (once_front (stands.stand.pointers ++ stands.stand.data_pages) (tree_pages stands.stand.trees)
-      (once_mid stands.before stands.after stands.stand
-      (its_once packed_form size state pages layout r sound its stands)))
 
 -- ---- rows
 
