@@ -203,3 +203,13 @@ committed_ended same = absurd cc
 -- the list is as before an event began
 pub same_list : {D : Type 0} (old ended : Core D) (t : ℕ) → EndsWait old ended t → old.list ≡ ended.list
 same_list {D} old ended t wait = sym (ap (λ (c : Core D). c.list) wait.same)
+
+-- the next number has no work
+pub next_none : {D : Type 0} (m : Meaning D) (core : Core D) (t : ℕ) → IsCore m core → t ≡ next_said core.list
+    → work_of core.works t ≡ None
+next_none m core t is next = at (work_of core.works t) refl
+  where
+    at : (found : Option Working) → work_of core.works t ≡ found → work_of core.works t ≡ None
+    at None found = found
+    at (Some w) found = absurd (let low = active_drawn core.list t (is.active.is_active t (ap is_some found)) in
+        omega (arith, low, next))

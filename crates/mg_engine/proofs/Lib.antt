@@ -1,2 +1,4 @@
 mod CoreLemmas
 mod EndingLemmas
+mod BeginningLemmas
+mod FailLemmas

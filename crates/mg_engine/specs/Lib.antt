@@ -3,3 +3,4 @@ pub mod Refusing
 pub mod Events
 pub mod Committing
 pub mod Ending
+pub mod Beginning

@@ -1,5 +1,5 @@
 -- Faults of the cache as refusals.
-use Rattle.std.specs.Prelude.{◌≡◌}
+use Rattle.std.specs.Prelude.{◌≡◌, ◌+◌, ◌-◌, ◌^◌, ℕ, min}
 use Rattle.mg_base.specs.declared.damage.Field.TheVariants.{Presence}
 use Rattle.mg_model.specs.declared.refusal.Refusal.{Refusal}
 use Rattle.mg_model.specs.declared.refusal.Refusal.TheVariants as refusals
@@ -24,3 +24,14 @@ IsRefusal (space.Damaged damage) refusal =
 IsRefusal (space.Pool (faults.Absent pages)) refusal =
     refusal ≡ refusals.Damaged (record { 0 = 0 }) Presence pages pages
 IsRefusal (space.Pool fault) refusal = IsRefusalOf fault refusal
+
+-- a count has risen by one, but for one that stands at its end
+abbrev pub OneMore : ℕ → ℕ → Type 0
+OneMore old new = new ≡ min (old + 1) (2 ^ 64 - 1)
+
+-- damage is counted, and so is want of pages
+abbrev pub CountsFault : SpaceFault → ℕ → ℕ → ℕ → ℕ → Type 0
+CountsFault (space.Full limit) damage now shortages later = (now ≡ damage) × OneMore shortages later
+CountsFault (space.Damaged d) damage now shortages later = OneMore damage now × (later ≡ shortages)
+CountsFault (space.Pool (faults.Absent n)) damage now shortages later = OneMore damage now × (later ≡ shortages)
+CountsFault (space.Pool fault) damage now shortages later = (now ≡ damage) × (later ≡ shortages)

@@ -14,6 +14,7 @@
 //! Not here: histories, what crashes leave, and the records of tables.
 #![tactic(auto)]
 
+mod beginning;
 mod committing;
 mod ending;
 mod events;
