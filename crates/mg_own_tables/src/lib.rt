@@ -1,7 +1,7 @@
 //! Rows of tables that their own transaction has made and not committed, as the laws on overlays take them.
 //! Each function does nothing: its contract is the law.
 //!
-//! Owns: whose table it is, said once (`OrUnmade`): under each choice of transactions the table stands in the
+//! Owns: whose table it is, said once (`IsTableFor`): under each choice of transactions the table stands in the
 //! layout, or its maker counts as dead and none of its pages is one of the layout's (`IsNotThere`). The laws on
 //! writes are here under that condition: where the table stands they are those of the crates below; where it
 //! does not, only pages change that no table of the layout has (`OutSteps`). So one law serves the catalog,
