@@ -1,6 +1,6 @@
 -- A write that is refused, and what undoes its statement.
 use Rattle.std.proofs.Common.{◌≡◌, ℕ, suc, Bool, true, false, List, ◌∷◌, Option, Some, None, inl, refl, subst, arith}
-use Rattle.std.specs.Prelude.{◌&&◌, ◌++◌, ◌≤◌, All, cond, if◌then◌else◌}
+use Rattle.std.specs.Prelude.{◌&&◌, ◌++◌, All, cond, if◌then◌else◌}
 use Rattle.std.specs.Option.{option_to_list}
 use Rattle.mg_value.specs.declared.shape.Shape.{Shape}
 use Rattle.mg_base.specs.declared.numbers.TxNo.{TxNo}

@@ -1,12 +1,9 @@
 -- What one call leaves, and what several calls leave together.
-use Rattle.std.proofs.Common.{◌≡◌, ℕ, ◌-◌, ◌^◌, ◌≤◌, false, List, Option, Some, None, inl, inr, refl, sym, ◌∙◌, arith}
+use Rattle.std.proofs.Common.{◌≡◌, ℕ, ◌-◌, ◌^◌, ◌≤◌, Option, Some, None, inl, inr, refl, sym, ◌∙◌, arith}
 use Rattle.std.specs.Prelude.{◌⊎◌}
 use Rattle.mg_base.specs.Disk.{Rose}
 use Rattle.mg_model.specs.declared.refusal.Refusal.{Refusal}
 use Rattle.mg_model.specs.declared.refusal.Refusal.TheVariants.{DatabaseFull, DiskRead, DiskWrite, Offline, Damaged}
-use Rattle.mg_model.specs.declared.table.Table.{Table}
-use Rattle.mg_model.specs.Changes.{KeyedRows}
-use Rattle.mg_model.specs.Machine.{is_of}
 use Rattle.mg_records.specs.Meaning.{Means}
 use Rattle.mg_records.specs.Keeping.{Causes, CommitsStay, Elapses, Keeps, Leaves, Reads, TablesStay, WalksStay, down_after}
 use Rattle.mg_calls.specs.Frames.{Blames, Frames}

@@ -1,13 +1,10 @@
 -- What the calls for one transaction leave of all others and of the keeper as a whole, however many
 -- calls they are.
-use Rattle.std.specs.Prelude.{◌≡◌, ◌⊎◌, ℕ, ◌≤◌, List, true, false, Option, Some}
-use Rattle.mg_base.specs.Image.{Image}
+use Rattle.std.specs.Prelude.{◌≡◌, ◌⊎◌, ℕ, ◌≤◌, true, Option, Some}
 use Rattle.mg_base.specs.Disk.{Rose}
 use Rattle.mg_model.specs.declared.refusal.Refusal.{Refusal}
 use Rattle.mg_model.specs.declared.refusal.Refusal.TheVariants.{DatabaseFull, DiskRead, DiskWrite, Offline, Damaged}
 use Rattle.mg_model.specs.declared.table.Table.{Table}
-use Rattle.mg_model.specs.Changes.{KeyedRows}
-use Rattle.mg_model.specs.Machine.{is_of}
 use Rattle.mg_records.specs.Meaning.{Means}
 use Rattle.mg_records.specs.Keeping.{CommitsStay, Elapses, TablesStay, WalksStay}
 

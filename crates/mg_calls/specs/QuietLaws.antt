@@ -1,5 +1,5 @@
 -- Several quiet calls are quiet together.
-use Rattle.std.proofs.Common.{◌≡◌, ◌⊎◌, ℕ, ◌+◌, ◌≤◌, Bool, true, false, ◌∷◌, Option, Some, None, inl, inr, refl, sym, ap, subst, ◌∙◌, arith}
+use Rattle.std.proofs.Common.{◌≡◌, ◌⊎◌, ℕ, ◌+◌, ◌≤◌, Bool, true, false, ◌∷◌, Option, None, inl, inr, refl, subst, ◌∙◌, arith}
 use Rattle.std.specs.Prelude.{◌&&◌, cond, if◌then◌else◌}
 use Rattle.mg_base.specs.Image.{Image}
 use Rattle.mg_base.specs.declared.numbers.TxNo.{TxNo}
@@ -10,15 +10,15 @@ use Rattle.mg_model.specs.declared.event.Event.TheVariants.{Rollback}
 use Rattle.mg_model.specs.declared.opening.Opening.{Opening}
 use Rattle.mg_model.specs.declared.refusal.Refusal.{Refusal}
 use Rattle.mg_model.specs.Answers.{is_active}
-use Rattle.mg_model.specs.History.{Entries, Entry, entry}
-use Rattle.mg_model.specs.Legal.{durable_count, is_durable, is_fine, is_lasting}
+use Rattle.mg_model.specs.History.{Entries, entry}
+use Rattle.mg_model.specs.Legal.{durable_count, is_fine, is_lasting}
 use Rattle.mg_model.specs.Machine.{state_of}
 use Rattle.mg_records.specs.Adding.{Adds}
 use Rattle.mg_records.specs.Crashing.{HoldsOn, LeavesOnly, LeavesQuietly}
-use Rattle.mg_records.specs.Keeping.{Elapses, Keeps, Reads}
+use Rattle.mg_records.specs.Keeping.{Keeps, Reads}
 use Rattle.mg_records.specs.Meaning.{Means}
 use Rattle.mg_records.specs.Sessions.{SessionsStay}
-use Rattle.mg_records.specs.TakingBack.{GivesUp, after_refusal, is_given_up}
+use Rattle.mg_records.specs.TakingBack.{GivesUp, is_given_up}
 use Rattle.mg_calls.specs.FrameLaws.{elapses_then}
 use Rattle.mg_calls.specs.Quiet.{AreQuiet, GoesOnQuietly, IsQuietly, as_it_was, with_entry}
 
@@ -152,10 +152,10 @@ quiet_then {R = R} m on old mid new ends first second = record {
         let one = first.goes_on o h stands in
         let same : durable_count one.0 ≡ durable_count h = same_count h one.0 one.2 in
         leaves_then m old mid new (m.holds mid o h (durable_count h)) (m.holds new o h (durable_count h))
-            (first.time told).later (second.holds o h (durable_count h))
-            (first.crash o h stands told)
-            (leaves_as m mid new (m.holds new o one.0 (durable_count one.0))
-            (m.holds new o h (durable_count h))
-            (λ c is. subst (λ (least : ℕ). m.holds new o h least c) same
-            (holds_before m on new o h one.0 (durable_count one.0) c one.2 is))
-            (second.crash o one.0 one.1 (first.tells ∙ told)))
+        (first.time told).later (second.holds o h (durable_count h))
+        (first.crash o h stands told)
+        (leaves_as m mid new (m.holds new o one.0 (durable_count one.0))
+        (m.holds new o h (durable_count h))
+        (λ c is. subst (λ (least : ℕ). m.holds new o h least c) same
+        (holds_before m on new o h one.0 (durable_count one.0) c one.2 is))
+        (second.crash o one.0 one.1 (first.tells ∙ told)))

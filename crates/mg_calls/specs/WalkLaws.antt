@@ -4,7 +4,6 @@ use Rattle.std.specs.Prelude.{IsPermutation}
 use Rattle.mg_model.specs.declared.change.Change.{Change}
 use Rattle.mg_model.specs.declared.opening.Opening.{Opening}
 use Rattle.mg_model.specs.declared.refusal.Refusal.{Refusal}
-use Rattle.mg_model.specs.declared.table.Table.{Table}
 use Rattle.mg_model.specs.Changes.{KeyedRows, rows_of}
 use Rattle.mg_model.specs.Effects.{is_its}
 use Rattle.mg_model.specs.EntryLaws.{view_others_entry}

@@ -1,6 +1,5 @@
 -- What a step that writes leaves.
-use Rattle.std.proofs.Common.{◌≡◌, ℕ, false, Result, Ok, Err, refl, sym, subst}
-use Rattle.mg_base.specs.declared.numbers.TxNo.{TxNo}
+use Rattle.std.proofs.Common.{◌≡◌, ℕ, false, Err, refl, sym, subst}
 use Rattle.mg_model.specs.declared.refusal.Refusal.TheVariants as refusals
 use Rattle.mg_records.specs.Meaning.{Means}
 use Rattle.mg_rows.specs.declared.fault.NewRowFault.{NewRowFault}

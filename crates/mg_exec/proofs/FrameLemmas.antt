@@ -1,5 +1,5 @@
 -- Frames of calls that are not made, and of answers that have no cause outside.
-use Rattle.std.proofs.Common.{◌≡◌, ℕ, ◌≤◌, List, Option, Some, None, inl, refl, arith}
+use Rattle.std.proofs.Common.{ℕ, Option, None, inl, refl, arith}
 use Rattle.mg_model.specs.declared.refusal.Refusal.{Refusal}
 use Rattle.mg_records.specs.Meaning.{Means}
 use Rattle.mg_calls.specs.Frames.{Blames, Frames}

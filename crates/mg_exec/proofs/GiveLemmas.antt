@@ -1,17 +1,15 @@
 -- Each step gives what its statement says next.
-use Rattle.std.proofs.Common.{◌≡◌, ℕ, ◌&&◌, Bool, true, false, List, [], ◌∷◌, ◌++◌, length, Option, Some, None, Result, Ok, Err, cond, inl, inr, refl, sym, ap, subst, ◌∙◌}
+use Rattle.std.proofs.Common.{◌≡◌, ℕ, ◌&&◌, Bool, true, false, List, [], ◌∷◌, ◌++◌, length, Option, Some, Result, Ok, Err, cond, inl, inr, refl, sym, ap, subst, ◌∙◌}
 use Rattle.std.proofs.lemmas.Bool.{false≢true}
 use Rattle.std.proofs.lemmas.List.{append_assoc}
 use Rattle.mg_base.specs.declared.numbers.TxNo.{TxNo}
 use Rattle.mg_base.specs.declared.transaction.TxState.{TxState}
 use Rattle.mg_base.specs.declared.transaction.TxState.TheVariants.{Active, Limbo, Dead, Committed}
 use Rattle.mg_value.specs.declared.shape.Column.{Column}
-use Rattle.mg_sql.specs.Plain.{Plain, plain_of, RollbackTo, Savepoint, Insert, Update, Delete, Totals, Select}
+use Rattle.mg_sql.specs.Plain.{Plain, RollbackTo, Savepoint, Insert, Update, Delete, Totals, Select}
 use Rattle.mg_plan.specs.Statements.{bound_plain}
 use Rattle.mg_plan.specs.declared.bound.Bound.{Bound}
-use Rattle.mg_model.specs.declared.answer.Answer.{Answer}
 use Rattle.mg_model.specs.declared.answer.Answer.TheVariants.{Fine, No, Rows}
-use Rattle.mg_model.specs.declared.event.Event.{Event}
 use Rattle.mg_model.specs.declared.event.Event.TheVariants as events
 use Rattle.mg_model.specs.declared.opening.Opening.{Opening}
 use Rattle.mg_model.specs.declared.refusal.Refusal.{Refusal}
@@ -28,8 +26,7 @@ use Rattle.mg_records.specs.TakingBack.{is_given_up}
 use Rattle.mg_records.specs.Writing.{event_of}
 use Rattle.mg_rows.specs.declared.outcome.Outcome.TheVariants as outcomes
 use Rattle.mg_rows.specs.declared.statement_fault.StatementFault.{StatementFault}
-use Rattle.mg_rows.specs.declared.statement_fault.StatementFault.TheVariants.{Engine, Arithmetic, NoSavepoint, NothingHeld}
-use Rattle.mg_rows.specs.Faults.{of_new_row}
+use Rattle.mg_rows.specs.declared.statement_fault.StatementFault.TheVariants.{Engine, NoSavepoint}
 use Rattle.mg_calls.specs.declared.steps.Writes.{Writes}
 use Rattle.mg_calls.specs.declared.steps.Wrote.{Wrote}
 use Rattle.mg_calls.specs.declared.steps.Wrote.TheVariants as wrote_
@@ -38,18 +35,17 @@ use Rattle.mg_calls.specs.Undoing.{IsUndone, left_so, taken_back}
 use Rattle.mg_exec.specs.declared.phase.Phase.{Phase}
 use Rattle.mg_exec.specs.declared.phase.Phase.TheVariants as phases
 use Rattle.mg_exec.specs.declared.phase.Step.{Step}
-use Rattle.mg_exec.specs.declared.phase.Step.TheVariants.{More, Done}
+use Rattle.mg_exec.specs.declared.phase.Step.TheVariants.{Done}
 use Rattle.mg_exec.specs.declared.phase.Turn.{Turn}
 use Rattle.mg_exec.specs.Changing.{StartsToWrite, begins, makes_none, turned, with_left}
 use Rattle.mg_exec.specs.Making.{writes_made}
-use Rattle.mg_exec.specs.Phases.{HasRead, ended, is_insert, is_select}
+use Rattle.mg_exec.specs.Phases.{ended, is_insert}
 use Rattle.mg_exec.specs.Points.{Saves, Returns}
 use Rattle.mg_exec.specs.Reading.{Finds, GoesOnWith, answers, writes, Reads, comes_on, finds, faults, stops, find_of}
 use Rattle.mg_exec.specs.Running.{Goes}
-use Rattle.mg_exec.specs.Statements.{Asked, IsBoundTo, its_look, its_find, before_mark, HasWritten, marked, wrote, waited, IsWriting, entries_given_up, does_give_up, IsUndoneBy, taken_back_so, given_up_so, ComesTo, saved, not_saved, returned, no_savepoint, not_returned, stopped, faulted, not_found, selected, none_made, not_marked, written, undone, IsAt, LetsGoOn, StandsSo, AreLawful, Gives, Begins, StatementsGoOn, StatementsStayReady, table_named}
+use Rattle.mg_exec.specs.Statements.{Asked, IsBoundTo, its_look, its_find, before_mark, marked, wrote, waited, IsWriting, entries_given_up, does_give_up, taken_back_so, given_up_so, saved, not_saved, returned, no_savepoint, not_returned, stopped, faulted, not_found, selected, none_made, not_marked, written, undone, IsAt, StandsSo, AreLawful, Gives, Begins, StatementsGoOn, StatementsStayReady, table_named}
 use Rattle.mg_exec.specs.Starting.{IsStarted, Looks, Starts}
 use Rattle.mg_records.specs.Reading.{shape_seen}
-use Rattle.mg_model.specs.Effects.{is_its}
 use Rattle.mg_model.specs.Machine.{is_of}
 use Rattle.mg_calls.specs.Frames.{Frames}
 use Rattle.mg_calls.specs.WalkLaws.{walks_go_on, walks_stay_ready}

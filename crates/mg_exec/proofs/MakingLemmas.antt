@@ -1,5 +1,5 @@
 -- As many values as places.
-use Rattle.std.proofs.Common.{◌≡◌, ℕ, zero, ◌<◌, arith, suc, ◌&&◌, Bool, true, false, List, [], ◌∷◌, length, map, Option, Some, None, refl, sym, ap, ◌∙◌}
+use Rattle.std.proofs.Common.{◌≡◌, ℕ, zero, ◌<◌, arith, suc, ◌&&◌, Bool, true, false, List, [], ◌∷◌, length, map, Option, refl, ap, ◌∙◌}
 use Rattle.std.specs.Prelude.{slice_get, slice_index_or}
 use Rattle.mg_value.specs.declared.value.Value.TheVariants.{Null}
 use Rattle.mg_value.specs.Rows.{RowFits}

@@ -1,51 +1,47 @@
 -- The steps of a reading.
-use Rattle.std.proofs.Common.{◌≡◌, ℕ, ◌<◌, Bool, true, false, filter, List, [], ◌∷◌, ◌++◌, map, Option, Some, None, Result, Ok, Err, inl, inr, refl, sym, ap, subst, ◌∙◌}
+use Rattle.std.proofs.Common.{◌≡◌, ℕ, ◌<◌, Bool, true, false, List, [], ◌∷◌, ◌++◌, map, Option, Some, None, Result, Ok, Err, inl, inr, refl, sym, ap, subst, ◌∙◌}
 use Rattle.std.specs.Prelude.{IsPermutation}
 use Rattle.std.proofs.lemmas.List.{append-nil, append_assoc}
 use Rattle.mg_base.specs.declared.numbers.TxNo.{TxNo}
 use Rattle.mg_base.specs.declared.transaction.TxState.TheVariants.{Active}
 use Rattle.mg_value.specs.declared.value.Value.{Value}
-use Rattle.mg_expr.specs.declared.expr.Expr.{Expr}
 use Rattle.mg_expr.specs.declared.fault.EvalFault.{EvalFault}
 use Rattle.mg_expr.specs.declared.fault.EvalFault.TheVariants as evals
 use Rattle.mg_expr.specs.Trees.{Tree}
 use Rattle.mg_sql.specs.Plain.{tree_in}
 use Rattle.mg_plan.specs.declared.bound.Bound.{Bound}
-use Rattle.mg_model.specs.declared.answer.Answer.TheVariants.{No, Rows}
+use Rattle.mg_model.specs.declared.answer.Answer.TheVariants.{Rows}
 use Rattle.mg_model.specs.declared.opening.Opening.{Opening}
 use Rattle.mg_model.specs.declared.refusal.Refusal.{Refusal}
 use Rattle.mg_model.specs.declared.refusal.Refusal.TheVariants as refusals
 use Rattle.mg_model.specs.declared.table.Table.{Table}
-use Rattle.mg_model.specs.Answers.{answer, passes}
+use Rattle.mg_model.specs.Answers.{answer}
 use Rattle.mg_model.specs.Changes.{Cells, KeyedRows, rows_of}
 use Rattle.mg_model.specs.History.{Entries, entry}
-use Rattle.mg_model.specs.Legal.{IsLawful}
 use Rattle.mg_model.specs.Machine.{state_of, view}
 use Rattle.mg_model.specs.RowLaws.{rows_of_ascend}
 use Rattle.mg_records.specs.Adding.{IsRefused}
-use Rattle.mg_records.specs.Keeping.{Reads as ReadsOnly}
 use Rattle.mg_records.specs.Meaning.{Means}
 use Rattle.mg_records.specs.Reading.{FindAdds, shape_seen}
 use Rattle.mg_rows.specs.declared.statement_fault.StatementFault.{StatementFault}
 use Rattle.mg_rows.specs.declared.statement_fault.StatementFault.TheVariants.{Engine, Arithmetic}
 use Rattle.mg_rows.specs.Faults.{of_eval}
-use Rattle.mg_rows.specs.Found.{found, found_keyed, passes_filter, without_keys, Keeps}
+use Rattle.mg_rows.specs.Found.{found_keyed, passes_filter, without_keys, Keeps}
 use Rattle.mg_rows.specs.FoundLaws.{found_more, found_fault, found_none, found_sorted, found_bare, found_answered}
 use Rattle.mg_calls.specs.declared.walking.Walk.{Walk}
 use Rattle.mg_calls.specs.declared.walking.Visit.TheVariants as visits
 use Rattle.mg_calls.specs.FindLaws.{machine_finds}
 use Rattle.mg_calls.specs.Frames.{Frames}
 use Rattle.mg_calls.specs.FrameLaws.{frames_then}
-use Rattle.mg_calls.specs.Walks.{GoesOn, HasCome, IsOnItsWay, Progresses, rows_in, rows_seen}
-use Rattle.mg_calls.specs.Writes.{Comes}
+use Rattle.mg_calls.specs.Walks.{GoesOn, HasCome, IsOnItsWay, Progresses, rows_seen}
 use Rattle.mg_exec.specs.declared.phase.Reading.{Reading}
 use Rattle.mg_exec.specs.declared.phase.Phase.{Phase}
 use Rattle.mg_exec.specs.declared.phase.Phase.TheVariants as phases
 use Rattle.mg_exec.specs.declared.phase.Step.{Step}
-use Rattle.mg_exec.specs.declared.phase.Step.TheVariants.{More, Done}
+use Rattle.mg_exec.specs.declared.phase.Step.TheVariants.{More}
 use Rattle.mg_exec.specs.declared.phase.Turn.{Turn}
-use Rattle.mg_exec.specs.Phases.{HasRead, IsReadyToRead, IsTypedFor, Leaves, ended, filter_in, refusal_of, is_finding, is_reading}
-use Rattle.mg_exec.specs.Reading.{AreInOrder, Ends, in_order, no_memory, Finds, GoesOnWith, KeepsRow, Reads, comes_on, finds, faults, stops, IsNearer, find_of, rows_found, passes_of}
+use Rattle.mg_exec.specs.Phases.{HasRead, IsReadyToRead, IsTypedFor, Leaves, ended, filter_in, refusal_of, is_reading}
+use Rattle.mg_exec.specs.Reading.{Ends, in_order, no_memory, Finds, GoesOnWith, KeepsRow, Reads, comes_on, finds, faults, stops, IsNearer, find_of, rows_found, passes_of}
 use Rattle.mg_exec.specs.Selecting.{answer_told}
 use Rattle.mg_exec.proofs.FrameLemmas.{frames_none, frames_quiet}
 

@@ -1,16 +1,16 @@
 -- What the tests of a statement find.
-use Rattle.std.proofs.Common.{◌≡◌, ℕ, not, Bool, true, false, List, [], Option, Some, None, Result, Ok, Err, refl, sym, ap, subst, ◌∙◌}
-use Rattle.std.specs.Prelude.{◌/◌, nat_lt}
+use Rattle.std.proofs.Common.{◌≡◌, ℕ, not, Bool, true, false, List, Option, Some, None, Ok, Err, refl, sym, ap, subst, ◌∙◌}
+use Rattle.std.specs.Prelude.{nat_lt}
 use Rattle.mg_value.specs.declared.shape.Column.{Column}
 use Rattle.mg_value.specs.declared.shape.Shape.{Shape}
 use Rattle.mg_value.specs.declared.shape.TheConstants.{MOST_COLUMNS}
-use Rattle.mg_sql.specs.Plain.{Plain, plain_of, SetTransaction, Commit, Rollback, RollbackTo, Savepoint, Table, Insert, Update, Delete, Totals, Select}
+use Rattle.mg_sql.specs.Plain.{Plain, plain_of, Insert, Update, Delete, Totals, Select}
 use Rattle.mg_plan.specs.declared.bound.Bound.{Bound}
 use Rattle.mg_plan.specs.declared.fault.PlanFault.{PlanFault}
 use Rattle.mg_plan.specs.declared.fault.PlanFault.TheVariants as plans
 use Rattle.mg_plan.specs.Names.{has_twice}
 use Rattle.mg_plan.specs.Refusing.{refused, first_refusal, IsBoundAs, Binds}
-use Rattle.mg_plan.specs.Statements.{columns_listed, count_defined, is_all_known, has_one_key, do_counts_match, sets_key, bound_plain, places_in, is_typed, new_row_len, new_key_len}
+use Rattle.mg_plan.specs.Statements.{columns_listed, count_defined, is_all_known, has_one_key, do_counts_match, sets_key, bound_plain, places_in, is_typed}
 use Rattle.mg_model.specs.declared.opening.Opening.{Opening}
 use Rattle.mg_model.specs.declared.refusal.Refusal.{Refusal}
 use Rattle.mg_model.specs.declared.refusal.Refusal.TheVariants.{NoTable, ReadOnly}

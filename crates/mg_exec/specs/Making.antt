@@ -1,5 +1,5 @@
 -- The writes that a statement makes of the rows that it found.
-use Rattle.std.specs.Prelude.{◌≡◌, ℕ, List, [], ◌∷◌, map, All, Option, Some, None, Result, Ok, Err}
+use Rattle.std.specs.Prelude.{◌≡◌, ℕ, List, [], ◌∷◌, map, All, Result, Ok, Err}
 use Rattle.mg_expr.specs.Trees.{tree_of}
 use Rattle.mg_sql.specs.declared.statement.Statement.{Statement}
 use Rattle.mg_sql.specs.declared.statement.Statement.TheVariants as statements

@@ -1,5 +1,5 @@
 -- Where a statement stands, and what the next call of it asks.
-use Rattle.std.specs.Prelude.{◌≡◌, ℕ, Bool, true, false, List, [], ◌∷◌, map, Option, Some, None, Result, Ok, Err}
+use Rattle.std.specs.Prelude.{◌≡◌, ℕ, Bool, true, false, Option, Some, None, Result, Err}
 use Rattle.mg_expr.specs.declared.expr.Expr.{Expr}
 use Rattle.mg_sql.specs.declared.statement.Statement.{Statement}
 use Rattle.mg_sql.specs.declared.statement.Statement.TheVariants as statements

@@ -1,5 +1,5 @@
 -- The steps of a statement that finds rows.
-use Rattle.std.specs.Prelude.{◌≡◌, ◌⊎◌, ℕ, ◌<◌, Bool, true, false, List, [], ◌∷◌, map, Option, Some, None, Result, Ok, Err}
+use Rattle.std.specs.Prelude.{◌≡◌, ◌⊎◌, ℕ, ◌<◌, Bool, false, List, ◌∷◌, map, Option, Some, None, Result, Ok, Err}
 use Rattle.mg_base.specs.declared.numbers.TxNo.{TxNo}
 use Rattle.mg_value.specs.declared.value.Value.{Value}
 use Rattle.mg_expr.specs.declared.fault.EvalFault.{EvalFault}

@@ -1,5 +1,5 @@
 -- What a SELECT answers of the rows that it found.
-use Rattle.std.specs.Prelude.{◌≡◌, ℕ, Bool, List, [], ◌∷◌, get_or, Option, Some, None, Result, Ok, Err}
+use Rattle.std.specs.Prelude.{◌≡◌, ℕ, List, [], ◌∷◌, get_or, Option, Some, None, Result, Ok, Err}
 use Rattle.mg_expr.specs.declared.fault.EvalFault.{EvalFault}
 use Rattle.mg_expr.specs.declared.fault.EvalFault.TheVariants as evals
 use Rattle.mg_sql.specs.declared.statement.Sorted.{Sorted}

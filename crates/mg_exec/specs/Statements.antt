@@ -28,7 +28,7 @@ use Rattle.mg_records.specs.Writing.{event_of}
 use Rattle.mg_rows.specs.declared.fault.NewRowFault.{NewRowFault}
 use Rattle.mg_rows.specs.declared.outcome.Outcome.TheVariants as outcomes
 use Rattle.mg_rows.specs.declared.statement_fault.StatementFault.{StatementFault}
-use Rattle.mg_rows.specs.declared.statement_fault.StatementFault.TheVariants.{Engine, Arithmetic, NoSavepoint, NothingHeld}
+use Rattle.mg_rows.specs.declared.statement_fault.StatementFault.TheVariants.{Engine, Arithmetic, NoSavepoint}
 use Rattle.mg_rows.specs.Faults.{of_new_row}
 use Rattle.mg_exec.specs.declared.phase.Phase.{Phase}
 use Rattle.mg_exec.specs.declared.phase.Phase.TheVariants as phases

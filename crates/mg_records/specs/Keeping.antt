@@ -1,5 +1,5 @@
 -- What every call of a keeper of records keeps, and the causes of refusals from outside the machine.
-use Rattle.std.specs.Prelude.{◌≡◌, ◌⊎◌, ℕ, ◌≤◌, List, true, false, Option, Some, None, Result, Ok, Err}
+use Rattle.std.specs.Prelude.{◌≡◌, ℕ, ◌≤◌, List, true, false, Option, Some, None, Result, Ok, Err}
 use Rattle.mg_base.specs.Image.{Image}
 use Rattle.mg_base.specs.Disk.{Rose}
 use Rattle.mg_model.specs.declared.opening.Opening.{Opening}

@@ -1,4 +1,4 @@
-use Rattle.std.proofs.Common.{None, refl}
+use Rattle.std.proofs.Common.{refl}
 use Rattle.mg_calls.proofs.WriteLemmas.{all_behind, quiet_nothing}
 use Rattle.mg_calls.proofs.steps.write_next.Goals as goal
 

@@ -1,7 +1,6 @@
 use Rattle.std.proofs.Common.{Some, None, refl, subst, sym}
 use Rattle.mg_model.specs.declared.answer.Answer.TheVariants.{Fine, No}
 use Rattle.mg_model.specs.declared.event.Event.TheVariants.{UndoMark}
-use Rattle.mg_model.specs.declared.refusal.Refusal.TheVariants.{Waits}
 use Rattle.mg_records.specs.Writing.{event_of}
 use Rattle.mg_calls.specs.QuietLaws.{quiet_then}
 use Rattle.mg_calls.specs.Quiet.{AreQuiet}

@@ -1,6 +1,5 @@
-use Rattle.mg_exec.specs.Reading.{in_order, no_memory}
+use Rattle.mg_exec.specs.Reading.{in_order}
 use Rattle.mg_exec.proofs.ReadLemmas.{not_told, told_on, refused_leaves, then_leaves}
-use Rattle.mg_exec.proofs.FrameLemmas.{frames_none}
 use Rattle.mg_exec.proofs.reading.end_reading.Goals as goal
 
 pub returns-in-Ok-tell-clause-ends : goal.returns-in-Ok-tell-clause-ends

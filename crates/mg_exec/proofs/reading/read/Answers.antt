@@ -18,8 +18,11 @@ returns-in-Ok-Record-Some-clause-reads g c = λ o h stands read.
     c.visit_next.new.walk read.visited (Ok visit))
     (c.in-Ok-Record-Some.field-0-is ∙ ap visits.Record c.in-Ok-Record-Some.field-0-0-is)
     (c.in-Ok-Record-Some.ensures.comes o h read.visited stands read.come))
-    (subst (λ (r : Value × Cells). KeepsRow (record { walk = c.visit_next.new.walk;
-    bound = c.args.reading.bound; kept = c.args.reading.kept }) r c.keep_row.result.phase c.keep_row.result.answer)
+    (subst (λ (r : Value × Cells). KeepsRow (record {
+      walk = c.visit_next.new.walk;
+      bound = c.args.reading.bound;
+      kept = c.args.reading.kept;
+    }) r c.keep_row.result.phase c.keep_row.result.answer)
     c.in-Ok-Record-Some.keyed-is c.keep_row.ensures)
 
 pub returns-in-Ok-Record-None-clause-reads : goal.returns-in-Ok-Record-None-clause-reads
