@@ -15,7 +15,7 @@
 //! database yet (`IsUnmade`), or the whole one (`IsMade`).
 //! Invariant: none, it keeps no state.
 //! Below: `mg_space`, for the cache and its faults; `mg_image`, which says what a new database is.
-//! Above: `mg_engine`, which opens a database.
+//! Above: `mg_core`, which opens a database.
 //! Not here: when a database is made, and what a file is on which none may be made.
 #![tactic(auto)]
 

@@ -1,0 +1,48 @@
+//! What an engine has.
+
+use mg_base::{Disk, TxNo, TxState};
+use mg_snap::Live;
+use mg_space::Store;
+use mg_txlist::TxList;
+use mg_waits::Waits;
+use mg_works::Works;
+
+/// What an engine has: the pages with their cache, and its memory of transactions.
+#[derive(Drop)]
+pub struct Core<D> {
+    pub(crate) store: Store<D>,
+    /// What has become of each transaction.
+    pub(crate) list: TxList,
+    /// Those that have not ended, with their bases.
+    pub(crate) live: Live,
+    /// Who waits for whom.
+    pub(crate) waits: Waits,
+    /// The active ones.
+    pub(crate) works: Works,
+    /// How often a page was found damaged.
+    pub(crate) damage: u64,
+    /// How often pages were short.
+    pub(crate) shortages: u64,
+}
+
+impl<D: Disk> Core<D> {
+    ghost use Rattle.std.specs.Prelude.{◌≡◌};
+    ghost use Rattle.mg_txlist.specs.TxList.{said};
+    ghost use Rattle.mg_core.specs.Cores.{IsCore};
+
+    /// What has become of a transaction.
+    pub fn state(&self, t: TxNo) -> TxState
+        requires { IsCore D.meaning self.now }
+        ensures { result ≡ said self.now.list t.0 }
+    {
+        self.list.state(t)
+    }
+
+    /// The disk, with what was written to it.
+    pub fn into_disk(self) -> D
+        ensures { result ≡ self.store.disk }
+    {
+        let Core { store, .. } = self;
+        store.into_disk()
+    }
+}

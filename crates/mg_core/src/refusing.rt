@@ -1,0 +1,84 @@
+//! Faults as refusals.
+
+ghost use Rattle.std.specs.Prelude.{◌≡◌, Err};
+ghost use Rattle.mg_pool.specs.Fault.{OnlyRefuses, OnlyWrites};
+ghost use Rattle.mg_txlist.specs.Ending.{OnlyWritesSpace};
+ghost use Rattle.mg_core.specs.Refusing.{CountsFault, IsRefusal, IsRefusalOf};
+
+use crate::parts::Core;
+use mg_base::{Field, PageNo};
+use mg_model::Refusal;
+use mg_pool::PoolFault;
+use mg_space::SpaceFault;
+
+/// The refusal that a fault of a call is that reads no page and takes no memory.
+pub(crate) fn write_refusal(fault: PoolFault) -> Refusal
+    requires { OnlyWrites {T = Unit {0}} (Err fault) }
+    ensures { IsRefusalOf fault result }
+{
+    match fault {
+        PoolFault::DiskWrite { faults } => Refusal::DiskWrite { faults },
+        PoolFault::Offline { faults } => Refusal::Offline { faults },
+        _ => unreachable!(),
+    }
+}
+
+/// The refusal that an earlier fault is.
+pub(crate) fn offline_refusal(fault: PoolFault) -> Refusal
+    requires { OnlyRefuses {T = Unit {0}} (Err fault) }
+    ensures { IsRefusalOf fault result }
+{
+    match fault {
+        PoolFault::Offline { faults } => Refusal::Offline { faults },
+        _ => unreachable!(),
+    }
+}
+
+/// The refusal that a fault is with which the bits of a transaction were not set.
+pub(crate) fn bits_refusal(fault: SpaceFault) -> Refusal
+    requires { OnlyWritesSpace {T = Unit {0}} (Err fault) }
+    ensures { IsRefusal fault result }
+{
+    match fault {
+        SpaceFault::Pool(fault) => write_refusal(fault),
+        _ => unreachable!(),
+    }
+}
+
+impl<D> Core<D> {
+    /// The refusal that a fault of a call on the pages is. Damage is counted, and so is want of pages.
+    pub(crate) fn refuse(&mut self, fault: SpaceFault) -> Refusal
+        ensures refusal { IsRefusal fault result }
+        ensures counts { CountsFault fault self.old.damage self.new.damage self.old.shortages self.new.shortages }
+        ensures same { self.new ≡ record self.old { damage = self.new.damage; shortages = self.new.shortages } }
+    {
+        match fault {
+            SpaceFault::Full { limit } => {
+                self.shortages = self.shortages.saturating_add(1);
+                Refusal::DatabaseFull { limit }
+            }
+            SpaceFault::Damaged(damage) => {
+                self.damage = self.damage.saturating_add(1);
+                Refusal::Damaged {
+                    page: damage.page,
+                    field: damage.field,
+                    found: damage.found,
+                    wanted: damage.wanted,
+                }
+            }
+            SpaceFault::Pool(PoolFault::DiskRead { faults }) => Refusal::DiskRead { faults },
+            SpaceFault::Pool(PoolFault::DiskWrite { faults }) => Refusal::DiskWrite { faults },
+            SpaceFault::Pool(PoolFault::Offline { faults }) => Refusal::Offline { faults },
+            SpaceFault::Pool(PoolFault::Memory) => Refusal::Memory,
+            SpaceFault::Pool(PoolFault::Absent { pages }) => {
+                self.damage = self.damage.saturating_add(1);
+                Refusal::Damaged {
+                    page: PageNo(0),
+                    field: Field::Presence,
+                    found: u64::from(pages),
+                    wanted: u64::from(pages),
+                }
+            }
+        }
+    }
+}
