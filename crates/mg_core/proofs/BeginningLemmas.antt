@@ -90,6 +90,7 @@ module _ {D : Type 0} (m : Meaning D) (old : Core D) (t session : ℕ) (mode : M
     geometry = subst IsGeometry (sym geometry) is.geometry;
     list = list_is;
     size = adds.size ∙ (is.size ∙ ap (λ (g : Geometry). g.size) (sym geometry));
+    catalog = is.catalog;
     next = entered_next old.live t next ∙ (ap (λ (n : ℕ). n + 1) number ∙ sym adds.next);
     drawn = entered_drawn old.live t is.drawn next;
     active = record {
@@ -132,6 +133,7 @@ core_failed m old store list damage shortages is pool geometry list_is same = re
   geometry = subst IsGeometry (sym geometry) is.geometry;
   list = list_is;
   size = same.size ∙ (is.size ∙ ap (λ (g : Geometry). g.size) (sym geometry));
+  catalog = is.catalog;
   next = is.next ∙ sym (next_same old.list list same);
   drawn = is.drawn;
   active = record {

@@ -1,10 +1,13 @@
 -- What an engine always has, and how each call of a transaction begins.
-use Rattle.std.specs.Prelude.{◌≡◌, ◌≢◌, ℕ, true, List, Option, None, Some, is_some}
+use Rattle.std.specs.Prelude.{◌≡◌, ◌≢◌, ◌<◌, ℕ, true, List, [], Option, None, Some, is_some}
 use Rattle.mg_base.specs.Disk.{Meaning}
+use Rattle.mg_base.specs.declared.geometry.TheConstants.{GREATEST_LIMIT}
 use Rattle.mg_base.specs.declared.transaction.TxState.{TxState}
 use Rattle.mg_base.specs.declared.transaction.TxState.TheVariants.{Active}
+use Rattle.mg_model.specs.Catalog.{catalog_name, catalog_shape}
 use Rattle.mg_model.specs.declared.refusal.Refusal.{Refusal}
 use Rattle.mg_model.specs.declared.refusal.Refusal.TheVariants.{NotActive, Offline}
+use Rattle.mg_model.specs.declared.table.Table.{Table}
 use Rattle.mg_pool.specs.Pool.{IsPool}
 use Rattle.mg_snap.specs.Live.{AreDrawn}
 use Rattle.mg_space.specs.Taking.{IsGeometry}
@@ -17,6 +20,13 @@ pub record AreActive (state : ℕ → TxState) (works : List Working) : Type 0 w
   pub has_work : (t : ℕ) → state t ≡ Active → is_some (work_of works t) ≡ true
   pub is_active : (t : ℕ) → is_some (work_of works t) ≡ true → state t ≡ Active
 
+-- The table of the catalog: its name and its shape are stated, and it has no index.
+pub record IsCatalog (table : Table) : Type 0 where
+  pub named : table.name ≡ catalog_name
+  pub shape : table.shape ≡ catalog_shape
+  pub none : table.indexes ≡ []
+  pub below : table.pointer.0 < GREATEST_LIMIT
+
 -- What does not depend on a history.
 pub record IsCore {D : Type 0} (m : Meaning D) (core : Core D) : Type 0 where
   pub pool : IsPool m core.store
@@ -26,6 +36,7 @@ pub record IsCore {D : Type 0} (m : Meaning D) (core : Core D) : Type 0 where
   pub next : core.live.next ≡ next_said core.list
   pub drawn : AreDrawn core.live
   pub active : AreActive (said core.list) core.works
+  pub catalog : IsCatalog core.catalog
 
 -- a call of a transaction goes on: no page write has failed, and the transaction is active
 abbrev pub Continues : {D : Type 0} → Core D → ℕ → Type 0

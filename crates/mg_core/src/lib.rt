@@ -8,7 +8,8 @@
 //! first. A refusal changes nothing else, but for what was read and counted.
 //!
 //! Invariant (`IsCore`): the cache and the transaction list are lawful and of one page size; the active
-//! transactions are those that the list says are active; the bases' next number is the list's.
+//! transactions are those that the list says are active; the bases' next number is the list's; the
+//! catalog is the table that the file format says.
 //! Below: `mg_space`, for the pages; `mg_txlist`, `mg_snap`, `mg_waits` and `mg_works`, for the memory.
 //! Above: the engine as a keeper of records, which stands for a history.
 //! Not here: histories, what crashes leave, and the records of tables.

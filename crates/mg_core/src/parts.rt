@@ -1,6 +1,7 @@
 //! What an engine has.
 
 use mg_base::{Disk, TxNo, TxState};
+use mg_model::Table;
 use mg_snap::Live;
 use mg_space::Store;
 use mg_txlist::TxList;
@@ -19,6 +20,8 @@ pub struct Core<D> {
     pub(crate) waits: Waits,
     /// The active ones.
     pub(crate) works: Works,
+    /// The table of the catalog, which stands where the header says.
+    pub(crate) catalog: Table,
     /// How often a page was found damaged.
     pub(crate) damage: u64,
     /// How often pages were short.
