@@ -1,3 +1,5 @@
 mod Steps
 mod Given
 mod MachineLemmas
+mod PlacesLemmas
+mod PlacingLemmas

@@ -1,66 +1,18 @@
 -- One step of taking back, and lists of changes.
-use Rattle.std.specs.Prelude.{◌≡◌, ℕ, zero, suc, ◌+◌, ◌-◌, ◌<◌, ◌≤◌, ◌&&◌, ◌||◌, nat_lt, Bool, true, false, List, [], ◌∷◌, length, take, drop, Option, Some, None, IfNone, cond, refl}
-use Rattle.std.proofs.Common.{sym, ◌∙◌, ap, subst, arith, get_or}
+use Rattle.std.specs.Prelude.{◌≡◌, ℕ, zero, suc, ◌-◌, ◌<◌, ◌≤◌, ◌&&◌, ◌||◌, nat_lt, Bool, true, false, List, [], ◌∷◌, length, take, drop, Option, Some, None, IfNone, cond, refl}
+use Rattle.std.proofs.Common.{sym, ◌∙◌, ap, subst, arith}
 use Rattle.std.proofs.lemmas.Bool.{false≢true, ltb-true, lt-ltb, le-ltb}
-use Rattle.std.proofs.lemmas.List.{drop_more}
 use Rattle.std.specs.List.{list_any}
 use Rattle.mg_undo.specs.declared.changes.Change.{Change}
 use Rattle.mg_undo.specs.declared.points.Standing.{Standing}
-use Rattle.mg_undo.specs.Undo.{State, state_of, Taken, is_goal, from_goal, AreWithin, is_same_place, repeats, settled, goal_of, floor_of, arrived_at, give_newest, take_to, take_back, newest}
+use Rattle.mg_undo.specs.Undo.{State, state_of, Taken, is_goal, from_goal, AreWithin, repeats, settled, goal_of, floor_of, arrived_at, give_newest, take_to, take_back, newest}
 
--- ---- one of the changes from some place on
+-- ---- one of the first so many
 
-any_more : {A : Type 0} (test : A → Bool) (n : ℕ) (x : A) (xs : List A) → 0 < n
+pub any_more : {A : Type 0} (test : A → Bool) (n : ℕ) (x : A) (xs : List A) → 0 < n
     → list_any test (take n (x ∷ xs)) ≡ (test x || list_any test (take (n - 1) xs))
 any_more test zero x xs some = absurd (omega arith)
 any_more test (suc n) x xs some = let less : suc n - 1 ≡ n = omega arith in rw less refl
-
-any_at : {A : Type 0} (test : A → Bool) (n i : ℕ) (xs : List A) (x : A) → 0 < n → i < length xs
-    → x ≡ get_or xs i x
-    → list_any test (take n (drop i xs)) ≡ (test x || list_any test (take (n - 1) (drop (i + 1) xs)))
-any_at {A = A} test n i xs x some within is =
-    let front : drop i xs ≡ x ∷ drop (i + 1) xs =
-    drop_more xs i x within ∙ ap (λ (y : A). y ∷ drop (i + 1) xs) (sym is) in
-    ap (λ (ys : List A). list_any test (take n ys)) front ∙ any_more test n x (drop (i + 1) xs) some
-
--- whether one of the changes from the i-th newest on, but for the first so many, has the key of the
--- newest
-abbrev pub any_from : ℕ → ℕ → List Change → Bool
-any_from floor i [] = false
-any_from floor i (c ∷ cs) =
-    list_any (is_same_place c) (take (length (c ∷ cs) - floor - i) (drop i (c ∷ cs)))
-
-module _ (floor i : ℕ) (c : Change) (cs : List Change) (newest_is x : Change)
-    (within : i < length (c ∷ cs) - floor) (first : newest_is ≡ get_or (c ∷ cs) 0 newest_is)
-    (is : x ≡ get_or (c ∷ cs) i x) where
-  same_first : newest_is ≡ c
-  same_first = first
-
-  one_more : any_from floor i (c ∷ cs)
-      ≡ (is_same_place newest_is x || any_from floor (i + 1) (c ∷ cs))
-  one_more =
-      let some : 0 < length (c ∷ cs) - floor - i = omega arith in
-      let inside : i < length (c ∷ cs) = omega arith in
-      let less : length (c ∷ cs) - floor - i - 1 ≡ length (c ∷ cs) - floor - (i + 1) = omega arith in
-      any_at (is_same_place c) (length (c ∷ cs) - floor - i) i (c ∷ cs) x some inside is
-      ∙ ap (λ n. is_same_place c x || list_any (is_same_place c) (take n (drop (i + 1) (c ∷ cs)))) less
-      ∙ ap (λ (d : Change). is_same_place d x || any_from floor (i + 1) (c ∷ cs)) (sym same_first)
-
-pub any_hit : (floor i : ℕ) (items : List Change) (first x : Change) → i < length items - floor
-    → first ≡ get_or items 0 first → x ≡ get_or items i x → is_same_place first x ≡ true
-    → any_from floor i items ≡ true
-any_hit floor i [] first x within first_is is same = absurd (omega arith)
-any_hit floor i (c ∷ cs) first x within first_is is same =
-    one_more floor i c cs first x within first_is is
-    ∙ ap (λ b. b || any_from floor (i + 1) (c ∷ cs)) same
-
-pub any_miss : (floor i : ℕ) (items : List Change) (first x : Change) → i < length items - floor
-    → first ≡ get_or items 0 first → x ≡ get_or items i x → is_same_place first x ≡ false
-    → any_from floor i items ≡ any_from floor (i + 1) items
-any_miss floor i [] first x within first_is is same = absurd (omega arith)
-any_miss floor i (c ∷ cs) first x within first_is is same =
-    one_more floor i c cs first x within first_is is
-    ∙ ap (λ b. b || any_from floor (i + 1) (c ∷ cs)) same
 
 -- ---- changes that repeat an earlier one
 

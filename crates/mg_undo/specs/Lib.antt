@@ -1,2 +1,4 @@
 pub mod Undo
+pub mod Places
+pub mod Placing
 pub mod Machine

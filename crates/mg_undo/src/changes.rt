@@ -1,11 +1,14 @@
 //! The changes of a transaction, each with what was before.
 
-ghost use Rattle.std.specs.Prelude.{◌≡◌, ◌<◌, length, drop};
-ghost use Rattle.mg_undo.specs.Undo.{is_same_place, repeats, settled, without_newest, given_as, newest};
+ghost use Rattle.std.specs.Prelude.{◌≡◌, ◌<◌, [], ◌∷◌, length, drop, OnOk, OnErr};
+ghost use Rattle.mg_undo.specs.Undo.{repeats as repeats_of, settled, without_newest, given_as, newest};
 
-use mg_value::{Key, Row, order};
-use std::cmp::Ordering;
+use crate::places::{Places, place_of};
+use mg_base::Memory;
+use mg_value::{Key, Row};
+use std::alloc::Global;
 use std::collections::VecDeque;
+use std::marker::Model;
 
 /// What a transaction's own change of a key was before the change that is kept.
 #[derive(Debug, Drop)]
@@ -27,56 +30,108 @@ pub struct Change {
     pub was: Was,
 }
 
-impl Change {
-    /// Tells whether another change is of the same key of the same table.
-    pub(crate) fn is_at(&self, other: &Change) -> bool
-        ensures { result ≡ is_same_place other.now self.now }
-    {
-        self.table == other.table && order(self.key.value(), other.key.value()) == Ordering::Equal
-    }
+/// The changes that were kept, with the places of their keys, so that a repeated change is found
+/// without a search.
+#[derive(Debug, Drop)]
+pub struct Changes {
+    /// The newest first.
+    list: VecDeque<Change>,
+    /// The place of each.
+    places: Places,
+    alloc: Global,
 }
 
-/// Tells whether the newest change is of a key that was changed before, after the first `floor`
-/// changes.
-fn repeats_key(changes: &VecDeque<Change>, floor: usize) -> bool
-    requires { floor < length changes.now.items }
-    ensures { result ≡ repeats floor changes.now.items }
-{
-    for i in 1..changes.len() - floor {
-        if changes[i].is_at(&changes[0]) {
-            return true;
+impl Model for Changes {
+    ghost use Rattle.std.specs.Prelude.{List};
+    ghost use Rattle.mg_undo.specs.Placing.{ArePlaced};
+    ghost use Rattle.mg_undo.specs.declared.changes.Change.{Change as AnyChange};
+
+    ghost Value = { List AnyChange };
+
+    ghost view = { λ changes. changes.list.items };
+
+    ghost invariant = { λ changes. ArePlaced changes.list.items changes.places };
+}
+
+impl Changes {
+    /// No change is kept. It takes no memory.
+    pub(crate) fn new(alloc: Global) -> Changes
+        ensures { result ≡ [] }
+    {
+        Changes {
+            list: VecDeque::new(alloc),
+            places: Places::new(alloc),
+            alloc,
         }
     }
-    false
-}
 
-/// Drops the newest changes of keys that were changed before, after the first `floor` changes: what
-/// they were is not what is given back.
-pub(crate) fn drop_repeated(changes: &mut VecDeque<Change>, floor: usize)
-    ensures { changes.new.items ≡ settled floor changes.old.items }
-{
-    while changes.len() > floor && repeats_key(changes, floor) {
-        changes.pop_front();
+    /// How many changes are kept.
+    pub(crate) fn len(&self) -> usize
+        ensures { result ≡ length self.now }
+    {
+        self.list.len()
     }
-}
 
-/// Drops the newest change, where there are more than the first `floor`.
-pub(crate) fn drop_newest(changes: &mut VecDeque<Change>, floor: usize)
-    ensures { changes.new.items ≡ without_newest floor changes.old.items }
-{
-    if changes.len() > floor {
-        changes.pop_front();
+    /// Keeps a change.
+    ///
+    /// # Errors
+    ///
+    /// `Memory` only. Then nothing has changed.
+    pub(crate) fn push(&mut self, table: u32, key: &Key, was: Was) -> Result<(), Memory>
+        ensures ok { OnOk result
+            (self.new ≡ record { table = table; key = key.now; was = was } ∷ self.old) }
+        ensures err { OnErr result (self.new ≡ self.old) }
+    {
+        let place = place_of(table, key, self.alloc)?;
+        let key = key.copy(self.alloc)?;
+        self.list.try_reserve(1)?;
+        self.places.push(place)?;
+        self.list.push_front_reserved(Change { table, key, was });
+        Ok(())
     }
-}
 
-/// Gives the newest change.
-pub(crate) fn pop_change(changes: &mut VecDeque<Change>) -> Option<(u32, Key, Was)>
-    ensures given { result ≡ given_as (newest changes.old.items) }
-    ensures rest { changes.new.items ≡ drop 1 changes.old.items }
-{
-    let Some(change) = changes.pop_front() else {
-        return None;
-    };
-    let Change { table, key, was } = change;
-    Some((table, key, was))
+    /// Tells whether the newest change is of a key that was changed before, after the first `floor`
+    /// changes.
+    fn repeats(&self, floor: usize) -> bool
+        ensures { result ≡ repeats_of floor self.now }
+    {
+        self.places.repeats(floor)
+    }
+
+    /// Takes the newest change out.
+    fn take_newest(&mut self) -> Option<Change>
+        ensures newest { result ≡ newest self.old }
+        ensures rest { self.new ≡ drop 1 self.old }
+    {
+        self.places.pop();
+        self.list.pop_front()
+    }
+
+    /// Drops the newest changes of keys that were changed before, after the first `floor` changes:
+    /// what they were is not what is given back.
+    pub(crate) fn drop_repeated(&mut self, floor: usize)
+        ensures { self.new ≡ settled floor self.old }
+    {
+        while self.len() > floor && self.repeats(floor) {
+            self.take_newest();
+        }
+    }
+
+    /// Drops the newest change, where there are more than the first `floor`.
+    pub(crate) fn drop_newest(&mut self, floor: usize)
+        ensures { self.new ≡ without_newest floor self.old }
+    {
+        if self.len() > floor {
+            self.take_newest();
+        }
+    }
+
+    /// Gives the newest change.
+    pub(crate) fn pop(&mut self) -> Option<(u32, Key, Was)>
+        ensures given { result ≡ given_as (newest self.old) }
+        ensures rest { self.new ≡ drop 1 self.old }
+    {
+        let Change { table, key, was } = self.take_newest()?;
+        Some((table, key, was))
+    }
 }

@@ -4,10 +4,13 @@
 //! Owns: `Undo`, a list of changes, the newest first, and the points that stand, each with the number
 //! of changes that were there when it was set. What is taken back takes with it the points that were
 //! set after the point gone back to. A mark ends by it, and a savepoint stays.
+//! `Places`, the keys of the changes as an index map in the order of their first changes: of each
+//! change it tells which one of the same key was the last before, so that nothing is searched when
+//! changes are taken back. A key leaves the map with its first change, and then it is the last.
 //!
 //! Invariant: a point stands no higher than the changes that are left, and no lower than an older
-//! point.
-//! Below: `mg_value`, and `mg_model` for the laws. Above: the engine, which keeps each change before
+//! point. The places are those of the changes.
+//! Below: `mg_value`; `mg_sortkey`, whose bytes tell keys apart; `mg_model` for the laws. Above: the engine, which keeps each change before
 //! it makes it, and writes back what it is given.
 //! Not here: the rows that are there now, and the pages. Taking back all, as a rollback does, needs
 //! no list.
@@ -15,14 +18,16 @@
 
 mod changes;
 mod laws;
+mod places;
 mod points;
 mod undo;
 
-pub use changes::{Change, Was};
+pub use changes::{Change, Changes, Was};
 pub use laws::{
     a_retracted_change_was_not_kept, taking_back_gives_first_changes, the_list_follows_the_machine,
     what_was_is_given,
 };
+pub use places::{Place, Places, Push};
 pub use points::Standing;
 pub use undo::Undo;
 

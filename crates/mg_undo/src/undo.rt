@@ -3,7 +3,7 @@
 ghost use Rattle.std.specs.Prelude.{◌≡◌, ◌&&◌, [], false, is_some, OnOk, OnErr};
 ghost use Rattle.mg_undo.specs.Undo.{after_keep, after_retract, after_point, after_back_to, has_point, take_back as taken_back, given_as, state_of};
 
-use crate::changes::{Change, Was, drop_newest, drop_repeated, pop_change};
+use crate::changes::{Changes, Was};
 use crate::points::{Standing, drop_to_goal, end_mark, floor_at, go_to_goal, has_goal};
 use mg_base::Memory;
 use mg_value::{Key, Name};
@@ -14,13 +14,11 @@ use std::marker::Model;
 /// What a transaction has to take back: its changes with what was before, and the points that stand.
 #[derive(Debug, Drop)]
 pub struct Undo {
-    /// The newest first.
-    changes: VecDeque<Change>,
+    changes: Changes,
     /// The newest first.
     points: VecDeque<Standing>,
     /// A savepoint was named to which the changes are taken back.
     going_back: bool,
-    alloc: Global,
 }
 
 impl Model for Undo {
@@ -30,12 +28,12 @@ impl Model for Undo {
     ghost Value = { State };
 
     ghost view = { λ undo. record {
-      changes = undo.changes.items;
+      changes = undo.changes;
       points = undo.points.items;
       going_back = undo.going_back;
     } };
 
-    ghost invariant = { λ undo. AreWithin (length undo.changes.items) undo.points.items };
+    ghost invariant = { λ undo. AreWithin (length undo.changes) undo.points.items };
 }
 
 impl Undo {
@@ -44,10 +42,9 @@ impl Undo {
         ensures { result ≡ record { changes = []; points = []; going_back = false } }
     {
         Undo {
-            changes: VecDeque::new(alloc),
+            changes: Changes::new(alloc),
             points: VecDeque::new(alloc),
             going_back: false,
-            alloc,
         }
     }
 
@@ -62,12 +59,7 @@ impl Undo {
         ensures ok { OnOk result (self.new ≡ after_keep self.old table key.now old) }
         ensures err { OnErr result (self.new ≡ self.old) }
     {
-        let key = key.copy(self.alloc)?;
-        self.changes.push_front(Change {
-            table,
-            key,
-            was: old,
-        })?;
+        self.changes.push(table, key, old)?;
         self.going_back = false;
         Ok(())
     }
@@ -77,7 +69,8 @@ impl Undo {
     pub fn retract(&mut self)
         ensures after { self.new ≡ after_retract self.old }
     {
-        drop_newest(&mut self.changes, floor_at(&self.points).unwrap_or(0));
+        self.changes
+            .drop_newest(floor_at(&self.points).unwrap_or(0));
     }
 
     /// Sets a point at the changes that are kept now.
@@ -150,23 +143,23 @@ impl Undo {
 
 /// Takes back the newest change that is left since the point gone back to.
 fn take_newest(
-    changes: &mut VecDeque<Change>,
+    changes: &mut Changes,
     points: &mut VecDeque<Standing>,
     going_back: bool,
 ) -> Option<(u32, Key, Was)>
     ensures given { result
-        ≡ given_as (taken_back (state_of changes.old.items points.old.items going_back)).given }
-    ensures changes { changes.new.items
-        ≡ (taken_back (state_of changes.old.items points.old.items going_back)).after.changes }
+        ≡ given_as (taken_back (state_of changes.old points.old.items going_back)).given }
+    ensures changes { changes.new
+        ≡ (taken_back (state_of changes.old points.old.items going_back)).after.changes }
     ensures points { points.new.items
-        ≡ (taken_back (state_of changes.old.items points.old.items going_back)).after.points }
+        ≡ (taken_back (state_of changes.old points.old.items going_back)).after.points }
 {
     let Some(floor) = go_to_goal(points, going_back) else {
         return None;
     };
-    drop_repeated(changes, floor);
+    changes.drop_repeated(floor);
     if changes.len() > floor {
-        return pop_change(changes);
+        return changes.pop();
     }
     end_mark(points, going_back);
     None

@@ -5,6 +5,6 @@ use Rattle.mg_undo.proofs.undo.Undo.take_back.Goals as goal
 pub invariant_of-self : goal.invariant_of-self
 invariant_of-self c =
     within_after
-    (state_of c.self.inside.changes.items c.self.inside.points.items c.self.inside.going_back)
-    c.take_newest-given.new.changes.items c.take_newest-given.new.points.items
+    (state_of c.self.inside.changes c.self.inside.points.items c.self.inside.going_back)
+    c.take_newest-given.new.changes c.take_newest-given.new.points.items
     c.take_newest-given.ensures.changes c.take_newest-given.ensures.points c.self.invariant
