@@ -19,4 +19,3 @@ pub mod DescentLaws
 pub mod PlaceLaws
 pub mod SearchLaws
 pub mod RowLaws
-pub mod OnceLaws
