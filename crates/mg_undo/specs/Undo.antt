@@ -1,5 +1,5 @@
 -- What a transaction has to take back, and what is given back.
-use Rattle.std.specs.Prelude.{◌≡◌, ℕ, ◌-◌, ◌≤◌, ◌==◌, ◌&&◌, nat_lt, Bool, true, false, List, [], ◌∷◌, length, take, drop, Option, Some, None, if◌then◌else◌}
+use Rattle.std.specs.Prelude.{◌≡◌, ℕ, ◌-◌, ◌≤◌, ◌==◌, ◌&&◌, nat_lt, Bool, true, false, List, [], ◌∷◌, length, take, drop, Option, Some, None, unwrap_or, if◌then◌else◌}
 use Rattle.std.specs.List.{list_any}
 use Rattle.mg_value.specs.declared.value.Value.{Value}
 use Rattle.mg_model.specs.Changes.{same_name, same_key}
@@ -39,6 +39,11 @@ abbrev pub from_goal : Option (List ℕ) → List Standing → List Standing
 from_goal name [] = []
 from_goal name (p ∷ ps) = if is_goal name p then p ∷ ps else from_goal name ps
 
+-- how many changes had been kept when the first of these points was set
+abbrev pub floor_of : List Standing → Option ℕ
+floor_of [] = None
+floor_of (p ∷ ps) = Some p.at
+
 -- no point stands higher than the changes, or than a newer point
 abbrev pub AreWithin : ℕ → List Standing → Type 0
 AreWithin most [] = Unit {0}
@@ -53,6 +58,25 @@ after_keep state table key was = record {
   points = state.points;
   going_back = false;
 }
+
+-- the changes without the newest one, if there are more than the first so many
+abbrev pub without_newest : ℕ → List Change → List Change
+without_newest floor changes = if nat_lt floor (length changes) then drop 1 changes else changes
+
+-- the last change that was kept is dropped, if it was kept since the newest point
+abbrev pub after_retract : State → State
+after_retract state = record {
+  changes = without_newest (unwrap_or (floor_of state.points) 0) state.changes;
+  points = state.points;
+  going_back = state.going_back;
+}
+
+-- what was kept and is then taken back leaves the changes and points that there were
+abbrev pub RetractTakesKeepBack : Type 0
+RetractTakesKeepBack = (state : State) (table : ℕ) (key : Value) (was : Was)
+    → AreWithin (length state.changes) state.points
+    → after_retract (after_keep state table key was)
+    ≡ record { changes = state.changes; points = state.points; going_back = false }
 
 -- a mark is set, or a savepoint of the name
 abbrev pub after_point : State → Option (List ℕ) → State
@@ -136,11 +160,6 @@ goal_of false points = from_goal None points
 
 abbrev pub goal_points : State → List Standing
 goal_points state = goal_of state.going_back state.points
-
--- how many changes had been kept when the first of these points was set
-abbrev pub floor_of : List Standing → Option ℕ
-floor_of [] = None
-floor_of (p ∷ ps) = Some p.at
 
 -- one step of taking back
 abbrev pub take_back : State → Taken

@@ -1,7 +1,7 @@
 //! The changes of a transaction, each with what was before.
 
 ghost use Rattle.std.specs.Prelude.{◌≡◌, ◌<◌, length, drop};
-ghost use Rattle.mg_undo.specs.Undo.{is_same_place, repeats, settled, given_as, newest};
+ghost use Rattle.mg_undo.specs.Undo.{is_same_place, repeats, settled, without_newest, given_as, newest};
 
 use mg_value::{Key, Row, order};
 use std::cmp::Ordering;
@@ -56,6 +56,15 @@ pub(crate) fn drop_repeated(changes: &mut VecDeque<Change>, floor: usize)
     ensures { changes.new.items ≡ settled floor changes.old.items }
 {
     while changes.len() > floor && repeats_key(changes, floor) {
+        changes.pop_front();
+    }
+}
+
+/// Drops the newest change, where there are more than the first `floor`.
+pub(crate) fn drop_newest(changes: &mut VecDeque<Change>, floor: usize)
+    ensures { changes.new.items ≡ without_newest floor changes.old.items }
+{
+    if changes.len() > floor {
         changes.pop_front();
     }
 }

@@ -1,8 +1,13 @@
 //! What is given back, in a history: the statements stand in `specs/Undo.antt` and
 //! `specs/Machine.antt`. Each function does nothing: its contract is a law.
 
-ghost use Rattle.mg_undo.specs.Undo.{GivesFirstChanges};
+ghost use Rattle.mg_undo.specs.Undo.{RetractTakesKeepBack, GivesFirstChanges};
 ghost use Rattle.mg_undo.specs.Machine.{NotesDeeds, GoesBackAsTheMachine, GivesWhatWas};
+
+/// A change that is kept and then retracted leaves the changes and points that there were before.
+pub fn a_retracted_change_was_not_kept()
+    ensures { RetractTakesKeepBack }
+{}
 
 /// Taking back to a point gives each key that was changed since it once, with what was before its
 /// first change, and the key that was changed first comes last.

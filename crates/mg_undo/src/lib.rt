@@ -19,7 +19,10 @@ mod points;
 mod undo;
 
 pub use changes::{Change, Was};
-pub use laws::{taking_back_gives_first_changes, the_list_follows_the_machine, what_was_is_given};
+pub use laws::{
+    a_retracted_change_was_not_kept, taking_back_gives_first_changes, the_list_follows_the_machine,
+    what_was_is_given,
+};
 pub use points::Standing;
 pub use undo::Undo;
 

@@ -65,7 +65,7 @@ pub(crate) fn drop_to_goal(points: &mut VecDeque<Standing>, name: &Option<Name>)
 }
 
 /// How many changes had been kept when the newest point was set.
-fn floor_at(points: &VecDeque<Standing>) -> Option<usize>
+pub(crate) fn floor_at(points: &VecDeque<Standing>) -> Option<usize>
     ensures { result ≡ floor_of points.now.items }
 {
     match points.front() {

@@ -77,3 +77,29 @@ fn a_savepoint_goes_with_what_is_taken_back_before_it(rt: HostRuntime) -> Result
     assert!(rt; !undo.back_to(&name), "it is gone");
     Ok(())
 }
+
+#[test]
+fn a_retracted_change_is_not_given(rt: HostRuntime) -> Result<(), Fail> {
+    let mut undo = Undo::new(rt.alloc());
+    undo.mark()?;
+    keep(&mut undo, 1)?;
+    keep(&mut undo, 2)?;
+    undo.retract();
+    gives(&rt, &mut undo, 1)?;
+    gives_none(&rt, &mut undo);
+    Ok(())
+}
+
+#[test]
+fn what_was_kept_before_the_point_is_not_retracted(rt: HostRuntime) -> Result<(), Fail> {
+    let mut undo = Undo::new(rt.alloc());
+    let name = name()?;
+    undo.name(&name)?;
+    keep(&mut undo, 1)?;
+    undo.mark()?;
+    undo.retract();
+    assert!(rt; undo.back_to(&name));
+    gives(&rt, &mut undo, 1)?;
+    gives_none(&rt, &mut undo);
+    Ok(())
+}

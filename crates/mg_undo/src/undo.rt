@@ -1,10 +1,10 @@
 //! What a transaction has to take back.
 
 ghost use Rattle.std.specs.Prelude.{◌≡◌, ◌&&◌, [], false, is_some, OnOk, OnErr};
-ghost use Rattle.mg_undo.specs.Undo.{after_keep, after_point, after_back_to, has_point, take_back as taken_back, given_as, state_of};
+ghost use Rattle.mg_undo.specs.Undo.{after_keep, after_retract, after_point, after_back_to, has_point, take_back as taken_back, given_as, state_of};
 
-use crate::changes::{Change, Was, drop_repeated, pop_change};
-use crate::points::{Standing, drop_to_goal, end_mark, go_to_goal, has_goal};
+use crate::changes::{Change, Was, drop_newest, drop_repeated, pop_change};
+use crate::points::{Standing, drop_to_goal, end_mark, floor_at, go_to_goal, has_goal};
 use mg_base::Memory;
 use mg_value::{Key, Name};
 use std::alloc::Global;
@@ -70,6 +70,14 @@ impl Undo {
         })?;
         self.going_back = false;
         Ok(())
+    }
+
+    /// Takes the last `keep` back, of which the change was not made after all: drops the newest
+    /// change, where one was kept since the newest point. Else nothing changes. It takes no memory.
+    pub fn retract(&mut self)
+        ensures after { self.new ≡ after_retract self.old }
+    {
+        drop_newest(&mut self.changes, floor_at(&self.points).unwrap_or(0));
     }
 
     /// Sets a point at the changes that are kept now.
