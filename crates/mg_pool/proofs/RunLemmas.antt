@@ -3,11 +3,11 @@ use Rattle.std.proofs.Common.{◌≡◌, ◌≢◌, ◌≤◌, ℕ, ◌+◌, ◌
 use Rattle.std.specs.Prelude.{Result, Ok, Err, OnOk, OnErr, min, ◌^◌}
 use Rattle.std.proofs.lemmas.Bool.{cases_Bool, cases_eq, eq-eqb, ne_eqb, both_ways, and_parts, and_from, false_from_ne_true}
 use Rattle.mg_base.specs.Image.{Image}
-use Rattle.mg_base.specs.Disk.{Meaning, MayLeave, Rose}
+use Rattle.mg_base.specs.Disk.{Keeps, Meaning, MayLeave, Rose}
 use Rattle.mg_careful.specs.Graph.{PageGraph, IsFirstReady, is_ordered}
 use Rattle.mg_careful.specs.GraphLaws.{ordered_entered, precedes_entered}
 use Rattle.mg_pool.specs.Fault.{Counts}
-use Rattle.mg_pool.specs.Run.{HasWritten, WritesPage}
+use Rattle.mg_pool.specs.Run.{HasWritten, TimeGoesOn, WritesPage}
 use Rattle.mg_careful.specs.Precedence.{Orders, Precedes, directly, through}
 use Rattle.mg_careful.specs.PrecedenceLaws.{precedes_in}
 use Rattle.mg_careful.specs.CarefulWrite.{PageSet}
@@ -33,6 +33,33 @@ run_leaves m holds counts start now next run crash told old held =
     let first = run.crash told old held in
     leaves_then m start.disk now.disk next start.dirty now.dirty start.graph now.graph old middle.0 (taken_out start.dirty now.dirty) (run.out told old middle.0 held middle.1)
     (λ image may. counts now.disk (m.moment start.disk) image told_now first.later may) first (crash told_now middle.0 middle.1)
+
+-- time goes on at a disk that was not called, over one call, and over two runs
+pub time_stands : {D : Type 0} (m : Meaning D) (disk : D) → TimeGoesOn m disk disk
+time_stands m disk = record {
+  tells = refl;
+  never_falls = omega arith;
+  later = λ told. omega arith;
+  keeps = λ told t c early left. left;
+}
+
+pub time_of_call : {D T E : Type 0} (m : Meaning D) (old new : D) (result : Result T E) → Keeps m old new result
+    → TimeGoesOn m old new
+time_of_call m old new result keeps = record {
+  tells = keeps.tells;
+  never_falls = keeps.never_falls;
+  later = λ told. (keeps.time told).later;
+  keeps = λ told. (keeps.time told).keeps;
+}
+
+pub time_then : {D : Type 0} (m : Meaning D) (a b c : D) → TimeGoesOn m a b → TimeGoesOn m b c → TimeGoesOn m a c
+time_then m a b c first next = record {
+  tells = next.tells ∙ first.tells;
+  never_falls = omega (arith, first.never_falls, next.never_falls);
+  later = λ told. let one = first.later told in let two = next.later (first.tells ∙ told) in omega (arith, one, two);
+  keeps = λ told t image early left. let one = first.later told in
+      next.keeps (first.tells ∙ told) t image (omega (arith, early, one)) (first.keeps told t image early left);
+}
 
 -- the same pages were written, told by another test
 writes_same : (d0 d1 : DirtyPages) (g0 g1 : PageGraph) (i0 i1 : Image) (gone other : PageSet) → ((p : ℕ) → gone p ≡ other p) → WritesSet d0 d1 g0 g1 i0 i1 gone → WritesSet d0 d1 g0 g1 i0 i1 other
@@ -101,6 +128,7 @@ run_starts m start pool = record {
   asked = omega arith;
   orders = tied_orders start.dirty start.graph pool.tied;
   before = λ a b o out. absurd (both_ways _ out (sym (pool.tied.entered b) ∙ (ordered_entered start.graph a b o).1));
+  time = time_stands m start.disk;
   crash = λ told old held. leaves_none m start.disk start.dirty start.graph old;
   out = λ told old new held_old held_new.
       let e : Some old ≡ Some new = sym held_old ∙ held_new in
@@ -166,6 +194,7 @@ module _ {D L : Type 0} (m : Meaning D) (holds : Holds m) (counts : CountsNow m)
           | inl e ↦ both_ways _ (ready a) (ap (is_ordered now.graph a) (sym e) ∙ (run.orders a b ∙ and_from _ _ o (and_from _ _ s.1 (ap (is_dirty now.dirty) e ∙ dirty))))
           | inr apart ↦ both_ways _ (run.before a b o (sym (same_else b apart) ∙ out)) s.1
         ]);
+    time = time_then m start.disk now.disk next.disk run.time w.time;
     crash = run_leaves m holds counts start now next.disk run w.crash;
     out = λ told old new held_old held_new.
         let middle = holds now.disk (run.tells ∙ told) in
@@ -206,6 +235,7 @@ run_then m holds counts a b c first next = record {
     ]
     | inr gone ↦ false_from_ne_true _ (λ back. both_ways _ (first.before x y o gone) (next.fewer x back))
   ];
+  time = time_then m a.disk b.disk c.disk first.time next.time;
   crash = run_leaves m holds counts a b c.disk first next.crash;
   out = λ told old new held_old held_new.
       let middle = holds b.disk (first.tells ∙ told) in

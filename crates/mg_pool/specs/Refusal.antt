@@ -8,7 +8,7 @@ use Rattle.mg_pool.specs.declared.fault.PoolFault.TheVariants.{DiskRead, DiskWri
 use Rattle.mg_pool.specs.Dirty.{is_dirty}
 use Rattle.mg_pool.specs.Fault.{Counts}
 use Rattle.mg_pool.specs.Pool.{IsPool, KeepsPages, LeavesOverlays}
-use Rattle.mg_pool.specs.Run.{HasWritten}
+use Rattle.mg_pool.specs.Run.{HasWritten, TimeGoesOn}
 
 -- A page write failed, of a dirty page that no page preceded. Nothing has changed but the disk, and
 -- what the pool keeps of its faults.
@@ -22,6 +22,7 @@ pub record FailsWrite {D L : Type 0} (m : Meaning D) (old new : Pool D L) (fault
   pub pool : IsPool m new
   pub told : (n : ℕ) × (fault ≡ DiskWrite n) × (new.offline ≡ Some n) × Counts m old new n
   pub kept : KeepsPages m old new
+  pub time : TimeGoesOn m old.disk new.disk
   pub crash : LeavesOverlays m old new
 
 -- pages were written out, each after those that precede it, and then one page write failed

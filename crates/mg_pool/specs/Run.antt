@@ -10,6 +10,15 @@ use Rattle.mg_pool.specs.Batch.{IsOrPrecedes}
 use Rattle.mg_pool.specs.Dirty.{content_of, is_dirty, is_marked, TakesOut}
 use Rattle.mg_pool.specs.Pool.{IsPool, WritesOut, WritesSet, taken_out, LeavesOverlays}
 
+-- Time went on at a disk: it tells what it told, its count of faults has not fallen, and what a crash might
+-- have left it still might have left.
+pub record TimeGoesOn {D : Type 0} (m : Meaning D) (old new : D) : Type 0 where
+  pub tells : m.tells new ≡ m.tells old
+  pub never_falls : m.faults old ≤ m.faults new
+  pub later : m.tells old ≡ true → m.moment old ≤ m.moment new
+  pub keeps : m.tells old ≡ true → (t : ℕ) (c : Image) → t ≤ m.moment old → m.left old t c
+      → m.left new t c
+
 -- one page was written out, and nothing else has happened
 pub record WritesPage {D L : Type 0} (m : Meaning D) (old new : Pool D L) (page : ℕ) : Type 0 where
   pub pool : IsPool m new
@@ -23,6 +32,7 @@ pub record WritesPage {D L : Type 0} (m : Meaning D) (old new : Pool D L) (page 
   pub cleared : ClearsPage old.graph new.graph page
   pub out : (i j : Image) → m.held old.disk ≡ Some i → m.held new.disk ≡ Some j
       → WritesOut old.dirty new.dirty old.graph new.graph i j page
+  pub time : TimeGoesOn m old.disk new.disk
   pub crash : LeavesOverlays m old new
 
 -- Since the start pages were written out, each after those that precede it, and nothing else has
@@ -54,6 +64,7 @@ pub record HasWritten {D L : Type 0} (m : Meaning D) (start now : Pool D L) : Ty
   pub out : m.tells start.disk ≡ true → (old new : Image) → m.held start.disk ≡ Some old
       → m.held now.disk ≡ Some new → WritesSet start.dirty now.dirty start.graph now.graph old new
       (taken_out start.dirty now.dirty)
+  pub time : TimeGoesOn m start.disk now.disk
   pub crash : LeavesOverlays m start now
 
 -- every page that precedes the goal is written, and no other

@@ -17,7 +17,6 @@
 mod answer;
 mod laws;
 mod line;
-mod number;
 mod putting;
 mod reading;
 mod refusal;

@@ -10,9 +10,9 @@ ghost use Rattle.mg_script.specs.declared.line.Session.{Session as AnySession};
 ghost use Rattle.mg_sql.specs.Plain.{plain_of};
 
 use crate::line::{LineKind, MOST_STEPS, SESSIONS, Session};
-use crate::number;
 use crate::splitting::{behind, two_numbers};
 use mg_base::{Bytes, Memory};
+use mg_decimal::{signed, unsigned};
 use mg_sql::{SqlFault, Statement, parse, statements_have_no_fault, texts_are_one_statement};
 use std::alloc::Global;
 
@@ -151,7 +151,7 @@ fn read_get(text: &[u8]) -> Option<i64>
     let Some(spelled) = behind(text, b"@get ") else {
         return None;
     };
-    number::signed(spelled)
+    signed(spelled)
 }
 
 // The session and the number of a line `@step A n`.
@@ -203,7 +203,7 @@ fn number_behind(text: &[u8], word: &[u8]) -> Option<u32>
     let Some(spelled) = behind(text, word) else {
         return None;
     };
-    number::unsigned(spelled)
+    unsigned(spelled)
 }
 
 // The session of a letter A to P.

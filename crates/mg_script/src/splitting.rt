@@ -4,7 +4,7 @@ ghost use Rattle.std.specs.Prelude.{◌≡◌, ◌≢◌, ◌<◌, ◌∷◌, �
 ghost use Rattle.std.specs.Str.Lines.{lines, strip_carriage_return};
 ghost use Rattle.mg_script.specs.Spelling.{AreSpelled, IsFirst, StandsNowhere};
 
-use crate::number;
+use mg_decimal::signed;
 
 /// The first line of a script that is not empty, without its end, and the script behind it.
 pub(crate) fn first_line(script: &[u8]) -> (&[u8], &[u8])
@@ -66,10 +66,10 @@ pub(crate) fn two_numbers(text: &[u8], separator: &[u8]) -> Option<(i64, i64)>
     let Some(rest) = behind(others, separator) else {
         return None;
     };
-    let Some(first) = number::signed(spelled) else {
+    let Some(first) = signed(spelled) else {
         return None;
     };
-    let Some(second) = number::signed(rest) else {
+    let Some(second) = signed(rest) else {
         return None;
     };
     Some((first, second))

@@ -1,6 +1,7 @@
 use Rattle.std.proofs.Common.{◌≡◌, ◌≢◌, ◌∙◌, arith, sym, ap, inl, inr, Some, None, [], refl}
 use Rattle.mg_pool.specs.Dirty.{content_of, is_dirty}
 use Rattle.mg_pool.proofs.PoolLemmas.{tied_after, writes_out, overlay_of_page, leaves_after, size_stays, held_after, still_dirty, clean_written, clean_failed, failed_leaves, on_disk_after, shown_failed}
+use Rattle.mg_pool.proofs.RunLemmas.{time_of_call}
 use Rattle.mg_pool.proofs.pool.Pool.write_out.Goals as goal
 
 pub returns-in-Err : goal.returns-in-Err
@@ -35,6 +36,7 @@ returns-in-Err g c =
         same_shown = λ told i j held_i held_j page. shown_failed m c.args.self.now.disk c.write.new.self c.args.self.now.dirty c.args.page c.in-Some.bytes.now _ content c.in-Some.ensures.whole writes i j held_i held_j page;
         contents = λ page dirty. refl;
       };
+      time = time_of_call m c.args.self.now.disk c.write.new.self _ writes.keeps;
       crash = λ told image held.
           leaves_after m c.args.self.now.disk c.write.new.self c.args.page c.in-Some.bytes.now _ _ writes told
           (λ after now. elim (failed_leaves m g.met.D.Disk.holds c.args.self.now.disk c.write.new.self c.args.page c.in-Some.bytes.now _ writes told image held after now) [
@@ -75,6 +77,7 @@ returns-in-Ok g c =
             let apart : page ≢ c.args.page = λ e. let gone = pool.apart page (ap (is_dirty c.args.self.now.dirty) e ∙ c.requires.dirty) in let f : Some bytes ≡ None = sym there ∙ gone in cc in
             clean_written m g.met.D.Disk.holds c.args.self.now.disk c.write.new.self c.args.page c.args.self.now.geometry.size c.in-Some.bytes.now (c.in-Some.ensures.whole ∙ pool.page_size) page apart bytes (λ t i h. pool.clean t i h page bytes there) _ writes told image held;
       };
+      time = time_of_call m c.args.self.now.disk c.write.new.self _ writes.keeps;
       crash = λ told image held.
           leaves_after m c.args.self.now.disk c.write.new.self c.args.page c.in-Some.bytes.now _ _ writes told
           (λ after now. inr (let e = held_after m c.args.self.now.disk c.write.new.self c.args.page c.in-Some.bytes.now _ writes image after held now in

@@ -1,5 +1,4 @@
-//! Numbers as a script and a command line spell them: decimal digits without a leading zero, and
-//! `-` before a negative one.
+//! The number that a text spells.
 
 ghost use Rattle.std.specs.Prelude.{◌≡◌, ◌≢◌, ◌<◌, ◌^◌, ℕ, ℤ, decimal, MatchOption, FitsSigned};
 ghost use Rattle.std.specs.Int.{w64};
