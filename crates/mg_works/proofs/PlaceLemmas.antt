@@ -1,9 +1,11 @@
 -- A transaction's place is set to another work.
-use Rattle.std.proofs.Common.{◌≡◌, ◌<◌, ℕ, zero, suc, List, [], ◌∷◌, arith, Option, Result, Ok, Err, get_or, set, length, sym, ◌∙◌, ap, refl, subst}
-use Rattle.std.specs.Prelude.{OnErr, OnOk}
+use Rattle.std.proofs.Common.{◌≡◌, ◌<◌, ℕ, zero, suc, Bool, true, false, List, [], ◌∷◌, arith, Bor, cond, Option, None, Some, Result, Ok, Err, get_or, set, length, sym, ◌∙◌, ap, refl, subst}
+use Rattle.std.specs.Option.{option_copied}
+use Rattle.std.specs.Prelude.{IfSome, OnErr, OnOk}
+use Rattle.mg_model.specs.Changes.{same_name}
 use Rattle.mg_base.specs.declared.memory.Memory.{Memory}
 use Rattle.mg_model.specs.declared.table.Table.{Table}
-use Rattle.mg_works.specs.Works.{AreApart, IsNowhere, IsPlaceOf, IsWork, MayBeGiven, Working, has_asked, with_point, with_table, with_work, without_tables}
+use Rattle.mg_works.specs.Works.{AllMayBeGiven, AreApart, IsNowhere, IsPlaceOf, IsWork, MayBeGiven, Working, given_in, has_asked, with_point, with_table, with_work, without_tables}
 use Rattle.mg_works.specs.WorksLaws.{none_untouched, nowhere_none, set_is_with, with_apart}
 
 -- what a call makes of a work keeps its number and its session, and is lawful
@@ -86,3 +88,23 @@ pub lawful_at : (works : List Working) (place : ℕ) (d : Working) → AreApart 
 lawful_at [] place d apart inside = absurd (omega (arith, inside))
 lawful_at (w ∷ works) zero d apart inside = apart.2
 lawful_at (w ∷ works) (suc place) d apart inside = lawful_at works place d apart.3 (omega (arith, inside))
+
+-- a table that was given is lawful
+given_lawful : (tables : List Table) (name : List ℕ) (table : Table) → AllMayBeGiven tables
+    → given_in tables name ≡ Some table → MayBeGiven table
+given_lawful [] name table all is = absurd cc
+given_lawful (x ∷ tables) name table all is = at (same_name name x.name) is (given_lawful tables name table all.1)
+  where
+    some : (a b : Table) → Some a ≡ Some b → a ≡ b
+    some a b e = cc
+
+    at : (b : Bool) → cond b (Some x) (given_in tables name) ≡ Some table
+        → (given_in tables name ≡ Some table → MayBeGiven table) → MayBeGiven table
+    at true is more = subst MayBeGiven (some x table is) all.0
+    at false is more = more is
+
+-- and so is one that a work tells
+pub told_lawful : (w : Working) (name : List ℕ) (found : Option (Bor Table)) → IsWork w
+    → option_copied found ≡ given_in w.tables name → IfSome found (λ table. MayBeGiven table.now)
+told_lawful w name None is told = tt
+told_lawful w name (Some table) is told = given_lawful w.tables name table.now is.lawful (sym told)

@@ -1,6 +1,7 @@
 -- The active transactions that are in memory, and what calls make of them.
 use Rattle.std.specs.Prelude.{◌≡◌, ◌≢◌, ◌<◌, ◌≤◌, ◌==◌, ◌||◌, ◌∷◌, ℕ, Bool, true, false, not, List, [], length, Option, None, Some, if◌then◌else◌, slice_index_or}
 use Rattle.std.specs.List.{filter}
+use Rattle.mg_base.specs.declared.geometry.TheConstants.{GREATEST_LIMIT}
 use Rattle.mg_value.specs.declared.shape.TheConstants.{MOST_COLUMNS}
 use Rattle.mg_model.specs.declared.event.Mode.{Mode}
 use Rattle.mg_model.specs.declared.table.Table.{Table}
@@ -82,9 +83,11 @@ has_asked w = record w { asked = true }
 
 -- ---- what always holds
 
--- a table that may be given: its columns are no more than tables have
-abbrev pub MayBeGiven : Table → Type 0
-MayBeGiven table = length table.shape.columns ≤ MOST_COLUMNS
+-- A table that may be given: its columns are no more than tables have, and its first page lies below the
+-- greatest limit.
+pub record MayBeGiven (table : Table) : Type 0 where
+  pub columns : length table.shape.columns ≤ MOST_COLUMNS
+  pub pointer : table.pointer.0 < GREATEST_LIMIT
 
 abbrev pub AllMayBeGiven : List Table → Type 0
 AllMayBeGiven [] = Unit {0}

@@ -2,7 +2,7 @@
 
 ghost use Rattle.std.specs.Prelude.{◌≡◌, ◌<◌, ◌++◌, ◌∷◌, [], None, Some, false, IfSome, IfNone, OnOk, OnErr};
 ghost use Rattle.std.specs.Option.{option_copied};
-ghost use Rattle.mg_works.specs.Works.{IsNowhere, IsPlaceOf, MayBeGiven, begun, has_asked, has_session as has_session_in, with_point, with_table, with_work, without_tables, without_work, work_of};
+ghost use Rattle.mg_works.specs.Works.{IsNowhere, IsPlaceOf, MayBeGiven, begun, given_to, has_asked, has_session as has_session_in, with_point, with_table, with_work, without_tables, without_work, work_of};
 
 use crate::work::Work;
 use mg_base::{Memory, TxNo};
@@ -69,6 +69,15 @@ impl Works {
     {
         let place = find(&self.items, t)?;
         Some(&self.items[place])
+    }
+
+    /// The table of a name that was given to a transaction last.
+    pub fn table(&self, t: TxNo, name: &Name) -> Option<&Table>
+        ensures given { option_copied result ≡ given_to self.now t.0 name.now }
+        ensures may { IfSome result (λ table. MayBeGiven table.now) }
+    {
+        let place = find(&self.items, t)?;
+        self.items[place].table(name)
     }
 
     /// Tells whether a session has an active transaction.
