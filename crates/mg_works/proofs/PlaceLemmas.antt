@@ -5,7 +5,9 @@ use Rattle.std.specs.Prelude.{IfSome, OnErr, OnOk}
 use Rattle.mg_model.specs.Changes.{same_name}
 use Rattle.mg_base.specs.declared.memory.Memory.{Memory}
 use Rattle.mg_model.specs.declared.table.Table.{Table}
-use Rattle.mg_works.specs.Works.{AllMayBeGiven, AreApart, IsNowhere, IsPlaceOf, IsWork, MayBeGiven, Working, given_in, has_asked, with_point, with_table, with_work, without_tables}
+use Rattle.mg_value.specs.declared.value.Value.{Value}
+use Rattle.mg_undo.specs.declared.changes.Was.{Was}
+use Rattle.mg_works.specs.Works.{AllMayBeGiven, AreApart, IsNowhere, IsPlaceOf, IsWork, MayBeGiven, Working, given_in, has_asked, going_back_to, with_change, with_point, with_step_back, with_table, with_work, without_change, without_tables}
 use Rattle.mg_works.specs.WorksLaws.{none_untouched, nowhere_none, set_is_with, with_apart}
 
 -- what a call makes of a work keeps its number and its session, and is lawful
@@ -30,6 +32,34 @@ forgetting_keeps = record {
 
 pub point_keeps : (name : Option (List ℕ)) → Keeps (with_point name)
 point_keeps name = record {
+  number = λ w. refl;
+  session = λ w. refl;
+  lawful = λ w is. record { session_below = is.session_below; lawful = is.lawful };
+}
+
+pub changing_keeps : (table : ℕ) (key : Value) (was : Was) → Keeps (with_change table key was)
+changing_keeps table key was = record {
+  number = λ w. refl;
+  session = λ w. refl;
+  lawful = λ w is. record { session_below = is.session_below; lawful = is.lawful };
+}
+
+pub retracting_keeps : Keeps without_change
+retracting_keeps = record {
+  number = λ w. refl;
+  session = λ w. refl;
+  lawful = λ w is. record { session_below = is.session_below; lawful = is.lawful };
+}
+
+pub going_back_keeps : (name : List ℕ) → Keeps (going_back_to name)
+going_back_keeps name = record {
+  number = λ w. refl;
+  session = λ w. refl;
+  lawful = λ w is. record { session_below = is.session_below; lawful = is.lawful };
+}
+
+pub stepping_keeps : Keeps with_step_back
+stepping_keeps = record {
   number = λ w. refl;
   session = λ w. refl;
   lawful = λ w is. record { session_below = is.session_below; lawful = is.lawful };
