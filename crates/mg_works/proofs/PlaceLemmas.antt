@@ -1,9 +1,13 @@
 -- A transaction's place is set to another work.
-use Rattle.std.proofs.Common.{◌≡◌, ◌<◌, ℕ, zero, suc, List, [], ◌∷◌, arith, Option, Result, Ok, Err, get_or, set, length, sym, ◌∙◌, ap, refl, subst}
-use Rattle.std.specs.Prelude.{OnErr, OnOk}
+use Rattle.std.proofs.Common.{◌≡◌, ◌<◌, ℕ, zero, suc, Bool, true, false, List, [], ◌∷◌, arith, Bor, cond, Option, None, Some, Result, Ok, Err, get_or, set, length, sym, ◌∙◌, ap, refl, subst}
+use Rattle.std.specs.Option.{option_copied}
+use Rattle.std.specs.Prelude.{IfSome, OnErr, OnOk}
+use Rattle.mg_model.specs.Changes.{same_name}
 use Rattle.mg_base.specs.declared.memory.Memory.{Memory}
 use Rattle.mg_model.specs.declared.table.Table.{Table}
-use Rattle.mg_works.specs.Works.{AreApart, IsNowhere, IsPlaceOf, IsWork, MayBeGiven, Working, has_asked, with_point, with_table, with_work, without_tables}
+use Rattle.mg_value.specs.declared.value.Value.{Value}
+use Rattle.mg_undo.specs.declared.changes.Was.{Was}
+use Rattle.mg_works.specs.Works.{AllMayBeGiven, AreApart, IsNowhere, IsPlaceOf, IsWork, MayBeGiven, Working, given_in, has_asked, going_back_to, with_change, with_point, with_step_back, with_table, with_work, without_change, without_tables}
 use Rattle.mg_works.specs.WorksLaws.{none_untouched, nowhere_none, set_is_with, with_apart}
 
 -- what a call makes of a work keeps its number and its session, and is lawful
@@ -28,6 +32,34 @@ forgetting_keeps = record {
 
 pub point_keeps : (name : Option (List ℕ)) → Keeps (with_point name)
 point_keeps name = record {
+  number = λ w. refl;
+  session = λ w. refl;
+  lawful = λ w is. record { session_below = is.session_below; lawful = is.lawful };
+}
+
+pub changing_keeps : (table : ℕ) (key : Value) (was : Was) → Keeps (with_change table key was)
+changing_keeps table key was = record {
+  number = λ w. refl;
+  session = λ w. refl;
+  lawful = λ w is. record { session_below = is.session_below; lawful = is.lawful };
+}
+
+pub retracting_keeps : Keeps without_change
+retracting_keeps = record {
+  number = λ w. refl;
+  session = λ w. refl;
+  lawful = λ w is. record { session_below = is.session_below; lawful = is.lawful };
+}
+
+pub going_back_keeps : (name : List ℕ) → Keeps (going_back_to name)
+going_back_keeps name = record {
+  number = λ w. refl;
+  session = λ w. refl;
+  lawful = λ w is. record { session_below = is.session_below; lawful = is.lawful };
+}
+
+pub stepping_keeps : Keeps with_step_back
+stepping_keeps = record {
   number = λ w. refl;
   session = λ w. refl;
   lawful = λ w is. record { session_below = is.session_below; lawful = is.lawful };
@@ -86,3 +118,23 @@ pub lawful_at : (works : List Working) (place : ℕ) (d : Working) → AreApart 
 lawful_at [] place d apart inside = absurd (omega (arith, inside))
 lawful_at (w ∷ works) zero d apart inside = apart.2
 lawful_at (w ∷ works) (suc place) d apart inside = lawful_at works place d apart.3 (omega (arith, inside))
+
+-- a table that was given is lawful
+given_lawful : (tables : List Table) (name : List ℕ) (table : Table) → AllMayBeGiven tables
+    → given_in tables name ≡ Some table → MayBeGiven table
+given_lawful [] name table all is = absurd cc
+given_lawful (x ∷ tables) name table all is = at (same_name name x.name) is (given_lawful tables name table all.1)
+  where
+    some : (a b : Table) → Some a ≡ Some b → a ≡ b
+    some a b e = cc
+
+    at : (b : Bool) → cond b (Some x) (given_in tables name) ≡ Some table
+        → (given_in tables name ≡ Some table → MayBeGiven table) → MayBeGiven table
+    at true is more = subst MayBeGiven (some x table is) all.0
+    at false is more = more is
+
+-- and so is one that a work tells
+pub told_lawful : (w : Working) (name : List ℕ) (found : Option (Bor Table)) → IsWork w
+    → option_copied found ≡ given_in w.tables name → IfSome found (λ table. MayBeGiven table.now)
+told_lawful w name None is told = tt
+told_lawful w name (Some table) is told = given_lawful w.tables name table.now is.lawful (sym told)

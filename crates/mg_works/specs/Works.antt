@@ -1,11 +1,15 @@
 -- The active transactions that are in memory, and what calls make of them.
 use Rattle.std.specs.Prelude.{◌≡◌, ◌≢◌, ◌<◌, ◌≤◌, ◌==◌, ◌||◌, ◌∷◌, ℕ, Bool, true, false, not, List, [], length, Option, None, Some, if◌then◌else◌, slice_index_or}
 use Rattle.std.specs.List.{filter}
+use Rattle.mg_base.specs.declared.geometry.TheConstants.{GREATEST_LIMIT}
 use Rattle.mg_value.specs.declared.shape.TheConstants.{MOST_COLUMNS}
 use Rattle.mg_model.specs.declared.event.Mode.{Mode}
 use Rattle.mg_model.specs.declared.table.Table.{Table}
 use Rattle.mg_model.specs.Changes.{same_name}
-use Rattle.mg_undo.specs.Undo.{State as Undo, after_point}
+use Rattle.mg_undo.specs.Undo.{State as Undo, after_back_to, after_keep, after_point, after_retract, has_point, take_back}
+use Rattle.mg_undo.specs.declared.changes.Change.{Change}
+use Rattle.mg_undo.specs.declared.changes.Was.{Was}
+use Rattle.mg_value.specs.declared.value.Value.{Value}
 
 -- What is known of an active transaction.
 pub record Working : Type 0 where
@@ -68,6 +72,32 @@ given_to works t name = given_by (work_of works t) name
 abbrev pub with_point : Option (List ℕ) → Working → Working
 with_point name w = record w { undo = after_point w.undo name }
 
+-- a change of a key of a table is kept, with what was before
+abbrev pub with_change : ℕ → Value → Was → Working → Working
+with_change table key was w = record w { undo = after_keep w.undo table key was }
+
+-- the last change that was kept is not made after all
+abbrev pub without_change : Working → Working
+without_change w = record w { undo = after_retract w.undo }
+
+-- the last savepoint of the name is gone back to, if there is one
+abbrev pub going_back_to : List ℕ → Working → Working
+going_back_to name w = record w { undo = after_back_to w.undo name }
+
+-- one step of taking back was made
+abbrev pub with_step_back : Working → Working
+with_step_back w = record w { undo = (take_back w.undo).after }
+
+-- the change that the next step of taking back gives, none where the transaction is not active
+abbrev pub given_back : Option Working → Option Change
+given_back None = None
+given_back (Some w) = (take_back w.undo).given
+
+-- whether a savepoint of the name stands
+abbrev pub has_savepoint : Option Working → List ℕ → Bool
+has_savepoint None name = false
+has_savepoint (Some w) name = has_point w.undo (Some name)
+
 -- the tables that were given are no longer known
 abbrev pub without_tables : Working → Working
 without_tables w = record w { tables = [] }
@@ -82,9 +112,11 @@ has_asked w = record w { asked = true }
 
 -- ---- what always holds
 
--- a table that may be given: its columns are no more than tables have
-abbrev pub MayBeGiven : Table → Type 0
-MayBeGiven table = length table.shape.columns ≤ MOST_COLUMNS
+-- A table that may be given: its columns are no more than tables have, and its first page lies below the
+-- greatest limit.
+pub record MayBeGiven (table : Table) : Type 0 where
+  pub columns : length table.shape.columns ≤ MOST_COLUMNS
+  pub pointer : table.pointer.0 < GREATEST_LIMIT
 
 abbrev pub AllMayBeGiven : List Table → Type 0
 AllMayBeGiven [] = Unit {0}

@@ -3,12 +3,13 @@
 ghost use Rattle.std.specs.Prelude.{◌≡◌, ◌==◌, ◌∷◌, None, Some, OnOk, OnErr};
 ghost use Rattle.std.specs.Option.{option_copied};
 ghost use Rattle.mg_model.specs.Changes.{same_name};
-ghost use Rattle.mg_works.specs.Works.{begun, given_in, has_asked as asked_for, with_point, with_table, without_tables};
+ghost use Rattle.mg_undo.specs.Undo.{given_as, has_point, take_back as taken_back};
+ghost use Rattle.mg_works.specs.Works.{begun, given_in, going_back_to, has_asked as asked_for, with_change, with_point, with_step_back, with_table, without_change, without_tables};
 
 use mg_base::{Memory, TxNo};
 use mg_model::{Mode, Table};
-use mg_undo::Undo;
-use mg_value::Name;
+use mg_undo::{Undo, Was};
+use mg_value::{Key, Name};
 use std::alloc::Global;
 use std::marker::Model;
 
@@ -111,6 +112,41 @@ impl Work {
         ensures err { OnErr result (self.new ≡ self.old) }
     {
         self.undo.name(name)
+    }
+
+    /// Keeps a change of a key of a table, with what the transaction's own change of it was before.
+    ///
+    /// # Errors
+    ///
+    /// `Memory` only. Nothing has changed then.
+    pub fn keep(&mut self, table: u32, key: &Key, was: Was) -> Result<(), Memory>
+        ensures ok { OnOk result (self.new ≡ with_change table key.now was self.old) }
+        ensures err { OnErr result (self.new ≡ self.old) }
+    {
+        self.undo.keep(table, key, was)
+    }
+
+    /// Takes the last `keep` back, of which the change was not made after all.
+    pub fn retract(&mut self)
+        ensures { self.new ≡ without_change self.old }
+    {
+        self.undo.retract();
+    }
+
+    /// Goes back to the last savepoint of a name. False exactly where none stands; nothing has changed then.
+    pub fn back_to(&mut self, name: &Name) -> bool
+        ensures found { result ≡ has_point self.old.undo (Some name.now) }
+        ensures after { self.new ≡ going_back_to name.now self.old }
+    {
+        self.undo.back_to(name)
+    }
+
+    /// Takes back the newest change that is left since the point gone back to.
+    pub fn take_back(&mut self) -> Option<(u32, Key, Was)>
+        ensures given { result ≡ given_as (taken_back self.old.undo).given }
+        ensures after { self.new ≡ with_step_back self.old }
+    {
+        self.undo.take_back()
     }
 
     /// Forgets the tables that were given.

@@ -2,12 +2,14 @@
 
 ghost use Rattle.std.specs.Prelude.{◌≡◌, ◌<◌, ◌++◌, ◌∷◌, [], None, Some, false, IfSome, IfNone, OnOk, OnErr};
 ghost use Rattle.std.specs.Option.{option_copied};
-ghost use Rattle.mg_works.specs.Works.{IsNowhere, IsPlaceOf, MayBeGiven, begun, has_asked, has_session as has_session_in, with_point, with_table, with_work, without_tables, without_work, work_of};
+ghost use Rattle.mg_works.specs.Works.{IsNowhere, IsPlaceOf, MayBeGiven, begun, given_to, given_back, going_back_to, has_asked, has_savepoint, has_session as has_session_in, with_change, with_point, with_step_back, with_table, with_work, without_change, without_tables, without_work, work_of};
+ghost use Rattle.mg_undo.specs.Undo.{given_as};
 
 use crate::work::Work;
 use mg_base::{Memory, TxNo};
 use mg_model::{Mode, Table};
-use mg_value::Name;
+use mg_undo::Was;
+use mg_value::{Key, Name};
 use std::alloc::Global;
 use std::marker::Model;
 
@@ -71,6 +73,15 @@ impl Works {
         Some(&self.items[place])
     }
 
+    /// The table of a name that was given to a transaction last.
+    pub fn table(&self, t: TxNo, name: &Name) -> Option<&Table>
+        ensures given { option_copied result ≡ given_to self.now t.0 name.now }
+        ensures may { IfSome result (λ table. MayBeGiven table.now) }
+    {
+        let place = find(&self.items, t)?;
+        self.items[place].table(name)
+    }
+
     /// Tells whether a session has an active transaction.
     pub fn has_session(&self, session: u8) -> bool
         ensures { result ≡ has_session_in self.now session }
@@ -110,6 +121,53 @@ impl Works {
         match find(&self.items, t) {
             Some(place) => self.items[place].set_savepoint(name),
             None => Ok(()),
+        }
+    }
+
+    /// Keeps a change of a key of a table, with what the transaction's own change of it was before.
+    ///
+    /// # Errors
+    ///
+    /// `Memory` only. Nothing has changed then.
+    pub fn keep(&mut self, t: TxNo, table: u32, key: &Key, was: Was) -> Result<(), Memory>
+        ensures ok { OnOk result (self.new ≡ with_work t.0 (with_change table key.now was) self.old) }
+        ensures err { OnErr result (self.new ≡ self.old) }
+    {
+        match find(&self.items, t) {
+            Some(place) => self.items[place].keep(table, key, was),
+            None => Ok(()),
+        }
+    }
+
+    /// Takes the last `keep` of a transaction back, of which the change was not made after all.
+    pub fn retract(&mut self, t: TxNo)
+        ensures { self.new ≡ with_work t.0 without_change self.old }
+    {
+        if let Some(place) = find(&self.items, t) {
+            self.items[place].retract();
+        }
+    }
+
+    /// Goes back to the last savepoint of a name: what was changed since is then given by `take_back`.
+    /// False exactly where none stands; nothing has changed then.
+    pub fn back_to(&mut self, t: TxNo, name: &Name) -> bool
+        ensures found { result ≡ has_savepoint (work_of self.old t.0) name.now }
+        ensures after { self.new ≡ with_work t.0 (going_back_to name.now) self.old }
+    {
+        match find(&self.items, t) {
+            Some(place) => self.items[place].back_to(name),
+            None => false,
+        }
+    }
+
+    /// Takes back the newest change of a transaction that is left since the point gone back to.
+    pub fn take_back(&mut self, t: TxNo) -> Option<(u32, Key, Was)>
+        ensures given { result ≡ given_as (given_back (work_of self.old t.0)) }
+        ensures after { self.new ≡ with_work t.0 with_step_back self.old }
+    {
+        match find(&self.items, t) {
+            Some(place) => self.items[place].take_back(),
+            None => None,
         }
     }
 
