@@ -52,6 +52,8 @@ pub record TakesOut (size : ℕ) (old new : Pages) (batch : Changed) (owner root
   pub row : ChangesTree size owner root (content_in batch.pages) (lists batch.orders) (Remove e) old
       levels new levels
   pub gone : Finds new e root → ⊥
+  -- no page changes but the tree's
+  pub others : (n : ℕ) → (InTree levels n → ⊥) → new n ≡ old n
 
 -- in a tree the entry is taken out, or the cache refuses
 abbrev pub Removes : ℕ → Pages → Pages → Changed → ℕ → ℕ → List (List ℕ) → Entry

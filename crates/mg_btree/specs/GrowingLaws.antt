@@ -1,5 +1,5 @@
 -- The root splits: the tree goes through a row of steps, and has a level more.
-use Rattle.std.proofs.Common.{◌≡◌, ◌≢◌, ◌⊎◌, inl, inr, ◌∙◌, ap, refl, sym, subst, ◌<◌, ℕ, true, false, List, [], ◌∷◌, ◌++◌, None, arith}
+use Rattle.std.proofs.Common.{◌≡◌, ◌≢◌, ◌⊎◌, inl, inr, ◌∙◌, ap, refl, sym, subst, ◌<◌, ◌≤◌, ◌+◌, length, ℕ, true, false, List, [], ◌∷◌, ◌++◌, None, arith}
 use Rattle.std.specs.Prelude.{IfSome}
 use Rattle.mg_base.specs.Checks.{PassesAll}
 use Rattle.mg_base.specs.declared.geometry.Geometry.{Geometry}
@@ -165,7 +165,7 @@ module _ (g : Geometry) (lawful : IsGeometry g) (owner root level a b : ℕ) (le
     module _ (new : Pages)
         (laid : new ≡ with_page (with_page (with_page late a growth.halves.left.bytes) b
         growth.halves.right.bytes) root growth.root.bytes)
-        (before batch : Changed)
+        (before batch : Changed) (few : length batch.pages ≤ length before.pages + 5)
         (adds : batch.orders ≡ before.orders ++ root_orders g.size growth.names.items
         growth.halves.names.items root a b) (no_room : HasRoom full.bytes e → ⊥)
         (bit_a : content_in batch.pages (inventory_of g.size a) ≢ None)
@@ -245,6 +245,20 @@ module _ (g : Geometry) (lawful : IsGeometry g) (owner root level a b : ℕ) (le
               (subst (λ (k : ℕ). is_used g.size mid k ≡ false) (sym same) takes_b.free.unused))
           at (inr (inr (inr there))) = inl there
 
+      others : (n : ℕ) → (InTree ends n → ⊥) → IsNoInventory g.size n → new n ≡ old n
+      others n out none =
+          let there = grown_there root a b levels root placed in
+          let in_ends = grow_wider g.size old owner root a b levels root stands.tree placed in
+          ap (λ (pages : Pages). pages n) laid
+          ∙ (with_other (with_page (with_page late a growth.halves.left.bytes) b growth.halves.right.bytes)
+          root growth.root.bytes n (λ same. out (subst (InTree ends) (sym same) in_ends))
+          ∙ (with_other (with_page late a growth.halves.left.bytes) b growth.halves.right.bytes n
+          (λ same. out (subst (InTree ends) (sym same) there.1))
+          ∙ (with_other late a growth.halves.left.bytes n
+          (λ same. out (subst (InTree ends) (sym same) there.0))
+          ∙ (taken_same g lawful owner root levels stands.no_inventory mid late b takes_b mid_tree n none
+          ∙ taken_same g lawful owner root levels stands.no_inventory old mid a takes_a stands.tree n none))))
+
       no_inventory : HasNoInventory g.size ends
       no_inventory n has = at (grown_back root a b levels n has)
         where
@@ -288,5 +302,7 @@ module _ (g : Geometry) (lawful : IsGeometry g) (owner root level a b : ℕ) (le
         used = row_used g.size owner root (content_in batch.pages) (lists batch.orders) Stay old new levels
             ends row;
         fresh = fresh;
+        others = others;
+        few = omega (arith, few);
         stays = stays;
       }

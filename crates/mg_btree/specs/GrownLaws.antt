@@ -22,10 +22,10 @@ use Rattle.mg_btree.specs.GrowingLaws.{grow_makes, root_is}
 use Rattle.mg_btree.specs.Halves.{HasRoom, IsPlaceFor}
 use Rattle.mg_btree.specs.Making.{SplitsRoot}
 use Rattle.mg_btree.specs.MakingLaws.{either_half, viewed_same_pages}
-use Rattle.mg_btree.specs.OrderLaws.{added_after, first_there, root_ordered, second_there, third_there, three_laid, three_orders}
+use Rattle.mg_btree.specs.OrderLaws.{added_after, first_there, root_ordered, second_there, third_there, three_few, three_laid, three_orders}
 use Rattle.mg_btree.specs.Ordering.{Widens, root_orders}
 use Rattle.mg_btree.specs.RefusalLaws.{err_room, room_refused}
-use Rattle.mg_btree.specs.Rooms.{MakesRoom, MakesRoomIn, RefusesAfter, StandsIn, too_high}
+use Rattle.mg_btree.specs.Rooms.{MakesRoom, MakesRoomIn, RefusesAfter, StandsIn, TakesAlone, too_high}
 use Rattle.mg_btree.specs.SplitRows.{with_page}
 
 -- the root stands on the highest level
@@ -59,7 +59,7 @@ pub root_put : {D L : Type 0} (old : Pool D L) (image : Image) → IsGeometry ol
     → StandsIn old.geometry.size (viewed old image start) owner root levels full
     → IsPlaceFor old.geometry.size owner level e full → level ≡ level_in (viewed old image start root)
     → TakesTwo old.geometry (viewed old image start) (viewed old image first) first (Ok two)
-    → first.orders ≡ start.orders → (HasRoom full.bytes e → ⊥) → Widens old.geometry.size first last
+    → TakesAlone 2 start first → (HasRoom full.bytes e → ⊥) → Widens old.geometry.size first last
     → SplitsRoot old.geometry.size first last owner level full two e half
     → MakesRoom old.geometry.size (viewed old image start) (viewed old image last) start last owner root
     levels level e half
@@ -75,7 +75,13 @@ root_put old image lawful start first last owner root level levels full two e ha
     ∙ same_three (viewed old image first) is.growth.halves.left.page.0 two.first.0
     is.growth.halves.right.page.0 two.second.0 is.growth.root.page.0 root is.growth.halves.left.bytes
     is.growth.halves.right.bytes is.growth.root.bytes is.is.halves.left_own is.is.halves.right_own own))
-    start last (subst (λ (n : ℕ). last.orders ≡ start.orders ++ root_orders old.geometry.size
+    start last
+    (let two_few = kept.few in
+    let put_few = three_few first is.puts.put is.growth.halves.left.page.0
+    is.growth.halves.right.page.0 is.growth.root.page.0 is.growth.halves.left.bytes
+    is.growth.halves.right.bytes is.growth.root.bytes is.puts.puts last is.puts.orders.same_pages in
+    omega (arith, two_few, put_few))
+    (subst (λ (n : ℕ). last.orders ≡ start.orders ++ root_orders old.geometry.size
     is.growth.names.items is.growth.halves.names.items n two.first.0 two.second.0) own
     (subst (λ (n : ℕ). last.orders ≡ start.orders ++ root_orders old.geometry.size is.growth.names.items
     is.growth.halves.names.items is.growth.root.page.0 n two.second.0) is.is.halves.left_own
@@ -83,7 +89,7 @@ root_put old image lawful start first last owner root level levels full two e ha
     is.growth.halves.names.items is.growth.root.page.0 is.growth.halves.left.page.0 n)
     is.is.halves.right_own (added_after start first is.puts.put last
     (root_orders old.geometry.size is.growth.names.items is.growth.halves.names.items
-    is.growth.root.page.0 is.growth.halves.left.page.0 is.growth.halves.right.page.0) kept
+    is.growth.root.page.0 is.growth.halves.left.page.0 is.growth.halves.right.page.0) kept.orders
     (three_orders first is.puts.put is.growth.halves.left.page.0 is.growth.halves.right.page.0
     is.growth.root.page.0 is.growth.halves.left.bytes is.growth.halves.right.bytes is.growth.root.bytes
     is.puts.puts) is.puts.orders.added))))

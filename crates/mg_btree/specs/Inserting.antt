@@ -1,17 +1,18 @@
 -- An entry is put into a tree.
-use Rattle.std.specs.Prelude.{◌≡◌, ◌≢◌, ◌⊎◌, ◌++◌, ℕ, List, length, None, Result, Ok, Err}
+use Rattle.std.specs.Prelude.{◌≡◌, ◌≢◌, ◌⊎◌, ◌++◌, ◌+◌, ◌*◌, ◌≤◌, ℕ, false, List, length, None, Result, Ok, Err}
 use Rattle.mg_base.specs.declared.geometry.Geometry.{Geometry}
 use Rattle.mg_node.specs.declared.entry.Entry.{Entry}
 use Rattle.mg_node.specs.NodePage.{IsNodePage, level_in}
 use Rattle.mg_image.specs.Form.{Pages}
 use Rattle.mg_image.specs.Indexes.{Finds, IsTree}
+use Rattle.mg_image.specs.Inventory.{is_used}
 use Rattle.mg_node_writing.specs.NodeChanges.{InsertsEntry, IsEntryOf}
 use Rattle.mg_pool.specs.Batch.{Changed, PutsPage, content_in, lists}
 use Rattle.mg_space.specs.declared.fault.SpaceFault.{SpaceFault}
 use Rattle.mg_space.specs.declared.fault.SpaceFault.TheVariants.{Full, Pool as OfPool, Damaged as OfPage}
 use Rattle.mg_tree_overlays.specs.TreeSteps.{InTree}
 use Rattle.mg_tree_overlays.specs.TreesBehind.{Covers}
-use Rattle.mg_tree_overlays.specs.TreeBatches.{Add, ChangesTree}
+use Rattle.mg_tree_overlays.specs.TreeBatches.{Add, ChangesTree, IsNoInventory}
 use Rattle.mg_btree.specs.declared.halves.PageBytes.{PageBytes}
 use Rattle.mg_btree.specs.declared.inserting.Leaf.{Leaf}
 use Rattle.mg_btree.specs.Changing.{HasNoInventory}
@@ -55,6 +56,13 @@ pub record PutsIn (size : ℕ) (old new : Pages) (before batch : Changed) (owner
       levels ends row e
   pub tree : IsTree size new owner root ends
   pub no_inventory : HasNoInventory size ends
+  -- what comes to the tree was not used, and no page changes but the tree's and those of the page
+  -- inventory
+  pub fresh : (n : ℕ) → InTree ends n → InTree levels n ⊎ (is_used size old n ≡ false)
+  pub others : (n : ℕ) → (InTree ends n → ⊥) → IsNoInventory size n → new n ≡ old n
+  -- the batch has at most four pages more for each level above the leaves, and six for the root and a
+  -- leaf
+  pub few : length batch.pages ≤ length before.pages + (4 * level_in (old root) + 6)
   pub has : Finds new e root
   pub keeps : (f : Entry) → Finds old f root → Finds new f root
   pub only : (f : Entry) → Finds new f root → Finds old f root ⊎ (f ≡ e)

@@ -29,7 +29,7 @@ use Rattle.mg_btree.specs.declared.halves.PageBytes.{PageBytes}
 use Rattle.mg_btree.specs.ChangeLaws.{either_parts, entry_has, is_entry, leaf_rewrites, viewed_other, viewed_put}
 use Rattle.mg_btree.specs.Halves.{HasPlace, HasRoom, IsPlaceFor, IsRoomy}
 use Rattle.mg_btree.specs.Inserting.{Inserts, PutsIn, PutsWith, RefusesInsert}
-use Rattle.mg_btree.specs.OrderLaws.{widens_put, widens_sized}
+use Rattle.mg_btree.specs.OrderLaws.{put_few, widens_put, widens_sized}
 use Rattle.mg_btree.specs.EachOrderLaws.{each_more, each_none}
 use Rattle.mg_btree.specs.Ordering.{EachOrder, Widens}
 use Rattle.mg_btree.specs.ParentLaws.{one_in_tree}
@@ -137,6 +137,9 @@ module _ (g : Geometry) (owner root : ℕ) (levels : List (List ℕ)) (was : Pag
       full = tt;
       tree = stands.tree;
       no_inventory = stands.no_inventory;
+      fresh = λ n placed. inl placed;
+      others = λ n out none_. refl;
+      few = omega arith;
       has = found_there has;
       keeps = λ f found. found;
       only = λ f found. inl found;
@@ -297,6 +300,13 @@ module _ (g : Geometry) (owner root : ℕ) (levels : List (List ℕ)) (was : Pag
           full = steps.full;
           tree = changed.tree;
           no_inventory = made.stands.no_inventory;
+          fresh = made.fresh;
+          others = λ m out none_. others m (λ same. out (subst (InTree made.ends) (sym same)
+              made.stands.placed)) ∙ made.others m out none_;
+          few =
+              let room = made.few in
+              let one = put_few second last page.page.0 puts.bytes puts.puts in
+              omega (arith, room, one);
           has = has_it;
           keeps = λ f found. changed.keeps f tt found;
           only = λ f found. changed.only f found;

@@ -1,5 +1,5 @@
 -- Laws of the leaf that a search comes to, and of what a call does to it.
-use Rattle.std.proofs.Common.{◌≡◌, ◌≢◌, ◌⊎◌, inl, inr, ◌∙◌, ap, refl, sym, subst, ℕ, Bool, true, false, List, Some, None, length, Result, Ok, Err}
+use Rattle.std.proofs.Common.{◌≡◌, ◌≢◌, ◌⊎◌, inl, inr, ◌∙◌, ap, refl, sym, subst, arith, ◌+◌, ◌≤◌, ℕ, Bool, true, false, List, Some, None, length, Result, Ok, Err}
 use Rattle.std.specs.Prelude.{IfOk, IfSome, IsErrAnd}
 use Rattle.std.proofs.lemmas.Bool.{cases_eq}
 use Rattle.mg_base.specs.Disk.{Meaning}
@@ -16,7 +16,7 @@ use Rattle.mg_space.specs.View.{AreWhole, KeepsStore, Tells, viewed}
 use Rattle.mg_space.specs.ViewLaws.{tells_on}
 use Rattle.mg_space.specs.declared.fault.SpaceFault.{SpaceFault}
 use Rattle.mg_space.specs.declared.fault.SpaceFault.TheVariants.{Full, Pool as OfPool, Damaged as OfPage}
-use Rattle.mg_tree_overlays.specs.TreeSteps.{Rewrites}
+use Rattle.mg_tree_overlays.specs.TreeSteps.{InTree, Rewrites}
 use Rattle.mg_tree_overlays.specs.TreesBehind.{Covers}
 use Rattle.mg_tree_overlays.specs.TreeBatches.{ChangesTree, Remove, done}
 use Rattle.mg_tree_overlays.specs.KeptLaws.{leaf_found}
@@ -27,7 +27,16 @@ use Rattle.mg_btree.specs.Searching.{BeginsAt, ComesTo, IsReached}
 use Rattle.mg_btree.specs.SearchLaws.{begins_root, viewed_same}
 use Rattle.mg_btree.specs.Roots.{IsRootOf}
 use Rattle.mg_btree.specs.Changing.{HasNoInventory, IsLeaf, PutsOrStays, PutsWithout, ReadsLeaf, Removes, TakesOut}
+use Rattle.mg_btree.specs.OrderLaws.{put_few}
 use Rattle.mg_btree.specs.ChangeLaws.{entry_has, is_entry, leaf_rewrites, removed_gone, removed_row, viewed_other, viewed_put}
+
+-- a leaf that is put is one page more, at most
+pub without_few : (old new : Changed) (read : ReadNode) (e : Entry) (was : Bool)
+    → PutsOrStays old new read e was → length new.pages ≤ length old.pages + 1
+without_few old new read e true is = put_few old new read.page.0 is.bytes is.puts
+without_few old new read e false is =
+    let same : length new.pages ≡ length old.pages = ap (λ (b : Changed). length b.pages) is.1 in
+    omega (arith, same)
 
 -- a page on level 0 that was reached is a leaf
 pub leaf_ok : (size now owner : ℕ) (e : Entry) (result : Result ReadNode SpaceFault) → now ≡ size
@@ -170,6 +179,7 @@ module _ {D L : Type 0} (m : Meaning D) (old a : Pool D L) (before batch : Chang
           row = subst (λ (p : Pages). ChangesTree size owner root (content_in batch.pages)
               (lists batch.orders) (Remove e) was levels p levels) (sym pages) (done was levels);
           gone = λ found. none (has_it (subst (λ (p : Pages). Finds p e root) pages found));
+          others = λ k out. ap (λ (p : Pages). p k) pages;
         }
 
     pub goes_out : PutsWithout before batch read e → TakesOut size was now batch owner root levels e true
@@ -179,6 +189,7 @@ module _ {D L : Type 0} (m : Meaning D) (old a : Pool D L) (before batch : Chang
           is.bytes e rewrites low put removes there (no_inventory n leaf.2);
       gone = removed_gone size owner root was now levels n is.bytes e tree leaf.2 rewrites low put
           (subst IsNodePage leaf.1 leaf.0.is.lawful) removes;
+      others = λ k out. others k (λ same. out (subst (InTree levels) (sym same) leaf.2));
     }
       where
         put : now n ≡ is.bytes

@@ -25,11 +25,11 @@ use Rattle.mg_btree.specs.declared.halves.PageBytes.{PageBytes}
 use Rattle.mg_btree.specs.declared.making.Split.{Split}
 use Rattle.mg_btree.specs.Halves.{AreHalves, HasRoom, IsHalfFor, IsPlaceFor, IsRoomy, RefusesName}
 use Rattle.mg_btree.specs.Making.{IsSplit, SplitsIn, SplitsPage, TakesAbove}
-use Rattle.mg_btree.specs.OrderLaws.{added_after, first_there, second_there, split_ordered, third_there, three_laid, three_orders}
+use Rattle.mg_btree.specs.OrderLaws.{added_after, first_there, second_there, split_ordered, third_there, three_few, three_laid, three_orders}
 use Rattle.mg_btree.specs.Ordering.{Widens, split_orders}
 use Rattle.mg_btree.specs.RefusalLaws.{err_room, refuses_now, room_refused, room_up}
 use Rattle.mg_btree.specs.RoomLaws.{place_is_free, split_makes}
-use Rattle.mg_btree.specs.Rooms.{MakesRoom, MakesRoomIn, StandsIn}
+use Rattle.mg_btree.specs.Rooms.{MakesRoom, MakesRoomIn, StandsIn, TakesAlone}
 use Rattle.mg_btree.specs.SplitRows.{with_page}
 use Rattle.mg_btree.specs.TakeLaws.{taken_same, taken_tree}
 
@@ -169,7 +169,7 @@ module _ {D L : Type 0} (old : Pool D L) (image : Image) (lawful : IsGeometry ol
     (roomy : IsRoomy old.geometry.size owner (suc level) split.halves.fence above)
     (made : MakesRoom old.geometry.size (viewed old image first) (viewed old image second) first second
     owner root levels (suc level) split.halves.fence above)
-    (taken_alone : first.orders ≡ start.orders) (no_room : HasRoom full.bytes e → ⊥)
+    (taken_alone : TakesAlone 1 start first) (no_room : HasRoom full.bytes e → ⊥)
     (between : Widens old.geometry.size first second) (widens : Widens old.geometry.size second last)
   where
     abbrev late : Pages
@@ -196,6 +196,8 @@ module _ {D L : Type 0} (old : Pool D L) (image : Image) (lawful : IsGeometry ol
         ∙ ap (λ (k : ℕ). with_page (with_page (with_page late split.halves.right.page.0
         split.halves.right.bytes) k split.halves.left.bytes) above.page.0 is.named) halves_are.left_own))
         start last taken_alone
+        (three_few second is.puts.put split.halves.right.page.0 split.halves.left.page.0 above.page.0
+        split.halves.right.bytes split.halves.left.bytes is.named is.puts.puts last is.puts.orders.same_pages)
         (subst (λ (k : ℕ). last.orders ≡ second.orders ++ split_orders old.geometry.size
         split.halves.names.items k split.halves.right.page.0 above.page.0) halves_are.left_own
         (added_after second second is.puts.put last (split_orders old.geometry.size

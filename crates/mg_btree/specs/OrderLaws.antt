@@ -1,12 +1,13 @@
 -- Laws of batches that grow: of their pages, their orders, and of three pages that are put.
-use Rattle.std.proofs.Common.{◌≡◌, ◌≢◌, ◌⊎◌, inl, inr, ◌∙◌, ap, refl, sym, subst, ℕ, true, ◌==◌, ◌&&◌, List, [], ◌∷◌, ◌++◌, Some, None, length, eq-eqb}
+use Rattle.std.proofs.Common.{◌≡◌, ◌≢◌, ◌⊎◌, inl, inr, ◌∙◌, ap, refl, sym, subst, arith, ◌+◌, ◌≤◌, ℕ, Bool, true, false, ◌==◌, ◌&&◌, List, [], ◌∷◌, ◌++◌, Some, None, length, eq-eqb}
+use Rattle.std.specs.Prelude.{if◌then◌else◌}
 use Rattle.std.proofs.Math.Path.{fun_ext}
 use Rattle.std.proofs.lemmas.Bool.{cases_eq, or_cases, or_left, or_right}
 use Rattle.mg_base.specs.Image.{Image}
 use Rattle.mg_base.specs.declared.numbers.PageNo.{PageNo}
 use Rattle.mg_careful.specs.declared.graph.Order.{Order}
 use Rattle.mg_image.specs.Form.{Pages}
-use Rattle.mg_pool.specs.Batch.{Changed, PutsPage, content_in, lists}
+use Rattle.mg_pool.specs.Batch.{Changed, PutsPage, content_in, is_in, lists}
 use Rattle.mg_pool.specs.declared.batch.BatchPage.{BatchPage}
 use Rattle.mg_pool.specs.declared.pool.Pool.{Pool}
 use Rattle.mg_space.specs.Taking.{PutsInventory}
@@ -15,6 +16,7 @@ use Rattle.mg_space.specs.ViewLaws.{viewed_else, viewed_here, whole_on}
 use Rattle.mg_base.specs.declared.geometry.Geometry.{Geometry}
 use Rattle.mg_tree_overlays.specs.TreeBatches.{OrdersRoot, OrdersSplit, inventory_of}
 use Rattle.mg_btree.specs.Ordering.{AddsOrders, PutsThree, Widens, before, orders_for, orders_to, root_orders, split_orders}
+use Rattle.mg_btree.specs.Rooms.{TakesAlone}
 use Rattle.mg_btree.specs.SplitRows.{with_here, with_other, with_page}
 
 -- ---- lists of orders
@@ -155,6 +157,32 @@ pub taken_put : (g : Geometry) (old new : Changed) (n : ℕ) → PutsInventory g
     → content_in new.pages (inventory_of g.size n) ≢ None
 taken_put g old new n puts = some_put old new (inventory_of g.size n) puts.bytes puts.puts
 
+-- ---- how many pages a batch has more
+
+-- a page that is put is one more, at most
+pub put_few : (old new : Changed) (page : ℕ) (bytes : List ℕ) → PutsPage old new page bytes
+    → length new.pages ≤ length old.pages + 1
+put_few old new page bytes puts = at (is_in old.pages page) puts.count
+  where
+    at : (b : Bool) → length new.pages ≡ (if b then length old.pages else (length old.pages + 1))
+        → length new.pages ≤ length old.pages + 1
+    at true count = omega (arith, count)
+    at false count = omega (arith, count)
+
+pub taken_alone : (g : Geometry) (old new : Changed) (n : ℕ) → PutsInventory g old new n
+    → TakesAlone 1 old new
+taken_alone g old new n puts = record {
+  orders = puts.puts.same_orders;
+  few = put_few old new (inventory_of g.size n) puts.bytes puts.puts;
+}
+
+pub alone_next : (old mid new : Changed) → TakesAlone 1 old mid → TakesAlone 1 mid new
+    → TakesAlone 2 old new
+alone_next old mid new first second =
+    let one = first.few in
+    let two = second.few in
+    record { orders = second.orders ∙ first.orders; few = omega (arith, one, two) }
+
 -- ---- three pages that are put
 
 module _ (old new : Changed) (a b c : ℕ) (of_a of_b of_c : List ℕ)
@@ -196,6 +224,16 @@ module _ (old new : Changed) (a b c : ℕ) (of_a of_b of_c : List ℕ)
   -- the orders stay
   pub three_orders : new.orders ≡ old.orders
   three_orders = puts.puts_c.same_orders ∙ (puts.puts_b.same_orders ∙ puts.puts_a.same_orders)
+
+  -- they are three more, at most, and orders alone add none
+  pub three_few : (last : Changed) → last.pages ≡ new.pages
+      → length last.pages ≤ length old.pages + 3
+  three_few last same =
+      let all : length last.pages ≡ length new.pages = ap length same in
+      let one = put_few old puts.first a of_a puts.puts_a in
+      let two = put_few puts.first puts.second b of_b puts.puts_b in
+      let three = put_few puts.second new c of_c puts.puts_c in
+      omega (arith, all, one, two, three)
 
   -- each of them is in the batch
   pub third_there : content_in new.pages c ≢ None

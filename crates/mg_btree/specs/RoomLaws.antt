@@ -1,5 +1,5 @@
 -- Room is made on a page by a split under the page above: the tree goes through a row of steps.
-use Rattle.std.proofs.Common.{◌≡◌, ◌≢◌, ◌⊎◌, inl, inr, ◌∙◌, ap, refl, sym, subst, ◌<◌, ℕ, suc, true, false, List, ◌∷◌, ◌++◌, Some, None, arith}
+use Rattle.std.proofs.Common.{◌≡◌, ◌≢◌, ◌⊎◌, inl, inr, ◌∙◌, ap, refl, sym, subst, ◌<◌, ◌≤◌, ◌+◌, ◌*◌, ◌-◌, length, ℕ, suc, true, false, List, ◌∷◌, ◌++◌, Some, None, arith}
 use Rattle.std.specs.Prelude.{IfSome}
 use Rattle.mg_base.specs.Checks.{PassesAll}
 use Rattle.mg_base.specs.declared.geometry.Geometry.{Geometry}
@@ -18,6 +18,7 @@ use Rattle.mg_space.specs.Taking.{IsGeometry, TakesPage}
 use Rattle.mg_tree_overlays.specs.TreeSteps.{InTree, split_levels}
 use Rattle.mg_tree_overlays.specs.TreesBehind.{Covers}
 use Rattle.mg_tree_overlays.specs.TreeBatches.{ChangesTree, IsNoInventory, OrdersSplit, Stay, done, inventory_of}
+use Rattle.mg_tree_overlays.specs.GrowParts.{root_in}
 use Rattle.mg_tree_overlays.specs.SplitParts.{tree_back, tree_right, tree_wider}
 use Rattle.mg_tree_overlays.specs.DescentLaws.{ascends, covers_own, last_has}
 use Rattle.mg_tree_overlays.specs.PoolLaws.{pool_changed}
@@ -28,7 +29,7 @@ use Rattle.mg_btree.specs.Halves.{AreHalves, HasPlace, HasRoom, IsPlaceFor, IsRo
 use Rattle.mg_btree.specs.EachOrderLaws.{each_append, each_more, each_none, each_split}
 use Rattle.mg_btree.specs.Ordering.{EachOrder, Widens, split_orders}
 use Rattle.mg_btree.specs.ParentLaws.{none_of_place}
-use Rattle.mg_btree.specs.Rooms.{MakesRoom, StandsIn}
+use Rattle.mg_btree.specs.Rooms.{MakesRoom, StandsIn, TakesAlone}
 use Rattle.mg_btree.specs.RowOrders.{row_next, row_orders}
 use Rattle.mg_btree.specs.RowOrderLaws.{RoomRow, append_room, ended, joined}
 use Rattle.mg_btree.specs.SearchLaws.{in_node}
@@ -50,6 +51,8 @@ makes_nothing size old batch owner root levels level e page stands = record {
   wider = λ n placed. placed;
   used = λ m is. is;
   fresh = λ n placed. inl placed;
+  others = λ n out none. refl;
+  few = omega arith;
   stays = λ n placed low. refl;
 }
 
@@ -213,7 +216,8 @@ module _ (g : Geometry) (lawful : IsGeometry g) (owner root level : ℕ) (levels
     module _ (named : List ℕ) (names : NamesMore above.bytes named halves.fence) (new : Pages)
         (laid : new ≡ with_page (with_page (with_page late halves.right.page.0 halves.right.bytes)
         full.page.0 halves.left.bytes) above.page.0 named)
-        (before batch : Changed) (taken_alone : first_batch.orders ≡ before.orders)
+        (before batch : Changed) (taken_alone : TakesAlone 1 before first_batch)
+        (put_few : length batch.pages ≤ length mid_batch.pages + 3)
         (adds : batch.orders ≡ mid_batch.orders ++ split_orders g.size halves.names.items full.page.0
         halves.right.page.0 above.page.0) (no_room : HasRoom full.bytes e → ⊥)
         (widens : Widens g.size mid_batch batch)
@@ -262,7 +266,7 @@ module _ (g : Geometry) (lawful : IsGeometry g) (owner root level : ℕ) (levels
           (lists batch.orders) Stay old new levels ends row
       all_orders = adds
           ∙ (ap (λ (os : List Order). os ++ split_orders g.size halves.names.items full.page.0
-          halves.right.page.0 above.page.0) (made.adds ∙ ap (λ (os : List Order). os ++ made_orders) taken_alone)
+          halves.right.page.0 above.page.0) (made.adds ∙ ap (λ (os : List Order). os ++ made_orders) taken_alone.orders)
           ∙ (sym (joined before.orders made_orders (split_orders g.size halves.names.items full.page.0
           halves.right.page.0 above.page.0))
           ∙ ap (λ (os : List Order). before.orders ++ os)
@@ -343,6 +347,27 @@ module _ (g : Geometry) (lawful : IsGeometry g) (owner root level : ℕ) (levels
           at (inl same) = inr (subst (λ (k : ℕ). is_used g.size old k ≡ false) (sym same) takes.free.unused)
           at (inr placed) = unused (made.fresh n placed)
 
+      in_ends : (n : ℕ) → InTree made.ends n → InTree ends n
+      in_ends n has = tree_wider full.page.0 halves.right.page.0 made.ends n has
+
+      others : (n : ℕ) → (InTree ends n → ⊥) → IsNoInventory g.size n → new n ≡ old n
+      others n out none = new_other n
+          (λ same. out (subst (InTree ends) (sym same)
+          (tree_right full.page.0 halves.right.page.0 made.ends placed_l)))
+          (λ same. out (subst (InTree ends) (sym same) (in_ends full.page.0 placed_l)))
+          (λ same. out (subst (InTree ends) (sym same) (in_ends above.page.0 made.stands.placed)))
+          ∙ (made.others n (λ has. out (in_ends n has)) none
+          ∙ taken_same g lawful owner root levels stands.no_inventory old mid halves.right.page.0 takes
+          stands.tree n none)
+
+      few : length batch.pages ≤ length before.pages + (4 * (level_in (old root) - level) + 5)
+      few =
+          let top : level_in (mid root) ≡ level_in (old root) = ap level_in (mid_same root
+          (root_in g.size old owner root levels stands.tree.rooted stands.tree)) in
+          let one = taken_alone.few in
+          let made_few = made.few in
+          omega (arith, top, one, made_few, put_few, lower)
+
       no_inventory : HasNoInventory g.size ends
       no_inventory n has = at (tree_back full.page.0 halves.right.page.0 made.ends n has)
         where
@@ -390,5 +415,7 @@ module _ (g : Geometry) (lawful : IsGeometry g) (owner root level : ℕ) (levels
         used = row_used g.size owner root (content_in batch.pages) (lists batch.orders) Stay old new levels
             ends row;
         fresh = fresh;
+        others = others;
+        few = few;
         stays = stays;
       }

@@ -1,5 +1,5 @@
 -- A page of a level gets room for an entry: what becomes of the tree, and why it may be refused.
-use Rattle.std.specs.Prelude.{◌≡◌, ◌≢◌, ◌<◌, ◌≤◌, ◌-◌, ◌⊎◌, ◌∷◌, ◌++◌, [], ℕ, suc, false, List, length, None, Result, Ok, Err}
+use Rattle.std.specs.Prelude.{◌≡◌, ◌≢◌, ◌<◌, ◌≤◌, ◌+◌, ◌*◌, ◌-◌, ◌⊎◌, ◌∷◌, ◌++◌, [], ℕ, suc, false, List, length, None, Result, Ok, Err}
 use Rattle.mg_base.specs.declared.damage.Damaged.{Damaged}
 use Rattle.mg_base.specs.declared.damage.Field.TheVariants.{Level}
 use Rattle.mg_base.specs.declared.geometry.Geometry.{Geometry}
@@ -13,7 +13,7 @@ use Rattle.mg_space.specs.Taking.{RefusesTake, TakesPage}
 use Rattle.mg_space.specs.declared.fault.SpaceFault.{SpaceFault}
 use Rattle.mg_space.specs.declared.fault.SpaceFault.TheVariants.{Full, Pool as OfPool, Damaged as OfPage}
 use Rattle.mg_tree_overlays.specs.TreeSteps.{InTree, StaysUsed}
-use Rattle.mg_tree_overlays.specs.TreeBatches.{ChangesTree, Stay, inventory_of}
+use Rattle.mg_tree_overlays.specs.TreeBatches.{ChangesTree, IsNoInventory, Stay, inventory_of}
 use Rattle.mg_btree.specs.declared.halves.PageBytes.{PageBytes}
 use Rattle.mg_btree.specs.Changing.{HasNoInventory}
 use Rattle.mg_btree.specs.Ordering.{EachOrder}
@@ -28,6 +28,11 @@ TakesEach g old (n ∷ ns) new = (next : Pages) × TakesPage g old next n × Tak
 pub record TakesInto (g : Geometry) (old new : Pages) (batch : Changed) (n : ℕ) : Type 0 where
   pub takes : TakesPage g old new n
   pub put : content_in batch.pages (inventory_of g.size n) ≢ None
+
+-- Pages were taken for a batch: it has so many pages more, at most, and no orders more.
+pub record TakesAlone (most : ℕ) (old new : Changed) : Type 0 where
+  pub orders : new.orders ≡ old.orders
+  pub few : length new.pages ≤ length old.pages + most
 
 -- A page is refused after so many were taken, at most.
 pub record RefusesAfter (g : Geometry) (old : Pages) (most : ℕ) (fault : SpaceFault) : Type 0 where
@@ -65,6 +70,10 @@ pub record MakesRoom (size : ℕ) (old new : Pages) (before batch : Changed) (ow
   pub wider : (n : ℕ) → InTree levels n → InTree ends n
   pub used : StaysUsed size old new
   pub fresh : (n : ℕ) → InTree ends n → InTree levels n ⊎ (is_used size old n ≡ false)
+  -- no page changes but the tree's and those of the page inventory
+  pub others : (n : ℕ) → (InTree ends n → ⊥) → IsNoInventory size n → new n ≡ old n
+  -- the batch has at most four pages more for each level above, and five for the root
+  pub few : length batch.pages ≤ length before.pages + (4 * (level_in (old root) - level) + 5)
   pub stays : (n : ℕ) → InTree levels n → level_in (old n) < level → new n ≡ old n
 
 -- the damage of a root that is to split and stands on the highest level that there is

@@ -12,6 +12,7 @@ ghost use Rattle.mg_space.specs.View.{AreWhole, Tells, viewed};
 ghost use Rattle.mg_btree.specs.Growing.{IsGrowth, NamesOne, NamesTwo, TakesTwo};
 ghost use Rattle.mg_btree.specs.Ordering.{Widens};
 ghost use Rattle.mg_btree.specs.Reading.{Reads};
+ghost use Rattle.mg_btree.specs.Rooms.{TakesAlone};
 
 use crate::halves::{Halves, PageBytes, halve, names_of, put_name};
 use mg_base::{Bytes, Disk, Memory, OWN_AT, PageNo, RecId};
@@ -55,7 +56,7 @@ pub(crate) fn take_two<D: Disk>(
     ensures takes { (image : Image) → Tells D.meaning store.old.disk image
         → TakesTwo store.old.geometry (viewed store.old image batch.old)
         (viewed store.old image batch.new) batch.new result }
-    ensures orders { OnOk result (batch.new.orders ≡ batch.old.orders) }
+    ensures alone { OnOk result (TakesAlone 2 batch.old batch.new) }
 {
     let first = take_page(store, batch)?;
     let second = take_page(store, batch)?;

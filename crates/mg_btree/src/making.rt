@@ -14,7 +14,7 @@ ghost use Rattle.mg_btree.specs.Halves.{AreHalves, CoversBy, HasRoom, IsPlaceFor
 ghost use Rattle.mg_btree.specs.Making.{IsSplit, PutsRoot, PutsSplit, SplitsIn, SplitsRoot, TakesAbove, TakesRight};
 ghost use Rattle.mg_btree.specs.Ordering.{Widens};
 ghost use Rattle.mg_btree.specs.Reading.{Reads};
-ghost use Rattle.mg_btree.specs.Rooms.{MakesRoomIn, RefusesRoom, StandsIn, too_high};
+ghost use Rattle.mg_btree.specs.Rooms.{MakesRoomIn, RefusesRoom, StandsIn, TakesAlone, too_high};
 ghost use Rattle.mg_btree.specs.Searching.{IsReached};
 
 use crate::growing::{Growth, TwoPages, grow, take_two};
@@ -115,7 +115,7 @@ fn take_above<D: Disk>(
     ensures reads { Reads D.meaning store.old store.new result }
     ensures widens { Widens store.old.geometry.size batch.old batch.new }
     ensures split { IfOk result (IsSplit store.old.geometry.size top.owner level full) }
-    ensures orders { OnOk result (batch.new.orders ≡ batch.old.orders) }
+    ensures alone { OnOk result (TakesAlone 1 batch.old batch.new) }
     ensures takes { (image : Image) (levels : List (List ℕ)) → Tells D.meaning store.old.disk image
         → top.level ≡ level_in (viewed store.old image batch.old top.page.0)
         → StandsIn store.old.geometry.size (viewed store.old image batch.old) top.owner top.page.0
@@ -157,7 +157,7 @@ fn take_right<D: Disk>(
     ensures widens { Widens store.old.geometry.size batch.old batch.new }
     ensures halves { IfOk result (λ halves.
         AreHalves full.bytes full.page.0 halves.right.page.0 halves) }
-    ensures orders { OnOk result (batch.new.orders ≡ batch.old.orders) }
+    ensures alone { OnOk result (TakesAlone 1 batch.old batch.new) }
     ensures takes { (image : Image) → Tells D.meaning store.old.disk image
         → TakesRight store.old.geometry (viewed store.old image batch.old)
         (viewed store.old image batch.new) batch.new result }

@@ -1,6 +1,6 @@
 //! Taking an entry out of a tree.
 
-ghost use Rattle.std.specs.Prelude.{◌≡◌, IfOk, List, OnErr, false, Ok as Fine, ℕ};
+ghost use Rattle.std.specs.Prelude.{◌≡◌, ◌+◌, ◌≤◌, IfOk, List, OnErr, false, Ok as Fine, length, ℕ};
 ghost use Rattle.mg_base.specs.Image.{Image};
 ghost use Rattle.mg_image.specs.Indexes.{IsTree};
 ghost use Rattle.mg_node.specs.NodePage.{IsNodePage, level_in};
@@ -60,6 +60,7 @@ pub fn remove<D: Disk>(
     ensures reads { Reads D.meaning store.old store.new result }
     ensures whole { AreWhole store.old.geometry.size batch.new.pages }
     ensures orders { batch.new.orders ≡ batch.old.orders }
+    ensures few { length batch.new.pages ≤ length batch.old.pages + 1 }
 
     // The batch is as before where the entry was not there, and after a fault.
     ensures absent { result ≡ Fine false → batch.new ≡ batch.old }

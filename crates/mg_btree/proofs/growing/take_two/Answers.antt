@@ -1,9 +1,9 @@
-use Rattle.std.proofs.Common.{◌∙◌, refl, Ok}
+use Rattle.std.proofs.Common.{refl, Ok}
 use Rattle.mg_base.specs.declared.numbers.PageNo.{PageNo}
 use Rattle.mg_space.specs.View.{viewed}
 use Rattle.mg_space.specs.ViewLaws.{tells_on}
 use Rattle.mg_btree.specs.ExitLaws.{reads_ok}
-use Rattle.mg_btree.specs.OrderLaws.{taken_put, widens_on, widens_same, widens_taken}
+use Rattle.mg_btree.specs.OrderLaws.{alone_next, taken_alone, taken_put, widens_on, widens_same, widens_taken}
 use Rattle.mg_btree.specs.ReadingLaws.{reads_on}
 use Rattle.mg_btree.specs.RefusalLaws.{refuses_now}
 use Rattle.mg_btree.specs.ScanLaws.{reads_err}
@@ -96,6 +96,10 @@ returns-clause-takes g c = λ image tells.
       },
     )
 
-pub returns-clause-orders : goal.returns-clause-orders
-returns-clause-orders g c = c.in_ok-second.ensures.puts.puts.same_orders
-    ∙ c.in_ok-first.ensures.puts.puts.same_orders
+pub returns-clause-alone : goal.returns-clause-alone
+returns-clause-alone g c = alone_next c.args.batch.now c.take_page.new.batch
+    c.take_page-2.new.batch
+    (taken_alone c.args.store.now.geometry c.args.batch.now c.take_page.new.batch
+    c.in_ok-first.first.0 c.in_ok-first.ensures.puts)
+    (taken_alone c.take_page.new.store.geometry c.take_page.new.batch c.take_page-2.new.batch
+    c.in_ok-second.second.0 c.in_ok-second.ensures.puts)

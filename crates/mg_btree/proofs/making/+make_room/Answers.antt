@@ -134,7 +134,7 @@ returns-clause-makes g t c = λ image levels tells top stands.
     c.make_room.new.batch c.args.top.owner c.args.top.page.0 c.args.level c.args.top.level levels
     c.args.full c.args.e.now c.in_ok-split.split c.as_place.result (Ok c.in_ok-roomy.roomy)
     c.as_place.ensures.page c.as_place.ensures.bytes tells lower top stands takes c.in_ok-roomy.ensures.makes)
-    c.in_ok-split.ensures.orders
+    c.in_ok-split.ensures.alone
     (λ room. not_there c.has_room.result c.has_room.ensures.1 c.if-has_room.false
     (subst (λ (b : List ℕ). HasRoom b c.args.e.now) (sym c.as_slice.ensures) room))
     (subst (λ (k : Geometry). Widens k.size c.take_above.new.batch c.make_room.new.batch) first

@@ -65,7 +65,7 @@ returns-clause-makes g c = λ image levels tells top stands. root_put c.args.sto
     c.requires.geometry c.args.batch.now c.take_two.new.batch c.put_growth.new.batch c.args.top.owner
     c.args.top.page.0 c.args.top.level levels c.args.full c.in_ok-two.two c.args.e.now
     c.in_ok-put_growth.field-0 stands c.requires.place top (c.in_ok-two.ensures.takes image tells)
-    c.in_ok-two.ensures.orders c.requires.no_room
+    c.in_ok-two.ensures.alone c.requires.no_room
     (subst (λ (k : Geometry). Widens k.size c.take_two.new.batch c.put_growth.new.batch)
     c.in_ok-two.ensures.reads.keeps.geometry c.in_ok-put_growth.ensures.widens)
     (subst (λ (k : Geometry). SplitsRoot k.size c.take_two.new.batch c.put_growth.new.batch

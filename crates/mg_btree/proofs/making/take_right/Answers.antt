@@ -5,7 +5,7 @@ use Rattle.mg_space.specs.View.{viewed}
 use Rattle.mg_space.specs.declared.fault.SpaceFault.TheVariants.{Pool as OfPool}
 use Rattle.mg_btree.specs.AboveLaws.{halves_own, right_refused, right_taken, sized_by}
 use Rattle.mg_btree.specs.ExitLaws.{reads_memory, reads_ok}
-use Rattle.mg_btree.specs.OrderLaws.{widens_same, widens_taken}
+use Rattle.mg_btree.specs.OrderLaws.{taken_alone, widens_same, widens_taken}
 use Rattle.mg_btree.specs.ScanLaws.{reads_err}
 use Rattle.mg_btree.proofs.making.take_right.Goals as goal
 
@@ -63,5 +63,6 @@ returns-clause-takes g c = λ image tells. right_taken c.args.store.now.geometry
     c.args.batch.now c.take_page.new.batch c.args.full c.in_ok-at.at.0 c.in_ok-halve.field-0
     c.in_ok-halve.ensures (c.in_ok-at.ensures.takes image tells) c.in_ok-at.ensures.puts
 
-pub returns-clause-orders : goal.returns-clause-orders
-returns-clause-orders g c = c.in_ok-at.ensures.puts.puts.same_orders
+pub returns-clause-alone : goal.returns-clause-alone
+returns-clause-alone g c = taken_alone c.args.store.now.geometry c.args.batch.now
+    c.take_page.new.batch c.in_ok-at.at.0 c.in_ok-at.ensures.puts

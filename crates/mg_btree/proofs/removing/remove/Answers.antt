@@ -1,4 +1,4 @@
-use Rattle.mg_btree.specs.LeafLaws.{removes_says}
+use Rattle.mg_btree.specs.LeafLaws.{removes_says, without_few}
 use Rattle.mg_btree.proofs.removing.remove.Goals as goal
 
 pub returns-clause-removes : goal.returns-clause-removes
@@ -8,3 +8,7 @@ returns-clause-removes g c = λ image owner levels tells tree no_inventory.
     c.in_ok-read.ensures.reads.keeps tree no_inventory
     (c.in_ok-read.ensures.seen image owner levels tells tree) c.in_ok-put_without.field-0
     c.in_ok-put_without.ensures.puts
+
+pub returns-clause-few : goal.returns-clause-few
+returns-clause-few g c = without_few c.args.batch.now c.put_without.new.batch c.in_ok-read.read
+    c.args.e.now c.in_ok-put_without.field-0 c.in_ok-put_without.ensures.puts
