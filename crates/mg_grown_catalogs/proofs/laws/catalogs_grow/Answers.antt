@@ -1,0 +1,14 @@
+use Rattle.mg_grown_catalogs.specs.GrownLaws.{bases_are_within, committed_rows_stay, own_rows_are_new, seen_is_not_made}
+use Rattle.mg_grown_catalogs.proofs.laws.catalogs_grow.Goals as goal
+
+pub returns-clause-stay : goal.returns-clause-stay
+returns-clause-stay c = committed_rows_stay c.changes_are_fine.ensures.insert
+
+pub returns-clause-within : goal.returns-clause-within
+returns-clause-within c = bases_are_within c.changes_are_fine.ensures.insert
+
+pub returns-clause-own : goal.returns-clause-own
+returns-clause-own c = own_rows_are_new c.changes_are_fine.ensures.insert
+
+pub returns-clause-seen : goal.returns-clause-seen
+returns-clause-seen c = seen_is_not_made c.changes_are_fine.ensures.insert
