@@ -1,0 +1,147 @@
+-- A disk that is asked, call by call.
+use Rattle.std.proofs.Common.{◌≡◌, ◌⊎◌, inl, inr, ◌<◌, ◌≤◌, ◌+◌, ℕ, zero, suc, Bool, true, Option, None, Some, length, subst, refl, ◌∙◌, arith}
+use Rattle.std.specs.Prelude.{◌↔◌, IsErr, IsTrue, OnOk, Result, Ok, Err, IfOk, min}
+use Rattle.std.proofs.lemmas.Bool.{cases_lt}
+use Rattle.std.proofs.lemmas.List.{get_or_past}
+use Rattle.mg_base.specs.Disk.{Calm, MayLeave, Meaning, Rose, Stays}
+use Rattle.mg_base.specs.Image.{Image, blank, page_at}
+use Rattle.mg_base.specs.declared.geometry.TheConstants.{GREATEST_LIMIT}
+use Rattle.mg_image.specs.Form.{Pages, packed_coding, packed_form}
+use Rattle.mg_image.specs.NewDatabase.{IsNewPage}
+use Rattle.mg_image.specs.Opening.{IsUnmade}
+use Rattle.mg_pool.specs.Pool.{KeepsContent}
+use Rattle.mg_space.specs.ViewLaws.{content_on}
+use Rattle.mg_survey.specs.Survey.{AreUnmadeBehind, HasPages, HasTested, IsUnmadeAt, OnlyAsks}
+use Rattle.mg_survey.specs.UnmadeLaws.{zero_is_unmade}
+
+abbrev pub CountsNow : {D : Type 0} → Meaning D → Type 0
+CountsNow {D} m = (disk : D) (t : ℕ) (c : Image) → m.tells disk ≡ true → t ≤ m.moment disk
+    → MayLeave m disk c → m.left disk t c
+
+abbrev pub Counted : {D : Type 0} → Meaning D → Type 0
+Counted {D} m = (disk : D) (image : Image) (n : ℕ) → m.held disk ≡ Some image → m.count disk ≡ Some n
+    → length image ≡ n
+
+-- one call
+pub calm_content : {D T E : Type 0} (m : Meaning D) (old new : D) (result : Result T E)
+    → Calm m old new result → KeepsContent m old new
+calm_content m old new result calm = record {
+  held = calm.held;
+  tells = calm.keeps.tells;
+  never_falls = calm.keeps.never_falls;
+  crash = calm.crash;
+  time = calm.keeps.time;
+  asked = calm.asked;
+}
+
+pub calm_asks : {D T E U F : Type 0} (m : Meaning D) (old new : D) (result : Result T E)
+    (other : Result U F) → Calm m old new result → (IsErr other → IsErr result)
+    → (OnOk result (m.faults new ≡ m.faults old) → OnOk other (m.faults new ≡ m.faults old))
+    → OnlyAsks m old new other
+calm_asks m old new result other calm err ok = record {
+  content = calm_content m old new result calm;
+  cause = λ is. calm.keeps.cause (err is);
+  steady = ok calm.keeps.steady;
+}
+
+-- what is known stays known
+pub stays_known : (old new : Option ℕ) (n : ℕ) → Stays old new → old ≡ Some n → new ≡ Some n
+stays_known None new n stays is = absurd cc
+stays_known (Some k) new n stays is = stays ∙ is
+
+pub pages_stay : {D T E : Type 0} (m : Meaning D) (old new : D) (result : Result T E) (size pages : ℕ)
+    → Calm m old new result → HasPages m old size pages → HasPages m new size pages
+pages_stay m old new result size pages calm has = record {
+  sized = stays_known (m.size old) (m.size new) size calm.keeps.size has.sized;
+  count = stays_known (m.count old) (m.count new) pages calm.count has.count;
+}
+
+-- one call more, after calls that have not failed
+pub asks_on : {D T E : Type 0} (m : Meaning D) → CountsNow m → (a b c : D) (result : Result T E)
+    → KeepsContent m a b → m.faults b ≡ m.faults a → OnlyAsks m b c result → OnlyAsks m a c result
+asks_on m now a b c result so_far same asks = record {
+  content = content_on m now a b c so_far asks.content;
+  cause = λ err. subst (λ (n : ℕ). Rose n (m.faults c)) same (asks.cause err);
+  steady = at result asks.steady;
+}
+  where
+    at : {T E : Type 0} (result : Result T E) → OnOk result (m.faults c ≡ m.faults b)
+        → OnOk result (m.faults c ≡ m.faults a)
+    at (Ok x) steady = steady ∙ same
+    at (Err e) steady = tt
+
+-- ---- the pages one after another
+
+pub tested_more : {D : Type 0} (m : Meaning D) → CountsNow m → (old mid new : D) (size pages n : ℕ)
+    → HasTested m old mid size pages n → HasPages m new size pages → KeepsContent m mid new
+    → m.faults new ≡ m.faults mid
+    → ((image : Image) → m.held mid ≡ Some image → IsUnmadeAt size n (page_at size image n))
+    → HasTested m old new size pages (n + 1)
+tested_more m now old mid new size pages n so_far has content steady here = record {
+  has = has;
+  content = content_on m now old mid new so_far.content content;
+  steady = steady ∙ so_far.steady;
+  unmade = λ image held k some below. at image held k some below (cases_lt k n);
+}
+  where
+    at : (image : Image) → m.held old ≡ Some image → (k : ℕ) → 1 ≤ k → k < n + 1 → (k < n) ⊎ (n ≤ k)
+        → IsUnmadeAt size k (page_at size image k)
+    at image held k some below (inl before) = so_far.unmade image held k some before
+    at image held k some below (inr past) =
+        let same : n ≡ k = omega (arith, below, past) in
+        subst (λ (i : ℕ). IsUnmadeAt size i (page_at size image i)) same
+        (here image (so_far.content.held ∙ held))
+
+-- a page past the end is zero
+past_end : (size : ℕ) (image : Image) (n : ℕ) → length image ≤ n → page_at size image n ≡ blank size
+past_end size image n past = get_or_past image n (blank size) past
+
+pub all_tested : {D : Type 0} (m : Meaning D) → Counted m → (old now : D) (size pages n : ℕ)
+    → HasTested m old now size pages n → min pages GREATEST_LIMIT ≤ n → (image : Image)
+    → m.held old ≡ Some image → AreUnmadeBehind size (page_at size image)
+all_tested m counts old now size pages n so_far end image held k some below = at (cases_lt k n)
+  where
+    counted : length image ≡ pages
+    counted = counts now image pages (so_far.content.held ∙ held) so_far.has.count
+
+    at : (k < n) ⊎ (n ≤ k) → IsUnmadeAt size k (page_at size image k)
+    at (inl inside) = so_far.unmade image held k some inside
+    at (inr past) = zero_is_unmade size k (page_at size image k)
+        (past_end size image k (omega (arith, counted, past, end, below)))
+
+-- ---- the whole
+
+module _ (size : ℕ) (pages : Pages) where
+  behind : (n : ℕ) → 1 ≤ n → IsUnmadeAt size n (pages n)
+      → (pages n ≡ blank size) ⊎ IsNewPage packed_coding size n (pages n)
+  behind zero some is = absurd (omega (arith, some))
+  behind (suc n) some is = is
+
+  back : (n : ℕ) → 1 ≤ n → (pages n ≡ blank size) ⊎ IsNewPage packed_coding size n (pages n)
+      → IsUnmadeAt size n (pages n)
+  back zero some is = absurd (omega (arith, some))
+  back (suc n) some is = is
+
+  both_unmade : (rest : Bool) → IsUnmadeAt size 0 (pages 0) → (IsTrue rest ↔ AreUnmadeBehind size pages)
+      → IsTrue rest ↔ IsUnmade packed_form size pages
+  both_unmade rest first others = (
+    λ is. record { header = first; others = λ n some below. behind n some (others.0 is n some below) },
+    λ unmade. others.1 (λ n some below. back n some (unmade.others n some below)),
+  )
+
+  pub all_unmade : {E : Type 0} (result : Result Bool E) → IsUnmadeAt size 0 (pages 0)
+      → IfOk result (λ is. IsTrue is ↔ AreUnmadeBehind size pages)
+      → IfOk result (λ is. IsTrue is ↔ IsUnmade packed_form size pages)
+  all_unmade (Ok rest) first others = both_unmade rest first others
+  all_unmade (Err e) first others = tt
+
+-- a disk without pages
+pub empty_unmade : {D : Type 0} (m : Meaning D) → Counted m → (disk : D) (size pages : ℕ)
+    → HasPages m disk size pages → pages ≡ 0 → (image : Image) → m.held disk ≡ Some image
+    → IsTrue true ↔ IsUnmade packed_form size (page_at size image)
+empty_unmade m counts disk size pages has none image held = both_unmade size (page_at size image) true
+    (zero 0) (λ yes_ n some below. zero_is_unmade size n (page_at size image n) (zero n), λ all. refl)
+  where
+    zero : (n : ℕ) → page_at size image n ≡ blank size
+    zero n = let counted = counts disk image pages held has.count in
+        past_end size image n (omega (arith, counted, none))

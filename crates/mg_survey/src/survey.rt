@@ -1,0 +1,45 @@
+//! What a disk is asked before it is opened.
+
+ghost use Rattle.std.specs.Prelude.{IfOk};
+ghost use Rattle.mg_survey.specs.Survey.{IsSurveyed, OnlyAsks};
+
+use crate::disk::is_unmade;
+use mg_base::{Disk, DiskFault, GREATEST_LIMIT, Geometry};
+
+/// What a disk has told.
+#[derive(Clone, Copy, Debug, PartialEq, Eq)]
+pub struct Survey {
+    /// Its page size, and the page limit of the opening.
+    pub geometry: Geometry,
+    /// Whether a database may be made on it.
+    pub unmade: bool,
+}
+
+/// Asks a disk for its page size and its number of pages, and whether a database may be made on it. The page
+/// limit is the greater of `limit` and the number of pages, and at most the greatest.
+///
+/// # Errors
+///
+/// The disk's.
+pub fn ask<D: Disk>(disk: &mut D, limit: u32) -> Result<Survey, DiskFault>
+    ensures asks { OnlyAsks D.meaning disk.old disk.new result }
+    ensures survey { IfOk result (IsSurveyed D.meaning disk.old disk.new limit) }
+{
+    let size = match disk.page_size() {
+        Ok(size) => size,
+        Err(fault) => return Err(fault),
+    };
+    let pages = match disk.pages() {
+        Ok(pages) => pages,
+        Err(fault) => return Err(fault),
+    };
+    let unmade = match is_unmade(disk, size, pages) {
+        Ok(unmade) => unmade,
+        Err(fault) => return Err(fault),
+    };
+    let limit = limit.max(pages).min(GREATEST_LIMIT);
+    Ok(Survey {
+        geometry: Geometry { size, limit },
+        unmade,
+    })
+}
