@@ -1,1 +1,2 @@
 mod WriteLemmas
+mod TableLemmas

@@ -1,6 +1,7 @@
 -- A write that is refused, and what undoes its statement.
-use Rattle.std.proofs.Common.{◌≡◌, ℕ, suc, Bool, true, false, List, ◌∷◌, Option, Some, None, inl, refl, subst, arith}
-use Rattle.std.specs.Prelude.{◌&&◌, ◌++◌, All, cond, if◌then◌else◌}
+use Rattle.std.proofs.Common.{◌≡◌, ℕ, suc, Bool, true, false, List, ◌∷◌, Option, Some, None, inl, refl, sym, ap, subst, ◌∙◌, arith}
+use Rattle.std.proofs.lemmas.Bool.{false≢true}
+use Rattle.std.specs.Prelude.{◌&&◌, ◌++◌, ◌<◌, ◌+◌, length, All, MatchOption, cond, if◌then◌else◌}
 use Rattle.std.specs.Option.{option_to_list}
 use Rattle.mg_value.specs.declared.shape.Shape.{Shape}
 use Rattle.mg_base.specs.declared.numbers.TxNo.{TxNo}
@@ -18,93 +19,91 @@ use Rattle.mg_records.specs.declared.write.Write.{Write}
 use Rattle.mg_records.specs.declared.write.Write.TheVariants as writes
 use Rattle.mg_records.specs.Meaning.{Means}
 use Rattle.mg_records.specs.Adding.{Adds}
-use Rattle.mg_records.specs.Crashing.{CrashesHold, LeavesQuietly}
-use Rattle.mg_records.specs.Keeping.{Leaves, Reads}
+use Rattle.mg_records.specs.Crashing.{LeavesQuietly}
+use Rattle.mg_records.specs.Keeping.{Leaves}
 use Rattle.mg_records.specs.Sessions.{SessionsStay}
 use Rattle.mg_records.specs.TakingBack.{GivesUp, after_refusal, is_given_up}
 use Rattle.mg_records.specs.Writing.{FitsShape, event_of}
 use Rattle.mg_calls.specs.Frames.{Frames}
-use Rattle.mg_calls.specs.Quiet.{AreQuiet, as_it_was}
-use Rattle.mg_calls.specs.QuietLaws.{goes_by_event, goes_by_giving_up, goes_by_reading, quiet_one}
+use Rattle.mg_calls.specs.Quiet.{AreQuiet}
+use Rattle.mg_calls.specs.QuietLaws.{quiet_event, quiet_given_up}
 use Rattle.mg_calls.specs.declared.writing.Written.TheVariants as written
-use Rattle.mg_calls.specs.FrameLaws.{frames_changes, frames_first, frames_then, frames_writes}
-use Rattle.mg_calls.specs.Undoing.{left_so, taken_back}
-use Rattle.mg_calls.specs.Writes.{IsWritten, WritesOne, ended_by, refused_twice}
+use Rattle.mg_calls.specs.declared.writing.Written.{Written}
+use Rattle.mg_calls.specs.FrameLaws.{frames_changes, frames_then}
+use Rattle.mg_calls.specs.Undoing.{Undoes, is_waiting, left_so}
+use Rattle.mg_calls.specs.Writes.{IsWritten, WritesOne, ended_by, goes_on, refusal_written, refused_twice}
 
-pub undone : {R P : Type 0} (m : Means R P) (old mid new : R) (t : TxNo) (event : Event)
-    (refusal : Refusal) → Adds m old mid event (No refusal) → Adds m mid new (UndoMark t) Fine
-    → (o : Opening) (h : Entries) → m.stands old o h
-    → WritesOne m new o h t event (written.Refused refusal)
-undone m old mid new t event refusal adds back o h stands =
-    let came = adds o h stands in
-    let undoes = back o (entry event (No refusal) ∷ h) came.1 in
-    record { first = refusal; lawful = came.0; undone = taken_back undoes.0 undoes.1 }
+-- the undoing was refused, and the transaction rolled back if the refusal is one that gives it up
+pub not_undone : {R P : Type 0} (m : Means R P) (old new : R) (t : TxNo) (refusal later : Refusal)
+    → GivesUp m old new t (UndoMark t) later → (o : Opening) (h : Entries) → m.stands old o h
+    → Undoes m new o h t refusal (refused_twice later)
+not_undone m old new t refusal later back o h stands = by (is_given_up later) refl undoes.1
+  where
+    undoes : IsLawful o h (entry (UndoMark t) (No later))
+        × m.stands new o (after_refusal o h t (UndoMark t) later)
+    undoes = back o h stands
 
-pub not_undone : {R P : Type 0} (m : Means R P) (old mid new : R) (t : TxNo) (event : Event)
-    (refusal later : Refusal) → Adds m old mid event (No refusal)
-    → GivesUp m mid new t (UndoMark t) later → (o : Opening) (h : Entries) → m.stands old o h
-    → WritesOne m new o h t event (refused_twice later)
-not_undone m old mid new t event refusal later adds back o h stands =
-    by (is_given_up later) refl undoes.1
+    by : (b : Bool) → is_given_up later ≡ b → m.stands new o (after_refusal o h t (UndoMark t) later)
+        → Undoes m new o h t refusal (if b then written.RolledBack later else written.Refused later)
+    by true gives is = record { gives_up = gives; undoing = undoes.0; stands = is }
+    by false keeps is = left_so later keeps undoes.0
+        (subst (λ (b : Bool). m.stands new o (cond (b && is_active (state_of o h t.0))
+        (entry (Rollback t) Fine ∷ entry (UndoMark t) (No later) ∷ h)
+        (entry (UndoMark t) (No later) ∷ h))) keeps is)
+
+pub ends_twice : (later : Refusal) → goes_on (refused_twice later) ≡ false
+ends_twice later = by (is_given_up later)
+  where
+    by : (b : Bool) → goes_on (if b then written.RolledBack later else written.Refused later) ≡ false
+    by true = refl
+    by false = refl
+
+told_twice : (later : Refusal) → refusal_written (refused_twice later) ≡ Some later
+told_twice later = by (is_given_up later)
+  where
+    by : (b : Bool)
+        → refusal_written (if b then written.RolledBack later else written.Refused later) ≡ Some later
+    by true = refl
+    by false = refl
+
+pub not_undone_frames : {R P : Type 0} (m : Means R P) (before old new : R) (t : ℕ)
+    (refusal later : Refusal) → Frames m before old t (Some refusal)
+    → Leaves m old new (Some later) (Some t) (Some t)
+    → Frames m before new t (refusal_written (refused_twice later))
+not_undone_frames m before old new t refusal later first second =
+    subst (λ (told : Option Refusal). Frames m before new t told) (sym (told_twice later))
+    (frames_then m before old new t (Some refusal) (Some later) first
+    (frames_changes m old new t (Some later) second))
+
+-- a write was refused, and its statement undone
+pub comes_to_nothing : {R P : Type 0} (m : Means R P) (old mid new : R) (t : TxNo) (event : Event)
+    (refusal : Refusal) (result : Written) → is_waiting refusal ≡ false
+    → Adds m old mid event (No refusal)
+    → ((o : Opening) (h : Entries) → m.stands mid o h → Undoes m new o h t refusal result)
+    → (o : Opening) (h : Entries) → m.stands old o h → WritesOne m new o h t event result
+comes_to_nothing m old mid new t event refusal result final adds undoes o h stands =
+    by result (undoes o (entry event (No refusal) ∷ h) came.1)
   where
     came : IsLawful o h (entry event (No refusal)) × m.stands mid o (entry event (No refusal) ∷ h)
     came = adds o h stands
 
-    undoes : IsLawful o (entry event (No refusal) ∷ h) (entry (UndoMark t) (No later))
-        × m.stands new o (after_refusal o (entry event (No refusal) ∷ h) t (UndoMark t) later)
-    undoes = back o (entry event (No refusal) ∷ h) came.1
+    by : (result : Written) → Undoes m new o (entry event (No refusal) ∷ h) t refusal result
+        → WritesOne m new o h t event result
+    by written.Done is = absurd is
+    by (written.Waits on) is = absurd is
+    by (written.Refused answer) is =
+        record { first = refusal; final = final; lawful = came.0; undone = is }
+    by (written.RolledBack answer) is =
+        record { first = refusal; final = final; lawful = came.0; undone = is }
 
-    by : (b : Bool) → is_given_up later ≡ b
-        → m.stands new o (after_refusal o (entry event (No refusal) ∷ h) t (UndoMark t) later)
-        → WritesOne m new o h t event (if b then written.RolledBack later else written.Refused later)
-    by true gives is = record {
-      first = refusal;
-      lawful = came.0;
-      gives_up = gives;
-      undoing = undoes.0;
-      stands = is;
-    }
-    by false keeps is = record {
-      first = refusal;
-      lawful = came.0;
-      undone = left_so later keeps undoes.0
-          (subst (λ (b : Bool). m.stands new o (cond (b && is_active (state_of o (entry event (No refusal) ∷ h) t.0))
-          (entry (Rollback t) Fine ∷ entry (UndoMark t) (No later) ∷ entry event (No refusal) ∷ h)
-          (entry (UndoMark t) (No later) ∷ entry event (No refusal) ∷ h))) keeps is);
-    }
-
-pub undone_leaves : {R P : Type 0} (m : Means R P) (old mid new : R) (t : ℕ) (refusal : Refusal)
-    → Leaves m old mid (Some refusal) None (Some t) → Leaves m mid new None (Some t) (Some t)
-    → IsWritten m old new t (written.Refused refusal)
-undone_leaves m old mid new t refusal first second = record {
-  frames = frames_first m old mid new t (Some refusal) None
-      (frames_writes m old mid t (Some refusal) first) (frames_changes m mid new t None second);
-  tables = λ on. absurd cc;
-}
-
-pub not_undone_leaves : {R P : Type 0} (m : Means R P) (old mid new : R) (t : ℕ)
-    (refusal later : Refusal) → Leaves m old mid (Some refusal) None (Some t)
-    → Leaves m mid new (Some later) (Some t) (Some t)
-    → IsWritten m old new t (refused_twice later)
-not_undone_leaves m old mid new t refusal later first second = by (is_given_up later)
-  where
-    frames : Frames m old new t (Some later)
-    frames = frames_then m old mid new t (Some refusal) (Some later)
-        (frames_writes m old mid t (Some refusal) first) (frames_changes m mid new t (Some later) second)
-
-    by : (b : Bool) → IsWritten m old new t (if b then written.RolledBack later else written.Refused later)
-    by true = record { frames = frames; tables = λ on. absurd cc }
-    by false = record { frames = frames; tables = λ on. absurd cc }
+-- a statement that is at its end leaves no more than the frames
+pub ended_leaves : {R P : Type 0} (m : Means R P) (old new : R) (t : ℕ) (result : Written)
+    → goes_on result ≡ false → Frames m old new t (refusal_written result)
+    → IsWritten m old new t result
+ended_leaves m old new t result ends frames =
+    record { frames = frames; tables = λ on. absurd (false≢true (sym ends ∙ on)) }
 
 -- ---- quiet calls
-
-pub quiet_event : {R P : Type 0} (m : Means R P) (old new : R) (event : Event) (answer : Answer)
-    (refusal : Option Refusal) (tables walks : Option ℕ) → is_lasting event ≡ false
-    → Adds m old new event answer → Leaves m old new refusal tables walks → LeavesQuietly m old new
-    → SessionsStay m old new None None → AreQuiet m old new None
-quiet_event m old new event answer refusal tables walks quiet adds leaves crash sessions =
-    quiet_one m old new refusal None leaves.keeps crash sessions
-    (goes_by_event m old new event answer quiet adds)
 
 writes_quietly : (t : TxNo) (name : List ℕ) (w : Write) → is_lasting (event_of t name w) ≡ false
 writes_quietly t name (writes.Insert row) = refl
@@ -119,43 +118,27 @@ quiet_write m old new t name w answer refusal adds leaves crash sessions =
     quiet_event m old new (event_of t name w) answer refusal None (Some t.0) (writes_quietly t name w)
     adds leaves crash sessions
 
-pub quiet_reading : {R P : Type 0} (m : Means R P) (old new : R) (refusal : Option Refusal)
-    (walks : Option ℕ) → Reads m old new refusal walks → LeavesQuietly m old new
-    → SessionsStay m old new None None → AreQuiet m old new None
-quiet_reading m old new refusal walks reads crash sessions =
-    quiet_one m old new refusal None reads.keeps crash sessions
-    (goes_by_reading m old new refusal walks reads)
-
-pub quiet_given_up : {R P : Type 0} (m : Means R P) (old new : R) (t : TxNo) (refusal : Refusal)
+-- the undoing of a refused statement was refused
+pub quiet_not_undone : {R P : Type 0} (m : Means R P) (old new : R) (t : TxNo) (refusal : Refusal)
     (tables walks : Option ℕ) → GivesUp m old new t (UndoMark t) refusal
     → Leaves m old new (Some refusal) tables walks → LeavesQuietly m old new
     → SessionsStay m old new None (if is_given_up refusal then Some t.0 else None)
     → AreQuiet m old new (ended_by t.0 (refused_twice refusal))
-quiet_given_up m old new t refusal tables walks gives leaves crash sessions =
-    by (is_given_up refusal) sessions
+quiet_not_undone m old new t refusal tables walks gives leaves crash sessions =
+    subst (λ (ends : Option ℕ). AreQuiet m old new ends) (by (is_given_up refusal))
+    (quiet_given_up m old new t (UndoMark t) refusal tables walks refl gives leaves crash sessions)
   where
-    by : (b : Bool) → SessionsStay m old new None (if b then Some t.0 else None)
-        → AreQuiet m old new (ended_by t.0 (if b then written.RolledBack refusal else written.Refused refusal))
-    by true stay = quiet_one m old new (Some refusal) (Some t.0) leaves.keeps crash stay
-        (goes_by_giving_up m old new t (UndoMark t) refusal refl gives)
-    by false stay = quiet_one m old new (Some refusal) None leaves.keeps crash stay
-        (goes_by_giving_up m old new t (UndoMark t) refusal refl gives)
+    by : (b : Bool) → (if b then Some t.0 else None)
+        ≡ ended_by t.0 (if b then written.RolledBack refusal else written.Refused refusal)
+    by true = refl
+    by false = refl
 
--- nothing is called
-pub quiet_nothing : {R P : Type 0} (m : Means R P) → CrashesHold m → (r : R) → AreQuiet m r r None
-quiet_nothing m crashes r = record {
-  goes_on = λ o h stands. (h, stands, as_it_was);
-  tells = refl;
-  time = λ told. record { later = omega arith; keeps = λ t c within was. was };
-  holds = λ o h least c was. was;
-  crash = λ o h stands told.
-      record { each = λ c left. crashes r o h stands told c left; before = λ t c within left. inl left };
-  sessions = record {
-    free = λ session other free. free;
-    works = λ t session other works. works;
-    ended = λ t session it works. absurd cc;
-  };
-}
+-- one is fewer where the first is taken
+pub one_taken : (popped : Option Write) (all_ rest : List Write) (n k : ℕ)
+    → all_ ≡ option_to_list popped ++ rest → 0 < n
+    → MatchOption popped ((n ≡ 0) × (k ≡ 0)) (λ w. k + 1 ≡ n) → length all_ ≡ length rest + 1
+one_taken None all_ rest n k is some none = absurd (omega (arith, some, none.0))
+one_taken (Some w) all_ rest n k is some one = omega (arith, ap (length {A = Write}) is)
 
 -- what is true of all is true of those behind the first
 pub all_behind : (shape : Shape) (first : Option Write) (all_ rest : List Write)

@@ -3,8 +3,10 @@ pub mod Quiet
 pub mod Undoing
 pub mod Writes
 pub mod Steps
+pub mod Tables
 pub mod Walks
 pub mod FrameLaws
 pub mod QuietLaws
+pub mod TableLaws
 pub mod FindLaws
 pub mod WalkLaws

@@ -3,9 +3,9 @@ use Rattle.std.specs.Prelude.{◌≡◌, ℕ, true, false, ◌∷◌, Option, No
 use Rattle.mg_base.specs.Image.{Image}
 use Rattle.mg_model.specs.declared.opening.Opening.{Opening}
 use Rattle.mg_model.specs.History.{Entries, Entry}
-use Rattle.mg_model.specs.Legal.{is_lasting}
+use Rattle.mg_model.specs.Legal.{durable_count, is_lasting}
 use Rattle.mg_records.specs.Meaning.{Means}
-use Rattle.mg_records.specs.Crashing.{LeavesQuietly}
+use Rattle.mg_records.specs.Crashing.{LeavesOnly, LeavesQuietly}
 use Rattle.mg_records.specs.Keeping.{Elapses}
 use Rattle.mg_records.specs.Sessions.{SessionsStay}
 
@@ -28,4 +28,21 @@ pub record AreQuiet {R P : Type 0} (m : Means R P) (old new : R) (ends : Option 
   pub holds : (o : Opening) (h : Entries) (least : ℕ) (c : Image) → m.holds old o h least c
       → m.holds new o h least c
   pub crash : LeavesQuietly m old new
+  pub sessions : SessionsStay m old new None ends
+
+-- What such calls leave of one history: it has gone on so, and what a crash since might have left holds
+-- it with all its durable events.
+pub record IsQuietAt {R P : Type 0} (m : Means R P) (old new : R) (o : Opening) (h : Entries) : Type 0
+  where
+    pub longer : Entries
+    pub stands : m.stands new o longer
+    pub quietly : IsQuietly h longer
+    pub crash : m.tells old ≡ true → LeavesOnly m old new (m.holds new o h (durable_count h))
+
+-- What such calls leave whatever the history: what an image holds it holds still, and sessions stay.
+pub record AreCalm {R P : Type 0} (m : Means R P) (old new : R) (ends : Option ℕ) : Type 0 where
+  pub tells : m.tells new ≡ m.tells old
+  pub time : m.tells old ≡ true → Elapses m old new
+  pub holds : (o : Opening) (h : Entries) (least : ℕ) (c : Image) → m.holds old o h least c
+      → m.holds new o h least c
   pub sessions : SessionsStay m old new None ends

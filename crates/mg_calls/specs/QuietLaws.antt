@@ -1,5 +1,5 @@
 -- Several quiet calls are quiet together.
-use Rattle.std.proofs.Common.{◌≡◌, ◌⊎◌, ℕ, ◌+◌, ◌≤◌, Bool, true, false, ◌∷◌, Option, None, inl, inr, refl, subst, ◌∙◌, arith}
+use Rattle.std.proofs.Common.{◌≡◌, ◌⊎◌, ℕ, ◌+◌, ◌≤◌, Bool, true, false, ◌∷◌, Option, Some, None, inl, inr, refl, subst, ◌∙◌, arith}
 use Rattle.std.specs.Prelude.{◌&&◌, cond, if◌then◌else◌}
 use Rattle.mg_base.specs.Image.{Image}
 use Rattle.mg_base.specs.declared.numbers.TxNo.{TxNo}
@@ -14,17 +14,17 @@ use Rattle.mg_model.specs.History.{Entries, entry}
 use Rattle.mg_model.specs.Legal.{durable_count, is_fine, is_lasting}
 use Rattle.mg_model.specs.Machine.{state_of}
 use Rattle.mg_records.specs.Adding.{Adds}
-use Rattle.mg_records.specs.Crashing.{HoldsOn, LeavesOnly, LeavesQuietly}
-use Rattle.mg_records.specs.Keeping.{Keeps, Reads}
+use Rattle.mg_records.specs.Crashing.{CrashesHold, HoldsOn, LeavesOnly, LeavesQuietly}
+use Rattle.mg_records.specs.Keeping.{Keeps, Leaves, Reads}
 use Rattle.mg_records.specs.Meaning.{Means}
 use Rattle.mg_records.specs.Sessions.{SessionsStay}
 use Rattle.mg_records.specs.TakingBack.{GivesUp, is_given_up}
 use Rattle.mg_calls.specs.FrameLaws.{elapses_then}
-use Rattle.mg_calls.specs.Quiet.{AreQuiet, GoesOnQuietly, IsQuietly, as_it_was, with_entry}
+use Rattle.mg_calls.specs.Quiet.{AreCalm, AreQuiet, GoesOnQuietly, IsQuietAt, IsQuietly, as_it_was, with_entry}
 
 -- ---- histories
 
-quietly_then : (h mid longer : Entries) → IsQuietly h mid → IsQuietly mid longer → IsQuietly h longer
+pub quietly_then : (h mid longer : Entries) → IsQuietly h mid → IsQuietly mid longer → IsQuietly h longer
 quietly_then h mid longer first as_it_was = first
 quietly_then h mid longer first (with_entry {longer = more} e quiet rest) =
     with_entry e quiet (quietly_then h mid more first rest)
@@ -159,3 +159,124 @@ quiet_then {R = R} m on old mid new ends first second = record {
         (λ c is. subst (λ (least : ℕ). m.holds new o h least c) same
         (holds_before m on new o h one.0 (durable_count one.0) c one.2 is))
         (second.crash o one.0 one.1 (first.tells ∙ told)))
+
+pub quiet_event : {R P : Type 0} (m : Means R P) (old new : R) (event : Event) (answer : Answer)
+    (refusal : Option Refusal) (tables walks : Option ℕ) → is_lasting event ≡ false
+    → Adds m old new event answer → Leaves m old new refusal tables walks → LeavesQuietly m old new
+    → SessionsStay m old new None None → AreQuiet m old new None
+quiet_event m old new event answer refusal tables walks quiet adds leaves crash sessions =
+    quiet_one m old new refusal None leaves.keeps crash sessions
+    (goes_by_event m old new event answer quiet adds)
+
+pub quiet_reading : {R P : Type 0} (m : Means R P) (old new : R) (refusal : Option Refusal)
+    (walks : Option ℕ) → Reads m old new refusal walks → LeavesQuietly m old new
+    → SessionsStay m old new None None → AreQuiet m old new None
+quiet_reading m old new refusal walks reads crash sessions =
+    quiet_one m old new refusal None reads.keeps crash sessions
+    (goes_by_reading m old new refusal walks reads)
+
+-- nothing is called
+pub quiet_nothing : {R P : Type 0} (m : Means R P) → CrashesHold m → (r : R) → AreQuiet m r r None
+quiet_nothing m crashes r = record {
+  goes_on = λ o h stands. (h, stands, as_it_was);
+  tells = refl;
+  time = λ told. record { later = omega arith; keeps = λ t c within was. was };
+  holds = λ o h least c was. was;
+  crash = λ o h stands told.
+      record { each = λ c left. crashes r o h stands told c left; before = λ t c within left. inl left };
+  sessions = record {
+    free = λ session other free. free;
+    works = λ t session other works. works;
+    ended = λ t session it works. absurd cc;
+  };
+}
+
+-- an event was to take a transaction back, and was refused
+pub quiet_given_up : {R P : Type 0} (m : Means R P) (old new : R) (t : TxNo) (event : Event)
+    (refusal : Refusal) (tables walks : Option ℕ) → is_lasting event ≡ false
+    → GivesUp m old new t event refusal
+    → Leaves m old new (Some refusal) tables walks → LeavesQuietly m old new
+    → SessionsStay m old new None (if is_given_up refusal then Some t.0 else None)
+    → AreQuiet m old new (if is_given_up refusal then Some t.0 else None)
+quiet_given_up m old new t event refusal tables walks quiet gives leaves crash sessions =
+    quiet_one m old new (Some refusal) (if is_given_up refusal then Some t.0 else None) leaves.keeps crash
+    sessions (goes_by_giving_up m old new t event refusal quiet gives)
+
+-- ---- one history
+
+pub quiet_at : {R P : Type 0} (m : Means R P) (old new : R) (ends : Option ℕ) → AreQuiet m old new ends
+    → (o : Opening) (h : Entries) → m.stands old o h → IsQuietAt m old new o h
+quiet_at m old new ends quiet o h stands =
+    let goes = quiet.goes_on o h stands in
+    record { longer = goes.0; stands = goes.1; quietly = goes.2; crash = quiet.crash o h stands }
+
+pub quiet_at_then : {R P : Type 0} (m : Means R P) → HoldsOn m → (old mid new : R) (ends : Option ℕ)
+    (o : Opening) (h : Entries) → AreCalm m old mid None → IsQuietAt m old mid o h
+    → AreQuiet m mid new ends → IsQuietAt m old new o h
+quiet_at_then {R = R} m on old mid new ends o h calm first second =
+    let goes = second.goes_on o first.longer first.stands in
+    record {
+      longer = goes.0;
+      stands = goes.1;
+      quietly = quietly_then h first.longer goes.0 first.quietly goes.2;
+      crash = crash;
+    }
+  where
+    crash : m.tells old ≡ true → LeavesOnly m old new (m.holds new o h (durable_count h))
+    crash told =
+        let same : durable_count first.longer ≡ durable_count h = same_count h first.longer first.quietly in
+        leaves_then m old mid new (m.holds mid o h (durable_count h)) (m.holds new o h (durable_count h))
+        (calm.time told).later (second.holds o h (durable_count h)) (first.crash told)
+        (leaves_as m mid new (m.holds new o first.longer (durable_count first.longer))
+        (m.holds new o h (durable_count h))
+        (λ c is. subst (λ (least : ℕ). m.holds new o h least c) same
+        (holds_before m on new o h first.longer (durable_count first.longer) c first.quietly is))
+        (second.crash o first.longer first.stands (calm.tells ∙ told)))
+
+-- ---- whatever the history
+
+pub calm_by : {R P : Type 0} (m : Means R P) (old new : R) (ends : Option ℕ) → AreQuiet m old new ends
+    → AreCalm m old new ends
+calm_by m old new ends quiet =
+    record { tells = quiet.tells; time = quiet.time; holds = quiet.holds; sessions = quiet.sessions }
+
+pub calm_one : {R P : Type 0} (m : Means R P) (old new : R) (refusal : Option Refusal)
+    (ends : Option ℕ) → Keeps m old new refusal → SessionsStay m old new None ends
+    → AreCalm m old new ends
+calm_one m old new refusal ends keeps sessions =
+    record { tells = keeps.tells; time = keeps.time; holds = keeps.holds; sessions = sessions }
+
+pub calm_then : {R P : Type 0} (m : Means R P) (old mid new : R) (ends : Option ℕ)
+    → AreCalm m old mid None → AreCalm m mid new ends → AreCalm m old new ends
+calm_then m old mid new ends first second = record {
+  tells = second.tells ∙ first.tells;
+  time = λ told. elapses_then m old mid new (first.time told) (second.time (first.tells ∙ told));
+  holds = λ o h least c was. second.holds o h least c (first.holds o h least c was);
+  sessions = sessions_then m old mid new ends first.sessions second.sessions;
+}
+
+-- a call that gave no event, and others behind it
+pub quiet_then_at : {R P : Type 0} (m : Means R P) (old mid new : R) (ends : Option ℕ) (o : Opening)
+    (h : Entries) → AreQuiet m old mid None → AreCalm m mid new ends → m.stands old o h
+    → IsQuietAt m mid new o h → IsQuietAt m old new o h
+quiet_then_at m old mid new ends o h first calm stands second = record {
+  longer = second.longer;
+  stands = second.stands;
+  quietly = second.quietly;
+  crash = λ told. leaves_then m old mid new (m.holds mid o h (durable_count h))
+      (m.holds new o h (durable_count h)) (first.time told).later (calm.holds o h (durable_count h))
+      (first.crash o h stands told) (second.crash (first.tells ∙ told));
+}
+
+-- no call at all
+pub calm_nothing : {R P : Type 0} (m : Means R P) (r : R) → AreCalm m r r None
+calm_nothing m r = record {
+  tells = refl;
+  time = λ told. record { later = omega arith; keeps = λ t c within was. was };
+  holds = λ o h least c was. was;
+  sessions = record {
+    free = λ session other free. free;
+    works = λ t session other works. works;
+    ended = λ t session it works. absurd cc;
+  };
+}

@@ -1,5 +1,5 @@
 -- The writes of a statement, one a step.
-use Rattle.std.specs.Prelude.{◌≡◌, ◌≢◌, ◌⊎◌, ℕ, List, [], ◌∷◌, All, Option, Some, None}
+use Rattle.std.specs.Prelude.{◌≡◌, ◌≢◌, ◌⊎◌, ℕ, ◌+◌, List, [], ◌∷◌, length, All, Option, Some, None}
 use Rattle.mg_base.specs.declared.numbers.TxNo.{TxNo}
 use Rattle.mg_model.specs.declared.answer.Answer.TheVariants.{Fine, No}
 use Rattle.mg_model.specs.declared.event.Event.TheVariants.{Mark}
@@ -15,7 +15,8 @@ use Rattle.mg_calls.specs.declared.steps.Writes.{Writes}
 use Rattle.mg_calls.specs.declared.steps.Wrote.{Wrote}
 use Rattle.mg_calls.specs.declared.steps.Wrote.TheVariants as wrote
 use Rattle.mg_calls.specs.Frames.{Frames}
-use Rattle.mg_calls.specs.Writes.{Comes, ComesToAnEnd, ComesToNothing}
+use Rattle.mg_calls.specs.declared.writing.Written.TheVariants as written
+use Rattle.mg_calls.specs.Writes.{Comes, ComesToNothing}
 
 -- the transaction sees the table, and each write fits its shape
 pub record AreReady {R P : Type 0} (m : Means R P) (r : R) (t : ℕ) (w : Writes) : Type 0 where
@@ -57,9 +58,9 @@ WritesFirst m new o h t table first rest left wrote.Done =
 WritesFirst m new o h t table first rest left (wrote.Waits on) =
     Comes m new o h (event_of t table first) (No (Waits on)) × (left ≡ first ∷ rest)
 WritesFirst m new o h t table first rest left (wrote.Refused answer) =
-    ComesToNothing m new o h t (event_of t table first) answer
+    ComesToNothing m new o h t (event_of t table first) (written.Refused answer)
 WritesFirst m new o h t table first rest left (wrote.RolledBack answer) =
-    ComesToAnEnd m new o h t (event_of t table first) answer
+    ComesToNothing m new o h t (event_of t table first) (written.RolledBack answer)
 
 -- the next of some writes is made; where there is none, nothing is done
 abbrev pub WritesNext : {R P : Type 0} → Means R P → R → Opening → Entries → TxNo → List ℕ
@@ -76,9 +77,18 @@ MarksAndWrites m new o h t table writes left result =
     ⊎ (IsLawful o h (entry (Mark t) Fine)
     × WritesNext m new o (entry (Mark t) Fine ∷ h) t table writes left result)
 
+-- a step that leaves more to do has made one write; one that waits has made none
+abbrev pub AreFewer : List Write → List Write → Wrote → Type 0
+AreFewer before after wrote.More = length before ≡ length after + 1
+AreFewer before after wrote.Done = Unit {0}
+AreFewer before after (wrote.Waits on) = after ≡ before
+AreFewer before after (wrote.Refused refusal) = Unit {0}
+AreFewer before after (wrote.RolledBack refusal) = Unit {0}
+
 -- What a step leaves.
 pub record StepsOn {R P : Type 0} (m : Means R P) (old new : R) (t : ℕ) (before after : Writes)
     (result : Wrote) : Type 0 where
   pub frames : Frames m old new t (refusal_wrote result)
   pub table : after.table ≡ before.table
   pub ready : AreReadyIf m new t after result
+  pub fewer : AreFewer before.left.items after.left.items result

@@ -4,7 +4,6 @@ use Rattle.mg_base.specs.declared.numbers.TxNo.{TxNo}
 use Rattle.mg_model.specs.declared.answer.Answer.{Answer}
 use Rattle.mg_model.specs.declared.answer.Answer.TheVariants.{Fine, No}
 use Rattle.mg_model.specs.declared.event.Event.{Event}
-use Rattle.mg_model.specs.declared.event.Event.TheVariants.{UndoMark}
 use Rattle.mg_model.specs.declared.opening.Opening.{Opening}
 use Rattle.mg_model.specs.declared.refusal.Refusal.{Refusal}
 use Rattle.mg_model.specs.declared.refusal.Refusal.TheVariants.{Waits}
@@ -12,11 +11,11 @@ use Rattle.mg_model.specs.declared.table.Table.{Table}
 use Rattle.mg_model.specs.History.{Entries, entry}
 use Rattle.mg_model.specs.Legal.{IsLawful}
 use Rattle.mg_records.specs.Meaning.{Means}
-use Rattle.mg_records.specs.TakingBack.{after_refusal, is_given_up}
+use Rattle.mg_records.specs.TakingBack.{is_given_up}
 use Rattle.mg_calls.specs.declared.writing.Written.{Written}
 use Rattle.mg_calls.specs.declared.writing.Written.TheVariants as written
 use Rattle.mg_calls.specs.Frames.{Frames}
-use Rattle.mg_calls.specs.Undoing.{IsUndone}
+use Rattle.mg_calls.specs.Undoing.{Undoes, is_waiting}
 
 -- an event came and was answered so, lawfully
 pub record Comes {R P : Type 0} (m : Means R P) (new : R) (o : Opening) (h : Entries)
@@ -24,23 +23,13 @@ pub record Comes {R P : Type 0} (m : Means R P) (new : R) (o : Opening) (h : Ent
   pub lawful : IsLawful o h (entry event answer)
   pub stands : m.stands new o (entry event answer ∷ h)
 
--- an event came and was refused; then its statement was undone, and this is answered
+-- an event came and was refused, and then its statement was undone
 pub record ComesToNothing {R P : Type 0} (m : Means R P) (new : R) (o : Opening) (h : Entries)
-    (t : TxNo) (event : Event) (answer : Refusal) : Type 0 where
+    (t : TxNo) (event : Event) (result : Written) : Type 0 where
   pub first : Refusal
+  pub final : is_waiting first ≡ false
   pub lawful : IsLawful o h (entry event (No first))
-  pub undone : IsUndone m new o (entry event (No first) ∷ h) t first answer
-
--- an event came and was refused, and so was the undoing of its statement, which is answered: the
--- transaction is rolled back
-pub record ComesToAnEnd {R P : Type 0} (m : Means R P) (new : R) (o : Opening) (h : Entries)
-    (t : TxNo) (event : Event) (answer : Refusal) : Type 0 where
-  pub first : Refusal
-  pub lawful : IsLawful o h (entry event (No first))
-  pub gives_up : is_given_up answer ≡ true
-  pub undoing : IsLawful o (entry event (No first) ∷ h) (entry (UndoMark t) (No answer))
-  pub stands : m.stands new o
-      (after_refusal o (entry event (No first) ∷ h) t (UndoMark t) answer)
+  pub undone : Undoes m new o (entry event (No first) ∷ h) t first result
 
 -- a write takes effect; it waits, and is to be tried again; it is refused, and its statement is
 -- undone; or its transaction is rolled back
@@ -48,8 +37,10 @@ abbrev pub WritesOne : {R P : Type 0} → Means R P → R → Opening → Entrie
     → Type 0
 WritesOne m new o h t event written.Done = Comes m new o h event Fine
 WritesOne m new o h t event (written.Waits on) = Comes m new o h event (No (Waits on))
-WritesOne m new o h t event (written.Refused answer) = ComesToNothing m new o h t event answer
-WritesOne m new o h t event (written.RolledBack answer) = ComesToAnEnd m new o h t event answer
+WritesOne m new o h t event (written.Refused answer) =
+    ComesToNothing m new o h t event (written.Refused answer)
+WritesOne m new o h t event (written.RolledBack answer) =
+    ComesToNothing m new o h t event (written.RolledBack answer)
 
 -- a write was refused, and so was the undoing of its statement
 abbrev pub refused_twice : Refusal → Written

@@ -1,10 +1,12 @@
 //! A write of a statement that has set its mark.
 
-ghost use Rattle.std.specs.Prelude.{◌≡◌, Some};
+ghost use Rattle.std.specs.Prelude.{◌≡◌, MatchOption, Some, false};
 ghost use Rattle.mg_model.specs.declared.opening.Opening.{Opening};
 ghost use Rattle.mg_model.specs.History.{Entries};
 ghost use Rattle.mg_records.specs.Writing.{FitsShape, event_of};
-ghost use Rattle.mg_calls.specs.Writes.{WritesOne, IsWritten, ended_by, refused_twice};
+ghost use Rattle.mg_calls.specs.Frames.{Frames};
+ghost use Rattle.mg_calls.specs.Undoing.{Undoes, is_waiting};
+ghost use Rattle.mg_calls.specs.Writes.{WritesOne, IsWritten, ended_by, goes_on, refusal_written, refused_twice};
 ghost use Rattle.mg_calls.specs.Quiet.{AreQuiet};
 
 use mg_base::TxNo;
@@ -36,18 +38,41 @@ pub fn write_or_undo<R: Records>(r: &mut R, t: TxNo, table: &Table, write: &Writ
     ensures leaves { IsWritten R.meaning r.old r.new t.0 result }
     ensures quiet { AreQuiet R.meaning r.old r.new (ended_by t.0 result) }
 {
-    let refusal = match r.write_step(t, table, write) {
-        Ok(()) => return Written::Done,
-        Err(Refusal::Waits { on }) => return Written::Waits(on),
-        Err(refusal) => refusal,
-    };
+    match r.write_step(t, table, write) {
+        Ok(()) => Written::Done,
+        Err(refusal) => match waits_on(refusal) {
+            Some(on) => Written::Waits(on),
+            None => undo(r, t, refusal),
+        },
+    }
+}
+
+/// The transaction that a refused call waits for, None where it doesn't wait.
+pub(crate) fn waits_on(refusal: Refusal) -> Option<TxNo>
+    ensures { MatchOption result (is_waiting refusal ≡ false) (λ on. refusal ≡ Refusal.Waits on) }
+{
+    match refusal {
+        Refusal::Waits { on } => Some(on),
+        _ => None,
+    }
+}
+
+/// Undoes a statement that was refused so.
+pub(crate) fn undo<R: Records>(r: &mut R, t: TxNo, refusal: Refusal) -> Written
+    ensures undoes { (o : Opening) (h : Entries) → R.meaning.stands r.old o h
+        → Undoes R.meaning r.new o h t refusal result }
+    ensures ends { goes_on result ≡ false }
+    ensures frames { (before : R) → Frames R.meaning before r.old t.0 (Some refusal)
+        → Frames R.meaning before r.new t.0 (refusal_written result) }
+    ensures quiet { AreQuiet R.meaning r.old r.new (ended_by t.0 result) }
+{
     match r.undo_mark(t) {
         Ok(()) => Written::Refused(refusal),
         Err(later) => not_undone(later),
     }
 }
 
-/// What became of a write that was refused, and whose undoing was refused so.
+/// What became of a statement that was refused, and whose undoing was refused so.
 fn not_undone(later: Refusal) -> Written
     ensures { result ≡ refused_twice later }
 {

@@ -1,9 +1,8 @@
 use Rattle.std.proofs.Common.{None, Some, refl}
 use Rattle.mg_model.specs.declared.answer.Answer.TheVariants.{Fine, No}
 use Rattle.mg_model.specs.declared.event.Event.TheVariants.{Mark}
-use Rattle.mg_calls.specs.QuietLaws.{quiet_then}
+use Rattle.mg_calls.specs.QuietLaws.{quiet_event, quiet_then}
 use Rattle.mg_calls.specs.Steps.{ended_at}
-use Rattle.mg_calls.proofs.WriteLemmas.{quiet_event}
 use Rattle.mg_calls.proofs.steps.mark_and_write.Goals as goal
 
 pub returns-in-Ok-clause-quiet : goal.returns-in-Ok-clause-quiet

@@ -1,5 +1,6 @@
 use Rattle.std.proofs.Common.{refl}
-use Rattle.mg_calls.proofs.WriteLemmas.{all_behind, quiet_nothing}
+use Rattle.mg_calls.specs.QuietLaws.{quiet_nothing}
+use Rattle.mg_calls.proofs.WriteLemmas.{all_behind, one_taken}
 use Rattle.mg_calls.proofs.steps.write_next.Goals as goal
 
 pub returns-in_default-clause-quiet : goal.returns-in_default-clause-quiet
@@ -16,4 +17,6 @@ returns-else-is_empty-clause-steps g c = record {
     fits = all_behind c.args.w.now.table.shape c.pop_front.result c.args.w.now.left.items
         c.pop_front.new.self.items c.pop_front.ensures.items c.requires.ready.fits;
   };
+  fewer = one_taken c.pop_front.result c.args.w.now.left.items c.pop_front.new.self.items _ _
+      c.pop_front.ensures.items (c.in-Some.ensures.variant.0 refl) c.pop_front.ensures.cases;
 }

@@ -1,5 +1,5 @@
 use Rattle.std.proofs.Common.{Some, None}
-use Rattle.mg_calls.proofs.WriteLemmas.{quiet_reading}
+use Rattle.mg_calls.specs.QuietLaws.{quiet_reading}
 use Rattle.mg_calls.proofs.walking.visit_next.Goals as goal
 
 pub returns-in-Ok-Some-clause-quiet : goal.returns-in-Ok-Some-clause-quiet

@@ -1,12 +1,10 @@
-use Rattle.std.proofs.Common.{Some, None, refl, subst, sym}
+use Rattle.std.proofs.Common.{Some, None}
 use Rattle.mg_model.specs.declared.answer.Answer.TheVariants.{Fine, No}
-use Rattle.mg_model.specs.declared.event.Event.TheVariants.{UndoMark}
 use Rattle.mg_records.specs.Writing.{event_of}
+use Rattle.mg_calls.specs.FrameLaws.{frames_writes}
 use Rattle.mg_calls.specs.QuietLaws.{quiet_then}
-use Rattle.mg_calls.specs.Quiet.{AreQuiet}
-use Rattle.mg_calls.specs.declared.writing.Written.{Written}
-use Rattle.mg_calls.specs.Writes.{IsWritten, WritesOne, ended_by, refused_twice}
-use Rattle.mg_calls.proofs.WriteLemmas.{undone, undone_leaves, not_undone, not_undone_leaves, quiet_event, quiet_given_up, quiet_write}
+use Rattle.mg_calls.specs.Writes.{ended_by}
+use Rattle.mg_calls.proofs.WriteLemmas.{comes_to_nothing, ended_leaves, quiet_write}
 use Rattle.mg_calls.proofs.writing.write_or_undo.Goals as goal
 
 pub returns-in-Ok-clause-quiet : goal.returns-in-Ok-clause-quiet
@@ -14,51 +12,30 @@ returns-in-Ok-clause-quiet g c = quiet_write g.R.Records.meaning c.args.r.now c.
     c.args.t c.args.table.now.name c.args.write.now Fine None c.in-Ok.ensures.adds c.in-Ok.ensures.leaves
     c.in-Ok.ensures.crash c.in-Ok.ensures.sessions
 
-pub returns-in-Err-Waits-clause-quiet : goal.returns-in-Err-Waits-clause-quiet
-returns-in-Err-Waits-clause-quiet g c = quiet_write g.R.Records.meaning c.args.r.now
+pub returns-in-Some-clause-quiet : goal.returns-in-Some-clause-quiet
+returns-in-Some-clause-quiet g c = quiet_write g.R.Records.meaning c.args.r.now
     c.write_step.new.self c.args.t c.args.table.now.name c.args.write.now
-    (No c.in-Err-Waits.field-0) (Some c.in-Err-Waits.field-0) c.in-Err-Waits.ensures.adds
-    c.in-Err-Waits.ensures.leaves c.in-Err-Waits.ensures.crash c.in-Err-Waits.ensures.sessions
+    (No c.in-Err.refusal) (Some c.in-Err.refusal) c.in-Err.ensures.adds
+    c.in-Err.ensures.leaves c.in-Err.ensures.crash c.in-Err.ensures.sessions
 
-pub returns-in-Ok-undo_mark : goal.returns-in-Ok-undo_mark
-returns-in-Ok-undo_mark g c = record {
-  writes = undone g.R.Records.meaning c.args.r.now c.write_step.new.self c.undo_mark.new.self c.args.t
-      (event_of c.args.t c.args.table.now.name c.args.write.now) c.in-Err.refusal
-      c.in-Err.ensures.adds c.in-Ok-undo_mark.ensures.undoes;
-  leaves = undone_leaves g.R.Records.meaning c.args.r.now c.write_step.new.self c.undo_mark.new.self
-      c.args.t.0 c.in-Err.refusal c.in-Err.ensures.leaves c.in-Ok-undo_mark.ensures.leaves;
-  quiet = quiet_then g.R.Records.meaning g.met.R.Records.lasts c.args.r.now c.write_step.new.self
-      c.undo_mark.new.self None
-      (quiet_write g.R.Records.meaning c.args.r.now c.write_step.new.self c.args.t
-      c.args.table.now.name c.args.write.now (No c.in-Err.refusal) (Some c.in-Err.refusal)
-      c.in-Err.ensures.adds c.in-Err.ensures.leaves c.in-Err.ensures.crash c.in-Err.ensures.sessions)
-      (quiet_event g.R.Records.meaning c.write_step.new.self c.undo_mark.new.self
-      (UndoMark c.args.t) Fine None (Some c.args.t.0) (Some c.args.t.0) refl
-      c.in-Ok-undo_mark.ensures.undoes c.in-Ok-undo_mark.ensures.leaves
-      c.in-Ok-undo_mark.ensures.crash c.in-Ok-undo_mark.ensures.sessions);
-}
+pub returns-in-None-clause-writes : goal.returns-in-None-clause-writes
+returns-in-None-clause-writes g c =
+    comes_to_nothing g.R.Records.meaning c.args.r.now c.write_step.new.self c.undo.new.r c.args.t
+    (event_of c.args.t c.args.table.now.name c.args.write.now) c.in-Err.refusal c.undo.result c.in-None.ensures
+    c.in-Err.ensures.adds c.undo.ensures.undoes
 
-pub returns-in-Err-undo_mark : goal.returns-in-Err-undo_mark
-returns-in-Err-undo_mark g c = record {
-  writes = λ o h stands. subst (λ (w : Written). WritesOne g.R.Records.meaning c.undo_mark.new.self o h
-      c.args.t (event_of c.args.t c.args.table.now.name c.args.write.now) w) (sym c.not_undone.ensures)
-      (not_undone g.R.Records.meaning c.args.r.now c.write_step.new.self c.undo_mark.new.self
-      c.args.t (event_of c.args.t c.args.table.now.name c.args.write.now) c.in-Err.refusal
-      c.in-Err-undo_mark.later c.in-Err.ensures.adds c.in-Err-undo_mark.ensures.undoes o h stands);
-  leaves = subst (λ (w : Written). IsWritten g.R.Records.meaning c.args.r.now c.undo_mark.new.self
-      c.args.t.0 w) (sym c.not_undone.ensures)
-      (not_undone_leaves g.R.Records.meaning c.args.r.now c.write_step.new.self c.undo_mark.new.self
-      c.args.t.0 c.in-Err.refusal c.in-Err-undo_mark.later c.in-Err.ensures.leaves
-      c.in-Err-undo_mark.ensures.leaves);
-  quiet = subst (λ (w : Written). AreQuiet g.R.Records.meaning c.args.r.now c.undo_mark.new.self
-      (ended_by c.args.t.0 w)) (sym c.not_undone.ensures)
-      (quiet_then g.R.Records.meaning g.met.R.Records.lasts c.args.r.now c.write_step.new.self
-      c.undo_mark.new.self (ended_by c.args.t.0 (refused_twice c.in-Err-undo_mark.later))
-      (quiet_write g.R.Records.meaning c.args.r.now c.write_step.new.self c.args.t
-      c.args.table.now.name c.args.write.now (No c.in-Err.refusal) (Some c.in-Err.refusal)
-      c.in-Err.ensures.adds c.in-Err.ensures.leaves c.in-Err.ensures.crash c.in-Err.ensures.sessions)
-      (quiet_given_up g.R.Records.meaning c.write_step.new.self c.undo_mark.new.self c.args.t
-      c.in-Err-undo_mark.later (Some c.args.t.0) (Some c.args.t.0) c.in-Err-undo_mark.ensures.undoes
-      c.in-Err-undo_mark.ensures.leaves c.in-Err-undo_mark.ensures.crash
-      c.in-Err-undo_mark.ensures.sessions));
-}
+pub returns-in-None-clause-leaves : goal.returns-in-None-clause-leaves
+returns-in-None-clause-leaves g c =
+    ended_leaves g.R.Records.meaning c.args.r.now c.undo.new.r c.args.t.0 c.undo.result c.undo.ensures.ends
+    (c.undo.ensures.frames c.args.r.now
+    (frames_writes g.R.Records.meaning c.args.r.now c.write_step.new.self c.args.t.0
+    (Some c.in-Err.refusal) c.in-Err.ensures.leaves))
+
+pub returns-in-None-clause-quiet : goal.returns-in-None-clause-quiet
+returns-in-None-clause-quiet g c =
+    quiet_then g.R.Records.meaning g.met.R.Records.lasts c.args.r.now c.write_step.new.self
+    c.undo.new.r (ended_by c.args.t.0 c.undo.result)
+    (quiet_write g.R.Records.meaning c.args.r.now c.write_step.new.self c.args.t
+    c.args.table.now.name c.args.write.now (No c.in-Err.refusal) (Some c.in-Err.refusal)
+    c.in-Err.ensures.adds c.in-Err.ensures.leaves c.in-Err.ensures.crash c.in-Err.ensures.sessions)
+    c.undo.ensures.quiet
