@@ -30,7 +30,8 @@ use Rattle.mg_btree.specs.SearchLaws.{begins_node, begins_right, tree_node}
 use Rattle.mg_btree.specs.Changing.{ReadsLeaf}
 use Rattle.mg_btree.specs.ChangeLaws.{behind_ascends, either_parts}
 use Rattle.mg_btree.specs.RootLaws.{owner_is}
-use Rattle.mg_btree.specs.Ranges.{GivesNext, IsFirst, IsInRange, IsPassed, ScansFrom, StartsRange, least_with}
+use Rattle.mg_btree.specs.Ranges.{GivesNext, IsFirst, IsInRange, IsPassed, ScansFrom, StartsRange, Steps, least_with, right_by}
+use Rattle.mg_btree.specs.declared.range.Step.{Step}
 
 -- ---- the scan of a list of entries
 
@@ -288,3 +289,35 @@ module _ (size : ℕ) (pages : Pages) (owner root : ℕ) (levels : List (List �
     pub owner_of_leaf : u32_at read.bytes OWNER_AT ≡ owner
     owner_of_leaf = ap (λ (b : List ℕ). u32_at b OWNER_AT) scan.bytes
         ∙ owner_is (pages n) n owner (tree_node size pages owner root levels 0 n scan.tree scan.placed scan.leaf).fields
+
+    -- a step that comes to this leaf
+    pub steps_found : (start : ReadNode) (passed : ℕ) (e : Entry) (step : Step)
+        → step ≡ record { found = Some e; walk = record { leaf = read }; passed = passed }
+        → IsFirst low bound read.node.entries.items e
+        → read.page.0 ≡ right_by pages start.page.0 passed
+        → Steps size pages owner root levels low bound start step
+    steps_found start passed e step is first place = rw is (record {
+      gives = gives_found e first;
+      place = place;
+      goes_on = record {
+        tree = scan.tree;
+        bytes = scan.bytes;
+        says = scan.says;
+        placed = scan.placed;
+        leaf = scan.leaf;
+        from = λ f found within. scan.from f found (within.0, above bound f within.1 first.within.1);
+      };
+    })
+      where
+        above : (b : Option Entry) (f : Entry) → IsBelow e f → IfSome b (λ a. IsBelow a e)
+            → IfSome b (λ a. IsBelow a f)
+        above None f less before = tt
+        above (Some a) f less before = entry_cmp_total.trans a e f before less
+
+    pub steps_none : (start : ReadNode) (passed : ℕ) (step : Step)
+        → step ≡ record { found = None; walk = record { leaf = read }; passed = passed }
+        → ((f : Entry) → HasEntry read.node.entries.items f → IsInRange low bound f → ⊥)
+        → read.node.right.0 ≡ 0 → read.page.0 ≡ right_by pages start.page.0 passed
+        → Steps size pages owner root levels low bound start step
+    steps_none start passed step is none last place =
+        rw is (record { gives = gives_none none last; place = place; goes_on = scan })

@@ -1,10 +1,10 @@
 -- The entries of a range, and the least of them.
-use Rattle.std.specs.Prelude.{◌≡◌, ◌≢◌, ℕ, List, [], ◌∷◌, ◌++◌, Option, Some, None, IfSome, Result, Ok, Err}
+use Rattle.std.specs.Prelude.{◌≡◌, ◌≢◌, ℕ, zero, suc, List, [], ◌∷◌, ◌++◌, Option, Some, None, IfSome, Result, Ok, Err}
 use Rattle.std.specs.Ordering.{nat_cmp}
 use Rattle.std.specs.Cmp.Lexicographic.{slice_cmp}
 use Rattle.std.specs.declared.cmp.Ordering.TheVariants.{Less}
 use Rattle.mg_node.specs.declared.entry.Entry.{Entry}
-use Rattle.mg_node.specs.NodePage.{IsBelow, level_in}
+use Rattle.mg_node.specs.NodePage.{IsBelow, level_in, right_in}
 use Rattle.mg_image.specs.Form.{Pages}
 use Rattle.mg_node.specs.NodeReading.{IsNodeOf}
 use Rattle.mg_image.specs.Indexes.{Finds, HasEntry, IsTree}
@@ -12,6 +12,8 @@ use Rattle.mg_pool.specs.Batch.{Changed}
 use Rattle.mg_tree_overlays.specs.TreeSteps.{InTree}
 use Rattle.mg_tree_overlays.specs.TreesBehind.{IsFrom}
 use Rattle.mg_btree.specs.declared.node.ReadNode.{ReadNode}
+use Rattle.mg_btree.specs.declared.range.Step.{Step}
+use Rattle.mg_btree.specs.declared.range.Walk.{Walk}
 use Rattle.mg_space.specs.declared.fault.SpaceFault.{SpaceFault}
 use Rattle.mg_space.specs.declared.fault.SpaceFault.TheVariants.{Full, Pool as OfPool, Damaged as OfPage}
 
@@ -81,3 +83,41 @@ pub record IsPassed (low : List ℕ) (bound : Option Entry) (all rest : List Ent
   pub front : List Entry
   pub parts : all ≡ front ++ rest
   pub none : (f : Entry) → HasEntry front f → IsInRange low bound f → ⊥
+
+-- ---- walks
+
+-- a walk was begun in a tree, or the cache refuses
+abbrev pub StartsWalk : ℕ → Pages → ℕ → ℕ → List (List ℕ) → List ℕ → Option Entry
+    → Result Walk SpaceFault → Type 0
+StartsWalk size pages owner root levels low bound (Ok walk) =
+    ScansFrom size pages owner root levels low bound walk.leaf
+StartsWalk size pages owner root levels low bound (Err fault) =
+    StartsRange size pages owner root levels low bound (Err fault)
+
+-- so many right neighbours behind a page
+abbrev pub right_by : Pages → ℕ → ℕ → ℕ
+right_by pages n zero = n
+right_by pages n (suc count) = right_in (pages (right_by pages n count))
+
+-- what comes behind an entry that was found, or else behind the old bound
+abbrev pub behind : Option Entry → Option Entry → Option Entry
+behind bound None = bound
+behind bound (Some e) = Some e
+
+-- A walk has come to the least entry of the range, or there is none. It read right neighbours of its
+-- leaf, one after another, and may go on from the last one: no entry of the range stands on a leaf
+-- before it.
+pub record Steps (size : ℕ) (pages : Pages) (owner root : ℕ) (levels : List (List ℕ)) (low : List ℕ)
+    (bound : Option Entry) (start : ReadNode) (step : Step) : Type 0 where
+  pub gives : GivesNext pages root low bound step.found
+  pub place : step.walk.leaf.page.0 ≡ right_by pages start.page.0 step.passed
+  pub goes_on : ScansFrom size pages owner root levels low (behind bound step.found) step.walk.leaf
+
+-- in a tree a step is made, or the cache refuses
+abbrev pub StepsOn : ℕ → Pages → ℕ → ℕ → List (List ℕ) → List ℕ → Option Entry → ReadNode
+    → Result Step SpaceFault → Type 0
+StepsOn size pages owner root levels low bound start (Ok step) =
+    Steps size pages owner root levels low bound start step
+StepsOn size pages owner root levels low bound start (Err (Full limit)) = ⊥
+StepsOn size pages owner root levels low bound start (Err (OfPage damage)) = ⊥
+StepsOn size pages owner root levels low bound start (Err (OfPool fault)) = Unit {0}

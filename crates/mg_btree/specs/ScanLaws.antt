@@ -23,18 +23,22 @@ use Rattle.mg_btree.specs.declared.node.ReadNode.{ReadNode}
 use Rattle.mg_btree.specs.Reading.{IsNodeOn, IsReadNode, Reads, RefusesNode}
 use Rattle.mg_btree.specs.Searching.{IsShort}
 use Rattle.mg_btree.specs.SearchLaws.{short_ends, short_right, tree_page, tree_short, viewed_same}
-use Rattle.mg_btree.specs.Ranges.{GivesRange, IsInRange, ScansFrom, no_pages}
+use Rattle.mg_btree.specs.Ranges.{GivesRange, IsInRange, ScansFrom, StepsOn, no_pages, right_by}
+use Rattle.mg_btree.specs.Changing.{IsLeaf}
+use Rattle.mg_btree.specs.declared.range.Step.{Step}
 use Rattle.mg_btree.specs.RangeLaws.{goes_right, owner_of_leaf, right_is_node}
 use Rattle.mg_btree.specs.Scans.{IsScanning}
 
 pub scan_starts : {D L : Type 0} (m : Meaning D) (store : Pool D L) (batch : Changed)
     (first : ReadNode) (low : List ℕ) (bound : Option Entry) → IsPool m store → store.offline ≡ None
-    → IsScanning m store store batch first first low bound 0
-scan_starts m store batch first low bound pool online = record {
+    → IsLeaf store.geometry.size first → IsScanning m store store batch first first low bound 0
+scan_starts m store batch first low bound pool online leaf = record {
   keeps = keeps_itself m store pool;
   faults = refl;
   online = online;
   scans = λ image owner root levels tells scan. scan;
+  place = λ image owner root levels tells scan. refl;
+  leaf = leaf;
   short = λ image owner root levels left tells scan all.
       let same : left ≡ GREATEST_LIMIT = omega (arith, all) in
       subst (IsShort (viewed store image batch) first.page.0) (sym same)
@@ -78,18 +82,19 @@ module _ {D L : Type 0} (m : Meaning D) (counts : CountsNow m) (old a : Pool D L
       own = reads.own;
     }
 
-    pub scan_refused : (owner_ : ℕ) (fault : SpaceFault) (result : Result (Option Entry) SpaceFault)
+    pub scan_refused : (owner_ : ℕ) (fault : SpaceFault) (result : Result Step SpaceFault)
         → IsErrAnd result (λ f. f ≡ fault) → owner_ ≡ u32_at first.bytes OWNER_AT
         → read.node.right.0 ≢ 0
         → ((image : Image) → Tells m a.disk image
         → RefusesNode owner_ 0 read.node.right.0 (viewed a image batch read.node.right.0) fault)
         → (image : Image) (owner root : ℕ) (levels : List (List ℕ)) → Tells m old.disk image
         → ScansFrom old.geometry.size (viewed old image batch) owner root levels low bound first
-        → GivesRange (viewed old image batch) root low bound result
+        → StepsOn old.geometry.size (viewed old image batch) owner root levels low bound first result
     scan_refused owner_ fault (Ok found) none owner_is some refuses image owner root levels tells scan =
         absurd none
     scan_refused owner_ fault (Err f) same owner_is some refuses image owner root levels tells scan =
-        subst (λ (x : SpaceFault). GivesRange (viewed old image batch) root low bound (Err x)) (sym same)
+        subst (λ (x : SpaceFault). StepsOn old.geometry.size (viewed old image batch) owner root levels low
+        bound first (Err x)) (sym same)
         (by fault (subst (λ (pages : Pages). RefusesNode owner_ 0 read.node.right.0 (pages read.node.right.0) fault)
         (viewed_same m old a image batch scanning.keeps) (refuses image (tells_on m old a image scanning.keeps tells))))
       where
@@ -101,7 +106,7 @@ module _ {D L : Type 0} (m : Meaning D) (counts : CountsNow m) (old a : Pool D L
 
         by : (fault : SpaceFault)
             → RefusesNode owner_ 0 read.node.right.0 (viewed old image batch read.node.right.0) fault
-            → GivesRange (viewed old image batch) root low bound (Err fault)
+            → StepsOn old.geometry.size (viewed old image batch) owner root levels low bound first (Err fault)
         by (Full limit) none = none
         by (OfPage damage) refuted = refuted node
         by (OfPool f) is = tt
@@ -118,6 +123,14 @@ module _ {D L : Type 0} (m : Meaning D) (counts : CountsNow m) (old a : Pool D L
           faults = whole.fault.2;
           online = whole.fault.1;
           scans = λ image owner root levels tells scan. on image owner root levels tells scan;
+          place = λ image owner root levels tells scan.
+              let there = scanning.scans image owner root levels tells scan in
+              let more : count + 1 ≡ suc count = omega arith in
+              is.number ∙ (there.says.right ∙ (ap right_in there.bytes
+              ∙ (ap (λ (n : ℕ). right_in (viewed old image batch n))
+              (scanning.place image owner root levels tells scan)
+              ∙ ap (right_by (viewed old image batch) first.page.0) (sym more))));
+          leaf = record { len = is.len; lawful = is.is.lawful; level = is.is.on_level };
           short = λ image owner root levels left tells scan all.
               let there = scanning.scans image owner root levels tells scan in
               subst (λ (n : ℕ). IsShort (viewed old image batch) n left)
@@ -147,6 +160,11 @@ module _ {D L : Type 0} (m : Meaning D) (counts : CountsNow m) (old a : Pool D L
         there.placed (short_ends (viewed old image batch) read.page.0
         (scanning.short image owner root levels 0 tells scan (omega (arith, all))))
 
+pub err_is : {B : Type 0} (fault : SpaceFault) (result : Result B SpaceFault)
+    → IsErrAnd result (λ f. f ≡ fault) → result ≡ Err fault
+err_is fault (Ok x) none = absurd none
+err_is fault (Err f) same = rw same refl
+
 -- the same fault of two kinds of calls
 err_as : {D L A B : Type 0} (m : Meaning D) (old new : Pool D L) (fault : SpaceFault)
     → Reads {T = A} m old new (Err fault) → Reads {T = B} m old new (Err fault)
@@ -163,28 +181,43 @@ pub reads_err : {D L B : Type 0} (A : Type 0) (m : Meaning D) (old new : Pool D 
 reads_err A m old new fault (Ok x) none reads = absurd none
 reads_err A m old new fault (Err f) same reads = rw same (err_as m old new fault reads)
 
+-- what is given is what a step found
+abbrev pub FoundBy : Result Step SpaceFault → Result (Option Entry) SpaceFault → Type 0
+FoundBy (Ok step) result = result ≡ Ok step.found
+FoundBy (Err fault) result = result ≡ Err fault
+
+found_by : (size : ℕ) (pages : Pages) (owner root : ℕ) (levels : List (List ℕ)) (low : List ℕ)
+    (bound : Option Entry) (start : ReadNode) (steps : Result Step SpaceFault)
+    (result : Result (Option Entry) SpaceFault) → FoundBy steps result
+    → StepsOn size pages owner root levels low bound start steps → GivesRange pages root low bound result
+found_by size pages owner root levels low bound start (Ok step) result is steps = rw is steps.gives
+found_by size pages owner root levels low bound start (Err (Full limit)) result is none = absurd none
+found_by size pages owner root levels low bound start (Err (OfPage damage)) result is none = absurd none
+found_by size pages owner root levels low bound start (Err (OfPool fault)) result is steps = rw is tt
+
 -- a range is scanned from the leaf at which it begins
 pub range_gives : {D L : Type 0} (m : Meaning D) (old a : Pool D L) (batch : Changed) (page : ℕ)
-    (low : List ℕ) (bound : Option Entry) (start : ReadNode) (result : Result (Option Entry) SpaceFault)
-    → KeepsStore m old a → batch.pages ≡ []
+    (low : List ℕ) (bound : Option Entry) (start : ReadNode) (steps : Result Step SpaceFault)
+    (result : Result (Option Entry) SpaceFault) → FoundBy steps result → KeepsStore m old a → batch.pages ≡ []
     → ((image : Image) (owner : ℕ) (levels : List (List ℕ)) → Tells m old.disk image
     → IsTree old.geometry.size (viewed old image batch) owner page levels
     → ScansFrom old.geometry.size (viewed old image batch) owner page levels low bound start)
     → ((image : Image) (owner root : ℕ) (levels : List (List ℕ)) → Tells m a.disk image
     → ScansFrom a.geometry.size (viewed a image batch) owner root levels low bound start
-    → GivesRange (viewed a image batch) root low bound result)
+    → StepsOn a.geometry.size (viewed a image batch) owner root levels low bound start steps)
     → (image : Image) (owner : ℕ) (levels : List (List ℕ)) → Tells m old.disk image
     → IsTree old.geometry.size (viewed old image no_pages) owner page levels
     → GivesRange (viewed old image no_pages) page low bound result
-range_gives m old a batch page low bound start result keeps empty starts gives image owner levels tells tree =
+range_gives m old a batch page low bound start steps result is keeps empty starts gives image owner levels
+    tells tree =
     subst (λ (pages : Pages). GivesRange pages page low bound result)
     (viewed_same m old a image batch keeps ∙ plain)
-    (gives image owner page levels (tells_on m old a image keeps tells)
+    (found_by a.geometry.size (viewed a image batch) owner page levels low bound start steps result is (gives image owner page levels (tells_on m old a image keeps tells)
     (subst (λ (pages : Pages). ScansFrom a.geometry.size pages owner page levels low bound start)
     (sym (viewed_same m old a image batch keeps))
     (subst (λ (size : ℕ). ScansFrom size (viewed old image batch) owner page levels low bound start)
     (sym (ap (λ g. g.size) keeps.geometry)) (starts image owner levels tells
-    (subst (λ (pages : Pages). IsTree old.geometry.size pages owner page levels) (sym plain) tree)))))
+    (subst (λ (pages : Pages). IsTree old.geometry.size pages owner page levels) (sym plain) tree))))))
   where
     plain : viewed old image batch ≡ viewed old image no_pages
     plain = rw empty refl

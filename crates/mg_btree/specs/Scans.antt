@@ -9,7 +9,8 @@ use Rattle.mg_pool.specs.declared.pool.Pool.{Pool}
 use Rattle.mg_space.specs.View.{KeepsStore, Tells, viewed}
 use Rattle.mg_btree.specs.declared.node.ReadNode.{ReadNode}
 use Rattle.mg_btree.specs.Searching.{IsShort}
-use Rattle.mg_btree.specs.Ranges.{ScansFrom}
+use Rattle.mg_btree.specs.Ranges.{ScansFrom, right_by}
+use Rattle.mg_btree.specs.Changing.{IsLeaf}
 
 -- After so many leaves: no fault was met, and in a tree the scan goes on from a leaf, and as many
 -- steps are left as there may be leaves.
@@ -21,6 +22,10 @@ pub record IsScanning {D L : Type 0} (m : Meaning D) (old new : Pool D L) (batch
   pub scans : (image : Image) (owner root : ℕ) (levels : List (List ℕ)) → Tells m old.disk image
       → ScansFrom old.geometry.size (viewed old image batch) owner root levels low bound first
       → ScansFrom old.geometry.size (viewed old image batch) owner root levels low bound read
+  pub place : (image : Image) (owner root : ℕ) (levels : List (List ℕ)) → Tells m old.disk image
+      → ScansFrom old.geometry.size (viewed old image batch) owner root levels low bound first
+      → read.page.0 ≡ right_by (viewed old image batch) first.page.0 count
+  pub leaf : IsLeaf old.geometry.size read
   pub short : (image : Image) (owner root : ℕ) (levels : List (List ℕ)) (left : ℕ)
       → Tells m old.disk image
       → ScansFrom old.geometry.size (viewed old image batch) owner root levels low bound first

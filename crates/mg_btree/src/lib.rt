@@ -5,7 +5,8 @@
 //! crash may have left a page in the chain of its level that no page above names.
 //!
 //! A tree is the ordered set of the entries that are found from its root (`Finds` of mg_image).
-//! `range_step` gives the least of them in a range, `insert` adds one, `remove` takes one out and tells
+//! `range_step` gives the least of them in a range, `walk_from` and `walk_on` give one after another
+//! (the leaf is kept, and after it only right neighbours are read), `insert` adds one, `remove` takes one out and tells
 //! whether it was there. What a call does to a tree it tells as a row of steps of the pool's own pages
 //! (`ChangesTree` of mg_tree_overlays), from which follows what it does to every image that a crash may
 //! leave.
@@ -39,7 +40,7 @@ mod search;
 
 pub use inserting::insert;
 pub use laws::inserted_orders_close_no_cycle;
-pub use range::range_step;
+pub use range::{Step, Walk, range_step, walk_from, walk_on};
 pub use removing::remove;
 
 #[cfg(test)]

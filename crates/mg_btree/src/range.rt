@@ -13,7 +13,7 @@ ghost use Rattle.mg_space.specs.Taking.{IsGeometry};
 ghost use Rattle.mg_space.specs.View.{AreWhole, Tells, viewed};
 ghost use Rattle.mg_btree.specs.Changing.{IsLeaf};
 ghost use Rattle.mg_btree.specs.Reading.{Reads};
-ghost use Rattle.mg_btree.specs.Ranges.{GivesRange, IsFirstInRange, IsInRange, ScansFrom, StartsRange, least_with as least_with_of, no_pages};
+ghost use Rattle.mg_btree.specs.Ranges.{GivesRange, IsFirstInRange, IsInRange, ScansFrom, StartsRange, StartsWalk, StepsOn, least_with as least_with_of, no_pages};
 
 use crate::node::{ReadNode, node_on};
 use crate::search::{circle, leaf_for};
@@ -141,7 +141,24 @@ fn first_leaf<D: Disk>(
     }
 }
 
-/// The first entry of a range from a leaf on.
+/// A walk along the entries of a range: the leaf from which on the next one is looked for.
+#[derive(Debug, Drop)]
+pub struct Walk {
+    leaf: ReadNode,
+}
+
+/// A step of a walk.
+#[derive(Debug, Drop)]
+pub struct Step {
+    /// The next entry of the range, none where there is none.
+    pub found: Option<Entry>,
+    /// The walk goes on from the leaf of that entry, or from the last leaf.
+    pub walk: Walk,
+    /// How many leaves were read: right neighbours, one after another.
+    pub passed: u32,
+}
+
+/// Goes from a leaf on to the first entry of a range.
 ///
 /// # Errors
 ///
@@ -152,7 +169,7 @@ fn next_from<D: Disk>(
     start: ReadNode,
     low: &[u8],
     after: Option<&Entry>,
-) -> Result<Option<Entry>, SpaceFault>
+) -> Result<Step, SpaceFault>
     requires pool { IsPool D.meaning store.old }
     requires geometry { IsGeometry store.old.geometry }
     requires whole { AreWhole store.old.geometry.size batch.now.pages }
@@ -160,28 +177,101 @@ fn next_from<D: Disk>(
     requires online { store.old.offline ≡ None }
 
     ensures reads { Reads D.meaning store.old store.new result }
-    ensures gives { (image : Image) (owner root : ℕ) (levels : List (List ℕ))
+    ensures leaf { IfOk result (λ step. IsLeaf store.old.geometry.size step.walk.leaf) }
+    ensures steps { (image : Image) (owner root : ℕ) (levels : List (List ℕ))
         → Tells D.meaning store.old.disk image
         → ScansFrom store.old.geometry.size (viewed store.old image batch.now) owner root levels
         low.now (option_copied after.entry) start
-        → GivesRange (viewed store.old image batch.now) root low.now (option_copied after.entry) result }
+        → StepsOn store.old.geometry.size (viewed store.old image batch.now) owner root levels
+        low.now (option_copied after.entry) start result }
 {
     let owner = get_u32(start.bytes.as_slice(), OWNER_AT);
     let mut read = start;
-    for _ in 0..GREATEST_LIMIT {
+    for passed in 0..GREATEST_LIMIT {
         if let Some(e) = first_in(store.alloc(), &read.node.entries, low, after)? {
-            return Ok(Some(e));
+            return Ok(step_at(Some(e), read, passed));
         }
         if read.node.right.0 == 0 {
-            return Ok(None);
+            return Ok(step_at(None, read, passed));
         }
         read = node_on(store, batch, owner, read.node.right, 0)?;
     }
     Err(SpaceFault::Damaged(circle(read.page)))
 }
 
+/// A step that comes to a leaf.
+fn step_at(found: Option<Entry>, leaf: ReadNode, passed: u32) -> Step
+    ensures { result ≡ record { found = found; walk = record { leaf = leaf }; passed = passed } }
+{
+    Step {
+        found,
+        walk: Walk { leaf },
+        passed,
+    }
+}
+
+/// Begins a walk along the entries of a tree whose keys are at or above `low`. The leaf is read at
+/// which they begin, and the pages above it. Nothing is changed.
+///
+/// # Errors
+///
+/// `Damaged` only where no tree stands there; `Pool` with `DiskRead`, `Offline` or `Memory`.
+pub fn walk_from<D: Disk>(
+    store: &mut Store<D>,
+    root: PageNo,
+    low: &[u8],
+) -> Result<Walk, SpaceFault>
+    requires pool { IsPool D.meaning store.old }
+    requires geometry { IsGeometry store.old.geometry }
+
+    ensures reads { Reads D.meaning store.old store.new result }
+    ensures leaf { IfOk result (λ walk. IsLeaf store.old.geometry.size walk.leaf) }
+    ensures starts { (image : Image) (owner : ℕ) (levels : List (List ℕ))
+        → Tells D.meaning store.old.disk image
+        → IsTree store.old.geometry.size (viewed store.old image no_pages) owner root.0 levels
+        → StartsWalk store.old.geometry.size (viewed store.old image no_pages) owner root.0 levels
+        low.now None result }
+{
+    let batch = Batch::new(store.alloc());
+    let leaf = first_leaf(store, &batch, root, low, None)?;
+    Ok(Walk { leaf })
+}
+
+/// Goes on with a walk, to the least entry behind `after`, where that is the entry that it gave last.
+/// The leaf that the walk has is not read again: only where it has no such entry are its right
+/// neighbours read, up to the first one that has. The tree has not changed since the leaf was read.
+/// Nothing is changed.
+///
+/// # Errors
+///
+/// `Damaged` only where no tree stands there; `Pool` with `DiskRead`, `Offline` or `Memory`.
+pub fn walk_on<D: Disk>(
+    store: &mut Store<D>,
+    walk: Walk,
+    low: &[u8],
+    after: Option<&Entry>,
+) -> Result<Step, SpaceFault>
+    requires pool { IsPool D.meaning store.old }
+    requires geometry { IsGeometry store.old.geometry }
+    requires leaf { IsLeaf store.old.geometry.size walk.leaf }
+
+    ensures reads { Reads D.meaning store.old store.new result }
+    ensures leaf { IfOk result (λ step. IsLeaf store.old.geometry.size step.walk.leaf) }
+    ensures steps { (image : Image) (owner root : ℕ) (levels : List (List ℕ))
+        → Tells D.meaning store.old.disk image
+        → ScansFrom store.old.geometry.size (viewed store.old image no_pages) owner root levels
+        low.now (option_copied after.entry) walk.leaf
+        → StepsOn store.old.geometry.size (viewed store.old image no_pages) owner root levels
+        low.now (option_copied after.entry) walk.leaf result }
+{
+    store.online()?;
+    let batch = Batch::new(store.alloc());
+    next_from(store, &batch, walk.leaf, low, after)
+}
+
 /// The least entry of a tree whose key is at or above `low` and that comes behind `after`; `None`
-/// exactly where there is none. Nothing is changed.
+/// exactly where there is none. Nothing is changed. A caller that wants several one after another
+/// takes a walk.
 ///
 /// # Errors
 ///
@@ -203,5 +293,6 @@ pub fn range_step<D: Disk>(
 {
     let batch = Batch::new(store.alloc());
     let start = first_leaf(store, &batch, root, low, after)?;
-    next_from(store, &batch, start, low, after)
+    let step = next_from(store, &batch, start, low, after)?;
+    Ok(step.found)
 }

@@ -106,6 +106,32 @@ fn a_range_goes_along_the_leaves(rt: HostRuntime) -> Result<(), Fail> {
     Ok(())
 }
 
+/// How many leaves each of three steps of a walk reads, from the key `b` on.
+fn leaves_passed(
+    store: &mut Store<MemDisk>,
+    second: &Entry,
+    third: &Entry,
+) -> Result<(u32, u32, u32), SpaceFault>
+    requires pool { IsPool ⟦<MemDisk as Disk>⟧.meaning store.old }
+    requires geometry { IsGeometry store.old.geometry }
+{
+    let walk = walk_from(store, PageNo(5), b"b")?;
+    let one = walk_on(store, walk, b"b", None)?;
+    let two = walk_on(store, one.walk, b"b", Some(second))?;
+    let three = walk_on(store, two.walk, b"b", Some(third))?;
+    Ok((one.passed, two.passed, three.passed))
+}
+
+#[test]
+fn a_walk_keeps_its_leaf(rt: HostRuntime) -> Result<(), Fail> {
+    let alloc = rt.alloc();
+    let mut store = store_with(alloc, ROOT)?;
+    let second = entry_of(alloc, 99, 1)?;
+    let third = entry_of(alloc, 120, 2)?;
+    assert_eq!(rt; leaves_passed(&mut store, &second, &third), Ok((0, 1, 0)));
+    Ok(())
+}
+
 #[test]
 fn a_child_that_comes_back_is_refused(rt: HostRuntime) -> Result<(), Fail> {
     let alloc = rt.alloc();

@@ -1,8 +1,10 @@
 pub mod IndexTrees
 pub mod IndexBatches
+pub mod IndexOrders
 pub mod Laws
 pub mod BesideLaws
 pub mod IndexLaws
 pub mod SoundLaws
 pub mod PutLaws
 pub mod JoinLaws
+pub mod OrderLaws

@@ -1,6 +1,7 @@
 //! The laws of indexes in overlays. Each function does nothing: its contract is the law.
 
 ghost use Rattle.mg_image.specs.Form.{packed_form};
+ghost use Rattle.mg_index_overlays.specs.IndexOrders.{InsertionsBeginBeside, InsertionsCloseNoCycle};
 ghost use Rattle.mg_index_overlays.specs.Laws.{BatchesKeepIndexes, ChangesAreOf, ChangesJoin};
 ghost use Rattle.mg_index_overlays.specs.Laws.{IndexesStart, InsertionsChangeIndexes};
 ghost use Rattle.mg_index_overlays.specs.Laws.{OthersChangeBeside, OverlaysHaveTrees};
@@ -35,6 +36,13 @@ pub fn batches_change_each_index()
     ensures removals { RemovalsChangeIndexes }
     ensures beside { OthersChangeBeside }
     ensures of { ChangesAreOf }
+{}
+
+/// Insertions into several indexes, one after another in one batch, close no cycle: the orders of each
+/// begin beside all other indexes.
+pub fn insertions_into_several_indexes_close_no_cycle()
+    ensures begins { InsertionsBeginBeside }
+    ensures no_cycle { InsertionsCloseNoCycle }
 {}
 
 /// One after another, in a batch that grows, such changes are one.

@@ -6,9 +6,10 @@
 //! records; and what a batch is to all indexes at once (`ChangesIndexes`): a row of steps of each.
 //! An insertion into one index, with its splits up to the root, is such a row of that index, and for
 //! each other one it is a change beside it. So are the entries of all indexes of one row, its data
-//! page, and a removal: one after another, in one batch, they are joined (`ChangesJoin`).
+//! page, and a removal: one after another, in one batch, they are joined (`ChangesJoin`), and the orders
+//! of such a batch close no cycle (`InsertionsCloseNoCycle`).
 //!
-//! Definitions: `specs/IndexTrees`, `IndexBatches`; laws: `Laws`; the other files prove them. There is
+//! Definitions: `specs/IndexTrees`, `IndexBatches`, `IndexOrders`; laws: `Laws`; the other files prove them. There is
 //! no program here: each function does nothing, and its contract is a law.
 //!
 //! Invariant: none, it keeps no state.
@@ -21,5 +22,6 @@ mod laws;
 
 pub use laws::{
     batches_change_each_index, changes_are_joined, every_overlay_has_its_indexes,
-    rows_are_found_in_overlays, sound_images_have_their_indexes,
+    insertions_into_several_indexes_close_no_cycle, rows_are_found_in_overlays,
+    sound_images_have_their_indexes,
 };
