@@ -1,0 +1,4 @@
+mod NameLemmas
+mod PreparingLemmas
+mod LoadingLemmas
+mod FinishingLemmas

@@ -1,0 +1,157 @@
+-- A disk becomes one whose pages may be read.
+use Rattle.std.proofs.Common.{◌≡◌, inl, inr, ℕ, Bool, true, false, None, Some, length, refl, sym, ap, ◌∙◌, subst}
+use Rattle.std.specs.Prelude.{OnOk, Result, Ok, Err}
+use Rattle.std.proofs.lemmas.Bool.{false≢true}
+use Rattle.mg_base.specs.Disk.{Meaning, Rose}
+use Rattle.mg_base.specs.Image.{Image}
+use Rattle.mg_base.specs.Moments.{goes_on, joined, leaves_as, started}
+use Rattle.mg_base.specs.declared.geometry.Geometry.{Geometry}
+use Rattle.mg_format.specs.Format.{FormatDone, IsClean, IsFresh, IsUnmadeImage, LeavesNew}
+use Rattle.mg_pool.specs.Fault.{OnlyWrites, TellsFault}
+use Rattle.mg_pool.specs.Pool.{IsPool, KeepsContent}
+use Rattle.mg_pool.specs.declared.fault.PoolFault.{PoolFault}
+use Rattle.mg_pool.specs.declared.fault.PoolFault.TheVariants as faults
+use Rattle.mg_pool.specs.declared.pool.Pool.{Pool}
+use Rattle.mg_space.specs.Taking.{IsGeometry}
+use Rattle.mg_space.specs.View.{Tells}
+use Rattle.mg_space.specs.declared.fault.SpaceFault.TheVariants as space
+use Rattle.mg_space.specs.declared.links.FireLinks.{FireLinks}
+use Rattle.mg_survey.specs.Survey.{IsSurveyed, OnlyAsks, limit_of}
+use Rattle.mg_survey.specs.declared.survey.Survey.{Survey}
+use Rattle.mg_database.specs.declared.fault.OpenFault.{OpenFault}
+use Rattle.mg_database.specs.declared.fault.OpenFault.TheVariants.{Space}
+use Rattle.mg_database.specs.Preparing.{BecomesReady, FailsToPrepare, IsPrepared, MakesIf, made, no_memory, there, unasked, unmade}
+
+-- a new database was written, or a page write failed
+pub made_by : {D : Type 0} (m : Meaning D) (old new : Pool D FireLinks)
+    (result : Result (Unit {0}) PoolFault) → old.offline ≡ None → IsPool m new
+    → new.geometry ≡ old.geometry → OnOk result (IsClean new) → OnlyWrites result
+    → TellsFault m old new result → ((image : Image) → IsFresh m old image
+    → FormatDone m old.disk new.disk old.geometry.size result) → MakesIf m true old new result
+made_by m old new (Ok x) online pool geometry clean own told done = record {
+  pool = pool;
+  geometry = geometry;
+  clean = clean;
+  online = told.1;
+  done = done;
+}
+made_by m old new (Err (faults.DiskRead n)) online pool geometry clean own told done = absurd own
+made_by m old new (Err (faults.DiskWrite n)) online pool geometry clean own told done =
+    (n, refl, told.2.2, done)
+made_by m old new (Err (faults.Offline n)) online pool geometry clean own told done =
+    absurd (let no : None ≡ Some n = sym online ∙ told.0 in cc)
+made_by m old new (Err (faults.Absent n)) online pool geometry clean own told done = absurd own
+made_by m old new (Err faults.Memory) online pool geometry clean own told done = absurd own
+
+-- what the writing of a new database leaves, since before the disk was asked
+format_since : {D : Type 0} (m : Meaning D) (disk asked new : D) (size : ℕ)
+    (result : Result (Unit {0}) PoolFault) → KeepsContent m disk asked → m.tells disk ≡ true
+    → FormatDone m asked new size result → FormatDone m disk new size result
+format_since {D} m disk asked new size result asks told done = record {
+  crash = joined m disk asked new (LeavesNew m disk size)
+      (goes_on m disk disk asked (LeavesNew m disk size)
+      (started m disk (LeavesNew m disk size) (λ c may. inl may)) (asks.time told)
+      (λ c may. inl (asks.crash told c may)))
+      (leaves_as m asked new (LeavesNew m asked size) (LeavesNew m disk size) turn done.crash);
+  made = done.made;
+}
+  where
+    turn : (c : Image) → LeavesNew m asked size c → LeavesNew m disk size c
+    turn c (inl may) = inl (asks.crash told c may)
+    turn c (inr new) = inr new
+
+-- A disk was asked, and a cache made over it.
+module _ {D : Type 0} (m : Meaning D) (disk asked : D) (limit : ℕ) (it : Survey)
+    (old new : Pool D FireLinks) (asks : KeepsContent m disk asked)
+    (steady : m.faults asked ≡ m.faults disk) (surveyed : IsSurveyed m disk asked limit it)
+    (pool : IsPool m old) (disk_is : old.disk ≡ asked) (geometry_is : old.geometry ≡ it.geometry)
+    (clean : IsClean old) (online : old.offline ≡ None) where
+  pub lawful_geometry : IsGeometry old.geometry
+  lawful_geometry = subst IsGeometry (sym geometry_is)
+      (record { size = surveyed.lawful; limit = surveyed.most })
+
+  size_is : it.geometry.size ≡ old.geometry.size
+  size_is = sym (ap (λ (g : Geometry). g.size) geometry_is)
+
+  limit_of_old : (image : Image) → m.held disk ≡ Some image
+      → old.geometry.limit ≡ limit_of limit (length image)
+  limit_of_old image held = ap (λ (g : Geometry). g.limit) geometry_is ∙ surveyed.limit_is image held
+
+  told_unmade : it.unmade ≡ true → (image : Image) → m.held disk ≡ Some image
+      → IsUnmadeImage old.geometry.size image
+  told_unmade is image held = subst (λ (size : ℕ). IsUnmadeImage size image) size_is
+      ((surveyed.unmade_is image held).0 is)
+
+  told_other : it.unmade ≡ false → (image : Image) → m.held disk ≡ Some image
+      → IsUnmadeImage old.geometry.size image → ⊥
+  told_other is image held unmade_ = false≢true (sym is ∙ (surveyed.unmade_is image held).1
+      (subst (λ (size : ℕ). IsUnmadeImage size image) (sym size_is) unmade_))
+
+  is_fresh : it.unmade ≡ true → (image : Image) → Tells m disk image → IsFresh m old image
+  is_fresh is image tells = record {
+    tells = subst (λ (d : D). Tells m d image) (sym disk_is)
+        (record { told = asks.tells ∙ tells.told; held = asks.held ∙ tells.held });
+    unmade = told_unmade is image tells.held;
+  }
+
+  since : (later : D) (size : ℕ) (result : Result (Unit {0}) PoolFault) (image : Image) → Tells m disk image
+      → FormatDone m old.disk later size result → FormatDone m disk later size result
+  since later size result image tells done = format_since m disk asked later size result asks tells.told
+      (subst (λ (d : D). FormatDone m d later size result) disk_is done)
+
+  pub prepared : (b : Bool) → it.unmade ≡ b → MakesIf m b old new (Ok tt) → IsPrepared m disk limit new
+  prepared false is same = subst (IsPrepared m disk limit) (sym same) (record {
+    pool = pool;
+    geometry = lawful_geometry;
+    clean = clean;
+    online = online;
+    disk_is = there (subst (KeepsContent m disk) (sym disk_is) asks) (told_other is);
+    limit_is = limit_of_old;
+  })
+  prepared true is makes = record {
+    pool = makes.pool;
+    geometry = subst IsGeometry (sym makes.geometry) lawful_geometry;
+    clean = makes.clean;
+    online = makes.online;
+    disk_is = subst (λ (size : ℕ). BecomesReady m disk new.disk size) same_size
+        (made (told_unmade is) (λ image tells. since new.disk old.geometry.size (Ok tt) image tells
+        (makes.done image (is_fresh is image tells))));
+    limit_is = λ image held. ap (λ (g : Geometry). g.limit) makes.geometry ∙ limit_of_old image held;
+  }
+    where
+      same_size : old.geometry.size ≡ new.geometry.size
+      same_size = sym (ap (λ (g : Geometry). g.size) makes.geometry)
+
+  pub not_prepared : (b : Bool) (fault : PoolFault) → it.unmade ≡ b → MakesIf m b old new (Err fault)
+      → FailsToPrepare m disk new.disk (Space (space.Pool fault))
+  not_prepared false fault is makes = absurd makes
+  not_prepared true fault is makes = subst (λ (f : PoolFault). FailsToPrepare m disk new.disk (Space (space.Pool f)))
+      (sym makes.1) (unmade makes.0 (record {
+        size = old.geometry.size;
+        unmade = told_unmade is;
+        leaves = λ image tells. since new.disk old.geometry.size (Err (faults.DiskWrite makes.0)) image tells
+            (makes.3 image (is_fresh is image tells));
+        rose = subst (λ (n : ℕ). Rose n (m.faults new.disk)) (ap m.faults disk_is ∙ steady) makes.2;
+      }))
+
+  -- the same, as the disk comes back and the fault is told
+  pub not_prepared_as : (b : Bool) (fault : PoolFault) (back : D) (told : OpenFault) → it.unmade ≡ b
+      → MakesIf m b old new (Err fault) → back ≡ new.disk → told ≡ Space (space.Pool fault)
+      → FailsToPrepare m disk back told
+  not_prepared_as b fault back told is makes same told_is =
+      subst (λ (d : D). FailsToPrepare m disk d told) (sym same)
+      (subst (FailsToPrepare m disk new.disk) (sym told_is) (not_prepared b fault is makes))
+
+-- the disk's first calls failed
+pub not_asked : {D T E : Type 0} (m : Meaning D) (disk asked : D) (error : E) (count : ℕ) (told : OpenFault)
+    → OnlyAsks {T = T} m disk asked (Err error) → told ≡ Space (space.Pool (faults.DiskRead count))
+    → FailsToPrepare m disk asked told
+not_asked m disk asked error count told asks is = subst (FailsToPrepare m disk asked) (sym is)
+    (unasked count asks.content (asks.cause refl))
+
+-- there was no memory for the cache
+pub not_held : {D : Type 0} (m : Meaning D) (disk asked back : D) (told : OpenFault)
+    → KeepsContent m disk asked → back ≡ asked → told ≡ Space (space.Pool faults.Memory)
+    → FailsToPrepare m disk back told
+not_held {D} m disk asked back told asks same is = subst (λ (d : D). FailsToPrepare m disk d told) (sym same)
+    (subst (FailsToPrepare m disk asked) (sym is) (no_memory asks))

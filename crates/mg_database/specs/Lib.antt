@@ -1,0 +1,3 @@
+pub mod Preparing
+pub mod Loading
+pub mod Finishing
