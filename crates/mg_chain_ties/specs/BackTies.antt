@@ -162,7 +162,7 @@ module _ (form : Form) (one : RowsAreOne form.coding) (none : HasNoSequences for
   final_is : (cache_over after j).pool ≡ viewed before i freed
   final_is = it.pool ∙ viewed_same before i freed batch takes.taken.ordered.same_pages
 
-  pages : TakesOutPages form.in_primary pool (viewed before i turned) (cache_over after j).pool rec x
+  pub pages : TakesOutPages form.in_primary pool (viewed before i turned) (cache_over after j).pool rec x
       takes.was takes.newest
   pages = subst (λ (p : Pages). TakesOutPages form.in_primary pool (viewed before i turned) p rec x takes.was
       takes.newest) (sym final_is) (record {
@@ -183,7 +183,7 @@ module _ (form : Form) (one : RowsAreOne form.coding) (none : HasNoSequences for
         };
       })
 
-  has_slot : contents rec.page.0 ≢ None
+  pub has_slot : contents rec.page.0 ≢ None
   has_slot = within_turned.pages rec.page.0 (back_has form.in_primary before i fresh turned rec takes.newest
       takes.its.head.slot rec_cells takes.was.back takes.taken.swings.turns)
 
@@ -221,7 +221,7 @@ module _ (form : Form) (one : RowsAreOne form.coding) (none : HasNoSequences for
           let five : byte (pool k) 0 ≡ 5 = ap (λ (q : ℕ). byte (pool q) 0) same ∙ rec_cells.kind in
           omega (arith, four, five)
 
-  orders_out : OrdersTakeOut orders pool table x rec takes.was
+  pub orders_out : OrdersTakeOut orders pool table x rec takes.was
   orders_out = record {
     freed = λ ne. in_freed rec.page.0 x.page.0 (ordered_page (rec.page.0 ∷ []) rec.page.0 x.page.0
         (inl refl) (λ e. ne (sym e)));

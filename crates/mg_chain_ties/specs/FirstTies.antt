@@ -99,7 +99,7 @@ module _ (form : Form) (one : RowsAreOne form.coding) (none : HasNoSequences for
   abbrev n : Entry
   n = written makes.makes.at v None row
 
-  it : BatchIsChanged before after i j batch asked session
+  pub it : BatchIsChanged before after i j batch asked session
   it = changed_fresh m before after i j batch asked session changes
 
   -- the image in which the writer counts as in limbo has the table
@@ -114,7 +114,7 @@ module _ (form : Form) (one : RowsAreOne form.coding) (none : HasNoSequences for
   of : table_at (stands_of start.layout) rec.page.0 ≡ Some table
   of = placed (alone by) start.layout start.reading start.sound its
 
-  pages : MakesPages form before i fresh batch rec v table contents orders makes
+  pub pages : MakesPages form before i fresh batch rec v table contents orders makes
   pages = made_pages form one none before i changes.geometry fresh batch (left_state (alone by) state)
       start.layout start.reading start.sound rec v table of blank makes contents orders
       (within_self batch)

@@ -159,7 +159,7 @@ module _ (form : Form) (one : RowsAreOne form.coding) (none : HasNoSequences for
   reached = subst (λ (k : ℕ). IsReached (viewed before i put) k at.page.0 moves.pointers) owner_is
       moves.puts.reached
 
-  puts : PutsGiven before i fresh given put table.pointer.0 (need_of replaces.bytes) at replaces.bytes
+  pub puts : PutsGiven before i fresh given put table.pointer.0 (need_of replaces.bytes) at replaces.bytes
       moves.pointers
   puts = record {
     gives = subst (λ (k : ℕ). GivesRoom before i fresh given k (need_of replaces.bytes) at.page) owner_is
@@ -190,7 +190,7 @@ module _ (form : Form) (one : RowsAreOne form.coding) (none : HasNoSequences for
   within_ = within_put contents orders put turned rec.page.0 turns.puts.one.bytes turns.puts.one.puts
       within_turned
 
-  some_grows : GrowsSome form.in_primary size table.pointer.0 orders contents pool
+  pub some_grows : GrowsSome form.in_primary size table.pointer.0 orders contents pool
       (end_of puts.gives.pointers puts.gives.data_pages) (viewed before i given)
   some_grows = grows form one none before i changes.geometry fresh (left_state (alone by) state) start.layout
       start.reading start.sound rec table of given put (need_of replaces.bytes) at replaces.bytes
@@ -273,7 +273,7 @@ module _ (form : Form) (one : RowsAreOne form.coding) (none : HasNoSequences for
   final_is : (cache_over after j).pool ≡ viewed before i freed
   final_is = it.pool ∙ viewed_same before i freed batch moves.ordered.same_pages
 
-  moves_pages : (row : Row) → MovesPages form.in_primary (viewed before i given) (viewed before i put)
+  pub moves_pages : (row : Row) → MovesPages form.in_primary (viewed before i given) (viewed before i put)
       (viewed before i turned) (cache_over after j).pool rec x replaces.was
       (written at v replaces.was.back row) replaces.newest link
   moves_pages row = subst (λ (pages : Pages). MovesPages form.in_primary (viewed before i given)

@@ -20,17 +20,17 @@ use Rattle.mg_version.specs.declared.cell.Version.{Version}
 use Rattle.mg_grown_overlays.specs.Growing.{FindsSettled}
 
 -- The versions of a record begin with the one to which a link leads.
-record BeginsAt (h : Cells) (es : List Entry) (l : Link) : Type 0 where
-  newest : Entry
-  older : List Entry
-  first : es ≡ newest ∷ older
-  opens : Opens h (Some l) (newest ∷ older)
+pub record BeginsAt (h : Cells) (es : List Entry) (l : Link) : Type 0 where
+  pub newest : Entry
+  pub older : List Entry
+  pub first : es ≡ newest ∷ older
+  pub opens : Opens h (Some l) (newest ∷ older)
 
 module _ (form : Form) (size : ℕ) (state : ℕ → TxState) (pages : Pages) (layout : Layout) (r : Reading)
     (sound : IsSoundBy form size state pages layout r) (p : RecId) (table : Table)
     (of : table_at (stands_of layout) p.page.0 ≡ Some table) (l : Link)
     (slot : cells_of pages p ≡ Some (cells.Anchor l)) where
-  begins : BeginsAt (cells_of pages) (r p) l
+  pub begins : BeginsAt (cells_of pages) (r p) l
   begins = by (r p) refl (subst (λ (c : Option Cell). Chain (cells_of pages) (newest_of p c) (r p)) slot
       (sound.records.reads p table of))
     where

@@ -133,7 +133,7 @@ module _ (form : Form) (one : RowsAreOne form.coding) (none : HasNoSequences for
   change = subst (λ (pages : Pages). Changes (cells_of pool) (cells_of pages) x (Some (cells.Version w)))
       (sym it.pool) change_view
 
-  replaces_page : (row : Row) → ReplacesPage form.in_primary pool (cache_over after j).pool replaces.was
+  pub replaces_page : (row : Row) → ReplacesPage form.in_primary pool (cache_over after j).pool replaces.was
       (written x v replaces.was.back row)
   replaces_page row = record {
     page = page;

@@ -152,7 +152,7 @@ module _ (form : Form) (one : RowsAreOne form.coding) (none : HasNoSequences for
   reached = subst (λ (k : ℕ). IsReached (viewed before i put) k at.page.0 pushes.pushes.pointers) owner_is
       pushes.pushes.puts.reached
 
-  puts : PutsGiven before i fresh given put table.pointer.0 (need_of pushes.bytes) at pushes.bytes
+  pub puts : PutsGiven before i fresh given put table.pointer.0 (need_of pushes.bytes) at pushes.bytes
       pushes.pushes.pointers
   puts = record {
     gives = subst (λ (k : ℕ). GivesRoom before i fresh given k (need_of pushes.bytes) at.page) owner_is
@@ -177,7 +177,7 @@ module _ (form : Form) (one : RowsAreOne form.coding) (none : HasNoSequences for
       pushes.pushes.turns.puts.one.puts within_turned
 
   -- the common part of the rows at this pool
-  some_grows : GrowsSome form.in_primary size table.pointer.0 orders contents pool
+  pub some_grows : GrowsSome form.in_primary size table.pointer.0 orders contents pool
       (end_of puts.gives.pointers puts.gives.data_pages) (viewed before i given)
   some_grows = grows form one none before i changes.geometry fresh (left_state (alone by) state) start.layout
       start.reading start.sound rec table of given put (need_of pushes.bytes) at pushes.bytes
@@ -199,7 +199,7 @@ module _ (form : Form) (one : RowsAreOne form.coding) (none : HasNoSequences for
   final_is : (cache_over after j).pool ≡ viewed before i turned
   final_is = it.pool ∙ viewed_same before i turned batch pushes.pushes.ordered.same_pages
 
-  pushes_pages : PushesPages form.in_primary (viewed before i given) (viewed before i put)
+  pub pushes_pages : PushesPages form.in_primary (viewed before i given) (viewed before i put)
       (cache_over after j).pool at rec w pushes.newest link
   pushes_pages = subst (λ (pages : Pages). PushesPages form.in_primary (viewed before i given)
       (viewed before i put) pages at rec w pushes.newest link) (sym final_is) (record {

@@ -103,7 +103,7 @@ module _ (o : Opening) (h : Entries) (e : Event) (t : ℕ) (name : List ℕ) (ke
       at (inl is) = ap (λ (f : Effect). next_after f old) is
       at (inr (cells, some, is, its)) = ap (λ (f : Effect). next_after f old) is
 
-  others_entry : (u : ℕ) → u ≢ t → is_its u e ≡ false
+  pub others_entry : (u : ℕ) → u ≢ t → is_its u e ≡ false
   others_entry u ne = at entry
     where
       by : (f : Effect) → effect_of e ≡ f → doer f ≡ Some t → is_its u e ≡ false
@@ -115,7 +115,7 @@ module _ (o : Opening) (h : Entries) (e : Event) (t : ℕ) (name : List ℕ) (ke
       at (inr (cells, some, is, its)) = by (Makes t name cells) is refl
 
   -- its own changes have that one more
-  own_more : own o (e ∷ h) t ≡ record { table = name; key = key; row = row } ∷ own o h t
+  pub own_more : own o (e ∷ h) t ≡ record { table = name; key = key; row = row } ∷ own o h t
   own_more = ap changes_in (deeds_after_entry o h e t) ∙ at entry
     where
       at : WritesKey o h e t name key row
