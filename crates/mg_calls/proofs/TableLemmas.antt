@@ -1,14 +1,11 @@
 -- The making of a table.
-use Rattle.std.proofs.Common.{◌≡◌, ℕ, false, List, ◌∷◌, ◌++◌, Option, Some, None, inl, inr, refl}
+use Rattle.std.proofs.Common.{◌≡◌, ℕ, false, List, ◌++◌, Option, Some, None}
 use Rattle.mg_base.specs.declared.numbers.TxNo.{TxNo}
 use Rattle.mg_value.specs.declared.shape.Shape.{Shape}
-use Rattle.mg_model.specs.declared.answer.Answer.TheVariants.{Fine, No}
-use Rattle.mg_model.specs.declared.event.Event.TheVariants.{Mark}
 use Rattle.mg_model.specs.declared.opening.Opening.{Opening}
 use Rattle.mg_model.specs.declared.refusal.Refusal.{Refusal}
-use Rattle.mg_model.specs.History.{Entries, entry}
+use Rattle.mg_model.specs.History.{Entries}
 use Rattle.mg_records.specs.Meaning.{Means}
-use Rattle.mg_records.specs.Adding.{Adds}
 use Rattle.mg_records.specs.Crashing.{LeavesQuietly}
 use Rattle.mg_records.specs.Keeping.{Leaves}
 use Rattle.mg_records.specs.Sessions.{SessionsStay}
@@ -18,7 +15,7 @@ use Rattle.mg_calls.specs.declared.writing.Written.TheVariants as written
 use Rattle.mg_calls.specs.Quiet.{AreQuiet, GoesOnQuietly}
 use Rattle.mg_calls.specs.QuietLaws.{quiet_one}
 use Rattle.mg_calls.specs.TableLaws.{inserted_quietly, rows_come}
-use Rattle.mg_calls.specs.Tables.{MakesOne, MarksAndMakes, RowsCome}
+use Rattle.mg_calls.specs.Tables.{MakesOne, RowsCome}
 use Rattle.mg_calls.specs.Undoing.{Undoes, is_waiting}
 
 -- the call's entries come

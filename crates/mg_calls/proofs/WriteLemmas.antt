@@ -1,5 +1,5 @@
 -- A write that is refused, and what undoes its statement.
-use Rattle.std.proofs.Common.{◌≡◌, ℕ, suc, Bool, true, false, List, ◌∷◌, Option, Some, None, inl, refl, sym, ap, subst, ◌∙◌, arith}
+use Rattle.std.proofs.Common.{◌≡◌, ℕ, suc, Bool, true, false, List, ◌∷◌, Option, Some, None, refl, sym, ap, subst, ◌∙◌, arith}
 use Rattle.std.proofs.lemmas.Bool.{false≢true}
 use Rattle.std.specs.Prelude.{◌&&◌, ◌++◌, ◌<◌, ◌+◌, length, All, MatchOption, cond, if◌then◌else◌}
 use Rattle.std.specs.Option.{option_to_list}

@@ -1,12 +1,13 @@
 -- Frames of calls that are not made, and of answers that have no cause outside.
-use Rattle.std.proofs.Common.{ℕ, Option, None, inl, refl, arith}
+use Rattle.std.proofs.Common.{ℕ, Option, inl, refl, arith}
 use Rattle.mg_model.specs.declared.refusal.Refusal.{Refusal}
 use Rattle.mg_records.specs.Meaning.{Means}
 use Rattle.mg_calls.specs.Frames.{Blames, Frames}
 
--- a refusal that has no cause outside may be answered in place of none
-pub frames_quiet : {R P : Type 0} (m : Means R P) (old new : R) (t : ℕ) (refusal : Option Refusal)
-    → Blames m old new refusal → Frames m old new t None → Frames m old new t refusal
+-- a refusal that has no cause outside may be answered in place of another
+pub frames_quiet : {R P : Type 0} {first : Option Refusal} (m : Means R P) (old new : R) (t : ℕ)
+    (refusal : Option Refusal) → Blames m old new refusal → Frames m old new t first
+    → Frames m old new t refusal
 frames_quiet m old new t refusal cause frames = record {
   faults = frames.faults;
   damage = frames.damage;

@@ -1,12 +1,10 @@
 -- Each step gives what its statement says next.
 use Rattle.std.proofs.Common.{◌≡◌, ℕ, ◌&&◌, Bool, true, false, List, [], ◌∷◌, ◌++◌, length, Option, Some, Result, Ok, Err, cond, inl, inr, refl, sym, ap, subst, ◌∙◌}
-use Rattle.std.proofs.lemmas.Bool.{false≢true}
-use Rattle.std.proofs.lemmas.List.{append_assoc}
+use Rattle.std.proofs.lemmas.List.{append-nil}
 use Rattle.mg_base.specs.declared.numbers.TxNo.{TxNo}
-use Rattle.mg_base.specs.declared.transaction.TxState.{TxState}
-use Rattle.mg_base.specs.declared.transaction.TxState.TheVariants.{Active, Limbo, Dead, Committed}
 use Rattle.mg_value.specs.declared.shape.Column.{Column}
-use Rattle.mg_sql.specs.Plain.{Plain, RollbackTo, Savepoint, Insert, Update, Delete, Totals, Select}
+use Rattle.mg_sql.specs.declared.statement.Def.{Def}
+use Rattle.mg_sql.specs.Plain.{Plain, RollbackTo, Savepoint, Table as Creation, Insert, Update, Delete, Totals, Select}
 use Rattle.mg_plan.specs.Statements.{bound_plain}
 use Rattle.mg_plan.specs.declared.bound.Bound.{Bound}
 use Rattle.mg_model.specs.declared.answer.Answer.TheVariants.{Fine, No, Rows}
@@ -15,14 +13,16 @@ use Rattle.mg_model.specs.declared.opening.Opening.{Opening}
 use Rattle.mg_model.specs.declared.refusal.Refusal.{Refusal}
 use Rattle.mg_model.specs.declared.refusal.Refusal.TheVariants.{Waits}
 use Rattle.mg_model.specs.declared.table.Table.{Table}
-use Rattle.mg_model.specs.Answers.{if_active, is_active}
+use Rattle.mg_model.specs.Answers.{is_active}
 use Rattle.mg_model.specs.Changes.{Cells}
-use Rattle.mg_model.specs.History.{Entries, Entry, entry}
-use Rattle.mg_model.specs.Legal.{IsLawful}
-use Rattle.mg_model.specs.Machine.{state_of}
+use Rattle.mg_model.specs.History.{Entries, entry}
+use Rattle.mg_model.specs.Legal.{IsLawful, is_lasting}
+use Rattle.mg_model.specs.Machine.{is_of, state_of}
 use Rattle.mg_records.specs.declared.write.Write.{Write}
+use Rattle.mg_records.specs.declared.write.Write.TheVariants as writes_
 use Rattle.mg_records.specs.Meaning.{Means}
-use Rattle.mg_records.specs.TakingBack.{is_given_up}
+use Rattle.mg_records.specs.Reading.{shape_seen}
+use Rattle.mg_records.specs.TakingBack.{after_refusal, is_given_up}
 use Rattle.mg_records.specs.Writing.{event_of}
 use Rattle.mg_rows.specs.declared.outcome.Outcome.TheVariants as outcomes
 use Rattle.mg_rows.specs.declared.statement_fault.StatementFault.{StatementFault}
@@ -30,8 +30,12 @@ use Rattle.mg_rows.specs.declared.statement_fault.StatementFault.TheVariants.{En
 use Rattle.mg_calls.specs.declared.steps.Writes.{Writes}
 use Rattle.mg_calls.specs.declared.steps.Wrote.{Wrote}
 use Rattle.mg_calls.specs.declared.steps.Wrote.TheVariants as wrote_
+use Rattle.mg_calls.specs.declared.writing.Written.TheVariants as written_
+use Rattle.mg_calls.specs.Frames.{Frames}
+use Rattle.mg_calls.specs.Quiet.{as_it_was, with_entry}
 use Rattle.mg_calls.specs.Steps.{MarksAndWrites, WritesNext}
-use Rattle.mg_calls.specs.Undoing.{IsUndone, left_so, taken_back}
+use Rattle.mg_calls.specs.WalkLaws.{walks_go_on, walks_stay_ready}
+use Rattle.mg_calls.specs.Writes.{ComesToNothing}
 use Rattle.mg_exec.specs.declared.phase.Phase.{Phase}
 use Rattle.mg_exec.specs.declared.phase.Phase.TheVariants as phases
 use Rattle.mg_exec.specs.declared.phase.Step.{Step}
@@ -39,16 +43,16 @@ use Rattle.mg_exec.specs.declared.phase.Step.TheVariants.{Done}
 use Rattle.mg_exec.specs.declared.phase.Turn.{Turn}
 use Rattle.mg_exec.specs.Changing.{StartsToWrite, begins, makes_none, turned, with_left}
 use Rattle.mg_exec.specs.Making.{writes_made}
-use Rattle.mg_exec.specs.Phases.{ended, is_insert}
-use Rattle.mg_exec.specs.Points.{Saves, Returns}
+use Rattle.mg_exec.specs.NewTables.{LooksForTable, is_taken}
+use Rattle.mg_exec.specs.Phases.{StandsAt, ended, is_insert, rolled_back}
+use Rattle.mg_exec.specs.Points.{Saves, SavesSo, Returns, ReturnsSo}
 use Rattle.mg_exec.specs.Reading.{Finds, GoesOnWith, answers, writes, Reads, comes_on, finds, faults, stops, find_of}
 use Rattle.mg_exec.specs.Running.{Goes}
-use Rattle.mg_exec.specs.Statements.{Asked, IsBoundTo, its_look, its_find, before_mark, marked, wrote, waited, IsWriting, entries_given_up, does_give_up, taken_back_so, given_up_so, saved, not_saved, returned, no_savepoint, not_returned, stopped, faulted, not_found, selected, none_made, not_marked, written, undone, IsAt, StandsSo, AreLawful, Gives, Begins, StatementsGoOn, StatementsStayReady, table_named}
+use Rattle.mg_exec.specs.Statements.{Asked, IsBoundTo, its_look, its_find, before_mark, marked, wrote, waited, IsWriting, entries_given_up, saved, not_saved, returned, no_savepoint, not_returned, stopped, faulted, not_found, selected, none_made, not_marked, written, undone, IsAt, Gives, Begins, StatementsGoOn, StatementsStayReady, table_named}
 use Rattle.mg_exec.specs.Starting.{IsStarted, Looks, Starts}
-use Rattle.mg_records.specs.Reading.{shape_seen}
-use Rattle.mg_model.specs.Machine.{is_of}
-use Rattle.mg_calls.specs.Frames.{Frames}
-use Rattle.mg_calls.specs.WalkLaws.{walks_go_on, walks_stay_ready}
+use Rattle.mg_exec.proofs.CreateLemmas.{ready_to_create}
+use Rattle.mg_exec.proofs.CreateGiveLemmas.{creating, retrying}
+use Rattle.mg_exec.proofs.EntryLemmas.{given_up, gives_behind, nothing_more, one_more, over, refused_gives, rolled_by, undone_by}
 
 inside : {P : Type 0} (a b : Phase P)
     → ◌≡◌ {A = Result (Phase P) StatementFault} (Ok a) (Ok b) → a ≡ b
@@ -58,111 +62,65 @@ no_fault : {P : Type 0} (a : Phase P) (fault : StatementFault)
     → ◌≡◌ {A = Result (Phase P) StatementFault} (Ok a) (Err fault) → ⊥
 no_fault a fault is = absurd cc
 
--- ---- entries
-
--- no entry more
-nothing_more : {R P : Type 0} (m : Means R P) (new : R) (o : Opening) (looked h : Entries) (a : Asked)
-    (given : Entries) (turn : Turn P) → m.stands new o h
-    → StandsSo m new o looked h a given turn.phase turn.answer → Gives m new o looked h a given turn
-nothing_more m new o looked h a given turn stands so =
-    record { more = []; lawful = tt; stands = stands; so = so }
-
--- one entry more
-one_more : {R P : Type 0} (m : Means R P) (new : R) (o : Opening) (looked h : Entries) (a : Asked)
-    (given : Entries) (e : Entry) (turn : Turn P) → IsLawful o h e → m.stands new o (e ∷ h)
-    → StandsSo m new o looked (e ∷ h) a (e ∷ given) turn.phase turn.answer
-    → Gives m new o looked h a given turn
-one_more m new o looked h a given e turn lawful stands so =
-    record { more = e ∷ []; lawful = (lawful, tt); stands = stands; so = so }
-
-lawful_behind : (o : Opening) (h : Entries) (e : Entry) (more : Entries) → IsLawful o h e
-    → AreLawful o (e ∷ h) more → AreLawful o h (more ++ e ∷ [])
-lawful_behind o h e [] lawful are = (lawful, tt)
-lawful_behind o h e (x ∷ more) lawful are = (
-  subst (λ (h : Entries). IsLawful o h x) (sym (append_assoc more (e ∷ []) h)) are.0,
-  lawful_behind o h e more lawful are.1,
-)
-
--- those behind an entry, and the entry
-gives_behind : {R P : Type 0} (m : Means R P) (new : R) (o : Opening) (looked h : Entries) (a : Asked)
-    (given : Entries) (e : Entry) (turn : Turn P) → IsLawful o h e
-    → Gives m new o looked (e ∷ h) a (e ∷ given) turn → Gives m new o looked h a given turn
-gives_behind m new o looked h a given e turn lawful g = record {
-  more = g.more ++ e ∷ [];
-  lawful = lawful_behind o h e g.more lawful g.lawful;
-  stands = subst (λ (h : Entries). m.stands new o h) (sym (append_assoc g.more (e ∷ []) h)) g.stands;
-  so = subst (λ (x : Entries × Entries). StandsSo m new o looked x.0 a x.1 turn.phase turn.answer)
-      (sym (λ k. (append_assoc g.more (e ∷ []) h k, append_assoc g.more (e ∷ []) given k))) g.so;
-}
-
--- ---- rolled back
-
-both_true : (a b : Bool) → (a && b) ≡ true → b ≡ true
-both_true true b is = is
-both_true false b is = absurd (false≢true is)
-
-active_fine : (state : TxState) → is_active state ≡ true → Fine ≡ if_active state Fine
-active_fine Active is = refl
-active_fine Limbo is = absurd (false≢true is)
-active_fine Dead is = absurd (false≢true is)
-active_fine Committed is = absurd (false≢true is)
-
-undo_rolled : (o : Opening) (h : Entries) (t : TxNo) (refusal : Refusal)
-    → does_give_up o h t refusal ≡ true
-    → IsLawful o (entry (events.UndoMark t) (No refusal) ∷ h) (entry (events.Rollback t) Fine)
-undo_rolled o h t refusal is =
-    inl (active_fine (state_of o h t.0) (both_true (is_given_up refusal) (is_active (state_of o h t.0)) is))
-
-back_rolled : (o : Opening) (h : Entries) (t : TxNo) (name : List ℕ) (refusal : Refusal)
-    → does_give_up o h t refusal ≡ true
-    → IsLawful o (entry (events.BackTo t name) (No refusal) ∷ h) (entry (events.Rollback t) Fine)
-back_rolled o h t name refusal is =
-    inl (active_fine (state_of o h t.0) (both_true (is_given_up refusal) (is_active (state_of o h t.0)) is))
-
 -- ---- SAVEPOINT and ROLLBACK TO
 
+saving_so : {R P : Type 0} (m : Means R P) (new : R) (o : Opening) (looked h : Entries) (a : Asked)
+    (name : List ℕ) (phase : Phase P) (answer : Result Step StatementFault) → a.statement ≡ Savepoint name
+    → SavesSo m new o h a.t name phase answer
+    → Gives m new o looked h a [] (record { phase = phase; answer = answer })
+saving_so m new o looked h a name phases.Ended (Ok (Done outcomes.Fine)) is c =
+    one_more m new o looked h a [] _ _ refl c.lawful c.stands (saved name is refl refl) (over true refl)
+saving_so m new o looked h a name phases.Ended (Err (Engine refusal)) is c =
+    one_more m new o looked h a [] _ _ refl c.lawful c.stands (not_saved name refusal is refl refl) (over true refl)
+saving_so m new o looked h a name phase answer is c = absurd c
+
 saving : {R P : Type 0} (m : Means R P) (new : R) (o : Opening) (looked h : Entries) (a : Asked)
-    (name : List ℕ) (answer : Result Step StatementFault) → a.statement ≡ Savepoint name
-    → Saves m new o h a.t name answer → Gives {P = P} m new o looked h a [] (ended answer)
-saving m new o looked h a name (Ok (Done outcomes.Fine)) is c =
-    one_more m new o looked h a [] _ _ c.lawful c.stands (saved name is refl refl)
-saving m new o looked h a name (Err (Engine refusal)) is c =
-    one_more m new o looked h a [] _ _ c.lawful c.stands (not_saved name refusal is refl refl)
-saving m new o looked h a name answer is c = absurd c
+    (name : List ℕ) (turn : Turn P) → a.statement ≡ Savepoint name
+    → Saves m new o h a.t name turn → Gives m new o looked h a [] turn
+saving m new o looked h a name turn is c = saving_so m new o looked h a name turn.phase turn.answer is c
 
 not_back : {R P : Type 0} (m : Means R P) (new : R) (o : Opening) (looked h : Entries) (a : Asked)
-    (name : List ℕ) (refusal : Refusal) (gives_up : Bool) → a.statement ≡ RollbackTo name
-    → does_give_up o h a.t refusal ≡ gives_up
+    (name : List ℕ) (refusal : Refusal) → a.statement ≡ RollbackTo name → is_given_up refusal ≡ true
     → IsLawful o h (entry (events.BackTo a.t name) (No refusal))
-    → m.stands new o (cond gives_up
-    (entry (events.Rollback a.t) Fine ∷ entry (events.BackTo a.t name) (No refusal) ∷ h)
-    (entry (events.BackTo a.t name) (No refusal) ∷ h))
-    → Gives {P = P} m new o looked h a [] (ended (Err (Engine refusal)))
-not_back m new o looked h a name refusal true is gives_up lawful stands = record {
-  more = entry (events.Rollback a.t) Fine ∷ entry (events.BackTo a.t name) (No refusal) ∷ [];
-  lawful = (back_rolled o h a.t name refusal gives_up, (lawful, tt));
-  stands = stands;
-  so = not_returned name refusal h is refl
-      (ap (λ (g : Bool). entries_given_up g a.t (events.BackTo a.t name) refusal) (sym gives_up)) refl;
-}
-not_back m new o looked h a name refusal false is gives_up lawful stands = record {
-  more = entry (events.BackTo a.t name) (No refusal) ∷ [];
-  lawful = (lawful, tt);
-  stands = stands;
-  so = not_returned name refusal h is refl
-      (ap (λ (g : Bool). entries_given_up g a.t (events.BackTo a.t name) refusal) (sym gives_up)) refl;
-}
+    → m.stands new o (after_refusal o h a.t (events.BackTo a.t name) refusal)
+    → Gives {P = P} m new o looked h a [] (rolled_back refusal)
+not_back m new o looked h a name refusal is gives lawful stands =
+    let g = given_up m new o h a.t (events.BackTo a.t name) refusal refl gives lawful stands in
+    record {
+      more = g.entries;
+      lawful = g.lawful;
+      quietly = g.quietly;
+      stands = g.stands;
+      so = (
+        not_returned name refusal h is
+            (ap (λ (given : Entries). given ++ h) (sym (append-nil g.entries))) (append-nil g.entries ∙ g.are) refl,
+        g.inactive,
+      );
+      goes_on = over true refl;
+    }
+
+returning_so : {R P : Type 0} (m : Means R P) (new : R) (o : Opening) (looked h : Entries) (a : Asked)
+    (name : List ℕ) (phase : Phase P) (answer : Result Step StatementFault)
+    → a.statement ≡ RollbackTo name → ReturnsSo m new o h a.t name phase answer
+    → Gives m new o looked h a [] (record { phase = phase; answer = answer })
+returning_so m new o looked h a name phases.Ended (Ok (Done outcomes.Fine)) is c =
+    one_more m new o looked h a [] _ _ refl c.1.lawful c.1.stands (returned name is refl refl) (over true refl)
+returning_so m new o looked h a name phases.Ended (Err NoSavepoint) is c =
+    nothing_more m new o looked h a [] _ c.2 (no_savepoint name is c.1 refl refl) (over true refl)
+returning_so m new o looked h a name phases.Ended (Err (Engine refusal)) is c =
+    one_more m new o looked h a [] _ _ refl c.1.lawful c.1.stands
+    (not_returned name refusal h is refl
+    (ap (λ (g : Bool). entries_given_up g a.t (events.BackTo a.t name) refusal)
+    (sym (ap (λ (g : Bool). g && is_active (state_of o h a.t.0)) c.0))) refl) (over true refl)
+returning_so m new o looked h a name phases.RolledBack (Err (Engine refusal)) is c =
+    not_back m new o looked h a name refusal is c.0 c.1 c.2
+returning_so m new o looked h a name phase answer is c = absurd c
 
 returning : {R P : Type 0} (m : Means R P) (new : R) (o : Opening) (looked h : Entries) (a : Asked)
-    (name : List ℕ) (answer : Result Step StatementFault) → a.statement ≡ RollbackTo name
-    → Returns m new o h a.t name answer → Gives {P = P} m new o looked h a [] (ended answer)
-returning m new o looked h a name (Ok (Done outcomes.Fine)) is c =
-    one_more m new o looked h a [] _ _ c.1.lawful c.1.stands (returned name is refl refl)
-returning m new o looked h a name (Err NoSavepoint) is c =
-    nothing_more m new o looked h a [] _ c.2 (no_savepoint name is c.1 refl refl)
-returning m new o looked h a name (Err (Engine refusal)) is c =
-    not_back m new o looked h a name refusal (does_give_up o h a.t refusal) is refl c.0 c.1
-returning m new o looked h a name answer is c = absurd c
+    (name : List ℕ) (turn : Turn P) → a.statement ≡ RollbackTo name
+    → Returns m new o h a.t name turn → Gives m new o looked h a [] turn
+returning m new o looked h a name turn is c =
+    returning_so m new o looked h a name turn.phase turn.answer is c
 
 -- ---- writes
 
@@ -201,64 +159,41 @@ writing_waits a table bound first rest count given on w = record {
   written = waited first rest given on w.written;
 }
 
--- the undoing is refused
-gave_up : {R P : Type 0} (m : Means R P) (new : R) (o : Opening) (looked h : Entries) (a : Asked)
-    (table : Table) (bound : Bound) (given : Entries) (first : Write) (rest : List Write) (count : ℕ)
-    (refusal later : Refusal) (gives_up : Bool) → IsBoundTo o looked a table bound
-    → IsWriting a table bound (first ∷ rest) count given
-    → IsLawful o h (entry (event_of a.t table.name first) (No refusal))
-    → does_give_up o (entry (event_of a.t table.name first) (No refusal) ∷ h) a.t later ≡ gives_up
-    → IsLawful o (entry (event_of a.t table.name first) (No refusal) ∷ h)
-    (entry (events.UndoMark a.t) (No later))
-    → m.stands new o (cond gives_up
-    (entry (events.Rollback a.t) Fine ∷ entry (events.UndoMark a.t) (No later)
-    ∷ entry (event_of a.t table.name first) (No refusal) ∷ h)
-    (entry (events.UndoMark a.t) (No later) ∷ entry (event_of a.t table.name first) (No refusal) ∷ h))
-    → Gives {P = P} m new o looked h a given (ended (Err (Engine later)))
-gave_up m new o looked h a table bound given first rest count refusal later true b w law is lawful stands =
-    let e = entry (event_of a.t table.name first) (No refusal) in
-    record {
-      more = entry (events.Rollback a.t) Fine ∷ entry (events.UndoMark a.t) (No later) ∷ e ∷ [];
-      lawful = (undo_rolled o (e ∷ h) a.t later is, (lawful, (law, tt)));
-      stands = stands;
-      so = undone table bound first rest count given
-          (entry (events.Rollback a.t) Fine ∷ entry (events.UndoMark a.t) (No later) ∷ []) (e ∷ h)
-          refusal later b w refl
-          (given_up_so (ap (λ (g : Bool). entries_given_up g a.t (events.UndoMark a.t) later) (sym is)))
-          refl refl;
-    }
-gave_up m new o looked h a table bound given first rest count refusal later false b w law is lawful stands =
-    let e = entry (event_of a.t table.name first) (No refusal) in
-    record {
-      more = entry (events.UndoMark a.t) (No later) ∷ e ∷ [];
-      lawful = (lawful, (law, tt));
-      stands = stands;
-      so = undone table bound first rest count given (entry (events.UndoMark a.t) (No later) ∷ [])
-          (e ∷ h) refusal later b w refl
-          (given_up_so (ap (λ (g : Bool). entries_given_up g a.t (events.UndoMark a.t) later) (sym is)))
-          refl refl;
-    }
+writes_quietly : (t : TxNo) (name : List ℕ) (w : Write) → is_lasting (event_of t name w) ≡ false
+writes_quietly t name (writes_.Insert row) = refl
+writes_quietly t name (writes_.Change key row) = refl
+writes_quietly t name (writes_.Erase key) = refl
 
+-- the first of its writes left was refused, and the statement undone, or the transaction rolled back
 is_undone : {R P : Type 0} (m : Means R P) (new : R) (o : Opening) (looked h : Entries) (a : Asked)
     (table : Table) (bound : Bound) (given : Entries) (first : Write) (rest : List Write) (count : ℕ)
-    (refusal answer : Refusal) → IsBoundTo o looked a table bound
+    (answer : Refusal) → IsBoundTo o looked a table bound
     → IsWriting a table bound (first ∷ rest) count given
-    → IsLawful o h (entry (event_of a.t table.name first) (No refusal))
-    → IsUndone m new o (entry (event_of a.t table.name first) (No refusal) ∷ h) a.t refusal answer
+    → ComesToNothing m new o h a.t (event_of a.t table.name first) (written_.Refused answer)
     → Gives {P = P} m new o looked h a given (ended (Err (Engine answer)))
-is_undone m new o looked h a table bound given first rest count refusal answer b w law (taken_back lawful stands) =
-    let e = entry (event_of a.t table.name first) (No refusal) in
-    record {
-      more = entry (events.UndoMark a.t) Fine ∷ e ∷ [];
-      lawful = (lawful, (law, tt));
-      stands = stands;
-      so = undone table bound first rest count given (entry (events.UndoMark a.t) Fine ∷ []) (e ∷ h)
-          refusal refusal b w refl (taken_back_so refl refl) refl refl;
-    }
-is_undone m new o looked h a table bound given first rest count refusal answer b w law (left_so later keeps lawful stands) =
-    gave_up m new o looked h a table bound given first rest count refusal later false b w law
-    (ap (λ (g : Bool). g && is_active (state_of o (entry (event_of a.t table.name first) (No refusal) ∷ h) a.t.0)) keeps)
-    lawful stands
+is_undone m new o looked h a table bound given first rest count answer b w c =
+    let e = entry (event_of a.t table.name first) (No c.first) in
+    let u = undone_by m new o (e ∷ h) a.t c.first answer c.undone in
+    gives_behind m new o looked h a given e _ (writes_quietly a.t table.name first) c.lawful
+    (refused_gives m new o looked (e ∷ h) a (e ∷ given) _ c.first answer u
+    (undone table bound first rest count given u.undoing (e ∷ h) c.first answer b w c.final refl u.by refl
+    refl) refl)
+
+is_rolled_back : {R P : Type 0} (m : Means R P) (new : R) (o : Opening) (looked h : Entries) (a : Asked)
+    (table : Table) (bound : Bound) (given : Entries) (first : Write) (rest : List Write) (count : ℕ)
+    (answer : Refusal) → IsBoundTo o looked a table bound
+    → IsWriting a table bound (first ∷ rest) count given
+    → ComesToNothing m new o h a.t (event_of a.t table.name first) (written_.RolledBack answer)
+    → Gives {P = P} m new o looked h a given (rolled_back answer)
+is_rolled_back m new o looked h a table bound given first rest count answer b w c =
+    let e = entry (event_of a.t table.name first) (No c.first) in
+    let u = rolled_by m new o (e ∷ h) a.t c.first answer c.undone in
+    gives_behind m new o looked h a given e _ (writes_quietly a.t table.name first) c.lawful
+    (refused_gives m new o looked (e ∷ h) a (e ∷ given) _ c.first answer u.0 (
+      undone table bound first rest count given u.0.undoing (e ∷ h) c.first answer b w c.final refl u.0.by
+          refl refl,
+      u.1,
+    ) refl)
 
 -- the next of its writes is made
 writing : {R P : Type 0} (m : Means R P) (new : R) (o : Opening) (looked h : Entries) (a : Asked)
@@ -269,33 +204,26 @@ writing : {R P : Type 0} (m : Means R P) (new : R) (o : Opening) (looked h : Ent
 writing {P = P} m new o looked h a table bound given [] left count result b w same next =
     subst (λ (result : Wrote). Gives {P = P} m new o looked h a given (turned (with_left left count) result))
     (sym next.0)
-    (nothing_more m new o looked h a given _ next.1 (written table bound count b w refl))
+    (nothing_more m new o looked h a given _ next.1 (written table bound count b w refl) (over true refl))
 writing m new o looked h a table bound given (first ∷ rest) left count wrote_.More b w same next =
-    one_more m new o looked h a given _ _ next.0.lawful next.0.stands (
-      still_writing m new o looked (entry (event_of a.t table.name first) Fine ∷ h) a table bound
-          (entry (event_of a.t table.name first) Fine ∷ given) left rest count same next.1 b
-          (writing_on a table bound first rest count given w),
-      tt,
-    )
+    one_more m new o looked h a given _ _ (writes_quietly a.t table.name first) next.0.lawful next.0.stands
+    (still_writing m new o looked (entry (event_of a.t table.name first) Fine ∷ h) a table bound
+    (entry (event_of a.t table.name first) Fine ∷ given) left rest count same next.1 b
+    (writing_on a table bound first rest count given w)) (λ on_. tt)
 writing m new o looked h a table bound given (first ∷ rest) left count wrote_.Done b w same next =
-    one_more m new o looked h a given _ _ next.0.lawful next.0.stands
+    one_more m new o looked h a given _ _ (writes_quietly a.t table.name first) next.0.lawful next.0.stands
     (written table bound count b
     (subst (λ (ws : List Write). IsWriting a table bound ws count (entry (event_of a.t table.name first) Fine ∷ given))
-    next.1 (writing_on a table bound first rest count given w)) refl)
+    next.1 (writing_on a table bound first rest count given w)) refl) (over true refl)
 writing m new o looked h a table bound given (first ∷ rest) left count (wrote_.Waits on) b w same next =
-    one_more m new o looked h a given _ _ next.0.lawful next.0.stands (
-      still_writing m new o looked (entry (event_of a.t table.name first) (No (Waits on)) ∷ h) a table bound
-          (entry (event_of a.t table.name first) (No (Waits on)) ∷ given) left (first ∷ rest) count same next.1 b
-          (writing_waits a table bound first rest count given on w),
-      tt,
-    )
+    one_more m new o looked h a given _ _ (writes_quietly a.t table.name first) next.0.lawful next.0.stands
+    (still_writing m new o looked (entry (event_of a.t table.name first) (No (Waits on)) ∷ h) a table bound
+    (entry (event_of a.t table.name first) (No (Waits on)) ∷ given) left (first ∷ rest) count same next.1 b
+    (writing_waits a table bound first rest count given on w)) (λ on_. refl)
 writing m new o looked h a table bound given (first ∷ rest) left count (wrote_.Refused answer) b w same next =
-    is_undone m new o looked h a table bound given first rest count next.first answer b w next.lawful
-    next.undone
+    is_undone m new o looked h a table bound given first rest count answer b w next
 writing m new o looked h a table bound given (first ∷ rest) left count (wrote_.RolledBack answer) b w same next =
-    gave_up m new o looked h a table bound given first rest count next.first answer
-    (does_give_up o (entry (event_of a.t table.name first) (No next.first) ∷ h) a.t answer) b w next.lawful
-    refl next.undoing next.stands
+    is_rolled_back m new o looked h a table bound given first rest count answer b w next
 
 marking : {R P : Type 0} (m : Means R P) (new : R) (o : Opening) (looked h : Entries) (a : Asked)
     (table : Table) (bound : Bound) (rows : List Cells) (made : List Write) (left : Writes)
@@ -306,10 +234,10 @@ marking : {R P : Type 0} (m : Means R P) (new : R) (o : Opening) (looked h : Ent
 marking {P = P} m new o looked h a table bound rows made left result b is same (inl refused) =
     subst (λ (result : Wrote). Gives {P = P} m new o looked h a (before_mark a table bound rows)
     (turned (with_left left (length made)) result)) (sym refused.1)
-    (one_more m new o looked h a _ _ _ refused.2.lawful refused.2.stands
-    (not_marked table bound rows made refused.0 b is refl refl))
+    (one_more m new o looked h a _ _ _ refl refused.2.lawful refused.2.stands
+    (not_marked table bound rows made refused.0 b is refl refl) (over true refl))
 marking m new o looked h a table bound rows made left result b is same (inr goes) =
-    gives_behind m new o looked h a (before_mark a table bound rows) (entry (events.Mark a.t) Fine) _ goes.0
+    gives_behind m new o looked h a (before_mark a table bound rows) (entry (events.Mark a.t) Fine) _ refl goes.0
     (writing m new o looked (entry (events.Mark a.t) Fine ∷ h) a table bound
     (entry (events.Mark a.t) Fine ∷ before_mark a table bound rows) made left (length made) result b
     (record { rows = rows; made = made; makes = is; counts = refl; written = marked }) same goes.1)
@@ -326,7 +254,8 @@ starting {P = P} m new o looked h a table bound rows turn b (begins made is begu
     begun.writes)
 starting {P = P} m new o looked h a table bound rows turn b (makes_none fault none is stands) =
     subst (λ (turn : Turn P). Gives m new o looked h a (before_mark a table bound rows) turn) (sym is)
-    (nothing_more m new o looked h a _ _ stands (none_made table bound rows fault b refl none refl))
+    (nothing_more m new o looked h a _ _ stands (none_made table bound rows fault b refl none refl)
+    (over true refl))
 
 -- ---- a reading
 
@@ -336,7 +265,8 @@ going_on : {R P : Type 0} (m : Means R P) (new : R) (o : Opening) (looked h : En
     → Gives m new o looked h a (its_find a table bound rows) turn
 going_on {P = P} m new o looked h a table bound rows turn finds_ b (answers given is told stands) =
     subst (λ (turn : Turn P). Gives m new o looked h a (its_find a table bound rows) turn) (sym told)
-    (nothing_more m new o looked h a _ _ stands (selected table bound rows given b refl is refl))
+    (nothing_more m new o looked h a _ _ stands (selected table bound rows given b refl is refl)
+    (over true refl))
 going_on m new o looked h a table bound rows turn finds_ b (writes other starts) =
     subst (λ (given : Entries). Gives m new o looked h a given turn)
     (ap (λ (inserts : Bool). cond inserts (its_look a) (its_find a table bound rows)) finds_)
@@ -348,10 +278,10 @@ finding : {R P : Type 0} (m : Means R P) (new : R) (o : Opening) (looked h : Ent
     → Gives m new o looked h a (its_look a) turn
 finding {P = P} m new o looked h a table bound rows turn finds_ b (inl refused) =
     subst (λ (turn : Turn P). Gives m new o looked h a (its_look a) turn) (sym refused.1)
-    (one_more m new o looked h a _ _ _ refused.2.lawful refused.2.stands
-    (not_found table bound refused.0 b refl refl))
+    (one_more m new o looked h a _ _ _ refl refused.2.lawful refused.2.stands
+    (not_found table bound refused.0 b refl refl) (over true refl))
 finding m new o looked h a table bound rows turn finds_ b (inr goes) =
-    gives_behind m new o looked h a (its_look a) (entry (find_of a.t table bound) (Rows rows)) turn goes.0
+    gives_behind m new o looked h a (its_look a) (entry (find_of a.t table bound) (Rows rows)) turn refl goes.0
     (going_on m new o looked _ a table bound rows turn finds_ b goes.1)
 
 reading_gives : {R P : Type 0} (m : Means R P) (new : R) (o : Opening) (looked h : Entries) (a : Asked)
@@ -361,23 +291,20 @@ reading_gives : {R P : Type 0} (m : Means R P) (new : R) (o : Opening) (looked h
 reading_gives {P = P} m new o looked h a table bound turn finds_ b (comes_on after is bounds tables stands read) =
     subst (λ (turn : Turn P). Gives m new o looked h a (its_look a) turn) (sym is)
     (nothing_more m new o looked h a _ _ stands (
-      (
-        finds_,
-        subst (λ (x : Table × Bound). IsBoundTo o looked a x.0 x.1)
-            (sym (λ k. (tables k, bounds k))) b,
-        refl,
-        read,
-      ),
-      tt,
-    ))
+      finds_,
+      subst (λ (x : Table × Bound). IsBoundTo o looked a x.0 x.1) (sym (λ k. (tables k, bounds k))) b,
+      refl,
+      read,
+    ) (λ on_. tt))
 reading_gives m new o looked h a table bound turn finds_ b (finds rows is goes) =
     finding m new o looked h a table bound rows turn finds_ b goes
 reading_gives {P = P} m new o looked h a table bound turn finds_ b (faults none is stands) =
     subst (λ (turn : Turn P). Gives m new o looked h a (its_look a) turn) (sym is)
-    (nothing_more m new o looked h a _ _ stands (faulted table bound b none refl refl))
+    (nothing_more m new o looked h a _ _ stands (faulted table bound b none refl refl) (over true refl))
 reading_gives {P = P} m new o looked h a table bound turn finds_ b (stops refusal refused is stands) =
     subst (λ (turn : Turn P). Gives m new o looked h a (its_look a) turn) (sym is)
-    (nothing_more m new o looked h a _ _ stands (stopped table bound refusal b refused refl refl))
+    (nothing_more m new o looked h a _ _ stands (stopped table bound refusal b refused refl refl)
+    (over true refl))
 
 -- ---- a step
 
@@ -385,12 +312,12 @@ pub step_gives : {R P : Type 0} (m : Means R P) (old new : R) (o : Opening) (loo
     (a : Asked) (given : Entries) (phase : Phase P) (turn : Turn P)
     → IsAt m old o looked h a given phase → Goes m old new o h a.t phase turn
     → Gives m new o looked h a given turn
-step_gives {P = P} m old new o looked h a given (phases.Saving name) turn at goes =
-    subst (λ (x : Entries × Turn P). Gives m new o looked h a x.0 x.1)
-    (sym (λ k. (at.1 k, goes.0 k))) (saving m new o looked h a name turn.answer at.0 goes.1)
-step_gives {P = P} m old new o looked h a given (phases.Returning name) turn at goes =
-    subst (λ (x : Entries × Turn P). Gives m new o looked h a x.0 x.1)
-    (sym (λ k. (at.1 k, goes.0 k))) (returning m new o looked h a name turn.answer at.0 goes.1)
+step_gives m old new o looked h a given (phases.Saving name) turn at goes =
+    subst (λ (given : Entries). Gives m new o looked h a given turn) (sym at.1)
+    (saving m new o looked h a name turn at.0 goes)
+step_gives m old new o looked h a given (phases.Returning name) turn at goes =
+    subst (λ (given : Entries). Gives m new o looked h a given turn) (sym at.1)
+    (returning m new o looked h a name turn at.0 goes)
 step_gives m old new o looked h a given (phases.Inserting i) turn at goes =
     subst (λ (given : Entries). Gives m new o looked h a given turn)
     (ap (λ (inserts : Bool). cond inserts (its_look a) (its_find a i.table i.bound [])) at.0 ∙ sym at.2)
@@ -402,7 +329,26 @@ step_gives {P = P} m old new o looked h a given (phases.Changing c) turn at goes
     subst (λ (turn : Turn P). Gives m new o looked h a given turn) (sym goes.stands_so)
     (writing m new o looked h a c.writes.table at.0 given c.writes.left.items goes.left c.count
     goes.result at.1 at.2 goes.table goes.writes)
+step_gives m old new o looked h a given (phases.Creating table) turn at goes =
+    subst (λ (given : Entries). Gives m new o looked h a given turn) (sym at.1)
+    (creating m new o looked h a table turn at.0 goes)
+step_gives m old new o looked h a given (phases.Retrying table) turn at goes =
+    retrying m new o looked h a table given turn at.0 at.1 goes
 step_gives m old new o looked h a given phases.Ended turn at goes = absurd at
+step_gives m old new o looked h a given phases.RolledBack turn at goes = absurd at
+
+-- what is known of where it stands
+pub stands_there : {R P : Type 0} (m : Means R P) (r : R) (o : Opening) (looked h : Entries) (a : Asked)
+    (given : Entries) (phase : Phase P) → IsAt m r o looked h a given phase → StandsAt m r o h a.t.0 phase
+stands_there m r o looked h a given (phases.Reading reading) at = at.3
+stands_there m r o looked h a given (phases.Saving name) at = tt
+stands_there m r o looked h a given (phases.Returning name) at = tt
+stands_there m r o looked h a given (phases.Inserting i) at = tt
+stands_there m r o looked h a given (phases.Changing c) at = tt
+stands_there m r o looked h a given (phases.Creating table) at = tt
+stands_there m r o looked h a given (phases.Retrying table) at = tt
+stands_there m r o looked h a given phases.Ended at = absurd at
+stands_there m r o looked h a given phases.RolledBack at = absurd at
 
 -- ---- the beginning
 
@@ -453,9 +399,38 @@ looks_give m new o h t read_only s size phase (inl refused) = absurd (no_fault p
 looks_give m new o h t read_only s size phase (inr looked) = record {
   given = entry (events.Look t) Fine ∷ [];
   lawful = (looked.0, tt);
+  quietly = with_entry (entry (events.Look t) Fine) refl as_it_was;
   stands = looked.1.0;
   at = is_at m new o (entry (events.Look t) Fine ∷ h) t read_only s size phase looked.1.1;
 }
+
+table_looks_give : {R P : Type 0} (m : Means R P) (new : R) (o : Opening) (h : Entries) (t : TxNo)
+    (read_only : Bool) (name : List ℕ) (columns : List Def) (size : ℕ) (phase : Phase P)
+    → LooksForTable m new o h t read_only (Creation name columns) name size (Ok phase)
+    → Begins m new o h (record { t = t; read_only = read_only; statement = Creation name columns; size = size })
+    phase
+table_looks_give m new o h t read_only name columns size phase (inl refused) =
+    absurd (no_fault phase (Engine refused.0) refused.1)
+table_looks_give m new o h t read_only name columns size (phases.Creating table) (inr looked) = record {
+  given = entry (events.Look t) Fine ∷ [];
+  lawful = (looked.0, tt);
+  quietly = with_entry (entry (events.Look t) Fine) refl as_it_was;
+  stands = looked.1.0;
+  at = (
+    record {
+      columns = columns;
+      statement = ap (λ (name : List ℕ). Creation name columns) (sym looked.1.1.planned.named);
+      may = looked.1.1.may;
+      free = subst (λ (name : List ℕ).
+          is_taken name (shape_seen o (entry (events.Look t) Fine ∷ h) t.0 name) ≡ false)
+          (sym looked.1.1.planned.named) looked.1.1.free;
+      passes = looked.1.1.planned.passes;
+      shaped = looked.1.1.planned.shaped;
+    },
+    refl,
+  );
+}
+table_looks_give m new o h t read_only name columns size phase (inr looked) = absurd looked.1
 
 pub start_gives : {R P : Type 0} (m : Means R P) (old new : R) (o : Opening) (h : Entries) (t : TxNo)
     (read_only : Bool) (s : Plain) (size : ℕ) (phase : Phase P)
@@ -464,6 +439,7 @@ pub start_gives : {R P : Type 0} (m : Means R P) (old new : R) (o : Opening) (h 
 start_gives {P = P} m old new o h t read_only (Savepoint name) size phase starts = record {
   given = [];
   lawful = tt;
+  quietly = as_it_was;
   stands = starts.1;
   at = subst (λ (phase : Phase P). IsAt m new o h h
       (record { t = t; read_only = read_only; statement = Savepoint name; size = size }) [] phase) (sym (inside phase _ starts.0)) (refl, refl);
@@ -471,10 +447,13 @@ start_gives {P = P} m old new o h t read_only (Savepoint name) size phase starts
 start_gives {P = P} m old new o h t read_only (RollbackTo name) size phase starts = record {
   given = [];
   lawful = tt;
+  quietly = as_it_was;
   stands = starts.1;
   at = subst (λ (phase : Phase P). IsAt m new o h h
       (record { t = t; read_only = read_only; statement = RollbackTo name; size = size }) [] phase) (sym (inside phase _ starts.0)) (refl, refl);
 }
+start_gives m old new o h t read_only (Creation name columns) size phase starts =
+    table_looks_give m new o h t read_only name columns size phase starts
 start_gives m old new o h t read_only (Insert table columns values) size phase starts =
     looks_give m new o h t read_only (Insert table columns values) size phase starts
 start_gives m old new o h t read_only (Update table sets filter) size phase starts =
@@ -504,7 +483,10 @@ statements_go_on m old new o looked h e u refusal a given (phases.Reading readin
   },
 )
 statements_go_on m old new o looked h e u refusal a given (phases.Changing c) frames apart others at = at
+statements_go_on m old new o looked h e u refusal a given (phases.Creating table) frames apart others at = at
+statements_go_on m old new o looked h e u refusal a given (phases.Retrying table) frames apart others at = at
 statements_go_on m old new o looked h e u refusal a given phases.Ended frames apart others at = at
+statements_go_on m old new o looked h e u refusal a given phases.RolledBack frames apart others at = at
 
 seen_again : {R P : Type 0} (m : Means R P) (old new : R) (t u : ℕ) (refusal : Option Refusal)
     (table : Table) → Frames m old new u refusal → is_of t (Some u) ≡ false
@@ -529,4 +511,9 @@ statements_stay_ready m old new t u refusal (phases.Changing c) frames apart rea
   table = seen_again m old new t u refusal c.writes.table frames apart ready.table;
   fits = ready.fits;
 }
+statements_stay_ready m old new t u refusal (phases.Creating table) frames apart ready =
+    ready_to_create m old new u refusal table frames ready
+statements_stay_ready m old new t u refusal (phases.Retrying table) frames apart ready =
+    ready_to_create m old new u refusal table frames ready
 statements_stay_ready m old new t u refusal phases.Ended frames apart ready = tt
+statements_stay_ready m old new t u refusal phases.RolledBack frames apart ready = tt

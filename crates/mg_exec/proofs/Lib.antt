@@ -1,6 +1,13 @@
 mod FrameLemmas
 mod ChangeLemmas
 mod StartLemmas
+mod ShapeLemmas
+mod TableStartLemmas
 mod MakingLemmas
+mod CreateLemmas
 mod ReadLemmas
+mod ProgressLemmas
+mod PointLemmas
+mod EntryLemmas
+mod CreateGiveLemmas
 mod GiveLemmas

@@ -1,16 +1,19 @@
 -- The steps of a reading.
-use Rattle.std.proofs.Common.{◌≡◌, ℕ, ◌<◌, Bool, true, false, List, [], ◌∷◌, ◌++◌, map, Option, Some, None, Result, Ok, Err, inl, inr, refl, sym, ap, subst, ◌∙◌}
+use Rattle.std.proofs.Common.{◌≡◌, ℕ, Bool, true, false, List, [], ◌∷◌, ◌++◌, ◌+◌, length, map, Option, Some, None, Result, Ok, Err, inl, inr, refl, sym, ap, subst, ◌∙◌}
 use Rattle.std.specs.Prelude.{IsPermutation}
-use Rattle.std.proofs.lemmas.List.{append-nil, append_assoc}
+use Rattle.std.proofs.lemmas.List.{append-nil, append_assoc, length-map}
+use Rattle.std.proofs.lemmas.List.Sorted.{length_permutation}
 use Rattle.mg_base.specs.declared.numbers.TxNo.{TxNo}
 use Rattle.mg_base.specs.declared.transaction.TxState.TheVariants.{Active}
 use Rattle.mg_value.specs.declared.value.Value.{Value}
+use Rattle.mg_expr.specs.declared.expr.Expr.{Expr}
 use Rattle.mg_expr.specs.declared.fault.EvalFault.{EvalFault}
 use Rattle.mg_expr.specs.declared.fault.EvalFault.TheVariants as evals
 use Rattle.mg_expr.specs.Trees.{Tree}
 use Rattle.mg_sql.specs.Plain.{tree_in}
 use Rattle.mg_plan.specs.declared.bound.Bound.{Bound}
-use Rattle.mg_model.specs.declared.answer.Answer.TheVariants.{Rows}
+use Rattle.mg_model.specs.declared.answer.Answer.TheVariants.{No, Rows}
+use Rattle.mg_model.specs.declared.event.Event.TheVariants.{Find}
 use Rattle.mg_model.specs.declared.opening.Opening.{Opening}
 use Rattle.mg_model.specs.declared.refusal.Refusal.{Refusal}
 use Rattle.mg_model.specs.declared.refusal.Refusal.TheVariants as refusals
@@ -21,6 +24,7 @@ use Rattle.mg_model.specs.History.{Entries, entry}
 use Rattle.mg_model.specs.Machine.{state_of, view}
 use Rattle.mg_model.specs.RowLaws.{rows_of_ascend}
 use Rattle.mg_records.specs.Adding.{IsRefused}
+use Rattle.mg_records.specs.Crashing.{LeavesQuietly}
 use Rattle.mg_records.specs.Meaning.{Means}
 use Rattle.mg_records.specs.Reading.{FindAdds, shape_seen}
 use Rattle.mg_rows.specs.declared.statement_fault.StatementFault.{StatementFault}
@@ -33,15 +37,18 @@ use Rattle.mg_calls.specs.declared.walking.Visit.TheVariants as visits
 use Rattle.mg_calls.specs.FindLaws.{machine_finds}
 use Rattle.mg_calls.specs.Frames.{Frames}
 use Rattle.mg_calls.specs.FrameLaws.{frames_then}
-use Rattle.mg_calls.specs.Walks.{GoesOn, HasCome, IsOnItsWay, Progresses, rows_seen}
+use Rattle.mg_calls.specs.Quiet.{AreCalm, AreQuiet, IsQuietAt, as_it_was, with_entry}
+use Rattle.mg_calls.specs.QuietLaws.{calm_nothing, calm_then}
+use Rattle.mg_calls.specs.Walks.{GoesOn, HasCome, IsOnItsWay, rows_seen}
 use Rattle.mg_exec.specs.declared.phase.Reading.{Reading}
 use Rattle.mg_exec.specs.declared.phase.Phase.{Phase}
 use Rattle.mg_exec.specs.declared.phase.Phase.TheVariants as phases
 use Rattle.mg_exec.specs.declared.phase.Step.{Step}
 use Rattle.mg_exec.specs.declared.phase.Step.TheVariants.{More}
 use Rattle.mg_exec.specs.declared.phase.Turn.{Turn}
-use Rattle.mg_exec.specs.Phases.{HasRead, IsReadyToRead, IsTypedFor, Leaves, ended, filter_in, refusal_of, is_reading}
-use Rattle.mg_exec.specs.Reading.{Ends, in_order, no_memory, Finds, GoesOnWith, KeepsRow, Reads, comes_on, finds, faults, stops, IsNearer, find_of, rows_found, passes_of}
+use Rattle.mg_exec.specs.Phases.{HasRead, IsReadyToRead, IsTypedFor, Leaves, ended, filter_in, refusal_of, rolled_back_at}
+use Rattle.mg_exec.specs.Progress.{IsBehind}
+use Rattle.mg_exec.specs.Reading.{AreInOrder, Ends, IsWhatIsFound, in_order, no_memory, Finds, GoesOnWith, KeepsRow, Reads, comes_on, finds, faults, stops, find_of, rows_found, passes_of}
 use Rattle.mg_exec.specs.Selecting.{answer_told}
 use Rattle.mg_exec.proofs.FrameLemmas.{frames_none, frames_quiet}
 
@@ -138,24 +145,28 @@ a_row m old new o h t before walk row turn same stands read goes keeps =
 
 -- ---- the end
 
--- all records were visited
-all_read : {R P : Type 0} (m : Means R P) (new : R) (o : Opening) (h : Entries) (t : TxNo) (table : Table)
-    (bound : Bound) (visited kept : KeyedRows) (turn : Turn P)
-    → found_keyed (tree_of_filter bound) visited ≡ Some kept → state_of o h t.0 ≡ Active
-    → IsPermutation visited (rows_of (view o h t.0) table.name)
-    → shape_seen o h t.0 table.name ≡ Some table.shape
-    → Ends m new o h t table bound kept turn → Reads m new o h t table bound turn
-all_read m new o h t table bound visited kept turn so_far active whole seen (in_order rows order goes) =
-    let ordered = rows_of (view o h t.0) table.name in
-    let keyed = found_sorted (tree_of_filter bound) visited ordered kept order.sorted whole
-    (rows_of_ascend (view o h t.0) table.name) so_far order.order in
-    let is : rows_found o h t.0 table bound ≡ Some rows =
-    bare_some o h t.0 table bound order.sorted keyed ∙ ap Some (sym order.bare) in
-    finds rows is
-    (goes (machine_finds o h t table.name (filter_in bound.statement) table.shape rows active seen
-    (found_answered (filter_in bound.statement) (rows_seen o h t.0 table.name) rows is)))
-all_read m new o h t table bound visited kept turn so_far active whole seen (no_memory is stands) =
-    stops refusals.Memory refl is stands
+-- all records were visited: what was kept is what the machine finds
+module _ (o : Opening) (h : Entries) (t : TxNo) (table : Table) (bound : Bound) (visited kept : KeyedRows)
+    (so_far : found_keyed (tree_of_filter bound) visited ≡ Some kept) (active : state_of o h t.0 ≡ Active)
+    (whole : IsPermutation visited (rows_of (view o h t.0) table.name))
+    (seen : shape_seen o h t.0 table.name ≡ Some table.shape) where
+  rows_are : (rows : List Cells) → AreInOrder kept rows → rows_found o h t.0 table bound ≡ Some rows
+  rows_are rows order =
+      let ordered = rows_of (view o h t.0) table.name in
+      bare_some o h t.0 table bound order.sorted
+      (found_sorted (tree_of_filter bound) visited ordered kept order.sorted whole
+      (rows_of_ascend (view o h t.0) table.name) so_far order.order)
+      ∙ ap Some (sym order.bare)
+
+  pub found_all : IsWhatIsFound o h t table bound kept
+  found_all rows order =
+      machine_finds o h t table.name (filter_in bound.statement) table.shape rows active seen
+      (found_answered (filter_in bound.statement) (rows_seen o h t.0 table.name) rows (rows_are rows order))
+
+  all_read : {R P : Type 0} (m : Means R P) (new : R) (turn : Turn P)
+      → Ends m new o h t table bound kept turn → Reads m new o h t table bound turn
+  all_read m new turn (in_order rows order goes) = finds rows (rows_are rows order) (goes (found_all rows order))
+  all_read m new turn (no_memory is stands) = stops refusals.Memory refl is stands
 
 pub at_end : {R P : Type 0} (m : Means R P) (old mid new : R) (o : Opening) (h : Entries) (t : TxNo)
     (before : Reading P) (walk : Walk P) (turn : Turn P) → walk.table ≡ before.walk.table
@@ -165,10 +176,23 @@ pub at_end : {R P : Type 0} (m : Means R P) (old mid new : R) (o : Opening) (h :
     → Ends m new o h t walk.table before.bound before.kept.items turn
     → Reads m new o h t before.walk.table before.bound turn
 at_end {P = P} m old mid new o h t before walk turn same read goes seen ends =
-    all_read m new o h t before.walk.table before.bound read.visited before.kept.items turn read.kept
-    goes.0
+    all_read o h t before.walk.table before.bound read.visited before.kept.items read.kept goes.0
     (subst (λ (table : Table). IsPermutation read.visited (rows_of (view o h t.0) table.name)) same goes.1)
-    seen (subst (λ (table : Table). Ends m new o h t table before.bound before.kept.items turn) same ends)
+    seen m new turn
+    (subst (λ (table : Table). Ends m new o h t table before.bound before.kept.items turn) same ends)
+
+-- a reading that is at its end has kept what the machine finds
+pub read_all : {R P : Type 0} (m : Means R P) (old mid : R) (o : Opening) (h : Entries) (t : TxNo)
+    (before : Reading P) (walk : Walk P) → walk.table ≡ before.walk.table
+    → (read : HasRead m old o h t.0 before)
+    → GoesOn m mid o h t.0 walk read.visited (Ok visits.End)
+    → shape_seen o h t.0 before.walk.table.name ≡ Some before.walk.table.shape
+    → IsWhatIsFound o h t walk.table before.bound before.kept.items
+read_all m old mid o h t before walk same read goes seen =
+    subst (λ (table : Table). IsWhatIsFound o h t table before.bound before.kept.items) (sym same)
+    (found_all o h t before.walk.table before.bound read.visited before.kept.items read.kept goes.0
+    (subst (λ (table : Table). IsPermutation read.visited (rows_of (view o h t.0) table.name)) same goes.1)
+    seen)
 
 pub is_refused : {R P : Type 0} (m : Means R P) (new : R) (o : Opening) (h : Entries) (t : TxNo)
     (table : Table) (bound : Bound) (refusal : Refusal) (turn : Turn P)
@@ -197,12 +221,33 @@ told_on m old mid new o h t table bound rows turn adds goes stands is =
 
 -- ---- what is left
 
+-- what was found is told
+pub find_quiet : {R P : Type 0} (m : Means R P) (old new : R) (t : TxNo) (name : List ℕ)
+    (filter : Option Expr) (rows : List Cells) (result : Result (Unit {0}) Refusal)
+    → FindAdds m old new t name filter rows result → LeavesQuietly m old new
+    → (o : Opening) (h : Entries) → m.stands old o h → answer o h (Find t name filter) ≡ Rows rows
+    → IsQuietAt m old new o h
+find_quiet m old new t name filter rows (Ok x) adds crash o h stands is = record {
+  longer = entry (Find t name filter) (Rows rows) ∷ h;
+  stands = adds o h stands is;
+  quietly = with_entry (entry (Find t name filter) (Rows rows)) refl as_it_was;
+  crash = crash o h stands;
+}
+find_quiet m old new t name filter rows (Err refusal) adds crash o h stands is = record {
+  longer = entry (Find t name filter) (No refusal) ∷ h;
+  stands = (adds o h stands).1;
+  quietly = with_entry (entry (Find t name filter) (No refusal)) refl as_it_was;
+  crash = crash o h stands;
+}
+
 told_leaves : {R P : Type 0} (m : Means R P) (r : R) (t : ℕ) (given : Result (List Cells) EvalFault)
     → Leaves {P = P} m r r t (ended (answer_told given))
-told_leaves m r t (Ok rows) = record { frames = frames_none m r t None tt; ready = tt }
-told_leaves m r t (Err evals.Arithmetic) = record { frames = frames_none m r t None tt; ready = tt }
+told_leaves m r t (Ok rows) =
+    record { frames = frames_none m r t None tt; ready = tt; calm = calm_nothing m r }
+told_leaves m r t (Err evals.Arithmetic) =
+    record { frames = frames_none m r t None tt; ready = tt; calm = calm_nothing m r }
 told_leaves m r t (Err evals.Memory) =
-    record { frames = frames_none m r t (Some refusals.Memory) tt; ready = tt }
+    record { frames = frames_none m r t (Some refusals.Memory) tt; ready = tt; calm = calm_nothing m r }
 
 pub answer_leaves : {R P : Type 0} (m : Means R P) (r : R) (t : ℕ) (given : Result (List Cells) EvalFault)
     (told : Result Step StatementFault) (turn : Turn P) → told ≡ answer_told given → turn ≡ ended told
@@ -212,17 +257,27 @@ answer_leaves {P = P} m r t given told turn is same =
     (sym (same ∙ ap (λ (a : Result Step StatementFault). ended {P = P} a) is)) (told_leaves m r t given)
 
 pub refused_leaves : {R P : Type 0} (m : Means R P) (old new : R) (t : ℕ) (refusal : Refusal)
-    (turn : Turn P) → Frames m old new t (Some refusal) → turn ≡ ended (Err (Engine refusal))
-    → Leaves m old new t turn
-refused_leaves {P = P} m old new t refusal turn frames is =
-    subst (λ (turn : Turn P). Leaves m old new t turn) (sym is) (record { frames = frames; ready = tt })
+    (turn : Turn P) → Frames m old new t (Some refusal) → AreCalm m old new None
+    → turn ≡ ended (Err (Engine refusal)) → Leaves m old new t turn
+refused_leaves {P = P} m old new t refusal turn frames calm is =
+    subst (λ (turn : Turn P). Leaves m old new t turn) (sym is)
+    (record { frames = frames; ready = tt; calm = calm })
+
+-- a statement that is at its end rolls back no transaction
+pub ended_quiet : {R P : Type 0} (m : Means R P) (old new : R) (t : ℕ) (answer : Result Step StatementFault)
+    (turn : Turn P) → turn ≡ ended answer → AreQuiet m old new None
+    → AreQuiet m old new (rolled_back_at t turn.phase)
+ended_quiet {P = P} m old new t answer turn is quiet =
+    subst (λ (turn : Turn P). AreQuiet m old new (rolled_back_at t turn.phase)) (sym is) quiet
 
 -- a call before others that say what is left
 pub then_leaves : {R P : Type 0} (m : Means R P) (old mid new : R) (t : ℕ) (first : Option Refusal)
-    (turn : Turn P) → Frames m old mid t first → Leaves m mid new t turn → Leaves m old new t turn
-then_leaves m old mid new t first turn frames leaves = record {
+    (turn : Turn P) → Frames m old mid t first → AreCalm m old mid None → Leaves m mid new t turn
+    → Leaves m old new t turn
+then_leaves m old mid new t first turn frames calm leaves = record {
   frames = frames_then m old mid new t first (refusal_of turn.answer) frames leaves.frames;
   ready = leaves.ready;
+  calm = calm_then m old mid new (rolled_back_at t turn.phase) calm leaves.calm;
 }
 
 -- a reading that goes on behind another place of its table
@@ -237,38 +292,31 @@ reads_on m old new t before walk ready same way = record {
 
 pub keeps_leaves : {R P : Type 0} (m : Means R P) (old new : R) (t : ℕ) (before : Reading P)
     (row : Value × Cells) (phase : Phase P) (answer : Result Step StatementFault)
-    → Frames m old new t None → IsReadyToRead m new t before → KeepsRow before row phase answer
-    → Leaves m old new t (record { phase = phase; answer = answer })
-keeps_leaves {P = P} m old new t before row (phases.Reading after) (Ok More) frames ready keeps = record {
+    → Frames m old new t None → AreCalm m old new None → IsReadyToRead m new t before
+    → KeepsRow before row phase answer → Leaves m old new t (record { phase = phase; answer = answer })
+keeps_leaves {P = P} m old new t before row (phases.Reading after) (Ok More) frames calm ready keeps = record {
   frames = frames;
   ready = subst (λ (x : Walk P × Bound). IsReadyToRead m new t
       (record { walk = x.0; bound = x.1; kept = after.kept }))
       (sym (λ k. (keeps.0 k, keeps.1 k)))
       (record { way = ready.way; finds = ready.finds; typed = ready.typed });
+  calm = calm;
 }
-keeps_leaves m old new t before row phases.Ended (Err Arithmetic) frames ready keeps =
-    record { frames = frames; ready = tt }
-keeps_leaves m old new t before row phases.Ended (Err (Engine refusals.Memory)) frames ready keeps =
-    record { frames = frames_quiet m old new t (Some refusals.Memory) tt frames; ready = tt }
-keeps_leaves m old new t before row phase answer frames ready keeps = absurd keeps
+keeps_leaves m old new t before row phases.Ended (Err Arithmetic) frames calm ready keeps =
+    record { frames = frames; ready = tt; calm = calm }
+keeps_leaves m old new t before row phases.Ended (Err (Engine refusals.Memory)) frames calm ready keeps =
+    record { frames = frames_quiet m old new t (Some refusals.Memory) tt frames; ready = tt; calm = calm }
+keeps_leaves m old new t before row phase answer frames calm ready keeps = absurd keeps
 
--- ---- nearer to the end
+-- ---- the rows that are told
 
-pub keeps_nearer : {R P : Type 0} (m : Means R P) (old new : R) (t : ℕ) (before : Reading P)
-    (walk : Walk P) (row : Value × Cells) (phase : Phase P) (answer : Result Step StatementFault)
-    → Progresses m old new t before.walk walk (Ok (visits.Record (Some row)))
-    → KeepsRow (record { walk = walk; bound = before.bound; kept = before.kept }) row phase answer
-    → IsNearer m old new t before phase
-keeps_nearer {P = P} m old new t before walk row (phases.Reading after) (Ok More) progress keeps =
-    subst (λ (w : Walk P). m.still new t w.table w.place < m.still old t before.walk.table before.walk.place)
-    (sym keeps.0) progress
-keeps_nearer m old new t before walk row (phases.Reading after) answer progress keeps = absurd keeps
-keeps_nearer m old new t before walk row phase answer progress keeps = tt
-
-pub behind_nearer : {R P : Type 0} (m : Means R P) (old new : R) (t : ℕ) (before : Reading P)
-    (phase : Phase P) → is_reading phase ≡ false → IsNearer m old new t before phase
-behind_nearer m old new t before (phases.Reading after) behind = absurd cc
-behind_nearer m old new t before phase behind = tt
+pub behind_rows : {P : Type 0} (kept : KeyedRows) (rows : List Cells) (turn : Turn P)
+    → AreInOrder kept rows → IsBehind (length rows + 1) turn → IsBehind (length kept + 1) turn
+behind_rows kept rows turn order behind =
+    subst (λ (n : ℕ). IsBehind (n + 1) turn)
+    (ap (length {A = Cells}) order.bare
+    ∙ length-map {A = Value × Cells} {B = Cells} order.sorted (λ r. r.1)
+    ∙ length_permutation kept order.sorted order.order.same) behind
 
 -- ---- the filter faults, or memory is short
 

@@ -30,8 +30,8 @@ use Rattle.mg_calls.specs.FrameLaws.{frames_reads_nothing}
 use Rattle.mg_exec.proofs.FrameLemmas.{frames_quiet}
 use Rattle.mg_exec.specs.declared.phase.Phase.{Phase}
 use Rattle.mg_exec.specs.declared.phase.Phase.TheVariants as phases
-use Rattle.mg_exec.specs.Phases.{IsReady, StandsAt, is_finding, is_insert}
-use Rattle.mg_exec.specs.Starting.{refusal_at, HasRows, IsBegun, IsStarted, IsWhyNot, it_writes, no_table, not_told, not_bound, no_memory, may_not_write}
+use Rattle.mg_exec.specs.Phases.{IsReady, StandsAt, is_finding, is_insert, may_not_write}
+use Rattle.mg_exec.specs.Starting.{refusal_at, HasRows, IsBegun, IsStarted, IsWhyNot, it_writes, no_table, not_told, not_bound, no_memory}
 
 -- the keeper tells no table
 pub why_no_table : {R P : Type 0} (m : Means R P) (old : R) (o : Opening) (h : Entries) (t : ℕ)
@@ -55,7 +55,7 @@ why_not_bound o h t read_only s name size shape fault may seen binds =
 
 -- ---- where nothing refuses it, it is typed
 
-passed : (test : Bool) (fault : PlanFault) (next : Option PlanFault) → refused test fault next ≡ None
+pub passed : (test : Bool) (fault : PlanFault) (next : Option PlanFault) → refused test fault next ≡ None
     → (test ≡ false) × (next ≡ None)
 passed true fault next is = absurd cc
 passed false fault next is = (refl, is)
@@ -187,25 +187,23 @@ ready_at_start {P = P} m new t s name size table bound (phases.Reading reading) 
 ready_at_start m new t s name size table bound phase rows given binds begun = absurd begun
 
 -- a fault of the binding has no cause outside
+pub plan_frames : {R P : Type 0} (m : Means R P) (old new : R) (t : ℕ) (fault : PlanFault)
+    → Frames m old new t None → Frames m old new t (refusal_at {T = Phase P} (Err (of_plan fault)))
+plan_frames m old new t plans.ColumnExists frames = frames
+plan_frames m old new t (plans.TooMany limit) frames = frames
+plan_frames m old new t plans.NoColumn frames = frames
+plan_frames m old new t plans.OneKey frames = frames
+plan_frames m old new t plans.CountMismatch frames = frames
+plan_frames m old new t plans.KeyChange frames = frames
+plan_frames m old new t plans.TypeMismatch frames = frames
+plan_frames m old new t (plans.RowTooLong len limit) frames =
+    frames_quiet m old new t (Some (refusals.RowTooLong len limit)) tt frames
+plan_frames m old new t (plans.KeyTooLong len limit) frames = frames
+plan_frames m old new t plans.Memory frames = frames_quiet m old new t (Some refusals.Memory) tt frames
+
 pub unbound_frames : {R P : Type 0} (m : Means R P) (old new : R) (t : ℕ) (fault : PlanFault)
     (given : StatementFault) → given ≡ of_plan fault → Reads m old new None None
     → Frames m old new t (refusal_at {T = Phase P} (Err given))
 unbound_frames {P = P} m old new t fault given is reads =
     subst (λ (f : StatementFault). Frames m old new t (refusal_at {T = Phase P} (Err f))) (sym is)
-    (at fault)
-  where
-    frames : Frames m old new t None
-    frames = frames_reads_nothing m old new t None reads
-
-    at : (fault : PlanFault) → Frames m old new t (refusal_at {T = Phase P} (Err (of_plan fault)))
-    at plans.ColumnExists = frames
-    at (plans.TooMany limit) = frames
-    at plans.NoColumn = frames
-    at plans.OneKey = frames
-    at plans.CountMismatch = frames
-    at plans.KeyChange = frames
-    at plans.TypeMismatch = frames
-    at (plans.RowTooLong len limit) =
-        frames_quiet m old new t (Some (refusals.RowTooLong len limit)) tt frames
-    at (plans.KeyTooLong len limit) = frames
-    at plans.Memory = frames_quiet m old new t (Some refusals.Memory) tt frames
+    (plan_frames {P = P} m old new t fault (frames_reads_nothing m old new t None reads))

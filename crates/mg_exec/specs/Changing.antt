@@ -22,16 +22,16 @@ use Rattle.mg_exec.specs.declared.phase.Step.TheVariants as steps
 use Rattle.mg_exec.specs.declared.phase.Turn.{Turn}
 use Rattle.mg_plan.specs.declared.bound.Bound.{Bound}
 use Rattle.mg_exec.specs.Making.{MakesNone, writes_made}
-use Rattle.mg_exec.specs.Phases.{ended}
+use Rattle.mg_exec.specs.Phases.{ended, rolled_back}
 
 -- where a statement stands after a step that writes: it goes on, or stays where its write waits; at
--- its end the count of its writes is answered
+-- its end the count of its writes is answered, or a refusal
 abbrev pub turned : {P : Type 0} → Changing → Wrote → Turn P
 turned c wrote.More = record { phase = phases.Changing c; answer = Ok steps.More }
 turned c wrote.Done = ended (Ok (steps.Done (Count c.count)))
 turned c (wrote.Waits on) = record { phase = phases.Changing c; answer = Err (Engine (Waits on)) }
 turned c (wrote.Refused refusal) = ended (Err (Engine refusal))
-turned c (wrote.RolledBack refusal) = ended (Err (Engine refusal))
+turned c (wrote.RolledBack refusal) = rolled_back refusal
 
 -- these writes are left, of so many
 abbrev pub with_left : Writes → ℕ → Changing

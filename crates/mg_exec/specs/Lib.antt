@@ -2,8 +2,11 @@ pub mod Phases
 pub mod Points
 pub mod Making
 pub mod Changing
+pub mod NewTables
+pub mod Creating
 pub mod Selecting
 pub mod Reading
 pub mod Starting
 pub mod Running
+pub mod Progress
 pub mod Statements

@@ -1,24 +1,28 @@
 -- Where a statement stands, and what the next call of it asks.
-use Rattle.std.specs.Prelude.{◌≡◌, ℕ, Bool, true, false, Option, Some, None, Result, Err}
+use Rattle.std.specs.Prelude.{◌≡◌, ◌≢◌, ℕ, ◌&&◌, Bool, true, false, Option, Some, None, Result, Err}
 use Rattle.mg_expr.specs.declared.expr.Expr.{Expr}
 use Rattle.mg_sql.specs.declared.statement.Statement.{Statement}
 use Rattle.mg_sql.specs.declared.statement.Statement.TheVariants as statements
-use Rattle.mg_sql.specs.Plain.{Plain, Insert, Update, Delete, Totals, Select, plain_of, tree_in}
+use Rattle.mg_sql.specs.Plain.{Plain, Table as Creation, Insert, Update, Delete, Totals, Select, plain_of, tree_in}
 use Rattle.mg_plan.specs.declared.bound.Bound.{Bound}
 use Rattle.mg_plan.specs.Statements.{is_typed}
 use Rattle.mg_model.specs.declared.opening.Opening.{Opening}
 use Rattle.mg_model.specs.declared.refusal.Refusal.{Refusal}
 use Rattle.mg_model.specs.declared.table.Table.{Table}
+use Rattle.mg_model.specs.Catalog.{catalog_name}
 use Rattle.mg_model.specs.Changes.{KeyedRows}
 use Rattle.mg_model.specs.History.{Entries}
 use Rattle.mg_records.specs.Meaning.{Means}
+use Rattle.mg_records.specs.Writing.{FitsPages, IsNewShape}
 use Rattle.mg_rows.specs.declared.statement_fault.StatementFault.{StatementFault}
 use Rattle.mg_rows.specs.declared.statement_fault.StatementFault.TheVariants.{Engine}
 use Rattle.mg_rows.specs.Found.{found_keyed}
 use Rattle.mg_calls.specs.Frames.{Frames}
+use Rattle.mg_calls.specs.Quiet.{AreCalm}
 use Rattle.mg_calls.specs.Steps.{AreReady}
 use Rattle.mg_calls.specs.Walks.{HasCome, IsOnItsWay}
 use Rattle.mg_exec.specs.declared.phase.Inserting.{Inserting}
+use Rattle.mg_exec.specs.declared.phase.NewTable.{NewTable}
 use Rattle.mg_exec.specs.declared.phase.Reading.{Reading}
 use Rattle.mg_exec.specs.declared.phase.Step.{Step}
 use Rattle.mg_exec.specs.declared.phase.Phase.{Phase}
@@ -50,12 +54,17 @@ is_finding (Update table sets filter) = true
 is_finding (Delete table filter) = true
 is_finding s = is_select s
 
--- it writes rows of its table
+-- it writes rows of its table, or makes one
 abbrev pub is_writing : Plain → Bool
+is_writing (Creation name columns) = true
 is_writing (Insert table columns values) = true
 is_writing (Update table sets filter) = true
 is_writing (Delete table filter) = true
 is_writing s = false
+
+-- a statement that would write in a transaction that may not
+abbrev pub may_not_write : Bool → Plain → Bool
+may_not_write read_only s = read_only && is_writing s
 
 -- ---- what the next call asks
 
@@ -76,13 +85,22 @@ pub record IsReadyToRead {R P : Type 0} (m : Means R P) (r : R) (t : ℕ) (readi
   pub finds : is_finding (plain_of reading.bound.statement) ≡ true
   pub typed : IsTypedFor reading.walk.table reading.bound
 
+-- the table has a name and a shape that a new one may have, and fits the keeper's pages
+pub record IsReadyToCreate {R P : Type 0} (m : Means R P) (r : R) (table : NewTable) : Type 0 where
+  pub other : table.name ≢ catalog_name
+  pub lawful : IsNewShape table.shape
+  pub pages : FitsPages m r table.shape
+
 abbrev pub IsReady : {R P : Type 0} → Means R P → R → ℕ → Phase P → Type 0
 IsReady m r t (phases.Saving name) = Unit {0}
 IsReady m r t (phases.Returning name) = Unit {0}
 IsReady m r t (phases.Inserting i) = IsReadyToInsert m r t i
 IsReady m r t (phases.Reading reading) = IsReadyToRead m r t reading
 IsReady m r t (phases.Changing c) = AreReady m r t c.writes
+IsReady m r t (phases.Creating table) = IsReadyToCreate m r table
+IsReady m r t (phases.Retrying table) = IsReadyToCreate m r table
 IsReady m r t phases.Ended = Unit {0}
+IsReady m r t phases.RolledBack = Unit {0}
 
 -- ---- what stands of a reading
 
@@ -98,10 +116,16 @@ abbrev pub StandsAt : {R P : Type 0} → Means R P → R → Opening → Entries
 StandsAt m r o h t (phases.Reading reading) = HasRead m r o h t reading
 StandsAt m r o h t phase = Unit {0}
 
--- it is a reading
-abbrev pub is_reading : {P : Type 0} → Phase P → Bool
-is_reading (phases.Reading reading) = true
-is_reading phase = false
+-- the statement is at its end
+abbrev pub is_over : {P : Type 0} → Phase P → Bool
+is_over phases.Ended = true
+is_over phases.RolledBack = true
+is_over phase = false
+
+-- the transaction that is rolled back with it
+abbrev pub rolled_back_at : {P : Type 0} → ℕ → Phase P → Option ℕ
+rolled_back_at t phases.RolledBack = Some t
+rolled_back_at t phase = None
 
 -- ---- answers
 
@@ -114,7 +138,12 @@ refusal_of answer = None
 abbrev pub ended : {P : Type 0} → Result Step StatementFault → Turn P
 ended answer = record { phase = phases.Ended; answer = answer }
 
--- what a step leaves: the statement is ready for the next one
+-- it is at its end since its transaction is rolled back, which this refusal gave up
+abbrev pub rolled_back : {P : Type 0} → Refusal → Turn P
+rolled_back refusal = record { phase = phases.RolledBack; answer = Err (Engine refusal) }
+
+-- what a step leaves whatever the history: the statement is ready for the next one
 pub record Leaves {R P : Type 0} (m : Means R P) (old new : R) (t : ℕ) (turn : Turn P) : Type 0 where
   pub frames : Frames m old new t (refusal_of turn.answer)
   pub ready : IsReady m new t turn.phase
+  pub calm : AreCalm m old new (rolled_back_at t turn.phase)

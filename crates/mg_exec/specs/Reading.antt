@@ -1,5 +1,5 @@
 -- The steps of a statement that finds rows.
-use Rattle.std.specs.Prelude.{◌≡◌, ◌⊎◌, ℕ, ◌<◌, Bool, false, List, ◌∷◌, map, Option, Some, None, Result, Ok, Err}
+use Rattle.std.specs.Prelude.{◌≡◌, ◌⊎◌, ℕ, Bool, false, List, ◌∷◌, map, Option, Some, None, Result, Ok, Err}
 use Rattle.mg_base.specs.declared.numbers.TxNo.{TxNo}
 use Rattle.mg_value.specs.declared.value.Value.{Value}
 use Rattle.mg_expr.specs.declared.fault.EvalFault.{EvalFault}
@@ -67,6 +67,11 @@ find_of t table bound = Find t table.name (filter_in bound.statement)
 abbrev pub rows_found : Opening → Entries → ℕ → Table → Bound → Option (List Cells)
 rows_found o h t table bound = found (tree_in (filter_in bound.statement)) (rows_seen o h t table.name)
 
+-- the rows that a reading kept are, in the order of their keys, what the machine finds
+abbrev pub IsWhatIsFound : Opening → Entries → TxNo → Table → Bound → KeyedRows → Type 0
+IsWhatIsFound o h t table bound kept = (rows : List Cells) → AreInOrder kept rows
+    → answer o h (find_of t table bound) ≡ Rows rows
+
 -- A statement that has told which rows it found goes on with them: a SELECT answers by them, and any
 -- other makes its writes of them.
 pub data GoesOnWith {R P : Type 0} (m : Means R P) (new : R) (o : Opening) (h : Entries) (t : TxNo)
@@ -113,9 +118,3 @@ pub data Reads {R P : Type 0} (m : Means R P) (new : R) (o : Opening) (h : Entri
   -- a call is refused, or memory is short, and no event is given
   stops : (refusal : Refusal) → IsRefused o h t.0 refusal → turn ≡ ended (Err (Engine refusal))
       → m.stands new o h → Reads m new o h t table bound turn
-
--- a reading that goes on is nearer to its end
-abbrev pub IsNearer : {R P : Type 0} → Means R P → R → R → ℕ → Reading P → Phase P → Type 0
-IsNearer m old new t before (phases.Reading after) =
-    m.still new t after.walk.table after.walk.place < m.still old t before.walk.table before.walk.place
-IsNearer m old new t before phase = Unit {0}

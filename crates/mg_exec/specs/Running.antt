@@ -1,5 +1,5 @@
 -- A step of any statement.
-use Rattle.std.specs.Prelude.{◌≡◌, ℕ, [], Option, Some, None, Result, Err}
+use Rattle.std.specs.Prelude.{◌≡◌, Bool, true, false, [], Option, Some, None, Result, Err}
 use Rattle.mg_base.specs.declared.numbers.TxNo.{TxNo}
 use Rattle.mg_model.specs.declared.opening.Opening.{Opening}
 use Rattle.mg_model.specs.declared.table.Table.{Table}
@@ -12,33 +12,35 @@ use Rattle.mg_exec.specs.declared.phase.Phase.TheVariants as phases
 use Rattle.mg_exec.specs.declared.phase.Step.{Step}
 use Rattle.mg_exec.specs.declared.phase.Turn.{Turn}
 use Rattle.mg_exec.specs.Changing.{Changes, StartsToWrite}
+use Rattle.mg_exec.specs.Creating.{Creates, Retries}
 use Rattle.mg_exec.specs.Phases.{HasRead, ended}
 use Rattle.mg_exec.specs.Points.{Saves, Returns}
-use Rattle.mg_exec.specs.Reading.{IsNearer, Reads}
+use Rattle.mg_exec.specs.Reading.{Reads}
 
 -- A step of a statement, by where it stands.
 abbrev pub Goes : {R P : Type 0} → Means R P → R → R → Opening → Entries → TxNo → Phase P → Turn P
     → Type 0
-Goes m old new o h t (phases.Saving name) turn =
-    (turn ≡ ended turn.answer) × Saves m new o h t name turn.answer
-Goes m old new o h t (phases.Returning name) turn =
-    (turn ≡ ended turn.answer) × Returns m new o h t name turn.answer
+Goes m old new o h t (phases.Saving name) turn = Saves m new o h t name turn
+Goes m old new o h t (phases.Returning name) turn = Returns m new o h t name turn
 Goes m old new o h t (phases.Inserting i) turn = StartsToWrite m new o h t i.table i.bound [] turn
 Goes m old new o h t (phases.Reading reading) turn = HasRead m old o h t.0 reading
     → Reads m new o h t reading.walk.table reading.bound turn
 Goes m old new o h t (phases.Changing c) turn = Changes m new o h t c turn
+Goes m old new o h t (phases.Creating table) turn = Creates m new o h t table turn
+Goes m old new o h t (phases.Retrying table) turn = Retries m new o h t table turn
 Goes m old new o h t phases.Ended turn = (turn ≡ ended (Err NothingHeld)) × m.stands new o h
+Goes m old new o h t phases.RolledBack turn = (turn ≡ ended (Err NothingHeld)) × m.stands new o h
 
 -- nothing is done for a statement that is at its end already
 abbrev pub IsPastEnd : {R P : Type 0} → Means R P → R → R → Phase P → Result Step StatementFault → Type 0
 IsPastEnd m old new phases.Ended answer = (answer ≡ Err NothingHeld) × (new ≡ old)
+IsPastEnd m old new phases.RolledBack answer = (answer ≡ Err NothingHeld) × (new ≡ old)
 IsPastEnd m old new phase answer = Unit {0}
 
--- a statement that still reads after a step is nearer to the end of its reading
-abbrev pub Nears : {R P : Type 0} → Means R P → R → R → ℕ → Phase P → Phase P → Type 0
-Nears m old new t (phases.Reading reading) after = IsNearer m old new t reading after
-Nears m old new t before (phases.Reading reading) = ⊥
-Nears m old new t before after = Unit {0}
+-- its transaction is rolled back
+abbrev pub is_rolled_back_at : {P : Type 0} → Phase P → Bool
+is_rolled_back_at phases.RolledBack = true
+is_rolled_back_at phase = false
 
 -- the table of a statement, as long as it runs; none for one that has none
 abbrev pub table_at : {P : Type 0} → Phase P → Option Table

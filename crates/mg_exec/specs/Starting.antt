@@ -1,8 +1,8 @@
 -- What is tested of a statement before a row is read.
-use Rattle.std.specs.Prelude.{◌≡◌, ◌⊎◌, ℕ, ◌&&◌, Bool, true, false, List, [], ◌∷◌, Option, Some, None, Result, Ok, Err}
+use Rattle.std.specs.Prelude.{◌≡◌, ◌⊎◌, ℕ, Bool, true, false, List, [], ◌∷◌, Option, Some, None, Result, Ok, Err}
 use Rattle.mg_base.specs.declared.numbers.TxNo.{TxNo}
 use Rattle.mg_value.specs.declared.shape.Shape.{Shape}
-use Rattle.mg_sql.specs.Plain.{Plain, plain_of, RollbackTo, Savepoint, Insert, Update, Delete, Totals, Select}
+use Rattle.mg_sql.specs.Plain.{Plain, plain_of, RollbackTo, Savepoint, Table as Creation, Insert, Update, Delete, Totals, Select}
 use Rattle.mg_plan.specs.declared.bound.Bound.{Bound}
 use Rattle.mg_plan.specs.declared.fault.PlanFault.{PlanFault}
 use Rattle.mg_plan.specs.Refusing.{first_refusal, IsBoundAs}
@@ -23,7 +23,8 @@ use Rattle.mg_rows.specs.Faults.{of_plan}
 use Rattle.mg_calls.specs.Writes.{Comes}
 use Rattle.mg_exec.specs.declared.phase.Phase.{Phase}
 use Rattle.mg_exec.specs.declared.phase.Phase.TheVariants as phases
-use Rattle.mg_exec.specs.Phases.{StandsAt, is_insert, is_writing}
+use Rattle.mg_exec.specs.NewTables.{CreatesTable, LooksForTable}
+use Rattle.mg_exec.specs.Phases.{StandsAt, is_insert, may_not_write}
 
 -- a statement that has rows of a table
 abbrev pub HasRows : Plain → Type 0
@@ -34,8 +35,9 @@ HasRows (Totals table totals filter) = Unit {0}
 HasRows (Select table values filter sorted) = Unit {0}
 HasRows s = ⊥
 
--- a statement that runs in steps here
+-- a statement that runs in steps here; CREATE TABLE has lengths that the grammar has
 abbrev pub Runs : Plain → Type 0
+Runs (Creation name columns) = CreatesTable (Creation name columns)
 Runs (RollbackTo name) = Unit {0}
 Runs (Savepoint name) = Unit {0}
 Runs s = HasRows s
@@ -48,10 +50,6 @@ IsBegun table bound (phases.Reading reading) = (is_insert (plain_of bound.statem
     × (reading.walk.table ≡ table) × (reading.walk.place ≡ None) × (reading.bound ≡ bound)
     × (reading.kept.items ≡ [])
 IsBegun table bound phase = ⊥
-
--- a statement that would write in a transaction that may not
-abbrev pub may_not_write : Bool → Plain → Bool
-may_not_write read_only s = read_only && is_writing s
 
 -- Why a statement that has looked is refused before a row is read, in the order of the tests.
 pub data IsWhyNot (o : Opening) (h : Entries) (t : ℕ) (read_only : Bool) (s : Plain) (name : List ℕ)
@@ -113,6 +111,8 @@ Starts m old new o h t read_only (Savepoint name) size result =
     (result ≡ Ok (phases.Saving name)) × m.stands new o h
 Starts m old new o h t read_only (RollbackTo name) size result =
     (result ≡ Ok (phases.Returning name)) × m.stands new o h
+Starts m old new o h t read_only (Creation name columns) size result =
+    LooksForTable m new o h t read_only (Creation name columns) name size result
 Starts m old new o h t read_only (Insert table columns values) size result =
     Looks m new o h t read_only (Insert table columns values) table size result
 Starts m old new o h t read_only (Update table sets filter) size result =

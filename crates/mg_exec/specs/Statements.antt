@@ -2,9 +2,11 @@
 use Rattle.std.specs.Prelude.{◌≡◌, ℕ, ◌&&◌, Bool, true, false, List, [], ◌∷◌, ◌++◌, length, Option, Some, None, Result, Ok, Err, cond}
 use Rattle.mg_base.specs.declared.numbers.TxNo.{TxNo}
 use Rattle.mg_expr.specs.declared.fault.EvalFault.{EvalFault}
-use Rattle.mg_sql.specs.Plain.{Plain, plain_of, RollbackTo, Savepoint, Insert, Update, Delete, Totals, Select}
+use Rattle.mg_sql.specs.declared.statement.Def.{Def}
+use Rattle.mg_sql.specs.Plain.{Plain, plain_of, RollbackTo, Savepoint, Table as Creation, Insert, Update, Delete, Totals, Select}
 use Rattle.mg_plan.specs.declared.bound.Bound.{Bound}
 use Rattle.mg_plan.specs.Refusing.{first_refusal, IsBoundAs}
+use Rattle.mg_plan.specs.Shapes.{shape_of}
 use Rattle.mg_model.specs.declared.answer.Answer.TheVariants.{Fine, No, Rows}
 use Rattle.mg_model.specs.declared.change.Point.TheVariants.{SavepointNamed}
 use Rattle.mg_model.specs.declared.event.Event.{Event}
@@ -17,14 +19,14 @@ use Rattle.mg_model.specs.Answers.{is_active}
 use Rattle.mg_model.specs.Changes.{Cells}
 use Rattle.mg_model.specs.Effects.{is_its}
 use Rattle.mg_model.specs.History.{Entries, Entry, entry}
-use Rattle.mg_model.specs.Legal.{IsLawful}
 use Rattle.mg_model.specs.Machine.{state_of, steps, has_point, is_of}
 use Rattle.mg_records.specs.declared.write.Write.{Write}
 use Rattle.mg_records.specs.Adding.{IsRefused}
 use Rattle.mg_records.specs.Meaning.{Means}
 use Rattle.mg_records.specs.Reading.{shape_seen}
 use Rattle.mg_records.specs.TakingBack.{is_given_up}
-use Rattle.mg_records.specs.Writing.{event_of}
+use Rattle.mg_records.specs.Writing.{event_of, rows_made}
+use Rattle.mg_value.specs.declared.shape.Shape.{Shape}
 use Rattle.mg_rows.specs.declared.fault.NewRowFault.{NewRowFault}
 use Rattle.mg_rows.specs.declared.outcome.Outcome.TheVariants as outcomes
 use Rattle.mg_rows.specs.declared.statement_fault.StatementFault.{StatementFault}
@@ -37,10 +39,13 @@ use Rattle.mg_exec.specs.declared.phase.Step.TheVariants.{More, Done}
 use Rattle.mg_exec.specs.declared.phase.Turn.{Turn}
 use Rattle.mg_exec.specs.Making.{MakesNone, writes_made}
 use Rattle.mg_calls.specs.Frames.{Frames}
-use Rattle.mg_exec.specs.Phases.{HasRead, IsReady, is_insert}
+use Rattle.mg_calls.specs.Quiet.{IsQuietly}
+use Rattle.mg_calls.specs.Tables.{AreInserted, AreLawful}
+use Rattle.mg_calls.specs.Undoing.{is_waiting}
+use Rattle.mg_exec.specs.NewTables.{is_taken}
+use Rattle.mg_exec.specs.Phases.{HasRead, IsReady, is_insert, is_over, may_not_write}
 use Rattle.mg_exec.specs.Reading.{find_of, rows_found}
 use Rattle.mg_exec.specs.Selecting.{Answers, answer_told}
-use Rattle.mg_exec.specs.Starting.{may_not_write}
 
 -- A statement that a transaction is to run: whether it may not write, and the page size.
 pub record Asked : Type 0 where
@@ -51,6 +56,7 @@ pub record Asked : Type 0 where
 
 -- the table that it names
 abbrev pub table_named : Plain → List ℕ
+table_named (Creation name columns) = name
 table_named (Insert table columns values) = table
 table_named (Update table sets filter) = table
 table_named (Delete table filter) = table
@@ -66,6 +72,17 @@ pub record IsBoundTo (o : Opening) (looked : Entries) (a : Asked) (table : Table
   pub seen : shape_seen o looked a.t.0 table.name ≡ Some table.shape
   pub passes : first_refusal table.shape.columns table.shape.key a.size a.statement ≡ None
   pub binds : IsBoundAs table.shape.columns a.statement bound
+
+-- It makes this table, which it may: nothing refuses it, and its transaction saw none of the name when
+-- it had looked.
+pub record IsToMake (o : Opening) (looked : Entries) (a : Asked) (name : List ℕ) (shape : Shape)
+    : Type 0 where
+  pub columns : List Def
+  pub statement : a.statement ≡ Creation name columns
+  pub may : may_not_write a.read_only a.statement ≡ false
+  pub free : is_taken name (shape_seen o looked a.t.0 name) ≡ false
+  pub passes : first_refusal [] 0 a.size a.statement ≡ None
+  pub shaped : shape ≡ shape_of columns
 
 -- ---- its entries, the newest first
 
@@ -101,6 +118,13 @@ pub record IsWriting (a : Asked) (table : Table) (bound : Bound) (left : List Wr
   pub makes : writes_made table bound rows ≡ Ok made
   pub counts : count ≡ length made
   pub written : HasWritten a.t table.name (before_mark a table bound rows) made left given
+
+-- CREATE TABLE has set its mark, and tried to make its table: each time a row of it waited. A try begins
+-- with the first of the rows.
+pub data HasTried (t : TxNo) (rows : List Cells) (before : Entries) : Entries → Type 0 where
+  mark_set : HasTried t rows before (entry (events.Mark t) Fine ∷ before)
+  tried : {given more : Entries} (on : TxNo) → HasTried t rows before given
+      → AreInserted t rows (Some (Waits on)) more → HasTried t rows before (more ++ given)
 
 -- an event was to take the transaction back and was refused; the transaction is rolled back then, if the
 -- refusal is one of those that give it up
@@ -174,10 +198,26 @@ pub data ComesTo (o : Opening) (looked h : Entries) (a : Asked) (given : Entries
       → ComesTo o looked h a given answer
   undone : (table : Table) (bound : Bound) (first : Write) (left : List Write) (count : ℕ)
       (wrote undoing before : Entries) (refusal last : Refusal) → IsBoundTo o looked a table bound
-      → IsWriting a table bound (first ∷ left) count wrote
+      → IsWriting a table bound (first ∷ left) count wrote → is_waiting refusal ≡ false
       → h ≡ undoing ++ before → IsUndoneBy o before a.t refusal last undoing
       → given ≡ undoing ++ entry (event_of a.t table.name first) (No refusal) ∷ wrote
       → answer ≡ Err (Engine last) → ComesTo o looked h a given answer
+  -- CREATE TABLE: its mark is refused; all rows came that say its table; or one is refused, and all since
+  -- the mark is undone
+  no_mark : (name : List ℕ) (shape : Shape) (refusal : Refusal) → IsToMake o looked a name shape
+      → given ≡ entry (events.Mark a.t) (No refusal) ∷ its_look a → answer ≡ Err (Engine refusal)
+      → ComesTo o looked h a given answer
+  created : (name : List ℕ) (shape : Shape) (before more : Entries) → IsToMake o looked a name shape
+      → HasTried a.t (rows_made name shape) (its_look a) before
+      → AreInserted a.t (rows_made name shape) None more → given ≡ more ++ before
+      → answer ≡ Ok (Done outcomes.Fine) → ComesTo o looked h a given answer
+  not_created : (name : List ℕ) (shape : Shape) (before more undoing then_ : Entries)
+      (refusal last : Refusal) → IsToMake o looked a name shape
+      → HasTried a.t (rows_made name shape) (its_look a) before
+      → AreInserted a.t (rows_made name shape) (Some refusal) more → is_waiting refusal ≡ false
+      → h ≡ undoing ++ then_ → IsUndoneBy o then_ a.t refusal last undoing
+      → given ≡ undoing ++ (more ++ before) → answer ≡ Err (Engine last)
+      → ComesTo o looked h a given answer
 
 -- ---- where it stands
 
@@ -195,38 +235,45 @@ IsAt m r o looked h a given (phases.Reading reading) = (is_insert a.statement �
 IsAt m r o looked h a given (phases.Changing c) = (bound : Bound)
     × IsBoundTo o looked a c.writes.table bound
     × IsWriting a c.writes.table bound c.writes.left.items c.count given
+IsAt m r o looked h a given (phases.Creating table) =
+    IsToMake o looked a table.name table.shape × (given ≡ its_look a)
+IsAt m r o looked h a given (phases.Retrying table) = IsToMake o looked a table.name table.shape
+    × HasTried a.t (rows_made table.name table.shape) (its_look a) given
 IsAt m r o looked h a given phases.Ended = ⊥
+IsAt m r o looked h a given phases.RolledBack = ⊥
 
--- an answer after which a statement goes on: there is more to do, or its write waits
-abbrev pub LetsGoOn : Result Step StatementFault → Type 0
-LetsGoOn (Ok More) = Unit {0}
-LetsGoOn (Err (Engine (Waits on))) = Unit {0}
-LetsGoOn answer = ⊥
+-- a statement that goes on is answered so, where a step gave these entries: there is more to do, or the
+-- event that came last waits
+abbrev pub LetsGoOn : Entries → Result Step StatementFault → Type 0
+LetsGoOn more (Ok More) = Unit {0}
+LetsGoOn (e ∷ more) (Err (Engine (Waits on))) = e.answer ≡ No (Waits on)
+LetsGoOn more answer = ⊥
 
--- it stands somewhere and goes on, or is at its end and comes to its answer
+-- It stands somewhere, or is at its end and comes to its answer. Where it says that its transaction is
+-- rolled back, that is so.
 abbrev pub StandsSo : {R P : Type 0} → Means R P → R → Opening → Entries → Entries → Asked → Entries
     → Phase P → Result Step StatementFault → Type 0
 StandsSo m r o looked h a given phases.Ended answer = ComesTo o looked h a given answer
-StandsSo m r o looked h a given phase answer = IsAt m r o looked h a given phase × LetsGoOn answer
-
--- each of these entries is lawful behind those before it
-abbrev pub AreLawful : Opening → Entries → Entries → Type 0
-AreLawful o h [] = Unit {0}
-AreLawful o h (e ∷ more) = IsLawful o (more ++ h) e × AreLawful o h more
+StandsSo m r o looked h a given phases.RolledBack answer =
+    ComesTo o looked h a given answer × (is_active (state_of o h a.t.0) ≡ false)
+StandsSo m r o looked h a given phase answer = IsAt m r o looked h a given phase
 
 -- A step of a statement gives these further entries, and it stands so.
 pub record Gives {R P : Type 0} (m : Means R P) (new : R) (o : Opening) (looked h : Entries) (a : Asked)
     (given : Entries) (turn : Turn P) : Type 0 where
   pub more : Entries
   pub lawful : AreLawful o h more
+  pub quietly : IsQuietly h (more ++ h)
   pub stands : m.stands new o (more ++ h)
   pub so : StandsSo m new o looked (more ++ h) a (more ++ given) turn.phase turn.answer
+  pub goes_on : is_over turn.phase ≡ false → LetsGoOn more turn.answer
 
 -- Where a statement begins: it has given its `Look`, if it has a table, and stands at its first step.
 pub record Begins {R P : Type 0} (m : Means R P) (new : R) (o : Opening) (h : Entries) (a : Asked)
     (phase : Phase P) : Type 0 where
   pub given : Entries
   pub lawful : AreLawful o h given
+  pub quietly : IsQuietly h (given ++ h)
   pub stands : m.stands new o (given ++ h)
   pub at : IsAt m new o (given ++ h) (given ++ h) a given phase
 

@@ -1,14 +1,16 @@
 //! The writes of a statement.
 
-ghost use Rattle.std.specs.Prelude.{◌≡◌, All, Some, false};
+ghost use Rattle.std.specs.Prelude.{◌≡◌, ◌+◌, All, Some, length};
 ghost use Rattle.mg_model.specs.declared.opening.Opening.{Opening};
 ghost use Rattle.mg_model.specs.History.{Entries};
 ghost use Rattle.mg_records.specs.Writing.{FitsShape};
 ghost use Rattle.mg_calls.specs.Steps.{AreReady};
-ghost use Rattle.mg_exec.specs.Phases.{IsTypedFor, Leaves, is_reading};
+ghost use Rattle.mg_calls.specs.Quiet.{AreQuiet};
+ghost use Rattle.mg_exec.specs.Phases.{IsTypedFor, Leaves, rolled_back_at};
+ghost use Rattle.mg_exec.specs.Progress.{IsBehind, MakesOneWrite};
 ghost use Rattle.mg_exec.specs.Changing.{turned as turned_by, BeginsToWrite, Changes, StartsToWrite};
 
-use crate::ending::ended;
+use crate::ending::{ended, refused, rolled_back};
 use crate::making::make_writes;
 use crate::phase::{Changing, Phase, Step, Turn};
 use mg_base::TxNo;
@@ -30,22 +32,13 @@ pub fn turned<P: Drop>(changing: Changing, wrote: Wrote) -> Turn<P>
             phase: Phase::Changing(changing),
             answer: Ok(Step::More),
         },
-        Wrote::Done => Turn {
-            phase: Phase::Ended,
-            answer: Ok(Step::Done(Outcome::Count(changing.count))),
-        },
+        Wrote::Done => ended(Ok(Step::Done(Outcome::Count(changing.count)))),
         Wrote::Waits(on) => Turn {
             phase: Phase::Changing(changing),
             answer: Err(StatementFault::Engine(Refusal::Waits { on })),
         },
-        Wrote::Refused(refusal) => Turn {
-            phase: Phase::Ended,
-            answer: Err(StatementFault::Engine(refusal)),
-        },
-        Wrote::RolledBack(refusal) => Turn {
-            phase: Phase::Ended,
-            answer: Err(StatementFault::Engine(refusal)),
-        },
+        Wrote::Refused(refusal) => refused(refusal),
+        Wrote::RolledBack(refusal) => rolled_back(refusal),
     }
 }
 
@@ -56,8 +49,9 @@ where
     requires ready { AreReady R.meaning r.old t.0 changing.writes }
     ensures changes { (o : Opening) (h : Entries) → R.meaning.stands r.old o h
         → Changes R.meaning r.new o h t changing result }
-    ensures behind { is_reading result.phase ≡ false }
+    ensures fewer { MakesOneWrite changing result }
     ensures leaves { Leaves R.meaning r.old r.new t.0 result }
+    ensures quiet { AreQuiet R.meaning r.old r.new (rolled_back_at t.0 result.phase) }
 {
     let mut changing = changing;
     let wrote = write_next(r, t, &mut changing.writes);
@@ -78,8 +72,9 @@ where
     requires fits { All (FitsShape table.shape) made.items }
     ensures begins { (o : Opening) (h : Entries) → R.meaning.stands r.old o h
         → BeginsToWrite R.meaning r.new o h t table made.items result }
-    ensures behind { is_reading result.phase ≡ false }
+    ensures behind { IsBehind (length made.items) result }
     ensures leaves { Leaves R.meaning r.old r.new t.0 result }
+    ensures quiet { AreQuiet R.meaning r.old r.new (rolled_back_at t.0 result.phase) }
 {
     let mut changing = Changing {
         count: made.len() as u64,
@@ -104,8 +99,9 @@ where
     requires typed { IsTypedFor table bound.now }
     ensures starts { (o : Opening) (h : Entries) → R.meaning.stands r.old o h
         → StartsToWrite R.meaning r.new o h t table bound.now found.now result }
-    ensures behind { is_reading result.phase ≡ false }
+    ensures behind { IsBehind (length found.now + 1) result }
     ensures leaves { Leaves R.meaning r.old r.new t.0 result }
+    ensures quiet { AreQuiet R.meaning r.old r.new (rolled_back_at t.0 result.phase) }
 {
     match make_writes(alloc, &table, bound, found) {
         Ok(made) => begin_to_write(r, t, table, made),

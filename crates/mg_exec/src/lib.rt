@@ -4,23 +4,25 @@
 //! what a step came to, and the steps of each kind of statement: the tests before a row is read
 //! (`look_and_test`), the reading (`read`), the writes that are made of the rows found (`make_writes`)
 //! and written one a step (`start_to_write`, `change`), what a SELECT answers (`answer`), savepoints
-//! (`save`, `go_back`).
+//! (`save`, `go_back`), and CREATE TABLE, which is one step (`look_for_table`, `create`, `retry`).
 //!
 //! A statement looks, finds its rows, sets its mark and writes, each an event of the history. What a
 //! statement gives of events, and what it comes to, is said in `specs/Statements`: `IsAt` where it
 //! stands that has given these entries, `Gives` what a step adds, `ComesTo` its ends. The other
 //! definitions say the steps of each kind: `Starting`, `Reading`, `Selecting`, `Making`, `Changing`,
-//! `Points`, and `Running` for a step of any; `Phases` has what the next call asks. What is computed of
-//! rows is said in `mg_rows`.
+//! `Points`, `NewTables` and `Creating`, and `Running` for a step of any; `Phases` has what the next call
+//! asks, and `Progress` how a statement comes nearer to its end. What is computed of rows is said in
+//! `mg_rows`.
 //!
 //! Invariant: a statement that goes on is ready for its next step (`IsReady`), and calls for other
 //! transactions between two steps leave it so, and where it stands.
 //! Below: `mg_calls`, whose writes undo a refused statement, `mg_plan` and `mg_rows`. Above: sessions
 //! and scripts.
-//! Not here: the beginning and the end of transactions, and CREATE TABLE.
+//! Not here: the beginning and the end of transactions.
 #![tactic(auto)]
 
 mod changing;
+mod creating;
 mod ending;
 mod laws;
 mod making;
@@ -33,10 +35,11 @@ mod selecting;
 mod starting;
 
 pub use changing::{change, start_to_write};
+pub use creating::{create, look_for_table, retry, turned_with};
 pub use laws::statements_go_on_beside_others;
 pub use making::make_writes;
 pub use parts::{filter_of, is_insert, is_select, is_writing};
-pub use phase::{Changing, Inserting, Phase, Reading, Step, Turn};
+pub use phase::{Changing, Inserting, NewTable, Phase, Reading, Step, Turn};
 pub use points::{go_back, save};
 pub use reading::read;
 pub use run::Run;

@@ -35,12 +35,15 @@ pub fn is_select(s: &Statement) -> bool
     matches!(s, Statement::Totals { .. } | Statement::Select { .. })
 }
 
-/// Tells whether a statement writes rows of its table.
+/// Tells whether a statement writes rows of its table, or makes one.
 pub fn is_writing(s: &Statement) -> bool
     ensures { result ≡ is_writing_test (plain_of s.now) }
 {
     matches!(
         s,
-        Statement::Insert { .. } | Statement::Update { .. } | Statement::Delete { .. }
+        Statement::Table { .. }
+            | Statement::Insert { .. }
+            | Statement::Update { .. }
+            | Statement::Delete { .. }
     )
 }

@@ -4,7 +4,7 @@ use mg_calls::{Walk, Writes};
 use mg_model::Table;
 use mg_plan::Bound;
 use mg_rows::{Outcome, StatementFault};
-use mg_value::{Key, Name, Row};
+use mg_value::{Key, Name, Row, Shape};
 
 /// What a step of a statement came to.
 #[derive(Debug, Drop)]
@@ -40,6 +40,13 @@ pub struct Changing {
     pub count: u64,
 }
 
+/// A table that CREATE TABLE makes.
+#[derive(Drop)]
+pub struct NewTable {
+    pub name: Name,
+    pub shape: Shape,
+}
+
 /// Where a statement stands.
 #[derive(Drop)]
 pub enum Phase<P> {
@@ -50,8 +57,14 @@ pub enum Phase<P> {
     Inserting(Inserting),
     Reading(Reading<P>),
     Changing(Changing),
+    /// It is to set its mark and make a table.
+    Creating(NewTable),
+    /// It has set its mark, and the making of its table waits.
+    Retrying(NewTable),
     /// It is at its end.
     Ended,
+    /// It is at its end, and its transaction is rolled back: it could not be undone.
+    RolledBack,
 }
 
 /// Where a statement stands after a step, and what the step is answered.

@@ -1,15 +1,21 @@
 //! The steps of a statement that finds rows.
 
-ghost use Rattle.std.specs.Prelude.{◌≡◌, IfOk, Some, None, Err, false};
+ghost use Rattle.std.specs.Prelude.{◌≡◌, ◌+◌, IfOk, Some, None, Err, length};
+ghost use Rattle.mg_model.specs.declared.answer.Answer.TheVariants.{Rows as Found};
+ghost use Rattle.mg_model.specs.declared.event.Event.TheVariants.{Find};
 ghost use Rattle.mg_model.specs.declared.opening.Opening.{Opening};
+ghost use Rattle.mg_model.specs.Answers.{answer as answer_to};
 ghost use Rattle.mg_model.specs.History.{Entries};
 ghost use Rattle.mg_sql.specs.Plain.{tree_in};
 ghost use Rattle.mg_records.specs.Keeping.{TablesStay, refusal_in};
 ghost use Rattle.mg_records.specs.Reading.{FindAdds};
 ghost use Rattle.mg_rows.specs.Found.{Keeps, passes_filter};
 ghost use Rattle.mg_calls.specs.Frames.{Frames};
-ghost use Rattle.mg_exec.specs.Phases.{HasRead, IsReadyToRead, IsTypedFor, Leaves, ended as ended_by, filter_in, is_reading};
-ghost use Rattle.mg_exec.specs.Reading.{AreInOrder, Ends, KeepsRow, GoesOnWith, Reads, IsNearer};
+ghost use Rattle.mg_calls.specs.Quiet.{AreCalm, AreQuiet, IsQuietAt};
+ghost use Rattle.mg_exec.specs.Phases.{HasRead, IsReadyToRead, IsTypedFor, Leaves, ended as ended_by, filter_in, rolled_back_at};
+ghost use Rattle.mg_exec.specs.Progress.{IsBehind, Nears};
+ghost use Rattle.mg_exec.specs.Reading.{AreInOrder, Ends, IsWhatIsFound, KeepsRow, GoesOnWith, Reads};
+ghost use Rattle.mg_exec.specs.declared.phase.Phase.TheVariants as phases;
 
 use crate::changing::start_to_write;
 use crate::ending::{ended, refused};
@@ -91,8 +97,9 @@ where
     requires typed { IsTypedFor table bound.now }
     ensures goes { (o : Opening) (h : Entries) → R.meaning.stands r.old o h
         → GoesOnWith R.meaning r.new o h t table bound.now rows.now result }
-    ensures behind { is_reading result.phase ≡ false }
+    ensures behind { IsBehind (length rows.now + 1) result }
     ensures leaves { Leaves R.meaning r.old r.new t.0 result }
+    ensures quiet { AreQuiet R.meaning r.old r.new (rolled_back_at t.0 result.phase) }
 {
     if is_select(&bound.statement) {
         return ended(as_answer(answer(alloc, &table, bound, rows.as_slice())));
@@ -111,6 +118,10 @@ fn tell<R: Records>(
     ensures adds { FindAdds R.meaning r.old r.new t table.now.name (filter_in s.now) rows.now result }
     ensures stays { TablesStay R.meaning r.old r.new None }
     ensures frames { Frames R.meaning r.old r.new t.0 (refusal_in result) }
+    ensures calm { AreCalm R.meaning r.old r.new None }
+    ensures quiet { (o : Opening) (h : Entries) → R.meaning.stands r.old o h
+        → answer_to o h (Find t table.now.name (filter_in s.now)) ≡ Found rows.now
+        → IsQuietAt R.meaning r.old r.new o h }
 {
     let none = None;
     r.found(t, &table.name, filter_of(s, &none), rows)
@@ -132,8 +143,10 @@ where
     requires typed { IsTypedFor table bound.now }
     ensures ends { (o : Opening) (h : Entries) → R.meaning.stands r.old o h
         → Ends R.meaning r.new o h t table bound.now kept.items result }
-    ensures behind { is_reading result.phase ≡ false }
+    ensures behind { IsBehind (length kept.items + 1) result }
     ensures leaves { Leaves R.meaning r.old r.new t.0 result }
+    ensures quiet { (o : Opening) (h : Entries) → R.meaning.stands r.old o h
+        → IsWhatIsFound o h t table bound.now kept.items → IsQuietAt R.meaning r.old r.new o h }
 {
     let rows = match in_order(alloc, kept) {
         Ok(rows) => rows,
@@ -157,8 +170,11 @@ where
     requires ready { IsReadyToRead R.meaning r.old t.0 reading }
     ensures ends { (o : Opening) (h : Entries) → R.meaning.stands r.old o h
         → Ends R.meaning r.new o h t reading.walk.table reading.bound reading.kept.items result }
-    ensures behind { is_reading result.phase ≡ false }
+    ensures behind { IsBehind (length reading.kept.items + 1) result }
     ensures leaves { Leaves R.meaning r.old r.new t.0 result }
+    ensures quiet { (o : Opening) (h : Entries) → R.meaning.stands r.old o h
+        → IsWhatIsFound o h t reading.walk.table reading.bound reading.kept.items
+        → IsQuietAt R.meaning r.old r.new o h }
 {
     let Reading { walk, bound, kept } = reading;
     let Walk { table, place: _ } = walk;
@@ -178,8 +194,10 @@ where
     ensures reads { (o : Opening) (h : Entries) → R.meaning.stands r.old o h
         → HasRead R.meaning r.old o h t.0 reading
         → Reads R.meaning r.new o h t reading.walk.table reading.bound result }
-    ensures nearer { IsNearer R.meaning r.old r.new t.0 reading result.phase }
+    ensures nears { Nears R.meaning r.old r.new t.0 (phases.Reading reading) result }
     ensures leaves { Leaves R.meaning r.old r.new t.0 result }
+    ensures quiet { (o : Opening) (h : Entries) → R.meaning.stands r.old o h
+        → HasRead R.meaning r.old o h t.0 reading → IsQuietAt R.meaning r.old r.new o h }
 {
     let mut reading = reading;
     match visit_next(r, t, &mut reading.walk) {

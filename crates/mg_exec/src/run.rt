@@ -1,18 +1,21 @@
 //! A statement that runs in steps.
 
-ghost use Rattle.std.specs.Prelude.{◌≡◌, [], false, Ok, Err, IfOk, MatchResult};
+ghost use Rattle.std.specs.Prelude.{◌≡◌, ◌+◌, [], true, None, Ok, Err, IfOk, MatchResult, length};
 ghost use Rattle.std.specs.Option.{option_copied};
 ghost use Rattle.mg_model.specs.declared.opening.Opening.{Opening};
 ghost use Rattle.mg_model.specs.History.{Entries};
 ghost use Rattle.mg_sql.specs.Plain.{plain_of};
 ghost use Rattle.mg_calls.specs.Frames.{Frames};
-ghost use Rattle.mg_exec.specs.Phases.{IsReady, IsReadyToInsert, Leaves, is_reading};
+ghost use Rattle.mg_calls.specs.Quiet.{AreQuiet, IsQuietAt};
+ghost use Rattle.mg_exec.specs.Phases.{IsReady, IsReadyToInsert, Leaves, StandsAt, rolled_back_at};
+ghost use Rattle.mg_exec.specs.Progress.{IsBehind, Nears};
 ghost use Rattle.mg_exec.specs.Changing.{StartsToWrite};
 ghost use Rattle.mg_exec.specs.Starting.{Runs, Starts, refusal_at};
-ghost use Rattle.mg_exec.specs.Running.{Goes, IsPastEnd, Nears, table_at, place_at};
+ghost use Rattle.mg_exec.specs.Running.{Goes, IsPastEnd, is_rolled_back_at, table_at, place_at};
 ghost use Rattle.mg_exec.specs.Statements.{Asked, Begins, Gives, IsAt};
 
 use crate::changing::{change, start_to_write};
+use crate::creating::{create, look_for_table, retry};
 use crate::ending::ended;
 use crate::phase::{Inserting, Phase, Step, Turn};
 use crate::points::{go_back, save};
@@ -36,7 +39,7 @@ pub struct Run<R: Records> {
     pub phase: Phase<R::Place>,
 }
 
-/// Where a statement begins. One that has a table looks, and is tested.
+/// Where a statement begins. One that has a table, or makes one, looks, and is tested.
 fn begin<R: Records>(
     r: &mut R,
     alloc: Global,
@@ -45,15 +48,20 @@ fn begin<R: Records>(
     s: &Statement,
     size: u32,
 ) -> Result<Phase<R::Place>, StatementFault>
+where
+    R::Place: Drop,
     requires runs { Runs (plain_of s.now) }
+    requires pages { R.meaning.is_size r.old size ≡ true }
     ensures starts { (o : Opening) (h : Entries) → R.meaning.stands r.old o h
         → Starts R.meaning r.old r.new o h t read_only (plain_of s.now) size result }
     ensures ready { IfOk result (λ phase. IsReady R.meaning r.new t.0 phase) }
     ensures frames { Frames R.meaning r.old r.new t.0 (refusal_at result) }
+    ensures quiet { AreQuiet R.meaning r.old r.new None }
 {
     match s {
         Statement::Savepoint { name } => Ok(Phase::Saving(*name)),
         Statement::RollbackTo { name } => Ok(Phase::Returning(*name)),
+        Statement::Table { name, .. } => look_for_table(r, alloc, t, read_only, s, name, size),
         Statement::Insert { table, .. } => look_and_test(r, alloc, t, read_only, s, table, size),
         Statement::Update { table, .. } => look_and_test(r, alloc, t, read_only, s, table, size),
         Statement::Delete { table, .. } => look_and_test(r, alloc, t, read_only, s, table, size),
@@ -70,8 +78,9 @@ where
     requires ready { IsReadyToInsert R.meaning r.old t.0 i }
     ensures starts { (o : Opening) (h : Entries) → R.meaning.stands r.old o h
         → StartsToWrite R.meaning r.new o h t i.table i.bound [] result }
-    ensures behind { is_reading result.phase ≡ false }
+    ensures behind { IsBehind 1 result }
     ensures leaves { Leaves R.meaning r.old r.new t.0 result }
+    ensures quiet { AreQuiet R.meaning r.old r.new (rolled_back_at t.0 result.phase) }
 {
     let Inserting { table, bound } = i;
     start_to_write(r, alloc, t, table, &bound, &[])
@@ -84,29 +93,35 @@ where
     requires ready { IsReady R.meaning r.old t.0 phase }
     ensures goes { (o : Opening) (h : Entries) → R.meaning.stands r.old o h
         → Goes R.meaning r.old r.new o h t phase result }
-    ensures nears { Nears R.meaning r.old r.new t.0 phase result.phase }
+    ensures nears { Nears R.meaning r.old r.new t.0 phase result }
     ensures ended { IsPastEnd R.meaning r.old r.new phase result.answer }
     ensures leaves { Leaves R.meaning r.old r.new t.0 result }
+    ensures quiet { (o : Opening) (h : Entries) → R.meaning.stands r.old o h
+        → StandsAt R.meaning r.old o h t.0 phase → IsQuietAt R.meaning r.old r.new o h }
 {
     match phase {
-        Phase::Saving(name) => ended(save(r, t, &name)),
-        Phase::Returning(name) => ended(go_back(r, t, &name)),
+        Phase::Saving(name) => save(r, t, &name),
+        Phase::Returning(name) => go_back(r, t, &name),
         Phase::Inserting(i) => insert(r, alloc, t, i),
         Phase::Reading(reading) => read(r, alloc, t, reading),
         Phase::Changing(changing) => change(r, t, changing),
+        Phase::Creating(table) => create(r, t, table),
+        Phase::Retrying(table) => retry(r, t, table),
         Phase::Ended => ended(Err(StatementFault::NothingHeld)),
+        Phase::RolledBack => ended(Err(StatementFault::NothingHeld)),
     }
 }
 
 impl<R: Records> Run<R> {
     /// Begins a statement of a transaction; `size` is the page size in bytes, and `read_only` says
-    /// whether the transaction may not write. A statement that has a table looks, and is tested with
-    /// all that depends on no row. Of statements that begin or end a transaction there is none.
+    /// whether the transaction may not write. A statement that has a table, or makes one, looks, and is
+    /// tested with all that depends on no row. Of statements that begin or end a transaction there is
+    /// none. The lengths of a new table's texts are those that the grammar has.
     ///
     /// # Errors
     ///
-    /// `ReadOnly`, `NoTable`, or the first refusal of its binding, in this order; or a refusal of the
-    /// keeper.
+    /// `ReadOnly`; `NoTable`, or `TableExists` where it makes one; or the first refusal of its binding,
+    /// in this order; or a refusal of the keeper.
     pub fn start(
         r: &mut R,
         alloc: Global,
@@ -115,7 +130,10 @@ impl<R: Records> Run<R> {
         s: &Statement,
         size: u32,
     ) -> Result<Run<R>, StatementFault>
+    where
+        R::Place: Drop,
         requires runs { Runs (plain_of s.now) }
+        requires pages { R.meaning.is_size r.old size ≡ true }
         ensures starts { (o : Opening) (h : Entries) → R.meaning.stands r.old o h
             → MatchResult result
             (λ run. Starts R.meaning r.old r.new o h t read_only (plain_of s.now) size (Ok run.phase))
@@ -130,6 +148,7 @@ impl<R: Records> Run<R> {
         ensures ready { IfOk result (λ run. IsReady R.meaning r.new t.0 run.phase) }
         ensures number { IfOk result (λ run. run.t ≡ t) }
         ensures frames { Frames R.meaning r.old r.new t.0 (refusal_at result) }
+        ensures quiet { AreQuiet R.meaning r.old r.new None }
     {
         match begin(r, alloc, t, read_only, s, size) {
             Ok(phase) => Ok(Run { alloc, t, phase }),
@@ -143,7 +162,9 @@ impl<R: Records> Run<R> {
     /// # Errors
     ///
     /// `Waits` leaves the statement where it is, and it can be stepped again. Every other refusal has
-    /// undone it and is its end; `NothingHeld` where it is at its end already.
+    /// undone it and is its end; where the undoing itself was refused for want of pages or memory, or at
+    /// a page that can't be read or is damaged, the transaction is rolled back (`is_rolled_back`).
+    /// `NothingHeld` where it is at its end already.
     pub fn step(&mut self, r: &mut R) -> Result<Step, StatementFault>
     where
         R::Place: Drop,
@@ -153,10 +174,14 @@ impl<R: Records> Run<R> {
             → Gives R.meaning r.new o looked h a given
             (record { phase = self.new.phase; answer = result }) }
         ensures ended { IsPastEnd R.meaning r.old r.new self.old.phase result }
-        ensures nears { Nears R.meaning r.old r.new self.old.t.0 self.old.phase self.new.phase }
+        ensures nears { Nears R.meaning r.old r.new self.old.t.0 self.old.phase
+            (record { phase = self.new.phase; answer = result }) }
         ensures number { self.new.t ≡ self.old.t }
         ensures leaves { Leaves R.meaning r.old r.new self.old.t.0
             (record { phase = self.new.phase; answer = result }) }
+        ensures quiet { (o : Opening) (looked h given : Entries) (a : Asked) → R.meaning.stands r.old o h
+            → a.t ≡ self.old.t → IsAt R.meaning r.old o looked h a given self.old.phase
+            → IsQuietAt R.meaning r.old r.new o h }
     {
         let phase = replace(&mut self.phase, Phase::Ended);
         let Turn { phase, answer } = go(r, self.alloc, self.t, phase);
@@ -164,7 +189,15 @@ impl<R: Records> Run<R> {
         answer
     }
 
-    /// The table of the statement, as long as it runs: None for SAVEPOINT and ROLLBACK TO.
+    /// The statement ended with its transaction, which is rolled back.
+    pub fn is_rolled_back(&self) -> bool
+        ensures { result ≡ is_rolled_back_at self.now.phase }
+    {
+        matches!(self.phase, Phase::RolledBack)
+    }
+
+    /// The table of the statement, as long as it runs: None for CREATE TABLE, SAVEPOINT and ROLLBACK
+    /// TO.
     pub fn table(&self) -> Option<&Table>
         ensures { option_copied result ≡ table_at self.now.phase }
     {

@@ -1,14 +1,15 @@
 //! What is tested of a statement before a row is read.
 
-ghost use Rattle.std.specs.Prelude.{◌≡◌, ℕ, Some, IfOk};
+ghost use Rattle.std.specs.Prelude.{◌≡◌, ℕ, Some, None, IfOk};
 ghost use Rattle.mg_base.specs.declared.transaction.TxState.TheVariants.{Active};
 ghost use Rattle.mg_model.specs.declared.opening.Opening.{Opening};
 ghost use Rattle.mg_model.specs.History.{Entries};
 ghost use Rattle.mg_model.specs.Machine.{state_of};
 ghost use Rattle.mg_sql.specs.Plain.{plain_of};
 ghost use Rattle.mg_calls.specs.Frames.{Frames};
-ghost use Rattle.mg_exec.specs.Phases.{IsReady, StandsAt};
-ghost use Rattle.mg_exec.specs.Starting.{HasRows, IsBegun, Looks, Tests, may_not_write, refusal_at};
+ghost use Rattle.mg_calls.specs.Quiet.{AreQuiet};
+ghost use Rattle.mg_exec.specs.Phases.{IsReady, StandsAt, may_not_write};
+ghost use Rattle.mg_exec.specs.Starting.{HasRows, IsBegun, Looks, Tests, refusal_at};
 
 use crate::parts::{is_insert, is_writing};
 use crate::phase::{Inserting, Phase, Reading};
@@ -23,7 +24,7 @@ use mg_value::Name;
 use std::alloc::Global;
 
 /// Tells whether a statement would write in a transaction that may not.
-fn is_barred(read_only: bool, s: &Statement) -> bool
+pub(crate) fn is_barred(read_only: bool, s: &Statement) -> bool
     ensures { result ≡ may_not_write read_only (plain_of s.now) }
 {
     read_only && is_writing(s)
@@ -61,6 +62,7 @@ fn test<R: Records>(
         → Tests R.meaning r.new o h t read_only (plain_of s.now) name.now size result }
     ensures ready { IfOk result (λ phase. IsReady R.meaning r.new t.0 phase) }
     ensures frames { Frames R.meaning r.old r.new t.0 (refusal_at result) }
+    ensures quiet { AreQuiet R.meaning r.old r.new None }
 {
     if is_barred(read_only, s) {
         return Err(StatementFault::Engine(Refusal::ReadOnly));
@@ -90,6 +92,7 @@ pub fn look_and_test<R: Records>(
         → Looks R.meaning r.new o h t read_only (plain_of s.now) name.now size result }
     ensures ready { IfOk result (λ phase. IsReady R.meaning r.new t.0 phase) }
     ensures frames { Frames R.meaning r.old r.new t.0 (refusal_at result) }
+    ensures quiet { AreQuiet R.meaning r.old r.new None }
 {
     match r.look(t) {
         Ok(()) => test(r, alloc, t, read_only, s, name, size),

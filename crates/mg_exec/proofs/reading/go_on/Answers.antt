@@ -7,7 +7,9 @@ use Rattle.mg_exec.specs.Changing.{StartsToWrite}
 use Rattle.mg_exec.specs.Phases.{ended}
 use Rattle.mg_exec.specs.Selecting.{Answers}
 use Rattle.mg_exec.specs.Reading.{answers, writes}
-use Rattle.mg_exec.proofs.ReadLemmas.{answer_leaves}
+use Rattle.mg_calls.specs.QuietLaws.{quiet_nothing}
+use Rattle.mg_exec.proofs.ProgressLemmas.{told_at_end}
+use Rattle.mg_exec.proofs.ReadLemmas.{answer_leaves, ended_quiet}
 use Rattle.mg_exec.proofs.reading.go_on.Goals as goal
 
 pub returns-then-is_select-clause-goes : goal.returns-then-is_select-clause-goes
@@ -28,3 +30,12 @@ returns-clause-goes g c = λ o h stands.
     (subst (λ (rows : List Cells). StartsToWrite g.R.Records.meaning c.start_to_write.new.r o h c.args.t
     c.args.table c.args.bound.now rows c.start_to_write.result) c.as_slice-2.ensures
     (c.start_to_write.ensures.starts o h stands))
+
+pub returns-then-is_select-clause-behind : goal.returns-then-is_select-clause-behind
+returns-then-is_select-clause-behind g c = λ more.
+    absurd (told_at_end c.answer.result c.as_answer.result c.ended.result c.as_answer.ensures c.ended.ensures more)
+
+pub returns-then-is_select-clause-quiet : goal.returns-then-is_select-clause-quiet
+returns-then-is_select-clause-quiet g c =
+    ended_quiet g.R.Records.meaning c.args.r.now c.args.r.now c.args.t.0 c.as_answer.result
+    c.ended.result c.ended.ensures (quiet_nothing g.R.Records.meaning g.met.R.Records.crashes c.args.r.now)

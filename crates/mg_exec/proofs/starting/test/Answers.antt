@@ -1,4 +1,6 @@
 use Rattle.mg_sql.specs.Plain.{plain_of}
+use Rattle.std.proofs.Common.{Some, None}
+use Rattle.mg_calls.specs.QuietLaws.{quiet_nothing, quiet_reading}
 use Rattle.mg_exec.proofs.StartLemmas.{barred, untold, unbound, unbound_frames, started, ready_at_start}
 use Rattle.mg_exec.proofs.starting.test.Goals as goal
 
@@ -38,3 +40,24 @@ pub returns-in-Err-bind-clause-frames : goal.returns-in-Err-bind-clause-frames
 returns-in-Err-bind-clause-frames g c =
     unbound_frames g.R.Records.meaning c.args.r.now c.table.new.self c.args.t.0 c.in-Err-bind.fault
     c.from.result c.from.ensures c.in-Ok.ensures.reads
+
+-- ---- quiet
+
+pub returns-then-is_barred-clause-quiet : goal.returns-then-is_barred-clause-quiet
+returns-then-is_barred-clause-quiet g c =
+    quiet_nothing g.R.Records.meaning g.met.R.Records.crashes c.args.r.now
+
+pub returns-in-Err-clause-quiet : goal.returns-in-Err-clause-quiet
+returns-in-Err-clause-quiet g c =
+    quiet_reading g.R.Records.meaning c.args.r.now c.table.new.self (Some c.in-Err.refusal) None
+    c.in-Err.ensures.reads c.in-Err.ensures.crash c.in-Err.ensures.sessions
+
+pub returns-in-Ok-bind-clause-quiet : goal.returns-in-Ok-bind-clause-quiet
+returns-in-Ok-bind-clause-quiet g c =
+    quiet_reading g.R.Records.meaning c.args.r.now c.table.new.self None None
+    c.in-Ok.ensures.reads c.in-Ok.ensures.crash c.in-Ok.ensures.sessions
+
+pub returns-in-Err-bind-clause-quiet : goal.returns-in-Err-bind-clause-quiet
+returns-in-Err-bind-clause-quiet g c =
+    quiet_reading g.R.Records.meaning c.args.r.now c.table.new.self None None
+    c.in-Ok.ensures.reads c.in-Ok.ensures.crash c.in-Ok.ensures.sessions
