@@ -7,7 +7,7 @@ use Rattle.mg_base.specs.declared.memory.Memory.{Memory}
 use Rattle.mg_model.specs.declared.table.Table.{Table}
 use Rattle.mg_value.specs.declared.value.Value.{Value}
 use Rattle.mg_undo.specs.declared.changes.Was.{Was}
-use Rattle.mg_works.specs.Works.{AllMayBeGiven, AreApart, IsNowhere, IsPlaceOf, IsWork, MayBeGiven, Working, given_in, has_asked, going_back_to, with_change, with_point, with_step_back, with_table, with_work, without_change, without_tables}
+use Rattle.mg_works.specs.Works.{AllMayBeGiven, AreApart, IsNowhere, IsPlaceOf, IsWork, MayBeGiven, Working, given_in, has_asked, going_back_to, with_change, with_point, with_step_back, with_table, with_work, unasked, without_change, without_tables}
 use Rattle.mg_works.specs.WorksLaws.{none_untouched, nowhere_none, set_is_with, with_apart}
 
 -- what a call makes of a work keeps its number and its session, and is lawful
@@ -39,6 +39,13 @@ point_keeps name = record {
 
 pub changing_keeps : (table : ℕ) (key : Value) (was : Was) → Keeps (with_change table key was)
 changing_keeps table key was = record {
+  number = λ w. refl;
+  session = λ w. refl;
+  lawful = λ w is. record { session_below = is.session_below; lawful = is.lawful };
+}
+
+pub unasking_keeps : Keeps unasked
+unasking_keeps = record {
   number = λ w. refl;
   session = λ w. refl;
   lawful = λ w is. record { session_below = is.session_below; lawful = is.lawful };

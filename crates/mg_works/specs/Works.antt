@@ -110,6 +110,10 @@ with_table table w = record w { tables = table ∷ w.tables }
 abbrev pub has_asked : Working → Working
 has_asked w = record w { asked = true }
 
+-- the commit is no longer asked for
+abbrev pub unasked : Working → Working
+unasked w = record w { asked = false }
+
 -- ---- what always holds
 
 -- A table that may be given: its columns are no more than tables have, and its first page lies below the

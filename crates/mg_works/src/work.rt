@@ -4,7 +4,7 @@ ghost use Rattle.std.specs.Prelude.{◌≡◌, ◌==◌, ◌∷◌, None, Some, 
 ghost use Rattle.std.specs.Option.{option_copied};
 ghost use Rattle.mg_model.specs.Changes.{same_name};
 ghost use Rattle.mg_undo.specs.Undo.{given_as, has_point, take_back as taken_back};
-ghost use Rattle.mg_works.specs.Works.{begun, given_in, going_back_to, has_asked as asked_for, with_change, with_point, with_step_back, with_table, without_change, without_tables};
+ghost use Rattle.mg_works.specs.Works.{begun, given_in, going_back_to, has_asked as asked_for, with_change, with_point, with_step_back, with_table, unasked, without_change, without_tables};
 
 use mg_base::{Memory, TxNo};
 use mg_model::{Mode, Table};
@@ -174,6 +174,13 @@ impl Work {
         ensures { self.new ≡ asked_for self.old }
     {
         self.asked = true;
+    }
+
+    /// The commit is no longer asked for.
+    pub fn unask(&mut self)
+        ensures { self.new ≡ unasked self.old }
+    {
+        self.asked = false;
     }
 
     /// The table of a name that was given last.

@@ -2,7 +2,7 @@
 
 ghost use Rattle.std.specs.Prelude.{◌≡◌, ◌<◌, ◌++◌, ◌∷◌, [], None, Some, false, IfSome, IfNone, OnOk, OnErr};
 ghost use Rattle.std.specs.Option.{option_copied};
-ghost use Rattle.mg_works.specs.Works.{IsNowhere, IsPlaceOf, MayBeGiven, begun, given_to, given_back, going_back_to, has_asked, has_savepoint, has_session as has_session_in, with_change, with_point, with_step_back, with_table, with_work, without_change, without_tables, without_work, work_of};
+ghost use Rattle.mg_works.specs.Works.{IsNowhere, IsPlaceOf, MayBeGiven, begun, given_to, given_back, going_back_to, has_asked, has_savepoint, has_session as has_session_in, with_change, with_point, with_step_back, with_table, with_work, unasked, without_change, without_tables, without_work, work_of};
 ghost use Rattle.mg_undo.specs.Undo.{given_as};
 
 use crate::work::Work;
@@ -202,6 +202,15 @@ impl Works {
     {
         if let Some(place) = find(&self.items, t) {
             self.items[place].ask();
+        }
+    }
+
+    /// The commit of a transaction is no longer asked for.
+    pub fn unask(&mut self, t: TxNo)
+        ensures { self.new ≡ with_work t.0 unasked self.old }
+    {
+        if let Some(place) = find(&self.items, t) {
+            self.items[place].unask();
         }
     }
 }

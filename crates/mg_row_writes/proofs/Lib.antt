@@ -1,0 +1,4 @@
+mod StoredLemmas
+mod FindLemmas
+mod ChangeLemmas
+mod LayLemmas

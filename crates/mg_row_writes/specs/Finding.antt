@@ -1,0 +1,78 @@
+-- What a write finds at its key.
+use Rattle.std.specs.Prelude.{◌≡◌, ℕ, Bool, List, [], Option, None, Some}
+use Rattle.mg_base.specs.Disk.{Meaning}
+use Rattle.mg_base.specs.declared.numbers.RecId.{RecId}
+use Rattle.mg_base.specs.declared.numbers.TxNo.{TxNo}
+use Rattle.mg_base.specs.declared.transaction.TxState.{TxState}
+use Rattle.mg_chain.specs.Refusals.{RefusesChain}
+use Rattle.mg_image.specs.Form.{Pages, Row}
+use Rattle.mg_model.specs.declared.table.Table.{Table}
+use Rattle.mg_pool.specs.declared.pool.Pool.{Pool}
+use Rattle.mg_snap.specs.Live.{State}
+use Rattle.mg_space.specs.declared.fault.SpaceFault.{SpaceFault}
+use Rattle.mg_value.specs.declared.value.Value.{Value}
+use Rattle.mg_seek.specs.Refusals.{RefusesRecord}
+use Rattle.mg_seek.specs.Speaking.{IsSpeaker, RefusesTableRows}
+use Rattle.mg_seek.specs.Versions.{wants}
+use Rattle.mg_seek.specs.Views.{IsObstacle, IsRowSeen}
+use Rattle.mg_seek.specs.declared.views.Obstacle.{Obstacle}
+use Rattle.mg_seek.specs.declared.whose.Wanted.TheVariants.{Living, SeenBy}
+use Rattle.mg_row_writes.specs.declared.finding.RowAt.{RowAt}
+
+-- ---- obstacles
+
+-- the obstacle of a record, none where there is no record
+abbrev pub IsInWay : (ℕ → TxState) → State → ℕ → Pages → Option RecId → Option Obstacle → Type 0
+IsInWay state live t view None found = found ≡ None
+IsInWay state live t view (Some rec) found = IsObstacle state live t view rec found
+
+-- why the obstacle of a record is not found, but for faults of the cache
+abbrev pub RefusesWay : {D L : Type 0} → Meaning D → Pool D L → ℕ → Pages → Option RecId → SpaceFault → Type 0
+RefusesWay m store limit view None fault = ⊥
+RefusesWay m store limit view (Some rec) fault = RefusesChain m store [] limit view rec fault
+
+-- The obstacle of a key: that of the record that speaks for it.
+pub record IsObstacleAt (state : ℕ → TxState) (live : State) (t : ℕ) (view : Pages) (table : Table)
+    (key : Value) (found : Option Obstacle) : Type 0 where
+  pub speaks : Option RecId
+  pub spoken : IsSpeaker state live view table key speaks
+  pub in_way : IsInWay state live t view speaks found
+
+-- Why the obstacle of a key is not found, but for faults of the cache.
+pub data RefusesObstacleAt {D L : Type 0} (m : Meaning D) (store : Pool D L) (limit : ℕ) (view : Pages)
+    (state : ℕ → TxState) (live : State) (table : Table) (key : Value) (fault : SpaceFault) : Type 0 where
+  way_unspoken : RefusesTableRows m store [] limit view (wants state live Living) table fault
+      → RefusesObstacleAt m store limit view state live table key fault
+  way_unread : (rec : Option RecId) → IsSpeaker state live view table key rec
+      → RefusesWay m store limit view rec fault
+      → RefusesObstacleAt m store limit view state live table key fault
+
+-- ---- rows
+
+-- the row that a transaction sees of a record, none where there is no record
+abbrev pub IsSeenIn : (ℕ → TxState) → State → TxNo → Pages → Table → Option RecId → Option Row → Type 0
+IsSeenIn state live t view table None row = row ≡ None
+IsSeenIn state live t view table (Some rec) row = IsRowSeen state live t view table rec row
+
+-- why the row of a record is not read, but for faults of the cache
+abbrev pub RefusesSeen : {D L : Type 0} → Meaning D → Pool D L → ℕ → Pages → (ℕ → Bool) → Table → Option RecId
+    → SpaceFault → Type 0
+RefusesSeen m store limit view takes table None fault = ⊥
+RefusesSeen m store limit view takes table (Some rec) fault =
+    RefusesRecord m store [] limit view takes table rec fault
+
+-- The record that speaks for a key, with the row that a transaction sees there.
+pub record IsRowAt (state : ℕ → TxState) (live : State) (t : TxNo) (view : Pages) (table : Table)
+    (key : Value) (found : RowAt) : Type 0 where
+  pub spoken : IsSpeaker state live view table key found.rec
+  pub seen : IsSeenIn state live t view table found.rec found.row
+
+-- Why that row is not read, but for faults of the cache.
+pub data RefusesRowAt {D L : Type 0} (m : Meaning D) (store : Pool D L) (limit : ℕ) (view : Pages)
+    (state : ℕ → TxState) (live : State) (t : TxNo) (table : Table) (key : Value) (fault : SpaceFault)
+    : Type 0 where
+  row_unspoken : RefusesTableRows m store [] limit view (wants state live Living) table fault
+      → RefusesRowAt m store limit view state live t table key fault
+  row_unread : (rec : Option RecId) → IsSpeaker state live view table key rec
+      → RefusesSeen m store limit view (wants state live (SeenBy t)) table rec fault
+      → RefusesRowAt m store limit view state live t table key fault

@@ -1,0 +1,5 @@
+pub mod Finding
+pub mod Befores
+pub mod Storing
+pub mod Changing
+pub mod Laying

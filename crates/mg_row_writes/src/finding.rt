@@ -1,0 +1,175 @@
+//! What a write finds at its key.
+
+ghost use Rattle.std.specs.Prelude.{◌≡◌, ◌≤◌, ◌<◌, [], None, MatchResult, length};
+ghost use Rattle.mg_base.specs.Image.{Image};
+ghost use Rattle.mg_heap.specs.Reading.{ReadsData};
+ghost use Rattle.mg_pool.specs.Fault.{TellsFault};
+ghost use Rattle.mg_pool.specs.Pool.{IsPool, shown};
+ghost use Rattle.mg_space.specs.Taking.{IsGeometry};
+ghost use Rattle.mg_space.specs.View.{KeepsStore, Tells, pool_answer};
+ghost use Rattle.mg_seek.specs.Speaking.{IsSpeaker, RefusesTableRows};
+ghost use Rattle.mg_seek.specs.Versions.{wants};
+ghost use Rattle.mg_row_writes.specs.Finding.{IsInWay, IsObstacleAt, IsRowAt, IsSeenIn, RefusesObstacleAt, RefusesRowAt, RefusesSeen, RefusesWay};
+
+use mg_base::{Disk, GREATEST_LIMIT, RecId, TxNo};
+use mg_chain::States;
+use mg_model::Table;
+use mg_pool::Batch;
+use mg_seek::{Obstacle, Wanted, obstacle_for, row_in_view, speaker};
+use mg_snap::Live;
+use mg_space::{SpaceFault, Store};
+use mg_value::{MOST_COLUMNS, Row, Value};
+
+/// The record that speaks for a key, with the row that a transaction sees there.
+#[derive(Debug, Drop)]
+pub struct RowAt {
+    /// None where no record speaks for the key.
+    pub rec: Option<RecId>,
+    /// None where no row is seen.
+    pub row: Option<Row>,
+}
+
+/// The record of a table that speaks for a key, as the cache shows the pages.
+fn speaker_at<D: Disk, S: States>(
+    store: &mut Store<D>,
+    table: &Table,
+    key: &Value,
+    states: &S,
+    live: &Live,
+) -> Result<Option<RecId>, SpaceFault>
+    requires pool { IsPool D.meaning store.old }
+    requires geometry { IsGeometry store.old.geometry }
+    requires columns { length table.now.shape.columns ≤ MOST_COLUMNS }
+    requires pointer { table.now.pointer.0 < GREATEST_LIMIT }
+
+    ensures keeps { KeepsStore D.meaning store.old store.new }
+    ensures fault { TellsFault D.meaning store.old store.new (pool_answer result) }
+    ensures own { ReadsData result }
+    ensures gives { (image : Image) → Tells D.meaning store.old.disk image → MatchResult result
+        (IsSpeaker (S.state_of states.now) live.now (shown store.old.dirty image) table.now key.now)
+        (RefusesTableRows D.meaning store.new [] store.old.geometry.limit (shown store.old.dirty image)
+        (wants (S.state_of states.now) live.now Wanted.Living) table.now) }
+{
+    let batch = Batch::new(store.alloc());
+    speaker(store, &batch, table, key, states, live)
+}
+
+/// The obstacle of a record for t. None where there is no record.
+///
+/// # Errors
+///
+/// As `obstacle_for` of mg_seek.
+pub fn obstacle_of_record<D: Disk, S: States>(
+    store: &mut Store<D>,
+    rec: Option<RecId>,
+    states: &S,
+    live: &Live,
+    t: TxNo,
+) -> Result<Option<Obstacle>, SpaceFault>
+    requires pool { IsPool D.meaning store.old }
+    requires geometry { IsGeometry store.old.geometry }
+    requires online { store.old.offline ≡ None }
+
+    ensures keeps { KeepsStore D.meaning store.old store.new }
+    ensures fault { TellsFault D.meaning store.old store.new (pool_answer result) }
+    ensures own { ReadsData result }
+    ensures gives { (image : Image) → Tells D.meaning store.old.disk image → MatchResult result
+        (IsInWay (S.state_of states.now) live.now t.0 (shown store.old.dirty image) rec)
+        (RefusesWay D.meaning store.new store.old.geometry.limit (shown store.old.dirty image) rec) }
+{
+    let Some(rec) = rec else {
+        return Ok(None);
+    };
+    let batch = Batch::new(store.alloc());
+    obstacle_for(store, &batch, rec, states, live, t)
+}
+
+/// The obstacle of a key of a table for t: that of the record that speaks for the key.
+///
+/// # Errors
+///
+/// As `speaker` and `obstacle_for` of mg_seek.
+pub fn obstacle_at<D: Disk, S: States>(
+    store: &mut Store<D>,
+    table: &Table,
+    key: &Value,
+    states: &S,
+    live: &Live,
+    t: TxNo,
+) -> Result<Option<Obstacle>, SpaceFault>
+    requires pool { IsPool D.meaning store.old }
+    requires geometry { IsGeometry store.old.geometry }
+    requires columns { length table.now.shape.columns ≤ MOST_COLUMNS }
+    requires pointer { table.now.pointer.0 < GREATEST_LIMIT }
+
+    ensures keeps { KeepsStore D.meaning store.old store.new }
+    ensures fault { TellsFault D.meaning store.old store.new (pool_answer result) }
+    ensures own { ReadsData result }
+    ensures gives { (image : Image) → Tells D.meaning store.old.disk image → MatchResult result
+        (IsObstacleAt (S.state_of states.now) live.now t.0 (shown store.old.dirty image) table.now key.now)
+        (RefusesObstacleAt D.meaning store.new store.old.geometry.limit (shown store.old.dirty image)
+        (S.state_of states.now) live.now table.now key.now) }
+{
+    let rec = speaker_at(store, table, key, states, live)?;
+    obstacle_of_record(store, rec, states, live, t)
+}
+
+/// The row that t sees of a record. None where there is no record.
+fn row_seen<D: Disk, S: States>(
+    store: &mut Store<D>,
+    table: &Table,
+    rec: Option<RecId>,
+    states: &S,
+    live: &Live,
+    t: TxNo,
+) -> Result<Option<Row>, SpaceFault>
+    requires pool { IsPool D.meaning store.old }
+    requires geometry { IsGeometry store.old.geometry }
+    requires online { store.old.offline ≡ None }
+    requires columns { length table.now.shape.columns ≤ MOST_COLUMNS }
+
+    ensures keeps { KeepsStore D.meaning store.old store.new }
+    ensures fault { TellsFault D.meaning store.old store.new (pool_answer result) }
+    ensures own { ReadsData result }
+    ensures gives { (image : Image) → Tells D.meaning store.old.disk image → MatchResult result
+        (IsSeenIn (S.state_of states.now) live.now t (shown store.old.dirty image) table.now rec)
+        (RefusesSeen D.meaning store.new store.old.geometry.limit (shown store.old.dirty image)
+        (wants (S.state_of states.now) live.now (Wanted.SeenBy t)) table.now rec) }
+{
+    let Some(rec) = rec else {
+        return Ok(None);
+    };
+    let batch = Batch::new(store.alloc());
+    row_in_view(store, &batch, table, rec, states, live, t)
+}
+
+/// The record of a table that speaks for a key, with the row that t sees there.
+///
+/// # Errors
+///
+/// As `speaker` and `row_in_view` of mg_seek.
+pub fn row_at<D: Disk, S: States>(
+    store: &mut Store<D>,
+    table: &Table,
+    key: &Value,
+    states: &S,
+    live: &Live,
+    t: TxNo,
+) -> Result<RowAt, SpaceFault>
+    requires pool { IsPool D.meaning store.old }
+    requires geometry { IsGeometry store.old.geometry }
+    requires columns { length table.now.shape.columns ≤ MOST_COLUMNS }
+    requires pointer { table.now.pointer.0 < GREATEST_LIMIT }
+
+    ensures keeps { KeepsStore D.meaning store.old store.new }
+    ensures fault { TellsFault D.meaning store.old store.new (pool_answer result) }
+    ensures own { ReadsData result }
+    ensures gives { (image : Image) → Tells D.meaning store.old.disk image → MatchResult result
+        (IsRowAt (S.state_of states.now) live.now t (shown store.old.dirty image) table.now key.now)
+        (RefusesRowAt D.meaning store.new store.old.geometry.limit (shown store.old.dirty image)
+        (S.state_of states.now) live.now t table.now key.now) }
+{
+    let rec = speaker_at(store, table, key, states, live)?;
+    let row = row_seen(store, table, rec, states, live, t)?;
+    Ok(RowAt { rec, row })
+}
