@@ -1,0 +1,16 @@
+pub mod Knowing
+pub mod Rows
+pub mod SameRecords
+pub mod TakenKeys
+pub mod Choices
+pub mod ChangeKnown
+pub mod WriteKnown
+pub mod Caches
+pub mod Spoken
+pub mod PushLaws
+pub mod FirstLaws
+pub mod OwnKept
+pub mod OwnLaws
+pub mod SpotLaws
+pub mod DeadLaws
+pub mod Free
