@@ -2,7 +2,7 @@
 use Rattle.std.proofs.Common.{◌≡◌, inr, ℕ, Err, refl, ap, ◌∙◌, subst}
 use Rattle.mg_base.specs.Disk.{Meaning}
 use Rattle.mg_model.specs.declared.refusal.Refusal.{Refusal}
-use Rattle.mg_pool.specs.Fault.{TellsFault}
+use Rattle.mg_pool.specs.Fault.{OnlyWrites, TellsFault}
 use Rattle.mg_pool.specs.declared.fault.PoolFault.{PoolFault}
 use Rattle.mg_pool.specs.declared.fault.PoolFault.TheVariants as faults
 use Rattle.mg_pool.specs.declared.pool.Pool.{Pool}
@@ -26,14 +26,16 @@ module _ {D : Type 0} (m : Meaning D) (old ended : Core D) (t : ℕ) (store : Po
   list_is : ended.list ≡ old.list
   list_is = ap (λ (c : Core D). c.list) wait.same
 
-  fails : (fault : PoolFault) → IsRefusalOf fault refusal → TellsFault {T = Unit {0}} m ended.store store (Err fault)
+  fails : (fault : PoolFault) → IsRefusalOf fault refusal → OnlyWrites {T = Unit {0}} (Err fault)
+      → TellsFault {T = Unit {0}} m ended.store store (Err fault)
       → FailsCommit m ended.list ended.store store t fault
       → FailsToCommit m old (record ended { store = store; list = list }) t refusal
-  fails fault is told failed = record {
+  fails fault is only told failed = record {
     continues = continues;
     over = wait.over;
     fault = fault;
     is = is;
+    only = only;
     told = subst (λ (s : Pool D FireLinks). TellsFault {T = Unit {0}} m s store (Err fault)) store_is told;
     fails = subst (λ (s : Pool D FireLinks). FailsCommit m old.list s store t fault) store_is
         (subst (λ (l : TxList). FailsCommit m l ended.store store t fault) list_is failed);
@@ -48,7 +50,9 @@ module _ {D : Type 0} (m : Meaning D) (old ended : Core D) (t : ℕ) (store : Po
   commit_fails (space.Full limit) own told failed is = absurd own
   commit_fails (space.Damaged damage) own told failed is = absurd own
   commit_fails (space.Pool (faults.DiskRead n)) own told failed is = absurd own
-  commit_fails (space.Pool (faults.DiskWrite n)) own told failed is = inr (fails (faults.DiskWrite n) is told (failed (faults.DiskWrite n) refl))
-  commit_fails (space.Pool (faults.Offline n)) own told failed is = inr (fails (faults.Offline n) is told (failed (faults.Offline n) refl))
+  commit_fails (space.Pool (faults.DiskWrite n)) own told failed is = inr (fails (faults.DiskWrite n) is tt told
+      (failed (faults.DiskWrite n) refl))
+  commit_fails (space.Pool (faults.Offline n)) own told failed is = inr (fails (faults.Offline n) is tt told
+      (failed (faults.Offline n) refl))
   commit_fails (space.Pool (faults.Absent n)) own told failed is = absurd own
   commit_fails (space.Pool faults.Memory) own told failed is = absurd own

@@ -3,7 +3,7 @@ use Rattle.std.specs.Prelude.{◌≡◌, ◌⊎◌, ℕ, None, Err}
 use Rattle.mg_base.specs.Disk.{Meaning}
 use Rattle.mg_base.specs.declared.transaction.TxState.TheVariants.{Committed}
 use Rattle.mg_model.specs.declared.refusal.Refusal.{Refusal}
-use Rattle.mg_pool.specs.Fault.{TellsFault}
+use Rattle.mg_pool.specs.Fault.{OnlyWrites, TellsFault}
 use Rattle.mg_pool.specs.declared.fault.PoolFault.{PoolFault}
 use Rattle.mg_snap.specs.Live.{after_leave}
 use Rattle.mg_txlist.specs.Ending.{CommitsBits, FailsCommit}
@@ -36,6 +36,7 @@ pub record FailsToCommit {D : Type 0} (m : Meaning D) (old new : Core D) (t : �
   pub over : NowWaits (edges_in old.waits) (edges_in new.waits) t None
   pub fault : PoolFault
   pub is : IsRefusalOf fault refusal
+  pub only : OnlyWrites {T = Unit {0}} (Err fault)
   pub told : TellsFault {T = Unit {0}} m old.store new.store (Err fault)
   pub fails : FailsCommit m old.list old.store new.store t fault
   pub same : new ≡ record old { waits = new.waits; store = new.store }

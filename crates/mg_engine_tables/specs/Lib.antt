@@ -1,2 +1,4 @@
+pub mod NamedTables
 pub mod SeenTables
-pub mod DatabaseTables
+pub mod Finding
+pub mod FindingLaws

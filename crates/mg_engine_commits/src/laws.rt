@@ -1,0 +1,42 @@
+//! What a commit makes of an engine. Each function does nothing: its contract is the law.
+
+ghost use Rattle.mg_image.specs.Form.{packed_form};
+ghost use Rattle.mg_engine_commits.specs.Commits.{CommitsFail, CommitsGoOn};
+ghost use Rattle.mg_engine_commits.specs.ListShows.{ListsStay};
+ghost use Rattle.mg_engine_commits.specs.PageWrites.{AskingGoesOn, AsksOtherwise, PageWritesFail, PageWritesGoOn};
+
+use mg_base::Disk;
+use mg_careful::Links;
+use mg_model::histories_go_on;
+use mg_standing::standings_go_on;
+
+/// A commit is asked for, and pages are written.
+pub fn page_writes_go_on<D: Disk, L: Links>()
+    ensures otherwise { AsksOtherwise D L D.meaning packed_form }
+    ensures asking { AskingGoesOn D L D.meaning packed_form }
+    ensures writes { PageWritesGoOn D L D.meaning packed_form }
+    ensures failed { PageWritesFail D L D.meaning packed_form }
+{
+    histories_go_on();
+}
+
+/// A list goes on to have the pages of transactions as the cache shows them, where they stay.
+pub fn lists_stay()
+    ensures { ListsStay }
+{}
+
+/// A commit takes an engine to the history with it.
+pub fn commits_go_on<D: Disk, L: Links>()
+    ensures { CommitsGoOn D L D.meaning packed_form }
+{
+    histories_go_on();
+    standings_go_on();
+}
+
+/// A commit whose page writes failed leaves memory as it was, and the history with the commit or without it.
+pub fn commits_fail<D: Disk, L: Links>()
+    ensures { CommitsFail D L D.meaning packed_form }
+{
+    histories_go_on();
+    standings_go_on();
+}

@@ -1,0 +1,4 @@
+pub mod Falling
+pub mod AlikeTables
+pub mod Rollbacks
+pub mod RollbackLaws
