@@ -1,0 +1,99 @@
+-- What an engine means as a keeper of records.
+use Rattle.std.specs.Prelude.{◌≡◌, ◌-◌, ◌^◌, ◌==◌, ℕ, true, false, length, min, Option, None, Some}
+use Rattle.mg_base.specs.Disk.{Meaning}
+use Rattle.mg_base.specs.Image.{Image}
+use Rattle.mg_base.specs.declared.numbers.RecId.{RecId}
+use Rattle.mg_base.specs.declared.transaction.TxState.TheVariants.{Active}
+use Rattle.mg_engine_answers.specs.Walking.{AreToCome}
+use Rattle.mg_image.specs.Form.{packed_form}
+use Rattle.mg_lasting.specs.Crashes.{HoldsFrom, asked}
+use Rattle.mg_model.specs.declared.opening.Opening.{Opening}
+use Rattle.mg_model.specs.declared.table.Table.{Table}
+use Rattle.mg_model.specs.Changes.{KeyedRows}
+use Rattle.mg_model.specs.History.{Entries}
+use Rattle.mg_model.specs.Machine.{state_of}
+use Rattle.mg_pool.specs.Dirty.{is_marked}
+use Rattle.mg_pool.specs.Pool.{shown}
+use Rattle.mg_records.specs.Meaning.{Means}
+use Rattle.mg_standing.specs.Standing.{Standing}
+use Rattle.mg_works.specs.Works.{MayBeGiven, Working, given_to, has_session, work_of}
+use Rattle.mg_core.specs.declared.parts.Core.{Core}
+use Rattle.mg_engine_meaning.specs.Standings.{StandsFor, asked_in, sessions_in, standing_of}
+
+-- ---- walks
+
+-- what a place is: its record, and its rank among the places of a walk, which ascends with each visit
+pub record Places (P : Type 0) : Type 0 where
+  pub rec : P → RecId
+  pub rank : P → ℕ
+
+abbrev pub rec_at : {P : Type 0} → Places P → Option P → Option RecId
+rec_at places None = None
+rec_at places (Some place) = Some (places.rec place)
+
+-- no place has a greater rank
+abbrev pub MOST_RANK : ℕ
+MOST_RANK = 2 ^ 48
+
+abbrev pub rank_left : {P : Type 0} → Places P → Option P → ℕ
+rank_left places None = MOST_RANK
+rank_left places (Some place) = MOST_RANK - 1 - places.rank place
+
+-- the rows that are to come are known by the pages, as long as no page write has failed; after that no walk
+-- goes on
+abbrev pub AreNext : {D : Type 0} → Meaning D → Core D → Standing → ℕ → Table → Option RecId → KeyedRows
+    → Option ℕ → Type 0
+AreNext m core s t table after rows None = (image : Image)
+    × (m.held core.store.disk ≡ Some image)
+    × AreToCome core.store.geometry.size s (shown core.store.dirty image) t table after rows
+AreNext m core s t table after rows (Some faults) = Unit {0}
+
+-- An active transaction of an engine that stands for a history still comes to these rows of a table.
+pub record ComesTo {D : Type 0} (m : Meaning D) (core : Core D) (t : ℕ) (table : Table)
+    (after : Option RecId) (rows : KeyedRows) : Type 0 where
+  pub opening : Opening
+  pub entries : Entries
+  pub stands : StandsFor m core opening entries
+  pub active : state_of opening entries t ≡ Active
+  pub next : AreNext m core (standing_of core stands.numbers stands.tables) t table after rows
+      core.store.offline
+
+-- ---- sessions and commits
+
+-- an active transaction was begun by a session
+pub record WorksFor {D : Type 0} (core : Core D) (t session : ℕ) : Type 0 where
+  pub work : Working
+  pub its : work_of core.works t ≡ Some work
+  pub by : work.session ≡ session
+
+-- a transaction has asked for its commit, and of the pages that were marked for it none is left to be written
+pub record HasWrittenAll {D : Type 0} (core : Core D) (t : ℕ) : Type 0 where
+  pub asked : asked_in core.works t ≡ true
+  pub none : (page : ℕ) → is_marked core.store.dirty page (sessions_in core.works t) ≡ false
+
+-- ---- the whole
+
+abbrev pub means : {D P : Type 0} → Meaning D → Places P → Means (Core D) P
+means m places = record {
+  stands = λ core o h. StandsFor m core o h;
+  table = λ core t name. given_to core.works t name;
+  is_free = λ core session. has_session core.works session ≡ false;
+  works = λ core t session. WorksFor core t session;
+  was_given = λ core table. MayBeGiven table;
+  is_place = λ core table place. Unit {0};
+  to_come = λ core t table after rows. ComesTo m core t table (rec_at places after) rows;
+  still = λ core t table after. rank_left places after;
+  unwritten = λ core. min 512 (length core.store.dirty.pages);
+  is_asked = λ core t. asked_in core.works t ≡ true;
+  is_written = λ core t. HasWrittenAll core t;
+  tells = λ core. m.tells core.store.disk;
+  moment = λ core. m.moment core.store.disk;
+  left = λ core t image. m.left core.store.disk t image;
+  holds = λ core o h least image.
+      HoldsFrom packed_form core.store.dirty.size o (asked h) least image;
+  faults = λ core. m.faults core.store.disk;
+  damage = λ core. core.damage;
+  shortages = λ core. core.shortages;
+  down = λ core. core.store.offline;
+  is_size = λ core size. core.store.geometry.size == size;
+}
