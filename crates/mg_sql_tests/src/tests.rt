@@ -5,3 +5,4 @@ mod limits;
 mod machine;
 mod refusals;
 mod rows;
+mod tables;

@@ -104,3 +104,27 @@ fn the_longest_text_that_a_statement_holds_is_told_whole(rt: HostRuntime) -> Res
     let text = inserting(alloc, 65_535, 0)?;
     answers(&rt, alloc, &mut machine, &text, "A: SYNTAX AT 65536\n")
 }
+
+/// CREATE TABLE with so many columns.
+fn creating(alloc: Global, columns: usize) -> Result<Vec<u8>, Fail> {
+    let mut text = Vec::new(alloc);
+    text.extend_from_slice(b"CREATE TABLE W (K BIGINT PRIMARY KEY")?;
+    for column in 1..columns {
+        let tens = b'A' + (column / 26 % 26) as u8;
+        let ones = b'A' + (column % 26) as u8;
+        text.extend_from_slice(&[b',', b'X', tens, ones])?;
+        text.extend_from_slice(b" BIGINT")?;
+    }
+    text.extend_from_slice(b")")?;
+    Ok(text)
+}
+
+#[test]
+fn a_table_has_at_most_64_columns(rt: HostRuntime) -> Result<(), Fail> {
+    let alloc = rt.alloc();
+    let mut machine = begun(&rt, alloc)?;
+    let text = creating(alloc, 65)?;
+    answers(&rt, alloc, &mut machine, &text, "A: TOO MANY LIMIT 64\n")?;
+    let text = creating(alloc, 64)?;
+    answers(&rt, alloc, &mut machine, &text, "A: OK\n")
+}

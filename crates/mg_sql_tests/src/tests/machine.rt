@@ -1,8 +1,9 @@
 //! A machine in memory, and two sessions that run statements on it one after another.
 
-ghost use Rattle.std.specs.Prelude.{◌≡◌, ◌<◌, IfOk, length};
+ghost use Rattle.std.specs.Prelude.{◌≡◌, ◌<◌, All, IfOk, length};
 ghost use Rattle.std.specs.Bool.{OnTrue};
 ghost use Rattle.mg_sql.specs.Plain.{plain_of};
+ghost use Rattle.mg_records.specs.Writing.{IsOfLength};
 ghost use Rattle.mg_exec.specs.Starting.{Runs};
 
 use mg_base::{Bytes, PageNo, TxNo};
@@ -14,7 +15,7 @@ use mg_plain::Plain;
 use mg_records::Records;
 use mg_rows::{Outcome, StatementFault};
 use mg_script::{Line, LineKind, Reply, Session, answer_text};
-use mg_sql::{Statement, parse};
+use mg_sql::{Def, Statement, parse};
 use mg_value::{Column, Columns, Kind, Name, Shape};
 use std::alloc::Global;
 use std::process::Abort;
@@ -121,20 +122,38 @@ pub fn of_kv(rt: &impl Abort, alloc: Global) -> Result<Machine, Fail> {
     })
 }
 
+/// Tells whether a VARCHAR has 1 to 1000 bytes.
+fn is_of_length(column: &Def) -> bool
+    ensures { OnTrue result (IsOfLength column.now.kind) }
+{
+    match column.kind {
+        Kind::Int => true,
+        Kind::Text(most) => (1..=1000).contains(&most),
+    }
+}
+
+/// Tells whether each VARCHAR of a new table does.
+fn are_of_length(columns: &[Def]) -> bool
+    ensures { OnTrue result (All (λ column. IsOfLength column.kind) columns.now) }
+{
+    columns.iter().all(is_of_length)
+}
+
 /// Tells whether a statement runs in steps.
 fn is_run(s: &Statement) -> bool
     ensures { OnTrue result (Runs (plain_of s.now)) }
 {
-    matches!(
-        s,
+    match s {
+        Statement::Table { columns, .. } => are_of_length(columns),
         Statement::Savepoint { .. }
-            | Statement::RollbackTo { .. }
-            | Statement::Insert { .. }
-            | Statement::Update { .. }
-            | Statement::Delete { .. }
-            | Statement::Totals { .. }
-            | Statement::Select { .. }
-    )
+        | Statement::RollbackTo { .. }
+        | Statement::Insert { .. }
+        | Statement::Update { .. }
+        | Statement::Delete { .. }
+        | Statement::Totals { .. }
+        | Statement::Select { .. } => true,
+        _ => false,
+    }
 }
 
 /// What a call of the machine is answered.
