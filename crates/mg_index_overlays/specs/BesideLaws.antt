@@ -147,7 +147,8 @@ module _ (size : ℕ) (old new : Pages) where
         at (inl placed) more = subst (λ (view : Pages). ChangesTree size owner root batch orders change view
             levels (moved (pushed ms (m ∷ below)) old new) levels) (skipped m below placed) more
         at (inr fresh) more = beside (moved below old new) (moved (m ∷ below) old new)
-            (moved (pushed ms (m ∷ below)) old new) levels levels m (moved_other m below) (moved_used m below keeps) (put m (inl refl)) fresh more
+            (moved (pushed ms (m ∷ below)) old new) levels levels m (moved_other m below)
+            (moved_used m below keeps) (put m (inl refl)) fresh more
 
     -- so all pages beside a tree may change at once
     pub beside_row : (ms : List ℕ) → ((n : ℕ) → Has ms n → batch n ≢ None)

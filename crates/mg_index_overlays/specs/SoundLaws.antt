@@ -168,8 +168,10 @@ no_region size pages region inventory is = at (inventory region is.below)
         ap (λ (page : List ℕ). byte page 0) empty ∙ byte_blank size in
         let seven = is.kind in omega (arith, zero_is, seven)
     at (inr wanted) =
-        let two : byte (pages (inventory_page size region)) 0 ≡ 2 = kind_of (pages (inventory_page size region)) (inventory_page size region) 2 0 region []
-        (all_passes (common_checks (pages (inventory_page size region)) (inventory_page size region) 2 0 region) wanted.fields) in
+        let two : byte (pages (inventory_page size region)) 0 ≡ 2 =
+        kind_of (pages (inventory_page size region)) (inventory_page size region) 2 0 region []
+        (all_passes (common_checks (pages (inventory_page size region)) (inventory_page size region) 2 0
+        region) wanted.fields) in
         let seven = is.kind in omega (arith, two, seven)
 
 tree_inventory : (size : ℕ) (pages : Pages) (t : IndexTree) → HasInventory size pages

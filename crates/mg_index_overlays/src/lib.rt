@@ -9,8 +9,8 @@
 //! page, and a removal: one after another, in one batch, they are joined (`ChangesJoin`), and the orders
 //! of such a batch close no cycle (`InsertionsCloseNoCycle`).
 //!
-//! Definitions: `specs/IndexTrees`, `IndexBatches`, `IndexOrders`; laws: `Laws`; the other files prove them. There is
-//! no program here: each function does nothing, and its contract is a law.
+//! Definitions: `specs/IndexTrees`, `IndexBatches`, `IndexOrders`; laws: `Laws`; the other files prove
+//! them. There is no program here: each function does nothing, and its contract is a law.
 //!
 //! Invariant: none, it keeps no state.
 //! Below: `mg_tree_overlays`, one tree in overlays; `mg_btree`, whose insertions and removals these are;
