@@ -2,3 +2,5 @@ mod CoreLemmas
 mod EndingLemmas
 mod BeginningLemmas
 mod FailLemmas
+mod StageLemmas
+mod WriteLemmas

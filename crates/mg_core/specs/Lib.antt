@@ -4,3 +4,7 @@ pub mod Events
 pub mod Committing
 pub mod Ending
 pub mod Beginning
+pub mod Reading
+pub mod Obstacles
+pub mod Putting
+pub mod Writing

@@ -10,16 +10,24 @@
 //! Invariant (`IsCore`): the cache and the transaction list are lawful and of one page size; the active
 //! transactions are those that the list says are active; the bases' next number is the list's; the
 //! catalog is the table that the file format says.
-//! Below: `mg_space`, for the pages; `mg_txlist`, `mg_snap`, `mg_waits` and `mg_works`, for the memory.
+//! A row is written stage by stage (`write_step`): nobody is in the way by the table's row of the catalog, the
+//! row in the view allows it, nobody is in the way by the record, and the version is laid.
+//!
+//! Below: `mg_space`, for the pages; `mg_row_writes`, for rows on them; `mg_txlist`, `mg_snap`, `mg_waits` and
+//! `mg_works`, for the memory.
 //! Above: the engine as a keeper of records, which stands for a history.
-//! Not here: histories, what crashes leave, and the records of tables.
+//! Not here: histories, and what crashes leave.
 #![tactic(auto)]
 
 mod beginning;
 mod committing;
 mod ending;
 mod events;
+mod obstacles;
 mod parts;
+mod putting;
 mod refusing;
+mod states;
+mod writing;
 
 pub use parts::Core;

@@ -1,0 +1,94 @@
+//! A row is put on the pages, and what it was before is kept.
+
+ghost use Rattle.std.specs.Prelude.{◌≡◌, ◌<◌, ◌≤◌, None, MatchResult, false};
+ghost use Rattle.mg_records.specs.Writing.{FitsShape};
+ghost use Rattle.mg_works.specs.Works.{MayBeGiven};
+ghost use Rattle.mg_core.specs.Cores.{IsCore};
+ghost use Rattle.mg_core.specs.Putting.{FailsKept, FailsPut, LaysKept, PutsRow};
+
+use crate::parts::Core;
+use crate::states::StatesOf;
+use mg_base::{Disk, GREATEST_LIMIT, PageNo, RecId, TxNo};
+use mg_model::{Refusal, Table};
+use mg_records::Write;
+use mg_row_writes::{Before, before_at, lay, may_be_stored, stored_version, unlawful};
+use mg_space::SpaceFault;
+use mg_value::Key;
+use mg_version::Version;
+
+impl<D: Disk> Core<D> {
+    /// Puts the row of a write at its key, in the record that speaks for it or in one that is made.
+    ///
+    /// # Errors
+    ///
+    /// `Memory`, or what the pages are refused for.
+    pub(crate) fn put_row(
+        &mut self,
+        t: TxNo,
+        table: &Table,
+        write: &Write,
+        key: &Key,
+        rec: Option<RecId>,
+    ) -> Result<(), Refusal>
+        requires core { IsCore D.meaning self.old }
+        requires online { self.old.store.offline ≡ None }
+        requires given { MayBeGiven table.now }
+        requires fits { FitsShape table.now.shape write.now }
+        ensures core { IsCore D.meaning self.new }
+        ensures puts { MatchResult result (λ _. PutsRow D.meaning self.old self.new t table.now write.now key.now rec)
+            (FailsPut D.meaning self.old self.new t table.now write.now key.now rec) }
+    {
+        let version = match stored_version(self.store.alloc(), table, t, write) {
+            Ok(version) => version,
+            Err(_) => return Err(Refusal::Memory),
+        };
+        let states = StatesOf::new(&self.list);
+        match before_at(&mut self.store, table, rec, &states, &self.live, t) {
+            Ok(before) => self.lay_kept(t, table.pointer, key, before, &version),
+            Err(fault) => Err(self.refuse(fault)),
+        }
+    }
+
+    /// Keeps what a transaction's own change of a key was, takes back the asking for its commit, and lays a version.
+    /// What was kept is taken back where the version is not laid.
+    ///
+    /// # Errors
+    ///
+    /// `Memory`, or what the pages are refused for.
+    pub(crate) fn lay_kept(
+        &mut self,
+        t: TxNo,
+        owner: PageNo,
+        key: &Key,
+        before: Before,
+        version: &Version,
+    ) -> Result<(), Refusal>
+        requires core { IsCore D.meaning self.old }
+        requires owner { owner.0 < GREATEST_LIMIT }
+        requires apart { version.now.primary ≡ false }
+        requires stored { 1 ≤ version.now.format }
+        ensures core { IsCore D.meaning self.new }
+        ensures lays { MatchResult result
+            (λ _. LaysKept D.meaning self.old self.new t.0 owner.0 key.now before version.now)
+            (FailsKept D.meaning self.old self.new t.0 owner.0 key.now before version.now) }
+    {
+        if !may_be_stored(self.store.geometry().size, owner, version) {
+            return Err(self.refuse(SpaceFault::Damaged(unlawful())));
+        }
+        let Before { way, was } = before;
+        // First kept: want of memory then leaves the pages alone.
+        match self.works.keep(t, owner.0, key, was) {
+            Ok(()) => {}
+            Err(_) => return Err(Refusal::Memory),
+        }
+        // Its new pages have no mark of a commit that was asked for.
+        self.works.unask(t);
+        match lay(&mut self.store, owner, way, version) {
+            Ok(()) => Ok(()),
+            Err(fault) => {
+                self.works.retract(t);
+                Err(self.refuse(fault))
+            }
+        }
+    }
+}

@@ -1,0 +1,134 @@
+//! A row is written.
+
+ghost use Rattle.std.specs.Prelude.{◌≡◌, ◌≢◌, IfOk, IfErr, MatchOption, MatchResult, None, Some, OnOk, if◌then◌else◌};
+ghost use Rattle.mg_base.specs.declared.transaction.TxState.TheVariants.{Active as IsActive};
+ghost use Rattle.mg_records.specs.Writing.{FitsShape};
+ghost use Rattle.mg_row_writes.specs.Storing.{written_at};
+ghost use Rattle.mg_txlist.specs.TxList.{said};
+ghost use Rattle.mg_works.specs.Works.{MayBeGiven};
+ghost use Rattle.mg_core.specs.Cores.{IsCore};
+ghost use Rattle.mg_core.specs.Writing.{Allows, FailsKey, FailsRow, FailsWrite, FindsRow, IsWrong, MayOnlyRead, MayWrite, Writes};
+
+use crate::parts::Core;
+use crate::states::StatesOf;
+use mg_base::{Disk, RecId, TxNo};
+use mg_model::{Refusal, Table};
+use mg_records::Write;
+use mg_row_writes::{row_at, unlawful, written_key};
+use mg_space::SpaceFault;
+use mg_value::{Key, Value};
+
+impl<D: Disk> Core<D> {
+    /// Writes a row of a table that was given to an active transaction.
+    ///
+    /// It meets first the obstacle of the table's own row of the catalog, then the row in its view, then the
+    /// obstacle of the record that speaks for the key. What its own change of the key was before is kept, and then
+    /// the version is laid on the pages.
+    ///
+    /// # Errors
+    ///
+    /// As every event: `Offline`, `NotActive`; then the first that applies: `ReadOnly` by the mode;
+    /// `UpdateConflict`, `LockConflict`, `Waits`, `Deadlock` and `InLimbo` by the table's obstacle; `DuplicateKey` or
+    /// `NoRow` by the view; those five by the record's obstacle. Or what the pages are refused for, or `Memory`.
+    /// Whom the transaction waits for has changed then, what was read, written out and counted, and no row.
+    pub fn write_step(&mut self, t: TxNo, table: &Table, write: &Write) -> Result<(), Refusal>
+        requires core { IsCore D.meaning self.old }
+        requires given { MayBeGiven table.now }
+        requires fits { FitsShape table.now.shape write.now }
+        ensures core { IsCore D.meaning self.new }
+        ensures writes { MatchResult result (λ _. Writes D.meaning self.old self.new t table.now write.now)
+            (FailsWrite D.meaning self.old self.new t table.now write.now) }
+    {
+        match self.begin_event(t) {
+            Ok(()) => {}
+            Err(refusal) => return Err(refusal),
+        }
+        let wait = self.writer(t)?;
+        self.pass_table(t, wait, &table.name)?;
+        let key = self.key_for(table, write)?;
+        let rec = self.find_row(t, table, &key, write)?;
+        self.pass_record(t, wait, rec)?;
+        self.put_row(t, table, write, &key, rec)
+    }
+
+    /// Tells whether an active transaction that writes would wait.
+    ///
+    /// # Errors
+    ///
+    /// `ReadOnly` exactly where it only reads.
+    fn writer(&self, t: TxNo) -> Result<bool, Refusal>
+        requires core { IsCore D.meaning self.now }
+        requires active { said self.now.list t.0 ≡ IsActive }
+        ensures { MatchResult result (MayWrite self.now.works t.0) (MayOnlyRead self.now.works t.0) }
+    {
+        let Some(work) = self.works.work(t) else {
+            unreachable!()
+        };
+        let mode = work.mode();
+        if mode.read_only {
+            return Err(Refusal::ReadOnly);
+        }
+        Ok(mode.wait)
+    }
+
+    /// The key of a write. A lawful one has a key.
+    ///
+    /// # Errors
+    ///
+    /// `Memory`; `Damaged` exactly where the key is NULL.
+    fn key_for(&mut self, table: &Table, write: &Write) -> Result<Key, Refusal>
+        requires core { IsCore D.meaning self.old }
+        ensures core { IsCore D.meaning self.new }
+        ensures key { IfOk result (λ key. key ≡ written_at table.now write.now) }
+        ensures some { OnOk result (written_at table.now write.now ≢ Value.Null) }
+        ensures same { OnOk result (self.new ≡ self.old) }
+        ensures fails { IfErr result (FailsKey self.old self.new table.now write.now) }
+    {
+        match written_key(self.store.alloc(), table, write) {
+            Ok(Some(key)) => Ok(key),
+            Ok(None) => Err(self.refuse(SpaceFault::Damaged(unlawful()))),
+            Err(_) => Err(Refusal::Memory),
+        }
+    }
+
+    /// The record that speaks for the key of a write, where the row in the view allows the write.
+    ///
+    /// # Errors
+    ///
+    /// `DuplicateKey` or `NoRow`, where it doesn't; or what the reading is refused for.
+    fn find_row(&mut self, t: TxNo, table: &Table, key: &Key, write: &Write) -> Result<Option<RecId>, Refusal>
+        requires core { IsCore D.meaning self.old }
+        requires given { MayBeGiven table.now }
+        ensures core { IsCore D.meaning self.new }
+        ensures finds { MatchResult result (FindsRow D.meaning self.old self.new t table.now key.now write.now)
+            (FailsRow D.meaning self.old self.new t table.now key.now write.now) }
+    {
+        let states = StatesOf::new(&self.list);
+        let found = match row_at(&mut self.store, table, key.value(), &states, &self.live, t) {
+            Ok(found) => found,
+            Err(fault) => return Err(self.refuse(fault)),
+        };
+        match refusal_of(write, found.row.is_some()) {
+            None => Ok(found.rec),
+            Some(refusal) => Err(refusal),
+        }
+    }
+}
+
+/// What a write is refused for by whether the view has a row with its key.
+fn refusal_of(write: &Write, is_there: bool) -> Option<Refusal>
+    ensures { MatchOption result (Allows write.now is_there) (IsWrong write.now is_there) }
+{
+    match write {
+        Write::Insert(_) => told_if(is_there, Refusal::DuplicateKey),
+        Write::Change(_, _) => told_if(!is_there, Refusal::NoRow),
+        Write::Erase(_) => told_if(!is_there, Refusal::NoRow),
+    }
+}
+
+/// A refusal, where it holds.
+fn told_if(holds: bool, refusal: Refusal) -> Option<Refusal>
+    ensures { result ≡ (if holds then Some refusal else None) }
+{
+    if holds { Some(refusal) } else { None }
+}
