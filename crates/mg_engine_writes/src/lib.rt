@@ -15,8 +15,8 @@
 //!
 //! Invariant: none, it keeps no state.
 //! Below: `mg_chain_ties`, that every overlay is kept; `mg_engine_steps`, batches and what is read after them;
-//! `mg_engine_answers`, what was found before. Above: the engine.
-//! Not here: rows of the catalog, and versions that are taken back (`mg_engine_backs`).
+//! `mg_seek`, who is in the way. Above: the engine, which has from `mg_engine_answers` who speaks for a key.
+//! Not here: rows of the catalog, and versions that are taken back.
 #![tactic(auto)]
 
 mod laws;
