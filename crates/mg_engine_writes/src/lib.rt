@@ -8,6 +8,9 @@
 //! engine with the same history (`SpotsStay`), and so does a dead transaction's version that is taken out
 //! (`DeadsGo`). Which of these a record wants in whose way nobody is, `RecordsAreFree` tells.
 //!
+//! A transaction that has asked for its commit, and then writes on, is first taken for one that has not
+//! (`UnaskingLasts`): the laws on a write ask for that.
+//!
 //! What is known stands in `specs/Knowing`: the batch (`WasChanged`), the entry, which memory follows
 //! (`EntersWrite`), the table (`MayWriteInto`), the row (`CodesRow`). The laws on overlays ask for this under
 //! each choice of transactions that count; that it follows from the one in which all do is `Choices` and
@@ -23,4 +26,5 @@ mod laws;
 
 pub use laws::{
     deads_go, firsts_go_on, pushes_go_on, records_are_free, replacements_go_on, spots_stay,
+    unasking_lasts,
 };
