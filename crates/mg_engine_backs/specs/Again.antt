@@ -52,6 +52,11 @@ without_key name key [] = []
 without_key name key (c ∷ cs) =
     if is_at c name key then without_key name key cs else c ∷ without_key name key cs
 
+-- these changes over those that are left are all that the transaction has made
+abbrev pub AreTaken : Opening → Entries → Entry → ℕ → List Change → Type 0
+AreTaken o h e t left = (name : List ℕ) (key : Value)
+    → newest_at (left ++ own o (e ∷ h) t) name key ≡ newest_at (own o h t) name key
+
 -- ---- what they say
 
 pub giving_gives : (t : ℕ) (name : List ℕ) (key : Value) (row : Option Cells)

@@ -9,3 +9,5 @@ pub mod OwnChains
 pub mod Shown
 pub mod ShownEnd
 pub mod ShownSteps
+pub mod ToldBack
+pub mod EngineBack

@@ -5,7 +5,9 @@ use Rattle.mg_base.specs.Image.{Image}
 use Rattle.mg_base.specs.declared.numbers.RecId.{RecId}
 use Rattle.mg_base.specs.declared.transaction.TxState.TheVariants.{Active}
 use Rattle.mg_chain.specs.Writing.{Replaces, TakesOut}
-use Rattle.mg_engine_backs.specs.Again.{again, rolling, without_key}
+use Rattle.mg_engine_backs.specs.Again.{AreTaken, again, rolling, without_key}
+use Rattle.mg_engine_backs.specs.Shown.{ShowsMidway, TakesKeyBack}
+use Rattle.mg_engine_steps.specs.GoesOn.{HasGoneOn}
 use Rattle.mg_engine_writes.specs.Knowing.{CodesRow, HasEntries, MayWriteInto, WasChanged}
 use Rattle.mg_image.specs.Form.{Form, Pages, Row}
 use Rattle.mg_image.specs.Histories.{newest_at, row_change}
@@ -30,10 +32,12 @@ use Rattle.mg_pool.specs.Pool.{IsPool, shown}
 use Rattle.mg_pool.specs.declared.pool.Pool.{Pool}
 use Rattle.mg_pool_overlays.specs.Needs.{Asked, Sessions}
 use Rattle.mg_space_ties.specs.Changed.{KeptIn, fresh}
+use Rattle.mg_standing.specs.Following.{FollowsEntry}
+use Rattle.mg_standing.specs.QuietPages.{FindsAfter}
 use Rattle.mg_standing.specs.Standing.{Remembers, Standing, Stands}
 use Rattle.mg_value.specs.declared.value.Value.{Value}
 use Rattle.mg_version.specs.declared.cell.Version.{Version}
-use Rattle.std.proofs.Common.{List, None, Option, Some, [], false, true, ℕ, ◌++◌, ◌<◌, ◌∷◌, ◌≡◌}
+use Rattle.std.proofs.Common.{List, None, Option, Some, [], false, true, ℕ, ◌<◌, ◌∷◌, ◌≡◌}
 
 -- Some changes are not taken back yet: in every overlay the transaction has these over those that it is left
 -- with. A crash leaves what the history before has, as if the transaction were rolled back.
@@ -55,11 +59,6 @@ pub record GoesBack (o : Opening) (h : Entries) (e : Entry) (point : Point) (s :
   pub not_asked : asked t ≡ false
   -- a rollback would be lawful
   pub ends : IsLawful o h (rolling t)
-
--- these changes over those that are left are all that the transaction has made
-abbrev pub AreTaken : Opening → Entries → Entry → ℕ → List Change → Type 0
-AreTaken o h e t left = (name : List ℕ) (key : Value)
-    → newest_at (left ++ own o (e ∷ h) t) name key ≡ newest_at (own o h t) name key
 
 -- ---- the beginning
 
@@ -88,7 +87,7 @@ pub record IsBackAt (form : Form) (size : ℕ) (s : Standing) (pages : Pages) (t
   pub change : Option Cells
   pub to_take : newest_at left name key ≡ Some (row_change change)
 
--- the key had no change before: the version is taken out
+-- the key had no change before: the version is taken out, and the record is read without it
 abbrev pub KeysGoOut : Form → (D L : Type 0) → Meaning D → Type 0
 KeysGoOut form D L m = (o : Opening) (h : Entries) (e : Entry) (point : Point) (s : Standing) (start : Pool D L)
     (before after : Pool D L) (i j : Image) (batch : Changed) (asked : Asked) (session : Sessions) (t : ℕ)
@@ -96,11 +95,15 @@ KeysGoOut form D L m = (o : Opening) (h : Entries) (e : Entry) (point : Point) (
     → Remembers o h s → GoesBack o h e point s asked t
     → IsMidway m form before.geometry.size o h e t left s start before i asked session
     → WasChanged m before after i j batch → (takes : TakesOut before i fresh batch rec)
-    → takes.was.tx.0 ≡ t → IsBackAt form before.geometry.size s (shown before.dirty i) t table name key left rec
+    → takes.was.tx.0 ≡ t
+    → (at_key : IsBackAt form before.geometry.size s (shown before.dirty i) t table name key left rec)
     → newest_at (own o (e ∷ h) t) name key ≡ None
     → IsMidway m form before.geometry.size o h e t (without_key name key left) s start after j asked session
+    × ((speaker : List ℕ → Value → Option RecId) → speaker name key ≡ Some rec
+    → TakesKeyBack form before.geometry.size o h e t s (shown before.dirty i) (shown after.dirty j) at_key.layout
+    at_key.reading speaker name key rec table)
 
--- it had one: its version comes back, in its cell or moved
+-- it had one: its version comes back, in its cell or moved, and the record is read with it
 abbrev pub KeysComeBack : Form → (D L : Type 0) → Meaning D → Type 0
 KeysComeBack form D L m = (o : Opening) (h : Entries) (e : Entry) (point : Point) (s : Standing)
     (start : Pool D L) (before after : Pool D L) (i j : Image) (batch : Changed) (asked : Asked)
@@ -109,10 +112,13 @@ KeysComeBack form D L m = (o : Opening) (h : Entries) (e : Entry) (point : Point
     → GoesBack o h e point s asked t
     → IsMidway m form before.geometry.size o h e t left s start before i asked session
     → WasChanged m before after i j batch → Replaces before i fresh batch rec v
-    → IsBackAt form before.geometry.size s (shown before.dirty i) t table name key left rec
+    → (at_key : IsBackAt form before.geometry.size s (shown before.dirty i) t table name key left rec)
     → CodesRow form.coding table v stored t key row → HasEntries (shown before.dirty i) table rec v stored
     → newest_at (own o (e ∷ h) t) name key ≡ Some (row_change row)
     → IsMidway m form before.geometry.size o h e t (without_key name key left) s start after j asked session
+    × ((speaker : List ℕ → Value → Option RecId) → speaker name key ≡ Some rec
+    → TakesKeyBack form before.geometry.size o h e t s (shown before.dirty i) (shown after.dirty j) at_key.layout
+    at_key.reading speaker name key rec table)
 
 -- ---- the end
 
@@ -124,3 +130,15 @@ MidwaysEnd form D L m = (o : Opening) (h : Entries) (e : Entry) (point : Point) 
     → IsMidway m form pool.geometry.size o h e t [] s start pool i asked session
     → LastsOn m form o (e ∷ h) pool asked session
     × LeavesSince m start.disk pool.disk (HoldsAcknowledged form pool.geometry.size o h)
+
+-- and an engine whose pages show it stands for that history
+abbrev pub EnginesGoBack : Form → (D L : Type 0) → Meaning D → Type 0
+EnginesGoBack form D L m = (o : Opening) (h : Entries) (e : Entry) (point : Point) (s new : Standing)
+    (start pool : Pool D L) (k i : Image) (asked : Asked) (session : Sessions) (t : ℕ) (whole : List Change)
+    (stands : Stands form pool.geometry.size o h s (Some (shown start.dirty k)))
+    → start.dirty.size ≡ pool.geometry.size → IsPool m pool → m.held pool.disk ≡ Some i
+    → GoesBack o h e point s asked t → AreTaken o h e t whole → IsLawful o h e → FollowsEntry o h e s new
+    → FindsAfter form pool.geometry.size o h e s new (shown pool.dirty i)
+    → IsMidway m form pool.geometry.size o h e t [] s start pool i asked session
+    → ShowsMidway form pool.geometry.size o h e t whole [] s (shown start.dirty k) stands.shows (shown pool.dirty i)
+    → HasGoneOn m form pool.geometry.size o h e new start pool i asked session

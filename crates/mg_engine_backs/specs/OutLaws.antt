@@ -3,7 +3,7 @@ use Rattle.mg_base.specs.Disk.{Meaning}
 use Rattle.mg_base.specs.Image.{Image}
 use Rattle.mg_base.specs.declared.numbers.RecId.{RecId}
 use Rattle.mg_base.specs.declared.transaction.TxState.{TxState}
-use Rattle.mg_base.specs.declared.transaction.TxState.TheVariants.{Limbo}
+use Rattle.mg_base.specs.declared.transaction.TxState.TheVariants.{Committed, Limbo}
 use Rattle.mg_chain.specs.Writing.{TakesOut}
 use Rattle.mg_chain_ties.specs.BackTies.{back_row, pages}
 use Rattle.mg_chain_ties.specs.Newest.{newest_found, newest_placed}
@@ -13,6 +13,8 @@ use Rattle.mg_engine_backs.specs.Claims.{every_as}
 use Rattle.mg_engine_backs.specs.KeyLaws.{given_claims, out_claims, out_else, out_here, unmarked_leaves}
 use Rattle.mg_engine_backs.specs.Midway.{GoesBack, IsBackAt, IsMidway, KeysGoOut}
 use Rattle.mg_engine_backs.specs.MidwayLaws.{midway_on}
+use Rattle.mg_engine_backs.specs.Shown.{TakesKeyBack}
+use Rattle.mg_engine_backs.specs.ToldBack.{told_out}
 use Rattle.mg_engine_steps.specs.Batches.{RowsLastStill}
 use Rattle.mg_engine_steps.specs.GoesOnLaws.{pool_is_kept, taking_out_is_read}
 use Rattle.mg_engine_steps.specs.Writes.{ReadsAfter}
@@ -20,13 +22,17 @@ use Rattle.mg_engine_writes.specs.ChangeKnown.{after_are, changes_after, turns_t
 use Rattle.mg_engine_writes.specs.Choices.{placed, read}
 use Rattle.mg_engine_writes.specs.Knowing.{WasChanged}
 use Rattle.mg_engine_writes.specs.SameRecords.{same_catalog}
+use Rattle.mg_generations.specs.After.{generations_back}
 use Rattle.mg_grown_overlays.specs.Growing.{IsTableOf}
 use Rattle.mg_image.specs.Form.{Form, Pages}
 use Rattle.mg_image.specs.Histories.{newest_at}
 use Rattle.mg_image.specs.ReadingLaws.{RowsAreOne}
-use Rattle.mg_image.specs.Records.{record_key}
+use Rattle.mg_image.specs.RecordRules.{Each, EachBack, IsRecord, IsVersion}
+use Rattle.mg_image.specs.Records.{record_key, writer}
 use Rattle.mg_image.specs.Sound.{facts_by}
 use Rattle.mg_image.specs.Tables.{stands_of, table_at}
+use Rattle.mg_image.specs.declared.entry.Entry.{Entry as Read}
+use Rattle.mg_image_steps.specs.Fronts.{is_dead}
 use Rattle.mg_image_steps.specs.Kinds.{HasNoSequences}
 use Rattle.mg_kept_images.specs.CommitLaws.{LeavesOthers}
 use Rattle.mg_kept_images.specs.KeptImages.{IsKept}
@@ -39,7 +45,7 @@ use Rattle.mg_model.specs.declared.change.Change.{Change}
 use Rattle.mg_model.specs.declared.change.Point.{Point}
 use Rattle.mg_model.specs.declared.opening.Opening.{Opening}
 use Rattle.mg_model.specs.declared.table.Table.{Table}
-use Rattle.mg_overlays.specs.Overlays.{left_state}
+use Rattle.mg_overlays.specs.Overlays.{left_by, left_state}
 use Rattle.mg_own_overlays.specs.BackEvery.{TakesBackRow}
 use Rattle.mg_own_overlays.specs.OwnVersion.{FindsNewest}
 use Rattle.mg_own_tables.specs.Whose.{maker_has}
@@ -47,12 +53,14 @@ use Rattle.mg_pool.specs.Batch.{Changed}
 use Rattle.mg_pool.specs.Pool.{shown}
 use Rattle.mg_pool.specs.declared.pool.Pool.{Pool}
 use Rattle.mg_pool_overlays.specs.Needs.{Asked, Sessions}
+use Rattle.mg_seek.specs.Histories.{told_versions}
 use Rattle.mg_space.specs.View.{viewed}
 use Rattle.mg_space_ties.specs.Changed.{KeptIn, fresh}
 use Rattle.mg_standing.specs.Standing.{Remembers, Standing}
 use Rattle.mg_table_stands.specs.DataKept.{KeepsBits}
 use Rattle.mg_value.specs.declared.value.Value.{Value}
-use Rattle.std.proofs.Common.{Bool, List, None, Some, [], ap, false, refl, sym, true, ℕ, ◌&&◌, ◌∙◌, ◌∷◌, ◌≡◌}
+use Rattle.mg_version.specs.declared.cell.Version.{Version}
+use Rattle.std.proofs.Common.{Bool, List, None, Option, Some, [], ap, false, refl, subst, sym, true, ℕ, ◌&&◌, ◌∙◌, ◌∷◌, ◌≡◌, ◌≢◌}
 
 module _ (D L : Type 0) (m : Meaning D) (form : Form) (one : RowsAreOne form.coding)
     (none : HasNoSequences form) (no_primary : form.in_primary ≡ false) (last : RowsLastStill D L m form)
@@ -153,9 +161,50 @@ module _ (D L : Type 0) (m : Meaning D) (form : Form) (one : RowsAreOne form.cod
       takes.newest takes.its.head.slot)
       at_key.may.no_catalog later.sound
 
+  its_own : writer found.newest ≡ t
+  its_own = ap (λ (w : Version). w.tx.0) found.version ∙ is_own
+
+  its_limbo : state (writer found.newest) ≡ Limbo
+  its_limbo = ap state its_own ∙ ap (left_by true) goes.active
+
+  lawful : IsRecord form.coding (facts_by state pool at_key.layout) table (at_key.reading rec)
+  lawful = at_key.sound.records.each rec table at_key.of_table
+
+  -- the versions behind have its key
+  key_behind : (es : List Read) → found.older ≡ es → es ≢ [] → record_key table es ≡ key
+  key_behind [] are some = absurd (some refl)
+  key_behind (x ∷ xs) are some = (subst (Each (IsVersion form.coding (facts_by state pool at_key.layout) table
+      (record_key table (at_key.reading rec)))) are
+      (subst (Each (IsVersion form.coding (facts_by state pool at_key.layout) table
+      (record_key table (at_key.reading rec)))) found.first lawful.each).1).0.keyed ∙ at_key.keyed
+
+  takes_out : (speaker : List ℕ → Value → Option RecId) → speaker name key ≡ Some rec
+      → TakesKeyBack form size o h e t s pool (shown after.dirty j) at_key.layout at_key.reading speaker name key rec
+      table
+  takes_out speaker spoken = record {
+    named = at_key.named;
+    of = at_key.of_table;
+    keyed = at_key.keyed;
+    spoken = spoken;
+    es = found.older;
+    reads = out_reads.0;
+    next = out_reads.1.next;
+    told = told_out state table t (own o (e ∷ h) t) name key found.newest found.older its_own (ap is_dead its_limbo)
+        (subst (EachBack (λ x. state (writer x) ≡ Committed)) found.first lawful.backs) none_left
+        ∙ ap (λ (es : List Read). generations_back (own o (e ∷ h) t) t name key (told_versions state table es))
+        (sym found.first);
+    key_stays = λ some. key_behind found.older refl some;
+  }
+
   pub goes_out : IsMidway m form size o h e t (without_key name key cs) s start after j has_asked session
-  goes_out = midway_on m form last o h e point s start before after i j batch has_asked session t cs
-      (without_key name key cs) opening legal memory goes midway was out_reads.1 kept_then
+      × ((speaker : List ℕ → Value → Option RecId) → speaker name key ≡ Some rec
+      → TakesKeyBack form size o h e t s pool (shown after.dirty j) at_key.layout at_key.reading speaker name key rec
+      table)
+  goes_out = (
+    midway_on m form last o h e point s start before after i j batch has_asked session t cs
+        (without_key name key cs) opening legal memory goes midway was out_reads.1 kept_then,
+    takes_out,
+  )
 
 pub keys_go_out : (form : Form) (D L : Type 0) (m : Meaning D) → RowsAreOne form.coding → HasNoSequences form
     → form.in_primary ≡ false → RowsLastStill D L m form → KeysGoOut form D L m

@@ -78,7 +78,7 @@ row_of None = None
 row_of (Some (records.Puts row)) = Some row
 row_of (Some records.Erases) = None
 
-row_back : (row : Option Cells) → row_of (Some (row_change row)) ≡ row
+pub row_back : (row : Option Cells) → row_of (Some (row_change row)) ≡ row
 row_back None = refl
 row_back (Some row) = refl
 

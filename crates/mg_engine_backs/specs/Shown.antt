@@ -1,8 +1,7 @@
 -- What the pages show while a transaction's changes are taken back, key by key, and at the end.
 use Rattle.mg_base.specs.declared.numbers.RecId.{RecId}
 use Rattle.mg_base.specs.declared.transaction.TxState.TheVariants.{Active}
-use Rattle.mg_engine_backs.specs.Again.{without_key}
-use Rattle.mg_engine_backs.specs.Midway.{AreTaken}
+use Rattle.mg_engine_backs.specs.Again.{AreTaken, without_key}
 use Rattle.mg_engine_steps.specs.Writes.{ReadsAfter}
 use Rattle.mg_generations.specs.After.{generations_back}
 use Rattle.mg_image.specs.Form.{Form, Pages}
@@ -28,12 +27,6 @@ use Rattle.mg_standing.specs.QuietPages.{FindsAfter}
 use Rattle.mg_standing.specs.Standing.{FindsTables, Remembers, ShowsHistory, Standing}
 use Rattle.mg_value.specs.declared.value.Value.{Value}
 use Rattle.std.proofs.Common.{List, None, Option, Some, [], ℕ, ◌∷◌, ◌≡◌, ◌≢◌, ◌⊎◌}
-use Rattle.mg_image.specs.declared.entry.Entry.{Entry as Read}
-use Rattle.mg_image.specs.declared.entry.Entry.{Entry as Read}
-use Rattle.mg_image.specs.declared.entry.Entry.{Entry as Read}
-use Rattle.mg_image.specs.declared.entry.Entry.{Entry as Read}
-use Rattle.mg_image.specs.declared.entry.Entry.{Entry as Read}
-use Rattle.mg_image.specs.declared.entry.Entry.{Entry as Read}
 use Rattle.mg_image.specs.Records as records
 
 -- A record speaks for its key, and that is taken back in it: its versions are those that the history with the

@@ -2,7 +2,7 @@
 use Rattle.mg_base.specs.declared.numbers.RecId.{RecId}
 use Rattle.mg_base.specs.declared.transaction.TxState.{TxState}
 use Rattle.mg_base.specs.declared.transaction.TxState.TheVariants.{Active}
-use Rattle.mg_engine_backs.specs.Midway.{AreTaken}
+use Rattle.mg_engine_backs.specs.Again.{AreTaken}
 use Rattle.mg_engine_backs.specs.OwnChains.{IsOwnTold, change_there, newest_second, none_second, own_told, row_of, row_there}
 use Rattle.mg_engine_backs.specs.Shown.{IsTakenBack, ShowsBack, ShowsFirst, ShowsMidway}
 use Rattle.mg_generations.specs.After.{generations_after, generations_back, generations_with, key_made}
@@ -38,12 +38,6 @@ use Rattle.mg_value.specs.declared.value.Value.{Value}
 use Rattle.std.proofs.Common.{Bool, List, None, Option, Some, [], ap, false, if◌then◌else◌, inl, inr, is_some, refl, subst, sym, true, ℕ, ◌∙◌, ◌∷◌, ◌≡◌, ◌≢◌, ◌⊎◌}
 use Rattle.std.proofs.Math.Path.{fun_ext}
 use Rattle.std.proofs.lemmas.Bool.{eqb-true, false≢true}
-use Rattle.mg_image.specs.declared.entry.Entry.{Entry as Read}
-use Rattle.mg_image.specs.declared.entry.Entry.{Entry as Read}
-use Rattle.mg_image.specs.declared.entry.Entry.{Entry as Read}
-use Rattle.mg_image.specs.declared.entry.Entry.{Entry as Read}
-use Rattle.mg_image.specs.declared.entry.Entry.{Entry as Read}
-use Rattle.mg_image.specs.declared.entry.Entry.{Entry as Read}
 use Rattle.mg_image.specs.Records as records
 
 -- ---- who speaks then

@@ -29,13 +29,6 @@ use Rattle.mg_value.specs.declared.value.Value.{Value}
 use Rattle.std.proofs.Common.{Bool, List, None, Option, Some, [], ap, false, if◌then◌else◌, inl, inr, refl, subst, sym, true, ℕ, ◌&&◌, ◌++◌, ◌∙◌, ◌∷◌, ◌≡◌, ◌≢◌, ◌⊎◌}
 use Rattle.std.proofs.lemmas.Bool.{and_parts, false≢true}
 use Rattle.std.specs.Cmp.Lexicographic.{same_text}
-use Rattle.mg_image.specs.declared.entry.Entry.{Entry as Read}
-use Rattle.mg_image.specs.declared.entry.Entry.{Entry as Read}
-use Rattle.mg_image.specs.declared.entry.Entry.{Entry as Read}
-use Rattle.mg_image.specs.declared.entry.Entry.{Entry as Read}
-use Rattle.mg_image.specs.declared.entry.Entry.{Entry as Read}
-use Rattle.mg_image.specs.declared.entry.Entry.{Entry as Read}
-use Rattle.mg_image.specs.declared.entry.Entry.{Entry as Read}
 use Rattle.mg_image.specs.Records as records
 
 -- what is newest in a list is so in the list with none behind

@@ -15,7 +15,7 @@
 //!
 //! What the pages show goes the same way (`ShowsMidway`): at first what they showed (`ShowsFirst`), after each key
 //! the record that speaks for it as the longer history says it (`ShowsOnward`), at the end that history
-//! (`ShowsBack`).
+//! (`ShowsBack`). So the engine stands for it (`EnginesGoBack`).
 //!
 //! Invariant: none, it keeps no state.
 //! Below: `mg_engine_writes`, what an engine knows of a write; `mg_engine_entries`, a rollback's cache. Above: the
@@ -25,4 +25,4 @@
 
 mod laws;
 
-pub use laws::{changes_are_taken_back, pages_show_what_is_taken_back};
+pub use laws::{changes_are_taken_back, engines_go_back, pages_show_what_is_taken_back};
