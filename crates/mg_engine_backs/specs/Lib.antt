@@ -11,3 +11,4 @@ pub mod ShownEnd
 pub mod ShownSteps
 pub mod ToldBack
 pub mod EngineBack
+pub mod GivenUp

@@ -16,6 +16,7 @@ use Rattle.mg_image.specs.Records.{Reading, record_key}
 use Rattle.mg_image.specs.Sound.{IsSoundBy}
 use Rattle.mg_image.specs.Tables.{Layout, stands_of, table_at}
 use Rattle.mg_lasting.specs.Crashes.{HoldsAcknowledged, LeavesSince, may_last}
+use Rattle.mg_lasting.specs.Entries.{is_idle}
 use Rattle.mg_lasting.specs.Lasting.{LastsOn}
 use Rattle.mg_model.specs.Changes.{Cells}
 use Rattle.mg_model.specs.History.{Entries, Entry, TakesBack, effect_of}
@@ -142,3 +143,15 @@ EnginesGoBack form D L m = (o : Opening) (h : Entries) (e : Entry) (point : Poin
     → IsMidway m form pool.geometry.size o h e t [] s start pool i asked session
     → ShowsMidway form pool.geometry.size o h e t whole [] s (shown start.dirty k) stands.shows (shown pool.dirty i)
     → HasGoneOn m form pool.geometry.size o h e new start pool i asked session
+
+-- ---- given up in the middle
+
+-- The event was refused in the middle, and the transaction is rolled back: the cache lasts with the history that
+-- has the refused event and the rollback.
+abbrev pub MidwaysAreGivenUp : Form → (D L : Type 0) → Meaning D → Type 0
+MidwaysAreGivenUp form D L m = (o : Opening) (h : Entries) (e refused : Entry) (s : Standing)
+    (start pool : Pool D L) (i : Image) (asked : Asked) (session : Sessions) (t : ℕ) (left : List Change)
+    → is_idle (effect_of refused) ≡ true → is_durable refused ≡ false → may_last refused ≡ false
+    → IsMidway m form pool.geometry.size o h e t left s start pool i asked session
+    → LastsOn m form o (rolling t ∷ refused ∷ h) pool asked session
+    × LeavesSince m start.disk pool.disk (HoldsAcknowledged form pool.geometry.size o h)

@@ -1,6 +1,7 @@
 //! What is taken back key by key. Each function does nothing: its contract is the laws.
 
-ghost use Rattle.mg_engine_backs.specs.Midway.{EnginesGoBack, KeysComeBack, KeysGoOut, MidwaysBegin, MidwaysEnd};
+ghost use Rattle.mg_engine_backs.specs.Midway.{EnginesGoBack, KeysComeBack, KeysGoOut, MidwaysAreGivenUp};
+ghost use Rattle.mg_engine_backs.specs.Midway.{MidwaysBegin, MidwaysEnd};
 ghost use Rattle.mg_engine_backs.specs.Shown.{ShowsBack, ShowsFirst, ShowsOnward};
 ghost use Rattle.mg_image.specs.Form.{packed_form};
 
@@ -18,6 +19,7 @@ pub fn changes_are_taken_back<D: Disk, L: Links>()
     ensures out { KeysGoOut packed_form D L D.meaning }
     ensures back { KeysComeBack packed_form D L D.meaning }
     ensures end { MidwaysEnd packed_form D L D.meaning }
+    ensures given_up { MidwaysAreGivenUp packed_form D L D.meaning }
 {
     one_reading();
     batches_last::<D, L>();

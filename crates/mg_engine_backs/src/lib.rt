@@ -11,7 +11,8 @@
 //! - At the end (`MidwaysEnd`): the cache lasts with the history that has the entry.
 //!
 //! A crash in between leaves what the history before the entry has (`IsMidway`), and as if the transaction were
-//! rolled back: so it is rolled back from there, too.
+//! rolled back: so where a step is refused, the cache lasts with the history that has the refused event and the
+//! rollback (`MidwaysAreGivenUp`).
 //!
 //! What the pages show goes the same way (`ShowsMidway`): at first what they showed (`ShowsFirst`), after each key
 //! the record that speaks for it as the longer history says it (`ShowsOnward`), at the end that history
