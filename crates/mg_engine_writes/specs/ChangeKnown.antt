@@ -20,18 +20,6 @@ use Rattle.mg_value.specs.declared.value.Value.{Value}
 use Rattle.std.proofs.Common.{Bool, List, None, Option, ap, false, if◌then◌else◌, inl, inr, refl, sym, true, ℕ, ◌&&◌, ◌==◌, ◌∙◌, ◌∷◌, ◌≡◌, ◌≢◌, ◌⊎◌}
 use Rattle.std.proofs.lemmas.Bool.{and_parts, cases_eq, eq-eqb, false≢true, ne_eqb}
 use Rattle.std.specs.Cmp.Lexicographic.{same_text}
-use Rattle.mg_model.specs.History.{Entries, Entry as Event}
-use Rattle.mg_model.specs.declared.change.Change.{Change as Made}
-use Rattle.mg_model.specs.History.{Entries, Entry as Event}
-use Rattle.mg_model.specs.declared.change.Change.{Change as Made}
-use Rattle.mg_model.specs.History.{Entries, Entry as Event}
-use Rattle.mg_model.specs.declared.change.Change.{Change as Made}
-use Rattle.mg_model.specs.History.{Entries, Entry as Event}
-use Rattle.mg_model.specs.declared.change.Change.{Change as Made}
-use Rattle.mg_model.specs.History.{Entries, Entry as Event}
-use Rattle.mg_model.specs.declared.change.Change.{Change as Made}
-use Rattle.mg_model.specs.History.{Entries, Entry as Event}
-use Rattle.mg_model.specs.declared.change.Change.{Change as Made}
 
 -- a transaction's changes after an entry are those of the longer history, all others are as before
 abbrev pub changes_after : Opening → Entries → Event → ℕ → Changes → Changes

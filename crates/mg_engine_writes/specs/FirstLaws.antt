@@ -48,13 +48,6 @@ use Rattle.mg_table_stands.specs.DataKept.{KeepsBits}
 use Rattle.mg_value.specs.declared.value.Value.{Value}
 use Rattle.mg_version.specs.declared.cell.Version.{Version}
 use Rattle.std.proofs.Common.{List, None, Option, Some, [], inr, subst, sym, ℕ, ◌<◌, ◌∙◌, ◌∷◌, ◌≡◌}
-use Rattle.mg_model.specs.History.{Entries, Entry as Event}
-use Rattle.mg_model.specs.History.{Entries, Entry as Event}
-use Rattle.mg_model.specs.History.{Entries, Entry as Event}
-use Rattle.mg_model.specs.History.{Entries, Entry as Event}
-use Rattle.mg_model.specs.History.{Entries, Entry as Event}
-use Rattle.mg_model.specs.History.{Entries, Entry as Event}
-use Rattle.mg_model.specs.History.{Entries, Entry as Event}
 
 module _ (D L : Type 0) (m : Meaning D) (form : Form) (one : RowsAreOne form.coding)
     (none : HasNoSequences form) (begins : OpeningsBegin) (go : WritesGoOn D L m form) (o : Opening)

@@ -35,16 +35,6 @@ use Rattle.mg_standing.specs.Writing.{WritesKey}
 use Rattle.mg_value.specs.declared.value.Value.{Value}
 use Rattle.mg_version.specs.declared.cell.Version.{Version}
 use Rattle.std.proofs.Common.{List, None, Option, Some, false, if◌then◌else◌, true, ℕ, ◌≡◌, ◌≢◌, ◌⊎◌}
-use Rattle.mg_model.specs.History.{Entries, Entry as Event}
-use Rattle.mg_model.specs.History.{Entries, Entry as Event}
-use Rattle.mg_model.specs.History.{Entries, Entry as Event}
-use Rattle.mg_model.specs.History.{Entries, Entry as Event}
-use Rattle.mg_model.specs.History.{Entries, Entry as Event}
-use Rattle.mg_model.specs.History.{Entries, Entry as Event}
-use Rattle.mg_model.specs.History.{Entries, Entry as Event}
-use Rattle.mg_model.specs.History.{Entries, Entry as Event}
-use Rattle.mg_model.specs.History.{Entries, Entry as Event}
-use Rattle.mg_model.specs.History.{Entries, Entry as Event}
 
 -- ---- the batch
 

@@ -14,3 +14,4 @@ pub mod OwnLaws
 pub mod SpotLaws
 pub mod DeadLaws
 pub mod Free
+pub mod Unasked

@@ -49,13 +49,6 @@ use Rattle.mg_value.specs.declared.value.Value.{Value}
 use Rattle.mg_version.specs.declared.cell.Link.{Link}
 use Rattle.mg_version.specs.declared.cell.Version.{Version}
 use Rattle.std.proofs.Common.{Bool, List, Option, Some, ap, false, inl, inr, true, ℕ, ◌<◌, ◌∙◌, ◌∷◌, ◌≡◌}
-use Rattle.mg_model.specs.History.{Entries, Entry as Event}
-use Rattle.mg_model.specs.History.{Entries, Entry as Event}
-use Rattle.mg_model.specs.History.{Entries, Entry as Event}
-use Rattle.mg_model.specs.History.{Entries, Entry as Event}
-use Rattle.mg_model.specs.History.{Entries, Entry as Event}
-use Rattle.mg_model.specs.History.{Entries, Entry as Event}
-use Rattle.mg_model.specs.History.{Entries, Entry as Event}
 
 -- It is kept for a longer history, and so the record is read, wherever the version stands.
 pub record IsRewritten {D L : Type 0} (form : Form) (size : ℕ) (o : Opening) (later : Entries)

@@ -28,18 +28,6 @@ use Rattle.mg_standing.specs.Standing.{Standing, Stands}
 use Rattle.mg_value.specs.declared.value.Value.{Value}
 use Rattle.mg_version.specs.declared.cell.Version.{Version}
 use Rattle.std.proofs.Common.{List, None, Option, Some, ℕ, ◌≡◌, ◌≢◌}
-use Rattle.mg_model.specs.History.{Entries, Entry as Event}
-use Rattle.mg_model.specs.History.{Entries, Entry as Event}
-use Rattle.mg_model.specs.History.{Entries, Entry as Event}
-use Rattle.mg_model.specs.History.{Entries, Entry as Event}
-use Rattle.mg_model.specs.History.{Entries, Entry as Event}
-use Rattle.mg_model.specs.History.{Entries, Entry as Event}
-use Rattle.mg_model.specs.History.{Entries, Entry as Event}
-use Rattle.mg_model.specs.History.{Entries, Entry as Event}
-use Rattle.mg_model.specs.History.{Entries, Entry as Event}
-use Rattle.mg_model.specs.History.{Entries, Entry as Event}
-use Rattle.mg_model.specs.History.{Entries, Entry as Event}
-use Rattle.mg_model.specs.History.{Entries, Entry as Event}
 
 -- a version is pushed over a committed one: an update or a deletion, and a row that comes where a deletion is
 abbrev pub PushesGoOn : Form → (D L : Type 0) → Meaning D → Type 0

@@ -47,17 +47,6 @@ use Rattle.mg_version.specs.declared.cell.Link.{Link}
 use Rattle.mg_version.specs.declared.cell.Version.{Version}
 use Rattle.std.proofs.Common.{Bool, List, None, Option, Some, [], ap, arith, false, if◌then◌else◌, inl, inr, refl, subst, sym, true, ℕ, ◌&&◌, ◌++◌, ◌<◌, ◌∙◌, ◌∷◌, ◌≡◌, ◌≢◌, ◌≤◌, ◌⊎◌}
 use Rattle.std.proofs.lemmas.Bool.{cases_lt}
-use Rattle.mg_model.specs.History.{Entries, Entry as Event, effect_of}
-use Rattle.mg_model.specs.History.{Entries, Entry as Event, effect_of}
-use Rattle.mg_model.specs.History.{Entries, Entry as Event, effect_of}
-use Rattle.mg_model.specs.History.{Entries, Entry as Event, effect_of}
-use Rattle.mg_model.specs.History.{Entries, Entry as Event, effect_of}
-use Rattle.mg_model.specs.History.{Entries, Entry as Event, effect_of}
-use Rattle.mg_model.specs.History.{Entries, Entry as Event, effect_of}
-use Rattle.mg_model.specs.History.{Entries, Entry as Event, effect_of}
-use Rattle.mg_model.specs.History.{Entries, Entry as Event, effect_of}
-use Rattle.mg_model.specs.History.{Entries, Entry as Event, effect_of}
-use Rattle.mg_model.specs.History.{Entries, Entry as Event, effect_of}
 
 passes_back : (first rest : List Check) → PassesAll (first ++ rest) → PassesAll rest
 passes_back [] rest passes = passes

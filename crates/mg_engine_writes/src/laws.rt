@@ -2,6 +2,7 @@
 
 ghost use Rattle.mg_engine_writes.specs.Free.{RecordsAreFree};
 ghost use Rattle.mg_engine_writes.specs.Rows.{DeadsGo, FirstsGoOn, PushesGoOn, ReplacementsGoOn, SpotsStay};
+ghost use Rattle.mg_engine_writes.specs.Unasked.{UnaskingLasts};
 ghost use Rattle.mg_image.specs.Form.{packed_form};
 
 use mg_base::Disk;
@@ -62,3 +63,8 @@ pub fn records_are_free()
 {
     records_are_those_of_every_reading();
 }
+
+/// A transaction that has asked for its commit, and writes on, counts as one that has not.
+pub fn unasking_lasts<D: Disk, L: Links>()
+    ensures { UnaskingLasts packed_form D L D.meaning }
+{}

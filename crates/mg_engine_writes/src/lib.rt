@@ -8,6 +8,9 @@
 //! engine with the same history (`SpotsStay`), and so does a dead transaction's version that is taken out
 //! (`DeadsGo`). Which of these a record wants in whose way nobody is, `RecordsAreFree` tells.
 //!
+//! A transaction that has asked for its commit, and then writes on, is first taken for one that has not
+//! (`UnaskingLasts`): the laws on a write ask for that.
+//!
 //! What is known stands in `specs/Knowing`: the batch (`WasChanged`), the entry, which memory follows
 //! (`EntersWrite`), the table (`MayWriteInto`), the row (`CodesRow`). The laws on overlays ask for this under
 //! each choice of transactions that count; that it follows from the one in which all do is `Choices` and
@@ -15,12 +18,13 @@
 //!
 //! Invariant: none, it keeps no state.
 //! Below: `mg_chain_ties`, that every overlay is kept; `mg_engine_steps`, batches and what is read after them;
-//! `mg_engine_answers`, what was found before. Above: the engine.
-//! Not here: rows of the catalog, and versions that are taken back (`mg_engine_backs`).
+//! `mg_seek`, who is in the way. Above: the engine, which has from `mg_engine_answers` who speaks for a key.
+//! Not here: rows of the catalog, and versions that are taken back.
 #![tactic(auto)]
 
 mod laws;
 
 pub use laws::{
     deads_go, firsts_go_on, pushes_go_on, records_are_free, replacements_go_on, spots_stay,
+    unasking_lasts,
 };

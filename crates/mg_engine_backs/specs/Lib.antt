@@ -1,0 +1,14 @@
+pub mod Again
+pub mod Claims
+pub mod Midway
+pub mod MidwayLaws
+pub mod KeyLaws
+pub mod OutLaws
+pub mod BackLaws
+pub mod OwnChains
+pub mod Shown
+pub mod ShownEnd
+pub mod ShownSteps
+pub mod ToldBack
+pub mod EngineBack
+pub mod GivenUp
