@@ -2,6 +2,8 @@
 use Rattle.std.proofs.Common.{◌≡◌, ◌≢◌, ◌⊎◌, inl, inr, ap, sym, subst, ◌∙◌, ℕ, ◌/◌, ◌<◌, ◌≤◌}
 use Rattle.std.specs.Prelude.{slice_index_or}
 use Rattle.std.proofs.lemmas.Bool.{cases_eq}
+use Rattle.mg_base.specs.Disk.{Meaning}
+use Rattle.mg_base.specs.Image.{Image}
 use Rattle.mg_base.specs.declared.transaction.TxState.{TxState}
 use Rattle.mg_tip.specs.TipPage.{places}
 use Rattle.mg_image.specs.Form.{Form, Pages}
@@ -10,10 +12,13 @@ use Rattle.mg_image.specs.Records.{Reading}
 use Rattle.mg_image.specs.Sound.{IsSoundBy}
 use Rattle.mg_image.specs.Tables.{Layout}
 use Rattle.mg_image_steps.specs.Kinds.{HasNoSequences}
+use Rattle.mg_pool.specs.Pool.{shown}
+use Rattle.mg_pool.specs.declared.pool.Pool.{Pool}
 use Rattle.mg_txlist.specs.TxList.{KeepsBits, no_page, tip_in}
 use Rattle.mg_txlist.specs.declared.list.TipPage.{TipPage}
 use Rattle.mg_txlist.specs.declared.list.TxList.{TxList}
 use Rattle.mg_txlist_ties.specs.CommitTies.{ShowsTip}
+use Rattle.mg_txlist_ties.specs.DrawTies.{DrawsFrom}
 use Rattle.mg_engine_commits.specs.TipPages.{SetsBits, next_same, page_is, other_page, tip_stays, within_last}
 
 -- the page of each number that was drawn
@@ -32,6 +37,14 @@ abbrev pub ListsStay : Type 0
 ListsStay = (old now : TxList) (size : ℕ) (pages later : Pages) → now.size ≡ old.size
     → now.pages ≡ old.pages → next_of later ≡ next_of pages → TipsStay size pages later
     → ListShows old size pages → ListShows now size later
+
+-- and where a number is drawn from it
+abbrev pub DrawsKeepList : (D L : Type 0) → Meaning D → Form → Type 0
+DrawsKeepList D L m form = (old new : TxList) (before after : Pool D L) (i j : Image)
+    (state : ℕ → TxState) (layout : Layout) (r : Reading) → DrawsFrom m old new before after i j
+    → IsSoundBy form before.geometry.size state (shown before.dirty i) layout r
+    → ListShows old before.geometry.size (shown before.dirty i)
+    → ListShows new before.geometry.size (shown after.dirty j)
 
 pub lists_stay : ListsStay
 lists_stay old now size pages later sized same next tips shows t below =
