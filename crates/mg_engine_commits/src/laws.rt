@@ -2,7 +2,7 @@
 
 ghost use Rattle.mg_image.specs.Form.{packed_form};
 ghost use Rattle.mg_engine_commits.specs.Commits.{CommitsFail, CommitsGoOn};
-ghost use Rattle.mg_engine_commits.specs.ListShows.{DrawsKeepList, ListsStay};
+ghost use Rattle.mg_engine_commits.specs.ListShows.{BehindKeepsTips, DataKeepsTips, DrawsKeepList, ListsStay, TipsStayOn};
 ghost use Rattle.mg_engine_commits.specs.PageWrites.{AskingGoesOn, AsksOtherwise, PageWritesFail, PageWritesGoOn};
 
 use mg_base::Disk;
@@ -20,6 +20,14 @@ pub fn page_writes_go_on<D: Disk, L: Links>()
 {
     histories_go_on();
 }
+
+/// The pages of transactions stay where a data page is changed, where the pages before are behind those after, and
+/// over two such steps.
+pub fn tips_stay()
+    ensures data { DataKeepsTips packed_form }
+    ensures behind { BehindKeepsTips }
+    ensures on { TipsStayOn }
+{}
 
 /// A list goes on to have the pages of transactions as the cache shows them, where they stay, and where a number
 /// is drawn from it.

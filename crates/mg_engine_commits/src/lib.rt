@@ -19,4 +19,4 @@
 
 mod laws;
 
-pub use laws::{commits_fail, commits_go_on, lists_go_on, page_writes_go_on};
+pub use laws::{commits_fail, commits_go_on, lists_go_on, page_writes_go_on, tips_stay};
