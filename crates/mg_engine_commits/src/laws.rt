@@ -2,11 +2,12 @@
 
 ghost use Rattle.mg_image.specs.Form.{packed_form};
 ghost use Rattle.mg_engine_commits.specs.Commits.{CommitsFail, CommitsGoOn};
-ghost use Rattle.mg_engine_commits.specs.ListShows.{ListsStay};
+ghost use Rattle.mg_engine_commits.specs.ListShows.{BehindKeepsTips, DataKeepsTips, DrawsKeepList, ListsStay, TipsStayOn};
 ghost use Rattle.mg_engine_commits.specs.PageWrites.{AskingGoesOn, AsksOtherwise, PageWritesFail, PageWritesGoOn};
 
 use mg_base::Disk;
 use mg_careful::Links;
+use mg_image::one_reading;
 use mg_model::histories_go_on;
 use mg_standing::standings_go_on;
 
@@ -20,10 +21,22 @@ pub fn page_writes_go_on<D: Disk, L: Links>()
     histories_go_on();
 }
 
-/// A list goes on to have the pages of transactions as the cache shows them, where they stay.
-pub fn lists_stay()
-    ensures { ListsStay }
+/// The pages of transactions stay where a data page is changed, where the pages before are behind those after, and
+/// over two such steps.
+pub fn tips_stay()
+    ensures data { DataKeepsTips packed_form }
+    ensures behind { BehindKeepsTips }
+    ensures on { TipsStayOn }
 {}
+
+/// A list goes on to have the pages of transactions as the cache shows them, where they stay, and where a number
+/// is drawn from it.
+pub fn lists_go_on<D: Disk, L: Links>()
+    ensures stay { ListsStay }
+    ensures drawn { DrawsKeepList D L D.meaning packed_form }
+{
+    one_reading();
+}
 
 /// A commit takes an engine to the history with it.
 pub fn commits_go_on<D: Disk, L: Links>()

@@ -6,7 +6,7 @@
 //! crash left the history with the commit or without it (`CommitsFail`). Below these stands what the bits make
 //! of the pages, whatever transactions count as: a sound image stays sound with its layout and reading, and
 //! says of all other transactions what it said (`specs/TipPages`); and that the list has the pages of transactions
-//! as the cache shows them (`ListShows`), which goes on under a commit and where these pages stay.
+//! as the cache shows them (`ListShows`), which goes on under a commit, under a draw, and where these pages stay.
 //!
 //! `specs/PageWrites` and `specs/Commits` have what counts, the other files prove it. There is no program here:
 //! each function does nothing, and its contract is a law.
@@ -19,4 +19,4 @@
 
 mod laws;
 
-pub use laws::{commits_fail, commits_go_on, lists_stay, page_writes_go_on};
+pub use laws::{commits_fail, commits_go_on, lists_go_on, page_writes_go_on, tips_stay};

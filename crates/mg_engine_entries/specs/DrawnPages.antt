@@ -107,7 +107,7 @@ module _ (form : Form) (one : RowsAreOne form.coding) (none : HasNoSequences for
 
   module _ (raises : RaisesHead size pool view (header_of pool).last_tip.0)
       (others : (p : ℕ) → p ≢ 0 → view p ≡ pool p) (adds_page : AddsPage old new None) where
-    number : DrawsNumber size pool view
+    pub number : DrawsNumber size pool view
     number = draws_number size pool view raises others (same_last old new size pool view from.was from.now
         from.adds from.size from.next (raised_next size (header_of pool).last_tip.0 pool view raises) adds_page)
 
@@ -121,7 +121,7 @@ module _ (form : Form) (one : RowsAreOne form.coding) (none : HasNoSequences for
         (number_content form size state pool view layout r none (trees_stay form size) sound number
         (t / places size) within)
 
-    raised : next_of view ≡ next_of pool + 1
+    pub raised : next_of view ≡ next_of pool + 1
     raised = raised_next size (header_of pool).last_tip.0 pool view raises
 
     on_last_page : next_of pool / places size ≡ last_sequence size pool
@@ -149,7 +149,7 @@ module _ (form : Form) (one : RowsAreOne form.coding) (none : HasNoSequences for
     abbrev at : ℕ
     at = inventory_page size (region_of size made.page)
 
-    made_raised : next_of view ≡ next_of pool + 1
+    pub made_raised : next_of view ≡ next_of pool + 1
     made_raised = raised_next size made.page pool view raises
 
     more : last_sequence size view ≡ suc (last_sequence size pool)
@@ -181,19 +181,19 @@ module _ (form : Form) (one : RowsAreOne form.coding) (none : HasNoSequences for
         (header_of pool).last_tip.0 (next_said old / places size) takes made_there takes.free.no_header
         others sound.header.whole
 
-    draws : DrawsPage size mid view made.page
+    pub draws : DrawsPage size mid view made.page
     draws = tip_draws before.geometry from.geometry pool taken view made.page
         (header_of pool).last_tip.0 (next_said old / places size) takes made_there takes.free.no_header
         others sound.header.whole raises more seq_is refl small_seq small_last
 
-    keeps : KeepsLinked form size pool mid layout
+    pub keeps : KeepsLinked form size pool mid layout
     keeps = keeps_linked form size state pool mid pool mid at made.page none (trees_stay form size) occupies
         layout r sound (λ k is. is) (taken_whole pool mid at made.page occupies.others)
 
-    mid_sound : IsSoundBy form size state mid layout r
+    pub mid_sound : IsSoundBy form size state mid layout r
     mid_sound = frame_sound form size state pool mid layout r sound keeps
 
-    off_page : Has (linked_pages size mid layout) made.page → ⊥
+    pub off_page : Has (linked_pages size mid layout) made.page → ⊥
     off_page = off form size state pool mid pool mid at made.page none (trees_stay form size) occupies
         layout r sound (λ k is. is) (taken_whole pool mid at made.page occupies.others)
 
@@ -201,7 +201,7 @@ module _ (form : Form) (one : RowsAreOne form.coding) (none : HasNoSequences for
     new_sound = page_sound form size state mid view layout r none (trees_stay form size) mid_sound made.page
         draws off_page (none_old made.page raises)
 
-    kept_tip : (sequence : ℕ) → sequence ≤ last_sequence size pool
+    pub kept_tip : (sequence : ℕ) → sequence ≤ last_sequence size pool
         → mid (tip_page size pool sequence) ≡ pool (tip_page size pool sequence)
     kept_tip = tip_kept form size state pool mid layout r sound keeps
 
@@ -220,7 +220,7 @@ module _ (form : Form) (one : RowsAreOne form.coding) (none : HasNoSequences for
         (page_content form size state mid view layout r none (trees_stay form size) mid_sound made.page draws
         off_page (t / places size) within)
 
-    its_page : next_of pool / places size ≡ suc (last_sequence size pool)
+    pub its_page : next_of pool / places size ≡ suc (last_sequence size pool)
     its_page = ap (λ (k : ℕ). k / places size) (sym from.next) ∙ seq_is
 
     own_undrawn : IsUndrawn (bits_state size view (next_of pool))
@@ -248,7 +248,7 @@ module _ (form : Form) (one : RowsAreOne form.coding) (none : HasNoSequences for
     new_drawn made taken takes bytes_are there raises others adds_page,
   )
 
-  view_is : shown after.dirty j ≡ view
+  pub view_is : shown after.dirty j ≡ view
   view_is = (changed_batches_are D L m before from.draws.ready after i j from.draws.batch (λ t. false) (λ t. 0)
       from.draws.keeps from.draws.frame from.tells from.held).pool
 
