@@ -4,3 +4,6 @@ pub mod Events
 pub mod Committing
 pub mod Ending
 pub mod Beginning
+pub mod Tables
+pub mod Scanning
+pub mod Opening

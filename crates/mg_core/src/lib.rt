@@ -5,21 +5,28 @@
 //!
 //! Every call of a transaction begins so: once a page write has failed it is refused by `Offline`; else it
 //! is refused by `NotActive` where the transaction isn't active. An event ends the wait of its transaction
-//! first. A refusal changes nothing else, but for what was read and counted.
+//! first; to ask for a table and to walk over its records are no events. A refusal changes nothing else, but
+//! for what was read and counted.
 //!
 //! Invariant (`IsCore`): the cache and the transaction list are lawful and of one page size; the active
 //! transactions are those that the list says are active; the bases' next number is the list's; the
 //! catalog is the table that the file format says.
-//! Below: `mg_space`, for the pages; `mg_txlist`, `mg_snap`, `mg_waits` and `mg_works`, for the memory.
+//! Below: `mg_space`, for the pages; `mg_txlist`, `mg_snap`, `mg_waits` and `mg_works`, for the memory;
+//! `mg_database`, which opens and closes a disk; `mg_seek`, which finds tables and rows.
 //! Above: the engine as a keeper of records, which stands for a history.
-//! Not here: histories, what crashes leave, and the records of tables.
+//! Not here: histories, and what crashes leave.
 #![tactic(auto)]
 
 mod beginning;
 mod committing;
 mod ending;
 mod events;
+mod opening;
 mod parts;
 mod refusing;
+mod scanning;
+mod states;
+mod tables;
 
 pub use parts::Core;
+pub use scanning::Place;
