@@ -4,3 +4,6 @@ mod BeginningLemmas
 mod FailLemmas
 mod StageLemmas
 mod WriteLemmas
+mod TableLemmas
+mod ScanLemmas
+mod OpeningLemmas

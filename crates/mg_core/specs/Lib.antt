@@ -8,3 +8,6 @@ pub mod Reading
 pub mod Obstacles
 pub mod Putting
 pub mod Writing
+pub mod Tables
+pub mod Scanning
+pub mod Opening

@@ -5,7 +5,8 @@
 //!
 //! Every call of a transaction begins so: once a page write has failed it is refused by `Offline`; else it
 //! is refused by `NotActive` where the transaction isn't active. An event ends the wait of its transaction
-//! first. A refusal changes nothing else, but for what was read and counted.
+//! first; to ask for a table and to walk over its records are no events. A refusal changes nothing else, but
+//! for what was read and counted.
 //!
 //! Invariant (`IsCore`): the cache and the transaction list are lawful and of one page size; the active
 //! transactions are those that the list says are active; the bases' next number is the list's; the
@@ -13,8 +14,9 @@
 //! A row is written stage by stage (`write_step`): nobody is in the way by the table's row of the catalog, the
 //! row in the view allows it, nobody is in the way by the record, and the version is laid.
 //!
-//! Below: `mg_space`, for the pages; `mg_row_writes`, for rows on them; `mg_txlist`, `mg_snap`, `mg_waits` and
-//! `mg_works`, for the memory.
+//! Below: `mg_space`, for the pages; `mg_row_writes`, for rows on them, and `mg_seek`, which finds tables and
+//! rows; `mg_txlist`, `mg_snap`, `mg_waits` and `mg_works`, for the memory; `mg_database`, which opens and
+//! closes a disk.
 //! Above: the engine as a keeper of records, which stands for a history.
 //! Not here: histories, and what crashes leave.
 #![tactic(auto)]
@@ -24,10 +26,14 @@ mod committing;
 mod ending;
 mod events;
 mod obstacles;
+mod opening;
 mod parts;
 mod putting;
 mod refusing;
+mod scanning;
 mod states;
+mod tables;
 mod writing;
 
 pub use parts::Core;
+pub use scanning::Place;

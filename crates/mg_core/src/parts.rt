@@ -1,6 +1,6 @@
 //! What an engine has.
 
-use mg_base::{Disk, TxNo, TxState};
+use mg_base::{Disk, Markers, TxNo, TxState};
 use mg_model::Table;
 use mg_snap::Live;
 use mg_space::Store;
@@ -22,6 +22,8 @@ pub struct Core<D> {
     pub(crate) works: Works,
     /// The table of the catalog, which stands where the header says.
     pub(crate) catalog: Table,
+    /// Those of the header when the database was opened.
+    pub(crate) markers: Markers,
     /// How often a page was found damaged.
     pub(crate) damage: u64,
     /// How often pages were short.
@@ -30,7 +32,7 @@ pub struct Core<D> {
 
 impl<D: Disk> Core<D> {
     ghost use Rattle.std.specs.Prelude.{◌≡◌};
-    ghost use Rattle.mg_txlist.specs.TxList.{said};
+    ghost use Rattle.mg_txlist.specs.TxList.{next_said, said};
     ghost use Rattle.mg_core.specs.Cores.{IsCore};
 
     /// What has become of a transaction.
@@ -39,6 +41,18 @@ impl<D: Disk> Core<D> {
         ensures { result ≡ said self.now.list t.0 }
     {
         self.list.state(t)
+    }
+
+    /// The oldest interesting, oldest active and oldest snapshot transaction as the header has them, which
+    /// only a sweep moves, and the number that is drawn next.
+    pub fn markers(&self) -> Markers
+        requires { IsCore D.meaning self.now }
+        ensures { result ≡ record self.now.markers { next = record { 0 = next_said self.now.list } } }
+    {
+        Markers {
+            next: self.list.next(),
+            ..self.markers
+        }
     }
 
     /// The disk, with what was written to it.

@@ -45,6 +45,31 @@ pub(crate) fn bits_refusal(fault: SpaceFault) -> Refusal
     }
 }
 
+/// The refusal that a fault of a call on the pages is.
+pub(crate) fn refusal_of(fault: SpaceFault) -> Refusal
+    ensures { IsRefusal fault result }
+{
+    match fault {
+        SpaceFault::Full { limit } => Refusal::DatabaseFull { limit },
+        SpaceFault::Damaged(damage) => Refusal::Damaged {
+            page: damage.page,
+            field: damage.field,
+            found: damage.found,
+            wanted: damage.wanted,
+        },
+        SpaceFault::Pool(PoolFault::DiskRead { faults }) => Refusal::DiskRead { faults },
+        SpaceFault::Pool(PoolFault::DiskWrite { faults }) => Refusal::DiskWrite { faults },
+        SpaceFault::Pool(PoolFault::Offline { faults }) => Refusal::Offline { faults },
+        SpaceFault::Pool(PoolFault::Memory) => Refusal::Memory,
+        SpaceFault::Pool(PoolFault::Absent { pages }) => Refusal::Damaged {
+            page: PageNo(0),
+            field: Field::Presence,
+            found: u64::from(pages),
+            wanted: u64::from(pages),
+        },
+    }
+}
+
 impl<D> Core<D> {
     /// The refusal that a fault of a call on the pages is. Damage is counted, and so is want of pages.
     pub(crate) fn refuse(&mut self, fault: SpaceFault) -> Refusal
@@ -53,32 +78,15 @@ impl<D> Core<D> {
         ensures same { self.new ≡ record self.old { damage = self.new.damage; shortages = self.new.shortages } }
     {
         match fault {
-            SpaceFault::Full { limit } => {
+            SpaceFault::Full { .. } => {
                 self.shortages = self.shortages.saturating_add(1);
-                Refusal::DatabaseFull { limit }
             }
-            SpaceFault::Damaged(damage) => {
+            SpaceFault::Damaged(_) => self.damage = self.damage.saturating_add(1),
+            SpaceFault::Pool(PoolFault::Absent { .. }) => {
                 self.damage = self.damage.saturating_add(1);
-                Refusal::Damaged {
-                    page: damage.page,
-                    field: damage.field,
-                    found: damage.found,
-                    wanted: damage.wanted,
-                }
             }
-            SpaceFault::Pool(PoolFault::DiskRead { faults }) => Refusal::DiskRead { faults },
-            SpaceFault::Pool(PoolFault::DiskWrite { faults }) => Refusal::DiskWrite { faults },
-            SpaceFault::Pool(PoolFault::Offline { faults }) => Refusal::Offline { faults },
-            SpaceFault::Pool(PoolFault::Memory) => Refusal::Memory,
-            SpaceFault::Pool(PoolFault::Absent { pages }) => {
-                self.damage = self.damage.saturating_add(1);
-                Refusal::Damaged {
-                    page: PageNo(0),
-                    field: Field::Presence,
-                    found: u64::from(pages),
-                    wanted: u64::from(pages),
-                }
-            }
+            SpaceFault::Pool(_) => {}
         }
+        refusal_of(fault)
     }
 }

@@ -1,13 +1,13 @@
 -- Every page is written, and the disk settled.
-use Rattle.std.proofs.Common.{◌≡◌, ◌≤◌, ℕ, Bool, true, false, List, [], ◌∷◌, Option, None, Some, refl, sym, ap, ◌∙◌, subst}
+use Rattle.std.proofs.Common.{◌≡◌, ℕ, true, false, List, [], ◌∷◌, Option, None, Some, refl, sym, ap, ◌∙◌, subst}
 use Rattle.std.specs.Prelude.{OnOk, Result, Ok, Err, is_some, unwrap_or}
 use Rattle.mg_base.specs.Disk.{MayLeave, Meaning, Rose}
 use Rattle.mg_base.specs.Image.{Image, page_at}
 use Rattle.mg_format.specs.Format.{IsClean}
-use Rattle.mg_pool.specs.Dirty.{IsLeastPage, content_of, is_dirty}
+use Rattle.mg_pool.specs.Dirty.{content_of}
 use Rattle.mg_base.specs.declared.numbers.PageNo.{PageNo}
 use Rattle.mg_pool.specs.Fault.{OnlyRefuses, OnlyWrites, TellsFault}
-use Rattle.mg_pool.specs.Pool.{IsPool, KeepsContent, shown}
+use Rattle.mg_pool.specs.Pool.{KeepsContent, shown}
 use Rattle.mg_pool.specs.Refusal.{LeavesRefused}
 use Rattle.mg_pool.specs.Run.{HasWritten}
 use Rattle.mg_pool.specs.declared.fault.PoolFault.{PoolFault}
@@ -20,19 +20,6 @@ use Rattle.mg_database.specs.Finishing.{FailsToEnd, Finishes, HasWrittenOn, Writ
 abbrev pub Holds : {D : Type 0} → Meaning D → Type 0
 Holds {D} m = (disk : D) → m.tells disk ≡ true
     → (image : Image) × (m.held disk ≡ Some image) × MayLeave m disk image
-
--- where no page is the least dirty one, none is dirty
-pub none_dirty : {D : Type 0} (store : Pool D FireLinks) → IsLeastPage (is_dirty store.dirty) None
-    → IsClean store
-none_dirty store least p = at (is_dirty store.dirty p) (least.least_of p)
-  where
-    at : (b : Bool) → (b ≡ true → (m : ℕ) × (None ≡ Some m) × (m ≤ p)) → b ≡ false
-    at true all = absurd (let no : None ≡ Some (all refl).0 = (all refl).1 in cc)
-    at false all = refl
-
-pub written_none : {D : Type 0} (m : Meaning D) (store : Pool D FireLinks) → IsPool m store
-    → store.offline ≡ None → HasWrittenOn m store store
-written_none m store pool online = record { pool = pool; online = online; between = []; run = refl }
 
 pub written_more : {D : Type 0} (m : Meaning D) (old mid new : Pool D FireLinks) → HasWrittenOn m old mid
     → new.offline ≡ None → HasWritten m mid new → HasWrittenOn m old new

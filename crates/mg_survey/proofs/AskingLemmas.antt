@@ -1,9 +1,9 @@
 -- A disk that is asked, call by call.
-use Rattle.std.proofs.Common.{◌≡◌, ◌⊎◌, inl, inr, ◌<◌, ◌≤◌, ◌+◌, ℕ, zero, suc, Bool, true, Option, None, Some, length, subst, refl, ◌∙◌, arith}
-use Rattle.std.specs.Prelude.{◌↔◌, IsErr, IsTrue, OnOk, Result, Ok, Err, IfOk, min}
+use Rattle.std.proofs.Common.{◌≡◌, ◌⊎◌, inl, inr, ◌<◌, ◌≤◌, ◌+◌, ℕ, zero, suc, Bool, true, Some, length, subst, refl, ◌∙◌, arith}
+use Rattle.std.specs.Prelude.{◌↔◌, IsTrue, Result, Ok, Err, IfOk, min}
 use Rattle.std.proofs.lemmas.Bool.{cases_lt}
 use Rattle.std.proofs.lemmas.List.{get_or_past}
-use Rattle.mg_base.specs.Disk.{Calm, MayLeave, Meaning, Rose, Stays}
+use Rattle.mg_base.specs.Disk.{MayLeave, Meaning}
 use Rattle.mg_base.specs.Image.{Image, blank, page_at}
 use Rattle.mg_base.specs.declared.geometry.TheConstants.{GREATEST_LIMIT}
 use Rattle.mg_image.specs.Form.{Pages, packed_coding, packed_form}
@@ -11,7 +11,7 @@ use Rattle.mg_image.specs.NewDatabase.{IsNewPage}
 use Rattle.mg_image.specs.Opening.{IsUnmade}
 use Rattle.mg_pool.specs.Pool.{KeepsContent}
 use Rattle.mg_space.specs.ViewLaws.{content_on}
-use Rattle.mg_survey.specs.Survey.{AreUnmadeBehind, HasPages, HasTested, IsUnmadeAt, OnlyAsks}
+use Rattle.mg_survey.specs.Survey.{AreUnmadeBehind, HasPages, HasTested, IsUnmadeAt}
 use Rattle.mg_survey.specs.UnmadeLaws.{zero_is_unmade}
 
 abbrev pub CountsNow : {D : Type 0} → Meaning D → Type 0
@@ -21,54 +21,6 @@ CountsNow {D} m = (disk : D) (t : ℕ) (c : Image) → m.tells disk ≡ true →
 abbrev pub Counted : {D : Type 0} → Meaning D → Type 0
 Counted {D} m = (disk : D) (image : Image) (n : ℕ) → m.held disk ≡ Some image → m.count disk ≡ Some n
     → length image ≡ n
-
--- one call
-pub calm_content : {D T E : Type 0} (m : Meaning D) (old new : D) (result : Result T E)
-    → Calm m old new result → KeepsContent m old new
-calm_content m old new result calm = record {
-  held = calm.held;
-  tells = calm.keeps.tells;
-  never_falls = calm.keeps.never_falls;
-  crash = calm.crash;
-  time = calm.keeps.time;
-  asked = calm.asked;
-}
-
-pub calm_asks : {D T E U F : Type 0} (m : Meaning D) (old new : D) (result : Result T E)
-    (other : Result U F) → Calm m old new result → (IsErr other → IsErr result)
-    → (OnOk result (m.faults new ≡ m.faults old) → OnOk other (m.faults new ≡ m.faults old))
-    → OnlyAsks m old new other
-calm_asks m old new result other calm err ok = record {
-  content = calm_content m old new result calm;
-  cause = λ is. calm.keeps.cause (err is);
-  steady = ok calm.keeps.steady;
-}
-
--- what is known stays known
-pub stays_known : (old new : Option ℕ) (n : ℕ) → Stays old new → old ≡ Some n → new ≡ Some n
-stays_known None new n stays is = absurd cc
-stays_known (Some k) new n stays is = stays ∙ is
-
-pub pages_stay : {D T E : Type 0} (m : Meaning D) (old new : D) (result : Result T E) (size pages : ℕ)
-    → Calm m old new result → HasPages m old size pages → HasPages m new size pages
-pages_stay m old new result size pages calm has = record {
-  sized = stays_known (m.size old) (m.size new) size calm.keeps.size has.sized;
-  count = stays_known (m.count old) (m.count new) pages calm.count has.count;
-}
-
--- one call more, after calls that have not failed
-pub asks_on : {D T E : Type 0} (m : Meaning D) → CountsNow m → (a b c : D) (result : Result T E)
-    → KeepsContent m a b → m.faults b ≡ m.faults a → OnlyAsks m b c result → OnlyAsks m a c result
-asks_on m now a b c result so_far same asks = record {
-  content = content_on m now a b c so_far asks.content;
-  cause = λ err. subst (λ (n : ℕ). Rose n (m.faults c)) same (asks.cause err);
-  steady = at result asks.steady;
-}
-  where
-    at : {T E : Type 0} (result : Result T E) → OnOk result (m.faults c ≡ m.faults b)
-        → OnOk result (m.faults c ≡ m.faults a)
-    at (Ok x) steady = steady ∙ same
-    at (Err e) steady = tt
 
 -- ---- the pages one after another
 
