@@ -1,0 +1,27 @@
+use Rattle.mg_engine.specs.Places.{places}
+use Rattle.mg_engine.proofs.ApartLemmas.{asks_apart}
+use Rattle.mg_engine.proofs.EngineLemmas.{asks_as}
+use Rattle.mg_engine.proofs.engine.Engine.commit_ask.Goals as goal
+
+pub invariant_of-self : goal.invariant_of-self
+invariant_of-self g c = record {
+  lawful = c.commit_ask.ensures.core;
+  apart = asks_apart c.self.inside.core c.commit_ask.new.self c.args.t.0 c.commit_ask.result c.commit_ask.ensures.asks c.self.invariant.apart;
+}
+
+pub returns-clause-asks : goal.returns-clause-asks
+returns-clause-asks g c = (asks_as g.D.Disk.meaning places c.self.inside.core c.args.self.now c.commit_ask.new.self
+    c.self.view_is c.self.invariant c.steps_go_on.ensures.asks c.args.t.0 c.commit_ask.result
+    c.commit_ask.ensures.asks).1
+
+pub returns-clause-reads : goal.returns-clause-reads
+returns-clause-reads g c = (asks_as g.D.Disk.meaning places c.self.inside.core c.args.self.now c.commit_ask.new.self
+    c.self.view_is c.self.invariant c.steps_go_on.ensures.asks c.args.t.0 c.commit_ask.result c.commit_ask.ensures.asks).0.reads
+
+pub returns-clause-crash : goal.returns-clause-crash
+returns-clause-crash g c = (asks_as g.D.Disk.meaning places c.self.inside.core c.args.self.now c.commit_ask.new.self
+    c.self.view_is c.self.invariant c.steps_go_on.ensures.asks c.args.t.0 c.commit_ask.result c.commit_ask.ensures.asks).0.crash
+
+pub returns-clause-sessions : goal.returns-clause-sessions
+returns-clause-sessions g c = (asks_as g.D.Disk.meaning places c.self.inside.core c.args.self.now c.commit_ask.new.self
+    c.self.view_is c.self.invariant c.steps_go_on.ensures.asks c.args.t.0 c.commit_ask.result c.commit_ask.ensures.asks).0.sessions

@@ -1,0 +1,13 @@
+use Rattle.mg_engine.specs.Places.{places}
+use Rattle.mg_engine.proofs.EngineLemmas.{steps_as}
+use Rattle.mg_engine.proofs.engine.Engine.commit_step.Goals as goal
+
+pub returns-clause-reads : goal.returns-clause-reads
+returns-clause-reads g c = (steps_as g.D.Disk.meaning places c.self.inside.core c.args.self.now c.commit_step.new.self
+    c.self.view_is c.self.invariant c.steps_go_on.ensures.steps c.args.t.0 c.commit_step.result c.requires.asked
+    c.commit_step.ensures.steps).reads
+
+pub returns-clause-crash : goal.returns-clause-crash
+returns-clause-crash g c = (steps_as g.D.Disk.meaning places c.self.inside.core c.args.self.now c.commit_step.new.self
+    c.self.view_is c.self.invariant c.steps_go_on.ensures.steps c.args.t.0 c.commit_step.result c.requires.asked
+    c.commit_step.ensures.steps).crash

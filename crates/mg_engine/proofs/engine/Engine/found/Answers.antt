@@ -1,0 +1,8 @@
+use Rattle.mg_engine.specs.Places.{places}
+use Rattle.mg_engine.proofs.EngineLemmas.{found_as}
+use Rattle.mg_engine.proofs.engine.Engine.found.Goals as goal
+
+pub returns-clause-leaves : goal.returns-clause-leaves
+returns-clause-leaves g c = (found_as g.D.Disk.meaning places c.self.inside.core c.args.self.now c.found.new.self
+    c.self.view_is c.self.invariant c.points_go_on.ensures.found c.args.t c.args.name.now c.args.filter.now c.args.rows.now
+    c.found.result c.found.ensures.wait c.found.ensures.begins).leaves

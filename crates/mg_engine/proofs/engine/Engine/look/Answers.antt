@@ -1,0 +1,26 @@
+use Rattle.mg_engine.specs.Places.{places}
+use Rattle.mg_engine.proofs.ApartLemmas.{looks_apart}
+use Rattle.mg_engine.proofs.EngineLemmas.{looks_as}
+use Rattle.mg_engine.proofs.engine.Engine.look.Goals as goal
+
+pub invariant_of-self : goal.invariant_of-self
+invariant_of-self g c = record {
+  lawful = c.look.ensures.core;
+  apart = looks_apart c.self.inside.core c.look.new.self c.args.t.0 c.look.result c.look.ensures.looks c.self.invariant.apart;
+}
+
+pub returns-clause-adds : goal.returns-clause-adds
+returns-clause-adds g c = (looks_as g.D.Disk.meaning places c.self.inside.core c.args.self.now c.look.new.self
+    c.self.view_is c.self.invariant c.looks_go_on.ensures c.args.t c.look.result c.look.ensures.looks).adds
+
+pub returns-clause-leaves : goal.returns-clause-leaves
+returns-clause-leaves g c = (looks_as g.D.Disk.meaning places c.self.inside.core c.args.self.now c.look.new.self
+    c.self.view_is c.self.invariant c.looks_go_on.ensures c.args.t c.look.result c.look.ensures.looks).leaves
+
+pub returns-clause-crash : goal.returns-clause-crash
+returns-clause-crash g c = (looks_as g.D.Disk.meaning places c.self.inside.core c.args.self.now c.look.new.self
+    c.self.view_is c.self.invariant c.looks_go_on.ensures c.args.t c.look.result c.look.ensures.looks).crash
+
+pub returns-clause-sessions : goal.returns-clause-sessions
+returns-clause-sessions g c = (looks_as g.D.Disk.meaning places c.self.inside.core c.args.self.now c.look.new.self
+    c.self.view_is c.self.invariant c.looks_go_on.ensures c.args.t c.look.result c.look.ensures.looks).sessions

@@ -1,0 +1,27 @@
+use Rattle.std.proofs.Common.{None}
+use Rattle.mg_engine.specs.Places.{places}
+use Rattle.mg_engine.proofs.ApartLemmas.{points_apart}
+use Rattle.mg_engine.proofs.EngineLemmas.{marks_as}
+use Rattle.mg_engine.proofs.engine.Engine.mark.Goals as goal
+
+pub invariant_of-self : goal.invariant_of-self
+invariant_of-self g c = record {
+  lawful = c.mark.ensures.core;
+  apart = points_apart c.self.inside.core c.mark.new.self c.args.t.0 None c.mark.result c.mark.ensures.sets c.self.invariant.apart;
+}
+
+pub returns-clause-adds : goal.returns-clause-adds
+returns-clause-adds g c = (marks_as g.D.Disk.meaning places c.self.inside.core c.args.self.now c.mark.new.self
+    c.self.view_is c.self.invariant c.points_go_on.ensures.marks c.args.t c.mark.result c.mark.ensures.sets).adds
+
+pub returns-clause-leaves : goal.returns-clause-leaves
+returns-clause-leaves g c = (marks_as g.D.Disk.meaning places c.self.inside.core c.args.self.now c.mark.new.self
+    c.self.view_is c.self.invariant c.points_go_on.ensures.marks c.args.t c.mark.result c.mark.ensures.sets).leaves
+
+pub returns-clause-crash : goal.returns-clause-crash
+returns-clause-crash g c = (marks_as g.D.Disk.meaning places c.self.inside.core c.args.self.now c.mark.new.self
+    c.self.view_is c.self.invariant c.points_go_on.ensures.marks c.args.t c.mark.result c.mark.ensures.sets).crash
+
+pub returns-clause-sessions : goal.returns-clause-sessions
+returns-clause-sessions g c = (marks_as g.D.Disk.meaning places c.self.inside.core c.args.self.now c.mark.new.self
+    c.self.view_is c.self.invariant c.points_go_on.ensures.marks c.args.t c.mark.result c.mark.ensures.sets).sessions

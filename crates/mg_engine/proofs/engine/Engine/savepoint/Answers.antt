@@ -1,0 +1,27 @@
+use Rattle.std.proofs.Common.{Some}
+use Rattle.mg_engine.specs.Places.{places}
+use Rattle.mg_engine.proofs.ApartLemmas.{points_apart}
+use Rattle.mg_engine.proofs.EngineLemmas.{savepoints_as}
+use Rattle.mg_engine.proofs.engine.Engine.savepoint.Goals as goal
+
+pub invariant_of-self : goal.invariant_of-self
+invariant_of-self g c = record {
+  lawful = c.savepoint.ensures.core;
+  apart = points_apart c.self.inside.core c.savepoint.new.self c.args.t.0 (Some c.args.name.now) c.savepoint.result c.savepoint.ensures.sets c.self.invariant.apart;
+}
+
+pub returns-clause-adds : goal.returns-clause-adds
+returns-clause-adds g c = (savepoints_as g.D.Disk.meaning places c.self.inside.core c.args.self.now c.savepoint.new.self
+    c.self.view_is c.self.invariant c.points_go_on.ensures.savepoints c.args.t c.args.name.now c.savepoint.result c.savepoint.ensures.sets).adds
+
+pub returns-clause-leaves : goal.returns-clause-leaves
+returns-clause-leaves g c = (savepoints_as g.D.Disk.meaning places c.self.inside.core c.args.self.now c.savepoint.new.self
+    c.self.view_is c.self.invariant c.points_go_on.ensures.savepoints c.args.t c.args.name.now c.savepoint.result c.savepoint.ensures.sets).leaves
+
+pub returns-clause-crash : goal.returns-clause-crash
+returns-clause-crash g c = (savepoints_as g.D.Disk.meaning places c.self.inside.core c.args.self.now c.savepoint.new.self
+    c.self.view_is c.self.invariant c.points_go_on.ensures.savepoints c.args.t c.args.name.now c.savepoint.result c.savepoint.ensures.sets).crash
+
+pub returns-clause-sessions : goal.returns-clause-sessions
+returns-clause-sessions g c = (savepoints_as g.D.Disk.meaning places c.self.inside.core c.args.self.now c.savepoint.new.self
+    c.self.view_is c.self.invariant c.points_go_on.ensures.savepoints c.args.t c.args.name.now c.savepoint.result c.savepoint.ensures.sets).sessions

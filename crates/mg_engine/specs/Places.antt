@@ -1,0 +1,11 @@
+-- The places of walks.
+use Rattle.std.specs.Prelude.{◌*◌, ◌+◌}
+use Rattle.mg_engine.specs.declared.place.Place.{Place}
+use Rattle.mg_engine_meaning.specs.Meaning.{Places}
+
+-- places are ranked by the sequence of the data page, and then by the slot, which has two bytes
+abbrev pub places : Places Place
+places = record {
+  rec = λ place. place.rec;
+  rank = λ place. place.sequence * 65536 + place.rec.slot;
+}
