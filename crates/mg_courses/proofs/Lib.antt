@@ -2,3 +2,4 @@ mod WorkLemmas
 mod StartLemmas
 mod SoFar
 mod SoFarLemmas
+mod StepLemmas

@@ -30,7 +30,7 @@ abbrev pub DoneBy : {R P Run : Type 0} → Means R P → RunMeans R Run → R �
     → Stepped → (Opening → TxNo → Entries → Course → Entries → Comes → Type 0) → Type 0
 DoneBy m runs old new t before work stepped By = (o : Opening) (h : Entries) (course : Course)
     → m.stands old o h → state_of o h t.0 ≡ Active → IsWorkAt runs old o h t before course
-    → WorkDone m runs new o t work stepped (By o t h course)
+    → WorkDone m runs old new o h t work stepped (By o t h course)
 
 -- What stands of all steps so far.
 pub record SoFar {R P Run : Type 0} (m : Means R P) (runs : RunMeans R Run) (old new : R) (t : TxNo)

@@ -8,6 +8,7 @@ use Rattle.mg_model.specs.declared.opening.Opening.{Opening}
 use Rattle.mg_model.specs.Answers.{is_active}
 use Rattle.mg_model.specs.History.{Entries}
 use Rattle.mg_model.specs.Machine.{state_of}
+use Rattle.mg_records.specs.Crashing.{HoldsOn}
 use Rattle.mg_records.specs.Meaning.{Means}
 use Rattle.mg_records.specs.Sessions.{SessionsStay}
 use Rattle.mg_calls.specs.FrameLaws.{frames_then}
@@ -18,6 +19,8 @@ use Rattle.mg_courses.specs.declared.statements.Stepped.{Stepped}
 use Rattle.mg_courses.specs.declared.statements.Stepped.TheVariants.{More, Waits, Ended}
 use Rattle.mg_courses.specs.declared.work.Work.{Work}
 use Rattle.mg_courses.specs.Running.{RunMeans, refusal_told, over_in, rests}
+use Rattle.mg_courses.specs.Carrying.{Carries}
+use Rattle.mg_courses.specs.CarryLaws.{carries_then}
 use Rattle.mg_courses.specs.Working.{IsWorkAt, IsWorkTold, IsWorkReadyIf, IsWorkNearer, WorkDone}
 use Rattle.mg_courses.proofs.WorkLemmas.{active_from}
 use Rattle.mg_courses.proofs.SoFar.{RunsOn, TakesOn, DoneBy, SoFar, left_of}
@@ -33,8 +36,8 @@ sessions_then m old mid new ends first second = record {
 
 -- ---- a run
 
-module _ {R P Run : Type 0} (m : Means R P) (runs : RunMeans R Run) (old mid new : R) (t : TxNo)
-    (before between work : Work Run) (stepped : Stepped) where
+module _ {R P Run : Type 0} (m : Means R P) (runs : RunMeans R Run) (lasts : HoldsOn m)
+    (old mid new : R) (t : TxNo) (before between work : Work Run) (stepped : Stepped) where
   -- what is done by one relation and a step behind it is done by another one
   abbrev MoreBy : (A B : Opening → TxNo → Entries → Course → Entries → Comes → Type 0) → Type 0
   MoreBy A B = (o : Opening) (h h' after : Entries) (course next : Course) (comes : Comes)
@@ -43,16 +46,17 @@ module _ {R P Run : Type 0} (m : Means R P) (runs : RunMeans R Run) (old mid new
   pub one_more : (A B : Opening → TxNo → Entries → Course → Entries → Comes → Type 0) → MoreBy A B
       → DoneBy m runs old mid t before between More A
       → ((o : Opening) (h : Entries) (course : Course) → m.stands mid o h → state_of o h t.0 ≡ Active
-      → IsWorkAt runs mid o h t between course → WorkDone m runs new o t work stepped (Steps o h t course))
+      → IsWorkAt runs mid o h t between course → WorkDone m runs mid new o h t work stepped (Steps o h t course))
       → DoneBy m runs old new t before work stepped B
   one_more A B joins first second o h course stands active at =
       let d = first o h course stands active at in
-      on d.after d.comes d.does d.stands d.told d.active
+      on d.after d.comes d.does d.stands d.told d.active d.carries
     where
       on : (h' : Entries) (comes : Comes) → A o t h course h' comes → m.stands mid o h'
           → IsWorkTold runs mid o h' t between More comes → is_active (state_of o h' t.0) ≡ true
-          → WorkDone m runs new o t work stepped (B o t h course)
-      on h' (Later next) does stands' told active' =
+          → Carries m old mid o h h'
+          → WorkDone m runs old new o h t work stepped (B o t h course)
+      on h' (Later next) does stands' told active' carries =
           let e = second o h' next stands' (active_from (state_of o h' t.0) active') told in
           record {
             after = e.after;
@@ -61,9 +65,10 @@ module _ {R P Run : Type 0} (m : Means R P) (runs : RunMeans R Run) (old mid new
             stands = e.stands;
             told = e.told;
             active = e.active;
+            carries = carries_then m lasts old mid new o h h' e.after carries e.carries;
           }
-      on h' (Parks by next) does stands' told active' = absurd told
-      on h' (Ends reply) does stands' told active' = absurd told
+      on h' (Parks by next) does stands' told active' carries = absurd told
+      on h' (Ends reply) does stands' told active' carries = absurd told
 
   pub so_far_more : SoFar m runs old mid t between More
       → IsWorkReadyIf m runs new t work stepped
@@ -76,20 +81,21 @@ module _ {R P Run : Type 0} (m : Means R P) (runs : RunMeans R Run) (old mid new
     sessions = sessions_then m old mid new (over_in t.0 stepped) first.sessions sessions;
   }
 
-pub runs_more : {R P Run : Type 0} (m : Means R P) (runs : RunMeans R Run) (old mid new : R) (t : TxNo)
+pub runs_more : {R P Run : Type 0} (m : Means R P) (runs : RunMeans R Run) → HoldsOn m
+    → (old mid new : R) (t : TxNo)
     (before between work : Work Run) (stepped : Stepped)
     → DoneBy m runs old mid t before between More RunsOn
     → ((o : Opening) (h : Entries) (course : Course) → m.stands mid o h → state_of o h t.0 ≡ Active
-    → IsWorkAt runs mid o h t between course → WorkDone m runs new o t work stepped (Steps o h t course))
+    → IsWorkAt runs mid o h t between course → WorkDone m runs mid new o h t work stepped (Steps o h t course))
     → DoneBy m runs old new t before work stepped RunsOn
-runs_more m runs old mid new t before between work stepped =
-    one_more m runs old mid new t before between work stepped RunsOn RunsOn
+runs_more m runs lasts old mid new t before between work stepped =
+    one_more m runs lasts old mid new t before between work stepped RunsOn RunsOn
     (λ o h h' after course next comes does step end final rest. does end final (one_step step rest))
 
 pub runs_first : {R P Run : Type 0} (m : Means R P) (runs : RunMeans R Run) (old new : R) (t : TxNo)
     (before work : Work Run) (stepped : Stepped)
     → ((o : Opening) (h : Entries) (course : Course) → m.stands old o h → state_of o h t.0 ≡ Active
-    → IsWorkAt runs old o h t before course → WorkDone m runs new o t work stepped (Steps o h t course))
+    → IsWorkAt runs old o h t before course → WorkDone m runs old new o h t work stepped (Steps o h t course))
     → DoneBy m runs old new t before work stepped RunsOn
 runs_first m runs old new t before work stepped steps o h course stands active at =
     let e = steps o h course stands active at in
@@ -100,6 +106,7 @@ runs_first m runs old new t before work stepped steps o h course stands active a
       stands = e.stands;
       told = e.told;
       active = e.active;
+      carries = e.carries;
     }
 
 -- once it rests, the run is whole
@@ -108,7 +115,7 @@ pub runs_end : {R P Run : Type 0} (m : Means R P) (runs : RunMeans R Run) (old n
     → DoneBy m runs old new t before work stepped RunsOn
     → (o : Opening) (h : Entries) (course : Course) → m.stands old o h → state_of o h t.0 ≡ Active
     → IsWorkAt runs old o h t before course
-    → WorkDone m runs new o t work stepped (Runs o t h (Later course))
+    → WorkDone m runs old new o h t work stepped (Runs o t h (Later course))
 runs_end m runs old new t before work stepped rest done o h course stands active at =
     let d = done o h course stands active at in
     record {
@@ -118,6 +125,7 @@ runs_end m runs old new t before work stepped rest done o h course stands active
       stands = d.stands;
       told = d.told;
       active = d.active;
+      carries = d.carries;
     }
   where
     whole : {after : Entries} (stepped : Stepped) (comes : Comes) → rests stepped ≡ true
@@ -151,7 +159,7 @@ takes_more {o = o} {t = t} {mid = mid} {after = after} {next = next} {comes = co
 pub takes_first : {R P Run : Type 0} (m : Means R P) (runs : RunMeans R Run) (old new : R) (t : TxNo)
     (before work : Work Run) (stepped : Stepped) (most : ℕ) → 0 < most
     → ((o : Opening) (h : Entries) (course : Course) → m.stands old o h → state_of o h t.0 ≡ Active
-    → IsWorkAt runs old o h t before course → WorkDone m runs new o t work stepped (Steps o h t course))
+    → IsWorkAt runs old o h t before course → WorkDone m runs old new o h t work stepped (Steps o h t course))
     → DoneBy m runs old new t before work stepped (TakesOn most (most - 1))
 takes_first m runs old new t before work stepped most some steps o h course stands active at =
     let e = steps o h course stands active at in
@@ -162,16 +170,18 @@ takes_first m runs old new t before work stepped most some steps o h course stan
       stands = e.stands;
       told = e.told;
       active = e.active;
+      carries = e.carries;
     }
 
-pub takes_on : {R P Run : Type 0} (m : Means R P) (runs : RunMeans R Run) (old mid new : R) (t : TxNo)
+pub takes_on : {R P Run : Type 0} (m : Means R P) (runs : RunMeans R Run) → HoldsOn m
+    → (old mid new : R) (t : TxNo)
     (before between work : Work Run) (stepped : Stepped) (most left : ℕ) → 0 < left
     → DoneBy m runs old mid t before between More (TakesOn most left)
     → ((o : Opening) (h : Entries) (course : Course) → m.stands mid o h → state_of o h t.0 ≡ Active
-    → IsWorkAt runs mid o h t between course → WorkDone m runs new o t work stepped (Steps o h t course))
+    → IsWorkAt runs mid o h t between course → WorkDone m runs mid new o h t work stepped (Steps o h t course))
     → DoneBy m runs old new t before work stepped (TakesOn most (left - 1))
-takes_on m runs old mid new t before between work stepped most left some =
-    one_more m runs old mid new t before between work stepped (TakesOn most left) (TakesOn most (left - 1))
+takes_on m runs lasts old mid new t before between work stepped most left some =
+    one_more m runs lasts old mid new t before between work stepped (TakesOn most left) (TakesOn most (left - 1))
     (λ o h h' after course next comes does step end final rest.
     does end final (takes_more left some step rest))
 
@@ -182,7 +192,7 @@ pub takes_end : {R P Run : Type 0} (m : Means R P) (runs : RunMeans R Run) (old 
     → DoneBy m runs old new t before work stepped (TakesOn most left)
     → (o : Opening) (h : Entries) (course : Course) → m.stands old o h → state_of o h t.0 ≡ Active
     → IsWorkAt runs old o h t before course
-    → WorkDone m runs new o t work stepped (Takes o t most h (Later course))
+    → WorkDone m runs old new o h t work stepped (Takes o t most h (Later course))
 takes_end m runs old new t before work stepped most left rest done o h course stands active at =
     let d = done o h course stands active at in
     record {
@@ -192,6 +202,7 @@ takes_end m runs old new t before work stepped most left rest done o h course st
       stands = d.stands;
       told = d.told;
       active = d.active;
+      carries = d.carries;
     }
   where
     whole : {after : Entries} (left : ℕ) (stepped : Stepped) (comes : Comes)

@@ -20,9 +20,10 @@ spared m old new t u refusal apart frames = record {
   walks = λ table after rows come. frames.walks u table after rows apart come;
   given = frames.given;
   places = frames.places;
+  sizes = frames.sizes;
 }
 
-beside : {t : TxNo} {h after : Entries} (u : ℕ) → (t.0 == u) ≡ false → GrowsBy t h after
+pub beside : {t : TxNo} {h after : Entries} (u : ℕ) → (t.0 == u) ≡ false → GrowsBy t h after
     → GoesOnBeside u h after
 beside u apart as_it_was = as_before
 beside {t = t} u apart (by_one e its more) = one_beside e (not_its u e t.0 its apart) (beside u apart more)
@@ -46,12 +47,11 @@ works_stay_ready m runs stay old new t u refusal (works.Commit true) apart frame
 abbrev pub WorksStayAt : {R P Run : Type 0} → Means R P → RunMeans R Run → Type 0
 WorksStayAt {R = R} {Run = Run} m runs = (old new : R) (o : Opening) (h after : Entries) (t u : TxNo)
     (refusal : Option Refusal) (work : Work Run) (course : Course) → (t.0 == u.0) ≡ false
-    → Frames m old new t.0 refusal → GrowsBy t h after
+    → Frames m old new t.0 refusal → GoesOnBeside u.0 h after
     → IsWorkAt runs old o h u work course → IsWorkAt runs new o after u work course
 
 pub works_stay_at : {R P Run : Type 0} (m : Means R P) (runs : RunMeans R Run) → CoursesStay m runs
     → WorksStayAt m runs
-works_stay_at m runs stay old new o h after t u refusal (works.Statement run) course apart frames grows at =
-    stay old new o h after u run course (spared m old new t.0 u.0 refusal apart frames)
-    (beside u.0 apart grows) at
-works_stay_at m runs stay old new o h after t u refusal (works.Commit written) course apart frames grows at = at
+works_stay_at m runs stay old new o h after t u refusal (works.Statement run) course apart frames goes at =
+    stay old new o h after u run course (spared m old new t.0 u.0 refusal apart frames) goes at
+works_stay_at m runs stay old new o h after t u refusal (works.Commit written) course apart frames goes at = at

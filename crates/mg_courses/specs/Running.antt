@@ -139,6 +139,7 @@ pub record Spares {R P : Type 0} (m : Means R P) (old new : R) (t : ℕ) : Type 
       → m.to_come new t table after rows
   pub given : (table : Table) → m.was_given old table → m.was_given new table
   pub places : (table : Table) (place : P) → m.is_place old table place → m.is_place new table place
+  pub sizes : (size : ℕ) → m.is_size new size ≡ m.is_size old size
 
 -- a history goes on by entries that are not of a transaction
 pub data GoesOnBeside (t : ℕ) (h : Entries) : Entries → Type 0 where

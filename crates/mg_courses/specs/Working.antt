@@ -20,6 +20,7 @@ use Rattle.mg_courses.specs.declared.statements.Stepped.TheVariants.{More, Waits
 use Rattle.mg_courses.specs.declared.work.Work.{Work}
 use Rattle.mg_courses.specs.declared.work.Work.TheVariants as works
 use Rattle.mg_courses.specs.Running.{RunMeans, goes_on, refusal_answered, fault_if_looks, IsFromOutside}
+use Rattle.mg_courses.specs.Carrying.{Carries}
 
 -- the next step of a COMMIT may be made
 abbrev pub IsCommitReady : {R P : Type 0} → Means R P → R → TxNo → Bool → Type 0
@@ -69,15 +70,17 @@ IsWorkNearer m runs old new t before work (Ended ending) = Unit {0}
 -- ---- a step, and several
 
 -- From a history on a statement comes to something, by a relation between both; the keeper stands for
--- the history then, and it is told what it came to.
-pub record WorkDone {R P Run : Type 0} (m : Means R P) (runs : RunMeans R Run) (new : R) (o : Opening)
-    (t : TxNo) (work : Work Run) (stepped : Stepped) (By : Entries → Comes → Type 0) : Type 0 where
+-- the history then, no crash loses what was durable, and it is told what it came to.
+pub record WorkDone {R P Run : Type 0} (m : Means R P) (runs : RunMeans R Run) (old new : R)
+    (o : Opening) (h : Entries) (t : TxNo) (work : Work Run) (stepped : Stepped)
+    (By : Entries → Comes → Type 0) : Type 0 where
   pub after : Entries
   pub comes : Comes
   pub does : By after comes
   pub stands : m.stands new o after
   pub told : IsWorkTold runs new o after t work stepped comes
   pub active : is_active (state_of o after t.0) ≡ goes_on stepped
+  pub carries : Carries m old new o h after
 
 -- ---- the beginning
 
@@ -104,22 +107,25 @@ abbrev pub IsStartReady : {R P Run : Type 0} → Means R P → RunMeans R Run �
 IsStartReady m runs new t (started.Begun work) = IsWorkReady m runs new t work
 IsStartReady m runs new t (started.Ended ending) = Unit {0}
 
--- A statement begins, by the relation that says it.
-pub record StartDone {R P Run : Type 0} (m : Means R P) (runs : RunMeans R Run) (new : R) (o : Opening)
-    (t : TxNo) (result : Started Run) (By : Entries → Comes → Type 0) : Type 0 where
+-- A statement begins, by the relation that says it; no crash loses what was durable.
+pub record StartDone {R P Run : Type 0} (m : Means R P) (runs : RunMeans R Run) (old new : R)
+    (o : Opening) (h : Entries) (t : TxNo) (result : Started Run) (By : Entries → Comes → Type 0)
+    : Type 0 where
   pub after : Entries
   pub comes : Comes
   pub does : By after comes
   pub stands : m.stands new o after
   pub told : IsStartTold runs new o after t result comes
   pub active : is_active (state_of o after t.0) ≡ begun_goes_on result
+  pub carries : Carries m old new o h after
 
 -- A statement that runs in steps is tested, and begins or is at its end; no event is given.
-abbrev pub BeginDone : {R P Run : Type 0} → Means R P → RunMeans R Run → R → Opening → Entries → TxNo
-    → Bool → ℕ → Plain → Started Run → Type 0
-BeginDone m runs new o h t read_only size s (started.Begun work) = m.stands new o h
+abbrev pub BeginDone : {R P Run : Type 0} → Means R P → RunMeans R Run → R → R → Opening → Entries
+    → TxNo → Bool → ℕ → Plain → Started Run → Type 0
+BeginDone m runs old new o h t read_only size s (started.Begun work) = m.stands new o h
+    × Carries m old new o h h
     × (fault_if_looks o h t read_only size s ≡ None) × IsWorkAt runs new o h t work (Begun s 0)
-BeginDone m runs new o h t read_only size s (started.Ended ending) = m.stands new o h
-    × (looks s ≡ true) × (ending.over ≡ false)
+BeginDone m runs old new o h t read_only size s (started.Ended ending) = m.stands new o h
+    × Carries m old new o h h × (looks s ≡ true) × (ending.over ≡ false)
     × ((fault : StatementFault) × (ending.reply ≡ replies.No fault)
     × ((fault_if_looks o h t read_only size s ≡ Some fault) ⊎ IsFromOutside fault))

@@ -2,12 +2,13 @@
 //! many steps, and all steps until it waits or is at its end.
 //!
 //! Owns: the trait `Statements`, a keeper on which statements run, with its meaning (`specs/Running`);
+//! `Tends`, one whose changed pages can be written one by one;
 //! `Work`, a statement that has begun, a COMMIT among them; `start`, `step`, `take`, `run`.
 //!
 //! What is done is said by `mg_transcript` (`Starts`, `Steps`, `Takes`, `Runs`): for each history that
 //! the keeper stood for, and each course at which the work stood. `specs/Working` says when it stands
 //! there, and when its next step may be made. What other transactions do beside it changes nothing of
-//! that (`Beside`).
+//! that (`BesideLaws`). No crash loses what was durable before (`specs/Carrying`).
 //!
 //! Invariant: none, it keeps no state.
 //! Below: `mg_calls`, `mg_transcript`. Above: sessions.
@@ -18,10 +19,12 @@ mod laws;
 mod starting;
 mod statements;
 mod stepping;
+mod tending;
 mod work;
 
 pub use laws::works_stay_beside_others;
 pub use starting::{Started, start};
 pub use statements::{Ending, Statements, Stepped};
 pub use stepping::{run, take};
+pub use tending::Tends;
 pub use work::{Work, step};

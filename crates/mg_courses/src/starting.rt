@@ -43,9 +43,10 @@ pub fn start<R: Statements>(
 where
     R::Run: Drop,
     requires other { begins (plain_of s) ≡ false }
+    requires size { R.meaning.is_size r.old size ≡ true }
     ensures starts { (o : Opening) (h : Entries) → R.meaning.stands r.old o h
         → state_of o h t.0 ≡ Active → (mode_of h t.0).read_only ≡ read_only
-        → StartDone R.meaning R.runs r.new o t result (Starts o h t size (plain_of s)) }
+        → StartDone R.meaning R.runs r.old r.new o h t result (Starts o h t size (plain_of s)) }
     ensures ready { IsStartReady R.meaning R.runs r.new t result }
     ensures frames { Frames R.meaning r.old r.new t.0 (refusal_at_start result) }
     ensures sessions { SessionsStay R.meaning r.old r.new None (over_at_start t.0 result) }
@@ -65,7 +66,7 @@ where
     R::Run: Drop,
     ensures starts { (o : Opening) (h : Entries) → R.meaning.stands r.old o h
         → state_of o h t.0 ≡ Active
-        → (size : ℕ) → StartDone R.meaning R.runs r.new o t result (Starts o h t size Commit) }
+        → (size : ℕ) → StartDone R.meaning R.runs r.old r.new o h t result (Starts o h t size Commit) }
     ensures ready { IsStartReady R.meaning R.runs r.new t result }
     ensures frames { Frames R.meaning r.old r.new t.0 (refusal_at_start result) }
     ensures sessions { SessionsStay R.meaning r.old r.new None (over_at_start t.0 result) }
@@ -82,7 +83,7 @@ where
     R::Run: Drop,
     ensures starts { (o : Opening) (h : Entries) → R.meaning.stands r.old o h
         → state_of o h t.0 ≡ Active
-        → (size : ℕ) → StartDone R.meaning R.runs r.new o t result (Starts o h t size Rollback) }
+        → (size : ℕ) → StartDone R.meaning R.runs r.old r.new o h t result (Starts o h t size Rollback) }
     ensures ready { IsStartReady R.meaning R.runs r.new t result }
     ensures frames { Frames R.meaning r.old r.new t.0 (refusal_at_start result) }
     ensures sessions { SessionsStay R.meaning r.old r.new None (over_at_start t.0 result) }
@@ -105,9 +106,10 @@ fn begin<R: Statements>(
 where
     R::Run: Drop,
     requires steps { runs_in_steps (plain_of s) ≡ true }
+    requires size { R.meaning.is_size r.old size ≡ true }
     ensures begins { (o : Opening) (h : Entries) → R.meaning.stands r.old o h
         → state_of o h t.0 ≡ Active
-        → BeginDone R.meaning R.runs r.new o h t read_only size (plain_of s) result }
+        → BeginDone R.meaning R.runs r.old r.new o h t read_only size (plain_of s) result }
     ensures ready { IsStartReady R.meaning R.runs r.new t result }
     ensures frames { Frames R.meaning r.old r.new t.0 (refusal_at_start result) }
     ensures sessions { SessionsStay R.meaning r.old r.new None (over_at_start t.0 result) }
@@ -133,9 +135,10 @@ fn look_and_begin<R: Statements>(
 where
     R::Run: Drop,
     requires looks { looks (plain_of s) ≡ true }
+    requires size { R.meaning.is_size r.old size ≡ true }
     ensures starts { (o : Opening) (h : Entries) → R.meaning.stands r.old o h
         → state_of o h t.0 ≡ Active → (mode_of h t.0).read_only ≡ read_only
-        → StartDone R.meaning R.runs r.new o t result (Starts o h t size (plain_of s)) }
+        → StartDone R.meaning R.runs r.old r.new o h t result (Starts o h t size (plain_of s)) }
     ensures ready { IsStartReady R.meaning R.runs r.new t result }
     ensures frames { Frames R.meaning r.old r.new t.0 (refusal_at_start result) }
     ensures sessions { SessionsStay R.meaning r.old r.new None (over_at_start t.0 result) }

@@ -5,10 +5,12 @@ ghost use Rattle.mg_base.specs.declared.transaction.TxState.TheVariants.{Active}
 ghost use Rattle.mg_model.specs.declared.opening.Opening.{Opening};
 ghost use Rattle.mg_model.specs.History.{Entries};
 ghost use Rattle.mg_model.specs.Machine.{state_of};
+ghost use Rattle.mg_records.specs.Sessions.{SessionsStay};
 ghost use Rattle.mg_sql.specs.Plain.{plain_of};
 ghost use Rattle.mg_calls.specs.Frames.{Frames};
 ghost use Rattle.mg_calls.specs.Quiet.{AreQuiet};
 ghost use Rattle.mg_transcript.specs.Courses.{Course};
+ghost use Rattle.mg_courses.specs.Carrying.{HoldsStill, LeavesHolding, RunsAreQuiet};
 ghost use Rattle.mg_courses.specs.Running.{RunMeans, IsTested, StepDone, IsReadyIf, IsNearer, RunsStay, CoursesStay, WorksForOne, refusal_tested, refusal_told, over_in, rests, runs_in_steps};
 
 use mg_base::TxNo;
@@ -67,6 +69,7 @@ pub trait Statements: Records {
         size: u32,
     ) -> Result<Self::Run, StatementFault>
         requires steps { runs_in_steps (plain_of s) ≡ true }
+        requires size { Self.meaning.is_size self.old size ≡ true }
         ensures tests { (o : Opening) (h : Entries) → Self.meaning.stands self.old o h
             → state_of o h t.0 ≡ Active
             → IsTested Self.meaning runs self.new o h t read_only size (plain_of s) result }
@@ -83,11 +86,17 @@ pub trait Statements: Records {
         ensures ready { IsReadyIf runs self.new t run.new result }
         ensures nearer { IsNearer runs self.old self.new t run.old run.new result }
         ensures frames { Frames Self.meaning self.old self.new t.0 (refusal_told result) }
-        ensures quiet { AreQuiet Self.meaning self.old self.new (over_in t.0 result) };
+        ensures crash { (o : Opening) (h : Entries) (course : Course) → Self.meaning.stands self.old o h
+            → state_of o h t.0 ≡ Active → runs.is_at self.old o h t run.old course
+            → LeavesHolding Self.meaning self.old self.new o h }
+        ensures holds { HoldsStill Self.meaning self.old self.new }
+        ensures sessions { SessionsStay Self.meaning self.old self.new None (over_in t.0 result) };
 
     ghost stay: { RunsStay Self.meaning runs };
 
     ghost courses: { CoursesStay Self.meaning runs };
 
     ghost one: { WorksForOne Self.meaning };
+
+    ghost no_commits: { RunsAreQuiet runs };
 }

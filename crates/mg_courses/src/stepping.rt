@@ -24,7 +24,7 @@ where
     requires ready { IsWorkReady R.meaning R.runs r.old t work.old }
     ensures runs { (o : Opening) (h : Entries) (course : Course) → R.meaning.stands r.old o h
         → state_of o h t.0 ≡ Active → IsWorkAt R.runs r.old o h t work.old course
-        → WorkDone R.meaning R.runs r.new o t work.new result (Runs o t h (Later course)) }
+        → WorkDone R.meaning R.runs r.old r.new o h t work.new result (Runs o t h (Later course)) }
     ensures rests { rests result ≡ true }
     ensures ready { IsWorkReadyIf R.meaning R.runs r.new t work.new result }
     ensures frames { Frames R.meaning r.old r.new t.0 (refusal_told result) }
@@ -58,7 +58,7 @@ where
     requires some { 0 < most }
     ensures takes { (o : Opening) (h : Entries) (course : Course) → R.meaning.stands r.old o h
         → state_of o h t.0 ≡ Active → IsWorkAt R.runs r.old o h t work.old course
-        → WorkDone R.meaning R.runs r.new o t work.new result (Takes o t most h (Later course)) }
+        → WorkDone R.meaning R.runs r.old r.new o h t work.new result (Takes o t most h (Later course)) }
     ensures ready { IsWorkReadyIf R.meaning R.runs r.new t work.new result }
     ensures frames { Frames R.meaning r.old r.new t.0 (refusal_told result) }
     ensures sessions { SessionsStay R.meaning r.old r.new None (over_in t.0 result) }

@@ -60,7 +60,7 @@ where
     requires ready { IsWorkReady R.meaning R.runs r.old t work.old }
     ensures steps { (o : Opening) (h : Entries) (course : Course) → R.meaning.stands r.old o h
         → state_of o h t.0 ≡ Active → IsWorkAt R.runs r.old o h t work.old course
-        → WorkDone R.meaning R.runs r.new o t work.new result (Steps o h t course) }
+        → WorkDone R.meaning R.runs r.old r.new o h t work.new result (Steps o h t course) }
     ensures ready { IsWorkReadyIf R.meaning R.runs r.new t work.new result }
     ensures nearer { IsWorkNearer R.meaning R.runs r.old r.new t work.old work.new result }
     ensures frames { Frames R.meaning r.old r.new t.0 (refusal_told result) }
@@ -79,7 +79,7 @@ where
     requires ready { IsCommitReady R.meaning r.old t written.old }
     ensures steps { (o : Opening) (h : Entries) → R.meaning.stands r.old o h
         → state_of o h t.0 ≡ Active
-        → WorkDone R.meaning R.runs r.new o t (works.Commit written.new) result
+        → WorkDone R.meaning R.runs r.old r.new o h t (works.Commit written.new) result
         (Steps o h t (Committing written.old)) }
     ensures ready { IsWorkReadyIf R.meaning R.runs r.new t (works.Commit written.new) result }
     ensures nearer { IsWorkNearer R.meaning R.runs r.old r.new t (works.Commit written.old)

@@ -15,6 +15,8 @@ pub data Course : Type 0 where
   Begun : Plain → ℕ → Course
   -- its mark is set; these events are to come, and then this is answered
   Writing : List Event → Outcome → Course
+  -- its mark is set; these events are to come in one step, and all are tried again where one waits
+  Making : List Event → Outcome → Course
   -- it is a COMMIT, and all pages that it needs are written, or they are not
   Committing : (written : Bool) → Course
 

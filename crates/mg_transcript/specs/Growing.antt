@@ -5,12 +5,13 @@ use Rattle.mg_base.specs.declared.numbers.TxNo.{TxNo}
 use Rattle.mg_model.specs.declared.answer.Answer.{Answer}
 use Rattle.mg_model.specs.declared.answer.Answer.TheVariants.{Fine, Tx, Rows, No}
 use Rattle.mg_model.specs.declared.event.Event.{Event}
+use Rattle.mg_model.specs.declared.event.Mode.{Mode}
 use Rattle.mg_model.specs.declared.event.Event.TheVariants.{Begin, Look, Find, Claim, Insert, Change, Erase, Mark, UndoMark, Savepoint, BackTo, Prepare, Commit, Rollback, Decide}
 use Rattle.mg_model.specs.declared.opening.Opening.{Opening}
 use Rattle.mg_model.specs.Effects.{drawn, is_its}
 use Rattle.mg_model.specs.EntryLaws.{others_by_event, state_others_entry, mode_others_entry}
-use Rattle.mg_model.specs.History.{Entry, Entries, transaction_of, deed_of, beginning_of, effect_with}
-use Rattle.mg_model.specs.Machine.{is_of, state_of, mode_of}
+use Rattle.mg_model.specs.History.{Entry, Entries, Effect, Begins, Looks, Makes, Gives, Marks, Saves, TakesBack, Ends, Nothing, transaction_of, deed_of, beginning_of, effect_with, effect_of}
+use Rattle.mg_model.specs.Machine.{is_of, state_of, mode_of, mode_after}
 use Rattle.mg_transcript.specs.Sessions.{begun_after, last_begun}
 
 -- the entries in front of an older history are those of events of this transaction
@@ -113,3 +114,21 @@ pub mode_grown : {t : TxNo} {h after : Entries} (o : Opening) (u : ℕ) → (t.0
 mode_grown o u apart as_it_was = refl
 mode_grown {t = t} o u apart (by_one {after = mid} e its more) =
     mode_others_entry o mid e u (not_its u e t.0 its apart) ∙ mode_grown o u apart more
+
+-- no transaction runs otherwise than before
+mode_undrawn : (f : Effect) (u : ℕ) (old : Mode) → drawn f ≡ None → mode_after f u old ≡ old
+mode_undrawn (Begins t mode) u old none = absurd cc
+mode_undrawn (Looks t) u old none = refl
+mode_undrawn (Makes t table row) u old none = refl
+mode_undrawn (Gives t table key row) u old none = refl
+mode_undrawn (Marks t) u old none = refl
+mode_undrawn (Saves t name) u old none = refl
+mode_undrawn (TakesBack t point) u old none = refl
+mode_undrawn (Ends t end) u old none = refl
+mode_undrawn Nothing u old none = refl
+
+pub mode_stays : {t : TxNo} {h after : Entries} (u : ℕ) → GrowsBy t h after
+    → mode_of after u ≡ mode_of h u
+mode_stays u as_it_was = refl
+mode_stays {t = t} u (by_one {after = mid} e its more) =
+    mode_undrawn (effect_of e) u (mode_of mid u) (draws_none e.event e.answer t.0 its) ∙ mode_stays u more

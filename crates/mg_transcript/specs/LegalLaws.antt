@@ -26,7 +26,7 @@ use Rattle.mg_script.specs.declared.reply.Reply.{Reply}
 use Rattle.mg_script.specs.declared.reply.Reply.TheVariants as replies
 use Rattle.mg_transcript.specs.declared.turn.Spoken.{Spoken}
 use Rattle.mg_transcript.specs.Courses.{Course, Comes}
-use Rattle.mg_transcript.specs.Steps.{IsUndone, taken_back, given_up, Writes, done, waits, undone, WritesAll, none_left, one_more, parks, fails, Marks, refused_mark, no_event, first_event, Follows, answers_so, writes_so, has_fault, falls_short, Steps, visits, stops, faults, finds, finds_not, inserts, inserts_not, makes, makes_not, saves, goes_back, goes_nowhere, goes_not, writes_on, writes_page, writes_no_page, commits, Starts, looks_not, fails_test, tests_not, passes, sets_savepoint, takes_back, asks, asks_not, rolls_back, Runs, waits_now, ends_now, one_step, Takes, enough_now, waits_then, ends_then, step_more}
+use Rattle.mg_transcript.specs.Steps.{IsUndone, taken_back, given_up, Writes, done, waits, undone, WritesAll, none_left, one_more, parks, fails, Marks, refused_mark, no_event, first_event, Follows, answers_so, writes_so, has_fault, falls_short, Steps, visits, stops, faults, finds, finds_not, inserts, inserts_not, makes, makes_not, saves, goes_back, goes_nowhere, goes_not, writes_on, makes_on, writes_page, writes_no_page, commits, Starts, looks_not, fails_test, tests_not, passes, sets_savepoint, takes_back, asks, asks_not, rolls_back, Runs, waits_now, ends_now, one_step, Takes, enough_now, waits_then, ends_then, step_more}
 use Rattle.mg_transcript.specs.Sessions.{Unfinished}
 use Rattle.mg_transcript.specs.Scripts.{Obeyed, AreObeyed, no_line, one_line, AreCutShort, at_line}
 use Rattle.mg_transcript.specs.Shorthand as short
@@ -75,8 +75,9 @@ writes_legal (done its lawful) legal = (lawful, legal)
 writes_legal (waits on its lawful) legal = (lawful, legal)
 writes_legal (undone first answered after its final lawful undoing) legal = undone_legal undoing (lawful, legal)
 
-all_legal : {o : Opening} {t : TxNo} {outcome : Outcome} {h after : Entries} {news : List Event}
-    {comes : Comes} → WritesAll o t outcome h news after comes → IsLegal o h → IsLegal o after
+all_legal : {o : Opening} {t : TxNo} {all : List Event} {outcome : Outcome} {h after : Entries}
+    {news : List Event} {comes : Comes} → WritesAll o t all outcome h news after comes → IsLegal o h
+    → IsLegal o after
 all_legal none_left legal = legal
 all_legal (one_more its lawful more) legal = all_legal more (lawful, legal)
 all_legal (parks write) legal = writes_legal write legal
@@ -115,6 +116,7 @@ steps_legal (goes_nowhere name taken gone) legal = legal
 steps_legal {o = o} {h = h} {t = t} (goes_not name taken refusal lawful) legal =
     after_refusal_legal o h t (events.BackTo t name) refusal lawful legal
 steps_legal (writes_on event more outcome after comes write) legal = writes_legal write legal
+steps_legal (makes_on all outcome after comes write) legal = all_legal write legal
 steps_legal (writes_page written) legal = legal
 steps_legal (writes_no_page refusal is) legal = legal
 steps_legal (commits answer lawful) legal = (lawful, legal)

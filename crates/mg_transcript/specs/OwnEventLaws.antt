@@ -18,7 +18,7 @@ use Rattle.mg_records.specs.TakingBack.{after_refusal, is_given_up}
 use Rattle.mg_rows.specs.declared.outcome.Outcome.{Outcome}
 use Rattle.mg_transcript.specs.Courses.{Course, Comes}
 use Rattle.mg_transcript.specs.Growing.{GrowsBy, as_it_was, by_one, grown_then}
-use Rattle.mg_transcript.specs.Steps.{IsUndone, taken_back, given_up, Writes, done, waits, undone, WritesAll, none_left, one_more, parks, fails, Marks, refused_mark, no_event, first_event, IsFind, Follows, answers_so, writes_so, has_fault, falls_short, Steps, visits, stops, faults, finds, finds_not, inserts, inserts_not, makes, makes_not, saves, goes_back, goes_nowhere, goes_not, writes_on, writes_page, writes_no_page, commits, Starts, looks_not, fails_test, tests_not, passes, sets_savepoint, takes_back, asks, asks_not, rolls_back, Runs, waits_now, ends_now, one_step, Takes, enough_now, waits_then, ends_then, step_more}
+use Rattle.mg_transcript.specs.Steps.{IsUndone, taken_back, given_up, Writes, done, waits, undone, WritesAll, none_left, one_more, parks, fails, Marks, refused_mark, no_event, first_event, IsFind, Follows, answers_so, writes_so, has_fault, falls_short, Steps, visits, stops, faults, finds, finds_not, inserts, inserts_not, makes, makes_not, saves, goes_back, goes_nowhere, goes_not, writes_on, makes_on, writes_page, writes_no_page, commits, Starts, looks_not, fails_test, tests_not, passes, sets_savepoint, takes_back, asks, asks_not, rolls_back, Runs, waits_now, ends_now, one_step, Takes, enough_now, waits_then, ends_then, step_more}
 
 after_refusal_own : (o : Opening) (h : Entries) (t : TxNo) (event : Event) (refusal : Refusal)
     → transaction_of event ≡ Some t.0 → GrowsBy t h (after_refusal o h t event refusal)
@@ -49,8 +49,9 @@ writes_own {t = t} {event = event} (waits on its lawful) = by_one _ its as_it_wa
 writes_own {t = t} {event = event} (undone first answered after its final lawful undoing) =
     grown_then (one t event (answers.No first) its) (undone_own undoing)
 
-all_own : {o : Opening} {t : TxNo} {outcome : Outcome} {h after : Entries} {news : List Event}
-    {comes : Comes} → WritesAll o t outcome h news after comes → GrowsBy t h after
+all_own : {o : Opening} {t : TxNo} {all : List Event} {outcome : Outcome} {h after : Entries}
+    {news : List Event} {comes : Comes} → WritesAll o t all outcome h news after comes
+    → GrowsBy t h after
 all_own none_left = as_it_was
 all_own {t = t} (one_more {event = event} its lawful more) =
     grown_then (one t event answers.Fine its) (all_own more)
@@ -95,6 +96,7 @@ steps_own (goes_nowhere name taken gone) = as_it_was
 steps_own {o = o} {h = h} {t = t} (goes_not name taken refusal lawful) =
     after_refusal_own o h t (events.BackTo t name) refusal refl
 steps_own (writes_on event more outcome after comes write) = writes_own write
+steps_own (makes_on all outcome after comes write) = all_own write
 steps_own (writes_page written) = as_it_was
 steps_own (writes_no_page refusal is) = as_it_was
 steps_own {t = t} (commits answer lawful) = one t (events.Commit t) answer refl

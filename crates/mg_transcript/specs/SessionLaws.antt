@@ -18,7 +18,7 @@ use Rattle.mg_model.specs.NumberLaws.{next_number_grows}
 use Rattle.mg_transcript.specs.Sessions.{begun_after, last_begun}
 
 -- the number that is drawn is the next one
-drawn_next : (o : Opening) (h : Entries) (session : ℕ) (mode : Mode) (t : TxNo)
+pub drawn_next : (o : Opening) (h : Entries) (session : ℕ) (mode : Mode) (t : TxNo)
     → IsLawful o h (entry (Begin session mode) (Tx t)) → t.0 ≡ next_number o h
 drawn_next o h session mode t (inl is) = at (next_number o h == o.limit.0) is
   where

@@ -31,7 +31,7 @@ use Rattle.mg_rows.specs.declared.statement_fault.StatementFault.TheVariants.{En
 use Rattle.mg_rows.specs.Faults.{of_new_row}
 use Rattle.mg_script.specs.declared.reply.Reply.{Reply}
 use Rattle.mg_script.specs.declared.reply.Reply.TheVariants as replies
-use Rattle.mg_transcript.specs.Courses.{Course, Begun, Writing, Committing, Comes, Later, Parks, Ends, with_left}
+use Rattle.mg_transcript.specs.Courses.{Course, Begun, Writing, Making, Committing, Comes, Later, Parks, Ends, with_left}
 use Rattle.mg_transcript.specs.Statements.{table_of, filter_of, reads, selects, looks, fault_seen, rows_found, bare, events_of, makings}
 use Rattle.mg_transcript.specs.Selects.{Answers, reply_with}
 
@@ -85,21 +85,22 @@ pub data Writes (o : Opening) (h : Entries) (t : TxNo) (event : Event) (more : L
       → IsUndone o (entry event (answers.No first) ∷ h) t first after answered
       → Writes o h t event more outcome after (refused answered)
 
--- All events that a statement has left come in one step, up to one that waits or is refused.
-pub data WritesAll (o : Opening) (t : TxNo) (outcome : Outcome) : Entries → List Event → Entries
-    → Comes → Type 0 where
+-- These events of a statement come in one step, up to one that waits or is refused; where one waits,
+-- `all` are tried again later.
+pub data WritesAll (o : Opening) (t : TxNo) (all : List Event) (outcome : Outcome)
+    : Entries → List Event → Entries → Comes → Type 0 where
   none_left : {h : Entries}
-      → WritesAll o t outcome h [] h (Ends (replies.Ok outcome))
+      → WritesAll o t all outcome h [] h (Ends (replies.Ok outcome))
   one_more : {h after : Entries} {event : Event} {more : List Event} {comes : Comes}
       → transaction_of event ≡ Some t.0 → IsLawful o h (entry event answers.Fine)
-      → WritesAll o t outcome (entry event answers.Fine ∷ h) more after comes
-      → WritesAll o t outcome h (event ∷ more) after comes
+      → WritesAll o t all outcome (entry event answers.Fine ∷ h) more after comes
+      → WritesAll o t all outcome h (event ∷ more) after comes
   parks : {h after : Entries} {event : Event} {more : List Event} {on : TxNo} {course : Course}
       → Writes o h t event more outcome after (Parks on course)
-      → WritesAll o t outcome h (event ∷ more) after (Parks on course)
+      → WritesAll o t all outcome h (event ∷ more) after (Parks on (Making all outcome))
   fails : {h after : Entries} {event : Event} {more : List Event} {fault : StatementFault}
       → Writes o h t event more outcome after (Ends (replies.No fault))
-      → WritesAll o t outcome h (event ∷ more) after (Ends (replies.No fault))
+      → WritesAll o t all outcome h (event ∷ more) after (Ends (replies.No fault))
 
 -- The mark is set, and the first of these events comes; there may be none.
 pub data Marks (o : Opening) (h : Entries) (t : TxNo) (outcome : Outcome) : List Event → Entries
@@ -190,8 +191,8 @@ pub data Steps (o : Opening) (h : Entries) (t : TxNo) : Course → Entries → C
   -- a CREATE TABLE sets its mark, and all rows of the catalog come that say the table
   makes : (name : List ℕ) (columns : List Def) (taken : ℕ) (after : Entries) (comes : Comes)
       → IsLawful o h (entry (events.Mark t) answers.Fine)
-      → WritesAll o t outcomes.Fine (entry (events.Mark t) answers.Fine ∷ h)
-      (makings t (Table name columns)) after comes
+      → WritesAll o t (makings t (Table name columns)) outcomes.Fine
+      (entry (events.Mark t) answers.Fine ∷ h) (makings t (Table name columns)) after comes
       → Steps o h t (Begun (Table name columns) taken) after comes
   makes_not : (name : List ℕ) (columns : List Def) (taken : ℕ) (refusal : Refusal)
       → IsLawful o h (entry (events.Mark t) (answers.No refusal))
@@ -221,6 +222,9 @@ pub data Steps (o : Opening) (h : Entries) (t : TxNo) : Course → Entries → C
   writes_on : (event : Event) (more : List Event) (outcome : Outcome) (after : Entries) (comes : Comes)
       → Writes o h t event more outcome after comes
       → Steps o h t (Writing (event ∷ more) outcome) after comes
+  -- all events come of one that waited with them
+  makes_on : (all : List Event) (outcome : Outcome) (after : Entries) (comes : Comes)
+      → WritesAll o t all outcome h all after comes → Steps o h t (Making all outcome) after comes
   -- a step of the pages of a COMMIT: one of them is written, or all were before
   writes_page : (written : Bool)
       → Steps o h t (Committing false) h (Later (Committing written))

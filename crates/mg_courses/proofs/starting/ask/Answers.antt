@@ -1,8 +1,9 @@
-use Rattle.std.proofs.Common.{ap, refl, false}
+use Rattle.std.proofs.Common.{ap, refl, false, None, Some}
 use Rattle.mg_model.specs.Answers.{is_active}
 use Rattle.mg_model.specs.Machine.{state_of}
 use Rattle.mg_transcript.specs.Courses.{Later, Committing}
 use Rattle.mg_transcript.specs.Steps.{asks, asks_not, refused}
+use Rattle.mg_courses.specs.CarryLaws.{carries_read}
 use Rattle.mg_courses.proofs.WorkLemmas.{still_active, refused_outside}
 use Rattle.mg_courses.proofs.starting.ask.Goals as goal
 
@@ -14,6 +15,8 @@ returns-in-Ok-clause-starts g c = λ o h stands active size. record {
   stands = c.in-Ok.ensures.reads.stays o h stands;
   told = refl;
   active = ap is_active active;
+  carries = carries_read g.R.Records.meaning g.met.R.Records.lasts c.args.r.now c.commit_ask.new.self o h None
+      (Some c.args.t.0) stands c.in-Ok.ensures.reads c.in-Ok.ensures.crash;
 }
 
 pub returns-in-Err-clause-starts : goal.returns-in-Err-clause-starts
@@ -25,4 +28,6 @@ returns-in-Err-clause-starts g c = λ o h stands active size. record {
   stands = c.in-Err.ensures.reads.stays o h stands;
   told = c.refused.ensures.reply;
   active = still_active (state_of o h c.args.t.0) c.refused.result.over active c.refused.ensures.over;
+  carries = carries_read g.R.Records.meaning g.met.R.Records.lasts c.args.r.now c.commit_ask.new.self o h
+      (Some c.in-Err.refusal) (Some c.args.t.0) stands c.in-Err.ensures.reads c.in-Err.ensures.crash;
 }

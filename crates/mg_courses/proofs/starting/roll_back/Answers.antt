@@ -1,4 +1,4 @@
-use Rattle.std.proofs.Common.{refl, ◌∷◌}
+use Rattle.std.proofs.Common.{refl, ◌∷◌, None, Some}
 use Rattle.mg_base.specs.declared.transaction.TxState.TheVariants.{Dead}
 use Rattle.mg_model.specs.declared.answer.Answer.TheVariants.{Fine, No}
 use Rattle.mg_model.specs.declared.event.Event.TheVariants.{Rollback}
@@ -6,6 +6,7 @@ use Rattle.mg_model.specs.History.{entry}
 use Rattle.mg_model.specs.Machine.{state_of}
 use Rattle.mg_transcript.specs.Courses.{Ends}
 use Rattle.mg_transcript.specs.Steps.{rolls_back, refused, reply_to}
+use Rattle.mg_courses.specs.CarryLaws.{carries_event}
 use Rattle.mg_courses.proofs.WorkLemmas.{still_active, ended_over}
 use Rattle.mg_courses.proofs.starting.roll_back.Goals as goal
 
@@ -19,6 +20,9 @@ returns-in-Ok-clause-starts g c = λ o h stands active size.
       stands = made.1;
       told = c.over.ensures.reply;
       active = ended_over c.args.t.0 (state_of o h c.args.t.0) Dead c.over.result.over refl c.over.ensures.over;
+      carries = carries_event g.R.Records.meaning g.met.R.Records.lasts c.args.r.now c.rollback.new.self o h
+          (entry (Rollback c.args.t) Fine) None refl stands c.in-Ok.ensures.leaves.keeps
+          c.in-Ok.ensures.crash;
     }
 
 pub returns-in-Err-clause-starts : goal.returns-in-Err-clause-starts
@@ -31,4 +35,7 @@ returns-in-Err-clause-starts g c = λ o h stands active size.
       stands = made.1;
       told = c.refused.ensures.reply;
       active = still_active (state_of o h c.args.t.0) c.refused.result.over active c.refused.ensures.over;
+      carries = carries_event g.R.Records.meaning g.met.R.Records.lasts c.args.r.now c.rollback.new.self o h
+          (entry (Rollback c.args.t) (No c.in-Err.refusal)) (Some c.in-Err.refusal) refl stands
+          c.in-Err.ensures.leaves.keeps c.in-Err.ensures.crash;
     }

@@ -10,7 +10,7 @@ returns-in-Savepoint-clause-starts g c = λ o h stands active mode.
     let is : plain_of c.args.s ≡ Savepoint c.in-Savepoint.name = ap plain_of c.in-Savepoint.is in
     let done = c.begin.ensures.begins o h stands active in
     let begun = rw is at done in
-    rw is (begins_at_once g.R.Records.meaning g.R.Statements.runs c.begin.new.r o h c.args.t
+    rw is (begins_at_once g.R.Records.meaning g.R.Statements.runs c.args.r.now c.args.r.now c.begin.new.r o h c.args.t
     c.args.read_only c.args.size (Savepoint c.in-Savepoint.name) c.begin.result refl active
     (sets_savepoint c.in-Savepoint.name) begun)
 
@@ -19,6 +19,6 @@ returns-in-RollbackTo-clause-starts g c = λ o h stands active mode.
     let is : plain_of c.args.s ≡ RollbackTo c.in-RollbackTo.name = ap plain_of c.in-RollbackTo.is in
     let done = c.begin-in-RollbackTo.ensures.begins o h stands active in
     let begun = rw is at done in
-    rw is (begins_at_once g.R.Records.meaning g.R.Statements.runs c.begin-in-RollbackTo.new.r o h c.args.t
+    rw is (begins_at_once g.R.Records.meaning g.R.Statements.runs c.args.r.now c.args.r.now c.begin-in-RollbackTo.new.r o h c.args.t
     c.args.read_only c.args.size (RollbackTo c.in-RollbackTo.name) c.begin-in-RollbackTo.result refl active
     (takes_back c.in-RollbackTo.name) begun)

@@ -24,10 +24,10 @@ loop-alloc-preserved g c =
     let done = rw more at c.loop-alloc.invariant.done in
     let next = c.step-stepped-in-loop-alloc in
     record {
-      so_far = so_far_more g.R.Records.meaning g.R.Statements.runs c.args.r.now c.loop-alloc.r next.new.r
+      so_far = so_far_more g.R.Records.meaning g.R.Statements.runs g.met.R.Records.lasts c.args.r.now c.loop-alloc.r next.new.r
           c.args.t c.args.work.now c.loop-alloc.work next.new.work next.result so_far
           next.ensures.ready next.ensures.frames next.ensures.sessions;
-      done = takes_on g.R.Records.meaning g.R.Statements.runs c.args.r.now c.loop-alloc.r next.new.r
+      done = takes_on g.R.Records.meaning g.R.Statements.runs g.met.R.Records.lasts c.args.r.now c.loop-alloc.r next.new.r
           c.args.t c.args.work.now c.loop-alloc.work next.new.work next.result c.args.most c.loop-alloc.left
           both.0 done next.ensures.steps;
     }

@@ -1,0 +1,5 @@
+mod GoLemmas
+mod StatementLemmas
+mod BeginLemmas
+mod HoldingLemmas
+mod TendingLemmas

@@ -1,0 +1,122 @@
+use Rattle.std.proofs.Common.{ap, sym, ◌∙◌, refl}
+use Rattle.mg_model.specs.declared.refusal.Refusal.TheVariants.{NoTransaction, Memory}
+use Rattle.mg_rows.specs.declared.statement_fault.StatementFault.TheVariants.{Engine}
+use Rattle.mg_script.specs.declared.line.LineKind.TheVariants as kinds
+use Rattle.mg_script.specs.declared.reply.Reply.{Reply}
+use Rattle.mg_script.specs.declared.reply.Reply.TheVariants.{No}
+use Rattle.mg_sql.specs.Plain.{plain_of}
+use Rattle.mg_transcript.specs.Lines.{Does, declines, has_none, wants_memory, runs as it_runs}
+use Rattle.mg_courses.specs.BesideLaws.{works_stay_at, works_stay_ready}
+use Rattle.mg_courses.specs.declared.statements.Stepped.TheVariants.{More, Ended}
+use Rattle.mg_pending.specs.AgreeLaws.{same_busy}
+use Rattle.mg_pending.specs.StandingLaws.{live_is_active}
+use Rattle.mg_pending.specs.Statements.{transactions_after}
+use Rattle.mg_pending.specs.Transactions.{number_in}
+use Rattle.mg_sessions.proofs.GoLemmas.{step_others_ready}
+use Rattle.mg_sessions.proofs.HoldingLemmas.{stand_as}
+use Rattle.mg_sessions.proofs.StatementLemmas.{comes_as, ended_so, ran, ready_as, stays_so}
+use Rattle.mg_sessions.proofs.statements.run_own.Goals as goal
+
+pub returns-in-None-clause-does : goal.returns-in-None-clause-does
+returns-in-None-clause-does g c = λ text parses o h us stand.
+    let all = c.args.sessions.now.transactions in
+    let ps = c.args.sessions.now.pending.items in
+    let none = ap number_in (sym c.of.ensures ∙ c.in-None.is) in
+    let free = same_busy g.R.Statements.runs c.args.r.now o h c.args.session ps us stand.agree ∙ c.requires.idle in
+    stays_so g.R.Records.meaning g.R.Statements.runs g.met.R.Records.crashes c.args.r.now o h all ps us
+    (Does o h c.args.size us (kinds.Sql c.args.session text) (No (Engine NoTransaction))) stand
+    (declines c.args.session text (Engine NoTransaction)
+    (has_none (plain_of c.args.statement) free parses c.requires.other (stand.its c.args.session.0 ∙ none)))
+
+pub returns-in-Err-clause-does : goal.returns-in-Err-clause-does
+returns-in-Err-clause-does g c = λ text parses o h us stand.
+    let all = c.args.sessions.now.transactions in
+    let ps = c.args.sessions.now.pending.items in
+    comes_as g.R.Records.meaning g.R.Statements.runs c.args.r.now c.args.r.now o h all
+    c.reserve.new.self.transactions ps c.reserve.new.self.pending.items
+    (λ (reply : Reply). Does o h c.args.size us (kinds.Sql c.args.session text) reply)
+    (No (Engine Memory)) (No (Engine Memory)) c.reserve.ensures.transactions c.reserve.ensures.pending refl
+    (stays_so g.R.Records.meaning g.R.Statements.runs g.met.R.Records.crashes c.args.r.now o h all ps us
+    (Does o h c.args.size us (kinds.Sql c.args.session text) (No (Engine Memory))) stand
+    (wants_memory (kinds.Sql c.args.session text)))
+
+pub go_on-requires-clause-ready : goal.go_on-requires-clause-ready
+go_on-requires-clause-ready g c =
+    let m = g.R.Records.meaning in
+    let runs = g.R.Statements.runs in
+    let all = c.args.sessions.now.transactions in
+    let ps = c.args.sessions.now.pending.items in
+    let its = ap number_in (sym c.of.ensures ∙ c.in-Some.is) in
+    ready_as m runs c.start.new.r all c.reserve.new.self.transactions ps c.reserve.new.self.pending.items
+    c.reserve.ensures.transactions c.reserve.ensures.pending
+    (step_others_ready m runs g.met.R.Statements.one c.args.r.now c.start.new.r c.args.session
+    c.in-Some.own.number More all ps c.requires.ready its c.requires.idle c.in-Begun.ensures.frames
+    (works_stay_ready m runs g.met.R.Statements.stay) c.in-Begun.ensures.sessions)
+
+pub returns-in-Begun-clause-does : goal.returns-in-Begun-clause-does
+returns-in-Begun-clause-does g c = λ text parses o h us stand.
+    let m = g.R.Records.meaning in
+    let runs = g.R.Statements.runs in
+    let all = c.args.sessions.now.transactions in
+    let ps = c.args.sessions.now.pending.items in
+    let its = ap number_in (sym c.of.ensures ∙ c.in-Some.is) in
+    let t = c.in-Some.own.number in
+    let free = same_busy runs c.args.r.now o h c.args.session ps us stand.agree ∙ c.requires.idle in
+    let active = live_is_active m runs c.args.r.now o h all ps us c.args.session.0 t stand its in
+    let mode = stand.modes c.args.session.0 c.in-Some.own (sym c.of.ensures ∙ c.in-Some.is) in
+    let done = c.in-Begun.ensures.starts o h stand.stands active mode in
+    ran m runs g.met.R.Statements.one g.met.R.Records.lasts (works_stay_at m runs g.met.R.Statements.courses)
+    c.args.r.now c.start.new.r c.go_on.new.r c.args.session t all c.go_on.new.sessions.transactions ps
+    c.go_on.new.sessions.pending.items c.requires.ready its c.requires.idle c.in-Begun.ensures.frames
+    c.in-Begun.work c.go_on.result o h us c.args.size (plain_of c.args.statement)
+    (λ (reply : Reply). Does o h c.args.size us (kinds.Sql c.args.session text) reply)
+    (λ after mid begun comes starts goes. it_runs c.args.session text t (plain_of c.args.statement) mid after
+    begun comes (record { free = free; parses = parses; of_transaction = c.requires.other; its = stand.its c.args.session.0 ∙ its })
+    starts goes) stand done
+    (λ p g_h vs course there at_work. c.go_on.ensures.does p g_h vs course
+    (stand_as m runs c.start.new.r p g_h all c.reserve.new.self.transactions ps c.reserve.new.self.pending.items
+    vs c.reserve.ensures.transactions c.reserve.ensures.pending there) at_work)
+
+pub returns-in-Ended-clause-does : goal.returns-in-Ended-clause-does
+returns-in-Ended-clause-does g c = λ text parses o h us stand.
+    let m = g.R.Records.meaning in
+    let runs = g.R.Statements.runs in
+    let all = c.args.sessions.now.transactions in
+    let ps = c.args.sessions.now.pending.items in
+    let its = ap number_in (sym c.of.ensures ∙ c.in-Some.is) in
+    let t = c.in-Some.own.number in
+    let free = same_busy runs c.args.r.now o h c.args.session ps us stand.agree ∙ c.requires.idle in
+    let active = live_is_active m runs c.args.r.now o h all ps us c.args.session.0 t stand its in
+    let mode = stand.modes c.args.session.0 c.in-Some.own (sym c.of.ensures ∙ c.in-Some.is) in
+    let done = c.in-Ended.ensures.starts o h stand.stands active mode in
+    let ending = c.in-Ended.ending in
+    comes_as m runs c.args.r.now c.start.new.r o h (transactions_after c.args.session.0 (Ended ending) all)
+    c.end.new.self.transactions ps c.end.new.self.pending.items
+    (λ (reply : Reply). Does o h c.args.size us (kinds.Sql c.args.session text) reply) ending.reply c.end.result
+    (c.end.ensures.transactions
+    ∙ ap (transactions_after c.args.session.0 (Ended ending)) c.reserve.ensures.transactions)
+    (c.end.ensures.pending ∙ c.reserve.ensures.pending) c.end.ensures.reply
+    (ended_so m runs g.met.R.Statements.one (works_stay_at m runs g.met.R.Statements.courses) c.args.r.now
+    c.start.new.r c.args.session t ending all ps c.requires.ready its c.requires.idle c.in-Ended.ensures.frames o
+    h us c.args.size (plain_of c.args.statement)
+    (λ (reply : Reply). Does o h c.args.size us (kinds.Sql c.args.session text) reply)
+    (λ after comes starts goes. it_runs c.args.session text t (plain_of c.args.statement) after after comes comes
+    (record { free = free; parses = parses; of_transaction = c.requires.other; its = stand.its c.args.session.0 ∙ its })
+    starts goes) stand done)
+
+pub returns-in-Ended-clause-ready : goal.returns-in-Ended-clause-ready
+returns-in-Ended-clause-ready g c =
+    let m = g.R.Records.meaning in
+    let runs = g.R.Statements.runs in
+    let all = c.args.sessions.now.transactions in
+    let ps = c.args.sessions.now.pending.items in
+    let its = ap number_in (sym c.of.ensures ∙ c.in-Some.is) in
+    let ending = c.in-Ended.ending in
+    ready_as m runs c.start.new.r (transactions_after c.args.session.0 (Ended ending) all)
+    c.end.new.self.transactions ps c.end.new.self.pending.items
+    (c.end.ensures.transactions
+    ∙ ap (transactions_after c.args.session.0 (Ended ending)) c.reserve.ensures.transactions)
+    (c.end.ensures.pending ∙ c.reserve.ensures.pending)
+    (step_others_ready m runs g.met.R.Statements.one c.args.r.now c.start.new.r c.args.session
+    c.in-Some.own.number (Ended ending) all ps c.requires.ready its c.requires.idle c.in-Ended.ensures.frames
+    (works_stay_ready m runs g.met.R.Statements.stay) c.in-Ended.ensures.sessions)

@@ -1,0 +1,93 @@
+-- One call, several calls, and none.
+use Rattle.std.specs.Prelude.{◌≡◌, ◌⊎◌, ◌-◌, ◌^◌, ℕ, ◌≤◌, Option, Some, None, refl}
+use Rattle.std.proofs.Common.{inl, inr, sym, ◌∙◌, arith}
+use Rattle.mg_base.specs.Disk.{Rose}
+use Rattle.mg_model.specs.declared.refusal.Refusal.{Refusal}
+use Rattle.mg_model.specs.declared.refusal.Refusal.TheVariants.{DatabaseFull, DiskRead, DiskWrite, Offline, Damaged}
+use Rattle.mg_records.specs.Meaning.{Means}
+use Rattle.mg_calls.specs.Frames.{Blames, Frames}
+use Rattle.mg_sessions.specs.Accounts.{Accounts}
+
+pub account_of : {R P : Type 0} (m : Means R P) (old new : R) (t : ℕ) (refusal : Option Refusal)
+    → Frames m old new t refusal → Accounts m old new refusal
+account_of m old new t refusal frames = record {
+  faults = frames.faults;
+  damage = frames.damage;
+  shortages = frames.shortages;
+  cause = frames.cause;
+  down = frames.down;
+  sizes = frames.sizes;
+}
+
+-- no call was made
+pub no_account : {R P : Type 0} (m : Means R P) (r : R) (refusal : Option Refusal)
+    → Blames m r r refusal → Accounts m r r refusal
+no_account m r refusal cause = record {
+  faults = omega arith;
+  damage = omega arith;
+  shortages = omega arith;
+  cause = cause;
+  down = inl refl;
+  sizes = λ size. refl;
+}
+
+-- ---- several calls
+
+at_most : (a b c : ℕ) → a ≤ b → b ≤ c → a ≤ c
+at_most a b c first second = omega (arith, first, second)
+
+rose_then : (a b c : ℕ) → Rose a b → b ≤ c → Rose a c
+rose_then a b c (inl is) le = inl (omega (arith, is, le))
+rose_then a b c (inr is) le = inr (at_most (2 ^ 64 - 1) b c is le)
+
+then_rose : (a b c : ℕ) → a ≤ b → Rose b c → Rose a c
+then_rose a b c le (inl is) = inl (omega (arith, is, le))
+then_rose a b c le (inr is) = inr is
+
+down_then : {R P : Type 0} (m : Means R P) (old mid new : R) → m.faults old ≤ m.faults mid
+    → m.faults mid ≤ m.faults new
+    → (m.down mid ≡ m.down old) ⊎ Rose (m.faults old) (m.faults mid)
+    → (m.down new ≡ m.down mid) ⊎ Rose (m.faults mid) (m.faults new)
+    → (m.down new ≡ m.down old) ⊎ Rose (m.faults old) (m.faults new)
+down_then m old mid new first second (inl a) (inl b) = inl (b ∙ a)
+down_then m old mid new first second (inr a) b =
+    inr (rose_then (m.faults old) (m.faults mid) (m.faults new) a second)
+down_then m old mid new first second (inl a) (inr b) =
+    inr (then_rose (m.faults old) (m.faults mid) (m.faults new) first b)
+
+blamed_last : {R P : Type 0} (m : Means R P) (old mid new : R) (refusal : Option Refusal)
+    → m.faults old ≤ m.faults mid → m.damage old ≤ m.damage mid → m.shortages old ≤ m.shortages mid
+    → m.faults mid ≤ m.faults new
+    → (m.down mid ≡ m.down old) ⊎ Rose (m.faults old) (m.faults mid) → Blames m mid new refusal
+    → Blames m old new refusal
+blamed_last m old mid new None f d s g down cause = tt
+blamed_last m old mid new (Some (DiskRead count)) f d s g down cause =
+    then_rose (m.faults old) (m.faults mid) (m.faults new) f cause
+blamed_last m old mid new (Some (DiskWrite count)) f d s g down cause =
+    then_rose (m.faults old) (m.faults mid) (m.faults new) f cause
+blamed_last m old mid new (Some (Damaged page field found wanted)) f d s g down cause =
+    then_rose (m.damage old) (m.damage mid) (m.damage new) d cause
+blamed_last m old mid new (Some (DatabaseFull limit)) f d s g down cause =
+    then_rose (m.shortages old) (m.shortages mid) (m.shortages new) s cause
+blamed_last m old mid new (Some (Offline count)) f d s g down cause = by down cause
+  where
+    by : (m.down mid ≡ m.down old) ⊎ Rose (m.faults old) (m.faults mid)
+        → (m.down mid ≡ Some count) ⊎ Rose (m.faults mid) (m.faults new)
+        → (m.down old ≡ Some count) ⊎ Rose (m.faults old) (m.faults new)
+    by (inl same) (inl is) = inl (sym same ∙ is)
+    by (inr rose) is = inr (rose_then (m.faults old) (m.faults mid) (m.faults new) rose g)
+    by (inl same) (inr rose) = inr (then_rose (m.faults old) (m.faults mid) (m.faults new) f rose)
+blamed_last m old mid new (Some refusal) f d s g down cause = tt
+
+-- the second of two says what is answered
+pub account_then : {R P : Type 0} (m : Means R P) (old mid new : R) (a refusal : Option Refusal)
+    → Accounts m old mid a → Accounts m mid new refusal → Accounts m old new refusal
+account_then m old mid new a refusal first second = record {
+  faults = at_most (m.faults old) (m.faults mid) (m.faults new) first.faults second.faults;
+  damage = at_most (m.damage old) (m.damage mid) (m.damage new) first.damage second.damage;
+  shortages = at_most (m.shortages old) (m.shortages mid) (m.shortages new) first.shortages second.shortages;
+  cause = blamed_last m old mid new refusal first.faults first.damage first.shortages second.faults
+      first.down second.cause;
+  down = down_then m old mid new first.faults second.faults first.down second.down;
+  sizes = λ size. second.sizes size ∙ first.sizes size;
+}

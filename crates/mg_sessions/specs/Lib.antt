@@ -1,0 +1,5 @@
+pub mod Accounts
+pub mod AccountLaws
+pub mod Coming
+pub mod Lines
+pub mod Moves
