@@ -41,18 +41,18 @@ pub core_on : {D : Type 0} (m : Meaning D) (old new : Core D) (store : Pool D Fi
     } → IsCore m new
 core_on {D} m old new store waits works damage shortages is pool geometry active same = subst (λ (c : Core D). IsCore m c)
     (sym same) (record {
-  pool = pool;
-  geometry = subst IsGeometry (sym geometry) is.geometry;
-  list = is.list;
-  size = is.size ∙ ap (λ (g : Geometry). g.size) (sym geometry);
-  catalog = is.catalog;
-  next = is.next;
-  drawn = is.drawn;
-  active = record {
-    has_work = λ t told. active t ∙ is.active.has_work t told;
-    is_active = λ t some. is.active.is_active t (sym (active t) ∙ some);
-  };
-})
+      pool = pool;
+      geometry = subst IsGeometry (sym geometry) is.geometry;
+      list = is.list;
+      size = is.size ∙ ap (λ (g : Geometry). g.size) (sym geometry);
+      catalog = is.catalog;
+      next = is.next;
+      drawn = is.drawn;
+      active = record {
+        has_work = λ t told. active t ∙ is.active.has_work t told;
+        is_active = λ t some. is.active.is_active t (sym (active t) ∙ some);
+      };
+    })
 
 -- pages were only read
 pub core_read : {D : Type 0} (m : Meaning D) (old : Core D) (store : Pool D FireLinks) → IsCore m old

@@ -42,7 +42,12 @@ impl<D: Disk> Core<D> {
     /// # Errors
     ///
     /// As `pass_table`.
-    pub(crate) fn pass_record(&mut self, t: TxNo, wait: bool, rec: Option<RecId>) -> Result<(), Refusal>
+    pub(crate) fn pass_record(
+        &mut self,
+        t: TxNo,
+        wait: bool,
+        rec: Option<RecId>,
+    ) -> Result<(), Refusal>
         requires core { IsCore D.meaning self.old }
         requires online { self.old.store.offline ≡ None }
         ensures core { IsCore D.meaning self.new }

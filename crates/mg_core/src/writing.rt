@@ -96,7 +96,13 @@ impl<D: Disk> Core<D> {
     /// # Errors
     ///
     /// `DuplicateKey` or `NoRow`, where it doesn't; or what the reading is refused for.
-    fn find_row(&mut self, t: TxNo, table: &Table, key: &Key, write: &Write) -> Result<Option<RecId>, Refusal>
+    fn find_row(
+        &mut self,
+        t: TxNo,
+        table: &Table,
+        key: &Key,
+        write: &Write,
+    ) -> Result<Option<RecId>, Refusal>
         requires core { IsCore D.meaning self.old }
         requires given { MayBeGiven table.now }
         ensures core { IsCore D.meaning self.new }

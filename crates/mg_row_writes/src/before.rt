@@ -93,7 +93,12 @@ pub fn before_at<D: Disk, S: States>(
 }
 
 /// What stands in a record whose newest version is the transaction's own.
-fn own_before(alloc: Global, table: &Table, rec: RecId, newest: &Placed) -> Result<Before, SpaceFault>
+fn own_before(
+    alloc: Global,
+    table: &Table,
+    rec: RecId,
+    newest: &Placed,
+) -> Result<Before, SpaceFault>
     requires columns { length table.now.shape.columns ≤ MOST_COLUMNS }
     requires short { length newest.now.version.body ≤ GREATEST_SIZE }
     ensures { MatchResult result (OwnBefore table.now rec newest.now.version)

@@ -24,9 +24,12 @@ returns-in_err-change_batch-clause-takes g c = handed_on c.from_residual-in_err-
     c.in_err-change_batch.field-0.0 _ (FailsPlace g.D.Disk.meaning c.args.store.now c.change_batch.new.store c.args.owner.0)
     c.from_residual-in_err-change_batch.ensures.0 c.from_residual-in_err-change_batch.ensures.1
     (not_changed c.spot.new.batch c.spot.new.store c.in_ok-at.ensures.keeps c.in_ok-at.ensures.fault
-    (λ image tells. (c.in_ok-at.at, subst (λ (e : Changed). GivesSpot c.args.store.now image e c.spot.new.batch c.args.owner.0
-    c.in_ok-at.at) (nothing c.new-batch.result c.new-batch.ensures.pages c.new-batch.ensures.orders)
-    (c.in_ok-at.ensures.gives image tells))) c.in_err-change_batch.ensures.changes)
+    (λ image tells. (
+      c.in_ok-at.at,
+      subst (λ (e : Changed). GivesSpot c.args.store.now image e c.spot.new.batch c.args.owner.0
+          c.in_ok-at.at) (nothing c.new-batch.result c.new-batch.ensures.pages c.new-batch.ensures.orders)
+          (c.in_ok-at.ensures.gives image tells),
+    )) c.in_err-change_batch.ensures.changes)
 
 pub returns-clause-takes : goal.returns-clause-takes
 returns-clause-takes g c = record {

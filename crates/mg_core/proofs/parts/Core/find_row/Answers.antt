@@ -24,22 +24,22 @@ pub returns-in-None-clause-finds : goal.returns-in-None-clause-finds
 returns-in-None-clause-finds g c = record {
   found = c.in-Ok.found;
   reads = (record {
-      reads = record { keeps = c.in-Ok.ensures.keeps; online = c.in-Ok.ensures.fault; same = refl };
-      told = λ image tells. subst (λ (k : Value). IsRowAt (said c.args.self.now.list) c.args.self.now.live c.args.t (shown c.args.self.now.store.dirty image) c.args.table.now k
-          c.in-Ok.found) c.value.ensures.value
-          (subst (λ (l : TxList). IsRowAt (said l) c.args.self.now.live c.args.t (shown c.args.self.now.store.dirty image) c.args.table.now c.value.result.now
-          c.in-Ok.found) c.new-states.ensures (c.in-Ok.ensures.gives image tells));
-    });
+    reads = record { keeps = c.in-Ok.ensures.keeps; online = c.in-Ok.ensures.fault; same = refl };
+    told = λ image tells. subst (λ (k : Value). IsRowAt (said c.args.self.now.list) c.args.self.now.live c.args.t (shown c.args.self.now.store.dirty image) c.args.table.now k
+        c.in-Ok.found) c.value.ensures.value
+        (subst (λ (l : TxList). IsRowAt (said l) c.args.self.now.live c.args.t (shown c.args.self.now.store.dirty image) c.args.table.now c.value.result.now
+        c.in-Ok.found) c.new-states.ensures (c.in-Ok.ensures.gives image tells));
+  });
   allows = subst (λ (b : Bool). Allows c.args.write.now b) c.is_some.ensures c.in-None.ensures;
   is = refl;
 }
 
 pub returns-clause-finds : goal.returns-clause-finds
 returns-clause-finds g c = row_wrong c.in-Ok.found (record {
-      reads = record { keeps = c.in-Ok.ensures.keeps; online = c.in-Ok.ensures.fault; same = refl };
-      told = λ image tells. subst (λ (k : Value). IsRowAt (said c.args.self.now.list) c.args.self.now.live c.args.t (shown c.args.self.now.store.dirty image) c.args.table.now k
-          c.in-Ok.found) c.value.ensures.value
-          (subst (λ (l : TxList). IsRowAt (said l) c.args.self.now.live c.args.t (shown c.args.self.now.store.dirty image) c.args.table.now c.value.result.now
-          c.in-Ok.found) c.new-states.ensures (c.in-Ok.ensures.gives image tells));
-    })
+  reads = record { keeps = c.in-Ok.ensures.keeps; online = c.in-Ok.ensures.fault; same = refl };
+  told = λ image tells. subst (λ (k : Value). IsRowAt (said c.args.self.now.list) c.args.self.now.live c.args.t (shown c.args.self.now.store.dirty image) c.args.table.now k
+      c.in-Ok.found) c.value.ensures.value
+      (subst (λ (l : TxList). IsRowAt (said l) c.args.self.now.live c.args.t (shown c.args.self.now.store.dirty image) c.args.table.now c.value.result.now
+      c.in-Ok.found) c.new-states.ensures (c.in-Ok.ensures.gives image tells));
+})
     (subst (λ (b : Bool). IsWrong c.args.write.now b c.in-Some.refusal) c.is_some.ensures c.in-Some.ensures)

@@ -33,7 +33,11 @@ returns-in_err-pass_record-clause-writes g c = refused_on c.from_residual-in_err
 pub returns-clause-writes : goal.returns-clause-writes
 returns-clause-writes g c = done_by g.D.Disk.meaning c.args.self.now c.pass_record.new.self c.put_row.new.self c.args.t c.args.table.now
     c.args.write.now c.in_ok-wait.wait c.in_ok-rec.rec c.in_ok-key.key c.put_row.result
-    (record { found = c.find_row.new.self; has_found = (found_by g.D.Disk.meaning c.args.self.now c.pass_table.new.self c.key_for.new.self c.find_row.new.self c.args.t c.args.table.now
-    c.args.write.now c.in_ok-wait.wait c.in_ok-rec.rec c.in_ok-key.key (record { begun = c.begin_event.new.self; has_begun = (record { continues = c.in-Ok.ensures.begins; ended = c.in-Ok.ensures.wait; may = c.in_ok-wait.ensures }); passes = c.in_ok-pass_table.ensures.passes }) c.in_ok-key.ensures.same
-    c.in_ok-key.ensures.key c.in_ok-key.ensures.some c.in_ok-rec.ensures.finds); passes = c.in_ok-pass_record.ensures.passes })
+    (record {
+      found = c.find_row.new.self;
+      has_found = (found_by g.D.Disk.meaning c.args.self.now c.pass_table.new.self c.key_for.new.self c.find_row.new.self c.args.t c.args.table.now
+          c.args.write.now c.in_ok-wait.wait c.in_ok-rec.rec c.in_ok-key.key (record { begun = c.begin_event.new.self; has_begun = (record { continues = c.in-Ok.ensures.begins; ended = c.in-Ok.ensures.wait; may = c.in_ok-wait.ensures }); passes = c.in_ok-pass_table.ensures.passes }) c.in_ok-key.ensures.same
+          c.in_ok-key.ensures.key c.in_ok-key.ensures.some c.in_ok-rec.ensures.finds);
+      passes = c.in_ok-pass_record.ensures.passes;
+    })
     c.in_ok-key.ensures.key c.put_row.ensures.puts
