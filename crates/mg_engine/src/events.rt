@@ -11,8 +11,8 @@ ghost use Rattle.mg_engine_meaning.specs.Meaning.{means};
 ghost use Rattle.mg_engine.specs.Places.{places};
 
 use crate::engine::Engine;
-use crate::place::Place;
 use mg_base::{Disk, TxNo};
+use mg_core::Place;
 use mg_engine_bases::looks_go_on;
 use mg_engine_meaning::points_go_on;
 use mg_expr::Expr;

@@ -1,6 +1,6 @@
 //! The engine as a keeper of records: it stands for a history of events.
 //!
-//! Owns: `Engine`, the core of an engine with its invariant; a place of a walk. Each call is a call of the
+//! Owns: `Engine`, the core of an engine with its invariant. Each call is a call of the
 //! core; what its clauses say is what `mg_records` asks of a keeper of records, with the meaning that
 //! `mg_engine_meaning` gives (`means`).
 //!
@@ -14,7 +14,5 @@
 mod committing;
 mod engine;
 mod events;
-mod place;
 
 pub use engine::Engine;
-pub use place::Place;
