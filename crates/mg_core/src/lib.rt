@@ -8,12 +8,12 @@
 //! first; to ask for a table and to walk over its records are no events. A refusal changes nothing else, but
 //! for what was read and counted.
 //!
-//! Invariant (`IsCore`): the cache and the transaction list are lawful and of one page size; the active
-//! transactions are those that the list says are active; the bases' next number is the list's; the
-//! catalog is the table that the file format says.
 //! A row is written stage by stage (`write_step`): nobody is in the way by the table's row of the catalog, the
 //! row in the view allows it, nobody is in the way by the record, and the version is laid.
 //!
+//! Invariant (`IsCore`): the cache and the transaction list are lawful and of one page size; the active
+//! transactions are those that the list says are active; the bases' next number is the list's; the
+//! catalog is the table that the file format says.
 //! Below: `mg_space`, for the pages; `mg_row_writes`, for rows on them, and `mg_seek`, which finds tables and
 //! rows; `mg_txlist`, `mg_snap`, `mg_waits` and `mg_works`, for the memory; `mg_database`, which opens and
 //! closes a disk.

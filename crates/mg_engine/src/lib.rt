@@ -5,8 +5,8 @@
 //! `mg_engine_meaning` gives (`means`).
 //!
 //! Invariant (`IsEngine`): the core is lawful, and each session has one active transaction at most.
-//! Below: `mg_core`, the calls over memory and pages; `mg_engine_meaning`, `mg_engine_bases` and `mg_engine_page_calls`, the
-//! laws.
+//! Below: `mg_core`, the calls over memory and pages; `mg_engine_meaning`, `mg_engine_bases` and
+//! `mg_engine_page_calls`, the laws.
 //! Above: the statements' steps.
 //! Not here yet: a begin, reads, writes, the ends of transactions, and so the impl of the trait.
 #![tactic(auto)]
