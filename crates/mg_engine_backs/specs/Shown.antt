@@ -59,7 +59,7 @@ pub record ShowsMidway (form : Form) (size : ℕ) (o : Opening) (h : Entries) (e
   pub each_record : (p : RecId) → (reading p ≡ first.reading p)
       ⊎ IsTakenBack o h e t (facts_by (left_state everyone s.state) begun first.layout) first.reading reading
       first.versions.speaker p
-  pub todo : (name : List ℕ) (key : Value) (c : records.Change) → newest_at left name key ≡ Some c
+  pub not_yet : (name : List ℕ) (key : Value) (c : records.Change) → newest_at left name key ≡ Some c
       → (p : RecId) → first.versions.speaker name key ≡ Some p → reading p ≡ first.reading p
   pub done : (name : List ℕ) (key : Value) → newest_at whole name key ≢ None → newest_at left name key ≡ None
       → (p : RecId) → first.versions.speaker name key ≡ Some p

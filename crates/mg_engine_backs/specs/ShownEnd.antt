@@ -318,6 +318,6 @@ pages_first form size o h e t whole s pages first = record {
   new = λ p table is. inl is;
   tables = first.tables;
   each_record = λ p. inl refl;
-  todo = λ name key c is p spoken. refl;
+  not_yet = λ name key c is p spoken. refl;
   done = λ name key some none. absurd (some none);
 }

@@ -51,7 +51,7 @@ module _ (form : Form) (size : ℕ) (o : Opening) (h : Entries) (e : Entry) (t :
   now_ = takes.reads.reading
 
   still : midway.reading rec ≡ first.reading rec
-  still = midway.todo name key c to_take rec takes.spoken
+  still = midway.not_yet name key c to_take rec takes.spoken
 
   same_or : (p : RecId) → (p ≡ rec) ⊎ (p ≢ rec)
   same_or p = at (cases_place p rec)
@@ -143,7 +143,7 @@ module _ (form : Form) (size : ℕ) (o : Opening) (h : Entries) (e : Entry) (t :
     tables = λ u is. finds_on o h s midway.layout takes.reads.layout midway.reading u takes.reads.grown
         (midway.tables u is);
     each_record = λ p. record_at p (same_or p);
-    todo = λ n k x is p spoken. todo_at n k x is p spoken (same_or p);
+    not_yet = λ n k x is p spoken. todo_at n k x is p spoken (same_or p);
     done = λ n k some none p spoken. done_at n k some none p spoken (same_or p)
         (same_name name n && same_key key k) refl;
   }
@@ -208,7 +208,7 @@ module _ (form : Form) (size : ℕ) (o : Opening) (h : Entries) (e : Entry) (t :
           ∙ (ap (λ (m : List ℕ). same_name name m && same_key key k) own_key.0
           ∙ (ap (λ (j : Value). same_name name name && same_key key j) own_key.1 ∙ itself_on))))
       todo_at n k x is p spoken (inr ne) = takes.reads.others p ne
-          ∙ midway.todo n k x (sym (else_left n k (other_key n k x is)) ∙ is) p spoken
+          ∙ midway.not_yet n k x (sym (else_left n k (other_key n k x is)) ∙ is) p spoken
 
       done_at : (n : List ℕ) (k : Value) → newest_at whole n k ≢ None
           → newest_at (without_key name key left) n k ≡ None → (p : RecId)
