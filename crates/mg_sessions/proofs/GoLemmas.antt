@@ -1,8 +1,7 @@
 -- A statement of a session's transaction has made steps: what is remembered then.
-use Rattle.std.proofs.Common.{◌≡◌, ◌<◌, ℕ, false, List, Option, None, Some, sym, ◌∙◌, subst, refl}
+use Rattle.std.proofs.Common.{◌≡◌, ◌<◌, ℕ, false, List, Option, None, Some, sym, ◌∙◌, subst}
 use Rattle.mg_base.specs.declared.numbers.TxNo.{TxNo}
 use Rattle.mg_model.specs.declared.opening.Opening.{Opening}
-use Rattle.mg_model.specs.declared.refusal.Refusal.{Refusal}
 use Rattle.mg_model.specs.Answers.{is_active}
 use Rattle.mg_model.specs.History.{Entries}
 use Rattle.mg_model.specs.Legal.{IsLegal}
@@ -16,35 +15,22 @@ use Rattle.mg_transcript.specs.Courses.{Comes}
 use Rattle.mg_transcript.specs.Growing.{GrowsBy}
 use Rattle.mg_transcript.specs.Sessions.{Unfinished, kept}
 use Rattle.mg_courses.specs.declared.statements.Stepped.{Stepped}
-use Rattle.mg_courses.specs.declared.statements.Stepped.TheVariants.{More, Waits, Ended}
 use Rattle.mg_courses.specs.declared.work.Work.{Work}
 use Rattle.mg_courses.specs.BesideLaws.{WorksStayReady, WorksStayAt}
-use Rattle.mg_courses.specs.Running.{RunMeans, WorksForOne, goes_on, over_in, refusal_told, refusal_answered}
+use Rattle.mg_courses.specs.Running.{RunMeans, WorksForOne, goes_on, over_in, refusal_told}
 use Rattle.mg_courses.specs.Working.{IsWorkTold, IsWorkReadyIf}
 use Rattle.mg_pending.specs.declared.pending.Pending.{Pending}
 use Rattle.mg_pending.specs.declared.transactions.Transaction.{Transaction}
 use Rattle.mg_pending.specs.Transactions.{number_at}
-use Rattle.mg_pending.specs.Statements.{has_statement, transactions_after, pending_after, reply_of_step}
+use Rattle.mg_pending.specs.Statements.{has_statement, transactions_after, pending_after}
 use Rattle.mg_pending.specs.Standing.{StandAt, AreReady}
 use Rattle.mg_pending.specs.StandingLaws.{others_ready, others_stand, is_over_by, ended_by, ends_by, goes_on_unless, kept_stands, kept_ready}
-use Rattle.mg_sessions.specs.Accounts.{Accounts}
-use Rattle.mg_sessions.specs.AccountLaws.{account_of}
-
--- the refusal that is answered is the one that the step told
-pub told_in_reply : (stepped : Stepped) → refusal_answered (reply_of_step stepped) ≡ refusal_told stepped
-told_in_reply More = refl
-told_in_reply (Waits on) = refl
-told_in_reply (Ended ending) = refl
 
 module _ {R P Run : Type 0} (m : Means R P) (runs : RunMeans R Run) (one : WorksForOne m) (old new : R)
     (session : Session) (t : TxNo) (stepped : Stepped) (all : List (Option Transaction))
     (ps : List (Pending Run)) (ready : AreReady m runs old all ps)
     (its : number_at all session.0 ≡ Some t) (idle : has_statement session.0 ps ≡ false)
     (frames : Frames m old new t.0 (refusal_told stepped)) where
-  pub step_account : Accounts m old new (refusal_answered (reply_of_step stepped))
-  step_account = subst (λ (refusal : Option Refusal). Accounts m old new refusal) (sym (told_in_reply stepped))
-      (account_of m old new t.0 (refusal_told stepped) frames)
-
   pub step_others_ready : WorksStayReady m runs → SessionsStay m old new None (over_in t.0 stepped)
       → AreReady m runs new (transactions_after session.0 stepped all) ps
   step_others_ready still stay = subst (λ (a : List (Option Transaction)). AreReady m runs new a ps)
