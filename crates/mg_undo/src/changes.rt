@@ -1,6 +1,6 @@
 //! The changes of a transaction, each with what was before.
 
-ghost use Rattle.std.specs.Prelude.{◌≡◌, ◌<◌, [], ◌∷◌, length, drop, OnOk, OnErr};
+ghost use Rattle.std.specs.Prelude.{◌≡◌, ◌<◌, [], ◌∷◌, length, drop, IfOk, OnOk, OnErr};
 ghost use Rattle.mg_undo.specs.Undo.{repeats as repeats_of, settled, without_newest, given_as, newest};
 
 use crate::places::{Places, place_of};
@@ -19,6 +19,23 @@ pub enum Was {
     Deleted,
     /// It had given the key this row.
     Row(Row),
+}
+
+impl Was {
+    /// An equal one.
+    ///
+    /// # Errors
+    ///
+    /// `Memory` only.
+    pub fn copy(&self, alloc: Global) -> Result<Was, Memory>
+        ensures { IfOk result (λ was. was ≡ self.now) }
+    {
+        match self {
+            Was::Untouched => Ok(Was::Untouched),
+            Was::Deleted => Ok(Was::Deleted),
+            Was::Row(row) => Ok(Was::Row(row.copy(alloc)?)),
+        }
+    }
 }
 
 /// A change that was kept.
@@ -63,6 +80,24 @@ impl Changes {
             places: Places::new(alloc),
             alloc,
         }
+    }
+
+    /// Equal changes.
+    ///
+    /// # Errors
+    ///
+    /// `Memory` only.
+    pub(crate) fn copy(&self, alloc: Global) -> Result<Changes, Memory>
+        ensures { IfOk result (λ copy. copy ≡ self.now) }
+    {
+        let mut copy = Changes::new(alloc);
+        let mut left = self.list.len();
+        while left > 0 {
+            left -= 1;
+            let Change { table, key, was } = &self.list[left];
+            copy.push(*table, key, was.copy(alloc)?)?;
+        }
+        Ok(copy)
     }
 
     /// How many changes are kept.

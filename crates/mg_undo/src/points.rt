@@ -1,11 +1,13 @@
 //! The marks and savepoints of a transaction.
 
-ghost use Rattle.std.specs.Prelude.{◌≡◌, IfNone, IfSome, drop, if◌then◌else◌};
+ghost use Rattle.std.specs.Prelude.{◌≡◌, IfNone, IfOk, IfSome, drop, if◌then◌else◌};
 ghost use Rattle.std.specs.List.{list_any};
 ghost use Rattle.mg_model.specs.Changes.{same_name};
 ghost use Rattle.mg_undo.specs.Undo.{is_goal as goal_test, from_goal, goal_of, floor_of};
 
+use mg_base::Memory;
 use mg_value::Name;
+use std::alloc::Global;
 use std::collections::VecDeque;
 
 /// A point that stands.
@@ -49,6 +51,30 @@ pub(crate) fn has_goal(points: &VecDeque<Standing>, name: &Option<Name>) -> bool
         }
     }
     false
+}
+
+/// Equal points.
+///
+/// # Errors
+///
+/// `Memory` only.
+pub(crate) fn copy_points(
+    points: &VecDeque<Standing>,
+    alloc: Global,
+) -> Result<VecDeque<Standing>, Memory>
+    ensures { IfOk result (λ copy. copy.items ≡ points.now.items) }
+{
+    let mut copy = VecDeque::new(alloc);
+    let mut left = points.len();
+    while left > 0 {
+        left -= 1;
+        let Standing { name, at } = &points[left];
+        copy.push_front(Standing {
+            name: *name,
+            at: *at,
+        })?;
+    }
+    Ok(copy)
 }
 
 /// Drops the points that were set after the last savepoint of this name, or after the last mark

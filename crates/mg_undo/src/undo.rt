@@ -1,10 +1,12 @@
 //! What a transaction has to take back.
 
-ghost use Rattle.std.specs.Prelude.{◌≡◌, ◌&&◌, [], false, is_some, OnOk, OnErr};
+ghost use Rattle.std.specs.Prelude.{◌≡◌, ◌&&◌, [], false, is_some, IfOk, OnOk, OnErr};
 ghost use Rattle.mg_undo.specs.Undo.{after_keep, after_retract, after_point, after_back_to, has_point, take_back as taken_back, given_as, state_of};
 
 use crate::changes::{Changes, Was};
-use crate::points::{Standing, drop_to_goal, end_mark, floor_at, go_to_goal, has_goal};
+use crate::points::{
+    Standing, copy_points, drop_to_goal, end_mark, floor_at, go_to_goal, has_goal,
+};
 use mg_base::Memory;
 use mg_value::{Key, Name};
 use std::alloc::Global;
@@ -46,6 +48,23 @@ impl Undo {
             points: VecDeque::new(alloc),
             going_back: false,
         }
+    }
+
+    /// An equal one, from which changes are taken back while this one stays as it is.
+    ///
+    /// # Errors
+    ///
+    /// `Memory` only.
+    pub fn copy(&self, alloc: Global) -> Result<Undo, Memory>
+        ensures { IfOk result (λ copy. copy ≡ self.now) }
+    {
+        let changes = self.changes.copy(alloc)?;
+        let points = copy_points(&self.points, alloc)?;
+        Ok(Undo {
+            changes,
+            points,
+            going_back: self.going_back,
+        })
     }
 
     /// Keeps a change of a key, with what the transaction's own change of it was before.

@@ -44,6 +44,13 @@ impl Txt {
         })
     }
 
+    /// The text of these bytes, however many they are. It takes no memory.
+    pub fn of_bytes(bytes: Vec<u8>) -> Txt
+        ensures { result ≡ bytes.items }
+    {
+        Txt { bytes }
+    }
+
     /// Its bytes.
     pub fn as_slice(&self) -> &[u8]
         ensures { result.now ≡ self.now }

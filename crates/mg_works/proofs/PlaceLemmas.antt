@@ -1,13 +1,14 @@
 -- A transaction's place is set to another work.
-use Rattle.std.proofs.Common.{◌≡◌, ◌<◌, ℕ, zero, suc, Bool, true, false, List, [], ◌∷◌, arith, Bor, cond, Option, None, Some, Result, Ok, Err, get_or, set, length, sym, ◌∙◌, ap, refl, subst}
+use Rattle.std.proofs.Common.{◌≡◌, ◌<◌, ◌==◌, ℕ, zero, suc, Bool, true, false, List, [], ◌∷◌, arith, Bor, cond, Option, None, Some, Result, Ok, Err, get_or, set, length, sym, ◌∙◌, ap, refl, subst}
 use Rattle.std.specs.Option.{option_copied}
 use Rattle.std.specs.Prelude.{IfSome, OnErr, OnOk}
 use Rattle.mg_model.specs.Changes.{same_name}
 use Rattle.mg_base.specs.declared.memory.Memory.{Memory}
 use Rattle.mg_model.specs.declared.table.Table.{Table}
 use Rattle.mg_value.specs.declared.value.Value.{Value}
+use Rattle.mg_undo.specs.Undo.{State as Undo}
 use Rattle.mg_undo.specs.declared.changes.Was.{Was}
-use Rattle.mg_works.specs.Works.{AllMayBeGiven, AreApart, IsNowhere, IsPlaceOf, IsWork, MayBeGiven, Working, given_in, has_asked, going_back_to, with_change, with_point, with_step_back, with_table, with_work, unasked, without_change, without_tables}
+use Rattle.mg_works.specs.Works.{AllMayBeGiven, AreApart, IsNowhere, IsPlaceOf, IsWork, MayBeGiven, Working, given_in, has_asked, going_back_to, with_change, with_point, with_step_back, with_table, with_undo, with_work, with_written, unasked, without_change, without_tables, written_in}
 use Rattle.mg_works.specs.WorksLaws.{none_untouched, nowhere_none, set_is_with, with_apart}
 
 -- what a call makes of a work keeps its number and its session, and is lawful
@@ -20,63 +21,77 @@ pub asking_keeps : Keeps has_asked
 asking_keeps = record {
   number = λ w. refl;
   session = λ w. refl;
-  lawful = λ w is. record { session_below = is.session_below; lawful = is.lawful };
+  lawful = λ w is. record { session_below = is.session_below; lawful = is.lawful; written_lawful = is.written_lawful };
 }
 
 pub forgetting_keeps : Keeps without_tables
 forgetting_keeps = record {
   number = λ w. refl;
   session = λ w. refl;
-  lawful = λ w is. record { session_below = is.session_below; lawful = tt };
+  lawful = λ w is. record { session_below = is.session_below; lawful = tt; written_lawful = is.written_lawful };
 }
 
 pub point_keeps : (name : Option (List ℕ)) → Keeps (with_point name)
 point_keeps name = record {
   number = λ w. refl;
   session = λ w. refl;
-  lawful = λ w is. record { session_below = is.session_below; lawful = is.lawful };
+  lawful = λ w is. record { session_below = is.session_below; lawful = is.lawful; written_lawful = is.written_lawful };
 }
 
 pub changing_keeps : (table : ℕ) (key : Value) (was : Was) → Keeps (with_change table key was)
 changing_keeps table key was = record {
   number = λ w. refl;
   session = λ w. refl;
-  lawful = λ w is. record { session_below = is.session_below; lawful = is.lawful };
+  lawful = λ w is. record { session_below = is.session_below; lawful = is.lawful; written_lawful = is.written_lawful };
 }
 
 pub unasking_keeps : Keeps unasked
 unasking_keeps = record {
   number = λ w. refl;
   session = λ w. refl;
-  lawful = λ w is. record { session_below = is.session_below; lawful = is.lawful };
+  lawful = λ w is. record { session_below = is.session_below; lawful = is.lawful; written_lawful = is.written_lawful };
 }
 
 pub retracting_keeps : Keeps without_change
 retracting_keeps = record {
   number = λ w. refl;
   session = λ w. refl;
-  lawful = λ w is. record { session_below = is.session_below; lawful = is.lawful };
+  lawful = λ w is. record { session_below = is.session_below; lawful = is.lawful; written_lawful = is.written_lawful };
 }
 
 pub going_back_keeps : (name : List ℕ) → Keeps (going_back_to name)
 going_back_keeps name = record {
   number = λ w. refl;
   session = λ w. refl;
-  lawful = λ w is. record { session_below = is.session_below; lawful = is.lawful };
+  lawful = λ w is. record { session_below = is.session_below; lawful = is.lawful; written_lawful = is.written_lawful };
 }
 
 pub stepping_keeps : Keeps with_step_back
 stepping_keeps = record {
   number = λ w. refl;
   session = λ w. refl;
-  lawful = λ w is. record { session_below = is.session_below; lawful = is.lawful };
+  lawful = λ w is. record { session_below = is.session_below; lawful = is.lawful; written_lawful = is.written_lawful };
+}
+
+pub undo_keeps : (undo : Undo) → Keeps (with_undo undo)
+undo_keeps undo = record {
+  number = λ w. refl;
+  session = λ w. refl;
+  lawful = λ w is. record { session_below = is.session_below; lawful = is.lawful; written_lawful = is.written_lawful };
 }
 
 pub giving_keeps : (table : Table) → MayBeGiven table → Keeps (with_table table)
 giving_keeps table may = record {
   number = λ w. refl;
   session = λ w. refl;
-  lawful = λ w is. record { session_below = is.session_below; lawful = (may, is.lawful) };
+  lawful = λ w is. record { session_below = is.session_below; lawful = (may, is.lawful); written_lawful = is.written_lawful };
+}
+
+pub writing_keeps : (table : Table) → MayBeGiven table → Keeps (with_written table)
+writing_keeps table may = record {
+  number = λ w. refl;
+  session = λ w. refl;
+  lawful = λ w is. record { session_below = is.session_below; lawful = is.lawful; written_lawful = (may, is.written_lawful) };
 }
 
 nothing_keeps : Keeps (λ w. w)
@@ -145,3 +160,23 @@ pub told_lawful : (w : Working) (name : List ℕ) (found : Option (Bor Table)) �
     → option_copied found ≡ given_in w.tables name → IfSome found (λ table. MayBeGiven table.now)
 told_lawful w name None is told = tt
 told_lawful w name (Some table) is told = given_lawful w.tables name table.now is.lawful (sym told)
+
+-- a table that was written into is lawful
+written_table : (tables : List Table) (number : ℕ) (table : Table) → AllMayBeGiven tables
+    → written_in tables number ≡ Some table → MayBeGiven table
+written_table [] number table all is = absurd cc
+written_table (x ∷ tables) number table all is = at (x.pointer.0 == number) is (written_table tables number table all.1)
+  where
+    some : (a b : Table) → Some a ≡ Some b → a ≡ b
+    some a b e = cc
+
+    at : (b : Bool) → cond b (Some x) (written_in tables number) ≡ Some table
+        → (written_in tables number ≡ Some table → MayBeGiven table) → MayBeGiven table
+    at true is more = subst MayBeGiven (some x table is) all.0
+    at false is more = more is
+
+-- and so is one that a work tells
+pub written_lawful : (w : Working) (number : ℕ) (found : Option (Bor Table)) → IsWork w
+    → option_copied found ≡ written_in w.written number → IfSome found (λ table. MayBeGiven table.now)
+written_lawful w number None is told = tt
+written_lawful w number (Some table) is told = written_table w.written number table.now is.written_lawful (sym told)

@@ -20,6 +20,8 @@ pub record Working : Type 0 where
   pub undo : Undo
   -- the tables that were given to it, the last one first
   pub tables : List Table
+  -- those that it has written into, the last one first; what it has to take back names each by its first page
+  pub written : List Table
   -- whether it has asked for its commit
   pub asked : Bool
 
@@ -31,6 +33,7 @@ begun number session mode = record {
   mode = mode;
   undo = record { changes = []; points = []; going_back = false };
   tables = [];
+  written = [];
   asked = false;
 }
 
@@ -66,6 +69,19 @@ given_by (Some w) name = given_in w.tables name
 abbrev pub given_to : List Working → ℕ → List ℕ → Option Table
 given_to works t name = given_by (work_of works t) name
 
+-- the table that begins at a page among those that were written into
+abbrev pub written_in : List Table → ℕ → Option Table
+written_in [] number = None
+written_in (table ∷ tables) number = if table.pointer.0 == number then Some table else written_in tables number
+
+abbrev pub written_by : Option Working → ℕ → Option Table
+written_by None number = None
+written_by (Some w) number = written_in w.written number
+
+-- the table that begins at a page, if the transaction has written into it
+abbrev pub written_to : List Working → ℕ → ℕ → Option Table
+written_to works t number = written_by (work_of works t) number
+
 -- ---- what a work becomes
 
 -- a mark is set where no name is given, else a savepoint of the name
@@ -88,6 +104,10 @@ going_back_to name w = record w { undo = after_back_to w.undo name }
 abbrev pub with_step_back : Working → Working
 with_step_back w = record w { undo = (take_back w.undo).after }
 
+-- what it has to take back is this now
+abbrev pub with_undo : Undo → Working → Working
+with_undo undo w = record w { undo = undo }
+
 -- the change that the next step of taking back gives, none where the transaction is not active
 abbrev pub given_back : Option Working → Option Change
 given_back None = None
@@ -105,6 +125,10 @@ without_tables w = record w { tables = [] }
 -- a table was given
 abbrev pub with_table : Table → Working → Working
 with_table table w = record w { tables = table ∷ w.tables }
+
+-- a table was written into
+abbrev pub with_written : Table → Working → Working
+with_written table w = record w { written = table ∷ w.written }
 
 -- the commit was asked for
 abbrev pub has_asked : Working → Working
@@ -130,6 +154,7 @@ AllMayBeGiven (table ∷ tables) = MayBeGiven table × AllMayBeGiven tables
 pub record IsWork (w : Working) : Type 0 where
   pub session_below : w.session < 32
   pub lawful : AllMayBeGiven w.tables
+  pub written_lawful : AllMayBeGiven w.written
 
 -- each transaction and each session stands once
 abbrev pub AreApart : List Working → Type 0

@@ -1,10 +1,10 @@
 //! What is known of an active transaction.
 
-ghost use Rattle.std.specs.Prelude.{◌≡◌, ◌==◌, ◌∷◌, None, Some, OnOk, OnErr};
+ghost use Rattle.std.specs.Prelude.{◌≡◌, ◌==◌, ◌∷◌, None, Some, IfOk, OnOk, OnErr};
 ghost use Rattle.std.specs.Option.{option_copied};
 ghost use Rattle.mg_model.specs.Changes.{same_name};
 ghost use Rattle.mg_undo.specs.Undo.{given_as, has_point, take_back as taken_back};
-ghost use Rattle.mg_works.specs.Works.{begun, given_in, going_back_to, has_asked as asked_for, with_change, with_point, with_step_back, with_table, unasked, without_change, without_tables};
+ghost use Rattle.mg_works.specs.Works.{begun, given_in, going_back_to, has_asked as asked_for, with_change, with_point, with_step_back, with_table, with_undo, with_written, unasked, without_change, without_tables, written_in};
 
 use mg_base::{Memory, TxNo};
 use mg_model::{Mode, Table};
@@ -22,6 +22,8 @@ pub struct Work {
     undo: Undo,
     // The last one that was given comes first.
     tables: Vec<Table>,
+    // The last one that was written into comes first.
+    written: Vec<Table>,
     asked: bool,
 }
 
@@ -36,6 +38,7 @@ impl Model for Work {
       mode = w.mode;
       undo = w.undo;
       tables = w.tables.items;
+      written = w.written.items;
       asked = w.asked;
     } };
 }
@@ -51,6 +54,7 @@ impl Work {
             mode,
             undo: Undo::new(alloc),
             tables: Vec::new(alloc),
+            written: Vec::new(alloc),
             asked: false,
         }
     }
@@ -149,6 +153,24 @@ impl Work {
         self.undo.take_back()
     }
 
+    /// An equal one of what it has to take back.
+    ///
+    /// # Errors
+    ///
+    /// `Memory` only.
+    pub fn copy_undo(&self, alloc: Global) -> Result<Undo, Memory>
+        ensures { IfOk result (λ undo. undo ≡ self.now.undo) }
+    {
+        self.undo.copy(alloc)
+    }
+
+    /// Sets what it has to take back.
+    pub fn set_undo(&mut self, undo: Undo)
+        ensures { self.new ≡ with_undo undo self.old }
+    {
+        self.undo = undo;
+    }
+
     /// Forgets the tables that were given.
     pub fn forget_tables(&mut self)
         ensures { self.new ≡ without_tables self.old }
@@ -169,6 +191,19 @@ impl Work {
         Ok(())
     }
 
+    /// Keeps a table that is written into.
+    ///
+    /// # Errors
+    ///
+    /// `Memory` only. Nothing has changed then.
+    pub fn note_written(&mut self, table: Table) -> Result<(), Memory>
+        ensures ok { OnOk result (self.new ≡ with_written table self.old) }
+        ensures err { OnErr result (self.new ≡ self.old) }
+    {
+        self.written.insert(0, table)?;
+        Ok(())
+    }
+
     /// The commit was asked for.
     pub fn ask(&mut self)
         ensures { self.new ≡ asked_for self.old }
@@ -181,6 +216,18 @@ impl Work {
         ensures { self.new ≡ unasked self.old }
     {
         self.asked = false;
+    }
+
+    /// The table that begins at a page, if it was written into.
+    pub fn written(&self, number: u32) -> Option<&Table>
+        ensures { option_copied result ≡ written_in self.now.written number }
+    {
+        for table in &self.written {
+            if table.pointer.0 == number {
+                return Some(table);
+            }
+        }
+        None
     }
 
     /// The table of a name that was given last.

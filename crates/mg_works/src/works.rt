@@ -2,13 +2,13 @@
 
 ghost use Rattle.std.specs.Prelude.{◌≡◌, ◌<◌, ◌++◌, ◌∷◌, [], None, Some, false, IfSome, IfNone, OnOk, OnErr};
 ghost use Rattle.std.specs.Option.{option_copied};
-ghost use Rattle.mg_works.specs.Works.{IsNowhere, IsPlaceOf, MayBeGiven, begun, given_to, given_back, going_back_to, has_asked, has_savepoint, has_session as has_session_in, with_change, with_point, with_step_back, with_table, with_work, unasked, without_change, without_tables, without_work, work_of};
+ghost use Rattle.mg_works.specs.Works.{IsNowhere, IsPlaceOf, MayBeGiven, begun, given_to, given_back, going_back_to, has_asked, has_savepoint, has_session as has_session_in, with_change, with_point, with_step_back, with_table, with_undo, with_work, with_written, unasked, without_change, without_tables, without_work, work_of, written_to};
 ghost use Rattle.mg_undo.specs.Undo.{given_as};
 
 use crate::work::Work;
 use mg_base::{Memory, TxNo};
 use mg_model::{Mode, Table};
-use mg_undo::Was;
+use mg_undo::{Undo, Was};
 use mg_value::{Key, Name};
 use std::alloc::Global;
 use std::marker::Model;
@@ -71,6 +71,15 @@ impl Works {
     {
         let place = find(&self.items, t)?;
         Some(&self.items[place])
+    }
+
+    /// The table that begins at a page, if a transaction has written into it.
+    pub fn written(&self, t: TxNo, number: u32) -> Option<&Table>
+        ensures written { option_copied result ≡ written_to self.now t.0 number }
+        ensures may { IfSome result (λ table. MayBeGiven table.now) }
+    {
+        let place = find(&self.items, t)?;
+        self.items[place].written(number)
     }
 
     /// The table of a name that was given to a transaction last.
@@ -171,6 +180,15 @@ impl Works {
         }
     }
 
+    /// Sets what a transaction has to take back.
+    pub fn set_undo(&mut self, t: TxNo, undo: Undo)
+        ensures { self.new ≡ with_work t.0 (with_undo undo) self.old }
+    {
+        if let Some(place) = find(&self.items, t) {
+            self.items[place].set_undo(undo);
+        }
+    }
+
     /// Forgets the tables that were given to a transaction.
     pub fn forget_tables(&mut self, t: TxNo)
         ensures { self.new ≡ with_work t.0 without_tables self.old }
@@ -192,6 +210,22 @@ impl Works {
     {
         match find(&self.items, t) {
             Some(place) => self.items[place].give_table(table),
+            None => Ok(()),
+        }
+    }
+
+    /// Keeps a table that a transaction writes into.
+    ///
+    /// # Errors
+    ///
+    /// `Memory` only. Nothing has changed then.
+    pub fn note_written(&mut self, t: TxNo, table: Table) -> Result<(), Memory>
+        requires { MayBeGiven table }
+        ensures ok { OnOk result (self.new ≡ with_work t.0 (with_written table) self.old) }
+        ensures err { OnErr result (self.new ≡ self.old) }
+    {
+        match find(&self.items, t) {
+            Some(place) => self.items[place].note_written(table),
             None => Ok(()),
         }
     }

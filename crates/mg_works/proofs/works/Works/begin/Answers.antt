@@ -9,4 +9,4 @@ invariant_of-self-2 c = subst AreApart (sym (c.in_ok-push.ensures.items
     (more_apart c.self.inside.items.items (begun c.args.t.0 c.args.session c.args.mode) c.self.invariant
     (ap (λ (ws : List Working). work_of ws c.args.t.0) c.self.view_is ∙ c.requires.fresh)
     (ap (λ (ws : List Working). has_session ws c.args.session) c.self.view_is ∙ c.requires.free)
-    (record { session_below = c.requires.session; lawful = tt }))
+    (record { session_below = c.requires.session; lawful = tt; written_lawful = tt }))
