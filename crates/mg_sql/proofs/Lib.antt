@@ -15,3 +15,4 @@ pub mod Once
 pub mod Agreeing
 pub mod NoFault
 pub mod OneStatement
+pub mod LengthLaws

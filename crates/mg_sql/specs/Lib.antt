@@ -8,5 +8,6 @@ pub mod Plain
 pub mod Statements
 pub mod Going
 pub mod Answers
+pub mod Lengths
 pub mod Scanning
 pub mod Laws

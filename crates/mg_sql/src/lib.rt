@@ -36,7 +36,7 @@ mod transactions;
 mod values;
 
 pub use fault::SqlFault;
-pub use laws::{statements_have_no_fault, texts_are_one_statement};
+pub use laws::{statements_have_lengths, statements_have_no_fault, texts_are_one_statement};
 pub use parsing::parse;
 pub use parts::LEVELS;
 pub use scanning::MOST_TEXT;

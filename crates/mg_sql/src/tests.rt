@@ -142,6 +142,20 @@ fn a_text_of_more_than_65536_bytes_is_no_statement(rt: HostRuntime) -> Result<()
 }
 
 #[test]
+fn a_literal_past_the_bound_is_refused_there(rt: HostRuntime) -> Result<(), Fail> {
+    let alloc = rt.alloc();
+    let mut text = Vec::new(alloc);
+    text.extend_from_slice(b"SELECT '")?;
+    text.resize(70_000, b'x')?;
+    text.extend_from_slice(b"' FROM KV")?;
+    assert_eq!(rt;
+        fault_of(alloc, &text),
+        Some(SqlFault::Syntax { at: 65_536 })
+    );
+    Ok(())
+}
+
+#[test]
 fn faults_print_with_their_bytes(rt: HostRuntime) -> Result<(), Fail> {
     let alloc = rt.alloc();
     let words = format!(in alloc;

@@ -64,20 +64,12 @@ fn width(byte: u8) -> usize
     if byte == b'\'' { 2 } else { 1 }
 }
 
-/// The text between quotes. One of more than 65,535 bytes, which only a text has that is longer
-/// than a statement may be, is taken for want of memory.
+/// The text between quotes.
 pub(crate) fn text_of(alloc: Global, bytes: &[u8]) -> Result<Txt, Memory>
     requires { IsSpelled kinds.Text bytes.now }
     ensures { IfOk result (λ text. bytes.now ≡ quoted text) }
 {
-    let value = unquoted(alloc, bytes)?;
-    if value.len() > u16::MAX as usize {
-        return Err(Memory);
-    }
-    match Txt::new(alloc, &value, u16::MAX) {
-        Ok(text) => Ok(text),
-        Err(_) => Err(Memory),
-    }
+    Ok(Txt::of_bytes(unquoted(alloc, bytes)?))
 }
 
 /// Writes a word in capitals.

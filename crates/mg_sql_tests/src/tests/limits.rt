@@ -102,6 +102,8 @@ fn the_longest_text_that_a_statement_holds_is_told_whole(rt: HostRuntime) -> Res
     answers(&rt, alloc, &mut machine, &text, "A: SYNTAX AT 65536\n")?;
     // One that goes past the bound is told so.
     let text = inserting(alloc, 65_535, 0)?;
+    answers(&rt, alloc, &mut machine, &text, "A: SYNTAX AT 65536\n")?;
+    let text = inserting(alloc, 70_000, 0)?;
     answers(&rt, alloc, &mut machine, &text, "A: SYNTAX AT 65536\n")
 }
 
