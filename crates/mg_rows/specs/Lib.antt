@@ -6,6 +6,7 @@ pub mod Totals
 pub mod Running
 pub mod NewRows
 pub mod Faults
+pub mod Answering
 pub mod SortLaws
 pub mod FoundLaws
 pub mod NewRowLaws

@@ -1,13 +1,6 @@
 mod Steps
 mod RowLemmas
-mod RecordLemmas
 mod TableLemmas
 mod VisitLemmas
 mod SeenLemmas
-mod Readings
-mod AmongLemmas
-mod HistoryLemmas
-mod SpeakerLemmas
 mod WalkLemmas
-mod Orders
-mod ViewLemmas

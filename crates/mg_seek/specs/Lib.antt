@@ -8,3 +8,10 @@ pub mod TableRows
 pub mod Readings
 pub mod Histories
 pub mod Walks
+pub mod RecordLaws
+pub mod ReadingLaws
+pub mod HistoryLaws
+pub mod AmongLaws
+pub mod SpeakerLaws
+pub mod OrderLaws
+pub mod ViewLaws

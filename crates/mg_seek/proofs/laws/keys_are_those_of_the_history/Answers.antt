@@ -1,5 +1,5 @@
-use Rattle.mg_seek.proofs.HistoryLemmas.{nothing_is_there, obstacles_are_told, rows_are_of_views}
-use Rattle.mg_seek.proofs.SpeakerLemmas.{speakers_stand}
+use Rattle.mg_seek.specs.HistoryLaws.{nothing_is_there, obstacles_are_told, rows_are_of_views}
+use Rattle.mg_seek.specs.SpeakerLaws.{speakers_stand}
 use Rattle.mg_seek.proofs.laws.keys_are_those_of_the_history.Goals as goal
 
 pub returns-clause-rows : goal.returns-clause-rows

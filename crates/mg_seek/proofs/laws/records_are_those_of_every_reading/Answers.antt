@@ -1,4 +1,4 @@
-use Rattle.mg_seek.proofs.Readings.{keys_of_readings, obstacles_of_readings, places_of_readings, rows_of_readings, speakers_of_readings}
+use Rattle.mg_seek.specs.ReadingLaws.{keys_of_readings, obstacles_of_readings, places_of_readings, rows_of_readings, speakers_of_readings}
 use Rattle.mg_seek.proofs.laws.records_are_those_of_every_reading.Goals as goal
 
 pub returns-clause-places : goal.returns-clause-places

@@ -1,4 +1,4 @@
-use Rattle.mg_seek.proofs.ViewLemmas.{walks_show_views}
+use Rattle.mg_seek.specs.ViewLaws.{walks_show_views}
 use Rattle.mg_seek.proofs.WalkLemmas.{walks_in_order}
 use Rattle.mg_seek.proofs.laws.walks_are_whole.Goals as goal
 

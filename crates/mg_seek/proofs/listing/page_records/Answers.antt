@@ -4,7 +4,7 @@ use Rattle.mg_space.specs.View.{viewed}
 use Rattle.mg_space.specs.ViewLaws.{keeps_on}
 use Rattle.mg_heap.specs.Walk.{RefusesTableData, RefusesWalkOf}
 use Rattle.mg_seek.specs.TableRecords.{records_in, records_on}
-use Rattle.mg_seek.proofs.RecordLemmas.{as_kept}
+use Rattle.mg_seek.specs.RecordLaws.{as_kept}
 use Rattle.mg_seek.proofs.Steps.{handed_on}
 use Rattle.mg_seek.proofs.TableLemmas.{page_broken, page_listed, pages_listed}
 use Rattle.mg_seek.proofs.listing.page_records.Goals as goal

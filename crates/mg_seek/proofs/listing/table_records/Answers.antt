@@ -4,7 +4,7 @@ use Rattle.mg_heap.specs.Walk.{RefusesWalk, RefusesWalkOf}
 use Rattle.mg_image.specs.Form.{Pages}
 use Rattle.mg_space.specs.View.{viewed}
 use Rattle.mg_seek.specs.TableRecords.{AreTableRecords, records_in}
-use Rattle.mg_seek.proofs.RecordLemmas.{as_kept}
+use Rattle.mg_seek.specs.RecordLaws.{as_kept}
 use Rattle.mg_seek.proofs.Steps.{handed_on}
 use Rattle.mg_seek.proofs.TableLemmas.{table_broken, table_listed}
 use Rattle.mg_seek.proofs.listing.table_records.Goals as goal

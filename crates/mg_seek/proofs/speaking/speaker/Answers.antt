@@ -5,7 +5,7 @@ use Rattle.mg_space.specs.View.{viewed}
 use Rattle.mg_seek.specs.Speaking.{IsSpeaker, RefusesRecords, RefusesTableRows, SpeaksAmong}
 use Rattle.mg_seek.specs.Versions.{wants}
 use Rattle.mg_seek.specs.declared.whose.Wanted.TheVariants.{Living}
-use Rattle.mg_seek.proofs.RecordLemmas.{as_kept}
+use Rattle.mg_seek.specs.RecordLaws.{as_kept}
 use Rattle.mg_seek.proofs.Steps.{handed_on}
 use Rattle.mg_seek.proofs.TableLemmas.{of_table, walk_refuses}
 use Rattle.mg_seek.proofs.speaking.speaker.Goals as goal

@@ -10,7 +10,7 @@ use Rattle.mg_seek.specs.Speaking.{RefusesRecords, Speaks, SpeaksAmong}
 use Rattle.mg_seek.specs.TableRecords.{IsAmong}
 use Rattle.mg_seek.specs.Versions.{wants}
 use Rattle.mg_seek.specs.declared.whose.Wanted.TheVariants.{Living}
-use Rattle.mg_seek.proofs.RecordLemmas.{as_kept}
+use Rattle.mg_seek.specs.RecordLaws.{as_kept}
 use Rattle.mg_seek.proofs.Steps.{handed_on}
 use Rattle.mg_seek.proofs.TableLemmas.{none_left, passed_over, record_refuses}
 use Rattle.mg_seek.proofs.speaking.speaker_among.Goals as goal

@@ -5,7 +5,7 @@ use Rattle.mg_seek.specs.Refusals.{RefusesRecord}
 use Rattle.mg_seek.specs.Speaking.{Speaks}
 use Rattle.mg_seek.specs.Versions.{wants}
 use Rattle.mg_seek.specs.declared.whose.Wanted.TheVariants.{Living}
-use Rattle.mg_seek.proofs.RecordLemmas.{body_refuses, chain_refuses, erased_silent, none_speaks, row_fault, row_reads, speaks_by_key}
+use Rattle.mg_seek.specs.RecordLaws.{body_refuses, chain_refuses, erased_silent, none_speaks, row_fault, row_reads, speaks_by_key}
 use Rattle.mg_seek.proofs.Steps.{handed_on}
 use Rattle.mg_seek.proofs.speaking.speaks.Goals as goal
 

@@ -9,7 +9,7 @@ use Rattle.mg_seek.specs.TableRecords.{IsAmong}
 use Rattle.mg_seek.specs.TableRows.{AddsSeen, AreSeen}
 use Rattle.mg_seek.specs.Versions.{wants}
 use Rattle.mg_seek.specs.declared.whose.Wanted.TheVariants.{SeenBy}
-use Rattle.mg_seek.proofs.RecordLemmas.{as_kept}
+use Rattle.mg_seek.specs.RecordLaws.{as_kept}
 use Rattle.mg_seek.proofs.SeenLemmas.{seen_all, seen_on}
 use Rattle.mg_seek.proofs.Steps.{handed_on}
 use Rattle.mg_seek.proofs.TableLemmas.{none_left, record_refuses}

@@ -6,7 +6,7 @@ use Rattle.mg_seek.specs.Speaking.{RefusesRecords, RefusesTableRows}
 use Rattle.mg_seek.specs.TableRows.{AreRowsSeen, AreSeen}
 use Rattle.mg_seek.specs.Versions.{wants}
 use Rattle.mg_seek.specs.declared.whose.Wanted.TheVariants.{SeenBy}
-use Rattle.mg_seek.proofs.RecordLemmas.{as_kept}
+use Rattle.mg_seek.specs.RecordLaws.{as_kept}
 use Rattle.mg_seek.proofs.Steps.{handed_on}
 use Rattle.mg_seek.proofs.TableLemmas.{of_table, walk_refuses}
 use Rattle.mg_seek.proofs.tables.rows_in_view.Goals as goal

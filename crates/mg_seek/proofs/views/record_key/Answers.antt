@@ -3,7 +3,7 @@ use Rattle.mg_seek.specs.Refusals.{RefusesRecord}
 use Rattle.mg_seek.specs.Versions.{wants}
 use Rattle.mg_seek.specs.Views.{IsKeyOf}
 use Rattle.mg_seek.specs.declared.whose.Wanted.TheVariants.{Any}
-use Rattle.mg_seek.proofs.RecordLemmas.{body_refuses, chain_refuses, key_given, no_key, row_fault, row_reads}
+use Rattle.mg_seek.specs.RecordLaws.{body_refuses, chain_refuses, key_given, no_key, row_fault, row_reads}
 use Rattle.mg_seek.proofs.Steps.{handed_on}
 use Rattle.mg_seek.proofs.views.record_key.Goals as goal
 

@@ -3,7 +3,7 @@ use Rattle.mg_seek.specs.Versions.{wants}
 use Rattle.mg_seek.specs.Views.{IsRowSeen}
 use Rattle.mg_seek.specs.declared.whose.Wanted.TheVariants.{SeenBy}
 use Rattle.mg_space.specs.View.{viewed}
-use Rattle.mg_seek.proofs.RecordLemmas.{body_refuses, chain_refuses, erased_seen, none_seen, row_fault, row_reads, row_seen}
+use Rattle.mg_seek.specs.RecordLaws.{body_refuses, chain_refuses, erased_seen, none_seen, row_fault, row_reads, row_seen}
 use Rattle.mg_seek.proofs.Steps.{handed_on}
 use Rattle.mg_seek.proofs.views.row_in_view.Goals as goal
 

@@ -6,7 +6,7 @@ use Rattle.mg_seek.specs.Refusals.{RefusesRecord, RefusesVisit}
 use Rattle.mg_seek.specs.Versions.{wants}
 use Rattle.mg_seek.specs.Views.{IsRowSeen, IsVisit}
 use Rattle.mg_seek.specs.declared.whose.Wanted.TheVariants.{SeenBy}
-use Rattle.mg_seek.proofs.RecordLemmas.{as_kept}
+use Rattle.mg_seek.specs.RecordLaws.{as_kept}
 use Rattle.mg_seek.proofs.Steps.{handed_on}
 use Rattle.mg_seek.proofs.VisitLemmas.{next_refuses, sees_shown, visit_comes, visit_ends, visit_refuses}
 use Rattle.mg_seek.proofs.views.view_step.Goals as goal

@@ -23,7 +23,7 @@ use Rattle.mg_seek.specs.Rows.{GivesRow, IsKeyFound, IsRowFound, IsRowOr}
 use Rattle.mg_seek.specs.Speaking.{Speaks, is_erased_for_all}
 use Rattle.mg_seek.specs.Versions.{FirstAt, is_it, is_older, placed, stops, wants}
 use Rattle.mg_seek.specs.Views.{IsObstacle, IsRowSeen, obstacle_in, obstacle_of}
-use Rattle.mg_seek.proofs.RecordLemmas.{first_once, row_once}
+use Rattle.mg_seek.specs.RecordLaws.{first_once, row_once}
 
 -- ---- the first version
 

@@ -28,10 +28,10 @@ use Rattle.mg_version.specs.declared.cell.Link.{Link}
 use Rattle.mg_seek.specs.Histories.{AreItsPages, DieAlike, HasSpeaker, told_if, told_versions}
 use Rattle.mg_seek.specs.TableRecords.{IsAmong, rec_at, record_at, records_below, records_in, records_on}
 use Rattle.mg_seek.specs.Walks.{WalksShowViews, keyed, rows_shown}
-use Rattle.mg_seek.proofs.AmongLemmas.{among_either, among_pages, below_page, newest_primary, page_among}
-use Rattle.mg_seek.proofs.HistoryLemmas.{living_shown}
-use Rattle.mg_seek.proofs.Orders.{AreKeyedOnce, HasRow, NoneHas, same_rows}
-use Rattle.mg_seek.proofs.SpeakerLemmas.{link_there, same_some}
+use Rattle.mg_seek.specs.AmongLaws.{among_either, among_pages, below_page, newest_primary, page_among}
+use Rattle.mg_seek.specs.HistoryLaws.{living_shown}
+use Rattle.mg_seek.specs.OrderLaws.{AreKeyedOnce, HasRow, NoneHas, same_rows}
+use Rattle.mg_seek.specs.SpeakerLaws.{link_there, same_some}
 
 -- ---- records stand once
 

@@ -29,7 +29,7 @@ use Rattle.mg_seek.specs.Histories.{DieAlike, IsStateTold, NothingIsThere, Obsta
 use Rattle.mg_seek.specs.Readings.{obstacle_by}
 use Rattle.mg_seek.specs.Versions.{wants}
 use Rattle.mg_seek.specs.Views.{hinders, obstacle_of}
-use Rattle.mg_seek.proofs.Readings.{obstacles_of_readings, rows_of_readings}
+use Rattle.mg_seek.specs.ReadingLaws.{obstacles_of_readings, rows_of_readings}
 
 -- ---- who is dead
 

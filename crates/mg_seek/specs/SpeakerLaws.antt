@@ -33,9 +33,9 @@ use Rattle.mg_seek.specs.Readings.{IsReadAt, SpeakIn}
 use Rattle.mg_seek.specs.Speaking.{IsSpeaker, Speaks, SpeaksAmong, is_erased_for_all}
 use Rattle.mg_seek.specs.TableRecords.{EachRecord, IsAmong, records_in}
 use Rattle.mg_seek.specs.Versions.{wants}
-use Rattle.mg_seek.proofs.AmongLemmas.{among_pages, newest_primary, page_among}
-use Rattle.mg_seek.proofs.HistoryLemmas.{committed_lives, dead_alike}
-use Rattle.mg_seek.proofs.Readings.{speakers_of_readings}
+use Rattle.mg_seek.specs.AmongLaws.{among_pages, newest_primary, page_among}
+use Rattle.mg_seek.specs.HistoryLaws.{committed_lives, dead_alike}
+use Rattle.mg_seek.specs.ReadingLaws.{speakers_of_readings}
 
 -- ---- the newest version that counts
 
