@@ -6,7 +6,9 @@ ghost use Rattle.mg_space.specs.Taking.{IsGeometry};
 ghost use Rattle.mg_space.specs.View.{AreWhole};
 
 use super::*;
-use mg_base::{Bytes, Damaged, Disk, Field, Geometry, MemDisk, Memory, PageNo, RecId, new_common};
+use mg_base::{
+    Bytes, Damaged, Disk, FaultyDisk, Field, Geometry, MemDisk, Memory, PageNo, RecId, new_common,
+};
 use mg_node::{Entry, NODE_KIND};
 use mg_pool::{Batch, Pool};
 use mg_space::{SpaceFault, Store};
@@ -43,17 +45,25 @@ fn write_node(disk: &mut MemDisk, page: PageNo, content: &[u8]) -> Result<(), Fa
     }
 }
 
-/// A store over the tree of three pages, whose root has these bytes.
-fn store_with(alloc: Global, root: &[u8]) -> Result<Store<MemDisk>, Fail>
+/// A disk with the tree of three pages, whose root has these bytes.
+fn disk_with(alloc: Global, root: &[u8]) -> Result<MemDisk, Fail>
     requires root { length root.now ≤ 1000 }
-    ensures pool { IfOk result (λ store. IsPool ⟦<MemDisk as Disk>⟧.meaning store) }
-    ensures geometry { IfOk result (λ store. IsGeometry store.geometry) }
-    ensures size { IfOk result (λ store. store.geometry.size ≡ 1024) }
+    ensures size { IfOk result (λ disk. ⟦<MemDisk as Disk>⟧.meaning.size disk ≡ Some 1024) }
 {
     let mut disk = MemDisk::new(alloc, 1024, 8, 8)?;
     write_node(&mut disk, PageNo(5), root)?;
     write_node(&mut disk, PageNo(6), LEFT)?;
     write_node(&mut disk, PageNo(7), RIGHT)?;
+    Ok(disk)
+}
+
+/// A store over a disk with small pages.
+fn store_over<D: Disk + Drop>(alloc: Global, disk: D) -> Result<Store<D>, Fail>
+    requires size { D.meaning.size disk ≡ Some 1024 }
+    ensures pool { IfOk result (λ store. IsPool D.meaning store) }
+    ensures geometry { IfOk result (λ store. IsGeometry store.geometry) }
+    ensures size { IfOk result (λ store. store.geometry.size ≡ 1024) }
+{
     let geometry = Geometry {
         size: 1024,
         limit: 16,
@@ -62,6 +72,17 @@ fn store_with(alloc: Global, root: &[u8]) -> Result<Store<MemDisk>, Fail>
         Ok(store) => Ok(store),
         Err(_) => Err(Fail::from(Memory)),
     }
+}
+
+/// A store over the tree of three pages, whose root has these bytes.
+fn store_with(alloc: Global, root: &[u8]) -> Result<Store<MemDisk>, Fail>
+    requires root { length root.now ≤ 1000 }
+    ensures pool { IfOk result (λ store. IsPool ⟦<MemDisk as Disk>⟧.meaning store) }
+    ensures geometry { IfOk result (λ store. IsGeometry store.geometry) }
+    ensures size { IfOk result (λ store. store.geometry.size ≡ 1024) }
+{
+    let disk = disk_with(alloc, root)?;
+    store_over(alloc, disk)
 }
 
 /// The entry of a key of one byte and a slot of page 9.
@@ -77,14 +98,14 @@ fn entry_of(alloc: Global, key: u8, slot: u16) -> Result<Entry, Fail> {
 }
 
 /// The next entry of a range by its slot, 99 where there is none.
-fn next_slot(
-    store: &mut Store<MemDisk>,
+fn next_slot<D: Disk>(
+    store: &mut Store<D>,
     low: &[u8],
     after: Option<&Entry>,
 ) -> Result<u16, SpaceFault>
-    requires pool { IsPool ⟦<MemDisk as Disk>⟧.meaning store.old }
+    requires pool { IsPool D.meaning store.old }
     requires geometry { IsGeometry store.old.geometry }
-    ensures pool { IsPool ⟦<MemDisk as Disk>⟧.meaning store.new }
+    ensures pool { IsPool D.meaning store.new }
     ensures geometry { store.new.geometry ≡ store.old.geometry }
 {
     match range_step(store, PageNo(5), low, after)? {
@@ -103,6 +124,39 @@ fn a_range_goes_along_the_leaves(rt: HostRuntime) -> Result<(), Fail> {
     assert_eq!(rt; next_slot(&mut store, b"y", None), Ok(99));
     let last = entry_of(alloc, 99, 1)?;
     assert_eq!(rt; next_slot(&mut store, b"b", Some(&last)), Ok(2));
+    Ok(())
+}
+
+/// The first entry of a range by its slot, where every call of the disk fails behind the first so many.
+fn slot_within(alloc: Global, calls: u32, low: &[u8]) -> Result<u16, Fail>
+    requires few { calls ≤ 100 }
+{
+    let disk = disk_with(alloc, ROOT)?;
+    let bad = vec![in alloc;
+        calls + 1,
+        calls + 2,
+        calls + 3,
+        calls + 4,
+        calls + 5,
+        calls + 6,
+    ]?;
+    let mut store = store_over(alloc, FaultyDisk::new(disk, bad))?;
+    match next_slot(&mut store, low, None) {
+        Ok(slot) => Ok(slot),
+        Err(_) => Ok(77),
+    }
+}
+
+#[test]
+fn a_step_reads_a_page_a_level(rt: HostRuntime) -> Result<(), Fail> {
+    let alloc = rt.alloc();
+    // A page that is read takes two calls of the disk: how many pages it has, and the page. These are the root and
+    // a leaf.
+    assert_eq!(rt; slot_within(alloc, 4, b"b")?, 1);
+    assert_eq!(rt; slot_within(alloc, 3, b"b")?, 77);
+    // Where the leaf has no such entry, its right neighbour comes besides.
+    assert_eq!(rt; slot_within(alloc, 6, b"d")?, 2);
+    assert_eq!(rt; slot_within(alloc, 5, b"d")?, 77);
     Ok(())
 }
 
