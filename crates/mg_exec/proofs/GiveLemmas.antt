@@ -54,7 +54,7 @@ use Rattle.mg_exec.proofs.CreateLemmas.{ready_to_create}
 use Rattle.mg_exec.proofs.CreateGiveLemmas.{creating, retrying}
 use Rattle.mg_exec.proofs.EntryLemmas.{given_up, gives_behind, nothing_more, one_more, over, refused_gives, rolled_by, undone_by}
 
-inside : {P : Type 0} (a b : Phase P)
+pub inside : {P : Type 0} (a b : Phase P)
     → ◌≡◌ {A = Result (Phase P) StatementFault} (Ok a) (Ok b) → a ≡ b
 inside a b is = cc
 
@@ -285,10 +285,10 @@ finding m new o looked h a table bound rows turn finds_ b (inr goes) =
     (going_on m new o looked _ a table bound rows turn finds_ b goes.1)
 
 reading_gives : {R P : Type 0} (m : Means R P) (new : R) (o : Opening) (looked h : Entries) (a : Asked)
-    (table : Table) (bound : Bound) (turn : Turn P) → is_insert a.statement ≡ false
-    → IsBoundTo o looked a table bound → Reads m new o h a.t table bound turn
+    (table : Table) (bound : Bound) (count : ℕ) (turn : Turn P) → is_insert a.statement ≡ false
+    → IsBoundTo o looked a table bound → Reads m new o h a.t table bound count turn
     → Gives m new o looked h a (its_look a) turn
-reading_gives {P = P} m new o looked h a table bound turn finds_ b (comes_on after is bounds tables stands read) =
+reading_gives {P = P} m new o looked h a table bound count turn finds_ b (comes_on after is bounds tables stands read fewer) =
     subst (λ (turn : Turn P). Gives m new o looked h a (its_look a) turn) (sym is)
     (nothing_more m new o looked h a _ _ stands (
       finds_,
@@ -296,12 +296,12 @@ reading_gives {P = P} m new o looked h a table bound turn finds_ b (comes_on aft
       refl,
       read,
     ) (λ on_. tt))
-reading_gives m new o looked h a table bound turn finds_ b (finds rows is goes) =
+reading_gives m new o looked h a table bound count turn finds_ b (finds rows is counts goes) =
     finding m new o looked h a table bound rows turn finds_ b goes
-reading_gives {P = P} m new o looked h a table bound turn finds_ b (faults none is stands) =
+reading_gives {P = P} m new o looked h a table bound count turn finds_ b (faults none is stands) =
     subst (λ (turn : Turn P). Gives m new o looked h a (its_look a) turn) (sym is)
     (nothing_more m new o looked h a _ _ stands (faulted table bound b none refl refl) (over true refl))
-reading_gives {P = P} m new o looked h a table bound turn finds_ b (stops refusal refused is stands) =
+reading_gives {P = P} m new o looked h a table bound count turn finds_ b (stops refusal refused is stands) =
     subst (λ (turn : Turn P). Gives m new o looked h a (its_look a) turn) (sym is)
     (nothing_more m new o looked h a _ _ stands (stopped table bound refusal b refused refl refl)
     (over true refl))
@@ -324,7 +324,7 @@ step_gives m old new o looked h a given (phases.Inserting i) turn at goes =
     (starting m new o looked h a i.table i.bound [] turn at.1 goes)
 step_gives m old new o looked h a given (phases.Reading reading) turn at goes =
     subst (λ (given : Entries). Gives m new o looked h a given turn) (sym at.2)
-    (reading_gives m new o looked h a reading.walk.table reading.bound turn at.0 at.1 (goes at.3))
+    (reading_gives m new o looked h a reading.walk.table reading.bound (length reading.kept.items) turn at.0 at.1 (goes at.3))
 step_gives {P = P} m old new o looked h a given (phases.Changing c) turn at goes =
     subst (λ (turn : Turn P). Gives m new o looked h a given turn) (sym goes.stands_so)
     (writing m new o looked h a c.writes.table at.0 given c.writes.left.items goes.left c.count
@@ -371,7 +371,7 @@ bound_now m new o h t read_only s size phase i = record {
   binds = i.binds;
 }
 
-is_at : {R P : Type 0} (m : Means R P) (new : R) (o : Opening) (h : Entries) (t : TxNo)
+pub is_at : {R P : Type 0} (m : Means R P) (new : R) (o : Opening) (h : Entries) (t : TxNo)
     (read_only : Bool) (s : Plain) (size : ℕ) (phase : Phase P)
     → IsStarted m new o h t.0 read_only s (table_named s) size phase
     → IsAt m new o h h (record { t = t; read_only = read_only; statement = s; size = size })

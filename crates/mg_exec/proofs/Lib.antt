@@ -11,3 +11,4 @@ mod PointLemmas
 mod EntryLemmas
 mod CreateGiveLemmas
 mod GiveLemmas
+mod TestLemmas

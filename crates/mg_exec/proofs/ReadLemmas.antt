@@ -1,7 +1,7 @@
 -- The steps of a reading.
-use Rattle.std.proofs.Common.{◌≡◌, ℕ, Bool, true, false, List, [], ◌∷◌, ◌++◌, ◌+◌, length, map, Option, Some, None, Result, Ok, Err, inl, inr, refl, sym, ap, subst, ◌∙◌}
+use Rattle.std.proofs.Common.{◌≡◌, ◌≤◌, ℕ, Bool, true, false, List, [], ◌∷◌, ◌++◌, ◌+◌, length, map, Option, Some, None, Result, Ok, Err, inl, inr, refl, sym, ap, subst, ◌∙◌, arith}
 use Rattle.std.specs.Prelude.{IsPermutation}
-use Rattle.std.proofs.lemmas.List.{append-nil, append_assoc, length-map}
+use Rattle.std.proofs.lemmas.List.{append-nil, append_assoc, length-append, length-map}
 use Rattle.std.proofs.lemmas.List.Sorted.{length_permutation}
 use Rattle.mg_base.specs.declared.numbers.TxNo.{TxNo}
 use Rattle.mg_base.specs.declared.transaction.TxState.TheVariants.{Active}
@@ -115,16 +115,26 @@ faulted m new o h t before visited row come is =
     ∙ found_fault (λ r. passes_filter (tree_of_filter before.bound) r.1) visited [] [] come.rest row
     (subst (λ (passed : Option Bool). Keeps passed row [] [] (Err evals.Arithmetic)) (sym is) (refl, refl))))
 
+-- a row at most is kept of a record
+kept_count : (passed : Option Bool) (row : Value × Cells) (kept new : KeyedRows)
+    → Keeps passed row kept new (Ok tt) → length new ≤ length kept + 1
+kept_count None row kept new keeps = absurd keeps
+kept_count (Some false) row kept new keeps =
+    omega (arith, ap {B = ℕ} (length {A = Value × Cells}) keeps)
+kept_count (Some true) row kept new keeps =
+    omega (arith, ap {B = ℕ} (length {A = Value × Cells}) keeps, length-append kept (row ∷ []))
+
 visited_row : {R P : Type 0} (m : Means R P) (new : R) (o : Opening) (h : Entries) (t : TxNo)
     (before : Reading P) (visited : KeyedRows) (row : Value × Cells) (phase : Phase P)
     (answer : Result Step StatementFault)
     → found_keyed (tree_of_filter before.bound) visited ≡ Some before.kept.items
     → HasCome m new o h t.0 before.walk (visited ++ row ∷ []) → m.stands new o h
     → KeepsRow before row phase answer
-    → Reads m new o h t before.walk.table before.bound (record { phase = phase; answer = answer })
+    → Reads m new o h t before.walk.table before.bound (length before.kept.items) (record { phase = phase; answer = answer })
 visited_row m new o h t before visited row (phases.Reading after) (Ok More) so_far come stands keeps =
     comes_on after refl keeps.1 (ap (λ (w : Walk _). w.table) keeps.0) stands
     (kept_row m new o h t.0 before after visited row so_far come keeps.0 keeps.1 keeps.2)
+    (kept_count (passes_of before row.1) row before.kept.items after.kept.items keeps.2)
 visited_row m new o h t before visited row phases.Ended (Err Arithmetic) so_far come stands keeps =
     faults (faulted m new o h t.0 before visited row come keeps) refl stands
 visited_row m new o h t before visited row phases.Ended (Err (Engine refusals.Memory)) so_far come stands keeps =
@@ -137,13 +147,19 @@ pub a_row : {R P : Type 0} (m : Means R P) (old new : R) (o : Opening) (h : Entr
     → walk.table ≡ before.walk.table → m.stands new o h → (read : HasRead m old o h t.0 before)
     → GoesOn m new o h t.0 walk read.visited (Ok (visits.Record (Some row)))
     → KeepsRow (record { walk = walk; bound = before.bound; kept = before.kept }) row turn.phase turn.answer
-    → Reads m new o h t before.walk.table before.bound turn
+    → Reads m new o h t before.walk.table before.bound (length before.kept.items) turn
 a_row m old new o h t before walk row turn same stands read goes keeps =
-    subst (λ (table : Table). Reads m new o h t table before.bound turn) same
+    subst (λ (table : Table). Reads m new o h t table before.bound (length before.kept.items) turn) same
     (visited_row m new o h t (record { walk = walk; bound = before.bound; kept = before.kept })
     read.visited row turn.phase turn.answer read.kept goes stands keeps)
 
 -- ---- the end
+
+as_many : (kept : KeyedRows) (rows : List Cells) → AreInOrder kept rows → length rows ≡ length kept
+as_many kept rows order =
+    ap (length {A = Cells}) order.bare
+    ∙ length-map {A = Value × Cells} {B = Cells} order.sorted (λ r. r.1)
+    ∙ length_permutation kept order.sorted order.order.same
 
 -- all records were visited: what was kept is what the machine finds
 module _ (o : Opening) (h : Entries) (t : TxNo) (table : Table) (bound : Bound) (visited kept : KeyedRows)
@@ -164,8 +180,9 @@ module _ (o : Opening) (h : Entries) (t : TxNo) (table : Table) (bound : Bound) 
       (found_answered (filter_in bound.statement) (rows_seen o h t.0 table.name) rows (rows_are rows order))
 
   all_read : {R P : Type 0} (m : Means R P) (new : R) (turn : Turn P)
-      → Ends m new o h t table bound kept turn → Reads m new o h t table bound turn
-  all_read m new turn (in_order rows order goes) = finds rows (rows_are rows order) (goes (found_all rows order))
+      → Ends m new o h t table bound kept turn → Reads m new o h t table bound (length kept) turn
+  all_read m new turn (in_order rows order goes) =
+      finds rows (rows_are rows order) (as_many kept rows order) (goes (found_all rows order))
   all_read m new turn (no_memory is stands) = stops refusals.Memory refl is stands
 
 pub at_end : {R P : Type 0} (m : Means R P) (old mid new : R) (o : Opening) (h : Entries) (t : TxNo)
@@ -174,7 +191,7 @@ pub at_end : {R P : Type 0} (m : Means R P) (old mid new : R) (o : Opening) (h :
     → GoesOn m mid o h t.0 walk read.visited (Ok visits.End)
     → shape_seen o h t.0 before.walk.table.name ≡ Some before.walk.table.shape
     → Ends m new o h t walk.table before.bound before.kept.items turn
-    → Reads m new o h t before.walk.table before.bound turn
+    → Reads m new o h t before.walk.table before.bound (length before.kept.items) turn
 at_end {P = P} m old mid new o h t before walk turn same read goes seen ends =
     all_read o h t before.walk.table before.bound read.visited before.kept.items read.kept goes.0
     (subst (λ (table : Table). IsPermutation read.visited (rows_of (view o h t.0) table.name)) same goes.1)
@@ -195,10 +212,10 @@ read_all m old mid o h t before walk same read goes seen =
     seen)
 
 pub is_refused : {R P : Type 0} (m : Means R P) (new : R) (o : Opening) (h : Entries) (t : TxNo)
-    (table : Table) (bound : Bound) (refusal : Refusal) (turn : Turn P)
+    (table : Table) (bound : Bound) (count : ℕ) (refusal : Refusal) (turn : Turn P)
     → IsRefused o h t.0 refusal → m.stands new o h → turn ≡ ended (Err (Engine refusal))
-    → Reads m new o h t table bound turn
-is_refused m new o h t table bound refusal turn refused stands is = stops refusal refused is stands
+    → Reads m new o h t table bound count turn
+is_refused m new o h t table bound count refusal turn refused stands is = stops refusal refused is stands
 
 -- the telling is refused
 pub not_told : {R P : Type 0} (m : Means R P) (old new : R) (o : Opening) (h : Entries) (t : TxNo)
@@ -313,10 +330,7 @@ keeps_leaves m old new t before row phase answer frames calm ready keeps = absur
 pub behind_rows : {P : Type 0} (kept : KeyedRows) (rows : List Cells) (turn : Turn P)
     → AreInOrder kept rows → IsBehind (length rows + 1) turn → IsBehind (length kept + 1) turn
 behind_rows kept rows turn order behind =
-    subst (λ (n : ℕ). IsBehind (n + 1) turn)
-    (ap (length {A = Cells}) order.bare
-    ∙ length-map {A = Value × Cells} {B = Cells} order.sorted (λ r. r.1)
-    ∙ length_permutation kept order.sorted order.order.same) behind
+    subst (λ (n : ℕ). IsBehind (n + 1) turn) (as_many kept rows order) behind
 
 -- ---- the filter faults, or memory is short
 

@@ -1,5 +1,5 @@
 -- The steps of a statement that finds rows.
-use Rattle.std.specs.Prelude.{◌≡◌, ◌⊎◌, ℕ, Bool, false, List, ◌∷◌, map, Option, Some, None, Result, Ok, Err}
+use Rattle.std.specs.Prelude.{◌≡◌, ◌⊎◌, ◌≤◌, ◌+◌, ℕ, length, Bool, false, List, ◌∷◌, map, Option, Some, None, Result, Ok, Err}
 use Rattle.mg_base.specs.declared.numbers.TxNo.{TxNo}
 use Rattle.mg_value.specs.declared.value.Value.{Value}
 use Rattle.mg_expr.specs.declared.fault.EvalFault.{EvalFault}
@@ -32,7 +32,8 @@ use Rattle.mg_exec.specs.declared.phase.Step.TheVariants.{More}
 use Rattle.mg_exec.specs.declared.phase.Turn.{Turn}
 use Rattle.mg_exec.specs.Changing.{StartsToWrite}
 use Rattle.mg_exec.specs.Phases.{HasRead, ended, filter_in, is_select}
-use Rattle.mg_exec.specs.Selecting.{Answers, answer_told}
+use Rattle.mg_rows.specs.Answering.{Answers}
+use Rattle.mg_exec.specs.Selecting.{answer_told}
 
 -- ---- one record
 
@@ -102,19 +103,20 @@ pub data Ends {R P : Type 0} (m : Means R P) (new : R) (o : Opening) (h : Entrie
   no_memory : turn ≡ ended (Err (Engine refusals.Memory)) → m.stands new o h
       → Ends m new o h t table bound kept turn
 
--- A step of a statement that reads a table.
+-- A step of a statement that reads a table, and has kept so many rows.
 pub data Reads {R P : Type 0} (m : Means R P) (new : R) (o : Opening) (h : Entries) (t : TxNo)
-    (table : Table) (bound : Bound) (turn : Turn P) : Type 0 where
-  -- it comes to one further record, and no event is given
+    (table : Table) (bound : Bound) (count : ℕ) (turn : Turn P) : Type 0 where
+  -- it comes to one further record, of which it keeps a row at most, and no event is given
   comes_on : (after : Reading P) → turn ≡ record { phase = phases.Reading after; answer = Ok More }
       → after.bound ≡ bound → after.walk.table ≡ table → m.stands new o h
-      → HasRead m new o h t.0 after → Reads m new o h t table bound turn
-  -- it is at its end, and goes on with the rows that it found
-  finds : (rows : List Cells) → rows_found o h t.0 table bound ≡ Some rows
-      → Finds m new o h t table bound rows turn → Reads m new o h t table bound turn
+      → HasRead m new o h t.0 after → length after.kept.items ≤ count + 1
+      → Reads m new o h t table bound count turn
+  -- it is at its end, and goes on with the rows that it found, which are those that it kept
+  finds : (rows : List Cells) → rows_found o h t.0 table bound ≡ Some rows → length rows ≡ count
+      → Finds m new o h t table bound rows turn → Reads m new o h t table bound count turn
   -- the filter faults on a row, and no event is given
   faults : rows_found o h t.0 table bound ≡ None → turn ≡ ended (Err Arithmetic)
-      → m.stands new o h → Reads m new o h t table bound turn
+      → m.stands new o h → Reads m new o h t table bound count turn
   -- a call is refused, or memory is short, and no event is given
   stops : (refusal : Refusal) → IsRefused o h t.0 refusal → turn ≡ ended (Err (Engine refusal))
-      → m.stands new o h → Reads m new o h t table bound turn
+      → m.stands new o h → Reads m new o h t table bound count turn

@@ -1,5 +1,5 @@
 -- A step of any statement.
-use Rattle.std.specs.Prelude.{◌≡◌, Bool, true, false, [], Option, Some, None, Result, Err}
+use Rattle.std.specs.Prelude.{length, ◌≡◌, Bool, true, false, [], Option, Some, None, Result, Err}
 use Rattle.mg_base.specs.declared.numbers.TxNo.{TxNo}
 use Rattle.mg_model.specs.declared.opening.Opening.{Opening}
 use Rattle.mg_model.specs.declared.table.Table.{Table}
@@ -24,7 +24,7 @@ Goes m old new o h t (phases.Saving name) turn = Saves m new o h t name turn
 Goes m old new o h t (phases.Returning name) turn = Returns m new o h t name turn
 Goes m old new o h t (phases.Inserting i) turn = StartsToWrite m new o h t i.table i.bound [] turn
 Goes m old new o h t (phases.Reading reading) turn = HasRead m old o h t.0 reading
-    → Reads m new o h t reading.walk.table reading.bound turn
+    → Reads m new o h t reading.walk.table reading.bound (length reading.kept.items) turn
 Goes m old new o h t (phases.Changing c) turn = Changes m new o h t c turn
 Goes m old new o h t (phases.Creating table) turn = Creates m new o h t table turn
 Goes m old new o h t (phases.Retrying table) turn = Retries m new o h t table turn

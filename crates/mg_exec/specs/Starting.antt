@@ -23,7 +23,7 @@ use Rattle.mg_rows.specs.Faults.{of_plan}
 use Rattle.mg_calls.specs.Writes.{Comes}
 use Rattle.mg_exec.specs.declared.phase.Phase.{Phase}
 use Rattle.mg_exec.specs.declared.phase.Phase.TheVariants as phases
-use Rattle.mg_exec.specs.NewTables.{CreatesTable, LooksForTable}
+use Rattle.mg_exec.specs.NewTables.{CreatesTable, LooksForTable, TestsTable}
 use Rattle.mg_exec.specs.Phases.{StandsAt, is_insert, may_not_write}
 
 -- a statement that has rows of a table
@@ -90,6 +90,28 @@ Tests m new o h t read_only s name size (Ok phase) =
     m.stands new o h × IsStarted m new o h t.0 read_only s name size phase
 Tests m new o h t read_only s name size (Err fault) =
     m.stands new o h × IsWhyNot o h t.0 read_only s name size fault
+
+-- The tests of any statement that runs in steps, which has looked, if it is one that looks. A savepoint is set, or gone
+-- back to, by the first step alone: of these nothing is tested.
+abbrev pub TestsAny : {R P : Type 0} → Means R P → R → Opening → Entries → TxNo → Bool → Plain → ℕ
+    → Result (Phase P) StatementFault → Type 0
+TestsAny m new o h t read_only (Savepoint name) size result =
+    (result ≡ Ok (phases.Saving name)) × m.stands new o h
+TestsAny m new o h t read_only (RollbackTo name) size result =
+    (result ≡ Ok (phases.Returning name)) × m.stands new o h
+TestsAny m new o h t read_only (Creation name columns) size result =
+    TestsTable m new o h t read_only (Creation name columns) name size result
+TestsAny m new o h t read_only (Insert table columns values) size result =
+    Tests m new o h t read_only (Insert table columns values) table size result
+TestsAny m new o h t read_only (Update table sets filter) size result =
+    Tests m new o h t read_only (Update table sets filter) table size result
+TestsAny m new o h t read_only (Delete table filter) size result =
+    Tests m new o h t read_only (Delete table filter) table size result
+TestsAny m new o h t read_only (Totals table totals filter) size result =
+    Tests m new o h t read_only (Totals table totals filter) table size result
+TestsAny m new o h t read_only (Select table values filter sorted) size result =
+    Tests m new o h t read_only (Select table values filter sorted) table size result
+TestsAny m new o h t read_only s size result = ⊥
 
 -- A statement of a table begins with its `Look`; where that is refused, the statement is.
 abbrev pub Looks : {R P : Type 0} → Means R P → R → Opening → Entries → TxNo → Bool → Plain → List ℕ

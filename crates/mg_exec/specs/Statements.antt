@@ -45,7 +45,8 @@ use Rattle.mg_calls.specs.Undoing.{is_waiting}
 use Rattle.mg_exec.specs.NewTables.{is_taken}
 use Rattle.mg_exec.specs.Phases.{HasRead, IsReady, is_insert, is_over, may_not_write}
 use Rattle.mg_exec.specs.Reading.{find_of, rows_found}
-use Rattle.mg_exec.specs.Selecting.{Answers, answer_told}
+use Rattle.mg_rows.specs.Answering.{Answers}
+use Rattle.mg_exec.specs.Selecting.{answer_told}
 
 -- A statement that a transaction is to run: whether it may not write, and the page size.
 pub record Asked : Type 0 where
@@ -276,6 +277,19 @@ pub record Begins {R P : Type 0} (m : Means R P) (new : R) (o : Opening) (h : En
   pub quietly : IsQuietly h (given ++ h)
   pub stands : m.stands new o (given ++ h)
   pub at : IsAt m new o (given ++ h) (given ++ h) a given phase
+
+-- the `Look` of a statement that looks: one of a table, or CREATE TABLE
+abbrev pub look_in : Asked → Plain → Entries
+look_in a (Savepoint name) = []
+look_in a (RollbackTo name) = []
+look_in a s = its_look a
+
+-- Where a statement begins that has looked, if it is one that looks, and was tested: it stands at its first step, and
+-- the history is as it was then.
+pub record BeginsTested {R P : Type 0} (m : Means R P) (new : R) (o : Opening) (h : Entries) (a : Asked)
+    (phase : Phase P) : Type 0 where
+  pub stands : m.stands new o h
+  pub at : IsAt m new o h h a (look_in a a.statement) phase
 
 -- calls for other transactions leave it where it stands
 abbrev pub StatementsGoOn : {R P : Type 0} → Means R P → Type 0

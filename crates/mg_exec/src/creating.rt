@@ -84,7 +84,7 @@ fn is_missing(refusal: Refusal) -> bool
 }
 
 /// Tests CREATE TABLE, which has looked.
-fn test_table<R: Records>(
+pub fn test_table<R: Records>(
     r: &mut R,
     alloc: Global,
     t: TxNo,

@@ -193,7 +193,7 @@ where
     requires ready { IsReadyToRead R.meaning r.old t.0 reading }
     ensures reads { (o : Opening) (h : Entries) → R.meaning.stands r.old o h
         → HasRead R.meaning r.old o h t.0 reading
-        → Reads R.meaning r.new o h t reading.walk.table reading.bound result }
+        → Reads R.meaning r.new o h t reading.walk.table reading.bound (length reading.kept.items) result }
     ensures nears { Nears R.meaning r.old r.new t.0 (phases.Reading reading) result }
     ensures leaves { Leaves R.meaning r.old r.new t.0 result }
     ensures quiet { (o : Opening) (h : Entries) → R.meaning.stands r.old o h

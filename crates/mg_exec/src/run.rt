@@ -10,17 +10,17 @@ ghost use Rattle.mg_calls.specs.Quiet.{AreQuiet, IsQuietAt};
 ghost use Rattle.mg_exec.specs.Phases.{IsReady, IsReadyToInsert, Leaves, StandsAt, rolled_back_at};
 ghost use Rattle.mg_exec.specs.Progress.{IsBehind, Nears};
 ghost use Rattle.mg_exec.specs.Changing.{StartsToWrite};
-ghost use Rattle.mg_exec.specs.Starting.{Runs, Starts, refusal_at};
+ghost use Rattle.mg_exec.specs.Starting.{Runs, Starts, TestsAny, refusal_at};
 ghost use Rattle.mg_exec.specs.Running.{Goes, IsPastEnd, is_rolled_back_at, table_at, place_at};
-ghost use Rattle.mg_exec.specs.Statements.{Asked, Begins, Gives, IsAt};
+ghost use Rattle.mg_exec.specs.Statements.{Asked, Begins, BeginsTested, Gives, IsAt};
 
 use crate::changing::{change, start_to_write};
-use crate::creating::{create, look_for_table, retry};
+use crate::creating::{create, look_for_table, retry, test_table};
 use crate::ending::ended;
 use crate::phase::{Inserting, Phase, Step, Turn};
 use crate::points::{go_back, save};
 use crate::reading::read;
-use crate::starting::look_and_test;
+use crate::starting::{look_and_test, test};
 use mg_base::TxNo;
 use mg_model::Table;
 use mg_records::Records;
@@ -67,6 +67,38 @@ where
         Statement::Delete { table, .. } => look_and_test(r, alloc, t, read_only, s, table, size),
         Statement::Totals { table, .. } => look_and_test(r, alloc, t, read_only, s, table, size),
         Statement::Select { table, .. } => look_and_test(r, alloc, t, read_only, s, table, size),
+        _ => Err(StatementFault::NothingHeld),
+    }
+}
+
+/// Tests a statement that has looked, if it is one that looks, and where it begins.
+fn test_any<R: Records>(
+    r: &mut R,
+    alloc: Global,
+    t: TxNo,
+    read_only: bool,
+    s: &Statement,
+    size: u32,
+) -> Result<Phase<R::Place>, StatementFault>
+where
+    R::Place: Drop,
+    requires runs { Runs (plain_of s.now) }
+    requires pages { R.meaning.is_size r.old size ≡ true }
+    ensures tests { (o : Opening) (h : Entries) → R.meaning.stands r.old o h
+        → TestsAny R.meaning r.new o h t read_only (plain_of s.now) size result }
+    ensures ready { IfOk result (λ phase. IsReady R.meaning r.new t.0 phase) }
+    ensures frames { Frames R.meaning r.old r.new t.0 (refusal_at result) }
+    ensures quiet { AreQuiet R.meaning r.old r.new None }
+{
+    match s {
+        Statement::Savepoint { name } => Ok(Phase::Saving(*name)),
+        Statement::RollbackTo { name } => Ok(Phase::Returning(*name)),
+        Statement::Table { name, .. } => test_table(r, alloc, t, read_only, s, name, size),
+        Statement::Insert { table, .. } => test(r, alloc, t, read_only, s, table, size),
+        Statement::Update { table, .. } => test(r, alloc, t, read_only, s, table, size),
+        Statement::Delete { table, .. } => test(r, alloc, t, read_only, s, table, size),
+        Statement::Totals { table, .. } => test(r, alloc, t, read_only, s, table, size),
+        Statement::Select { table, .. } => test(r, alloc, t, read_only, s, table, size),
         _ => Err(StatementFault::NothingHeld),
     }
 }
@@ -156,6 +188,46 @@ impl<R: Records> Run<R> {
         }
     }
 
+    /// Tests a statement of a transaction that has looked, if it is one that looks, and begins it: what `start` does
+    /// without the `Look`. No event is given.
+    ///
+    /// # Errors
+    ///
+    /// As `start`, of its tests.
+    pub fn test(
+        r: &mut R,
+        alloc: Global,
+        t: TxNo,
+        read_only: bool,
+        s: &Statement,
+        size: u32,
+    ) -> Result<Run<R>, StatementFault>
+    where
+        R::Place: Drop,
+        requires runs { Runs (plain_of s.now) }
+        requires pages { R.meaning.is_size r.old size ≡ true }
+        ensures tests { (o : Opening) (h : Entries) → R.meaning.stands r.old o h
+            → MatchResult result
+            (λ run. TestsAny R.meaning r.new o h t read_only (plain_of s.now) size (Ok run.phase))
+            (λ fault. TestsAny R.meaning r.new o h t read_only (plain_of s.now) size (Err fault)) }
+        ensures begins { (o : Opening) (h : Entries) → R.meaning.stands r.old o h
+            → IfOk result (λ run. BeginsTested R.meaning r.new o h (record {
+              t = t;
+              read_only = read_only;
+              statement = plain_of s.now;
+              size = size;
+            }) run.phase) }
+        ensures ready { IfOk result (λ run. IsReady R.meaning r.new t.0 run.phase) }
+        ensures number { IfOk result (λ run. run.t ≡ t) }
+        ensures frames { Frames R.meaning r.old r.new t.0 (refusal_at result) }
+        ensures quiet { AreQuiet R.meaning r.old r.new None }
+    {
+        match test_any(r, alloc, t, read_only, s, size) {
+            Ok(phase) => Ok(Run { alloc, t, phase }),
+            Err(fault) => Err(fault),
+        }
+    }
+
     /// Makes one step: it visits one record, or makes one write, or ends the statement. The step that
     /// makes the first write tells before it what was found, and sets the mark.
     ///
@@ -169,6 +241,9 @@ impl<R: Records> Run<R> {
     where
         R::Place: Drop,
         requires ready { IsReady R.meaning r.old self.old.t.0 self.old.phase }
+        ensures goes { (o : Opening) (h : Entries) → R.meaning.stands r.old o h
+            → Goes R.meaning r.old r.new o h self.old.t self.old.phase
+            (record { phase = self.new.phase; answer = result }) }
         ensures gives { (o : Opening) (looked h given : Entries) (a : Asked) → R.meaning.stands r.old o h
             → a.t ≡ self.old.t → IsAt R.meaning r.old o looked h a given self.old.phase
             → Gives R.meaning r.new o looked h a given
@@ -181,6 +256,9 @@ impl<R: Records> Run<R> {
             (record { phase = self.new.phase; answer = result }) }
         ensures quiet { (o : Opening) (looked h given : Entries) (a : Asked) → R.meaning.stands r.old o h
             → a.t ≡ self.old.t → IsAt R.meaning r.old o looked h a given self.old.phase
+            → IsQuietAt R.meaning r.old r.new o h }
+        ensures crash { (o : Opening) (h : Entries) → R.meaning.stands r.old o h
+            → StandsAt R.meaning r.old o h self.old.t.0 self.old.phase
             → IsQuietAt R.meaning r.old r.new o h }
     {
         let phase = replace(&mut self.phase, Phase::Ended);

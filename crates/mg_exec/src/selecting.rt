@@ -3,7 +3,8 @@
 ghost use Rattle.std.specs.Prelude.{◌≡◌, true, map};
 ghost use Rattle.mg_sql.specs.Plain.{plain_of, total_of};
 ghost use Rattle.mg_exec.specs.Phases.{is_select};
-ghost use Rattle.mg_exec.specs.Selecting.{order_of as order_by_of, Answers, TotalsAnswer, answer_told};
+ghost use Rattle.mg_rows.specs.Answering.{order_of as order_by_of, Answers, TotalsAnswer};
+ghost use Rattle.mg_exec.specs.Selecting.{answer_told};
 
 use crate::phase::Step;
 use mg_expr::EvalFault;

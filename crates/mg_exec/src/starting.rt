@@ -48,7 +48,7 @@ fn begin<R: Records>(r: &R, alloc: Global, table: Table, bound: Bound) -> Phase<
 }
 
 /// Tests a statement that has looked, and binds it to its table.
-fn test<R: Records>(
+pub fn test<R: Records>(
     r: &mut R,
     alloc: Global,
     t: TxNo,

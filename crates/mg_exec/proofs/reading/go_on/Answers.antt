@@ -5,7 +5,7 @@ use Rattle.mg_rows.specs.declared.statement_fault.StatementFault.{StatementFault
 use Rattle.mg_exec.specs.declared.phase.Step.{Step}
 use Rattle.mg_exec.specs.Changing.{StartsToWrite}
 use Rattle.mg_exec.specs.Phases.{ended}
-use Rattle.mg_exec.specs.Selecting.{Answers}
+use Rattle.mg_rows.specs.Answering.{Answers}
 use Rattle.mg_exec.specs.Reading.{answers, writes}
 use Rattle.mg_calls.specs.QuietLaws.{quiet_nothing}
 use Rattle.mg_exec.proofs.ProgressLemmas.{told_at_end}

@@ -1,4 +1,4 @@
-use Rattle.std.proofs.Common.{None, Some, Ok, refl, ap, subst, ◌∙◌}
+use Rattle.std.proofs.Common.{None, Some, Ok, length, refl, ap, subst, ◌∙◌, arith}
 use Rattle.mg_calls.specs.declared.walking.Visit.{Visit}
 use Rattle.mg_calls.specs.declared.walking.Visit.TheVariants as visits
 use Rattle.mg_calls.specs.Walks.{GoesOn, Progresses}
@@ -38,6 +38,7 @@ returns-in-Ok-Record-None-clause-reads g c = λ o h stands read.
     c.visit_next.new.walk read.visited (Ok visit))
     (c.in-Ok-Record-None.field-0-is ∙ ap visits.Record c.in-Ok-Record-None.field-0-0-is)
     (c.in-Ok-Record-None.ensures.comes o h read.visited stands read.come)))
+    (omega arith)
 
 pub returns-in-Ok-End-clause-reads : goal.returns-in-Ok-End-clause-reads
 returns-in-Ok-End-clause-reads g c = λ o h stands read.
@@ -53,7 +54,7 @@ returns-in-Ok-End-clause-reads g c = λ o h stands read.
 pub returns-in-Err-clause-reads : goal.returns-in-Err-clause-reads
 returns-in-Err-clause-reads g c = λ o h stands read.
     is_refused g.R.Records.meaning c.visit_next.new.r o h c.args.t c.args.reading.walk.table
-    c.args.reading.bound c.in-Err.refusal c.stop.result
+    c.args.reading.bound (length c.args.reading.kept.items) c.in-Err.refusal c.stop.result
     (c.in-Err.ensures.comes o h read.visited stands read.come)
     (c.visit_next.ensures.reads.stays o h stands) c.stop.ensures
 

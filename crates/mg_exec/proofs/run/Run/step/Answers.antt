@@ -20,3 +20,14 @@ returns-clause-quiet g c = λ o looked h given a stands same at.
     (subst (λ (x : TxNo × Phase g.row.R-Place.Denot). StandsAt g.R.Records.meaning c.args.r.now o h
     x.0.0 x.1) (λ k. (same k, sym c.replace-phase.ensures.value k))
     (stands_there g.R.Records.meaning c.args.r.now o looked h a given c.args.self.now.phase at))
+
+pub returns-clause-goes : goal.returns-clause-goes
+returns-clause-goes g c = λ o h stands.
+    subst (λ (phase : Phase g.row.R-Place.Denot). Goes g.R.Records.meaning c.args.r.now c.go-phase.new.r o h
+    c.args.self.now.t phase c.go-phase.result) c.replace-phase.ensures.value (c.go-phase.ensures.goes o h stands)
+
+pub returns-clause-crash : goal.returns-clause-crash
+returns-clause-crash g c = λ o h stands at.
+    c.go-phase.ensures.quiet o h stands
+    (subst (λ (phase : Phase g.row.R-Place.Denot). StandsAt g.R.Records.meaning c.args.r.now o h
+    c.args.self.now.t.0 phase) (sym c.replace-phase.ensures.value) at)
