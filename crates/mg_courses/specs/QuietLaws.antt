@@ -16,7 +16,7 @@ use Rattle.mg_model.specs.declared.opening.Opening.{Opening}
 use Rattle.mg_model.specs.declared.refusal.Refusal.{Refusal}
 use Rattle.mg_model.specs.Answers.{is_active}
 use Rattle.mg_model.specs.Catalog.{catalog_name}
-use Rattle.mg_model.specs.Changes.{Cells, KeyedRows}
+use Rattle.mg_model.specs.Changes.{Cells}
 use Rattle.mg_model.specs.History.{Entries, entry}
 use Rattle.mg_model.specs.Legal.{is_lasting}
 use Rattle.mg_model.specs.Machine.{state_of}
@@ -66,15 +66,15 @@ rest_are event more quiet = at (is_lasting event) quiet
     at true is = absurd cc
     at false is = is
 
-changes_quiet : (t : TxNo) (table : List ℕ) (olds : KeyedRows) (news : List Cells)
-    → are_quiet (changes t table olds news) ≡ true
-changes_quiet t table [] news = refl
-changes_quiet t table (old ∷ olds) [] = refl
-changes_quiet t table (old ∷ olds) (new ∷ news) = changes_quiet t table olds news
+changes_quiet : (t : TxNo) (table : List ℕ) (shape : Shape) (news : List Cells)
+    → are_quiet (changes t table shape news) ≡ true
+changes_quiet t table shape [] = refl
+changes_quiet t table shape (new ∷ news) = changes_quiet t table shape news
 
-erases_quiet : (t : TxNo) (table : List ℕ) (rows : KeyedRows) → are_quiet (erases t table rows) ≡ true
-erases_quiet t table [] = refl
-erases_quiet t table (row ∷ rows) = erases_quiet t table rows
+erases_quiet : (t : TxNo) (table : List ℕ) (shape : Shape) (rows : List Cells)
+    → are_quiet (erases t table shape rows) ≡ true
+erases_quiet t table shape [] = refl
+erases_quiet t table shape (row ∷ rows) = erases_quiet t table shape rows
 
 inserts_quiet : (t : TxNo) (table : List ℕ) (rows : List Cells)
     → are_quiet (map (λ row. events.Insert t table row) rows) ≡ true
@@ -98,14 +98,14 @@ given_quiet : (given news : List Event) → are_quiet given ≡ true
 given_quiet given news quiet is =
     let same : given ≡ news = cc is in subst (λ (all : List Event). are_quiet all ≡ true) same quiet
 
-written_quiet : (t : TxNo) (shape : Shape) (places : List ℕ) (s : Plain) (rows : KeyedRows)
+written_quiet : (t : TxNo) (shape : Shape) (places : List ℕ) (s : Plain) (rows : List Cells)
     (news : List Event) → written_by t shape places s rows ≡ Ok news → are_quiet news ≡ true
 written_quiet t shape places (Insert table columns values) rows news is =
     made_quiet (λ (row : Cells). events.Insert t table row ∷ []) (λ row. refl) _ news is
 written_quiet t shape places (Update table sets filter) rows news is =
-    made_quiet (changes t table rows) (λ rest. changes_quiet t table rows rest) _ news is
+    made_quiet (changes t table shape) (λ rest. changes_quiet t table shape rest) _ news is
 written_quiet t shape places (Delete table filter) rows news is =
-    given_quiet (erases t table rows) news (erases_quiet t table rows) is
+    given_quiet (erases t table shape rows) news (erases_quiet t table shape rows) is
 written_quiet t shape places (Totals table totals filter) rows news is = given_quiet [] news refl is
 written_quiet t shape places (Select table values filter sorted) rows news is = given_quiet [] news refl is
 written_quiet t shape places (Table name columns) rows news is = given_quiet [] news refl is
@@ -115,7 +115,7 @@ written_quiet t shape places Rollback rows news is = given_quiet [] news refl is
 written_quiet t shape places (RollbackTo name) rows news is = given_quiet [] news refl is
 written_quiet t shape places (Savepoint name) rows news is = given_quiet [] news refl is
 
-events_quiet : (t : TxNo) (shape : Shape) (s : Plain) (rows : KeyedRows) (news : List Event)
+events_quiet : (t : TxNo) (shape : Shape) (s : Plain) (rows : List Cells) (news : List Event)
     → events_of t shape s rows ≡ Ok news → are_quiet news ≡ true
 events_quiet t shape s rows news is =
     written_quiet t shape (places_in shape.columns s) (bound_plain shape.columns s) rows news is
@@ -155,7 +155,7 @@ marks_quiet {t = t} quiet (first_event event more after comes lawful write) =
     then_quietly (one (events.Mark t) answers.Fine refl) (writes_quiet (first_is event more quiet) write)
 
 follows_quiet : {o : Opening} {h after : Entries} {t : TxNo} {s : Plain} {shape : Shape}
-    {rows : KeyedRows} {comes : Comes} → Follows o h t s shape rows after comes → IsQuietly h after
+    {rows : List Cells} {comes : Comes} → Follows o h t s shape rows after comes → IsQuietly h after
 follows_quiet (answers_so given is answer) = as_it_was
 follows_quiet {t = t} {s = s} {shape = shape} {rows = rows} (writes_so news after comes is made marks) =
     marks_quiet (events_quiet t shape s rows news made) marks

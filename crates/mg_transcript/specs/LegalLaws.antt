@@ -3,7 +3,7 @@ use Rattle.std.specs.Prelude.{◌≡◌, ◌&&◌, ℕ, Bool, true, false, List,
 use Rattle.std.proofs.Common.{inl}
 use Rattle.std.specs.Prelude.{ℤ}
 use Rattle.mg_value.specs.declared.shape.Shape.{Shape}
-use Rattle.mg_model.specs.Changes.{KeyedRows}
+use Rattle.mg_model.specs.Changes.{Cells}
 use Rattle.mg_base.specs.declared.numbers.TxNo.{TxNo}
 use Rattle.mg_base.specs.declared.transaction.TxState.{TxState}
 use Rattle.mg_base.specs.declared.transaction.TxState.TheVariants.{Active, Limbo, Dead, Committed}
@@ -90,7 +90,7 @@ marks_legal (no_event lawful) legal = (lawful, legal)
 marks_legal (first_event event more after comes lawful write) legal = writes_legal write (lawful, legal)
 
 follows_legal : {o : Opening} {h after : Entries} {t : TxNo} {s : Plain} {shape : Shape}
-    {rows : KeyedRows} {comes : Comes}
+    {rows : List Cells} {comes : Comes}
     → Follows o h t s shape rows after comes → IsLegal o h → IsLegal o after
 follows_legal (answers_so given is answer) legal = legal
 follows_legal (writes_so news after comes is made marks) legal = marks_legal marks legal

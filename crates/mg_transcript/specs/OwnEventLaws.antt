@@ -11,7 +11,7 @@ use Rattle.mg_model.specs.declared.event.Event.TheVariants as events
 use Rattle.mg_model.specs.declared.opening.Opening.{Opening}
 use Rattle.mg_model.specs.declared.refusal.Refusal.{Refusal}
 use Rattle.mg_model.specs.Answers.{is_active}
-use Rattle.mg_model.specs.Changes.{KeyedRows}
+use Rattle.mg_model.specs.Changes.{Cells}
 use Rattle.mg_model.specs.History.{Entries, entry, transaction_of}
 use Rattle.mg_model.specs.Machine.{state_of}
 use Rattle.mg_records.specs.TakingBack.{after_refusal, is_given_up}
@@ -66,7 +66,7 @@ marks_own {t = t} (first_event event more after comes lawful write) =
     grown_then (one t (events.Mark t) answers.Fine refl) (writes_own write)
 
 follows_own : {o : Opening} {h after : Entries} {t : TxNo} {s : Plain} {shape : Shape}
-    {rows : KeyedRows} {comes : Comes} → Follows o h t s shape rows after comes → GrowsBy t h after
+    {rows : List Cells} {comes : Comes} → Follows o h t s shape rows after comes → GrowsBy t h after
 follows_own (answers_so given is answer) = as_it_was
 follows_own (writes_so news after comes is made marks) = marks_own marks
 follows_own (has_fault fault is made) = as_it_was

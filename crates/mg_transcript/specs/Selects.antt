@@ -1,41 +1,17 @@
 -- What a SELECT answers of the rows that it found.
-use Rattle.std.specs.Prelude.{◌≡◌, ℕ, List, [], ◌∷◌, get_or, Option, Some, None, Result, Ok, Err}
+use Rattle.std.specs.Prelude.{List, Result, Ok, Err}
 use Rattle.mg_value.specs.declared.shape.Shape.{Shape}
 use Rattle.mg_expr.specs.declared.fault.EvalFault.{EvalFault}
-use Rattle.mg_expr.specs.declared.fault.EvalFault.TheVariants as evals
-use Rattle.mg_sql.specs.declared.statement.Sorted.{Sorted}
-use Rattle.mg_sql.specs.Plain.{Total, Plain, Totals, Select}
+use Rattle.mg_sql.specs.Plain.{Plain}
 use Rattle.mg_plan.specs.Statements.{bound_plain, places_in}
 use Rattle.mg_model.specs.Changes.{Cells}
 use Rattle.mg_rows.specs.declared.outcome.Outcome.TheVariants as outcomes
-use Rattle.mg_rows.specs.declared.ordering.OrderBy.{OrderBy}
+use Rattle.mg_rows.specs.Answering.{Answers as BoundAnswers}
 use Rattle.mg_rows.specs.Faults.{of_eval}
-use Rattle.mg_rows.specs.Selecting.{Selects}
-use Rattle.mg_rows.specs.Totals.{totals_over}
 use Rattle.mg_script.specs.declared.reply.Reply.{Reply}
 use Rattle.mg_script.specs.declared.reply.Reply.TheVariants as replies
 
--- the order of a SELECT: its column is at the one place that its bound statement has
-abbrev pub order_of : Option Sorted → List ℕ → Option OrderBy
-order_of None places = None
-order_of (Some sorted) places =
-    Some (record { place = get_or places 0 0; descending = sorted.descending })
-
--- the one row of a SELECT of totals, none where one of them faults
-abbrev pub TotalsAnswer : List Total → List Cells → Result (List Cells) EvalFault → Type 0
-TotalsAnswer totals rows (Ok given) =
-    (row : Cells) × (totals_over totals rows ≡ Some row) × (given ≡ row ∷ [])
-TotalsAnswer totals rows (Err evals.Arithmetic) = totals_over totals rows ≡ None
-TotalsAnswer totals rows (Err evals.Memory) = Unit {0}
-
--- what a bound SELECT gives of the rows that it found
-abbrev pub BoundAnswers : Plain → List ℕ → ℕ → List Cells → Result (List Cells) EvalFault → Type 0
-BoundAnswers (Totals table totals filter) places key rows given = TotalsAnswer totals rows given
-BoundAnswers (Select table values filter sorted) places key rows given =
-    Selects values (order_of sorted places) key rows given
-BoundAnswers s places key rows given = ⊥
-
--- the same of a statement that is not bound
+-- what a SELECT that is not bound gives of the rows that it found
 abbrev pub Answers : Shape → Plain → List Cells → Result (List Cells) EvalFault → Type 0
 Answers shape s rows given =
     BoundAnswers (bound_plain shape.columns s) (places_in shape.columns s) shape.key rows given

@@ -4,7 +4,6 @@ use Rattle.std.specs.Option.{is_some}
 use Rattle.mg_base.specs.declared.numbers.TxNo.{TxNo}
 use Rattle.mg_value.specs.declared.shape.Column.{Column}
 use Rattle.mg_value.specs.declared.shape.Shape.{Shape}
-use Rattle.mg_value.specs.declared.value.Value.{Value}
 use Rattle.mg_expr.specs.Trees.{Tree}
 use Rattle.mg_sql.specs.Plain.{Plain, Table, Insert, Update, Delete, Totals, Select}
 use Rattle.mg_plan.specs.declared.fault.PlanFault.{PlanFault}
@@ -15,7 +14,7 @@ use Rattle.mg_model.specs.declared.event.Event.{Event}
 use Rattle.mg_model.specs.declared.event.Event.TheVariants as events
 use Rattle.mg_model.specs.declared.opening.Opening.{Opening}
 use Rattle.mg_model.specs.declared.refusal.Refusal.TheVariants as refusals
-use Rattle.mg_model.specs.Catalog.{catalog_name}
+use Rattle.mg_model.specs.Catalog.{catalog_name, key_of}
 use Rattle.mg_model.specs.Changes.{Cells, KeyedRows, rows_of, same_name}
 use Rattle.mg_model.specs.History.{Entries}
 use Rattle.mg_model.specs.Machine.{view, mode_of}
@@ -25,7 +24,7 @@ use Rattle.mg_rows.specs.declared.fault.NewRowFault.{NewRowFault}
 use Rattle.mg_rows.specs.declared.statement_fault.StatementFault.{StatementFault}
 use Rattle.mg_rows.specs.declared.statement_fault.StatementFault.TheVariants.{Engine}
 use Rattle.mg_rows.specs.Faults.{of_plan}
-use Rattle.mg_rows.specs.Found.{passes_filter}
+use Rattle.mg_rows.specs.Found.{found}
 use Rattle.mg_rows.specs.NewRows.{inserted, updated}
 
 -- ---- the parts of a statement
@@ -120,40 +119,25 @@ fault_seen o h t size s =
 
 -- ---- what it finds
 
--- a row in front of those found behind it, where it passes; none where the filter faults on one
-abbrev pub found_before : Option Bool → Value × Cells → Option KeyedRows → Option KeyedRows
-found_before None row rows = None
-found_before (Some false) row rows = rows
-found_before (Some true) row None = None
-found_before (Some true) row (Some rows) = Some (row ∷ rows)
-
--- the rows that pass a filter, with their keys, in their order; none where it faults on one of them
-abbrev pub found_in : Option Tree → KeyedRows → Option KeyedRows
-found_in filter [] = Some []
-found_in filter (row ∷ rows) =
-    found_before (passes_filter filter row.1) row (found_in filter rows)
-
--- the rows of its table that a transaction sees and that pass its filter, in key order
-abbrev pub rows_found : Opening → Entries → TxNo → Shape → Plain → Option KeyedRows
-rows_found o h t shape s =
-    found_in (filter_of (bound_plain shape.columns s)) (rows_of (view o h t.0) (table_of s))
-
 -- rows without their keys
 abbrev pub bare : KeyedRows → List Cells
 bare rows = map (λ row. row.1) rows
 
+-- the rows of its table that a transaction sees and that pass its filter, in key order; none where the filter
+-- faults on one of them
+abbrev pub rows_found : Opening → Entries → TxNo → Shape → Plain → Option (List Cells)
+rows_found o h t shape s =
+    found (filter_of (bound_plain shape.columns s)) (bare (rows_of (view o h t.0) (table_of s)))
+
 -- ---- what it writes
 
--- each row that was found gets the new one
-abbrev pub changes : TxNo → List ℕ → KeyedRows → List Cells → List Event
-changes t table [] news = []
-changes t table (old ∷ olds) [] = []
-changes t table (old ∷ olds) (new ∷ news) =
-    events.Change t table old.0 new ∷ changes t table olds news
+-- each new row comes in the place of the one with its key
+abbrev pub changes : TxNo → List ℕ → Shape → List Cells → List Event
+changes t table shape news = map (λ row. events.Change t table (key_of shape row) row) news
 
 -- each row that was found goes
-abbrev pub erases : TxNo → List ℕ → KeyedRows → List Event
-erases t table rows = map (λ row. events.Erase t table row.0) rows
+abbrev pub erases : TxNo → List ℕ → Shape → List Cells → List Event
+erases t table shape rows = map (λ row. events.Erase t table (key_of shape row)) rows
 
 -- what is made of what was computed, where that could be
 abbrev pub made_of : {A B : Type 0} → (A → B) → Result A NewRowFault → Result B NewRowFault
@@ -162,19 +146,18 @@ made_of f (Err fault) = Err fault
 
 -- The events of its writes, by the rows that it found, or why one of its new rows can't stand in the
 -- table. All new rows are computed before the first of them is written.
-abbrev pub written_by : TxNo → Shape → List ℕ → Plain → KeyedRows → Result (List Event) NewRowFault
-written_by t shape places (Insert table columns values) found =
+abbrev pub written_by : TxNo → Shape → List ℕ → Plain → List Cells → Result (List Event) NewRowFault
+written_by t shape places (Insert table columns values) rows =
     made_of (λ row. events.Insert t table row ∷ []) (inserted shape.columns places values)
-written_by t shape places (Update table sets filter) found =
-    made_of (changes t table found)
-    (updated shape.columns places (map (λ set. set.1) sets) (bare found))
-written_by t shape places (Delete table filter) found = Ok (erases t table found)
-written_by t shape places s found = Ok []
+written_by t shape places (Update table sets filter) rows =
+    made_of (changes t table shape) (updated shape.columns places (map (λ set. set.1) sets) rows)
+written_by t shape places (Delete table filter) rows = Ok (erases t table shape rows)
+written_by t shape places s rows = Ok []
 
 -- the same of a statement that is not bound
-abbrev pub events_of : TxNo → Shape → Plain → KeyedRows → Result (List Event) NewRowFault
-events_of t shape s found =
-    written_by t shape (places_in shape.columns s) (bound_plain shape.columns s) found
+abbrev pub events_of : TxNo → Shape → Plain → List Cells → Result (List Event) NewRowFault
+events_of t shape s rows =
+    written_by t shape (places_in shape.columns s) (bound_plain shape.columns s) rows
 
 -- the events of a new table: the rows of the catalog that say it, that of the table first
 abbrev pub makings : TxNo → Plain → List Event

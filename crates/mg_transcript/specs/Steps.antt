@@ -17,7 +17,7 @@ use Rattle.mg_model.specs.declared.event.Event.TheVariants as events
 use Rattle.mg_model.specs.declared.opening.Opening.{Opening}
 use Rattle.mg_model.specs.declared.refusal.Refusal.{Refusal}
 use Rattle.mg_model.specs.declared.refusal.Refusal.TheVariants as refusals
-use Rattle.mg_model.specs.Changes.{KeyedRows, Cells}
+use Rattle.mg_model.specs.Changes.{Cells}
 use Rattle.mg_model.specs.History.{Entries, entry, transaction_of}
 use Rattle.mg_model.specs.Legal.{IsLawful, is_outer}
 use Rattle.mg_model.specs.Machine.{steps, has_point}
@@ -32,7 +32,7 @@ use Rattle.mg_rows.specs.Faults.{of_new_row}
 use Rattle.mg_script.specs.declared.reply.Reply.{Reply}
 use Rattle.mg_script.specs.declared.reply.Reply.TheVariants as replies
 use Rattle.mg_transcript.specs.Courses.{Course, Begun, Writing, Making, Committing, Comes, Later, Parks, Ends, with_left}
-use Rattle.mg_transcript.specs.Statements.{table_of, filter_of, reads, selects, looks, fault_seen, rows_found, bare, events_of, makings}
+use Rattle.mg_transcript.specs.Statements.{table_of, filter_of, reads, selects, looks, fault_seen, rows_found, events_of, makings}
 use Rattle.mg_transcript.specs.Selects.{Answers, reply_with}
 
 -- ---- one event
@@ -120,7 +120,7 @@ pub data Marks (o : Opening) (h : Entries) (t : TxNo) (outcome : Outcome) : List
 -- The table that a statement of t names has this shape, and these are the rows that it finds; it has
 -- taken at least a step for each.
 pub record IsRead (o : Opening) (h : Entries) (t : TxNo) (s : Plain) (taken : ℕ) (shape : Shape)
-    (rows : KeyedRows) : Type 0 where
+    (rows : List Cells) : Type 0 where
   pub visits : reads s ≡ true
   pub seen : shape_seen o h t.0 (table_of s) ≡ Some shape
   pub found : rows_found o h t shape s ≡ Some rows
@@ -133,11 +133,11 @@ pub record IsFind (t : TxNo) (s : Plain) (shape : Shape) (event : Event) : Type 
   pub bound : tree_in filter ≡ filter_of (bound_plain shape.columns s)
 
 -- What follows where a statement has told what it found.
-pub data Follows (o : Opening) (h : Entries) (t : TxNo) (s : Plain) (shape : Shape) (rows : KeyedRows)
+pub data Follows (o : Opening) (h : Entries) (t : TxNo) (s : Plain) (shape : Shape) (rows : List Cells)
     : Entries → Comes → Type 0 where
   -- it only answers of them
   answers_so : (given : Result (List Cells) EvalFault) → selects s ≡ true
-      → Answers shape s (bare rows) given
+      → Answers shape s rows given
       → Follows o h t s shape rows h (Ends (reply_with given))
   -- it sets its mark, and its writes begin
   writes_so : (news : List Event) (after : Entries) (comes : Comes) → selects s ≡ false
@@ -166,13 +166,13 @@ pub data Steps (o : Opening) (h : Entries) (t : TxNo) : Course → Entries → C
       → shape_seen o h t.0 (table_of s) ≡ Some shape → rows_found o h t shape s ≡ None
       → Steps o h t (Begun s taken) h (Ends (replies.No Arithmetic))
   -- it has visited all, and tells what it found
-  finds : (s : Plain) (taken : ℕ) (shape : Shape) (rows : KeyedRows) (find : Event) (after : Entries)
+  finds : (s : Plain) (taken : ℕ) (shape : Shape) (rows : List Cells) (find : Event) (after : Entries)
       (comes : Comes) → IsRead o h t s taken shape rows → IsFind t s shape find
-      → IsLawful o h (entry find (answers.Rows (bare rows)))
-      → Follows o (entry find (answers.Rows (bare rows)) ∷ h) t s shape rows after comes
+      → IsLawful o h (entry find (answers.Rows rows))
+      → Follows o (entry find (answers.Rows rows) ∷ h) t s shape rows after comes
       → Steps o h t (Begun s taken) after comes
   -- telling it is refused
-  finds_not : (s : Plain) (taken : ℕ) (shape : Shape) (rows : KeyedRows) (find : Event)
+  finds_not : (s : Plain) (taken : ℕ) (shape : Shape) (rows : List Cells) (find : Event)
       (refusal : Refusal) → IsRead o h t s taken shape rows → IsFind t s shape find
       → IsLawful o h (entry find (answers.No refusal))
       → Steps o h t (Begun s taken) (entry find (answers.No refusal) ∷ h) (refused refusal)
