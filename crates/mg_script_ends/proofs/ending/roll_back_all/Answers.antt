@@ -1,0 +1,51 @@
+use Rattle.std.proofs.Common.{◌≡◌, ◌≤◌, ◌+◌, ◌-◌, arith, [], ◌∷◌, None, ap}
+use Rattle.std.specs.Prelude.{vec_capacity, vec_len}
+use Rattle.mg_sessions.specs.AccountLaws.{no_account}
+use Rattle.mg_script_ends.specs.Ends.{count_from}
+use Rattle.mg_script_ends.proofs.EndLemmas.{counts_on, ends_whole, so_far_as, so_far_none, so_far_to}
+use Rattle.mg_script_ends.proofs.ending.roll_back_all.Goals as goal
+
+pub loop-s-init : goal.loop-s-init
+loop-s-init g c =
+    let m = g.R.Records.meaning in
+    let runs = g.R.Statements.runs in
+    let room : vec_len c.args.refusals.now + 17 ≤ vec_capacity c.args.refusals.now = c.requires.room in record {
+      ends = so_far_to m runs c.args.r.now c.args.r.now c.args.transactions.now c.args.transactions.now
+          (count_from 0 17) (count_from 0 17) [] c.args.refusals.now.items c.requires.none
+          (so_far_none m runs g.met.R.Records.crashes c.args.r.now c.args.transactions.now (count_from 0 17));
+      ready = c.requires.ready;
+      room = room;
+      accounts = no_account m c.args.r.now None tt;
+    }
+
+pub loop-s-preserved : goal.loop-s-preserved
+loop-s-preserved g c = record {
+  ends = c.if-end_one.ensures.ends c.args.r.now c.args.transactions.now (count_from 0 17)
+      (count_from (c.loop-s.s + 1) (17 - (c.loop-s.s + 1)))
+      (so_far_as g.R.Records.meaning g.R.Statements.runs c.args.r.now c.loop-s.r c.args.transactions.now
+      c.loop-s.transactions (count_from 0 17) (count_from c.loop-s.s (17 - c.loop-s.s))
+      (c.loop-s.s ∷ count_from (c.loop-s.s + 1) (17 - (c.loop-s.s + 1))) c.loop-s.refusals.items
+      (counts_on c.loop-s.s 17 c.loop-s-test.true) c.loop-s.invariant.ends);
+  ready = c.end_one.ensures.ready;
+  room = c.end_one.ensures.room (17 - (c.loop-s.s + 1))
+      (let room = c.loop-s.invariant.room in let less = c.loop-s-test.true in omega (arith, room, less));
+  accounts = c.end_one.ensures.accounts c.args.r.now c.loop-s.invariant.accounts;
+}
+
+pub returns-then-end_one-clause-ends : goal.returns-then-end_one-clause-ends
+returns-then-end_one-clause-ends g c = c.if-end_one.ensures.ends c.args.r.now c.args.transactions.now
+    (count_from 0 17) (count_from (c.loop-s.s + 1) (17 - (c.loop-s.s + 1)))
+    (so_far_as g.R.Records.meaning g.R.Statements.runs c.args.r.now c.loop-s.r c.args.transactions.now
+    c.loop-s.transactions (count_from 0 17) (count_from c.loop-s.s (17 - c.loop-s.s))
+    (c.loop-s.s ∷ count_from (c.loop-s.s + 1) (17 - (c.loop-s.s + 1))) c.loop-s.refusals.items
+    (counts_on c.loop-s.s 17 c.loop-s-test.true) c.loop-s.invariant.ends)
+
+pub returns-then-end_one-clause-accounts : goal.returns-then-end_one-clause-accounts
+returns-then-end_one-clause-accounts g c = c.end_one.ensures.accounts c.args.r.now c.loop-s.invariant.accounts
+
+pub returns-clause-ends : goal.returns-clause-ends
+returns-clause-ends g c = ends_whole g.R.Records.meaning g.R.Statements.runs c.args.r.now c.loop-s.r
+    c.args.transactions.now c.loop-s.transactions (count_from 0 17) (count_from c.loop-s.s (17 - c.loop-s.s))
+    c.loop-s.refusals.items
+    (let past = c.loop-s-test.false in let none : 17 - c.loop-s.s ≡ 0 = omega (arith, past) in
+    ap (count_from c.loop-s.s) none) c.loop-s.invariant.ends

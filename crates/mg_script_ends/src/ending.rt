@@ -1,0 +1,128 @@
+//! What the sessions have begun is rolled back.
+
+ghost use Rattle.std.specs.Prelude.{◌≡◌, ◌<◌, ◌≤◌, ◌+◌, ℕ, [], ◌∷◌, List, Option, None, Some, vec_len, vec_capacity};
+ghost use Rattle.mg_model.specs.declared.opening.Opening.{Opening};
+ghost use Rattle.mg_model.specs.History.{Entries};
+ghost use Rattle.mg_transcript.specs.Scripts.{AreRolledBack, sessions};
+ghost use Rattle.mg_transcript.specs.Shorthand.{stops_run};
+ghost use Rattle.mg_pending.specs.declared.transactions.TheConstants.{PLACES};
+ghost use Rattle.mg_pending.specs.declared.transactions.Transaction.{Transaction as Remembered};
+ghost use Rattle.mg_pending.specs.Standing.{AreReady, StandAt};
+ghost use Rattle.mg_pending.specs.Transactions.{number_at};
+ghost use Rattle.mg_sessions.specs.Accounts.{Accounts};
+ghost use Rattle.mg_script_ends.specs.Ends.{EndsSession, EndsSoFar, EndsWith, StopsOrGoes};
+
+use mg_base::TxNo;
+use mg_courses::Statements;
+use mg_model::Refusal;
+use mg_pending::Transactions;
+use mg_rows::StatementFault;
+use mg_script::{Reply, Session};
+use mg_transcript::{Flow, flow_of};
+
+/// Rolls back the live transaction of each session, A to P and that of the shorthand lines, in this order. `refusals`
+/// gets what was refused; behind one by which the run stops nothing comes.
+///
+/// `refusals` is empty, and has room for one of each session.
+pub fn roll_back_all<R: Statements>(
+    r: &mut R,
+    transactions: &mut Transactions,
+    refusals: &mut Vec<Refusal>,
+)
+    requires ready { AreReady R.meaning R.runs r.old transactions.old [] }
+    requires none { refusals.old.items ≡ [] }
+    requires room { vec_len refusals.old + PLACES ≤ vec_capacity refusals.old }
+    ensures ends { (o : Opening) (h : Entries) → StandAt R.meaning R.runs r.old o h transactions.old [] []
+        → EndsWith R.meaning R.runs r.old r.new o h transactions.new
+        (λ after. AreRolledBack o h sessions after refusals.new.items) }
+    ensures accounts { Accounts R.meaning r.old r.new None }
+{
+    for s in 0..17u8 {
+        if end_one(r, transactions, refusals, Session(s)) {
+            return;
+        }
+    }
+}
+
+// Rolls back the live transaction of a session, if it has one, and keeps why it was refused. It tells whether the run
+// stops by that.
+fn end_one<R: Statements>(
+    r: &mut R,
+    transactions: &mut Transactions,
+    refusals: &mut Vec<Refusal>,
+    session: Session,
+) -> bool
+    requires ready { AreReady R.meaning R.runs r.old transactions.old [] }
+    requires within { session.0 < PLACES }
+    requires room { vec_len refusals.old < vec_capacity refusals.old }
+    ensures ends { (start : R) (all : List (Option Remembered)) (whole rest : List ℕ)
+        → EndsSoFar R.meaning R.runs start r.old all transactions.old whole (session.0 ∷ rest) refusals.old.items
+        → StopsOrGoes R.meaning R.runs start r.new all transactions.new whole rest refusals.new.items result }
+    ensures ready { AreReady R.meaning R.runs r.new transactions.new [] }
+    ensures room { (left : ℕ) → vec_len refusals.old + (left + 1) ≤ vec_capacity refusals.old
+        → vec_len refusals.new + left ≤ vec_capacity refusals.new }
+    ensures accounts { (start : R) → Accounts R.meaning start r.old None → Accounts R.meaning start r.new None }
+{
+    match end_session(r, transactions, session) {
+        Some(refusal) => {
+            refusals.push_reserved(refusal);
+            stops(refusal)
+        }
+        None => false,
+    }
+}
+
+// Rolls back the live transaction of a session, if it has one, and tells why it was refused.
+fn end_session<R: Statements>(
+    r: &mut R,
+    transactions: &mut Transactions,
+    session: Session,
+) -> Option<Refusal>
+    requires ready { AreReady R.meaning R.runs r.old transactions.old [] }
+    requires within { session.0 < PLACES }
+    ensures ends { (o : Opening) (h : Entries) → StandAt R.meaning R.runs r.old o h transactions.old [] []
+        → EndsWith R.meaning R.runs r.old r.new o h transactions.new
+        (λ after. EndsSession o h session.0 after result) }
+    ensures ready { AreReady R.meaning R.runs r.new transactions.new [] }
+    ensures accounts { Accounts R.meaning r.old r.new result }
+{
+    match transactions.of(session) {
+        Some(own) => roll_back(r, transactions, session, own.number),
+        None => None,
+    }
+}
+
+// Rolls back the live transaction of a session.
+fn roll_back<R: Statements>(
+    r: &mut R,
+    transactions: &mut Transactions,
+    session: Session,
+    t: TxNo,
+) -> Option<Refusal>
+    requires ready { AreReady R.meaning R.runs r.old transactions.old [] }
+    requires within { session.0 < PLACES }
+    requires its { number_at transactions.old session.0 ≡ Some t }
+    ensures ends { (o : Opening) (h : Entries) → StandAt R.meaning R.runs r.old o h transactions.old [] []
+        → EndsWith R.meaning R.runs r.old r.new o h transactions.new
+        (λ after. EndsSession o h session.0 after result) }
+    ensures ready { AreReady R.meaning R.runs r.new transactions.new [] }
+    ensures accounts { Accounts R.meaning r.old r.new result }
+{
+    match r.rollback(t) {
+        Ok(()) => {
+            transactions.end(session);
+            None
+        }
+        Err(refusal) => Some(refusal),
+    }
+}
+
+// Whether the run stops by a refusal.
+fn stops(refusal: Refusal) -> bool
+    ensures { result ≡ stops_run refusal }
+{
+    match flow_of(&Reply::No(StatementFault::Engine(refusal))) {
+        Flow::Stops(_) => true,
+        Flow::GoesOn => false,
+    }
+}

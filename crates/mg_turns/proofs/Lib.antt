@@ -1,0 +1,4 @@
+mod CountLemmas
+mod ParkLemmas
+mod SpeakLemmas
+mod TurnLemmas
