@@ -20,7 +20,7 @@ use Rattle.mg_model.specs.Openings.{Each}
 use Rattle.mg_pool.specs.declared.fault.PoolFault.{PoolFault}
 use Rattle.mg_pool.specs.declared.pool.Pool.{Pool}
 use Rattle.mg_snap.specs.Live.{AreDrawn, State as Bases, is_among, unended_in}
-use Rattle.mg_space.specs.View.{pool_answer}
+use Rattle.mg_space.specs.View.{ReadsAlone, pool_answer}
 use Rattle.mg_space.specs.declared.fault.SpaceFault.TheVariants as space
 use Rattle.mg_space.specs.declared.links.FireLinks.{FireLinks}
 use Rattle.mg_txlist.specs.Chain.{HasHead}
@@ -87,6 +87,12 @@ RefusesPages m store g pages (NotADatabase field found) =
 RefusesPages m store g pages (Space (space.Full limit)) = ⊥
 RefusesPages m store g pages (Space (space.Damaged it)) = IsLoadDamage m store g pages it
 RefusesPages m store g pages (Space (space.Pool fault)) = Unit {0}
+
+-- of the cache's faults those of a reading call alone are handed on
+abbrev pub OpensAlone : {T : Type 0} → Result T OpenFault → Type 0
+OpensAlone (Ok x) = Unit {0}
+OpensAlone (Err (NotADatabase field found)) = Unit {0}
+OpensAlone (Err (Space fault)) = ReadsAlone {T = Unit {0}} (Err fault)
 
 -- what the cache has answered, where a fault of its own is handed on
 abbrev pub cache_answer : {T : Type 0} → Result T OpenFault → Result (Unit {0}) PoolFault

@@ -10,7 +10,7 @@ ghost use Rattle.mg_pool.specs.Pool.{IsPool, shown};
 ghost use Rattle.mg_space.specs.Taking.{IsGeometry};
 ghost use Rattle.mg_space.specs.View.{KeepsStore, Tells};
 ghost use Rattle.mg_txlist.specs.TxList.{IsTxList, next_said};
-ghost use Rattle.mg_database.specs.Loading.{AreUndecided, AreUndecidedBelow, ChecksCatalog, IsLoaded, RefusesPages, SaysPages, cache_answer, head_fault, markers_in};
+ghost use Rattle.mg_database.specs.Loading.{AreUndecided, AreUndecidedBelow, ChecksCatalog, IsLoaded, OpensAlone, RefusesPages, SaysPages, cache_answer, head_fault, markers_in};
 
 use crate::catalog::catalog_table;
 use crate::fault::OpenFault;
@@ -51,6 +51,7 @@ pub fn load<D: Disk>(store: &mut Store<D>) -> Result<Loaded, OpenFault>
     ensures keeps { KeepsStore D.meaning store.old store.new }
     ensures lawful { IfOk result (IsLoaded store.old.geometry.size) }
     ensures fault { TellsFault D.meaning store.old store.new (cache_answer result) }
+    ensures own { OpensAlone result }
     ensures says { (image : Image) → Tells D.meaning store.old.disk image → IfOk result (λ loaded.
         SaysPages store.old.geometry.size (shown store.old.dirty image) loaded.list
         loaded.catalog.pointer loaded.markers) }
@@ -95,6 +96,7 @@ fn read_first<D: Disk>(store: &mut Store<D>) -> Result<Header, OpenFault>
 
     ensures keeps { KeepsStore D.meaning store.old store.new }
     ensures fault { TellsFault D.meaning store.old store.new (cache_answer result) }
+    ensures own { OpensAlone result }
     ensures catalog { IfOk result (λ header. header.catalog.0 < MOST_LIMIT) }
     ensures says { (image : Image) → Tells D.meaning store.old.disk image → IfOk result
         (λ header. reading (shown store.old.dirty image 0) store.old.geometry.size ≡ Ok header) }
