@@ -5,7 +5,7 @@ use Rattle.mg_base.specs.Disk.{Meaning}
 use Rattle.mg_base.specs.Image.{Image}
 use Rattle.mg_base.specs.declared.geometry.Geometry.{Geometry}
 use Rattle.mg_database.specs.Finishing.{Finishes, offline, unsettled, unwritten}
-use Rattle.mg_database.specs.Loading.{IsLoaded, SaysPages, cache_answer}
+use Rattle.mg_database.specs.Loading.{IsLoaded, OpensAlone, SaysPages, cache_answer}
 use Rattle.mg_database.specs.Preparing.{IsPrepared}
 use Rattle.mg_database.specs.declared.fault.OpenFault.{OpenFault}
 use Rattle.mg_database.specs.declared.fault.OpenFault.TheVariants.{NotADatabase, Space}
@@ -102,3 +102,9 @@ pub answered_again : {D : Type 0} (T : Type 0) (m : Meaning D) (old new : Pool D
     → TellsFault m old new (cache_answer {T = Unit {0}} (Err fault))
 answered_again T m old new (NotADatabase field found) told = told
 answered_again T m old new (Space fault) told = told
+
+-- and so are the faults that are handed on
+pub alone_again : (T : Type 0) (fault : OpenFault) → OpensAlone {T = T} (Err fault)
+    → OpensAlone {T = Unit {0}} (Err fault)
+alone_again T (NotADatabase field found) own = own
+alone_again T (Space fault) own = own

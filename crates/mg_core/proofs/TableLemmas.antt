@@ -1,5 +1,5 @@
 -- The table of a name that a transaction sees.
-use Rattle.std.proofs.Common.{◌≡◌, ◌≢◌, inl, inr, ℕ, Bool, false, List, [], Option, None, Some, refl, sym, ap, ◌∙◌, subst}
+use Rattle.std.proofs.Common.{◌≡◌, ◌≢◌, inl, inr, ℕ, Bool, false, List, [], ◌∷◌, Option, None, Some, refl, sym, ap, ◌∙◌, subst}
 use Rattle.std.proofs.lemmas.Bool.{false≢true}
 use Rattle.std.specs.Prelude.{IsTrue, Result, Ok, Err, unwrap_or}
 use Rattle.mg_base.specs.Disk.{Meaning}
@@ -15,7 +15,7 @@ use Rattle.mg_pool.specs.Fault.{StaysOnline, TellsFault}
 use Rattle.mg_pool.specs.Pool.{shown}
 use Rattle.mg_pool.specs.declared.batch.BatchPage.{BatchPage}
 use Rattle.mg_pool.specs.declared.pool.Pool.{Pool}
-use Rattle.mg_seek.specs.TableRows.{IsTableSeen, RefusesTable}
+use Rattle.mg_seek.specs.TableRows.{FindsNamed, IsTableSeen, RefusesTable}
 use Rattle.mg_space.specs.Taking.{IsGeometry}
 use Rattle.mg_space.specs.View.{KeepsStore, Tells, pool_answer}
 use Rattle.mg_space.specs.ViewLaws.{keeps_itself}
@@ -117,6 +117,7 @@ table_kept {D} m old mid new t name table (Ok given) continues other fresh seen 
       continues = continues;
       other = other;
       fresh = fresh;
+      named = seen.4;
       sees = seen.0;
       may = seen.1;
       reads = record {
@@ -204,17 +205,37 @@ kept_core m mid new t table (Ok given) is keeps = subst (IsCore m) (sym keeps.1)
     (with_same mid.works t (with_table table) (λ w. refl) (λ w. refl)))
 kept_core m mid new t table (Err refusal) is keeps = subst (IsCore m) (sym keeps.1) is
 
+-- the first table of a name has it
+finds_named : (tables : List Table) (name : List ℕ) (table : Table) → FindsNamed tables name (Some table)
+    → table.name ≡ name
+finds_named [] name table finds = absurd cc
+finds_named (first ∷ tables) name table (inl (same, is)) =
+    let it : first ≡ table = cc in ap (λ (x : Table). x.name) (sym it) ∙ same
+finds_named (first ∷ tables) name table (inr (other, later)) = finds_named tables name table later
+
+-- so a table that is seen under a name is itself under the name
+seen_under : {D : Type 0} (m : Meaning D) (core : Core D) (t : TxNo) (name : List ℕ) (table : Table)
+    → SeesTable m core t name (Some table) → SeesTable m core t name (Some (record table { name = name }))
+seen_under m core t name table sees image tells =
+    let seen = sees image tells in
+    subst (λ (n : List ℕ). IsTableSeen (said core.list) core.live t (shown core.store.dirty image) core.catalog
+    name (Some (record table { name = n }))) (finds_named seen.names.0 name table seen.names.2) seen
+
 -- a table that was found may be given
 pub lawful_found : {D : Type 0} (m : Meaning D) (old new : Core D) (t : TxNo) (name : List ℕ)
-    (table given : Table) (page : ℕ) → SeesTable m old t name (Some table)
-    → IsLawfulOr page table (Ok given) → ReadsPages m old new → new ≡ record old { store = new.store }
-    → FindsSeen m old new t name (Ok (Some given))
-lawful_found m old new t name table given page sees lawful reads same = (
-  subst (λ (x : Table). SeesTable m old t name (Some x)) (sym lawful.0) sees,
-  subst MayBeGiven (sym lawful.0) lawful.1,
+    (table given under : Table) (page : ℕ) → SeesTable m old t name (Some table)
+    → IsLawfulOr page table (Ok given) → under ≡ record given { name = name } → ReadsPages m old new
+    → new ≡ record old { store = new.store } → FindsSeen m old new t name (Ok (Some under))
+lawful_found m old new t name table given under page sees lawful is reads same = (
+  subst (λ (x : Table). SeesTable m old t name (Some x)) (sym to) (seen_under m old t name table sees),
+  subst MayBeGiven (sym to) (record { columns = lawful.1.columns; pointer = lawful.1.pointer }),
   reads,
   same,
+  ap (λ (x : Table). x.name) is,
 )
+  where
+    to : under ≡ record table { name = name }
+    to = is ∙ ap (λ (x : Table). record x { name = name }) lawful.0
 
 -- or it may not
 pub stray_found : {D : Type 0} (m : Meaning D) (old new : Core D) (t : TxNo) (name : List ℕ)

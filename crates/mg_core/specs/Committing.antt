@@ -33,7 +33,7 @@ abbrev pub WritesPage : {D : Type 0} → Meaning D → Core D → Core D → Res
     → Type 0
 WritesPage m old new (Ok None) = (new ≡ old) × (old.store.offline ≡ None)
     × IsLeastPage (is_dirty old.store.dirty) None
-WritesPage m old new (Ok (Some page)) = (goal : ℕ)
+WritesPage m old new (Ok (Some page)) = (goal : ℕ) × (old.store.offline ≡ None)
     × IsLeastPage (is_dirty old.store.dirty) (Some goal) × WritesOne m old new goal page.0
 WritesPage m old new (Err (DiskWrite count)) = FailsOne m old new count
 WritesPage m old new (Err (Offline count)) = (new ≡ old) × (old.store.offline ≡ Some count)

@@ -21,6 +21,8 @@ pub record Commits {D : Type 0} (m : Meaning D) (old new : Core D) (t : ℕ) : T
   pub over : NowWaits (edges_in old.waits) (edges_in new.waits) t None
   pub ends : EndsIn old.list new.list t Committed
   pub bits : CommitsBits m old.list new.list old.store new.store t
+  -- no page write has failed
+  pub online : new.store.offline ≡ None
   pub same : new ≡ record old {
     waits = new.waits;
     store = new.store;

@@ -3,7 +3,7 @@ use Rattle.std.specs.Prelude.{◌≡◌, ℕ, [], None, Result, Ok, Err}
 use Rattle.mg_base.specs.Disk.{Meaning}
 use Rattle.mg_base.specs.Image.{Image}
 use Rattle.mg_database.specs.Finishing.{Finishes}
-use Rattle.mg_database.specs.Loading.{AreUndecided, RefusesPages, SaysPages, cache_answer}
+use Rattle.mg_database.specs.Loading.{AreUndecided, OpensAlone, RefusesPages, SaysPages, cache_answer}
 use Rattle.mg_database.specs.Preparing.{FailsToPrepare, IsPrepared}
 use Rattle.mg_database.specs.declared.fault.OpenFault.{OpenFault}
 use Rattle.mg_database.specs.declared.fault.OpenFault.TheVariants.{NotADatabase, Space}
@@ -52,6 +52,7 @@ pub record FailsToRead {D : Type 0} (m : Meaning D) (disk new : D) (limit : ℕ)
   pub prepared : IsPrepared m disk limit before
   pub keeps : KeepsStore m before after
   pub told : TellsFault m before after (cache_answer {T = Unit {0}} (Err fault))
+  pub own : OpensAlone {T = Unit {0}} (Err fault)
   pub why : (image : Image) → Tells m before.disk image
       → RefusesPages m after before.geometry (shown before.dirty image) fault
 

@@ -49,6 +49,7 @@ pub record FindsTable {D : Type 0} (m : Meaning D) (old new : Core D) (t : TxNo)
   pub continues : Continues old t.0
   pub other : name ≢ catalog_name
   pub fresh : given_to old.works t.0 name ≡ None
+  pub named : table.name ≡ name
   pub sees : SeesTable m old t name (Some table)
   pub may : MayBeGiven table
   pub reads : ReadsPages m old new
@@ -134,12 +135,17 @@ abbrev pub MayBeFound : Option Table → Type 0
 MayBeFound None = Unit {0}
 MayBeFound (Some table) = MayBeGiven table
 
+-- a table that was found has the name
+abbrev pub IsFoundUnder : List ℕ → Option Table → Type 0
+IsFoundUnder name None = Unit {0}
+IsFoundUnder name (Some table) = table.name ≡ name
+
 -- the rows of the catalog are read: they name a table that may be given, or none; or they were not read, or
 -- the table may not be given
 abbrev pub FindsSeen : {D : Type 0} → Meaning D → Core D → Core D → TxNo → List ℕ
     → Result (Option Table) SpaceFault → Type 0
 FindsSeen m old new t name (Ok found) = SeesTable m old t name found × MayBeFound found
-    × ReadsPages m old new × (new ≡ record old { store = new.store })
+    × ReadsPages m old new × (new ≡ record old { store = new.store }) × IsFoundUnder name found
 FindsSeen m old new t name (Err fault) = KeepsStore m old.store new.store
     × TellsFault m old.store new.store (pool_answer {T = Unit {0}} (Err fault))
     × WhyNoTable m old new.store t name fault × (new ≡ record old { store = new.store })

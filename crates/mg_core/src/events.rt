@@ -17,7 +17,7 @@ impl<D: Disk> Core<D> {
     ///
     /// `Offline` exactly where a page write has failed; else `NotActive` exactly where the transaction
     /// isn't active, with its state.
-    pub(crate) fn begin_call(&self, t: TxNo) -> Result<(), Refusal>
+    pub fn begin_call(&self, t: TxNo) -> Result<(), Refusal>
         requires { IsCore D.meaning self.now }
         ensures { MatchResult result (λ _. Continues self.now t.0) (RefusesCall self.now t.0) }
     {
@@ -38,7 +38,7 @@ impl<D: Disk> Core<D> {
     /// # Errors
     ///
     /// As `begin_call`.
-    pub(crate) fn begin_event(&mut self, t: TxNo) -> Result<(), Refusal>
+    pub fn begin_event(&mut self, t: TxNo) -> Result<(), Refusal>
         requires { IsCore D.meaning self.old }
         ensures core { IsCore D.meaning self.new }
         ensures wait { EndsWait self.old self.new t.0 }

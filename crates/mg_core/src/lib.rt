@@ -17,7 +17,8 @@
 //! Below: `mg_space`, for the pages; `mg_row_writes`, for rows on them, and `mg_seek`, which finds tables and
 //! rows; `mg_txlist`, `mg_snap`, `mg_waits` and `mg_works`, for the memory; `mg_database`, which opens and
 //! closes a disk.
-//! Above: the engine as a keeper of records, which stands for a history.
+//! Above: crates with further calls, which keep the invariant as these do, and for which the parts of `Core` are open;
+//! the engine as a keeper of records, which stands for a history.
 //! Not here: histories, and what crashes leave.
 #![tactic(auto)]
 
@@ -36,4 +37,6 @@ mod tables;
 mod writing;
 
 pub use parts::Core;
+pub use refusing::{bits_refusal, offline_refusal, refusal_of, write_refusal};
 pub use scanning::Place;
+pub use states::StatesOf;

@@ -20,7 +20,7 @@ impl<D: Disk> Core<D> {
     /// # Errors
     ///
     /// What is told of the one who is; `Memory`; or what the reading is refused for.
-    pub(crate) fn pass_table(&mut self, t: TxNo, wait: bool, name: &Name) -> Result<(), Refusal>
+    pub fn pass_table(&mut self, t: TxNo, wait: bool, name: &Name) -> Result<(), Refusal>
         requires core { IsCore D.meaning self.old }
         ensures core { IsCore D.meaning self.new }
         ensures passes { MatchResult result (λ _. PassesTable D.meaning self.old self.new t wait name.now)
@@ -42,12 +42,7 @@ impl<D: Disk> Core<D> {
     /// # Errors
     ///
     /// As `pass_table`.
-    pub(crate) fn pass_record(
-        &mut self,
-        t: TxNo,
-        wait: bool,
-        rec: Option<RecId>,
-    ) -> Result<(), Refusal>
+    pub fn pass_record(&mut self, t: TxNo, wait: bool, rec: Option<RecId>) -> Result<(), Refusal>
         requires core { IsCore D.meaning self.old }
         requires online { self.old.store.offline ≡ None }
         ensures core { IsCore D.meaning self.new }

@@ -11,23 +11,23 @@ use mg_works::Works;
 /// What an engine has: the pages with their cache, and its memory of transactions.
 #[derive(Drop)]
 pub struct Core<D> {
-    pub(crate) store: Store<D>,
+    pub store: Store<D>,
     /// What has become of each transaction.
-    pub(crate) list: TxList,
+    pub list: TxList,
     /// Those that have not ended, with their bases.
-    pub(crate) live: Live,
+    pub live: Live,
     /// Who waits for whom.
-    pub(crate) waits: Waits,
+    pub waits: Waits,
     /// The active ones.
-    pub(crate) works: Works,
+    pub works: Works,
     /// The table of the catalog, which stands where the header says.
-    pub(crate) catalog: Table,
+    pub catalog: Table,
     /// Those of the header when the database was opened.
-    pub(crate) markers: Markers,
+    pub markers: Markers,
     /// How often a page was found damaged.
-    pub(crate) damage: u64,
+    pub damage: u64,
     /// How often pages were short.
-    pub(crate) shortages: u64,
+    pub shortages: u64,
 }
 
 impl<D: Disk> Core<D> {

@@ -22,7 +22,7 @@ impl<D: Disk> Core<D> {
     /// # Errors
     ///
     /// `Memory`, or what the pages are refused for.
-    pub(crate) fn put_row(
+    pub fn put_row(
         &mut self,
         t: TxNo,
         table: &Table,
@@ -55,7 +55,7 @@ impl<D: Disk> Core<D> {
     /// # Errors
     ///
     /// `Memory`, or what the pages are refused for.
-    pub(crate) fn lay_kept(
+    pub fn lay_kept(
         &mut self,
         t: TxNo,
         owner: PageNo,

@@ -12,7 +12,7 @@ use mg_pool::PoolFault;
 use mg_space::SpaceFault;
 
 /// The refusal that a fault of a call is that reads no page and takes no memory.
-pub(crate) fn write_refusal(fault: PoolFault) -> Refusal
+pub fn write_refusal(fault: PoolFault) -> Refusal
     requires { OnlyWrites {T = Unit {0}} (Err fault) }
     ensures { IsRefusalOf fault result }
 {
@@ -24,7 +24,7 @@ pub(crate) fn write_refusal(fault: PoolFault) -> Refusal
 }
 
 /// The refusal that an earlier fault is.
-pub(crate) fn offline_refusal(fault: PoolFault) -> Refusal
+pub fn offline_refusal(fault: PoolFault) -> Refusal
     requires { OnlyRefuses {T = Unit {0}} (Err fault) }
     ensures { IsRefusalOf fault result }
 {
@@ -35,7 +35,7 @@ pub(crate) fn offline_refusal(fault: PoolFault) -> Refusal
 }
 
 /// The refusal that a fault is with which the bits of a transaction were not set.
-pub(crate) fn bits_refusal(fault: SpaceFault) -> Refusal
+pub fn bits_refusal(fault: SpaceFault) -> Refusal
     requires { OnlyWritesSpace {T = Unit {0}} (Err fault) }
     ensures { IsRefusal fault result }
 {
@@ -46,7 +46,7 @@ pub(crate) fn bits_refusal(fault: SpaceFault) -> Refusal
 }
 
 /// The refusal that a fault of a call on the pages is.
-pub(crate) fn refusal_of(fault: SpaceFault) -> Refusal
+pub fn refusal_of(fault: SpaceFault) -> Refusal
     ensures { IsRefusal fault result }
 {
     match fault {
@@ -72,7 +72,7 @@ pub(crate) fn refusal_of(fault: SpaceFault) -> Refusal
 
 impl<D> Core<D> {
     /// The refusal that a fault of a call on the pages is. Damage is counted, and so is want of pages.
-    pub(crate) fn refuse(&mut self, fault: SpaceFault) -> Refusal
+    pub fn refuse(&mut self, fault: SpaceFault) -> Refusal
         ensures refusal { IsRefusal fault result }
         ensures counts { CountsFault fault self.old.damage self.new.damage self.old.shortages self.new.shortages }
         ensures same { self.new ≡ record self.old { damage = self.new.damage; shortages = self.new.shortages } }

@@ -9,14 +9,14 @@ use mg_txlist::TxList;
 
 /// A transaction list, lent to tell what has become of transactions.
 #[derive(Drop)]
-pub(crate) struct StatesOf<'a> {
+pub struct StatesOf<'a> {
     list: &'a TxList,
     ghost lawful: { IsTxList list.now },
 }
 
 impl<'a> StatesOf<'a> {
     /// What a list tells.
-    pub(crate) fn new(list: &'a TxList) -> StatesOf<'a>
+    pub fn new(list: &'a TxList) -> StatesOf<'a>
         requires { IsTxList list.now }
         ensures { result.list.now ≡ list.now }
     {

@@ -99,7 +99,7 @@ impl<D: Disk> Core<D> {
             t,
         ) {
             Ok(Some(table)) => match lawful(self.catalog.pointer, table) {
-                Ok(table) => Ok(Some(table)),
+                Ok(table) => Ok(Some(under(name, table))),
                 Err(fault) => Err(fault),
             },
             Ok(None) => Ok(None),
@@ -145,6 +145,19 @@ fn lawful(catalog: PageNo, table: Table) -> Result<Table, SpaceFault>
         found: u64::from(table.pointer.0),
         wanted: u64::from(GREATEST_LIMIT),
     }))
+}
+
+/// A table under the name by which it was asked for: its row of the catalog says that very name, but what a row says is
+/// known only where the disk tells what it holds.
+fn under(name: &Name, table: Table) -> Table
+    ensures { result ≡ record table { name = name.now } }
+{
+    Table {
+        name: *name,
+        shape: table.shape,
+        pointer: table.pointer,
+        indexes: table.indexes,
+    }
 }
 
 /// An equal table.

@@ -56,7 +56,7 @@ impl<D: Disk> Core<D> {
     /// # Errors
     ///
     /// `ReadOnly` exactly where it only reads.
-    fn writer(&self, t: TxNo) -> Result<bool, Refusal>
+    pub fn writer(&self, t: TxNo) -> Result<bool, Refusal>
         requires core { IsCore D.meaning self.now }
         requires active { said self.now.list t.0 ≡ IsActive }
         ensures { MatchResult result (MayWrite self.now.works t.0) (MayOnlyRead self.now.works t.0) }
@@ -96,7 +96,7 @@ impl<D: Disk> Core<D> {
     /// # Errors
     ///
     /// `DuplicateKey` or `NoRow`, where it doesn't; or what the reading is refused for.
-    fn find_row(
+    pub fn find_row(
         &mut self,
         t: TxNo,
         table: &Table,

@@ -1,6 +1,6 @@
 use Rattle.mg_database.specs.declared.loading.Loaded.{Loaded}
 use Rattle.mg_core.specs.Opening.{unprepared, unread}
-use Rattle.mg_core.proofs.OpeningLemmas.{answered_again, opened}
+use Rattle.mg_core.proofs.OpeningLemmas.{alone_again, answered_again, opened}
 use Rattle.mg_core.proofs.parts.Core.open.Goals as goal
 
 pub returns-in-Err : goal.returns-in-Err
@@ -20,5 +20,6 @@ returns-in-Err-load g c = unread c.in-Err-load.fault c.open_refusal-in-Err-load.
   keeps = c.load.ensures.keeps;
   told = answered_again Loaded g.D.Disk.meaning c.in-Ok.store c.load.new.store c.in-Err-load.fault
       c.in-Err-load.ensures.fault;
+  own = alone_again Loaded c.in-Err-load.fault c.in-Err-load.ensures.own;
   why = c.in-Err-load.ensures.refused;
 })

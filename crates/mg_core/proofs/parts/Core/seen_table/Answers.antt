@@ -7,12 +7,12 @@ pub returns-in-Ok : goal.returns-in-Ok
 returns-in-Ok g c = record {
   finds = lawful_found g.D.Disk.meaning c.args.self.now
       (record c.args.self.now { store = c.table_named.new.store }) c.args.t c.args.name.now c.in-Ok-Some.table
-      c.in-Ok.table c.args.self.now.catalog.pointer.0
+      c.in-Ok.table c.under.result c.args.self.now.catalog.pointer.0
       (seen_by g.D.Disk.meaning c.args.self.now c.new-states.result.list.now c.new-batch.result c.args.t
       c.as_slice.result.now c.args.name.now c.in-Ok-Some.field-0 (Some c.in-Ok-Some.table)
       c.as_slice.ensures.bytes c.in-Ok-Some.field-0-is c.new-states.ensures c.new-batch.ensures.pages
       c.in-Ok-Some.ensures.gives)
-      c.in-Ok.ensures
+      c.in-Ok.ensures c.under.ensures
       (record { keeps = c.in-Ok-Some.ensures.keeps; online = c.in-Ok-Some.ensures.fault }) refl;
 }
 
@@ -38,6 +38,7 @@ returns-in-Ok-None g c = record {
     tt,
     record { keeps = c.in-Ok-None.ensures.keeps; online = c.in-Ok-None.ensures.fault },
     refl,
+    tt,
   );
 }
 

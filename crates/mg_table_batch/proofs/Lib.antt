@@ -1,0 +1,4 @@
+mod SeenLemmas
+mod FillLemmas
+mod MakeLemmas
+mod NamingLemmas

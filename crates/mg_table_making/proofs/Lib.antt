@@ -1,0 +1,4 @@
+mod CoreLemmas
+mod KeyLemmas
+mod KeepLemmas
+mod CreateLemmas

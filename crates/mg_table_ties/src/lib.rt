@@ -1,0 +1,16 @@
+//! What a batch with a new table has, as the laws on overlays take it. Each function does nothing: its contract is the
+//! law.
+//!
+//! Owns: that the batch of `mg_table_batch` is filled as `mg_catalog_batches` says (`TablesFillCatalogs`), and has the
+//! table's first pointer page among the pages that it takes; that its rows are those of the history's entries, but for
+//! the number of that page (`RowsAreEntries`). And the law of that crate for a history with an
+//! entry for each row (`FilledTablesKeep`): a table's rows are entries one by one, and one batch on the pages.
+//!
+//! Invariant: none, it keeps no state.
+//! Below: `mg_table_batch`, `mg_catalog_batches`. Above: the engine's CREATE TABLE.
+//! Not here: which tables a transaction finds then, and that the pages show the longer history.
+#![tactic(auto)]
+
+mod laws;
+
+pub use laws::{made_tables_are_kept, rows_are_entries, tables_fill_catalogs};

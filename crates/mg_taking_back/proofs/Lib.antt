@@ -1,0 +1,6 @@
+mod ReadLemmas
+mod KeyLemmas
+mod ChangeLemmas
+mod CoreLemmas
+mod TakingLemmas
+mod NotedLemmas

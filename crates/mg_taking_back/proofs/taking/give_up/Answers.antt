@@ -1,0 +1,6 @@
+use Rattle.mg_taking_back.proofs.CoreLemmas.{core_rolled}
+use Rattle.mg_taking_back.proofs.taking.give_up.Goals as goal
+
+pub returns-clause-core : goal.returns-clause-core
+returns-clause-core g c = core_rolled g.D.Disk.meaning c.args.core.now c.args.t.0 c.mark_dead.new.self c.end.new.self
+    c.leave.new.self c.requires.core c.mark_dead.ensures.list c.mark_dead.ensures.ends c.end.ensures c.leave.ensures

@@ -1,0 +1,4 @@
+pub mod Noting
+pub mod Keys
+pub mod Changes
+pub mod Taking
