@@ -110,8 +110,8 @@ module _ {D P : Type 0} (m : Meaning D) (places : Places P) (idle_goes : IdleGoe
     ended_walks : (who : Option ℕ) → WalksStay (means m places) old
         (record old { waits = waits; works = old.works; live = old.live }) who
     ended_walks who = memory_walks m places old waits old.works old.live (idle_entry t) who refl
-        (λ u by not_. refl) (λ o h stands. ended_stands o h (idle_entry t) refl refl refl refl refl (inr refl)
-        stands)
+        (λ u by not_. refl) (λ u name not_. refl)
+        (λ o h stands. ended_stands o h (idle_entry t) refl refl refl refl refl (inr refl) stands)
 
     pub ended_leaves : (refusal : Option Refusal) (tables walks : Option ℕ)
         → MayAnswer m places old (record old { waits = waits; works = old.works; live = old.live }) refusal
@@ -349,7 +349,7 @@ module _ {D P : Type 0} (m : Meaning D) (places : Places P) (idle_goes : IdleGoe
               (record old { waits = waits; works = with_work t (with_point name) old.works; live = old.live }) None
               (λ u table not_. given_same u table);
           walks_stay = memory_walks m places old waits (with_work t (with_point name) old.works) old.live e None
-              idle (λ u by not_. refl) (λ o h stands. (goes o h stands).1);
+              idle (λ u by not_. refl) (λ u table not_. given_same u table) (λ o h stands. (goes o h stands).1);
           commits = commits_of m places old
               (record old { waits = waits; works = with_work t (with_point name) old.works; live = old.live }) None
               (λ u not_. ap (λ (a : Asked). a u) asks)

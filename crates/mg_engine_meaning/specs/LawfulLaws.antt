@@ -126,7 +126,7 @@ walks_are_whole {D} {P} m places begin core o h t table stands active given =
         × IsPermutation rows (rows_of (view o h t) table.name)
     whole (rows, next, permuted) = (
       rows,
-      record { opening = o; entries = h; stands = stands; active = active; next = next },
+      record { opening = o; entries = h; stands = stands; active = active; seen = given; next = next },
       permuted,
     )
 

@@ -1,3 +1,5 @@
+pub mod PlainTables
+pub mod PlainLaws
 pub mod Standings
 pub mod Meaning
 pub mod Laws

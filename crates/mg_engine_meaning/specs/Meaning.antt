@@ -48,13 +48,15 @@ AreNext m core s t table after rows None = (image : Image)
     × AreToCome core.store.geometry.size s (shown core.store.dirty image) t table after rows
 AreNext m core s t table after rows (Some faults) = Unit {0}
 
--- An active transaction of an engine that stands for a history still comes to these rows of a table.
+-- An active transaction of an engine that stands for a history still comes to these rows of a table, which was
+-- given to it. (A table that others have made, and that it does not see, may go while it walks.)
 pub record ComesTo {D : Type 0} (m : Meaning D) (core : Core D) (t : ℕ) (table : Table)
     (after : Option RecId) (rows : KeyedRows) : Type 0 where
   pub opening : Opening
   pub entries : Entries
   pub stands : StandsFor m core opening entries
   pub active : state_of opening entries t ≡ Active
+  pub seen : given_to core.works t table.name ≡ Some table
   pub next : AreNext m core (standing_of core stands.numbers stands.tables) t table after rows
       core.store.offline
 

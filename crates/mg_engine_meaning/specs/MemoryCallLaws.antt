@@ -45,7 +45,7 @@ use Rattle.mg_standing.specs.QuietPages.{FindsAfter}
 use Rattle.mg_standing.specs.Standing.{Standing}
 use Rattle.mg_txlist.specs.TxList.{next_said, said}
 use Rattle.mg_waits.specs.Waits.{NowWaits, edges_in}
-use Rattle.mg_works.specs.Works.{Working, work_of}
+use Rattle.mg_works.specs.Works.{Working, given_to, work_of}
 use Rattle.mg_core.specs.declared.parts.Core.{Core}
 use Rattle.mg_core.specs.Cores.{RefusesCall}
 use Rattle.mg_engine_meaning.specs.FrameLaws.{keeps_of, quiet_of, store_stands}
@@ -167,6 +167,7 @@ module _ {D P : Type 0} (m : Meaning D) (places : Places P) (old : Core D) (wait
                   (sessions_in old.works)) (sym same_asked) both.1);
               tips = shows.tips;
               catalog = shows.catalog;
+              plain_tables = shows.plain_tables;
             }
         by (Some faults) keeps = record {
           stands = on old.store.geometry.size o h e (standing_of old stands.numbers stands.tables)
@@ -176,7 +177,9 @@ module _ {D P : Type 0} (m : Meaning D) (places : Places P) (old : Core D) (wait
 
   -- walks of those who see what they saw go on
   module _ (e : Entry) (who : Option ℕ) (idle : is_idle (effect_of e) ≡ true)
-      (same_sees : (u by : ℕ) → is_of u who ≡ false → sees live u by ≡ sees old.live u by) where
+      (same_sees : (u by : ℕ) → is_of u who ≡ false → sees live u by ≡ sees old.live u by)
+      (same_given : (u : ℕ) (name : List ℕ) → is_of u who ≡ false
+      → given_to works u name ≡ given_to old.works u name) where
     takes_same : (u : ℕ) → is_of u who ≡ false
         → takes_version (said old.list) old.live u ≡ takes_version (said old.list) live u
     takes_same u not_ = fun_ext (λ by. ap (λ (b : Bool). by == u || (is_committed (said old.list by) && b))
@@ -214,6 +217,7 @@ module _ {D P : Type 0} (m : Meaning D) (places : Places P) (old : Core D) (wait
           entries = e ∷ comes.entries;
           stands = stands_now;
           active = idle_state comes.opening comes.entries e idle u ∙ comes.active;
+          seen = same_given u table.name not_ ∙ comes.seen;
           next = by stands_now old.store.offline comes.next;
         }
       where

@@ -21,6 +21,7 @@ use Rattle.mg_undo.specs.Undo.{State as Undo}
 use Rattle.mg_waits.specs.Waits.{edges_in}
 use Rattle.mg_works.specs.Works.{Working, given_to, work_of}
 use Rattle.mg_core.specs.declared.parts.Core.{Core}
+use Rattle.mg_engine_meaning.specs.PlainTables.{HasPlainTables}
 
 -- ---- memory
 
@@ -83,7 +84,8 @@ abbrev pub HasTips : TxList → ℕ → Pages → Type 0
 HasTips list size pages = (t : ℕ) → t < next_of pages → ShowsTip list size pages t
 
 -- The pages of an engine that stands for a history: they show it, every crash leaves what it has to, the
--- transaction list has the pages of all transactions, and the catalog begins where the header says.
+-- transaction list has the pages of all transactions, the catalog begins where the header says, and each table is
+-- plain.
 pub record ShowsIt {D : Type 0} (m : Meaning D) (core : Core D) (o : Opening) (h : Entries)
     (s : Standing) : Type 0 where
   pub image : Image
@@ -93,6 +95,7 @@ pub record ShowsIt {D : Type 0} (m : Meaning D) (core : Core D) (o : Opening) (h
   pub lasts : LastsOn m packed_form o h core.store (asked_in core.works) (sessions_in core.works)
   pub tips : HasTips core.list core.store.geometry.size (shown core.store.dirty image)
   pub catalog : core.catalog.pointer.0 ≡ (header_of (shown core.store.dirty image)).catalog.0
+  pub plain_tables : HasPlainTables core.store.geometry.size (said core.list) (shown core.store.dirty image)
 
 -- Once a page write has failed: memory is what the history says, and every crash leaves what it has to.
 pub record KeepsIt {D : Type 0} (m : Meaning D) (core : Core D) (o : Opening) (h : Entries)

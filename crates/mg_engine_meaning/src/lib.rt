@@ -4,8 +4,9 @@
 //! transactions see and the numbers by which they name them, which are on the pages. A core over a disk that
 //! tells its images stands for a history (`StandsFor`) where that standing does, for some such tables, the ones
 //! that were given among them; while no page write has failed the pages show the history, the cache lasts with
-//! it, the transaction list has the pages of transactions, and the catalog begins where the header says
-//! (`ShowsIt`); after one has failed memory alone is right, and what crashes leave (`KeepsIt`). `means` is what
+//! it, the transaction list has the pages of transactions, the catalog begins where the header says, and
+//! each table is plain, without an index or a later column (`ShowsIt`): the engine puts no entries into indexes
+//! yet and writes rows of the first format alone, so an image whose catalog names others is not covered; after one has failed memory alone is right, and what crashes leave (`KeepsIt`). `means` is what
 //! `mg_records` asks of a keeper: the rows to which a walk still comes (`ComesTo`), commits that were asked for
 //! and those of which all is written (`HasWrittenAll`), what crashes leave, and the counts.
 //!

@@ -30,6 +30,7 @@ use Rattle.mg_records.specs.Crashing.{LeavesQuietly}
 use Rattle.mg_records.specs.Keeping.{CommitsStay, Keeps, Reads, WalksStay}
 use Rattle.mg_space.specs.declared.links.FireLinks.{FireLinks}
 use Rattle.mg_standing.specs.Standing.{Standing, Stands}
+use Rattle.mg_txlist.specs.TxList.{said}
 use Rattle.mg_undo.specs.Undo.{State as Undo}
 use Rattle.mg_works.specs.Works.{AreApart, Working, given_by, given_to, has_asked, with_work, work_of}
 use Rattle.mg_works.specs.WorksLaws.{with_its}
@@ -38,6 +39,7 @@ use Rattle.mg_core.specs.Committing.{Asks, AsksCommit, HasSession}
 use Rattle.mg_core.specs.Cores.{IsCore, RefusesCall}
 use Rattle.mg_engine_meaning.specs.FrameLaws.{apart_from, commits_of, kept_all, kept_with, keeps_of, one_session, quiet_of, same_sessions, sessions_of, store_stands, tables_of, works_with}
 use Rattle.mg_engine_meaning.specs.Frames.{MayAnswer, StoreGoesOn, WorksStay}
+use Rattle.mg_engine_meaning.specs.PlainTables.{HasPlainTables}
 use Rattle.mg_engine_meaning.specs.LawfulLaws.{left_of, memory_of}
 use Rattle.mg_engine_meaning.specs.Meaning.{AreNext, ComesTo, Places, means, rec_at}
 use Rattle.mg_engine_meaning.specs.Standings.{HasTips, Numbers, ShowsIt, StandsFor, StandsWhile, Tables, asked_in, asked_kept, mode_kept, session_kept, sessions_in, standing_of, undo_kept}
@@ -135,6 +137,8 @@ module _ {D P : Type 0} (m : Meaning D) (places : Places P)
         tips = subst (λ (pages : Pages). HasTips old.list old.store.geometry.size pages)
             (pages_same shows.image) shows.tips;
         catalog = shows.catalog ∙ ap (λ (pages : Pages). (header_of pages).catalog.0) (pages_same shows.image);
+        plain_tables = subst (λ (pages : Pages). HasPlainTables old.store.geometry.size (said old.list) pages)
+            (pages_same shows.image) shows.plain_tables;
       }
 
   given_same : (u : ℕ) (name : List ℕ)
@@ -189,6 +193,7 @@ module _ {D P : Type 0} (m : Meaning D) (places : Places P)
         entries = comes.entries;
         stands = stands_now;
         active = comes.active;
+        seen = given_same u table.name ∙ comes.seen;
         next = subst (λ (off : Option ℕ). AreNext m (record old {
           store = record old.store { dirty = dirty };
           works = with_work t has_asked old.works;

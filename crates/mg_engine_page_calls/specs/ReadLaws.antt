@@ -25,9 +25,11 @@ use Rattle.mg_records.specs.Keeping.{CommitsStay, Keeps, Reads, WalksStay}
 use Rattle.mg_space.specs.View.{KeepsStore}
 use Rattle.mg_space.specs.declared.links.FireLinks.{FireLinks}
 use Rattle.mg_standing.specs.Standing.{Standing, Stands}
+use Rattle.mg_txlist.specs.TxList.{said}
 use Rattle.mg_core.specs.declared.parts.Core.{Core}
 use Rattle.mg_engine_meaning.specs.FrameLaws.{commits_of, keeps_of, quiet_of, tables_of}
 use Rattle.mg_engine_meaning.specs.Frames.{MayAnswer, StoreGoesOn}
+use Rattle.mg_engine_meaning.specs.PlainTables.{HasPlainTables}
 use Rattle.mg_engine_meaning.specs.LawfulLaws.{legal_of, left_of, opening_of}
 use Rattle.mg_engine_meaning.specs.Meaning.{AreNext, ComesTo, Places, means, rec_at}
 use Rattle.mg_engine_meaning.specs.Standings.{HasTips, KeepsIt, ShowsIt, StandsFor, StandsWhile, asked_in, sessions_in, standing_of}
@@ -72,6 +74,9 @@ module _ {D P : Type 0} (m : Meaning D) (places : Places P) (begin : OpeningsBeg
         (shown d shows.image)) (sym keeps.dirty) shows.tips);
     catalog = subst (λ (d : DirtyPages). old.catalog.pointer.0
         ≡ (header_of (shown d shows.image)).catalog.0) (sym keeps.dirty) shows.catalog;
+    plain_tables = subst (λ (g : Geometry). HasPlainTables g.size (said old.list) (shown store.dirty shows.image))
+        (sym keeps.geometry) (subst (λ (d : DirtyPages). HasPlainTables old.store.geometry.size (said old.list)
+        (shown d shows.image)) (sym keeps.dirty) shows.plain_tables);
   }
 
   -- once a page write has failed
@@ -142,6 +147,7 @@ module _ {D P : Type 0} (m : Meaning D) (places : Places P) (begin : OpeningsBeg
         entries = comes.entries;
         stands = stands_now;
         active = comes.active;
+        seen = comes.seen;
         next = subst (λ (off : Option ℕ). AreNext m
             (record old { store = store; damage = damage; shortages = shortages })
             (standing_of (record old { store = store; damage = damage; shortages = shortages })

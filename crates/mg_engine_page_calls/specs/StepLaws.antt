@@ -55,6 +55,7 @@ use Rattle.mg_core.specs.Committing.{WritesOne as CoreWritesOne}
 use Rattle.mg_core.specs.Cores.{IsCore, RefusesCall}
 use Rattle.mg_engine_meaning.specs.FrameLaws.{commits_of, keeps_of, quiet_of, sessions_of, store_stands, tables_of, works_same}
 use Rattle.mg_engine_meaning.specs.Frames.{MayAnswer, StoreGoesOn}
+use Rattle.mg_engine_meaning.specs.PlainTables.{HasPlainTables}
 use Rattle.mg_engine_meaning.specs.LawfulLaws.{left_of, memory_of}
 use Rattle.mg_engine_meaning.specs.Meaning.{AreNext, ComesTo, HasWrittenAll, Places, means, rec_at}
 use Rattle.mg_engine_meaning.specs.MemoryCallLaws.{refused_may}
@@ -182,6 +183,10 @@ module _ {D P : Type 0} (m : Meaning D) (places : Places P) (holds : HoldsOne D 
               (sym run.geometry)
               (subst (λ (pages : Pages). HasTips old.list old.store.geometry.size pages) same shows.tips);
           catalog = shows.catalog ∙ ap (λ (pages : Pages). (header_of pages).catalog.0) same;
+          plain_tables = subst (λ (g : Geometry). HasPlainTables g.size (said old.list) (shown store.dirty j))
+              (sym run.geometry)
+              (subst (λ (pages : Pages). HasPlainTables old.store.geometry.size (said old.list) pages) same
+              shows.plain_tables);
         },
         all.2,
       )
@@ -230,6 +235,7 @@ module _ {D P : Type 0} (m : Meaning D) (places : Places P) (holds : HoldsOne D 
         entries = comes.entries;
         stands = stands_now;
         active = comes.active;
+        seen = comes.seen;
         next = subst (λ (off : Option ℕ). AreNext m (record old { store = store })
             (standing_of (record old { store = store }) stands_now.numbers stands_now.tables) u table
             (rec_at places after) rows off) (sym (run.offline ∙ online))
@@ -311,6 +317,7 @@ module _ {D P : Type 0} (m : Meaning D) (places : Places P)
         entries = comes.entries;
         stands = stands_now;
         active = comes.active;
+        seen = comes.seen;
         next = subst (λ (off : Option ℕ). AreNext m (record old { store = store })
             (standing_of (record old { store = store }) stands_now.numbers stands_now.tables) u table
             (rec_at places after) rows off) (sym offline) tt;

@@ -100,7 +100,7 @@ module _ (D L : Type 0) (m : Meaning D) (form : Form) (one : RowsAreOne form.cod
       name key row table v stored enters.writes enters.active number enters.named may codes (left_state chosen s.state) layout
       (key_of table stored) codes.keyed makes.makes.at None
 
-  kept : KeptIn form size o (e ∷ h) s.state asked session after j
+  pub kept : KeptIn form size o (e ∷ h) s.state asked session after j
   kept = first_row form one none m before after i j batch asked session o h t s.state rec v stored table
       was.changes makes enters.active may.whose placed blank may_now every e codes.its enters.not_asked
       (brings form one size o h e s.state pool shows.layout shows.reading shows.sound t
@@ -112,7 +112,7 @@ module _ (D L : Type 0) (m : Meaning D) (form : Form) (one : RowsAreOne form.cod
   later = pool_later m form o h s before after i j batch asked session stands.memory was lasts (e ∷ h) kept
 
   -- what is read then
-  reads : ReadsAfter form size state pool (shown after.dirty j) shows.layout shows.reading rec (n ∷ [])
+  pub reads : ReadsAfter form size state pool (shown after.dirty j) shows.layout shows.reading rec (n ∷ [])
       × KeepsBits size pool (shown after.dirty j) × (shows.reading rec ≡ [])
   reads = firsts_are_read form one none size o h state pool (viewed before i makes.makes.adds.given)
       (viewed before i makes.makes.put) (shown after.dirty j) shows.layout shows.reading table

@@ -90,7 +90,7 @@ module _ (D L : Type 0) (m : Meaning D) (form : Form) (one : RowsAreOne form.cod
   number : t < next_of pool
   number = was_drawn form size o h s pool (begins o stands.opening) stands.legal stands.memory shows t enters.active
 
-  of : table_at (stands_of shows.layout) rec.page.0 ≡ Some table
+  pub of : table_at (stands_of shows.layout) rec.page.0 ≡ Some table
   of = spoken_of form size o h s pool shows name key rec table may.stands enters.named spoken
 
   keyed : record_key table (shows.reading rec) ≡ key
@@ -104,7 +104,7 @@ module _ (D L : Type 0) (m : Meaning D) (form : Form) (one : RowsAreOne form.cod
   every : KeptIn form size o h s.state asked session before i
   every = kept_now m form o h s before after i j batch asked session stands.memory was lasts
 
-  kept : KeptIn form size o (e ∷ h) s.state asked session after j
+  pub kept : KeptIn form size o (e ∷ h) s.state asked session after j
   kept = push_row form one none m before after i j batch asked session o h t s.state rec v table was.changes
       pushes enters.active may.whose placed settled every e stored codes.its enters.not_asked
       (may_each form one size o h e s.state pool shows.layout shows.reading shows.sound t
@@ -122,7 +122,7 @@ module _ (D L : Type 0) (m : Meaning D) (form : Form) (one : RowsAreOne form.cod
   later = pool_later m form o h s before after i j batch asked session stands.memory was lasts (e ∷ h) kept
 
   -- what is read then
-  reads : ReadsAfter form size state pool (shown after.dirty j) shows.layout shows.reading rec
+  pub reads : ReadsAfter form size state pool (shown after.dirty j) shows.layout shows.reading rec
       (n ∷ shows.reading rec) × KeepsBits size pool (shown after.dirty j)
   reads = pushes_are_read form one none size o h state pool (viewed before i pushes.pushes.puts.adds.given)
       (viewed before i pushes.pushes.put) (shown after.dirty j) shows.layout shows.reading table

@@ -105,7 +105,7 @@ module _ (D L : Type 0) (m : Meaning D) (form : Form) (one : RowsAreOne form.cod
   abbrev shows : ShowsHistory form size o h s pool
   shows = stands.shows
 
-  spot : HasSpotFor form size after j asked session o h s.state table place
+  pub spot : HasSpotFor form size after j asked session o h s.state table place
   spot = spot_row_gives_for form one none D L m before after i j batch asked session o h t s.state table place
       was.changes gives active whose
       (kept_now m form o h s before after i j batch asked session stands.memory was lasts)
@@ -114,7 +114,7 @@ module _ (D L : Type 0) (m : Meaning D) (form : Form) (one : RowsAreOne form.cod
   abbrev end : TableEnd
   end = end_of gives.gives.pointers gives.gives.data_pages
 
-  grown : GrowsSome form.in_primary size table.pointer.0 (lists batch.orders) (content_in batch.pages) pool end
+  pub grown : GrowsSome form.in_primary size table.pointer.0 (lists batch.orders) (content_in batch.pages) pool end
       (viewed before i batch)
   grown = room_grows form before i state shows.layout shows.reading fresh batch table ANCHOR_LEN place.page
       (lists batch.orders) (content_in batch.pages) was.changes.geometry shows.sound its (within_self batch)
@@ -130,11 +130,11 @@ module _ (D L : Type 0) (m : Meaning D) (form : Form) (one : RowsAreOne form.cod
   ends = ends_there form size state pool shows.layout shows.reading shows.sound table its gives.gives.pointers
       gives.gives.data_pages gives.gives.table
 
-  to : StandsTo form size state pool (shown after.dirty j) shows.layout shows.reading table grown.final
+  pub to : StandsTo form size state pool (shown after.dirty j) shows.layout shows.reading table grown.final
   to = grown_to form one none size state pool (shown after.dirty j) shows.layout shows.reading shows.sound table
       (lists batch.orders) (content_in batch.pages) end grown.final grows ends
 
-  bits : KeepsBits size pool (shown after.dirty j)
+  pub bits : KeepsBits size pool (shown after.dirty j)
   bits = grown_bits form one none size state pool (shown after.dirty j) shows.layout shows.reading shows.sound
       table (lists batch.orders) (content_in batch.pages) end grown.final grows ends o h
       (pool_now m form o h s before after i j batch asked session stands.memory was lasts)

@@ -1,0 +1,15 @@
+pub mod BackWalks
+pub mod OthersRows
+pub mod BackWalksLaws
+pub mod KeySteps
+pub mod KeyStepLaws
+pub mod Written
+pub mod WrittenLaws
+pub mod BackStops
+pub mod BackStopsLaws
+pub mod BackTables
+pub mod BackTablesLaws
+pub mod BackLists
+pub mod BackListsLaws
+pub mod BackPages
+pub mod BackPagesLaws

@@ -1,0 +1,2 @@
+pub mod TablePages
+pub mod TablePagesLaws

@@ -1,0 +1,5 @@
+pub mod Dying
+pub mod OwnVersions
+pub mod GivenUp
+pub mod GivenUpLaws
+pub mod EngineGivenUp

@@ -1,0 +1,11 @@
+//! A table is kept. The function does nothing: its contract is the laws.
+
+ghost use Rattle.mg_engine_notes.specs.Notes.{NotedWorksStay, NotesStay};
+
+use mg_base::Disk;
+
+/// A table that is kept as one that is written into changes nothing that an engine stands for.
+pub fn noted_tables_are_quiet<D: Disk>()
+    ensures works { NotedWorksStay }
+    ensures stands { NotesStay D D.meaning }
+{}

@@ -1,0 +1,13 @@
+pub mod Openings
+pub mod Closings
+pub mod Laws
+pub mod TipLaws
+pub mod BlankLaws
+pub mod OpeningLaws
+pub mod OpenedLaws
+pub mod RefusalLaws
+pub mod RefusedLaws
+pub mod WholeLaws
+pub mod ClosingLaws
+pub mod GrowingLaws
+pub mod ComposeLaws

@@ -1,0 +1,3 @@
+pub mod RowWalks
+pub mod RowsLaws
+pub mod RowWalksLaws

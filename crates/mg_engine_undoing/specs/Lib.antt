@@ -1,0 +1,12 @@
+pub mod ToTake
+pub mod ToTakeLaws
+pub mod BackFinds
+pub mod BackFindsLaws
+pub mod Memory
+pub mod MemoryLaws
+pub mod Steps
+pub mod StepLaws
+pub mod Found
+pub mod FoundLaws
+pub mod Backs
+pub mod BacksLaws

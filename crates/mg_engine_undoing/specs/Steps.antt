@@ -1,0 +1,94 @@
+-- A transaction takes its changes back, key after key: what each step tells, and what is known of the cache and of the
+-- pages after all.
+use Rattle.std.specs.Prelude.{◌≡◌, ◌⊎◌, ℕ, true, List, [], ◌∷◌, Option, None, Some}
+use Rattle.mg_base.specs.Disk.{Meaning}
+use Rattle.mg_base.specs.Image.{Image}
+use Rattle.mg_base.specs.declared.numbers.RecId.{RecId}
+use Rattle.mg_chain.specs.Writing.{Replaces, TakesOut}
+use Rattle.mg_engine_backs.specs.Again.{without_key}
+use Rattle.mg_engine_backs.specs.Midway.{GoesBack, IsBackAt, IsMidway}
+use Rattle.mg_engine_backs.specs.Shown.{ShowsMidway}
+use Rattle.mg_engine_writes.specs.Knowing.{CodesRow, HasEntries, WasChanged}
+use Rattle.mg_image.specs.Form.{Pages, Row, packed_coding, packed_form}
+use Rattle.mg_image.specs.Histories.{newest_at, row_change}
+use Rattle.mg_model.specs.Changes.{Cells}
+use Rattle.mg_model.specs.History.{Entries, Entry}
+use Rattle.mg_model.specs.Legal.{IsLegal, MayBegin}
+use Rattle.mg_model.specs.Machine.{own}
+use Rattle.mg_model.specs.declared.change.Change.{Change}
+use Rattle.mg_model.specs.declared.change.Point.{Point}
+use Rattle.mg_model.specs.declared.opening.Opening.{Opening}
+use Rattle.mg_model.specs.declared.table.Table.{Table}
+use Rattle.mg_pool.specs.Batch.{Changed}
+use Rattle.mg_pool.specs.Pool.{shown}
+use Rattle.mg_pool.specs.declared.pool.Pool.{Pool}
+use Rattle.mg_pool_overlays.specs.Needs.{Asked, Sessions}
+use Rattle.mg_space.specs.View.{KeepsStore}
+use Rattle.mg_space_ties.specs.Changed.{fresh}
+use Rattle.mg_standing.specs.Standing.{Remembers, ShowsHistory, Standing}
+use Rattle.mg_value.specs.declared.value.Value.{Value}
+use Rattle.mg_version.specs.declared.cell.Version.{Version}
+
+-- The transaction had not changed the key before the point: its version is taken out.
+pub record GoesOut {D L : Type 0} (before : Pool D L) (i : Image) (batch : Changed) (o : Opening) (h : Entries)
+    (e : Entry) (t : ℕ) (name : List ℕ) (key : Value) (rec : RecId) : Type 0 where
+  pub takes : TakesOut before i fresh batch rec
+  pub its : takes.was.tx.0 ≡ t
+  pub none : newest_at (own o (e ∷ h) t) name key ≡ None
+
+-- It had: the version that gives what it gave then is put in place of its own newest one.
+pub record ComesBack {D L : Type 0} (before : Pool D L) (i : Image) (batch : Changed) (o : Opening) (h : Entries)
+    (e : Entry) (t : ℕ) (name : List ℕ) (key : Value) (rec : RecId) (table : Table) : Type 0 where
+  pub row : Option Cells
+  pub version : Version
+  pub stored : Row
+  pub replaces : Replaces before i fresh batch rec version
+  pub codes : CodesRow packed_coding table version stored t key row
+  pub entries : HasEntries (shown before.dirty i) table rec version stored
+  pub former : newest_at (own o (e ∷ h) t) name key ≡ Some (row_change row)
+
+-- Pages were read, and then a key was taken back in a batch of its own, in the record that speaks for it.
+pub record TakesKeyOf {D L : Type 0} (m : Meaning D) (size : ℕ) (o : Opening) (h : Entries) (e : Entry) (t : ℕ)
+    (s : Standing) (speaker : List ℕ → Value → Option RecId) (left : List Change) (before after : Pool D L)
+    (i j : Image) (name : List ℕ) (key : Value) : Type 0 where
+  pub ready : Pool D L
+  pub keeps : KeepsStore m before ready
+  pub size_is : ready.geometry.size ≡ size
+  pub page_size : before.dirty.size ≡ size
+  pub tells : m.tells before.disk ≡ true
+  pub batch : Changed
+  pub was : WasChanged m ready after i j batch
+  pub rec : RecId
+  pub table : Table
+  pub at_key : IsBackAt packed_form size s (shown ready.dirty i) t table name key left rec
+  pub spoken : speaker name key ≡ Some rec
+  pub how : GoesOut ready i batch o h e t name key rec ⊎ ComesBack ready i batch o h e t name key rec table
+
+-- these keys are taken back, one after another; what is not taken back then is the last one of the lists
+pub data TakesKeysOf {D L : Type 0} (m : Meaning D) (size : ℕ) (o : Opening) (h : Entries) (e : Entry) (t : ℕ)
+    (s : Standing) (speaker : List ℕ → Value → Option RecId) : List Change → List Change → List Change
+    → Pool D L → Pool D L → Image → Image → Type 0 where
+  no_keys : {left : List Change} {pool : Pool D L} {i : Image}
+      → TakesKeysOf m size o h e t s speaker [] left left pool pool i i
+  one_key : {keys left rest : List Change} {before after : Pool D L} {i j : Image} (c : Change) (mid : Pool D L)
+      (k : Image) → TakesKeyOf m size o h e t s speaker left before mid i k c.table c.key
+      → TakesKeysOf m size o h e t s speaker keys (without_key c.table c.key left) rest mid after k j
+      → TakesKeysOf m size o h e t s speaker (c ∷ keys) left rest before after i j
+
+-- What is known in the middle: the cache, and the pages.
+pub record StandsMidway {D L : Type 0} (m : Meaning D) (size : ℕ) (o : Opening) (h : Entries) (e : Entry) (t : ℕ)
+    (whole left : List Change) (s : Standing) (start pool : Pool D L) (begun : Pages)
+    (first : ShowsHistory packed_form size o h s begun) (i : Image) (asked : Asked) (session : Sessions) : Type 0
+  where
+    pub cache : IsMidway m packed_form size o h e t left s start pool i asked session
+    pub pages : ShowsMidway packed_form size o h e t whole left s begun first (shown pool.dirty i)
+
+-- so it is after each step, and after all
+abbrev pub KeysGoOn : (D L : Type 0) → Meaning D → Type 0
+KeysGoOn D L m = (size : ℕ) (o : Opening) (h : Entries) (e : Entry) (point : Point) (s : Standing)
+    (start before after : Pool D L) (begun : Pages) (first : ShowsHistory packed_form size o h s begun) (i j : Image)
+    (asked : Asked) (session : Sessions) (t : ℕ) (whole left rest keys : List Change) → MayBegin o → IsLegal o h
+    → Remembers o h s → GoesBack o h e point s asked t
+    → TakesKeysOf m size o h e t s first.versions.speaker keys left rest before after i j
+    → StandsMidway m size o h e t whole left s start before begun first i asked session
+    → StandsMidway m size o h e t whole rest s start after begun first j asked session

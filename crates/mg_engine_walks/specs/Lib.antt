@@ -1,0 +1,4 @@
+pub mod Alike
+pub mod TakesLaws
+pub mod RowsLaws
+pub mod WalksLaws
