@@ -6,19 +6,22 @@ use Rattle.mg_base.specs.declared.numbers.TxNo.{TxNo}
 use Rattle.mg_expr.specs.declared.expr.Expr.{Expr}
 use Rattle.mg_model.specs.declared.answer.Answer.{Answer}
 use Rattle.mg_model.specs.declared.event.Event.{Event}
-use Rattle.mg_model.specs.declared.event.Event.TheVariants.{Look, Mark, Savepoint}
+use Rattle.mg_model.specs.declared.event.Event.TheVariants.{Commit, Look, Mark, Rollback, Savepoint}
 use Rattle.mg_model.specs.declared.refusal.Refusal.{Refusal}
 use Rattle.mg_model.specs.Changes.{Cells}
 use Rattle.mg_records.specs.Adding.{fine_or}
 use Rattle.mg_records.specs.Keeping.{refusal_in}
+use Rattle.mg_records.specs.Sessions.{ended_in}
 use Rattle.mg_core.specs.declared.parts.Core.{Core}
 use Rattle.mg_core.specs.Committing.{AsksCommit, StepsCommit}
 use Rattle.mg_core.specs.Cores.{Continues, RefusesCall}
-use Rattle.mg_core.specs.Events.{EndsWait, IsRefused, Looks, SetsPoint}
-use Rattle.mg_engine_bases.specs.Looks.{LooksGoOn}
+use Rattle.mg_core.specs.Ending.{Commits, RefusesCommit}
+use Rattle.mg_core.specs.Events.{EndsWait, IsRefused, Looks, RollsBack, SetsPoint}
+use Rattle.mg_engine_calls.specs.Looks.{LooksGoOn}
 use Rattle.mg_engine_meaning.specs.Frames.{GivesEvent}
 use Rattle.mg_engine_meaning.specs.Laws.{FoundGoesOn, GoesOnOr, MarksGoOn, SavepointsGoOn, TellsFound}
-use Rattle.mg_engine_meaning.specs.Meaning.{Places}
+use Rattle.mg_engine_calls.specs.Ends.{CommitsGo, GivesDurable, RollbacksGo}
+use Rattle.mg_engine_meaning.specs.Meaning.{HasWrittenAll, Places}
 use Rattle.mg_engine_meaning.specs.Standings.{asked_in}
 use Rattle.mg_engine_page_calls.specs.Steps.{AddsNone, AsksGoOn, StepsGoOn}
 use Rattle.mg_engine.specs.Engines.{IsEngine}
@@ -67,3 +70,20 @@ module _ {D P : Type 0} (m : Meaning D) (places : Places P) (inside old new : Co
   steps_as law t result asked steps = subst (λ (c : Core D). AddsNone m places c new t result None) same
       (law places inside new t result is.lawful (subst (λ (c : Core D). asked_in c.works t ≡ true) (sym same) asked)
       steps).0
+
+  pub rollbacks_as : RollbacksGo D P m → (t : TxNo) (result : Result (Unit {0}) Refusal)
+      → MatchResult result (λ _. RollsBack inside new t.0) (IsRefused inside new t.0)
+      → GivesEvent m places old new (Rollback t) (fine_or result) (refusal_in result) (Some t.0) (Some t.0) None
+      (ended_in t.0 result)
+  rollbacks_as law t result rolls = subst (λ (c : Core D). GivesEvent m places c new (Rollback t)
+      (fine_or result) (refusal_in result) (Some t.0) (Some t.0) None (ended_in t.0 result)) same
+      (law places inside new t result is.lawful is.apart rolls)
+
+  pub commits_as : CommitsGo D P m → (t : TxNo) (result : Result (Unit {0}) Refusal) → HasWrittenAll old t.0
+      → MatchResult result (λ _. Commits m inside new t.0) (RefusesCommit m inside new t.0)
+      → GivesDurable m places old new (Commit t) (fine_or result) (refusal_in result) (Some t.0) (Some t.0)
+      (ended_in t.0 result)
+  commits_as law t result written commits = subst (λ (c : Core D). GivesDurable m places c new (Commit t)
+      (fine_or result) (refusal_in result) (Some t.0) (Some t.0) (ended_in t.0 result)) same
+      (law places inside new t result is.lawful is.apart
+      (subst (λ (c : Core D). HasWrittenAll c t.0) (sym same) written) commits)

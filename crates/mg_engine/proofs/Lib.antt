@@ -1,2 +1,4 @@
 mod ApartLemmas
 mod EngineLemmas
+mod BeginLemmas
+mod ReadLemmas

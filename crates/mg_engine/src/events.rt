@@ -13,7 +13,7 @@ ghost use Rattle.mg_engine.specs.Places.{places};
 use crate::engine::Engine;
 use mg_base::{Disk, TxNo};
 use mg_core::Place;
-use mg_engine_bases::looks_go_on;
+use mg_engine_calls::looks_go_on;
 use mg_engine_meaning::points_go_on;
 use mg_expr::Expr;
 use mg_model::{Refusal, Rows};

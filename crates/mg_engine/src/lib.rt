@@ -1,18 +1,23 @@
 //! The engine as a keeper of records: it stands for a history of events.
 //!
-//! Owns: `Engine`, the core of an engine with its invariant. Each call is a call of the
-//! core; what its clauses say is what `mg_records` asks of a keeper of records, with the meaning that
-//! `mg_engine_meaning` gives (`means`).
+//! Owns: `Engine`, the core of an engine with its invariant. It is opened over a disk and closed (`OpensEngine`,
+//! `ClosesEngine`). Each other call is a call of the core; what its clauses say is what `mg_records` asks of a keeper of
+//! records, with the meaning that `mg_engine_meaning` gives (`means`).
 //!
 //! Invariant (`IsEngine`): the core is lawful, and each session has one active transaction at most.
-//! Below: `mg_core`, the calls over memory and pages; `mg_engine_meaning`, `mg_engine_bases` and
-//! `mg_engine_page_calls`, the laws.
+//! Below: `mg_core`, the calls over memory and pages; `mg_engine_meaning`, what an engine means; the laws of each kind
+//! of call (`mg_engine_openings`, `mg_engine_calls`, `mg_engine_page_calls`).
 //! Above: the statements' steps.
-//! Not here yet: a begin, reads, writes, the ends of transactions, and so the impl of the trait.
+//! Not here yet: writes, taking back, the making of tables, and so the impl of the trait.
 #![tactic(auto)]
 
+mod beginning;
 mod committing;
+mod ending;
 mod engine;
 mod events;
+mod opening;
+mod reading;
 
 pub use engine::Engine;
+pub use reading::copy_place;

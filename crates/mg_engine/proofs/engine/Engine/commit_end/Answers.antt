@@ -1,0 +1,27 @@
+use Rattle.mg_engine.specs.Places.{places}
+use Rattle.mg_engine.proofs.ApartLemmas.{commits_apart}
+use Rattle.mg_engine.proofs.EngineLemmas.{commits_as}
+use Rattle.mg_engine.proofs.engine.Engine.commit_end.Goals as goal
+
+pub invariant_of-self : goal.invariant_of-self
+invariant_of-self g c = record {
+  lawful = c.commit_end.ensures.core;
+  apart = commits_apart g.D.Disk.meaning c.self.inside.core c.commit_end.new.self c.args.t.0 c.commit_end.result c.commit_end.ensures.commits
+      c.self.invariant.apart;
+}
+
+pub returns-clause-adds : goal.returns-clause-adds
+returns-clause-adds g c = (commits_as g.D.Disk.meaning places c.self.inside.core c.args.self.now c.commit_end.new.self
+    c.self.view_is c.self.invariant c.commits_go.ensures c.args.t c.commit_end.result c.requires.written c.commit_end.ensures.commits).adds
+
+pub returns-clause-leaves : goal.returns-clause-leaves
+returns-clause-leaves g c = (commits_as g.D.Disk.meaning places c.self.inside.core c.args.self.now c.commit_end.new.self
+    c.self.view_is c.self.invariant c.commits_go.ensures c.args.t c.commit_end.result c.requires.written c.commit_end.ensures.commits).leaves
+
+pub returns-clause-crash : goal.returns-clause-crash
+returns-clause-crash g c = (commits_as g.D.Disk.meaning places c.self.inside.core c.args.self.now c.commit_end.new.self
+    c.self.view_is c.self.invariant c.commits_go.ensures c.args.t c.commit_end.result c.requires.written c.commit_end.ensures.commits).crash
+
+pub returns-clause-sessions : goal.returns-clause-sessions
+returns-clause-sessions g c = (commits_as g.D.Disk.meaning places c.self.inside.core c.args.self.now c.commit_end.new.self
+    c.self.view_is c.self.invariant c.commits_go.ensures c.args.t c.commit_end.result c.requires.written c.commit_end.ensures.commits).sessions

@@ -1,0 +1,27 @@
+use Rattle.mg_engine.specs.Places.{places}
+use Rattle.mg_engine.proofs.ApartLemmas.{rollbacks_apart}
+use Rattle.mg_engine.proofs.EngineLemmas.{rollbacks_as}
+use Rattle.mg_engine.proofs.engine.Engine.rollback.Goals as goal
+
+pub invariant_of-self : goal.invariant_of-self
+invariant_of-self g c = record {
+  lawful = c.rollback.ensures.core;
+  apart = rollbacks_apart c.self.inside.core c.rollback.new.self c.args.t.0 c.rollback.result c.rollback.ensures.rolls
+      c.self.invariant.apart;
+}
+
+pub returns-clause-adds : goal.returns-clause-adds
+returns-clause-adds g c = (rollbacks_as g.D.Disk.meaning places c.self.inside.core c.args.self.now c.rollback.new.self
+    c.self.view_is c.self.invariant c.rollbacks_go.ensures c.args.t c.rollback.result c.rollback.ensures.rolls).adds
+
+pub returns-clause-leaves : goal.returns-clause-leaves
+returns-clause-leaves g c = (rollbacks_as g.D.Disk.meaning places c.self.inside.core c.args.self.now c.rollback.new.self
+    c.self.view_is c.self.invariant c.rollbacks_go.ensures c.args.t c.rollback.result c.rollback.ensures.rolls).leaves
+
+pub returns-clause-crash : goal.returns-clause-crash
+returns-clause-crash g c = (rollbacks_as g.D.Disk.meaning places c.self.inside.core c.args.self.now c.rollback.new.self
+    c.self.view_is c.self.invariant c.rollbacks_go.ensures c.args.t c.rollback.result c.rollback.ensures.rolls).crash
+
+pub returns-clause-sessions : goal.returns-clause-sessions
+returns-clause-sessions g c = (rollbacks_as g.D.Disk.meaning places c.self.inside.core c.args.self.now c.rollback.new.self
+    c.self.view_is c.self.invariant c.rollbacks_go.ensures c.args.t c.rollback.result c.rollback.ensures.rolls).sessions

@@ -1,0 +1,33 @@
+use Rattle.std.proofs.Common.{subst}
+use Rattle.mg_core.specs.declared.parts.Core.{Core}
+use Rattle.mg_core.specs.Committing.{WritesPage}
+use Rattle.mg_engine.specs.Places.{places}
+use Rattle.mg_engine.proofs.BeginLemmas.{pages_apart, pages_as}
+use Rattle.mg_engine.proofs.engine.Engine.write_page.Goals as goal
+
+pub invariant_of-self : goal.invariant_of-self
+invariant_of-self g c = record {
+  lawful = c.write_page.ensures.core;
+  apart = pages_apart g.D.Disk.meaning c.self.inside.core c.write_page.new.self c.write_page.result
+      c.write_page.ensures.writes c.self.invariant.apart;
+}
+
+pub returns-clause-next : goal.returns-clause-next
+returns-clause-next g c = (pages_as g.D.Disk.meaning places c.self.inside.core c.args.self.now c.write_page.new.self
+    c.self.view_is c.self.invariant c.next_pages_go_on.ensures c.write_page.result c.write_page.ensures.writes).next
+
+pub returns-clause-reads : goal.returns-clause-reads
+returns-clause-reads g c = (pages_as g.D.Disk.meaning places c.self.inside.core c.args.self.now c.write_page.new.self
+    c.self.view_is c.self.invariant c.next_pages_go_on.ensures c.write_page.result c.write_page.ensures.writes).reads
+
+pub returns-clause-crash : goal.returns-clause-crash
+returns-clause-crash g c = (pages_as g.D.Disk.meaning places c.self.inside.core c.args.self.now c.write_page.new.self
+    c.self.view_is c.self.invariant c.next_pages_go_on.ensures c.write_page.result c.write_page.ensures.writes).crash
+
+pub returns-clause-sessions : goal.returns-clause-sessions
+returns-clause-sessions g c = (pages_as g.D.Disk.meaning places c.self.inside.core c.args.self.now c.write_page.new.self
+    c.self.view_is c.self.invariant c.next_pages_go_on.ensures c.write_page.result c.write_page.ensures.writes).sessions
+
+pub returns-clause-writes : goal.returns-clause-writes
+returns-clause-writes g c = subst (λ (core : Core g.row.D.Denot). WritesPage g.D.Disk.meaning core
+    c.write_page.new.self c.write_page.result) c.self.view_is c.write_page.ensures.writes

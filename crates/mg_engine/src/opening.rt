@@ -1,0 +1,57 @@
+//! An engine is opened over a disk, and closed.
+
+ghost use Rattle.mg_engine_openings.specs.Closings.{ClosesEngine};
+ghost use Rattle.mg_engine_openings.specs.Openings.{OpensEngine};
+
+use crate::engine::Engine;
+use mg_base::Disk;
+use mg_core::Core;
+use mg_engine_openings::{closings_leave, openings_stand};
+use mg_model::Refusal;
+use std::alloc::Global;
+
+impl<D: Disk> Engine<D> {
+    /// Opens a disk. On one on which a database may be made a new one is written first, its header last; any
+    /// other is not written. Then page 0 and the transaction inventory pages are read, and no record is.
+    ///
+    /// Where the disk holds a sound image and nothing is pending, the engine stands for the history that begins
+    /// with that image and has no entry. Two things are asked of the image beside its soundness: its transactions
+    /// in limbo have only made rows of the catalog, and its tables are plain (`BeginsWith`).
+    ///
+    /// The page limit is the greater of `limit` and the disk's number of pages, and at most 131,072; pages past
+    /// that are neither read nor written.
+    ///
+    /// # Errors
+    ///
+    /// `NotADatabase` exactly where that field of page 0 is the first that differs, as of a file whose page 0
+    /// alone is zero; `Damaged` at a field of page 0 or of a transaction inventory page, neither of them of a
+    /// sound image; `DiskRead`; `DiskWrite` only where a new database is written; `Memory`. The disk comes back.
+    pub fn open(alloc: Global, disk: D, limit: u32) -> Result<Engine<D>, (D, Refusal)>
+        ensures { OpensEngine D.meaning disk limit result }
+    {
+        openings_stand::<D>();
+        match Core::open(alloc, disk, limit) {
+            Ok(core) => Ok(Engine::new(core)),
+            Err((disk, refusal)) => Err((disk, refusal)),
+        }
+    }
+
+    /// Closes a database: every dirty page is written, each after those that must precede it, and the disk is
+    /// settled. It takes no memory, and the disk comes back. What the history has with every durable event is then
+    /// on it; who is active is rolled back.
+    ///
+    /// # Errors
+    ///
+    /// `Offline` exactly where a page write had failed before, and then nothing is written; `DiskWrite` only where
+    /// the disk's count of faults rose in this call.
+    pub fn close(self) -> (D, Result<(), Refusal>)
+        ensures { ClosesEngine D.meaning self result.0 result.1 }
+    {
+        closings_leave::<D>();
+        let Engine { core } = self;
+        core.close()
+    }
+}
+
+#[cfg(test)]
+mod tests;
