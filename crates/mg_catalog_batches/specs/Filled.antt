@@ -16,9 +16,9 @@ use Rattle.mg_chain.specs.Writing.{GivesSpot, MakesRecord, link_to}
 use Rattle.mg_chain_ties.specs.FirstPages.{MakesPages, left_within, made_pages}
 use Rattle.mg_chain_ties.specs.PushTies.{written}
 use Rattle.mg_chain_ties.specs.Rows.{off_header}
-use Rattle.mg_grown_overlays.specs.Growing.{EndsAt, IsTableOf, MayBeWritten}
-use Rattle.mg_grown_overlays.specs.GrowingLaws.{StandsTo, grows_part, grows_pool, table_of_end}
-use Rattle.mg_grown_overlays.specs.Knowing.{entered_of, lawful_there, pointers_keep, put_still}
+use Rattle.mg_table_overlays.specs.Growing.{EndsAt, IsTableOf, MayBeWritten}
+use Rattle.mg_table_overlays.specs.GrowingLaws.{StandsTo, grows_part, grows_pool, table_of_end}
+use Rattle.mg_table_overlays.specs.Knowing.{entered_of, lawful_there, pointers_keep, put_still}
 use Rattle.mg_header.specs.HeaderPage.{header_in}
 use Rattle.mg_heap.specs.Growth.{AddsOrders}
 use Rattle.mg_heap.specs.Reading.{owner_in}
@@ -35,16 +35,16 @@ use Rattle.mg_image.specs.Records.{Reading, cells_of, key_of, slot_cell}
 use Rattle.mg_image.specs.Sound.{IsSoundBy, facts_by}
 use Rattle.mg_image.specs.Tables.{Layout, stands_of, table_at}
 use Rattle.mg_image.specs.declared.entry.Entry.{Entry}
-use Rattle.mg_image_steps.specs.Kinds.{HasNoSequences}
-use Rattle.mg_image_steps.specs.Trees.{data_leaves, trees_stay}
+use Rattle.mg_kept_images.specs.Kinds.{HasNoSequences}
+use Rattle.mg_kept_images.specs.Trees.{data_leaves, trees_stay}
 use Rattle.mg_kept_images.specs.KeptImages.{IsKept}
 use Rattle.mg_model.specs.History.{Entries}
 use Rattle.mg_model.specs.declared.opening.Opening.{Opening}
 use Rattle.mg_model.specs.declared.table.Table.{Table}
-use Rattle.mg_one_layout.specs.OneLayout.{sound_once}
+use Rattle.mg_table_overlays.specs.OneLayout.{sound_once}
 use Rattle.mg_overlays.specs.Overlays.{LaysBatch}
 use Rattle.mg_overlays.specs.Views.{ordered_same, partly}
-use Rattle.mg_own_tables.specs.OutSteps.{everywhere}
+use Rattle.mg_table_overlays.specs.OutSteps.{everywhere}
 use Rattle.mg_pool.specs.Batch.{Changed}
 use Rattle.mg_pool.specs.Pool.{shown}
 use Rattle.mg_pool.specs.declared.pool.Pool.{Pool}
@@ -55,8 +55,8 @@ use Rattle.mg_space.specs.Taking.{IsGeometry, region_of}
 use Rattle.mg_space.specs.View.{viewed}
 use Rattle.mg_space.specs.ViewLaws.{viewed_else, viewed_here}
 use Rattle.mg_space_ties.specs.Occupied.{taken_are_occupied}
-use Rattle.mg_taken_overlays.specs.PointerPage.{data_five}
-use Rattle.mg_taken_overlays.specs.TakePart.{OccupiesPage, take_views}
+use Rattle.mg_page_overlays.specs.PointerPage.{data_five}
+use Rattle.mg_page_overlays.specs.TakePart.{OccupiesPage, take_views}
 use Rattle.mg_value.specs.declared.value.Value.{Value}
 use Rattle.mg_version.specs.declared.cell.TheConstants.{ANCHOR_LEN}
 use Rattle.mg_version.specs.declared.cell.Version.{Version}

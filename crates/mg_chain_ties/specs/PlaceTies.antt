@@ -10,17 +10,17 @@ use Rattle.mg_chain_ties.specs.Newest.{newest_found, newest_placed}
 use Rattle.mg_chain_ties.specs.PushTies.{written}
 use Rattle.mg_chain_ties.specs.PutTies.{version_may}
 use Rattle.mg_chain_ties.specs.Rows.{ForEach, table_of_page}
-use Rattle.mg_grown_overlays.specs.Entries.{StaysFound, found_beside}
-use Rattle.mg_grown_overlays.specs.Growing.{IsTableOf, MayBeWritten}
-use Rattle.mg_grown_overlays.specs.Knowing.{lawful_there}
+use Rattle.mg_table_overlays.specs.Entries.{StaysFound, found_beside}
+use Rattle.mg_table_overlays.specs.Growing.{IsTableOf, MayBeWritten}
+use Rattle.mg_table_overlays.specs.Knowing.{lawful_there}
 use Rattle.mg_heap_ties.specs.CellTies.{HasLawfulCells, lawful_cells, sets_cells, sets_page, spelled_is}
 use Rattle.mg_image.specs.Form.{Form, Pages, Row}
 use Rattle.mg_image.specs.ReadingLaws.{RowsAreOne}
 use Rattle.mg_image.specs.Records.{Changes, Reading, cells_of, record_key}
 use Rattle.mg_image.specs.Sound.{IsSoundBy, facts_by}
 use Rattle.mg_image.specs.Tables.{Layout, stands_of, table_at}
-use Rattle.mg_image_steps.specs.DataPages.{ChangesData}
-use Rattle.mg_image_steps.specs.Kinds.{HasNoSequences}
+use Rattle.mg_kept_images.specs.DataPages.{ChangesData}
+use Rattle.mg_kept_images.specs.Kinds.{HasNoSequences}
 use Rattle.mg_kept_images.specs.CommitLaws.{LeavesOthers}
 use Rattle.mg_kept_images.specs.KeptImages.{IsKept, keeping}
 use Rattle.mg_model.specs.History.{Entries}
@@ -28,11 +28,11 @@ use Rattle.mg_model.specs.declared.opening.Opening.{Opening}
 use Rattle.mg_model.specs.declared.table.Table.{Table}
 use Rattle.mg_overlays.specs.BatchLaws.{good_of_pool}
 use Rattle.mg_overlays.specs.Overlays.{left_state}
-use Rattle.mg_own_overlays.specs.OwnVersion.{FindsOwn, RewritesRow}
-use Rattle.mg_own_overlays.specs.ReplacePart.{ReplacesPage}
-use Rattle.mg_own_tables.specs.NotThere.{HasNoData, IsNotThere}
-use Rattle.mg_own_tables.specs.ReplaceFor.{replace_for_every}
-use Rattle.mg_own_tables.specs.Whose.{IsTableFor, alone, alone_is, maker_has, page_beyond}
+use Rattle.mg_table_overlays.specs.OwnVersion.{FindsOwn, RewritesRow}
+use Rattle.mg_table_overlays.specs.ReplacePart.{ReplacesPage}
+use Rattle.mg_table_overlays.specs.NotThere.{HasNoData, IsNotThere}
+use Rattle.mg_table_overlays.specs.ReplaceFor.{replace_for_every}
+use Rattle.mg_table_overlays.specs.Whose.{IsTableFor, alone, alone_is, maker_has, page_beyond}
 use Rattle.mg_pool.specs.Batch.{Changed, content_in, lists}
 use Rattle.mg_pool.specs.Pool.{shown}
 use Rattle.mg_pool.specs.declared.pool.Pool.{Pool}

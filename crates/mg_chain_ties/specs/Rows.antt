@@ -10,8 +10,8 @@ use Rattle.mg_image.specs.Form.{Form, Pages}
 use Rattle.mg_image.specs.Records.{Reading}
 use Rattle.mg_image.specs.Sound.{IsSoundBy}
 use Rattle.mg_image.specs.Tables.{EachFrom, Has, Layout, Stand, has, stands_of, table_at}
-use Rattle.mg_image_steps.specs.DataPages.{kind_of}
-use Rattle.mg_image_steps.specs.Growth.{has_back, has_either, has_front}
+use Rattle.mg_kept_images.specs.DataPages.{kind_of}
+use Rattle.mg_kept_images.specs.Growth.{has_back, has_either, has_front}
 use Rattle.mg_kept_images.specs.Reach.{IsEntered, here, later}
 use Rattle.mg_model.specs.declared.table.Table.{Table}
 use Rattle.mg_overlays.specs.Overlays.{left_state}
@@ -21,7 +21,7 @@ use Rattle.mg_heap.specs.Growth.{AddsOrders, before}
 use Rattle.mg_heap.specs.Reach.{IsReached}
 use Rattle.mg_heap.specs.Table.{IsPointerAt, LinkRun, more, none}
 use Rattle.mg_chain.specs.Orders.{before_page}
-use Rattle.mg_grown_overlays.specs.Growing.{IsTableOf}
+use Rattle.mg_table_overlays.specs.Growing.{IsTableOf}
 use Rattle.mg_heap_ties.specs.Batches.{IsWithin, has_on, has_same, lists_head, lists_sooner, lists_tail}
 
 -- ---- what is asked

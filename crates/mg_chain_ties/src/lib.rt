@@ -10,7 +10,7 @@
 //! - `back_out` (`BackRowKeeps`).
 //!
 //! Each stands twice: of a table that every layout has, and, with `For` at its end, of one that may be its
-//! writer's own (`IsTableFor` of `mg_own_tables`); the first is an instance of the second.
+//! writer's own (`IsTableFor` of `mg_table_overlays`); the first is an instance of the second.
 //!
 //! Asked is what a statement knows of the pool before the batch: whose table it is, that the record's page is
 //! the table's where the table stands, and that the version may be written there. What the pages are comes

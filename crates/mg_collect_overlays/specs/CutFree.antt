@@ -14,12 +14,12 @@ use Rattle.mg_image.specs.RecordRules.{Facts, table_in}
 use Rattle.mg_image.specs.Records.{Reading, Stands, cells_of}
 use Rattle.mg_image.specs.Sound.{IsSoundBy, facts_by}
 use Rattle.mg_image.specs.Tables.{Layout}
-use Rattle.mg_image_steps.specs.CutFronts.{unread as cut_unread}
-use Rattle.mg_image_steps.specs.Cuts.{IsCommittedAt, behind}
-use Rattle.mg_image_steps.specs.Fronts.{HasFronts, living}
-use Rattle.mg_image_steps.specs.Kinds.{HasNoSequences}
-use Rattle.mg_image_steps.specs.Rest.{LeavesRest, LeavesRests}
-use Rattle.mg_image_steps.specs.Trees.{data_leaves, trees_stay}
+use Rattle.mg_kept_images.specs.CutFronts.{unread as cut_unread}
+use Rattle.mg_kept_images.specs.Cuts.{IsCommittedAt, behind}
+use Rattle.mg_kept_images.specs.Fronts.{HasFronts, living}
+use Rattle.mg_kept_images.specs.Kinds.{HasNoSequences}
+use Rattle.mg_kept_images.specs.Rest.{LeavesRest, LeavesRests}
+use Rattle.mg_kept_images.specs.Trees.{data_leaves, trees_stay}
 use Rattle.mg_kept_images.specs.KeptImages.{IsKept, keeping}
 use Rattle.mg_kept_images.specs.StartLaws.{front_self}
 use Rattle.mg_overlays.specs.BatchLaws.{change_keeps_always}

@@ -23,7 +23,7 @@ use Rattle.mg_engine_meaning.specs.Laws.{FoundGoesOn, GoesOnOr, MarksGoOn, Savep
 use Rattle.mg_engine_calls.specs.Ends.{CommitsGo, GivesDurable, RollbacksGo}
 use Rattle.mg_engine_meaning.specs.Meaning.{HasWrittenAll, Places}
 use Rattle.mg_engine_meaning.specs.Standings.{asked_in}
-use Rattle.mg_engine_page_calls.specs.Steps.{AddsNone, AsksGoOn, StepsGoOn}
+use Rattle.mg_engine_meaning.specs.Steps.{AddsNone, AsksGoOn, StepsGoOn}
 use Rattle.mg_engine.specs.Engines.{IsEngine}
 
 module _ {D P : Type 0} (m : Meaning D) (places : Places P) (inside old new : Core D) (same : inside ≡ old)

@@ -12,7 +12,7 @@ ghost use Rattle.mg_engine.specs.Places.{places};
 use crate::engine::Engine;
 use mg_base::{Disk, TxNo};
 use mg_core::Place;
-use mg_engine_page_calls::steps_go_on;
+use mg_engine_meaning::steps_go_on;
 use mg_model::Refusal;
 
 impl<D: Disk> Engine<D> {

@@ -6,7 +6,7 @@
 //!
 //! Invariant (`IsEngine`): the core is lawful, and each session has one active transaction at most.
 //! Below: `mg_core`, the calls over memory and pages; `mg_engine_meaning`, what an engine means; the laws of each kind
-//! of call (`mg_engine_openings`, `mg_engine_calls`, `mg_engine_page_calls`).
+//! of call (`mg_engine_calls`, `mg_engine_calls`, `mg_engine_meaning`).
 //! Above: the statements' steps.
 //! Not here yet: writes, taking back, the making of tables, and so the impl of the trait.
 #![tactic(auto)]

@@ -1,12 +1,12 @@
 //! An engine is opened over a disk, and closed.
 
-ghost use Rattle.mg_engine_openings.specs.Closings.{ClosesEngine};
-ghost use Rattle.mg_engine_openings.specs.Openings.{OpensEngine};
+ghost use Rattle.mg_engine_calls.specs.Closings.{ClosesEngine};
+ghost use Rattle.mg_engine_calls.specs.Openings.{OpensEngine};
 
 use crate::engine::Engine;
 use mg_base::Disk;
 use mg_core::Core;
-use mg_engine_openings::{closings_leave, openings_stand};
+use mg_engine_calls::{closings_leave, openings_stand};
 use mg_model::Refusal;
 use std::alloc::Global;
 

@@ -15,8 +15,8 @@ use Rattle.mg_model.specs.declared.refusal.Refusal.TheVariants.{Memory, Offline,
 use Rattle.mg_model.specs.History.{Entries, entry}
 use Rattle.mg_model.specs.Legal.{IsLawful}
 use Rattle.mg_model.specs.Machine.{next_number}
-use Rattle.mg_engine_commits.specs.PageWrites.{PageWritesFail}
-use Rattle.mg_engine_entries.specs.Idle.{IdleGoesOn}
+use Rattle.mg_engine_steps.specs.PageWrites.{PageWritesFail}
+use Rattle.mg_engine_steps.specs.Idle.{IdleGoesOn}
 use Rattle.mg_engine_steps.specs.Batches.{ReadsLast}
 use Rattle.mg_image.specs.Form.{packed_form}
 use Rattle.mg_lasting.specs.Changing.{QuietHolds}
@@ -24,7 +24,7 @@ use Rattle.mg_records.specs.Adding.{drawn_in, number_or}
 use Rattle.mg_records.specs.Keeping.{refusal_in}
 use Rattle.mg_records.specs.Sessions.{begun_in}
 use Rattle.mg_space.specs.declared.links.FireLinks.{FireLinks}
-use Rattle.mg_standing.specs.Following.{StandsOn}
+use Rattle.mg_engine_steps.specs.Following.{StandsOn}
 use Rattle.mg_txlist.specs.TxList.{next_said}
 use Rattle.mg_works.specs.Works.{has_session}
 use Rattle.mg_core.specs.declared.parts.Core.{Core}
@@ -37,7 +37,7 @@ use Rattle.mg_engine_meaning.specs.Standings.{StandsFor}
 use Rattle.mg_engine_calls.specs.Begins.{HasCounts}
 use Rattle.mg_engine_calls.specs.BegunLaws.{KnownOfDraws, begun_gives, begun_works}
 use Rattle.mg_engine_calls.specs.FailedDraws.{failed_gives}
-use Rattle.mg_engine_calls.specs.RefusedLaws.{refused_gives}
+use Rattle.mg_engine_calls.specs.CallsRefusedLaws.{refused_gives}
 use Rattle.mg_engine_calls.specs.StillLaws.{still_quiet, still_reads, still_sessions}
 
 -- The laws below on which a refused begin stands.

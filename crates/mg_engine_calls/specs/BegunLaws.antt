@@ -25,25 +25,25 @@ use Rattle.mg_model.specs.Legal.{IsLawful, IsLegal, MayBegin}
 use Rattle.mg_model.specs.Machine.{deeds_by, is_of, mode_of, next_number, state_of, steps}
 use Rattle.mg_model.specs.NumberLaws.{undrawn_has_no_deeds, undrawn_is_dead}
 use Rattle.mg_model.specs.Openings.{everyone}
-use Rattle.mg_engine_answers.specs.Walking.{AreToCome}
-use Rattle.mg_engine_commits.specs.ListShows.{DrawsKeepList}
-use Rattle.mg_engine_entries.specs.Begins.{BeginsGoOn, DrawsStaySound}
+use Rattle.mg_engine_steps.specs.Walking.{AreToCome}
+use Rattle.mg_engine_steps.specs.ListShows.{DrawsKeepList}
+use Rattle.mg_engine_steps.specs.Begins.{BeginsGoOn, DrawsStaySound}
 use Rattle.mg_engine_steps.specs.GoesOn.{HasGoneOn}
 use Rattle.mg_engine_tables.specs.Finding.{BeginFinds, BeginHasTables, TablesFor}
-use Rattle.mg_engine_walks.specs.Alike.{OthersTakeAlike, WalksStayOver}
-use Rattle.mg_grown_overlays.specs.Growing.{IsTableOf}
+use Rattle.mg_engine_tables.specs.Alike.{OthersTakeAlike, WalksStayOver}
+use Rattle.mg_table_overlays.specs.Growing.{IsTableOf}
 use Rattle.mg_image.specs.Form.{Pages, packed_coding, packed_form}
 use Rattle.mg_image.specs.Inventory.{next_of}
 use Rattle.mg_image.specs.ReadingLaws.{RowsAreOne}
 use Rattle.mg_image.specs.Records.{Reading}
 use Rattle.mg_image.specs.Sound.{IsSoundBy}
 use Rattle.mg_image.specs.Tables.{Layout}
-use Rattle.mg_image_steps.specs.Begins.{begin_sound}
+use Rattle.mg_kept_images.specs.Begins.{begin_sound}
 use Rattle.mg_kept_images.specs.KeptImages.{IsKept, keeping}
 use Rattle.mg_lasting.specs.Crashes.{HoldsAcknowledged, LeavesSince}
 use Rattle.mg_lasting.specs.Lasting.{LastsOn}
 use Rattle.mg_lasting.specs.PoolLaws.{HoldsOne}
-use Rattle.mg_one_layout.specs.OneLayout.{StandsOneWay}
+use Rattle.mg_table_overlays.specs.OneLayout.{StandsOneWay}
 use Rattle.mg_overlays.specs.BatchLaws.{good_of_pool}
 use Rattle.mg_overlays.specs.Overlays.{left_by, left_state}
 use Rattle.mg_pool.specs.Pool.{cache_of, shown}
@@ -53,9 +53,9 @@ use Rattle.mg_records.specs.Keeping.{WalksStay}
 use Rattle.mg_records.specs.Reading.{shape_seen}
 use Rattle.mg_snap.specs.Live.{after_enter}
 use Rattle.mg_space.specs.declared.links.FireLinks.{FireLinks}
-use Rattle.mg_standing.specs.Following.{FollowsEntry}
-use Rattle.mg_standing.specs.QuietPages.{StaySound}
-use Rattle.mg_standing.specs.Standing.{IsSeenAs, RemembersOne, Standing, Stands}
+use Rattle.mg_engine_steps.specs.Following.{FollowsEntry}
+use Rattle.mg_engine_steps.specs.QuietPages.{StaySound}
+use Rattle.mg_engine_steps.specs.Standing.{IsSeenAs, RemembersOne, Standing, Stands}
 use Rattle.mg_txlist.specs.Drawing.{AddsNumber, DrawsIn}
 use Rattle.mg_txlist.specs.TxList.{IsTxList, next_said, said}
 use Rattle.mg_txlist.specs.declared.list.TxList.{TxList}
@@ -71,7 +71,7 @@ use Rattle.mg_engine_meaning.specs.PlainTables.{HasPlainTables}
 use Rattle.mg_engine_meaning.specs.LawfulLaws.{legal_of, memory_of, opening_of}
 use Rattle.mg_engine_meaning.specs.Meaning.{AreNext, Places, WorksFor, means, rec_at}
 use Rattle.mg_engine_meaning.specs.Standings.{AreSeen, HasTips, ShowsIt, StandsFor, StandsWhile, Tables, asked_in, mode_kept, session_kept, sessions_in, standing_of, undo_kept}
-use Rattle.mg_engine_page_calls.specs.StepLaws.{as_standing, shows_of}
+use Rattle.mg_engine_meaning.specs.StepLaws.{as_standing, shows_of}
 use Rattle.mg_engine_calls.specs.DrawnStores.{drawn_catalog, drawn_data, drawn_goes, drawn_offline, drawn_unmarked}
 use Rattle.mg_engine_calls.specs.NewWorks.{begun_apart, begun_asked, begun_given, begun_its, begun_others, begun_sessions, next_none, none_asked}
 

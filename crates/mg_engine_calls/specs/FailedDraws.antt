@@ -14,8 +14,8 @@ use Rattle.mg_model.specs.History.{Entries}
 use Rattle.mg_model.specs.Laws.{OpeningsBegin}
 use Rattle.mg_model.specs.Legal.{is_outer}
 use Rattle.mg_base.specs.declared.damage.Field.TheVariants.{Presence}
-use Rattle.mg_engine_commits.specs.PageWrites.{PageWritesFail}
-use Rattle.mg_engine_entries.specs.Idle.{IdleGoesOn}
+use Rattle.mg_engine_steps.specs.PageWrites.{PageWritesFail}
+use Rattle.mg_engine_steps.specs.Idle.{IdleGoesOn}
 use Rattle.mg_engine_steps.specs.Batches.{ReadsLast}
 use Rattle.mg_image.specs.Form.{packed_form}
 use Rattle.mg_lasting.specs.Changing.{QuietHolds}
@@ -31,7 +31,7 @@ use Rattle.mg_space.specs.View.{KeepsStore, pool_answer}
 use Rattle.mg_space.specs.declared.fault.SpaceFault.{SpaceFault}
 use Rattle.mg_space.specs.declared.fault.SpaceFault.TheVariants as space
 use Rattle.mg_space.specs.declared.links.FireLinks.{FireLinks}
-use Rattle.mg_standing.specs.Following.{StandsOn}
+use Rattle.mg_engine_steps.specs.Following.{StandsOn}
 use Rattle.mg_txlist.specs.Drawing.{FailsDraw, SaysSame, not_changed, only_read}
 use Rattle.mg_txlist.specs.declared.list.TxList.{TxList}
 use Rattle.mg_core.specs.declared.parts.Core.{Core}
@@ -41,10 +41,10 @@ use Rattle.mg_engine_meaning.specs.FrameLaws.{commits_of, keeps_of, sessions_of,
 use Rattle.mg_engine_meaning.specs.Frames.{GivesEvent, MayAnswer, StoreGoesOn}
 use Rattle.mg_engine_meaning.specs.Meaning.{Places, means}
 use Rattle.mg_engine_meaning.specs.Standings.{StandsFor, sessions_in}
-use Rattle.mg_engine_page_calls.specs.ReadLaws.{reads_go, reads_quiet, reads_stand, reads_walks}
-use Rattle.mg_engine_page_calls.specs.StepLaws.{fail_quiet, fail_stands, fail_walks, fails_goes, unmarked_run}
+use Rattle.mg_engine_meaning.specs.ReadLaws.{reads_go, reads_quiet, reads_stand, reads_walks}
+use Rattle.mg_engine_meaning.specs.StepLaws.{fail_quiet, fail_stands, fail_walks, fails_goes, unmarked_run}
 use Rattle.mg_engine_calls.specs.Begins.{HasCounts}
-use Rattle.mg_engine_calls.specs.RefusedLaws.{list_stands, list_walks, refused_gives}
+use Rattle.mg_engine_calls.specs.CallsRefusedLaws.{list_stands, list_walks, refused_gives}
 use Rattle.mg_engine_calls.specs.StillLaws.{quiet_then, time_then}
 
 -- ---- what a drawing left

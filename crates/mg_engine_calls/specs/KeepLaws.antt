@@ -25,7 +25,7 @@ use Rattle.mg_lasting.specs.Lasting.{LastsOn}
 use Rattle.mg_pool.specs.Pool.{shown}
 use Rattle.mg_pool_overlays.specs.Needs.{Asked, Sessions}
 use Rattle.mg_seek.specs.TableRows.{IsTableSeen}
-use Rattle.mg_standing.specs.Standing.{FindsTables, IsSeenAs, Remembers, RemembersOne, ShowsHistory, Standing, Stands}
+use Rattle.mg_engine_steps.specs.Standing.{FindsTables, IsSeenAs, Remembers, RemembersOne, ShowsHistory, Standing, Stands}
 use Rattle.mg_txlist.specs.TxList.{said}
 use Rattle.mg_undo.specs.Undo.{State as Undo}
 use Rattle.mg_works.specs.Works.{Working, given_by, given_to, with_table, with_work, work_of}
@@ -33,14 +33,14 @@ use Rattle.mg_works.specs.WorksLaws.{with_its}
 use Rattle.mg_core.specs.declared.parts.Core.{Core}
 use Rattle.mg_core.specs.Cores.{Continues, IsCatalog, IsCore}
 use Rattle.mg_core.specs.Tables.{SeesTable}
-use Rattle.mg_engine_answers.specs.Known.{KnowsPages}
-use Rattle.mg_engine_answers.specs.Tables.{TablesAreTold}
+use Rattle.mg_engine_steps.specs.Known.{KnowsPages}
+use Rattle.mg_engine_steps.specs.Tables.{TablesAreTold}
 use Rattle.mg_engine_meaning.specs.FrameLaws.{commits_of, kept_all, kept_with, others_given, same_sessions, works_with}
 use Rattle.mg_engine_meaning.specs.Frames.{WorksStay}
 use Rattle.mg_engine_meaning.specs.Meaning.{AreNext, Places, means, rec_at}
 use Rattle.mg_engine_meaning.specs.Standings.{AreSeen, Numbers, ShowsIt, StandsFor, StandsWhile, Tables, asked_in, asked_kept, mode_kept, sessions_in, standing_of, undo_kept}
-use Rattle.mg_engine_page_calls.specs.StepLaws.{as_standing, shows_of}
-use Rattle.mg_found_tables.specs.Found.{FoundTablesStand}
+use Rattle.mg_engine_meaning.specs.StepLaws.{as_standing, shows_of}
+use Rattle.mg_engine_tables.specs.Found.{FoundTablesStand}
 
 -- ---- the catalog
 

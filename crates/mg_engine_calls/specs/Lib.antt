@@ -2,7 +2,7 @@ pub mod Begins
 pub mod NextPages
 pub mod StillLaws
 pub mod NextPageLaws
-pub mod RefusedLaws
+pub mod CallsRefusedLaws
 pub mod FailedDraws
 pub mod DrawnStores
 pub mod NewWorks
@@ -22,3 +22,16 @@ pub mod FaultLaws
 pub mod KeepLaws
 pub mod TableLaws
 pub mod VisitLaws
+pub mod Openings
+pub mod Closings
+pub mod Laws
+pub mod TipLaws
+pub mod BlankLaws
+pub mod OpeningLaws
+pub mod OpenedLaws
+pub mod RefusalLaws
+pub mod OpeningsRefusedLaws
+pub mod WholeLaws
+pub mod ClosingLaws
+pub mod GrowingLaws
+pub mod ComposeLaws

@@ -7,7 +7,7 @@ use Rattle.mg_base.specs.Disk.{Meaning}
 use Rattle.mg_base.specs.declared.numbers.PageNo.{PageNo}
 use Rattle.mg_model.specs.declared.refusal.Refusal.{Refusal}
 use Rattle.mg_model.specs.declared.refusal.Refusal.TheVariants.{DiskWrite, Offline}
-use Rattle.mg_engine_commits.specs.PageWrites.{PageWritesFail, PageWritesGoOn}
+use Rattle.mg_engine_steps.specs.PageWrites.{PageWritesFail, PageWritesGoOn}
 use Rattle.mg_image.specs.Form.{packed_form}
 use Rattle.mg_lasting.specs.PoolLaws.{HoldsOne}
 use Rattle.mg_pool.specs.Dirty.{DirtyPages, IsLeastPage, bytes_of, content_of, entry_in, is_dirty}
@@ -20,8 +20,8 @@ use Rattle.mg_core.specs.Committing.{WritesPage}
 use Rattle.mg_core.specs.Cores.{IsCore}
 use Rattle.mg_engine_meaning.specs.FrameLaws.{keeps_of, sessions_of, works_same}
 use Rattle.mg_engine_meaning.specs.Meaning.{Places}
-use Rattle.mg_engine_page_calls.specs.StepLaws.{fail_quiet, fail_reads, fails_goes, refused_none, run_quiet, run_reads}
-use Rattle.mg_engine_page_calls.specs.Steps.{AddsNone}
+use Rattle.mg_engine_meaning.specs.StepLaws.{fail_quiet, fail_reads, fails_goes, refused_none, run_quiet, run_reads}
+use Rattle.mg_engine_meaning.specs.Steps.{AddsNone}
 use Rattle.mg_engine_calls.specs.NextPages.{WritesPages}
 use Rattle.mg_engine_calls.specs.StillLaws.{still_quiet, still_reads, still_sessions}
 

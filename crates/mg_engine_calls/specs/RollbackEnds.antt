@@ -11,13 +11,13 @@ use Rattle.mg_base.specs.declared.numbers.TxNo.{TxNo}
 use Rattle.mg_base.specs.declared.transaction.TxState.{TxState}
 use Rattle.mg_base.specs.declared.transaction.TxState.TheVariants.{Active, Dead}
 use Rattle.mg_chain.specs.Chains.{takes_version}
-use Rattle.mg_engine_answers.specs.Known.{IsShown, seen_is_shown}
-use Rattle.mg_engine_commits.specs.ListShows.{lists_stay}
-use Rattle.mg_engine_endings.specs.Falling.{Falls, read_alike}
-use Rattle.mg_engine_endings.specs.Rollbacks.{RollbacksGoOn}
-use Rattle.mg_engine_entries.specs.Idle.{IdleGoesOn}
-use Rattle.mg_engine_walks.specs.Alike.{GoesAlike, OthersTakeAlike, TakesAlike, WalksGoAlike}
-use Rattle.mg_grown_overlays.specs.Knowing.{its_pages}
+use Rattle.mg_engine_steps.specs.Known.{IsShown, seen_is_shown}
+use Rattle.mg_engine_steps.specs.ListShows.{lists_stay}
+use Rattle.mg_engine_meaning.specs.Falling.{Falls, read_alike}
+use Rattle.mg_engine_meaning.specs.Rollbacks.{RollbacksGoOn}
+use Rattle.mg_engine_steps.specs.Idle.{IdleGoesOn}
+use Rattle.mg_engine_tables.specs.Alike.{GoesAlike, OthersTakeAlike, TakesAlike, WalksGoAlike}
+use Rattle.mg_table_overlays.specs.Knowing.{its_pages}
 use Rattle.mg_image.specs.Form.{Pages, packed_coding, packed_form}
 use Rattle.mg_image.specs.ReadingLaws.{RowsAreOne}
 use Rattle.mg_image.specs.Records.{Reading, shown as row_shown}
@@ -36,7 +36,7 @@ use Rattle.mg_model.specs.Laws.{OpeningsBegin}
 use Rattle.mg_model.specs.Legal.{IsLawful}
 use Rattle.mg_model.specs.Machine.{is_of, state_of}
 use Rattle.mg_model.specs.Openings.{everyone}
-use Rattle.mg_one_layout.specs.OneChain.{link_once}
+use Rattle.mg_table_overlays.specs.OneChain.{link_once}
 use Rattle.mg_overlays.specs.Overlays.{left_by as counts_by, left_state, without}
 use Rattle.mg_pointer.specs.PointerPage.{next_in}
 use Rattle.mg_pool.specs.Pool.{shown}
@@ -44,9 +44,9 @@ use Rattle.mg_records.specs.Adding.{fine_or}
 use Rattle.mg_records.specs.Keeping.{WalksStay, refusal_in}
 use Rattle.mg_records.specs.Sessions.{ended_in}
 use Rattle.mg_space.specs.declared.links.FireLinks.{FireLinks}
-use Rattle.mg_standing.specs.Following.{FollowsEntry, StandsOn}
-use Rattle.mg_standing.specs.Standing.{Standing}
-use Rattle.mg_table_stands.specs.OneTable.{its_data}
+use Rattle.mg_engine_steps.specs.Following.{FollowsEntry, StandsOn}
+use Rattle.mg_engine_steps.specs.Standing.{Standing}
+use Rattle.mg_table_overlays.specs.OneTable.{its_data}
 use Rattle.mg_txlist.specs.TxList.{EndsIn, said}
 use Rattle.mg_txlist.specs.declared.list.TxList.{TxList}
 use Rattle.mg_waits.specs.Waits.{NowWaits, edges_in}

@@ -21,7 +21,7 @@ use Rattle.mg_txlist.specs.Ending.{ChangesBits, FailsToSettle, SettlesPage, not_
 use Rattle.mg_core.specs.declared.parts.Core.{Core}
 use Rattle.mg_engine_meaning.specs.Frames.{StoreGoesOn}
 use Rattle.mg_engine_meaning.specs.Meaning.{Places, means}
-use Rattle.mg_engine_page_calls.specs.StepLaws.{fails_goes, run_goes, unmarked_run}
+use Rattle.mg_engine_meaning.specs.StepLaws.{fails_goes, run_goes, unmarked_run}
 
 -- A store went on, and what was not marked in it is not.
 pub record GoesUnmarked {D L : Type 0} (m : Meaning D) (old new : Pool D L) : Type 0 where

@@ -22,14 +22,14 @@ use Rattle.mg_core.specs.declared.parts.Core.{Core}
 use Rattle.mg_core.specs.declared.scanning.Place.{Place}
 use Rattle.mg_core.specs.Cores.{Continues, RefusesCall}
 use Rattle.mg_core.specs.Scanning.{FailsScan, GivesFound, GoesOn, HasKey, IsBehind, IsFound, Scans, ScansOn, rank, record_of}
-use Rattle.mg_engine_answers.specs.Walking.{AreToCome, WalksGoOn}
+use Rattle.mg_engine_steps.specs.Walking.{AreToCome, WalksGoOn}
 use Rattle.mg_engine_meaning.specs.FrameLaws.{sessions_of, works_same}
 use Rattle.mg_engine_meaning.specs.LawfulLaws.{memory_of}
 use Rattle.mg_engine_meaning.specs.Laws.{IsKeeper}
 use Rattle.mg_engine_meaning.specs.Meaning.{AreNext, ComesTo, Places, means, rank_left, rec_at}
 use Rattle.mg_engine_meaning.specs.Standings.{standing_of}
-use Rattle.mg_engine_page_calls.specs.StepLaws.{refused_none}
-use Rattle.mg_engine_page_calls.specs.Steps.{AddsNone, ReadsGoOn}
+use Rattle.mg_engine_meaning.specs.StepLaws.{refused_none}
+use Rattle.mg_engine_meaning.specs.Steps.{AddsNone, ReadsGoOn}
 use Rattle.mg_engine_calls.specs.FaultLaws.{IsOuter, fault_outer}
 use Rattle.mg_engine_calls.specs.Reads.{AreCounts, AreRanked, IsInRank, VisitsRecord}
 

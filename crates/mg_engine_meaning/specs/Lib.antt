@@ -8,3 +8,11 @@ pub mod Frames
 pub mod FrameLaws
 pub mod MemoryCallLaws
 pub mod EventLaws
+pub mod Steps
+pub mod StepLaws
+pub mod AskLaws
+pub mod ReadLaws
+pub mod Falling
+pub mod AlikeTables
+pub mod Rollbacks
+pub mod RollbackLaws

@@ -4,7 +4,7 @@ use Rattle.mg_base.specs.Disk.{Meaning}
 use Rattle.mg_base.specs.Image.{Image}
 use Rattle.mg_base.specs.declared.numbers.RecId.{RecId}
 use Rattle.mg_base.specs.declared.transaction.TxState.TheVariants.{Active}
-use Rattle.mg_engine_answers.specs.Walking.{AreToCome}
+use Rattle.mg_engine_steps.specs.Walking.{AreToCome}
 use Rattle.mg_image.specs.Form.{packed_form}
 use Rattle.mg_lasting.specs.Crashes.{HoldsFrom, asked}
 use Rattle.mg_model.specs.declared.opening.Opening.{Opening}
@@ -15,7 +15,7 @@ use Rattle.mg_model.specs.Machine.{state_of}
 use Rattle.mg_pool.specs.Dirty.{is_marked}
 use Rattle.mg_pool.specs.Pool.{shown}
 use Rattle.mg_records.specs.Meaning.{Means}
-use Rattle.mg_standing.specs.Standing.{Standing}
+use Rattle.mg_engine_steps.specs.Standing.{Standing}
 use Rattle.mg_works.specs.Works.{MayBeGiven, Working, given_to, has_session, work_of}
 use Rattle.mg_core.specs.declared.parts.Core.{Core}
 use Rattle.mg_engine_meaning.specs.Standings.{StandsFor, asked_in, sessions_in, standing_of}

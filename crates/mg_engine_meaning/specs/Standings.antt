@@ -13,7 +13,7 @@ use Rattle.mg_model.specs.declared.table.Table.{Table}
 use Rattle.mg_model.specs.History.{Entries}
 use Rattle.mg_pool.specs.Pool.{shown}
 use Rattle.mg_pool_overlays.specs.Needs.{Asked, Sessions}
-use Rattle.mg_standing.specs.Standing.{Standing, Stands}
+use Rattle.mg_engine_steps.specs.Standing.{Standing, Stands}
 use Rattle.mg_txlist.specs.TxList.{next_said, said}
 use Rattle.mg_txlist.specs.declared.list.TxList.{TxList}
 use Rattle.mg_txlist_ties.specs.CommitTies.{ShowsTip}

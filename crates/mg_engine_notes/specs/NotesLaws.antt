@@ -7,7 +7,7 @@ use Rattle.mg_model.specs.declared.opening.Opening.{Opening}
 use Rattle.mg_model.specs.declared.table.Table.{Table}
 use Rattle.mg_model.specs.History.{Entries}
 use Rattle.mg_pool_overlays.specs.Needs.{Asked, Sessions}
-use Rattle.mg_standing.specs.Standing.{Standing}
+use Rattle.mg_engine_steps.specs.Standing.{Standing}
 use Rattle.mg_lasting.specs.Lasting.{LastsOn}
 use Rattle.mg_image.specs.Form.{packed_form}
 use Rattle.mg_works.specs.Works.{Working, given_by, has_session, with_work, with_written, work_of}

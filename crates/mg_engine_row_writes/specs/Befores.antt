@@ -10,12 +10,12 @@ use Rattle.mg_model.specs.Catalog.{catalog_name}
 use Rattle.mg_model.specs.Changes.{same_name}
 use Rattle.mg_model.specs.History.{Entries}
 use Rattle.mg_model.specs.Machine.{own, state_of}
-use Rattle.mg_engine_answers.specs.Known.{IsShown, KnowsPages}
-use Rattle.mg_engine_answers.specs.Laws.{TellsSpeaker}
+use Rattle.mg_engine_steps.specs.Known.{IsShown, KnowsPages}
+use Rattle.mg_engine_steps.specs.AnswersLaws.{TellsSpeaker}
 use Rattle.mg_image.specs.Form.{Pages}
 use Rattle.mg_row_writes.specs.Befores.{IsBefore}
 use Rattle.mg_row_writes.specs.declared.before.Before.{Before}
-use Rattle.mg_standing.specs.Standing.{Standing}
+use Rattle.mg_engine_steps.specs.Standing.{Standing}
 use Rattle.mg_undo.specs.Machine.{was_in}
 use Rattle.std.proofs.Common.{false}
 

@@ -29,9 +29,9 @@ use Rattle.mg_records.specs.Reading.{shape_seen}
 use Rattle.mg_records.specs.Writing.{FitsShape, event_of}
 use Rattle.mg_records.specs.declared.write.Write.{Write}
 use Rattle.mg_records.specs.declared.write.Write.TheVariants as writes
-use Rattle.mg_engine_answers.specs.Known.{IsShown, KnowsPages, seen_is_shown}
-use Rattle.mg_engine_answers.specs.Laws.{SpeakersAreTold, TellsSpeaker}
-use Rattle.mg_engine_commits.specs.ListShows.{BehindKeepsTips, ListsStay, TipsStayOn}
+use Rattle.mg_engine_steps.specs.Known.{IsShown, KnowsPages, seen_is_shown}
+use Rattle.mg_engine_steps.specs.AnswersLaws.{SpeakersAreTold, TellsSpeaker}
+use Rattle.mg_engine_steps.specs.ListShows.{BehindKeepsTips, ListsStay, TipsStayOn}
 use Rattle.mg_engine_steps.specs.GoesOn.{HasGoneOn, WritesGoOn}
 use Rattle.mg_engine_steps.specs.GoesOnLaws.{pool_is_kept}
 use Rattle.mg_engine_writes.specs.Caches.{kept_from}
@@ -41,7 +41,7 @@ use Rattle.mg_grown_catalogs.specs.Grown.{makes_alone}
 use Rattle.mg_image.specs.Form.{Pages, packed_coding, packed_form}
 use Rattle.mg_image.specs.Indexes.{IsFoundIn}
 use Rattle.mg_image.specs.Tables.{Stand, stands_of, table_at}
-use Rattle.mg_image_steps.specs.TableOwners.{IsOneOf}
+use Rattle.mg_kept_images.specs.TableOwners.{IsOneOf}
 use Rattle.mg_kept_images.specs.KeptImages.{IsKept}
 use Rattle.mg_lasting.specs.Crashes.{HoldsAcknowledged, LeavesSince, may_last}
 use Rattle.mg_lasting.specs.Lasting.{LastsOn}
@@ -56,10 +56,10 @@ use Rattle.mg_rowcode.specs.Storable.{AreStorable}
 use Rattle.mg_seek.specs.Speaking.{IsSpeaker}
 use Rattle.mg_space.specs.declared.links.FireLinks.{FireLinks}
 use Rattle.mg_space_ties.specs.Changed.{KeptIn, fresh}
-use Rattle.mg_standing.specs.Following.{FollowsEntry}
-use Rattle.mg_standing.specs.Standing.{HasFirstPage, Standing, Stands}
-use Rattle.mg_standing.specs.Writing.{WritesKey}
-use Rattle.mg_table_stands.specs.OneTable.{one_table, stands_in}
+use Rattle.mg_engine_steps.specs.Following.{FollowsEntry}
+use Rattle.mg_engine_steps.specs.Standing.{HasFirstPage, Standing, Stands}
+use Rattle.mg_engine_steps.specs.Writing.{WritesKey}
+use Rattle.mg_table_overlays.specs.OneTable.{one_table, stands_in}
 use Rattle.mg_txlist.specs.TxList.{said}
 use Rattle.mg_undo.specs.Undo.{after_keep}
 use Rattle.mg_version.specs.declared.cell.Version.{Version}
@@ -76,8 +76,8 @@ use Rattle.mg_engine_steps.specs.Batches.{RowsLastStill}
 use Rattle.mg_engine_steps.specs.Writes.{IsSilentAt}
 use Rattle.mg_image.specs.Records.{cells_of}
 use Rattle.mg_undo.specs.Machine.{was_in}
-use Rattle.mg_engine_answers.specs.Walking.{AreToCome}
-use Rattle.mg_engine_page_calls.specs.StepLaws.{as_standing}
+use Rattle.mg_engine_steps.specs.Walking.{AreToCome}
+use Rattle.mg_engine_meaning.specs.StepLaws.{as_standing}
 use Rattle.mg_engine_row_writes.specs.Answered.{no_catalog}
 use Rattle.mg_engine_row_writes.specs.Befores.{BeforesAreTold}
 use Rattle.mg_engine_row_writes.specs.Codes.{StoredRowsAreCoded}

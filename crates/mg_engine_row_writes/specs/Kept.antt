@@ -14,9 +14,9 @@ use Rattle.mg_records.specs.Writing.{event_of}
 use Rattle.mg_records.specs.declared.write.Write.{Write}
 use Rattle.mg_records.specs.declared.write.Write.TheVariants as writes
 use Rattle.mg_row_writes.specs.Storing.{written_at}
-use Rattle.mg_standing.specs.Following.{FollowsEntry, KeepsOne}
-use Rattle.mg_standing.specs.Standing.{Remembers, Standing}
-use Rattle.mg_standing.specs.Writing.{WritesKey}
+use Rattle.mg_engine_steps.specs.Following.{FollowsEntry, KeepsOne}
+use Rattle.mg_engine_steps.specs.Standing.{Remembers, Standing}
+use Rattle.mg_engine_steps.specs.Writing.{WritesKey}
 use Rattle.mg_undo.specs.Machine.{was_in}
 use Rattle.mg_undo.specs.Undo.{after_keep}
 use Rattle.mg_undo.specs.declared.changes.Was.{Was}

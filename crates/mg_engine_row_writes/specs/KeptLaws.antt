@@ -25,9 +25,9 @@ use Rattle.mg_records.specs.Reading.{shape_named, shape_seen}
 use Rattle.mg_records.specs.declared.write.Write.{Write}
 use Rattle.mg_records.specs.declared.write.Write.TheVariants as writes
 use Rattle.mg_row_writes.specs.Storing.{written_at}
-use Rattle.mg_standing.specs.Following.{FollowsEntry, Notes}
-use Rattle.mg_standing.specs.Standing.{IsSeenAs, Remembers, RemembersOne, Standing}
-use Rattle.mg_standing.specs.Writing.{WritesKey}
+use Rattle.mg_engine_steps.specs.Following.{FollowsEntry, Notes}
+use Rattle.mg_engine_steps.specs.Standing.{IsSeenAs, Remembers, RemembersOne, Standing}
+use Rattle.mg_engine_steps.specs.Writing.{WritesKey}
 use Rattle.mg_undo.specs.Machine.{NotesDeeds, changes_of, undo_of, was_in}
 use Rattle.mg_undo.specs.Undo.{State as Undo, after_keep}
 use Rattle.mg_undo.specs.declared.changes.Change.{Change as Kept}

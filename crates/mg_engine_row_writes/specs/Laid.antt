@@ -24,7 +24,7 @@ use Rattle.mg_engine_meaning.specs.Meaning.{Places}
 use Rattle.mg_engine_meaning.specs.Standings.{StandsFor, standing_of}
 use Rattle.mg_base.specs.Image.{Image}
 use Rattle.mg_pool.specs.Pool.{shown}
-use Rattle.mg_standing.specs.Standing.{Standing}
+use Rattle.mg_engine_steps.specs.Standing.{Standing}
 use Rattle.mg_engine_row_writes.specs.Walks.{OthersWalkOn, WalkInto}
 use Rattle.mg_engine_row_writes.specs.Kept.{made_by}
 use Rattle.mg_engine_row_writes.specs.Tips.{KeepsTips}

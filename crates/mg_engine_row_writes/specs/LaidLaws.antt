@@ -17,8 +17,8 @@ use Rattle.mg_model.specs.Laws.{OpeningsBegin}
 use Rattle.mg_records.specs.Writing.{FitsShape, event_of}
 use Rattle.mg_records.specs.declared.write.Write.{Write}
 use Rattle.mg_chain.specs.Views.{is_dead}
-use Rattle.mg_engine_answers.specs.Laws.{NothingAtKeys, ObstaclesAtKeys, RowsAtKeys, SpeakersAreTold}
-use Rattle.mg_engine_commits.specs.ListShows.{BehindKeepsTips, ListsStay, TipsStayOn}
+use Rattle.mg_engine_steps.specs.AnswersLaws.{NothingAtKeys, ObstaclesAtKeys, RowsAtKeys, SpeakersAreTold}
+use Rattle.mg_engine_steps.specs.ListShows.{BehindKeepsTips, ListsStay, TipsStayOn}
 use Rattle.mg_engine_steps.specs.Batches.{ReadsLast, RowsLastStill}
 use Rattle.mg_engine_steps.specs.GoesOn.{WritesGoOn}
 use Rattle.mg_engine_writes.specs.Rows.{PushesGoOn, ReplacementsGoOn, FirstsGoOn}
@@ -56,18 +56,18 @@ use Rattle.mg_core.specs.Putting.{StandsBefore, works_kept}
 use Rattle.mg_core.specs.Writing.{HasBegun, IsFree, IsOfKey, Writes}
 use Rattle.mg_engine_meaning.specs.Meaning.{Places}
 use Rattle.mg_engine_meaning.specs.Standings.{ShowsIt, StandsFor, asked_in, sessions_in, standing_of, StandsWhile}
-use Rattle.mg_engine_page_calls.specs.ReadLaws.{reads_stand}
-use Rattle.mg_engine_page_calls.specs.StepLaws.{shows_of, as_standing}
-use Rattle.mg_engine_answers.specs.Known.{IsShown}
+use Rattle.mg_engine_meaning.specs.ReadLaws.{reads_stand}
+use Rattle.mg_engine_meaning.specs.StepLaws.{shows_of, as_standing}
+use Rattle.mg_engine_steps.specs.Known.{IsShown}
 use Rattle.mg_model.specs.Machine.{own}
 use Rattle.mg_model.specs.Openings.{everyone}
 use Rattle.mg_overlays.specs.Overlays.{left_state}
-use Rattle.mg_table_stands.specs.OneTable.{one_table}
+use Rattle.mg_table_overlays.specs.OneTable.{one_table}
 use Rattle.mg_undo.specs.Machine.{was_in}
 use Rattle.mg_base.specs.declared.geometry.Geometry.{Geometry}
-use Rattle.mg_engine_answers.specs.Walking.{AreToCome}
+use Rattle.mg_engine_steps.specs.Walking.{AreToCome}
 use Rattle.mg_model.specs.Changes.{KeyedRows, same_name}
-use Rattle.mg_standing.specs.Standing.{Standing}
+use Rattle.mg_engine_steps.specs.Standing.{Standing}
 use Rattle.mg_engine_row_writes.specs.Walks.{WalkInto}
 use Rattle.mg_engine_row_writes.specs.Spots.{HasTaken}
 use Rattle.mg_engine_row_writes.specs.Befores.{BeforesAreTold}

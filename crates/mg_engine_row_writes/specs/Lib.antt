@@ -1,3 +1,6 @@
+pub mod RowWalks
+pub mod RowsLaws
+pub mod RowWalksLaws
 pub mod Notes
 pub mod NoteLaws
 pub mod Stops

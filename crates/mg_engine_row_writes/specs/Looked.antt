@@ -20,8 +20,8 @@ use Rattle.mg_model.specs.Changes.{row_at}
 use Rattle.mg_model.specs.History.{Entries}
 use Rattle.mg_model.specs.Laws.{OpeningsBegin}
 use Rattle.mg_model.specs.Machine.{mode_of, state_of, view}
-use Rattle.mg_engine_answers.specs.Known.{IsShown, KnowsPages}
-use Rattle.mg_engine_answers.specs.Laws.{NothingAtKeys, ObstaclesAtKeys, RowsAtKeys, SpeakersAreTold, TellsSpeaker}
+use Rattle.mg_engine_steps.specs.Known.{IsShown, KnowsPages}
+use Rattle.mg_engine_steps.specs.AnswersLaws.{NothingAtKeys, ObstaclesAtKeys, RowsAtKeys, SpeakersAreTold, TellsSpeaker}
 use Rattle.mg_image.specs.Form.{Pages, Row}
 use Rattle.mg_pool.specs.Pool.{shown}
 use Rattle.mg_row_writes.specs.Finding.{IsInWay, IsRowAt, IsSeenIn}
@@ -32,7 +32,7 @@ use Rattle.mg_seek.specs.Views.{hinders, obstacle_in, obstacle_of}
 use Rattle.mg_seek.specs.declared.views.Obstacle.{Obstacle}
 use Rattle.mg_seek.specs.declared.walk.Placed.{Placed}
 use Rattle.mg_snap.specs.Live.{State, sees}
-use Rattle.mg_standing.specs.Standing.{Standing}
+use Rattle.mg_engine_steps.specs.Standing.{Standing}
 use Rattle.mg_txlist.specs.TxList.{said}
 use Rattle.mg_waits.specs.Machine.{NobodyWaits, VerdictsAreTheMachines, answer_of}
 use Rattle.mg_waits.specs.Waits.{Edges, IsVerdict, NowWaits, edges_in}

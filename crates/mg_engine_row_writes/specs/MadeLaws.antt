@@ -34,9 +34,9 @@ use Rattle.mg_engine_meaning.specs.FrameLaws.{apart_from, commits_of, keeps_of, 
 use Rattle.mg_engine_meaning.specs.Frames.{GivesEvent, StoreGoesOn, WorksStay}
 use Rattle.mg_engine_meaning.specs.Meaning.{Places, means, AreNext, rec_at}
 use Rattle.mg_engine_meaning.specs.Standings.{StandsFor, asked_kept, session_kept, sessions_in, Numbers, Tables, standing_of}
-use Rattle.mg_engine_page_calls.specs.ReadLaws.{reads_go}
-use Rattle.mg_engine_page_calls.specs.StepLaws.{as_standing, run_goes, unmarked_run}
-use Rattle.mg_engine_answers.specs.Walking.{AreToCome}
+use Rattle.mg_engine_meaning.specs.ReadLaws.{reads_go}
+use Rattle.mg_engine_meaning.specs.StepLaws.{as_standing, run_goes, unmarked_run}
+use Rattle.mg_engine_steps.specs.Walking.{AreToCome}
 use Rattle.mg_model.specs.Changes.{KeyedRows}
 use Rattle.mg_pool.specs.Pool.{shown}
 use Rattle.mg_txlist.specs.TxList.{said}

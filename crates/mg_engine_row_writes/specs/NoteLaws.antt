@@ -3,11 +3,11 @@ use Rattle.std.proofs.Common.{◌≡◌, ◌≤◌, ℕ, false, List, ◌∷◌,
 use Rattle.mg_base.specs.Disk.{Meaning}
 use Rattle.mg_base.specs.declared.geometry.Geometry.{Geometry}
 use Rattle.mg_base.specs.declared.numbers.RecId.{RecId}
-use Rattle.mg_engine_answers.specs.Walking.{AreToCome}
+use Rattle.mg_engine_steps.specs.Walking.{AreToCome}
 use Rattle.mg_model.specs.declared.table.Table.{Table}
 use Rattle.mg_model.specs.Changes.{KeyedRows}
-use Rattle.mg_standing.specs.Standing.{Standing}
-use Rattle.mg_engine_page_calls.specs.StepLaws.{as_standing}
+use Rattle.mg_engine_steps.specs.Standing.{Standing}
+use Rattle.mg_engine_meaning.specs.StepLaws.{as_standing}
 use Rattle.mg_model.specs.declared.event.Event.{Event}
 use Rattle.mg_model.specs.declared.answer.Answer.TheVariants.{No}
 use Rattle.mg_model.specs.declared.opening.Opening.{Opening}
@@ -16,7 +16,7 @@ use Rattle.mg_model.specs.History.{Entries, Entry, entry, transaction_of}
 use Rattle.mg_model.specs.Laws.{OpeningsBegin}
 use Rattle.mg_model.specs.Legal.{IsLawful}
 use Rattle.mg_model.specs.Machine.{waited_on}
-use Rattle.mg_engine_entries.specs.Idle.{IdleGoesOn}
+use Rattle.mg_engine_steps.specs.Idle.{IdleGoesOn}
 use Rattle.mg_engine_steps.specs.Batches.{ReadsLast}
 use Rattle.mg_image.specs.Form.{packed_form}
 use Rattle.mg_lasting.specs.Changing.{QuietHolds}
@@ -27,7 +27,7 @@ use Rattle.mg_pool.specs.declared.pool.Pool.{Pool}
 use Rattle.mg_records.specs.Keeping.{WalksStay}
 use Rattle.mg_space.specs.View.{KeepsStore}
 use Rattle.mg_space.specs.declared.links.FireLinks.{FireLinks}
-use Rattle.mg_standing.specs.Following.{StandsOn}
+use Rattle.mg_engine_steps.specs.Following.{StandsOn}
 use Rattle.mg_waits.specs.Waits.{NowWaits, edges_in}
 use Rattle.mg_core.specs.declared.parts.Core.{Core}
 use Rattle.mg_engine_meaning.specs.FrameLaws.{commits_of, keeps_of, sessions_of, tables_of, works_same}
@@ -36,7 +36,7 @@ use Rattle.mg_engine_meaning.specs.LawfulLaws.{quiet_count, quiet_event}
 use Rattle.mg_engine_meaning.specs.Meaning.{AreNext, Places, means, rec_at}
 use Rattle.mg_engine_meaning.specs.MemoryCallLaws.{idle_finds, memory_stands, nothing_follows}
 use Rattle.mg_engine_meaning.specs.Standings.{StandsFor, sessions_in, standing_of}
-use Rattle.mg_engine_page_calls.specs.ReadLaws.{reads_go, reads_quiet, reads_stand}
+use Rattle.mg_engine_meaning.specs.ReadLaws.{reads_go, reads_quiet, reads_stand}
 use Rattle.mg_model.specs.Legal.{is_lasting}
 use Rattle.mg_engine_row_writes.specs.Notes.{OnlyNotes}
 

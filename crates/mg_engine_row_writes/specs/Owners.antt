@@ -3,7 +3,7 @@ use Rattle.std.specs.Prelude.{◌≡◌, ℕ, Bool, List, Some}
 use Rattle.mg_base.specs.declared.transaction.TxState.TheVariants.{Active}
 use Rattle.mg_value.specs.declared.shape.Shape.{Shape}
 use Rattle.mg_grown_catalogs.specs.Grown.{CatalogGrows}
-use Rattle.mg_grown_overlays.specs.Growing.{IsTableOf}
+use Rattle.mg_table_overlays.specs.Growing.{IsTableOf}
 use Rattle.mg_image.specs.Form.{Pages, packed_form}
 use Rattle.mg_kept_images.specs.KeptImages.{IsKept}
 use Rattle.mg_model.specs.declared.opening.Opening.{Opening}
@@ -12,7 +12,7 @@ use Rattle.mg_model.specs.History.{Entries}
 use Rattle.mg_model.specs.Machine.{state_of}
 use Rattle.mg_overlays.specs.Overlays.{left_state}
 use Rattle.mg_records.specs.Reading.{shape_seen}
-use Rattle.mg_standing.specs.Standing.{Standing, Stands}
+use Rattle.mg_engine_steps.specs.Standing.{Standing, Stands}
 use Rattle.mg_engine_meaning.specs.PlainTables.{HasPlainTables}
 use Rattle.mg_engine_writes.specs.Knowing.{MayWriteInto}
 

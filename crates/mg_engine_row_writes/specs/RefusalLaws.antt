@@ -24,8 +24,8 @@ use Rattle.mg_records.specs.Reading.{shape_seen}
 use Rattle.mg_records.specs.Writing.{event_of}
 use Rattle.mg_records.specs.declared.write.Write.{Write}
 use Rattle.mg_records.specs.declared.write.Write.TheVariants as writes
-use Rattle.mg_engine_answers.specs.Known.{IsShown, seen_is_shown}
-use Rattle.mg_engine_answers.specs.Laws.{NothingAtKeys, ObstaclesAtKeys, RowsAtKeys, SpeakersAreTold}
+use Rattle.mg_engine_steps.specs.Known.{IsShown, seen_is_shown}
+use Rattle.mg_engine_steps.specs.AnswersLaws.{NothingAtKeys, ObstaclesAtKeys, RowsAtKeys, SpeakersAreTold}
 use Rattle.mg_image.specs.Form.{Pages}
 use Rattle.mg_pool.specs.Pool.{shown}
 use Rattle.mg_row_writes.specs.Finding.{IsInWay, IsObstacleAt, IsRowAt}
@@ -35,7 +35,7 @@ use Rattle.mg_seek.specs.Speaking.{IsSpeaker}
 use Rattle.mg_seek.specs.declared.views.Obstacle.{Obstacle}
 use Rattle.mg_space.specs.View.{Tells}
 use Rattle.mg_space.specs.ViewLaws.{CountsNow}
-use Rattle.mg_table_stands.specs.OneTable.{stands_in}
+use Rattle.mg_table_overlays.specs.OneTable.{stands_in}
 use Rattle.mg_txlist.specs.TxList.{said}
 use Rattle.mg_waits.specs.Machine.{NobodyWaits, VerdictsAreTheMachines}
 use Rattle.mg_waits.specs.Waits.{edges_in}
@@ -47,7 +47,7 @@ use Rattle.mg_core.specs.Writing.{Allows, HasBegun, HasFound, HasPassed, IsFree,
 use Rattle.mg_engine_meaning.specs.LawfulLaws.{memory_of, tables_are_seen}
 use Rattle.mg_engine_meaning.specs.Meaning.{Places}
 use Rattle.mg_engine_meaning.specs.Standings.{ShowsIt, StandsFor, mode_kept, standing_of}
-use Rattle.mg_engine_page_calls.specs.StepLaws.{shows_of}
+use Rattle.mg_engine_meaning.specs.StepLaws.{shows_of}
 use Rattle.mg_engine_row_writes.specs.Answered.{answered, row_answer, table_answer}
 use Rattle.mg_engine_row_writes.specs.Looked.{hindered_answer, passed_next, row_told}
 use Rattle.mg_engine_row_writes.specs.Notes.{HasRead}

@@ -17,8 +17,8 @@ use Rattle.mg_model.specs.Legal.{IsLawful, is_outer}
 use Rattle.mg_model.specs.Machine.{waited_on}
 use Rattle.mg_records.specs.Writing.{event_of}
 use Rattle.mg_records.specs.declared.write.Write.{Write}
-use Rattle.mg_engine_answers.specs.Laws.{NothingAtKeys, ObstaclesAtKeys, RowsAtKeys, SpeakersAreTold}
-use Rattle.mg_engine_entries.specs.Idle.{IdleGoesOn}
+use Rattle.mg_engine_steps.specs.AnswersLaws.{NothingAtKeys, ObstaclesAtKeys, RowsAtKeys, SpeakersAreTold}
+use Rattle.mg_engine_steps.specs.Idle.{IdleGoesOn}
 use Rattle.mg_engine_steps.specs.Batches.{ReadsLast}
 use Rattle.mg_image.specs.Form.{Pages, packed_form}
 use Rattle.mg_lasting.specs.Changing.{QuietHolds}
@@ -33,7 +33,7 @@ use Rattle.mg_space.specs.ViewLaws.{CountsNow}
 use Rattle.mg_space.specs.declared.fault.SpaceFault.{SpaceFault}
 use Rattle.mg_space.specs.declared.fault.SpaceFault.TheVariants as faults
 use Rattle.mg_space.specs.declared.links.FireLinks.{FireLinks}
-use Rattle.mg_standing.specs.Following.{StandsOn}
+use Rattle.mg_engine_steps.specs.Following.{StandsOn}
 use Rattle.mg_version.specs.declared.cell.Version.{Version}
 use Rattle.mg_waits.specs.Machine.{NobodyWaits, VerdictsAreTheMachines}
 use Rattle.mg_works.specs.Works.{given_to}

@@ -10,7 +10,7 @@ use Rattle.mg_base.specs.declared.transaction.TxState.TheVariants.{Active}
 use Rattle.mg_value.specs.declared.value.Value.{Value}
 use Rattle.mg_chain.specs.Writing.{GivesSpot}
 use Rattle.mg_chain_ties.specs.SpotTies.{HasSpotFor}
-use Rattle.mg_engine_commits.specs.ListShows.{BehindKeepsTips, ListsStay, TipsStayOn}
+use Rattle.mg_engine_steps.specs.ListShows.{BehindKeepsTips, ListsStay, TipsStayOn}
 use Rattle.mg_engine_steps.specs.Batches.{RowsLastStill}
 use Rattle.mg_engine_steps.specs.Reads.{grown_to}
 use Rattle.mg_engine_steps.specs.Writes.{IsSilentAt}
@@ -19,8 +19,8 @@ use Rattle.mg_engine_writes.specs.Knowing.{WasChanged}
 use Rattle.mg_engine_writes.specs.Rows.{HasPlace}
 use Rattle.mg_engine_writes.specs.SpotLaws.{bits, grown, spot, spot_stays}
 use Rattle.mg_generations.specs.Generations.{Generation}
-use Rattle.mg_grown_overlays.specs.Growing.{EndsAt, Grows, IsTableOf, TableEnd}
-use Rattle.mg_grown_overlays.specs.GrowingLaws.{StandsTo, table_of_end}
+use Rattle.mg_table_overlays.specs.Growing.{EndsAt, Grows, IsTableOf, TableEnd}
+use Rattle.mg_table_overlays.specs.GrowingLaws.{StandsTo, table_of_end}
 use Rattle.mg_heap_ties.specs.RoomTies.{GrowsSome, end_of, ends_there}
 use Rattle.mg_image.specs.Form.{Pages, packed_coding, packed_form}
 use Rattle.mg_image.specs.ReadingLaws.{RowsAreOne}
@@ -28,7 +28,7 @@ use Rattle.mg_image.specs.RecordRules.{Facts}
 use Rattle.mg_image.specs.Records.{cells_of}
 use Rattle.mg_image.specs.Sound.{facts_by}
 use Rattle.mg_image.specs.Tables.{stands_of, table_at}
-use Rattle.mg_image_steps.specs.Kinds.{HasNoSequences}
+use Rattle.mg_kept_images.specs.Kinds.{HasNoSequences}
 use Rattle.mg_kept_images.specs.KeptImages.{IsKept, AreFrontStands}
 use Rattle.mg_lasting.specs.Crashes.{HoldsAcknowledged, LeavesSince}
 use Rattle.mg_lasting.specs.Lasting.{LastsOn}
@@ -38,7 +38,7 @@ use Rattle.mg_model.specs.History.{Entries}
 use Rattle.mg_model.specs.Laws.{OpeningsBegin}
 use Rattle.mg_model.specs.Openings.{everyone}
 use Rattle.mg_overlays.specs.Overlays.{left_state}
-use Rattle.mg_own_tables.specs.Whose.{IsTableFor}
+use Rattle.mg_table_overlays.specs.Whose.{IsTableFor}
 use Rattle.mg_pool.specs.Batch.{Changed, content_in, lists}
 use Rattle.mg_pool.specs.Pool.{shown}
 use Rattle.mg_pool.specs.declared.pool.Pool.{Pool}
@@ -47,14 +47,14 @@ use Rattle.mg_seek.specs.Histories.{told_versions}
 use Rattle.mg_space.specs.View.{viewed}
 use Rattle.mg_space.specs.declared.links.FireLinks.{FireLinks}
 use Rattle.mg_space_ties.specs.Changed.{changed_fresh, fresh}
-use Rattle.mg_standing.specs.Laws.{IsChainOf}
-use Rattle.mg_standing.specs.Standing.{ShowsHistory, Standing, Stands}
-use Rattle.mg_standing.specs.Versions.{SpeaksFor, SpeaksOrSilent}
-use Rattle.mg_table_stands.specs.DataKept.{KeepsBits, data_self}
+use Rattle.mg_engine_steps.specs.StandingLaws.{IsChainOf}
+use Rattle.mg_engine_steps.specs.Standing.{ShowsHistory, Standing, Stands}
+use Rattle.mg_engine_steps.specs.Versions.{SpeaksFor, SpeaksOrSilent}
+use Rattle.mg_table_overlays.specs.DataKept.{KeepsBits, data_self}
 use Rattle.mg_txlist.specs.declared.list.TxList.{TxList}
 use Rattle.mg_engine_meaning.specs.PlainTables.{HasPlainTables}
 use Rattle.mg_engine_meaning.specs.Standings.{HasTips}
-use Rattle.mg_engine_fronts.specs.TablePagesLaws.{then_keeps, to as grown_layout}
+use Rattle.mg_engine_writes.specs.TablePagesLaws.{then_keeps, to as grown_layout}
 use Rattle.mg_engine_row_writes.specs.PlainLaws.{grown_keeps_plain}
 use Rattle.mg_engine_row_writes.specs.TipLaws.{growth_keeps_tips}
 use Rattle.mg_engine_row_writes.specs.Tips.{KeepsTips}

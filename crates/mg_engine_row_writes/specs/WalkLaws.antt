@@ -7,12 +7,12 @@ use Rattle.mg_base.specs.declared.numbers.RecId.{RecId}
 use Rattle.mg_base.specs.declared.transaction.TxState.{TxState}
 use Rattle.mg_base.specs.declared.transaction.TxState.TheVariants.{Active}
 use Rattle.mg_chain.specs.Chains.{takes_version}
-use Rattle.mg_engine_answers.specs.Known.{IsShown}
-use Rattle.mg_engine_answers.specs.TablePages.{data_once}
-use Rattle.mg_engine_row_walks.specs.RowWalks.{ShowsOn, row_at_record}
-use Rattle.mg_engine_row_walks.specs.RowWalksLaws.{row_walks_go_on}
+use Rattle.mg_engine_steps.specs.Known.{IsShown}
+use Rattle.mg_engine_steps.specs.TablePages.{data_once}
+use Rattle.mg_engine_row_writes.specs.RowWalks.{ShowsOn, row_at_record}
+use Rattle.mg_engine_row_writes.specs.RowWalksLaws.{row_walks_go_on}
 use Rattle.mg_engine_steps.specs.Writes.{ReadsAfter}
-use Rattle.mg_grown_overlays.specs.Growing.{IsTableOf}
+use Rattle.mg_table_overlays.specs.Growing.{IsTableOf}
 use Rattle.mg_image.specs.Form.{Pages, Row, packed_coding, packed_form}
 use Rattle.mg_image.specs.ReadingLaws.{RowsAreOne}
 use Rattle.mg_image.specs.Records.{Reading, shown, writer}
@@ -23,12 +23,12 @@ use Rattle.mg_kept_images.specs.KeptImages.{AreFrontStands, IsFrontOf, IsFrontSt
 use Rattle.mg_model.specs.declared.table.Table.{Table}
 use Rattle.mg_model.specs.Answers.{is_committed}
 use Rattle.mg_model.specs.Openings.{everyone}
-use Rattle.mg_one_layout.specs.OneLayout.{sound_once}
+use Rattle.mg_table_overlays.specs.OneLayout.{sound_once}
 use Rattle.mg_overlays.specs.Overlays.{left_state}
 use Rattle.mg_seek.specs.Walks.{keyed}
 use Rattle.mg_snap.specs.Live.{sees}
-use Rattle.mg_standing.specs.Standing.{Standing}
-use Rattle.mg_table_stands.specs.OneTable.{its_data}
+use Rattle.mg_engine_steps.specs.Standing.{Standing}
+use Rattle.mg_table_overlays.specs.OneTable.{its_data}
 use Rattle.mg_engine_row_writes.specs.Walks.{OthersWalkOn}
 
 -- ---- fronts

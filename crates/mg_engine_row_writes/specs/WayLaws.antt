@@ -17,7 +17,7 @@ use Rattle.mg_row_writes.specs.declared.before.Way.TheVariants as ways
 use Rattle.mg_seek.specs.Versions.{FirstAt, is_it, is_older, wants}
 use Rattle.mg_seek.specs.declared.walk.Placed.{Placed}
 use Rattle.mg_seek.specs.declared.whose.Wanted.TheVariants.{Any}
-use Rattle.mg_standing.specs.Standing.{Standing}
+use Rattle.mg_engine_steps.specs.Standing.{Standing}
 use Rattle.mg_version.specs.declared.cell.Cell.TheVariants as cells
 use Rattle.mg_version.specs.declared.cell.Link.{Link}
 use Rattle.mg_version.specs.declared.cell.Version.{Version}

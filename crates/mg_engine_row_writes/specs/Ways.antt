@@ -12,7 +12,7 @@ use Rattle.mg_row_writes.specs.Befores.{IsBeforeIn}
 use Rattle.mg_row_writes.specs.declared.before.Before.{Before}
 use Rattle.mg_row_writes.specs.declared.before.Way.TheVariants as ways
 use Rattle.mg_seek.specs.Views.{IsObstacle}
-use Rattle.mg_standing.specs.Standing.{Standing, Stands}
+use Rattle.mg_engine_steps.specs.Standing.{Standing, Stands}
 use Rattle.mg_version.specs.declared.cell.Cell.TheVariants as cells
 use Rattle.mg_version.specs.declared.cell.Link.{Link}
 

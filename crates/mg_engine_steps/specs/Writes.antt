@@ -20,12 +20,12 @@ use Rattle.mg_image.specs.Records.{Reading, key_of, writer}
 use Rattle.mg_image.specs.Sound.{IsSoundBy, facts_by}
 use Rattle.mg_image.specs.Tables.{Layout, stands_of, table_at}
 use Rattle.mg_overlays.specs.Overlays.{left_state}
-use Rattle.mg_grown_overlays.specs.Growing.{HasGrown}
-use Rattle.mg_standing.specs.Following.{FollowsEntry}
-use Rattle.mg_standing.specs.Laws.{IsChainOf}
-use Rattle.mg_standing.specs.Standing.{ShowsHistory, Standing, Stands}
+use Rattle.mg_table_overlays.specs.Growing.{HasGrown}
+use Rattle.mg_engine_steps.specs.Following.{FollowsEntry}
+use Rattle.mg_engine_steps.specs.StandingLaws.{IsChainOf}
+use Rattle.mg_engine_steps.specs.Standing.{ShowsHistory, Standing, Stands}
 use Rattle.mg_seek.specs.Histories.{told_given}
-use Rattle.mg_standing.specs.Writing.{WritesKey}
+use Rattle.mg_engine_steps.specs.Writing.{WritesKey}
 
 -- ---- what is read
 

@@ -29,20 +29,20 @@ use Rattle.mg_image.specs.RecordRules.{Facts, table_in}
 use Rattle.mg_image.specs.Records.{Reading, record_key, writer}
 use Rattle.mg_image.specs.Sound.{IsSoundBy, facts_by}
 use Rattle.mg_image.specs.Tables.{Layout, Stand, stands_of}
-use Rattle.mg_image_steps.specs.Fronts.{is_dead, living}
+use Rattle.mg_kept_images.specs.Fronts.{is_dead, living}
 use Rattle.mg_overlays.specs.Overlays.{left_by, left_state}
-use Rattle.mg_grown_overlays.specs.Growing.{HasGrown, IsTableOf}
-use Rattle.mg_standing.specs.EndingLaws.{writes_show}
-use Rattle.mg_standing.specs.Following.{FollowsEntry, StandsOn}
-use Rattle.mg_standing.specs.Laws.{IsChainOf}
-use Rattle.mg_standing.specs.MemoryLaws.{others_keep_tables}
-use Rattle.mg_standing.specs.ShowsLaws.{tables_kept}
-use Rattle.mg_standing.specs.Standing.{FindsTables, HasFirstPage, ShowsHistory, Standing}
+use Rattle.mg_table_overlays.specs.Growing.{HasGrown, IsTableOf}
+use Rattle.mg_engine_steps.specs.EndingLaws.{writes_show}
+use Rattle.mg_engine_steps.specs.Following.{FollowsEntry, StandsOn}
+use Rattle.mg_engine_steps.specs.StandingLaws.{IsChainOf}
+use Rattle.mg_engine_steps.specs.MemoryLaws.{others_keep_tables}
+use Rattle.mg_engine_steps.specs.ShowsLaws.{tables_kept}
+use Rattle.mg_engine_steps.specs.Standing.{FindsTables, HasFirstPage, ShowsHistory, Standing}
 use Rattle.mg_seek.specs.Histories.{told_versions}
-use Rattle.mg_standing.specs.Versions.{HaveVersions, told_version}
-use Rattle.mg_standing.specs.Writing.{WritesKey, WritesRecord}
-use Rattle.mg_standing.specs.WritingLaws.{erased_may_be_silent}
-use Rattle.mg_table_stands.specs.OneTable.{table_at_stands}
+use Rattle.mg_engine_steps.specs.Versions.{HaveVersions, told_version}
+use Rattle.mg_engine_steps.specs.Writing.{WritesKey, WritesRecord}
+use Rattle.mg_engine_steps.specs.WritingLaws.{erased_may_be_silent}
+use Rattle.mg_table_overlays.specs.OneTable.{table_at_stands}
 use Rattle.mg_engine_steps.specs.Writes.{StaysBehind, WritesShow, WritesStand, WritesVersion, made, pushed, replaced}
 
 -- ---- tables, where a layout has grown

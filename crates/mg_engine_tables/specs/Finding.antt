@@ -15,10 +15,10 @@ use Rattle.mg_image.specs.Tables.{Layout}
 use Rattle.mg_model.specs.Openings.{everyone}
 use Rattle.mg_overlays.specs.Overlays.{left_state}
 use Rattle.mg_lasting.specs.Entries.{is_idle}
-use Rattle.mg_standing.specs.Following.{FollowsEntry}
-use Rattle.mg_standing.specs.QuietPages.{FindsAfter, StaySound}
-use Rattle.mg_standing.specs.Standing.{IsSeenAs, Standing}
-use Rattle.mg_engine_answers.specs.Known.{KnowsPages}
+use Rattle.mg_engine_steps.specs.Following.{FollowsEntry}
+use Rattle.mg_engine_steps.specs.QuietPages.{FindsAfter, StaySound}
+use Rattle.mg_engine_steps.specs.Standing.{IsSeenAs, Standing}
+use Rattle.mg_engine_steps.specs.Known.{KnowsPages}
 
 -- ---- the tables of a new base
 

@@ -28,13 +28,13 @@ use Rattle.mg_image.specs.Inventory.{next_of}
 use Rattle.mg_image.specs.Records.{Reading}
 use Rattle.mg_image.specs.Sound.{IsSoundBy}
 use Rattle.mg_image.specs.Tables.{Layout, stands_of}
-use Rattle.mg_image_steps.specs.Begins.{Raises, begin_sound}
-use Rattle.mg_one_layout.specs.OneLayout.{StandsOneWay}
+use Rattle.mg_kept_images.specs.Begins.{Raises, begin_sound}
+use Rattle.mg_table_overlays.specs.OneLayout.{StandsOneWay}
 use Rattle.mg_overlays.specs.Overlays.{left_by, left_state}
 use Rattle.mg_lasting.specs.Entries.{idle_own, is_idle}
-use Rattle.mg_standing.specs.Following.{FollowsEntry, KeepsTables, OthersKeepTables}
-use Rattle.mg_standing.specs.QuietPages.{FindsAfter}
-use Rattle.mg_standing.specs.Standing.{FindsTables, HasFirstPage, IsSeenAs, Standing}
+use Rattle.mg_engine_steps.specs.Following.{FollowsEntry, KeepsTables, OthersKeepTables}
+use Rattle.mg_engine_steps.specs.QuietPages.{FindsAfter}
+use Rattle.mg_engine_steps.specs.Standing.{FindsTables, HasFirstPage, IsSeenAs, Standing}
 use Rattle.mg_engine_tables.specs.Finding.{BeginFinds, BeginHasTables, CommitFinds, IdleFinds, LookFinds, LookHasTables, TablesFor}
 use Rattle.mg_engine_tables.specs.NamedTables.{HasTableWith}
 use Rattle.mg_engine_tables.specs.SeenTables.{DatabaseTablesStand, NewlySeenTablesStand}

@@ -1,4 +1,13 @@
+pub mod Alike
+pub mod TakesLaws
+pub mod RowsLaws
+pub mod WalksLaws
 pub mod NamedTables
 pub mod SeenTables
 pub mod Finding
 pub mod FindingLaws
+pub mod Seen
+pub mod SeenLaws
+pub mod Found
+pub mod FoundLaws
+pub mod SeenRows

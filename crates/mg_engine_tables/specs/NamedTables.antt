@@ -27,18 +27,18 @@ use Rattle.mg_image.specs.Form.{Pages, Row}
 use Rattle.mg_image.specs.Held.{Shows, told_row}
 use Rattle.mg_image.specs.RecordRules.{Facts, table_in}
 use Rattle.mg_image.specs.Records.{Reading, key_of, record_key, shown, writer}
-use Rattle.mg_image_steps.specs.Fronts.{is_dead, living}
-use Rattle.mg_image_steps.specs.TableOwners.{table_named}
+use Rattle.mg_kept_images.specs.Fronts.{is_dead, living}
+use Rattle.mg_kept_images.specs.TableOwners.{table_named}
 use Rattle.mg_image_openings.specs.Catalogs.{rows_once, shape_named}
 use Rattle.mg_image_openings.specs.Told.{shape_told}
 use Rattle.mg_overlays.specs.Overlays.{left_by}
 use Rattle.mg_seek.specs.Histories.{HasSpeaker, told_if, told_versions}
-use Rattle.mg_standing.specs.Standing.{Standing}
-use Rattle.mg_standing.specs.Versions.{SpeaksOrSilent, told_version}
-use Rattle.mg_table_stands.specs.OneTable.{stands_in}
-use Rattle.mg_engine_answers.specs.KeyAnswers.{has_speaker}
-use Rattle.mg_engine_answers.specs.Known.{KnowsPages, facts_shown, speaker_of}
-use Rattle.mg_engine_answers.specs.TableAnswers.{shown_key, shown_living}
+use Rattle.mg_engine_steps.specs.Standing.{Standing}
+use Rattle.mg_engine_steps.specs.Versions.{SpeaksOrSilent, told_version}
+use Rattle.mg_table_overlays.specs.OneTable.{stands_in}
+use Rattle.mg_engine_steps.specs.KeyAnswers.{has_speaker}
+use Rattle.mg_engine_steps.specs.Known.{KnowsPages, facts_shown, speaker_of}
+use Rattle.mg_engine_steps.specs.TableAnswers.{shown_key, shown_living}
 
 -- ---- definitions
 

@@ -25,9 +25,9 @@ use Rattle.mg_image.specs.Catalog.{committed_with}
 use Rattle.mg_image.specs.Form.{Pages}
 use Rattle.mg_image.specs.RecordRules.{Facts}
 use Rattle.mg_overlays.specs.Overlays.{left_by}
-use Rattle.mg_standing.specs.Laws.{ChainsGoOn}
-use Rattle.mg_standing.specs.Standing.{Standing}
-use Rattle.mg_engine_answers.specs.Known.{KnowsPages, facts_shown}
+use Rattle.mg_engine_steps.specs.StandingLaws.{ChainsGoOn}
+use Rattle.mg_engine_steps.specs.Standing.{Standing}
+use Rattle.mg_engine_steps.specs.Known.{KnowsPages, facts_shown}
 use Rattle.mg_engine_tables.specs.NamedTables.{HasTableWith, TellsCommitted, named_tables_stand}
 
 -- ---- definitions

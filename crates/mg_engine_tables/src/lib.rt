@@ -1,22 +1,28 @@
-//! Which tables stand on the pages of an engine that stands for a history, and that each active transaction finds
-//! its own there.
+//! Tables and walks of an engine that stands for a history: which tables stand on its pages, and that each active
+//! transaction finds its own there and walks on.
 //!
-//! Owns: the law on names under which the history tells a table (`NamedTablesStand`), for changes that have at each
-//! key of the catalog the newest version that is committed, or of one that is chosen among those that have not
-//! ended. Each has its table among those of the layout, but for indexes, with the shape that is told. Its uses are
-//! the database (`DatabaseTablesStand`), a view whose base sees all that are committed (`SeenTablesStand`), and a
-//! transaction's own changes laid over the database, which it would see with a new base
-//! (`NewlySeenTablesStand`). So there are tables for one that begins or looks (`TablesFor`), and with these each
-//! active transaction finds its tables afterwards; so it does after idle entries, and after the commit of another
-//! (`BeginFinds`, `LookFinds`, `IdleFinds`, `CommitFinds`).
+//! Owns:
+//!
+//! - `tables`: under which names tables stand (`NamedTablesStand`), and that each active transaction finds its own after a
+//!   begin, a look, an idle entry and the commit of another.
+//! - `seen`, `found`: what a transaction sees of a catalog whose rows are only made stands newest, so the table that it
+//!   finds under a name stands on the pages (`FoundTablesStand`), however old its base is.
+//! - `walks`: the walks of a transaction go on although others begin, end or write.
 //!
 //! All stands in `specs/`. There is no program here: each function does nothing, and its contract is a law.
 //!
 //! Invariant: none, it keeps no state.
-//! Below: `mg_engine_answers`, what is known of the pages; `mg_one_layout`. Above: the engine.
+//! Below: `mg_engine_steps`, what is known of the pages; `mg_grown_catalogs`, histories in which rows of the catalog are
+//! only made. Above: the laws on single calls.
 //! Not here: tables that are made or taken back.
 #![tactic(auto)]
 
-mod laws;
+mod found;
+mod seen;
+mod tables;
+mod walks;
 
-pub use laws::{bases_have_tables, named_tables_stand, tables_are_found};
+pub use found::found_tables_stand;
+pub use seen::newest_are_seen;
+pub use tables::{bases_have_tables, named_tables_stand, tables_are_found};
+pub use walks::{others_take_alike, walks_go_alike};

@@ -1,17 +1,17 @@
 -- Which tables each active transaction finds after one has taken back to a point.
 use Rattle.std.specs.Prelude.{◌≡◌, ℕ, List, [], Some}
 use Rattle.mg_base.specs.declared.transaction.TxState.TheVariants.{Active}
-use Rattle.mg_engine_backs.specs.Again.{AreTaken}
-use Rattle.mg_engine_backs.specs.Shown.{ShowsMidway}
+use Rattle.mg_engine_writes.specs.Again.{AreTaken}
+use Rattle.mg_engine_writes.specs.Shown.{ShowsMidway}
 use Rattle.mg_image.specs.Form.{Pages, packed_form}
 use Rattle.mg_model.specs.History.{Entries, Entry, TakesBack, effect_of}
 use Rattle.mg_model.specs.declared.change.Change.{Change}
 use Rattle.mg_model.specs.declared.change.Point.{Point}
 use Rattle.mg_model.specs.declared.opening.Opening.{Opening}
 use Rattle.mg_model.specs.declared.table.Table.{Table}
-use Rattle.mg_standing.specs.Following.{FollowsEntry}
-use Rattle.mg_standing.specs.QuietPages.{FindsAfter}
-use Rattle.mg_standing.specs.Standing.{ShowsHistory, Standing}
+use Rattle.mg_engine_steps.specs.Following.{FollowsEntry}
+use Rattle.mg_engine_steps.specs.QuietPages.{FindsAfter}
+use Rattle.mg_engine_steps.specs.Standing.{ShowsHistory, Standing}
 
 -- each finds them where it found them, where the one that took back sees the tables that it saw, or fewer
 abbrev pub BackFinds : Type 0

@@ -3,10 +3,10 @@
 use Rattle.std.specs.Prelude.{◌≡◌, ℕ, true, false, List, ◌∷◌, None, Some}
 use Rattle.mg_base.specs.Disk.{Meaning}
 use Rattle.mg_base.specs.Image.{Image}
-use Rattle.mg_engine_backs.specs.Again.{rolling}
-use Rattle.mg_engine_backs.specs.Midway.{GoesBack}
-use Rattle.mg_engine_commits.specs.PageWrites.{KeepAsking}
-use Rattle.mg_engine_given_up.specs.GivenUp.{GivesUp}
+use Rattle.mg_engine_writes.specs.Again.{rolling}
+use Rattle.mg_engine_writes.specs.Midway.{GoesBack}
+use Rattle.mg_engine_steps.specs.PageWrites.{KeepAsking}
+use Rattle.mg_engine_undoing.specs.GivenUp.{GivesUp}
 use Rattle.mg_engine_steps.specs.GoesOn.{HasGoneOn}
 use Rattle.mg_engine_undoing.specs.Memory.{IsBackInMemory, LeavesCatalog, MayGoTo}
 use Rattle.mg_engine_undoing.specs.Steps.{TakesKeysOf}
@@ -24,7 +24,7 @@ use Rattle.mg_model.specs.declared.opening.Opening.{Opening}
 use Rattle.mg_pool.specs.Pool.{IsPool, shown}
 use Rattle.mg_pool.specs.declared.pool.Pool.{Pool}
 use Rattle.mg_pool_overlays.specs.Needs.{Asked, Sessions}
-use Rattle.mg_standing.specs.Standing.{Standing, Stands}
+use Rattle.mg_engine_steps.specs.Standing.{Standing, Stands}
 use Rattle.mg_undo.specs.Machine.{first_of}
 use Rattle.mg_undo.specs.declared.changes.Change.{Change as Kept}
 

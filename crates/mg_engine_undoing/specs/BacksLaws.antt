@@ -3,11 +3,11 @@ use Rattle.std.proofs.Common.{◌≡◌, sym, subst, ◌∙◌, ℕ, false, List
 use Rattle.mg_base.specs.Disk.{Meaning}
 use Rattle.mg_base.specs.Image.{Image}
 use Rattle.mg_base.specs.declared.numbers.RecId.{RecId}
-use Rattle.mg_engine_backs.specs.Again.{AreTaken, rolling, without_key}
-use Rattle.mg_engine_backs.specs.Midway.{EnginesGoBack, IsMidway, MidwaysBegin}
-use Rattle.mg_engine_backs.specs.Shown.{ShowsFirst, ShowsMidway}
-use Rattle.mg_engine_commits.specs.PageWrites.{KeepAsking}
-use Rattle.mg_engine_given_up.specs.GivenUp.{EnginesGiveUp, GivesUp}
+use Rattle.mg_engine_writes.specs.Again.{AreTaken, rolling, without_key}
+use Rattle.mg_engine_writes.specs.Midway.{EnginesGoBack, IsMidway, MidwaysBegin}
+use Rattle.mg_engine_writes.specs.Shown.{ShowsFirst, ShowsMidway}
+use Rattle.mg_engine_steps.specs.PageWrites.{KeepAsking}
+use Rattle.mg_engine_undoing.specs.GivenUp.{EnginesGiveUp, GivesUp}
 use Rattle.mg_engine_steps.specs.GoesOn.{HasGoneOn}
 use Rattle.mg_engine_undoing.specs.BackFinds.{BackFinds}
 use Rattle.mg_engine_undoing.specs.Backs.{BacksAreGivenUp, BacksGoOn, BeginsBack, EndsOver}
@@ -28,9 +28,9 @@ use Rattle.mg_model.specs.declared.opening.Opening.{Opening}
 use Rattle.mg_pool.specs.Pool.{shown}
 use Rattle.mg_pool.specs.declared.pool.Pool.{Pool}
 use Rattle.mg_pool_overlays.specs.Needs.{Asked, Sessions}
-use Rattle.mg_standing.specs.Following.{FollowsEntry}
-use Rattle.mg_standing.specs.QuietPages.{FindsAfter}
-use Rattle.mg_standing.specs.Standing.{ShowsHistory, Standing, Stands}
+use Rattle.mg_engine_steps.specs.Following.{FollowsEntry}
+use Rattle.mg_engine_steps.specs.QuietPages.{FindsAfter}
+use Rattle.mg_engine_steps.specs.Standing.{ShowsHistory, Standing, Stands}
 use Rattle.mg_undo.specs.Machine.{first_of}
 use Rattle.mg_undo.specs.declared.changes.Change.{Change as Kept}
 use Rattle.mg_value.specs.declared.value.Value.{Value}

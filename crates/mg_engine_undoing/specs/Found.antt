@@ -2,8 +2,8 @@
 use Rattle.std.specs.Prelude.{◌≡◌, ℕ, true, List, ◌∷◌, Option, Some}
 use Rattle.mg_base.specs.declared.numbers.RecId.{RecId}
 use Rattle.mg_base.specs.declared.transaction.TxState.TheVariants.{Active}
-use Rattle.mg_engine_backs.specs.Shown.{ShowsMidway}
-use Rattle.mg_grown_overlays.specs.Growing.{IsTableOf}
+use Rattle.mg_engine_writes.specs.Shown.{ShowsMidway}
+use Rattle.mg_table_overlays.specs.Growing.{IsTableOf}
 use Rattle.mg_image.specs.Form.{Pages, packed_form}
 use Rattle.mg_image.specs.Histories.{newest_at, row_change}
 use Rattle.mg_image.specs.Records.{record_key, writer}
@@ -18,7 +18,7 @@ use Rattle.mg_seek.specs.Speaking.{IsSpeaker}
 use Rattle.mg_seek.specs.Versions.{IsFirst, wants}
 use Rattle.mg_seek.specs.declared.walk.Placed.{Placed}
 use Rattle.mg_seek.specs.declared.whose.Wanted.TheVariants.{Any}
-use Rattle.mg_standing.specs.Standing.{Remembers, ShowsHistory, Standing}
+use Rattle.mg_engine_steps.specs.Standing.{Remembers, ShowsHistory, Standing}
 use Rattle.mg_value.specs.declared.value.Value.{Value}
 
 -- A record spoke at first for a key of a table; it has the key still, and its newest version is the transaction's own.

@@ -1,3 +1,8 @@
+pub mod Dying
+pub mod OwnVersions
+pub mod GivenUp
+pub mod GivenUpLaws
+pub mod EngineGivenUp
 pub mod ToTake
 pub mod ToTakeLaws
 pub mod BackFinds
@@ -10,3 +15,18 @@ pub mod Found
 pub mod FoundLaws
 pub mod Backs
 pub mod BacksLaws
+pub mod BackWalks
+pub mod OthersRows
+pub mod BackWalksLaws
+pub mod KeySteps
+pub mod KeyStepLaws
+pub mod Written
+pub mod WrittenLaws
+pub mod BackStops
+pub mod BackStopsLaws
+pub mod BackTables
+pub mod BackTablesLaws
+pub mod BackLists
+pub mod BackListsLaws
+pub mod BackPages
+pub mod BackPagesLaws

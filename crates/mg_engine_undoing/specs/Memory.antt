@@ -11,8 +11,8 @@ use Rattle.mg_model.specs.declared.change.Deed.{Deed}
 use Rattle.mg_model.specs.declared.change.Point.{Point}
 use Rattle.mg_model.specs.declared.change.Point.TheVariants.{LastMark}
 use Rattle.mg_model.specs.declared.opening.Opening.{Opening}
-use Rattle.mg_standing.specs.Following.{FollowsEntry, KeepsOne}
-use Rattle.mg_standing.specs.Standing.{Remembers, Standing}
+use Rattle.mg_engine_steps.specs.Following.{FollowsEntry, KeepsOne}
+use Rattle.mg_engine_steps.specs.Standing.{Remembers, Standing}
 use Rattle.mg_undo.specs.Machine.{going_to}
 use Rattle.mg_undo.specs.Undo.{TakesBack as GivesAll}
 use Rattle.mg_undo.specs.declared.changes.Change.{Change as Kept}

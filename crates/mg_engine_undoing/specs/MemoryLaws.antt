@@ -5,7 +5,7 @@ use Rattle.std.proofs.Math.Path.{fun_ext}
 use Rattle.std.proofs.lemmas.Bool.{eq-eqb, eqb-true, false≢true}
 use Rattle.mg_base.specs.declared.transaction.TxState.TheVariants.{Active}
 use Rattle.mg_chain.specs.Bases.{live_after}
-use Rattle.mg_engine_backs.specs.OwnChains.{change_there, newest_second, row_of, row_there}
+use Rattle.mg_engine_writes.specs.OwnChains.{change_there, newest_second, row_of, row_there}
 use Rattle.mg_engine_undoing.specs.Memory.{BacksFollow, IsBackInMemory, LeavesCatalog, MayGoTo}
 use Rattle.mg_engine_undoing.specs.ToTake.{SinceAreTaken, since_point}
 use Rattle.mg_image.specs.Histories.{newest_at, row_change}
@@ -24,8 +24,8 @@ use Rattle.mg_model.specs.declared.change.Point.{Point}
 use Rattle.mg_model.specs.declared.change.Point.TheVariants.{LastMark, SavepointNamed}
 use Rattle.mg_model.specs.declared.opening.Opening.{Opening}
 use Rattle.mg_records.specs.Reading.{shape_named, shape_seen}
-use Rattle.mg_standing.specs.Following.{FollowsEntry, Notes}
-use Rattle.mg_standing.specs.Standing.{IsSeenAs, Remembers, RemembersOne, Standing}
+use Rattle.mg_engine_steps.specs.Following.{FollowsEntry, Notes}
+use Rattle.mg_engine_steps.specs.Standing.{IsSeenAs, Remembers, RemembersOne, Standing}
 use Rattle.mg_undo.specs.Machine.{GoesBackAsTheMachine, going_to, points_of, undo_of}
 use Rattle.mg_undo.specs.Undo.{State as Undo, Taken, TakesBack as GivesAll, ends, from_goal, gives, take_back, take_to}
 use Rattle.mg_undo.specs.declared.changes.Change.{Change as Kept}

@@ -5,10 +5,10 @@ use Rattle.mg_base.specs.Image.{Image}
 use Rattle.mg_base.specs.Moments.{joined, leaves_as}
 use Rattle.mg_base.specs.declared.numbers.RecId.{RecId}
 use Rattle.mg_careful.specs.Graph.{PageGraph}
-use Rattle.mg_engine_backs.specs.Again.{again, rolling, without_key}
-use Rattle.mg_engine_backs.specs.Midway.{GoesBack, IsBackAt, IsMidway, KeysComeBack, KeysGoOut}
-use Rattle.mg_engine_backs.specs.MidwayLaws.{holds_back}
-use Rattle.mg_engine_backs.specs.Shown.{ShowsMidway, ShowsOnward, TakesKeyBack}
+use Rattle.mg_engine_writes.specs.Again.{again, rolling, without_key}
+use Rattle.mg_engine_writes.specs.Midway.{GoesBack, IsBackAt, IsMidway, KeysComeBack, KeysGoOut}
+use Rattle.mg_engine_writes.specs.MidwayLaws.{holds_back}
+use Rattle.mg_engine_writes.specs.Shown.{ShowsMidway, ShowsOnward, TakesKeyBack}
 use Rattle.mg_engine_steps.specs.Batches.{ReadsLast}
 use Rattle.mg_engine_writes.specs.Knowing.{WasChanged}
 use Rattle.mg_engine_undoing.specs.Steps.{ComesBack, GoesOut, KeysGoOn, StandsMidway, TakesKeyOf, TakesKeysOf, no_keys, one_key}
@@ -26,7 +26,7 @@ use Rattle.mg_model.specs.declared.change.Change.{Change}
 use Rattle.mg_model.specs.declared.change.Point.{Point}
 use Rattle.mg_model.specs.declared.opening.Opening.{Opening}
 use Rattle.mg_model.specs.declared.table.Table.{Table}
-use Rattle.mg_one_layout.specs.OneLayout.{StandsOneWay}
+use Rattle.mg_table_overlays.specs.OneLayout.{StandsOneWay}
 use Rattle.mg_overlays.specs.Overlays.{left_state}
 use Rattle.mg_pool.specs.Batch.{Changed}
 use Rattle.mg_pool.specs.Dirty.{DirtyPages}
@@ -35,8 +35,8 @@ use Rattle.mg_pool.specs.declared.pool.Pool.{Pool}
 use Rattle.mg_pool_overlays.specs.Needs.{Asked, Sessions}
 use Rattle.mg_space.specs.View.{KeepsStore}
 use Rattle.mg_space_ties.specs.Changed.{KeptIn}
-use Rattle.mg_standing.specs.Standing.{Remembers, ShowsHistory, Standing}
-use Rattle.mg_standing.specs.Versions.{SpeaksFor}
+use Rattle.mg_engine_steps.specs.Standing.{Remembers, ShowsHistory, Standing}
+use Rattle.mg_engine_steps.specs.Versions.{SpeaksFor}
 use Rattle.mg_value.specs.declared.value.Value.{Value}
 
 -- ---- pages were read

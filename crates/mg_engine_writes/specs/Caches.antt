@@ -18,8 +18,8 @@ use Rattle.mg_pool.specs.Pool.{IsPool, shown}
 use Rattle.mg_pool.specs.declared.pool.Pool.{Pool}
 use Rattle.mg_pool_overlays.specs.Needs.{Asked, Sessions}
 use Rattle.mg_space_ties.specs.Changed.{KeptIn}
-use Rattle.mg_standing.specs.Standing.{Remembers, Standing}
-use Rattle.mg_table_stands.specs.DataKept.{KeepsBits}
+use Rattle.mg_engine_steps.specs.Standing.{Remembers, Standing}
+use Rattle.mg_table_overlays.specs.DataKept.{KeepsBits}
 use Rattle.std.proofs.Common.{Some, subst, sym, ℕ, ◌∙◌, ◌≡◌}
 use Rattle.std.proofs.Math.Path.{fun_ext}
 

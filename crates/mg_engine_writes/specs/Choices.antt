@@ -5,7 +5,7 @@ use Rattle.mg_base.specs.declared.transaction.TxState.{TxState}
 use Rattle.mg_base.specs.declared.transaction.TxState.TheVariants.{Active, Committed, Dead, Limbo}
 use Rattle.mg_engine_writes.specs.Knowing.{HasRowsOf}
 use Rattle.mg_engine_writes.specs.SameRecords.{catalog_stands, same_catalog, same_page, same_record}
-use Rattle.mg_grown_overlays.specs.Growing.{IsTableOf}
+use Rattle.mg_table_overlays.specs.Growing.{IsTableOf}
 use Rattle.mg_image.specs.Form.{Form, Pages}
 use Rattle.mg_image.specs.ReadingLaws.{RowsAreOne}
 use Rattle.mg_image.specs.RecordRules.{Facts, IsInLimbo, TakesKey, committed_in}

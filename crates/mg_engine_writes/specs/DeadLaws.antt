@@ -18,7 +18,7 @@ use Rattle.mg_engine_writes.specs.Knowing.{WasChanged}
 use Rattle.mg_engine_writes.specs.Rows.{DeadsGo, HasStayed}
 use Rattle.mg_generations.specs.Generations.{Generation}
 use Rattle.mg_generations.specs.Kept.{IsErasedForAll, StandFor}
-use Rattle.mg_grown_overlays.specs.Growing.{IsTableOf}
+use Rattle.mg_table_overlays.specs.Growing.{IsTableOf}
 use Rattle.mg_image.specs.Form.{Form, Pages}
 use Rattle.mg_image.specs.ReadingLaws.{RowsAreOne}
 use Rattle.mg_image.specs.RecordRules.{Each, EachBack, Facts, IsVersion, table_in}
@@ -27,8 +27,8 @@ use Rattle.mg_image.specs.Sound.{IsSoundBy, facts_by}
 use Rattle.mg_image.specs.StepLaws.{cases_place, same_place}
 use Rattle.mg_image.specs.Tables.{Layout, stands_of, table_at}
 use Rattle.mg_image.specs.declared.entry.Entry.{Entry}
-use Rattle.mg_image_steps.specs.Fronts.{is_dead, living}
-use Rattle.mg_image_steps.specs.Kinds.{HasNoSequences}
+use Rattle.mg_kept_images.specs.Fronts.{is_dead, living}
+use Rattle.mg_kept_images.specs.Kinds.{HasNoSequences}
 use Rattle.mg_kept_images.specs.KeptImages.{IsKept}
 use Rattle.mg_lasting.specs.Crashes.{HoldsAcknowledged, LeavesSince}
 use Rattle.mg_lasting.specs.Lasting.{LastsOn}
@@ -38,10 +38,10 @@ use Rattle.mg_model.specs.Openings.{everyone}
 use Rattle.mg_model.specs.declared.opening.Opening.{Opening}
 use Rattle.mg_model.specs.declared.table.Table.{Table}
 use Rattle.mg_overlays.specs.Overlays.{left_by, left_state}
-use Rattle.mg_own_overlays.specs.BackEvery.{dead_out_every}
-use Rattle.mg_own_overlays.specs.BackPart.{TakesOutPages}
-use Rattle.mg_own_overlays.specs.OwnVersion.{FindsNewest}
-use Rattle.mg_own_tables.specs.Whose.{IsTableFor}
+use Rattle.mg_table_overlays.specs.BackEvery.{dead_out_every}
+use Rattle.mg_table_overlays.specs.BackPart.{TakesOutPages}
+use Rattle.mg_table_overlays.specs.OwnVersion.{FindsNewest}
+use Rattle.mg_table_overlays.specs.Whose.{IsTableFor}
 use Rattle.mg_pool.specs.Batch.{Changed, content_in, lists}
 use Rattle.mg_pool.specs.Pool.{shown}
 use Rattle.mg_pool.specs.declared.pool.Pool.{Pool}
@@ -49,12 +49,12 @@ use Rattle.mg_pool_overlays.specs.Needs.{Asked, Sessions}
 use Rattle.mg_seek.specs.Histories.{told_all, told_versions}
 use Rattle.mg_space.specs.View.{viewed}
 use Rattle.mg_space_ties.specs.Changed.{BatchIsChanged, KeptIn, cache_over, changed_fresh, fresh, needs_in}
-use Rattle.mg_standing.specs.Laws.{IsChainOf}
-use Rattle.mg_standing.specs.Standing.{ShowsHistory, Standing, Stands}
-use Rattle.mg_standing.specs.Versions.{HaveVersions, SpeaksFor, SpeaksOrSilent}
-use Rattle.mg_standing.specs.Writing.{Silenced}
-use Rattle.mg_standing.specs.WritingLaws.{erased_may_be_silent}
-use Rattle.mg_table_stands.specs.DataKept.{KeepsBits}
+use Rattle.mg_engine_steps.specs.StandingLaws.{IsChainOf}
+use Rattle.mg_engine_steps.specs.Standing.{ShowsHistory, Standing, Stands}
+use Rattle.mg_engine_steps.specs.Versions.{HaveVersions, SpeaksFor, SpeaksOrSilent}
+use Rattle.mg_engine_steps.specs.Writing.{Silenced}
+use Rattle.mg_engine_steps.specs.WritingLaws.{erased_may_be_silent}
+use Rattle.mg_table_overlays.specs.DataKept.{KeepsBits}
 use Rattle.mg_value.specs.declared.value.Value.{Value}
 use Rattle.mg_version.specs.declared.cell.Version.{Version}
 use Rattle.std.proofs.Common.{Bool, List, None, Option, Some, [], ap, false, inl, inr, refl, subst, sym, true, ℕ, ◌∙◌, ◌∷◌, ◌≡◌, ◌≢◌, ◌⊎◌}

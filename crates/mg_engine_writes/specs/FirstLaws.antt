@@ -17,7 +17,7 @@ use Rattle.mg_engine_writes.specs.Rows.{FirstsGoOn}
 use Rattle.mg_engine_writes.specs.Spoken.{was_drawn}
 use Rattle.mg_engine_writes.specs.TakenKeys.{none_takes}
 use Rattle.mg_engine_writes.specs.WriteKnown.{brings, may_be, placed_each, writes_row}
-use Rattle.mg_grown_overlays.specs.Growing.{IsTableOf, MayBeWritten}
+use Rattle.mg_table_overlays.specs.Growing.{IsTableOf, MayBeWritten}
 use Rattle.mg_heap_ties.specs.RoomTies.{end_of, ends_there}
 use Rattle.mg_image.specs.Form.{Form, Pages, Row}
 use Rattle.mg_image.specs.Inventory.{next_of}
@@ -26,7 +26,7 @@ use Rattle.mg_image.specs.Records.{cells_of, key_of}
 use Rattle.mg_image.specs.Sound.{facts_by}
 use Rattle.mg_image.specs.Tables.{stands_of, table_at}
 use Rattle.mg_image.specs.declared.entry.Entry.{Entry}
-use Rattle.mg_image_steps.specs.Kinds.{HasNoSequences}
+use Rattle.mg_kept_images.specs.Kinds.{HasNoSequences}
 use Rattle.mg_kept_images.specs.KeptImages.{IsKept}
 use Rattle.mg_lasting.specs.Lasting.{LastsOn}
 use Rattle.mg_model.specs.Changes.{Cells}
@@ -43,8 +43,8 @@ use Rattle.mg_pool_overlays.specs.Needs.{Asked, Sessions}
 use Rattle.mg_record_overlays.specs.AddPart.{AddsPages}
 use Rattle.mg_space.specs.View.{viewed}
 use Rattle.mg_space_ties.specs.Changed.{KeptIn, changed_fresh, fresh}
-use Rattle.mg_standing.specs.Standing.{ShowsHistory, Standing, Stands}
-use Rattle.mg_table_stands.specs.DataKept.{KeepsBits}
+use Rattle.mg_engine_steps.specs.Standing.{ShowsHistory, Standing, Stands}
+use Rattle.mg_table_overlays.specs.DataKept.{KeepsBits}
 use Rattle.mg_value.specs.declared.value.Value.{Value}
 use Rattle.mg_version.specs.declared.cell.Version.{Version}
 use Rattle.std.proofs.Common.{List, None, Option, Some, [], inr, subst, sym, ℕ, ◌<◌, ◌∙◌, ◌∷◌, ◌≡◌}

@@ -23,7 +23,7 @@ use Rattle.mg_seek.specs.Views.{IsObstacle, hinders, obstacle_of}
 use Rattle.mg_seek.specs.declared.views.Obstacle.{Obstacle}
 use Rattle.mg_seek.specs.declared.whose.Wanted.TheVariants.{Living}
 use Rattle.mg_snap.specs.Live.{State, sees}
-use Rattle.mg_standing.specs.Standing.{Standing, Stands}
+use Rattle.mg_engine_steps.specs.Standing.{Standing, Stands}
 use Rattle.mg_version.specs.declared.cell.Link.{Link}
 use Rattle.std.proofs.Common.{Bool, List, None, Option, Some, ap, false, if◌then◌else◌, inl, inr, not, refl, subst, sym, true, ℕ, ◌&&◌, ◌==◌, ◌||◌, ◌∙◌, ◌∷◌, ◌≡◌, ◌⊎◌}
 use Rattle.std.proofs.lemmas.Bool.{eqb-true, false≢true}

@@ -5,7 +5,7 @@ use Rattle.mg_base.specs.declared.numbers.RecId.{RecId}
 use Rattle.mg_base.specs.declared.transaction.TxState.{TxState}
 use Rattle.mg_base.specs.declared.transaction.TxState.TheVariants.{Active}
 use Rattle.mg_engine_steps.specs.Writes.{IsSilentAt}
-use Rattle.mg_grown_overlays.specs.Growing.{IsTableOf}
+use Rattle.mg_table_overlays.specs.Growing.{IsTableOf}
 use Rattle.mg_image.specs.Catalog.{HasMade, IsNamed}
 use Rattle.mg_image.specs.Form.{Coding, Form, Pages, Row}
 use Rattle.mg_image.specs.Held.{told_row}
@@ -22,16 +22,16 @@ use Rattle.mg_model.specs.Openings.{everyone}
 use Rattle.mg_model.specs.declared.opening.Opening.{Opening}
 use Rattle.mg_model.specs.declared.table.Table.{Table}
 use Rattle.mg_overlays.specs.Overlays.{left_state}
-use Rattle.mg_own_tables.specs.Whose.{IsTableFor}
+use Rattle.mg_table_overlays.specs.Whose.{IsTableFor}
 use Rattle.mg_pool.specs.Batch.{Changed}
 use Rattle.mg_pool.specs.Pool.{IsPool, LeavesOverlays}
 use Rattle.mg_pool.specs.declared.pool.Pool.{Pool}
 use Rattle.mg_pool_overlays.specs.Needs.{Asked}
 use Rattle.mg_rowcode.specs.Storable.{AreStorable}
 use Rattle.mg_space_ties.specs.Changed.{ChangesFresh}
-use Rattle.mg_standing.specs.Following.{FollowsEntry}
-use Rattle.mg_standing.specs.Standing.{ShowsHistory, Standing}
-use Rattle.mg_standing.specs.Writing.{WritesKey}
+use Rattle.mg_engine_steps.specs.Following.{FollowsEntry}
+use Rattle.mg_engine_steps.specs.Standing.{ShowsHistory, Standing}
+use Rattle.mg_engine_steps.specs.Writing.{WritesKey}
 use Rattle.mg_value.specs.declared.value.Value.{Value}
 use Rattle.mg_version.specs.declared.cell.Version.{Version}
 use Rattle.std.proofs.Common.{List, None, Option, Some, false, if◌then◌else◌, true, ℕ, ◌≡◌, ◌≢◌, ◌⊎◌}

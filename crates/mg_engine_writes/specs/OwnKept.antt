@@ -17,7 +17,7 @@ use Rattle.mg_engine_steps.specs.GoesOnLaws.{moves_are_read, pool_is_kept, repla
 use Rattle.mg_engine_steps.specs.Writes.{ReadsAfter}
 use Rattle.mg_engine_writes.specs.Knowing.{CodesRow, HasEntries, MayWriteInto}
 use Rattle.mg_engine_writes.specs.WriteKnown.{brings, may_each, placed_each, rewrites_row}
-use Rattle.mg_grown_overlays.specs.Growing.{IsTableOf, MayBeWritten}
+use Rattle.mg_table_overlays.specs.Growing.{IsTableOf, MayBeWritten}
 use Rattle.mg_heap_ties.specs.RoomTies.{GrowsSome, end_of, ends_there}
 use Rattle.mg_image.specs.Form.{Form, Pages, Row}
 use Rattle.mg_image.specs.Inventory.{next_of}
@@ -26,7 +26,7 @@ use Rattle.mg_image.specs.Records.{Reading, record_key, writer}
 use Rattle.mg_image.specs.Sound.{IsSoundBy, facts_by}
 use Rattle.mg_image.specs.Tables.{Layout, stands_of, table_at}
 use Rattle.mg_image.specs.declared.entry.Entry.{Entry}
-use Rattle.mg_image_steps.specs.Kinds.{HasNoSequences}
+use Rattle.mg_kept_images.specs.Kinds.{HasNoSequences}
 use Rattle.mg_kept_images.specs.CommitLaws.{LeavesOthers}
 use Rattle.mg_kept_images.specs.KeptImages.{IsKept}
 use Rattle.mg_model.specs.Changes.{Cells}
@@ -35,7 +35,7 @@ use Rattle.mg_model.specs.Openings.{everyone}
 use Rattle.mg_model.specs.declared.opening.Opening.{Opening}
 use Rattle.mg_model.specs.declared.table.Table.{Table}
 use Rattle.mg_overlays.specs.Overlays.{left_state}
-use Rattle.mg_own_overlays.specs.OwnVersion.{FindsNewest, RewritesRow}
+use Rattle.mg_table_overlays.specs.OwnVersion.{FindsNewest, RewritesRow}
 use Rattle.mg_pool.specs.Batch.{Changed, content_in, lists}
 use Rattle.mg_pool.specs.Pool.{shown}
 use Rattle.mg_pool.specs.declared.pool.Pool.{Pool}
@@ -43,8 +43,8 @@ use Rattle.mg_pool_overlays.specs.Needs.{Asked, Sessions}
 use Rattle.mg_slots.specs.Room.{need_of}
 use Rattle.mg_space.specs.View.{viewed}
 use Rattle.mg_space_ties.specs.Changed.{ChangesFresh, KeptIn, fresh}
-use Rattle.mg_standing.specs.Writing.{WritesKey}
-use Rattle.mg_table_stands.specs.DataKept.{KeepsBits}
+use Rattle.mg_engine_steps.specs.Writing.{WritesKey}
+use Rattle.mg_table_overlays.specs.DataKept.{KeepsBits}
 use Rattle.mg_value.specs.declared.value.Value.{Value}
 use Rattle.mg_version.specs.declared.cell.Link.{Link}
 use Rattle.mg_version.specs.declared.cell.Version.{Version}

@@ -14,11 +14,11 @@ use Rattle.mg_image.specs.Records.{record_key}
 use Rattle.mg_image.specs.Sound.{facts_by}
 use Rattle.mg_image.specs.Tables.{stands_of, table_at}
 use Rattle.mg_image.specs.declared.entry.Entry.{Entry}
-use Rattle.mg_image_steps.specs.Kinds.{HasNoSequences}
+use Rattle.mg_kept_images.specs.Kinds.{HasNoSequences}
 use Rattle.mg_model.specs.Laws.{OpeningsBegin}
 use Rattle.mg_model.specs.Openings.{everyone}
 use Rattle.mg_overlays.specs.Overlays.{left_state}
-use Rattle.mg_own_overlays.specs.OwnVersion.{FindsNewest}
+use Rattle.mg_table_overlays.specs.OwnVersion.{FindsNewest}
 use Rattle.mg_pool.specs.Pool.{shown}
 use Rattle.mg_space_ties.specs.Changed.{KeptIn}
 use Rattle.std.proofs.Common.{List, Some, false, ◌<◌, ◌∙◌, ◌∷◌, ◌≡◌}

@@ -18,7 +18,7 @@ use Rattle.mg_engine_writes.specs.Rows.{PushesGoOn}
 use Rattle.mg_engine_writes.specs.Spoken.{spoken_key, spoken_of, was_drawn}
 use Rattle.mg_engine_writes.specs.TakenKeys.{none_takes}
 use Rattle.mg_engine_writes.specs.WriteKnown.{brings, may_each, placed_each, writes_row}
-use Rattle.mg_grown_overlays.specs.Growing.{FindsSettled, IsTableOf}
+use Rattle.mg_table_overlays.specs.Growing.{FindsSettled, IsTableOf}
 use Rattle.mg_heap_ties.specs.RoomTies.{GrowsSome, end_of, ends_there}
 use Rattle.mg_image.specs.Form.{Form, Pages, Row}
 use Rattle.mg_image.specs.Inventory.{next_of}
@@ -27,7 +27,7 @@ use Rattle.mg_image.specs.Records.{record_key, writer}
 use Rattle.mg_image.specs.Sound.{facts_by}
 use Rattle.mg_image.specs.Tables.{stands_of, table_at}
 use Rattle.mg_image.specs.declared.entry.Entry.{Entry}
-use Rattle.mg_image_steps.specs.Kinds.{HasNoSequences}
+use Rattle.mg_kept_images.specs.Kinds.{HasNoSequences}
 use Rattle.mg_kept_images.specs.KeptImages.{IsKept}
 use Rattle.mg_lasting.specs.Lasting.{LastsOn}
 use Rattle.mg_model.specs.Changes.{Cells}
@@ -44,8 +44,8 @@ use Rattle.mg_pool_overlays.specs.Needs.{Asked, Sessions}
 use Rattle.mg_slots.specs.Room.{need_of}
 use Rattle.mg_space.specs.View.{viewed}
 use Rattle.mg_space_ties.specs.Changed.{KeptIn, fresh}
-use Rattle.mg_standing.specs.Standing.{ShowsHistory, Standing, Stands}
-use Rattle.mg_table_stands.specs.DataKept.{KeepsBits}
+use Rattle.mg_engine_steps.specs.Standing.{ShowsHistory, Standing, Stands}
+use Rattle.mg_table_overlays.specs.DataKept.{KeepsBits}
 use Rattle.mg_value.specs.declared.value.Value.{Value}
 use Rattle.mg_version.specs.declared.cell.Version.{Version}
 use Rattle.std.proofs.Common.{List, Option, Some, ap, inl, refl, subst, true, ℕ, ◌<◌, ◌∙◌, ◌∷◌, ◌≡◌}

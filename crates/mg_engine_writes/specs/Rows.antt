@@ -8,7 +8,7 @@ use Rattle.mg_chain_ties.specs.Rows.{ForEach}
 use Rattle.mg_engine_steps.specs.GoesOn.{HasGoneOn}
 use Rattle.mg_engine_steps.specs.Writes.{IsSilentAt}
 use Rattle.mg_engine_writes.specs.Knowing.{CodesRow, EntersWrite, HasEntries, MayWriteInto, WasChanged}
-use Rattle.mg_grown_overlays.specs.Growing.{IsTableOf}
+use Rattle.mg_table_overlays.specs.Growing.{IsTableOf}
 use Rattle.mg_image.specs.Form.{Form, Row}
 use Rattle.mg_image.specs.Records.{cells_of}
 use Rattle.mg_image.specs.Tables.{stands_of, table_at}
@@ -18,13 +18,13 @@ use Rattle.mg_model.specs.Changes.{Cells}
 use Rattle.mg_model.specs.History.{Entries, Entry as Event}
 use Rattle.mg_model.specs.declared.opening.Opening.{Opening}
 use Rattle.mg_model.specs.declared.table.Table.{Table}
-use Rattle.mg_own_tables.specs.Whose.{IsTableFor}
+use Rattle.mg_table_overlays.specs.Whose.{IsTableFor}
 use Rattle.mg_pool.specs.Batch.{Changed}
 use Rattle.mg_pool.specs.Pool.{shown}
 use Rattle.mg_pool.specs.declared.pool.Pool.{Pool}
 use Rattle.mg_pool_overlays.specs.Needs.{Asked, Sessions}
 use Rattle.mg_space_ties.specs.Changed.{fresh}
-use Rattle.mg_standing.specs.Standing.{Standing, Stands}
+use Rattle.mg_engine_steps.specs.Standing.{Standing, Stands}
 use Rattle.mg_value.specs.declared.value.Value.{Value}
 use Rattle.mg_version.specs.declared.cell.Version.{Version}
 use Rattle.std.proofs.Common.{List, None, Option, Some, ℕ, ◌≡◌, ◌≢◌}

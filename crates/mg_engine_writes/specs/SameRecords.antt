@@ -2,8 +2,8 @@
 -- the same versions are read of its records.
 use Rattle.mg_base.specs.declared.numbers.RecId.{RecId}
 use Rattle.mg_base.specs.declared.transaction.TxState.{TxState}
-use Rattle.mg_grown_overlays.specs.Growing.{IsTableOf}
-use Rattle.mg_grown_overlays.specs.Knowing.{its_pages}
+use Rattle.mg_table_overlays.specs.Growing.{IsTableOf}
+use Rattle.mg_table_overlays.specs.Knowing.{its_pages}
 use Rattle.mg_image.specs.FactLaws.{each_has}
 use Rattle.mg_image.specs.Form.{Coding, Form, Pages}
 use Rattle.mg_image.specs.ReadingLaws.{RowsAreOne}
@@ -13,9 +13,9 @@ use Rattle.mg_image.specs.Sound.{IsSoundBy, facts_by}
 use Rattle.mg_image.specs.Tables.{Has, Layout, Stand, stands_of, table_at}
 use Rattle.mg_image.specs.declared.entry.Entry.{Entry}
 use Rattle.mg_model.specs.declared.table.Table.{Table}
-use Rattle.mg_one_layout.specs.OneChain.{same_stand}
-use Rattle.mg_table_stands.specs.Chains.{HasItsRow, one_chain}
-use Rattle.mg_table_stands.specs.OneTable.{its_data}
+use Rattle.mg_table_overlays.specs.OneChain.{same_stand}
+use Rattle.mg_table_overlays.specs.Chains.{HasItsRow, one_chain}
+use Rattle.mg_table_overlays.specs.OneTable.{its_data}
 use Rattle.mg_value.specs.declared.value.Value.{Value}
 use Rattle.std.proofs.Common.{List, Some, [], refl, subst, sym, ℕ, ◌∙◌, ◌≡◌}
 

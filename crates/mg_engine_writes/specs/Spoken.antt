@@ -1,7 +1,7 @@
 -- What the memory and the pages of an engine say of a writer and of the record that speaks for a key.
 use Rattle.mg_base.specs.declared.numbers.RecId.{RecId}
 use Rattle.mg_base.specs.declared.transaction.TxState.TheVariants.{Active, Dead}
-use Rattle.mg_grown_overlays.specs.Growing.{IsTableOf}
+use Rattle.mg_table_overlays.specs.Growing.{IsTableOf}
 use Rattle.mg_image.specs.Form.{Form, Pages}
 use Rattle.mg_image.specs.Inventory.{next_of}
 use Rattle.mg_image.specs.RecordRules.{Facts}
@@ -15,9 +15,9 @@ use Rattle.mg_model.specs.Openings.{everyone}
 use Rattle.mg_model.specs.declared.opening.Opening.{Opening}
 use Rattle.mg_model.specs.declared.table.Table.{Table}
 use Rattle.mg_overlays.specs.Overlays.{left_state}
-use Rattle.mg_standing.specs.Standing.{Remembers, ShowsHistory, Standing}
-use Rattle.mg_standing.specs.Versions.{IsRecordOf, SpeaksFor}
-use Rattle.mg_table_stands.specs.OneTable.{one_table, table_at_stands}
+use Rattle.mg_engine_steps.specs.Standing.{Remembers, ShowsHistory, Standing}
+use Rattle.mg_engine_steps.specs.Versions.{IsRecordOf, SpeaksFor}
+use Rattle.mg_table_overlays.specs.OneTable.{one_table, table_at_stands}
 use Rattle.mg_value.specs.declared.value.Value.{Value}
 use Rattle.std.proofs.Common.{List, Some, ap, subst, sym, ℕ, ◌<◌, ◌∙◌, ◌≡◌}
 

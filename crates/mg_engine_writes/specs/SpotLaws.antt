@@ -12,8 +12,8 @@ use Rattle.mg_engine_steps.specs.WritesLaws.{finds_on}
 use Rattle.mg_engine_writes.specs.Caches.{kept_now, pool_now, row_changed}
 use Rattle.mg_engine_writes.specs.Knowing.{WasChanged}
 use Rattle.mg_engine_writes.specs.Rows.{HasPlace, SpotsStay}
-use Rattle.mg_grown_overlays.specs.Growing.{EndsAt, Grows, HasGrown, IsTableOf, TableEnd}
-use Rattle.mg_grown_overlays.specs.GrowingLaws.{StandsTo, table_of_end}
+use Rattle.mg_table_overlays.specs.Growing.{EndsAt, Grows, HasGrown, IsTableOf, TableEnd}
+use Rattle.mg_table_overlays.specs.GrowingLaws.{StandsTo, table_of_end}
 use Rattle.mg_heap_ties.specs.Batches.{within_self}
 use Rattle.mg_heap_ties.specs.RoomTies.{GrowsSome, end_of, ends_there, room_grows}
 use Rattle.mg_image.specs.Form.{Form, Pages}
@@ -21,7 +21,7 @@ use Rattle.mg_image.specs.ReadingLaws.{RowsAreOne}
 use Rattle.mg_image.specs.RecordRules.{Facts}
 use Rattle.mg_image.specs.Sound.{facts_by}
 use Rattle.mg_image.specs.Tables.{Layout, stands_of, table_at}
-use Rattle.mg_image_steps.specs.Kinds.{HasNoSequences}
+use Rattle.mg_kept_images.specs.Kinds.{HasNoSequences}
 use Rattle.mg_lasting.specs.Crashes.{HoldsAcknowledged, LeavesSince}
 use Rattle.mg_lasting.specs.Lasting.{LastsOn}
 use Rattle.mg_model.specs.History.{Entries}
@@ -30,7 +30,7 @@ use Rattle.mg_model.specs.Openings.{everyone}
 use Rattle.mg_model.specs.declared.opening.Opening.{Opening}
 use Rattle.mg_model.specs.declared.table.Table.{Table}
 use Rattle.mg_overlays.specs.Overlays.{left_state}
-use Rattle.mg_own_tables.specs.Whose.{IsTableFor}
+use Rattle.mg_table_overlays.specs.Whose.{IsTableFor}
 use Rattle.mg_pool.specs.Batch.{Changed, content_in, lists}
 use Rattle.mg_pool.specs.Pool.{shown}
 use Rattle.mg_pool.specs.declared.pool.Pool.{Pool}
@@ -38,9 +38,9 @@ use Rattle.mg_pool_overlays.specs.Needs.{Asked, Sessions}
 use Rattle.mg_seek.specs.Histories.{told_versions}
 use Rattle.mg_space.specs.View.{viewed}
 use Rattle.mg_space_ties.specs.Changed.{changed_fresh, fresh}
-use Rattle.mg_standing.specs.Standing.{ShowsHistory, Standing, Stands}
-use Rattle.mg_standing.specs.Versions.{HaveVersions, SpeaksFor, SpeaksOrSilent}
-use Rattle.mg_table_stands.specs.DataKept.{KeepsBits}
+use Rattle.mg_engine_steps.specs.Standing.{ShowsHistory, Standing, Stands}
+use Rattle.mg_engine_steps.specs.Versions.{HaveVersions, SpeaksFor, SpeaksOrSilent}
+use Rattle.mg_table_overlays.specs.DataKept.{KeepsBits}
 use Rattle.mg_value.specs.declared.value.Value.{Value}
 use Rattle.mg_version.specs.declared.cell.TheConstants.{ANCHOR_LEN}
 use Rattle.std.proofs.Common.{List, None, Option, Some, [], ap, inl, inr, refl, subst, sym, ℕ, ◌∙◌, ◌≡◌, ◌⊎◌}

@@ -10,7 +10,7 @@ use Rattle.mg_image.specs.RecordRules.{Facts, TakesKey, committed_in}
 use Rattle.mg_image.specs.Records.{record_key, shown, writer}
 use Rattle.mg_image.specs.Sound.{facts_by}
 use Rattle.mg_image.specs.declared.entry.Entry.{Entry}
-use Rattle.mg_image_steps.specs.Fronts.{is_dead}
+use Rattle.mg_kept_images.specs.Fronts.{is_dead}
 use Rattle.mg_model.specs.Answers.{is_committed}
 use Rattle.mg_model.specs.History.{Entries}
 use Rattle.mg_model.specs.Machine.{state_of}
@@ -19,9 +19,9 @@ use Rattle.mg_model.specs.declared.opening.Opening.{Opening}
 use Rattle.mg_model.specs.declared.table.Table.{Table}
 use Rattle.mg_overlays.specs.Overlays.{left_by, left_state}
 use Rattle.mg_seek.specs.Histories.{told_all, told_given, told_versions}
-use Rattle.mg_standing.specs.Laws.{IsChainOf}
-use Rattle.mg_standing.specs.Standing.{Remembers, ShowsHistory, Standing}
-use Rattle.mg_standing.specs.Versions.{IsRecordOf, SpeaksFor, SpeaksOrSilent}
+use Rattle.mg_engine_steps.specs.StandingLaws.{IsChainOf}
+use Rattle.mg_engine_steps.specs.Standing.{Remembers, ShowsHistory, Standing}
+use Rattle.mg_engine_steps.specs.Versions.{IsRecordOf, SpeaksFor, SpeaksOrSilent}
 use Rattle.mg_value.specs.declared.value.Value.{Value}
 use Rattle.std.proofs.Common.{Bool, List, None, Option, Some, [], ap, cond, false, inl, inr, refl, subst, sym, true, ℕ, ◌∙◌, ◌∷◌, ◌≡◌, ◌⊎◌}
 

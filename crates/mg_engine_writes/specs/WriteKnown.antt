@@ -10,7 +10,7 @@ use Rattle.mg_engine_writes.specs.ChangeKnown.{after_are, changes_after, turns_t
 use Rattle.mg_engine_writes.specs.Choices.{placed, placed_back, read, rows_too, takes_too}
 use Rattle.mg_engine_writes.specs.Knowing.{CodesRow, HasEntries, HasRowsOf, MayWriteInto, NoneTakes}
 use Rattle.mg_engine_writes.specs.SameRecords.{same_catalog}
-use Rattle.mg_grown_overlays.specs.Growing.{IsTableOf, MayBeWritten}
+use Rattle.mg_table_overlays.specs.Growing.{IsTableOf, MayBeWritten}
 use Rattle.mg_header.specs.HeaderPage.{AreMarkers, marker_checks}
 use Rattle.mg_header.specs.HeaderPageLaws.{markers_from_passes}
 use Rattle.mg_header.specs.declared.header.TheConstants.{HEADER_KIND}
@@ -38,10 +38,10 @@ use Rattle.mg_model.specs.declared.change.Change.{Change}
 use Rattle.mg_model.specs.declared.opening.Opening.{Opening}
 use Rattle.mg_model.specs.declared.table.Table.{Table}
 use Rattle.mg_overlays.specs.Overlays.{left_state}
-use Rattle.mg_own_overlays.specs.OwnVersion.{RewritesRow}
-use Rattle.mg_own_tables.specs.Whose.{maker_has}
+use Rattle.mg_table_overlays.specs.OwnVersion.{RewritesRow}
+use Rattle.mg_table_overlays.specs.Whose.{maker_has}
 use Rattle.mg_record_overlays.specs.OwnWrites.{ChangesOwn, WritesRow, limbo_change}
-use Rattle.mg_standing.specs.Writing.{WritesKey}
+use Rattle.mg_engine_steps.specs.Writing.{WritesKey}
 use Rattle.mg_value.specs.declared.value.Value.{Value}
 use Rattle.mg_version.specs.declared.cell.Link.{Link}
 use Rattle.mg_version.specs.declared.cell.Version.{Version}

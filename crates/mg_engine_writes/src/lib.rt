@@ -1,30 +1,26 @@
-//! Writes of records take an engine on: from a call of version chains to an engine that stands for the history
-//! with the entry.
+//! Records are written and taken back at an engine that stands for a history.
 //!
-//! Owns: one law for each call that writes a version, from what the engine knows once the call has filled a
-//! batch of its own and the cache has changed it: a version pushed over a committed one (`PushesGoOn`), the
-//! first one of a record (`FirstsGoOn`), and one that takes the place of the transaction's own
-//! (`ReplacementsGoOn`); a deletion is a version like others. A place that is given for a record leaves the
-//! engine with the same history (`SpotsStay`), and so does a dead transaction's version that is taken out
-//! (`DeadsGo`). Which of these a record wants in whose way nobody is, `RecordsAreFree` tells.
+//! Owns:
 //!
-//! A transaction that has asked for its commit, and then writes on, is first taken for one that has not
-//! (`UnaskingLasts`): the laws on a write ask for that.
+//! - `writes`: from a call of version chains to an engine that stands for the history with the entry.
+//! - `backs`: what a transaction takes back, key by key: the cache and the pages in between, and at the end.
+//! - `fronts`: each table has the data pages that it had, in their order, and more, after each kind of batch.
 //!
-//! What is known stands in `specs/Knowing`: the batch (`WasChanged`), the entry, which memory follows
-//! (`EntersWrite`), the table (`MayWriteInto`), the row (`CodesRow`). The laws on overlays ask for this under
-//! each choice of transactions that count; that it follows from the one in which all do is `Choices` and
-//! `WriteKnown`.
+//! There is no program here: each function does nothing, and its contract is a law.
 //!
 //! Invariant: none, it keeps no state.
-//! Below: `mg_chain_ties`, that every overlay is kept; `mg_engine_steps`, batches and what is read after them;
-//! `mg_seek`, who is in the way. Above: the engine, which has from `mg_engine_answers` who speaks for a key.
-//! Not here: rows of the catalog, and versions that are taken back.
+//! Below: `mg_chain_ties`, that every overlay is kept; `mg_engine_steps`, batches and what is read after them; `mg_seek`,
+//! who is in the way. Above: the laws on single calls.
+//! Not here: rows of the catalog.
 #![tactic(auto)]
 
-mod laws;
+mod backs;
+mod fronts;
+mod writes;
 
-pub use laws::{
+pub use backs::{changes_are_taken_back, engines_go_back, pages_show_what_is_taken_back};
+pub use fronts::tables_keep_pages;
+pub use writes::{
     deads_go, firsts_go_on, pushes_go_on, records_are_free, replacements_go_on, spots_stay,
     unasking_lasts,
 };

@@ -13,7 +13,7 @@ use Rattle.mg_image.specs.Form.{Form, Pages}
 use Rattle.mg_image.specs.Records.{Changes, Reading, cell_spelled, cells_of, slot_cell}
 use Rattle.mg_image.specs.Sound.{HasTablePages, IsCellOf, IsSoundBy, IsTableData}
 use Rattle.mg_image.specs.Tables.{EachFrom, EachStand, Has, Layout, Stand, has, stands_of, table_at}
-use Rattle.mg_image_steps.specs.DataPages.{ChangesData, all_passes, kind_of}
+use Rattle.mg_kept_images.specs.DataPages.{ChangesData, all_passes, kind_of}
 use Rattle.mg_kept_images.specs.Reach.{has_it}
 use Rattle.mg_model.specs.declared.table.Table.{Table}
 use Rattle.mg_slots.specs.Changes.{SetsCell}

@@ -12,7 +12,7 @@ use Rattle.mg_careful.specs.Precedence.{Orders}
 use Rattle.mg_careful.specs.declared.graph.Order.{Order}
 use Rattle.mg_image.specs.Form.{Pages}
 use Rattle.mg_image.specs.Inventory.{inventory_page, is_used}
-use Rattle.mg_image_steps.specs.DataPages.{kind_of}
+use Rattle.mg_kept_images.specs.DataPages.{kind_of}
 use Rattle.mg_pointer.specs.PointerPage.{AddsEntry, SetsNext, entries_of, new_pointer_page, next_in, pointer_checks}
 use Rattle.mg_pointer.specs.PointerPageLaws.{length-new_pointer_page, new_page_empty, new_page_next, new_page_passes}
 use Rattle.mg_pool.specs.Batch.{Changed, lists}
@@ -25,12 +25,12 @@ use Rattle.mg_space.specs.View.{viewed}
 use Rattle.mg_space.specs.ViewLaws.{viewed_else, viewed_here}
 use Rattle.mg_space_ties.specs.Occupied.{taken_are_occupied}
 use Rattle.mg_space_ties.specs.Pointers.{entry_passes, next_passes}
-use Rattle.mg_taken_overlays.specs.EntryPage.{EntersPage}
-use Rattle.mg_taken_overlays.specs.ExtendEvery.{OrdersPage}
-use Rattle.mg_taken_overlays.specs.LinkPage.{LinksPage}
-use Rattle.mg_taken_overlays.specs.TakePart.{OccupiesPage}
+use Rattle.mg_page_overlays.specs.EntryPage.{EntersPage}
+use Rattle.mg_page_overlays.specs.ExtendEvery.{OrdersPage}
+use Rattle.mg_page_overlays.specs.LinkPage.{LinksPage}
+use Rattle.mg_page_overlays.specs.TakePart.{OccupiesPage}
 use Rattle.mg_heap.specs.Growth.{ListsInNew, before, orders_to}
-use Rattle.mg_grown_overlays.specs.Growing.{Grows, enters, links, stays}
+use Rattle.mg_table_overlays.specs.Growing.{Grows, enters, links, stays}
 use Rattle.mg_heap_ties.specs.Batches.{IsWithin, has_here, has_on, has_same, lists_head, lists_later, lists_sooner, lists_tail, viewed_same}
 use Rattle.mg_heap_ties.specs.GrowthTies.{MayBeLast, new_data_passes}
 

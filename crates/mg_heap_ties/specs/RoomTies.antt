@@ -13,11 +13,11 @@ use Rattle.mg_image.specs.Inventory.{inventory_page}
 use Rattle.mg_image.specs.Records.{Reading}
 use Rattle.mg_image.specs.Sound.{HasRegion, HasTablePages, IsSoundBy, IsTableData, IsTablePointer}
 use Rattle.mg_image.specs.Tables.{EachFrom, Has, IsOnce, Layout, LinkChain, PointerChain, ended, entries_in, goes, tree_pages}
-use Rattle.mg_image_steps.specs.DataPages.{all_passes, byte_blank, kind_of}
-use Rattle.mg_image_steps.specs.Growth.{has_back}
+use Rattle.mg_kept_images.specs.DataPages.{all_passes, byte_blank, kind_of}
+use Rattle.mg_kept_images.specs.Growth.{has_back}
 use Rattle.mg_kept_images.specs.Reach.{once_back, once_front}
 use Rattle.mg_model.specs.declared.table.Table.{Table}
-use Rattle.mg_one_layout.specs.OneChain.{link_once}
+use Rattle.mg_table_overlays.specs.OneChain.{link_once}
 use Rattle.mg_page_overlays.specs.GrowPages.{once_mid}
 use Rattle.mg_pip.specs.PipPage.{pip_checks}
 use Rattle.mg_pointer.specs.PointerPage.{next_in, pointer_checks}
@@ -26,12 +26,12 @@ use Rattle.mg_pool.specs.declared.pool.Pool.{Pool}
 use Rattle.mg_space.specs.Taking.{IsGeometry}
 use Rattle.mg_space.specs.TakingLaws.{page_sizes}
 use Rattle.mg_space.specs.View.{viewed}
-use Rattle.mg_taken_overlays.specs.LinkPage.{length_last}
+use Rattle.mg_page_overlays.specs.LinkPage.{length_last}
 use Rattle.mg_heap.specs.Room.{FindsOrGrows, GivesRoom}
 use Rattle.mg_heap.specs.Table.{IsTable}
 use Rattle.mg_heap.specs.TableLaws.{once_short}
-use Rattle.mg_grown_overlays.specs.Growing.{EndsAt, Grows, IsTableOf, TableEnd, stays}
-use Rattle.mg_grown_overlays.specs.Knowing.{its_once, its_pages}
+use Rattle.mg_table_overlays.specs.Growing.{EndsAt, Grows, IsTableOf, TableEnd, stays}
+use Rattle.mg_table_overlays.specs.Knowing.{its_once, its_pages}
 use Rattle.mg_heap_ties.specs.Batches.{IsWithin}
 use Rattle.mg_heap_ties.specs.GrowthTies.{MayBeLast, last_grows}
 use Rattle.mg_heap_ties.specs.LinkTies.{new_grows}

@@ -14,7 +14,7 @@
 //! All stands in `specs/`. There is no program here: each function's contract is a law.
 //!
 //! Invariant: none, it keeps no state.
-//! Below: `mg_heap`, `mg_grown_overlays`, `mg_space_ties`. Above: the ties of version chains, and the
+//! Below: `mg_heap`, `mg_table_overlays`, `mg_space_ties`. Above: the ties of version chains, and the
 //! engine.
 //! Not here: which versions the cells are of.
 #![tactic(auto)]

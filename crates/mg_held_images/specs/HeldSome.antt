@@ -23,7 +23,7 @@ use Rattle.mg_image.specs.RecordRules.{Facts, TakesKey, committed_in, table_in}
 use Rattle.mg_image.specs.Records.{Change, Reading, change_in, key_of, record_key, shown, writer}
 use Rattle.mg_image.specs.Sound.{IsSoundBy, facts_by}
 use Rattle.mg_image.specs.Tables.{Layout, stands_of}
-use Rattle.mg_image_steps.specs.TableOwners.{one_of_name}
+use Rattle.mg_kept_images.specs.TableOwners.{one_of_name}
 use Rattle.mg_held_images.specs.Laws.{HoldsSome, SoundHolds, SoundOpens}
 use Rattle.mg_held_images.specs.Listed.{change_here, change_of_table, change_under, changes_at, database_at, either, is_catalog, is_named, row_here, row_of, row_under, rows_at}
 use Rattle.mg_held_images.specs.Places.{HasPlace, has_place, places_of}

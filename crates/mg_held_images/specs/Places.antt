@@ -10,8 +10,8 @@ use Rattle.mg_image.specs.Form.{Coding, Pages}
 use Rattle.mg_image.specs.RecordRules.{AreRecords, Facts, table_in}
 use Rattle.mg_image.specs.Records.{Chain, Reading, cells_of, newest_of, slot_cell}
 use Rattle.mg_image.specs.Tables.{Has, Stand, has, table_at}
-use Rattle.mg_image_steps.specs.Cuts.{reads_none}
-use Rattle.mg_image_steps.specs.Growth.{has_back, has_front}
+use Rattle.mg_kept_images.specs.Cuts.{reads_none}
+use Rattle.mg_kept_images.specs.Growth.{has_back, has_front}
 use Rattle.mg_kept_images.specs.Reach.{has_it}
 use Rattle.mg_version.specs.declared.cell.Cell.{Cell}
 

@@ -9,10 +9,10 @@ use Rattle.mg_image.specs.Records.{cells_of, writer}
 use Rattle.mg_image.specs.Sound.{facts_by}
 use Rattle.mg_image.specs.Tables.{Layout}
 use Rattle.mg_image.specs.declared.entry.Entry.{Entry as Read}
-use Rattle.mg_image_steps.specs.CommitHeld.{after_change, changed_by, changes_without, commit_changes, commit_held}
-use Rattle.mg_image_steps.specs.CommitSound.{commit_sound, committing}
-use Rattle.mg_image_steps.specs.Fronts.{IsFront, is_dead, living}
-use Rattle.mg_image_steps.specs.TableOwners.{one_of_name, owned}
+use Rattle.mg_kept_images.specs.CommitHeld.{after_change, changed_by, changes_without, commit_changes, commit_held}
+use Rattle.mg_kept_images.specs.CommitSound.{commit_sound, committing}
+use Rattle.mg_kept_images.specs.Fronts.{IsFront, is_dead, living}
+use Rattle.mg_kept_images.specs.TableOwners.{one_of_name, owned}
 use Rattle.mg_kept_images.specs.KeptImages.{IsKept, keeping}
 use Rattle.mg_model.specs.Changes.{row_at}
 use Rattle.mg_model.specs.History.{Entries, Entry}

@@ -14,7 +14,7 @@ use Rattle.mg_image.specs.Histories.{newest_at}
 use Rattle.mg_image.specs.Inventory.{next_of}
 use Rattle.mg_overlays.specs.Overlays.{EveryOverlay, IsCleanAsDisk, NeedsAllDirty, OthersStay, left_by, left_state}
 use Rattle.mg_overlays.specs.StateLaws.{begin_keeps, rollback_keeps}
-use Rattle.mg_image_steps.specs.Begins.{Raises, begin_changes, begin_held, begin_none, begin_sound}
+use Rattle.mg_kept_images.specs.Begins.{Raises, begin_changes, begin_held, begin_none, begin_sound}
 use Rattle.mg_kept_images.specs.CommitLaws.{LeavesOthers, longer_kept}
 use Rattle.mg_kept_images.specs.KeptImages.{IsKept, keeping}
 use Rattle.mg_kept_images.specs.StartLaws.{kept_by_itself}

@@ -1,5 +1,5 @@
 -- What every crash leaves: from what every overlay is, where nobody is chosen.
-use Rattle.mg_image_steps.specs.Begins.{markers_are}
+use Rattle.mg_kept_images.specs.Begins.{markers_are}
 use Rattle.mg_base.specs.declared.transaction.TxState.{TxState}
 use Rattle.mg_base.specs.declared.transaction.TxState.TheVariants.{Active, Committed, Dead, Limbo}
 use Rattle.mg_careful.specs.CarefulWrite.{Cache, IsClosed, PageSet, overlay}

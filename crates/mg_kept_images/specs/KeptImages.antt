@@ -1,7 +1,7 @@
 -- What an overlay has to be: sound, behind the pool, with the versions that count there, and it holds what
 -- the history has.
 use Rattle.mg_pointer.specs.PointerPage.{next_in}
-use Rattle.mg_image_steps.specs.Kinds.{pointers_of}
+use Rattle.mg_kept_images.specs.Kinds.{pointers_of}
 use Rattle.mg_base.specs.declared.transaction.TxState.{TxState}
 use Rattle.mg_base.specs.declared.transaction.TxState.TheVariants.{Limbo}
 use Rattle.mg_image.specs.Form.{Form, Pages}
@@ -12,7 +12,7 @@ use Rattle.mg_image.specs.RecordRules.{committed_in}
 use Rattle.mg_image.specs.Records.{Reading}
 use Rattle.mg_image.specs.Sound.{IsSoundBy, facts_by}
 use Rattle.mg_image.specs.Tables.{Has, Layout, Stand, stands_of}
-use Rattle.mg_image_steps.specs.Fronts.{HasFronts}
+use Rattle.mg_kept_images.specs.Fronts.{HasFronts}
 use Rattle.mg_model.specs.Changes.{row_at}
 use Rattle.mg_model.specs.History.{Entries}
 use Rattle.mg_model.specs.Machine.{database, own}

@@ -1,9 +1,9 @@
 -- How a page of a table is reached, in the pool and in an overlay.
-use Rattle.mg_image_steps.specs.Kinds.{pointers_of}
+use Rattle.mg_kept_images.specs.Kinds.{pointers_of}
 use Rattle.mg_image.specs.Form.{Pages}
 use Rattle.mg_image.specs.Sound.{HasTablePages}
 use Rattle.mg_image.specs.Tables.{EachStand, Has, IsOnce, LinkChain, Stand, ended, entries_in, goes, has, pages_of, table_at, tree_pages}
-use Rattle.mg_image_steps.specs.Growth.{has_back, has_either, has_front}
+use Rattle.mg_kept_images.specs.Growth.{has_back, has_either, has_front}
 use Rattle.mg_kept_images.specs.KeptImages.{AreFrontStands, IsFrontOf}
 use Rattle.mg_model.specs.declared.table.Table.{Table}
 use Rattle.mg_pointer.specs.PointerPage.{entries_of, next_in}

@@ -9,7 +9,7 @@ use Rattle.mg_image.specs.Records.{Reading}
 use Rattle.mg_image.specs.Sound.{IsSoundBy, facts_by}
 use Rattle.mg_image.specs.Tables.{Layout, Stand, stands_of}
 use Rattle.mg_image.specs.declared.entry.Entry.{Entry}
-use Rattle.mg_image_steps.specs.Fronts.{IsFront, living}
+use Rattle.mg_kept_images.specs.Fronts.{IsFront, living}
 use Rattle.mg_kept_images.specs.KeptImages.{AreFrontStands, IsFrontOf, IsKept}
 use Rattle.mg_model.specs.Changes.{row_at}
 use Rattle.mg_model.specs.History.{Entries}

@@ -1,30 +1,24 @@
-//! What an overlay has to be as long as a history is under way, and that what becomes of transactions
-//! keeps it.
+//! What stays sound and what stays held: the steps of one image, and what every overlay has to be as long as a history
+//! is under way.
 //!
-//! Owns: the definition (`IsKept`), and what follows from it. An overlay is sound where the chosen
-//! transactions count as in limbo and the other active ones as dead; it is behind the pool's image
-//! (`IsBehind`); of each record it has the versions that count in the pool, and may have older ones
-//! behind them; and it holds the history's database, with the own changes of those who count as in
-//! limbo. Every overlay is kept so (`EveryOverlay` of mg_overlays, of `keeping`).
+//! Owns:
 //!
-//! Where nobody is chosen, and the bits say of each transaction what counts, the overlay of every
-//! closed set is sound by its own bits and holds what outlasts a crash after the history's last
-//! durable event (`HoldsAll`).
+//! - `steps`: the steps of one image. A cell is put, a version pushed over another one or taken out, a page linked, bits
+//!   of a transaction changed: a sound image stays sound over each.
+//! - `kept`: the definition of what an overlay has to be (`IsKept`), and that what becomes of transactions keeps it.
 //!
-//! The definitions stand in `specs/KeptImages`, `specs/HoldLaws` (what a crash leaves) and
-//! `specs/CommitLaws` (what an entry of a history brings or leaves); `specs/Laws` has what counts, and
-//! the other files prove it. There is no program here: each function does nothing, and its contract is
-//! a law.
+//! All stands in `specs/`. There is no program here: each function does nothing, and its contract is a law.
 //!
 //! Invariant: none, it keeps no state.
-//! Below: `mg_overlays`, the family; `mg_image_steps`, the steps of one image; `mg_image`, what is
-//! sound and what is held; `mg_model`, histories. Above: `mg_record_overlays` and `mg_page_overlays`,
-//! the batches.
-//! Not here: what a batch changes, and the versions of each key.
+//! Below: `mg_image`, what is sound and what is held; `mg_overlays`, the family of overlays; `mg_catalog`, for laws on
+//! catalog rows; `mg_model`, histories. Above: the crates of overlays, which take these steps in the pool and in overlays.
+//! Not here: what a batch changes, orders of page writes, and the versions of each key.
 #![tactic(auto)]
 
-mod laws;
+mod kept;
+mod steps;
 
-pub use laws::{
+pub use kept::{
     active_ones_begin_and_end, commits_keep, crashes_leave, overlays_start, page_writes_keep,
 };
+pub use steps::{bits_stay_sound, commits_stay_sound, tables_have_makers};

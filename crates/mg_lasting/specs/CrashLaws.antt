@@ -18,7 +18,7 @@ use Rattle.mg_model.specs.Machine.{database, own, state_of}
 use Rattle.mg_image.specs.Form.{Form}
 use Rattle.mg_image.specs.Histories.{HoldsDurable, newest_at}
 use Rattle.mg_kept_images.specs.HoldLaws.{HoldsAll, overlays_hold}
-use Rattle.mg_commit_overlays.specs.MidwayLaws.{midway_leaves}
+use Rattle.mg_page_overlays.specs.MidwayLaws.{midway_leaves}
 use Rattle.mg_lasting.specs.Crashes.{HoldsAcknowledged, HoldsFrom, asked, is_failed_write, may_last}
 use Rattle.mg_lasting.specs.CrashStatements.{DurableLeaves, FailedLeaves, MidwayHolds, OverlaysHold, QuietLeaves}
 

@@ -19,7 +19,7 @@ use Rattle.mg_model.specs.DeedLaws.{deeds_after, deeds_after_entry}
 use Rattle.mg_model.specs.NumberLaws.{undrawn_has_no_deeds, undrawn_is_dead}
 use Rattle.mg_image.specs.Form.{Form}
 use Rattle.mg_image.specs.Inventory.{next_of, state_at}
-use Rattle.mg_image_steps.specs.Begins.{markers_are}
+use Rattle.mg_kept_images.specs.Begins.{markers_are}
 use Rattle.mg_kept_images.specs.CommitLaws.{longer_kept}
 use Rattle.mg_kept_images.specs.EndLaws.{begin_every, rollback_every}
 use Rattle.mg_kept_images.specs.HoldLaws.{AreBits}

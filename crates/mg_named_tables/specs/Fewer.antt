@@ -20,9 +20,9 @@ use Rattle.mg_model.specs.CatalogRules.{AreTables, EachTable}
 use Rattle.mg_model.specs.Legal.{is_limbo}
 use Rattle.mg_model.specs.declared.table.Table.{Table}
 use Rattle.mg_named_tables.specs.Stands.{IsTwin, stand_has, twin_of}
-use Rattle.mg_one_layout.specs.OneChain.{same_stand}
+use Rattle.mg_table_overlays.specs.OneChain.{same_stand}
 use Rattle.mg_overlays.specs.Overlays.{left_by, left_state}
-use Rattle.mg_own_tables.specs.Whose.{data_its}
+use Rattle.mg_table_overlays.specs.Whose.{data_its}
 use Rattle.mg_value.specs.declared.value.Value.{Value}
 use Rattle.std.proofs.Common.{Bool, List, None, Option, Some, [], ap, false, inl, inr, not, refl, subst, sym, true, ℕ, ◌&&◌, ◌==◌, ◌||◌, ◌∙◌, ◌∷◌, ◌≡◌, ◌≢◌, ◌⊎◌}
 use Rattle.std.proofs.Math.Path.{fun_ext}

@@ -1,15 +1,15 @@
 -- Whose table it is, by the names that the catalog's rows give.
 use Rattle.mg_base.specs.declared.transaction.TxState.{TxState}
 use Rattle.mg_base.specs.declared.transaction.TxState.TheVariants.{Active, Dead, Limbo}
-use Rattle.mg_grown_overlays.specs.Growing.{IsTableOf}
-use Rattle.mg_grown_overlays.specs.Knowing.{its_pages}
+use Rattle.mg_table_overlays.specs.Growing.{IsTableOf}
+use Rattle.mg_table_overlays.specs.Knowing.{its_pages}
 use Rattle.mg_image.specs.Form.{Form, Pages}
 use Rattle.mg_image.specs.Reached.{tips_of}
 use Rattle.mg_image.specs.ReadingLaws.{RowsAreOne}
 use Rattle.mg_image.specs.Records.{Reading}
 use Rattle.mg_image.specs.Sound.{HasTablePages, IsSoundBy}
 use Rattle.mg_image.specs.Tables.{EachStand, Has, HasStand, IsOnce, Layout, PointerChain, Stand, entries_in, pages_of, stands_of, table_at}
-use Rattle.mg_image_steps.specs.Kinds.{HasNoSequences}
+use Rattle.mg_kept_images.specs.Kinds.{HasNoSequences}
 use Rattle.mg_kept_images.specs.KeptImages.{IsKept}
 use Rattle.mg_kept_images.specs.Reach.{data_there, once_back, once_front}
 use Rattle.mg_model.specs.History.{Entries}
@@ -17,10 +17,10 @@ use Rattle.mg_model.specs.declared.opening.Opening.{Opening}
 use Rattle.mg_model.specs.declared.table.Table.{Table}
 use Rattle.mg_named_tables.specs.Fewer.{twin, with_it}
 use Rattle.mg_named_tables.specs.Stands.{IsTwin, data_stand, pointer_page, pointer_stand, stand_has, stands_apart}
-use Rattle.mg_one_layout.specs.OneChain.{link_once}
+use Rattle.mg_table_overlays.specs.OneChain.{link_once}
 use Rattle.mg_overlays.specs.Overlays.{left_state}
-use Rattle.mg_own_tables.specs.NotThere.{IsNotThere}
-use Rattle.mg_own_tables.specs.Whose.{IsTableFor}
+use Rattle.mg_table_overlays.specs.NotThere.{IsNotThere}
+use Rattle.mg_table_overlays.specs.Whose.{IsTableFor}
 use Rattle.mg_pointer.specs.PointerPage.{next_in}
 use Rattle.std.proofs.Common.{Bool, List, None, Option, Some, [], ap, inl, inr, refl, subst, sym, ℕ, ◌++◌, ◌∙◌, ◌∷◌, ◌≡◌, ◌≢◌, ◌⊎◌}
 use Rattle.std.proofs.lemmas.Bool.{eq-eqb}

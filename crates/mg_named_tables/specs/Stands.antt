@@ -3,11 +3,11 @@ use Rattle.mg_base.specs.declared.numbers.PageNo.{PageNo}
 use Rattle.mg_image.specs.Form.{Pages}
 use Rattle.mg_image.specs.Sound.{HasTablePages}
 use Rattle.mg_image.specs.Tables.{EachStand, Has, HasStand, IsOnce, PointerChain, Stand, entries_in, has, pages_of, table_at, tree_pages}
-use Rattle.mg_image_steps.specs.Growth.{has_back, has_either, has_front}
-use Rattle.mg_image_steps.specs.Kinds.{pointers_of}
+use Rattle.mg_kept_images.specs.Growth.{has_back, has_either, has_front}
+use Rattle.mg_kept_images.specs.Kinds.{pointers_of}
 use Rattle.mg_kept_images.specs.Reach.{has_it, once_apart, once_back}
 use Rattle.mg_model.specs.declared.table.Table.{Table}
-use Rattle.mg_one_layout.specs.OneChain.{link_once}
+use Rattle.mg_table_overlays.specs.OneChain.{link_once}
 use Rattle.mg_pointer.specs.PointerPage.{next_in}
 use Rattle.std.proofs.Common.{Bool, List, Some, [], ap, false, inl, inr, refl, subst, sym, true, ℕ, ◌++◌, ◌∙◌, ◌∷◌, ◌≡◌, ◌≢◌, ◌⊎◌}
 use Rattle.std.specs.List.{flat_map}

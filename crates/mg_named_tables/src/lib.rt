@@ -9,7 +9,7 @@
 //! All stands in `specs/`. There is no program here.
 //!
 //! Invariant: none, it keeps no state.
-//! Below: `mg_own_tables`. Above: the engine.
+//! Below: `mg_table_overlays`. Above: the engine.
 //! Not here: which rows name a table (`mg_catalog`).
 #![tactic(auto)]
 

@@ -10,7 +10,7 @@
 //!
 //! Invariant: none, it keeps no state.
 //! Below: `mg_format`, which writes the pages; `mg_image`, which says byte for byte what they are.
-//! Above: `mg_engine_openings`.
+//! Above: `mg_engine_calls`.
 //! Not here yet: the cells of its two data pages, and so that the whole image is sound and holds the table KV, empty.
 #![tactic(auto)]
 

@@ -23,7 +23,7 @@ use Rattle.mg_image.specs.Form.{Coding, Row, Rows}
 use Rattle.mg_image.specs.Held.{AreRows, HasLimbo, Shows}
 use Rattle.mg_image.specs.RecordRules.{AreRecords, Each, EachBack, Facts, table_in}
 use Rattle.mg_image.specs.Records.{Cells as AllCells, Reading, key_of, shown, writer}
-use Rattle.mg_image_steps.specs.Begins.{Raises}
+use Rattle.mg_kept_images.specs.Begins.{Raises}
 use Rattle.mg_page_overlays.specs.Creating.{NamesMore}
 use Rattle.mg_new_tables.specs.JoinedRows.{each_of_all, join_names, with_table, with_tables}
 

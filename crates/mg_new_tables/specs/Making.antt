@@ -15,7 +15,7 @@ use Rattle.mg_image.specs.Histories.{newest_at}
 use Rattle.mg_image.specs.Records.{cells_of}
 use Rattle.mg_image.specs.Sound.{facts_by}
 use Rattle.mg_image.specs.Tables.{Stand}
-use Rattle.mg_image_steps.specs.Begins.{Raises}
+use Rattle.mg_kept_images.specs.Begins.{Raises}
 use Rattle.mg_kept_images.specs.KeptImages.{IsKept, keeping}
 use Rattle.mg_overlays.specs.Overlays.{ChangesCache, EveryOverlay, KeepsNeeds, LaysBatch, NeedsAllDirty, laid, left_state, without}
 use Rattle.mg_page_overlays.specs.Creating.{CreatesTables, MakesTables, NamesMore, create_every, without_raises}

@@ -11,7 +11,7 @@
 //! Invariant: none, it keeps no state.
 //! Below: `mg_page_overlays`, where a table's maker comes to count as in limbo; `mg_catalog`. Above: the
 //! engine's CREATE TABLE.
-//! Not here: how the table's pages are taken (`mg_taken_overlays`).
+//! Not here: how the table's pages are taken (`mg_page_overlays`).
 #![tactic(auto)]
 
 mod laws;

@@ -1,6 +1,6 @@
 -- A table is made: its maker comes to count as in limbo, no page is changed, and the layout gets the
 -- table.
-use Rattle.mg_image_steps.specs.Begins.{Raises, committed_same, committed_still, dead_before, limbo_before}
+use Rattle.mg_kept_images.specs.Begins.{Raises, committed_same, committed_still, dead_before, limbo_before}
 use Rattle.mg_base.specs.declared.numbers.RecId.{RecId}
 use Rattle.mg_base.specs.declared.transaction.TxState.{TxState}
 use Rattle.mg_base.specs.declared.transaction.TxState.TheVariants.{Active, Dead, Limbo}

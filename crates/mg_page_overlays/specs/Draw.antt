@@ -1,5 +1,5 @@
 -- A number is drawn: the header is changed.
-use Rattle.mg_image_steps.specs.Trees.{trees_stay}
+use Rattle.mg_kept_images.specs.Trees.{trees_stay}
 use Rattle.mg_pointer.specs.PointerPage.{next_in}
 use Rattle.mg_base.specs.Checks.{PassesAll}
 use Rattle.mg_base.specs.Fields.{byte}
@@ -23,12 +23,12 @@ use Rattle.mg_image.specs.Records.{Change, Reading, slot_cell}
 use Rattle.mg_image.specs.Sound.{HasInventory, HasNoOldLimbo, HasNoneUndrawn, HasRegion, HasTips, IsSoundBy, IsUndrawn, facts_by}
 use Rattle.mg_image.specs.Tables.{Has, IsOnce, Layout, pages_of, stands_of}
 use Rattle.mg_image.specs.declared.entry.Entry.{Entry}
-use Rattle.mg_image_steps.specs.DataPages.{kind_of}
-use Rattle.mg_image_steps.specs.DataSound.{KeepsTrees}
-use Rattle.mg_image_steps.specs.Growth.{has_back, has_front}
-use Rattle.mg_image_steps.specs.Kinds.{HasNoSequences, linked_is, pointers_four, pointers_of}
-use Rattle.mg_image_steps.specs.Rest.{TreesStay, div_grows}
-use Rattle.mg_image_steps.specs.TableOwners.{names_stay, own_tables_stay}
+use Rattle.mg_kept_images.specs.DataPages.{kind_of}
+use Rattle.mg_kept_images.specs.DataSound.{KeepsTrees}
+use Rattle.mg_kept_images.specs.Growth.{has_back, has_front}
+use Rattle.mg_kept_images.specs.Kinds.{HasNoSequences, linked_is, pointers_four, pointers_of}
+use Rattle.mg_kept_images.specs.Rest.{TreesStay, div_grows}
+use Rattle.mg_kept_images.specs.TableOwners.{names_stay, own_tables_stay}
 use Rattle.mg_kept_images.specs.KeptImages.{IsKept, keeping}
 use Rattle.mg_kept_images.specs.Reach.{page_there}
 use Rattle.mg_model.specs.History.{Entries}

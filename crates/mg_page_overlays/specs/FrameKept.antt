@@ -1,7 +1,7 @@
 -- Pages that nothing links change in the pool, and in an overlay some of them or none.
 use Rattle.mg_pointer.specs.PointerPage.{next_in}
 use Rattle.mg_kept_images.specs.Reach.{pointers_front}
-use Rattle.mg_image_steps.specs.Kinds.{pointer_linked, pointers_of, stands_linked}
+use Rattle.mg_kept_images.specs.Kinds.{pointer_linked, pointers_of, stands_linked}
 use Rattle.mg_base.specs.declared.transaction.TxState.{TxState}
 use Rattle.mg_header.specs.declared.header.Header.{Header}
 use Rattle.mg_image.specs.Form.{Form, Pages}
@@ -11,10 +11,10 @@ use Rattle.mg_image.specs.RecordRules.{Facts, committed_in}
 use Rattle.mg_image.specs.Records.{Reading}
 use Rattle.mg_image.specs.Sound.{IsSoundBy, facts_by}
 use Rattle.mg_image.specs.Tables.{Has, Layout, stands_of}
-use Rattle.mg_image_steps.specs.Frame.{KeepsLinked, facts_same, frame_sound, header_as, tip_kept}
-use Rattle.mg_image_steps.specs.Fronts.{HasFronts}
-use Rattle.mg_image_steps.specs.Grow.{last_is, tip_is}
-use Rattle.mg_image_steps.specs.Rest.{div_grows}
+use Rattle.mg_kept_images.specs.Frame.{KeepsLinked, facts_same, frame_sound, header_as, tip_kept}
+use Rattle.mg_kept_images.specs.Fronts.{HasFronts}
+use Rattle.mg_kept_images.specs.Grow.{last_is, tip_is}
+use Rattle.mg_kept_images.specs.Rest.{div_grows}
 use Rattle.mg_kept_images.specs.KeptImages.{IsKept}
 use Rattle.mg_model.specs.History.{Entries}
 use Rattle.mg_model.specs.declared.opening.Opening.{Opening}

@@ -1,5 +1,5 @@
 -- A table gets a data page, from the pool's change to every overlay.
-use Rattle.mg_image_steps.specs.Trees.{trees_stay}
+use Rattle.mg_kept_images.specs.Trees.{trees_stay}
 use Rattle.std.proofs.lemmas.Bool.{cases_eq}
 use Rattle.mg_pointer.specs.PointerPage.{next_in}
 use Rattle.mg_base.specs.Fields.{byte}
@@ -13,11 +13,11 @@ use Rattle.mg_image.specs.Reached.{linked_pages, tips_of}
 use Rattle.mg_image.specs.Records.{Reading}
 use Rattle.mg_image.specs.Sound.{HasTablePages, IsSoundBy}
 use Rattle.mg_image.specs.Tables.{Has, IsOnce, Layout, PointerChain, Stand, entries_in, has, pages_of, stands_of, tree_pages}
-use Rattle.mg_image_steps.specs.DataSound.{KeepsTrees}
-use Rattle.mg_image_steps.specs.Grow.{GrowsImage}
-use Rattle.mg_image_steps.specs.Growth.{grown, has_back, has_either, has_front}
-use Rattle.mg_image_steps.specs.Kinds.{HasNoSequences, chain_last, chain_next, pointer_linked, pointers_of, stands_linked}
-use Rattle.mg_image_steps.specs.Rest.{TreesStay}
+use Rattle.mg_kept_images.specs.DataSound.{KeepsTrees}
+use Rattle.mg_kept_images.specs.Grow.{GrowsImage}
+use Rattle.mg_kept_images.specs.Growth.{grown, has_back, has_either, has_front}
+use Rattle.mg_kept_images.specs.Kinds.{HasNoSequences, chain_last, chain_next, pointer_linked, pointers_of, stands_linked}
+use Rattle.mg_kept_images.specs.Rest.{TreesStay}
 use Rattle.mg_kept_images.specs.KeptImages.{AreFrontStands, IsFrontOf, IsFrontStand, IsKept, keeping}
 use Rattle.mg_kept_images.specs.Reach.{has_it, has_so, once_apart, once_back, once_front, pointers_front}
 use Rattle.mg_model.specs.History.{Entries}

@@ -1,7 +1,7 @@
 -- A table of the pool gets a data page: what an overlay has to be it is afterwards, with the page and
 -- without.
 use Rattle.mg_pointer.specs.PointerPage.{next_in}
-use Rattle.mg_image_steps.specs.Kinds.{pointers_of}
+use Rattle.mg_kept_images.specs.Kinds.{pointers_of}
 use Rattle.mg_base.specs.declared.numbers.RecId.{RecId}
 use Rattle.mg_base.specs.declared.transaction.TxState.{TxState}
 use Rattle.mg_base.specs.declared.transaction.TxState.TheVariants.{Limbo}
@@ -15,11 +15,11 @@ use Rattle.mg_image.specs.Records.{Change, Reading, shown}
 use Rattle.mg_image.specs.Sound.{IsSoundBy, facts_by}
 use Rattle.mg_image.specs.Tables.{Has, Layout, Stand, stands_of}
 use Rattle.mg_image.specs.declared.entry.Entry.{Entry}
-use Rattle.mg_image_steps.specs.Frame.{KeepsLinked, facts_same, frame_sound, header_as, tip_kept}
-use Rattle.mg_image_steps.specs.Fronts.{HasFronts}
-use Rattle.mg_image_steps.specs.Grow.{GrowsImage, grow_sound, header_is, its_table, last_is, other_table, tip_is, with_grown}
-use Rattle.mg_image_steps.specs.Growth.{grown}
-use Rattle.mg_image_steps.specs.Rest.{div_grows}
+use Rattle.mg_kept_images.specs.Frame.{KeepsLinked, facts_same, frame_sound, header_as, tip_kept}
+use Rattle.mg_kept_images.specs.Fronts.{HasFronts}
+use Rattle.mg_kept_images.specs.Grow.{GrowsImage, grow_sound, header_is, its_table, last_is, other_table, tip_is, with_grown}
+use Rattle.mg_kept_images.specs.Growth.{grown}
+use Rattle.mg_kept_images.specs.Rest.{div_grows}
 use Rattle.mg_kept_images.specs.KeptImages.{AreFrontStands, IsBehind, IsFrontOf, IsFrontStand, IsKept}
 use Rattle.mg_model.specs.Changes.{row_at}
 use Rattle.mg_model.specs.History.{Entries}

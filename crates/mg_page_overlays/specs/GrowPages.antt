@@ -12,12 +12,12 @@ use Rattle.mg_image.specs.Reached.{linked_pages, tips_below, tips_of}
 use Rattle.mg_image.specs.Records.{Reading, cells_of, newest_of, slot_cell}
 use Rattle.mg_image.specs.Sound.{HasInventory, HasRegion, HasTablePages, IsSoundBy, IsTableData, IsTablePointer}
 use Rattle.mg_image.specs.Tables.{EachFrom, EachStand, Has, IsOnce, Layout, Stand, has, pages_of, stands_of, table_at, tree_pages}
-use Rattle.mg_image_steps.specs.DataPages.{all_passes, byte_blank, kind_of}
-use Rattle.mg_image_steps.specs.DataSound.{KeepsTrees}
-use Rattle.mg_image_steps.specs.Frame.{KeepsLinked}
-use Rattle.mg_image_steps.specs.Grow.{GrowsImage}
-use Rattle.mg_image_steps.specs.Growth.{has_back, has_either, has_front, wanted_still}
-use Rattle.mg_image_steps.specs.Kinds.{HasNoSequences, IsLinked, linked_is, pointers_of}
+use Rattle.mg_kept_images.specs.DataPages.{all_passes, byte_blank, kind_of}
+use Rattle.mg_kept_images.specs.DataSound.{KeepsTrees}
+use Rattle.mg_kept_images.specs.Frame.{KeepsLinked}
+use Rattle.mg_kept_images.specs.Grow.{GrowsImage}
+use Rattle.mg_kept_images.specs.Growth.{has_back, has_either, has_front, wanted_still}
+use Rattle.mg_kept_images.specs.Kinds.{HasNoSequences, IsLinked, linked_is, pointers_of}
 use Rattle.mg_kept_images.specs.Reach.{data_there, has_it, once_apart, once_back, once_front, page_there}
 use Rattle.mg_model.specs.declared.table.Table.{Table}
 use Rattle.mg_pip.specs.PipPage.{bits, pip_checks, used_in}

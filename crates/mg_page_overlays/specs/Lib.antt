@@ -4,3 +4,17 @@ pub mod GrowPages
 pub mod GrowEvery
 pub mod Draw
 pub mod Creating
+pub mod TakePart
+pub mod DrawPage
+pub mod ExtendSound
+pub mod ExtendKept
+pub mod PointerPage
+pub mod Extended
+pub mod ExtendStep
+pub mod LinkPage
+pub mod EntryPage
+pub mod ExtendEvery
+pub mod Midway
+pub mod Laws
+pub mod BitsKept
+pub mod MidwayLaws

@@ -20,11 +20,11 @@ use Rattle.mg_image.specs.Records.{Cells, Chain, Changes as CellChanges, Reading
 use Rattle.mg_image.specs.Sound.{IsSoundBy, facts_by}
 use Rattle.mg_image.specs.StepLaws.{put_reading, step_sound}
 use Rattle.mg_image.specs.Tables.{Layout, stands_of}
-use Rattle.mg_image_steps.specs.Cuts.{chain_cell}
-use Rattle.mg_image_steps.specs.Kinds.{HasNoSequences}
-use Rattle.mg_image_steps.specs.Push.{free_empty}
-use Rattle.mg_image_steps.specs.Rest.{LeavesRests}
-use Rattle.mg_image_steps.specs.Trees.{data_leaves, trees_stay}
+use Rattle.mg_kept_images.specs.Cuts.{chain_cell}
+use Rattle.mg_kept_images.specs.Kinds.{HasNoSequences}
+use Rattle.mg_kept_images.specs.Push.{free_empty}
+use Rattle.mg_kept_images.specs.Rest.{LeavesRests}
+use Rattle.mg_kept_images.specs.Trees.{data_leaves, trees_stay}
 use Rattle.mg_kept_images.specs.CommitLaws.{LeavesOthers}
 use Rattle.mg_kept_images.specs.EndLaws.{longer_for}
 use Rattle.mg_kept_images.specs.KeptImages.{IsKept, keeping}

@@ -12,13 +12,13 @@ use Rattle.mg_image.specs.Sound.{IsSoundBy, facts_by}
 use Rattle.mg_image.specs.StepLaws.{put_cases, put_reading}
 use Rattle.mg_image.specs.Tables.{Layout, stands_of}
 use Rattle.mg_image.specs.declared.entry.Entry.{Entry}
-use Rattle.mg_image_steps.specs.DataPages.{ChangesData}
-use Rattle.mg_image_steps.specs.DataSound.{facts_same}
-use Rattle.mg_image_steps.specs.QuietVersions.{SameLiving}
-use Rattle.mg_image_steps.specs.Fronts.{living}
-use Rattle.mg_image_steps.specs.Push.{free_empty, free_unread, put_sound}
-use Rattle.mg_image_steps.specs.Relink.{relink_sound}
-use Rattle.mg_image_steps.specs.Rest.{LeavesRest, LeavesRests}
+use Rattle.mg_kept_images.specs.DataPages.{ChangesData}
+use Rattle.mg_kept_images.specs.DataSound.{facts_same}
+use Rattle.mg_kept_images.specs.QuietVersions.{SameLiving}
+use Rattle.mg_kept_images.specs.Fronts.{living}
+use Rattle.mg_kept_images.specs.Push.{free_empty, free_unread, put_sound}
+use Rattle.mg_kept_images.specs.Relink.{relink_sound}
+use Rattle.mg_kept_images.specs.Rest.{LeavesRest, LeavesRests}
 use Rattle.mg_kept_images.specs.KeptImages.{IsKept}
 use Rattle.mg_kept_images.specs.Reach.{IsEntered, entered_with, table_in_image}
 use Rattle.mg_model.specs.History.{Entries}

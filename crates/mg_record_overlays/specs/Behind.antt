@@ -1,7 +1,7 @@
 -- A data page is changed in the pool, and in an overlay: it is behind the pool still.
 use Rattle.mg_base.specs.Fields.{byte}
 use Rattle.mg_pointer.specs.PointerPage.{next_in}
-use Rattle.mg_image_steps.specs.Kinds.{pointers_four, pointers_of}
+use Rattle.mg_kept_images.specs.Kinds.{pointers_four, pointers_of}
 use Rattle.mg_base.specs.declared.transaction.TxState.{TxState}
 use Rattle.mg_header.specs.declared.header.Header.{Header}
 use Rattle.mg_image.specs.Form.{Form, Pages}
@@ -9,8 +9,8 @@ use Rattle.mg_image.specs.Inventory.{header_of, last_sequence, next_of, tip_page
 use Rattle.mg_image.specs.Records.{Reading}
 use Rattle.mg_image.specs.Sound.{IsSoundBy}
 use Rattle.mg_image.specs.Tables.{Has, Layout, stands_of}
-use Rattle.mg_image_steps.specs.DataPages.{ChangesData, header_same, last_same, tip_content, tip_same, used_kept}
-use Rattle.mg_image_steps.specs.Rest.{div_grows}
+use Rattle.mg_kept_images.specs.DataPages.{ChangesData, header_same, last_same, tip_content, tip_same, used_kept}
+use Rattle.mg_kept_images.specs.Rest.{div_grows}
 use Rattle.mg_kept_images.specs.KeptImages.{IsBehind}
 use Rattle.mg_tip.specs.TipPage.{places}
 use Rattle.std.proofs.Common.{Bool, List, ap, arith, subst, sym, ℕ, ◌-◌, ◌∙◌, ◌≡◌, ◌≢◌, ◌≤◌}

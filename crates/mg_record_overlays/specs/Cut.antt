@@ -8,13 +8,13 @@ use Rattle.mg_image.specs.RecordRules.{AreOnce, Facts, committed_in, table_in}
 use Rattle.mg_image.specs.Records.{Reading, cells_of, slot_cell}
 use Rattle.mg_image.specs.Sound.{IsSoundBy, facts_by}
 use Rattle.mg_image.specs.StepLaws.{put_reading}
-use Rattle.mg_image_steps.specs.CutFronts.{cut_fronts_in, cut_fronts_out, cut_records, image_once, is_there}
-use Rattle.mg_image_steps.specs.CutShown.{cut_changes, cut_held, cut_indexed, cut_owns, cut_shows_with}
-use Rattle.mg_image_steps.specs.Cuts.{CutsCell, IsCommittedAt, cut_at, cut_sound}
-use Rattle.mg_image_steps.specs.DataPages.{ChangesData}
-use Rattle.mg_image_steps.specs.DataSound.{data_sound, facts_same}
-use Rattle.mg_image_steps.specs.Fronts.{HasFronts}
-use Rattle.mg_image_steps.specs.Rest.{LeavesRest}
+use Rattle.mg_kept_images.specs.CutFronts.{cut_fronts_in, cut_fronts_out, cut_records, image_once, is_there}
+use Rattle.mg_kept_images.specs.CutShown.{cut_changes, cut_held, cut_indexed, cut_owns, cut_shows_with}
+use Rattle.mg_kept_images.specs.Cuts.{CutsCell, IsCommittedAt, cut_at, cut_sound}
+use Rattle.mg_kept_images.specs.DataPages.{ChangesData}
+use Rattle.mg_kept_images.specs.DataSound.{data_sound, facts_same}
+use Rattle.mg_kept_images.specs.Fronts.{HasFronts}
+use Rattle.mg_kept_images.specs.Rest.{LeavesRest}
 use Rattle.mg_kept_images.specs.KeptImages.{IsKept}
 use Rattle.mg_model.specs.History.{Entries}
 use Rattle.mg_model.specs.declared.opening.Opening.{Opening}

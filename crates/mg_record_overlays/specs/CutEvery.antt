@@ -1,6 +1,6 @@
 -- A record is cut, from the pool's change to every overlay.
-use Rattle.mg_image_steps.specs.Trees.{data_leaves, trees_stay}
-use Rattle.mg_image_steps.specs.Kinds.{HasNoSequences}
+use Rattle.mg_kept_images.specs.Trees.{data_leaves, trees_stay}
+use Rattle.mg_kept_images.specs.Kinds.{HasNoSequences}
 use Rattle.mg_base.specs.declared.numbers.RecId.{RecId}
 use Rattle.mg_base.specs.declared.transaction.TxState.{TxState}
 use Rattle.mg_careful.specs.CarefulWrite.{Cache, PageSet}
@@ -8,8 +8,8 @@ use Rattle.mg_careful.specs.Precedence.{Orders}
 use Rattle.mg_image.specs.Form.{Form, Pages}
 use Rattle.mg_image.specs.RecordRules.{table_in}
 use Rattle.mg_image.specs.Sound.{facts_by}
-use Rattle.mg_image_steps.specs.Cuts.{IsCommittedAt}
-use Rattle.mg_image_steps.specs.Rest.{LeavesRest, LeavesRests}
+use Rattle.mg_kept_images.specs.Cuts.{IsCommittedAt}
+use Rattle.mg_kept_images.specs.Rest.{LeavesRest, LeavesRests}
 use Rattle.mg_kept_images.specs.KeptImages.{IsKept, keeping}
 use Rattle.mg_model.specs.History.{Entries}
 use Rattle.mg_model.specs.declared.opening.Opening.{Opening}

@@ -24,10 +24,10 @@ use Rattle.mg_image.specs.RecordRules.{AreRecords, Each, Facts, IsInLimbo, Takes
 use Rattle.mg_image.specs.Records.{Change, Reading, cells_of, change_in, key_of, record_key, shown, writer}
 use Rattle.mg_image.specs.Sound.{IsIndexed, facts_by}
 use Rattle.mg_image.specs.StepLaws.{cases_place, put_cases, put_reading, same_place}
-use Rattle.mg_image_steps.specs.DataPages.{ChangesData}
-use Rattle.mg_image_steps.specs.DataSound.{data_sound_with, facts_same}
-use Rattle.mg_image_steps.specs.Rest.{LeavesRest}
-use Rattle.mg_image_steps.specs.TableOwners.{CatalogStays, names_stay, one_of_name, own_tables_stay}
+use Rattle.mg_kept_images.specs.DataPages.{ChangesData}
+use Rattle.mg_kept_images.specs.DataSound.{data_sound_with, facts_same}
+use Rattle.mg_kept_images.specs.Rest.{LeavesRest}
+use Rattle.mg_kept_images.specs.TableOwners.{CatalogStays, names_stay, one_of_name, own_tables_stay}
 use Rattle.mg_kept_images.specs.KeptImages.{IsKept}
 use Rattle.mg_kept_images.specs.StartLaws.{kept_by_itself}
 

@@ -2,8 +2,8 @@
 use Rattle.mg_model.specs.Answers.{is_committed}
 use Rattle.mg_image.specs.FactLaws.{each_has}
 use Rattle.mg_record_overlays.specs.OwnWrites.{WritesRow, own_kept}
-use Rattle.mg_image_steps.specs.Trees.{data_leaves, trees_stay}
-use Rattle.mg_image_steps.specs.Kinds.{HasNoSequences}
+use Rattle.mg_kept_images.specs.Trees.{data_leaves, trees_stay}
+use Rattle.mg_kept_images.specs.Kinds.{HasNoSequences}
 use Rattle.mg_base.specs.declared.numbers.RecId.{RecId}
 use Rattle.mg_base.specs.declared.transaction.TxState.{TxState}
 use Rattle.mg_base.specs.declared.transaction.TxState.TheVariants.{Active, Committed, Dead, Limbo}
@@ -16,8 +16,8 @@ use Rattle.mg_image.specs.Records.{Reading, Stands, cells_of, key_of, record_key
 use Rattle.mg_image.specs.Sound.{IsSoundBy, facts_by}
 use Rattle.mg_image.specs.Tables.{Layout}
 use Rattle.mg_image.specs.declared.entry.Entry.{Entry}
-use Rattle.mg_image_steps.specs.PushWhole.{PushesWhole, pushed_records}
-use Rattle.mg_image_steps.specs.Rest.{LeavesRests}
+use Rattle.mg_kept_images.specs.PushWhole.{PushesWhole, pushed_records}
+use Rattle.mg_kept_images.specs.Rest.{LeavesRests}
 use Rattle.mg_kept_images.specs.CommitLaws.{LeavesOthers, longer_kept}
 use Rattle.mg_kept_images.specs.KeptImages.{IsKept, keeping}
 use Rattle.mg_kept_images.specs.Reach.{IsEntered, entered_with}

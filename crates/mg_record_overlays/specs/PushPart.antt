@@ -16,11 +16,11 @@ use Rattle.mg_image.specs.Sound.{IsSoundBy, facts_by}
 use Rattle.mg_image.specs.StepLaws.{put_reading}
 use Rattle.mg_image.specs.Tables.{IsOnce, Layout, pages_of, stands_of}
 use Rattle.mg_image.specs.declared.entry.Entry.{Entry}
-use Rattle.mg_image_steps.specs.DataPages.{ChangesData}
-use Rattle.mg_image_steps.specs.DataSound.{facts_same}
-use Rattle.mg_image_steps.specs.Fronts.{IsFront, living}
-use Rattle.mg_image_steps.specs.Push.{PushesOver, free_unread, push_living, push_sound, put_sound}
-use Rattle.mg_image_steps.specs.Rest.{LeavesRest, LeavesRests}
+use Rattle.mg_kept_images.specs.DataPages.{ChangesData}
+use Rattle.mg_kept_images.specs.DataSound.{facts_same}
+use Rattle.mg_kept_images.specs.Fronts.{IsFront, living}
+use Rattle.mg_kept_images.specs.Push.{PushesOver, free_unread, push_living, push_sound, put_sound}
+use Rattle.mg_kept_images.specs.Rest.{LeavesRest, LeavesRests}
 use Rattle.mg_kept_images.specs.KeptImages.{IsKept}
 use Rattle.mg_kept_images.specs.Reach.{IsEntered, entered_with, once_back, once_front, table_in_image, table_in_pool}
 use Rattle.mg_model.specs.History.{Entries}

@@ -8,11 +8,11 @@ use Rattle.mg_image.specs.RecordRules.{AreRecords, Facts, committed_in}
 use Rattle.mg_image.specs.Records.{Reading, cells_of}
 use Rattle.mg_image.specs.Sound.{IsSoundBy, facts_by}
 use Rattle.mg_image.specs.declared.entry.Entry.{Entry}
-use Rattle.mg_image_steps.specs.DataPages.{ChangesData}
-use Rattle.mg_image_steps.specs.DataSound.{data_sound, facts_same}
-use Rattle.mg_image_steps.specs.Fronts.{HasFronts, IsFront, living}
-use Rattle.mg_image_steps.specs.QuietVersions.{AreQuiet, IsQuiet, changes_still, held_still, indexed_still, owns_still, shows_with}
-use Rattle.mg_image_steps.specs.Rest.{LeavesRest}
+use Rattle.mg_kept_images.specs.DataPages.{ChangesData}
+use Rattle.mg_kept_images.specs.DataSound.{data_sound, facts_same}
+use Rattle.mg_kept_images.specs.Fronts.{HasFronts, IsFront, living}
+use Rattle.mg_kept_images.specs.QuietVersions.{AreQuiet, IsQuiet, changes_still, held_still, indexed_still, owns_still, shows_with}
+use Rattle.mg_kept_images.specs.Rest.{LeavesRest}
 use Rattle.mg_kept_images.specs.KeptImages.{IsKept}
 use Rattle.mg_model.specs.History.{Entries}
 use Rattle.mg_model.specs.declared.opening.Opening.{Opening}

@@ -16,7 +16,7 @@
 //! and its contract is a law.
 //!
 //! Invariant: none, it keeps no state.
-//! Below: `mg_kept_images`, what an overlay has to be; `mg_image_steps`, the steps of one image;
+//! Below: `mg_kept_images`, what an overlay has to be; `mg_kept_images`, the steps of one image;
 //! `mg_overlays`. Above: the engine, which makes these batches.
 //! Not here: new pages of tables, numbers that are drawn, and how a page comes to have a cell.
 #![tactic(auto)]

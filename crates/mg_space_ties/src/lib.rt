@@ -10,7 +10,7 @@
 //! law.
 //!
 //! Invariant: none, it keeps no state.
-//! Below: `mg_space`, `mg_pool_overlays`, `mg_taken_overlays`. Above: the ties of the layers that fill
+//! Below: `mg_space`, `mg_pool_overlays`, `mg_page_overlays`. Above: the ties of the layers that fill
 //! batches.
 //! Not here: what a batch owes.
 #![tactic(auto)]

@@ -8,8 +8,8 @@ use Rattle.mg_image.specs.Inventory.{last_sequence, tip_page}
 use Rattle.mg_image.specs.Reached.{linked_pages, tips_below, tips_of}
 use Rattle.mg_image.specs.Sound.{HasTablePages, HasTransactions, IsTableData, IsTablePointer}
 use Rattle.mg_image.specs.Tables.{EachFrom, EachStand, Has, IsOnce, Layout, Stand, pages_of, stands_of, tree_pages}
-use Rattle.mg_image_steps.specs.DataPages.{all_passes, kind_of}
-use Rattle.mg_image_steps.specs.Growth.{has_either}
+use Rattle.mg_kept_images.specs.DataPages.{all_passes, kind_of}
+use Rattle.mg_kept_images.specs.Growth.{has_either}
 use Rattle.mg_model.specs.declared.table.Index.{Index}
 use Rattle.mg_pointer.specs.PointerPage.{pointer_checks}
 use Rattle.mg_tip.specs.TipPage.{tip_checks}

@@ -7,7 +7,7 @@
 //! All stands in `specs/`. There is no program here.
 //!
 //! Invariant: none, it keeps no state.
-//! Below: `mg_image`, `mg_image_steps`. Above: the engine's CREATE TABLE.
+//! Below: `mg_image`, `mg_kept_images`. Above: the engine's CREATE TABLE.
 //! Not here: how a table comes to stand (`mg_new_tables`).
 #![tactic(auto)]
 

@@ -9,16 +9,16 @@ use Rattle.mg_base.specs.Fields.{byte}
 use Rattle.mg_base.specs.Image.{Image}
 use Rattle.mg_base.specs.declared.transaction.TxState.{TxState}
 use Rattle.mg_base.specs.declared.transaction.TxState.TheVariants.{Active, Committed}
-use Rattle.mg_commit_overlays.specs.Midway.{EveryMidway, IsDrawnPlace}
-use Rattle.mg_commit_overlays.specs.MidwayLaws.{commit_changes_every, midway_written}
+use Rattle.mg_page_overlays.specs.Midway.{EveryMidway, IsDrawnPlace}
+use Rattle.mg_page_overlays.specs.MidwayLaws.{commit_changes_every, midway_written}
 use Rattle.mg_image.specs.Form.{Form, Pages}
 use Rattle.mg_image.specs.Inventory.{last_sequence, next_of, tip_page}
 use Rattle.mg_image.specs.Reached.{IsAsWanted, tips_below, tips_of}
 use Rattle.mg_image.specs.Tables.{Has, IsOnce, pages_of, stands_of}
-use Rattle.mg_image_steps.specs.Bits.{ChangesTip}
-use Rattle.mg_image_steps.specs.DataPages.{kind_of}
-use Rattle.mg_image_steps.specs.Kinds.{HasNoSequences}
-use Rattle.mg_image_steps.specs.Rest.{div_grows}
+use Rattle.mg_kept_images.specs.Bits.{ChangesTip}
+use Rattle.mg_kept_images.specs.DataPages.{kind_of}
+use Rattle.mg_kept_images.specs.Kinds.{HasNoSequences}
+use Rattle.mg_kept_images.specs.Rest.{div_grows}
 use Rattle.mg_kept_images.specs.CommitLaws.{BringsChanges}
 use Rattle.mg_kept_images.specs.KeptImages.{IsKept, keeping}
 use Rattle.mg_kept_images.specs.Reach.{once_front}

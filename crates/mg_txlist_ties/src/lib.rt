@@ -10,8 +10,8 @@
 //! law.
 //!
 //! Invariant: none, it keeps no state.
-//! Below: `mg_txlist`; `mg_page_overlays` and `mg_taken_overlays`, the laws on a number drawn;
-//! `mg_commit_overlays`, the bits of a commit; `mg_space_ties`. Above: the engine, which begins and commits transactions.
+//! Below: `mg_txlist`; `mg_page_overlays` and `mg_page_overlays`, the laws on a number drawn;
+//! `mg_page_overlays`, the bits of a commit; `mg_space_ties`. Above: the engine, which begins and commits transactions.
 //! Not here: what of a history begins or ends.
 #![tactic(auto)]
 

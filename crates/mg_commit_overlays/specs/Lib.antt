@@ -1,4 +1,0 @@
-pub mod Midway
-pub mod Laws
-pub mod BitsKept
-pub mod MidwayLaws

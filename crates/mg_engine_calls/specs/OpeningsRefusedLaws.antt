@@ -1,0 +1,157 @@
+-- Why an opening is refused, and what it leaves of the disk.
+use Rattle.std.proofs.Common.{◌≡◌, ◌⊎◌, inl, inr, ℕ, false, Some, Err, refl, sym, ap, ◌∙◌, subst}
+use Rattle.std.proofs.Math.Path.{fun_ext}
+use Rattle.mg_base.specs.Disk.{Meaning}
+use Rattle.mg_base.specs.Image.{Image, page_at}
+use Rattle.mg_base.specs.Moments.{LeavesOnly}
+use Rattle.mg_base.specs.declared.damage.Damaged.{Damaged}
+use Rattle.mg_base.specs.declared.geometry.Geometry.{Geometry}
+use Rattle.mg_core.specs.Opening.{FailsToRead, IsOpenRefusal, RefusesOpen, unprepared, unread}
+use Rattle.mg_core.specs.Refusing.{IsRefusal}
+use Rattle.mg_database.specs.Loading.{OpensAlone, RefusesPages}
+use Rattle.mg_database.specs.Preparing.{FailsToPrepare, no_memory, unasked, unmade}
+use Rattle.mg_database.specs.declared.fault.OpenFault.{OpenFault}
+use Rattle.mg_database.specs.declared.fault.OpenFault.TheVariants.{NotADatabase, Space}
+use Rattle.mg_format.specs.Format.{IsMade, IsUnmadeImage, LeavesNew}
+use Rattle.mg_header.specs.declared.header.HeadFault.TheVariants as heads
+use Rattle.mg_image.specs.Form.{Pages}
+use Rattle.mg_lasting.specs.PoolLaws.{needs_are}
+use Rattle.mg_model.specs.declared.refusal.Refusal.{Refusal}
+use Rattle.mg_pool.specs.Pool.{KeepsContent, shown}
+use Rattle.mg_pool.specs.declared.fault.PoolFault.TheVariants as pool_faults
+use Rattle.mg_space.specs.View.{Tells}
+use Rattle.mg_space.specs.ViewLaws.{CountsNow, content_on}
+use Rattle.mg_space.specs.declared.fault.SpaceFault.{SpaceFault}
+use Rattle.mg_space.specs.declared.fault.SpaceFault.TheVariants as space
+use Rattle.mg_new_images.specs.Readable.{AreReadable, NewAreReadable}
+use Rattle.mg_engine_calls.specs.OpenedLaws.{content_leaves, read_leaves, ready_unwritten}
+use Rattle.mg_engine_calls.specs.Openings.{IsNoJudgement, IsSoundImage, RefusesOpening}
+use Rattle.mg_engine_calls.specs.RefusalLaws.{AreCounted, is_database, not_damaged, sound_readable}
+
+-- a fault of the cache is no judgement on the disk
+pool_free : (fault : SpaceFault) (refusal : Refusal) → OpensAlone {T = Unit {0}} (Err (Space fault))
+    → IsRefusal fault refusal → ((d : Damaged) → fault ≡ space.Damaged d → ⊥) → IsNoJudgement refusal
+pool_free (space.Full limit) refusal own is not_ = subst IsNoJudgement (sym is) tt
+pool_free (space.Damaged d) refusal own is not_ = absurd (not_ d refl)
+pool_free (space.Pool (pool_faults.DiskRead n)) refusal own is not_ = subst IsNoJudgement (sym is) tt
+pool_free (space.Pool (pool_faults.DiskWrite n)) refusal own is not_ = subst IsNoJudgement (sym is) tt
+pool_free (space.Pool (pool_faults.Offline n)) refusal own is not_ = subst IsNoJudgement (sym is) tt
+pool_free (space.Pool (pool_faults.Absent n)) refusal own is not_ = absurd own
+pool_free (space.Pool pool_faults.Memory) refusal own is not_ = subst IsNoJudgement (sym is) tt
+
+module _ {D : Type 0} (m : Meaning D) (counts : CountsNow m) (counted : AreCounted m) (new_reads : NewAreReadable)
+    (disk new : D) (limit : ℕ) (refusal : Refusal) where
+  -- ---- it was not prepared
+
+  unprepared_free : (fault : OpenFault) → FailsToPrepare m disk new fault → IsOpenRefusal fault refusal
+      → IsNoJudgement refusal
+  unprepared_free _ (unasked count keeps rose) is = subst IsNoJudgement (sym is) tt
+  unprepared_free _ (no_memory keeps) is = subst IsNoJudgement (sym is) tt
+  unprepared_free _ (unmade count fails) is = subst IsNoJudgement (sym is) tt
+
+  unprepared_kept : (image : Image) → m.held disk ≡ Some image → ((size : ℕ) → IsUnmadeImage size image → ⊥)
+      → (fault : OpenFault) → FailsToPrepare m disk new fault → KeepsContent m disk new
+  unprepared_kept image held not_ _ (unasked count keeps rose) = keeps
+  unprepared_kept image held not_ _ (no_memory keeps) = keeps
+  unprepared_kept image held not_ _ (unmade count fails) = absurd (not_ fails.size (fails.unmade image held))
+
+  unprepared_leaves : (image : Image) → Tells m disk image → (fault : OpenFault)
+      → FailsToPrepare m disk new fault → (size : ℕ) × LeavesOnly m disk new (LeavesNew m disk size)
+  unprepared_leaves image tells _ (unasked count keeps rose) =
+      (0, content_leaves m counts (LeavesNew m disk 0) disk new tells.told keeps (λ c may. inl may))
+  unprepared_leaves image tells _ (no_memory keeps) =
+      (0, content_leaves m counts (LeavesNew m disk 0) disk new tells.told keeps (λ c may. inl may))
+  unprepared_leaves image tells _ (unmade count fails) = (fails.size, (fails.leaves image tells).crash)
+
+  -- ---- its pages were not read
+
+  module _ (fault : OpenFault) (fails : FailsToRead m disk new limit fault) where
+    abbrev its_size : ℕ
+    its_size = fails.before.geometry.size
+
+    read_kept : (image : Image) → m.held disk ≡ Some image → ((size : ℕ) → IsUnmadeImage size image → ⊥)
+        → KeepsContent m disk new
+    read_kept image held not_ = subst (KeepsContent m disk) (sym fails.is_disk)
+        (content_on m counts disk fails.before.disk fails.after.disk
+        (ready_unwritten m counts disk fails.before.disk its_size fails.prepared.disk_is image held (not_ its_size))
+        fails.keeps.disk)
+
+    read_since : (image : Image) → Tells m disk image → (size : ℕ) × LeavesOnly m disk new (LeavesNew m disk size)
+    read_since image tells = (
+      its_size,
+      subst (λ (d : D). LeavesOnly m disk d (LeavesNew m disk its_size)) (sym fails.is_disk)
+          (read_leaves m counts disk fails.before.disk its_size fails.prepared.disk_is image fails.after.disk tells
+          fails.keeps.disk),
+    )
+
+    module _ (size : ℕ) (image : Image) (sized : m.size new ≡ Some size) (tells : Tells m new image)
+        (lawful : IsSoundImage size image ⊎ IsMade size image) where
+      size_is : size ≡ its_size
+      size_is =
+          let both : Some size ≡ Some fails.after.geometry.size =
+          sym sized ∙ (ap m.size fails.is_disk ∙ fails.keeps.pool.size) in
+          let same : size ≡ fails.after.geometry.size = cc in
+          same ∙ ap (λ (g : Geometry). g.size) fails.keeps.geometry
+
+      readable : AreReadable its_size (page_at its_size image)
+      readable = at (subst (λ (n : ℕ). IsSoundImage n image ⊎ IsMade n image) size_is lawful)
+        where
+          at : IsSoundImage its_size image ⊎ IsMade its_size image → AreReadable its_size (page_at its_size image)
+          at (inl sound) = sound_readable its_size image sound
+          at (inr made) = new_reads its_size image fails.prepared.geometry.size made
+
+      before_tells : Tells m fails.before.disk image
+      before_tells = record {
+        told = sym fails.keeps.disk.tells ∙ (ap m.tells (sym fails.is_disk) ∙ tells.told);
+        held = sym fails.keeps.disk.held ∙ (ap m.held (sym fails.is_disk) ∙ tells.held);
+      }
+
+      after_held : m.held fails.after.disk ≡ Some image
+      after_held = ap m.held (sym fails.is_disk) ∙ tells.held
+
+      as_shown : shown fails.before.dirty image ≡ page_at its_size image
+      as_shown = fun_ext (λ p. (needs_are fails.before.dirty fails.before.graph image (λ t. false) (λ t. 0)).clean p
+          (fails.prepared.clean p))
+          ∙ ap (λ (n : ℕ). page_at n image) fails.prepared.pool.page_size
+
+      why : RefusesPages m fails.after fails.before.geometry (page_at its_size image) fault
+      why = subst (λ (ps : Pages). RefusesPages m fails.after fails.before.geometry ps fault) as_shown
+          (fails.why image before_tells)
+
+      -- each fault, with why it came
+      free : (it : OpenFault) → RefusesPages m fails.after fails.before.geometry (page_at its_size image) it
+          → OpensAlone {T = Unit {0}} (Err it) → IsOpenRefusal it refusal → IsNoJudgement refusal
+      free (NotADatabase field found) wrong own is = absurd (is_database m counted fails.after fails.before.geometry
+          image after_held readable (heads.NotADatabase field found) wrong)
+      free (Space (space.Full most)) wrong own is = absurd wrong
+      free (Space (space.Damaged d)) wrong own is = absurd (not_damaged m counted fails.after fails.before.geometry
+          image after_held readable d wrong)
+      free (Space (space.Pool p)) wrong own is = pool_free (space.Pool p) refusal own is (λ d same. absurd cc)
+
+      read_free : IsOpenRefusal fault refusal → IsNoJudgement refusal
+      read_free is = free fault why fails.own is
+
+  -- ---- both
+
+  its_lawful : RefusesOpen m disk new limit refusal → (size : ℕ) (image : Image) → m.size new ≡ Some size
+      → Tells m new image → IsSoundImage size image ⊎ IsMade size image → IsNoJudgement refusal
+  its_lawful (unprepared fault is fails) size image sized tells sound = unprepared_free fault fails is
+  its_lawful (unread fault is fails) size image sized tells sound = read_free fault fails size image sized tells sound is
+
+  its_kept : RefusesOpen m disk new limit refusal → (image : Image) → m.held disk ≡ Some image
+      → ((size : ℕ) → IsUnmadeImage size image → ⊥) → KeepsContent m disk new
+  its_kept (unprepared fault is fails) image held not_ = unprepared_kept image held not_ fault fails
+  its_kept (unread fault is fails) image held not_ = read_kept fault fails image held not_
+
+  its_leaves : RefusesOpen m disk new limit refusal → (image : Image) → Tells m disk image
+      → (size : ℕ) × LeavesOnly m disk new (LeavesNew m disk size)
+  its_leaves (unprepared fault is fails) image tells = unprepared_leaves image tells fault fails
+  its_leaves (unread fault is fails) image tells = read_since fault fails image tells
+
+  pub refuses_opening : RefusesOpen m disk new limit refusal → RefusesOpening m disk new limit refusal
+  refuses_opening cause = record {
+    cause = cause;
+    lawful = its_lawful cause;
+    unwritten = its_kept cause;
+    crash = its_leaves cause;
+  }

@@ -1,4 +1,0 @@
-pub mod Falling
-pub mod AlikeTables
-pub mod Rollbacks
-pub mod RollbackLaws

@@ -1,5 +1,0 @@
-pub mod DrawnPages
-pub mod Begins
-pub mod BeginLaws
-pub mod Idle
-pub mod IdleLaws

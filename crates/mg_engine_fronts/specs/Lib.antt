@@ -1,2 +1,0 @@
-pub mod TablePages
-pub mod TablePagesLaws

@@ -1,3 +1,0 @@
-pub mod RowWalks
-pub mod RowsLaws
-pub mod RowWalksLaws

@@ -1,4 +1,0 @@
-pub mod Alike
-pub mod TakesLaws
-pub mod RowsLaws
-pub mod WalksLaws

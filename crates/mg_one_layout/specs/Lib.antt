@@ -1,2 +1,0 @@
-pub mod OneChain
-pub mod OneLayout
