@@ -1,28 +1,10 @@
 //! Texts at the limits of what is read.
 
 use super::machine::{Machine, answers, of_kv};
+use crate::tests::texts::{nested, push_many};
 use std::alloc::Global;
 use std::process::Abort;
 use std::test::Fail;
-
-/// Bytes so often behind a text.
-fn push_many(text: &mut Vec<u8>, bytes: &[u8], times: usize) -> Result<(), Fail> {
-    for _ in 0..times {
-        text.extend_from_slice(bytes)?;
-    }
-    Ok(())
-}
-
-/// A SELECT of K in so many pairs of parentheses.
-fn nested(alloc: Global, levels: usize) -> Result<Vec<u8>, Fail> {
-    let mut text = Vec::new(alloc);
-    text.extend_from_slice(b"SELECT ")?;
-    push_many(&mut text, b"(", levels)?;
-    text.extend_from_slice(b"K")?;
-    push_many(&mut text, b")", levels)?;
-    text.extend_from_slice(b" FROM KV")?;
-    Ok(text)
-}
 
 /// An INSERT of a text of so many bytes, with blanks behind it.
 fn inserting(alloc: Global, bytes: usize, blanks: usize) -> Result<Vec<u8>, Fail> {
@@ -54,12 +36,18 @@ fn begun(rt: &impl Abort, alloc: Global) -> Result<Machine, Fail> {
 fn the_thirty_third_level_is_too_deep(rt: HostRuntime) -> Result<(), Fail> {
     let alloc = rt.alloc();
     let mut machine = begun(&rt, alloc)?;
-    answers(&rt, alloc, &mut machine, &nested(alloc, 32)?, "A: OK 0\n")?;
     answers(
         &rt,
         alloc,
         &mut machine,
-        &nested(alloc, 33)?,
+        &nested(alloc, b"SELECT ", 32, b"K", b" FROM KV")?,
+        "A: OK 0\n",
+    )?;
+    answers(
+        &rt,
+        alloc,
+        &mut machine,
+        &nested(alloc, b"SELECT ", 33, b"K", b" FROM KV")?,
         "A: TOO DEEP AT 39\n",
     )?;
     // NOT, minus and the parentheses of SUM are levels as well.

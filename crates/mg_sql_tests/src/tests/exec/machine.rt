@@ -6,17 +6,16 @@ ghost use Rattle.mg_sql.specs.Plain.{plain_of};
 ghost use Rattle.mg_records.specs.Writing.{IsOfLength};
 ghost use Rattle.mg_exec.specs.Starting.{Runs};
 
-use mg_base::{Bytes, PageNo, TxNo};
+use crate::tests::shapes::{column, name, table_of};
+use mg_base::{Bytes, TxNo};
 use mg_exec::{Run, Step};
-use mg_model::{
-    CATALOG, Changes, Indexes, Mode, Opening, Placed, PlacedRow, Refusal, States, Table,
-};
+use mg_model::{CATALOG, Changes, Mode, Opening, Placed, PlacedRow, Refusal, States};
 use mg_plain::Plain;
 use mg_records::Records;
 use mg_rows::{Outcome, StatementFault};
 use mg_script::{Line, LineKind, Reply, Session, answer_text};
 use mg_sql::{Def, Statement, parse};
-use mg_value::{Column, Columns, Kind, Name, Shape};
+use mg_value::{Column, Kind};
 use std::alloc::Global;
 use std::process::Abort;
 use std::test::Fail;
@@ -39,22 +38,6 @@ pub struct Machine {
     b: Option<Begun>,
 }
 
-fn name(rt: &impl Abort, bytes: &[u8]) -> Name {
-    match Name::new(bytes) {
-        Some(name) => name,
-        None => panic!(rt; "no name"),
-    }
-}
-
-fn column(rt: &impl Abort, bytes: &[u8], kind: Kind, not_null: bool) -> Column {
-    Column {
-        name: name(rt, bytes),
-        kind,
-        not_null,
-        since: 1,
-    }
-}
-
 /// The rows of the catalog that say a table whose first column is its key, behind others.
 fn push_table(
     rt: &impl Abort,
@@ -66,15 +49,7 @@ fn push_table(
     if columns.len() > 64 {
         panic!(rt; "too many columns");
     }
-    let table = Table {
-        name: name(rt, bytes),
-        shape: Shape {
-            columns: Columns::new(columns),
-            key: 0,
-        },
-        pointer: PageNo(0),
-        indexes: Indexes::new(Vec::new(alloc)),
-    };
+    let table = table_of(rt, alloc, bytes, 0, columns);
     for row in mg_catalog::rows_of(alloc, &table)? {
         rows.push(PlacedRow {
             table: name(rt, CATALOG),
