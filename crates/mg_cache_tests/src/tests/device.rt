@@ -2,7 +2,7 @@
 
 use super::disks::read_page;
 use mg_base::{Disk, PageNo};
-use mg_device::{FileDisk, ForcedWrites, MemDevice};
+use mg_device::{Device, FileDisk, ForcedWrites, MemDevice};
 use std::alloc::{Allocator, Global};
 use std::cell::Cell;
 use std::fs::{Files, Metadata, OpenOptions};

@@ -2,6 +2,7 @@
 
 use mg_base::Memory;
 use mg_careful::Graph;
+use std::alloc::Global;
 use std::process::Abort;
 use std::test::Fail;
 
