@@ -1,5 +1,5 @@
-//! What no clause says of the cache and of what works through it: that calls succeed with ample memory,
-//! and worked rows.
+//! What no clause says of the cache and of what works through it: that calls succeed with ample
+//! memory, and worked rows.
 
 mod btree;
 mod careful;

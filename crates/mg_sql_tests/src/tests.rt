@@ -1,4 +1,5 @@
-//! What no clause says of SQL and of scripts: that calls succeed with ample memory, and worked rows.
+//! What no clause says of SQL and of scripts: that calls succeed with ample memory, and worked
+//! rows.
 
 mod exec;
 mod expr;

@@ -1,4 +1,5 @@
-//! What no clause says: that calls succeed with ample memory, on a tree of three pages, byte by byte.
+//! What no clause says: that calls succeed with ample memory, on a tree of three pages, byte by
+//! byte.
 
 ghost use Rattle.std.specs.Prelude.{◌≡◌, ◌≤◌, Some, IfOk, length};
 ghost use Rattle.mg_pool.specs.Pool.{IsPool};
@@ -20,7 +21,8 @@ const ROOT: &[u8] = &[
     1, 0, 2, 0, 0, 0, 0, 0, 53, 0, 0, 0, 0, 0, 0, 0, 0, 0, 0, 0, 6, 0, 0, 0, 1, 0, 109, 0, 0, 0, 0,
     0, 0, 7, 0, 0, 0,
 ];
-/// The leaf 6, below the key `m`, left of page 7: the keys `a` and `c`, of the records 9, 0 and 9, 1.
+/// The leaf 6, below the key `m`, left of page 7: the keys `a` and `c`, of the records 9, 0 and 9,
+/// 1.
 const LEFT: &[u8] = &[
     0, 0, 2, 0, 7, 0, 0, 0, 55, 0, 2, 0, 1, 0, 109, 0, 0, 0, 0, 0, 0, 1, 0, 97, 9, 0, 0, 0, 0, 0,
     1, 0, 99, 9, 0, 0, 0, 1, 0,
@@ -98,7 +100,8 @@ fn a_range_goes_along_the_leaves(rt: HostRuntime) -> Result<(), Fail> {
     Ok(())
 }
 
-/// The first entry of a range by its slot, where every call of the disk fails behind the first so many.
+/// The first entry of a range by its slot, where every call of the disk fails behind the first so
+/// many.
 fn slot_within(alloc: Global, calls: u32, low: &[u8]) -> Result<u16, Fail>
     requires few { calls ≤ 100 }
 {
@@ -121,8 +124,8 @@ fn slot_within(alloc: Global, calls: u32, low: &[u8]) -> Result<u16, Fail>
 #[test]
 fn a_step_reads_a_page_a_level(rt: HostRuntime) -> Result<(), Fail> {
     let alloc = rt.alloc();
-    // A page that is read takes two calls of the disk: how many pages it has, and the page. These are the root and
-    // a leaf.
+    // A page that is read takes two calls of the disk: how many pages it has, and the page. These
+    // are the root and a leaf.
     assert_eq!(rt; slot_within(alloc, 4, b"b")?, 1);
     assert_eq!(rt; slot_within(alloc, 3, b"b")?, 77);
     // Where the leaf has no such entry, its right neighbour comes besides.

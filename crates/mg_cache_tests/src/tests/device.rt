@@ -37,7 +37,8 @@ fn a_forced_disk_keeps_its_pages_and_refuses_all_after_a_failed_write(
     assert_eq!(rt; get(&mut disk, 0), Some(0));
     assert_eq!(rt; get(&mut disk, 1), Some(7));
 
-    // There is no room for page 3. From then on everything is refused, also by a new disk over the device.
+    // There is no room for page 3. From then on everything is refused, also by a new disk over the
+    // device.
     assert!(rt; !put(&mut disk, 3, 7));
     assert!(rt; !put(&mut disk, 1, 8));
     assert!(rt; disk.settle().is_err());

@@ -53,7 +53,8 @@ fn entries_stand_in_order_and_each_once(rt: HostRuntime) -> Result<(), Fail> {
     assert!(&rt; put(&mut page, alloc, 7, 1, 2)?);
     assert!(&rt; put(&mut page, alloc, 7, 1, 1)?);
     assert!(&rt; put(&mut page, alloc, 7, 1, 2)?);
-    // Kind 7, page 9, owner 5; level 0, two entries, no neighbour, their end at 28 + 9 + 9, no fence.
+    // Kind 7, page 9, owner 5; level 0, two entries, no neighbour, their end at 28 + 9 + 9, no
+    // fence.
     let wanted = [
         7, 0, 0, 0, 9, 0, 0, 0, 5, 0, 0, 0, 0, 0, 0, 0, 0, 0, 2, 0, 0, 0, 0, 0, 46, 0, 0, 0, 1, 0,
         7, 6, 0, 0, 0, 1, 0, 1, 0, 7, 6, 0, 0, 0, 2, 0,

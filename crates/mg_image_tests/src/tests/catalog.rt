@@ -1,4 +1,5 @@
-//! Small catalogs made by hand: the tables that they name, and the first bad row of each broken one.
+//! Small catalogs made by hand: the tables that they name, and the first bad row of each broken
+//! one.
 
 use mg_base::Memory;
 use mg_catalog::{CatFault, rows_of, tables_of};

@@ -65,8 +65,8 @@ pub fn said_cells(alloc: Global, rows: &[Said]) -> Result<Vec<Vec<u8>>, Fail> {
     Ok(cells)
 }
 
-/// A cell of KV: an anchor to a slot and a transaction; a version by a transaction of a row; one over
-/// that of a slot and a transaction; a deletion of a key over such a one.
+/// A cell of KV: an anchor to a slot and a transaction; a version by a transaction of a row; one
+/// over that of a slot and a transaction; a deletion of a key over such a one.
 #[derive(Clone, Copy)]
 pub enum Laid {
     Anchor(u8, u8),

@@ -46,7 +46,8 @@ fn put_rows(alloc: Global, cells: &mut Vec<Vec<u8>>, rows: &[Written]) -> Result
 }
 
 // A database: the page that its header names as the catalog's first, what became of transactions 1
-// to 3, the cells of its catalog, and the data page that the pointer page of its second table names.
+// to 3, the cells of its catalog, and the data page that the pointer page of its second table
+// names.
 #[derive(Drop)]
 struct Made {
     catalog: u32,

@@ -8,8 +8,8 @@ use mg_soundness::check_soundness;
 use std::alloc::Global;
 use std::test::Fail;
 
-// A database whose table KV has the data pages 6 and 7: the next number, how many pages are used, the
-// cells of pages 6 and 7, whether page 8 is a data page, and whether KV has it.
+// A database whose table KV has the data pages 6 and 7: the next number, how many pages are used,
+// the cells of pages 6 and 7, whether page 8 is a data page, and whether KV has it.
 #[derive(Clone, Copy)]
 struct Made {
     next: u32,

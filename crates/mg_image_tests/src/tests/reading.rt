@@ -11,9 +11,9 @@ use mg_value::Value;
 use std::alloc::Global;
 use std::test::Fail;
 
-// A database with the table KV alone: its header, what became of transactions 1 to 3, how many pages
-// are used, the data pages that the pointer page of KV lists, the rows of the catalog on page 4, and the
-// cells of KV on page 6.
+// A database with the table KV alone: its header, what became of transactions 1 to 3, how many
+// pages are used, the data pages that the pointer page of KV lists, the rows of the catalog on page
+// 4, and the cells of KV on page 6.
 #[derive(Clone, Copy)]
 struct Made {
     next: u32,

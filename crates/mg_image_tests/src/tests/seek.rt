@@ -1,4 +1,5 @@
-//! A new database whose table KV gets some records, with their versions as bytes of the file format.
+//! A new database whose table KV gets some records, with their versions as bytes of the file
+//! format.
 
 ghost use Rattle.std.specs.Prelude.{◌≡◌, ◌≤◌, IfOk, length, if◌then◌else◌, ◌==◌, ◌||◌};
 ghost use Rattle.mg_base.specs.MemDisk.{mem_meaning};
@@ -94,8 +95,8 @@ fn anchor(slot: u8, tx: u8) -> [u8; 11] {
     [1, 6, 0, 0, 0, slot, 0, tx, 0, 0, 0]
 }
 
-/// Fills the data page of KV: a record with a dead version over a committed one, a deleted record, and
-/// one of an active transaction.
+/// Fills the data page of KV: a record with a dead version over a committed one, a deleted record,
+/// and one of an active transaction.
 fn fill(page: &mut [u8])
     requires { length page.old ≡ 1024 }
     ensures { length page.new ≡ 1024 }

@@ -63,8 +63,8 @@ const SHORT_KEY: [Said; 3] = [
     (b"TKV", b"", [5, 2, 7, 0]),
 ];
 
-// A newest version of a row of the catalog, by the transaction 2: the place of the row among those of
-// transaction 0, and what it says.
+// A newest version of a row of the catalog, by the transaction 2: the place of the row among those
+// of transaction 0, and what it says.
 type Changed = (u8, Said);
 
 // A database: its header, what became of transactions 1 to 3, how many pages are used, the rows of
@@ -100,8 +100,8 @@ fn sound() -> Made {
     }
 }
 
-// The cells of the catalog: for each row an anchor, and its version behind it; then the version that
-// changes one.
+// The cells of the catalog: for each row an anchor, and its version behind it; then the version
+// that changes one.
 fn catalog_cells(alloc: Global, made: &Made) -> Result<Vec<Vec<u8>>, Fail> {
     let mut cells = Vec::new(alloc);
     let last = 2 * (made.catalog.len() % 100) as u8;

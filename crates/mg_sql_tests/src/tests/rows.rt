@@ -1,4 +1,5 @@
-//! Statements over rows that are given: which rows they give or make, and what they are refused for.
+//! Statements over rows that are given: which rows they give or make, and what they are refused
+//! for.
 
 ghost use Rattle.std.specs.Prelude.{◌≡◌, ◌≤◌, IfOk, length};
 ghost use Rattle.mg_value.specs.declared.shape.TheConstants.{MOST_COLUMNS};
@@ -181,8 +182,8 @@ fn print_row(row: &Row, out: &mut Vec<u8>) -> Result<(), Fail> {
     Ok(())
 }
 
-/// The answer of a statement over these rows, as it prints: its rows with a semicolon behind each, or
-/// the refusal.
+/// The answer of a statement over these rows, as it prints: its rows with a semicolon behind each,
+/// or the refusal.
 fn answer(rt: &impl Abort, alloc: Global, text: &[u8], visited: &[Row]) -> Result<Vec<u8>, Fail> {
     let table = kv(rt, alloc)?;
     let bound = bound(rt, alloc, &table, text);

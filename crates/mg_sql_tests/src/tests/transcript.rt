@@ -1,5 +1,5 @@
-//! What no clause shows: the texts of a line with the statements that go on at it, and which answers
-//! stop a script.
+//! What no clause shows: the texts of a line with the statements that go on at it, and which
+//! answers stop a script.
 
 ghost use Rattle.std.specs.Prelude.{All, IfOk};
 ghost use Rattle.mg_transcript.specs.Transcript.{HasItsLetter};

@@ -62,8 +62,8 @@ enum Deed {
     BackOut,
 }
 
-/// A deed of a transaction with a body of so many bytes, and then the transaction of the newest version
-/// and how many bytes its body has: 0 and 0 where there is no record.
+/// A deed of a transaction with a body of so many bytes, and then the transaction of the newest
+/// version and how many bytes its body has: 0 and 0 where there is no record.
 #[derive(Clone, Copy)]
 struct Step {
     deed: Deed,

@@ -1,4 +1,5 @@
-//! What no clause says: that calls succeed with ample memory, and worked rows of the page inventory.
+//! What no clause says: that calls succeed with ample memory, and worked rows of the page
+//! inventory.
 
 ghost use Rattle.std.specs.Prelude.{◌≡◌};
 ghost use Rattle.mg_pool.specs.Pool.{IsPool};

@@ -74,7 +74,8 @@ fn rows_stand_in_their_order(rt: HostRuntime) -> Result<(), Fail> {
         ("INSERT INTO KV VALUES (2, NULL)", "A: OK 1\n"),
         ("INSERT INTO KV VALUES (1, 5)", "A: OK 1\n"),
         ("SELECT K FROM KV", "A| 1\nA| 2\nA| 3\nA| 4\nA: OK 4\n"),
-        // NULL is less than each value, and rows that tie stand by their key, however the order goes.
+        // NULL is less than each value, and rows that tie stand by their key, however the order
+        // goes.
         (
             "SELECT K FROM KV ORDER BY V",
             "A| 2\nA| 4\nA| 1\nA| 3\nA: OK 4\n",
