@@ -153,6 +153,7 @@ fn an_order_that_would_close_a_cycle_writes_the_page_before(rt: HostRuntime) -> 
     assert!(rt; pool.is_dirty(PageNo(7)) && pool.is_dirty(PageNo(8)));
     put_in_order(alloc, &mut pool, Order { first: 8, later: 7 }, &[2; 1024])?;
     // Page 7 was written with its first content, and now page 8 has to go before it.
+    assert!(rt; pool.is_dirty(PageNo(7)));
     assert_eq!(rt; pool.write_one(PageNo(7)), Ok(PageNo(8)));
     let mut disk = pool.into_disk();
     assert_eq!(rt; disk.writes(), 2);
