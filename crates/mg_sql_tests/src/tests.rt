@@ -1,8 +1,14 @@
-//! What SQL answers over the plain machine.
+//! What no clause says of SQL and of scripts: that calls succeed with ample memory, and worked
+//! rows.
 
-mod changes;
-mod limits;
-mod machine;
-mod refusals;
+mod exec;
+mod expr;
+mod plain;
+mod plan;
 mod rows;
-mod tables;
+mod script;
+mod shapes;
+mod sql;
+mod texts;
+mod transcript;
+mod words;

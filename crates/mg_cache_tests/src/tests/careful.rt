@@ -1,0 +1,4 @@
+//! Orders of page writes.
+
+mod graph;
+mod links;

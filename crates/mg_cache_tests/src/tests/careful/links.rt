@@ -1,0 +1,84 @@
+//! Tests of the links of a small format: a page names itself and the next page of its chain.
+
+ghost use Rattle.std.specs.Prelude.{◌≡◌, [], ◌∷◌, ◌==◌, ◌++◌, if◌then◌else◌};
+ghost use Rattle.mg_base.specs.Fields.{byte};
+
+use mg_base::Memory;
+use mg_careful::{Demand, Links, careful_write};
+use std::alloc::Global;
+use std::test::Fail;
+
+/// A chain of pages: byte 0 is the page's own number, byte 1 that of the next page, 0 for none.
+struct Chain;
+
+impl Links for Chain {
+    ghost demands_of = { λ b want. if byte b 1 == 0 then []
+        else (record { target = byte b 1; what = 0; a = 0; b = 0 } ∷ []) };
+
+    ghost meets_of = { λ b want. byte b 0 == want.target };
+
+    fn demands(b: &[u8], _want: &Demand, out: &mut Vec<Demand>) -> Result<(), Memory> {
+        let next = b.get(1).copied().unwrap_or(0);
+        if next != 0 {
+            out.push(demand_on(u32::from(next)))?;
+        }
+        Ok(())
+    }
+
+    fn meets(b: &[u8], want: &Demand) -> bool {
+        u32::from(b.first().copied().unwrap_or(0)) == want.target
+    }
+}
+
+fn demand_on(target: u32) -> Demand
+    ensures { result ≡ record { target = target; what = 0; a = 0; b = 0 } }
+{
+    Demand {
+        target,
+        what: 0,
+        a: 0,
+        b: 0,
+    }
+}
+
+/// Tells whether each page of the chain from page 1 is what the one before it wants.
+fn is_linked(alloc: Global, pages: &[[u8; 2]; 4]) -> Result<bool, Memory> {
+    let mut wanted = Vec::new(alloc);
+    wanted.push(demand_on(1))?;
+    for _ in 0..4 {
+        let Some(want) = wanted.pop() else {
+            return Ok(true);
+        };
+        let page = pages.get(want.target as usize).copied().unwrap_or([0, 0]);
+        if !Chain::meets(&page, &want) {
+            return Ok(false);
+        }
+        Chain::demands(&page, &want, &mut wanted)?;
+    }
+    Ok(false)
+}
+
+#[test]
+fn a_new_page_is_linked_in_every_overlay_of_a_closed_set(rt: HostRuntime) -> Result<(), Fail> {
+    careful_write::<Chain>();
+    // On the disk 1 leads to 2. In the pool 1 leads to the new page 3, and that to 2.
+    let disk = [[0, 0], [1, 2], [2, 0], [0, 0]];
+    let pool = [[0, 0], [1, 3], [2, 0], [3, 2]];
+    // Page 3 is ordered before page 1, so the set of page 1 alone isn't closed.
+    for (one, three, linked) in [
+        (false, false, true),
+        (false, true, true),
+        (true, true, true),
+        (true, false, false),
+    ] {
+        let first = if one { pool[1] } else { disk[1] };
+        let last = if three { pool[3] } else { disk[3] };
+        let overlay = [disk[0], first, disk[2], last];
+        assert_eq!(rt;
+            is_linked(rt.alloc(), &overlay)?,
+            linked,
+            "page 1 {one}, page 3 {three}"
+        );
+    }
+    Ok(())
+}

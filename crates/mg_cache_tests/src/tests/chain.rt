@@ -1,0 +1,4 @@
+//! Version chains.
+
+mod reading;
+mod writing;

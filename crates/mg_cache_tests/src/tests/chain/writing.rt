@@ -1,0 +1,217 @@
+//! Records of a small table are written in a batch, and read back as the batch has them.
+
+ghost use Rattle.std.specs.Prelude.{◌≡◌, ◌≤◌, false, IfOk, length};
+ghost use Rattle.mg_base.specs.MemDisk.{mem_meaning};
+ghost use Rattle.mg_pool.specs.Pool.{IsPool};
+ghost use Rattle.mg_space.specs.Taking.{IsGeometry};
+ghost use Rattle.mg_space.specs.View.{AreWhole};
+
+use crate::tests::stores::{OWNER, empty_store, empty_table};
+use mg_base::{Bytes, MemDisk, Memory, RecId, TxNo};
+use mg_chain::{back_out, first, newest_link, push, replace_own, spot, version_at};
+use mg_pool::Batch;
+use mg_space::{SpaceFault, Store};
+use mg_version::Version;
+use std::alloc::Global;
+use std::test::*;
+
+/// A version of a transaction, with a body of so many bytes.
+fn version(alloc: Global, t: u32, len: usize) -> Result<Version, Memory>
+    requires { len ≤ 900 }
+    ensures apart { IfOk result (λ v. v.primary ≡ false) }
+    ensures format { IfOk result (λ v. v.format ≡ 1) }
+    ensures body { IfOk result (λ v. length v.body ≡ len) }
+{
+    Ok(Version {
+        primary: false,
+        deleted: false,
+        format: 1,
+        tx: TxNo(t),
+        back: None,
+        body: Bytes::new(vec![in alloc; 7u8; len]?),
+    })
+}
+
+/// Makes a record with one version.
+fn make(
+    store: &mut Store<MemDisk>,
+    batch: &mut Batch,
+    t: u32,
+    len: usize,
+) -> Result<RecId, SpaceFault>
+    requires pool { IsPool mem_meaning store.old }
+    requires geometry { IsGeometry store.old.geometry }
+    requires size { store.old.geometry.size ≡ 1024 }
+    requires whole { AreWhole 1024 batch.old.pages }
+    requires len { len ≤ 900 }
+    ensures pool { IsPool mem_meaning store.new }
+    ensures geometry { store.new.geometry ≡ store.old.geometry }
+    ensures whole { AreWhole 1024 batch.new.pages }
+{
+    let v = version(store.alloc(), t, len)?;
+    let at = spot(store, batch, OWNER)?;
+    first(store, batch, OWNER, at, &v)?;
+    Ok(at)
+}
+
+/// What is done to the newest version of a record.
+#[derive(Clone, Copy)]
+enum Deed {
+    Push,
+    Replace,
+    BackOut,
+}
+
+/// A deed of a transaction with a body of so many bytes, and then the transaction of the newest
+/// version and how many bytes its body has: 0 and 0 where there is no record.
+#[derive(Clone, Copy)]
+struct Step {
+    deed: Deed,
+    by: u32,
+    len: usize,
+    then_by: u32,
+    then_len: usize,
+}
+
+fn step_of(deed: Deed, by: u32, len: usize, then_by: u32, then_len: usize) -> Step {
+    Step {
+        deed,
+        by,
+        len,
+        then_by,
+        then_len,
+    }
+}
+
+/// Does something to a record.
+fn act(
+    store: &mut Store<MemDisk>,
+    batch: &mut Batch,
+    rec: RecId,
+    deed: Deed,
+    v: &Version,
+) -> Result<(), SpaceFault>
+    requires pool { IsPool mem_meaning store.old }
+    requires geometry { IsGeometry store.old.geometry }
+    requires size { store.old.geometry.size ≡ 1024 }
+    requires whole { AreWhole 1024 batch.old.pages }
+    requires apart { v.now.primary ≡ false }
+    requires format { v.now.format ≡ 1 }
+    requires body { length v.now.body ≤ 900 }
+    ensures pool { IsPool mem_meaning store.new }
+    ensures geometry { store.new.geometry ≡ store.old.geometry }
+    ensures whole { AreWhole 1024 batch.new.pages }
+{
+    match deed {
+        Deed::Push => push(store, batch, rec, v),
+        Deed::Replace => replace_own(store, batch, rec, v),
+        Deed::BackOut => back_out(store, batch, rec),
+    }
+}
+
+/// Does what a step says.
+fn do_step(
+    store: &mut Store<MemDisk>,
+    batch: &mut Batch,
+    rec: RecId,
+    step: Step,
+) -> Result<(), SpaceFault>
+    requires pool { IsPool mem_meaning store.old }
+    requires geometry { IsGeometry store.old.geometry }
+    requires size { store.old.geometry.size ≡ 1024 }
+    requires whole { AreWhole 1024 batch.old.pages }
+    ensures pool { IsPool mem_meaning store.new }
+    ensures geometry { store.new.geometry ≡ store.old.geometry }
+    ensures whole { AreWhole 1024 batch.new.pages }
+{
+    let v = version(store.alloc(), step.by, step.len.min(900))?;
+    act(store, batch, rec, step.deed, &v)
+}
+
+/// Tells whether the newest version is as a step says.
+fn is_so(
+    store: &mut Store<MemDisk>,
+    batch: &Batch,
+    rec: RecId,
+    step: Step,
+) -> Result<bool, SpaceFault>
+    requires pool { IsPool mem_meaning store.old }
+    requires geometry { IsGeometry store.old.geometry }
+    requires size { store.old.geometry.size ≡ 1024 }
+    requires whole { AreWhole 1024 batch.now.pages }
+    ensures pool { IsPool mem_meaning store.new }
+    ensures geometry { store.new.geometry ≡ store.old.geometry }
+{
+    let Some(link) = newest_link(store, batch, rec)? else {
+        return Ok(step.then_by == 0);
+    };
+    let version = version_at(store, batch, rec.page, link)?;
+    Ok(version.tx.0 == step.then_by && version.body.as_slice().len() == step.then_len)
+}
+
+/// Tells whether all steps go as they say, one after another.
+fn all_go(
+    store: &mut Store<MemDisk>,
+    batch: &mut Batch,
+    rec: RecId,
+    steps: &[Step],
+) -> Result<bool, SpaceFault>
+    requires pool { IsPool mem_meaning store.old }
+    requires geometry { IsGeometry store.old.geometry }
+    requires size { store.old.geometry.size ≡ 1024 }
+    requires whole { AreWhole 1024 batch.old.pages }
+{
+    for step in steps {
+        do_step(store, batch, rec, *step)?;
+        if !is_so(store, batch, rec, *step)? {
+            return Ok(false);
+        }
+    }
+    Ok(true)
+}
+
+/// Makes a record with a version of transaction 2, and tells whether the steps go as they say.
+fn record_goes(alloc: Global, len: usize, steps: &[Step]) -> Result<bool, SpaceFault>
+    requires { len ≤ 900 }
+{
+    let mut store = empty_store(alloc, 100)?;
+    let mut batch = empty_table(alloc)?;
+    let rec = make(&mut store, &mut batch, 2, len)?;
+    all_go(&mut store, &mut batch, rec, steps)
+}
+
+#[test]
+fn a_record_is_made_and_taken_back_to_nothing(rt: HostRuntime) -> Result<(), Fail> {
+    let steps = [
+        step_of(Deed::Push, 3, 30, 3, 30),
+        step_of(Deed::Push, 4, 40, 4, 40),
+        // In its cell, and then in another one, on another page.
+        step_of(Deed::Replace, 4, 50, 4, 50),
+        step_of(Deed::Replace, 4, 900, 4, 900),
+        step_of(Deed::Push, 5, 10, 5, 10),
+        step_of(Deed::BackOut, 9, 0, 4, 900),
+        step_of(Deed::BackOut, 9, 0, 3, 30),
+        step_of(Deed::BackOut, 9, 0, 2, 20),
+        step_of(Deed::BackOut, 9, 0, 0, 0),
+    ];
+    assert_eq!(rt; record_goes(rt.alloc(), 20, &steps), Ok(true));
+    Ok(())
+}
+
+#[test]
+fn a_version_stands_on_another_page_than_its_slot(rt: HostRuntime) -> Result<(), Fail> {
+    let steps = [
+        step_of(Deed::Push, 3, 800, 3, 800),
+        step_of(Deed::Replace, 3, 10, 3, 10),
+        step_of(Deed::BackOut, 9, 0, 2, 900),
+    ];
+    assert_eq!(rt; record_goes(rt.alloc(), 900, &steps), Ok(true));
+    Ok(())
+}
+
+#[test]
+fn a_version_of_another_transaction_is_not_replaced(rt: HostRuntime) -> Result<(), Fail> {
+    let steps = [step_of(Deed::Replace, 3, 20, 3, 20)];
+    assert!(rt; record_goes(rt.alloc(), 20, &steps).is_err());
+    Ok(())
+}

@@ -1,0 +1,4 @@
+//! Pages that are taken, and what pages demand of each other.
+
+mod links;
+mod taking;

@@ -1,0 +1,69 @@
+//! The stores and batches that the tests begin with: pages have 1024 bytes.
+
+ghost use Rattle.std.specs.Prelude.{◌≡◌, ◌≤◌, Some, IfOk};
+ghost use Rattle.mg_base.specs.MemDisk.{mem_meaning};
+ghost use Rattle.mg_pool.specs.Pool.{IsPool};
+ghost use Rattle.mg_space.specs.Taking.{IsGeometry};
+ghost use Rattle.mg_space.specs.View.{AreWhole};
+
+use mg_base::{Disk, Geometry, MemDisk, Memory, PageNo};
+use mg_pip::{new_pip, set_used};
+use mg_pointer::new_pointer;
+use mg_pool::{Batch, Pool};
+use mg_space::Store;
+use std::alloc::Global;
+
+/// The first pointer page of the empty table.
+pub const OWNER: PageNo = PageNo(5);
+
+/// A store over a disk, below this limit.
+pub fn store_over<D: Disk + Drop>(alloc: Global, disk: D, limit: u32) -> Result<Store<D>, Memory>
+    requires size { D.meaning.size disk ≡ Some 1024 }
+    requires limit { limit ≤ 131072 }
+    ensures pool { IfOk result (λ store. IsPool D.meaning store) }
+    ensures geometry { IfOk result (λ store. IsGeometry store.geometry) }
+    ensures size { IfOk result (λ store. store.geometry.size ≡ 1024) }
+{
+    let geometry = Geometry { size: 1024, limit };
+    match Pool::new(alloc, disk, geometry) {
+        Ok(store) => Ok(store),
+        Err(_) => Err(Memory),
+    }
+}
+
+/// A store over a disk without pages, below this limit.
+pub fn empty_store(alloc: Global, limit: u32) -> Result<Store<MemDisk>, Memory>
+    requires limit { limit ≤ 131072 }
+    ensures pool { IfOk result (λ store. IsPool mem_meaning store) }
+    ensures geometry { IfOk result (λ store. IsGeometry store.geometry) }
+    ensures size { IfOk result (λ store. store.geometry.size ≡ 1024) }
+{
+    let disk = MemDisk::new(alloc, 1024, 16, 16)?;
+    store_over(alloc, disk, limit)
+}
+
+/// A batch with the first inventory page, on which the first pages are used.
+pub fn batch_with(alloc: Global, used: u32) -> Result<Batch, Memory>
+    requires { used ≤ 8064 }
+    ensures whole { IfOk result (λ batch. AreWhole 1024 batch.pages) }
+{
+    let mut page = [0; 1024];
+    new_pip(&mut page, PageNo(1), 0);
+    for bit in 0..used {
+        set_used(&mut page, bit, true);
+    }
+    let mut batch = Batch::new(alloc);
+    batch.put(PageNo(1), &page)?;
+    Ok(batch)
+}
+
+/// A batch with the first inventory page, on which pages 0 to 6 are used, and an empty table.
+pub fn empty_table(alloc: Global) -> Result<Batch, Memory>
+    ensures whole { IfOk result (λ batch. AreWhole 1024 batch.pages) }
+{
+    let mut batch = batch_with(alloc, 7)?;
+    let mut first = [0; 1024];
+    new_pointer(&mut first, OWNER, OWNER.0, 0);
+    batch.put(OWNER, &first)?;
+    Ok(batch)
+}

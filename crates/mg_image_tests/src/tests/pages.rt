@@ -1,0 +1,95 @@
+//! Pages of 1024 bytes made by hand, and images of them.
+
+ghost use Rattle.std.specs.Prelude.{◌≡◌, length};
+
+use mg_base::{Bytes, PageNo, TxNo, TxState, new_common};
+use mg_header::{HEADER_KIND, Header, write_header};
+use mg_pip::{new_pip, set_used};
+use mg_pointer::{add_entry, new_pointer};
+use mg_reading::Image;
+use mg_slots::{new_data, put_cell};
+use mg_tip::{new_tip, set_state};
+use std::alloc::Global;
+use std::test::Fail;
+
+/// How many bytes a page has.
+pub const SIZE: usize = 1024;
+
+pub const LIVE: TxState = TxState::Active;
+
+pub const GONE: TxState = TxState::Dead;
+
+pub const DONE: TxState = TxState::Committed;
+
+pub const HELD: TxState = TxState::Limbo;
+
+/// Makes the header page of these numbers, whose catalog begins on a page. The oldest snapshot is
+/// that of the oldest interesting transaction.
+pub fn header(b: &mut [u8], next: u32, oit: u32, oat: u32, catalog: u32)
+    requires { length b.old ≡ SIZE }
+{
+    new_common(b, PageNo(0), HEADER_KIND, 0, 0);
+    let header = Header {
+        minor: 0,
+        next: TxNo(next),
+        oit: TxNo(oit),
+        oat: TxNo(oat),
+        ost: TxNo(oit),
+        last_tip: PageNo(2),
+        interval: 20_000,
+        catalog: PageNo(catalog),
+    };
+    write_header(b, &header);
+}
+
+/// Makes the page inventory page, on which the first so many of 16 pages are used.
+pub fn inventory(b: &mut [u8], used: u32)
+    requires { length b.old ≡ SIZE }
+{
+    new_pip(b, PageNo(1), 0);
+    for bit in 0..16 {
+        set_used(b, bit, bit < used);
+    }
+}
+
+/// Makes the transaction inventory page: what became of transactions 1 to 3.
+pub fn transactions(b: &mut [u8], states: &[TxState; 3])
+    requires { length b.old ≡ SIZE }
+{
+    new_tip(b, PageNo(2), 0, PageNo(0));
+    set_state(b, 0, DONE);
+    set_state(b, 1, states[0]);
+    set_state(b, 2, states[1]);
+    set_state(b, 3, states[2]);
+}
+
+/// Makes the pointer page of a table, with these data pages behind it.
+pub fn pointers(b: &mut [u8], page: u32, data_pages: &[u32])
+    requires { length b.old ≡ SIZE }
+{
+    new_pointer(b, PageNo(page), page, 0);
+    for n in data_pages {
+        add_entry(b, PageNo(*n));
+    }
+}
+
+/// Makes the data page of the table of an owner, at a place among its pages.
+pub fn data(b: &mut [u8], page: u32, owner: u32, place: u32, cells: &[Vec<u8>]) -> Result<(), Fail>
+    requires { length b.old ≡ SIZE }
+{
+    new_data(b, PageNo(page), owner, place);
+    for cell in cells {
+        if cell.len() > 200 || put_cell(b, cell).is_err() {
+            return Err("no room")?;
+        }
+    }
+    Ok(())
+}
+
+/// The image of these pages.
+pub fn image_with(alloc: Global, pages: Vec<Bytes>) -> Result<Image, Fail> {
+    match Image::new(alloc, 1024, pages) {
+        Ok(Some(image)) => Ok(image),
+        _ => Err("no image")?,
+    }
+}

@@ -1,0 +1,15 @@
+//! What no clause says of the pages: their bytes, and that calls succeed with ample memory.
+
+mod base;
+mod format;
+mod header;
+mod node;
+mod pip;
+mod pointer;
+mod rle;
+mod rowcode;
+mod slots;
+mod sortkey;
+mod tip;
+mod value;
+mod version;

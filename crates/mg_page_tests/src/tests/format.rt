@@ -1,0 +1,68 @@
+//! What no clause says: that a new database is written with ample memory, and its bytes.
+
+ghost use Rattle.std.specs.Prelude.{◌≡◌, Some, IfOk};
+ghost use Rattle.mg_pool.specs.Pool.{IsPool};
+ghost use Rattle.mg_format.specs.Format.{IsClean};
+ghost use Rattle.mg_space.specs.Taking.{IsGeometry};
+
+use mg_base::{Disk, Geometry, MemDisk, Memory, PageNo};
+use mg_format::format_database;
+use mg_pool::Pool;
+use mg_space::Store;
+use std::alloc::Global;
+use std::test::Fail;
+
+/// A store over a disk with pages of 4096 bytes.
+fn store_over<D: Disk + Drop>(alloc: Global, disk: D) -> Result<Store<D>, Memory>
+    requires { D.meaning.size disk ≡ Some 4096 }
+    ensures pool { IfOk result (λ store. IsPool D.meaning store) }
+    ensures geometry { IfOk result (λ store. IsGeometry store.geometry) }
+    ensures clean { IfOk result (λ store. IsClean store) }
+{
+    let geometry = Geometry {
+        size: 4096,
+        limit: 16,
+    };
+    match Pool::new(alloc, disk, geometry) {
+        Ok(store) => Ok(store),
+        Err(_) => Err(Memory),
+    }
+}
+
+/// Some bytes of a page of a disk.
+fn bytes_of<D: Disk>(disk: &mut D, page: u32) -> Option<[u8; 4096]> {
+    let Ok(pages) = disk.pages() else {
+        return None;
+    };
+    let Ok(4096) = disk.page_size() else {
+        return None;
+    };
+    let mut bytes = [9; 4096];
+    if page >= pages || disk.read(PageNo(page), &mut bytes).is_err() {
+        return None;
+    }
+    Some(bytes)
+}
+
+#[test]
+fn a_new_database_has_its_header_last(rt: HostRuntime) -> Result<(), Fail> {
+    let alloc = rt.alloc();
+    let mut store = store_over(alloc, MemDisk::new(alloc, 4096, 8, 16)?)?;
+    assert_eq!(rt; format_database(&mut store), Ok(()));
+    let mut disk = store.into_disk();
+    assert_eq!(rt; disk.writes(), 7);
+    let header = bytes_of(&mut disk, 0).unwrap_or([7; 4096]);
+    let wanted = [
+        0x4d, 0x47, 0x44, 0x42, 1, 0, 0, 0, 0, 0x10, 0, 0, 1, 0, 0, 0, 1, 0, 0, 0, 1, 0, 0, 0, 1,
+        0, 0, 0, 2, 0, 0, 0, 0x20, 0x4e, 0, 0, 3, 0, 0, 0,
+    ];
+    assert_eq!(rt; header.get(16..56), Some(wanted.as_slice()));
+    let inventory = bytes_of(&mut disk, 1).unwrap_or([7; 4096]);
+    assert_eq!(rt; inventory.get(16..18), Some([0x7f, 0].as_slice()));
+    let rows = bytes_of(&mut disk, 4).unwrap_or([7; 4096]);
+    assert_eq!(rt;
+        rows.get(16..24),
+        Some([6, 0, 0x82, 0x0f, 0xf5, 0x0f, 11, 0].as_slice())
+    );
+    Ok(())
+}

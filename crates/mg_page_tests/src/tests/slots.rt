@@ -1,0 +1,4 @@
+//! Data pages of 1024 bytes and more.
+
+mod change;
+mod check;

@@ -1,0 +1,8 @@
+//! What SQL answers over the plain machine.
+
+mod changes;
+mod limits;
+mod machine;
+mod refusals;
+mod rows;
+mod tables;

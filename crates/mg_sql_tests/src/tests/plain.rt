@@ -1,0 +1,4 @@
+//! The plain machine.
+
+mod events;
+mod records;
