@@ -62,6 +62,3 @@ pub use numbers::{PageNo, RecId, TxNo};
 pub use std_streams::{StdSink, StdSource};
 pub use streams::{Sink, SinkFault, Source, SourceFault};
 pub use transaction::{Markers, TxState};
-
-#[cfg(test)]
-mod tests;

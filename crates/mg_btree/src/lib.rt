@@ -42,6 +42,3 @@ pub use inserting::insert;
 pub use laws::inserted_orders_close_no_cycle;
 pub use range::{Step, Walk, range_step, walk_from, walk_on};
 pub use removing::remove;
-
-#[cfg(test)]
-mod tests;

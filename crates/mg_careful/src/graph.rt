@@ -172,6 +172,3 @@ impl Graph {
         least_ready(&self.pages, &self.before, &self.after, place)
     }
 }
-
-#[cfg(test)]
-mod tests;

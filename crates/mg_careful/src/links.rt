@@ -50,6 +50,3 @@ pub fn careful_write<L: Links>()
     ensures batch { BatchStaysCareful L.demands_of L.meets_of }
     ensures lists { ListsAreSets }
 {}
-
-#[cfg(test)]
-mod tests;

@@ -32,6 +32,3 @@ pub use fault::CatFault;
 pub use laws::{rows_name_tables, tables_are_said};
 pub use said::rows_of;
 pub use tables::tables_of;
-
-#[cfg(test)]
-mod tests;

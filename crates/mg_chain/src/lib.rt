@@ -48,8 +48,3 @@ pub use replacing::replace_own;
 pub use states::States;
 pub use taking_out::back_out;
 pub use walk::{newest, visible};
-
-#[cfg(test)]
-mod tests;
-#[cfg(test)]
-mod writing_tests;

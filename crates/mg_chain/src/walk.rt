@@ -44,7 +44,7 @@ pub fn newest<D: Disk>(store: &mut Store<D>, rec: RecId) -> Result<Option<Versio
 }
 
 /// The same, as one sees it who fills a batch.
-pub(crate) fn newest_in<D: Disk>(
+fn newest_in<D: Disk>(
     store: &mut Store<D>,
     batch: &Batch,
     rec: RecId,

@@ -23,6 +23,3 @@ pub use device::Device;
 pub use file_device::{FileDevice, FileDisk};
 pub use forced::ForcedWrites;
 pub use mem_device::MemDevice;
-
-#[cfg(test)]
-mod tests;

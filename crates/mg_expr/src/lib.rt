@@ -30,6 +30,3 @@ pub use meaning::{
     a_filter_passes_where_it_is_true, arithmetic_is_exact, null_compares_with_nothing,
     truths_have_three_values, types_hold,
 };
-
-#[cfg(test)]
-mod tests;

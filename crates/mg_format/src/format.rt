@@ -120,6 +120,3 @@ fn put_page<D: Disk>(store: &mut Store<D>, n: u32, bytes: &[u8]) -> Result<(), P
 {
     store.change_one(PageNo(n), bytes, None)
 }
-
-#[cfg(test)]
-mod tests;

@@ -35,6 +35,3 @@ pub use header::{
 };
 pub use reading::read_header;
 pub use writing::write_header;
-
-#[cfg(test)]
-mod tests;

@@ -44,6 +44,3 @@ pub use reading::cell;
 pub use room::page_with_room;
 pub use table::{TablePages, table_pages};
 pub use walk::{is_primary, next, table_data_page};
-
-#[cfg(test)]
-mod tests;

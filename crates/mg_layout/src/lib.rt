@@ -29,6 +29,3 @@ pub use laws::one_layout;
 pub use layout::layout_of;
 pub use linked::are_pages_once;
 pub use standing::{Standing, TableStand};
-
-#[cfg(test)]
-mod tests;

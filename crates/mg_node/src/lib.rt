@@ -46,6 +46,3 @@ pub use readers::{entry_at, high_of, level_of, low_of, right_of};
 pub use walk::{
     FAR, count, end_of, first_at, has_high, has_low, high_at, is_inner, least_len, place,
 };
-
-#[cfg(test)]
-mod tests;

@@ -24,6 +24,3 @@ pub use laws::{first_stays, taken_after_split};
 pub use new::{copy_node, new_node};
 pub use removing::remove;
 pub use splitting::split;
-
-#[cfg(test)]
-mod tests;

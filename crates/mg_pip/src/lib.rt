@@ -20,6 +20,3 @@ mod page;
 
 pub use bits::{first_free, is_used, set_used};
 pub use page::{BITS_AT, PIP_KIND, check_pip, new_pip};
-
-#[cfg(test)]
-mod tests;

@@ -32,6 +32,3 @@ pub use fault::PlanFault;
 pub use planning::path;
 pub use plans::Path;
 pub use shapes::shape_of;
-
-#[cfg(test)]
-mod tests;

@@ -28,6 +28,3 @@ pub use next::{next_of, set_next};
 pub use page::{
     COUNT_AT, ENTRIES_AT, ENTRY_LEN, NEXT_AT, POINTER_KIND, UNUSED_AT, check_pointer, new_pointer,
 };
-
-#[cfg(test)]
-mod tests;

@@ -5,7 +5,6 @@ mod RestLemmas
 mod RunLemmas
 mod RefusalLemmas
 mod ChangeLemmas
-mod TestLemmas
 mod LawLemmas
 mod OrderLemmas
 mod CauseLemmas

@@ -40,8 +40,6 @@ pub const DIRTY_PAGES: u32 = 512;
 mod change;
 mod change_one;
 pub(crate) mod orders;
-#[cfg(test)]
-mod tests;
 mod write;
 
 impl<D: Disk, L: Links> Pool<D, L> {

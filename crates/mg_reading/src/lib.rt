@@ -39,6 +39,3 @@ pub use point::{ReadFault, Rule};
 pub use reading::shown;
 pub use rows::{RowCoding, row_of};
 pub use table_reading::{TableReading, read_table, table_records};
-
-#[cfg(test)]
-mod tests;

@@ -29,6 +29,3 @@ pub use laws::{one_packed_text, one_plain_text, one_verdict};
 pub use packing::pack;
 pub use run::{LEAST_REPEAT, MOST_LITERAL, MOST_REPEAT};
 pub use unpacking::unpack;
-
-#[cfg(test)]
-mod tests;

@@ -20,6 +20,3 @@ pub use encoding::encode_row;
 pub use fault::RowFault;
 pub use laws::one_row;
 pub use row::decode_row;
-
-#[cfg(test)]
-mod tests;

@@ -39,6 +39,3 @@ pub use outcome::Outcome;
 pub use selecting::select;
 pub use statement_fault::StatementFault;
 pub use totals::total_row;
-
-#[cfg(test)]
-mod tests;

@@ -29,6 +29,3 @@ pub use laws::lines_say_one_thing;
 pub use line::{Line, LineKind, MOST_STEPS, SESSIONS, Session};
 pub use reply::Reply;
 pub use script::{Script, read_script};
-
-#[cfg(test)]
-mod tests;

@@ -36,6 +36,3 @@ pub use tables::{rows_in_view, table_named};
 pub use views::{Obstacle, Visit, obstacle_for, record_key, row_in_view, view_step};
 pub use walk::{Placed, first_version};
 pub use whose::Wanted;
-
-#[cfg(test)]
-mod tests;

@@ -148,6 +148,3 @@ fn count_without(b: &[u8], slot: usize) -> usize
     }
     count
 }
-
-#[cfg(test)]
-mod tests;

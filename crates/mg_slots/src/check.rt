@@ -245,6 +245,3 @@ fn is_apart(b: &[u8], slot: usize, at: usize, size: usize) -> bool
     let end = start + taken(cell_len(b, slot));
     start == 0 || end <= at || at + size <= start
 }
-
-#[cfg(test)]
-mod tests;

@@ -20,6 +20,3 @@ mod live;
 
 pub use laws::{a_base_sees_what_had_ended, a_new_base_sees_what_has_ended, others_change_nothing};
 pub use live::Live;
-
-#[cfg(test)]
-mod tests;

@@ -22,6 +22,3 @@ mod tags;
 pub use key::{key_bytes, key_most};
 pub use laws::{keys_are_short, keys_order_as_values, keys_tell_values, no_key_is_prefix};
 pub use tags::{ESCAPE, INT_TAG, NULL_TAG, TEXT_TAG};
-
-#[cfg(test)]
-mod tests;

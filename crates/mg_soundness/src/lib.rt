@@ -28,6 +28,3 @@ pub use check::check_soundness;
 pub use laws::the_last_rule_is_soundness;
 pub use new_pages::is_unmade;
 pub use records::TableRecords;
-
-#[cfg(test)]
-mod tests;

@@ -94,12 +94,7 @@ fn is_same(a: &[u8], b: &[u8]) -> bool
 }
 
 /// Whether a page is that of its number in a new database.
-pub(crate) fn is_new_page(
-    alloc: Global,
-    image: &Image,
-    coding: RowCoding,
-    n: u32,
-) -> Result<bool, Memory>
+fn is_new_page(alloc: Global, image: &Image, coding: RowCoding, n: u32) -> Result<bool, Memory>
     requires { 1 ≤ n }
     ensures { IfOk result (λ is. IsTrue is
         ↔ IsNewPage (coding_of coding) image.now.size n (pages_in image.now n)) }

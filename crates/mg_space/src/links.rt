@@ -147,6 +147,3 @@ fn has_bit(b: &[u8], size: u32, page: PageNo, n: u32) -> bool
     let bits = region_len(size);
     check_pip(b, page, n / bits).is_ok() && is_used(b, n % bits)
 }
-
-#[cfg(test)]
-mod tests;

@@ -228,6 +228,3 @@ fn is_blank(page: &[u8]) -> bool
 {
     page.iter().all(|byte| *byte == 0)
 }
-
-#[cfg(test)]
-mod tests;

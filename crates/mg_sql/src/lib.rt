@@ -41,6 +41,3 @@ pub use parsing::parse;
 pub use parts::LEVELS;
 pub use scanning::MOST_TEXT;
 pub use statement::{Agg, Assign, Def, MOST_SIZE, Sorted, Statement};
-
-#[cfg(test)]
-mod tests;

@@ -21,6 +21,3 @@ mod states;
 
 pub use page::{PREV_AT, STATES_AT, TIP_KIND, check_tip, new_tip, prev_of};
 pub use states::{set_state, state_at};
-
-#[cfg(test)]
-mod tests;

@@ -28,6 +28,3 @@ mod turn;
 
 pub use laws::{events_are_own, histories_are_legal, transactions_are_apart};
 pub use turn::{Flow, Spoken, Turn, flow_of, is_fine, turn_text};
-
-#[cfg(test)]
-mod tests;

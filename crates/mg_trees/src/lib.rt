@@ -21,6 +21,3 @@ mod tree;
 pub use levels::{Level, Levels};
 pub use search::is_found_in;
 pub use tree::read_tree;
-
-#[cfg(test)]
-mod tests;

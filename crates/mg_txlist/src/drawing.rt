@@ -245,6 +245,3 @@ fn no_memory() -> SpaceFault
 {
     SpaceFault::Pool(PoolFault::Memory)
 }
-
-#[cfg(test)]
-mod tests;

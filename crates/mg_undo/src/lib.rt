@@ -30,6 +30,3 @@ pub use laws::{
 pub use places::{Place, Places, Push};
 pub use points::Standing;
 pub use undo::Undo;
-
-#[cfg(test)]
-mod tests;

@@ -43,6 +43,3 @@ pub use shape::{
 pub use text::Txt;
 pub use truth::Truth;
 pub use value::Value;
-
-#[cfg(test)]
-mod tests;

@@ -33,6 +33,3 @@ pub use cell::{
 };
 pub use reading::read_cell;
 pub use writing::write_cell;
-
-#[cfg(test)]
-mod tests;

@@ -18,6 +18,3 @@ mod waits;
 pub use laws::{notes_follow_the_machine, verdicts_are_the_machines};
 pub use verdict::Verdict;
 pub use waits::Waits;
-
-#[cfg(test)]
-mod tests;

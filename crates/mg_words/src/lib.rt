@@ -23,6 +23,3 @@ mod switch;
 
 pub use asked::Asked;
 pub use reading::{USUAL_PAGE, read_words, wanted_page};
-
-#[cfg(test)]
-mod tests;

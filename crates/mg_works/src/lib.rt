@@ -16,6 +16,3 @@ mod works;
 
 pub use work::Work;
 pub use works::Works;
-
-#[cfg(test)]
-mod tests;

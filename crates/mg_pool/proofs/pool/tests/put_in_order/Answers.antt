@@ -1,5 +1,0 @@
-use Rattle.mg_pool.proofs.TestLemmas.{two_lawful}
-use Rattle.mg_pool.proofs.pool.tests.put_in_order.Goals as goal
-
-pub change-requires-clause-lawful : goal.change-requires-clause-lawful
-change-requires-clause-lawful g c = two_lawful c.args.pool.now.geometry.size c.args.order c.args.bytes.now c.new-batch.result c.put.new.self c.put-2.new.self c.order.new.self c.new-batch.ensures.pages c.new-batch.ensures.orders c.in_ok-put.ensures.puts c.in_ok-put-2.ensures.puts c.order.ensures.pages c.in_ok-order.ensures.orders c.requires.apart c.requires.whole

@@ -1,5 +1,0 @@
-use Rattle.mg_slots.specs.DataPage.{IsDataPage}
-use Rattle.mg_slots.proofs.change.tests.put_records.Given as goal
-
-abbrev pub invariant-loop-records : goal.invariant-loop-records
-invariant-loop-records l = IsDataPage l.b

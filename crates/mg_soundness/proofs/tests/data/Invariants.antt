@@ -1,5 +1,0 @@
-use Rattle.mg_slots.specs.DataPage.{IsDataPage}
-use Rattle.mg_soundness.proofs.tests.data.Given as goal
-
-abbrev pub invariant-loop-cell : goal.invariant-loop-cell
-invariant-loop-cell l = IsDataPage l.b
