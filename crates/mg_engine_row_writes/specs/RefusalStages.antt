@@ -204,14 +204,10 @@ module _ (speakers : SpeakersAreTold) (obstacles : ObstaclesAtKeys) (rows : Rows
       (online_free free wait rec is_free) read (reads_on m counts_now old free read t.0
       (free_read m counts_now old core t table write free wait rec is_free) has.reads) told)
   kept_or free wait rec is_free read before v has (not_laid failed) = inr (record {
-    free = free;
-    wait = wait;
-    rec = rec;
-    is_free = is_free;
     read = read;
     before = before;
     version = v;
-    has = has;
+    ready = record { free = free; wait = wait; rec = rec; is_free = is_free; has = has };
     fails = failed;
   })
 

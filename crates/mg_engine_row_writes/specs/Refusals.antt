@@ -20,17 +20,22 @@ use Rattle.mg_engine_meaning.specs.Frames.{GivesEvent}
 use Rattle.mg_engine_meaning.specs.Meaning.{Places}
 use Rattle.mg_engine_row_writes.specs.Notes.{AreCounts}
 
--- Nobody was in the way, the version was made and what was before it read; and then it was not laid.
-pub record IsNotLaid {D : Type 0} (m : Meaning D) (old new : Core D) (t : TxNo) (table : Table) (write : Write)
-    (refusal : Refusal) : Type 0 where
+-- Nobody was in the way, the version was made, and what was before it was read.
+pub record IsReady {D : Type 0} (m : Meaning D) (old read : Core D) (t : TxNo) (table : Table) (write : Write)
+    (before : Before) (version : Version) : Type 0 where
   pub free : Core D
   pub wait : Bool
   pub rec : Option RecId
   pub is_free : IsFree m old free t table write wait rec
+  pub has : HasBefore m free read t table write rec before version
+
+-- And then it was not laid.
+pub record IsNotLaid {D : Type 0} (m : Meaning D) (old new : Core D) (t : TxNo) (table : Table) (write : Write)
+    (refusal : Refusal) : Type 0 where
   pub read : Core D
   pub before : Before
   pub version : Version
-  pub has : HasBefore m free read t table write rec before version
+  pub ready : IsReady m old read t table write before version
   pub fails : FailsLaid m read new t.0 table.pointer.0 (written_at table write) before version refusal
 
 -- the event is given with its refusal, or the version was not laid
