@@ -5,3 +5,4 @@ pub mod RetractedLaws
 pub mod Steps
 pub mod NotLaidLaws
 pub mod NotedLaws
+pub mod ApartLaws
