@@ -10,6 +10,7 @@ use Rattle.mg_records.specs.Adding.{fine_or}
 use Rattle.mg_records.specs.Keeping.{refusal_in}
 use Rattle.mg_records.specs.Writing.{FitsShape, IsOfColumn, event_of}
 use Rattle.mg_records.specs.declared.write.Write.{Write}
+use Rattle.mg_records.specs.declared.write.Write.TheVariants as writes
 use Rattle.mg_row_writes.specs.Storing.{alone_at, row_stored}
 use Rattle.mg_rowcode.specs.Storable.{AreStorable, IsStorable}
 use Rattle.mg_seek.specs.Rows.{HasShortTexts, IsShortText}
@@ -63,6 +64,34 @@ alone_storable key at v (c ∷ columns) is = (one (at == key), alone_storable ke
     one : (b : Bool) → IsStorable (if b then v else Null)
     one true = is
     one false = tt
+
+-- ---- the values that a write stores
+
+module _ (table : Table) (write : Write) (columns : List Column) (same : columns ≡ table.shape.columns)
+    (narrow : All (λ column. width_of column.kind ≤ GREATEST_WIDTH) columns) (fits : FitsShape table.shape write) where
+  its_narrow : All (λ column. width_of column.kind ≤ GREATEST_WIDTH) table.shape.columns
+  its_narrow = subst (All (λ (column : Column). width_of column.kind ≤ GREATEST_WIDTH)) same narrow
+
+  pub insert_short : (row seen : List Value) → write ≡ writes.Insert row → seen ≡ row → HasShortTexts seen
+  insert_short row seen is seen_is = subst HasShortTexts (sym seen_is)
+      (short_row table.shape.columns row its_narrow (subst (FitsShape table.shape) is fits))
+
+  pub change_short : (key : Value) (row seen : List Value) → write ≡ writes.Change key row → seen ≡ row
+      → HasShortTexts seen
+  change_short key row seen is seen_is = subst HasShortTexts (sym seen_is)
+      (short_row table.shape.columns row its_narrow (changed (subst (FitsShape table.shape) is fits)))
+    where
+      changed : FitsShape table.shape (writes.Change key row) → RowFits table.shape.columns row
+      changed both = both.0
+
+  pub erase_short : (key seen : Value) → write ≡ writes.Erase key → seen ≡ key → IsShortText seen
+  erase_short key seen is seen_is = subst IsShortText (sym seen_is)
+      (short_key table.shape.columns table.shape.key key its_narrow (subst (FitsShape table.shape) is fits))
+
+pub erase_storable : (table : Table) (write : Write) (key seen : Value) → write ≡ writes.Erase key → seen ≡ key
+    → IsStorable seen → AreStorable (row_stored table write)
+erase_storable table write key seen is seen_is storable = subst (λ (w : Write). AreStorable (row_stored table w))
+    (sym is) (alone_storable table.shape.key 0 key table.shape.columns (subst IsStorable seen_is storable))
 
 -- ---- the laws
 

@@ -201,7 +201,7 @@ module _ (retract : RetractTakesKeepBack) {D P : Type 0} (m : Meaning D) (places
       (ap (λ (c : Core D). c.shortages) since.same) failed.fails.counts)
 
   may : MayAnswer m places old new (Some refusal)
-  may = fault_may m places old new from.before failed.fails.fault refusal online from.up counted
+  may = fault_may m places old new from.before failed.fails.fault refusal online from.up
       from.so.goes.time.never_falls failed.fails.is from.told counts
 
   -- ---- memory
@@ -322,7 +322,7 @@ module _ (retract : RetractTakesKeepBack) {D P : Type 0} (m : Meaning D) (places
           counts).0
           (risen failed.fails.fault old.damage new.damage old.shortages new.shortages counted.damage counted.shortages
           counts).1
-          (record { cause = may.cause; offline = may.offline; down = may.down });
+          (subst (λ (c : Core D). MayAnswer m places old c (Some refusal)) new_is may);
       tables_stay = tables_of m places old now None (λ u name not_. retracted_given t.0 table.pointer.0
           (written_at table write) failed.before.was old.works u name);
       walks_stay = now_walks;

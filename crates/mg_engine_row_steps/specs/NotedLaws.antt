@@ -10,7 +10,7 @@ use Rattle.mg_model.specs.declared.answer.Answer.TheVariants.{Fine, No}
 use Rattle.mg_model.specs.declared.event.Event.{Event}
 use Rattle.mg_model.specs.declared.opening.Opening.{Opening}
 use Rattle.mg_model.specs.declared.refusal.Refusal.{Refusal}
-use Rattle.mg_model.specs.declared.refusal.Refusal.TheVariants.{Memory}
+use Rattle.mg_model.specs.declared.refusal.Refusal.TheVariants.{Damaged, DatabaseFull, DiskRead, DiskWrite, Memory, Offline}
 use Rattle.mg_model.specs.declared.table.Table.{Table}
 use Rattle.mg_model.specs.Answers.{answer_active, told}
 use Rattle.mg_model.specs.Changes.{KeyedRows}
@@ -156,7 +156,13 @@ module _ (works_stay : NotedWorksStay) {D : Type 0} (m : Meaning D) (notes_stay 
       mid_sessions = sessions_of m places old mid t.0 mid_works
 
       cause_on : (r : Option Refusal) → Causes (means m places) mid new r → Causes (means m places) old new r
-      cause_on r cause = cause
+      cause_on None cause = cause
+      cause_on (Some (DiskRead n)) cause = cause
+      cause_on (Some (DiskWrite n)) cause = cause
+      cause_on (Some (Damaged page field found wanted)) cause = cause
+      cause_on (Some (DatabaseFull limit)) cause = cause
+      cause_on (Some (Offline n)) cause = cause
+      cause_on (Some r) cause = cause
 
 -- ---- the laws
 

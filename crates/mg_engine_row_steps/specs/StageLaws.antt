@@ -36,8 +36,7 @@ use Rattle.mg_engine_meaning.specs.Standings.{StandsFor, standing_of}
 use Rattle.mg_engine_meaning.specs.StepLaws.{as_standing, fail_quiet, fail_stands, fail_walks, fails_goes, unmarked_run}
 use Rattle.mg_engine_row_writes.specs.Laid.{StaysOver, bare_standing}
 use Rattle.mg_engine_row_writes.specs.MadeLaws.{StoreOn}
-use Rattle.mg_engine_row_writes.specs.Notes.{AreCounts}
-use Rattle.mg_engine_row_writes.specs.StopLaws.{risen, rose_later, rose_one}
+use Rattle.mg_engine_row_writes.specs.StopLaws.{rose_later, rose_one}
 use Rattle.mg_engine_row_steps.specs.Stages.{FailsReady, StaysSo, TellsOf}
 
 -- ---- stages
@@ -196,43 +195,43 @@ module _ {D : Type 0} (m : Meaning D) where
 -- ---- the refusal has its cause
 
 pub fault_may : {D P : Type 0} (m : Meaning D) (places : Places P) (old new : Core D) (before : Pool D FireLinks)
-    (fault : SpaceFault) (refusal : Refusal) → old.store.offline ≡ None → before.offline ≡ None → AreCounts old
+    (fault : SpaceFault) (refusal : Refusal) → old.store.offline ≡ None → before.offline ≡ None
     → m.faults old.store.disk ≤ m.faults before.disk → IsRefusal fault refusal
     → TellsOf m before new.store fault
     → CountsFault fault old.damage new.damage old.shortages new.shortages
     → MayAnswer m places old new (Some refusal)
-fault_may m places old new before (faults.Full limit) refusal online up fits rises is told counts =
+fault_may m places old new before (faults.Full limit) refusal online up rises is told counts =
     subst (λ (r : Refusal). MayAnswer m places old new (Some r)) (sym is) (record {
       cause = rose_one old.shortages new.shortages counts.1;
       offline = rw online tt;
       down = told ∙ sym online;
     })
-fault_may m places old new before (faults.Damaged it) refusal online up fits rises is told counts =
+fault_may m places old new before (faults.Damaged it) refusal online up rises is told counts =
     subst (λ (r : Refusal). MayAnswer m places old new (Some r)) (sym is) (record {
       cause = rose_one old.damage new.damage counts.0;
       offline = rw online tt;
       down = told ∙ sym online;
     })
-fault_may m places old new before (faults.Pool (pool_faults.Absent pages)) refusal online up fits rises is told counts =
+fault_may m places old new before (faults.Pool (pool_faults.Absent pages)) refusal online up rises is told counts =
     subst (λ (r : Refusal). MayAnswer m places old new (Some r)) (sym is) (record {
       cause = rose_one old.damage new.damage counts.0;
       offline = rw online tt;
       down = told ∙ sym online;
     })
-fault_may m places old new before (faults.Pool (pool_faults.DiskRead n)) refusal online up fits rises is told counts =
+fault_may m places old new before (faults.Pool (pool_faults.DiskRead n)) refusal online up rises is told counts =
     subst (λ (r : Refusal). MayAnswer m places old new (Some r)) (sym is) (record {
       cause = rose_later (m.faults old.store.disk) (m.faults before.disk) (m.faults new.store.disk) rises told.1;
       offline = rw online tt;
       down = told.0 ∙ sym online;
     })
-fault_may m places old new before (faults.Pool (pool_faults.DiskWrite n)) refusal online up fits rises is told counts =
+fault_may m places old new before (faults.Pool (pool_faults.DiskWrite n)) refusal online up rises is told counts =
     subst (λ (r : Refusal). MayAnswer m places old new (Some r)) (sym is) (record {
       cause = rose_later (m.faults old.store.disk) (m.faults before.disk) (m.faults new.store.disk) rises told.1;
       offline = rw online tt;
       down = told.0;
     })
-fault_may m places old new before (faults.Pool (pool_faults.Offline n)) refusal online up fits rises is told counts =
+fault_may m places old new before (faults.Pool (pool_faults.Offline n)) refusal online up rises is told counts =
     let both : None ≡ Some n = sym up ∙ told in absurd cc
-fault_may m places old new before (faults.Pool pool_faults.Memory) refusal online up fits rises is told counts =
+fault_may m places old new before (faults.Pool pool_faults.Memory) refusal online up rises is told counts =
     subst (λ (r : Refusal). MayAnswer m places old new (Some r)) (sym is)
     (record { cause = tt; offline = rw online tt; down = told ∙ sym online })
