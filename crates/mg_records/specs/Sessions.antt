@@ -1,5 +1,5 @@
 -- Which sessions have an active transaction.
-use Rattle.std.specs.Prelude.{◌≡◌, ◌⊎◌, ℕ, true, false, Option, Some, None, Result, Ok, Err, if◌then◌else◌}
+use Rattle.std.specs.Prelude.{◌≡◌, ℕ, true, false, Option, Some, None, Result, Ok, Err, if◌then◌else◌}
 use Rattle.mg_base.specs.declared.numbers.TxNo.{TxNo}
 use Rattle.mg_model.specs.declared.refusal.Refusal.{Refusal}
 use Rattle.mg_model.specs.Machine.{is_of}
@@ -17,11 +17,9 @@ pub record SessionsStay {R P : Type 0} (m : Means R P) (old new : R) (begins end
     pub ended : (t session : ℕ) → is_of t ends ≡ true → m.works old t session
         → m.is_free new session
 
--- A keeper that tells which session a transaction was begun by tells one; or it tells none, and lets each
--- transaction count as that of any session.
+-- a transaction was begun by one session
 abbrev pub SessionsAreOne : {R P : Type 0} → Means R P → Type 0
-SessionsAreOne {R = R} m = ((r : R) (t n k : ℕ) → m.works r t n → m.works r t k → n ≡ k)
-    ⊎ ((r : R) (t n : ℕ) → m.works r t n)
+SessionsAreOne {R = R} m = (r : R) (t n k : ℕ) → m.works r t n → m.works r t k → n ≡ k
 
 -- the session that has begun a transaction
 abbrev pub begun_in : ℕ → Result TxNo Refusal → Option ℕ
