@@ -122,6 +122,6 @@ module _ {D P : Type 0} (m : Meaning D) (places : Places P) (inside old new : Co
       → MatchResult result (λ _. WritesNoted m inside new t table write) (FailsNoted m inside new t table write)
       → AreApart new.works
   writes_apart may writes fails (Ok x) written =
-      writes inside new t table write is.lawful may is.apart written
+      writes inside new t table write is.lawful given_inside may is.apart written
   writes_apart may writes fails (Err refusal) failed = fails places inside new t table write refusal is.lawful counted
       given_inside fits storable may is.apart failed

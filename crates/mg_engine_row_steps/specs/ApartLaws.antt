@@ -17,13 +17,13 @@ use Rattle.mg_core.specs.declared.parts.Core.{Core}
 use Rattle.mg_core.specs.Cores.{IsCore}
 use Rattle.mg_core.specs.Putting.{works_kept}
 use Rattle.mg_core.specs.Writing.{Writes}
-use Rattle.mg_engine_notes.specs.Notes.{NotedWorksStay, NotesStay}
+use Rattle.mg_engine_notes.specs.Notes.{NotedTablesAreKept, NotedWorksStay, NotesStay}
 use Rattle.mg_engine_row_writes.specs.Notes.{AreCounts, HasRead}
 use Rattle.mg_engine_row_writes.specs.RefusalLaws.{free_read}
 use Rattle.mg_engine_row_writes.specs.Refusals.{IsNotLaid, RefusalsGoOn, RefusesStill}
 use Rattle.mg_engine_row_writes.specs.StopLaws.{reads_on}
 use Rattle.mg_taking_back.specs.Noting.{noted, noted_fails, noted_if, noted_memory, noted_not, with_noted}
-use Rattle.mg_engine_row_steps.specs.NotedLaws.{noted_core, noted_given}
+use Rattle.mg_engine_row_steps.specs.NotedLaws.{noted_core, noted_given, table_noted}
 use Rattle.mg_engine_row_steps.specs.Retracted.{works_retracted}
 use Rattle.mg_engine_row_steps.specs.Steps.{NotLaidGives, NotedFailsApart, NotedWritesApart}
 
@@ -76,30 +76,30 @@ writes_apart {D} m counts_now old new t table write core written apart = subst A
 
 pub noted_writes_apart : {D : Type 0} (m : Meaning D) → CountsNow m → NotedWorksStay → NotesStay D m
     → NotedWritesApart D m
-noted_writes_apart m counts_now works_stay notes_stay old new t table write core may apart written =
+noted_writes_apart m counts_now works_stay notes_stay old new t table write core given may apart written =
     writes_apart m counts_now (with_noted t.0 table old) new t table write
-    (noted_core works_stay m notes_stay old t table core) written (noted_apart t.0 table old.works may apart)
+    (noted_core works_stay m notes_stay old t table given core) written (noted_apart t.0 table old.works may apart)
 
-pub noted_fails_apart : {D P : Type 0} (m : Meaning D) → NotedWorksStay → NotesStay D m → RefusalsGoOn D P m
-    → NotLaidGives D P m → NotedFailsApart D P m
-noted_fails_apart {D} m works_stay notes_stay refusals not_laid places old new t table write refusal core counted given
+pub noted_fails_apart : {D P : Type 0} (m : Meaning D) → NotedWorksStay → NotedTablesAreKept → NotesStay D m
+    → RefusalsGoOn D P m → NotLaidGives D P m → NotedFailsApart D P m
+noted_fails_apart {D} m works_stay kept notes_stay refusals not_laid places old new t table write refusal core counted given
     fits storable may apart (noted_not refused) =
     subst AreApart (sym (ap (λ (c : Core D). c.works) refused.wait.same)) apart
-noted_fails_apart {D} m works_stay notes_stay refusals not_laid places old new t table write refusal core counted given
+noted_fails_apart {D} m works_stay kept notes_stay refusals not_laid places old new t table write refusal core counted given
     fits storable may apart (noted_memory continues ends is) =
     subst AreApart (sym (ap (λ (c : Core D). c.works) ends.same)) apart
-noted_fails_apart {D} {P} m works_stay notes_stay refusals not_laid places old new t table write refusal core counted
+noted_fails_apart {D} {P} m works_stay kept notes_stay refusals not_laid places old new t table write refusal core counted
     given fits storable may apart (noted_fails fails) = at (refusals places (with_noted t.0 table old) new t table write
     refusal core_ counted_ given_ fails)
   where
     core_ : IsCore m (with_noted t.0 table old)
-    core_ = noted_core works_stay m notes_stay old t table core
+    core_ = noted_core works_stay m notes_stay old t table given core
 
     counted_ : AreCounts (with_noted t.0 table old)
     counted_ = record { damage = counted.damage; shortages = counted.shortages }
 
     given_ : given_to (noted t.0 table old.works) t.0 table.name ≡ Some table
-    given_ = noted_given works_stay m notes_stay old t table t.0 table.name ∙ given
+    given_ = noted_given works_stay m notes_stay old t table given t.0 table.name ∙ given
 
     apart_ : AreApart (noted t.0 table old.works)
     apart_ = noted_apart t.0 table old.works may apart
@@ -108,7 +108,7 @@ noted_fails_apart {D} {P} m works_stay notes_stay refusals not_laid places old n
         ⊎ IsNotLaid m (with_noted t.0 table old) new t table write refusal → AreApart new.works
     at (inl still) = subst AreApart (sym still.works) apart_
     at (inr failed) = subst AreApart
-        (sym (not_laid places (with_noted t.0 table old) new t table write refusal core_ counted_ given_ fits storable
-        failed).1)
+        (sym (not_laid places (with_noted t.0 table old) new t table write refusal core_ counted_ given_
+        (table_noted kept old t table given) fits storable failed).1)
         (retracted_apart t.0 table.pointer.0 (written_at table write) failed.before.was (noted t.0 table old.works)
         apart_)

@@ -58,7 +58,7 @@ use Rattle.mg_engine_meaning.specs.MemoryCallLaws.{idle_finds, memory_stands, no
 use Rattle.mg_engine_meaning.specs.Standings.{StandsFor, asked_kept, sessions_in, standing_of}
 use Rattle.mg_engine_meaning.specs.FrameLaws.{same_sessions}
 use Rattle.mg_engine_meaning.specs.StepLaws.{as_standing}
-use Rattle.mg_engine_row_writes.specs.Laid.{DeadsStay, PlacesStay, StaysOver}
+use Rattle.mg_engine_row_writes.specs.Laid.{DeadsStay, HasNoted, PlacesStay, StaysOver}
 use Rattle.mg_engine_row_writes.specs.MadeLaws.{StoreOn, on_then, own_on, read_on}
 use Rattle.mg_engine_row_writes.specs.Notes.{AreCounts, HasRead}
 use Rattle.mg_engine_row_writes.specs.RefusalLaws.{begun_read, free_read, passing_event, whose_event}
@@ -84,7 +84,8 @@ module _ (retract : RetractTakesKeepBack) {D P : Type 0} (m : Meaning D) (places
     (on : StandsOn packed_form) (quiet : QuietHolds packed_form) (begin : OpeningsBegin)
     (last : ReadsLast D FireLinks m packed_form) (failing : PageWritesFail D FireLinks m packed_form)
     (old new : Core D) (core : IsCore m old) (counted : AreCounts old) (t : TxNo) (table : Table) (write : Write)
-    (given : given_to old.works t.0 table.name ≡ Some table) (fits : FitsShape table.shape write)
+    (given : given_to old.works t.0 table.name ≡ Some table) (kept : HasNoted old.works t.0 table)
+    (fits : FitsShape table.shape write)
     (storable : AreStorable (row_stored table write)) (refusal : Refusal)
     (failed : IsNotLaid m old new t table write refusal) where
   begun : HasBegun old failed.ready.is_free.has_found.has_passed.begun t failed.ready.wait
@@ -147,13 +148,13 @@ module _ (retract : RetractTakesKeepBack) {D P : Type 0} (m : Meaning D) (places
   from_way ways.Make is (no_first at placed takes own) = at_second placed
       (own_on m failed.read.store placed _ takes)
       (λ o h stands. places_stay places old failed.read t table write failed.before failed.version placed at o h core
-      given fits storable failed.ready is takes stands) _ _ own
+      given kept fits storable failed.ready is takes stands) _ _ own
   from_way (ways.Push rec) is own = at_once _ _ own
   from_way (ways.PushOverDead rec) is (not_cleared own) = at_once _ _ own
   from_way (ways.PushOverDead rec) is (not_pushed cleared takes own) = at_second cleared
       (own_on m failed.read.store cleared _ takes)
       (λ o h stands. deads_stay places old failed.read t table write failed.before failed.version cleared rec o h core
-      given fits storable failed.ready is takes stands) _ _ own
+      given kept fits storable failed.ready is takes stands) _ _ own
   from_way (ways.Replace rec) is own = at_once _ _ own
 
   from : FailsFrom m places old new.store t.0 failed.fails.fault
@@ -257,7 +258,8 @@ module _ (retract : RetractTakesKeepBack) {D P : Type 0} (m : Meaning D) (places
       shortages = new.shortages;
     }) o (entry (event_of t table.name write) (No refusal) ∷ h)
     waited_stands = memory_stands m places mid failed.read.waits old.works old.live idle_goes on quiet refl refl o h e
-        mid_stands mid_stands.tables mid_stands.given (inr (fault_outer failed.fails.fault refusal failed.fails.is))
+        mid_stands mid_stands.tables mid_stands.given mid_stands.kept
+        (inr (fault_outer failed.fails.fault refusal failed.fails.is))
         (quiet_count e (passing_event t table.name write)) (quiet_event e (passing_event t table.name write)) refl
         (nothing_follows mid failed.read.waits o h e t.0 refl (whose_event t table.name write) noted
         mid_stands.numbers mid_stands.tables)

@@ -38,7 +38,8 @@ use Rattle.mg_engine_meaning.specs.Frames.{GivesEvent, WorksStay}
 use Rattle.mg_engine_meaning.specs.Meaning.{AreNext, ComesTo, Places, means, rec_at}
 use Rattle.mg_engine_meaning.specs.Standings.{StandsFor, asked_kept, session_kept, standing_of}
 use Rattle.mg_engine_meaning.specs.StepLaws.{as_standing}
-use Rattle.mg_engine_notes.specs.Notes.{NotedWorksStay, NotesStay}
+use Rattle.mg_engine_notes.specs.Notes.{NotedTablesAreKept, NotedWorksStay, NotesStay}
+use Rattle.mg_engine_row_writes.specs.Laid.{HasNoted}
 use Rattle.mg_engine_row_writes.specs.Made.{MadeRowsGive}
 use Rattle.mg_engine_row_writes.specs.Notes.{AreCounts}
 use Rattle.mg_engine_row_writes.specs.RefusalLaws.{active_event, whose_event}
@@ -55,7 +56,7 @@ noted_frame t table works = at (is_some (written_to works t table.pointer.0))
     at false = works_with t (with_written table) (λ w. refl) (λ w. refl) works (λ w. refl)
 
 module _ (works_stay : NotedWorksStay) {D : Type 0} (m : Meaning D) (notes_stay : NotesStay D m) (old : Core D)
-    (t : TxNo) (table : Table) where
+    (t : TxNo) (table : Table) (given : given_to old.works t.0 table.name ≡ Some table) where
   abbrev mid : Core D
   mid = with_noted t.0 table old
 
@@ -99,7 +100,7 @@ module _ (works_stay : NotedWorksStay) {D : Type 0} (m : Meaning D) (notes_stay 
       → ComesTo m mid u its after rows
   comes_on u its after rows comes =
       let stands_now : StandsFor m mid comes.opening comes.entries =
-      notes_stay old t.0 table comes.opening comes.entries comes.stands in record {
+      notes_stay old t.0 table comes.opening comes.entries given comes.stands in record {
         opening = comes.opening;
         entries = comes.entries;
         stands = stands_now;
@@ -115,7 +116,7 @@ module _ (works_stay : NotedWorksStay) {D : Type 0} (m : Meaning D) (notes_stay 
       → GivesEvent m places (with_noted t.0 table old) new event answer refusal tables walks None None
       → GivesEvent m places old new event answer refusal tables walks None None
   noted_gives places new event answer refusal tables walks gives = record {
-    adds = λ o h stands. gives.adds o h (notes_stay old t.0 table o h stands);
+    adds = λ o h stands. gives.adds o h (notes_stay old t.0 table o h given stands);
     leaves = record {
       keeps = record {
         faults = gives.leaves.keeps.faults;
@@ -143,7 +144,7 @@ module _ (works_stay : NotedWorksStay) {D : Type 0} (m : Meaning D) (notes_stay 
         });
       };
     };
-    crash = λ o h stands told_. let left = gives.crash o h (notes_stay old t.0 table o h stands) told_ in
+    crash = λ o h stands told_. let left = gives.crash o h (notes_stay old t.0 table o h given stands) told_ in
         record { each = left.each; before = left.before };
     sessions = record {
       free = λ session not_ is. gives.sessions.free session not_ (mid_sessions.free session refl is);
@@ -164,48 +165,60 @@ module _ (works_stay : NotedWorksStay) {D : Type 0} (m : Meaning D) (notes_stay 
       cause_on (Some (Offline n)) cause = cause
       cause_on (Some r) cause = cause
 
+-- a table that was given is kept then
+pub table_noted : {D : Type 0} → NotedTablesAreKept → (old : Core D) (t : TxNo) (table : Table)
+    → given_to old.works t.0 table.name ≡ Some table → HasNoted (noted t.0 table old.works) t.0 table
+table_noted kept old t table given = at (work_of old.works t.0) refl given
+  where
+    at : (found : Option Working) → work_of old.works t.0 ≡ found → given_by found table.name ≡ Some table
+        → HasNoted (noted t.0 table old.works) t.0 table
+    at None none is = absurd cc
+    at (Some work) its is = kept t.0 table old.works work its
+
 -- ---- the laws
 
-pub noted_writes_give : {D P : Type 0} (m : Meaning D) → NotedWorksStay → NotesStay D m → MadeRowsGive D P m
-    → NotedWritesGive D P m
-noted_writes_give m works_stay notes_stay made places old new t table write core given fits storable written =
-    noted_gives works_stay m notes_stay old t table places new (event_of t table.name write) Fine None None (Some t.0)
+pub noted_writes_give : {D P : Type 0} (m : Meaning D) → NotedWorksStay → NotedTablesAreKept → NotesStay D m
+    → MadeRowsGive D P m → NotedWritesGive D P m
+noted_writes_give m works_stay kept notes_stay made places old new t table write core given fits storable written =
+    noted_gives works_stay m notes_stay old t table given places new (event_of t table.name write) Fine None None (Some t.0)
     (made places (with_noted t.0 table old) new t table write
-    (noted_core works_stay m notes_stay old t table core)
-    (noted_given works_stay m notes_stay old t table t.0 table.name ∙ given) fits storable written)
+    (noted_core works_stay m notes_stay old t table given core)
+    (noted_given works_stay m notes_stay old t table given t.0 table.name ∙ given)
+    (table_noted kept old t table given) fits storable written)
 
-pub noted_fails_give : {D P : Type 0} (m : Meaning D) → NotedWorksStay → NotesStay D m
+pub noted_fails_give : {D P : Type 0} (m : Meaning D) → NotedWorksStay → NotedTablesAreKept → NotesStay D m
     → IdleGoesOn D FireLinks m packed_form → StandsOn packed_form → QuietHolds packed_form → RefusalsGoOn D P m
     → NotLaidGives D P m → NotedFailsGive D P m
-noted_fails_give m works_stay notes_stay idle_goes on quiet refusals not_laid places old new t table write refusal
+noted_fails_give m works_stay kept notes_stay idle_goes on quiet refusals not_laid places old new t table write refusal
     core counted given fits storable (noted_not refused) = refused_gives m places idle_goes on quiet old new t.0
     (event_of t table.name write) (λ o h. answer_active (told o h) t.0 (event_of t table.name write)) refusal None
     (Some t.0) (whose_event t table.name write) (λ o h. active_event o h t table.name write) refused
-noted_fails_give m works_stay notes_stay idle_goes on quiet refusals not_laid places old new t table write refusal
+noted_fails_give m works_stay kept notes_stay idle_goes on quiet refusals not_laid places old new t table write refusal
     core counted given fits storable (noted_memory continues ends is) = subst (λ (r : Refusal).
     GivesEvent m places old new (event_of t table.name write) (No r) (Some r) None (Some t.0) None None) (sym is)
     (short_gives m places idle_goes on quiet old new t.0 (event_of t table.name write) None (Some t.0)
     (whose_event t table.name write) continues ends)
-noted_fails_give {D} {P} m works_stay notes_stay idle_goes on quiet refusals not_laid places old new t table write
+noted_fails_give {D} {P} m works_stay kept notes_stay idle_goes on quiet refusals not_laid places old new t table write
     refusal core counted given fits storable (noted_fails fails) =
-    noted_gives works_stay m notes_stay old t table places new (event_of t table.name write) (No refusal)
+    noted_gives works_stay m notes_stay old t table given places new (event_of t table.name write) (No refusal)
     (Some refusal) None (Some t.0) (at (refusals places mid_ new t table write refusal core_ counted_ given_ fails))
   where
     mid_ : Core D
     mid_ = with_noted t.0 table old
 
     core_ : IsCore m (with_noted t.0 table old)
-    core_ = noted_core works_stay m notes_stay old t table core
+    core_ = noted_core works_stay m notes_stay old t table given core
 
     counted_ : AreCounts (with_noted t.0 table old)
     counted_ = record { damage = counted.damage; shortages = counted.shortages }
 
     given_ : given_to (noted t.0 table old.works) t.0 table.name ≡ Some table
-    given_ = noted_given works_stay m notes_stay old t table t.0 table.name ∙ given
+    given_ = noted_given works_stay m notes_stay old t table given t.0 table.name ∙ given
 
     at : RefusesStill m places (with_noted t.0 table old) new (event_of t table.name write) refusal t.0
         ⊎ IsNotLaid m (with_noted t.0 table old) new t table write refusal
         → GivesEvent m places (with_noted t.0 table old) new (event_of t table.name write) (No refusal)
         (Some refusal) None (Some t.0) None None
     at (inl still) = still.gives
-    at (inr failed) = (not_laid places mid_ new t table write refusal core_ counted_ given_ fits storable failed).0
+    at (inr failed) = (not_laid places mid_ new t table write refusal core_ counted_ given_
+        (table_noted kept old t table given) fits storable failed).0

@@ -1,6 +1,6 @@
 -- A change that was kept and is not made after all changes nothing that an engine stands for, but that the transaction
 -- no longer asks for its commit.
-use Rattle.std.proofs.Common.{◌≡◌, ◌≢◌, ◌≤◌, ℕ, List, [], ◌∷◌, length, Option, None, Some, refl, sym, ap, ◌∙◌, subst, arith}
+use Rattle.std.proofs.Common.{◌≡◌, ◌≢◌, ◌≤◌, inr, ℕ, List, [], ◌∷◌, length, Option, None, Some, refl, sym, ap, ◌∙◌, subst, arith}
 use Rattle.std.proofs.Math.Path.{fun_ext}
 use Rattle.mg_base.specs.Disk.{Meaning}
 use Rattle.mg_base.specs.declared.transaction.TxState.TheVariants.{Active}
@@ -28,7 +28,8 @@ use Rattle.mg_core.specs.Putting.{works_kept}
 use Rattle.mg_engine_meaning.specs.FrameLaws.{kept_all, kept_with, same_modes, same_sessions, works_with}
 use Rattle.mg_engine_meaning.specs.Frames.{WorksStay}
 use Rattle.mg_engine_meaning.specs.LawfulLaws.{memory_of}
-use Rattle.mg_engine_meaning.specs.Standings.{Numbers, StandsFor, StandsWhile, Tables, asked_in, asked_kept, mode_kept, sessions_in, standing_of, undo_kept}
+use Rattle.mg_engine_meaning.specs.Standings.{Numbers, StandsFor, StandsWhile, Tables, asked_in, asked_kept, mode_kept, sessions_in, standing_of, undo_kept, written_kept}
+use Rattle.mg_engine_meaning.specs.KeptLaws.{kept_each}
 use Rattle.mg_engine_row_writes.specs.MadeLaws.{given_stays, stays_then, works_stay}
 use Rattle.mg_engine_row_steps.specs.Retracted.{works_retracted}
 
@@ -109,6 +110,10 @@ module _ (retract : RetractTakesKeepBack) {D : Type 0} (m : Meaning D)
   undos u = sym (kept_all core.works now t (retracted_frame t owner key was core.works) undo_kept
       (ap undo_kept (retracted_its t owner key was core.works work its) ∙ (back ∙ sym (ap undo_kept its))) u)
 
+  writtens : (u : ℕ) → written_kept (work_of now u) ≡ written_kept (work_of core.works u)
+  writtens u = kept_all core.works now t (retracted_frame t owner key was core.works) written_kept
+      (ap written_kept (retracted_its t owner key was core.works work its) ∙ sym (ap written_kept its)) u
+
   same_standing : (numbers : Numbers) (tables : Tables)
       → standing_of core numbers tables ≡ standing_of later numbers tables
   same_standing numbers tables =
@@ -144,6 +149,12 @@ module _ (retract : RetractTakesKeepBack) {D : Type 0} (m : Meaning D)
     numbers = stands.numbers;
     tables = stands.tables;
     given = λ u name table is. stands.given u name table (sym (retracted_given t owner key was core.works u name) ∙ is);
+    kept = kept_each core.catalog.pointer.0 core.works now stands.tables stands.tables stands.kept
+        (λ u. inr (record {
+          written = writtens u;
+          changes = ap (λ (x : State). x.changes) (sym (undos u));
+          seen = λ table alike. alike;
+        }));
     stands = subst (λ (s : Standing). StandsWhile m later o h s core.store.offline)
         (same_standing stands.numbers stands.tables)
         (stands_with (standing_of core stands.numbers stands.tables) core.store.offline stands.stands);

@@ -14,6 +14,7 @@ use Rattle.mg_core.specs.declared.parts.Core.{Core}
 use Rattle.mg_core.specs.Cores.{IsCore}
 use Rattle.mg_engine_meaning.specs.Frames.{GivesEvent}
 use Rattle.mg_engine_meaning.specs.Meaning.{Places}
+use Rattle.mg_engine_row_writes.specs.Laid.{HasNoted}
 use Rattle.mg_engine_row_writes.specs.Notes.{AreCounts}
 use Rattle.mg_engine_row_writes.specs.Refusals.{IsNotLaid}
 use Rattle.mg_taking_back.specs.Noting.{FailsNoted, WritesNoted}
@@ -24,7 +25,7 @@ use Rattle.mg_engine_row_steps.specs.Retracted.{works_retracted}
 abbrev pub NotLaidGives : (D P : Type 0) → Meaning D → Type 0
 NotLaidGives D P m = (places : Places P) (old new : Core D) (t : TxNo) (table : Table) (write : Write)
     (refusal : Refusal) → IsCore m old → AreCounts old → given_to old.works t.0 table.name ≡ Some table
-    → FitsShape table.shape write → AreStorable (row_stored table write)
+    → HasNoted old.works t.0 table → FitsShape table.shape write → AreStorable (row_stored table write)
     → (failed : IsNotLaid m old new t table write refusal)
     → GivesEvent m places old new (event_of t table.name write) (No refusal) (Some refusal) None (Some t.0) None None
     × (new.works ≡ works_retracted t.0 table.pointer.0 (written_at table write) failed.before.was old.works)
@@ -47,7 +48,7 @@ NotedFailsGive D P m = (places : Places P) (old new : Core D) (t : TxNo) (table 
 -- each session has one active transaction at most, as it was
 abbrev pub NotedWritesApart : (D : Type 0) → Meaning D → Type 0
 NotedWritesApart D m = (old new : Core D) (t : TxNo) (table : Table) (write : Write) → IsCore m old
-    → MayBeGiven table → AreApart old.works → WritesNoted m old new t table write → AreApart new.works
+    → given_to old.works t.0 table.name ≡ Some table → MayBeGiven table → AreApart old.works → WritesNoted m old new t table write → AreApart new.works
 
 abbrev pub NotedFailsApart : (D P : Type 0) → Meaning D → Type 0
 NotedFailsApart D P m = (places : Places P) (old new : Core D) (t : TxNo) (table : Table) (write : Write)

@@ -80,7 +80,7 @@ use Rattle.mg_engine_row_writes.specs.Codes.{StoredRowsAreCoded}
 use Rattle.mg_engine_row_writes.specs.Enters.{cleared_told, committed_stands, dead_cleared, pushed_stands, replaced_stands, made_stands, placed_told, spot_taken, tells, there, was_told}
 use Rattle.mg_engine_row_writes.specs.Kept.{MadeWritesFollow, made_by}
 use Rattle.mg_engine_row_writes.specs.Clearing.{HasCleared, StaysFor}
-use Rattle.mg_engine_row_writes.specs.Laid.{GoesOnWith, StaysOver, bare_standing}
+use Rattle.mg_engine_row_writes.specs.Laid.{GoesOnWith, HasNoted, StaysOver, bare_standing}
 use Rattle.mg_engine_row_writes.specs.Looked.{placed_lives}
 use Rattle.mg_engine_row_writes.specs.Notes.{HasRead}
 use Rattle.mg_engine_row_writes.specs.Owners.{SeenMayBeWritten}
@@ -156,7 +156,8 @@ module _ (speakers : SpeakersAreTold) (obstacles : ObstaclesAtKeys) (rows : Rows
     (last : ReadsLast D FireLinks m packed_form) (go : WritesGoOn D FireLinks m packed_form)
     (push_on : PushesGoOn packed_form D FireLinks m) (replace_on : ReplacementsGoOn packed_form D FireLinks m)
     (old : Core D) (t : TxNo) (table : Table) (write : Write) (core : IsCore m old)
-    (given : given_to old.works t.0 table.name ≡ Some table) (fits : FitsShape table.shape write)
+    (given : given_to old.works t.0 table.name ≡ Some table) (noted : HasNoted old.works t.0 table)
+    (fits : FitsShape table.shape write)
     (storable : AreStorable (row_stored table write)) (o : Opening) (h : Entries) (read : Core D) (before : Before)
     (version : Version) (ready : IsReady m old read t table write before version) (stands : StandsFor m old o h) where
   free : IsFree m old ready.free t table write ready.wait ready.rec
@@ -307,6 +308,7 @@ module _ (speakers : SpeakersAreTold) (obstacles : ObstaclesAtKeys) (rows : Rows
       numbers = mid_stands.numbers;
       tables = mid_stands.tables;
       given = mid_stands.given;
+      kept = mid_stands.kept;
       stands = subst (λ (off : Option ℕ). StandsWhile m (record old { store = placed }) o h
           (standing_of (record old { store = placed }) mid_stands.numbers mid_stands.tables) off)
           (sym up) place_shows;
@@ -363,13 +365,13 @@ module _ (speakers : SpeakersAreTold) (obstacles : ObstaclesAtKeys) (rows : Rows
     taken = spot_taken speakers befores follow may_write coded lists m places unask
         (record old { store = read.store }) since.keeps.pool o h mid_stands mid_shows t begun.continues.1
         begun.may.work work_is table given write fits storable read.waits since.over before version ready.has.stored
-        answered holds mid_geometry placed one begin on behind still silent_there at takes
+        answered noted holds mid_geometry placed one begin on behind still silent_there at takes
 
     taken_told : m.tells placed.disk ≡ true
     taken_told = placed_told speakers befores follow may_write coded lists m places unask
         (record old { store = read.store }) since.keeps.pool o h mid_stands mid_shows t begun.continues.1
         begun.may.work work_is table given write fits storable read.waits since.over before version ready.has.stored
-        answered holds mid_geometry placed one begin on behind still silent_there at takes
+        answered noted holds mid_geometry placed one begin on behind still silent_there at takes
 
     taken_geometry : placed.geometry ≡ read.store.geometry
     taken_geometry = takes.changed.geometry ∙ takes.keeps.geometry
@@ -409,14 +411,14 @@ module _ (speakers : SpeakersAreTold) (obstacles : ObstaclesAtKeys) (rows : Rows
     out = dead_cleared speakers befores follow may_write coded lists m places unask
         (record old { store = read.store }) since.keeps.pool o h mid_stands mid_shows t begun.continues.1
         begun.may.work work_is table given write fits storable read.waits since.over before version ready.has.stored
-        answered holds mid_geometry placed one on behind keep_plain ways_free speak deads rec at_record.0 at_record.2
+        answered noted holds mid_geometry placed one on behind keep_plain ways_free speak deads rec at_record.0 at_record.2
         way at_record.1 takes
 
     out_told : m.tells placed.disk ≡ true
     out_told = cleared_told speakers befores follow may_write coded lists m places unask
         (record old { store = read.store }) since.keeps.pool o h mid_stands mid_shows t begun.continues.1
         begun.may.work work_is table given write fits storable read.waits since.over before version ready.has.stored
-        answered holds mid_geometry placed one on behind keep_plain ways_free speak deads rec at_record.0 at_record.2
+        answered noted holds mid_geometry placed one on behind keep_plain ways_free speak deads rec at_record.0 at_record.2
         way at_record.1 takes
 
     out_geometry : placed.geometry ≡ read.store.geometry
@@ -514,7 +516,7 @@ module _ (speakers : SpeakersAreTold) (obstacles : ObstaclesAtKeys) (rows : Rows
     pushed r way = let its = facts_at r (ap record_of way) in whole_of (pushed_stands speakers befores follow may_write coded lists m places unask
         (record old { store = read.store }) since.keeps.pool o h mid_stands mid_shows t begun.continues.1
         begun.may.work work_is table given write fits storable read.waits since.over before
-        version ready.has.stored answered holds mid_geometry new.store one
+        version ready.has.stored answered noted holds mid_geometry new.store one
         begin on behind keep_plain ways_free go push_on replace_on r its.0 its.2
         (subst (λ (w : Way). Lays m read.store new.store table.pointer.0 w version) way
         laid.lays) way its.1)
@@ -524,7 +526,7 @@ module _ (speakers : SpeakersAreTold) (obstacles : ObstaclesAtKeys) (rows : Rows
     replaced r way = let its = facts_at r (ap record_of way) in whole_of (replaced_stands speakers befores follow may_write coded lists m places unask
         (record old { store = read.store }) since.keeps.pool o h mid_stands mid_shows t begun.continues.1
         begun.may.work work_is table given write fits storable read.waits since.over before
-        version ready.has.stored answered holds mid_geometry new.store one
+        version ready.has.stored answered noted holds mid_geometry new.store one
         begin on behind keep_plain ways_free go push_on replace_on r its.0 its.2
         (subst (λ (w : Way). Lays m read.store new.store table.pointer.0 w version) way
         laid.lays))
@@ -623,7 +625,7 @@ module _ (speakers : SpeakersAreTold) (obstacles : ObstaclesAtKeys) (rows : Rows
           (made_stands speakers befores follow may_write coded lists m places unask
           (record old { store = laid_new.placed }) laid_new.takes.changed.pool o h then_stands then_shows t
           begun.continues.1 begun.may.work work_is table given write fits storable read.waits since.over before version
-          ready.has.stored answered holds (subst IsGeometry (sym then_geometry) mid_geometry) new.store one begin on
+          ready.has.stored answered noted holds (subst IsGeometry (sym then_geometry) mid_geometry) new.store one begin on
           behind keep_plain go first_on (made_was still way laid_new.placed laid_new.at laid_new.takes) laid_new.at
           at_place.spot_of.silent (at_place.spot_of.placed ∙ ap Some same_its) at_place.spot_of.blank laid_new.makes)
 
@@ -661,6 +663,6 @@ module _ (speakers : SpeakersAreTold) (obstacles : ObstaclesAtKeys) (rows : Rows
           (committed_stands speakers befores follow may_write coded lists m places unask
           (record old { store = laid_over.cleared }) laid_over.takes.changed.pool o h over_stands over_shows t
           begun.continues.1 begun.may.work work_is table given write fits storable read.waits since.over before version
-          ready.has.stored answered holds (subst IsGeometry (sym over_geometry) mid_geometry) new.store one begin on
+          ready.has.stored answered noted holds (subst IsGeometry (sym over_geometry) mid_geometry) new.store one begin on
           behind keep_plain go push_on rec (over_was speak deads rec way laid_over.cleared laid_over.takes)
           over_out.settled_of.speaks over_out.settled_of.settled laid_over.pushes)

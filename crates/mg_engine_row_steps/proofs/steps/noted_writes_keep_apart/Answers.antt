@@ -7,4 +7,4 @@ returns-clause-writes g c = laws.noted_writes_apart g.D.Disk.meaning g.met.D.Dis
 
 pub returns-clause-fails : goal.returns-clause-fails
 returns-clause-fails g c = laws.noted_fails_apart g.D.Disk.meaning c.noted_tables_are_quiet.ensures.works
-    c.noted_tables_are_quiet.ensures.stands c.refusals_go_on.ensures c.not_laid_give.ensures
+    c.noted_tables_are_quiet.ensures.kept c.noted_tables_are_quiet.ensures.stands c.refusals_go_on.ensures c.not_laid_give.ensures
