@@ -314,7 +314,7 @@ module _ (speakers : SpeakersAreTold) (obstacles : ObstaclesAtKeys) (rows : Rows
           (sym up) place_shows;
     }
 
-    pub stays_over : StaysOver m old placed o h t.0
+    stays_over : StaysOver m old placed o h t.0
     stays_over = record {
       stands = place_stands;
       leaves = leaves_on placed.disk stays.leaves;
