@@ -1,9 +1,8 @@
 -- Each session has one active transaction at most after a write of a row into a table that is kept first, too.
-use Rattle.std.proofs.Common.{◌≡◌, ◌⊎◌, inl, inr, ℕ, Bool, true, false, List, Option, Some, refl, sym, ap, ◌∙◌, subst}
+use Rattle.std.proofs.Common.{◌≡◌, ◌⊎◌, inl, inr, ℕ, Bool, true, false, List, Some, refl, sym, ap, ◌∙◌, subst}
 use Rattle.std.specs.Prelude.{is_some}
 use Rattle.mg_base.specs.Disk.{Meaning}
 use Rattle.mg_base.specs.declared.numbers.TxNo.{TxNo}
-use Rattle.mg_model.specs.declared.refusal.Refusal.{Refusal}
 use Rattle.mg_model.specs.declared.table.Table.{Table}
 use Rattle.mg_records.specs.Writing.{event_of}
 use Rattle.mg_records.specs.declared.write.Write.{Write}
@@ -11,7 +10,7 @@ use Rattle.mg_row_writes.specs.Storing.{written_at}
 use Rattle.mg_space.specs.ViewLaws.{CountsNow}
 use Rattle.mg_undo.specs.declared.changes.Was.{Was}
 use Rattle.mg_value.specs.declared.value.Value.{Value}
-use Rattle.mg_works.specs.Works.{AreApart, IsWork, MayBeGiven, Working, given_to, unasked, with_change, with_work, with_written, without_change, written_to}
+use Rattle.mg_works.specs.Works.{AreApart, MayBeGiven, Working, given_to, unasked, with_change, with_work, with_written, without_change, written_to}
 use Rattle.mg_works.specs.WorksLaws.{with_apart}
 use Rattle.mg_core.specs.declared.parts.Core.{Core}
 use Rattle.mg_core.specs.Cores.{IsCore}

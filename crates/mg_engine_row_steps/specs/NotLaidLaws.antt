@@ -1,13 +1,11 @@
 -- A version was not laid: the engine goes on with the refused event. A first batch may have been changed, which adds
 -- nothing; then pages were read, or a page write failed; and what was kept of the change is taken back.
-use Rattle.std.proofs.Common.{◌≡◌, ◌≢◌, ◌⊎◌, inl, inr, ◌≤◌, ℕ, List, ◌∷◌, Option, None, Some, refl, sym, ap, ◌∙◌, subst}
+use Rattle.std.proofs.Common.{◌≡◌, ◌⊎◌, inl, inr, ℕ, List, ◌∷◌, Option, None, Some, refl, sym, ap, ◌∙◌, subst}
 use Rattle.mg_base.specs.Disk.{Meaning}
 use Rattle.mg_base.specs.Image.{Image}
 use Rattle.mg_base.specs.declared.numbers.RecId.{RecId}
 use Rattle.mg_base.specs.declared.numbers.TxNo.{TxNo}
-use Rattle.mg_base.specs.declared.transaction.TxState.TheVariants.{Active}
 use Rattle.mg_model.specs.declared.answer.Answer.TheVariants.{No}
-use Rattle.mg_model.specs.declared.event.Event.{Event}
 use Rattle.mg_model.specs.declared.opening.Opening.{Opening}
 use Rattle.mg_model.specs.declared.refusal.Refusal.{Refusal}
 use Rattle.mg_model.specs.declared.table.Table.{Table}
@@ -39,10 +37,7 @@ use Rattle.mg_rowcode.specs.Storable.{AreStorable}
 use Rattle.mg_space.specs.View.{KeepsStore}
 use Rattle.mg_space.specs.ViewLaws.{CountsNow}
 use Rattle.mg_space.specs.declared.fault.SpaceFault.{SpaceFault}
-use Rattle.mg_space.specs.declared.fault.SpaceFault.TheVariants as faults
 use Rattle.mg_space.specs.declared.links.FireLinks.{FireLinks}
-use Rattle.mg_pool.specs.declared.fault.PoolFault.TheVariants as pool_faults
-use Rattle.mg_txlist.specs.TxList.{said}
 use Rattle.mg_undo.specs.Undo.{RetractTakesKeepBack}
 use Rattle.mg_waits.specs.Waits.{NowWaits, edges_in}
 use Rattle.mg_works.specs.Works.{Working, given_to, work_of}

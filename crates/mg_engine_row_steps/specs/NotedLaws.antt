@@ -1,6 +1,6 @@
 -- A write of a row into a table that is kept first: what the engine with the table kept goes on with, the engine before
 -- goes on with.
-use Rattle.std.proofs.Common.{◌≡◌, ◌⊎◌, inl, inr, ℕ, Bool, true, false, List, ◌∷◌, Option, None, Some, refl, sym, ap, ◌∙◌, subst}
+use Rattle.std.proofs.Common.{◌≡◌, ◌⊎◌, inl, inr, ℕ, Bool, true, false, List, Option, None, Some, refl, sym, ap, ◌∙◌, subst}
 use Rattle.std.specs.Prelude.{is_some}
 use Rattle.mg_base.specs.Disk.{Meaning}
 use Rattle.mg_base.specs.declared.numbers.RecId.{RecId}
@@ -8,13 +8,11 @@ use Rattle.mg_base.specs.declared.numbers.TxNo.{TxNo}
 use Rattle.mg_model.specs.declared.answer.Answer.{Answer}
 use Rattle.mg_model.specs.declared.answer.Answer.TheVariants.{Fine, No}
 use Rattle.mg_model.specs.declared.event.Event.{Event}
-use Rattle.mg_model.specs.declared.opening.Opening.{Opening}
 use Rattle.mg_model.specs.declared.refusal.Refusal.{Refusal}
-use Rattle.mg_model.specs.declared.refusal.Refusal.TheVariants.{Damaged, DatabaseFull, DiskRead, DiskWrite, Memory, Offline}
+use Rattle.mg_model.specs.declared.refusal.Refusal.TheVariants.{Damaged, DatabaseFull, DiskRead, DiskWrite, Offline}
 use Rattle.mg_model.specs.declared.table.Table.{Table}
 use Rattle.mg_model.specs.Answers.{answer_active, told}
 use Rattle.mg_model.specs.Changes.{KeyedRows}
-use Rattle.mg_model.specs.History.{Entries}
 use Rattle.mg_engine_steps.specs.Following.{StandsOn}
 use Rattle.mg_engine_steps.specs.Idle.{IdleGoesOn}
 use Rattle.mg_engine_steps.specs.Standing.{Standing}
@@ -24,10 +22,7 @@ use Rattle.mg_pool.specs.Dirty.{is_marked}
 use Rattle.mg_pool.specs.Pool.{shown}
 use Rattle.mg_records.specs.Keeping.{Causes}
 use Rattle.mg_records.specs.Sessions.{SessionsStay}
-use Rattle.mg_records.specs.Writing.{FitsShape, event_of}
-use Rattle.mg_records.specs.declared.write.Write.{Write}
-use Rattle.mg_row_writes.specs.Storing.{row_stored}
-use Rattle.mg_rowcode.specs.Storable.{AreStorable}
+use Rattle.mg_records.specs.Writing.{event_of}
 use Rattle.mg_space.specs.declared.links.FireLinks.{FireLinks}
 use Rattle.mg_works.specs.Works.{Working, given_by, given_to, with_written, work_of, written_to}
 use Rattle.mg_core.specs.declared.parts.Core.{Core}
@@ -36,7 +31,7 @@ use Rattle.mg_engine_meaning.specs.EventLaws.{refused_gives, short_gives}
 use Rattle.mg_engine_meaning.specs.FrameLaws.{kept_all, sessions_of, works_same, works_with}
 use Rattle.mg_engine_meaning.specs.Frames.{GivesEvent, WorksStay}
 use Rattle.mg_engine_meaning.specs.Meaning.{AreNext, ComesTo, Places, means, rec_at}
-use Rattle.mg_engine_meaning.specs.Standings.{StandsFor, asked_kept, session_kept, standing_of}
+use Rattle.mg_engine_meaning.specs.Standings.{StandsFor, standing_of}
 use Rattle.mg_engine_meaning.specs.StepLaws.{as_standing}
 use Rattle.mg_engine_notes.specs.Notes.{NotedTablesAreKept, NotedWorksStay, NotesStay}
 use Rattle.mg_engine_row_writes.specs.Laid.{HasNoted}
@@ -44,7 +39,7 @@ use Rattle.mg_engine_row_writes.specs.Made.{MadeRowsGive}
 use Rattle.mg_engine_row_writes.specs.Notes.{AreCounts}
 use Rattle.mg_engine_row_writes.specs.RefusalLaws.{active_event, whose_event}
 use Rattle.mg_engine_row_writes.specs.Refusals.{IsNotLaid, RefusalsGoOn, RefusesStill}
-use Rattle.mg_taking_back.specs.Noting.{FailsNoted, noted, noted_fails, noted_if, noted_memory, noted_not, with_noted}
+use Rattle.mg_taking_back.specs.Noting.{noted, noted_fails, noted_if, noted_memory, noted_not, with_noted}
 use Rattle.mg_engine_row_steps.specs.Steps.{NotLaidGives, NotedFailsGive, NotedWritesGive}
 
 -- the works of others stay, and its own keeps its session and its mode

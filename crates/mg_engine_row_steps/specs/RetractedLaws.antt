@@ -1,6 +1,6 @@
 -- A change that was kept and is not made after all changes nothing that an engine stands for, but that the transaction
 -- no longer asks for its commit.
-use Rattle.std.proofs.Common.{◌≡◌, ◌≢◌, ◌≤◌, inr, ℕ, suc, List, [], ◌∷◌, length, Option, None, Some, refl, sym, ap, ◌∙◌, subst, arith}
+use Rattle.std.proofs.Common.{◌≡◌, ◌≤◌, inr, ℕ, suc, List, [], ◌∷◌, length, Option, None, Some, refl, sym, ap, ◌∙◌, subst, arith}
 use Rattle.std.proofs.Math.Path.{fun_ext}
 use Rattle.mg_base.specs.Disk.{Meaning}
 use Rattle.mg_base.specs.declared.transaction.TxState.TheVariants.{Active}
@@ -22,7 +22,7 @@ use Rattle.mg_undo.specs.declared.changes.Was.{Was}
 use Rattle.mg_undo.specs.declared.points.Standing.{Standing as Point}
 use Rattle.mg_value.specs.declared.value.Value.{Value}
 use Rattle.mg_works.specs.Works.{Working, given_by, given_to, unasked, with_change, with_work, without_change, work_of}
-use Rattle.mg_works.specs.WorksLaws.{with_its, with_others}
+use Rattle.mg_works.specs.WorksLaws.{with_its}
 use Rattle.mg_core.specs.declared.parts.Core.{Core}
 use Rattle.mg_core.specs.Putting.{works_kept}
 use Rattle.mg_engine_meaning.specs.FrameLaws.{kept_all, kept_with, same_modes, same_sessions, works_with}

@@ -1,12 +1,10 @@
 -- Stages of a call: pages are read, a batch is changed that adds nothing, a page write fails; and one after another.
-use Rattle.std.proofs.Common.{◌≡◌, ◌⊎◌, inl, inr, ◌≤◌, ℕ, false, Option, None, Some, Err, refl, sym, ap, ◌∙◌, subst}
+use Rattle.std.proofs.Common.{◌≡◌, ◌⊎◌, inl, inr, ◌≤◌, ℕ, Option, None, Some, Err, refl, sym, ap, ◌∙◌, subst}
 use Rattle.mg_base.specs.Disk.{Meaning}
 use Rattle.mg_base.specs.Image.{Image}
-use Rattle.mg_base.specs.declared.numbers.RecId.{RecId}
 use Rattle.mg_engine_calls.specs.StillLaws.{quiet_then, time_then}
 use Rattle.mg_engine_steps.specs.Batches.{ReadsLast}
 use Rattle.mg_engine_steps.specs.PageWrites.{PageWritesFail}
-use Rattle.mg_engine_steps.specs.Walking.{AreToCome}
 use Rattle.mg_image.specs.Form.{packed_form}
 use Rattle.mg_model.specs.declared.opening.Opening.{Opening}
 use Rattle.mg_model.specs.declared.refusal.Refusal.{Refusal}
@@ -28,9 +26,9 @@ use Rattle.mg_space.specs.declared.links.FireLinks.{FireLinks}
 use Rattle.mg_core.specs.declared.parts.Core.{Core}
 use Rattle.mg_core.specs.Refusing.{CountsFault, IsRefusal}
 use Rattle.mg_engine_meaning.specs.FrameLaws.{apart_from, quiet_of}
-use Rattle.mg_engine_meaning.specs.Frames.{MayAnswer, StoreGoesOn}
+use Rattle.mg_engine_meaning.specs.Frames.{MayAnswer}
 use Rattle.mg_engine_meaning.specs.LawfulLaws.{memory_of}
-use Rattle.mg_engine_meaning.specs.Meaning.{AreNext, Places, means, rec_at}
+use Rattle.mg_engine_meaning.specs.Meaning.{AreNext, Places, rec_at}
 use Rattle.mg_engine_meaning.specs.ReadLaws.{reads_go, reads_quiet, reads_stand, reads_walks}
 use Rattle.mg_engine_meaning.specs.Standings.{StandsFor, standing_of}
 use Rattle.mg_engine_meaning.specs.StepLaws.{as_standing, fail_quiet, fail_stands, fail_walks, fails_goes, unmarked_run}
@@ -169,10 +167,16 @@ module _ {D : Type 0} (m : Meaning D) where
   told_from before ready after (faults.Full limit) keeps told = told
   told_from before ready after (faults.Damaged it) keeps told = told
   told_from before ready after (faults.Pool (pool_faults.Absent pages)) keeps told = told
-  told_from before ready after (faults.Pool (pool_faults.DiskRead n)) keeps told = (told.0, rose_later
-      (m.faults before.disk) (m.faults ready.disk) (m.faults after.disk) keeps.disk.never_falls told.1)
-  told_from before ready after (faults.Pool (pool_faults.DiskWrite n)) keeps told = (told.0, rose_later
-      (m.faults before.disk) (m.faults ready.disk) (m.faults after.disk) keeps.disk.never_falls told.1)
+  told_from before ready after (faults.Pool (pool_faults.DiskRead n)) keeps told = (
+    told.0,
+    rose_later
+        (m.faults before.disk) (m.faults ready.disk) (m.faults after.disk) keeps.disk.never_falls told.1,
+  )
+  told_from before ready after (faults.Pool (pool_faults.DiskWrite n)) keeps told = (
+    told.0,
+    rose_later
+        (m.faults before.disk) (m.faults ready.disk) (m.faults after.disk) keeps.disk.never_falls told.1,
+  )
   told_from before ready after (faults.Pool (pool_faults.Offline n)) keeps told = sym keeps.offline ∙ told
   told_from before ready after (faults.Pool pool_faults.Memory) keeps told = told
 

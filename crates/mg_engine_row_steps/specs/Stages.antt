@@ -1,5 +1,5 @@
 -- A stage of a call of a transaction, in which the store alone has changed, and counts.
-use Rattle.std.specs.Prelude.{◌≡◌, ℕ, false, Option, None, Some}
+use Rattle.std.specs.Prelude.{◌≡◌, ℕ, false, None, Some}
 use Rattle.mg_base.specs.Disk.{Meaning, Rose}
 use Rattle.mg_model.specs.declared.opening.Opening.{Opening}
 use Rattle.mg_model.specs.History.{Entries}

@@ -1,7 +1,7 @@
 -- A dead transaction's version is taken out of the record that speaks for a key: the engine stands for the same history,
 -- the record speaks on, and its newest version is committed. The versions behind are committed; so the table is one that
 -- a committed row of the catalog names, and stands whichever transactions count.
-use Rattle.std.proofs.Common.{◌≡◌, ◌≢◌, ◌⊎◌, inl, inr, refl, sym, ap, subst, ◌∙◌, ◌||◌, ◌&&◌, not, cond, ℕ, Bool, true, false, List, [], ◌∷◌, Option, None, Some}
+use Rattle.std.proofs.Common.{◌≡◌, ◌≢◌, inl, inr, refl, sym, ap, subst, ◌∙◌, not, cond, ℕ, Bool, true, false, List, [], ◌∷◌, None, Some}
 use Rattle.std.specs.Prelude.{if◌then◌else◌, map}
 use Rattle.std.proofs.Math.Path.{fun_ext}
 use Rattle.std.proofs.lemmas.Bool.{false≢true}
@@ -20,7 +20,7 @@ use Rattle.mg_chain_ties.specs.BackTies.{pages as out_pages}
 use Rattle.mg_chain_ties.specs.Newest.{BeginsAt, begins, newest_found, newest_placed}
 use Rattle.mg_chain_ties.specs.Rows.{ForEach}
 use Rattle.mg_engine_steps.specs.GoesOnLaws.{taking_out_is_read}
-use Rattle.mg_engine_steps.specs.Known.{KnowsPages, bases_see_all}
+use Rattle.mg_engine_steps.specs.Known.{bases_see_all}
 use Rattle.mg_engine_steps.specs.ListShows.{BehindKeepsTips, ListsStay, TipsStayOn}
 use Rattle.mg_engine_steps.specs.Standing.{ShowsHistory, Standing, Stands}
 use Rattle.mg_engine_steps.specs.Versions.{SpeaksOrSilent, told_version}
@@ -29,7 +29,6 @@ use Rattle.mg_engine_writes.specs.Caches.{kept_now}
 use Rattle.mg_engine_writes.specs.Choices.{placed}
 use Rattle.mg_engine_writes.specs.Knowing.{MayWriteInto, WasChanged}
 use Rattle.mg_engine_writes.specs.Rows.{DeadsGo, HasStayed}
-use Rattle.mg_engine_writes.specs.TablePages.{HasLater}
 use Rattle.mg_engine_writes.specs.TablePagesLaws.{taking_out_keeps_pages}
 use Rattle.mg_generations.specs.Kept.{IsErasedForAll}
 use Rattle.mg_image.specs.Catalog.{IsNamed, MayStandIn}
@@ -61,7 +60,7 @@ use Rattle.mg_seek.specs.Readings.{SpeakIn, SpeakersOfReadings}
 use Rattle.mg_seek.specs.Speaking.{Speaks, is_erased_for_all}
 use Rattle.mg_seek.specs.Versions.{wants}
 use Rattle.mg_seek.specs.declared.whose.Wanted.TheVariants.{Living}
-use Rattle.mg_snap.specs.Live.{all_see, sees}
+use Rattle.mg_snap.specs.Live.{all_see}
 use Rattle.mg_space.specs.View.{viewed}
 use Rattle.mg_space.specs.declared.links.FireLinks.{FireLinks}
 use Rattle.mg_space_ties.specs.Changed.{KeptIn, fresh}

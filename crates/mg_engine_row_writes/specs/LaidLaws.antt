@@ -443,226 +443,225 @@ module _ (speakers : SpeakersAreTold) (obstacles : ObstaclesAtKeys) (rows : Rows
   -- ---- the version is laid
 
   module _ (new : Core D) (laid : LaysKept m read new t.0 table.pointer.0 (written_at table write) before version)
-      where
-    new_is : new ≡ record old {
-      store = new.store;
-      waits = read.waits;
-      works = works_kept t.0 table.pointer.0 (written_at table write) before.was old.works;
-    }
-    new_is = laid.same ∙ ap (λ (c : Core D). record c {
-      store = new.store;
-      works = works_kept t.0 table.pointer.0 (written_at table write) before.was c.works;
-    }) since.same
-
-    abbrev s_new : Standing
-    s_new = bare_standing (record old {
-      store = new.store;
-      waits = read.waits;
-      works = works_kept t.0 table.pointer.0 (written_at table write) before.was old.works;
-    })
-
-    abbrev Stood_now : Type 0
-    Stood_now = StandsFor m (record old {
-      store = new.store;
-      waits = read.waits;
-      works = works_kept t.0 table.pointer.0 (written_at table write) before.was old.works;
-    }) o (made_by t table write ∷ h) × LeavesSince m read.store.disk new.store.disk
-        (HoldsAcknowledged packed_form read.store.dirty.size o h)
-        × WalkInto m read.store.geometry.size (bare_standing old)
-        (shown read.store.dirty mid_shows.image) new.store s_new t.0
-
-    whole : Stood_now → GoesOnWith m old new o h (made_by t table write) t.0
-    whole stood_now = record {
-      lawful = inl (sym answered);
-      stands = subst (λ (c : Core D). StandsFor m c o (made_by t table write ∷ h)) (sym new_is) stood_now.0;
-      leaves = leaves_on new.store.disk stood_now.1;
-      walks = λ i held u ne also x from rows_ next. subst (λ (c : Core D). (k : Image) × (m.held c.store.disk ≡ Some k)
-          × AreToCome c.store.geometry.size (bare_standing c) (shown c.store.dirty k) u x from rows_) (sym new_is)
-          (stood_now.2 u ne also x from rows_ (walk_mid i held u x from rows_ next));
-    }
-
-    -- numbers and tables make no difference to walks
-    whole_of : StandsFor m (record old {
-      store = new.store;
-      waits = read.waits;
-      works = works_kept t.0 table.pointer.0 (written_at table write) before.was old.works;
-    }) o (made_by t table write ∷ h) × LeavesSince m read.store.disk new.store.disk
-        (HoldsAcknowledged packed_form read.store.dirty.size o h)
-        × WalkInto m read.store.geometry.size
-        (standing_of (record old { store = read.store }) mid_stands.numbers mid_stands.tables)
-        (shown read.store.dirty mid_shows.image) new.store (standing_of (record old {
-          waits = read.waits;
-          works = works_kept t.0 table.pointer.0 (written_at table write) before.was old.works;
-        }) (λ u n. if (u == t.0) && same_name n table.name then table.pointer.0 else mid_stands.numbers u n)
-        mid_stands.tables) t.0 → GoesOnWith m old new o h (made_by t table write) t.0
-    whole_of it = whole (
-      it.0,
-      it.1,
-      λ u ne also x from rows_ next.
-          let (k, held, then_) = it.2 u ne also x from rows_ (as_standing read.store.geometry.size
-          (bare_standing old) (standing_of (record old { store = read.store }) mid_stands.numbers
-          mid_stands.tables) (shown read.store.dirty mid_shows.image) u x from rows_ refl refl next) in (
-            k,
-            held,
-            as_standing new.store.geometry.size (standing_of (record old {
-              waits = read.waits;
-              works = works_kept t.0 table.pointer.0 (written_at table write) before.was old.works;
-            }) (λ v n. if (v == t.0) && same_name n table.name then table.pointer.0 else mid_stands.numbers v n)
-                mid_stands.tables) s_new (shown new.store.dirty k) u x from rows_ refl refl then_,
-          ),
-    )
-
-    pub pushed : (r : RecId) → before.way ≡ ways.Push r → GoesOnWith m old new o h (made_by t table write) t.0
-    pushed r way = let its = facts_at r (ap record_of way) in whole_of (pushed_stands speakers befores follow may_write coded lists m places unask
-        (record old { store = read.store }) since.keeps.pool o h mid_stands mid_shows t begun.continues.1
-        begun.may.work work_is table given write fits storable read.waits since.over before
-        version ready.has.stored answered noted holds mid_geometry new.store one
-        begin on behind keep_plain ways_free go push_on replace_on r its.0 its.2
-        (subst (λ (w : Way). Lays m read.store new.store table.pointer.0 w version) way
-        laid.lays) way its.1)
-
-    pub replaced : (r : RecId) → before.way ≡ ways.Replace r
-        → GoesOnWith m old new o h (made_by t table write) t.0
-    replaced r way = let its = facts_at r (ap record_of way) in whole_of (replaced_stands speakers befores follow may_write coded lists m places unask
-        (record old { store = read.store }) since.keeps.pool o h mid_stands mid_shows t begun.continues.1
-        begun.may.work work_is table given write fits storable read.waits since.over before
-        version ready.has.stored answered noted holds mid_geometry new.store one
-        begin on behind keep_plain ways_free go push_on replace_on r its.0 its.2
-        (subst (λ (w : Way). Lays m read.store new.store table.pointer.0 w version) way
-        laid.lays))
-
-
-    -- over a cache that stands for the same history
-    abbrev s_made : Standing
-    s_made = standing_of (record old {
-      waits = read.waits;
-      works = works_kept t.0 table.pointer.0 (written_at table write) before.was old.works;
-    }) (λ u n. if (u == t.0) && same_name n table.name then table.pointer.0 else mid_stands.numbers u n)
-        mid_stands.tables
-
-    module _ (placed : Pool D FireLinks) (stays : Stayed placed) (pool : IsPool m placed)
-        (geometry : placed.geometry ≡ read.store.geometry) where
-      over_size : placed.dirty.size ≡ read.store.dirty.size
-      over_size = pool.page_size ∙ (ap (λ (g : Geometry). g.size) geometry ∙ sym since.keeps.pool.page_size)
-
-      over_it : StandsFor m (record old {
+    where
+      new_is : new ≡ record old {
         store = new.store;
         waits = read.waits;
         works = works_kept t.0 table.pointer.0 (written_at table write) before.was old.works;
-      }) o (made_by t table write ∷ h) × LeavesSince m placed.disk new.store.disk
-          (HoldsAcknowledged packed_form placed.dirty.size o h)
-          × WalkInto m placed.geometry.size
-          (standing_of (record old { store = placed }) mid_stands.numbers mid_stands.tables)
-          (shown placed.dirty stays.image) new.store s_made t.0
-          → GoesOnWith m old new o h (made_by t table write) t.0
-      over_it stood = whole_of (
-        stood.0,
-        record {
-          since = joined m read.store.disk placed.disk new.store.disk
-              (HoldsAcknowledged packed_form read.store.dirty.size o h) stays.leaves.since on_it.since;
-          left = on_it.left;
-        },
-        λ u ne also x from rows_ next. stood.2 u ne also x from rows_ (as_standing placed.geometry.size
-            (standing_of (record old { store = read.store }) mid_stands.numbers mid_stands.tables)
-            (standing_of (record old { store = placed }) mid_stands.numbers mid_stands.tables)
-            (shown placed.dirty stays.image) u x from rows_ refl refl
-            (subst (λ (g : Geometry). AreToCome g.size (standing_of (record old { store = read.store })
-            mid_stands.numbers mid_stands.tables) (shown placed.dirty stays.image) u x from rows_)
-            (sym geometry) (stays.others u ne also x from rows_ next))),
+      }
+      new_is = laid.same ∙ ap (λ (c : Core D). record c {
+        store = new.store;
+        works = works_kept t.0 table.pointer.0 (written_at table write) before.was c.works;
+      }) since.same
+
+      abbrev s_new : Standing
+      s_new = bare_standing (record old {
+        store = new.store;
+        waits = read.waits;
+        works = works_kept t.0 table.pointer.0 (written_at table write) before.was old.works;
+      })
+
+      abbrev Stood_now : Type 0
+      Stood_now = StandsFor m (record old {
+        store = new.store;
+        waits = read.waits;
+        works = works_kept t.0 table.pointer.0 (written_at table write) before.was old.works;
+      }) o (made_by t table write ∷ h) × LeavesSince m read.store.disk new.store.disk
+          (HoldsAcknowledged packed_form read.store.dirty.size o h)
+          × WalkInto m read.store.geometry.size (bare_standing old)
+          (shown read.store.dirty mid_shows.image) new.store s_new t.0
+
+      whole : Stood_now → GoesOnWith m old new o h (made_by t table write) t.0
+      whole stood_now = record {
+        lawful = inl (sym answered);
+        stands = subst (λ (c : Core D). StandsFor m c o (made_by t table write ∷ h)) (sym new_is) stood_now.0;
+        leaves = leaves_on new.store.disk stood_now.1;
+        walks = λ i held u ne also x from rows_ next. subst (λ (c : Core D). (k : Image) × (m.held c.store.disk ≡ Some k)
+            × AreToCome c.store.geometry.size (bare_standing c) (shown c.store.dirty k) u x from rows_) (sym new_is)
+            (stood_now.2 u ne also x from rows_ (walk_mid i held u x from rows_ next));
+      }
+
+      -- numbers and tables make no difference to walks
+      whole_of : StandsFor m (record old {
+        store = new.store;
+        waits = read.waits;
+        works = works_kept t.0 table.pointer.0 (written_at table write) before.was old.works;
+      }) o (made_by t table write ∷ h) × LeavesSince m read.store.disk new.store.disk
+          (HoldsAcknowledged packed_form read.store.dirty.size o h)
+          × WalkInto m read.store.geometry.size
+          (standing_of (record old { store = read.store }) mid_stands.numbers mid_stands.tables)
+          (shown read.store.dirty mid_shows.image) new.store (standing_of (record old {
+            waits = read.waits;
+            works = works_kept t.0 table.pointer.0 (written_at table write) before.was old.works;
+          }) (λ u n. if (u == t.0) && same_name n table.name then table.pointer.0 else mid_stands.numbers u n)
+          mid_stands.tables) t.0 → GoesOnWith m old new o h (made_by t table write) t.0
+      whole_of it = whole (
+        it.0,
+        it.1,
+        λ u ne also x from rows_ next.
+            let (k, held, then_) = it.2 u ne also x from rows_ (as_standing read.store.geometry.size
+            (bare_standing old) (standing_of (record old { store = read.store }) mid_stands.numbers
+            mid_stands.tables) (shown read.store.dirty mid_shows.image) u x from rows_ refl refl next) in (
+              k,
+              held,
+              as_standing new.store.geometry.size (standing_of (record old {
+                waits = read.waits;
+                works = works_kept t.0 table.pointer.0 (written_at table write) before.was old.works;
+              }) (λ v n. if (v == t.0) && same_name n table.name then table.pointer.0 else mid_stands.numbers v n)
+                  mid_stands.tables) s_new (shown new.store.dirty k) u x from rows_ refl refl then_,
+            ),
       )
-        where
-          on_it : LeavesSince m placed.disk new.store.disk
-              (HoldsAcknowledged packed_form read.store.dirty.size o h)
-          on_it = subst (λ (n : ℕ). LeavesSince m placed.disk new.store.disk
-              (HoldsAcknowledged packed_form n o h)) over_size stood.1
 
-    -- ---- a record is made
+      pub pushed : (r : RecId) → before.way ≡ ways.Push r → GoesOnWith m old new o h (made_by t table write) t.0
+      pushed r way = let its = facts_at r (ap record_of way) in whole_of (pushed_stands speakers befores follow may_write coded lists m places unask
+          (record old { store = read.store }) since.keeps.pool o h mid_stands mid_shows t begun.continues.1
+          begun.may.work work_is table given write fits storable read.waits since.over before
+          version ready.has.stored answered noted holds mid_geometry new.store one
+          begin on behind keep_plain ways_free go push_on replace_on r its.0 its.2
+          (subst (λ (w : Way). Lays m read.store new.store table.pointer.0 w version) way
+          laid.lays) way its.1)
 
-    module _ (still : RowsLastStill D FireLinks m packed_form) (first_on : FirstsGoOn packed_form D FireLinks m)
-        (way : before.way ≡ ways.Make) where
-      laid_new : LaysNew m read.store new.store table.pointer.0 version
-      laid_new = subst (λ (w : Way). Lays m read.store new.store table.pointer.0 w version) way laid.lays
+      pub replaced : (r : RecId) → before.way ≡ ways.Replace r
+          → GoesOnWith m old new o h (made_by t table write) t.0
+      replaced r way = let its = facts_at r (ap record_of way) in whole_of (replaced_stands speakers befores follow may_write coded lists m places unask
+          (record old { store = read.store }) since.keeps.pool o h mid_stands mid_shows t begun.continues.1
+          begun.may.work work_is table given write fits storable read.waits since.over before
+          version ready.has.stored answered noted holds mid_geometry new.store one
+          begin on behind keep_plain ways_free go push_on replace_on r its.0 its.2
+          (subst (λ (w : Way). Lays m read.store new.store table.pointer.0 w version) way
+          laid.lays))
 
-      abbrev at_place : HasTaken m o h (standing_of (record old { store = read.store }) mid_stands.numbers
-          mid_stands.tables) old.list read.store laid_new.placed (shown read.store.dirty mid_shows.image)
-          (asked_in old.works) (sessions_in old.works) (its_there still way laid_new.placed laid_new.at laid_new.takes).its
-          laid_new.at table.name (written_at table write) t.0
-      at_place = taken still way laid_new.placed laid_new.at laid_new.takes
+      -- over a cache that stands for the same history
+      abbrev s_made : Standing
+      s_made = standing_of (record old {
+        waits = read.waits;
+        works = works_kept t.0 table.pointer.0 (written_at table write) before.was old.works;
+      }) (λ u n. if (u == t.0) && same_name n table.name then table.pointer.0 else mid_stands.numbers u n)
+          mid_stands.tables
 
-      abbrev then_stays : Stayed laid_new.placed
-      then_stays = taken_stays still way laid_new.placed laid_new.at laid_new.takes
+      module _ (placed : Pool D FireLinks) (stays : Stayed placed) (pool : IsPool m placed)
+          (geometry : placed.geometry ≡ read.store.geometry) where
+        over_size : placed.dirty.size ≡ read.store.dirty.size
+        over_size = pool.page_size ∙ (ap (λ (g : Geometry). g.size) geometry ∙ sym since.keeps.pool.page_size)
 
-      then_geometry : laid_new.placed.geometry ≡ read.store.geometry
-      then_geometry = taken_geometry still way laid_new.placed laid_new.at laid_new.takes
+        over_it : StandsFor m (record old {
+          store = new.store;
+          waits = read.waits;
+          works = works_kept t.0 table.pointer.0 (written_at table write) before.was old.works;
+        }) o (made_by t table write ∷ h) × LeavesSince m placed.disk new.store.disk
+            (HoldsAcknowledged packed_form placed.dirty.size o h)
+            × WalkInto m placed.geometry.size
+            (standing_of (record old { store = placed }) mid_stands.numbers mid_stands.tables)
+            (shown placed.dirty stays.image) new.store s_made t.0
+            → GoesOnWith m old new o h (made_by t table write) t.0
+        over_it stood = whole_of (
+          stood.0,
+          record {
+            since = joined m read.store.disk placed.disk new.store.disk
+                (HoldsAcknowledged packed_form read.store.dirty.size o h) stays.leaves.since on_it.since;
+            left = on_it.left;
+          },
+          λ u ne also x from rows_ next. stood.2 u ne also x from rows_ (as_standing placed.geometry.size
+              (standing_of (record old { store = read.store }) mid_stands.numbers mid_stands.tables)
+              (standing_of (record old { store = placed }) mid_stands.numbers mid_stands.tables)
+              (shown placed.dirty stays.image) u x from rows_ refl refl
+              (subst (λ (g : Geometry). AreToCome g.size (standing_of (record old { store = read.store })
+              mid_stands.numbers mid_stands.tables) (shown placed.dirty stays.image) u x from rows_)
+              (sym geometry) (stays.others u ne also x from rows_ next))),
+        )
+          where
+            on_it : LeavesSince m placed.disk new.store.disk
+                (HoldsAcknowledged packed_form read.store.dirty.size o h)
+            on_it = subst (λ (n : ℕ). LeavesSince m placed.disk new.store.disk
+                (HoldsAcknowledged packed_form n o h)) over_size stood.1
 
-      abbrev then_stands : StandsFor m (record old { store = laid_new.placed }) o h
-      then_stands = place_stands laid_new.placed then_stays
-          (taken_told still way laid_new.placed laid_new.at laid_new.takes) laid_new.takes.changed.online.1
-          then_geometry
+      -- ---- a record is made
 
-      abbrev then_shows : ShowsIt m (record old { store = laid_new.placed }) o h
-          (standing_of (record old { store = laid_new.placed }) mid_stands.numbers mid_stands.tables)
-      then_shows = place_shows laid_new.placed then_stays
-          (taken_told still way laid_new.placed laid_new.at laid_new.takes) laid_new.takes.changed.online.1
-          then_geometry
+      module _ (still : RowsLastStill D FireLinks m packed_form) (first_on : FirstsGoOn packed_form D FireLinks m)
+          (way : before.way ≡ ways.Make) where
+        laid_new : LaysNew m read.store new.store table.pointer.0 version
+        laid_new = subst (λ (w : Way). Lays m read.store new.store table.pointer.0 w version) way laid.lays
 
-      abbrev place_there : IsShown at_place.spot_of.stands.shows.layout table
-      place_there = there speakers befores follow may_write coded lists m places unask
-          (record old { store = laid_new.placed }) laid_new.takes.changed.pool o h then_stands then_shows t
-          begun.continues.1 begun.may.work work_is table given write fits storable read.waits since.over
-          before version ready.has.stored answered
+        abbrev at_place : HasTaken m o h (standing_of (record old { store = read.store }) mid_stands.numbers
+            mid_stands.tables) old.list read.store laid_new.placed (shown read.store.dirty mid_shows.image)
+            (asked_in old.works) (sessions_in old.works) (its_there still way laid_new.placed laid_new.at laid_new.takes).its
+            laid_new.at table.name (written_at table write) t.0
+        at_place = taken still way laid_new.placed laid_new.at laid_new.takes
 
-      same_its : (its_there still way laid_new.placed laid_new.at laid_new.takes).its ≡ place_there.its
-      same_its = one_table packed_form laid_new.placed.geometry.size (left_state everyone (said old.list))
-          (shown laid_new.placed.dirty at_place.image) at_place.spot_of.stands.shows.layout
-          at_place.spot_of.stands.shows.reading at_place.spot_of.stands.shows.sound
-          (its_there still way laid_new.placed laid_new.at laid_new.takes).its place_there.its at_place.spot_of.its
-          place_there.stands ((its_there still way laid_new.placed laid_new.at laid_new.takes).same.name
-          ∙ sym place_there.same.name)
+        abbrev then_stays : Stayed laid_new.placed
+        then_stays = taken_stays still way laid_new.placed laid_new.at laid_new.takes
 
-      pub made_new : GoesOnWith m old new o h (made_by t table write) t.0
-      made_new = over_it laid_new.placed then_stays laid_new.takes.changed.pool then_geometry
-          (made_stands speakers befores follow may_write coded lists m places unask
-          (record old { store = laid_new.placed }) laid_new.takes.changed.pool o h then_stands then_shows t
-          begun.continues.1 begun.may.work work_is table given write fits storable read.waits since.over before version
-          ready.has.stored answered noted holds (subst IsGeometry (sym then_geometry) mid_geometry) new.store one begin on
-          behind keep_plain go first_on (made_was still way laid_new.placed laid_new.at laid_new.takes) laid_new.at
-          at_place.spot_of.silent (at_place.spot_of.placed ∙ ap Some same_its) at_place.spot_of.blank laid_new.makes)
+        then_geometry : laid_new.placed.geometry ≡ read.store.geometry
+        then_geometry = taken_geometry still way laid_new.placed laid_new.at laid_new.takes
 
-    -- ---- over a dead transaction's version
+        abbrev then_stands : StandsFor m (record old { store = laid_new.placed }) o h
+        then_stands = place_stands laid_new.placed then_stays
+            (taken_told still way laid_new.placed laid_new.at laid_new.takes) laid_new.takes.changed.online.1
+            then_geometry
 
-    module _ (speak : SpeakersOfReadings) (deads : DeadsGo packed_form D FireLinks m) (rec : RecId)
-        (way : before.way ≡ ways.PushOverDead rec) where
-      laid_over : LaysOverDead m read.store new.store rec version
-      laid_over = subst (λ (w : Way). Lays m read.store new.store table.pointer.0 w version) way laid.lays
+        abbrev then_shows : ShowsIt m (record old { store = laid_new.placed }) o h
+            (standing_of (record old { store = laid_new.placed }) mid_stands.numbers mid_stands.tables)
+        then_shows = place_shows laid_new.placed then_stays
+            (taken_told still way laid_new.placed laid_new.at laid_new.takes) laid_new.takes.changed.online.1
+            then_geometry
 
-      abbrev over_out : HasCleared m o h (standing_of (record old { store = read.store }) mid_stands.numbers
-          mid_stands.tables) old.list read.store laid_over.cleared (shown read.store.dirty mid_shows.image)
-          (asked_in old.works) (sessions_in old.works) rec table.name (written_at table write) t.0
-      over_out = out speak deads rec way laid_over.cleared laid_over.takes
+        abbrev place_there : IsShown at_place.spot_of.stands.shows.layout table
+        place_there = there speakers befores follow may_write coded lists m places unask
+            (record old { store = laid_new.placed }) laid_new.takes.changed.pool o h then_stands then_shows t
+            begun.continues.1 begun.may.work work_is table given write fits storable read.waits since.over
+            before version ready.has.stored answered
 
-      abbrev over_stays : Stayed laid_over.cleared
-      over_stays = out_stays speak deads rec way laid_over.cleared laid_over.takes
+        same_its : (its_there still way laid_new.placed laid_new.at laid_new.takes).its ≡ place_there.its
+        same_its = one_table packed_form laid_new.placed.geometry.size (left_state everyone (said old.list))
+            (shown laid_new.placed.dirty at_place.image) at_place.spot_of.stands.shows.layout
+            at_place.spot_of.stands.shows.reading at_place.spot_of.stands.shows.sound
+            (its_there still way laid_new.placed laid_new.at laid_new.takes).its place_there.its at_place.spot_of.its
+            place_there.stands ((its_there still way laid_new.placed laid_new.at laid_new.takes).same.name
+            ∙ sym place_there.same.name)
 
-      over_geometry : laid_over.cleared.geometry ≡ read.store.geometry
-      over_geometry = out_geometry speak deads rec way laid_over.cleared laid_over.takes
+        pub made_new : GoesOnWith m old new o h (made_by t table write) t.0
+        made_new = over_it laid_new.placed then_stays laid_new.takes.changed.pool then_geometry
+            (made_stands speakers befores follow may_write coded lists m places unask
+            (record old { store = laid_new.placed }) laid_new.takes.changed.pool o h then_stands then_shows t
+            begun.continues.1 begun.may.work work_is table given write fits storable read.waits since.over before version
+            ready.has.stored answered noted holds (subst IsGeometry (sym then_geometry) mid_geometry) new.store one begin on
+            behind keep_plain go first_on (made_was still way laid_new.placed laid_new.at laid_new.takes) laid_new.at
+            at_place.spot_of.silent (at_place.spot_of.placed ∙ ap Some same_its) at_place.spot_of.blank laid_new.makes)
 
-      abbrev over_stands : StandsFor m (record old { store = laid_over.cleared }) o h
-      over_stands = place_stands laid_over.cleared over_stays
-          (out_told speak deads rec way laid_over.cleared laid_over.takes) laid_over.takes.changed.online.1
-          over_geometry
+      -- ---- over a dead transaction's version
 
-      abbrev over_shows : ShowsIt m (record old { store = laid_over.cleared }) o h
-          (standing_of (record old { store = laid_over.cleared }) mid_stands.numbers mid_stands.tables)
-      over_shows = place_shows laid_over.cleared over_stays
-          (out_told speak deads rec way laid_over.cleared laid_over.takes) laid_over.takes.changed.online.1
-          over_geometry
+      module _ (speak : SpeakersOfReadings) (deads : DeadsGo packed_form D FireLinks m) (rec : RecId)
+          (way : before.way ≡ ways.PushOverDead rec) where
+        laid_over : LaysOverDead m read.store new.store rec version
+        laid_over = subst (λ (w : Way). Lays m read.store new.store table.pointer.0 w version) way laid.lays
 
-      pub over_dead : GoesOnWith m old new o h (made_by t table write) t.0
-      over_dead = over_it laid_over.cleared over_stays laid_over.takes.changed.pool over_geometry
-          (committed_stands speakers befores follow may_write coded lists m places unask
-          (record old { store = laid_over.cleared }) laid_over.takes.changed.pool o h over_stands over_shows t
-          begun.continues.1 begun.may.work work_is table given write fits storable read.waits since.over before version
-          ready.has.stored answered noted holds (subst IsGeometry (sym over_geometry) mid_geometry) new.store one begin on
-          behind keep_plain go push_on rec (over_was speak deads rec way laid_over.cleared laid_over.takes)
-          over_out.settled_of.speaks over_out.settled_of.settled laid_over.pushes)
+        abbrev over_out : HasCleared m o h (standing_of (record old { store = read.store }) mid_stands.numbers
+            mid_stands.tables) old.list read.store laid_over.cleared (shown read.store.dirty mid_shows.image)
+            (asked_in old.works) (sessions_in old.works) rec table.name (written_at table write) t.0
+        over_out = out speak deads rec way laid_over.cleared laid_over.takes
+
+        abbrev over_stays : Stayed laid_over.cleared
+        over_stays = out_stays speak deads rec way laid_over.cleared laid_over.takes
+
+        over_geometry : laid_over.cleared.geometry ≡ read.store.geometry
+        over_geometry = out_geometry speak deads rec way laid_over.cleared laid_over.takes
+
+        abbrev over_stands : StandsFor m (record old { store = laid_over.cleared }) o h
+        over_stands = place_stands laid_over.cleared over_stays
+            (out_told speak deads rec way laid_over.cleared laid_over.takes) laid_over.takes.changed.online.1
+            over_geometry
+
+        abbrev over_shows : ShowsIt m (record old { store = laid_over.cleared }) o h
+            (standing_of (record old { store = laid_over.cleared }) mid_stands.numbers mid_stands.tables)
+        over_shows = place_shows laid_over.cleared over_stays
+            (out_told speak deads rec way laid_over.cleared laid_over.takes) laid_over.takes.changed.online.1
+            over_geometry
+
+        pub over_dead : GoesOnWith m old new o h (made_by t table write) t.0
+        over_dead = over_it laid_over.cleared over_stays laid_over.takes.changed.pool over_geometry
+            (committed_stands speakers befores follow may_write coded lists m places unask
+            (record old { store = laid_over.cleared }) laid_over.takes.changed.pool o h over_stands over_shows t
+            begun.continues.1 begun.may.work work_is table given write fits storable read.waits since.over before version
+            ready.has.stored answered noted holds (subst IsGeometry (sym over_geometry) mid_geometry) new.store one begin on
+            behind keep_plain go push_on rec (over_was speak deads rec way laid_over.cleared laid_over.takes)
+            over_out.settled_of.speaks over_out.settled_of.settled laid_over.pushes)
