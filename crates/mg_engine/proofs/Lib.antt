@@ -2,3 +2,4 @@ mod ApartLemmas
 mod EngineLemmas
 mod BeginLemmas
 mod ReadLemmas
+mod WriteLemmas

@@ -8,7 +8,7 @@
 //! Below: `mg_core`, the calls over memory and pages; `mg_engine_meaning`, what an engine means; the laws of each kind
 //! of call (`mg_engine_calls`, `mg_engine_calls`, `mg_engine_meaning`).
 //! Above: the statements' steps.
-//! Not here yet: writes, taking back, the making of tables, and so the impl of the trait.
+//! Not here yet: taking back, the making of tables, and so the impl of the trait.
 #![tactic(auto)]
 
 mod beginning;
@@ -18,6 +18,7 @@ mod engine;
 mod events;
 mod opening;
 mod reading;
+mod writing;
 
 pub use engine::Engine;
 pub use reading::copy_place;

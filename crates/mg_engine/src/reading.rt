@@ -84,7 +84,7 @@ pub fn copy_place(_alloc: Global, place: &Place) -> Result<Place, Memory>
 }
 
 /// The counts of faults are numbers of eight bytes.
-fn counts_fit(damage: u64, shortages: u64)
+pub(crate) fn counts_fit(damage: u64, shortages: u64)
     ensures { (damage < 2 ^ 64) × (shortages < 2 ^ 64) }
 {}
 

@@ -3,7 +3,7 @@
 use Rattle.std.proofs.Common.{◌≡◌, ◌≢◌, ◌⊎◌, inl, inr, ◌==◌, ◌&&◌, ℕ, Bool, true, false, List, [], ◌∷◌, Option, None, Some, refl, sym, ap, ◌∙◌, subst}
 use Rattle.std.specs.Prelude.{if◌then◌else◌, is_some, map}
 use Rattle.std.proofs.Math.Path.{fun_ext}
-use Rattle.std.proofs.lemmas.Bool.{cases_eq, eq-eqb, ne_eqb}
+use Rattle.std.proofs.lemmas.Bool.{cases_eq, eq-eqb, false≢true, ne_eqb}
 use Rattle.std.specs.Cmp.Lexicographic.{same_text}
 use Rattle.mg_base.specs.Disk.{Meaning}
 use Rattle.mg_base.specs.Image.{Image}
@@ -53,7 +53,7 @@ use Rattle.mg_row_writes.specs.Befores.{IsBefore}
 use Rattle.mg_row_writes.specs.Storing.{IsStored, row_stored, written_at}
 use Rattle.mg_row_writes.specs.declared.before.Before.{Before}
 use Rattle.mg_rowcode.specs.Storable.{AreStorable}
-use Rattle.mg_seek.specs.Speaking.{IsSpeaker}
+use Rattle.mg_seek.specs.Speaking.{IsSpeaker, Speaks}
 use Rattle.mg_space.specs.declared.links.FireLinks.{FireLinks}
 use Rattle.mg_space_ties.specs.Changed.{KeptIn, fresh}
 use Rattle.mg_engine_steps.specs.Following.{FollowsEntry}
@@ -62,6 +62,8 @@ use Rattle.mg_engine_steps.specs.Writing.{WritesKey}
 use Rattle.mg_table_overlays.specs.OneTable.{one_table, stands_in}
 use Rattle.mg_txlist.specs.TxList.{said}
 use Rattle.mg_undo.specs.Undo.{after_keep}
+use Rattle.mg_version.specs.declared.cell.Cell.TheVariants as cells
+use Rattle.mg_version.specs.declared.cell.Link.{Link}
 use Rattle.mg_version.specs.declared.cell.Version.{Version}
 use Rattle.mg_waits.specs.Waits.{NowWaits, edges_in}
 use Rattle.mg_works.specs.Works.{Working, given_by, given_to, unasked, with_change, with_work, work_of, written_by, written_in}
@@ -73,6 +75,8 @@ use Rattle.mg_engine_meaning.specs.LawfulLaws.{memory_of, tables_are_seen}
 use Rattle.mg_engine_meaning.specs.Meaning.{Places}
 use Rattle.mg_engine_meaning.specs.Standings.{AreTold, HasTips, KeepsWritten, ShowsIt, StandsFor, StandsWhile, asked_in, asked_kept, mode_kept, session_kept, sessions_in, standing_of, undo_kept, written_kept}
 use Rattle.mg_engine_steps.specs.Batches.{RowsLastStill}
+use Rattle.mg_engine_steps.specs.OtherIndexes.{as_other, speaker_on}
+use Rattle.mg_seek.specs.Readings.{SpeakersOfReadings}
 use Rattle.mg_engine_steps.specs.Writes.{IsSilentAt}
 use Rattle.mg_image.specs.Records.{cells_of}
 use Rattle.mg_undo.specs.Machine.{was_in}
@@ -80,18 +84,20 @@ use Rattle.mg_engine_steps.specs.Walking.{AreToCome}
 use Rattle.mg_engine_meaning.specs.StepLaws.{as_standing}
 use Rattle.mg_engine_row_writes.specs.Answered.{no_catalog}
 use Rattle.mg_engine_row_writes.specs.Befores.{BeforesAreTold}
+use Rattle.mg_engine_row_writes.specs.Clearing.{HasCleared}
+use Rattle.mg_engine_row_writes.specs.ClearingLaws.{cleared}
 use Rattle.mg_engine_row_writes.specs.Codes.{StoredRowsAreCoded}
 use Rattle.mg_engine_row_writes.specs.Kept.{MadeWritesFollow, NotesWrite, made_by, row_given}
 use Rattle.mg_engine_row_writes.specs.Laid.{HasNoted, LeavesPages}
 use Rattle.mg_engine_row_writes.specs.Owners.{SeenMayBeWritten}
-use Rattle.mg_chain.specs.Writing.{Pushes, Replaces, GivesSpot, MakesRecord}
-use Rattle.mg_engine_writes.specs.Rows.{PushesGoOn, ReplacementsGoOn, FirstsGoOn}
+use Rattle.mg_chain.specs.Writing.{Pushes, Replaces, GivesSpot, MakesRecord, TakesOut}
+use Rattle.mg_engine_writes.specs.Rows.{DeadsGo, PushesGoOn, ReplacementsGoOn, FirstsGoOn}
 use Rattle.mg_engine_writes.specs.Spoken.{spoken_of}
 use Rattle.mg_image.specs.ReadingLaws.{RowsAreOne}
 use Rattle.mg_lasting.specs.PoolLaws.{HoldsOne}
 use Rattle.mg_model.specs.Laws.{OpeningsBegin}
 use Rattle.mg_pool.specs.Batch.{Changed}
-use Rattle.mg_row_writes.specs.Changing.{ChangesOwn, PushesOver, ReplacesNewest, nothing_yet, MakesFirst, TakesPlace}
+use Rattle.mg_row_writes.specs.Changing.{ChangesOwn, PushesOver, ReplacesNewest, nothing_yet, MakesFirst, TakesNewestOut, TakesPlace}
 use Rattle.mg_row_writes.specs.declared.before.Way.TheVariants as ways
 use Rattle.mg_seek.specs.Views.{IsObstacle}
 use Rattle.mg_space.specs.Taking.{IsGeometry}
@@ -445,14 +451,39 @@ module _ (speakers : SpeakersAreTold) (befores : BeforesAreTold) (follow : MadeW
             stood noted after j held told_after own_batch.changed.online.1
                 (own_batch.changed.geometry ∙ own_batch.keeps.geometry) gone leaves,
             gone.leaves,
-            λ u ne x from rows next. (
+            λ u ne also x from rows next. (
               j,
               held,
               subst (λ (g : Geometry). AreToCome g.size s_now (shown after.dirty j) u x from rows)
                   (sym (own_batch.changed.geometry ∙ own_batch.keeps.geometry)) (as_standing core.store.geometry.size s
-                  s_now (shown after.dirty j) u x from rows refl refl (leaves.others u ne x from rows next)),
+                  s_now (shown after.dirty j) u x from rows refl refl (leaves.others u ne also x from rows next)),
             ),
           )
+
+    -- over a committed version of the record that speaks for the key
+    module _ (one : RowsAreOne packed_coding) (begins : OpeningsBegin) (on : TipsStayOn) (behind : BehindKeepsTips)
+        (keep_plain : WritesKeepPlain) (go : WritesGoOn D FireLinks m packed_form)
+        (push_on : PushesGoOn packed_form D FireLinks m) (rec : RecId)
+        (was_is : before.was ≡ was_in (own o h t.0) table.name (written_at table write))
+        (speaks : shows.stands.shows.versions.speaker table.name (written_at table write) ≡ Some rec)
+        (settled : (newest : Link) → cells_of (shown core.store.dirty shows.image) rec ≡ Some (cells.Anchor newest)
+        → said core.list newest.tx.0 ≡ Committed) where
+      pub committed_stands : PushesOver m core.store after rec v → Stood
+      committed_stands own_batch = both (λ image batch. Pushes core.store image nothing_yet batch rec v) own_batch
+          (λ j held changed.
+          let pushes : Pushes core.store shows.image fresh own_batch.batch rec v =
+          own_batch.filled shows.image told_now in
+          let committed : said core.list pushes.newest.tx.0 ≡ Committed =
+          settled pushes.newest pushes.head.slot in (
+            push_on o h (made_by t table write) s s_now core.store after shows.image j own_batch.batch asked_now
+                (sessions_in core.works) shows.stands t.0 table.name key (row_given write) rec v
+                (row_stored table write) there.its lasts_now changed pushes (enters was_is) may codes (entries rec)
+                speaks committed,
+            pushed_leaves one begins on behind keep_plain m go o h (made_by t table write) s s_now core.store after
+                shows.image j own_batch.batch asked_now (sessions_in core.works) shows.stands t.0 table.name key
+                (row_given write) rec v (row_stored table write) there.its lasts_now changed (enters was_is) may codes
+                (entries rec) speaks shows.plain_tables pushes committed,
+          ))
 
     -- in the record that speaks for the key
     module _ (one : RowsAreOne packed_coding) (begins : OpeningsBegin) (on : TipsStayOn) (behind : BehindKeepsTips)
@@ -477,22 +508,9 @@ module _ (speakers : SpeakersAreTold) (befores : BeforesAreTold) (follow : MadeW
 
         pub pushed_stands : PushesOver m core.store after rec v → before.way ≡ ways.Push rec
             → IsObstacle (said core.list) core.live t.0 (shown core.store.dirty shows.image) rec None → Stood
-        pushed_stands own_batch way none = both (λ image batch. Pushes core.store image nothing_yet batch rec v) own_batch
-            (λ j held changed.
-            let pushes : Pushes core.store shows.image fresh own_batch.batch rec v =
-            own_batch.filled shows.image told_now in
-            let settled : said core.list pushes.newest.tx.0 ≡ Committed =
-            (ways_free core.store.geometry.size o h s pages shows.stands t.0 there.its table rec pushes.newest before of
-            pushes.head.slot none is).over way in (
-              push_on o h (made_by t table write) s s_now core.store after shows.image j own_batch.batch asked_now
-                  (sessions_in core.works) shows.stands t.0 table.name key (row_given write) rec v
-                  (row_stored table write) there.its lasts_now changed pushes entered may codes (entries rec) speaks
-                  settled,
-              pushed_leaves one begins on behind keep_plain m go o h (made_by t table write) s s_now core.store after
-                  shows.image j own_batch.batch asked_now (sessions_in core.works) shows.stands t.0 table.name key
-                  (row_given write) rec v (row_stored table write) there.its lasts_now changed entered may codes
-                  (entries rec) speaks shows.plain_tables pushes settled,
-            ))
+        pushed_stands own_batch way none = committed_stands one begins on behind keep_plain go push_on rec
+            (was_told (Some rec) spoken is) speaks (λ newest slot. (ways_free core.store.geometry.size o h s pages
+            shows.stands t.0 there.its table rec newest before of slot none is).over way) own_batch
 
         pub replaced_stands : ReplacesNewest m core.store after rec v → Stood
         replaced_stands own_batch = both (λ image batch. Replaces core.store image nothing_yet batch rec v) own_batch
@@ -557,3 +575,47 @@ module _ (speakers : SpeakersAreTold) (befores : BeforesAreTold) (follow : MadeW
 
       pub placed_told : m.tells after.disk ≡ true
       placed_told = told_after (λ image batch. GivesSpot core.store image nothing_yet batch table.pointer.0 at) takes
+
+    -- a dead transaction's version is taken out of the record that speaks for the key
+    module _ (one : RowsAreOne packed_coding) (on : TipsStayOn) (behind : BehindKeepsTips)
+        (keep_plain : WritesKeepPlain) (ways_free : WaysAreFree) (speak : SpeakersOfReadings)
+        (deads : DeadsGo packed_form D FireLinks m) (rec : RecId)
+        (spoken : IsSpeaker (said core.list) core.live (shown core.store.dirty shows.image) table
+        (written_at table write) (Some rec))
+        (is : IsBefore (said core.list) core.live t.0 (shown core.store.dirty shows.image) table (Some rec) before)
+        (way : before.way ≡ ways.PushOverDead rec)
+        (none : IsObstacle (said core.list) core.live t.0 (shown core.store.dirty shows.image) rec None)
+        (takes : TakesNewestOut m core.store after rec) where
+      dead_of : table_at (stands_of shows.stands.shows.layout) rec.page.0 ≡ Some there.its
+      dead_of = spoken_of packed_form core.store.geometry.size o h s pages shows.stands.shows table.name key rec there.its
+          there.stands there.same.name (tells (Some rec) spoken)
+
+      dead_speaks : Speaks (said core.list) core.live (shown core.store.dirty shows.image) there.its
+          (written_at table write) rec
+      dead_speaks = (as_other there.its table there.same
+          (λ x. IsSpeaker (said core.list) core.live pages x key (Some rec))
+          (speaker_on table there.its.indexes (said core.list) core.live pages key (Some rec) spoken)).speaks.1
+
+      off_catalog : there.its.name ≢ catalog_name
+      off_catalog same = false≢true (sym other ∙ (ap (λ (n : List ℕ). same_name n catalog_name)
+          (sym there.same.name ∙ same) ∙ same_name_itself catalog_name))
+
+      pub dead_cleared : HasCleared m o h (standing_of core stands.numbers stands.tables) core.list core.store after
+          (shown core.store.dirty shows.image) (asked_in core.works) (sessions_in core.works) rec table.name
+          (written_at table write) t.0
+      dead_cleared =
+          let (j, held, left) = holds after.disk
+          (told_after (λ image batch. TakesOut core.store image nothing_yet batch rec) takes) in
+          let out : TakesOut core.store shows.image fresh takes.batch rec = takes.filled shows.image told_now in
+          subst (λ (n : List ℕ). HasCleared m o h s core.list core.store after pages (asked_in core.works)
+          (sessions_in core.works) rec n key t.0) there.same.name
+          (cleared one on behind lists keep_plain speak m deads o h s core.store after shows.image j takes.batch
+          core.list (asked_in core.works) (sessions_in core.works) shows.stands t.0 there.its rec key shows.lasts
+          (was (λ image batch. TakesOut core.store image nothing_yet batch rec) takes j held) out counts
+          ((ways_free core.store.geometry.size o h s pages shows.stands t.0 there.its table rec out.newest before
+          dead_of out.its.head.slot none is).over_dead way)
+          may off_catalog shows.plain_tables kept_each shows.tips dead_of dead_speaks
+          (takes.changed.geometry ∙ takes.keeps.geometry) held)
+
+      pub cleared_told : m.tells after.disk ≡ true
+      cleared_told = told_after (λ image batch. TakesOut core.store image nothing_yet batch rec) takes

@@ -24,6 +24,12 @@ use Rattle.mg_engine_meaning.specs.Meaning.{Places}
 use Rattle.mg_engine_meaning.specs.Standings.{StandsFor, standing_of}
 use Rattle.mg_base.specs.Image.{Image}
 use Rattle.mg_pool.specs.Pool.{shown}
+use Rattle.mg_pool.specs.declared.pool.Pool.{Pool}
+use Rattle.mg_row_writes.specs.Changing.{TakesNewestOut, TakesPlace}
+use Rattle.mg_row_writes.specs.declared.before.Before.{Before}
+use Rattle.mg_space.specs.declared.links.FireLinks.{FireLinks}
+use Rattle.mg_version.specs.declared.cell.Version.{Version}
+use Rattle.mg_engine_row_writes.specs.Refusals.{IsReady}
 use Rattle.mg_engine_steps.specs.Standing.{Standing}
 use Rattle.mg_engine_row_writes.specs.Walks.{OthersWalkOn, WalkInto}
 use Rattle.mg_engine_row_writes.specs.Kept.{made_by}
@@ -54,6 +60,35 @@ pub record GoesOnWith {D : Type 0} (m : Meaning D) (old new : Core D) (o : Openi
 abbrev pub HasNoted : List Working → ℕ → Table → Type 0
 HasNoted works t table = is_some (written_to works t table.pointer.0) ≡ true
 
+-- Since a call of a transaction began a batch that adds nothing was changed: the engine stands for the history, a crash
+-- leaves it, and all others walk on.
+pub record StaysOver {D : Type 0} (m : Meaning D) (old : Core D) (store : Pool D FireLinks) (o : Opening) (h : Entries)
+    (t : ℕ) : Type 0 where
+  pub stands : StandsFor m (record old { store = store }) o h
+  pub leaves : LeavesSince m old.store.disk store.disk (HoldsAcknowledged packed_form old.store.dirty.size o h)
+  pub walks : (i : Image) → m.held old.store.disk ≡ Some i → WalkInto m old.store.geometry.size (bare_standing old)
+      (shown old.store.dirty i) store (bare_standing old) t
+
+-- the first batch of a version of a table that was given, and is kept, leaves the engine with the history: a place was taken
+abbrev pub PlacesStay : (D P : Type 0) → Meaning D → Type 0
+PlacesStay D P m = (places : Places P) (old read : Core D) (t : TxNo) (table : Table) (write : Write)
+    (before : Before) (version : Version) (store : Pool D FireLinks) (at : RecId) (o : Opening) (h : Entries)
+    → IsCore m old → given_to old.works t.0 table.name ≡ Some table → HasNoted old.works t.0 table
+    → FitsShape table.shape write
+    → AreStorable (row_stored table write) → IsReady m old read t table write before version
+    → before.way ≡ ways.Make → TakesPlace m read.store store table.pointer.0 at → StandsFor m old o h
+    → StaysOver m old store o h t.0
+
+-- or a dead transaction's version was taken out
+abbrev pub DeadsStay : (D P : Type 0) → Meaning D → Type 0
+DeadsStay D P m = (places : Places P) (old read : Core D) (t : TxNo) (table : Table) (write : Write)
+    (before : Before) (version : Version) (store : Pool D FireLinks) (rec : RecId) (o : Opening) (h : Entries)
+    → IsCore m old → given_to old.works t.0 table.name ≡ Some table → HasNoted old.works t.0 table
+    → FitsShape table.shape write
+    → AreStorable (row_stored table write) → IsReady m old read t table write before version
+    → before.way ≡ ways.PushOverDead rec → TakesNewestOut m read.store store rec → StandsFor m old o h
+    → StaysOver m old store o h t.0
+
 -- a row of a table that was given, and is kept, was written on this way: the engine goes on with the event
 abbrev pub RowsGoOn : (D P : Type 0) → Meaning D → (RecId → Way) → Type 0
 RowsGoOn D P m way = (places : Places P) (old new : Core D) (t : TxNo) (table : Table) (write : Write) (rec : RecId)
@@ -68,6 +103,10 @@ PushedRowsGoOn D P m = RowsGoOn D P m ways.Push
 
 abbrev pub ReplacedRowsGoOn : (D P : Type 0) → Meaning D → Type 0
 ReplacedRowsGoOn D P m = RowsGoOn D P m ways.Replace
+
+-- or over a dead transaction's, which was taken out first
+abbrev pub OverDeadRowsGoOn : (D P : Type 0) → Meaning D → Type 0
+OverDeadRowsGoOn D P m = RowsGoOn D P m ways.PushOverDead
 
 -- or it is the first one of a record
 abbrev pub NewRowsGoOn : (D P : Type 0) → Meaning D → Type 0

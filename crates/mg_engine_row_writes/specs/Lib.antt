@@ -29,6 +29,8 @@ pub mod WayLaws
 pub mod Laid
 pub mod Leaving
 pub mod Spots
+pub mod Clearing
+pub mod ClearingLaws
 pub mod Enters
 pub mod LaidLaws
 pub mod Walks

@@ -4,6 +4,7 @@ use Rattle.mg_base.specs.Disk.{Meaning}
 use Rattle.mg_base.specs.Image.{Image}
 use Rattle.mg_base.specs.declared.numbers.RecId.{RecId}
 use Rattle.mg_base.specs.declared.numbers.TxNo.{TxNo}
+use Rattle.mg_base.specs.declared.transaction.TxState.TheVariants.{Active}
 use Rattle.mg_value.specs.declared.value.Value.{Value}
 use Rattle.mg_model.specs.declared.answer.Answer.TheVariants.{Fine}
 use Rattle.mg_model.specs.declared.opening.Opening.{Opening}
@@ -43,7 +44,7 @@ use Rattle.mg_txlist.specs.TxList.{said}
 use Rattle.mg_txlist.specs.declared.list.TxList.{TxList}
 use Rattle.mg_engine_meaning.specs.LawfulLaws.{memory_of}
 use Rattle.mg_engine_row_writes.specs.Kept.{made_by}
-use Rattle.mg_engine_row_writes.specs.Laid.{GoesOnWith, NewRowsGoOn, PushedRowsGoOn, ReplacedRowsGoOn, bare_standing}
+use Rattle.mg_engine_row_writes.specs.Laid.{GoesOnWith, NewRowsGoOn, OverDeadRowsGoOn, PushedRowsGoOn, ReplacedRowsGoOn, bare_standing}
 use Rattle.mg_engine_row_writes.specs.Made.{MadeRowsGive}
 use Rattle.mg_engine_row_writes.specs.Notes.{HasRead}
 use Rattle.mg_engine_row_writes.specs.RefusalLaws.{free_read}
@@ -74,14 +75,14 @@ goes_then m a b c first next = record {
   size = next.size ∙ first.size;
 }
 
-on_then : {D : Type 0} (m : Meaning D) (a b c : Pool D FireLinks) → StoreOn m a b → StoreOn m b c → StoreOn m a c
+pub on_then : {D : Type 0} (m : Meaning D) (a b c : Pool D FireLinks) → StoreOn m a b → StoreOn m b c → StoreOn m a c
 on_then m a b c first next = record {
   goes = goes_then m a b c first.goes next.goes;
   online = next.online;
   unmarked = λ page who none. next.unmarked page who (first.unmarked page who none);
 }
 
-read_on : {D : Type 0} (m : Meaning D) (a b : Pool D FireLinks) → KeepsStore m a b → b.offline ≡ None → StoreOn m a b
+pub read_on : {D : Type 0} (m : Meaning D) (a b : Pool D FireLinks) → KeepsStore m a b → b.offline ≡ None → StoreOn m a b
 read_on m a b keeps online = record {
   goes = reads_go m a b keeps;
   online = online;
@@ -89,7 +90,7 @@ read_on m a b keeps online = record {
 }
 
 -- a batch of its own
-own_on : {D : Type 0} (m : Meaning D) (a b : Pool D FireLinks) (fills : Image → Changed → Type 0)
+pub own_on : {D : Type 0} (m : Meaning D) (a b : Pool D FireLinks) (fills : Image → Changed → Type 0)
     → ChangesOwn m a b fills → StoreOn m a b
 own_on {D} m a b fills own = record {
   goes = goes_then m a own.ready b (reads_go m a own.ready own.keeps)
@@ -118,7 +119,7 @@ lay_on m a b owner (ways.Replace rec) v lays = own_on m a b _ lays
 
 -- ---- memory
 
-stays_then : (a b c : List Working) (t : ℕ) → WorksStay a b t → WorksStay b c t → WorksStay a c t
+pub stays_then : (a b c : List Working) (t : ℕ) → WorksStay a b t → WorksStay b c t → WorksStay a c t
 stays_then a b c t first next = record {
   others = λ u ne. next.others u ne ∙ first.others u ne;
   sessions = λ session. next.sessions session ∙ first.sessions session;
@@ -131,12 +132,12 @@ module _ (t owner : ℕ) (key : Value) (was : Was) (works : List Working) where
   abbrev changed_works : List Working
   changed_works = with_work t (with_change owner key was) works
 
-  works_stay : WorksStay works (works_kept t owner key was works) t
+  pub works_stay : WorksStay works (works_kept t owner key was works) t
   works_stay = stays_then works changed_works (works_kept t owner key was works) t
       (works_with t (with_change owner key was) (λ w. refl) (λ w. refl) works (λ w. refl))
       (works_with t unasked (λ w. refl) (λ w. refl) changed_works (λ w. refl))
 
-  given_stays : (u : ℕ) (name : List ℕ) → given_to (works_kept t owner key was works) u name ≡ given_to works u name
+  pub given_stays : (u : ℕ) (name : List ℕ) → given_to (works_kept t owner key was works) u name ≡ given_to works u name
   given_stays u name = kept_all works (works_kept t owner key was works) t works_stay
       (λ (w : Option Working). given_by w name)
       (kept_with t unasked (λ w. refl) (λ w. refl) changed_works (λ (w : Option Working). given_by w name) (λ w. refl)
@@ -187,11 +188,11 @@ module _ {D P : Type 0} (m : Meaning D) (places : Places P) (old new : Core D) (
 
   next_on : (i : Image) → m.held old.store.disk ≡ Some i → (o : Opening) (h : Entries)
       (its : GoesOnWith m old new o h (made_by t table write) t.0) (n : Numbers) (x : Tables) (u : ℕ) → u ≢ t.0
-      → (its_table : Table) (from : Option RecId) (rows : KeyedRows)
+      → said old.list u ≡ Active → (its_table : Table) (from : Option RecId) (rows : KeyedRows)
       → AreToCome old.store.geometry.size (standing_of old n x) (shown old.store.dirty i) u its_table from rows
       → AreNext m new (standing_of new its.stands.numbers its.stands.tables) u its_table from rows None
-  next_on i held o h its n x u ne its_table from rows next =
-      let (k, held_now, then_) = its.walks i held u ne its_table from rows (as_standing old.store.geometry.size
+  next_on i held o h its n x u ne also its_table from rows next =
+      let (k, held_now, then_) = its.walks i held u ne also its_table from rows (as_standing old.store.geometry.size
       (standing_of old n x) (bare_standing old) (shown old.store.dirty i) u its_table from rows refl refl next) in (
         k,
         held_now,
@@ -218,7 +219,8 @@ module _ {D P : Type 0} (m : Meaning D) (places : Places P) (old new : Core D) (
         next = subst (λ (off : Option ℕ). AreNext m new (standing_of new its.stands.numbers its.stands.tables) u
             its_table (rec_at places from) rows off) (sym store_on.online)
             (next_on next.0 next.1 comes.opening comes.entries its comes.stands.numbers comes.stands.tables u
-            (apart_from u t.0 not_) its_table (rec_at places from) rows next.2);
+            (apart_from u t.0 not_)
+            ((memory_of m old comes.opening comes.entries comes.stands).state u ∙ comes.active) its_table (rec_at places from) rows next.2);
       }
 
   pub made_gives : GivesEvent m places old new (event_of t table.name write) Fine None None (Some t.0) None None
@@ -245,9 +247,9 @@ module _ {D P : Type 0} (m : Meaning D) (places : Places P) (old new : Core D) (
 -- ---- on each way
 
 pub made_rows_give : {D P : Type 0} (m : Meaning D) → CountsNow m → PushedRowsGoOn D P m → ReplacedRowsGoOn D P m
-    → NewRowsGoOn D P m → MadeRowsGive D P m
-made_rows_give {D} {P} m counts_now pushed replaced new_rows places old new t table write core given noted fits storable
-    written not_over = made_gives m places old new t table write written since online goes_on
+    → NewRowsGoOn D P m → OverDeadRowsGoOn D P m → MadeRowsGive D P m
+made_rows_give {D} {P} m counts_now pushed replaced new_rows over_dead places old new t table write core given noted fits
+    storable written = made_gives m places old new t table write written since online goes_on
   where
     online : old.store.offline ≡ None
     online = written.is_free.has_found.has_passed.has_begun.continues.0
@@ -263,9 +265,9 @@ made_rows_give {D} {P} m counts_now pushed replaced new_rows places old new t ta
     goes_on o h stands = at written.puts.before.way refl
       where
         at : (way : Way) → written.puts.before.way ≡ way → GoesOnWith m old new o h (made_by t table write) t.0
-        at ways.Make is = new_rows places old new t table write no_record o h core given noted fits storable written is
-            stands
+        at ways.Make is = new_rows places old new t table write no_record o h core given noted fits storable written is stands
         at (ways.Push rec) is = pushed places old new t table write rec o h core given noted fits storable written is stands
-        at (ways.PushOverDead rec) is = absurd (not_over rec is)
+        at (ways.PushOverDead rec) is =
+            over_dead places old new t table write rec o h core given noted fits storable written is stands
         at (ways.Replace rec) is =
             replaced places old new t table write rec o h core given noted fits storable written is stands

@@ -96,7 +96,7 @@ newest_changed o h name key chain u open_ stand newest =
 
 -- ---- who counts in a record
 
-committed_only : (f : Facts) (u : ℕ) → committed_with f (λ t. false) u ≡ committed_in f u
+pub committed_only : (f : Facts) (u : ℕ) → committed_with f (λ t. false) u ≡ committed_in f u
 committed_only f u = at (f.state u)
   where
     at : (x : TxState) → (is_committed x || (is_limbo x && false)) ≡ is_committed x

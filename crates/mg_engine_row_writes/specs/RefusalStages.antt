@@ -44,13 +44,12 @@ use Rattle.mg_core.specs.Putting.{CountsOne, FailsKept, FailsPut, HasBefore, no_
 use Rattle.mg_core.specs.Reading.{FailsReading}
 use Rattle.mg_core.specs.Writing.{FailsRow, FailsWrite, HasBegun, HasFound, HasPassed, IsFree, at_record, at_row, at_table, key_memory, key_null, no_key, not_begun, not_put, only_reads, row_unread, row_wrong}
 use Rattle.mg_engine_meaning.specs.EventLaws.{refused_gives}
-use Rattle.mg_engine_meaning.specs.Frames.{GivesEvent}
 use Rattle.mg_engine_meaning.specs.Meaning.{Places}
 use Rattle.mg_engine_meaning.specs.Standings.{StandsFor}
 use Rattle.mg_engine_row_writes.specs.NoteLaws.{notes_give}
 use Rattle.mg_engine_row_writes.specs.Notes.{AreCounts, HasRead}
 use Rattle.mg_engine_row_writes.specs.RefusalLaws.{active_event, begun_read, found_read, free_read, none_wrong, only_read, passed_read, passing_event, plain_wrong, record_hindered, row_is_wrong, table_hindered, whose_event}
-use Rattle.mg_engine_row_writes.specs.Refusals.{IsNotLaid}
+use Rattle.mg_engine_row_writes.specs.Refusals.{IsNotLaid, RefusesStill}
 use Rattle.mg_engine_row_writes.specs.StopLaws.{damage_stops, ended_read, fault_outer, reads_on, told_stops, unread_stops, wait_stops}
 use Rattle.mg_engine_row_writes.specs.Stops.{IsPlain, IsStopped}
 use Rattle.mg_engine_row_writes.specs.Verdicts.{told_notes, told_plain}
@@ -61,30 +60,28 @@ module _ (speakers : SpeakersAreTold) (obstacles : ObstaclesAtKeys) (rows : Rows
     (on : StandsOn packed_form) (quiet : QuietHolds packed_form) (last : ReadsLast D FireLinks m packed_form)
     (old new : Core D) (core : IsCore m old) (fits : AreCounts old) (t : TxNo) (table : Table) (write : Write)
     (given : given_to old.works t.0 table.name ≡ Some table) (refusal : Refusal) where
-  abbrev Gives : Type 0
-  Gives = GivesEvent m places old new (event_of t table.name write) (No refusal) (Some refusal) None (Some t.0) None
-      None
+  abbrev pub Still : Type 0
+  Still = RefusesStill m places old new (event_of t table.name write) refusal t.0
 
   stopped : IsStopped m places old new t.0 refusal
       → ((o : Opening) (h : Entries) → StandsFor m old o h
       → IsLawful o h (entry (event_of t table.name write) (No refusal)))
-      → GivesEvent m places old new (event_of t table.name write) (No refusal) (Some refusal) None (Some t.0) None
-      None
-  stopped stop lawful = notes_give m places idle_goes on quiet begin last old new t.0 (event_of t table.name write)
-      refusal None (Some t.0) stop.notes (whose_event t table.name write) (passing_event t table.name write) lawful
-      stop.may
+      → Still
+  stopped stop lawful = record {
+    gives = notes_give m places idle_goes on quiet begin last old new t.0 (event_of t table.name write) refusal None
+        (Some t.0) stop.notes (whose_event t table.name write) (passing_event t table.name write) lawful stop.may;
+    works = ap (λ (c : Core D). c.works) stop.notes.same;
+  }
 
   -- from outside the machine
   outer : is_outer (No refusal) ≡ true → IsStopped m places old new t.0 refusal
-      → GivesEvent m places old new (event_of t table.name write) (No refusal) (Some refusal) None (Some t.0) None
-      None
+      → Still
   outer is stop = stopped stop (λ o h stands. inr is)
 
   module _ (online : old.store.offline ≡ None) where
     -- memory is wanting, and nothing else has happened
     wants : (mid : Core D) → HasRead m old mid t.0 → IsTold mid new Memory refusal
-        → GivesEvent m places old new (event_of t table.name write) (No refusal) (Some refusal) None (Some t.0) None
-        None
+        → Still
     wants mid read told = outer (ap (λ (r : Refusal). is_outer (No r)) told.0)
         (told_stops m places counts_now old mid new t.0 online fits read refusal told.1
         (subst (λ (r : Refusal). IsPlain r) (sym told.0) tt)
@@ -93,15 +90,13 @@ module _ (speakers : SpeakersAreTold) (obstacles : ObstaclesAtKeys) (rows : Rows
     -- pages were not read
     fails : (mid : Core D) → HasRead m old mid t.0 → (why : Pool D FireLinks → Pages → SpaceFault → Type 0)
         → FailsReading m mid new why refusal
-        → GivesEvent m places old new (event_of t table.name write) (No refusal) (Some refusal) None (Some t.0) None
-        None
+        → Still
     fails mid read why failed = outer (fault_outer failed.fault refusal failed.is)
         (unread_stops m places counts_now old mid new t.0 online fits read refusal why failed)
 
     -- what no lawful caller asks for is told as damage
     counts : (mid : Core D) → HasRead m old mid t.0 → CountsOne mid new (faults.Damaged not_lawful) refusal
-        → GivesEvent m places old new (event_of t table.name write) (No refusal) (Some refusal) None (Some t.0) None
-        None
+        → Still
     counts mid read one = outer (fault_outer (faults.Damaged not_lawful) refusal one.is)
         (damage_stops m places counts_now old mid new t.0 online fits read refusal not_lawful read.keeps.pool
         (read.keeps.offline ∙ online) one)
@@ -122,8 +117,7 @@ module _ (speakers : SpeakersAreTold) (obstacles : ObstaclesAtKeys) (rows : Rows
 
   at_its_table : (begun : Core D) (wait : Bool) → HasBegun old begun t wait
       → StopsAtTable m begun new t wait table.name refusal
-      → GivesEvent m places old new (event_of t table.name write) (No refusal) (Some refusal) None (Some t.0) None
-      None
+      → Still
   at_its_table begun wait has (inl told) = wants has.continues.0 begun
       (begun_read m counts_now old core t table write begun wait has) told
   at_its_table begun wait has (inr (unread failed)) = fails has.continues.0 begun
@@ -137,8 +131,7 @@ module _ (speakers : SpeakersAreTold) (obstacles : ObstaclesAtKeys) (rows : Rows
       at : (f : Option Obstacle) → ((image : Image) → Tells m begun.store.disk image
           → IsOfTable begun t table.name (shown begun.store.dirty image) f)
           → HindersBy read new t.0 wait f refusal
-          → GivesEvent m places old new (event_of t table.name write) (No refusal) (Some refusal) None (Some t.0) None
-          None
+          → Still
       at None is by_ = absurd by_
       at (Some x) is by_ = stopped (hinders_stop has.continues.0 read since wait x by_)
           (λ o h stands. table_hindered speakers obstacles rows nothing begin verdicts nobody m places counts_now old
@@ -148,8 +141,7 @@ module _ (speakers : SpeakersAreTold) (obstacles : ObstaclesAtKeys) (rows : Rows
 
   at_its_row : (passed : Core D) (wait : Bool) → HasPassed m old passed t table wait
       → FailsRow m passed new t table (written_at table write) write refusal
-      → GivesEvent m places old new (event_of t table.name write) (No refusal) (Some refusal) None (Some t.0) None
-      None
+      → Still
   at_its_row passed wait has (row_unread failed) = fails has.has_begun.continues.0 passed
       (passed_read m counts_now old core t table write passed wait has) _ failed
   at_its_row passed wait has (row_wrong found reads wrong) = stopped
@@ -164,8 +156,7 @@ module _ (speakers : SpeakersAreTold) (obstacles : ObstaclesAtKeys) (rows : Rows
 
   at_its_record : (found : Core D) (wait : Bool) (rec : Option RecId) → HasFound m old found t table write wait rec
       → StopsAtRecord m found new t wait rec refusal
-      → GivesEvent m places old new (event_of t table.name write) (No refusal) (Some refusal) None (Some t.0) None
-      None
+      → Still
   at_its_record found wait rec has (unread failed) = fails has.has_passed.has_begun.continues.0 found
       (found_read m counts_now old core t table write found wait rec has) _ failed
   at_its_record found wait rec has (hindered read x reads told by) = at x told by
@@ -177,8 +168,7 @@ module _ (speakers : SpeakersAreTold) (obstacles : ObstaclesAtKeys) (rows : Rows
       at : (f : Option Obstacle) → ((image : Image) → Tells m found.store.disk image
           → IsOfRecord found t rec (shown found.store.dirty image) f)
           → HindersBy read new t.0 wait f refusal
-          → GivesEvent m places old new (event_of t table.name write) (No refusal) (Some refusal) None (Some t.0) None
-          None
+          → Still
       at None is by_ = absurd by_
       at (Some x_) is by_ = stopped (hinders_stop has.has_passed.has_begun.continues.0 read since wait x_ by_)
           (λ o h stands. record_hindered speakers obstacles rows nothing begin verdicts nobody m places counts_now old
@@ -194,8 +184,7 @@ module _ (speakers : SpeakersAreTold) (obstacles : ObstaclesAtKeys) (rows : Rows
   kept_or : (free : Core D) (wait : Bool) (rec : Option RecId) (is_free : IsFree m old free t table write wait rec)
       (read : Core D) (before : Before) (v : Version) (has : HasBefore m free read t table write rec before v)
       → FailsKept m read new t.0 table.pointer.0 (written_at table write) before v refusal
-      → GivesEvent m places old new (event_of t table.name write) (No refusal) (Some refusal) None (Some t.0) None
-      None
+      → Still
       ⊎ IsNotLaid m old new t table write refusal
   kept_or free wait rec is_free read before v has (too_long long one) = inl (counts
       (online_free free wait rec is_free) read (reads_on m counts_now old free read t.0
@@ -204,21 +193,16 @@ module _ (speakers : SpeakersAreTold) (obstacles : ObstaclesAtKeys) (rows : Rows
       (online_free free wait rec is_free) read (reads_on m counts_now old free read t.0
       (free_read m counts_now old core t table write free wait rec is_free) has.reads) told)
   kept_or free wait rec is_free read before v has (not_laid failed) = inr (record {
-    free = free;
-    wait = wait;
-    rec = rec;
-    is_free = is_free;
     read = read;
     before = before;
     version = v;
-    has = has;
+    ready = record { free = free; wait = wait; rec = rec; is_free = is_free; has = has };
     fails = failed;
   })
 
   put_or : (free : Core D) (wait : Bool) (rec : Option RecId) → IsFree m old free t table write wait rec
       → FailsPut m free new t table write (written_at table write) rec refusal
-      → GivesEvent m places old new (event_of t table.name write) (No refusal) (Some refusal) None (Some t.0) None
-      None
+      → Still
       ⊎ IsNotLaid m old new t table write refusal
   put_or free wait rec is_free (no_version told) = inl (wants (online_free free wait rec is_free) free
       (free_read m counts_now old core t table write free wait rec is_free) told)
@@ -230,12 +214,14 @@ module _ (speakers : SpeakersAreTold) (obstacles : ObstaclesAtKeys) (rows : Rows
   -- ---- all of them
 
   pub refusals : FailsWrite m old new t table write refusal
-      → GivesEvent m places old new (event_of t table.name write) (No refusal) (Some refusal) None (Some t.0) None
-      None
+      → Still
       ⊎ IsNotLaid m old new t table write refusal
-  refusals (not_begun refused) = inl (refused_gives m places idle_goes on quiet old new t.0
-      (event_of t table.name write) (λ o h. answer_active (told o h) t.0 (event_of t table.name write)) refusal None
-      (Some t.0) (whose_event t table.name write) (λ o h. active_event o h t table.name write) refused)
+  refusals (not_begun refused) = inl (record {
+    gives = refused_gives m places idle_goes on quiet old new t.0 (event_of t table.name write)
+        (λ o h. answer_active (told o h) t.0 (event_of t table.name write)) refusal None (Some t.0)
+        (whose_event t table.name write) (λ o h. active_event o h t table.name write) refused;
+    works = ap (λ (c : Core D). c.works) refused.wait.same;
+  })
   refusals (only_reads continues ends only) = inl (stopped
       (told_stops m places counts_now old new new t.0 continues.0 fits (ended_read m old new t.0 core.pool ends)
       refusal refl (subst (λ (r : Refusal). IsPlain r) (sym only.is) tt)

@@ -52,21 +52,21 @@ grown old new fits more = at (min_cases (old + 1) (2 ^ 64 - 1))
     at (inl is) = let all : new ≡ old + 1 = more ∙ is in omega (arith, all)
     at (inr is) = let all : new ≡ 2 ^ 64 - 1 = more ∙ is in omega (arith, all, fits)
 
-rose_one : (old new : ℕ) → OneMore old new → Rose old new
+pub rose_one : (old new : ℕ) → OneMore old new → Rose old new
 rose_one old new more = at (min_cases (old + 1) (2 ^ 64 - 1))
   where
     at : (min (old + 1) (2 ^ 64 - 1) ≡ old + 1) ⊎ (min (old + 1) (2 ^ 64 - 1) ≡ 2 ^ 64 - 1) → Rose old new
     at (inl is) = inl (let all : new ≡ old + 1 = more ∙ is in omega (arith, all))
     at (inr is) = inr (let all : new ≡ 2 ^ 64 - 1 = more ∙ is in omega (arith, all))
 
-rose_later : (a b c : ℕ) → a ≤ b → Rose b c → Rose a c
+pub rose_later : (a b c : ℕ) → a ≤ b → Rose b c → Rose a c
 rose_later a b c less (inl more) = inl (omega (arith, less, more))
 rose_later a b c less (inr end) = inr end
 
 same_least : (a b : ℕ) → b ≡ a → a ≤ b
 same_least a b same = omega (arith, same)
 
-risen : (fault : SpaceFault) (damage now shortages later : ℕ) → damage ≤ 2 ^ 64 - 1 → shortages ≤ 2 ^ 64 - 1
+pub risen : (fault : SpaceFault) (damage now shortages later : ℕ) → damage ≤ 2 ^ 64 - 1 → shortages ≤ 2 ^ 64 - 1
     → CountsFault fault damage now shortages later → (damage ≤ now) × (shortages ≤ later)
 risen (faults.Full limit) damage now shortages later fits few counts =
     (same_least damage now counts.0, grown shortages later few counts.1)
@@ -82,6 +82,17 @@ risen (faults.Pool (pool_faults.Offline n)) damage now shortages later fits few 
     (same_least damage now counts.0, same_least shortages later counts.1)
 risen (faults.Pool pool_faults.Memory) damage now shortages later fits few counts =
     (same_least damage now counts.0, same_least shortages later counts.1)
+
+-- one who is refused for a fault waits for nobody
+pub fault_waits : (fault : SpaceFault) (refusal : Refusal) → IsRefusal fault refusal
+    → waited_on (No refusal) ≡ None
+fault_waits (faults.Full limit) refusal its = ap (λ (r : Refusal). waited_on (No r)) its
+fault_waits (faults.Damaged d) refusal its = ap (λ (r : Refusal). waited_on (No r)) its
+fault_waits (faults.Pool (pool_faults.Absent n)) refusal its = ap (λ (r : Refusal). waited_on (No r)) its
+fault_waits (faults.Pool (pool_faults.DiskRead n)) refusal its = ap (λ (r : Refusal). waited_on (No r)) its
+fault_waits (faults.Pool (pool_faults.DiskWrite n)) refusal its = ap (λ (r : Refusal). waited_on (No r)) its
+fault_waits (faults.Pool (pool_faults.Offline n)) refusal its = ap (λ (r : Refusal). waited_on (No r)) its
+fault_waits (faults.Pool pool_faults.Memory) refusal its = ap (λ (r : Refusal). waited_on (No r)) its
 
 -- ---- one stage more
 
@@ -212,15 +223,6 @@ module _ {D P : Type 0} (m : Meaning D) (places : Places P) (counts_now : Counts
     up : store.offline ≡ None
     up = keeps.offline ∙ mid_online
 
-    none_waits : (f : SpaceFault) → IsRefusal f refusal → waited_on (No refusal) ≡ None
-    none_waits (faults.Full limit) its = ap (λ (r : Refusal). waited_on (No r)) its
-    none_waits (faults.Damaged d) its = ap (λ (r : Refusal). waited_on (No r)) its
-    none_waits (faults.Pool (pool_faults.Absent n)) its = ap (λ (r : Refusal). waited_on (No r)) its
-    none_waits (faults.Pool (pool_faults.DiskRead n)) its = ap (λ (r : Refusal). waited_on (No r)) its
-    none_waits (faults.Pool (pool_faults.DiskWrite n)) its = ap (λ (r : Refusal). waited_on (No r)) its
-    none_waits (faults.Pool (pool_faults.Offline n)) its = ap (λ (r : Refusal). waited_on (No r)) its
-    none_waits (faults.Pool pool_faults.Memory) its = ap (λ (r : Refusal). waited_on (No r)) its
-
     fault_may : (f : SpaceFault) → IsRefusal f refusal → ReadsData {T = Unit {0}} (Err f)
         → TellsFault m mid.store store (pool_answer {T = Unit {0}} (Err f))
         → CountsFault f old.damage new.damage old.shortages new.shortages
@@ -253,7 +255,7 @@ module _ {D P : Type 0} (m : Meaning D) (places : Places P) (counts_now : Counts
       notes = record {
         keeps = keeps_on m counts_now old.store mid.store store read.keeps keeps;
         waits = subst (λ (who : Option ℕ). NowWaits (edges_in old.waits) (edges_in mid.waits) t who)
-            (sym (none_waits fault is)) read.over;
+            (sym (fault_waits fault refusal is)) read.over;
         damage = (risen fault old.damage new.damage old.shortages new.shortages fits.damage fits.shortages
             counts_old).0;
         shortages = (risen fault old.damage new.damage old.shortages new.shortages fits.damage fits.shortages

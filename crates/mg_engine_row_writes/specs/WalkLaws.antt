@@ -4,7 +4,6 @@ use Rattle.std.proofs.Common.{◌≡◌, ◌≢◌, ◌⊎◌, inl, inr, ◌&&�
 use Rattle.std.specs.Prelude.{if◌then◌else◌}
 use Rattle.std.proofs.lemmas.Bool.{cases_eq, ne_eqb}
 use Rattle.mg_base.specs.declared.numbers.RecId.{RecId}
-use Rattle.mg_base.specs.declared.transaction.TxState.{TxState}
 use Rattle.mg_base.specs.declared.transaction.TxState.TheVariants.{Active}
 use Rattle.mg_chain.specs.Chains.{takes_version}
 use Rattle.mg_engine_steps.specs.Known.{IsShown}
@@ -123,15 +122,11 @@ module _ (one : RowsAreOne packed_coding) (size : ℕ) (s : Standing) (pages lat
     (r : Reading) (rec : RecId) (es : List Entry)
     (sound : IsSoundBy packed_form size (left_state everyone s.state) pages layout r)
     (reads : ReadsAfter packed_form size (left_state everyone s.state) pages later layout r rec es)
-    (fronts : AreFrontStands (stands_of layout) (stands_of reads.layout)) (t : ℕ) (active : s.state t ≡ Active)
-    (same_shown : (counts : ℕ → Bool) → counts t ≡ false → shown counts es ≡ shown counts (r rec)) (u : ℕ)
-    (apart : u ≢ t) (table : Table) where
+    (fronts : AreFrontStands (stands_of layout) (stands_of reads.layout)) (u : ℕ)
+    (same_shown : shown (takes_version s.state s.live u) es ≡ shown (takes_version s.state s.live u) (r rec))
+    (table : Table) where
   abbrev counts : ℕ → Bool
   counts = takes_version s.state s.live u
-
-  unseen : takes_version s.state s.live u t ≡ false
-  unseen = ap (λ (b : Bool). b || (is_committed (s.state t) && sees s.live u t)) (ne_eqb t u (λ same. apart (sym same)))
-      ∙ ap (λ (x : TxState). is_committed x && sees s.live u t) active
 
   rows_all : (p : RecId) → row_at_record (takes_version s.state s.live u) table reads.reading p
       ≡ row_at_record (takes_version s.state s.live u) table r p
@@ -140,7 +135,7 @@ module _ (one : RowsAreOne packed_coding) (size : ℕ) (s : Standing) (pages lat
       at : (p ≡ rec) ⊎ (p ≢ rec) → row_at_record counts table reads.reading p ≡ row_at_record counts table r p
       at (inl same) = ap (λ (q : RecId). keyed table (shown counts (reads.reading q)) []) same
           ∙ (ap (λ (xs : List Entry). keyed table (shown counts xs) []) reads.here
-          ∙ (ap (λ (row : Option Row). keyed table row []) (same_shown counts unseen)
+          ∙ (ap (λ (row : Option Row). keyed table row []) same_shown
           ∙ ap (λ (q : RecId). keyed table (shown counts (r q)) []) (sym same)))
       at (inr ne) = ap (λ (xs : List Entry). keyed table (shown counts xs) []) (reads.others p ne)
 
@@ -190,6 +185,25 @@ module _ (one : RowsAreOne packed_coding) (size : ℕ) (s : Standing) (pages lat
       subst (λ (x : Reading). (was : IsShown b table) → ShowsOn size s s later u table b x was) same.1
       (subst (λ (l : Layout). (was : IsShown l table) → ShowsOn size s s later u table l r was) same.0 shows_on)
 
+-- the versions of one that is not committed count for no other
+pub unseen : (s : Standing) (t u : ℕ) → is_committed (s.state t) ≡ false → u ≢ t
+    → takes_version s.state s.live u t ≡ false
+unseen s t u off apart = ap (λ (b : Bool). b || (is_committed (s.state t) && sees s.live u t))
+    (ne_eqb t u (λ same. apart (sym same))) ∙ ap (λ (b : Bool). b && sees s.live u t) off
+
+-- all active ones walk on that are shown the same of the record
+pub same_walk_on : RowsAreOne packed_coding → (size : ℕ) (s : Standing) (pages later : Pages) (layout : Layout)
+    (r : Reading) (rec : RecId) (es : List Entry)
+    → IsSoundBy packed_form size (left_state everyone s.state) pages layout r
+    → (reads : ReadsAfter packed_form size (left_state everyone s.state) pages later layout r rec es)
+    → AreFrontStands (stands_of layout) (stands_of reads.layout) → (t : ℕ)
+    → ((u : ℕ) → u ≢ t → s.state u ≡ Active
+    → shown (takes_version s.state s.live u) es ≡ shown (takes_version s.state s.live u) (r rec))
+    → OthersWalkOn size s pages later t
+same_walk_on one size s pages later layout r rec es sound reads fronts t same_shown u apart active table after rows =
+    row_walks_go_on size s s pages later u table after rows
+    (everywhere one size s pages later layout r rec es sound reads fronts u (same_shown u apart active) table)
+
 -- all others walk on
 pub others_walk_on : RowsAreOne packed_coding → (size : ℕ) (s : Standing) (pages later : Pages) (layout : Layout)
     (r : Reading) (rec : RecId) (es : List Entry)
@@ -198,9 +212,9 @@ pub others_walk_on : RowsAreOne packed_coding → (size : ℕ) (s : Standing) (p
     → AreFrontStands (stands_of layout) (stands_of reads.layout) → (t : ℕ) → s.state t ≡ Active
     → ((counts : ℕ → Bool) → counts t ≡ false → shown counts es ≡ shown counts (r rec))
     → OthersWalkOn size s pages later t
-others_walk_on one size s pages later layout r rec es sound reads fronts t active same_shown u apart table after rows =
-    row_walks_go_on size s s pages later u table after rows
-    (everywhere one size s pages later layout r rec es sound reads fronts t active same_shown u apart table)
+others_walk_on one size s pages later layout r rec es sound reads fronts t active same_shown =
+    same_walk_on one size s pages later layout r rec es sound reads fronts t (λ u apart also.
+    same_shown (takes_version s.state s.live u) (unseen s t u (ap is_committed active) apart))
 
 -- a version of a transaction that does not count is passed over
 pub over_shown : (n : Entry) (es : List Entry) (t : ℕ) → writer n ≡ t → (counts : ℕ → Bool) → counts t ≡ false

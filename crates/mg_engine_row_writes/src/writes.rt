@@ -8,13 +8,15 @@
 //! committed version or a dead one (`ways_are_free`), the catalog's tables stay plain (`writes_keep_plain`), and the pages
 //! that transactions hold stay theirs (`writes_keep_tips`).
 //! With all of these, an engine that has written a row goes on with its event: where the version was pushed over a
-//! committed one or put in place of the transaction's own (`rows_go_on`), or is the first one of a record
-//! (`new_rows_go_on`); and on each of these ways it gives the event as a keeper of records owes it (`made_rows_give`).
+//! committed one or put in place of the transaction's own (`rows_go_on`), is the first one of a record
+//! (`new_rows_go_on`), or was pushed where a dead transaction's version was taken out (`over_dead_rows_go_on`); and on
+//! each of these ways it gives the event as a keeper of records owes it (`made_rows_give`). The first batch of the last
+//! two ways leaves the engine with its history (`first_batches_stay`).
 
 ghost use Rattle.mg_engine_row_writes.specs.Befores.{BeforesAreTold};
 ghost use Rattle.mg_engine_row_writes.specs.Codes.{StoredRowsAreCoded};
 ghost use Rattle.mg_engine_row_writes.specs.Kept.{MadeWritesFollow};
-ghost use Rattle.mg_engine_row_writes.specs.Laid.{NewRowsGoOn, PushedRowsGoOn, ReplacedRowsGoOn};
+ghost use Rattle.mg_engine_row_writes.specs.Laid.{DeadsStay, NewRowsGoOn, OverDeadRowsGoOn, PlacesStay, PushedRowsGoOn, ReplacedRowsGoOn};
 ghost use Rattle.mg_engine_row_writes.specs.Made.{MadeRowsGive};
 ghost use Rattle.mg_engine_row_writes.specs.Owners.{SeenMayBeWritten};
 ghost use Rattle.mg_engine_row_writes.specs.Plain.{WritesKeepPlain};
@@ -29,7 +31,7 @@ use mg_engine_steps::{
     writes_go_on,
 };
 use mg_engine_writes::{
-    firsts_go_on, pushes_go_on, records_are_free, replacements_go_on, unasking_lasts,
+    deads_go, firsts_go_on, pushes_go_on, records_are_free, replacements_go_on, unasking_lasts,
 };
 use mg_grown_catalogs::catalogs_grow;
 use mg_image::one_reading;
@@ -162,10 +164,64 @@ pub fn new_rows_go_on<D: Disk, P>()
     unasking_lasts::<D, FireLinks>();
 }
 
+/// A row that was pushed where a dead transaction's version was taken out: the engine goes on with the event.
+pub fn over_dead_rows_go_on<D: Disk, P>()
+    ensures { OverDeadRowsGoOn D P D.meaning }
+{
+    keys_are_answered();
+    histories_go_on();
+    verdicts_are_the_machines();
+    notes_follow_the_machine();
+    befores_are_told();
+    made_writes_follow();
+    seen_may_be_written();
+    stored_rows_are_coded();
+    writes_keep_plain();
+    ways_are_free();
+    one_reading();
+    tips_stay();
+    lists_go_on::<D, FireLinks>();
+    batches_last::<D, FireLinks>();
+    writes_go_on::<D, FireLinks>();
+    pushes_go_on::<D, FireLinks>();
+    replacements_go_on::<D, FireLinks>();
+    unasking_lasts::<D, FireLinks>();
+    records_are_those_of_every_reading();
+    deads_go::<D, FireLinks>();
+}
+
+/// The first batch of a version that takes two: a place is taken, or a dead transaction's version is taken out.
+pub fn first_batches_stay<D: Disk, P>()
+    ensures places { PlacesStay D P D.meaning }
+    ensures deads { DeadsStay D P D.meaning }
+{
+    keys_are_answered();
+    histories_go_on();
+    verdicts_are_the_machines();
+    notes_follow_the_machine();
+    befores_are_told();
+    made_writes_follow();
+    seen_may_be_written();
+    stored_rows_are_coded();
+    writes_keep_plain();
+    ways_are_free();
+    one_reading();
+    tips_stay();
+    lists_go_on::<D, FireLinks>();
+    batches_last::<D, FireLinks>();
+    writes_go_on::<D, FireLinks>();
+    pushes_go_on::<D, FireLinks>();
+    replacements_go_on::<D, FireLinks>();
+    unasking_lasts::<D, FireLinks>();
+    records_are_those_of_every_reading();
+    deads_go::<D, FireLinks>();
+}
+
 /// A row that is written gives its event.
 pub fn made_rows_give<D: Disk, P>()
     ensures { MadeRowsGive D P D.meaning }
 {
     rows_go_on::<D, P>();
     new_rows_go_on::<D, P>();
+    over_dead_rows_go_on::<D, P>();
 }

@@ -1,4 +1,4 @@
-use Rattle.mg_engine_row_writes.specs.LaidLaws.{made_new}
+use Rattle.mg_engine_row_writes.specs.LaidLaws.{made_new, ready_of}
 use Rattle.mg_engine_row_writes.proofs.writes.new_rows_go_on.Goals as goal
 
 pub returns : goal.returns
@@ -10,5 +10,6 @@ returns g c = λ places old new t table write rec o h core given noted fits stor
     c.one_reading.ensures.packed_rows c.tips_stay.ensures.on c.tips_stay.ensures.behind c.writes_keep_plain.ensures
     c.ways_are_free.ensures g.D.Disk.meaning places g.met.D.Disk.counts_now g.met.D.Disk.holds
     c.unasking_lasts.ensures c.batches_last.ensures.reads c.writes_go_on.ensures c.pushes_go_on.ensures
-    c.replacements_go_on.ensures old new t table write core given noted fits storable o h written stands
+    c.replacements_go_on.ensures old t table write core given noted fits storable o h written.puts.read written.puts.before
+    written.puts.version (ready_of g.D.Disk.meaning old new t table write written) stands new written.puts.laid
     c.batches_last.ensures.still c.firsts_go_on.ensures way

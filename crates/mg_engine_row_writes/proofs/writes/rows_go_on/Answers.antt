@@ -1,4 +1,4 @@
-use Rattle.mg_engine_row_writes.specs.LaidLaws.{pushed, replaced}
+use Rattle.mg_engine_row_writes.specs.LaidLaws.{pushed, ready_of, replaced}
 use Rattle.mg_engine_row_writes.proofs.writes.rows_go_on.Goals as goal
 
 pub returns-clause-pushed : goal.returns-clause-pushed
@@ -10,7 +10,8 @@ returns-clause-pushed g c = λ places old new t table write rec o h core given n
     c.one_reading.ensures.packed_rows c.tips_stay.ensures.on c.tips_stay.ensures.behind c.writes_keep_plain.ensures
     c.ways_are_free.ensures g.D.Disk.meaning places g.met.D.Disk.counts_now g.met.D.Disk.holds
     c.unasking_lasts.ensures c.batches_last.ensures.reads c.writes_go_on.ensures c.pushes_go_on.ensures
-    c.replacements_go_on.ensures old new t table write core given noted fits storable o h written stands rec way
+    c.replacements_go_on.ensures old t table write core given noted fits storable o h written.puts.read written.puts.before
+    written.puts.version (ready_of g.D.Disk.meaning old new t table write written) stands new written.puts.laid rec way
 
 pub returns-clause-replaced : goal.returns-clause-replaced
 returns-clause-replaced g c = λ places old new t table write rec o h core given noted fits storable written way stands.
@@ -21,4 +22,5 @@ returns-clause-replaced g c = λ places old new t table write rec o h core given
     c.one_reading.ensures.packed_rows c.tips_stay.ensures.on c.tips_stay.ensures.behind c.writes_keep_plain.ensures
     c.ways_are_free.ensures g.D.Disk.meaning places g.met.D.Disk.counts_now g.met.D.Disk.holds
     c.unasking_lasts.ensures c.batches_last.ensures.reads c.writes_go_on.ensures c.pushes_go_on.ensures
-    c.replacements_go_on.ensures old new t table write core given noted fits storable o h written stands rec way
+    c.replacements_go_on.ensures old t table write core given noted fits storable o h written.puts.read written.puts.before
+    written.puts.version (ready_of g.D.Disk.meaning old new t table write written) stands new written.puts.laid rec way
