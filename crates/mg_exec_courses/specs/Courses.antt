@@ -1,6 +1,6 @@
 -- Statements that run over a keeper, as the courses of a transcript: what is left of one where it stands, and what a
 -- step of it comes to.
-use Rattle.std.specs.Prelude.{◌≡◌, ◌≢◌, ◌≤◌, ℕ, true, List, [], map, Result, Ok, Err, length, Bool, false, ◌⊎◌, Some, None}
+use Rattle.std.specs.Prelude.{◌≡◌, ◌≢◌, ◌≤◌, ℕ, true, List, [], map, Result, Ok, Err, length, Bool, false, ◌⊎◌, Some, None, not}
 use Rattle.mg_base.specs.declared.numbers.TxNo.{TxNo}
 use Rattle.mg_sql.specs.declared.statement.Def.{Def}
 use Rattle.mg_sql.specs.Plain.{Plain, RollbackTo, Savepoint, Table as Creation}
@@ -10,6 +10,7 @@ use Rattle.mg_plan.specs.Shapes.{shape_of}
 use Rattle.mg_model.specs.declared.opening.Opening.{Opening}
 use Rattle.mg_model.specs.declared.refusal.Refusal.TheVariants.{Waits}
 use Rattle.mg_model.specs.declared.table.Table.{Table}
+use Rattle.mg_model.specs.Answers.{is_active}
 use Rattle.mg_model.specs.History.{Entries}
 use Rattle.mg_records.specs.Meaning.{Means}
 use Rattle.mg_records.specs.Writing.{event_of}
@@ -29,7 +30,7 @@ use Rattle.mg_exec.specs.Creating.{Creates, Retries}
 use Rattle.mg_exec.specs.Phases.{HasRead, StandsAt, is_insert}
 use Rattle.mg_exec.specs.Points.{Returns, Saves}
 use Rattle.mg_exec.specs.Reading.{Reads}
-use Rattle.mg_exec.specs.Running.{Goes}
+use Rattle.mg_exec.specs.Running.{Goes, is_rolled_back_at}
 use Rattle.mg_exec.specs.declared.phase.Inserting.{Inserting}
 use Rattle.mg_exec.specs.declared.phase.Reading.{Reading}
 use Rattle.mg_transcript.specs.Courses.{Begun, Comes, Course, Ends, Later, Making, Parks, Writing}
@@ -65,7 +66,7 @@ IsCourse t s (phases.Saving name) course = (s ≡ Savepoint name) × ((taken : �
 IsCourse t s (phases.Returning name) course = (s ≡ RollbackTo name) × ((taken : ℕ) × (course ≡ Begun s taken))
 IsCourse t s (phases.Inserting i) course = (is_insert s ≡ true) × IsBoundHere s i.table i.bound
     × ((taken : ℕ) × (course ≡ Begun s taken))
-IsCourse t s (phases.Reading reading) course = IsBoundHere s reading.walk.table reading.bound
+IsCourse t s (phases.Reading reading) course = (reads s ≡ true) × IsBoundHere s reading.walk.table reading.bound
     × ((taken : ℕ) × (course ≡ Begun s taken) × (length reading.kept.items ≤ taken))
 IsCourse t s (phases.Changing c) course = IsWritingCourse t c course
 IsCourse t s (phases.Creating table) course = IsPlannedHere s table × ((taken : ℕ) × (course ≡ Begun s taken))
@@ -88,6 +89,10 @@ IsTurnedSo t s phase answer comes = ⊥
 abbrev pub IsTurned : {P : Type 0} → TxNo → Plain → Turn P → Comes → Type 0
 IsTurned t s turn comes = IsTurnedSo t s turn.phase turn.answer comes
 
+-- a transaction that was active is so still, but where it was given up
+abbrev pub StaysActive : Opening → Entries → TxNo → Entries → Bool → Type 0
+StaysActive o h t after over = state_of o h t.0 ≡ Active → is_active (state_of o after t.0) ≡ not over
+
 -- A step of a statement is one of the transcript's, and it is told what it came to.
 pub record Tells {R P : Type 0} (m : Means R P) (new : R) (o : Opening) (h : Entries) (t : TxNo) (s : Plain)
     (course : Course) (turn : Turn P) : Type 0 where
@@ -97,6 +102,7 @@ pub record Tells {R P : Type 0} (m : Means R P) (new : R) (o : Opening) (h : Ent
   pub stands : m.stands new o after
   -- what is known of where it stands then
   pub stays : StandsAt m new o after t.0 turn.phase
+  pub active : StaysActive o h t after (is_rolled_back_at turn.phase)
   pub told : IsTurned t s turn comes
 
 -- ---- the laws, phase by phase
@@ -150,7 +156,6 @@ pub record IsAtRow (P : Type 0) (o : Opening) (h : Entries) (t : TxNo) (s : Plai
 pub record IsAtRecord {R P : Type 0} (m : Means R P) (r : R) (o : Opening) (h : Entries) (t : TxNo) (s : Plain)
     (reading : Reading P) (course : Course) : Type 0 where
   pub has_left : IsCourse t s (phases.Reading reading) course
-  pub reads_so : reads s ≡ true
   pub active : state_of o h t.0 ≡ Active
   pub seen : shape_seen o h t.0 reading.walk.table.name ≡ Some reading.walk.table.shape
   pub read : HasRead m r o h t.0 reading

@@ -16,6 +16,7 @@ use Rattle.mg_model.specs.declared.event.Event.TheVariants as events
 use Rattle.mg_model.specs.declared.opening.Opening.{Opening}
 use Rattle.mg_model.specs.declared.refusal.Refusal.TheVariants as refusals
 use Rattle.mg_model.specs.declared.table.Table.{Table}
+use Rattle.mg_model.specs.Answers.{is_active}
 use Rattle.mg_model.specs.Catalog.{key_of}
 use Rattle.mg_model.specs.Changes.{Cells}
 use Rattle.mg_model.specs.History.{Entries}
@@ -140,6 +141,7 @@ module _ {R P : Type 0} (m : Means R P) (new : R) (o : Opening) (h : Entries) (t
             (one_made bound.statement bound.places.items table.shape [] made inserting makes) it.marks);
         stands = it.stands;
         stays = it.stays;
+        active = it.active;
         told = it.told;
       })
   starts_tell turn (makes_none fault none so stands) =
@@ -150,6 +152,7 @@ module _ {R P : Type 0} (m : Means R P) (new : R) (o : Opening) (h : Entries) (t
         steps = by fault none;
         stands = stands;
         stays = tt;
+        active = λ was. ap is_active was;
         told = refl;
       })
     where

@@ -1,4 +1,5 @@
 pub mod Courses
+pub mod ActiveLaws
 pub mod PointLaws
 pub mod WriteLaws
 pub mod TableLaws

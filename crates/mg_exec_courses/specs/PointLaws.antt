@@ -1,5 +1,5 @@
 -- SAVEPOINT and ROLLBACK TO.
-use Rattle.std.proofs.Common.{◌≡◌, ℕ, false, List, ◌∷◌, Result, Ok, Err, refl, sym, subst}
+use Rattle.std.proofs.Common.{◌≡◌, ℕ, false, List, ◌∷◌, Result, Ok, Err, refl, sym, ap, subst}
 use Rattle.mg_base.specs.declared.numbers.TxNo.{TxNo}
 use Rattle.mg_sql.specs.Plain.{RollbackTo, Savepoint}
 use Rattle.mg_model.specs.declared.answer.Answer.TheVariants.{Fine, No}
@@ -7,6 +7,7 @@ use Rattle.mg_model.specs.declared.event.Event.{Event}
 use Rattle.mg_model.specs.declared.event.Event.TheVariants as events
 use Rattle.mg_model.specs.declared.opening.Opening.{Opening}
 use Rattle.mg_model.specs.declared.refusal.Refusal.{Refusal}
+use Rattle.mg_model.specs.Answers.{is_active}
 use Rattle.mg_model.specs.History.{Entries, entry}
 use Rattle.mg_records.specs.Meaning.{Means}
 use Rattle.mg_records.specs.TakingBack.{after_refusal, is_given_up}
@@ -21,6 +22,7 @@ use Rattle.mg_exec.specs.declared.phase.Step.TheVariants.{Done}
 use Rattle.mg_exec.specs.Points.{ReturnsSo, SavesSo}
 use Rattle.mg_transcript.specs.Courses.{Begun, Ends}
 use Rattle.mg_transcript.specs.Steps.{goes_back, goes_not, goes_nowhere, refused, saves}
+use Rattle.mg_exec_courses.specs.ActiveLaws.{given_up_ends, kept_active}
 use Rattle.mg_exec_courses.specs.Courses.{ReturnsTell, SavesTell, Tells}
 
 saves_so : {R P : Type 0} (m : Means R P) (new : R) (o : Opening) (h : Entries) (t : TxNo) (name : List ℕ)
@@ -32,6 +34,7 @@ saves_so m new o h t name taken phases.Ended (Ok (Done outcomes.Fine)) came = re
   steps = saves name taken Fine came.lawful;
   stands = came.stands;
   stays = tt;
+  active = λ was. ap is_active was;
   told = refl;
 }
 saves_so m new o h t name taken phases.Ended (Err (Engine refusal)) came = record {
@@ -40,6 +43,7 @@ saves_so m new o h t name taken phases.Ended (Err (Engine refusal)) came = recor
   steps = saves name taken (No refusal) came.lawful;
   stands = came.stands;
   stays = tt;
+  active = λ was. ap is_active was;
   told = refl;
 }
 saves_so m new o h t name taken phase answer came = absurd came
@@ -61,6 +65,7 @@ returns_so m new o h t name taken phases.Ended (Ok (Done outcomes.Fine)) (has, c
   steps = goes_back name taken has came.lawful;
   stands = came.stands;
   stays = tt;
+  active = λ was. ap is_active was;
   told = refl;
 }
 returns_so m new o h t name taken phases.Ended (Err NoSavepoint) (active, none, stands) = record {
@@ -69,6 +74,7 @@ returns_so m new o h t name taken phases.Ended (Err NoSavepoint) (active, none, 
   steps = goes_nowhere name taken none;
   stands = stands;
   stays = tt;
+  active = λ was. ap is_active was;
   told = refl;
 }
 returns_so m new o h t name taken phases.Ended (Err (Engine refusal)) (kept, came) = record {
@@ -77,6 +83,7 @@ returns_so m new o h t name taken phases.Ended (Err (Engine refusal)) (kept, cam
   steps = goes_not name taken refusal came.lawful;
   stands = subst (m.stands new o) (kept_after o h t (events.BackTo t name) refusal kept) came.stands;
   stays = tt;
+  active = kept_active o h t (events.BackTo t name) refusal kept;
   told = refl;
 }
 returns_so m new o h t name taken phases.RolledBack (Err (Engine refusal)) (given, lawful, stands) = record {
@@ -85,6 +92,7 @@ returns_so m new o h t name taken phases.RolledBack (Err (Engine refusal)) (give
   steps = goes_not name taken refusal lawful;
   stands = stands;
   stays = tt;
+  active = given_up_ends o h t (events.BackTo t name) refusal given;
   told = refl;
 }
 returns_so m new o h t name taken phase answer came = absurd came

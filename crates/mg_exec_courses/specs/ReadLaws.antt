@@ -20,6 +20,7 @@ use Rattle.mg_model.specs.declared.event.Event.TheVariants as events
 use Rattle.mg_model.specs.declared.opening.Opening.{Opening}
 use Rattle.mg_model.specs.declared.refusal.Refusal.TheVariants as refusals
 use Rattle.mg_model.specs.declared.table.Table.{Table}
+use Rattle.mg_model.specs.Answers.{is_active}
 use Rattle.mg_model.specs.Catalog.{key_of}
 use Rattle.mg_model.specs.Changes.{Cells, rows_of}
 use Rattle.mg_model.specs.History.{Entries, entry}
@@ -42,13 +43,14 @@ use Rattle.mg_exec.specs.Changing.{StartsToWrite, begins, makes_none}
 use Rattle.mg_exec.specs.Making.{MakesNone, changes_of, made_by, writes_made}
 use Rattle.mg_exec.specs.Phases.{StandsAt, ended, filter_in, is_select}
 use Rattle.mg_exec.specs.Reading.{Finds, GoesOnWith, Reads, answers, comes_on, faults as faults_on, finds as finds_all, find_of, rows_found as found_there, stops as stops_so, writes}
+use Rattle.mg_exec.specs.Running.{is_rolled_back_at}
 use Rattle.mg_exec.specs.Selecting.{answer_told}
 use Rattle.mg_script.specs.declared.reply.Reply.TheVariants as replies
 use Rattle.mg_transcript.specs.Courses.{Begun, Comes, Ends, Later}
 use Rattle.mg_transcript.specs.Selects.{Answers, reply_with}
 use Rattle.mg_transcript.specs.Statements.{filter_of, made_of, reads, rows_found, selects, table_of}
 use Rattle.mg_transcript.specs.Steps.{Follows, IsFind, IsRead, Marks, answers_so, falls_short, faults, finds, finds_not, has_fault, refused, stops, visits, writes_so}
-use Rattle.mg_exec_courses.specs.Courses.{IsBoundHere, IsTurned, ReadsTell, Tells}
+use Rattle.mg_exec_courses.specs.Courses.{IsBoundHere, IsTurned, ReadsTell, StaysActive, Tells}
 use Rattle.mg_exec_courses.specs.InsertLaws.{events_told}
 use Rattle.mg_exec_courses.specs.TestLaws.{outside_of}
 use Rattle.mg_exec_courses.specs.WriteLaws.{marks_tell}
@@ -145,6 +147,7 @@ record FollowTold {R P : Type 0} (m : Means R P) (new : R) (o : Opening) (h : En
   follows : Follows o h t s shape rows after comes
   stands : m.stands new o after
   stays : StandsAt m new o after t.0 turn.phase
+  active : StaysActive o h t after (is_rolled_back_at turn.phase)
   told : IsTurned t s turn comes
 
 module _ {R P : Type 0} (m : Means R P) (new : R) (o : Opening) (h : Entries) (t : TxNo) (s : Plain)
@@ -192,6 +195,7 @@ module _ {R P : Type 0} (m : Means R P) (new : R) (o : Opening) (h : Entries) (t
               it.marks);
           stands = it.stands;
           stays = it.stays;
+          active = it.active;
           told = it.told;
         })
     starts_follow turn not (makes_none fault none so stands) =
@@ -201,6 +205,7 @@ module _ {R P : Type 0} (m : Means R P) (new : R) (o : Opening) (h : Entries) (t
           follows = no_writes fault not none;
           stands = stands;
           stays = tt;
+          active = λ was. ap is_active was;
           told = refl;
         })
 
@@ -217,6 +222,7 @@ module _ {R P : Type 0} (m : Means R P) (new : R) (o : Opening) (h : Entries) (t
               (answers_here given so);
           stands = stands;
           stays = tt;
+          active = λ was. ap is_active was;
           told = answer_turned given;
         })
     goes_follow turn (writes other starts) = starts_follow turn (sym selects_as ∙ other) starts
@@ -261,6 +267,7 @@ module _ {R P : Type 0} (m : Means R P) (new : R) (o : Opening) (h : Entries) (t
         steps = finds_not s taken table.shape rows (find_of t table bound) refusal read its_find came.lawful;
         stands = came.stands;
         stays = tt;
+        active = λ was. ap is_active was;
         told = refl;
       })
   finds_tell rows turn read (inr (lawful, goes)) =
@@ -272,6 +279,7 @@ module _ {R P : Type 0} (m : Means R P) (new : R) (o : Opening) (h : Entries) (t
             it.follows;
         stands = it.stands;
         stays = it.stays;
+        active = it.active;
         told = it.told;
       }
 
@@ -288,7 +296,9 @@ module _ {R P : Type 0} (m : Means R P) (new : R) (o : Opening) (h : Entries) (t
         steps = visits s taken reads_;
         stands = stands;
         stays = read;
+        active = λ was. ap is_active was;
         told = (
+          reads_,
           subst (λ (y : Table × Bound). IsBoundHere s y.0 y.1) (sym (λ k. (tables k, bounds k))) is,
           one_taken kept_,
         );
@@ -301,6 +311,7 @@ module _ {R P : Type 0} (m : Means R P) (new : R) (o : Opening) (h : Entries) (t
         steps = faults s taken table.shape reads_ shape_is (sym found_is ∙ none);
         stands = stands;
         stays = tt;
+        active = λ was. ap is_active was;
         told = refl;
       })
   reading_tells turn (stops_so refusal refused_ so stands) =
@@ -310,6 +321,7 @@ module _ {R P : Type 0} (m : Means R P) (new : R) (o : Opening) (h : Entries) (t
         steps = stops s taken refusal (outside_of o h t.0 refusal active refused_);
         stands = stands;
         stays = tt;
+        active = λ was. ap is_active was;
         told = refl;
       })
 

@@ -39,9 +39,9 @@ steps_tell m old new o h t s (phases.Inserting i) course turn at goes =
     by_course m new o h t turn s (Begun s at.has_left.2.0) course at.has_left.2.1
     (inserts_tell m new o h t s at.has_left.2.0 i.table i.bound turn at.has_left.0 at.has_left.1 at.seen goes)
 steps_tell m old new o h t s (phases.Reading reading) course turn at goes =
-    by_course m new o h t turn s (Begun s at.has_left.1.0) course at.has_left.1.1
-    (reads_tell m new o h t s at.has_left.1.0 reading.walk.table reading.bound (length reading.kept.items) turn at.reads_so
-    at.has_left.0 at.has_left.1.2 at.active at.seen (goes at.read))
+    by_course m new o h t turn s (Begun s at.has_left.2.0) course at.has_left.2.1
+    (reads_tell m new o h t s at.has_left.2.0 reading.walk.table reading.bound (length reading.kept.items) turn
+    at.has_left.0 at.has_left.1 at.has_left.2.2 at.active at.seen (goes at.read))
 steps_tell m old new o h t s (phases.Changing c) course turn at goes =
     changes_tell m new o h t s c course turn at goes
 steps_tell m old new o h t s (phases.Creating table) course turn at goes =

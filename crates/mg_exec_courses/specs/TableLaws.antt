@@ -1,5 +1,5 @@
 -- CREATE TABLE.
-use Rattle.std.proofs.Common.{◌≡◌, inl, inr, false, true, List, [], ◌∷◌, ◌++◌, None, Some, refl, sym, ap, ◌∙◌, subst}
+use Rattle.std.proofs.Common.{◌≡◌, inl, inr, Bool, false, true, not, List, [], ◌∷◌, ◌++◌, None, Some, refl, sym, ap, ◌∙◌, subst}
 use Rattle.std.specs.Prelude.{map}
 use Rattle.std.proofs.lemmas.List.{append_assoc}
 use Rattle.mg_base.specs.declared.numbers.TxNo.{TxNo}
@@ -11,6 +11,7 @@ use Rattle.mg_model.specs.declared.event.Event.TheVariants as events
 use Rattle.mg_model.specs.declared.opening.Opening.{Opening}
 use Rattle.mg_model.specs.declared.refusal.Refusal.{Refusal}
 use Rattle.mg_model.specs.declared.refusal.Refusal.TheVariants.{Waits}
+use Rattle.mg_model.specs.Answers.{is_active}
 use Rattle.mg_model.specs.Catalog.{catalog_name}
 use Rattle.mg_model.specs.Changes.{Cells}
 use Rattle.mg_model.specs.History.{Entries, Entry, entry}
@@ -27,11 +28,13 @@ use Rattle.mg_exec.specs.declared.phase.NewTable.{NewTable}
 use Rattle.mg_exec.specs.declared.phase.Phase.TheVariants as phases
 use Rattle.mg_exec.specs.declared.phase.Turn.{Turn}
 use Rattle.mg_exec.specs.Creating.{turned_table}
+use Rattle.mg_exec.specs.Running.{is_rolled_back_at}
 use Rattle.mg_script.specs.declared.reply.Reply.TheVariants as replies
 use Rattle.mg_transcript.specs.Courses.{Begun, Comes, Ends, Making, Parks}
 use Rattle.mg_transcript.specs.Statements.{makings}
 use Rattle.mg_transcript.specs.Steps.{IsUndone, Steps, WritesAll, fails, is_final, makes, makes_not, makes_on, none_left, one_more, parks, refused, undone, waits}
-use Rattle.mg_exec_courses.specs.Courses.{CreatesTell, IsCourse, IsPlannedHere, IsTurned, RetriesTell, Tells}
+use Rattle.mg_exec_courses.specs.ActiveLaws.{inserted_stay}
+use Rattle.mg_exec_courses.specs.Courses.{CreatesTell, IsCourse, IsPlannedHere, IsTurned, RetriesTell, StaysActive, Tells}
 use Rattle.mg_exec_courses.specs.WriteLaws.{UndoneHere, final_of, given_here, undone_here}
 
 -- the event of a row of the catalog
@@ -97,20 +100,24 @@ record TableTold {R P : Type 0} (m : Means R P) (new : R) (o : Opening) (h : Ent
   writes : WritesAll o t (makings t s) outcomes.Fine h (map (insertion t) rows) after comes
   stands : m.stands new o after
   stays : StandsAt m new o after t.0 turn.phase
+  active : StaysActive o h t after (is_rolled_back_at turn.phase)
   told : IsTurned t s turn comes
 
 module _ {R P : Type 0} (m : Means R P) (new : R) (o : Opening) (h : Entries) (t : TxNo) (s : Plain) (table : NewTable)
     (planned : IsPlannedHere s table) (rows : List Cells) where
   nothing_here : (first answered : Refusal) (more : Entries) → AreInserted t rows (Some first) more
-      → is_waiting first ≡ false → AreLawful o h more → (it : UndoneHere m new o (more ++ h) t first answered)
-      → (turn : Turn P) → IsTurned t s turn (refused answered) → StandsAt m new o it.after t.0 turn.phase → TableTold m new o h t s rows turn
-  nothing_here first answered more came final lawful it turn told stays = record {
+      → is_waiting first ≡ false → AreLawful o h more → (over : Bool)
+      → (it : UndoneHere m new o (more ++ h) t first answered over) → (turn : Turn P)
+      → IsTurned t s turn (refused answered) → StandsAt m new o it.after t.0 turn.phase
+      → over ≡ is_rolled_back_at turn.phase → TableTold m new o h t s rows turn
+  nothing_here first answered more came final lawful over it turn told stays same = record {
     after = it.after;
     comes = refused answered;
     writes = nothing_tells o t (makings t s) rows more h it.after first answered came (final_of first final) lawful
         it.undone_so;
     stands = it.stands;
     stays = stays;
+    active = λ was. it.active (inserted_stay o h t.0 came ∙ was) ∙ ap not same;
     told = told;
   }
 
@@ -125,6 +132,7 @@ module _ {R P : Type 0} (m : Means R P) (new : R) (o : Opening) (h : Entries) (t
     writes = all_tell o t (makings t s) rows came.entries h came.inserted came.lawful;
     stands = came.stands;
     stays = tt;
+    active = λ was. ap is_active (inserted_stay o h t.0 came.inserted ∙ was);
     told = refl;
   }
   makes_tell (written_.Waits on) came = record {
@@ -133,16 +141,17 @@ module _ {R P : Type 0} (m : Means R P) (new : R) (o : Opening) (h : Entries) (t
     writes = waits_tell o t (makings t s) rows came.entries h (Waits on) on came.inserted refl came.lawful;
     stands = came.stands;
     stays = tt;
+    active = λ was. ap is_active (inserted_stay o h t.0 came.inserted ∙ was);
     told = (refl, retry_course);
   }
   makes_tell (written_.Refused answered) nothing = nothing_here nothing.first answered nothing.entries nothing.inserted
-      nothing.final nothing.lawful
+      nothing.final nothing.lawful false
       (undone_here m new o (nothing.entries ++ h) t nothing.first answered nothing.undone)
-      (turned_table table (written_.Refused answered)) refl tt
+      (turned_table table (written_.Refused answered)) refl tt refl
   makes_tell (written_.RolledBack answered) nothing = nothing_here nothing.first answered nothing.entries
-      nothing.inserted nothing.final nothing.lawful
+      nothing.inserted nothing.final nothing.lawful true
       (given_here m new o (nothing.entries ++ h) t nothing.first answered nothing.undone)
-      (turned_table table (written_.RolledBack answered)) refl tt
+      (turned_table table (written_.RolledBack answered)) refl tt refl
 
 -- the events of a table are those of its rows
 events_are : (t : TxNo) (s : Plain) (table : NewTable) → IsPlannedHere s table
@@ -162,6 +171,7 @@ retries_tell m new o h t s table turn planned retries =
           (sym (events_are t s table planned)) it.writes);
       stands = it.stands;
       stays = it.stays;
+      active = it.active;
       told = it.told;
     })
 
@@ -184,6 +194,7 @@ creates_tell {P = P} m new o h t s taken table turn planned creates =
               (makes_not table.name planned.columns taken refusal came.lawful);
           stands = came.stands;
           stays = tt;
+          active = λ was. ap is_active was;
           told = refl;
         })
     at (inr (lawful, came)) =
@@ -199,5 +210,6 @@ creates_tell {P = P} m new o h t s taken table turn planned creates =
               news it.after it.comes) (sym (events_are t s table planned)) it.writes)));
           stands = it.stands;
           stays = it.stays;
+          active = it.active;
           told = it.told;
         }

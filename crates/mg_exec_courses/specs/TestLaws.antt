@@ -31,7 +31,7 @@ use Rattle.mg_exec.specs.NewTables.{IsWhyNoTable, TestsTable, is_taken, may_not,
 use Rattle.mg_exec.specs.Phases.{is_insert, is_writing, may_not_write}
 use Rattle.mg_exec.specs.Starting.{IsStarted, IsWhyNot, Tests, it_writes, no_memory, no_table, not_bound, not_told}
 use Rattle.mg_transcript.specs.Courses.{Begun}
-use Rattle.mg_transcript.specs.Statements.{binding_fault, columns_in, fault_of, first_of, key_in, looks, mode_fault, table_fault, table_of, writes}
+use Rattle.mg_transcript.specs.Statements.{binding_fault, columns_in, fault_of, first_of, key_in, looks, mode_fault, reads, table_fault, table_of, writes}
 use Rattle.mg_transcript.specs.Steps.{is_outside}
 use Rattle.mg_exec_courses.specs.Courses.{IsBoundHere, IsCourse, IsOutsideFault, IsTestTold, TestsTell}
 use Rattle.mg_exec.specs.declared.phase.NewTable.{NewTable}
@@ -127,6 +127,15 @@ names_looks (Totals table totals filter) names = refl
 names_looks (Select table values filter sorted) names = refl
 names_looks s names = absurd names
 
+-- one that is no INSERT reads it
+reads_named : (s : Plain) → NamesTable s → is_insert s ≡ false → reads s ≡ true
+reads_named (Insert table columns values) names other = absurd (false≢true (sym other))
+reads_named (Update table sets filter) names other = refl
+reads_named (Delete table filter) names other = refl
+reads_named (Totals table totals filter) names other = refl
+reads_named (Select table values filter sorted) names other = refl
+reads_named s names other = absurd names
+
 -- no step was taken yet
 abbrev NoneTaken : Plain → Type 0
 NoneTaken s = (taken : ℕ) × (Begun s 0 ≡ Begun s taken)
@@ -170,6 +179,7 @@ module _ {R P : Type 0} (m : Means R P) (new : R) (o : Opening) (h : Entries) (t
       none_taken s,
     )
     course_of (phases.Reading reading) st = (
+      reads_named s names (sym (ap is_insert st.binds.statement ∙ bound_insert st.table.shape.columns s) ∙ st.begins.0),
       subst (λ (y : Table × Bound). IsBoundHere s y.0 y.1) (sym (λ k. (st.begins.1 k, st.begins.3 k)))
           (bound_here (phases.Reading reading) st),
       none_kept s reading.kept.items st.begins.4,

@@ -1,5 +1,5 @@
 -- The writes of a statement whose mark is set.
-use Rattle.std.proofs.Common.{inl, inr, ◌≡◌, ◌≢◌, ℕ, false, true, List, [], ◌∷◌, Some, refl, sym, ap, ◌∙◌, subst}
+use Rattle.std.proofs.Common.{inl, inr, ◌≡◌, ◌≢◌, ℕ, Bool, false, true, List, [], ◌∷◌, Some, refl, sym, ap, ◌∙◌, subst}
 use Rattle.std.specs.Prelude.{map, length}
 use Rattle.mg_base.specs.declared.numbers.TxNo.{TxNo}
 use Rattle.mg_sql.specs.Plain.{Plain}
@@ -10,6 +10,7 @@ use Rattle.mg_model.specs.declared.opening.Opening.{Opening}
 use Rattle.mg_model.specs.declared.refusal.Refusal.{Refusal}
 use Rattle.mg_model.specs.declared.refusal.Refusal.TheVariants.{Waits}
 use Rattle.mg_model.specs.declared.table.Table.{Table}
+use Rattle.mg_model.specs.Answers.{is_active}
 use Rattle.mg_model.specs.History.{Entries, entry, transaction_of}
 use Rattle.mg_records.specs.declared.write.Write.{Write}
 use Rattle.mg_records.specs.declared.write.Write.TheVariants as writes_
@@ -28,10 +29,12 @@ use Rattle.mg_calls.specs.Writes.{ComesToNothing}
 use Rattle.mg_exec.specs.Phases.{StandsAt}
 use Rattle.mg_exec.specs.Changing.{turned, with_left as changing_with}
 use Rattle.mg_exec.specs.declared.phase.Turn.{Turn}
+use Rattle.mg_exec.specs.Running.{is_rolled_back_at}
 use Rattle.mg_script.specs.declared.reply.Reply.TheVariants as replies
 use Rattle.mg_transcript.specs.Courses.{Comes, Course, Parks, Writing, with_left, Ends}
 use Rattle.mg_transcript.specs.Steps.{IsUndone, Writes, done, given_up, is_final, refused, taken_back, undone, waits, writes_on, Marks, first_event, no_event, refused_mark}
-use Rattle.mg_exec_courses.specs.Courses.{ChangesTell, IsTurned, IsWritingCourse, Tells}
+use Rattle.mg_exec_courses.specs.ActiveLaws.{given_up_ends, kept_active, write_stays}
+use Rattle.mg_exec_courses.specs.Courses.{ChangesTell, IsTurned, IsWritingCourse, StaysActive, Tells}
 use Rattle.mg_exec_courses.specs.PointLaws.{kept_after}
 
 -- ---- a statement is undone
@@ -42,61 +45,68 @@ final_of refusal is = refl
 
 -- Entries by which a statement that was refused is undone, and for which a keeper stands.
 pub record UndoneHere {R P : Type 0} (m : Means R P) (new : R) (o : Opening) (h : Entries) (t : TxNo)
-    (first answered : Refusal) : Type 0 where
+    (first answered : Refusal) (over : Bool) : Type 0 where
   pub after : Entries
   pub undone_so : IsUndone o h t first after answered
   pub stands : m.stands new o after
+  pub active : StaysActive o h t after over
 
 pub undone_here : {R P : Type 0} (m : Means R P) (new : R) (o : Opening) (h : Entries) (t : TxNo) (first answered : Refusal)
-    → IsUndoneThere m new o h t first answered → UndoneHere m new o h t first answered
+    → IsUndoneThere m new o h t first answered → UndoneHere m new o h t first answered false
 undone_here m new o h t first answered (took_back lawful stands) = record {
   after = entry (events.UndoMark t) Fine ∷ h;
   undone_so = taken_back lawful;
   stands = stands;
+  active = λ was. ap is_active was;
 }
 undone_here m new o h t first answered (left_so later kept lawful stands) = record {
   after = after_refusal o h t (events.UndoMark t) later;
   undone_so = given_up later lawful;
   stands = subst (m.stands new o) (kept_after o h t (events.UndoMark t) later kept) stands;
+  active = kept_active o h t (events.UndoMark t) later kept;
 }
 
 pub given_here : {R P : Type 0} (m : Means R P) (new : R) (o : Opening) (h : Entries) (t : TxNo) (first answered : Refusal)
-    → IsGivenUp m new o h t answered → UndoneHere m new o h t first answered
+    → IsGivenUp m new o h t answered → UndoneHere m new o h t first answered true
 given_here m new o h t first answered given = record {
   after = after_refusal o h t (events.UndoMark t) answered;
   undone_so = given_up answered given.undoing;
   stands = given.stands;
+  active = given_up_ends o h t (events.UndoMark t) answered given.gives_up;
 }
 
 -- an event came to nothing
 pub record NothingCame {R P : Type 0} (m : Means R P) (new : R) (o : Opening) (h : Entries) (t : TxNo) (event : Event)
-    (more : List Event) (outcome : Outcome) (answered : Refusal) : Type 0 where
+    (more : List Event) (outcome : Outcome) (answered : Refusal) (over : Bool) : Type 0 where
   pub after : Entries
   pub writes : Writes o h t event more outcome after (refused answered)
   pub stands : m.stands new o after
+  pub active : StaysActive o h t after over
 
 pub nothing_refused : {R P : Type 0} (m : Means R P) (new : R) (o : Opening) (h : Entries) (t : TxNo) (event : Event)
     (more : List Event) (outcome : Outcome) (answered : Refusal) → transaction_of event ≡ Some t.0
     → ComesToNothing m new o h t event (written_.Refused answered)
-    → NothingCame m new o h t event more outcome answered
+    → NothingCame m new o h t event more outcome answered false
 nothing_refused m new o h t event more outcome answered whose nothing =
     let it = undone_here m new o (entry event (No nothing.first) ∷ h) t nothing.first answered nothing.undone in record {
       after = it.after;
       writes = undone nothing.first answered it.after whose (final_of nothing.first nothing.final) nothing.lawful
           it.undone_so;
       stands = it.stands;
+      active = it.active;
     }
 
 pub nothing_given_up : {R P : Type 0} (m : Means R P) (new : R) (o : Opening) (h : Entries) (t : TxNo) (event : Event)
     (more : List Event) (outcome : Outcome) (answered : Refusal) → transaction_of event ≡ Some t.0
     → ComesToNothing m new o h t event (written_.RolledBack answered)
-    → NothingCame m new o h t event more outcome answered
+    → NothingCame m new o h t event more outcome answered true
 nothing_given_up m new o h t event more outcome answered whose nothing =
     let it = given_here m new o (entry event (No nothing.first) ∷ h) t nothing.first answered nothing.undone in record {
       after = it.after;
       writes = undone nothing.first answered it.after whose (final_of nothing.first nothing.final) nothing.lawful
           it.undone_so;
       stands = it.stands;
+      active = it.active;
     }
 
 -- ---- the next write
@@ -114,6 +124,7 @@ pub record WriteTold {R P : Type 0} (m : Means R P) (new : R) (o : Opening) (h :
   pub writes : Writes o h t (event_of t name first) (map (event_of t name) rest) (outcomes.Count count) after comes
   pub stands : m.stands new o after
   pub stays : StandsAt m new o after t.0 turn.phase
+  pub active : StaysActive o h t after (is_rolled_back_at turn.phase)
   pub told : IsTurned t s turn comes
 
 module _ {R P : Type 0} (m : Means R P) (new : R) (o : Opening) (h : Entries) (t : TxNo) (s : Plain) (table : Table)
@@ -147,6 +158,7 @@ module _ {R P : Type 0} (m : Means R P) (new : R) (o : Opening) (h : Entries) (t
         writes = done (event_is t table.name first) came.lawful;
         stands = came.stands;
         stays = tt;
+        active = λ was. ap is_active (write_stays o h t table.name first t.0 ∙ was);
         told = left_course w ws same;
       }
   first_tells first rest wrote_.Done (came, none) = record {
@@ -155,6 +167,7 @@ module _ {R P : Type 0} (m : Means R P) (new : R) (o : Opening) (h : Entries) (t
     writes = done (event_is t table.name first) came.lawful;
     stands = came.stands;
     stays = tt;
+    active = λ was. ap is_active (write_stays o h t table.name first t.0 ∙ was);
     told = ap (λ (ws : List Write). with_left (map (event_of t table.name) ws) (outcomes.Count count)) none;
   }
   first_tells first rest (wrote_.Waits on) (came, same) = record {
@@ -163,6 +176,7 @@ module _ {R P : Type 0} (m : Means R P) (new : R) (o : Opening) (h : Entries) (t
     writes = waits on (event_is t table.name first) came.lawful;
     stands = came.stands;
     stays = tt;
+    active = λ was. ap is_active was;
     told = (refl, left_course first rest same);
   }
   first_tells first rest (wrote_.Refused answered) nothing =
@@ -173,6 +187,7 @@ module _ {R P : Type 0} (m : Means R P) (new : R) (o : Opening) (h : Entries) (t
         writes = it.writes;
         stands = it.stands;
         stays = tt;
+        active = it.active;
         told = refl;
       }
   first_tells first rest (wrote_.RolledBack answered) nothing =
@@ -183,6 +198,7 @@ module _ {R P : Type 0} (m : Means R P) (new : R) (o : Opening) (h : Entries) (t
         writes = it.writes;
         stands = it.stands;
         stays = tt;
+        active = it.active;
         told = refl;
       }
 
@@ -194,6 +210,7 @@ pub record MarkTold {R P : Type 0} (m : Means R P) (new : R) (o : Opening) (h : 
   pub marks : Marks o h t (outcomes.Count (length made)) (map (event_of t name) made) after comes
   pub stands : m.stands new o after
   pub stays : StandsAt m new o after t.0 turn.phase
+  pub active : StaysActive o h t after (is_rolled_back_at turn.phase)
   pub told : IsTurned t s turn comes
 
 pub marks_tell : {R P : Type 0} (m : Means R P) (new : R) (o : Opening) (h : Entries) (t : TxNo) (s : Plain)
@@ -208,6 +225,7 @@ marks_tell {P = P} m new o h t s table left stays made result (inl (refusal, sam
       marks = refused_mark (map (event_of t table.name) made) refusal came.lawful;
       stands = came.stands;
       stays = tt;
+      active = λ was. ap is_active was;
       told = refl;
     })
 marks_tell {P = P} m new o h t s table left stays made result (inr (lawful, next)) = at made next
@@ -222,6 +240,7 @@ marks_tell {P = P} m new o h t s table left stays made result (inr (lawful, next
           marks = no_event lawful;
           stands = stands;
           stays = tt;
+          active = λ was. ap is_active was;
           told = refl;
         })
     at (first ∷ rest) next =
@@ -233,6 +252,7 @@ marks_tell {P = P} m new o h t s table left stays made result (inr (lawful, next
               it.writes;
           stands = it.stands;
           stays = it.stays;
+          active = it.active;
           told = it.told;
         }
 
@@ -256,5 +276,6 @@ changes_tell {P = P} m new o h t s c course turn (some, is) changes =
               (outcomes.Count c.count) it.after it.comes it.writes;
           stands = it.stands;
           stays = it.stays;
+          active = it.active;
           told = it.told;
         }
