@@ -1,6 +1,6 @@
 -- What the plain machine tells as a keeper of records is what the history tells.
 use Rattle.std.specs.Prelude.{◌≡◌, ℕ, List, [], ◌++◌, Option, Some, None, IsPermutation}
-use Rattle.std.proofs.Common.{refl, sym, ap, subst, arith, ◌∙◌}
+use Rattle.std.proofs.Common.{inr, refl, sym, ap, subst, arith, ◌∙◌}
 use Rattle.std.proofs.lemmas.Bool.{false≢true}
 use Rattle.std.proofs.lemmas.List.Sorted.{IsPermutation-refl}
 use Rattle.mg_value.specs.declared.shape.Shape.{Shape}
@@ -15,6 +15,7 @@ use Rattle.mg_model.specs.Answers.{told}
 use Rattle.mg_records.specs.Committing.{PagesAreFew}
 use Rattle.mg_records.specs.Crashing.{CrashesHold, HoldsOn}
 use Rattle.mg_records.specs.Reading.{TablesAreSeen, WalksAreWhole, shape_named}
+use Rattle.mg_records.specs.Sessions.{SessionsAreOne}
 use Rattle.mg_plain.specs.Keeping.{Keeping, StandsFor, told_in}
 use Rattle.mg_plain.specs.Kept.{kept}
 use Rattle.mg_plain.specs.Records.{means, rows_seen, shape_kept, with_shape}
@@ -67,6 +68,10 @@ holds_on = record {
   longer = λ p o h e least image s up is. is;
   least = λ p o h few many image le is. is;
 }
+
+-- it tells no sessions
+pub sessions_are_one : SessionsAreOne means
+sessions_are_one = inr (λ p t n. tt)
 
 -- it has no page that is not written
 pub pages_are_few : PagesAreFew means

@@ -17,6 +17,10 @@ pub record SessionsStay {R P : Type 0} (m : Means R P) (old new : R) (begins end
     pub ended : (t session : ℕ) → is_of t ends ≡ true → m.works old t session
         → m.is_free new session
 
+-- a transaction was begun by one session
+abbrev pub SessionsAreOne : {R P : Type 0} → Means R P → Type 0
+SessionsAreOne {R = R} m = (r : R) (t n k : ℕ) → m.works r t n → m.works r t k → n ≡ k
+
 -- the session that has begun a transaction
 abbrev pub begun_in : ℕ → Result TxNo Refusal → Option ℕ
 begun_in session (Ok t) = Some session

@@ -8,7 +8,7 @@ ghost use Rattle.mg_model.specs.Catalog.{catalog_name};
 ghost use Rattle.mg_records.specs.Meaning.{Means};
 ghost use Rattle.mg_records.specs.Keeping.{Leaves, Reads, refusal_in};
 ghost use Rattle.mg_records.specs.Crashing.{CrashesHold, HoldsOn, LeavesQuietly, LeavesWith};
-ghost use Rattle.mg_records.specs.Sessions.{SessionsStay, begun_in, ended_in, given_up_in};
+ghost use Rattle.mg_records.specs.Sessions.{SessionsAreOne, SessionsStay, begun_in, ended_in, given_up_in};
 ghost use Rattle.mg_records.specs.Adding.{Adds, AnswersAll, fine_or, number_or, drawn_in};
 ghost use Rattle.mg_records.specs.Reading.{TellsTable, IsTableGiven, TablesAreSeen, IsPlace, Nears, Visits, WalksAreWhole, FindAdds};
 ghost use Rattle.mg_records.specs.Writing.{FitsShape, FitsPages, IsNewShape, MakesTable, event_of};
@@ -203,4 +203,6 @@ pub trait Records {
     ghost crashes: { CrashesHold meaning };
 
     ghost lasts: { HoldsOn meaning };
+
+    ghost one: { SessionsAreOne meaning };
 }

@@ -10,7 +10,7 @@ ghost use Rattle.mg_model.specs.Catalog.{catalog_name};
 ghost use Rattle.mg_plain.specs.Obeying.{as_number as as_number_of};
 ghost use Rattle.mg_records.specs.Writing.{rows_made as rows_made_of};
 ghost use Rattle.mg_plain.specs.Records.{means, behind, rows_seen, FoundAt, InsertsAll};
-ghost use Rattle.mg_plain.specs.RecordsLaws.{crashes_hold, holds_on, pages_are_few, tables_are_seen, walks_are_whole};
+ghost use Rattle.mg_plain.specs.RecordsLaws.{crashes_hold, holds_on, pages_are_few, sessions_are_one, tables_are_seen, walks_are_whole};
 ghost use Rattle.mg_plain.specs.Kept.{kept};
 
 use crate::Plain;
@@ -261,4 +261,6 @@ impl Records for Plain {
     ghost crashes = { crashes_hold };
 
     ghost lasts = { holds_on };
+
+    ghost one = { sessions_are_one };
 }
