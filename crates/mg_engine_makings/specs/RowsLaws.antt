@@ -40,7 +40,7 @@ use Rattle.mg_engine_makings.specs.Rows.{AreLawful, AreNewRows, AreSilent, AreUn
 
 -- ---- keys
 
-first_value : (row : List Value) → get_or row 0 Null ≡ slice_index_or row 0 Null
+pub first_value : (row : List Value) → get_or row 0 Null ≡ slice_index_or row 0 Null
 first_value [] = refl
 first_value (v ∷ vs) = refl
 
