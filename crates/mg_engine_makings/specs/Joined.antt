@@ -4,9 +4,12 @@ use Rattle.std.specs.Prelude.{◌≡◌, ◌≢◌, ◌⊎◌, ℕ, true, false,
 use Rattle.std.specs.Cmp.Lexicographic.{slice_cmp}
 use Rattle.std.specs.Ordering.{nat_cmp}
 use Rattle.mg_base.specs.declared.numbers.RecId.{RecId}
+use Rattle.mg_base.specs.declared.numbers.TxNo.{TxNo}
 use Rattle.mg_base.specs.declared.transaction.TxState.{TxState}
 use Rattle.mg_catalog.specs.ByKey.{HaveOwnKeys, by_key}
+use Rattle.mg_model.specs.declared.opening.Opening.{Opening}
 use Rattle.mg_model.specs.declared.table.Table.{Table}
+use Rattle.mg_model.specs.History.{Entries}
 use Rattle.mg_model.specs.CatalogRules.{AreTables}
 use Rattle.mg_model.specs.Changes.{Cells, by_order}
 use Rattle.mg_image.specs.Catalog.{FitsPages}
@@ -18,7 +21,8 @@ use Rattle.mg_image.specs.Records.{Reading, key_of, record_key, writer}
 use Rattle.mg_image.specs.Sound.{HasTablePages, IsSoundBy, facts_by}
 use Rattle.mg_image.specs.Tables.{EachStand, IsOnce, Layout, Stand, has, stands_of, table_at}
 use Rattle.mg_kept_images.specs.Begins.{Raises}
-use Rattle.mg_engine_makings.specs.Rows.{MadeRow, reading_with}
+use Rattle.mg_kept_images.specs.KeptImages.{IsKept}
+use Rattle.mg_engine_makings.specs.Rows.{MadeRow, reading_with, row_told, with_rows}
 
 -- ---- the layout
 
@@ -101,3 +105,13 @@ JoinedAreSound form = (size : ℕ) (state now : ℕ → TxState) (t : ℕ) (old 
     (made : List MadeRow) (stand : Stand) → Raises state now t → IsSoundBy form size now old a r
     → IsSoundBy form size state new c rc → Joins form size now t old new a c r rc made stand
     → IsSoundBy form size now new (layout_with a c stand) (reading_with made r)
+
+-- ---- histories
+
+-- so they are what they have to be for the history with an entry for each row
+abbrev pub JoinedAreKept : Form → Type 0
+JoinedAreKept form = (size : ℕ) (o : Opening) (h : Entries) (state now : ℕ → TxState) (t : TxNo) (old new : Pages)
+    (c : Layout) (rc : Reading) (made : List MadeRow) (stand : Stand) → Raises state now t.0
+    → (kept : IsKept form size o h now old old) → IsSoundBy form size state new c rc
+    → Joins form size now t.0 old new kept.layout c kept.reading rc made stand
+    → IsKept form size o (with_rows t (map row_told made) h) now new new
