@@ -26,11 +26,10 @@ use Rattle.mg_undo.specs.declared.changes.Was.TheVariants.{Untouched}
 use Rattle.mg_waits.specs.Waits.{NowWaits}
 use Rattle.mg_engine_steps.specs.Following.{FollowsEntry, KeepsOne, MemoryFollows}
 use Rattle.mg_engine_steps.specs.Standing.{IsSeenAs, Remembers, RemembersOne, Standing}
-use Rattle.mg_engine_meaning.specs.RollbackLaws.{none_changed}
-use Rattle.mg_engine_row_writes.specs.KeptLaws.{TellsAlike, undo_alike}
 use Rattle.mg_engine_makings.specs.Remembering.{NotesRows, RowsAreRemembered, rows_kept}
 use Rattle.mg_engine_makings.specs.Rows.{AreLawful, AreUnwritten, MadeRow, MayMake, key_at, row_entry, row_told, with_rows}
 use Rattle.mg_engine_makings.specs.RowsLaws.{key_as_told, still_may}
+use Rattle.mg_engine_makings.specs.Untouched.{TellsAlike, none_changed, undo_alike}
 
 -- ---- one entry
 
