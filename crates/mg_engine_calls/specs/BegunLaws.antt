@@ -68,9 +68,10 @@ use Rattle.mg_engine_meaning.specs.FrameLaws.{apart_from, commits_of, keeps_of, 
 use Rattle.mg_engine_meaning.specs.Frames.{GivesEvent, StoreGoesOn}
 use Rattle.mg_engine_meaning.specs.PlainLaws.{plain_tables_by}
 use Rattle.mg_engine_meaning.specs.PlainTables.{HasPlainTables}
+use Rattle.mg_engine_meaning.specs.KeptLaws.{IsBare, StaysKept, kept_each}
 use Rattle.mg_engine_meaning.specs.LawfulLaws.{legal_of, memory_of, opening_of}
 use Rattle.mg_engine_meaning.specs.Meaning.{AreNext, Places, WorksFor, means, rec_at}
-use Rattle.mg_engine_meaning.specs.Standings.{AreSeen, HasTips, ShowsIt, StandsFor, StandsWhile, Tables, asked_in, mode_kept, session_kept, sessions_in, standing_of, undo_kept}
+use Rattle.mg_engine_meaning.specs.Standings.{AreSeen, HasTips, KeepsWritten, SeesAlike, ShowsIt, StandsFor, StandsWhile, Tables, asked_in, mode_kept, session_kept, sessions_in, standing_of, undo_kept, written_kept}
 use Rattle.mg_engine_meaning.specs.StepLaws.{as_standing, shows_of}
 use Rattle.mg_engine_calls.specs.DrawnStores.{drawn_catalog, drawn_data, drawn_goes, drawn_offline, drawn_unmarked}
 use Rattle.mg_engine_calls.specs.NewWorks.{begun_apart, begun_asked, begun_given, begun_its, begun_others, begun_sessions, next_none, none_asked}
@@ -178,6 +179,27 @@ module _ {D P : Type 0} (m : Meaning D) (places : Places P) (known : KnownOfDraw
           absurd cc
       at (inr ne) = others_now tables its u name (ne_eqb tx.0 u (λ same. ne (sym same)))
           ∙ seen u name table (sym (given_others u name ne) ∙ given)
+
+  -- what the others keep for taking back is kept still, and it has nothing yet
+  kept_now : (tables : Tables) (its : List ℕ → Option Table) → KeepsWritten old.catalog.pointer.0 old.works tables
+      → KeepsWritten old.catalog.pointer.0 works (tables_now tables its)
+  kept_now tables its kept = kept_each old.catalog.pointer.0 old.works works tables (tables_now tables its) kept
+      (λ u. at u (cases_eq u tx.0))
+    where
+      at : (u : ℕ) → (u ≡ tx.0) ⊎ (u ≢ tx.0) → IsBare (work_of works u)
+          ⊎ StaysKept (work_of old.works u) (work_of works u) (tables u) (tables_now tables its u)
+      at u (inl same) =
+          let new_is : work_of works u ≡ Some (begun tx.0 session mode) = ap (work_of works) same ∙ its_work in
+          inl (record {
+            written = ap written_kept new_is;
+            changes = ap (λ (x : Option Working). (undo_kept x).changes) new_is;
+          })
+      at u (inr ne) = inr (record {
+        written = ap written_kept (others u ne);
+        changes = ap (λ (x : Option Working). (undo_kept x).changes) (others u ne);
+        seen = λ table alike. subst (λ (x : Option Table). SeesAlike x table)
+            (sym (others_now tables its u table.name (ne_eqb tx.0 u (λ same. ne (sym same))))) alike;
+      })
 
   state_now : (u : ℕ) → said list u ≡ (if tx.0 == u then Active else said old.list u)
   state_now u = at (cases_eq tx.0 u)
@@ -412,6 +434,7 @@ module _ {D P : Type 0} (m : Meaning D) (places : Places P) (known : KnownOfDraw
       numbers = stands.numbers;
       tables = tables_now stands.tables tables_for.table;
       given = seen_now stands.tables tables_for.table stands.given;
+      kept = kept_now stands.tables tables_for.table stands.kept;
       stands = subst (λ (off : Option ℕ). StandsWhile m now o (e ∷ h) new off) (sym (offline ∙ online)) shows_now;
     }
 

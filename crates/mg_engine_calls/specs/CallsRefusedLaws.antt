@@ -72,7 +72,8 @@ module _ {D P : Type 0} (m : Meaning D) (places : Places P) (idle_goes : IdleGoe
       → StandsFor m core o (refused session mode refusal ∷ h)
   refused_stands core o h session mode refusal lawful stands =
       memory_stands m places core core.waits core.works core.live idle_goes on quiet refl refl o h
-      (refused session mode refusal) stands stands.tables stands.given lawful refl refl refl
+      (refused session mode refusal) stands stands.tables stands.given stands.kept lawful refl refl
+      refl
       (nothing_follows core o h session mode refusal stands.numbers stands.tables)
       (λ shows. idle_finds core.store.geometry.size o h (refused session mode refusal)
       (standing_of core stands.numbers stands.tables) (standing_of core stands.numbers stands.tables)
@@ -143,6 +144,7 @@ module _ {D P : Type 0} (m : Meaning D) (places : Places P) (core : Core D) (lis
     numbers = stands.numbers;
     tables = stands.tables;
     given = stands.given;
+    kept = stands.kept;
     stands = by core.store.offline stands.stands;
   }
     where

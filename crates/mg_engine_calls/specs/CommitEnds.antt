@@ -64,6 +64,7 @@ use Rattle.mg_core.specs.Cores.{Continues, IsCore}
 use Rattle.mg_engine_meaning.specs.FrameLaws.{keeps_of}
 use Rattle.mg_engine_meaning.specs.PlainTables.{HasPlainTables}
 use Rattle.mg_engine_meaning.specs.PlainLaws.{plain_tables_by}
+use Rattle.mg_engine_meaning.specs.KeptLaws.{kept_without_work}
 use Rattle.mg_engine_meaning.specs.LawfulLaws.{memory_of}
 use Rattle.mg_engine_meaning.specs.Meaning.{AreNext, HasWrittenAll, Places, means, rec_at}
 use Rattle.mg_engine_meaning.specs.MemoryCallLaws.{active_answer}
@@ -437,6 +438,7 @@ module _ {D P : Type 0} (m : Meaning D) (places : Places P) (holds : HoldsOne D 
     numbers = stands.numbers;
     tables = stands.tables;
     given = seen_still m places old waits list store t.0 stands.tables stands.given;
+    kept = kept_without_work t.0 old.catalog.pointer.0 old.works stands.tables stands.kept;
     stands = subst (λ (off : Option ℕ). StandsWhile m (left_by old waits list store t.0) o
         (entry (Commit t) Fine ∷ h)
         (standing_of (left_by old waits list store t.0) stands.numbers stands.tables) off) (sym online)

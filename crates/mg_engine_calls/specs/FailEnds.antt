@@ -175,6 +175,7 @@ module _ {D P : Type 0} (m : Meaning D) (places : Places P) (begins : OpeningsBe
     numbers = stands.numbers;
     tables = stands.tables;
     given = stands.given;
+    kept = stands.kept;
     stands = subst (λ (off : Option ℕ). StandsWhile m (record old { waits = waits; store = store }) o
         (entry (Commit t) (No (DiskWrite n)) ∷ h)
         (standing_of (record old { waits = waits; store = store }) stands.numbers stands.tables) off)

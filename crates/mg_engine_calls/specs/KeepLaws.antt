@@ -26,6 +26,9 @@ use Rattle.mg_pool.specs.Pool.{shown}
 use Rattle.mg_pool_overlays.specs.Needs.{Asked, Sessions}
 use Rattle.mg_seek.specs.TableRows.{IsTableSeen}
 use Rattle.mg_engine_steps.specs.Standing.{FindsTables, IsSeenAs, Remembers, RemembersOne, ShowsHistory, Standing, Stands}
+use Rattle.mg_image.specs.Catalog.{IsSameTable}
+use Rattle.mg_model.specs.Openings.{everyone}
+use Rattle.mg_overlays.specs.Overlays.{left_state}
 use Rattle.mg_txlist.specs.TxList.{said}
 use Rattle.mg_undo.specs.Undo.{State as Undo}
 use Rattle.mg_works.specs.Works.{Working, given_by, given_to, with_table, with_work, work_of}
@@ -35,10 +38,12 @@ use Rattle.mg_core.specs.Cores.{Continues, IsCatalog, IsCore}
 use Rattle.mg_core.specs.Tables.{SeesTable}
 use Rattle.mg_engine_steps.specs.Known.{KnowsPages}
 use Rattle.mg_engine_steps.specs.Tables.{TablesAreTold}
+use Rattle.mg_engine_meaning.specs.Falling.{same_through}
+use Rattle.mg_engine_meaning.specs.KeptLaws.{alike_some, alike_there, kept_each, made_kept}
 use Rattle.mg_engine_meaning.specs.FrameLaws.{commits_of, kept_all, kept_with, others_given, same_sessions, works_with}
 use Rattle.mg_engine_meaning.specs.Frames.{WorksStay}
 use Rattle.mg_engine_meaning.specs.Meaning.{AreNext, Places, means, rec_at}
-use Rattle.mg_engine_meaning.specs.Standings.{AreSeen, Numbers, ShowsIt, StandsFor, StandsWhile, Tables, asked_in, asked_kept, mode_kept, sessions_in, standing_of, undo_kept}
+use Rattle.mg_engine_meaning.specs.Standings.{AreSeen, KeepsWritten, Numbers, SeesAlike, ShowsIt, StandsFor, StandsWhile, Tables, asked_in, asked_kept, mode_kept, sessions_in, standing_of, undo_kept}
 use Rattle.mg_engine_meaning.specs.StepLaws.{as_standing, shows_of}
 use Rattle.mg_engine_tables.specs.Found.{FoundTablesStand}
 
@@ -276,6 +281,36 @@ module _ {D P : Type 0} (m : Meaning D) (places : Places P) (begin : OpeningsBeg
       shows = shows_with;
     }
 
+    -- what is kept for taking back is seen as it was: under the name the same table was seen
+    kept_with_table : KeepsWritten old.catalog.pointer.0 (with_work t.0 (with_table table) old.works)
+        (tables_with stands.tables)
+    kept_with_table = kept_each old.catalog.pointer.0 old.works (with_work t.0 (with_table table) old.works)
+        stands.tables (tables_with stands.tables) stands.kept (λ u. inr (made_kept t.0 (with_table table) (λ w. refl)
+        (λ w. refl) (λ w. refl) (λ w. refl) old.works u (stands.tables u) (tables_with stands.tables u) (alike u)))
+      where
+        alike : (u : ℕ) (kept : Table) → SeesAlike (stands.tables u kept.name) kept
+            → SeesAlike (tables_with stands.tables u kept.name) kept
+        alike u kept was = at (u == t.0) refl
+          where
+            one : u ≡ t.0 → kept.name ≡ table.name → IsSameTable table kept
+            one its name =
+                let (x, is, same) = alike_some (stands.tables u kept.name) kept was in
+                same_through table x kept (alike_there old.store.geometry.size (left_state everyone (said old.list))
+                pages shows.stands.shows.layout shows.stands.shows.reading shows.stands.shows.sound table x
+                stays_there ((shows.stands.shows.tables t.0 continues.1).seen kept.name x
+                (ap (λ (v : ℕ). stands.tables v kept.name) (sym its) ∙ is)) (sym name ∙ sym same.name)) same
+
+            at : (b : Bool) → (u == t.0) ≡ b → SeesAlike
+                (cond b (cond (same_name kept.name table.name) (Some table) (stands.tables u kept.name))
+                (stands.tables u kept.name)) kept
+            at false other = was
+            at true own_ = by (same_name kept.name table.name) refl
+              where
+                by : (b : Bool) → same_name kept.name table.name ≡ b
+                    → SeesAlike (cond b (Some table) (stands.tables u kept.name)) kept
+                by false other = was
+                by true same = one (eqb-true u t.0 own_) (same_text kept.name table.name (sym same))
+
     pub keep_shows : ShowsIt m (record old { works = with_work t.0 (with_table table) old.works }) o h
         (standing_of (record old { works = with_work t.0 (with_table table) old.works }) stands.numbers
         (tables_with stands.tables))
@@ -301,6 +336,7 @@ module _ {D P : Type 0} (m : Meaning D) (places : Places P) (begin : OpeningsBeg
     numbers = stands.numbers;
     tables = tables_with stands.tables;
     given = given_seen stands.tables stands.given;
+    kept = kept_with_table o h stands (shows_of m old o h stands continues.0);
     stands = subst (λ (off : Option ℕ). StandsWhile m
         (record old { works = with_work t.0 (with_table table) old.works }) o h
         (standing_of (record old { works = with_work t.0 (with_table table) old.works }) stands.numbers

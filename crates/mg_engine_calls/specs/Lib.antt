@@ -16,6 +16,7 @@ pub mod Settling
 pub mod CommitEnds
 pub mod FailEnds
 pub mod Looks
+pub mod SeenStill
 pub mod LookLaws
 pub mod Reads
 pub mod FaultLaws

@@ -4,6 +4,7 @@ use Rattle.std.specs.Prelude.{if◌then◌else◌, is_some, MatchResult}
 use Rattle.std.proofs.lemmas.Bool.{cases_eq, eq-eqb, eqb-true, false≢true, ne_eqb}
 use Rattle.mg_base.specs.Disk.{Meaning}
 use Rattle.mg_base.specs.Image.{Image}
+use Rattle.mg_engine_calls.specs.SeenStill.{sees_still}
 use Rattle.mg_base.specs.declared.numbers.TxNo.{TxNo}
 use Rattle.mg_base.specs.declared.transaction.TxState.TheVariants.{Active}
 use Rattle.mg_value.specs.declared.shape.Shape.{Shape}
@@ -21,12 +22,15 @@ use Rattle.mg_model.specs.History.{Entries, Entry, Looks, effect_of, entry}
 use Rattle.mg_model.specs.Laws.{OpeningsBegin}
 use Rattle.mg_model.specs.Legal.{IsLawful}
 use Rattle.mg_model.specs.Machine.{base, database, is_of, mode_of, own, state_of}
+use Rattle.mg_model.specs.Openings.{everyone}
 use Rattle.mg_chain.specs.Bases.{live_after}
 use Rattle.mg_engine_steps.specs.Known.{KnowsPages}
 use Rattle.mg_engine_steps.specs.Idle.{IdleGoesOn}
 use Rattle.mg_engine_tables.specs.Finding.{LookFinds, LookHasTables, TablesFor}
+use Rattle.mg_grown_catalogs.specs.Grown.{BasesAreWithin}
 use Rattle.mg_image.specs.Form.{packed_form}
 use Rattle.mg_lasting.specs.Changing.{QuietHolds}
+use Rattle.mg_overlays.specs.Overlays.{left_state}
 use Rattle.mg_pool.specs.Pool.{shown}
 use Rattle.mg_pool_overlays.specs.Needs.{Asked, Sessions}
 use Rattle.mg_records.specs.Adding.{fine_or}
@@ -46,12 +50,14 @@ use Rattle.mg_core.specs.declared.parts.Core.{Core}
 use Rattle.mg_core.specs.Cores.{Continues, IsCore}
 use Rattle.mg_core.specs.Events.{IsRefused, Looks as CoreLooks, keeps_base, keeps_base_of, with_base, with_base_if}
 use Rattle.mg_engine_meaning.specs.EventLaws.{refused_gives}
+use Rattle.mg_engine_meaning.specs.Falling.{same_through}
 use Rattle.mg_engine_meaning.specs.FrameLaws.{apart_from, commits_of, kept_with, others_given, same_asked, same_sessions, sessions_of, tables_of, works_same, works_with}
 use Rattle.mg_engine_meaning.specs.Frames.{GivesEvent, WorksStay}
+use Rattle.mg_engine_meaning.specs.KeptLaws.{alike_some, alike_there, kept_each, made_kept}
 use Rattle.mg_engine_meaning.specs.LawfulLaws.{legal_of, memory_of, opening_of}
 use Rattle.mg_engine_meaning.specs.Meaning.{Places, means}
 use Rattle.mg_engine_meaning.specs.MemoryCallLaws.{active_answer, idle_finds, memory_keeps, memory_quiet, memory_stands, memory_walks}
-use Rattle.mg_engine_meaning.specs.Standings.{AreSeen, Numbers, ShowsIt, StandsFor, StandsWhile, Tables, asked_in, asked_kept, mode_kept, session_kept, sessions_in, standing_of, undo_kept}
+use Rattle.mg_engine_meaning.specs.Standings.{AreSeen, KeepsWritten, Numbers, SeesAlike, ShowsIt, StandsFor, StandsWhile, Tables, asked_in, asked_kept, mode_kept, session_kept, sessions_in, standing_of, undo_kept}
 
 -- who keeps a base is whose mode says so
 keeps_is : (work : Option Working) → keeps_base_of work ≡ (mode_kept work).snapshot
@@ -60,7 +66,7 @@ keeps_is (Some w) = refl
 
 module _ {D P : Type 0} (m : Meaning D) (places : Places P) (idle_goes : IdleGoesOn D FireLinks m packed_form)
     (on : StandsOn packed_form) (quiet : QuietHolds packed_form) (begin : OpeningsBegin)
-    (has_tables : LookHasTables) (look_finds : LookFinds) (old : Core D) (waits : List (ℕ × ℕ)) (tx : TxNo)
+    (has_tables : LookHasTables) (look_finds : LookFinds) (within : BasesAreWithin) (old : Core D) (waits : List (ℕ × ℕ)) (tx : TxNo)
     (over : NowWaits (edges_in old.waits) (edges_in waits) tx.0 None) (continues : Continues old tx.0) where
   abbrev t : ℕ
   t = tx.0
@@ -143,7 +149,7 @@ module _ {D P : Type 0} (m : Meaning D) (places : Places P) (idle_goes : IdleGoe
         → StandsFor m (record old { waits = waits; works = old.works; live = old.live }) o
         (entry (Look tx) Fine ∷ h)
     keep_stands o h stands = memory_stands m places old waits old.works old.live idle_goes on quiet refl refl o h
-        (entry (Look tx) Fine) stands stands.tables stands.given (lawful o h stands) refl refl refl
+        (entry (Look tx) Fine) stands stands.tables stands.given stands.kept (lawful o h stands) refl refl refl
         (keep_follows o h stands)
         (λ shows. idle_finds old.store.geometry.size o h (entry (Look tx) Fine)
         (standing_of old stands.numbers stands.tables)
@@ -262,6 +268,39 @@ module _ {D P : Type 0} (m : Meaning D) (places : Places P) (idle_goes : IdleGoe
               ∙ stands.given u name table (sym (others_given old.works (with_work tx.0 without_tables old.works)
               tx.0 stay u name ne) ∙ given)
 
+      -- what is kept for taking back is seen still: rows of the catalog that were seen are committed
+      kept_now : KeepsWritten old.catalog.pointer.0 (with_work tx.0 without_tables old.works)
+          (tables_now stands.tables (tables_for o h stands shows).table)
+      kept_now = kept_each old.catalog.pointer.0 old.works (with_work tx.0 without_tables old.works) stands.tables
+          (tables_now stands.tables (tables_for o h stands shows).table) stands.kept (λ u. inr (made_kept tx.0
+          without_tables (λ w. refl) (λ w. refl) (λ w. refl) (λ w. refl) old.works u (stands.tables u)
+          (tables_now stands.tables (tables_for o h stands shows).table u) (alike u)))
+        where
+          its_seen : (table : Table) → SeesAlike (stands.tables tx.0 table.name) table
+              → SeesAlike ((tables_for o h stands shows).table table.name) table
+          its_seen table was =
+              let (x, is, same) = alike_some (stands.tables tx.0 table.name) table was in
+              let (y, there) = sees_still within o h tx (begin o shows.stands.opening) shows.stands.legal
+              stands.grows (sym (ap (λ (b : Mode). b.snapshot) (mode_told o h stands)) ∙ renews) table.name x
+              (subst (IsSeenAs table.name (shape_seen o h tx.0 table.name)) is
+              ((one_of o h stands).table table.name)) ((tables_for o h stands shows).table table.name)
+              ((tables_for o h stands shows).seen_as table.name) in
+              subst (λ (z : Option Table). SeesAlike z table) (sym there.0) (same_through y x table
+              (alike_there old.store.geometry.size (left_state everyone (said old.list))
+              (shown old.store.dirty shows.image) shows.stands.shows.layout shows.stands.shows.reading
+              shows.stands.shows.sound y x ((tables_for o h stands shows).stays table.name y there.0)
+              ((shows.stands.shows.tables tx.0 continues.1).seen table.name x is) (there.1 ∙ sym same.name)) same)
+
+          alike : (u : ℕ) (table : Table) → SeesAlike (stands.tables u table.name) table
+              → SeesAlike (tables_now stands.tables (tables_for o h stands shows).table u table.name) table
+          alike u table was = at (tx.0 == u) refl
+            where
+              at : (b : Bool) → (tx.0 == u) ≡ b → SeesAlike
+                  (if b then (tables_for o h stands shows).table table.name else stands.tables u table.name) table
+              at false not_ = was
+              at true is = its_seen table (subst (λ (n : ℕ). SeesAlike (stands.tables n table.name) table)
+                  (sym (eqb-true tx.0 u is)) was)
+
       renew_follows : FollowsEntry o h (entry (Look tx) Fine) (standing_of old stands.numbers stands.tables)
           (standing_of (record old {
             waits = waits;
@@ -311,8 +350,8 @@ module _ {D P : Type 0} (m : Meaning D) (places : Places P) (idle_goes : IdleGoe
       }) o (entry (Look tx) Fine ∷ h)
       renew_stands = memory_stands m places old waits (with_work tx.0 without_tables old.works)
           (after_rebase old.live tx.0) idle_goes on quiet asks session_same o h (entry (Look tx) Fine) stands
-          (tables_now stands.tables (tables_for o h stands shows).table) seen_now (lawful o h stands) refl refl refl
-          renew_follows (λ again. finds again)
+          (tables_now stands.tables (tables_for o h stands shows).table) seen_now kept_now (lawful o h stands) refl refl
+          refl renew_follows (λ again. finds again)
         where
           finds : (again : ShowsIt m old o h (standing_of old stands.numbers stands.tables))
               → FindsAfter packed_form old.store.geometry.size o h (entry (Look tx) Fine)
@@ -389,14 +428,14 @@ module _ {D P : Type 0} (m : Meaning D) (places : Places P) (idle_goes : IdleGoe
 -- ---- the call
 
 pub looks_give : {D P : Type 0} (m : Meaning D) (places : Places P) → IdleGoesOn D FireLinks m packed_form
-    → StandsOn packed_form → QuietHolds packed_form → OpeningsBegin → LookHasTables → LookFinds
+    → StandsOn packed_form → QuietHolds packed_form → OpeningsBegin → LookHasTables → LookFinds → BasesAreWithin
     → (old new : Core D) (t : TxNo) (result : Result (Unit {0}) Refusal)
     → MatchResult result (λ _. CoreLooks old new t.0) (IsRefused old new t.0)
     → GivesEvent m places old new (Look t) (fine_or result) (refusal_in result) (Some t.0) (Some t.0) None None
-looks_give m places idle_goes on quiet begin has_tables look_finds old new t (Err refusal) refused =
+looks_give m places idle_goes on quiet begin has_tables look_finds within old new t (Err refusal) refused =
     refused_gives m places idle_goes on quiet old new t.0 (Look t) (λ o h. Fine) refusal (Some t.0) (Some t.0) refl
     (λ o h. refl) refused
-looks_give {D} m places idle_goes on quiet begin has_tables look_finds old new t (Ok x) looks =
+looks_give {D} m places idle_goes on quiet begin has_tables look_finds within old new t (Ok x) looks =
     at (keeps_base old.works t.0) refl
   where
     new_is : new ≡ with_base_if (keeps_base old.works t.0) t.0
@@ -408,10 +447,10 @@ looks_give {D} m places idle_goes on quiet begin has_tables look_finds old new t
     at true is = subst (λ (c : Core D). GivesEvent m places old c (Look t) Fine None (Some t.0) (Some t.0) None None)
         (sym (new_is ∙ ap (λ (b : Bool). with_base_if b t.0
         (record old { waits = looks.ended.waits; works = old.works; live = old.live })) is))
-        (keep_gives m places idle_goes on quiet begin has_tables look_finds old looks.ended.waits t looks.wait.over
+        (keep_gives m places idle_goes on quiet begin has_tables look_finds within old looks.ended.waits t looks.wait.over
         looks.continues (sym (keeps_is (work_of old.works t.0)) ∙ is))
     at false is = subst (λ (c : Core D). GivesEvent m places old c (Look t) Fine None (Some t.0) (Some t.0) None None)
         (sym (new_is ∙ ap (λ (b : Bool). with_base_if b t.0
         (record old { waits = looks.ended.waits; works = old.works; live = old.live })) is))
-        (renew_gives m places idle_goes on quiet begin has_tables look_finds old looks.ended.waits t
+        (renew_gives m places idle_goes on quiet begin has_tables look_finds within old looks.ended.waits t
         looks.wait.over looks.continues (sym (keeps_is (work_of old.works t.0)) ∙ is))

@@ -10,7 +10,7 @@ use Rattle.mg_core.specs.Opening.{Opens}
 use Rattle.mg_core.specs.declared.parts.Core.{Core}
 use Rattle.mg_database.specs.Loading.{SaysPages}
 use Rattle.mg_engine_meaning.specs.PlainTables.{HasPlainTables}
-use Rattle.mg_engine_meaning.specs.Standings.{AreSeen, ShowsIt, StandsFor, StandsWhile, standing_of}
+use Rattle.mg_engine_meaning.specs.Standings.{AreSeen, KeepsWritten, ShowsIt, StandsFor, StandsWhile, standing_of}
 use Rattle.mg_header.specs.HeaderPage.{reading}
 use Rattle.mg_header.specs.declared.header.Header.{Header}
 use Rattle.mg_image.specs.Form.{Pages, packed_form}
@@ -144,6 +144,10 @@ module _ {D : Type 0} (m : Meaning D) (disk : D) (limit : ℕ) (core : Core D) (
       let none : None ≡ Some table = sym (ap (λ (works : List Working). given_to works t name) opens.idle.works) ∙ is in
       absurd cc
 
+  kept : KeepsWritten core.catalog.pointer.0 core.works (λ t name. None)
+  kept = subst (λ (works : List Working). KeepsWritten core.catalog.pointer.0 works (λ t name. None))
+      (sym opens.idle.works) (record { seen = λ t number table is. absurd cc; told = λ t. tt })
+
   pub begins_standing : StandsFor m core o []
   begins_standing = record {
     tells = on.tells.told;
@@ -151,6 +155,7 @@ module _ {D : Type 0} (m : Meaning D) (disk : D) (limit : ℕ) (core : Core D) (
     numbers = λ t name. 0;
     tables = λ t name. None;
     given = given;
+    kept = kept;
     stands = subst (StandsWhile m core o [] (standing_of core (λ t name. 0) (λ t name. None)))
         (sym opens.idle.online) shows;
   }

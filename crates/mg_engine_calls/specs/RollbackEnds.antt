@@ -59,6 +59,7 @@ use Rattle.mg_engine_meaning.specs.FrameLaws.{keeps_of, quiet_of, store_stands}
 use Rattle.mg_engine_meaning.specs.Frames.{GivesEvent}
 use Rattle.mg_engine_meaning.specs.PlainTables.{HasPlainTables}
 use Rattle.mg_engine_meaning.specs.PlainLaws.{plain_tables_by}
+use Rattle.mg_engine_meaning.specs.KeptLaws.{kept_without_work}
 use Rattle.mg_engine_meaning.specs.LawfulLaws.{left_of, legal_of, memory_of, opening_of}
 use Rattle.mg_engine_meaning.specs.Meaning.{AreNext, Places, means, rec_at}
 use Rattle.mg_engine_meaning.specs.MemoryCallLaws.{active_answer}
@@ -213,6 +214,7 @@ module _ {D P : Type 0} (m : Meaning D) (places : Places P) (one : RowsAreOne pa
     numbers = stands.numbers;
     tables = stands.tables;
     given = seen_still m places old waits list old.store t.0 stands.tables stands.given;
+    kept = kept_without_work t.0 old.catalog.pointer.0 old.works stands.tables stands.kept;
     stands = subst (λ (off : Option ℕ). StandsWhile m (left_by old waits list old.store t.0) o
         (entry (Rollback t) Fine ∷ h)
         (standing_of (left_by old waits list old.store t.0) stands.numbers stands.tables) off)

@@ -34,6 +34,7 @@ use mg_engine_steps::{
 use mg_engine_tables::{
     bases_have_tables, found_tables_stand, others_take_alike, tables_are_found, walks_go_alike,
 };
+use mg_grown_catalogs::catalogs_grow;
 use mg_image::one_reading;
 use mg_lasting::crashes_hold;
 use mg_model::histories_go_on;
@@ -109,6 +110,7 @@ pub fn looks_go_on<D: Disk, P>()
     histories_go_on();
     bases_have_tables();
     tables_are_found();
+    catalogs_grow();
 }
 
 /// The table of a name is asked for.

@@ -41,6 +41,7 @@ use Rattle.mg_engine_meaning.specs.FrameLaws.{apart_from, commits_of, kept_all, 
 use Rattle.mg_engine_meaning.specs.Frames.{MayAnswer, StoreGoesOn, WorksStay}
 use Rattle.mg_engine_meaning.specs.PlainTables.{HasPlainTables}
 use Rattle.mg_engine_meaning.specs.LawfulLaws.{left_of, memory_of}
+use Rattle.mg_engine_meaning.specs.KeptLaws.{kept_with_work}
 use Rattle.mg_engine_meaning.specs.Meaning.{AreNext, ComesTo, Places, means, rec_at}
 use Rattle.mg_engine_meaning.specs.Standings.{HasTips, Numbers, ShowsIt, StandsFor, StandsWhile, Tables, asked_in, asked_kept, mode_kept, session_kept, sessions_in, standing_of, undo_kept}
 use Rattle.mg_engine_meaning.specs.StepLaws.{as_standing, refused_none, session_of, shows_of}
@@ -156,6 +157,8 @@ module _ {D P : Type 0} (m : Meaning D) (places : Places P)
     numbers = stands.numbers;
     tables = stands.tables;
     given = λ u name table given. stands.given u name table (sym (given_same u name) ∙ given);
+    kept = kept_with_work t has_asked (λ w. refl) (λ w. refl) (λ w. refl) (λ w. refl) old.works
+        old.catalog.pointer.0 stands.tables stands.kept;
     stands = subst (λ (off : Option ℕ). StandsWhile m (record old {
       store = record old.store { dirty = dirty };
       works = with_work t has_asked old.works;

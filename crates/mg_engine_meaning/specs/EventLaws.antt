@@ -54,6 +54,7 @@ use Rattle.mg_engine_meaning.specs.FrameLaws.{apart_from, commits_of, kept_with,
 use Rattle.mg_engine_meaning.specs.Frames.{GivesEvent, MayAnswer, WorksStay}
 use Rattle.mg_engine_meaning.specs.Laws.{GoesOnOr, TellsFound}
 use Rattle.mg_engine_meaning.specs.LawfulLaws.{memory_of}
+use Rattle.mg_engine_meaning.specs.KeptLaws.{kept_with_work}
 use Rattle.mg_engine_meaning.specs.Meaning.{Places, means}
 use Rattle.mg_engine_meaning.specs.MemoryCallLaws.{active_answer, idle_finds, memory_keeps, memory_quiet, memory_stands, memory_walks, nothing_follows, refused_lawful, refused_may}
 use Rattle.mg_engine_meaning.specs.Standings.{StandsFor, asked_in, asked_kept, mode_kept, session_kept, standing_of, undo_kept}
@@ -98,7 +99,7 @@ module _ {D P : Type 0} (m : Meaning D) (places : Places P) (idle_goes : IdleGoe
         → StandsFor m (record old { waits = waits; works = old.works; live = old.live }) o (e ∷ h)
     ended_stands o h e nothing whose none passing no_failure lawful stands =
         memory_stands m places old waits old.works old.live idle_goes on quiet refl refl o h e stands
-        stands.tables stands.given lawful passing no_failure (ap is_idle nothing)
+        stands.tables stands.given stands.kept lawful passing no_failure (ap is_idle nothing)
         (nothing_follows old waits o h e t nothing whose
         (subst (λ (who : Option ℕ). NowWaits (edges_in old.waits) (edges_in waits) t who) (sym none) over)
         stands.numbers stands.tables)
@@ -324,8 +325,9 @@ module _ {D P : Type 0} (m : Meaning D) (places : Places P) (idle_goes : IdleGoe
           memory_stands m places old waits (with_work t (with_point name) old.works) old.live idle_goes on quiet
           asks
           (same_sessions old.works (with_work t (with_point name) old.works) t stay) o h e stands stands.tables
-          (λ u table shape given. stands.given u table shape (sym (given_same u table) ∙ given)) lawful passing
-          no_failure idle (pointed_follows next state bases whose none its some
+          (λ u table shape given. stands.given u table shape (sym (given_same u table) ∙ given))
+          (kept_with_work t (with_point name) (λ w. refl) (λ w. refl) (λ w. refl) (λ w. refl) old.works
+          old.catalog.pointer.0 stands.tables stands.kept) lawful passing no_failure idle (pointed_follows next state bases whose none its some
           ((memory_of m old o h stands).active t (sym ((memory_of m old o h stands).state t) ∙ active)))
           (λ shows. idle_finds old.store.geometry.size o h e (standing_of old stands.numbers stands.tables)
           (standing_of (record old { waits = waits; works = with_work t (with_point name) old.works; live = old.live })

@@ -86,7 +86,7 @@ one_named (t ∷ ts) name (inl same) = record { its = t; one = inl refl; named =
 one_named (t ∷ ts) name (inr more) =
     let it = one_named ts name more in record { its = it.its; one = inr it.one; named = it.named }
 
-same_through : (a b c : Table) → IsSameTable a b → IsSameTable b c → IsSameTable a c
+pub same_through : (a b c : Table) → IsSameTable a b → IsSameTable b c → IsSameTable a c
 same_through a b c first second = record {
   name = first.name ∙ second.name;
   shape = first.shape ∙ second.shape;

@@ -6,6 +6,7 @@ pub mod Laws
 pub mod LawfulLaws
 pub mod Frames
 pub mod FrameLaws
+pub mod KeptLaws
 pub mod MemoryCallLaws
 pub mod EventLaws
 pub mod Steps

@@ -52,7 +52,7 @@ use Rattle.mg_engine_meaning.specs.FrameLaws.{keeps_of, quiet_of, store_stands}
 use Rattle.mg_engine_meaning.specs.Frames.{MayAnswer}
 use Rattle.mg_engine_meaning.specs.LawfulLaws.{left_of}
 use Rattle.mg_engine_meaning.specs.Meaning.{AreNext, Places, means, rec_at}
-use Rattle.mg_engine_meaning.specs.Standings.{AreSeen, Numbers, ShowsIt, StandsFor, StandsWhile, Tables, asked_in, mode_kept, sessions_in, standing_of}
+use Rattle.mg_engine_meaning.specs.Standings.{AreSeen, KeepsWritten, Numbers, ShowsIt, StandsFor, StandsWhile, Tables, asked_in, mode_kept, sessions_in, standing_of}
 
 -- ---- answers
 
@@ -129,7 +129,8 @@ module _ {D P : Type 0} (m : Meaning D) (places : Places P) (old : Core D) (wait
       (quiet : QuietHolds packed_form) (same_asked : asked_in works ≡ asked_in old.works)
       (same_sessions : sessions_in works ≡ sessions_in old.works) (o : Opening) (h : Entries) (e : Entry)
       (stands : StandsFor m old o h) (tables : Tables) where
-    pub memory_stands : AreSeen works tables → IsLawful o h e → is_durable e ≡ false
+    pub memory_stands : AreSeen works tables → KeepsWritten old.catalog.pointer.0 works tables → IsLawful o h e
+        → is_durable e ≡ false
         → may_last e ≡ false → is_idle (effect_of e) ≡ true
         → FollowsEntry o h e (standing_of old stands.numbers stands.tables)
         (standing_of now stands.numbers tables)
@@ -138,7 +139,7 @@ module _ {D P : Type 0} (m : Meaning D) (places : Places P) (old : Core D) (wait
         (standing_of old stands.numbers stands.tables) (standing_of now stands.numbers tables)
         (shown old.store.dirty shows.image))
         → StandsFor m now o (e ∷ h)
-    memory_stands seen lawful passing no_failure idle follows finds = record {
+    memory_stands seen kept lawful passing no_failure idle follows finds = record {
       tells = stands.tells;
       grows = record {
         limbo = stands.grows.limbo;
@@ -147,6 +148,7 @@ module _ {D P : Type 0} (m : Meaning D) (places : Places P) (old : Core D) (wait
       numbers = stands.numbers;
       tables = tables;
       given = seen;
+      kept = kept;
       stands = by old.store.offline stands.stands;
     }
       where

@@ -94,6 +94,7 @@ module _ {D P : Type 0} (m : Meaning D) (places : Places P) (begin : OpeningsBeg
     numbers = stands.numbers;
     tables = stands.tables;
     given = stands.given;
+    kept = stands.kept;
     stands = subst (λ (off : Option ℕ). StandsWhile m
         (record old { store = store; damage = damage; shortages = shortages }) o h
         (standing_of old stands.numbers stands.tables) off) (sym keeps.offline)

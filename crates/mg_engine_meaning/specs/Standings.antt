@@ -1,9 +1,10 @@
 -- What an engine has in memory as a standing, and which history an engine stands for.
-use Rattle.std.specs.Prelude.{◌≡◌, ◌<◌, ℕ, Bool, true, false, List, [], Option, None, Some}
+use Rattle.std.specs.Prelude.{◌≡◌, ◌⊎◌, ◌<◌, ℕ, Bool, true, false, List, [], ◌∷◌, Option, None, Some, is_some}
 use Rattle.mg_base.specs.Disk.{Meaning}
 use Rattle.mg_base.specs.Image.{Image}
 use Rattle.mg_grown_catalogs.specs.Grown.{CatalogGrows}
 use Rattle.mg_header.specs.declared.header.TheConstants.{GREATEST_NEXT}
+use Rattle.mg_image.specs.Catalog.{IsSameTable}
 use Rattle.mg_image.specs.Form.{Pages, packed_form}
 use Rattle.mg_image.specs.Inventory.{header_of, next_of}
 use Rattle.mg_lasting.specs.Lasting.{LastsOn, LeftOn}
@@ -18,8 +19,9 @@ use Rattle.mg_txlist.specs.TxList.{next_said, said}
 use Rattle.mg_txlist.specs.declared.list.TxList.{TxList}
 use Rattle.mg_txlist_ties.specs.CommitTies.{ShowsTip}
 use Rattle.mg_undo.specs.Undo.{State as Undo}
+use Rattle.mg_undo.specs.declared.changes.Change.{Change}
 use Rattle.mg_waits.specs.Waits.{edges_in}
-use Rattle.mg_works.specs.Works.{Working, given_to, work_of}
+use Rattle.mg_works.specs.Works.{Working, given_to, work_of, written_in}
 use Rattle.mg_core.specs.declared.parts.Core.{Core}
 use Rattle.mg_engine_meaning.specs.PlainTables.{HasPlainTables}
 
@@ -77,6 +79,35 @@ abbrev pub AreSeen : List Working → Tables → Type 0
 AreSeen works tables = (t : ℕ) (name : List ℕ) (table : Table) → given_to works t name ≡ Some table
     → tables t name ≡ Some table
 
+-- ---- what is kept for taking back
+
+-- the tables that a transaction has written into
+abbrev pub written_kept : Option Working → List Table
+written_kept None = []
+written_kept (Some work) = work.written
+
+-- a table that is seen is another one, but for its indexes
+abbrev pub SeesAlike : Option Table → Table → Type 0
+SeesAlike None table = ⊥
+SeesAlike (Some its) table = IsSameTable its table
+
+-- each of these changes is one of the catalog, which begins at a page, or of a table that is kept
+abbrev pub AreOfKept : ℕ → List Table → List Change → Type 0
+AreOfKept catalog written [] = Unit {0}
+AreOfKept catalog written (c ∷ cs) =
+    ((c.table ≡ catalog) ⊎ (is_some (written_in written c.table) ≡ true)) × AreOfKept catalog written cs
+
+-- each change that a transaction has to take back is
+abbrev pub AreTold : ℕ → Option Working → Type 0
+AreTold catalog work = AreOfKept catalog (written_kept work) (undo_kept work).changes
+
+-- The tables that transactions keep, since they have written into them: each is one that its transaction sees, and
+-- each change that a transaction has to take back is of one of these, or of the catalog.
+pub record KeepsWritten (catalog : ℕ) (works : List Working) (tables : Tables) : Type 0 where
+  pub seen : (t number : ℕ) (table : Table) → written_in (written_kept (work_of works t)) number ≡ Some table
+      → SeesAlike (tables t table.name) table
+  pub told : (t : ℕ) → AreTold catalog (work_of works t)
+
 -- ---- pages
 
 -- the transaction list has a copy of each transaction inventory page, as the cache shows it
@@ -119,4 +150,5 @@ pub record StandsFor {D : Type 0} (m : Meaning D) (core : Core D) (o : Opening) 
   pub numbers : Numbers
   pub tables : Tables
   pub given : AreSeen core.works tables
+  pub kept : KeepsWritten core.catalog.pointer.0 core.works tables
   pub stands : StandsWhile m core o h (standing_of core numbers tables) core.store.offline

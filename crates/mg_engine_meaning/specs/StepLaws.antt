@@ -199,6 +199,7 @@ module _ {D P : Type 0} (m : Meaning D) (places : Places P) (holds : HoldsOne D 
     numbers = stands.numbers;
     tables = stands.tables;
     given = stands.given;
+    kept = stands.kept;
     stands = subst (λ (off : Option ℕ). StandsWhile m (record old { store = store }) o h
         (standing_of old stands.numbers stands.tables) off) (sym (run.offline ∙ online))
         (run_both o h stands (held_now stands.tells) (shows_of m old o h stands online)).0;
@@ -300,6 +301,7 @@ module _ {D P : Type 0} (m : Meaning D) (places : Places P)
     numbers = stands.numbers;
     tables = stands.tables;
     given = stands.given;
+    kept = stands.kept;
     stands = subst (λ (off : Option ℕ). StandsWhile m (record old { store = store }) o h
         (standing_of old stands.numbers stands.tables) off) (sym offline)
         (fail_both o h stands (shows_of m old o h stands online)).0;

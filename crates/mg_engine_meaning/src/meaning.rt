@@ -3,7 +3,8 @@
 //! Owns: the definitions. The memory of a core is a standing (`standing_of`), but for the tables that its
 //! transactions see and the numbers by which they name them, which are on the pages. A core over a disk that
 //! tells its images stands for a history (`StandsFor`) where that standing does, for some such tables, the ones
-//! that were given among them; while no page write has failed the pages show the history, the cache lasts with
+//! that were given among them, and where each transaction keeps the tables of the changes that it has to take back
+//! (`KeepsWritten`); while no page write has failed the pages show the history, the cache lasts with
 //! it, the transaction list has the pages of transactions, the catalog begins where the header says, and
 //! each table is plain, without an index or a later column (`ShowsIt`): the engine puts no entries into indexes
 //! yet and writes rows of the first format alone, so an image whose catalog names others is not covered; after one has failed memory alone is right, and what crashes leave (`KeepsIt`). `means` is what

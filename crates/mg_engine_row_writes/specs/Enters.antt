@@ -1,7 +1,7 @@
 -- A version is laid by an engine that has read all that the write asks for: what it knows of the entry, of the table and
 -- of the row, memory after it, and that it stands for the history with the event.
 use Rattle.std.proofs.Common.{◌≡◌, ◌≢◌, ◌⊎◌, inl, inr, ◌==◌, ◌&&◌, ℕ, Bool, true, false, List, [], ◌∷◌, Option, None, Some, refl, sym, ap, ◌∙◌, subst}
-use Rattle.std.specs.Prelude.{if◌then◌else◌, map}
+use Rattle.std.specs.Prelude.{if◌then◌else◌, is_some, map}
 use Rattle.std.proofs.Math.Path.{fun_ext}
 use Rattle.std.proofs.lemmas.Bool.{cases_eq, eq-eqb, ne_eqb}
 use Rattle.std.specs.Cmp.Lexicographic.{same_text}
@@ -64,14 +64,14 @@ use Rattle.mg_txlist.specs.TxList.{said}
 use Rattle.mg_undo.specs.Undo.{after_keep}
 use Rattle.mg_version.specs.declared.cell.Version.{Version}
 use Rattle.mg_waits.specs.Waits.{NowWaits, edges_in}
-use Rattle.mg_works.specs.Works.{Working, given_by, given_to, unasked, with_change, with_work, work_of}
+use Rattle.mg_works.specs.Works.{Working, given_by, given_to, unasked, with_change, with_work, work_of, written_by, written_in}
 use Rattle.mg_works.specs.WorksLaws.{with_its, with_others}
 use Rattle.mg_core.specs.declared.parts.Core.{Core}
 use Rattle.mg_core.specs.Putting.{works_kept}
 use Rattle.mg_engine_meaning.specs.PlainTables.{AreFirst, HasPlainTables, IsPlainTable}
 use Rattle.mg_engine_meaning.specs.LawfulLaws.{memory_of, tables_are_seen}
 use Rattle.mg_engine_meaning.specs.Meaning.{Places}
-use Rattle.mg_engine_meaning.specs.Standings.{HasTips, ShowsIt, StandsFor, StandsWhile, asked_in, asked_kept, mode_kept, session_kept, sessions_in, standing_of, undo_kept}
+use Rattle.mg_engine_meaning.specs.Standings.{AreTold, HasTips, KeepsWritten, ShowsIt, StandsFor, StandsWhile, asked_in, asked_kept, mode_kept, session_kept, sessions_in, standing_of, undo_kept, written_kept}
 use Rattle.mg_engine_steps.specs.Batches.{RowsLastStill}
 use Rattle.mg_engine_steps.specs.Writes.{IsSilentAt}
 use Rattle.mg_image.specs.Records.{cells_of}
@@ -82,7 +82,7 @@ use Rattle.mg_engine_row_writes.specs.Answered.{no_catalog}
 use Rattle.mg_engine_row_writes.specs.Befores.{BeforesAreTold}
 use Rattle.mg_engine_row_writes.specs.Codes.{StoredRowsAreCoded}
 use Rattle.mg_engine_row_writes.specs.Kept.{MadeWritesFollow, NotesWrite, made_by, row_given}
-use Rattle.mg_engine_row_writes.specs.Laid.{LeavesPages}
+use Rattle.mg_engine_row_writes.specs.Laid.{HasNoted, LeavesPages}
 use Rattle.mg_engine_row_writes.specs.Owners.{SeenMayBeWritten}
 use Rattle.mg_chain.specs.Writing.{Pushes, Replaces, GivesSpot, MakesRecord}
 use Rattle.mg_engine_writes.specs.Rows.{PushesGoOn, ReplacementsGoOn, FirstsGoOn}
@@ -340,7 +340,22 @@ module _ (speakers : SpeakersAreTold) (befores : BeforesAreTold) (follow : MadeW
 
   -- ---- it was laid
 
-  pub stood : (after : Pool D FireLinks) (j : Image) → m.held after.disk ≡ Some j → m.tells after.disk ≡ true
+  -- the table of the change is kept
+  kept_now : HasNoted core.works t.0 table → KeepsWritten core.catalog.pointer.0 works_now stands.tables
+  kept_now noted = record {
+    seen = λ u n x is. stands.kept.seen u n x
+        (sym (all_work (λ (w : Option Working). written_in (written_kept w) n) refl u) ∙ is);
+    told = λ u. at u (cases_eq u t.0);
+  }
+    where
+      at : (u : ℕ) → (u ≡ t.0) ⊎ (u ≢ t.0) → AreTold core.catalog.pointer.0 (work_of works_now u)
+      at u (inl same) = subst (AreTold core.catalog.pointer.0) (sym (ap (work_of works_now) same ∙ kept_work)) (
+        inr (sym (ap (λ (w : Option Working). is_some (written_by w table.pointer.0)) work_is) ∙ noted),
+        subst (AreTold core.catalog.pointer.0) work_is (stands.kept.told t.0),
+      )
+      at u (inr ne) = subst (AreTold core.catalog.pointer.0) (sym (others_work u ne)) (stands.kept.told u)
+
+  pub stood : HasNoted core.works t.0 table → (after : Pool D FireLinks) (j : Image) → m.held after.disk ≡ Some j → m.tells after.disk ≡ true
       → after.offline ≡ None → after.geometry ≡ core.store.geometry
       → HasGoneOn m packed_form core.store.geometry.size o h (made_by t table write) s_now core.store after j
       (asked_in (works_kept t.0 table.pointer.0 (written_at table write) before.was core.works))
@@ -352,12 +367,13 @@ module _ (speakers : SpeakersAreTold) (befores : BeforesAreTold) (follow : MadeW
         waits = waits;
         works = works_kept t.0 table.pointer.0 (written_at table write) before.was core.works;
       }) o (made_by t table write ∷ h)
-  stood after j held told online_after geometry goes leaves = record {
+  stood noted after j held told online_after geometry goes leaves = record {
     tells = told;
     grows = record { limbo = stands.grows.limbo; entries = (makes t table write other, stands.grows.entries) };
     numbers = numbers_now;
     tables = stands.tables;
     given = λ u n x is. stands.given u n x (sym (all_work (λ (w : Option Working). given_by w n) refl u) ∙ is);
+    kept = kept_now noted;
     stands = subst (λ (off : Option ℕ). StandsWhile m (record core { store = after; waits = waits; works = works_now }) o
         (made_by t table write ∷ h) s_now off) (sym online_after) shown_now;
   }
@@ -380,7 +396,7 @@ module _ (speakers : SpeakersAreTold) (befores : BeforesAreTold) (follow : MadeW
       }
 
   -- in a batch of its own
-  module _ (holds : HoldsOne D m) (geometry : IsGeometry core.store.geometry) (after : Pool D FireLinks) where
+  module _ (noted : HasNoted core.works t.0 table) (holds : HoldsOne D m) (geometry : IsGeometry core.store.geometry) (after : Pool D FireLinks) where
     abbrev asked_now : Asked
     asked_now = asked_in (works_kept t.0 table.pointer.0 (written_at table write) before.was core.works)
 
@@ -426,7 +442,7 @@ module _ (speakers : SpeakersAreTold) (befores : BeforesAreTold) (follow : MadeW
       both goes =
           let (j, held, left) = holds after.disk told_after in
           let (gone, leaves) = goes j held (was j held) in (
-            stood after j held told_after own_batch.changed.online.1
+            stood noted after j held told_after own_batch.changed.online.1
                 (own_batch.changed.geometry ∙ own_batch.keeps.geometry) gone leaves,
             gone.leaves,
             λ u ne x from rows next. (

@@ -1,5 +1,5 @@
 -- A version that was laid, as a keeper of records owes it.
-use Rattle.std.specs.Prelude.{◌≡◌, ◌∷◌, ℕ, Some, None}
+use Rattle.std.specs.Prelude.{◌≡◌, ◌∷◌, ℕ, true, List, Some, None, is_some}
 use Rattle.mg_base.specs.Disk.{Meaning}
 use Rattle.mg_base.specs.declared.numbers.RecId.{RecId}
 use Rattle.mg_base.specs.declared.numbers.TxNo.{TxNo}
@@ -15,7 +15,7 @@ use Rattle.mg_row_writes.specs.Storing.{row_stored}
 use Rattle.mg_row_writes.specs.declared.before.Way.{Way}
 use Rattle.mg_row_writes.specs.declared.before.Way.TheVariants as ways
 use Rattle.mg_rowcode.specs.Storable.{AreStorable}
-use Rattle.mg_works.specs.Works.{given_to}
+use Rattle.mg_works.specs.Works.{Working, given_to, written_to}
 use Rattle.mg_core.specs.declared.parts.Core.{Core}
 use Rattle.mg_core.specs.Cores.{IsCore}
 use Rattle.mg_core.specs.Writing.{Writes}
@@ -50,11 +50,15 @@ pub record GoesOnWith {D : Type 0} (m : Meaning D) (old new : Core D) (o : Openi
   pub walks : (i : Image) → m.held old.store.disk ≡ Some i → WalkInto m old.store.geometry.size (bare_standing old)
       (shown old.store.dirty i) new.store (bare_standing new) t
 
--- a row of a table that was given was written on this way: the engine goes on with the event
+-- a table is kept as one that a transaction writes into
+abbrev pub HasNoted : List Working → ℕ → Table → Type 0
+HasNoted works t table = is_some (written_to works t table.pointer.0) ≡ true
+
+-- a row of a table that was given, and is kept, was written on this way: the engine goes on with the event
 abbrev pub RowsGoOn : (D P : Type 0) → Meaning D → (RecId → Way) → Type 0
 RowsGoOn D P m way = (places : Places P) (old new : Core D) (t : TxNo) (table : Table) (write : Write) (rec : RecId)
     (o : Opening) (h : Entries) → IsCore m old → given_to old.works t.0 table.name ≡ Some table
-    → FitsShape table.shape write → AreStorable (row_stored table write)
+    → HasNoted old.works t.0 table → FitsShape table.shape write → AreStorable (row_stored table write)
     → (written : Writes m old new t table write) → written.puts.before.way ≡ way rec → StandsFor m old o h
     → GoesOnWith m old new o h (made_by t table write) t.0
 

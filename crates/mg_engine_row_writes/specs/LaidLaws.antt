@@ -74,7 +74,7 @@ use Rattle.mg_engine_row_writes.specs.Befores.{BeforesAreTold}
 use Rattle.mg_engine_row_writes.specs.Codes.{StoredRowsAreCoded}
 use Rattle.mg_engine_row_writes.specs.Enters.{pushed_stands, replaced_stands, made_stands, placed_told, spot_taken, tells, there, was_told}
 use Rattle.mg_engine_row_writes.specs.Kept.{MadeWritesFollow, made_by}
-use Rattle.mg_engine_row_writes.specs.Laid.{GoesOnWith, bare_standing}
+use Rattle.mg_engine_row_writes.specs.Laid.{GoesOnWith, HasNoted, bare_standing}
 use Rattle.mg_engine_row_writes.specs.Looked.{placed_lives}
 use Rattle.mg_engine_row_writes.specs.Notes.{HasRead}
 use Rattle.mg_engine_row_writes.specs.Owners.{SeenMayBeWritten}
@@ -137,7 +137,7 @@ module _ (speakers : SpeakersAreTold) (obstacles : ObstaclesAtKeys) (rows : Rows
     (last : ReadsLast D FireLinks m packed_form) (go : WritesGoOn D FireLinks m packed_form)
     (push_on : PushesGoOn packed_form D FireLinks m) (replace_on : ReplacementsGoOn packed_form D FireLinks m)
     (old new : Core D) (t : TxNo) (table : Table) (write : Write) (core : IsCore m old)
-    (given : given_to old.works t.0 table.name ≡ Some table) (fits : FitsShape table.shape write)
+    (given : given_to old.works t.0 table.name ≡ Some table) (noted : HasNoted old.works t.0 table) (fits : FitsShape table.shape write)
     (storable : AreStorable (row_stored table write)) (o : Opening) (h : Entries) (written : Writes m old new t table write)
     (stands : StandsFor m old o h) where
   free : IsFree m old written.free t table write written.wait written.rec
@@ -328,7 +328,7 @@ module _ (speakers : SpeakersAreTold) (obstacles : ObstaclesAtKeys) (rows : Rows
   pushed r way = let its = facts_at r (ap record_of way) in whole_of (pushed_stands speakers befores follow may_write coded lists m places unask
       (record old { store = written.puts.read.store }) since.keeps.pool o h mid_stands mid_shows t begun.continues.1
       begun.may.work work_is table given write fits storable written.puts.read.waits since.over written.puts.before
-      written.puts.version written.puts.has.stored answered holds mid_geometry new.store one
+      written.puts.version written.puts.has.stored answered noted holds mid_geometry new.store one
       begin on behind keep_plain ways_free go push_on replace_on r its.0 its.2
       (subst (λ (w : Way). Lays m written.puts.read.store new.store table.pointer.0 w written.puts.version) way
       written.puts.laid.lays) way its.1)
@@ -338,7 +338,7 @@ module _ (speakers : SpeakersAreTold) (obstacles : ObstaclesAtKeys) (rows : Rows
   replaced r way = let its = facts_at r (ap record_of way) in whole_of (replaced_stands speakers befores follow may_write coded lists m places unask
       (record old { store = written.puts.read.store }) since.keeps.pool o h mid_stands mid_shows t begun.continues.1
       begun.may.work work_is table given write fits storable written.puts.read.waits since.over written.puts.before
-      written.puts.version written.puts.has.stored answered holds mid_geometry new.store one
+      written.puts.version written.puts.has.stored answered noted holds mid_geometry new.store one
       begin on behind keep_plain ways_free go push_on replace_on r its.0 its.2
       (subst (λ (w : Way). Lays m written.puts.read.store new.store table.pointer.0 w written.puts.version) way
       written.puts.laid.lays))
@@ -375,7 +375,7 @@ module _ (speakers : SpeakersAreTold) (obstacles : ObstaclesAtKeys) (rows : Rows
     taken = spot_taken speakers befores follow may_write coded lists m places unask
         (record old { store = written.puts.read.store }) since.keeps.pool o h mid_stands mid_shows t begun.continues.1
         begun.may.work work_is table given write fits storable written.puts.read.waits since.over written.puts.before
-        written.puts.version written.puts.has.stored answered holds mid_geometry laid_new.placed one begin on behind still (tells speakers befores follow may_write coded lists m places unask
+        written.puts.version written.puts.has.stored answered noted holds mid_geometry laid_new.placed one begin on behind still (tells speakers befores follow may_write coded lists m places unask
         (record old { store = written.puts.read.store }) since.keeps.pool o h mid_stands mid_shows t begun.continues.1
         begun.may.work work_is table given write fits storable written.puts.read.waits since.over written.puts.before
         written.puts.version written.puts.has.stored answered None none_at.0).1
@@ -388,7 +388,7 @@ module _ (speakers : SpeakersAreTold) (obstacles : ObstaclesAtKeys) (rows : Rows
     place_told = placed_told speakers befores follow may_write coded lists m places unask
         (record old { store = written.puts.read.store }) since.keeps.pool o h mid_stands mid_shows t begun.continues.1
         begun.may.work work_is table given write fits storable written.puts.read.waits since.over written.puts.before
-        written.puts.version written.puts.has.stored answered holds mid_geometry laid_new.placed one begin on behind still
+        written.puts.version written.puts.has.stored answered noted holds mid_geometry laid_new.placed one begin on behind still
         (tells speakers befores follow may_write coded lists m places unask
         (record old { store = written.puts.read.store }) since.keeps.pool o h mid_stands mid_shows t begun.continues.1
         begun.may.work work_is table given write fits storable written.puts.read.waits since.over written.puts.before
@@ -413,6 +413,7 @@ module _ (speakers : SpeakersAreTold) (obstacles : ObstaclesAtKeys) (rows : Rows
       numbers = mid_stands.numbers;
       tables = mid_stands.tables;
       given = mid_stands.given;
+      kept = mid_stands.kept;
       stands = subst (λ (off : Option ℕ). StandsWhile m (record old { store = laid_new.placed }) o h
           (standing_of (record old { store = laid_new.placed }) mid_stands.numbers mid_stands.tables) off)
           (sym laid_new.takes.changed.online.1) place_shows;
@@ -451,7 +452,7 @@ module _ (speakers : SpeakersAreTold) (obstacles : ObstaclesAtKeys) (rows : Rows
     stood_new = made_stands speakers befores follow may_write coded lists m places unask
         (record old { store = laid_new.placed }) laid_new.takes.changed.pool o h place_stands place_shows t
         begun.continues.1 begun.may.work work_is table given write fits storable written.puts.read.waits since.over
-        written.puts.before written.puts.version written.puts.has.stored answered holds (subst IsGeometry (sym place_geometry) mid_geometry) new.store one begin on behind
+        written.puts.before written.puts.version written.puts.has.stored answered noted holds (subst IsGeometry (sym place_geometry) mid_geometry) new.store one begin on behind
         keep_plain go first_on was_is laid_new.at taken.spot_of.silent
         (taken.spot_of.placed ∙ ap Some same_its) taken.spot_of.blank laid_new.makes
 

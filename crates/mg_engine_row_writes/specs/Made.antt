@@ -16,11 +16,12 @@ use Rattle.mg_core.specs.Cores.{IsCore}
 use Rattle.mg_core.specs.Writing.{Writes}
 use Rattle.mg_engine_meaning.specs.Frames.{GivesEvent}
 use Rattle.mg_engine_meaning.specs.Meaning.{Places}
+use Rattle.mg_engine_row_writes.specs.Laid.{HasNoted}
 
 -- on each way but over a dead transaction's version it gives the event
 abbrev pub MadeRowsGive : (D P : Type 0) → Meaning D → Type 0
 MadeRowsGive D P m = (places : Places P) (old new : Core D) (t : TxNo) (table : Table) (write : Write) → IsCore m old
-    → given_to old.works t.0 table.name ≡ Some table → FitsShape table.shape write
+    → given_to old.works t.0 table.name ≡ Some table → HasNoted old.works t.0 table → FitsShape table.shape write
     → AreStorable (row_stored table write) → (written : Writes m old new t table write)
     → ((rec : RecId) → written.puts.before.way ≢ ways.PushOverDead rec)
     → GivesEvent m places old new (event_of t table.name write) Fine None None (Some t.0) None None

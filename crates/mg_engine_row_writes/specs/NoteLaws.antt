@@ -67,7 +67,7 @@ module _ {D P : Type 0} (m : Meaning D) (places : Places P) (idle_goes : IdleGoe
       → StandsFor m (record old { store = store; waits = waits; damage = damage; shortages = shortages }) o
       (entry event (No refusal) ∷ h)
   now_stands o h lawful stands = memory_stands m places mid waits old.works old.live idle_goes on quiet refl refl
-      o h (entry event (No refusal)) stands stands.tables stands.given lawful
+      o h (entry event (No refusal)) stands stands.tables stands.given stands.kept lawful
       (quiet_count (entry event (No refusal)) passing) (quiet_event (entry event (No refusal)) passing) refl
       (nothing_follows mid waits o h (entry event (No refusal)) t refl whose noted stands.numbers stands.tables)
       (λ shows. idle_finds store.geometry.size o h (entry event (No refusal))

@@ -12,9 +12,9 @@
 //!   the transaction's own, and its version taken out, or the former one put in its place, in a batch of its own) is a
 //!   step of `mg_engine_undoing` (`KeyStepsAreTaken`). That the table may be written into, and that the stored row codes
 //!   the former one, it takes as known.
-//! - `specs/Written`: a table which a transaction has kept as one that it has written into is the one that stands on the
-//!   pages (`KeptTablesStand`), where what is kept is told by the history: of each table that it has changed the shape
-//!   that it sees (`KeepsWritten`). What an engine stands for does not say that yet, so it is a premise.
+//! - `specs/Written`: a table which a transaction has kept as one that it has written into stands on the pages
+//!   (`KeptTablesStand`), and the one that is kept under the number by which the transaction knows a table that it has
+//!   changed has its name (`KeptTablesAreNamed`). Tables with one first page are one.
 //! - `specs/BackTables`: a table in which a record has the transaction's own version may be written into by it
 //!   (`ItsTablesMayBeWritten`). It asks for no history: the pages between two keys show none. A version of its own stands
 //!   in a table only where a committed row of the catalog names the table, or a row that the transaction has made.
@@ -32,7 +32,7 @@ ghost use Rattle.mg_engine_undoing.specs.BackStops.{StopsAreGivenUp, WritesFailM
 ghost use Rattle.mg_engine_undoing.specs.BackTables.{ItsTablesMayBeWritten};
 ghost use Rattle.mg_engine_undoing.specs.BackWalks.{BackWalksGoOn, GivenUpWalksGoOn};
 ghost use Rattle.mg_engine_undoing.specs.KeySteps.{KeyStepsAreTaken};
-ghost use Rattle.mg_engine_undoing.specs.Written.{KeptTablesStand};
+ghost use Rattle.mg_engine_undoing.specs.Written.{KeptTablesAreNamed, KeptTablesStand};
 
 use crate::{engines_give_up, its_records_are_found, keys_are_taken, keys_go_on};
 use mg_base::Disk;
@@ -66,7 +66,8 @@ pub fn key_steps_are_taken<D: Disk>()
 
 /// A table that a transaction has kept for taking back is the one that stands on the pages.
 pub fn kept_tables_stand()
-    ensures { KeptTablesStand }
+    ensures stand { KeptTablesStand }
+    ensures named { KeptTablesAreNamed }
 {}
 
 /// A table in which a record has a transaction's own version may be written into by it.

@@ -271,7 +271,7 @@ noted_waits k h e a old undrawn t = at (transaction_of e) undrawn
       ])
     ]
 
-noted_length : (k : Keeping) (of : Option ℕ) (on : Option TxNo) → length (noted_in of on k).known ≡ length k.known
+pub noted_length : (k : Keeping) (of : Option ℕ) (on : Option TxNo) → length (noted_in of on k).known ≡ length k.known
 noted_length k None on = refl
 noted_length k (Some u) on = length-set k.known u _
 
@@ -301,7 +301,7 @@ limit_kept k (Ends u Committed) = refl
 limit_kept k Nothing = refl
 
 -- no transaction is forgotten
-longer : (k : Keeping) (eff : Effect) → length k.known ≤ length (kept_by eff k).known
+pub longer : (k : Keeping) (eff : Effect) → length k.known ≤ length (kept_by eff k).known
 longer k (Begins u mode) =
     omega (arith, length-append k.known (record { state = Active; mode = mode; base = length k.database; saw = length k.committed; place = 0; waits = None } ∷ []))
 longer k (Looks u) = at (known_of k u).mode.snapshot

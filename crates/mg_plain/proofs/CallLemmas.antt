@@ -39,7 +39,7 @@ use Rattle.mg_records.specs.Reading.{FindAdds, Nears, TellsTable, Visits, shape_
 use Rattle.mg_records.specs.Writing.{InsertsEach, MakesTable, new_table, rows_made}
 use Rattle.mg_records.specs.TakingBack.{GivesUp, GoesBack, Undoes, is_given_up}
 use Rattle.mg_plain.specs.declared.plain.Plain.{Plain}
-use Rattle.mg_plain.specs.Keeping.{Keeping, LieWithin, StandsFor, base_in, kept_by, known_of, noted_in, told_in, waits_by}
+use Rattle.mg_plain.specs.Keeping.{Keeping, LieWithin, StandsFor, base_in, kept_by, known_of, noted_in, told_in, waits_by, with_session}
 use Rattle.mg_plain.specs.Kept.{kept}
 use Rattle.mg_plain.specs.Obeying.{is_inner, as_number, told_by, event_back, ExpectsActive, IsAnswer, IsDone, Obeys, ViewsStay}
 use Rattle.mg_plain.specs.Records.{FoundAt, GoesOn, InsertsAll, behind, means, rows_seen, shape_kept, with_shape}
@@ -47,6 +47,7 @@ use Rattle.mg_plain.specs.RecordsLaws.{same_shape}
 use Rattle.mg_plain.proofs.StandsLemmas.{told_same}
 use Rattle.mg_plain.proofs.ViewLemmas.{noted_view, view_kept}
 use Rattle.mg_plain.proofs.ObeyLemmas.{inactive, obeys_by, refused_obeys, views_refused}
+use Rattle.mg_plain.proofs.SessionLemmas.{stands_seated, views_seated}
 
 -- a refusal from inside has no cause outside, and no page write failed
 cause_inner : (old new : Plain) (refusal : Option Refusal) → is_inner refusal ≡ true
@@ -233,15 +234,22 @@ views_begun old new session mode a who within obeys its = λ u apart.
     ap (λ (k : Keeping). (told_in k).view u) obeys.kept_is
     ∙ view_kept old (Begin session mode) a u within obeys.is refl (ap (is_of u) its ∙ apart)
 
-pub begin_adds : (old new : Plain) (session : ℕ) (mode : Mode) (given : Result Answer Refusal)
-    → Obeys (kept old) (kept new) (Begin session mode) (told_by given)
+pub begin_adds : (old mid new : Plain) (session : ℕ) (mode : Mode) (given : Result Answer Refusal)
+    → kept mid ≡ with_session session (kept old)
+    → Obeys (kept mid) (kept new) (Begin session mode) (told_by given)
     → Adds means old new (Begin session mode) (number_or (as_number given))
-begin_adds old new session mode (Ok Fine) obeys = absurd (begin_inner (told_in (kept old)) Fine obeys.is)
-begin_adds old new session mode (Ok (Tx t)) obeys = obeys.stands
-begin_adds old new session mode (Ok (Rows rows)) obeys =
-    absurd (begin_inner (told_in (kept old)) (Rows rows) obeys.is)
-begin_adds old new session mode (Ok (No r)) obeys = obeys.stands
-begin_adds old new session mode (Err r) obeys = obeys.stands
+begin_adds old mid new session mode given noted obeys = λ o h s. at given obeys o h (stands_seated o h session
+    (kept old) (kept mid) noted s)
+  where
+    at : (given : Result Answer Refusal) → Obeys (kept mid) (kept new) (Begin session mode) (told_by given)
+        → (o : Opening) (h : Entries) → StandsFor o h (kept mid)
+        → IsLawful o h (entry (Begin session mode) (number_or (as_number given)))
+        × StandsFor o (entry (Begin session mode) (number_or (as_number given)) ∷ h) (kept new)
+    at (Ok Fine) obeys o h s = absurd (begin_inner (told_in (kept mid)) Fine obeys.is)
+    at (Ok (Tx t)) obeys o h s = obeys.stands o h s
+    at (Ok (Rows rows)) obeys o h s = absurd (begin_inner (told_in (kept mid)) (Rows rows) obeys.is)
+    at (Ok (No r)) obeys o h s = obeys.stands o h s
+    at (Err r) obeys o h s = obeys.stands o h s
 
 begin_refusal : (old : Keeping) (session : ℕ) (mode : Mode) (r : Refusal)
     → IsAnswer old (Begin session mode) (No r) → is_inner (Some r) ≡ true
@@ -249,20 +257,40 @@ begin_refusal old session mode TransactionLimit is = refl
 begin_refusal old session mode Memory is = refl
 begin_refusal old session mode r is = absurd (begin_inner (told_in old) (No r) is)
 
-pub begin_leaves : (old new : Plain) (session : ℕ) (mode : Mode) (given : Result Answer Refusal)
-    → Obeys (kept old) (kept new) (Begin session mode) (told_by given)
+pub begin_leaves : (old mid new : Plain) (session : ℕ) (mode : Mode) (given : Result Answer Refusal)
+    → kept mid ≡ with_session session (kept old)
+    → Obeys (kept mid) (kept new) (Begin session mode) (told_by given)
     → Leaves means old new (refusal_in (as_number given)) (drawn_in (as_number given)) (drawn_in (as_number given))
-begin_leaves old new session mode (Ok Fine) obeys = absurd (begin_inner (told_in (kept old)) Fine obeys.is)
-begin_leaves old new session mode (Ok (Tx t)) obeys =
-    leaves_plain old new None (Some t.0) refl (views_begun (kept old) (kept new) session mode (Tx t) (Some t.0) old.bases obeys refl)
-begin_leaves old new session mode (Ok (Rows rows)) obeys =
-    absurd (begin_inner (told_in (kept old)) (Rows rows) obeys.is)
-begin_leaves old new session mode (Ok (No r)) obeys =
-    leaves_plain old new (Some r) None (begin_refusal (kept old) session mode r obeys.is)
-    (views_refused (kept old) (kept new) (Begin session mode) r None obeys)
-begin_leaves old new session mode (Err r) obeys =
-    leaves_plain old new (Some r) None (begin_refusal (kept old) session mode r obeys.is)
-    (views_refused (kept old) (kept new) (Begin session mode) r None obeys)
+begin_leaves old mid new session mode (Ok Fine) noted obeys =
+    absurd (begin_inner (told_in (kept mid)) Fine obeys.is)
+begin_leaves old mid new session mode (Ok (Tx t)) noted obeys = leaves_plain old new None (Some t.0) refl
+    (views_seated session (kept old) (kept mid) (kept new) (Some t.0) noted
+    (views_begun (kept mid) (kept new) session mode (Tx t) (Some t.0) mid.bases obeys refl))
+begin_leaves old mid new session mode (Ok (Rows rows)) noted obeys =
+    absurd (begin_inner (told_in (kept mid)) (Rows rows) obeys.is)
+begin_leaves old mid new session mode (Ok (No r)) noted obeys =
+    leaves_plain old new (Some r) None (begin_refusal (kept mid) session mode r obeys.is)
+    (views_seated session (kept old) (kept mid) (kept new) None noted
+    (views_refused (kept mid) (kept new) (Begin session mode) r None obeys))
+begin_leaves old mid new session mode (Err r) noted obeys =
+    leaves_plain old new (Some r) None (begin_refusal (kept mid) session mode r obeys.is)
+    (views_seated session (kept old) (kept mid) (kept new) None noted
+    (views_refused (kept mid) (kept new) (Begin session mode) r None obeys))
+
+-- where memory is short before it
+short_obeys : (old new : Plain) (session : ℕ) (mode : Mode) → kept new ≡ kept old
+    → Obeys (kept old) (kept new) (Begin session mode) (No Memory)
+short_obeys old new session mode same =
+    refused_obeys (kept old) (kept old) (kept new) (Begin session mode) None refl refl same
+
+pub short_adds : (old new : Plain) (session : ℕ) (mode : Mode) → kept new ≡ kept old
+    → Adds means old new (Begin session mode) (No Memory)
+short_adds old new session mode same = (short_obeys old new session mode same).stands
+
+pub short_leaves : (old new : Plain) (session : ℕ) (mode : Mode) → kept new ≡ kept old
+    → Leaves means old new (Some Memory) None None
+short_leaves old new session mode same = leaves_plain old new (Some Memory) None refl
+    (views_refused (kept old) (kept new) (Begin session mode) Memory None (short_obeys old new session mode same))
 
 -- ---- what was found
 

@@ -9,6 +9,7 @@ use Rattle.mg_base.specs.declared.transaction.TxState.{TxState}
 use Rattle.mg_base.specs.declared.transaction.TxState.TheVariants.{Dead, Committed}
 use Rattle.mg_model.specs.declared.change.Change.{Change}
 use Rattle.mg_model.specs.declared.change.Step.{Step}
+use Rattle.mg_plain.specs.declared.known.BegunBy.{BegunBy}
 use Rattle.mg_plain.specs.declared.known.Known.{Known}
 use Rattle.mg_model.specs.declared.opening.Opening.{Opening}
 use Rattle.mg_model.specs.Machine.{opening_state, opening_rows, limbo_step}
@@ -25,6 +26,7 @@ first_kept o = record {
   committed = [];
   steps = map limbo_step o.limbo;
   database = opening_rows o;
+  begun_by = [];
 }
 
 -- the state of a number, by the list of states
@@ -86,10 +88,10 @@ stands_first o counted =
 
 -- the same, of what was made part by part
 pub stands_made : (o : Opening) (opened : ℕ) (known : List Known) (committed : List TxNo) (steps : List Step) (database : List Change)
-    → length o.states + 1 ≡ o.next.0 → opened ≡ length database → known ≡ known_all opened o.states → committed ≡ []
-    → steps ≡ map limbo_step o.limbo → database ≡ opening_rows o
-    → StandsFor o [] (record { limit = o.limit.0; opened = opened; known = known; committed = committed; steps = steps; database = database })
-stands_made o opened known committed steps database counted opened_is known_is committed_is steps_is database_is =
+    (begun_by : List BegunBy) → length o.states + 1 ≡ o.next.0 → opened ≡ length database → known ≡ known_all opened o.states → committed ≡ []
+    → steps ≡ map limbo_step o.limbo → database ≡ opening_rows o → begun_by ≡ []
+    → StandsFor o [] (record { limit = o.limit.0; opened = opened; known = known; committed = committed; steps = steps; database = database; begun_by = begun_by })
+stands_made o opened known committed steps database begun_by counted opened_is known_is committed_is steps_is database_is begun_is =
     let count : opened ≡ length (opening_rows o) = opened_is ∙ ap length database_is in
     subst (λ (k : Keeping). StandsFor o [] k)
     (sym (λ i. record {
@@ -99,5 +101,6 @@ stands_made o opened known committed steps database counted opened_is known_is c
       committed = committed_is i;
       steps = steps_is i;
       database = database_is i;
+      begun_by = begun_is i;
     }))
     (stands_first o counted)

@@ -9,4 +9,5 @@ mod AnsweredLemmas
 mod FirstLemmas
 mod ViewLemmas
 mod ObeyLemmas
+mod SessionLemmas
 mod CallLemmas

@@ -1,5 +1,5 @@
 -- What the plain machine keeps, what that tells, and which history it stands for.
-use Rattle.std.specs.Prelude.{◌≡◌, ℕ, ◌+◌, ◌-◌, ◌<◌, ◌≤◌, ◌&&◌, nat_le, Bool, true, false, List, [], ◌∷◌, length, drop, ◌++◌, Option, Some, None, slice_index_or, slice_set, if◌then◌else◌}
+use Rattle.std.specs.Prelude.{◌≡◌, ℕ, ◌+◌, ◌-◌, ◌<◌, ◌≤◌, ◌&&◌, ◌==◌, nat_le, Bool, true, false, List, [], ◌∷◌, length, drop, ◌++◌, Option, Some, None, slice_index_or, slice_set, if◌then◌else◌}
 use Rattle.mg_base.specs.declared.numbers.TxNo.{TxNo}
 use Rattle.mg_base.specs.declared.transaction.TxState.{TxState}
 use Rattle.mg_base.specs.declared.transaction.TxState.TheVariants.{Active, Limbo, Dead, Committed}
@@ -12,6 +12,7 @@ use Rattle.mg_model.specs.declared.change.Deed.{Deed}
 use Rattle.mg_model.specs.declared.change.Deed.TheVariants.{Marked, Saved}
 use Rattle.mg_model.specs.declared.event.Event.{Event}
 use Rattle.mg_model.specs.declared.event.Mode.{Mode}
+use Rattle.mg_plain.specs.declared.known.BegunBy.{BegunBy}
 use Rattle.mg_plain.specs.declared.known.Known.{Known}
 use Rattle.mg_model.specs.declared.opening.Opening.{Opening}
 use Rattle.mg_model.specs.History.{Entries, Effect, Begins, Looks, Makes, Gives, Marks, Saves, TakesBack, Ends, Nothing, transaction_of, effect_with}
@@ -32,6 +33,13 @@ pub record Keeping : Type 0 where
   -- the steps that stand, and the changes of the database, the newest first
   pub steps : List Step
   pub database : List Change
+  -- the session that has begun a number, or was to begin it: what was noted last counts
+  pub begun_by : List BegunBy
+
+-- the session of a number, the first one that is noted of it
+abbrev pub session_in : List BegunBy → ℕ → Option ℕ
+session_in [] t = None
+session_in (noted ∷ more) t = if noted.number == t then Some noted.session else session_in more t
 
 -- what is known of a number that was not drawn
 abbrev pub unknown : ℕ → Known
@@ -116,6 +124,17 @@ waits_by (Tx t) = None
 waits_by (Rows rows) = None
 waits_by (No (Waits on)) = Some on
 waits_by (No refusal) = None
+
+-- a session is to begin the next number
+abbrev pub with_session : ℕ → Keeping → Keeping
+with_session session k = record k {
+  begun_by = record { number = length k.known; session = session } ∷ k.begun_by;
+}
+
+-- no transaction is forgotten, and each stays that of its session
+pub record Grows (k new : Keeping) : Type 0 where
+  pub known : length k.known ≤ length new.known
+  pub begun_by : new.begun_by ≡ k.begun_by
 
 -- a transaction takes its base
 abbrev pub rebased : ℕ → Keeping → Keeping

@@ -10,4 +10,5 @@ kept p = record {
   committed = p.committed.items;
   steps = p.steps.items;
   database = p.database.items;
+  begun_by = p.begun_by.items;
 }

@@ -20,7 +20,7 @@ use Rattle.mg_records.specs.Reading.{shape_named}
 use Rattle.mg_records.specs.Writing.{InsertsEach}
 use Rattle.mg_plain.specs.Obeying.{is_inner, ViewsStay}
 use Rattle.mg_plain.specs.declared.plain.Plain.{Plain}
-use Rattle.mg_plain.specs.Keeping.{Keeping, StandsFor, told_in}
+use Rattle.mg_plain.specs.Keeping.{Grows, Keeping, StandsFor, session_in, told_in}
 use Rattle.mg_plain.specs.Kept.{kept}
 
 -- the rows of a table that a transaction sees with their keys, in key order
@@ -47,12 +47,16 @@ FewColumns (Some shape) = length shape.columns ≤ MOST_COLUMNS
 abbrev pub shape_kept : Keeping → ℕ → List ℕ → Option Shape
 shape_kept k t name = shape_named (catalog_of (told_in k) t) name
 
+-- a number that was drawn was begun by a session
+abbrev pub WorksFor : Keeping → ℕ → ℕ → Type 0
+WorksFor k t session = (t < length k.known) × (session_in k.begun_by t ≡ Some session)
+
 abbrev pub means : Means Plain ℕ
 means = record {
   stands = λ p o h. StandsFor o h (kept p);
   table = λ p t name. with_shape name (shape_kept (kept p) t name);
   is_free = λ p session. Unit {0};
-  works = λ p t session. Unit {0};
+  works = λ p t session. WorksFor (kept p) t session;
   was_given = λ p table. Unit {0};
   is_place = λ p table place. Unit {0};
   to_come = λ p t table after rows. rows ≡ drop (behind after) (rows_seen (kept p) t table.name);
@@ -78,6 +82,7 @@ pub record InsertsAll (old new : Plain) (t : TxNo) (rows : List Cells)
       → InsertsEach means new o t rows h (refusal_in result)
   pub inner : is_inner (refusal_in result) ≡ true
   pub views : ViewsStay (kept old) (kept new) (Some t.0)
+  pub grows : Grows (kept old) (kept new)
 
 -- some of the rows were brought in: what becomes of those that are left becomes of all
 abbrev pub GoesOn : Plain → Plain → TxNo → List Cells → List Cells → Type 0

@@ -1,6 +1,6 @@
 -- What the plain machine tells as a keeper of records is what the history tells.
 use Rattle.std.specs.Prelude.{◌≡◌, ℕ, List, [], ◌++◌, Option, Some, None, IsPermutation}
-use Rattle.std.proofs.Common.{inr, refl, sym, ap, subst, arith, ◌∙◌}
+use Rattle.std.proofs.Common.{refl, sym, ap, subst, arith, ◌∙◌}
 use Rattle.std.proofs.lemmas.Bool.{false≢true}
 use Rattle.std.proofs.lemmas.List.Sorted.{IsPermutation-refl}
 use Rattle.mg_value.specs.declared.shape.Shape.{Shape}
@@ -69,9 +69,9 @@ holds_on = record {
   least = λ p o h few many image le is. is;
 }
 
--- it tells no sessions
+-- it tells one session of a number
 pub sessions_are_one : SessionsAreOne means
-sessions_are_one = inr (λ p t n. tt)
+sessions_are_one p t n k first second = let both : Some n ≡ Some k = sym first.1 ∙ second.1 in cc both
 
 -- it has no page that is not written
 pub pages_are_few : PagesAreFew means

@@ -17,3 +17,10 @@ pub struct Known {
     /// The transaction that its last event waits on.
     pub waits: Option<TxNo>,
 }
+
+/// The session that has begun a transaction, or was to begin it.
+#[derive(Clone, Copy, Debug)]
+pub struct BegunBy {
+    pub number: usize,
+    pub session: u8,
+}

@@ -9,7 +9,7 @@ ghost use Rattle.mg_model.specs.History.{Entries, entry};
 ghost use Rattle.mg_model.specs.declared.opening.Opening.{Opening as AnyOpening};
 
 use crate::beginning::{catalog_changes, known_at_first, limbo_steps, placed_changes};
-use crate::known::Known;
+use crate::known::{BegunBy, Known};
 use crate::plain::taking::{transaction_of, waits_by};
 use mg_base::{Memory, TxNo};
 use mg_model::{Answer, Change, Event, Opening, Step};
@@ -33,6 +33,7 @@ pub struct Plain {
     committed: Vec<TxNo>,
     steps: Vec<Step>,
     database: Vec<Change>,
+    begun_by: Vec<BegunBy>,
     ghost drawn: { length known.items ≤ limit },
     ghost bases: { LieWithin (length database.items) opened known.items },
 }
@@ -65,6 +66,7 @@ impl Plain {
             committed: Vec::new(alloc),
             steps,
             database,
+            begun_by: Vec::new(alloc),
         })
     }
 
@@ -81,6 +83,7 @@ impl Plain {
             committed: Vec::new(alloc),
             steps: Vec::new(alloc),
             database,
+            begun_by: Vec::new(alloc),
         })
     }
 

@@ -1,9 +1,9 @@
 //! The plain machine as a keeper of records.
 
-ghost use Rattle.std.specs.Prelude.{◌≡◌, ◌≤◌, ◌&&◌, not, IfOk, length};
+ghost use Rattle.std.specs.Prelude.{◌≡◌, ◌≤◌, ◌&&◌, not, IfOk, OnErr, OnOk, length};
 ghost use Rattle.mg_model.specs.Answers.{is_active};
 ghost use Rattle.mg_model.specs.Machine.{has_point};
-ghost use Rattle.mg_plain.specs.Keeping.{known_of};
+ghost use Rattle.mg_plain.specs.Keeping.{known_of, with_session};
 ghost use Rattle.std.specs.Option.{option_copied};
 ghost use Rattle.mg_value.specs.declared.shape.TheConstants.{MOST_COLUMNS};
 ghost use Rattle.mg_model.specs.Catalog.{catalog_name};
@@ -14,6 +14,7 @@ ghost use Rattle.mg_plain.specs.RecordsLaws.{crashes_hold, holds_on, pages_are_f
 ghost use Rattle.mg_plain.specs.Kept.{kept};
 
 use crate::Plain;
+use crate::known::BegunBy;
 use crate::lookup::point_place;
 use mg_base::{Memory, PageNo, TxNo};
 use mg_catalog::rows_of;
@@ -76,6 +77,18 @@ fn as_number(given: Result<Answer, Refusal>) -> Result<TxNo, Refusal>
 }
 
 impl Plain {
+    /// Notes which session is to begin the next transaction.
+    fn note_session(&mut self, session: u8) -> Result<(), Memory>
+        ensures ok { OnOk result (kept self.new ≡ with_session session (kept self.old)) }
+        ensures err { OnErr result (kept self.new ≡ kept self.old) }
+    {
+        let number = self.known.len();
+        match self.begun_by.insert(0, BegunBy { number, session }) {
+            Ok(()) => Ok(()),
+            Err(_) => Err(Memory),
+        }
+    }
+
     /// Tells whether a transaction is active, and has set no such point.
     fn lacks_point(&self, t: TxNo, point: &Point) -> bool
         ensures { result ≡ (is_active (known_of (kept self.now) t.0).state
@@ -138,8 +151,13 @@ impl Records for Plain {
     }
 
     fn begin(&mut self, session: u8, mode: Mode) -> Result<TxNo, Refusal> {
-        let given = self.obey(&Event::Begin(session, mode));
-        as_number(given)
+        match self.note_session(session) {
+            Ok(()) => {
+                let given = self.obey(&Event::Begin(session, mode));
+                as_number(given)
+            }
+            Err(_) => Err(Refusal::Memory),
+        }
     }
 
     fn look(&mut self, t: TxNo) -> Result<(), Refusal> {

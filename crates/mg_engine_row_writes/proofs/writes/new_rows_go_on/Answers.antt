@@ -2,7 +2,7 @@ use Rattle.mg_engine_row_writes.specs.LaidLaws.{made_new}
 use Rattle.mg_engine_row_writes.proofs.writes.new_rows_go_on.Goals as goal
 
 pub returns : goal.returns
-returns g c = λ places old new t table write rec o h core given fits storable written way stands.
+returns g c = λ places old new t table write rec o h core given noted fits storable written way stands.
     made_new c.keys_are_answered.ensures.speakers c.keys_are_answered.ensures.obstacles c.keys_are_answered.ensures.rows
     c.keys_are_answered.ensures.nothing c.histories_go_on.ensures.begins c.verdicts_are_the_machines.ensures
     c.notes_follow_the_machine.ensures.none c.befores_are_told.ensures c.made_writes_follow.ensures
@@ -10,5 +10,5 @@ returns g c = λ places old new t table write rec o h core given fits storable w
     c.one_reading.ensures.packed_rows c.tips_stay.ensures.on c.tips_stay.ensures.behind c.writes_keep_plain.ensures
     c.ways_are_free.ensures g.D.Disk.meaning places g.met.D.Disk.counts_now g.met.D.Disk.holds
     c.unasking_lasts.ensures c.batches_last.ensures.reads c.writes_go_on.ensures c.pushes_go_on.ensures
-    c.replacements_go_on.ensures old new t table write core given fits storable o h written stands
+    c.replacements_go_on.ensures old new t table write core given noted fits storable o h written stands
     c.batches_last.ensures.still c.firsts_go_on.ensures way

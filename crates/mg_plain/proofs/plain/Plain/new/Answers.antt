@@ -19,8 +19,8 @@ returns c =
     c.in_ok-database.ensures ∙ (λ i. placed (catalog i) (c.as_slice-rows.ensures i)) in
     let known = c.in_ok-known.ensures ∙ ap (λ (s : List TxState). known_all (length c.as_slice-opened.result.now) s) c.as_slice.ensures in
     let steps = c.in_ok-steps.ensures ∙ ap (λ (l : List LimboChange). map limbo_step l) c.as_slice-2.ensures in
-    stands_made o (length c.as_slice-opened.result.now) c.in_ok-known.known.items c.new.result.items c.in_ok-steps.steps.items c.in_ok-database.database.items
-    c.requires.states (ap length c.as_slice-opened.ensures.value) known c.new.ensures.items steps database
+    stands_made o (length c.as_slice-opened.result.now) c.in_ok-known.known.items c.new.result.items c.in_ok-steps.steps.items c.in_ok-database.database.items c.new-2.result.items
+    c.requires.states (ap length c.as_slice-opened.ensures.value) known c.new.ensures.items steps database c.new-2.ensures.items
 
 pub invariant_of-result-clause-bases : goal.invariant_of-result-clause-bases
 invariant_of-result-clause-bases c =

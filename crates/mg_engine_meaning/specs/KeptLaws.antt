@@ -1,0 +1,172 @@
+-- The tables that transactions keep for taking back, as works become others.
+use Rattle.std.proofs.Common.{◌≡◌, ◌≢◌, ◌⊎◌, inl, inr, ◌==◌, ◌∙◌, ap, refl, subst, sym, ℕ, Bool, true, false, List, [], ◌∷◌, Option, None, Some}
+use Rattle.std.specs.Prelude.{if◌then◌else◌, is_some, map}
+use Rattle.std.proofs.lemmas.Bool.{cases_eq}
+use Rattle.mg_base.specs.declared.transaction.TxState.{TxState}
+use Rattle.mg_engine_steps.specs.Known.{IsShown, seen_is_shown}
+use Rattle.mg_image.specs.Catalog.{IsSameTable, StaysAmong}
+use Rattle.mg_image.specs.Form.{Pages, packed_form}
+use Rattle.mg_image.specs.Records.{Reading}
+use Rattle.mg_image.specs.Sound.{IsSoundBy}
+use Rattle.mg_image.specs.Tables.{Layout}
+use Rattle.mg_model.specs.declared.table.Table.{Table}
+use Rattle.mg_table_overlays.specs.OneTable.{one_table}
+use Rattle.mg_undo.specs.declared.changes.Change.{Change}
+use Rattle.mg_works.specs.Works.{Working, with_work, without_work, work_of, written_in}
+use Rattle.mg_works.specs.WorksLaws.{with_its, with_none, with_others, without_its, without_others}
+use Rattle.mg_engine_meaning.specs.Standings.{AreOfKept, AreTold, KeepsWritten, SeesAlike, Tables, undo_kept, written_kept}
+
+-- ---- tables that are alike
+
+-- the table that is seen so
+pub alike_some : (its : Option Table) (table : Table) → SeesAlike its table
+    → (x : Table) × (its ≡ Some x) × IsSameTable x table
+alike_some None table alike = absurd alike
+alike_some (Some x) table alike = (x, refl, alike)
+
+-- tables of one name that stand on the same pages are alike
+pub alike_there : (size : ℕ) (state : ℕ → TxState) (pages : Pages) (layout : Layout) (r : Reading)
+    → IsSoundBy packed_form size state pages layout r → (x y : Table)
+    → StaysAmong (map (λ stand. stand.table) layout.tables) x → StaysAmong (map (λ stand. stand.table) layout.tables) y
+    → x.name ≡ y.name → IsSameTable x y
+alike_there size state pages layout r sound x y first second name = record {
+  name = name;
+  shape = sym one.same.shape ∙ (ap (λ (z : Table). z.shape) same ∙ other.same.shape);
+  pointer = sym one.same.pointer ∙ (ap (λ (z : Table). z.pointer) same ∙ other.same.pointer);
+}
+  where
+    one : IsShown layout x
+    one = seen_is_shown layout x first
+
+    other : IsShown layout y
+    other = seen_is_shown layout y second
+
+    same : one.its ≡ other.its
+    same = one_table packed_form size state pages layout r sound one.its other.its one.stands other.stands
+        (one.same.name ∙ (name ∙ sym other.same.name))
+
+-- ---- one work becomes another
+
+-- What is kept for taking back stays, and what was seen alike is.
+pub record StaysKept (old new : Option Working) (was is : List ℕ → Option Table) : Type 0 where
+  pub written : written_kept new ≡ written_kept old
+  pub changes : (undo_kept new).changes ≡ (undo_kept old).changes
+  pub seen : (table : Table) → SeesAlike (was table.name) table → SeesAlike (is table.name) table
+
+-- Nothing is kept.
+pub record IsBare (work : Option Working) : Type 0 where
+  pub written : written_kept work ≡ []
+  pub changes : (undo_kept work).changes ≡ []
+
+pub none_bare : (work : Option Working) → work ≡ None → IsBare work
+none_bare work is = record {
+  written = ap written_kept is;
+  changes = ap (λ (x : Option Working). (undo_kept x).changes) is;
+}
+
+module _ (catalog : ℕ) (old new : List Working) (tables now : Tables) (kept : KeepsWritten catalog old tables) where
+  -- transaction by transaction
+  pub kept_each : ((u : ℕ) → IsBare (work_of new u) ⊎ StaysKept (work_of old u) (work_of new u) (tables u) (now u))
+      → KeepsWritten catalog new now
+  kept_each each = record { seen = λ u number table is. seen_by u number table is (each u); told = λ u. told_by u (each u) }
+    where
+      seen_by : (u number : ℕ) (table : Table) → written_in (written_kept (work_of new u)) number ≡ Some table
+          → IsBare (work_of new u) ⊎ StaysKept (work_of old u) (work_of new u) (tables u) (now u)
+          → SeesAlike (now u table.name) table
+      seen_by u number table is (inl bare) =
+          let none : None ≡ Some table = sym (ap (λ (xs : List Table). written_in xs number) bare.written) ∙ is in
+          absurd cc
+      seen_by u number table is (inr stays) = stays.seen table
+          (kept.seen u number table (sym (ap (λ (xs : List Table). written_in xs number) stays.written) ∙ is))
+
+      told_by : (u : ℕ) → IsBare (work_of new u) ⊎ StaysKept (work_of old u) (work_of new u) (tables u) (now u)
+          → AreTold catalog (work_of new u)
+      told_by u (inl bare) = subst (AreOfKept catalog (written_kept (work_of new u))) (sym bare.changes) tt
+      told_by u (inr stays) = subst (AreOfKept catalog (written_kept (work_of new u))) (sym stays.changes)
+          (subst (λ (xs : List Table). AreOfKept catalog xs (undo_kept (work_of old u)).changes) (sym stays.written)
+          (kept.told u))
+
+-- the same work keeps the same
+pub same_kept : (old new : Option Working) (its : List ℕ → Option Table) → new ≡ old → StaysKept old new its its
+same_kept old new its is = record {
+  written = ap written_kept is;
+  changes = ap (λ (x : Option Working). (undo_kept x).changes) is;
+  seen = λ table alike. alike;
+}
+
+module _ (t : ℕ) (made : Working → Working) (number : (w : Working) → (made w).number ≡ w.number)
+    (session : (w : Working) → (made w).session ≡ w.session) (written : (w : Working) → (made w).written ≡ w.written)
+    (changes : (w : Working) → (made w).undo.changes ≡ w.undo.changes) (works : List Working) where
+  -- a work becomes one that keeps the same
+  pub made_kept : (u : ℕ) (was is : List ℕ → Option Table)
+      → ((table : Table) → SeesAlike (was table.name) table → SeesAlike (is table.name) table)
+      → StaysKept (work_of works u) (work_of (with_work t made works) u) was is
+  made_kept u was is seen = at (cases_eq u t) (work_of works t) refl
+    where
+      at : (u ≡ t) ⊎ (u ≢ t) → (found : Option Working) → work_of works t ≡ found
+          → StaysKept (work_of works u) (work_of (with_work t made works) u) was is
+      at (inr apart) found its =
+          let same : work_of (with_work t made works) u ≡ work_of works u =
+          with_others t made number session works u apart in record {
+            written = ap written_kept same;
+            changes = ap (λ (x : Option Working). (undo_kept x).changes) same;
+            seen = seen;
+          }
+      at (inl e) None its =
+          let same : work_of (with_work t made works) u ≡ work_of works u =
+          ap (work_of (with_work t made works)) e
+          ∙ (with_none t made number session works t its ∙ sym (ap (work_of works) e ∙ its)) in record {
+            written = ap written_kept same;
+            changes = ap (λ (x : Option Working). (undo_kept x).changes) same;
+            seen = seen;
+          }
+      at (inl e) (Some w) its =
+          let new_is : work_of (with_work t made works) u ≡ Some (made w) =
+          ap (work_of (with_work t made works)) e ∙ with_its t made number session works w its in
+          let old_is : work_of works u ≡ Some w = ap (work_of works) e ∙ its in record {
+            written = ap written_kept new_is ∙ (written w ∙ sym (ap written_kept old_is));
+            changes = ap (λ (x : Option Working). (undo_kept x).changes) new_is
+                ∙ (changes w ∙ sym (ap (λ (x : Option Working). (undo_kept x).changes) old_is));
+            seen = seen;
+          }
+
+  -- so what is kept stays, where the same tables are seen
+  pub kept_with_work : (catalog : ℕ) (tables : Tables) → KeepsWritten catalog works tables
+      → KeepsWritten catalog (with_work t made works) tables
+  kept_with_work catalog tables kept = kept_each catalog works (with_work t made works) tables tables kept
+      (λ u. inr (made_kept u (tables u) (tables u) (λ table alike. alike)))
+
+-- a work goes
+pub kept_without_work : (t catalog : ℕ) (works : List Working) (tables : Tables) → KeepsWritten catalog works tables
+    → KeepsWritten catalog (without_work t works) tables
+kept_without_work t catalog works tables kept = kept_each catalog works (without_work t works) tables tables kept
+    (λ u. at u (cases_eq u t))
+  where
+    at : (u : ℕ) → (u ≡ t) ⊎ (u ≢ t) → IsBare (work_of (without_work t works) u)
+        ⊎ StaysKept (work_of works u) (work_of (without_work t works) u) (tables u) (tables u)
+    at u (inl same) = inl (none_bare (work_of (without_work t works) u)
+        (ap (work_of (without_work t works)) same ∙ without_its works t))
+    at u (inr apart) = inr (same_kept (work_of works u) (work_of (without_work t works) u) (tables u)
+        (without_others works t u apart))
+
+-- ---- a table is kept, and a change of it
+
+-- what is found among some tables is found behind one more, or that one is
+pub found_behind : (x : Table) (written : List Table) (number : ℕ) → is_some (written_in written number) ≡ true
+    → is_some (written_in (x ∷ written) number) ≡ true
+found_behind x written number found = at (x.pointer.0 == number)
+  where
+    at : (b : Bool) → is_some (if b then Some x else written_in written number) ≡ true
+    at true = refl
+    at false = found
+
+-- so changes are of those that are kept where one more is
+pub kept_behind : (catalog : ℕ) (x : Table) (written : List Table) (changes : List Change)
+    → AreOfKept catalog written changes → AreOfKept catalog (x ∷ written) changes
+kept_behind catalog x written [] are = tt
+kept_behind catalog x written (c ∷ cs) are = (on are.0, kept_behind catalog x written cs are.1)
+  where
+    on : (c.table ≡ catalog) ⊎ (is_some (written_in written c.table) ≡ true)
+        → (c.table ≡ catalog) ⊎ (is_some (written_in (x ∷ written) c.table) ≡ true)
+    on (inl is) = inl is
+    on (inr found) = inr (found_behind x written c.table found)
