@@ -3,7 +3,7 @@
 use Rattle.std.proofs.Common.{◌≡◌, ◌≢◌, ◌⊎◌, inl, inr, refl, sym, ap, ◌∙◌, subst, ◌&&◌, ◌==◌, ℕ, Bool, true, false, List, [], ◌∷◌, Option, None, Some}
 use Rattle.std.specs.Prelude.{if◌then◌else◌, map}
 use Rattle.std.specs.Cmp.Lexicographic.{same_text}
-use Rattle.std.proofs.lemmas.Bool.{cases_eq, eq-eqb, eqb-true, false≢true, ne_eqb}
+use Rattle.std.proofs.lemmas.Bool.{cases_eq, eq-eqb, ne_eqb}
 use Rattle.mg_base.specs.declared.numbers.RecId.{RecId}
 use Rattle.mg_base.specs.declared.numbers.TxNo.{TxNo}
 use Rattle.mg_base.specs.declared.transaction.TxState.{TxState}
@@ -14,24 +14,23 @@ use Rattle.mg_catalog.specs.KeyLaws.{keys_equal, same_key_other, same_key_self}
 use Rattle.mg_model.specs.declared.change.Change.{Change as OwnChange}
 use Rattle.mg_model.specs.declared.opening.Opening.{Opening}
 use Rattle.mg_model.specs.declared.table.Table.{Table}
-use Rattle.mg_model.specs.Catalog.{catalog_name, catalog_shape, key_of as key_in_shape}
+use Rattle.mg_model.specs.Catalog.{catalog_name}
 use Rattle.mg_model.specs.Changes.{Cells, row_at, same_key, same_name}
 use Rattle.mg_model.specs.History.{Entries}
 use Rattle.mg_model.specs.Machine.{database, own}
-use Rattle.mg_model.specs.ReadLaws.{same_name_itself}
 use Rattle.mg_image.specs.declared.entry.Entry.{Entry}
 use Rattle.mg_image.specs.Form.{Form, Pages, Row}
-use Rattle.mg_image.specs.Held.{AreChanges, Changes, Database, HasLimbo, HasTable, IsChangedAt, IsHeld, IsHeldAt, Shows, told_change, told_row}
+use Rattle.mg_image.specs.Held.{Changes, HasLimbo, HasTable, IsChangedAt, IsHeld, IsHeldAt, Shows, told_change, told_row}
 use Rattle.mg_image.specs.Histories.{newest_at}
 use Rattle.mg_image.specs.RecordRules.{Facts, TakesKey, committed_in, table_in}
 use Rattle.mg_image.specs.Records.{Change, Erases, Puts, Reading, change_in, key_of, record_key, shown, writer}
 use Rattle.mg_image.specs.Sound.{IsSoundBy, facts_by}
-use Rattle.mg_image.specs.Tables.{Layout, Stand, has, stands_of, table_at}
+use Rattle.mg_image.specs.Tables.{Layout, Stand, has, table_at}
 use Rattle.mg_kept_images.specs.Begins.{Raises}
 use Rattle.mg_kept_images.specs.KeptImages.{IsKept}
 use Rattle.mg_kept_images.specs.StartLaws.{kept_by_itself}
 use Rattle.mg_engine_makings.specs.Joined.{IsMade, JoinedAreKept, Joins, layout_with, rows_stored}
-use Rattle.mg_engine_makings.specs.JoinedNames.{cat_is, in_catalog, of_catalog, of_other, read_still, was_of_catalog, was_other}
+use Rattle.mg_engine_makings.specs.JoinedNames.{cat_is, of_catalog, of_other, read_still, was_of_catalog, was_other}
 use Rattle.mg_engine_makings.specs.JoinedRows.{cases_made, catalog_named, other_name, reading_at}
 use Rattle.mg_engine_makings.specs.JoinedSound.{joined_sound}
 use Rattle.mg_engine_makings.specs.Rows.{MadeRow, key_at, reading_with, row_entry, row_told, with_rows}
@@ -48,10 +47,10 @@ its_change (row ∷ rows) name key old = its_change rows name key
 own_now : (o : Opening) (h : Entries) (t : TxNo) (row : MadeRow) → own o (row_entry t (row_told row) ∷ h) t.0
     ≡ record { table = catalog_name; key = key_at row; row = Some (row_told row) } ∷ own o h t.0
 own_now o h t row = rw (eq-eqb t.0 t.0 refl) (ap (λ (k : Value). record {
-      table = catalog_name;
-      key = k;
-      row = Some (row_told row);
-    } ∷ own o h t.0) (key_as_told row.first.row))
+  table = catalog_name;
+  key = k;
+  row = Some (row_told row);
+} ∷ own o h t.0) (key_as_told row.first.row))
 
 own_other : (o : Opening) (h : Entries) (t : TxNo) (row : Cells) (u : ℕ) → u ≢ t.0
     → own o (row_entry t row ∷ h) u ≡ own o h u

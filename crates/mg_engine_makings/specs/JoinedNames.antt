@@ -1,33 +1,30 @@
 -- The catalog names the tables that it named and the new one, under each choice of transactions in limbo.
-use Rattle.std.proofs.Common.{◌≡◌, ◌≢◌, ◌⊎◌, inl, inr, refl, sym, ap, ◌∙◌, subst, ◌&&◌, ◌||◌, get_or, ℕ, Bool, true, false, List, [], ◌∷◌, Option, None, Some}
-use Rattle.std.specs.Prelude.{if◌then◌else◌, map, slice_index_or}
+use Rattle.std.proofs.Common.{◌≡◌, ◌≢◌, ◌⊎◌, inl, inr, refl, sym, ap, ◌∙◌, subst, ℕ, Bool, true, false, List, [], ◌∷◌, Option, None, Some}
+use Rattle.std.specs.Prelude.{if◌then◌else◌, map}
 use Rattle.std.proofs.lemmas.Bool.{false≢true}
 use Rattle.mg_base.specs.declared.numbers.RecId.{RecId}
 use Rattle.mg_base.specs.declared.transaction.TxState.{TxState}
 use Rattle.mg_base.specs.declared.transaction.TxState.TheVariants.{Active, Committed, Dead, Limbo}
 use Rattle.mg_value.specs.declared.value.Value.{Value}
-use Rattle.mg_value.specs.declared.value.Value.TheVariants.{Null}
-use Rattle.mg_catalog.specs.ByKey.{HasRow, row_key}
+use Rattle.mg_catalog.specs.ByKey.{row_key}
 use Rattle.mg_catalog.specs.KeyLaws.{has_row}
 use Rattle.mg_header.specs.HeaderPage.{header_in}
 use Rattle.mg_model.specs.declared.table.Table.{Table}
-use Rattle.mg_model.specs.Answers.{is_committed}
 use Rattle.mg_model.specs.Catalog.{table_key}
 use Rattle.mg_model.specs.CatalogRules.{AreTables, EachTable}
-use Rattle.mg_model.specs.Legal.{is_limbo}
 use Rattle.mg_image.specs.declared.entry.Entry.{Entry}
 use Rattle.mg_image.specs.Catalog.{CatalogNames, FitsPages, HasNames, IsWithin, StaysAmong, catalog_table, committed_with}
 use Rattle.mg_image.specs.FactLaws.{shown_alike}
 use Rattle.mg_image.specs.Form.{Form, Pages, Row, Rows}
 use Rattle.mg_image.specs.Held.{AreRows, Shows}
-use Rattle.mg_image.specs.RecordRules.{Each, EachBack, Facts, IsVersion, TakesKey, committed_in, table_in}
+use Rattle.mg_image.specs.RecordRules.{Each, EachBack, Facts, IsVersion, TakesKey, committed_in}
 use Rattle.mg_image.specs.Records.{Reading, key_of, record_key, shown, writer}
 use Rattle.mg_image.specs.Sound.{IsSoundBy, facts_by}
-use Rattle.mg_image.specs.Tables.{Layout, Stand, has, stands_of, table_at}
+use Rattle.mg_image.specs.Tables.{Layout, Stand, has, table_at}
 use Rattle.mg_kept_images.specs.Begins.{Raises}
-use Rattle.mg_new_tables.specs.JoinedRows.{each_of_all, join_names, with_table, with_tables}
+use Rattle.mg_new_tables.specs.JoinedRows.{each_of_all, join_names, with_tables}
 use Rattle.mg_new_tables.specs.MadeRows.{all_stay, joined_rows, made_stay, row_either}
-use Rattle.mg_engine_makings.specs.Joined.{IsJoinedRow, IsMade, Joins, layout_with, rows_by, rows_stored}
+use Rattle.mg_engine_makings.specs.Joined.{IsMade, Joins, layout_with, rows_by, rows_stored}
 use Rattle.mg_engine_makings.specs.JoinedRows.{at_with, cases_made, catalog_named, catalog_page, made_by_key, other_name, reading_at, row_of, tables_with}
 use Rattle.mg_engine_makings.specs.Rows.{MadeRow, reading_with}
 use Rattle.mg_engine_makings.specs.RowsLaws.{first_value}

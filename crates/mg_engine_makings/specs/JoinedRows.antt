@@ -1,21 +1,19 @@
 -- What is read where rows of a new table have come, and which table a page is of.
-use Rattle.std.proofs.Common.{◌≡◌, ◌≢◌, ◌⊎◌, inl, inr, refl, sym, ap, ◌∙◌, subst, ℕ, Bool, true, false, List, [], ◌∷◌, Option, None, Some}
+use Rattle.std.proofs.Common.{◌≡◌, ◌≢◌, ◌⊎◌, inl, inr, refl, sym, ap, ◌∙◌, subst, ℕ, Bool, true, false, List, [], ◌∷◌, Option, Some}
 use Rattle.std.specs.Prelude.{if◌then◌else◌, map}
 use Rattle.std.specs.Cmp.Lexicographic.{slice_cmp}
 use Rattle.std.specs.Ordering.{nat_cmp}
 use Rattle.std.specs.declared.cmp.Ordering.{Ordering}
 use Rattle.std.specs.declared.cmp.Ordering.TheVariants.{Less, Equal, Greater}
-use Rattle.std.proofs.lemmas.Bool.{false≢true}
 use Rattle.mg_base.specs.declared.numbers.RecId.{RecId}
 use Rattle.mg_base.specs.declared.transaction.TxState.{TxState}
-use Rattle.mg_value.specs.declared.value.Value.{Value}
 use Rattle.mg_catalog.specs.ByKey.{HasKey, HasRow, HaveOwnKeys, by_key, row_key}
 use Rattle.mg_catalog.specs.KeyLaws.{same_key_other, same_key_self}
 use Rattle.mg_catalog.specs.LawfulLaws.{table_lawful}
 use Rattle.mg_model.specs.declared.table.Table.{Table}
 use Rattle.mg_model.specs.Catalog.{CatalogRows, catalog_name}
-use Rattle.mg_model.specs.CatalogRules.{AreTables, EachTable, IsCatalog, IsTable}
-use Rattle.mg_model.specs.Changes.{Cells, by_order, same_key}
+use Rattle.mg_model.specs.CatalogRules.{EachTable, IsCatalog, IsTable}
+use Rattle.mg_model.specs.Changes.{Cells, by_order}
 use Rattle.mg_image.specs.declared.entry.Entry.{Entry}
 use Rattle.mg_image.specs.Form.{Form, Pages}
 use Rattle.mg_image.specs.Records.{Reading}

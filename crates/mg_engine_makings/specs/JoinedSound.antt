@@ -1,6 +1,6 @@
 -- The pages with a new table are sound where its maker counts as in limbo.
 use Rattle.std.proofs.Common.{◌≡◌, ◌≢◌, ◌⊎◌, ◌<◌, ◌≤◌, inl, inr, refl, sym, ap, ◌∙◌, subst, ℕ, Bool, true, false, List, [], ◌∷◌, Option, None, Some}
-use Rattle.std.specs.Prelude.{if◌then◌else◌, map}
+use Rattle.std.specs.Prelude.{if◌then◌else◌}
 use Rattle.std.proofs.lemmas.Bool.{false≢true}
 use Rattle.std.specs.Cmp.Lexicographic.{slice_cmp}
 use Rattle.std.specs.Ordering.{nat_cmp}
@@ -8,9 +8,8 @@ use Rattle.std.specs.declared.cmp.Ordering.{Ordering}
 use Rattle.std.specs.declared.cmp.Ordering.TheVariants.{Less, Equal, Greater}
 use Rattle.mg_base.specs.declared.numbers.RecId.{RecId}
 use Rattle.mg_base.specs.declared.transaction.TxState.{TxState}
-use Rattle.mg_base.specs.declared.transaction.TxState.TheVariants.{Committed, Dead, Limbo}
+use Rattle.mg_base.specs.declared.transaction.TxState.TheVariants.{Committed, Limbo}
 use Rattle.mg_value.specs.declared.value.Value.{Value}
-use Rattle.mg_catalog.specs.ByKey.{row_key}
 use Rattle.mg_header.specs.HeaderPage.{header_in}
 use Rattle.mg_slots.specs.DataPage.{cell_of}
 use Rattle.mg_model.specs.declared.table.Table.{Table}
@@ -18,18 +17,17 @@ use Rattle.mg_model.specs.Changes.{by_order}
 use Rattle.mg_version.specs.declared.cell.Cell.{Cell}
 use Rattle.mg_version.specs.declared.cell.Link.{Link}
 use Rattle.mg_image.specs.declared.entry.Entry.{Entry}
-use Rattle.mg_image.specs.Catalog.{HasMade, HasOwnTables, IsNamed, MayStandIn}
+use Rattle.mg_image.specs.Catalog.{HasMade, IsNamed, MayStandIn}
 use Rattle.mg_image.specs.FactLaws.{each_has}
-use Rattle.mg_image.specs.Form.{Form, Pages, Row}
-use Rattle.mg_image.specs.Held.{HasLimbo, Shows}
-use Rattle.mg_image.specs.Inventory.{next_of, oldest_active_of, oldest_of}
-use Rattle.mg_image.specs.RecordRules.{AreRecords, Each, EachBack, Facts, IsRecord, IsVersion, TakesKey, committed_in, table_in}
+use Rattle.mg_image.specs.Form.{Form, Pages}
+use Rattle.mg_image.specs.Inventory.{next_of, oldest_of}
+use Rattle.mg_image.specs.RecordRules.{Each, EachBack, Facts, IsRecord, IsVersion, TakesKey, committed_in, table_in}
 use Rattle.mg_image.specs.Records.{Cells, Chain, Reading, Stands, cells_of, ended, goes, key_of, newest_of, record_key, shown, slot_cell, writer}
-use Rattle.mg_image.specs.Sound.{HasNoOldLimbo, HasTablePages, IsSoundBy, facts_by}
-use Rattle.mg_image.specs.Tables.{EachStand, Layout, Stand, has, stands_of, table_at}
+use Rattle.mg_image.specs.Sound.{HasTablePages, IsSoundBy, facts_by}
+use Rattle.mg_image.specs.Tables.{EachStand, Layout, Stand, has, table_at}
 use Rattle.mg_kept_images.specs.Begins.{Raises, committed_still, dead_before}
 use Rattle.mg_engine_makings.specs.Joined.{IsMade, JoinedAreSound, Joins, layout_with, stands_with}
-use Rattle.mg_engine_makings.specs.JoinedNames.{cat_is, in_catalog, names_joined, of_catalog, of_other, read_still, same_catalog, was_of_catalog, was_other}
+use Rattle.mg_engine_makings.specs.JoinedNames.{cat_is, names_joined, of_catalog, of_other, read_still, same_catalog, was_of_catalog, was_other}
 use Rattle.mg_engine_makings.specs.JoinedRows.{cases_made, catalog_named, catalog_page, made_once, other_name}
 use Rattle.mg_engine_makings.specs.Rows.{MadeRow, reading_with}
 

@@ -11,4 +11,5 @@ pub mod Rows
 pub mod RowsLaws
 pub mod Seen
 pub mod SeenLaws
+pub mod TableReads
 pub mod Untouched

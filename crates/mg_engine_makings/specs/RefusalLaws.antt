@@ -1,10 +1,9 @@
 -- A table is refused before its rows are put: each stage's refusals are the history machine's, or come from outside.
-use Rattle.std.proofs.Common.{◌≡◌, ◌≢◌, ◌⊎◌, inl, inr, ◌+◌, ℕ, Bool, true, false, List, [], ◌∷◌, Option, None, Some, refl, sym, ap, ◌∙◌, subst, length}
-use Rattle.std.specs.Prelude.{if◌then◌else◌, is_some, map}
+use Rattle.std.proofs.Common.{◌≡◌, ◌⊎◌, inl, inr, ◌+◌, ℕ, Bool, true, false, List, ◌∷◌, Option, None, Some, refl, sym, ap, ◌∙◌, subst, length}
+use Rattle.std.specs.Prelude.{if◌then◌else◌, is_some}
 use Rattle.mg_base.specs.Disk.{Meaning}
 use Rattle.mg_base.specs.Image.{Image}
 use Rattle.mg_base.specs.declared.damage.Damaged.{Damaged}
-use Rattle.mg_base.specs.declared.numbers.RecId.{RecId}
 use Rattle.mg_base.specs.declared.numbers.TxNo.{TxNo}
 use Rattle.mg_base.specs.declared.transaction.TxState.{TxState}
 use Rattle.mg_base.specs.declared.transaction.TxState.TheVariants.{Active}
@@ -35,7 +34,7 @@ use Rattle.mg_lasting.specs.Changing.{QuietHolds}
 use Rattle.mg_pool.specs.Pool.{shown}
 use Rattle.mg_pool.specs.declared.pool.Pool.{Pool}
 use Rattle.mg_row_writes.specs.Changing.{not_lawful}
-use Rattle.mg_row_writes.specs.Finding.{IsInWay, IsRowAt}
+use Rattle.mg_row_writes.specs.Finding.{IsRowAt}
 use Rattle.mg_row_writes.specs.declared.finding.RowAt.{RowAt}
 use Rattle.mg_seek.specs.declared.views.Obstacle.{Obstacle}
 use Rattle.mg_space.specs.View.{Tells}
@@ -43,17 +42,17 @@ use Rattle.mg_space.specs.ViewLaws.{CountsNow}
 use Rattle.mg_space.specs.declared.fault.SpaceFault.{SpaceFault}
 use Rattle.mg_space.specs.declared.fault.SpaceFault.TheVariants as faults
 use Rattle.mg_space.specs.declared.links.FireLinks.{FireLinks}
-use Rattle.mg_table_making.specs.Creating.{FailsCreation, FailsKeys, FailsPut, MayBeMade, no_catalog, no_keys, not_begun, not_free, not_kept, not_made, not_put, only_reads}
-use Rattle.mg_table_making.specs.Keys.{AreFreeKeys, FailsColumnKey, FailsColumnKeys, FailsFree, FailsLater, FailsOwnKey, IsFreeKey, column_spoken, column_taken, column_unread, first_taken, free_more, free_none, keys_made, later_taken, out_of_place, own_hindered, own_seen, own_spoken, own_taken, own_unread}
+use Rattle.mg_table_making.specs.Creating.{FailsCreation, FailsPut, MayBeMade, no_catalog, no_keys, not_begun, not_free, not_kept, not_made, not_put, only_reads}
+use Rattle.mg_table_making.specs.Keys.{AreFreeKeys, FailsColumnKey, FailsColumnKeys, FailsFree, FailsOwnKey, column_spoken, column_taken, column_unread, first_taken, free_more, free_none, keys_made, later_taken, out_of_place, own_hindered, own_seen, own_spoken, own_taken, own_unread}
 use Rattle.mg_table_overlays.specs.OneTable.{stands_in}
 use Rattle.mg_txlist.specs.TxList.{said}
 use Rattle.mg_waits.specs.Machine.{NobodyWaits, VerdictsAreTheMachines}
 use Rattle.mg_works.specs.Works.{Working, work_of}
 use Rattle.mg_core.specs.declared.parts.Core.{Core}
 use Rattle.mg_core.specs.Cores.{Continues, IsCore}
-use Rattle.mg_core.specs.Obstacles.{Hinders, HindersBy, IsOfRecord, IsTold, NotesWait, StopsAtRecord, hindered, unread}
+use Rattle.mg_core.specs.Obstacles.{Hinders, HindersBy, IsOfRecord, IsTold, NotesWait, hindered, unread}
 use Rattle.mg_core.specs.Putting.{CountsOne}
-use Rattle.mg_core.specs.Reading.{FailsReading, OnlyReads}
+use Rattle.mg_core.specs.Reading.{FailsReading}
 use Rattle.mg_core.specs.Writing.{HasBegun, IsOfKey, MayWrite, ReadsRow}
 use Rattle.mg_engine_meaning.specs.EventLaws.{refused_gives}
 use Rattle.mg_engine_meaning.specs.Frames.{GivesEvent}

@@ -1,5 +1,5 @@
 -- A table that is not made: each refusal before its rows are put, as a keeper of records owes it.
-use Rattle.std.specs.Prelude.{◌≡◌, ◌⊎◌, ℕ, List, [], length, None, Some}
+use Rattle.std.specs.Prelude.{◌⊎◌, ℕ, List, None, Some}
 use Rattle.mg_base.specs.Disk.{Meaning}
 use Rattle.mg_base.specs.declared.numbers.TxNo.{TxNo}
 use Rattle.mg_catalog.specs.RowsSaid.{table_row}

@@ -1,7 +1,7 @@
 -- Memory follows the entries of several rows of the catalog.
-use Rattle.std.proofs.Common.{◌≡◌, ◌≢◌, ◌⊎◌, inl, inr, refl, sym, ap, ◌∙◌, subst, ◌==◌, ◌<◌, ℕ, Bool, true, false, List, [], ◌∷◌, Option, None, Some}
+use Rattle.std.proofs.Common.{◌≡◌, ◌≢◌, refl, sym, ap, ◌∙◌, subst, ◌==◌, ◌<◌, ℕ, Bool, true, false, List, [], ◌∷◌, Option, None, Some}
 use Rattle.std.specs.Prelude.{if◌then◌else◌, map}
-use Rattle.std.proofs.lemmas.Bool.{cases_eq, eq-eqb, eqb-true, false≢true, ne_eqb}
+use Rattle.std.proofs.lemmas.Bool.{eq-eqb, eqb-true, false≢true, ne_eqb}
 use Rattle.mg_base.specs.declared.numbers.TxNo.{TxNo}
 use Rattle.mg_value.specs.declared.shape.Shape.{Shape}
 use Rattle.mg_value.specs.declared.value.Value.{Value}
@@ -11,12 +11,12 @@ use Rattle.mg_model.specs.declared.change.Deed.TheVariants.{Changed}
 use Rattle.mg_model.specs.declared.opening.Opening.{Opening}
 use Rattle.mg_model.specs.declared.table.Table.{Table}
 use Rattle.mg_model.specs.Answers.{is_open}
-use Rattle.mg_model.specs.Catalog.{catalog_name, catalog_shape, key_of}
-use Rattle.mg_model.specs.Changes.{Cells, has_change, is_at}
+use Rattle.mg_model.specs.Catalog.{catalog_name}
+use Rattle.mg_model.specs.Changes.{has_change, is_at}
 use Rattle.mg_model.specs.Effects.{is_its}
 use Rattle.mg_model.specs.History.{Entries, Entry as Event}
 use Rattle.mg_model.specs.Legal.{IsLegal, MayBegin}
-use Rattle.mg_model.specs.Machine.{changes_in, deeds_by, own, state_of, steps}
+use Rattle.mg_model.specs.Machine.{deeds_by, own, steps}
 use Rattle.mg_generations.specs.Kept.{StandFor}
 use Rattle.mg_records.specs.Reading.{shape_seen}
 use Rattle.mg_undo.specs.Machine.{NotesDeeds, undo_of, was_in}
@@ -77,15 +77,15 @@ module _ (notes_deeds : NotesDeeds) (o : Opening) (h : Entries) (t : TxNo) (poin
 
   -- its deeds
   deeds_now : deeds_by t.0 (steps o (e ∷ h)) ≡ Changed (record {
-        table = catalog_name;
-        key = key_at row;
-        row = Some (row_told row);
-      }) ∷ deeds_by t.0 (steps o h)
+    table = catalog_name;
+    key = key_at row;
+    row = Some (row_told row);
+  }) ∷ deeds_by t.0 (steps o h)
   deeds_now = rw (eq-eqb t.0 t.0 refl) (ap (λ (k : Value). Changed (record {
-        table = catalog_name;
-        key = k;
-        row = Some (row_told row);
-      }) ∷ deeds_by t.0 (steps o h)) (key_as_told row.first.row))
+    table = catalog_name;
+    key = k;
+    row = Some (row_told row);
+  }) ∷ deeds_by t.0 (steps o h)) (key_as_told row.first.row))
 
   was_is : was_in (own o h t.0) catalog_name (key_at row) ≡ Untouched
   was_is = untouched (own o h t.0) catalog_name (key_at row)

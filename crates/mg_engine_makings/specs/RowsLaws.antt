@@ -1,13 +1,11 @@
 -- Rows of the catalog come into new records, one after another.
-use Rattle.std.proofs.Common.{◌≡◌, ◌≢◌, ◌⊎◌, inl, inr, refl, sym, ap, ◌∙◌, subst, ◌&&◌, ◌==◌, ℕ, suc, Bool, true, false, List, [], ◌∷◌, Option, None, Some, cond, get_or}
+use Rattle.std.proofs.Common.{◌≡◌, ◌≢◌, ◌⊎◌, inl, inr, refl, sym, ap, ◌∙◌, subst, ◌==◌, ℕ, suc, Bool, true, false, List, [], ◌∷◌, Option, None, Some, get_or}
 use Rattle.std.specs.Prelude.{if◌then◌else◌, is_some, map, pos, slice_index_or}
 use Rattle.std.proofs.Math.ListN.{set}
-use Rattle.std.proofs.lemmas.Bool.{false≢true}
 use Rattle.mg_base.specs.Fields.{byte}
 use Rattle.mg_base.specs.declared.numbers.RecId.{RecId}
 use Rattle.mg_base.specs.declared.numbers.TxNo.{TxNo}
 use Rattle.mg_base.specs.declared.transaction.TxState.{TxState}
-use Rattle.mg_base.specs.declared.transaction.TxState.TheVariants.{Active}
 use Rattle.mg_value.specs.declared.value.Value.{Value}
 use Rattle.mg_value.specs.declared.value.Value.TheVariants.{Int, Null}
 use Rattle.mg_value.specs.Values.{bytes_of}
@@ -16,20 +14,20 @@ use Rattle.mg_model.specs.declared.answer.Answer.TheVariants.{Fine, No}
 use Rattle.mg_model.specs.declared.opening.Opening.{Opening}
 use Rattle.mg_model.specs.declared.refusal.Refusal.TheVariants.{DuplicateKey, ReadOnly}
 use Rattle.mg_model.specs.declared.table.Table.{Table}
-use Rattle.mg_model.specs.Answers.{answer, if_active, obstacle, past, told}
+use Rattle.mg_model.specs.Answers.{if_active, obstacle, past, told}
 use Rattle.mg_model.specs.Catalog.{catalog_name, catalog_shape, key_of, told_cells}
 use Rattle.mg_model.specs.Changes.{Cells, row_at}
 use Rattle.mg_model.specs.History.{Entries, Entry as Event}
 use Rattle.mg_model.specs.Legal.{IsLawful, IsLegal, MayBegin}
-use Rattle.mg_model.specs.Machine.{mode_of, state_of, view}
-use Rattle.mg_generations.specs.Generations.{Generation, generation, put, without_newest_by}
+use Rattle.mg_model.specs.Machine.{mode_of, view}
+use Rattle.mg_generations.specs.Generations.{Generation, generation, put}
 use Rattle.mg_generations.specs.Kept.{IsErasedForAll, StandFor}
 use Rattle.mg_image.specs.declared.entry.Entry.{Entry}
 use Rattle.mg_image.specs.Catalog.{catalog_table}
 use Rattle.mg_image.specs.RecordRules.{Facts, table_in}
 use Rattle.mg_image.specs.Records.{Reading, record_key, writer}
 use Rattle.mg_image.specs.StepLaws.{cases_place, put_reading, same_place}
-use Rattle.mg_kept_images.specs.Fronts.{is_dead, living}
+use Rattle.mg_kept_images.specs.Fronts.{is_dead}
 use Rattle.mg_seek.specs.Histories.{told_versions}
 use Rattle.mg_engine_steps.specs.AnswersLaws.{NothingAtKeys}
 use Rattle.mg_engine_steps.specs.ChainLaws.{erased_still}

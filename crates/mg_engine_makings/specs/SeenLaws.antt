@@ -22,10 +22,10 @@ use Rattle.mg_model.specs.Catalog.{CatalogRows, catalog_name, column_key, column
 use Rattle.mg_model.specs.Changes.{Cells, row_at, same_key, same_name}
 use Rattle.mg_model.specs.History.{Entries}
 use Rattle.mg_model.specs.Machine.{base, own}
-use Rattle.mg_records.specs.Reading.{shape_named, shape_seen}
+use Rattle.mg_records.specs.Reading.{shape_named}
 use Rattle.mg_records.specs.Writing.{IsKeyColumn, IsNewShape, IsOfLength, new_table, rows_made}
 use Rattle.mg_engine_makings.specs.Rows.{row_entry, with_rows}
-use Rattle.mg_engine_makings.specs.Seen.{MadeAreSeen, SeesMade}
+use Rattle.mg_engine_makings.specs.Seen.{MadeAreSeen}
 
 -- ---- what is seen of the catalog
 
@@ -249,9 +249,9 @@ made_said name shape old other new = rw (not_catalog name other)
 
     said : shape_said (put_rows (rows_made name shape) old) name (Some (table_row (new_table name shape))) ≡ Some shape
     said = ap (λ (n : ℕ). Some (record {
-          columns = columns_said (put_rows (rows_made name shape) old) name 0 n;
-          key = key_said (put_rows (rows_made name shape) old) name 0 n;
-        })) (min-eq_left new.most)
+      columns = columns_said (put_rows (rows_made name shape) old) name 0 n;
+      key = key_said (put_rows (rows_made name shape) old) name 0 n;
+    })) (min-eq_left new.most)
         ∙ (λ i. Some (record {
           columns = columns_there name shape.key (put_rows (rows_made name shape) old) shape.columns 0 (record {
             lengths = new.lengths;

@@ -1,10 +1,9 @@
 -- A batch with a new table, step by step, with its maker dead: the catalog's records read as before, and each row as the
 -- first version of a new one.
-use Rattle.std.proofs.Common.{◌≡◌, ◌≢◌, ◌⊎◌, inl, inr, refl, sym, ap, ◌∙◌, subst, ℕ, Bool, true, false, List, [], ◌∷◌, Option, None, Some}
+use Rattle.std.proofs.Common.{◌≡◌, ◌≢◌, ◌⊎◌, inl, inr, refl, sym, ap, ◌∙◌, subst, ℕ, true, false, List, [], ◌∷◌, Option, None, Some}
 use Rattle.mg_base.specs.Image.{Image}
 use Rattle.mg_base.specs.declared.numbers.RecId.{RecId}
 use Rattle.mg_base.specs.declared.transaction.TxState.{TxState}
-use Rattle.mg_base.specs.declared.transaction.TxState.TheVariants.{Dead}
 use Rattle.mg_careful.specs.CarefulWrite.{PageSet}
 use Rattle.mg_careful.specs.Precedence.{Orders}
 use Rattle.mg_model.specs.declared.opening.Opening.{Opening}
@@ -15,7 +14,7 @@ use Rattle.mg_pointer.specs.PointerPageLaws.{length-new_pointer_page}
 use Rattle.mg_pool.specs.Batch.{Changed}
 use Rattle.mg_pool.specs.Pool.{shown}
 use Rattle.mg_pool.specs.declared.pool.Pool.{Pool}
-use Rattle.mg_space.specs.Taking.{IsGeometry, region_of}
+use Rattle.mg_space.specs.Taking.{IsGeometry}
 use Rattle.mg_space.specs.View.{viewed}
 use Rattle.mg_value.specs.declared.shape.Shape.{Shape}
 use Rattle.mg_version.specs.declared.cell.TheConstants.{ANCHOR_LEN}
@@ -24,10 +23,9 @@ use Rattle.mg_heap.specs.Growth.{orders_to}
 use Rattle.mg_heap_ties.specs.Batches.{IsWithin}
 use Rattle.mg_chain.specs.Chains.{newest_link}
 use Rattle.mg_chain_ties.specs.PushTies.{written}
-use Rattle.mg_chain_ties.specs.Rows.{within_orders, within_put}
+use Rattle.mg_chain_ties.specs.Rows.{within_orders}
 use Rattle.mg_image.specs.declared.entry.Entry.{Entry}
 use Rattle.mg_image.specs.Form.{Form, Pages, Row}
-use Rattle.mg_image.specs.Inventory.{inventory_page}
 use Rattle.mg_image.specs.ReadingLaws.{RowsAreOne}
 use Rattle.mg_image.specs.Records.{Reading, writer}
 use Rattle.mg_image.specs.StepLaws.{cases_place, put_reading, same_place}
@@ -38,7 +36,7 @@ use Rattle.mg_table_overlays.specs.Growing.{HasGrown}
 use Rattle.mg_catalog_batches.specs.Filled.{IsFilled, MayFill, ReadsRow, catalog_of, order_reads, order_step, row_reads, row_step, take_reads, take_step}
 use Rattle.mg_catalog_batches.specs.Filling.{NewRow, TakesAndMakes}
 use Rattle.mg_catalog_batches.specs.Within.{given_within, made_within}
-use Rattle.mg_table_batch.specs.Filling.{FillsTable, PutsNaming, PutsRow, PutsRows, PutsTable, StoresRow, TakesFirst, page_of_version, puts_more, puts_none, rows_at}
+use Rattle.mg_table_batch.specs.Filling.{FillsTable, PutsRow, PutsRows, PutsTable, StoresRow, page_of_version, puts_more, puts_none, rows_at}
 use Rattle.mg_engine_makings.specs.Joined.{HasOwnPlace, HaveOwnPlaces, IsMade, rows_stored}
 use Rattle.mg_engine_makings.specs.Rows.{MadeRow, reading_with}
 
@@ -302,3 +300,26 @@ module _ (form : Form) (one : RowsAreOne form.coding) (none : HasNoSequences for
       begun : IsFilled form one none store image lawful state o h contents orders changed set_ img lays left fills.begun
       begun = take_step form one none store image lawful state o h contents orders changed set_ img lays left old
           fills.begun fills.page (new_pointer_page store.geometry.size fills.page fills.page 0) taking was
+
+-- ---- the law
+
+-- a batch with a new table, where its maker counts as dead: over all that a sound image may have of it the catalog's
+-- records read as they did, and each row of the table as the first version of a record that had none
+abbrev pub TablesAreRead : Form → (D L : Type 0) → Type 0
+TablesAreRead form D L = (one : RowsAreOne form.coding) (none : HasNoSequences form) (store : Pool D L) (image : Image)
+    (lawful : IsGeometry store.geometry) (state : ℕ → TxState) (o : Opening) (h : Entries)
+    (contents : ℕ → Option (List ℕ)) (orders : Orders) (changed : Pages) (set_ : PageSet) (img : Pages)
+    (lays : LaysBatch (shown store.dirty image) changed contents orders set_ img)
+    (left : (m : ℕ) → contents m ≡ None → shown store.dirty image m ≡ changed m) (first : Layout) (t : ℕ)
+    (name : List ℕ) (shape : Shape) (old new : Changed)
+    → (fills : FillsTable store image (catalog_of (shown store.dirty image)) t name shape old new)
+    → MayPut store image t (rows_at name shape fills.page) (MayFill form one none store image lawful state o h contents
+    orders changed set_ img lays left first) → IsWithin contents orders new
+    → (was : IsFilled form one none store image lawful state o h contents orders changed set_ img lays left old)
+    → HasRows form one none store image lawful state o h contents orders changed set_ img lays left first t
+    was.kept.of_pool was.kept.in_pool (rows_at name shape fills.page) new
+
+pub tables_are_read : (form : Form) (D L : Type 0) → TablesAreRead form D L
+tables_are_read form D L one none store image lawful state o h contents orders changed set_ img lays left first t name
+    shape old new fills may within was = table_is_read form one none store image lawful state o h contents orders
+    changed set_ img lays left first t name shape old new fills may within was
