@@ -7,16 +7,11 @@ use Rattle.mg_base.specs.declared.transaction.TxState.TheVariants.{Active, Dead,
 use Rattle.mg_careful.specs.CarefulWrite.{PageSet}
 use Rattle.mg_catalog_batches.specs.CatalogRows.{IsRowOf}
 use Rattle.mg_catalog_batches.specs.Filled.{IsFilled, MayFill, catalog_of, fills_to}
-use Rattle.mg_catalog_batches.specs.Filling.{Fills, NewRow, fills_as}
+use Rattle.mg_catalog_batches.specs.Filling.{Fills, fills_as}
 use Rattle.mg_chain_ties.specs.FirstPages.{left_within}
-use Rattle.mg_chain_ties.specs.PushTies.{written}
-use Rattle.mg_chain_ties.specs.Rows.{ForEach}
-use Rattle.mg_table_overlays.specs.Growing.{MayBeWritten}
 use Rattle.mg_heap_ties.specs.Batches.{within_self}
 use Rattle.mg_image.specs.Form.{Form, Pages}
 use Rattle.mg_image.specs.ReadingLaws.{RowsAreOne}
-use Rattle.mg_image.specs.Records.{key_of}
-use Rattle.mg_image.specs.Sound.{facts_by}
 use Rattle.mg_kept_images.specs.Kinds.{HasNoSequences}
 use Rattle.mg_kept_images.specs.CommitLaws.{LeavesOthers}
 use Rattle.mg_kept_images.specs.EndLaws.{longer_for}
