@@ -1,5 +1,5 @@
 -- A batch of its own was filled and changed, or not.
-use Rattle.std.proofs.Common.{◌≡◌, ◌∙◌, ℕ, Bool, true, false, List, [], Result, Ok, Err, subst, sym}
+use Rattle.std.proofs.Common.{◌≡◌, ◌∙◌, ◌+◌, ℕ, Bool, true, false, List, [], Result, Ok, Err, subst, sym}
 use Rattle.std.proofs.lemmas.Bool.{false≢true}
 use Rattle.std.specs.Prelude.{IsTrue, MatchResult}
 use Rattle.mg_base.specs.Disk.{Meaning}
@@ -109,16 +109,18 @@ module _ {D : Type 0} (m : Meaning D) (catalog : Table) (t : ℕ) (name : List �
 -- ---- tries
 
 pub tried_more : {D : Type 0} (m : Meaning D) (catalog : Table) (t : ℕ) (name : List ℕ) (shape : Shape)
-    (a b c : Pool D FireLinks) (answer : Bool) → answer ≡ false → GrowsAsWanted m catalog t name shape a b
-    → MakesTry m catalog t name shape b c answer → GrowsAsWanted m catalog t name shape a c
-tried_more m catalog t name shape a b c answer is grows tries =
-    gets_one a b c grows (subst (MakesTry m catalog t name shape b c) is tries)
+    (a b c : Pool D FireLinks) (answer : Bool) → answer ≡ false → (count : ℕ)
+    → GrowsAsWanted m catalog t name shape count a b → MakesTry m catalog t name shape b c answer
+    → GrowsAsWanted m catalog t name shape (count + 1) a c
+tried_more m catalog t name shape a b c answer is count grows tries =
+    gets_one count a b c grows (subst (MakesTry m catalog t name shape b c) is tries)
 
 pub tried_once : {D : Type 0} (m : Meaning D) (catalog : Table) (t : ℕ) (name : List ℕ) (shape : Shape)
-    (a b c : Pool D FireLinks) (answer : Bool) → answer ≡ true → GrowsAsWanted m catalog t name shape a b
-    → MakesTry m catalog t name shape b c answer → MakesTable m catalog t name shape a c
-tried_once m catalog t name shape a b c answer is grows tries = record {
+    (a b c : Pool D FireLinks) (answer : Bool) → answer ≡ true → (count : ℕ)
+    → GrowsAsWanted m catalog t name shape count a b → MakesTry m catalog t name shape b c answer → MakesTable m catalog t name shape a c
+tried_once m catalog t name shape a b c answer is count grows tries = record {
   grown = b;
+  count = count;
   grows = grows;
   makes = subst (MakesTry m catalog t name shape b c) is tries;
 }

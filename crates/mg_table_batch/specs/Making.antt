@@ -1,5 +1,5 @@
 -- A table is made on the pages: the catalog gets the pages that it needs, and then one batch has all of the table.
-use Rattle.std.specs.Prelude.{◌≡◌, ℕ, Bool, true, false, List}
+use Rattle.std.specs.Prelude.{◌≡◌, ◌+◌, ◌*◌, ℕ, Bool, true, false, List}
 use Rattle.mg_base.specs.Disk.{Meaning}
 use Rattle.mg_base.specs.Image.{Image}
 use Rattle.mg_base.specs.declared.numbers.PageNo.{PageNo}
@@ -14,8 +14,14 @@ use Rattle.mg_space.specs.declared.fault.SpaceFault.{SpaceFault}
 use Rattle.mg_space.specs.declared.fault.SpaceFault.TheVariants as faults
 use Rattle.mg_space.specs.declared.links.FireLinks.{FireLinks}
 use Rattle.mg_value.specs.declared.shape.Shape.{Shape}
+use Rattle.mg_value.specs.declared.shape.TheConstants.{MOST_COLUMNS}
 use Rattle.mg_table_batch.specs.Filling.{FillsTable}
 use Rattle.mg_table_batch.specs.Refusals.{RefusesTable}
+
+-- How many pages the rows of one table want at most: each of its rows and of its columns' wants one for its slot and
+-- one for its version.
+abbrev pub most_pages : ℕ
+most_pages = 2 * (MOST_COLUMNS + 1)
 
 -- A table gets a data page more, in a batch of its own: no data page has room for a whole page.
 abbrev pub Grows : {D : Type 0} → Meaning D → Pool D FireLinks → Pool D FireLinks → ℕ → Type 0
@@ -44,10 +50,11 @@ module _ {D : Type 0} (m : Meaning D) (catalog : Table) (t : ℕ) (name : List �
     pub wants : WantsPage before ready
     pub grows : Grows m ready after catalog.pointer.0
 
-  -- the catalog gets data pages, one after another, as long as it wants one
-  pub data GrowsAsWanted : Pool D FireLinks → Pool D FireLinks → Type 0 where
-    has_enough : (store : Pool D FireLinks) → GrowsAsWanted store store
-    gets_one : (a b c : Pool D FireLinks) → GrowsAsWanted a b → GetsWanted b c → GrowsAsWanted a c
+  -- the catalog gets so many data pages, one after another, and each time it wants one
+  pub data GrowsAsWanted : ℕ → Pool D FireLinks → Pool D FireLinks → Type 0 where
+    has_enough : (store : Pool D FireLinks) → GrowsAsWanted 0 store store
+    gets_one : (count : ℕ) (a b c : Pool D FireLinks) → GrowsAsWanted count a b → GetsWanted b c
+        → GrowsAsWanted (count + 1) a c
 
   -- all of the table is in one batch, which the cache has changed
   abbrev pub MakesAtOnce : Pool D FireLinks → Pool D FireLinks → Type 0
@@ -72,13 +79,14 @@ module _ {D : Type 0} (m : Meaning D) (catalog : Table) (t : ℕ) (name : List �
   -- A table is made. Before that the catalog gets the data pages that it wants: then the cache is `grown`.
   pub record MakesTable (before after : Pool D FireLinks) : Type 0 where
     pub grown : Pool D FireLinks
-    pub grows : GrowsAsWanted before grown
+    pub count : ℕ
+    pub grows : GrowsAsWanted count before grown
     pub makes : MakesAtOnce grown after
 
   -- Why it is not: the table does not come into one batch, or that is not changed; the catalog wants a page, and
   -- gets none; or it has got as many as the rows of one table ever want, and wants more. Pages that it got stay,
   -- and hold nothing.
   pub data FailsTable (before after : Pool D FireLinks) (fault : SpaceFault) : Type 0 where
-    at_try : (grown : Pool D FireLinks) → GrowsAsWanted before grown → FailsTry grown after fault
+    at_try : (grown : Pool D FireLinks) (count : ℕ) → GrowsAsWanted count before grown → FailsTry grown after fault
         → FailsTable before after fault
-    wants_more : GrowsAsWanted before after → fault ≡ faults.Damaged not_lawful → FailsTable before after fault
+    wants_more : GrowsAsWanted most_pages before after → fault ≡ faults.Damaged not_lawful → FailsTable before after fault

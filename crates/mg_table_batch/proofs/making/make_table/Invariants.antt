@@ -7,5 +7,5 @@ abbrev pub invariant-loop : goal.invariant-loop
 invariant-loop g l = record {
   pool : IsPool g.D.Disk.meaning l.store;
   geometry : l.store.geometry ≡ l.initial.store.geometry;
-  grows : GrowsAsWanted g.D.Disk.meaning l.catalog l.t.0 l.name l.shape l.initial.store l.store;
+  grows : GrowsAsWanted g.D.Disk.meaning l.catalog l.t.0 l.name l.shape l.counter l.initial.store l.store;
 }
