@@ -16,8 +16,8 @@ use Rattle.mg_chain.specs.Writing.{GivesSpot, MakesRecord, link_to}
 use Rattle.mg_chain_ties.specs.FirstPages.{MakesPages, left_within, made_pages}
 use Rattle.mg_chain_ties.specs.PushTies.{written}
 use Rattle.mg_chain_ties.specs.Rows.{off_header}
-use Rattle.mg_table_overlays.specs.Growing.{EndsAt, IsTableOf, MayBeWritten}
-use Rattle.mg_table_overlays.specs.GrowingLaws.{StandsTo, grows_part, grows_pool, table_of_end}
+use Rattle.mg_table_overlays.specs.Growing.{EndsAt, HasGrown, IsTableOf, MayBeWritten}
+use Rattle.mg_table_overlays.specs.GrowingLaws.{StandsTo, grown_more, grows_part, grows_pool, table_of_end, taken_sound}
 use Rattle.mg_table_overlays.specs.Knowing.{entered_of, lawful_there, pointers_keep, put_still}
 use Rattle.mg_header.specs.HeaderPage.{header_in}
 use Rattle.mg_heap.specs.Growth.{AddsOrders}
@@ -30,7 +30,12 @@ use Rattle.mg_image.specs.Catalog.{catalog_table}
 use Rattle.mg_image.specs.Form.{Coding, Form, Pages, Row}
 use Rattle.mg_image.specs.Inventory.{inventory_page}
 use Rattle.mg_image.specs.ReadingLaws.{RowsAreOne}
-use Rattle.mg_image.specs.RecordRules.{Facts}
+use Rattle.mg_image.specs.RecordRules.{AreRecords, Facts}
+use Rattle.mg_image.specs.StepLaws.{put_reading}
+use Rattle.mg_kept_images.specs.DataSound.{data_sound, facts_same}
+use Rattle.mg_kept_images.specs.Push.{free_empty, free_unread}
+use Rattle.mg_kept_images.specs.QuietVersions.{AreQuiet, indexed_still, owns_still, shows_with}
+use Rattle.mg_kept_images.specs.Rest.{LeavesRest}
 use Rattle.mg_image.specs.Records.{Reading, cells_of, key_of, slot_cell}
 use Rattle.mg_image.specs.Sound.{IsSoundBy, facts_by}
 use Rattle.mg_image.specs.Tables.{Layout, stands_of, table_at}
@@ -48,7 +53,7 @@ use Rattle.mg_table_overlays.specs.OutSteps.{everywhere}
 use Rattle.mg_pool.specs.Batch.{Changed}
 use Rattle.mg_pool.specs.Pool.{shown}
 use Rattle.mg_pool.specs.declared.pool.Pool.{Pool}
-use Rattle.mg_record_overlays.specs.AddPart.{FindsPlace, add_views}
+use Rattle.mg_record_overlays.specs.AddPart.{AddsOver, FindsPlace, add_living, add_sound, add_views}
 use Rattle.mg_slots.specs.DataPage.{cell_of}
 use Rattle.mg_slots.specs.RoomLaws.{least_free_is_free}
 use Rattle.mg_space.specs.Taking.{IsGeometry, region_of}
@@ -60,7 +65,7 @@ use Rattle.mg_page_overlays.specs.TakePart.{OccupiesPage, take_views}
 use Rattle.mg_value.specs.declared.value.Value.{Value}
 use Rattle.mg_version.specs.declared.cell.TheConstants.{ANCHOR_LEN}
 use Rattle.mg_version.specs.declared.cell.Version.{Version}
-use Rattle.std.proofs.Common.{List, None, Option, Some, [], ap, inl, inr, length, refl, subst, sym, true, ℕ, ◌∙◌, ◌≡◌, ◌≢◌, ◌≤◌, ◌⊎◌}
+use Rattle.std.proofs.Common.{List, None, Option, Some, [], ap, inl, inr, length, refl, subst, sym, true, ℕ, ◌∙◌, ◌≡◌, ◌≢◌, ◌≤◌, ◌⊎◌, ◌∷◌}
 use Rattle.std.proofs.lemmas.Bool.{cases_eq}
 
 -- where a version may be written does not depend on the place of its cell
@@ -76,6 +81,14 @@ may_anywhere coding f table key v row a b may = record {
   erased = may.erased;
   keyed = may.keyed;
 }
+
+-- A record of the catalog was made: the catalog may have got pages, and the record, which had no version, reads as its
+-- first one; all others read as they did.
+pub record ReadsRow (a c : Layout) (r s : Reading) (catalog : Table) (p : RecId) (e : Entry) : Type 0 where
+  pub grown : HasGrown a c r
+  pub read : s ≡ put_reading r p (e ∷ [])
+  pub placed : table_at (stands_of c) p.page.0 ≡ Some catalog
+  pub empty : r p ≡ []
 
 -- the catalog of an image, as a table
 abbrev pub catalog_of : Pages → Table
@@ -150,12 +163,20 @@ module _ (form : Form) (one : RowsAreOne form.coding) (none : HasNoSequences for
           whole = made_whole;
         })
 
-    take_step : IsFilled made
+    pub take_step : IsFilled made
     take_step = record {
       kept = (take_views form size o h state (view old) (view made) set_ img
           (inventory_page size (region_of size n)) n none (trees_stay form size) occupies at.kept).kept;
       header = made_others 0 occupies.off_header.0 occupies.off_header.1 ∙ at.header;
     }
+
+    -- all reads as it did
+    pub take_reads : (c : Layout) (s : Reading) → IsSoundBy form size state (view made) c s
+        → (at.kept.of_pool ≡ c) × (at.kept.in_pool ≡ s)
+    take_reads c s second = sound_once form one none size state (view made) at.kept.of_pool c at.kept.in_pool s
+        (taken_sound form (sound_once form one none) none size (trees_stay form size) state catalog (view old)
+        (view made) (inventory_page size (region_of size n)) n occupies at.kept.of_pool at.kept.in_pool
+        at.kept.pool_sound) second
 
     take_leaves : (m : ℕ) → IsOther size (view old) owner m → IsLeft size (view old) (view made) owner m
     take_leaves m other = occupied_leaves size (view old) (view made)
@@ -181,12 +202,18 @@ module _ (form : Form) (one : RowsAreOne form.coding) (none : HasNoSequences for
   order_view : (old mid : Changed) (os : List Order) → AddsOrders old mid os → view mid ≡ view old
   order_view old mid os adds = viewed_same store image old mid adds.same_pages
 
-  order_step : (old mid : Changed) (os : List Order) → AddsOrders old mid os → IsFilled old → IsFilled mid
+  pub order_step : (old mid : Changed) (os : List Order) → AddsOrders old mid os → IsFilled old → IsFilled mid
   order_step old mid os adds at = record {
     kept = subst (λ (v : Pages). IsKept form size o h state v (partly set_ v img))
         (sym (order_view old mid os adds)) at.kept;
     header = ap (λ (v : Pages). v 0) (order_view old mid os adds) ∙ at.header;
   }
+
+  pub order_reads : (old mid : Changed) (os : List Order) → AddsOrders old mid os → (at : IsFilled old) → (c : Layout)
+      (s : Reading) → IsSoundBy form size state (view mid) c s → (at.kept.of_pool ≡ c) × (at.kept.in_pool ≡ s)
+  order_reads old mid os adds at c s second = sound_once form one none size state (view mid) at.kept.of_pool c
+      at.kept.in_pool s (subst (λ (v : Pages). IsSoundBy form size state v at.kept.of_pool at.kept.in_pool)
+      (sym (order_view old mid os adds)) at.kept.pool_sound) second
 
   order_leaves : (old mid : Changed) (os : List Order) → AddsOrders old mid os → (m : ℕ)
       → IsOther size (view old) owner m → IsLeft size (view old) (view mid) owner m
@@ -318,7 +345,7 @@ module _ (form : Form) (one : RowsAreOne form.coding) (none : HasNoSequences for
     left_put : (q : ℕ) → contents q ≡ None → view put q ≡ changed q
     left_put q none_ = left_within store image contents orders put pages.put_within q none_ ∙ left q none_
 
-    row_step : IsFilled made
+    pub row_step : IsFilled made
     row_step = record {
       kept = add_views form size o h state (view grown_again) (view put) (view made) row.at catalog n
           (link_to record_.makes.at row.version.tx) pages.adds
@@ -369,6 +396,72 @@ module _ (form : Form) (one : RowsAreOne form.coding) (none : HasNoSequences for
         let b = left_then size (view old) (view given) (view grown_again) owner m a (room_leaves m a.other) in
         let c = left_then size (view old) (view grown_again) (view put) owner m b (cell_leaves m b.other) in
         left_then size (view old) (view put) (view made) owner m c (slot_leaves m c.other)
+
+    -- ---- what is read then
+
+    rest_put : LeavesRest form size (view grown_again) (view put) room_to.layout
+    rest_put = data_leaves form size n.at.page.0 none (trees_stay form size) state (view grown_again) (view put)
+        room_to.layout r room_to.sound pages.adds.put_page
+
+    rest_slot : LeavesRest form size (view put) (view made) room_to.layout
+    rest_slot = data_leaves form size row.at.page.0 none (trees_stay form size) state (view put) (view made)
+        room_to.layout r put_sound_there pages.adds.slot_page
+
+    abbrev put_facts : Facts
+    put_facts = facts_by state (view put) room_to.layout
+
+    found_put : FindsPlace form.coding put_facts row.at catalog n
+    found_put = subst (λ (e : Facts). FindsPlace form.coding e row.at catalog n)
+        (sym (facts_same form size state (view grown_again) (view put) n.at.page.0 room_to.layout r r room_to.sound
+        pages.adds.put_page rest_put.trees)) found
+
+    over : AddsOver form.coding put_facts (cells_of (view put)) (cells_of (view made)) r row.at catalog n
+        (link_to record_.makes.at row.version.tx)
+    over = record {
+      of = slot_placed;
+      dead = dead;
+      blank = pages.adds.blank;
+      change = pages.adds.turn;
+      cell = pages.adds.put.here;
+      leads = pages.adds.leads;
+      back = pages.adds.back;
+      unread = free_unread form.coding (facts_by state (view grown_again) room_to.layout)
+          (cells_of (view grown_again)) r n.at room_to.sound.records pages.adds.free;
+      lawful = found_put.lawful;
+    }
+
+    records_now : AreRecords form.coding put_facts (cells_of (view made)) (put_reading r row.at (n ∷ []))
+    records_now = add_sound form.coding put_facts (cells_of (view put)) (cells_of (view made)) r row.at catalog n
+        (link_to record_.makes.at row.version.tx) put_sound_there.records over
+
+    quiet_now : AreQuiet put_facts r (put_reading r row.at (n ∷ []))
+    quiet_now q = inl (add_living form.coding put_facts (cells_of (view put)) (cells_of (view made)) r row.at catalog n
+        (link_to record_.makes.at row.version.tx) put_sound_there.records over q)
+
+    row_sound : IsSoundBy form size state (view made) room_to.layout (put_reading r row.at (n ∷ []))
+    row_sound = data_sound form size state (view put) (view made) row.at.page.0 room_to.layout r
+        (put_reading r row.at (n ∷ [])) put_sound_there pages.adds.slot_page rest_slot.trees records_now
+        (shows_with form.coding put_facts (cells_of (view put)) (cells_of (view made)) r
+        (put_reading r row.at (n ∷ [])) put_sound_there.records records_now quiet_now)
+        (owns_still form.coding put_facts (cells_of (view put)) (cells_of (view made)) r
+        (put_reading r row.at (n ∷ [])) put_sound_there.records records_now quiet_now room_to.layout.catalog.table
+        put_sound_there.own_tables)
+        (indexed_still form.coding put_facts (cells_of (view put)) (cells_of (view made)) r
+        (put_reading r row.at (n ∷ [])) put_sound_there.records records_now quiet_now (view put) (view made)
+        rest_slot.trees.found put_sound_there.indexed) rest_slot.sequences
+
+    pub row_reads : (c : Layout) (s : Reading) → IsSoundBy form size state (view made) c s
+        → ReadsRow at.kept.of_pool c at.kept.in_pool s catalog row.at (written record_.makes.at row.version None row.row)
+    row_reads c s second =
+        let same : (room_to.layout ≡ c) × (put_reading r row.at (n ∷ []) ≡ s) = sound_once form one none size state
+        (view made) room_to.layout c (put_reading r row.at (n ∷ [])) s row_sound second in record {
+          grown = subst (λ (x : Layout). HasGrown at.kept.of_pool x r) same.0
+              (grown_more at.kept.of_pool spot_to.layout room_to.layout r spot_to.grown room_to.grown);
+          read = sym same.1;
+          placed = subst (λ (x : Layout). table_at (stands_of x) row.at.page.0 ≡ Some catalog) same.0 slot_placed;
+          empty = free_empty form.coding put_facts (cells_of (view put)) r row.at put_sound_there.records
+              pages.adds.blank;
+        }
 
   -- ---- the batch
 

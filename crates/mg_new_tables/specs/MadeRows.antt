@@ -92,12 +92,12 @@ each_stays : (made : Table) (ts us : List Table) → EachTable (StaysAmong ts) u
 each_stays made ts [] each = tt
 each_stays made ts (u ∷ us) each = (stays_in made ts u each.0, each_stays made ts us each.1)
 
-all_stay : (made ts us : List Table) → EachTable (StaysAmong ts) us
+pub all_stay : (made ts us : List Table) → EachTable (StaysAmong ts) us
     → EachTable (StaysAmong (with_tables made ts)) us
 all_stay [] ts us each = each
 all_stay (m ∷ made) ts us each = each_stays m (with_tables made ts) us (all_stay made ts us each)
 
-made_stay : (made ts : List Table) → EachTable (StaysAmong (with_tables made ts)) made
+pub made_stay : (made ts : List Table) → EachTable (StaysAmong (with_tables made ts)) made
 made_stay [] ts = tt
 made_stay (m ∷ made) ts = (
   stays_itself m (with_tables made ts),

@@ -7,26 +7,22 @@ use Rattle.mg_base.specs.declared.transaction.TxState.TheVariants.{Active, Dead,
 use Rattle.mg_careful.specs.CarefulWrite.{PageSet}
 use Rattle.mg_catalog_batches.specs.CatalogRows.{IsRowOf}
 use Rattle.mg_catalog_batches.specs.Filled.{IsFilled, MayFill, catalog_of, fills_to}
-use Rattle.mg_catalog_batches.specs.Filling.{Fills, NewRow, fills_as}
+use Rattle.mg_catalog_batches.specs.Filling.{Fills, fills_as}
 use Rattle.mg_chain_ties.specs.FirstPages.{left_within}
-use Rattle.mg_chain_ties.specs.PushTies.{written}
-use Rattle.mg_chain_ties.specs.Rows.{ForEach}
-use Rattle.mg_table_overlays.specs.Growing.{MayBeWritten}
 use Rattle.mg_heap_ties.specs.Batches.{within_self}
 use Rattle.mg_image.specs.Form.{Form, Pages}
 use Rattle.mg_image.specs.ReadingLaws.{RowsAreOne}
-use Rattle.mg_image.specs.Records.{key_of}
-use Rattle.mg_image.specs.Sound.{facts_by}
 use Rattle.mg_kept_images.specs.Kinds.{HasNoSequences}
 use Rattle.mg_kept_images.specs.CommitLaws.{LeavesOthers}
 use Rattle.mg_kept_images.specs.EndLaws.{longer_for}
-use Rattle.mg_kept_images.specs.KeptImages.{IsKept}
+use Rattle.mg_kept_images.specs.KeptImages.{IsKept, keeping}
 use Rattle.mg_model.specs.History.{Entries}
 use Rattle.mg_model.specs.declared.opening.Opening.{Opening}
-use Rattle.mg_new_tables.specs.Making.{MakesNamed, make_every}
+use Rattle.mg_new_tables.specs.Making.{MakesNamed, creates_of}
 use Rattle.mg_overlays.specs.Overlays.{LaysBatch, laid, left_state, without}
 use Rattle.mg_overlays.specs.Views.{first_view, last_view}
-use Rattle.mg_page_overlays.specs.Creating.{without_raises}
+use Rattle.mg_page_overlays.specs.Creating.{create_kept, without_raises}
+use Rattle.mg_overlays.specs.BatchLaws.{change_keeps_raised}
 use Rattle.mg_pool.specs.Batch.{Changed, content_in, lists}
 use Rattle.mg_pool.specs.Pool.{shown}
 use Rattle.mg_pool.specs.declared.pool.Pool.{Pool}
@@ -51,9 +47,31 @@ each_longer form size o by state pool image h later (one_more before last event 
     (each_longer form size o by state pool image before last each out kept)
 
 -- tables are made by an active transaction that has not asked for its commit, maybe after others: all rows of
--- the catalog that say them, and their first pages, are in one batch that the cache has changed. Where the
--- transaction may come to count as in limbo with these tables, every overlay is kept, for the history with an entry
+-- the catalog that say them, and their first pages, are in one batch that the cache has changed. Where the pool's own
+-- image is what it has to be with the transaction in limbo too, every overlay is kept, for the history with an entry
 -- for each row
+abbrev pub FilledTablesGo : Form → (D L : Type 0) → Meaning D → Type 0
+FilledTablesGo form D L m = (before after : Pool D L) (i j : Image) (batch : Changed) (asked : Asked)
+    (session : Sessions) (o : Opening) (h later : Entries) (by : ℕ) (state : ℕ → TxState)
+    → ChangesFresh m before after i j batch
+    → Fills before i (catalog_of (shown before.dirty i)).pointer.0
+    (IsRowOf form before.geometry.size by state (shown before.dirty i)) fresh batch
+    → (active : state by ≡ Active) → asked by ≡ false
+    -- the history
+    → LeavesOthersEach o by h later
+    -- the half in which the transaction counts as in limbo
+    → ((chosen : ℕ → Bool) → chosen by ≡ true
+    → IsKept form before.geometry.size o h (left_state chosen state) (shown before.dirty i)
+    (shown before.dirty i)
+    → IsKept form before.geometry.size o later (left_state (without by chosen) state)
+    (shown after.dirty j) (shown after.dirty j)
+    → IsKept form before.geometry.size o later (left_state chosen state) (shown after.dirty j)
+    (shown after.dirty j))
+    → KeptIn form before.geometry.size o h state asked session before i
+    → KeptIn form before.geometry.size o later state asked session after j
+
+-- the same, where the tables are all that the transaction has made, and none has a data page yet: it may come to count
+-- as in limbo with them
 abbrev pub FilledTablesKeep : Form → (D L : Type 0) → Meaning D → Type 0
 FilledTablesKeep form D L m = (before after : Pool D L) (i j : Image) (batch : Changed) (asked : Asked)
     (session : Sessions) (o : Opening) (h later : Entries) (by : ℕ) (state : ℕ → TxState)
@@ -74,14 +92,14 @@ FilledTablesKeep form D L m = (before after : Pool D L) (i j : Image) (batch : C
     → KeptIn form before.geometry.size o h state asked session before i
     → KeptIn form before.geometry.size o later state asked session after j
 
-pub filled_tables_keep : (form : Form) → RowsAreOne form.coding → HasNoSequences form → (D L : Type 0)
-    (m : Meaning D) → FilledTablesKeep form D L m
-filled_tables_keep form one none D L m before after i j batch asked session o h later by state changes fills
+pub filled_tables_go : (form : Form) → RowsAreOne form.coding → HasNoSequences form → (D L : Type 0)
+    (m : Meaning D) → FilledTablesGo form D L m
+filled_tables_go form one none D L m before after i j batch asked session o h later by state changes fills
     active not_asked brings raises every =
-    make_every form before.geometry.size o h later state by (cache_over before i) (cache_over after j)
-    it.gone (content_in batch.pages) (lists batch.orders) (needs_in asked session before)
-    (needs_in asked session after) it.changes active it.left (needs_all after j asked session by not_asked)
-    part raises every
+    change_keeps_raised (keeping form before.geometry.size o h) (keeping form before.geometry.size o later) state by
+    (cache_over before i) (cache_over after j) it.gone (content_in batch.pages) (lists batch.orders)
+    (needs_in asked session before) (needs_in asked session after) it.changes active it.left
+    (needs_all after j asked session by not_asked) (record { part = part; raise = raises }) every
   where
     it : BatchIsChanged before after i j batch asked session
     it = changed_fresh m before after i j batch asked session changes
@@ -142,3 +160,14 @@ filled_tables_keep form one none D L m before after i j batch asked session o h 
                   (content_in batch.pages) (lists batch.orders) set_ image lays_view)) was;
               header = refl;
             })
+
+pub filled_tables_keep : (form : Form) → RowsAreOne form.coding → HasNoSequences form → (D L : Type 0)
+    (m : Meaning D) → FilledTablesKeep form D L m
+filled_tables_keep form one none D L m before after i j batch asked session o h later by state changes fills
+    active not_asked brings makes every =
+    filled_tables_go form one none D L m before after i j batch asked session o h later by state changes fills
+    active not_asked brings (λ chosen is was kept. create_kept form before.geometry.size o later
+    (left_state (without by chosen) state) (left_state chosen state) by
+    (without_raises state by chosen active is) (shown after.dirty j) kept
+    (creates_of form before.geometry.size o later (left_state (without by chosen) state) (left_state chosen state) by
+    (without_raises state by chosen active is) (shown after.dirty j) kept (makes chosen is was kept))) every

@@ -1,6 +1,6 @@
 -- The rows that come onto the pages are those of the history's entries, but for the number of the first pointer page,
 -- which a history reads as 0; and they come under the same keys.
-use Rattle.std.proofs.Common.{◌≡◌, ℕ, List, ◌∷◌, map, refl}
+use Rattle.std.proofs.Common.{◌≡◌, ℕ, List, map, refl}
 use Rattle.mg_image.specs.Form.{Row}
 use Rattle.mg_model.specs.Catalog.{catalog_shape, key_of}
 use Rattle.mg_records.specs.Writing.{rows_made}

@@ -17,7 +17,7 @@ use Rattle.mg_value.specs.declared.shape.Shape.{Shape}
 use Rattle.mg_version.specs.declared.cell.Version.{Version}
 use Rattle.mg_chain.specs.Chains.{newest_link}
 use Rattle.mg_space.specs.View.{viewed}
-use Rattle.mg_table_batch.specs.Filling.{FillsTable, PutsNaming, PutsRow, PutsRows, PutsTable, StoresRow, TakesFirst, page_of_version, puts_more, puts_none, rows_at}
+use Rattle.mg_table_batch.specs.Filling.{FillsTable, PutsRow, PutsRows, PutsTable, StoresRow, TakesFirst, page_of_version, puts_more, puts_none, rows_at}
 
 -- a row that was put, as the laws have it
 abbrev pub row_put : RecId → Version → Row → NewRow

@@ -3,7 +3,7 @@
 ghost use Rattle.std.specs.Prelude.{ℕ, List};
 ghost use Rattle.mg_image.specs.Form.{packed_form};
 ghost use Rattle.mg_value.specs.declared.shape.Shape.{Shape as AnyShape};
-ghost use Rattle.mg_table_ties.specs.Made.{FilledTablesKeep};
+ghost use Rattle.mg_table_ties.specs.Made.{FilledTablesGo, FilledTablesKeep};
 ghost use Rattle.mg_table_ties.specs.RowsMade.{RowsAreEntries};
 ghost use Rattle.mg_table_ties.specs.Ties.{TablesFillCatalogs};
 
@@ -23,7 +23,8 @@ pub fn rows_are_entries()
 
 /// Every overlay is kept where tables are made in one batch, for the history with an entry for each row.
 pub fn made_tables_are_kept<D: Disk, L: Links>()
-    ensures { FilledTablesKeep packed_form D L D.meaning }
+    ensures pool { FilledTablesGo packed_form D L D.meaning }
+    ensures alone { FilledTablesKeep packed_form D L D.meaning }
 {
     one_reading();
 }

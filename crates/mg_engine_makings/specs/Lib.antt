@@ -1,0 +1,15 @@
+pub mod Joined
+pub mod JoinedKept
+pub mod JoinedNames
+pub mod JoinedRows
+pub mod JoinedSound
+pub mod RefusalLaws
+pub mod Refusals
+pub mod Remembering
+pub mod RememberingLaws
+pub mod Rows
+pub mod RowsLaws
+pub mod Seen
+pub mod SeenLaws
+pub mod TableReads
+pub mod Untouched
