@@ -20,6 +20,7 @@ use Rattle.mg_space.specs.declared.links.FireLinks.{FireLinks}
 use Rattle.mg_undo.specs.declared.changes.Was.{Was}
 use Rattle.mg_value.specs.declared.value.Value.{Value}
 use Rattle.mg_version.specs.declared.cell.Version.{Version}
+use Rattle.mg_taking_back.specs.Formers.{MayComeBack}
 use Rattle.mg_taking_back.specs.Keys.{FailsKey, FailsPuttingBack, FailsReplacingBy, IsOwnAt, PutsBack, ReplacesBy, TakesKey, former, former_not_put, key_not_put}
 
 -- the version of a write was put in place, or not
@@ -36,7 +37,8 @@ replaced_by m before after t table rec write v (Err fault) fits stored may given
 -- the record was read, and then what was came back, or not
 pub key_comes : {D : Type 0} (m : Meaning D) (before ready after : Pool D FireLinks) (state : ℕ → TxState)
     (live : State) (t : ℕ) (table : Table) (key : Value) (was : Was) (rec : RecId) (write : Option Write)
-    (result : Result (Unit {0}) SpaceFault) → KeepsStore m before ready → StaysOnline before ready
+    (result : Result (Unit {0}) SpaceFault) → MayComeBack table.shape key was → KeepsStore m before ready
+    → StaysOnline before ready
     → ((image : Image) → Tells m before.disk image
     → IsOwnAt state live t (shown before.dirty image) table key rec)
     → write ≡ former key was
@@ -44,7 +46,8 @@ pub key_comes : {D : Type 0} (m : Meaning D) (before ready after : Pool D FireLi
     (FailsPuttingBack m ready after t table rec write)
     → MatchResult result (λ _. TakesKey m before after state live t table key was)
     (FailsKey m before after state live t table key was)
-key_comes m before ready after state live t table key was rec write (Ok x) keeps online own is given = record {
+key_comes m before ready after state live t table key was rec write (Ok x) may keeps online own is given = record {
+  comes = may;
   rec = rec;
   ready = ready;
   keeps = keeps;
@@ -52,6 +55,6 @@ key_comes m before ready after state live t table key was rec write (Ok x) keeps
   own = own;
   puts = subst (λ (w : Option Write). PutsBack m ready after t table rec w) is given;
 }
-key_comes m before ready after state live t table key was rec write (Err fault) keeps online own is given =
+key_comes m before ready after state live t table key was rec write (Err fault) may keeps online own is given =
     key_not_put rec ready keeps online own
     (subst (λ (w : Option Write). FailsPuttingBack m ready after t table rec w fault) is given)

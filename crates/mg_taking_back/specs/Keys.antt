@@ -28,6 +28,7 @@ use Rattle.mg_space.specs.declared.fault.SpaceFault.TheVariants as faults
 use Rattle.mg_space.specs.declared.links.FireLinks.{FireLinks}
 use Rattle.mg_undo.specs.declared.changes.Was.{Was}
 use Rattle.mg_undo.specs.declared.changes.Was.TheVariants as wases
+use Rattle.mg_taking_back.specs.Formers.{MayComeBack}
 use Rattle.mg_value.specs.declared.value.Value.{Value}
 use Rattle.mg_version.specs.declared.cell.Version.{Version}
 
@@ -111,9 +112,10 @@ FailsPuttingBack m before after t table rec (Some write) fault =
 
 -- ---- the key
 
--- A key of a table is taken back: the record is read that speaks for it, and there comes back what was.
+-- A key of a table is taken back: what was may come back, the record is read that speaks for it, and there comes back what was.
 pub record TakesKey {D : Type 0} (m : Meaning D) (before after : Pool D FireLinks) (state : ℕ → TxState)
     (live : State) (t : ℕ) (table : Table) (key : Value) (was : Was) : Type 0 where
+  pub comes : MayComeBack table.shape key was
   pub rec : RecId
   pub ready : Pool D FireLinks
   pub keeps : KeepsStore m before ready
@@ -122,9 +124,12 @@ pub record TakesKey {D : Type 0} (m : Meaning D) (before after : Pool D FireLink
       → IsOwnAt state live t (shown before.dirty image) table key rec
   pub puts : PutsBack m ready after t table rec (former key was)
 
--- It is not: the record is not found, and pages were only read; or what was does not come back.
+-- It is not: what was may not come back, which no lawful engine meets; the record is not found, and pages were only
+-- read; or what was does not come back.
 pub data FailsKey {D : Type 0} (m : Meaning D) (before after : Pool D FireLinks) (state : ℕ → TxState)
     (live : State) (t : ℕ) (table : Table) (key : Value) (was : Was) (fault : SpaceFault) : Type 0 where
+  key_unfit : (MayComeBack table.shape key was → ⊥) → fault ≡ faults.Damaged not_lawful → after ≡ before
+      → FailsKey m before after state live t table key was fault
   key_unread : KeepsStore m before after → ReadsData {T = Unit {0}} (Err fault)
       → TellsFault m before after (pool_answer {T = Unit {0}} (Err fault))
       → ((image : Image) → Tells m before.disk image

@@ -1,4 +1,5 @@
 pub mod Noting
+pub mod Formers
 pub mod Keys
 pub mod Changes
 pub mod Taking

@@ -15,6 +15,7 @@ ghost use Rattle.mg_value.specs.Rows.{FitsKind};
 ghost use Rattle.mg_works.specs.Works.{MayBeGiven};
 ghost use Rattle.mg_taking_back.specs.Keys.{FailsKey, FailsPuttingBack, FailsReplacingBy, IsNoChange, IsOwn, IsOwnAt, PutsBack, RefusesOwnAt, ReplacesBy, TakesKey, former as former_of};
 
+use crate::formers::may_come_back;
 use mg_base::{Disk, GREATEST_LIMIT, RecId, TxNo};
 use mg_chain::States;
 use mg_model::Table;
@@ -237,7 +238,7 @@ fn put_back<D: Disk>(
 ///
 /// # Errors
 ///
-/// As `own_at`, and as `put_back`.
+/// `Damaged` by `unlawful` where what was may not come back; as `own_at`, and as `put_back`.
 pub fn take_in<D: Disk, S: States>(
     store: &mut Store<D>,
     table: &Table,
@@ -257,6 +258,9 @@ pub fn take_in<D: Disk, S: States>(
         (λ _. TakesKey D.meaning store.old store.new (S.state_of states.now) live.now t.0 table.now key was)
         (FailsKey D.meaning store.old store.new (S.state_of states.now) live.now t.0 table.now key was) }
 {
+    if !may_come_back(&table.shape, key.value(), &was) {
+        return Err(SpaceFault::Damaged(unlawful()));
+    }
     let rec = own_at(store, table, key.value(), states, live, t)?;
     put_back(store, table, t, rec, former(key, was))
 }

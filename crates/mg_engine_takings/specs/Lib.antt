@@ -1,0 +1,6 @@
+pub mod Takings
+pub mod Keys
+pub mod KeyLaws
+pub mod KeysLaws
+pub mod Given
+pub mod GivenLaws

@@ -1,0 +1,43 @@
+//! A transaction is taken back, key by key. The functions do nothing: their contracts are the laws.
+
+ghost use Rattle.mg_engine_takings.specs.Given.{UndoListsGiveKeys};
+ghost use Rattle.mg_engine_takings.specs.Keys.{CoresTakeAll};
+ghost use Rattle.mg_engine_takings.specs.Takings.{CoresTakeKeys};
+
+use mg_base::Disk;
+use mg_engine_row_writes::stored_rows_are_coded;
+use mg_engine_undoing::{
+    its_records_are_found, its_tables_may_be_written, kept_tables_stand, key_steps_are_taken,
+    keys_are_taken, keys_go_on, keys_keep_lists,
+};
+use mg_space::FireLinks;
+use mg_undo::what_was_is_given;
+
+/// What the core takes back for a key is a step of the laws.
+pub fn cores_take_keys<D: Disk>()
+    ensures { CoresTakeKeys D D.meaning }
+{
+    stored_rows_are_coded();
+    its_records_are_found();
+    its_tables_may_be_written();
+    kept_tables_stand();
+    key_steps_are_taken::<D>();
+}
+
+/// So are its steps for keys one after another; the cache is known after them as before.
+pub fn cores_take_all<D: Disk>()
+    ensures { CoresTakeAll D D.meaning }
+{
+    cores_take_keys::<D>();
+    keys_are_taken();
+    keys_go_on::<D, FireLinks>();
+    keys_keep_lists::<D, FireLinks>();
+}
+
+/// The undo list of a transaction gives the keys that it has changed since a point, each with what was.
+pub fn undo_lists_give_keys()
+    ensures { UndoListsGiveKeys }
+{
+    what_was_is_given();
+    keys_are_taken();
+}
