@@ -7,7 +7,7 @@ ghost use Rattle.mg_space.specs.Taking.{IsGeometry};
 ghost use Rattle.mg_space.specs.View.{AreWhole};
 
 use super::entries::entry_of;
-use super::stores::store_over;
+use super::stores::{has_bytes, store_over};
 use mg_base::{Damaged, Disk, FaultyDisk, Field, MemDisk, Memory, PageNo, new_common};
 use mg_btree::{insert, range_step, remove, walk_from, walk_on};
 use mg_node::{Entry, NODE_KIND};
@@ -251,14 +251,6 @@ fn fill(store: &mut Store<MemDisk>, batch: &mut Batch) -> Result<(), Fail>
     put(store, batch, 7)
 }
 
-/// Tells whether a batch has a page whose content begins so, behind the common part.
-fn has_content(batch: &Batch, page: PageNo, wanted: &[u8]) -> bool {
-    match batch.bytes(page) {
-        Some(bytes) => bytes.len() > 16 && bytes[16..].starts_with(wanted),
-        None => false,
-    }
-}
-
 #[test]
 fn a_root_splits_at_the_entry_that_does_not_fit(rt: HostRuntime) -> Result<(), Fail> {
     let alloc = rt.alloc();
@@ -266,14 +258,22 @@ fn a_root_splits_at_the_entry_that_does_not_fit(rt: HostRuntime) -> Result<(), F
     let mut batch = no_batch(alloc);
     fill(&mut store, &mut batch)?;
     // A leaf with seven entries, and no page was taken.
-    assert!(rt; has_content(&batch, PageNo(5), &[0, 0, 7, 0, 0, 0, 0, 0, 156, 3, 0, 0]));
+    assert!(rt;
+        has_bytes(
+            &batch,
+            PageNo(5),
+            16,
+            &[0, 0, 7, 0, 0, 0, 0, 0, 156, 3, 0, 0]
+        )
+    );
     assert!(rt; batch.bytes(PageNo(2)).is_none());
     put(&mut store, &mut batch, 8)?;
     // The root names page 2 by the least entry, and page 3 by the key of the fifth one.
     assert!(rt;
-        has_content(
+        has_bytes(
             &batch,
             PageNo(5),
+            16,
             &[
                 1, 0, 2, 0, 0, 0, 0, 0, 172, 0, 0, 0, 0, 0, 0, 0, 0, 0, 0, 0, 2, 0, 0, 0, 120, 0,
                 5, 5,
@@ -282,16 +282,18 @@ fn a_root_splits_at_the_entry_that_does_not_fit(rt: HostRuntime) -> Result<(), F
     );
     // Page 2 has the first four entries and a high fence, and page 3 to its right the other four.
     assert!(rt;
-        has_content(
+        has_bytes(
             &batch,
             PageNo(2),
+            16,
             &[0, 0, 4, 0, 3, 0, 0, 0, 156, 2, 2, 0, 120, 0, 5, 5,]
         )
     );
     assert!(rt;
-        has_content(
+        has_bytes(
             &batch,
             PageNo(3),
+            16,
             &[0, 0, 4, 0, 0, 0, 0, 0, 156, 2, 1, 0, 120, 0, 5, 5,]
         )
     );

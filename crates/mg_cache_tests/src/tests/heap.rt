@@ -5,7 +5,7 @@ ghost use Rattle.mg_pool.specs.Pool.{IsPool};
 ghost use Rattle.mg_space.specs.Taking.{IsGeometry};
 ghost use Rattle.mg_space.specs.View.{AreWhole};
 
-use super::stores::{OWNER, empty_store, empty_table};
+use super::stores::{OWNER, empty_store, empty_table, has_bytes};
 use mg_base::{Disk, PageNo, RecId};
 use mg_heap::{add, free, next};
 use mg_image::PRIMARY_VERSION;
@@ -47,13 +47,9 @@ fn the_251st_data_page_is_listed_by_a_second_pointer_page(rt: HostRuntime) -> Re
         slot: 0,
     };
     assert_eq!(rt; put(&mut store, &mut batch, &cell), Ok(last));
-    let first = batch.bytes(OWNER).unwrap_or(&[]);
-    assert_eq!(rt; first.get(16..22), Some([1, 1, 0, 0, 250, 0].as_slice()));
-    let second = batch.bytes(PageNo(257)).unwrap_or(&[]);
-    assert_eq!(rt;
-        second.get(8..28),
-        Some([5, 0, 0, 0, 1, 0, 0, 0, 0, 0, 0, 0, 1, 0, 0, 0, 2, 1, 0, 0].as_slice())
-    );
+    assert!(rt; has_bytes(&batch, OWNER, 16, &[1, 1, 0, 0, 250, 0]));
+    let second = [5, 0, 0, 0, 1, 0, 0, 0, 0, 0, 0, 0, 1, 0, 0, 0, 2, 1, 0, 0];
+    assert!(rt; has_bytes(&batch, PageNo(257), 8, &second));
     Ok(())
 }
 

@@ -42,6 +42,14 @@ pub fn empty_store(alloc: Global, limit: u32) -> Result<Store<MemDisk>, Memory>
     store_over(alloc, disk, limit)
 }
 
+/// Tells whether a page of a batch has these bytes from a place on.
+pub fn has_bytes(batch: &Batch, page: PageNo, at: usize, wanted: &[u8]) -> bool {
+    match batch.bytes(page) {
+        Some(bytes) => bytes.len() >= at && bytes[at..].starts_with(wanted),
+        None => false,
+    }
+}
+
 /// A batch with the first inventory page, on which the first pages are used.
 pub fn batch_with(alloc: Global, used: u32) -> Result<Batch, Memory>
     requires { used ≤ 8064 }

@@ -6,7 +6,7 @@ ghost use Rattle.mg_pool.specs.Pool.{IsPool};
 ghost use Rattle.mg_space.specs.Taking.{IsGeometry};
 ghost use Rattle.mg_space.specs.View.{AreWhole};
 
-use crate::tests::stores::{batch_with, empty_store};
+use crate::tests::stores::{batch_with, empty_store, has_bytes};
 use mg_base::{Disk, PageNo};
 use mg_pool::Batch;
 use mg_space::{SpaceFault, Store, take_page};
@@ -37,8 +37,7 @@ fn a_new_database_gives_its_pages_from_7_on(rt: HostRuntime) -> Result<(), Fail>
         take(&mut store, &mut batch),
         Err(SpaceFault::Full { limit: 16 })
     );
-    let page = batch.bytes(PageNo(1)).unwrap_or(&[]);
-    assert_eq!(rt; page.get(16..19), Some([0xff, 0xff, 0].as_slice()));
+    assert!(rt; has_bytes(&batch, PageNo(1), 16, &[0xff, 0xff, 0]));
     Ok(())
 }
 
@@ -53,14 +52,10 @@ fn the_second_region_gets_its_inventory_page(rt: HostRuntime) -> Result<(), Fail
         take(&mut store, &mut batch),
         Err(SpaceFault::Full { limit: 8067 })
     );
-    let page = batch.bytes(PageNo(8065)).unwrap_or(&[]);
-    assert_eq!(rt;
-        page.get(..20),
-        Some([
-            2, 0, 0, 0, 0x81, 0x1f, 0, 0, 0, 0, 0, 0, 1, 0, 0, 0, 7, 0, 0, 0
-        ]
-        .as_slice())
-    );
+    let second = [
+        2, 0, 0, 0, 0x81, 0x1f, 0, 0, 0, 0, 0, 0, 1, 0, 0, 0, 7, 0, 0, 0,
+    ];
+    assert!(rt; has_bytes(&batch, PageNo(8065), 0, &second));
     Ok(())
 }
 
