@@ -1,15 +1,21 @@
 //! A transaction is taken back, key by key. The functions do nothing: their contracts are the laws.
 
+ghost use Rattle.mg_engine_takings.specs.Backs.{EnginesGoBackTo};
 ghost use Rattle.mg_engine_takings.specs.Given.{UndoListsGiveKeys};
 ghost use Rattle.mg_engine_takings.specs.Keys.{CoresTakeAll};
 ghost use Rattle.mg_engine_takings.specs.Takings.{CoresTakeKeys};
 
 use mg_base::Disk;
 use mg_engine_row_writes::stored_rows_are_coded;
+use mg_engine_steps::lists_go_on;
 use mg_engine_undoing::{
-    its_records_are_found, its_tables_may_be_written, kept_tables_stand, key_steps_are_taken,
+    engines_take_back, its_records_are_found, its_tables_may_be_written, kept_tables_stand, key_steps_are_taken,
     keys_are_taken, keys_go_on, keys_keep_lists,
 };
+use mg_engine_writes::{
+    changes_are_taken_back, pages_show_what_is_taken_back, unasking_lasts,
+};
+use mg_model::histories_go_on;
 use mg_space::FireLinks;
 use mg_undo::what_was_is_given;
 
@@ -40,4 +46,20 @@ pub fn undo_lists_give_keys()
 {
     what_was_is_given();
     keys_are_taken();
+}
+
+/// An engine whose transaction is taken back to a point stands for the history with the event.
+pub fn engines_go_back_to<D: Disk>()
+    ensures { EnginesGoBackTo D D.meaning }
+{
+    histories_go_on();
+    unasking_lasts::<D, FireLinks>();
+    lists_go_on::<D, FireLinks>();
+    keys_are_taken();
+    changes_are_taken_back::<D, FireLinks>();
+    pages_show_what_is_taken_back();
+    undo_lists_give_keys();
+    cores_take_all::<D>();
+    keys_keep_lists::<D, FireLinks>();
+    engines_take_back::<D, FireLinks>();
 }
