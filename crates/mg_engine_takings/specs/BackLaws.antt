@@ -4,6 +4,9 @@ use Rattle.std.specs.Prelude.{if◌then◌else◌, nat_lt, length}
 use Rattle.std.proofs.Math.Path.{fun_ext}
 use Rattle.std.proofs.lemmas.Bool.{cases_eq}
 use Rattle.mg_base.specs.Disk.{Meaning}
+use Rattle.mg_base.specs.Image.{Image}
+use Rattle.mg_base.specs.declared.numbers.RecId.{RecId}
+use Rattle.mg_base.specs.declared.transaction.TxState.TheVariants.{Active}
 use Rattle.mg_core.specs.Cores.{Continues, IsCore}
 use Rattle.mg_core.specs.declared.parts.Core.{Core}
 use Rattle.mg_engine_meaning.specs.KeptLaws.{kept_with_work}
@@ -13,10 +16,13 @@ use Rattle.mg_engine_meaning.specs.StepLaws.{shows_of}
 use Rattle.mg_engine_steps.specs.GoesOn.{HasGoneOn}
 use Rattle.mg_engine_steps.specs.ListShows.{ListsStay}
 use Rattle.mg_engine_steps.specs.Standing.{Standing, Stands}
-use Rattle.mg_engine_takings.specs.Backs.{EnginesGoBackTo, IsBackEntry}
+use Rattle.mg_engine_steps.specs.Walking.{AreToCome}
+use Rattle.mg_engine_takings.specs.Backs.{EnginesGoBackTo, IsBackEntry, OthersWalkOnBack}
 use Rattle.mg_engine_takings.specs.Given.{AreGiven, UndoListsGiveKeys}
 use Rattle.mg_engine_takings.specs.Keys.{CoresTakeAll, HasTakenKeys}
 use Rattle.mg_engine_undoing.specs.BackLists.{KeepsLists, KeysKeepLists}
+use Rattle.mg_engine_undoing.specs.BackPages.{KeysKeepPages}
+use Rattle.mg_engine_undoing.specs.BackWalks.{BackWalksGoOn}
 use Rattle.mg_engine_undoing.specs.Backs.{BacksGoOn, BeginsBack}
 use Rattle.mg_engine_undoing.specs.Memory.{IsBackInMemory}
 use Rattle.mg_engine_undoing.specs.Steps.{StandsMidway}
@@ -26,8 +32,10 @@ use Rattle.mg_engine_writes.specs.Shown.{ShowsFirst}
 use Rattle.mg_engine_writes.specs.Unasked.{UnaskingLasts}
 use Rattle.mg_grown_catalogs.specs.Grown.{makes_alone}
 use Rattle.mg_image.specs.Form.{Pages, packed_form}
+use Rattle.mg_image.specs.Tables.{Stand, stands_of}
 use Rattle.mg_lasting.specs.Crashes.{HoldsAcknowledged, LeavesSince}
 use Rattle.mg_lasting.specs.Lasting.{LastsOn}
+use Rattle.mg_model.specs.Changes.{KeyedRows}
 use Rattle.mg_model.specs.History.{Entries, Entry}
 use Rattle.mg_model.specs.Laws.{OpeningsBegin}
 use Rattle.mg_model.specs.Legal.{MayBegin}
@@ -42,6 +50,8 @@ use Rattle.mg_overlays.specs.Overlays.{left_state}
 use Rattle.mg_pool.specs.Pool.{shown}
 use Rattle.mg_pool_overlays.specs.Needs.{Asked, Sessions}
 use Rattle.mg_space.specs.declared.links.FireLinks.{FireLinks}
+use Rattle.mg_kept_images.specs.KeptImages.{AreFrontStands}
+use Rattle.mg_table_overlays.specs.OneLayout.{StandsOneWay}
 use Rattle.mg_taking_back.specs.Taking.{TakesBackTo, TakesChanges, not_asking, works_back}
 use Rattle.mg_txlist.specs.TxList.{said}
 use Rattle.mg_undo.specs.Machine.{first_of, going_to}
@@ -379,6 +389,59 @@ module _ {D : Type 0} (m : Meaning D) (openings : OpeningsBegin) (unask : Unaski
   stands_back = subst (λ (c : Core D). StandsFor m c o (e ∷ h)
       × LeavesSince m old.store.disk c.store.disk (HoldsAcknowledged packed_form old.store.dirty.size o h)) (sym new_is)
       (stands_now, gone.leaves)
+
+  -- ---- the walks of others
+
+  module _ (one_way : StandsOneWay packed_form) (keep_pages : KeysKeepPages D FireLinks m) (walks : BackWalksGoOn) where
+    same_first : stands_of shows.stands.shows.layout ≡ stands_of midway.pages.layout
+    same_first = ap stands_of (one_way size (left_state everyone s.state) pages shows.stands.shows.layout
+        midway.pages.layout shows.stands.shows.reading midway.pages.reading shows.stands.shows.sound
+        midway.pages.sound).0
+
+    fronts : AreFrontStands (stands_of shows.stands.shows.layout) (stands_of taken.midway.pages.layout)
+    fronts = subst (λ (ss : List Stand). AreFrontStands ss (stands_of taken.midway.pages.layout)) (sym same_first)
+        (keep_pages size o h e point s old.store old.store takes.takes.taken.store pages shows.stands.shows shows.image
+        taken.image (asked_in (with_work t unasked old.works)) (sessions_in old.works) t whole whole taken.rest
+        (first_of whole) opening shows.stands.legal shows.stands.memory goes taken.steps midway taken.midway)
+
+    walk_on : (u : ℕ) → u ≢ t → said old.list u ≡ Active → (table : Table) (after : Option RecId) (rows : KeyedRows)
+        → AreToCome size s pages u table after rows
+        → AreToCome size s_now (shown takes.takes.taken.store.dirty taken.image) u table after rows
+    walk_on u ne active table after rows next = walks size o h e t u whole taken.rest s s_now pages
+        (shown takes.takes.taken.store.dirty taken.image) shows.stands.shows taken.midway.pages (record {
+          back = continues.1;
+          active = active;
+          apart = ne;
+          takes = λ by. refl;
+        }) fronts (λ v. refl) table after rows next
+
+    pub walks_back : (i : Image) → m.held old.store.disk ≡ Some i → (u : ℕ) → u ≢ t → said old.list u ≡ Active
+        → (table : Table) (after : Option RecId) (rows : KeyedRows)
+        → AreToCome size s (shown old.store.dirty i) u table after rows
+        → (k : Image) × (m.held new.store.disk ≡ Some k)
+        × AreToCome new.store.geometry.size (standing_of new stands.numbers stands.tables) (shown new.store.dirty k) u
+        table after rows
+    walks_back i held u ne active table after rows next =
+        let both : Some shows.image ≡ Some i = sym shows.held ∙ held in
+        let same : i ≡ shows.image = cc in
+        subst (λ (c : Core D). (k : Image) × (m.held c.store.disk ≡ Some k)
+        × AreToCome c.store.geometry.size (standing_of c stands.numbers stands.tables) (shown c.store.dirty k) u table
+        after rows) (sym new_is) (
+          taken.image,
+          taken.knows.tells.held,
+          subst (λ (n : ℕ). AreToCome n s_now (shown takes.takes.taken.store.dirty taken.image) u table after rows)
+              (sym taken.knows.size_is) (walk_on u ne active table after rows
+              (subst (λ (k : Image). AreToCome size s (shown old.store.dirty k) u table after rows) same next)),
+        )
+
+pub others_walk_on_back : {D : Type 0} (m : Meaning D) → OpeningsBegin → UnaskingLasts packed_form D FireLinks m
+    → ListsStay → SinceAreTaken → MidwaysBegin packed_form D FireLinks m → ShowsFirst packed_form → UndoListsGiveKeys
+    → CoresTakeAll D m → KeysKeepLists D FireLinks m → BacksGoOn D FireLinks m → StandsOneWay packed_form
+    → KeysKeepPages D FireLinks m → BackWalksGoOn → OthersWalkOnBack D m
+others_walk_on_back m openings unask lists since begin first_shows undo_gives takes_all keep backs one_way keep_pages walks
+    old new t point o h e core takes stands is = walks_back m openings unask lists since begin first_shows undo_gives
+    takes_all keep backs old new t point o h e core takes stands is
+    (shows_of m old o h stands takes.has_begun.continues.0) one_way keep_pages walks
 
 pub engines_go_back_to : {D : Type 0} (m : Meaning D) → OpeningsBegin → UnaskingLasts packed_form D FireLinks m
     → ListsStay → SinceAreTaken → MidwaysBegin packed_form D FireLinks m → ShowsFirst packed_form → UndoListsGiveKeys
