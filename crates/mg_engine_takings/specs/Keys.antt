@@ -3,7 +3,7 @@ use Rattle.std.specs.Prelude.{◌≡◌, ◌≢◌, ◌∷◌, ◌++◌, ℕ, tr
 use Rattle.mg_base.specs.Disk.{Meaning}
 use Rattle.mg_base.specs.Image.{Image}
 use Rattle.mg_core.specs.declared.parts.Core.{Core}
-use Rattle.mg_engine_meaning.specs.Standings.{KeepsWritten, Numbers, Tables, standing_of}
+use Rattle.mg_engine_meaning.specs.Standings.{KeepsWritten}
 use Rattle.mg_engine_steps.specs.Standing.{Remembers, ShowsHistory, Standing}
 use Rattle.mg_engine_takings.specs.Takings.{KnowsCache}
 use Rattle.mg_engine_undoing.specs.Steps.{StandsMidway, TakesKeysOf}
@@ -24,6 +24,7 @@ use Rattle.mg_pool.specs.declared.pool.Pool.{Pool}
 use Rattle.mg_pool_overlays.specs.Needs.{Asked, Sessions}
 use Rattle.mg_space.specs.declared.links.FireLinks.{FireLinks}
 use Rattle.mg_taking_back.specs.Taking.{TakesChanges}
+use Rattle.mg_txlist.specs.TxList.{said}
 use Rattle.mg_undo.specs.Machine.{given_from}
 
 -- A transaction has made a change, and not in the catalog.
@@ -50,19 +51,19 @@ pub record HasTakenKeys {D : Type 0} (m : Meaning D) (size : ℕ) (o : Opening) 
   pub to_come : AreKeysOf more rest
   pub same : new ≡ record core { store = new.store }
 
--- the core's steps for some of the keys that are to be taken back
+-- the core's steps for some of the keys that are to be taken back, where states and bases are those of the core
 abbrev pub CoresTakeAll : (D : Type 0) → Meaning D → Type 0
-CoresTakeAll D m = (core old new : Core D) (numbers : Numbers) (tables : Tables) (size : ℕ) (o : Opening)
+CoresTakeAll D m = (core old new : Core D) (s : Standing) (size : ℕ) (o : Opening)
     (h : Entries) (e : Entry) (point : Point) (t : ℕ) (whole left keys more : List Change)
     (start before : Pool D FireLinks) (begun : Pages)
-    (first : ShowsHistory packed_form size o h (standing_of core numbers tables) begun) (i : Image) (asked : Asked)
-    (session : Sessions) → MayBegin o → IsLegal o h → Remembers o h (standing_of core numbers tables)
-    → GoesBack o h e point (standing_of core numbers tables) asked t
-    → KeepsWritten core.catalog.pointer.0 core.works tables → EachChange (IsOfTable o h t) keys
+    (first : ShowsHistory packed_form size o h s begun) (i : Image) (asked : Asked)
+    (session : Sessions) → s.state ≡ said core.list → s.live ≡ core.live → MayBegin o → IsLegal o h → Remembers o h s
+    → GoesBack o h e point s asked t
+    → KeepsWritten core.catalog.pointer.0 core.works s.table → EachChange (IsOfTable o h t) keys
     → AreKeysOf (keys ++ more) left → old ≡ record core { store = before }
-    → TakesChanges m t old (map (given_from (numbers t) (own o (e ∷ h) t)) keys) new
-    → StandsMidway m size o h e t whole left (standing_of core numbers tables) start before begun first i asked
+    → TakesChanges m t old (map (given_from (s.number t) (own o (e ∷ h) t)) keys) new
+    → StandsMidway m size o h e t whole left s start before begun first i asked
     session
-    → KnowsCache m size (standing_of core numbers tables) before i → HasCatalog core before i
-    → HasTakenKeys m size o h e t whole left keys more (standing_of core numbers tables) start before begun first i
+    → KnowsCache m size s before i → HasCatalog core before i
+    → HasTakenKeys m size o h e t whole left keys more s start before begun first i
     asked session core new

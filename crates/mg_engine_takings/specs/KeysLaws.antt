@@ -5,8 +5,9 @@ use Rattle.std.proofs.lemmas.Bool.{eqb-true}
 use Rattle.mg_base.specs.Disk.{Meaning}
 use Rattle.mg_base.specs.Image.{Image}
 use Rattle.mg_base.specs.declared.geometry.Geometry.{Geometry}
+use Rattle.mg_base.specs.declared.transaction.TxState.{TxState}
 use Rattle.mg_core.specs.declared.parts.Core.{Core}
-use Rattle.mg_engine_meaning.specs.Standings.{KeepsWritten, Numbers, Tables, standing_of}
+use Rattle.mg_engine_meaning.specs.Standings.{KeepsWritten}
 use Rattle.mg_engine_steps.specs.Known.{catalog_is_shown}
 use Rattle.mg_engine_steps.specs.Standing.{Remembers, ShowsHistory, Standing}
 use Rattle.mg_engine_takings.specs.Keys.{CoresTakeAll, HasCatalog, HasTakenKeys, IsOfTable}
@@ -35,8 +36,10 @@ use Rattle.mg_space.specs.Taking.{IsGeometry}
 use Rattle.mg_space.specs.declared.links.FireLinks.{FireLinks}
 use Rattle.mg_taking_back.specs.Changes.{TakesChange}
 use Rattle.mg_taking_back.specs.Taking.{TakesChanges, takes_none, takes_one}
+use Rattle.mg_snap.specs.Live.{State as Bases}
+use Rattle.mg_taking_back.specs.Keys.{TakesKey}
 use Rattle.mg_txlist.specs.TxList.{said}
-use Rattle.mg_undo.specs.Machine.{given_from}
+use Rattle.mg_undo.specs.Machine.{given_from, was_in}
 use Rattle.mg_undo.specs.declared.changes.Change.{Change as Kept}
 use Rattle.mg_works.specs.Works.{written_to}
 
@@ -52,64 +55,65 @@ kept_back first number catalog table kept apart is = at (first == number) refl i
     at false off is_ = is_
 
 module _ {D : Type 0} (m : Meaning D) (one : CoresTakeKeys D m) (taken : KeysAreTaken)
-    (goes_on : KeysGoOn D FireLinks m) (keep : KeysKeepLists D FireLinks m) (core : Core D) (numbers : Numbers)
-    (tables : Tables) (size : ℕ) (o : Opening) (h : Entries) (e : Entry) (point : Point) (t : ℕ)
+    (goes_on : KeysGoOn D FireLinks m) (keep : KeysKeepLists D FireLinks m) (core : Core D) (s : Standing) (size : ℕ) (o : Opening) (h : Entries) (e : Entry) (point : Point) (t : ℕ)
     (whole : List Change) (start : Pool D FireLinks) (begun : Pages)
-    (first : ShowsHistory packed_form size o h (standing_of core numbers tables) begun) (asked : Asked)
-    (session : Sessions) (opening : MayBegin o) (legal : IsLegal o h)
-    (memory : Remembers o h (standing_of core numbers tables))
-    (goes : GoesBack o h e point (standing_of core numbers tables) asked t)
-    (kept : KeepsWritten core.catalog.pointer.0 core.works tables) where
-  abbrev s : Standing
-  s = standing_of core numbers tables
-
+    (first : ShowsHistory packed_form size o h s begun) (asked : Asked)
+    (session : Sessions) (state_is : s.state ≡ said core.list) (live_is : s.live ≡ core.live) (opening : MayBegin o)
+    (legal : IsLegal o h) (memory : Remembers o h s)
+    (goes : GoesBack o h e point s asked t)
+    (kept : KeepsWritten core.catalog.pointer.0 core.works s.table) where
   abbrev given_for : Change → Kept
-  given_for = given_from (numbers t) (own o (e ∷ h) t)
+  given_for = given_from (s.number t) (own o (e ∷ h) t)
 
   -- ---- one key
 
   module _ (left : List Change) (before : Pool D FireLinks) (i : Image) (mid : Core D) (c : Change)
       (of : IsOfTable o h t c) (to_take : has_change left c.table c.key ≡ true)
-      (step : TakesChange m (record core { store = before }) mid t (given_from (numbers t) (own o (e ∷ h) t) c))
-      (midway : StandsMidway m size o h e t whole left (standing_of core numbers tables) start before begun first i
-      asked session) (knows : KnowsCache m size (standing_of core numbers tables) before i)
+      (step : TakesChange m (record core { store = before }) mid t (given_from (s.number t) (own o (e ∷ h) t) c))
+      (midway : StandsMidway m size o h e t whole left s start before begun first i
+      asked session) (knows : KnowsCache m size s before i)
       (catalog : HasCatalog core before i) where
-    not_catalog : core.catalog.pointer.0 ≡ numbers t c.table → ⊥
-    not_catalog same = of.other (sym (first_named size (left_state everyone (said core.list))
+    not_catalog : core.catalog.pointer.0 ≡ s.number t c.table → ⊥
+    not_catalog same = of.other (sym (first_named size (left_state everyone s.state)
         (shown before.dirty i) midway.pages.layout midway.pages.reading midway.pages.sound c.table
-        (numbers t c.table) midway.pages.layout.catalog.table
+        (s.number t c.table) midway.pages.layout.catalog.table
         ((midway.pages.tables t goes.active).changed c.table c.key of.made)
         (catalog_is_shown midway.pages.layout)
         (ap (λ (x : Table). x.pointer.0) midway.pages.sound.catalog ∙ (sym catalog ∙ same)))
         ∙ ap (λ (x : Table). x.name) midway.pages.sound.catalog)
 
-    its_table : written_to core.works t (numbers t c.table) ≡ Some step.table
-    its_table = kept_back core.catalog.pointer.0 (numbers t c.table) core.catalog step.table
-        (written_to core.works t (numbers t c.table)) not_catalog step.found
+    its_table : written_to core.works t (s.number t c.table) ≡ Some step.table
+    its_table = kept_back core.catalog.pointer.0 (s.number t c.table) core.catalog step.table
+        (written_to core.works t (s.number t c.table)) not_catalog step.found
 
-    has_taken : HasTakenKey m size o h e t whole left (standing_of core numbers tables) start before mid.store i asked
+    its_takes : TakesKey m before mid.store s.state s.live t step.table c.key (was_in (own o (e ∷ h) t) c.table c.key)
+    its_takes = subst (λ (state : ℕ → TxState). TakesKey m before mid.store state s.live t step.table c.key
+        (was_in (own o (e ∷ h) t) c.table c.key)) (sym state_is) (subst (λ (live : Bases). TakesKey m before mid.store
+        (said core.list) live t step.table c.key (was_in (own o (e ∷ h) t) c.table c.key)) (sym live_is) step.takes)
+
+    has_taken : HasTakenKey m size o h e t whole left s start before mid.store i asked
         session first.versions.speaker c
-    has_taken = one size o h e t whole left (standing_of core numbers tables) start before mid.store begun first i
+    has_taken = one size o h e t whole left s start before mid.store begun first i
         asked session midway opening legal memory goes.active core.catalog.pointer.0 core.works kept knows c of.other
-        to_take of.made step.table its_table step.takes
+        to_take of.made step.table its_table its_takes
 
-    one_step : TakesKeysOf m size o h e t (standing_of core numbers tables) first.versions.speaker (c ∷ []) left
+    one_step : TakesKeysOf m size o h e t s first.versions.speaker (c ∷ []) left
         (without_key c.table c.key left) before mid.store i has_taken.image
     one_step = one_key c mid.store has_taken.image has_taken.step no_keys
 
-    midway_then : StandsMidway m size o h e t whole (without_key c.table c.key left) (standing_of core numbers tables)
+    midway_then : StandsMidway m size o h e t whole (without_key c.table c.key left) s
         start mid.store begun first has_taken.image asked session
-    midway_then = goes_on size o h e point (standing_of core numbers tables) start before mid.store begun first i
+    midway_then = goes_on size o h e point s start before mid.store begun first i
         has_taken.image asked session t whole left (without_key c.table c.key left) (c ∷ []) opening legal memory
         goes one_step midway
 
-    keeps_lists : KeepsLists size (standing_of core numbers tables) (shown before.dirty i)
+    keeps_lists : KeepsLists size s (shown before.dirty i)
         (shown mid.store.dirty has_taken.image)
-    keeps_lists = keep size o h e point (standing_of core numbers tables) start before mid.store begun first i
+    keeps_lists = keep size o h e point s start before mid.store begun first i
         has_taken.image asked session t whole left (without_key c.table c.key left) (c ∷ []) opening legal memory
         goes one_step midway
 
-    knows_then : KnowsCache m size (standing_of core numbers tables) mid.store has_taken.image
+    knows_then : KnowsCache m size s mid.store has_taken.image
     knows_then = record {
       pool_is = has_taken.pool_is;
       size_is = ap (λ (g : Geometry). g.size) has_taken.geometry ∙ knows.size_is;
@@ -126,15 +130,15 @@ module _ {D : Type 0} (m : Meaning D) (one : CoresTakeKeys D m) (taken : KeysAre
 
   takes_all : (old new : Core D) (given : List Kept) (left keys more : List Change) (before : Pool D FireLinks)
       (i : Image) → EachChange (IsOfTable o h t) keys → AreKeysOf (keys ++ more) left
-      → given ≡ map (given_from (numbers t) (own o (e ∷ h) t)) keys → old ≡ record core { store = before }
+      → given ≡ map (given_from (s.number t) (own o (e ∷ h) t)) keys → old ≡ record core { store = before }
       → TakesChanges m t old given new
-      → StandsMidway m size o h e t whole left (standing_of core numbers tables) start before begun first i asked
+      → StandsMidway m size o h e t whole left s start before begun first i asked
       session
-      → KnowsCache m size (standing_of core numbers tables) before i → HasCatalog core before i
-      → HasTakenKeys m size o h e t whole left keys more (standing_of core numbers tables) start before begun first i
+      → KnowsCache m size s before i → HasCatalog core before i
+      → HasTakenKeys m size o h e t whole left keys more s start before begun first i
       asked session core new
   takes_all old new given left [] more before i each are is old_is takes_none midway knows catalog =
-      subst (λ (c : Core D). HasTakenKeys m size o h e t whole left [] more (standing_of core numbers tables) start
+      subst (λ (c : Core D). HasTakenKeys m size o h e t whole left [] more s start
       before begun first i asked session core c) (sym old_is) (record {
         rest = left;
         image = i;
@@ -150,10 +154,10 @@ module _ {D : Type 0} (m : Meaning D) (one : CoresTakeKeys D m) (taken : KeysAre
       absurd cc
   takes_all old new given left (c ∷ keys) more before i each are is old_is (takes_one {given = after_it} mid d step later)
       midway knows catalog =
-      let d_is : d ≡ given_from (numbers t) (own o (e ∷ h) t) c = cc in
-      let more_is : after_it ≡ map (given_from (numbers t) (own o (e ∷ h) t)) keys = cc in
+      let d_is : d ≡ given_from (s.number t) (own o (e ∷ h) t) c = cc in
+      let more_is : after_it ≡ map (given_from (s.number t) (own o (e ∷ h) t)) keys = cc in
       let its_step : TakesChange m (record core { store = before }) mid t
-      (given_from (numbers t) (own o (e ∷ h) t) c) =
+      (given_from (s.number t) (own o (e ∷ h) t) c) =
       subst (λ (x : Kept). TakesChange m (record core { store = before }) mid t x) d_is
       (subst (λ (x : Core D). TakesChange m x mid t d) old_is step) in
       let rest_of = takes_all mid new after_it (without_key c.table c.key left) keys more mid.store
@@ -176,8 +180,9 @@ module _ {D : Type 0} (m : Meaning D) (one : CoresTakeKeys D m) (taken : KeysAre
 
 pub cores_take_all : {D : Type 0} (m : Meaning D) → CoresTakeKeys D m → KeysAreTaken → KeysGoOn D FireLinks m
     → KeysKeepLists D FireLinks m → CoresTakeAll D m
-cores_take_all m one taken goes_on keep core old new numbers tables size o h e point t whole left keys more start
-    before begun first i asked session opening legal memory goes kept each are old_is takes midway knows catalog =
-    takes_all m one taken goes_on keep core numbers tables size o h e point t whole start begun first asked session
-    opening legal memory goes kept old new (map (given_from (numbers t) (own o (e ∷ h) t)) keys) left keys more before
+cores_take_all m one taken goes_on keep core old new s size o h e point t whole left keys more start
+    before begun first i asked session state_is live_is opening legal memory goes kept each are old_is takes midway knows
+    catalog =
+    takes_all m one taken goes_on keep core s size o h e point t whole start begun first asked session
+    state_is live_is opening legal memory goes kept old new (map (given_from (s.number t) (own o (e ∷ h) t)) keys) left keys more before
     i each are refl old_is takes midway knows catalog

@@ -4,3 +4,5 @@ pub mod KeyLaws
 pub mod KeysLaws
 pub mod Given
 pub mod GivenLaws
+pub mod Backs
+pub mod BackLaws

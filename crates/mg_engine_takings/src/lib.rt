@@ -2,9 +2,11 @@
 //!
 //! Owns: that what the core takes back for a key is a step of `mg_engine_undoing`, where the transaction keeps the table
 //! of the change (`CoresTakeKeys`): the table stands on the pages under the change's name, the transaction may write into
-//! it, and the stored row codes the former one. After each step the cache is known again as before.
+//! it, and the stored row codes the former one. After each step the cache is known again as before (`CoresTakeAll`). The
+//! undo list gives the keys (`UndoListsGiveKeys`). So an engine whose transaction was taken back to a point stands for
+//! the history with the event (`EnginesGoBackTo`).
 //!
-//! All stands in `specs/`. There is no program here: the function does nothing, and its contract is the law.
+//! All stands in `specs/`. There is no program here: each function does nothing, and its contract is a law.
 //!
 //! Invariant: none, it keeps no state.
 //! Below: `mg_taking_back`, the calls; `mg_engine_undoing`, the steps; `mg_engine_meaning`. Above: the engine's
@@ -14,4 +16,4 @@
 
 mod takings;
 
-pub use takings::{cores_take_all, cores_take_keys, undo_lists_give_keys};
+pub use takings::{cores_take_all, cores_take_keys, engines_go_back_to, undo_lists_give_keys};
