@@ -6,3 +6,4 @@ mod machine;
 mod refusals;
 mod rows;
 mod tables;
+mod waits;

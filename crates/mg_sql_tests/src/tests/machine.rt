@@ -22,7 +22,7 @@ use std::process::Abort;
 use std::test::Fail;
 
 /// The page size for which statements are bound, in bytes.
-const PAGE: u32 = 4096;
+pub const PAGE: u32 = 4096;
 
 /// A transaction of a session.
 #[derive(Clone, Copy)]
@@ -86,7 +86,7 @@ fn push_table(
 
 /// A database with the tables KV (K BIGINT, V BIGINT) and T (K BIGINT, A VARCHAR(2), B BIGINT), of
 /// which K is the primary key. Both are empty.
-fn opening(rt: &impl Abort, alloc: Global) -> Result<Opening, Fail>
+pub fn opening(rt: &impl Abort, alloc: Global) -> Result<Opening, Fail>
     ensures states { IfOk result (λ opening. length opening.states ≡ 0) }
     ensures next { IfOk result (λ opening. opening.next.0 ≡ 1) }
     ensures limit { IfOk result (λ opening. opening.limit.0 ≡ 1000) }
@@ -288,6 +288,19 @@ fn asks_one(
     } else {
         machine.b = begun;
     }
+    prints(rt, alloc, session, &reply, wanted)
+}
+
+/// Wants an answer to a session to be printed so.
+pub fn prints(
+    rt: &impl Abort,
+    alloc: Global,
+    session: u8,
+    reply: &Reply,
+    wanted: &str,
+) -> Result<(), Fail>
+    requires { session < 16 }
+{
     let line = Line {
         number: 1,
         kind: LineKind::Sql {
@@ -296,7 +309,7 @@ fn asks_one(
         },
     };
     let mut out = Vec::new(alloc);
-    answer_text(&line, &reply, &mut out)?;
+    answer_text(&line, reply, &mut out)?;
     assert_eq!(rt; out.as_slice(), wanted.as_bytes());
     Ok(())
 }
