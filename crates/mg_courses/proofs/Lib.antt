@@ -3,3 +3,4 @@ mod StartLemmas
 mod SoFar
 mod SoFarLemmas
 mod StepLemmas
+mod AnyLemmas

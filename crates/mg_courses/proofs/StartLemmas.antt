@@ -20,7 +20,8 @@ use Rattle.mg_transcript.specs.Statements.{looks, fault_seen}
 use Rattle.mg_transcript.specs.Steps.{Starts, fails_test, tests_not, passes, refused}
 use Rattle.mg_courses.specs.declared.starting.Started.{Started}
 use Rattle.mg_courses.specs.declared.starting.Started.TheVariants as started
-use Rattle.mg_courses.specs.Running.{RunMeans, fault_if_looks, IsFromOutside}
+use Rattle.mg_exec_courses.specs.Courses.{IsOutsideFault}
+use Rattle.mg_courses.specs.Running.{RunMeans, fault_if_looks}
 use Rattle.mg_courses.specs.Working.{StartDone, BeginDone}
 use Rattle.mg_courses.specs.Carrying.{Carries}
 use Rattle.mg_courses.specs.CarryLaws.{carries_then}
@@ -52,7 +53,7 @@ module _ {R P Run : Type 0} (m : Means R P) (runs : RunMeans R Run) (old mid new
   looks_and_begins (started.Ended ending) looks_so mode active lawful on looking done =
       failed (done.4.2)
     where
-      failed : ((fault_if_looks o looked t read_only size s ≡ Some done.4.0) ⊎ IsFromOutside done.4.0)
+      failed : ((fault_if_looks o looked t read_only size s ≡ Some done.4.0) ⊎ IsOutsideFault done.4.0)
           → StartDone m runs old new o h t (started.Ended ending) (Starts o h t size s)
       failed (inl is) = record {
         after = looked;
@@ -91,6 +92,6 @@ module _ {R P Run : Type 0} (m : Means R P) (runs : RunMeans R Run) (old mid new
 
 -- a fault is answered, and why
 pub told_fault : (reply : Reply) (first : Option StatementFault) (fault : StatementFault)
-    → reply ≡ replies.No fault → (first ≡ Some fault) ⊎ IsFromOutside fault
-    → (f : StatementFault) × (reply ≡ replies.No f) × ((first ≡ Some f) ⊎ IsFromOutside f)
+    → reply ≡ replies.No fault → (first ≡ Some fault) ⊎ IsOutsideFault fault
+    → (f : StatementFault) × (reply ≡ replies.No f) × ((first ≡ Some f) ⊎ IsOutsideFault f)
 told_fault reply first fault is why = (fault, is, why)

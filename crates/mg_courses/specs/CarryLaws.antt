@@ -1,10 +1,8 @@
 -- What makes one of several carryings.
-use Rattle.std.specs.Prelude.{◌≡◌, ◌⊎◌, ◌&&◌, ◌+◌, ℕ, ◌≤◌, Bool, true, false, ◌∷◌, Option, Some, None, Result, Ok, Err, refl, cond, if◌then◌else◌}
-use Rattle.std.proofs.Common.{inl, inr, ◌∙◌, sym, subst, arith}
+use Rattle.std.specs.Prelude.{◌≡◌, ◌⊎◌, ◌&&◌, ◌+◌, ℕ, ◌≤◌, Bool, true, false, ◌∷◌, Option, Some, None, Result, Ok, Err, refl, if◌then◌else◌}
+use Rattle.std.proofs.Common.{inl, inr, ◌∙◌, subst, arith}
 use Rattle.mg_base.specs.Image.{Image}
-use Rattle.mg_base.specs.declared.numbers.TxNo.{TxNo}
-use Rattle.mg_model.specs.declared.answer.Answer.{Answer}
-use Rattle.mg_model.specs.declared.answer.Answer.TheVariants.{Fine, Tx, Rows, No}
+use Rattle.mg_model.specs.declared.answer.Answer.TheVariants.{No}
 use Rattle.mg_model.specs.declared.event.Event.{Event}
 use Rattle.mg_model.specs.declared.opening.Opening.{Opening}
 use Rattle.mg_model.specs.declared.refusal.Refusal.{Refusal}
@@ -13,7 +11,7 @@ use Rattle.mg_model.specs.History.{Entries, Entry, entry}
 use Rattle.mg_model.specs.Legal.{durable_count, is_fine, is_lasting}
 use Rattle.mg_records.specs.Adding.{fine_or}
 use Rattle.mg_records.specs.Crashing.{CrashesHold, HoldsOn, LeavesOnly, LeavesQuietly, LeavesWith}
-use Rattle.mg_records.specs.Keeping.{Elapses, Keeps, Leaves, Reads, IsOffline, refusal_in}
+use Rattle.mg_records.specs.Keeping.{Elapses, Keeps, Reads, IsOffline, refusal_in}
 use Rattle.mg_records.specs.Meaning.{Means}
 use Rattle.mg_calls.specs.Quiet.{AreQuiet, IsQuietly, as_it_was, with_entry}
 use Rattle.mg_courses.specs.Carrying.{Carries}

@@ -5,3 +5,5 @@ pub mod Carrying
 pub mod CarryLaws
 pub mod QuietLaws
 pub mod BesideLaws
+pub mod AnyRuns
+pub mod AnyLaws

@@ -1,9 +1,8 @@
 -- The steps of a statement that is no COMMIT give no event that outlasts a crash.
-use Rattle.std.specs.Prelude.{◌≡◌, ◌&&◌, ◌||◌, ℕ, Bool, true, false, List, [], ◌∷◌, map, Option, Some, None, Result, Ok, Err, refl, cond, if◌then◌else◌}
-use Rattle.std.proofs.Common.{ap, sym, ◌∙◌, subst}
+use Rattle.std.specs.Prelude.{◌≡◌, ◌&&◌, ℕ, Bool, true, false, List, [], ◌∷◌, map, Result, Ok, Err, refl, cond, if◌then◌else◌}
+use Rattle.std.proofs.Common.{ap, subst}
 use Rattle.mg_base.specs.declared.numbers.TxNo.{TxNo}
 use Rattle.mg_value.specs.declared.shape.Shape.{Shape}
-use Rattle.mg_expr.specs.Trees.{Tree}
 use Rattle.mg_sql.specs.declared.statement.Def.{Def}
 use Rattle.mg_sql.specs.Plain.{Plain, Table, Insert, Update, Delete, Totals, Select, SetTransaction, Commit, Rollback, RollbackTo, Savepoint}
 use Rattle.mg_plan.specs.Statements.{bound_plain, places_in}
@@ -25,7 +24,7 @@ use Rattle.mg_records.specs.Writing.{rows_made}
 use Rattle.mg_rows.specs.declared.fault.NewRowFault.{NewRowFault}
 use Rattle.mg_rows.specs.declared.outcome.Outcome.{Outcome}
 use Rattle.mg_calls.specs.Quiet.{IsQuietly, as_it_was, with_entry}
-use Rattle.mg_transcript.specs.Courses.{Course, Begun, Writing, Making, Committing, Comes}
+use Rattle.mg_transcript.specs.Courses.{Course, Comes}
 use Rattle.mg_transcript.specs.Statements.{changes, erases, makings, made_of, written_by, events_of}
 use Rattle.mg_transcript.specs.Steps.{IsUndone, taken_back, given_up, Writes, done, waits, undone, WritesAll, none_left, one_more, parks, fails, Marks, refused_mark, no_event, first_event, IsFind, Follows, answers_so, writes_so, has_fault, falls_short, Steps, visits, stops, faults, finds, finds_not, inserts, inserts_not, makes, makes_not, saves, goes_back, goes_nowhere, goes_not, writes_on, makes_on, writes_page, writes_no_page, commits}
 use Rattle.mg_courses.specs.Carrying.{are_quiet, is_quiet}
@@ -81,7 +80,7 @@ inserts_quiet : (t : TxNo) (table : List ℕ) (rows : List Cells)
 inserts_quiet t table [] = refl
 inserts_quiet t table (row ∷ rows) = inserts_quiet t table rows
 
-makings_quiet : (t : TxNo) (name : List ℕ) (columns : List Def)
+pub makings_quiet : (t : TxNo) (name : List ℕ) (columns : List Def)
     → are_quiet (makings t (Table name columns)) ≡ true
 makings_quiet t name columns = inserts_quiet t catalog_name (rows_made name (shape_of columns))
 

@@ -19,7 +19,8 @@ use Rattle.mg_script.specs.declared.reply.Reply.{Reply}
 use Rattle.mg_script.specs.declared.reply.Reply.TheVariants as replies
 use Rattle.mg_transcript.specs.Courses.{Course, Begun, Comes, Later, Parks, Ends}
 use Rattle.mg_transcript.specs.Statements.{looks, table_of, fault_of}
-use Rattle.mg_transcript.specs.Steps.{Steps, is_outside}
+use Rattle.mg_transcript.specs.Steps.{Steps}
+use Rattle.mg_exec_courses.specs.Courses.{IsOutsideFault}
 use Rattle.mg_courses.specs.declared.statements.Stepped.{Stepped}
 use Rattle.mg_courses.specs.declared.statements.Stepped.TheVariants.{More, Waits, Ended}
 
@@ -45,12 +46,6 @@ abbrev pub fault_if_looks : Opening → Entries → TxNo → Bool → ℕ → Pl
 fault_if_looks o h t read_only size s =
     if looks s then fault_of read_only (shape_seen o h t.0 (table_of s)) size s else None
 
--- a fault is a refusal from outside
-pub record IsFromOutside (fault : StatementFault) : Type 0 where
-  pub refusal : Refusal
-  pub is : fault ≡ Engine refusal
-  pub outside : is_outside refusal ≡ true
-
 -- the test tells the first fault, and where there is none the statement begins; one that looks may be
 -- refused from outside
 abbrev pub IsTested : {R P Run : Type 0} → Means R P → RunMeans R Run → R → Opening → Entries → TxNo
@@ -58,7 +53,7 @@ abbrev pub IsTested : {R P Run : Type 0} → Means R P → RunMeans R Run → R 
 IsTested m runs new o h t read_only size s (Ok run) = m.stands new o h
     × (fault_if_looks o h t read_only size s ≡ None) × runs.is_at new o h t run (Begun s 0)
 IsTested m runs new o h t read_only size s (Err fault) = m.stands new o h × (looks s ≡ true)
-    × ((fault_if_looks o h t read_only size s ≡ Some fault) ⊎ IsFromOutside fault)
+    × ((fault_if_looks o h t read_only size s ≡ Some fault) ⊎ IsOutsideFault fault)
 
 -- ---- a step
 
@@ -157,7 +152,3 @@ abbrev pub CoursesStay : {R P Run : Type 0} → Means R P → RunMeans R Run →
 CoursesStay {R = R} {Run = Run} m runs = (old new : R) (o : Opening) (h after : Entries) (t : TxNo)
     (run : Run) (course : Course) → Spares m old new t.0 → GoesOnBeside t.0 h after
     → runs.is_at old o h t run course → runs.is_at new o after t run course
-
--- a transaction was begun by one session
-abbrev pub WorksForOne : {R P : Type 0} → Means R P → Type 0
-WorksForOne {R = R} m = (r : R) (t n k : ℕ) → m.works r t n → m.works r t k → n ≡ k

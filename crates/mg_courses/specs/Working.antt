@@ -19,7 +19,8 @@ use Rattle.mg_courses.specs.declared.statements.Stepped.{Stepped}
 use Rattle.mg_courses.specs.declared.statements.Stepped.TheVariants.{More, Waits, Ended}
 use Rattle.mg_courses.specs.declared.work.Work.{Work}
 use Rattle.mg_courses.specs.declared.work.Work.TheVariants as works
-use Rattle.mg_courses.specs.Running.{RunMeans, goes_on, refusal_answered, fault_if_looks, IsFromOutside}
+use Rattle.mg_exec_courses.specs.Courses.{IsOutsideFault}
+use Rattle.mg_courses.specs.Running.{RunMeans, goes_on, refusal_answered, fault_if_looks}
 use Rattle.mg_courses.specs.Carrying.{Carries}
 
 -- the next step of a COMMIT may be made
@@ -128,4 +129,4 @@ BeginDone m runs old new o h t read_only size s (started.Begun work) = m.stands 
 BeginDone m runs old new o h t read_only size s (started.Ended ending) = m.stands new o h
     × Carries m old new o h h × (looks s ≡ true) × (ending.over ≡ false)
     × ((fault : StatementFault) × (ending.reply ≡ replies.No fault)
-    × ((fault_if_looks o h t read_only size s ≡ Some fault) ⊎ IsFromOutside fault))
+    × ((fault_if_looks o h t read_only size s ≡ Some fault) ⊎ IsOutsideFault fault))

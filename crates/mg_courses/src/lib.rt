@@ -1,8 +1,9 @@
 //! The course of a statement of a session, over any keeper of records: its beginning, one step, so
 //! many steps, and all steps until it waits or is at its end.
 //!
-//! Owns: the trait `Statements`, a keeper on which statements run, with its meaning (`specs/Running`);
-//! `Tends`, one whose changed pages can be written one by one;
+//! Owns: the trait `Statements`, a keeper on which statements run, with its meaning (`specs/Running`), and that every
+//! keeper of records is one, whose runs are the statements of `mg_exec` (`any`, `specs/AnyRuns`);
+//! `Tends`, a keeper whose changed pages can be written one by one;
 //! `Work`, a statement that has begun, a COMMIT among them; `start`, `step`, `take`, `run`.
 //!
 //! What is done is said by `mg_transcript` (`Starts`, `Steps`, `Takes`, `Runs`): for each history that
@@ -11,10 +12,11 @@
 //! that (`BesideLaws`). No crash loses what was durable before (`specs/Carrying`).
 //!
 //! Invariant: none, it keeps no state.
-//! Below: `mg_calls`, `mg_transcript`. Above: sessions.
+//! Below: `mg_exec`, `mg_exec_courses`, `mg_calls`, `mg_transcript`. Above: sessions.
 //! Not here: which statement a session runs, and what is printed.
 #![tactic(auto)]
 
+mod any;
 mod laws;
 mod starting;
 mod statements;

@@ -6,6 +6,7 @@ ghost use Rattle.mg_model.specs.declared.opening.Opening.{Opening};
 ghost use Rattle.mg_model.specs.History.{Entries};
 ghost use Rattle.mg_model.specs.Machine.{state_of, mode_of};
 ghost use Rattle.mg_records.specs.Sessions.{SessionsStay};
+ghost use Rattle.mg_sql.specs.Lengths.{HasLengths};
 ghost use Rattle.mg_sql.specs.Plain.{plain_of, Commit, Rollback};
 ghost use Rattle.mg_calls.specs.Frames.{Frames};
 ghost use Rattle.mg_transcript.specs.Lines.{begins};
@@ -43,6 +44,7 @@ pub fn start<R: Statements>(
 where
     R::Run: Drop,
     requires other { begins (plain_of s) ≡ false }
+    requires lengths { HasLengths (plain_of s) }
     requires size { R.meaning.is_size r.old size ≡ true }
     ensures starts { (o : Opening) (h : Entries) → R.meaning.stands r.old o h
         → state_of o h t.0 ≡ Active → (mode_of h t.0).read_only ≡ read_only
@@ -106,6 +108,7 @@ fn begin<R: Statements>(
 where
     R::Run: Drop,
     requires steps { runs_in_steps (plain_of s) ≡ true }
+    requires lengths { HasLengths (plain_of s) }
     requires size { R.meaning.is_size r.old size ≡ true }
     ensures begins { (o : Opening) (h : Entries) → R.meaning.stands r.old o h
         → state_of o h t.0 ≡ Active
@@ -135,6 +138,7 @@ fn look_and_begin<R: Statements>(
 where
     R::Run: Drop,
     requires looks { looks (plain_of s) ≡ true }
+    requires lengths { HasLengths (plain_of s) }
     requires size { R.meaning.is_size r.old size ≡ true }
     ensures starts { (o : Opening) (h : Entries) → R.meaning.stands r.old o h
         → state_of o h t.0 ≡ Active → (mode_of h t.0).read_only ≡ read_only

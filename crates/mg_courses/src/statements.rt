@@ -6,12 +6,13 @@ ghost use Rattle.mg_model.specs.declared.opening.Opening.{Opening};
 ghost use Rattle.mg_model.specs.History.{Entries};
 ghost use Rattle.mg_model.specs.Machine.{state_of};
 ghost use Rattle.mg_records.specs.Sessions.{SessionsStay};
+ghost use Rattle.mg_sql.specs.Lengths.{HasLengths};
 ghost use Rattle.mg_sql.specs.Plain.{plain_of};
 ghost use Rattle.mg_calls.specs.Frames.{Frames};
 ghost use Rattle.mg_calls.specs.Quiet.{AreQuiet};
 ghost use Rattle.mg_transcript.specs.Courses.{Course};
 ghost use Rattle.mg_courses.specs.Carrying.{HoldsStill, LeavesHolding, RunsAreQuiet};
-ghost use Rattle.mg_courses.specs.Running.{RunMeans, IsTested, StepDone, IsReadyIf, IsNearer, RunsStay, CoursesStay, WorksForOne, refusal_tested, refusal_told, over_in, rests, runs_in_steps};
+ghost use Rattle.mg_courses.specs.Running.{RunMeans, IsTested, StepDone, IsReadyIf, IsNearer, RunsStay, CoursesStay, refusal_tested, refusal_told, over_in, rests, runs_in_steps};
 
 use mg_base::TxNo;
 use mg_records::Records;
@@ -69,6 +70,7 @@ pub trait Statements: Records {
         size: u32,
     ) -> Result<Self::Run, StatementFault>
         requires steps { runs_in_steps (plain_of s) ≡ true }
+        requires lengths { HasLengths (plain_of s) }
         requires size { Self.meaning.is_size self.old size ≡ true }
         ensures tests { (o : Opening) (h : Entries) → Self.meaning.stands self.old o h
             → state_of o h t.0 ≡ Active
@@ -95,8 +97,6 @@ pub trait Statements: Records {
     ghost stay: { RunsStay Self.meaning runs };
 
     ghost courses: { CoursesStay Self.meaning runs };
-
-    ghost one: { WorksForOne Self.meaning };
 
     ghost no_commits: { RunsAreQuiet runs };
 }

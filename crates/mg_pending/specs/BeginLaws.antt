@@ -17,12 +17,12 @@ use Rattle.mg_model.specs.History.{Entries, Entry, entry}
 use Rattle.mg_model.specs.Legal.{IsLawful, IsLegal}
 use Rattle.mg_model.specs.Machine.{is_of, state_of, mode_of}
 use Rattle.mg_records.specs.Meaning.{Means}
-use Rattle.mg_records.specs.Sessions.{SessionsStay}
+use Rattle.mg_records.specs.Sessions.{SessionsAreOne, SessionsStay}
 use Rattle.mg_calls.specs.Frames.{Frames}
 use Rattle.mg_transcript.specs.Sessions.{Unfinished, last_begun, while_active, transaction_of}
 use Rattle.mg_transcript.specs.SessionLaws.{begun_below, drawn_next}
 use Rattle.mg_courses.specs.BesideLaws.{WorksStayReady, WorksStayAt}
-use Rattle.mg_courses.specs.Running.{RunMeans, WorksForOne, GoesOnBeside, as_before, one_beside}
+use Rattle.mg_courses.specs.Running.{RunMeans, GoesOnBeside, as_before, one_beside}
 use Rattle.mg_pending.specs.declared.pending.Pending.{Pending}
 use Rattle.mg_pending.specs.declared.transactions.Transaction.{Transaction}
 use Rattle.mg_pending.specs.declared.transactions.TheConstants.{PLACES}
@@ -140,7 +140,7 @@ begun_one t read_only = record { number = t; read_only = read_only }
 
 module _ {R P Run : Type 0} (m : Means R P) (runs : RunMeans R Run) (old new : R) (s : ℕ) (t : TxNo)
     (mode : Mode) (all : List (Option Transaction)) (inside : s < PLACES)
-    (none : number_at all s ≡ None) (one : WorksForOne m) (works : m.works new t.0 s)
+    (none : number_at all s ≡ None) (one : SessionsAreOne m) (works : m.works new t.0 s)
     (stay : SessionsStay m old new (Some s) None) (frames : Frames m old new t.0 None) where
   abbrev after_all : List (Option Transaction)
   after_all = set all s (Some (begun_one t mode.read_only))

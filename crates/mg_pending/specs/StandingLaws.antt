@@ -17,7 +17,7 @@ use Rattle.mg_model.specs.History.{Entries}
 use Rattle.mg_model.specs.Legal.{IsLegal}
 use Rattle.mg_model.specs.Machine.{state_of, mode_of, is_of}
 use Rattle.mg_records.specs.Meaning.{Means}
-use Rattle.mg_records.specs.Sessions.{SessionsStay}
+use Rattle.mg_records.specs.Sessions.{SessionsAreOne, SessionsStay}
 use Rattle.mg_script.specs.declared.line.Session.{Session}
 use Rattle.mg_script.specs.declared.line.TheConstants.{SESSIONS}
 use Rattle.mg_calls.specs.Frames.{Frames}
@@ -28,7 +28,7 @@ use Rattle.mg_courses.specs.declared.statements.Stepped.{Stepped}
 use Rattle.mg_courses.specs.declared.statements.Stepped.TheVariants.{More, Waits, Ended}
 use Rattle.mg_courses.specs.declared.work.Work.{Work}
 use Rattle.mg_courses.specs.BesideLaws.{WorksStayReady, WorksStayAt, beside}
-use Rattle.mg_courses.specs.Running.{RunMeans, WorksForOne, goes_on, over_in}
+use Rattle.mg_courses.specs.Running.{RunMeans, goes_on, over_in}
 use Rattle.mg_courses.specs.Working.{IsWorkTold, IsWorkReadyIf}
 use Rattle.mg_pending.specs.declared.pending.Pending.{Pending}
 use Rattle.mg_pending.specs.declared.transactions.Transaction.{Transaction}
@@ -54,7 +54,7 @@ active_is o h (Some u) t is = at (is_active (state_of o h u.0)) refl is
 
 -- each live transaction has one place
 pub places_apart : {R P Run : Type 0} (m : Means R P) (runs : RunMeans R Run) (r : R)
-    (all : List (Option Transaction)) (ps : List (Pending Run)) → WorksForOne m
+    (all : List (Option Transaction)) (ps : List (Pending Run)) → SessionsAreOne m
     → AreReady m runs r all ps → IsApart all
 places_apart m runs r all ps one ready j k t u first second same =
     one r u.0 j k (subst (λ (n : ℕ). m.works r n j) same (ready.works j t first)) (ready.works k u second)
@@ -81,7 +81,7 @@ inside_from (x ∷ all) (suc k) t is = let below = inside_from all k t is in ome
 
 module _ {R P Run : Type 0} (m : Means R P) (runs : RunMeans R Run) (old new : R)
     (s : ℕ) (t : TxNo) (over : Bool) (all : List (Option Transaction)) (ps : List (Pending Run))
-    (one : WorksForOne m) (ready : AreReady m runs old all ps) (its : number_at all s ≡ Some t) where
+    (one : SessionsAreOne m) (ready : AreReady m runs old all ps) (its : number_at all s ≡ Some t) where
   alone : IsApart all
   alone = places_apart m runs old all ps one ready
 

@@ -13,14 +13,14 @@ use Rattle.mg_records.specs.Adding.{Adds}
 use Rattle.mg_records.specs.Crashing.{CrashesHold, HoldsOn, LeavesQuietly}
 use Rattle.mg_records.specs.Keeping.{Leaves}
 use Rattle.mg_records.specs.Meaning.{Means}
-use Rattle.mg_records.specs.Sessions.{SessionsStay}
+use Rattle.mg_records.specs.Sessions.{SessionsAreOne, SessionsStay}
 use Rattle.mg_calls.specs.FrameLaws.{frames_changes}
 use Rattle.mg_transcript.specs.Growing.{as_it_was, by_one}
 use Rattle.mg_transcript.specs.Scripts.{AreRolledBack, all_are, has_none, is_refused, is_rolled_back, is_stopped}
 use Rattle.mg_transcript.specs.Shorthand.{stops_run}
 use Rattle.mg_courses.specs.BesideLaws.{WorksStayAt, WorksStayReady}
 use Rattle.mg_courses.specs.CarryLaws.{carries_event, carries_none, carries_then}
-use Rattle.mg_courses.specs.Running.{RunMeans, WorksForOne}
+use Rattle.mg_courses.specs.Running.{RunMeans}
 use Rattle.mg_pending.specs.declared.transactions.Transaction.{Transaction}
 use Rattle.mg_pending.specs.Standing.{AreReady, StandAt}
 use Rattle.mg_pending.specs.StandingLaws.{live_is_active, others_ready, others_stand}
@@ -31,7 +31,7 @@ use Rattle.mg_script_ends.specs.Ends.{EndsSession, EndsSoFar, EndsWith, RestCome
 
 -- ---- one session
 
-module _ {R P Run : Type 0} (m : Means R P) (runs : RunMeans R Run) (one : WorksForOne m) (lasts : HoldsOn m)
+module _ {R P Run : Type 0} (m : Means R P) (runs : RunMeans R Run) (one : SessionsAreOne m) (lasts : HoldsOn m)
     (old new : R) (s : ℕ) (t : TxNo) (all all' : List (Option Transaction))
     (ready : AreReady m runs old all []) (its : number_at all s ≡ Some t) where
   -- it is rolled back

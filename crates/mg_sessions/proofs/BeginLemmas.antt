@@ -12,13 +12,13 @@ use Rattle.mg_records.specs.Adding.{Adds}
 use Rattle.mg_records.specs.Crashing.{HoldsOn, LeavesQuietly}
 use Rattle.mg_records.specs.Keeping.{Leaves}
 use Rattle.mg_records.specs.Meaning.{Means}
-use Rattle.mg_records.specs.Sessions.{SessionsStay}
+use Rattle.mg_records.specs.Sessions.{SessionsAreOne, SessionsStay}
 use Rattle.mg_calls.specs.Frames.{Frames}
 use Rattle.mg_calls.specs.FrameLaws.{frames_changes, frames_leaves}
 use Rattle.mg_transcript.specs.Sessions.{Unfinished}
 use Rattle.mg_courses.specs.BesideLaws.{WorksStayReady, WorksStayAt}
 use Rattle.mg_courses.specs.CarryLaws.{carries_event}
-use Rattle.mg_courses.specs.Running.{RunMeans, WorksForOne}
+use Rattle.mg_courses.specs.Running.{RunMeans}
 use Rattle.mg_pending.specs.declared.pending.Pending.{Pending}
 use Rattle.mg_pending.specs.declared.transactions.Transaction.{Transaction}
 use Rattle.mg_pending.specs.declared.transactions.TheConstants.{PLACES}
@@ -29,7 +29,7 @@ use Rattle.mg_sessions.specs.Accounts.{Accounts}
 use Rattle.mg_sessions.specs.AccountLaws.{account_of}
 use Rattle.mg_sessions.specs.Coming.{ComesTo}
 
-module _ {R P Run : Type 0} (m : Means R P) (runs : RunMeans R Run) (one : WorksForOne m)
+module _ {R P Run : Type 0} (m : Means R P) (runs : RunMeans R Run) (one : SessionsAreOne m)
     (lasts : HoldsOn m) (old new : R) (s : ℕ) (mode : Mode) (all : List (Option Transaction))
     (ps : List (Pending Run)) (ready : AreReady m runs old all ps) (inside : s < PLACES)
     (none : number_at all s ≡ None) where

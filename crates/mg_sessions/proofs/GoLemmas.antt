@@ -7,7 +7,7 @@ use Rattle.mg_model.specs.History.{Entries}
 use Rattle.mg_model.specs.Legal.{IsLegal}
 use Rattle.mg_model.specs.Machine.{state_of}
 use Rattle.mg_records.specs.Meaning.{Means}
-use Rattle.mg_records.specs.Sessions.{SessionsStay}
+use Rattle.mg_records.specs.Sessions.{SessionsAreOne, SessionsStay}
 use Rattle.mg_script.specs.declared.line.Session.{Session}
 use Rattle.mg_script.specs.declared.line.TheConstants.{SESSIONS}
 use Rattle.mg_calls.specs.Frames.{Frames}
@@ -17,7 +17,7 @@ use Rattle.mg_transcript.specs.Sessions.{Unfinished, kept}
 use Rattle.mg_courses.specs.declared.statements.Stepped.{Stepped}
 use Rattle.mg_courses.specs.declared.work.Work.{Work}
 use Rattle.mg_courses.specs.BesideLaws.{WorksStayReady, WorksStayAt}
-use Rattle.mg_courses.specs.Running.{RunMeans, WorksForOne, goes_on, over_in, refusal_told}
+use Rattle.mg_courses.specs.Running.{RunMeans, goes_on, over_in, refusal_told}
 use Rattle.mg_courses.specs.Working.{IsWorkTold, IsWorkReadyIf}
 use Rattle.mg_pending.specs.declared.pending.Pending.{Pending}
 use Rattle.mg_pending.specs.declared.transactions.Transaction.{Transaction}
@@ -26,7 +26,7 @@ use Rattle.mg_pending.specs.Statements.{has_statement, transactions_after, pendi
 use Rattle.mg_pending.specs.Standing.{StandAt, AreReady}
 use Rattle.mg_pending.specs.StandingLaws.{others_ready, others_stand, is_over_by, ended_by, ends_by, goes_on_unless, kept_stands, kept_ready}
 
-module _ {R P Run : Type 0} (m : Means R P) (runs : RunMeans R Run) (one : WorksForOne m) (old new : R)
+module _ {R P Run : Type 0} (m : Means R P) (runs : RunMeans R Run) (one : SessionsAreOne m) (old new : R)
     (session : Session) (t : TxNo) (stepped : Stepped) (all : List (Option Transaction))
     (ps : List (Pending Run)) (ready : AreReady m runs old all ps)
     (its : number_at all session.0 ≡ Some t) (idle : has_statement session.0 ps ≡ false)

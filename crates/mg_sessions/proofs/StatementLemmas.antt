@@ -20,6 +20,7 @@ use Rattle.mg_rows.specs.declared.statement_fault.StatementFault.TheVariants.{Bu
 use Rattle.mg_transcript.specs.Lines.{Declines, begins, busy, no_statement}
 use Rattle.mg_transcript.specs.Sessions.{Unfinished, kept}
 use Rattle.mg_transcript.specs.Steps.{Starts, Runs, ends_now}
+use Rattle.mg_records.specs.Sessions.{SessionsAreOne}
 use Rattle.mg_courses.specs.declared.starting.Started.TheVariants as started
 use Rattle.mg_courses.specs.declared.statements.Ending.{Ending}
 use Rattle.mg_courses.specs.declared.statements.Stepped.{Stepped}
@@ -27,7 +28,7 @@ use Rattle.mg_courses.specs.declared.statements.Stepped.TheVariants.{More, Ended
 use Rattle.mg_courses.specs.declared.work.Work.{Work}
 use Rattle.mg_courses.specs.BesideLaws.{WorksStayAt}
 use Rattle.mg_courses.specs.CarryLaws.{carries_then, carries_none}
-use Rattle.mg_courses.specs.Running.{RunMeans, WorksForOne, refusal_told}
+use Rattle.mg_courses.specs.Running.{RunMeans, refusal_told}
 use Rattle.mg_courses.specs.Working.{IsWorkAt, IsWorkTold, WorkDone, StartDone, IsStartTold}
 use Rattle.mg_pending.specs.declared.pending.Pending.{Pending}
 use Rattle.mg_pending.specs.declared.transactions.Transaction.{Transaction}
@@ -64,7 +65,7 @@ pub comes_as : {R P Run : Type 0} (m : Means R P) (runs : RunMeans R Run) (old n
 comes_as m runs old new o h all all' ps ps' By reply reply' same_all same_ps same_reply comes =
     rw (same_all, same_ps, same_reply) comes
 
-module _ {R P Run : Type 0} (m : Means R P) (runs : RunMeans R Run) (one : WorksForOne m)
+module _ {R P Run : Type 0} (m : Means R P) (runs : RunMeans R Run) (one : SessionsAreOne m)
     (lasts : HoldsOn m) (still : WorksStayAt m runs) (old new : R) (session : Session) (t : TxNo)
     (stepped : Stepped) (all : List (Option Transaction)) (ps : List (Pending Run))
     (ready : AreReady m runs old all ps) (its : number_at all session.0 ≡ Some t)
@@ -137,7 +138,7 @@ module _ {R P Run : Type 0} (m : Means R P) (runs : RunMeans R Run) (old new : R
   }
 
 -- a statement that began went on
-module _ {R P Run : Type 0} (m : Means R P) (runs : RunMeans R Run) (one : WorksForOne m)
+module _ {R P Run : Type 0} (m : Means R P) (runs : RunMeans R Run) (one : SessionsAreOne m)
     (lasts : HoldsOn m) (still : WorksStayAt m runs) (old mid new : R) (session : Session) (t : TxNo)
     (all all' : List (Option Transaction)) (ps ps' : List (Pending Run))
     (ready : AreReady m runs old all ps) (its : number_at all session.0 ≡ Some t)
@@ -184,7 +185,7 @@ pub ready_as : {R P Run : Type 0} (m : Means R P) (runs : RunMeans R Run) (r : R
 ready_as m runs r all all' ps ps' same_all same_ps ready = rw (same_all, same_ps) ready
 
 -- a statement that was at its end at its beginning
-module _ {R P Run : Type 0} (m : Means R P) (runs : RunMeans R Run) (one : WorksForOne m)
+module _ {R P Run : Type 0} (m : Means R P) (runs : RunMeans R Run) (one : SessionsAreOne m)
     (still : WorksStayAt m runs) (old new : R) (session : Session) (t : TxNo) (ending : Ending)
     (all : List (Option Transaction)) (ps : List (Pending Run)) (ready : AreReady m runs old all ps)
     (its : number_at all session.0 ≡ Some t) (idle : has_statement session.0 ps ≡ false)

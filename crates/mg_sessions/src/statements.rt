@@ -1,9 +1,10 @@
 //! The statements of a session.
 
-ghost use Rattle.std.specs.Prelude.{◌≡◌, ◌<◌, ℕ, List, true, false, Some, vec_len, vec_capacity};
+ghost use Rattle.std.specs.Prelude.{◌≡◌, ◌<◌, ℕ, List, true, false, IfOk, Some, vec_len, vec_capacity};
 ghost use Rattle.mg_model.specs.declared.opening.Opening.{Opening};
 ghost use Rattle.mg_model.specs.History.{Entries};
 ghost use Rattle.mg_sql.specs.Answers.{Parses};
+ghost use Rattle.mg_sql.specs.Lengths.{HasLengths};
 ghost use Rattle.mg_sql.specs.Plain.{plain_of, SetTransaction};
 ghost use Rattle.mg_script.specs.declared.line.LineKind.TheVariants as kinds;
 ghost use Rattle.mg_script.specs.declared.line.TheConstants.{SESSIONS};
@@ -28,7 +29,7 @@ use mg_model::{Mode, Refusal};
 use mg_pending::{Pending, Sessions, Transaction, is_busy};
 use mg_rows::StatementFault;
 use mg_script::{Reply, Session};
-use mg_sql::{Statement, parse};
+use mg_sql::{Statement, parse, statements_have_lengths};
 use std::alloc::Global;
 
 /// Obeys `A: sql`: a statement of a session runs until it waits or is at its end.
@@ -110,11 +111,13 @@ fn read<P>(
     session: Session,
     text: &[u8],
 ) -> Result<Statement, StatementFault>
-    ensures { IsReadFor pending.now.items session text.now result }
+    ensures reads { IsReadFor pending.now.items session text.now result }
+    ensures lengths { IfOk result (λ statement. HasLengths (plain_of statement)) }
 {
     if is_busy(pending, session) {
         return Err(StatementFault::Busy);
     }
+    statements_have_lengths();
     match parse(alloc, text) {
         Ok(statement) => Ok(statement),
         Err(fault) => Err(StatementFault::from(fault)),
@@ -177,6 +180,7 @@ where
     requires lettered { session.0 < SESSIONS }
     requires idle { has_statement session.0 sessions.old.pending.items ≡ false }
     requires other { begins (plain_of statement) ≡ false }
+    requires lengths { HasLengths (plain_of statement) }
     ensures does { (text : List ℕ) → Parses text (plain_of statement)
         → (o : Opening) (h : Entries) (us : List Unfinished)
         → StandAt R.meaning R.runs r.old o h sessions.old.transactions sessions.old.pending.items us
@@ -215,6 +219,7 @@ where
     requires lettered { session.0 < SESSIONS }
     requires idle { has_statement session.0 sessions.old.pending.items ≡ false }
     requires other { begins (plain_of statement) ≡ false }
+    requires lengths { HasLengths (plain_of statement) }
     ensures does { (text : List ℕ) → Parses text (plain_of statement)
         → (o : Opening) (h : Entries) (us : List Unfinished)
         → StandAt R.meaning R.runs r.old o h sessions.old.transactions sessions.old.pending.items us

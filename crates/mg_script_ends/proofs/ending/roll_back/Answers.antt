@@ -6,14 +6,14 @@ use Rattle.mg_script_ends.proofs.EndLemmas.{back_ends, back_ready, not_ends, not
 use Rattle.mg_script_ends.proofs.ending.roll_back.Goals as goal
 
 pub returns-in-Ok-clause-ends : goal.returns-in-Ok-clause-ends
-returns-in-Ok-clause-ends g c = back_ends g.R.Records.meaning g.R.Statements.runs g.met.R.Statements.one
+returns-in-Ok-clause-ends g c = back_ends g.R.Records.meaning g.R.Statements.runs g.met.R.Records.one
     g.met.R.Records.lasts c.args.r.now c.rollback.new.self c.args.session.0 c.args.t c.args.transactions.now
     c.end.new.self c.requires.ready c.requires.its c.end.ensures c.in-Ok.ensures.leaves
     (works_stay_at g.R.Records.meaning g.R.Statements.runs g.met.R.Statements.courses) c.in-Ok.ensures.adds
     c.in-Ok.ensures.crash
 
 pub returns-in-Ok-clause-ready : goal.returns-in-Ok-clause-ready
-returns-in-Ok-clause-ready g c = back_ready g.R.Records.meaning g.R.Statements.runs g.met.R.Statements.one
+returns-in-Ok-clause-ready g c = back_ready g.R.Records.meaning g.R.Statements.runs g.met.R.Records.one
     g.met.R.Records.lasts c.args.r.now c.rollback.new.self c.args.session.0 c.args.t c.args.transactions.now
     c.end.new.self c.requires.ready c.requires.its c.end.ensures c.in-Ok.ensures.leaves
     (works_stay_ready g.R.Records.meaning g.R.Statements.runs g.met.R.Statements.stay) c.in-Ok.ensures.sessions
@@ -23,14 +23,14 @@ returns-in-Ok-clause-accounts g c = account_of g.R.Records.meaning c.args.r.now 
     (frames_changes g.R.Records.meaning c.args.r.now c.rollback.new.self c.args.t.0 None c.in-Ok.ensures.leaves)
 
 pub returns-in-Err-clause-ends : goal.returns-in-Err-clause-ends
-returns-in-Err-clause-ends g c = not_ends g.R.Records.meaning g.R.Statements.runs g.met.R.Statements.one
+returns-in-Err-clause-ends g c = not_ends g.R.Records.meaning g.R.Statements.runs g.met.R.Records.one
     g.met.R.Records.lasts c.args.r.now c.rollback.new.self c.args.session.0 c.args.t c.args.transactions.now
     c.args.transactions.now c.requires.ready c.requires.its c.in-Err.refusal refl c.in-Err.ensures.leaves
     (works_stay_at g.R.Records.meaning g.R.Statements.runs g.met.R.Statements.courses) c.in-Err.ensures.adds
     c.in-Err.ensures.crash
 
 pub returns-in-Err-clause-ready : goal.returns-in-Err-clause-ready
-returns-in-Err-clause-ready g c = not_ready g.R.Records.meaning g.R.Statements.runs g.met.R.Statements.one
+returns-in-Err-clause-ready g c = not_ready g.R.Records.meaning g.R.Statements.runs g.met.R.Records.one
     g.met.R.Records.lasts c.args.r.now c.rollback.new.self c.args.session.0 c.args.t c.args.transactions.now
     c.args.transactions.now c.requires.ready c.requires.its c.in-Err.refusal refl c.in-Err.ensures.leaves
     (works_stay_ready g.R.Records.meaning g.R.Statements.runs g.met.R.Statements.stay) c.in-Err.ensures.sessions

@@ -59,7 +59,7 @@ returns-clause-ready g c =
     (c.keep.ensures.transactions ∙ ap (transactions_after c.args.session.0 stepped) c.take_out-held.ensures.transactions)
     (c.keep.ensures.pending
     ∙ ap (pending_after c.args.session p.transaction c.take-stepped.new.work stepped) c.take_out-held.ensures.pending)
-    (step_ready m runs g.met.R.Statements.one r c.take-stepped.new.r c.args.session p.transaction stepped all
+    (step_ready m runs g.met.R.Records.one r c.take-stepped.new.r c.args.session p.transaction stepped all
     (remove ps place) (left_ready m runs r all ps place p first.inside taken c.requires.ready) its idle
     c.take-stepped.ensures.frames (works_stay_ready m runs g.met.R.Statements.stay)
     c.take-stepped.ensures.sessions c.take-stepped.new.work c.requires.lettered c.take-stepped.ensures.ready)
@@ -111,7 +111,7 @@ returns-clause-does g c = λ o h us size stand.
     (pending_after c.args.session p.transaction c.take-stepped.new.work stepped (remove ps place)) others
     c.args.session c.args.session p.transaction s.one.transaction
     (λ (t : TxNo). Takes o t c.args.most h (Later s.one.course)) (reply_of_step stepped) refl number
-    (went m runs g.met.R.Statements.one g.met.R.Records.lasts
+    (went m runs g.met.R.Records.one g.met.R.Records.lasts
     (works_stay_at m runs g.met.R.Statements.courses) r c.take-stepped.new.r c.args.session p.transaction stepped
     all (remove ps place) left_all_ready its idle c.take-stepped.ensures.frames o h others c.take-stepped.new.work
     (Takes o p.transaction c.args.most h (Later s.one.course)) left taken_so

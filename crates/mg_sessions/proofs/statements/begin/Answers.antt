@@ -40,7 +40,7 @@ returns-in-Ok-clause-does g c = λ text size parses o h us stand.
     (set all c.args.session.0 (Some (begun_one t c.args.mode.read_only))) c.begin-in-Ok.new.self ps ps
     (λ (reply : Reply). Does o h size us (kinds.Sql c.args.session text) reply) (replies.Tx t) (replies.Tx t)
     c.begin-in-Ok.ensures refl refl
-    (begun_comes m runs g.met.R.Statements.one g.met.R.Records.lasts c.args.r.now c.begin.new.self
+    (begun_comes m runs g.met.R.Records.one g.met.R.Records.lasts c.args.r.now c.begin.new.self
     c.args.session.0 c.args.mode all ps c.requires.ready (within c.args.session.0 c.requires.lettered) none t c.in-Ok.ensures.leaves
     (works_stay_at m runs g.met.R.Statements.courses) c.in-Ok.ensures.works c.in-Ok.ensures.sessions
     c.in-Ok.ensures.adds c.in-Ok.ensures.crash o h us
@@ -58,7 +58,7 @@ returns-in-Ok-clause-ready g c =
     let t = c.in-Ok.number in
     ready_as m runs c.begin.new.self (set all c.args.session.0 (Some (begun_one t c.args.mode.read_only)))
     c.begin-in-Ok.new.self ps ps c.begin-in-Ok.ensures refl
-    (begun_all_ready m runs g.met.R.Statements.one g.met.R.Records.lasts c.args.r.now c.begin.new.self
+    (begun_all_ready m runs g.met.R.Records.one g.met.R.Records.lasts c.args.r.now c.begin.new.self
     c.args.session.0 c.args.mode all ps c.requires.ready (within c.args.session.0 c.requires.lettered) none t
     c.in-Ok.ensures.leaves (works_stay_ready m runs g.met.R.Statements.stay) c.in-Ok.ensures.works
     c.in-Ok.ensures.sessions)
@@ -72,7 +72,7 @@ returns-in-Err-clause-does g c = λ text size parses o h us stand.
     let none = ap number_in (sym c.of.ensures ∙ c.in-None.is) in
     let free = same_busy runs c.args.r.now o h c.args.session ps us stand.agree ∙ c.requires.idle in
     let refusal = c.in-Err.refusal in
-    refused_comes m runs g.met.R.Statements.one g.met.R.Records.lasts c.args.r.now c.begin.new.self
+    refused_comes m runs g.met.R.Records.one g.met.R.Records.lasts c.args.r.now c.begin.new.self
     c.args.session.0 c.args.mode all ps c.requires.ready (within c.args.session.0 c.requires.lettered) none refusal
     c.in-Err.ensures.leaves (works_stay_at m runs g.met.R.Statements.courses) c.in-Err.ensures.adds
     c.in-Err.ensures.crash o h us
@@ -87,7 +87,7 @@ returns-in-Err-clause-ready g c =
     let all = c.args.sessions.now.transactions in
     let ps = c.args.sessions.now.pending.items in
     let none = ap number_in (sym c.of.ensures ∙ c.in-None.is) in
-    refused_ready m runs g.met.R.Statements.one g.met.R.Records.lasts c.args.r.now c.begin.new.self
+    refused_ready m runs g.met.R.Records.one g.met.R.Records.lasts c.args.r.now c.begin.new.self
     c.args.session.0 c.args.mode all ps c.requires.ready (within c.args.session.0 c.requires.lettered) none
     c.in-Err.refusal c.in-Err.ensures.leaves (works_stay_ready m runs g.met.R.Statements.stay)
     c.in-Err.ensures.sessions

@@ -25,7 +25,7 @@ returns-clause-does g c = λ o h us course stand at_work.
     (λ (reply : Reply). IsKept c.args.session c.args.t us (Runs o c.args.t h (Later course)) reply)
     (reply_of_step c.run-stepped.result) c.keep.result c.keep.ensures.transactions c.keep.ensures.pending
     c.keep.ensures.reply
-    (went m runs g.met.R.Statements.one g.met.R.Records.lasts
+    (went m runs g.met.R.Records.one g.met.R.Records.lasts
     (works_stay_at m runs g.met.R.Statements.courses) c.args.r.now c.run-stepped.new.r c.args.session c.args.t
     c.run-stepped.result all ps c.requires.ready c.requires.its c.requires.idle c.run-stepped.ensures.frames o h us
     c.run-stepped.new.work (Runs o c.args.t h (Later course)) stand done (λ after comes by_it. runs_own by_it)
@@ -40,7 +40,7 @@ returns-clause-ready g c =
     ready_as m runs c.run-stepped.new.r (transactions_after c.args.session.0 c.run-stepped.result all)
     c.keep.new.self.transactions (pending_after c.args.session c.args.t c.run-stepped.new.work c.run-stepped.result ps)
     c.keep.new.self.pending.items c.keep.ensures.transactions c.keep.ensures.pending
-    (step_ready m runs g.met.R.Statements.one c.args.r.now c.run-stepped.new.r c.args.session c.args.t c.run-stepped.result all
+    (step_ready m runs g.met.R.Records.one c.args.r.now c.run-stepped.new.r c.args.session c.args.t c.run-stepped.result all
     ps c.requires.ready c.requires.its c.requires.idle c.run-stepped.ensures.frames
     (works_stay_ready m runs g.met.R.Statements.stay) c.run-stepped.ensures.sessions c.run-stepped.new.work
     c.requires.lettered c.run-stepped.ensures.ready)

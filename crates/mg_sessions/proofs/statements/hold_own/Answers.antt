@@ -66,7 +66,7 @@ returns-in-Begun-clause-does g c = λ text parses o h us stand.
     (λ after comes starts. holds c.args.session text t (plain_of c.args.statement) after comes
     (record { free = free; parses = parses; of_transaction = c.requires.other; its = stand.its c.args.session.0 ∙ its })
     starts)
-    (went m runs g.met.R.Statements.one g.met.R.Records.lasts
+    (went m runs g.met.R.Records.one g.met.R.Records.lasts
     (works_stay_at m runs g.met.R.Statements.courses) c.args.r.now c.start.new.r c.args.session t More all ps
     c.requires.ready its c.requires.idle c.in-Begun.ensures.frames o h us c.in-Begun.work
     (Starts o h t c.args.size (plain_of c.args.statement)) stand
@@ -86,7 +86,7 @@ returns-in-Begun-clause-ready g c =
     (pending_after c.args.session t c.in-Begun.work More ps) c.keep.new.self.pending.items
     (c.keep.ensures.transactions ∙ c.reserve.ensures.transactions)
     (c.keep.ensures.pending ∙ ap (pending_after c.args.session t c.in-Begun.work More) c.reserve.ensures.pending)
-    (step_ready m runs g.met.R.Statements.one c.args.r.now c.start.new.r c.args.session t More all ps
+    (step_ready m runs g.met.R.Records.one c.args.r.now c.start.new.r c.args.session t More all ps
     c.requires.ready its c.requires.idle c.in-Begun.ensures.frames
     (works_stay_ready m runs g.met.R.Statements.stay) c.in-Begun.ensures.sessions c.in-Begun.work
     c.requires.lettered c.in-Begun.ensures.ready)
@@ -110,7 +110,7 @@ returns-in-Ended-clause-does g c = λ text parses o h us stand.
     (c.end.ensures.transactions
     ∙ ap (transactions_after c.args.session.0 (Ended ending)) c.reserve.ensures.transactions)
     (c.end.ensures.pending ∙ c.reserve.ensures.pending) c.end.ensures.reply
-    (ended_so m runs g.met.R.Statements.one (works_stay_at m runs g.met.R.Statements.courses) c.args.r.now
+    (ended_so m runs g.met.R.Records.one (works_stay_at m runs g.met.R.Statements.courses) c.args.r.now
     c.start.new.r c.args.session t ending all ps c.requires.ready its c.requires.idle c.in-Ended.ensures.frames o
     h us c.args.size (plain_of c.args.statement)
     (λ (reply : Reply). Does o h c.args.size us (kinds.Held c.args.session text) reply)
@@ -131,6 +131,6 @@ returns-in-Ended-clause-ready g c =
     (c.end.ensures.transactions
     ∙ ap (transactions_after c.args.session.0 (Ended ending)) c.reserve.ensures.transactions)
     (c.end.ensures.pending ∙ c.reserve.ensures.pending)
-    (step_others_ready m runs g.met.R.Statements.one c.args.r.now c.start.new.r c.args.session
+    (step_others_ready m runs g.met.R.Records.one c.args.r.now c.start.new.r c.args.session
     c.in-Some.own.number (Ended ending) all ps c.requires.ready its c.requires.idle c.in-Ended.ensures.frames
     (works_stay_ready m runs g.met.R.Statements.stay) c.in-Ended.ensures.sessions)

@@ -15,14 +15,14 @@ returns-in-Err-clause-does g c = λ o h us stand.
     (Does o h c.args.size us (kinds.Sql c.args.session c.args.text.now) (No c.in-Err.fault)) stand
     (declines c.args.session c.args.text.now c.in-Err.fault
     (declined g.R.Statements.runs c.args.r.now o h ps us c.args.session c.args.text.now c.in-Err.fault stand.agree
-    c.in-Err.ensures))
+    c.in-Err.ensures.reads))
 
 pub returns-in-SetTransaction-clause-does : goal.returns-in-SetTransaction-clause-does
 returns-in-SetTransaction-clause-does g c = λ o h us stand.
     c.begin.ensures.does c.args.text.now c.args.size
-    (subst (λ (s : Plain). Parses c.args.text.now s) (ap plain_of c.in-SetTransaction.is) c.in-Ok.ensures.1) o h us
+    (subst (λ (s : Plain). Parses c.args.text.now s) (ap plain_of c.in-SetTransaction.is) c.in-Ok.ensures.reads.1) o h us
     stand
 
 pub returns-in_default-clause-does : goal.returns-in_default-clause-does
 returns-in_default-clause-does g c = λ o h us stand.
-    c.run_own.ensures.does c.args.text.now c.in-Ok.ensures.1 o h us stand
+    c.run_own.ensures.does c.args.text.now c.in-Ok.ensures.reads.1 o h us stand

@@ -49,7 +49,7 @@ go_on-requires-clause-ready g c =
     let its = ap number_in (sym c.of.ensures ∙ c.in-Some.is) in
     ready_as m runs c.start.new.r all c.reserve.new.self.transactions ps c.reserve.new.self.pending.items
     c.reserve.ensures.transactions c.reserve.ensures.pending
-    (step_others_ready m runs g.met.R.Statements.one c.args.r.now c.start.new.r c.args.session
+    (step_others_ready m runs g.met.R.Records.one c.args.r.now c.start.new.r c.args.session
     c.in-Some.own.number More all ps c.requires.ready its c.requires.idle c.in-Begun.ensures.frames
     (works_stay_ready m runs g.met.R.Statements.stay) c.in-Begun.ensures.sessions)
 
@@ -65,7 +65,7 @@ returns-in-Begun-clause-does g c = λ text parses o h us stand.
     let active = live_is_active m runs c.args.r.now o h all ps us c.args.session.0 t stand its in
     let mode = stand.modes c.args.session.0 c.in-Some.own (sym c.of.ensures ∙ c.in-Some.is) in
     let done = c.in-Begun.ensures.starts o h stand.stands active mode in
-    ran m runs g.met.R.Statements.one g.met.R.Records.lasts (works_stay_at m runs g.met.R.Statements.courses)
+    ran m runs g.met.R.Records.one g.met.R.Records.lasts (works_stay_at m runs g.met.R.Statements.courses)
     c.args.r.now c.start.new.r c.go_on.new.r c.args.session t all c.go_on.new.sessions.transactions ps
     c.go_on.new.sessions.pending.items c.requires.ready its c.requires.idle c.in-Begun.ensures.frames
     c.in-Begun.work c.go_on.result o h us c.args.size (plain_of c.args.statement)
@@ -96,7 +96,7 @@ returns-in-Ended-clause-does g c = λ text parses o h us stand.
     (c.end.ensures.transactions
     ∙ ap (transactions_after c.args.session.0 (Ended ending)) c.reserve.ensures.transactions)
     (c.end.ensures.pending ∙ c.reserve.ensures.pending) c.end.ensures.reply
-    (ended_so m runs g.met.R.Statements.one (works_stay_at m runs g.met.R.Statements.courses) c.args.r.now
+    (ended_so m runs g.met.R.Records.one (works_stay_at m runs g.met.R.Statements.courses) c.args.r.now
     c.start.new.r c.args.session t ending all ps c.requires.ready its c.requires.idle c.in-Ended.ensures.frames o
     h us c.args.size (plain_of c.args.statement)
     (λ (reply : Reply). Does o h c.args.size us (kinds.Sql c.args.session text) reply)
@@ -117,6 +117,6 @@ returns-in-Ended-clause-ready g c =
     (c.end.ensures.transactions
     ∙ ap (transactions_after c.args.session.0 (Ended ending)) c.reserve.ensures.transactions)
     (c.end.ensures.pending ∙ c.reserve.ensures.pending)
-    (step_others_ready m runs g.met.R.Statements.one c.args.r.now c.start.new.r c.args.session
+    (step_others_ready m runs g.met.R.Records.one c.args.r.now c.start.new.r c.args.session
     c.in-Some.own.number (Ended ending) all ps c.requires.ready its c.requires.idle c.in-Ended.ensures.frames
     (works_stay_ready m runs g.met.R.Statements.stay) c.in-Ended.ensures.sessions)
