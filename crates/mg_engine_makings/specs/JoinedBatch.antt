@@ -1,13 +1,13 @@
 -- A table is made in one batch by a transaction that may have made others before: every overlay is kept for the history
 -- with its rows, where the pages that the batch leaves and makes are what they have to be.
-use Rattle.std.proofs.Common.{◌≡◌, ◌≢◌, ◌⊎◌, inl, inr, refl, sym, ap, ◌∙◌, subst, ◌+◌, ℕ, Bool, true, false, List, [], ◌∷◌, Option, None, Some}
+use Rattle.std.proofs.Common.{◌≡◌, ◌⊎◌, inl, inr, refl, sym, ap, ◌∙◌, subst, ◌+◌, ℕ, Bool, true, false, List, [], ◌∷◌, Option, None, Some}
 use Rattle.std.specs.Prelude.{if◌then◌else◌, map}
 use Rattle.mg_base.specs.Disk.{Meaning}
 use Rattle.mg_base.specs.Image.{Image}
 use Rattle.mg_base.specs.declared.numbers.RecId.{RecId}
 use Rattle.mg_base.specs.declared.numbers.TxNo.{TxNo}
 use Rattle.mg_base.specs.declared.transaction.TxState.{TxState}
-use Rattle.mg_base.specs.declared.transaction.TxState.TheVariants.{Active, Dead}
+use Rattle.mg_base.specs.declared.transaction.TxState.TheVariants.{Active}
 use Rattle.mg_catalog.specs.ByKey.{HaveOwnKeys, by_key}
 use Rattle.mg_catalog.specs.RowsSaid.{column_row, column_rows, table_row}
 use Rattle.mg_model.specs.declared.opening.Opening.{Opening}
@@ -47,12 +47,12 @@ use Rattle.mg_page_overlays.specs.Creating.{without_raises}
 use Rattle.mg_catalog_batches.specs.CatalogRows.{IsRowOf}
 use Rattle.mg_catalog_batches.specs.Filled.{IsFilled, MayFill, catalog_of}
 use Rattle.mg_catalog_batches.specs.Filling.{NewRow}
-use Rattle.mg_table_batch.specs.Filling.{FillsTable, StoresRow, rows_at}
+use Rattle.mg_table_batch.specs.Filling.{FillsTable, rows_at}
 use Rattle.mg_table_overlays.specs.Growing.{IsTableOf}
 use Rattle.mg_table_ties.specs.Made.{FilledTablesGo, LeavesOthersEach}
 use Rattle.mg_table_ties.specs.Ties.{HoldsOfRows, IsOneOf, row_put, tables_fill_catalogs}
 use Rattle.mg_engine_writes.specs.SameRecords.{catalog_stands, same_catalog, same_page, same_record}
-use Rattle.mg_engine_makings.specs.Joined.{IsJoinedRow, IsMade, Joins, layout_with, rows_by, rows_stored}
+use Rattle.mg_engine_makings.specs.Joined.{IsMade, Joins, layout_with, rows_stored}
 use Rattle.mg_engine_makings.specs.JoinedKept.{joined_kept}
 use Rattle.mg_engine_makings.specs.JoinedRows.{catalog_page}
 use Rattle.mg_engine_makings.specs.Rows.{MadeRow, reading_with, row_told, with_rows}

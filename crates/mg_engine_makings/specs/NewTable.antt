@@ -1,9 +1,9 @@
 -- The rows of the catalog that a new table comes with are lawful, and say it alone, whatever its first pointer page.
-use Rattle.std.proofs.Common.{◌≡◌, ◌≢◌, ◌⊎◌, inl, inr, refl, sym, ap, ◌∙◌, subst, arith, lit<, lit≤, ◌+◌, ◌<◌, ◌≤◌, ◌^◌, ◌/◌, ◌==◌, ℕ, zero, suc, Bool, true, false, List, [], ◌∷◌, length, Option, None, Some}
-use Rattle.std.specs.Prelude.{All, if◌then◌else◌, min, slice_get, slice_index_or}
+use Rattle.std.proofs.Common.{◌≡◌, ◌≢◌, ◌⊎◌, inl, inr, refl, sym, ap, ◌∙◌, subst, arith, lit<, lit≤, ◌+◌, ◌<◌, ◌≤◌, ◌^◌, ◌/◌, ◌==◌, ℕ, zero, suc, Bool, true, false, List, [], ◌∷◌, length, Some}
+use Rattle.std.specs.Prelude.{All, slice_get, slice_index_or}
 use Rattle.std.proofs.Math.Nat.{min-eq_left}
 use Rattle.std.proofs.lemmas.Bool.{cases_eq, eq-eqb, ne_eqb}
-use Rattle.mg_catalog.specs.ByKey.{HasKey, HasRow, HaveOwnKeys, by_key, row_key}
+use Rattle.mg_catalog.specs.ByKey.{HasRow, HaveOwnKeys, by_key, row_key}
 use Rattle.mg_catalog.specs.KeyLaws.{column_key_equal, has_row, rest_equal, text_equal}
 use Rattle.mg_catalog.specs.RowsSaid.{column_row, column_rows, flags_of, length_of, table_row}
 use Rattle.mg_value.specs.Names.{IsName}
@@ -11,9 +11,8 @@ use Rattle.mg_value.specs.declared.shape.Column.{Column}
 use Rattle.mg_value.specs.declared.shape.Kind.{Kind}
 use Rattle.mg_value.specs.declared.shape.Kind.TheVariants as kinds
 use Rattle.mg_value.specs.declared.shape.Shape.{Shape}
-use Rattle.mg_value.specs.declared.value.Value.{Value}
 use Rattle.mg_model.specs.Catalog.{CatalogRows, catalog_name, column_key, columns_said, index_key, key_said, said_b, said_c, said_name, shape_said, table_key}
-use Rattle.mg_model.specs.CatalogRules.{AreIndexes, AreTables, HasIndex, HasTableOf, IsCatalog, IsCatalogRow, IsColumnRow, IsKeyColumn, IsTable, IsTableRow}
+use Rattle.mg_model.specs.CatalogRules.{AreIndexes, AreTables, HasTableOf, IsCatalog, IsCatalogRow, IsColumnRow, IsKeyColumn, IsTable, IsTableRow}
 use Rattle.mg_model.specs.Changes.{Cells}
 use Rattle.mg_image.specs.Catalog.{FitsPages, longest_key}
 use Rattle.mg_records.specs.Writing.{FitsPage, IsNewShape, IsOfLength, most_of}

@@ -8,6 +8,7 @@
 //! (`JoinedAreKept`).
 //!
 //! So the steps of a batch are taken with the maker dead, and the tables that it has made before need not be among them.
+//! So every overlay is kept for the history with an entry for each row (`MadeTableKeeps`), where the pages are there.
 
 ghost use Rattle.mg_engine_makings.specs.Joined.{JoinedAreKept, JoinedAreSound};
 ghost use Rattle.mg_engine_makings.specs.JoinedBatch.{MadeTableKeeps};
