@@ -93,7 +93,7 @@ has_key_of [] row has_ = absurd has_
 has_key_of (first ∷ rows) row (inl same) = inl (ap row_key same)
 has_key_of (first ∷ rows) row (inr more) = inr (has_key_of rows row more)
 
-by_key_at : (rows : List Cells) → HaveOwnKeys rows → (row : Cells) → HasRow rows row
+pub by_key_at : (rows : List Cells) → HaveOwnKeys rows → (row : Cells) → HasRow rows row
     → by_key rows (row_key row) ≡ Some row
 by_key_at [] own row has_ = absurd has_
 by_key_at (first ∷ rows) own row (inl same) = subst (λ (x : Cells). by_key (first ∷ rows) (row_key x) ≡ Some x) same

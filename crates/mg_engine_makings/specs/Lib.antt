@@ -1,8 +1,10 @@
 pub mod Joined
+pub mod JoinedBatch
 pub mod JoinedKept
 pub mod JoinedNames
 pub mod JoinedRows
 pub mod JoinedSound
+pub mod NewTable
 pub mod RefusalLaws
 pub mod Refusals
 pub mod Remembering

@@ -69,10 +69,10 @@ put_there (first ∷ rows) x keys row (inr more) =
 -- ---- the keys of the rows of a table
 
 -- the letter of a key
-abbrev letter : Value → ℕ
+abbrev pub letter : Value → ℕ
 letter key = get_or (text_of key) 0 0
 
-no_table_key : (name other : List ℕ) (key place : ℕ) (columns : List Column)
+pub no_table_key : (name other : List ℕ) (key place : ℕ) (columns : List Column)
     → HasKey (column_rows name key place columns) (table_key other) → ⊥
 no_table_key name other key place [] has = has
 no_table_key name other key place (c ∷ cs) (inl same) =
@@ -90,7 +90,7 @@ column_key_of name other key place at (c ∷ cs) (inr more) =
     let both = column_key_of name other key (place + 1) at cs more in
     (both.0, let e = both.1 in omega (arith, e))
 
-own_columns : (name : List ℕ) (key place : ℕ) (columns : List Column)
+pub own_columns : (name : List ℕ) (key place : ℕ) (columns : List Column)
     → HaveOwnKeys (column_rows name key place columns)
 own_columns name key place [] = tt
 own_columns name key place (c ∷ cs) = (
@@ -105,9 +105,9 @@ own_keys name shape = (no_table_key name name shape.key 0 shape.columns, own_col
 -- ---- the columns that they say
 
 -- the columns of a shape from a place on: each has a lawful length, came with the table, and the key's is not NULL
-record AreColumns (key place : ℕ) (columns : List Column) : Type 0 where
-  lengths : All (λ column. IsOfLength column.kind) columns
-  keyed : (at : ℕ) (column : Column) → slice_get columns at ≡ Some column → place + at ≡ key → column.not_null ≡ true
+pub record AreColumns (key place : ℕ) (columns : List Column) : Type 0 where
+  pub lengths : All (λ column. IsOfLength column.kind) columns
+  pub keyed : (at : ℕ) (column : Column) → slice_get columns at ≡ Some column → place + at ≡ key → column.not_null ≡ true
 
 kind_there : (kind : Kind) → IsOfLength kind → kind_said (length_of kind) ≡ kind
 kind_there kinds.Int is = refl
@@ -136,7 +136,7 @@ says_key_there false true = refl
 says_key_there false false = refl
 
 module _ (name : List ℕ) (key : ℕ) (x : CatalogRows) where
-  columns_there : (columns : List Column) (place : ℕ) → AreColumns key place columns
+  pub columns_there : (columns : List Column) (place : ℕ) → AreColumns key place columns
       → ((row : Cells) → HasRow (column_rows name key place columns) row → x (row_key row) ≡ Some row)
       → columns_said x name place (length columns) ≡ columns
   columns_there [] place are there = refl
@@ -156,7 +156,7 @@ module _ (name : List ℕ) (key : ℕ) (x : CatalogRows) where
           at (inl same) = are.keyed 0 c refl (omega (arith, same))
           at (inr ne) = let off = ne_eqb place key ne in let both : true ≡ false = sym is ∙ off in absurd cc
 
-  key_there : (columns : List Column) (place : ℕ) → place ≤ key → key < place + length columns
+  pub key_there : (columns : List Column) (place : ℕ) → place ≤ key → key < place + length columns
       → ((row : Cells) → HasRow (column_rows name key place columns) row → x (row_key row) ≡ Some row)
       → key_said x name place (length columns) ≡ key
   key_there [] place from below there = absurd (omega (arith, from, below))
@@ -207,12 +207,12 @@ module _ (x y : CatalogRows) (name : List ℕ)
 
 -- ---- the law
 
-key_within : (columns : List Column) (key : ℕ) → IsKeyColumn (slice_get columns key) → key < length columns
+pub key_within : (columns : List Column) (key : ℕ) → IsKeyColumn (slice_get columns key) → key < length columns
 key_within [] key is = absurd is
 key_within (c ∷ cs) zero is = omega arith
 key_within (c ∷ cs) (suc key) is = let more = key_within cs key is in omega (arith, more)
 
-key_not_null : (columns : List Column) (key at : ℕ) (column : Column) → IsKeyColumn (slice_get columns key)
+pub key_not_null : (columns : List Column) (key at : ℕ) (column : Column) → IsKeyColumn (slice_get columns key)
     → slice_get columns at ≡ Some column → at ≡ key → column.not_null ≡ true
 key_not_null columns key at column is there same = subst IsKeyColumn
     (ap (slice_get columns) (sym same) ∙ there) is

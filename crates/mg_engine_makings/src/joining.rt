@@ -8,13 +8,17 @@
 //! (`JoinedAreKept`).
 //!
 //! So the steps of a batch are taken with the maker dead, and the tables that it has made before need not be among them.
+//! So every overlay is kept for the history with an entry for each row (`MadeTableKeeps`), where the pages are there.
 
 ghost use Rattle.mg_engine_makings.specs.Joined.{JoinedAreKept, JoinedAreSound};
+ghost use Rattle.mg_engine_makings.specs.JoinedBatch.{MadeTableKeeps};
 ghost use Rattle.mg_engine_makings.specs.TableReads.{TablesAreRead};
 ghost use Rattle.mg_image.specs.Form.{packed_form};
 
 use mg_base::Disk;
 use mg_careful::Links;
+use mg_image::one_reading;
+use mg_table_ties::made_tables_are_kept;
 
 /// What is read of a batch with a new table, its maker dead.
 pub fn new_tables_are_read<D: Disk, L: Links>()
@@ -26,3 +30,11 @@ pub fn joined_tables_stand()
     ensures sound { JoinedAreSound packed_form }
     ensures kept { JoinedAreKept packed_form }
 {}
+
+/// A batch with a new table keeps every overlay.
+pub fn made_tables_keep<D: Disk, L: Links>()
+    ensures { MadeTableKeeps packed_form D L D.meaning }
+{
+    one_reading();
+    made_tables_are_kept::<D, L>();
+}

@@ -3,8 +3,9 @@
 //! Owns: where no version of their keys counts before, each entry is lawful as it comes, and the records have the
 //! versions of the history with all of them (`RowsFollow`); what is in memory is what that history says
 //! (`RowsAreRemembered`); and the transaction sees the table that they say, and every other one as before
-//! (`MadeAreSeen`).
+//! (`MadeAreSeen`). They are lawful, under their own keys, and say that table alone (`RowsSayTable`).
 
+ghost use Rattle.mg_engine_makings.specs.NewTable.{RowsSayTable};
 ghost use Rattle.mg_engine_makings.specs.Remembering.{RowsAreRemembered};
 ghost use Rattle.mg_engine_makings.specs.Rows.{RowsFollow};
 ghost use Rattle.mg_engine_makings.specs.Seen.{MadeAreSeen};
@@ -31,4 +32,9 @@ pub fn made_rows_are_remembered()
 /// The maker sees the table that they say.
 pub fn made_tables_are_seen()
     ensures { MadeAreSeen }
+{}
+
+/// The rows of a new table say it alone.
+pub fn new_rows_say_a_table()
+    ensures { RowsSayTable }
 {}
