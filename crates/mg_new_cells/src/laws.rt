@@ -1,0 +1,10 @@
+//! What a new database holds. Each function does nothing: its contract is the law.
+
+ghost use Rattle.mg_new_cells.specs.Data.{NewAreEmpty, NewHaveCatalog};
+
+/// The data pages of a new database are those of the catalog and of KV: each cell of the catalog's is spelled as one,
+/// and KV's has no cell.
+pub fn new_databases_have_data_pages()
+    ensures catalog { NewHaveCatalog }
+    ensures empty { NewAreEmpty }
+{}
