@@ -265,7 +265,7 @@ module _ (name : List ℕ) (shape : Shape) (page : ℕ) (named : IsName name) (o
         its.at,
         sym at ∙ (ap row_key (sym its.same) ∙ ap (column_key name) here),
         subst (IsColumnRow x name its.at) (ap (λ (n : ℕ). column_row name shape.key n its.column) (sym here)
-        ∙ its.same) (column_lawful its.at its.column its.is),
+            ∙ its.same) (column_lawful its.at its.column its.is),
       ))
         where
           its : ItsColumn name shape.key 0 shape.columns row

@@ -26,4 +26,6 @@ mod rows;
 
 pub use joining::{joined_tables_stand, made_tables_keep, new_tables_are_read};
 pub use refusals::creations_are_refused;
-pub use rows::{made_rows_are_remembered, made_rows_follow, made_tables_are_seen, new_rows_say_a_table};
+pub use rows::{
+    made_rows_are_remembered, made_rows_follow, made_tables_are_seen, new_rows_say_a_table,
+};
