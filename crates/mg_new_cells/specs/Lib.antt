@@ -6,3 +6,4 @@ pub mod EmptyLaws
 pub mod PackedLaws
 pub mod RowLaws
 pub mod CatalogLaws
+pub mod PageLaws

@@ -2,7 +2,8 @@
 //!
 //! Owns: cells that are put into a page one below the other stand in it, and such a page is lawful (`HasCells`,
 //! `DataLaws`). So the data page of the catalog is one, and each of its cells is spelled as one (`NewHaveCatalog`); and
-//! the data page of KV is one of that table, and has no cell (`NewAreEmpty`).
+//! the data page of KV is one of that table, and has no cell (`NewAreEmpty`). So both tables stand on one pointer page
+//! and one data page each (`NewHaveTables`).
 //!
 //! `specs/Data` has what counts, the other files prove it. There is no program here: each function does nothing, and
 //! its contract is a law.
@@ -16,4 +17,4 @@
 
 mod laws;
 
-pub use laws::new_databases_have_data_pages;
+pub use laws::{new_databases_have_data_pages, new_databases_have_table_pages};
