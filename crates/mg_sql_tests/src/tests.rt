@@ -3,7 +3,6 @@
 
 mod exec;
 mod expr;
-mod plain;
 mod plan;
 mod rows;
 mod script;

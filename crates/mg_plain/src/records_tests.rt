@@ -1,12 +1,9 @@
-//! The plain machine as the records that a statement works on.
-
 ghost use Rattle.std.specs.Prelude.{◌<◌};
 
-use super::events::{new_opening, row};
-use crate::tests::shapes::name;
+use super::*;
+use crate::tests::{name, new_opening, row};
 use mg_base::TxNo;
 use mg_model::{Mode, Refusal, Rows};
-use mg_plain::Plain;
 use mg_records::{Records, Write};
 use mg_value::{Key, Name, Row, Value, row_fits};
 use std::alloc::Global;

@@ -1,4 +1,0 @@
-//! The plain machine.
-
-mod events;
-mod records;
