@@ -4,11 +4,12 @@ ghost use Rattle.std.specs.Prelude.{◌≡◌, true, None, IfErr};
 ghost use Rattle.mg_records.specs.Crashing.{LeavesQuietly};
 ghost use Rattle.mg_records.specs.Keeping.{Reads, refusal_in};
 ghost use Rattle.mg_records.specs.Sessions.{SessionsStay};
+ghost use Rattle.mg_tending.specs.Tending.{WritesAPage};
 ghost use Rattle.mg_transcript.specs.Steps.{is_outside};
-ghost use Rattle.mg_courses.specs.Tending.{WritesAPage};
 
 use crate::statements::Statements;
 use mg_model::Refusal;
+use mg_tending::PageWrites;
 
 /// A keeper of records on which statements run, and whose changed pages can be written one by one.
 pub trait Tends: Statements {
@@ -19,4 +20,13 @@ pub trait Tends: Statements {
         ensures reads { Reads Self.meaning self.old self.new (refusal_in result) None }
         ensures crash { LeavesQuietly Self.meaning self.old self.new }
         ensures sessions { SessionsStay Self.meaning self.old self.new None None };
+}
+
+impl<R: PageWrites> Tends for R
+where
+    R::Place: Drop,
+{
+    fn write_page(&mut self) -> Result<bool, Refusal> {
+        PageWrites::write_page(self)
+    }
 }

@@ -21,6 +21,7 @@ mod records;
 pub mod seeing;
 mod tables;
 pub(crate) mod taking;
+mod tending;
 
 /// The plain machine. It keeps what the answers depend on, and searches it from the newest to the
 /// oldest: faster machines are compared with it.

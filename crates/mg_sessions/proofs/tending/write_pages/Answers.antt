@@ -1,6 +1,6 @@
 use Rattle.std.proofs.Common.{Bool, Ok, subst, None, Some, arith}
 use Rattle.mg_courses.specs.CarryLaws.{carries_none}
-use Rattle.mg_courses.specs.Tending.{WritesAPage}
+use Rattle.mg_tending.specs.Tending.{WritesAPage}
 use Rattle.mg_sessions.proofs.TendingLemmas.{more_frames, more_sessions, more_stands, no_frames, no_sessions, one_more}
 use Rattle.mg_sessions.proofs.tending.write_pages.Goals as goal
 
