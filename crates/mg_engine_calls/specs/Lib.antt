@@ -24,10 +24,12 @@ pub mod KeepLaws
 pub mod TableLaws
 pub mod VisitLaws
 pub mod Openings
+pub mod NewBegins
 pub mod Closings
 pub mod Laws
 pub mod TipLaws
 pub mod BlankLaws
+pub mod NewBeginLaws
 pub mod OpeningLaws
 pub mod OpenedLaws
 pub mod RefusalLaws

@@ -1,16 +1,19 @@
 -- What an opening leaves of a disk.
-use Rattle.std.proofs.Common.{◌≡◌, inl, ℕ, true, List, Some, refl, sym, ap, ◌∙◌, subst}
+use Rattle.std.proofs.Common.{◌≡◌, inl, ℕ, true, List, [], Some, refl, sym, ap, ◌∙◌, subst}
 use Rattle.mg_base.specs.Disk.{MayLeave, Meaning}
+use Rattle.mg_base.specs.Geometry.{is_page_size}
 use Rattle.mg_base.specs.Image.{Image}
 use Rattle.mg_base.specs.Moments.{LeavesOnly, goes_on, started}
 use Rattle.mg_base.specs.declared.geometry.Geometry.{Geometry}
 use Rattle.mg_core.specs.Opening.{Opens}
 use Rattle.mg_core.specs.declared.parts.Core.{Core}
 use Rattle.mg_database.specs.Preparing.{BecomesReady, made, there}
-use Rattle.mg_format.specs.Format.{HasNew, IsUnmadeImage, LeavesNew}
+use Rattle.mg_format.specs.Format.{HasNew, IsMade, IsUnmadeImage, LeavesNew}
 use Rattle.mg_image.specs.Form.{packed_form}
 use Rattle.mg_lasting.specs.StartingLaws.{StartsOn}
 use Rattle.mg_model.specs.Laws.{OpeningsBegin}
+use Rattle.mg_engine_meaning.specs.Standings.{StandsFor}
+use Rattle.mg_new_databases.specs.Soundness.{HasWholePages}
 use Rattle.mg_pool.specs.Pool.{KeepsContent}
 use Rattle.mg_space.specs.View.{Tells}
 use Rattle.mg_space.specs.ViewLaws.{CountsNow, content_on}
@@ -20,7 +23,8 @@ use Rattle.mg_txlist.specs.Laws.{LoadedSays}
 use Rattle.mg_works.specs.Works.{Working, has_session}
 use Rattle.mg_engine_calls.specs.BlankLaws.{header_is_made}
 use Rattle.mg_engine_calls.specs.OpeningLaws.{begins_standing, header_read}
-use Rattle.mg_engine_calls.specs.Openings.{IsOpenedOver, IsSettledOn, IsSoundImage}
+use Rattle.mg_engine_calls.specs.NewBegins.{NewBegin}
+use Rattle.mg_engine_calls.specs.Openings.{IsOpenedOver, IsSettledOn, IsSoundImage, new_history}
 
 -- ---- what a disk leaves
 
@@ -94,7 +98,8 @@ module _ {D : Type 0} (m : Meaning D) (counts : CountsNow m) where
 -- ---- an engine
 
 module _ {D : Type 0} (m : Meaning D) (counts : CountsNow m) (stands_first : StandsFirst packed_form)
-    (starts : StartsOn D FireLinks m packed_form) (loaded : LoadedSays) (begin : OpeningsBegin) where
+    (starts : StartsOn D FireLinks m packed_form) (loaded : LoadedSays) (begin : OpeningsBegin)
+    (new_begin : NewBegin) where
   module _ (disk : D) (limit : ℕ) (core : Core D) (opens : Opens m disk limit core) where
     abbrev size : ℕ
     size = core.store.geometry.size
@@ -108,6 +113,26 @@ module _ {D : Type 0} (m : Meaning D) (counts : CountsNow m) (stands_first : Sta
     kept image held not_ = content_on m counts disk opens.before.disk core.store.disk
         (ready_unwritten m counts disk opens.before.disk size ready image held not_) opens.keeps.disk
 
+    new_on : (image : Image) → Tells m disk image → IsUnmadeImage size image → HasNew m core.store.disk size
+    new_on image tells is = new_still m counts opens.before.disk core.store.disk size opens.keeps.disk
+        (ready_made m counts disk opens.before.disk size ready image tells is)
+
+    -- the disk holds the new database, and its history begins with that
+    new_stands : (now : Image) → HasNew m core.store.disk size → Tells m core.store.disk now → HasWholePages size now
+        → StandsFor m core new_history []
+    new_stands now has tells whole =
+        let same : has.image ≡ now = some_image has.image now (sym has.tells.held ∙ tells.held) in
+        begins_standing m disk limit core opens stands_first starts loaded begin now new_history
+        (record { tells = tells; only = λ c may. has.settled c may ∙ same })
+        (new_begin size now lawful (subst (IsMade size) same has.made) whole)
+      where
+        lawful : is_page_size size ≡ true
+        lawful = subst (λ (g : Geometry). is_page_size g.size ≡ true) (sym opens.keeps.geometry)
+            opens.prepared.geometry.size
+
+        some_image : (a b : Image) → Some a ≡ Some b → a ≡ b
+        some_image a b e = cc
+
     pub opened_over : IsOpenedOver m disk limit core
     opened_over = record {
       free = λ session. ap (λ (works : List Working). has_session works session) opens.idle.works;
@@ -117,8 +142,8 @@ module _ {D : Type 0} (m : Meaning D) (counts : CountsNow m) (stands_first : Sta
       stands = λ image o on it. begins_standing m disk limit core opens stands_first starts loaded begin image o on
           it;
       unwritten = kept;
-      made = λ image tells is. new_still m counts opens.before.disk core.store.disk size opens.keeps.disk
-          (ready_made m counts disk opens.before.disk size ready image tells is);
+      made = new_on;
+      begins_new = λ image now tells is then_ whole. new_stands now (new_on image tells is) then_ whole;
       crash = λ image tells. read_leaves m counts disk opens.before.disk size ready image core.store.disk tells
           opens.keeps.disk;
     }

@@ -19,10 +19,12 @@ use Rattle.mg_image.specs.Opening.{IsOpened, Opened}
 use Rattle.mg_image.specs.Records.{Reading}
 use Rattle.mg_image.specs.Sound.{IsSound}
 use Rattle.mg_image.specs.Tables.{Layout}
+use Rattle.mg_model.specs.NewDatabase.{new_opening}
 use Rattle.mg_model.specs.Openings.{IsOpening}
 use Rattle.mg_model.specs.declared.opening.Opening.{Opening}
 use Rattle.mg_model.specs.declared.refusal.Refusal.{Refusal}
 use Rattle.mg_model.specs.declared.refusal.Refusal.TheVariants.{Damaged, NotADatabase}
+use Rattle.mg_new_databases.specs.Soundness.{HasWholePages}
 use Rattle.mg_pool.specs.Pool.{KeepsContent}
 use Rattle.mg_space.specs.View.{Tells}
 use Rattle.mg_survey.specs.Survey.{limit_of}
@@ -55,6 +57,10 @@ pub record BeginsWith (size : ℕ) (image : Image) (o : Opening) : Type 0 where
   pub grows : CatalogGrows o []
   pub plain_tables : HasPlainTables size (state_at size (page_at size image)) (page_at size image)
 
+-- a history of a new database begins with this
+abbrev pub new_history : Opening
+new_history = new_opening GREATEST_NEXT
+
 -- ---- an engine
 
 -- An engine was opened over a disk.
@@ -77,6 +83,10 @@ pub record IsOpenedOver {D : Type 0} (m : Meaning D) (disk : D) (limit : ℕ) (c
   -- any other holds a new one, and nothing is pending
   pub made : (image : Image) → Tells m disk image → IsUnmadeImage core.store.geometry.size image
       → HasNew m core.store.disk core.store.geometry.size
+  -- and the engine then stands for the history of a new database that has no entry. (No page past the greatest page
+  -- limit is read or written, so of those it is the disk that has to have whole ones.)
+  pub begins_new : (image now : Image) → Tells m disk image → IsUnmadeImage core.store.geometry.size image
+      → Tells m core.store.disk now → HasWholePages core.store.geometry.size now → StandsFor m core new_history []
   -- each image that a crash since the start might have left is one from before, one on which a database may be made,
   -- or the new one
   pub crash : (image : Image) → Tells m disk image

@@ -10,13 +10,14 @@ use Rattle.mg_engine_steps.specs.StartLaws.{StandsFirst}
 use Rattle.mg_txlist.specs.Laws.{LoadedSays}
 use Rattle.mg_new_images.specs.Readable.{NewAreReadable}
 use Rattle.mg_engine_calls.specs.Laws.{OpeningsStand}
+use Rattle.mg_engine_calls.specs.NewBegins.{NewBegin}
 use Rattle.mg_engine_calls.specs.OpenedLaws.{opened_over}
 use Rattle.mg_engine_calls.specs.RefusalLaws.{AreCounted}
 use Rattle.mg_engine_calls.specs.OpeningsRefusedLaws.{refuses_opening}
 
 pub openings_stand_by : (D : Type 0) (m : Meaning D) → CountsNow m → AreCounted m → NewAreReadable → StandsFirst packed_form
-    → StartsOn D FireLinks m packed_form → LoadedSays → OpeningsBegin → OpeningsStand D m
-openings_stand_by D m counts counted new_reads stands_first starts loaded begin disk limit (Ok core) opens =
-    opened_over m counts stands_first starts loaded begin disk limit core opens
-openings_stand_by D m counts counted new_reads stands_first starts loaded begin disk limit (Err both) refuses =
+    → StartsOn D FireLinks m packed_form → LoadedSays → OpeningsBegin → NewBegin → OpeningsStand D m
+openings_stand_by D m counts counted new_reads stands_first starts loaded begin new_begins disk limit (Ok core) opens =
+    opened_over m counts stands_first starts loaded begin new_begins disk limit core opens
+openings_stand_by D m counts counted new_reads stands_first starts loaded begin new_begins disk limit (Err both) refuses =
     refuses_opening m counts counted new_reads disk both.0 limit both.1 refuses

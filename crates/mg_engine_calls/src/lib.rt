@@ -9,7 +9,8 @@
 //!
 //! Invariant: none, it keeps no state.
 //! Below: `mg_engine_meaning`, what an engine means; `mg_engine_steps`, what an entry makes of the pages and the cache;
-//! `mg_engine_tables`, where tables stand, and the walks of others; `mg_core`; `mg_new_images`. Above: the engine.
+//! `mg_engine_tables`, where tables stand, and the walks of others; `mg_core`; `mg_new_images` and `mg_new_databases`, what
+//! a new database holds. Above: the engine.
 #![tactic(auto)]
 
 mod calls;
@@ -19,4 +20,4 @@ pub use calls::{
     begins_give, commits_go, looks_go_on, next_pages_go_on, rollbacks_go, tables_go_on,
     visits_go_on,
 };
-pub use openings::{closings_leave, openings_stand, runs_compose};
+pub use openings::{closings_leave, new_databases_begin, openings_stand, runs_compose};

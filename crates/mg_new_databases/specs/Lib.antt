@@ -1,0 +1,10 @@
+pub mod NewDatabase
+pub mod Soundness
+pub mod CatalogLaws
+pub mod RecordLaws
+pub mod RowLaws
+pub mod NameLaws
+pub mod PageLaws
+pub mod SoundnessLaws
+pub mod HeldLaws
+pub mod MemLaws
