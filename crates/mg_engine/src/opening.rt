@@ -16,7 +16,8 @@ impl<D: Disk> Engine<D> {
     ///
     /// Where the disk holds a sound image and nothing is pending, the engine stands for the history that begins
     /// with that image and has no entry. Two things are asked of the image beside its soundness: its transactions
-    /// in limbo have only made rows of the catalog, and its tables are plain (`BeginsWith`).
+    /// in limbo have only made rows of the catalog, and its tables are plain (`BeginsWith`). Where a new one was made, the
+    /// engine stands for the history of a new database that has no entry, if each page of the disk has the page size.
     ///
     /// The page limit is the greater of `limit` and the disk's number of pages, and at most 131,072; pages past
     /// that are neither read nor written.

@@ -67,6 +67,8 @@ new_history = new_opening GREATEST_NEXT
 pub record IsOpenedOver {D : Type 0} (m : Meaning D) (disk : D) (limit : ℕ) (core : Core D) : Type 0 where
   -- no session has an active transaction
   pub free : (session : ℕ) → has_session core.works session ≡ false
+  -- the page size is the disk's
+  pub size_is : m.size core.store.disk ≡ Some core.store.geometry.size
   -- the page limit is the greater of the one that was asked for and the disk's number of pages
   pub limit_is : (image : Image) → m.held disk ≡ Some image
       → core.store.geometry.limit ≡ limit_of limit (length image)

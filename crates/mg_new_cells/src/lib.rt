@@ -11,8 +11,8 @@
 //! Invariant: none, it keeps no state.
 //! Below: `mg_new_images`, which tells the other pages of a new database; `mg_image`, which says byte for byte what
 //! they are.
-//! Above: nothing yet.
-//! Not here yet: what the catalog's records say, and so that the whole image is sound.
+//! Above: `mg_new_databases`.
+//! Not here: what the catalog's records say, and so that the whole image is sound.
 #![tactic(auto)]
 
 mod laws;

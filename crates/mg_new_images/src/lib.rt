@@ -10,8 +10,8 @@
 //!
 //! Invariant: none, it keeps no state.
 //! Below: `mg_format`, which writes the pages; `mg_image`, which says byte for byte what they are.
-//! Above: `mg_engine_calls`.
-//! Not here yet: the cells of its two data pages, and so that the whole image is sound and holds the table KV, empty.
+//! Above: `mg_new_cells`, `mg_new_databases`, `mg_engine_calls`.
+//! Not here: the cells of its two data pages, and so that the whole image is sound and holds the table KV, empty.
 #![tactic(auto)]
 
 mod laws;
