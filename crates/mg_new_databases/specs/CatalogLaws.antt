@@ -1,5 +1,5 @@
 -- The rows of a new catalog name KV alone, which fits pages of each size.
-use Rattle.std.proofs.Common.{◌≡◌, inl, inr, ◌⊎◌, ◌≤◌, ◌/◌, refl, sym, arith, lit≤, ℕ, List, [], ◌∷◌, length, Some}
+use Rattle.std.proofs.Common.{◌≡◌, inl, inr, ◌⊎◌, ◌≤◌, ◌/◌, refl, sym, arith, lit≤, ℕ, List, [], ◌∷◌, Some}
 use Rattle.mg_catalog.specs.KeyLaws.{index_not_column, table_key_equal, table_not_column, table_not_index}
 use Rattle.mg_image.specs.Catalog.{FitsPages}
 use Rattle.mg_image.specs.Form.{Row}

@@ -2,15 +2,13 @@
 use Rattle.std.proofs.Common.{◌≡◌, ◌&&◌, inl, refl, sym, ℕ, Bool, true, false, List, Option, None, Some}
 use Rattle.std.specs.Cmp.Lexicographic.{same_text}
 use Rattle.std.specs.Prelude.{if◌then◌else◌}
-use Rattle.mg_base.specs.Geometry.{is_page_size}
 use Rattle.mg_base.specs.Image.{Image, page_at}
 use Rattle.mg_base.specs.declared.numbers.RecId.{RecId}
-use Rattle.mg_format.specs.Format.{IsMade}
-use Rattle.mg_image.specs.Form.{Row, packed_form}
-use Rattle.mg_image.specs.Held.{AreChanges, HasTable, IsHeld, IsHeldAt, Shows, told_row}
+use Rattle.mg_image.specs.Form.{Row}
+use Rattle.mg_image.specs.Held.{AreChanges, IsHeld, IsHeldAt, Shows, told_row}
 use Rattle.mg_image.specs.Inventory.{state_at}
 use Rattle.mg_image.specs.NewDatabase.{key_row, table_row, value_row}
-use Rattle.mg_image.specs.Opening.{IsNew, IsOpened, Opened, new_row}
+use Rattle.mg_image.specs.Opening.{Opened, new_row}
 use Rattle.mg_image.specs.RecordRules.{Facts, committed_in}
 use Rattle.mg_image.specs.Records.{Cells, key_of, writer}
 use Rattle.mg_image.specs.Sound.{facts_of}

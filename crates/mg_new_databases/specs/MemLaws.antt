@@ -4,9 +4,8 @@ use Rattle.std.specs.Prelude.{replicate}
 use Rattle.std.proofs.lemmas.Bool.{cases_lt}
 use Rattle.std.proofs.lemmas.List.{get_or_append_left, get_or_past, length-append, length-replicate}
 use Rattle.mg_base.specs.Image.{Image, blank, page_at}
-use Rattle.mg_base.specs.MemDisk.{acts_in, mem_meaning}
+use Rattle.mg_base.specs.MemDisk.{acts_in}
 use Rattle.mg_base.specs.Acts.{image_of}
-use Rattle.mg_base.specs.declared.mem_disk.MemDisk.{MemDisk}
 use Rattle.mg_new_databases.specs.Soundness.{HasWholePages, MemDisksAreWhole}
 
 -- a front of pages that are whole is whole

@@ -1,10 +1,9 @@
 -- The catalog of a new database names KV, whoever else counts as committed, and each version may stand in its table.
-use Rattle.std.proofs.Common.{◌≡◌, ◌≤◌, inl, refl, ap, ◌∙◌, ℕ, zero, suc, Bool, true, List, [], ◌∷◌, Some}
+use Rattle.std.proofs.Common.{◌≡◌, ◌≤◌, inl, refl, ap, ℕ, Bool, true, List, [], ◌∷◌, Some}
 use Rattle.mg_base.specs.declared.numbers.RecId.{RecId}
-use Rattle.mg_base.specs.declared.transaction.TxState.TheVariants.{Committed, Limbo}
+use Rattle.mg_base.specs.declared.transaction.TxState.TheVariants.{Limbo}
 use Rattle.mg_image.specs.Catalog.{CatalogNames, HasNames, HasOwnTables, MayStandIn, committed_with}
 use Rattle.mg_image.specs.Form.{Pages, Row}
-use Rattle.mg_image.specs.Held.{HasLimbo, Shows}
 use Rattle.mg_image.specs.Indexes.{IsFoundIn}
 use Rattle.mg_image.specs.RecordRules.{Each, Facts, committed_in, table_in}
 use Rattle.mg_image.specs.Records.{Cells, writer}

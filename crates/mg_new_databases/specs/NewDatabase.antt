@@ -1,5 +1,5 @@
 -- The catalog and the table KV of a new database: where they stand, and what is read of them.
-use Rattle.std.specs.Prelude.{◌+◌, ◌==◌, ℕ, zero, suc, Bool, true, false, List, [], ◌∷◌, Option, None, Some, codes, if◌then◌else◌}
+use Rattle.std.specs.Prelude.{◌==◌, ℕ, zero, suc, Bool, true, false, List, [], ◌∷◌, Option, None, Some, codes, if◌then◌else◌}
 use Rattle.mg_base.specs.declared.numbers.RecId.{RecId}
 use Rattle.mg_image.specs.Form.{Row, packed_coding}
 use Rattle.mg_image.specs.NewDatabase.{IsCatalogBody, key_row, table_row, value_row}

@@ -1,5 +1,5 @@
 -- What is read of a new database: its records are lawful.
-use Rattle.std.proofs.Common.{◌≡◌, ◌≢◌, ◌⊎◌, ◌<◌, ◌-◌, ◌==◌, inl, inr, refl, sym, ap, subst, ◌∙◌, lit≤, lit<, arith, ℕ, zero, suc, Bool, true, List, [], ◌∷◌, Option, None, Some}
+use Rattle.std.proofs.Common.{◌≡◌, ◌≢◌, ◌⊎◌, ◌<◌, ◌-◌, ◌==◌, inl, inr, refl, sym, ap, subst, ◌∙◌, lit<, arith, ℕ, zero, suc, List, [], ◌∷◌, Option, None, Some}
 use Rattle.std.specs.Int.{w64}
 use Rattle.std.specs.Prelude.{FitsSigned, ◌^◌, pos, if◌then◌else◌}
 use Rattle.std.proofs.lemmas.Bool.{cases_eq, ne_eqb}
@@ -10,12 +10,11 @@ use Rattle.mg_value.specs.Values.{bytes_of}
 use Rattle.mg_value.specs.declared.value.Value.{Value}
 use Rattle.mg_rowcode.specs.Storable.{AreStorable}
 use Rattle.mg_model.specs.declared.table.Table.{Table}
-use Rattle.mg_model.specs.Catalog.{catalog_shape}
 use Rattle.mg_image.specs.Catalog.{catalog_table}
 use Rattle.mg_image.specs.Form.{Row, packed_coding}
 use Rattle.mg_image.specs.NewDatabase.{IsCatalogBody, key_row, table_row, value_row}
 use Rattle.mg_image.specs.RecordRules.{AreRecords, Facts, IsRecord, IsVersion, TakesKey, table_in}
-use Rattle.mg_image.specs.Records.{Cells, Chain, Stands, ended, goes, key_of, newest_of, record_key, shown}
+use Rattle.mg_image.specs.Records.{Cells, Chain, Stands, ended, goes, key_of, newest_of, record_key}
 use Rattle.mg_image.specs.Tables.{stands_of, table_at}
 use Rattle.mg_new_databases.specs.NewDatabase.{AreCoded, Bodies, catalog_entries, catalog_slot, cell_at, new_layout, new_reading, system_entry, system_link}
 

@@ -1,5 +1,5 @@
 -- Which rows the records of a new database show: those of its catalog, and none of KV.
-use Rattle.std.proofs.Common.{◌≡◌, ◌≢◌, ◌⊎◌, inl, inr, refl, sym, ap, subst, ◌∙◌, ℕ, zero, suc, Bool, true, [], ◌∷◌, Option, None, Some}
+use Rattle.std.proofs.Common.{◌≡◌, ◌⊎◌, inl, inr, refl, ℕ, zero, suc, Bool, true, [], ◌∷◌, Option, Some}
 use Rattle.mg_base.specs.declared.numbers.RecId.{RecId}
 use Rattle.mg_value.specs.declared.value.Value.{Value}
 use Rattle.mg_model.specs.declared.table.Table.{Table}
@@ -9,7 +9,7 @@ use Rattle.mg_model.specs.NewDatabase.{kv_name}
 use Rattle.mg_image.specs.Form.{Row}
 use Rattle.mg_image.specs.Held.{AreRows, Shows}
 use Rattle.mg_image.specs.NewDatabase.{key_row, table_row, value_row}
-use Rattle.mg_image.specs.RecordRules.{Facts, table_in}
+use Rattle.mg_image.specs.RecordRules.{Facts}
 use Rattle.mg_image.specs.Records.{Cells, key_of, shown}
 use Rattle.mg_new_databases.specs.NewDatabase.{Bodies, catalog_entries, catalog_slot, new_reading, system_entry}
 use Rattle.mg_new_databases.specs.RecordLaws.{IsNewImage, by_place, cat, catalog_of}
