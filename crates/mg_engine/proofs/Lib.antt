@@ -1,5 +1,6 @@
 mod ApartLemmas
 mod EngineLemmas
 mod BeginLemmas
+mod MakingLemmas
 mod ReadLemmas
 mod WriteLemmas

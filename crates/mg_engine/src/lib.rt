@@ -6,9 +6,9 @@
 //!
 //! Invariant (`IsEngine`): the core is lawful, and each session has one active transaction at most.
 //! Below: `mg_core`, the calls over memory and pages; `mg_engine_meaning`, what an engine means; the laws of each kind
-//! of call (`mg_engine_calls`, `mg_engine_calls`, `mg_engine_meaning`).
+//! of call (`mg_engine_calls`, `mg_engine_row_steps`, `mg_engine_creations`, `mg_engine_meaning`).
 //! Above: the statements' steps.
-//! Not here yet: taking back, the making of tables, and so the impl of the trait.
+//! Not here yet: taking back, and so the impl of the trait.
 #![tactic(auto)]
 
 mod beginning;
@@ -16,6 +16,7 @@ mod committing;
 mod ending;
 mod engine;
 mod events;
+mod making;
 mod opening;
 mod reading;
 mod writing;

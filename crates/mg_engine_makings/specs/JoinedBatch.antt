@@ -42,7 +42,7 @@ use Rattle.mg_image.specs.StepLaws.{put_reading, same_place}
 use Rattle.mg_image.specs.Tables.{EachStand, IsOnce, Layout, Stand, has, stands_of, table_at}
 use Rattle.mg_kept_images.specs.Begins.{Raises}
 use Rattle.mg_kept_images.specs.Kinds.{HasNoSequences}
-use Rattle.mg_kept_images.specs.KeptImages.{IsKept, keeping}
+use Rattle.mg_kept_images.specs.KeptImages.{IsBehind, IsKept, keeping}
 use Rattle.mg_page_overlays.specs.Creating.{without_raises}
 use Rattle.mg_catalog_batches.specs.CatalogRows.{IsRowOf}
 use Rattle.mg_catalog_batches.specs.Filled.{IsFilled, MayFill, catalog_of}
@@ -84,6 +84,27 @@ pub record AreItsRows (form : Form) (size : ℕ) (state : ℕ → TxState) (page
       → record_key layout.catalog.table (r p) ≡ key_of layout.catalog.table row
       → TakesKey (facts_by (left_state chosen state) pages layout) (r p) → ⊥
 
+-- What is read of the batch where the maker counts as dead: the pages before it are behind those after, and have the
+-- header that they had.
+pub record ReadsBatch (form : Form) (size : ℕ) (state : ℕ → TxState) (old new : Pages) : Type 0 where
+  pub layout : Layout
+  pub reading : Reading
+  pub sound : IsSoundBy form size state new layout reading
+  pub was : Layout
+  pub in_was : Reading
+  pub was_sound : IsSoundBy form size state old was in_was
+  pub behind : IsBehind size new old layout was
+  pub header : new 0 ≡ old 0
+
+-- And what joins the pages with the table, over a layout and a reading in which the maker counts as in limbo.
+pub record HasJoined (form : Form) (size : ℕ) (state now : ℕ → TxState) (t : ℕ) (old new : Pages) (rows : List Row)
+    (stand : Stand) (a : Layout) (r : Reading) : Type 0 where
+  pub batch : ReadsBatch form size state old new
+  pub raises : Raises state now t
+  pub made : List MadeRow
+  pub stored : rows_stored made ≡ rows
+  pub joins : Joins form size now t old new a batch.layout r batch.reading made stand
+
 -- ---- lists
 
 puts_of : {D L : Type 0} (store : Pool D L) (image : Image) (t : ℕ) (rows : List Row) (P Q : NewRow → Type 0)
@@ -111,7 +132,7 @@ told_columns name key place (c ∷ cs) =
     ap (λ (rs : List Cells). column_row name key place c ∷ rs) (told_columns name key (place + 1) cs)
 
 -- rows that are stored as those of a table are its rows as a history has them
-told_made : (name : List ℕ) (shape : Shape) (page : ℕ) (made : List MadeRow)
+pub told_made : (name : List ℕ) (shape : Shape) (page : ℕ) (made : List MadeRow)
     → rows_stored made ≡ rows_at name shape page → map row_told made ≡ rows_made name shape
 told_made name shape page made stored = told_stored made ∙ (ap (map told_cells) stored
     ∙ ap (λ (rs : List Cells). table_row (new_table name shape) ∷ rs)
@@ -197,6 +218,19 @@ module _ (form : Form) (one : RowsAreOne form.coding) (none : HasNoSequences for
           ap (left_state (without t.0 chosen) state) is.0 ∙ raises.dead,
           is.1 (without t.0 chosen) start.layout start.reading start.sound,
         )) rows_may) (within_self batch) begun
+
+    pub reads_batch : ReadsBatch form before.geometry.size (left_state (without t.0 chosen) state)
+        (shown before.dirty i) (viewed before i batch)
+    reads_batch = record {
+      layout = rows_now.filled.kept.of_pool;
+      reading = rows_now.filled.kept.in_pool;
+      sound = rows_now.filled.kept.pool_sound;
+      was = rows_now.filled.kept.layout;
+      in_was = rows_now.filled.kept.reading;
+      was_sound = rows_now.filled.kept.sound;
+      behind = rows_now.filled.kept.behind;
+      header = rows_now.filled.header;
+    }
 
     module _ (was : IsKept form before.geometry.size o h (left_state chosen state) (shown before.dirty i)
         (shown before.dirty i))
@@ -336,6 +370,30 @@ module _ (form : Form) (one : RowsAreOne form.coding) (none : HasNoSequences for
           (joined_kept form before.geometry.size o h (left_state (without t.0 chosen) state) (left_state chosen state) t
           (shown before.dirty i) (viewed before i batch) rows_now.filled.kept.of_pool rows_now.filled.kept.in_pool
           rows_now.made stand raises was rows_now.filled.kept.pool_sound joins)
+
+      has_joined : HasJoined form before.geometry.size (left_state (without t.0 chosen) state)
+          (left_state chosen state) t.0 (shown before.dirty i) (viewed before i batch) (rows_at name shape fills.page)
+          stand was.layout was.reading
+      unfolding reads_batch rows_now
+      has_joined = record {
+        batch = reads_batch;
+        raises = raises;
+        made = rows_now.made;
+        stored = rows_now.stored;
+        joins = joins;
+      }
+
+    pub joined_batch : ((a c : Layout) (r rc : Reading)
+        → IsSoundBy form before.geometry.size (left_state chosen state) (shown before.dirty i) a r
+        → IsSoundBy form before.geometry.size (left_state (without t.0 chosen) state) (viewed before i batch) c rc
+        → HasPages form before.geometry.size (shown before.dirty i) (viewed before i batch) a c stand)
+        → (was : IsKept form before.geometry.size o h (left_state chosen state) (shown before.dirty i)
+        (shown before.dirty i))
+        → HasJoined form before.geometry.size (left_state (without t.0 chosen) state)
+        (left_state chosen state) t.0 (shown before.dirty i) (viewed before i batch) (rows_at name shape fills.page)
+        stand was.layout was.reading
+    joined_batch there was = has_joined was (there was.layout rows_now.filled.kept.of_pool was.reading
+        rows_now.filled.kept.in_pool was.sound rows_now.filled.kept.pool_sound)
 
     -- so it is where the pages are there
     made_kept : ((a c : Layout) (r rc : Reading)

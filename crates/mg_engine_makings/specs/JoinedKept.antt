@@ -44,7 +44,7 @@ its_change [] name key old = old
 its_change (row ∷ rows) name key old = its_change rows name key
     (if same_name catalog_name name && same_key (key_at row) key then Some (Puts (row_told row)) else old)
 
-own_now : (o : Opening) (h : Entries) (t : TxNo) (row : MadeRow) → own o (row_entry t (row_told row) ∷ h) t.0
+pub own_now : (o : Opening) (h : Entries) (t : TxNo) (row : MadeRow) → own o (row_entry t (row_told row) ∷ h) t.0
     ≡ record { table = catalog_name; key = key_at row; row = Some (row_told row) } ∷ own o h t.0
 own_now o h t row = rw (eq-eqb t.0 t.0 refl) (ap (λ (k : Value). record {
   table = catalog_name;
@@ -63,7 +63,7 @@ its_newest o t [] h name key = refl
 its_newest o t (row ∷ rows) h name key = its_newest o t rows (row_entry t (row_told row) ∷ h) name key
     ∙ ap (λ (cs : List OwnChange). its_change rows name key (newest_at cs name key)) (own_now o h t row)
 
-others_newest : (o : Opening) (t : TxNo) (rows : List MadeRow) (h : Entries) (u : ℕ) → u ≢ t.0
+pub others_newest : (o : Opening) (t : TxNo) (rows : List MadeRow) (h : Entries) (u : ℕ) → u ≢ t.0
     → own o (with_rows t (map row_told rows) h) u ≡ own o h u
 others_newest o t [] h u ne = refl
 others_newest o t (row ∷ rows) h u ne = others_newest o t rows (row_entry t (row_told row) ∷ h) u ne

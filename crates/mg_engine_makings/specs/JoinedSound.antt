@@ -41,7 +41,7 @@ backs_have : (P Q : Entry → Type 0) → ((e : Entry) → P e → Q e) → (es 
 backs_have P Q gives [] each = tt
 backs_have P Q gives (e ∷ es) each = each_has P Q gives es each
 
-each_stand_with : (P : Stand → Type 0) (s : Stand) (ss : List Stand) → P s → EachStand P ss
+pub each_stand_with : (P : Stand → Type 0) (s : Stand) (ss : List Stand) → P s → EachStand P ss
     → EachStand P (stands_with s ss)
 each_stand_with P s [] is each = (is, tt)
 each_stand_with P s (u ∷ us) is each =

@@ -187,13 +187,16 @@ module _ (speakers : SpeakersAreTold) (obstacles : ObstaclesAtKeys) (rows : Rows
     (refusal : Refusal) where
   abbrev Gives : Type 0
   Gives = GivesEvent m places old new (own_event t name shape) (No refusal) (Some refusal) (Some t.0) (Some t.0) None
-      None
+      None × (new.works ≡ old.works)
 
   stopped : IsStopped m places old new t.0 refusal
       → ((o : Opening) (h : Entries) → StandsFor m old o h → IsLawful o h (entry (own_event t name shape) (No refusal)))
       → Gives
-  stopped stop lawful = notes_give m places idle_goes on quiet begin last old new t.0 (own_event t name shape) refusal
-      (Some t.0) (Some t.0) stop.notes refl refl lawful stop.may
+  stopped stop lawful = (
+    notes_give m places idle_goes on quiet begin last old new t.0 (own_event t name shape) refusal (Some t.0) (Some t.0)
+        stop.notes refl refl lawful stop.may,
+    ap (λ (c : Core D). c.works) stop.notes.same,
+  )
 
   -- from outside the machine
   outer : is_outer (No refusal) ≡ true → IsStopped m places old new t.0 refusal → Gives
@@ -328,9 +331,12 @@ module _ (speakers : SpeakersAreTold) (obstacles : ObstaclesAtKeys) (rows : Rows
 
   pub creations_refused : FailsCreation m old new t name shape refusal
       → Gives ⊎ IsNotPut m old new t name shape refusal
-  creations_refused (not_begun refused) = inl (refused_gives m places idle_goes on quiet old new t.0
-      (own_event t name shape) (λ o h. answer_active (told o h) t.0 (own_event t name shape)) refusal (Some t.0)
-      (Some t.0) refl (λ o h. refl) refused)
+  creations_refused (not_begun refused) = inl (
+    refused_gives m places idle_goes on quiet old new t.0 (own_event t name shape)
+        (λ o h. answer_active (told o h) t.0 (own_event t name shape)) refusal (Some t.0) (Some t.0) refl (λ o h. refl)
+        refused,
+    ap (λ (c : Core D). c.works) refused.wait.same,
+  )
   creations_refused (only_reads continues ends only) = inl (stopped
       (told_stops m places counts_now old new new t.0 continues.0 fits (ended_read m old new t.0 core.pool ends)
       refusal refl (subst (λ (r : Refusal). IsPlain r) (sym only.is) tt)

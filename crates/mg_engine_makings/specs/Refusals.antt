@@ -1,5 +1,5 @@
 -- A table that is not made: each refusal before its rows are put, as a keeper of records owes it.
-use Rattle.std.specs.Prelude.{◌⊎◌, ℕ, List, None, Some}
+use Rattle.std.specs.Prelude.{◌≡◌, ◌⊎◌, ℕ, List, None, Some}
 use Rattle.mg_base.specs.Disk.{Meaning}
 use Rattle.mg_base.specs.declared.numbers.TxNo.{TxNo}
 use Rattle.mg_catalog.specs.RowsSaid.{table_row}
@@ -30,9 +30,10 @@ pub record IsNotPut {D : Type 0} (m : Meaning D) (old new : Core D) (t : TxNo) (
   pub fails : FailsKeeping free new t (keys_made old.catalog.shape name shape) refusal
       ⊎ FailsMaking m free new t name shape (keys_made old.catalog.shape name shape) refusal
 
--- the event of its own row is given with the refusal, or the rows were not put
+-- the event of its own row is given with the refusal, and what is kept of transactions is as it was; or the rows were not
+-- put
 abbrev pub CreationsAreRefused : (D P : Type 0) → Meaning D → Type 0
 CreationsAreRefused D P m = (places : Places P) (old new : Core D) (t : TxNo) (name : List ℕ) (shape : Shape)
     (refusal : Refusal) → IsCore m old → AreCounts old → FailsCreation m old new t name shape refusal
-    → GivesEvent m places old new (own_event t name shape) (No refusal) (Some refusal) (Some t.0) (Some t.0) None None
-    ⊎ IsNotPut m old new t name shape refusal
+    → (GivesEvent m places old new (own_event t name shape) (No refusal) (Some refusal) (Some t.0) (Some t.0) None None
+    × (new.works ≡ old.works)) ⊎ IsNotPut m old new t name shape refusal
