@@ -14,10 +14,10 @@
 //!
 //! Invariant: none, it keeps no state.
 //! Below: `mg_catalog_batches`, `mg_table_batch` and `mg_table_ties`, the batch; `mg_table_making`, the call;
-//! `mg_engine_steps`, what an engine stands for; `mg_engine_row_writes`, calls that only read. Above: the engine's
-//! CREATE TABLE.
-//! Not here yet: that the pages of other tables, which the batch leaves, and those of the new one are what `joining`
-//! takes (`HasPages`); the pages that the catalog gets before it; and a table that is refused as its rows are put.
+//! `mg_engine_steps`, what an engine stands for; `mg_engine_row_writes`, calls that only read. Above:
+//! `mg_engine_creations`.
+//! Not here: that the pages of other tables, which the batch leaves, and those of the new one are what `joining` takes
+//! (`HasPages`); the pages that the catalog gets before it; and a table that is refused as its rows are put.
 #![tactic(auto)]
 
 mod joining;
