@@ -208,9 +208,12 @@ module _ (retract : RetractTakesKeepBack) {D P : Type 0} (m : Meaning D) (places
   next_on : (s s_now : Standing) (u : ℕ) (its : Table) (after : Option RecId) (rows : KeyedRows) (off : Option ℕ)
       → s.state ≡ s_now.state → s.live ≡ s_now.live → AreNext m mid s u its after rows off
       → AreNext m now s_now u its after rows off
-  next_on s s_now u its after rows None state bases (i, held, next) =
-      (i, held, as_standing refused.store.geometry.size s s_now (shown refused.store.dirty i) u its after rows state bases
-      next)
+  next_on s s_now u its after rows None state bases (i, held, next) = (
+    i,
+    held,
+    as_standing refused.store.geometry.size s s_now (shown refused.store.dirty i) u its after rows state bases
+        next,
+  )
   next_on s s_now u its after rows (Some count) state bases next = tt
 
   now_walks : WalksStay (means m places) old now (Some t.0)

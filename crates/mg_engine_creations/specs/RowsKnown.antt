@@ -119,10 +119,16 @@ column_storable : (name : List ℕ) (key place : ℕ) (c : Column) → IsOfLengt
     → RowFits catalog_shape.columns (column_row name key place c) → AreStorable (column_row name key place c)
 column_storable name key place c fits_length first below fits = (
   (let short = fits.0.kind in omega (arith, short)),
-  ((let short = fits.1.0.kind in omega (arith, short)),
-  (small (length_of c.kind) (length_small c.kind fits_length),
-  (small (flags_of (place == key) c.not_null) (flags_small (place == key) c.not_null),
-  (small c.since (omega (arith, first)), (small place below, tt))))),
+  (
+    (let short = fits.1.0.kind in omega (arith, short)),
+    (
+      small (length_of c.kind) (length_small c.kind fits_length),
+      (
+        small (flags_of (place == key) c.not_null) (flags_small (place == key) c.not_null),
+        (small c.since (omega (arith, first)), (small place below, tt)),
+      ),
+    ),
+  ),
 )
 
 first_of : {X : Type 0} (P : X → Type 0) (x : X) (xs : List X) → All P (x ∷ xs) → P x
@@ -159,82 +165,85 @@ passes_back (check ∷ checks) rest passes = passes_back checks rest passes.1
 
 module _ (one : RowsAreOne packed_coding) (begins : OpeningsBegin) (size : ℕ) (o : Opening) (h : Entries) (s : Standing)
     (pages : Pages) (stands : Stands packed_form size o h s (Some pages)) (t : TxNo) (active : s.state t.0 ≡ Active)
-    where
-  abbrev shows : ShowsHistory packed_form size o h s pages
-  shows = stands.shows
+  where
+    abbrev shows : ShowsHistory packed_form size o h s pages
+    shows = stands.shows
 
-  number : t.0 < next_of pages
-  number = was_drawn packed_form size o h s pages (begins o stands.opening) stands.legal stands.memory stands.shows t.0
-      active
+    number : t.0 < next_of pages
+    number = was_drawn packed_form size o h s pages (begins o stands.opening) stands.legal stands.memory stands.shows t.0
+        active
 
-  interesting : oldest_of pages ≤ t.0
-  interesting = at (cases_lt t.0 (oldest_active_of pages))
-    where
-      are : AreMarkers (oldest_of pages) (header_of pages).ost.0 (oldest_active_of pages) (next_of pages)
-      are = markers_from_passes (pages 0) (passes_back (common_checks (pages 0) 0 HEADER_KIND 0 0)
-          (marker_checks (pages 0)) stands.shows.sound.header.fields)
+    interesting : oldest_of pages ≤ t.0
+    interesting = at (cases_lt t.0 (oldest_active_of pages))
+      where
+        are : AreMarkers (oldest_of pages) (header_of pages).ost.0 (oldest_active_of pages) (next_of pages)
+        are = markers_from_passes (pages 0) (passes_back (common_checks (pages 0) 0 HEADER_KIND 0 0)
+            (marker_checks (pages 0)) stands.shows.sound.header.fields)
 
-      limbo : left_state everyone s.state t.0 ≡ Limbo
-      limbo = rw active refl
+        limbo : left_state everyone s.state t.0 ≡ Limbo
+        limbo = rw active refl
 
-      at : (t.0 < oldest_active_of pages) ⊎ (oldest_active_of pages ≤ t.0) → oldest_of pages ≤ t.0
-      at (inl below) = absurd (stands.shows.sound.limbo t.0 below limbo)
-      at (inr above) = let a = are.oit_ost in let b = are.ost_oat in omega (arith, a, b, above)
+        at : (t.0 < oldest_active_of pages) ⊎ (oldest_active_of pages ≤ t.0) → oldest_of pages ≤ t.0
+        at (inl below) = absurd (stands.shows.sound.limbo t.0 below limbo)
+        at (inr above) = let a = are.oit_ost in let b = are.ost_oat in omega (arith, a, b, above)
 
-  -- each row may be written into the catalog
-  pub rows_may : (name : List ℕ) (shape : Shape) (page : ℕ) → IsNewShape shape → page < 2 ^ 32
-      → HoldsOfRows size (catalog_of pages) t.0 (rows_at name shape page) (IsRowOf packed_form size t.0 s.state pages)
-  rows_may name shape page new below row is at v stores = (stores.stored.its, λ chosen layout r sound. record {
-    drawn = subst (λ (n : ℕ). n < next_of pages) (sym stores.stored.its) number;
-    dead = λ dead. subst (λ (n : ℕ). oldest_of pages ≤ n) (sym stores.stored.its) interesting;
-    format = stores.stored.format;
-    spelled = subst (λ (f : ℕ). DecodesTo (columns_for (catalog_of pages) v.deleted) f v.body row)
-        (sym stores.stored.format) (subst (λ (d : Bool). DecodesTo (columns_for (catalog_of pages) d) 1 v.body row)
-        (sym stores.stored.deleted) (decodes catalog_shape.columns v.body row catalog_first stores.stored.row.fits
-        stores.stored.row.packed));
-    storable = rows_storable name shape page new below row is stores.stored.row.fits;
-    erased = λ gone. absurd (false≢true (sym stores.stored.deleted ∙ gone));
-    keyed = refl;
-  })
+    -- each row may be written into the catalog
+    pub rows_may : (name : List ℕ) (shape : Shape) (page : ℕ) → IsNewShape shape → page < 2 ^ 32
+        → HoldsOfRows size (catalog_of pages) t.0 (rows_at name shape page) (IsRowOf packed_form size t.0 s.state pages)
+    rows_may name shape page new below row is at v stores = (
+      stores.stored.its,
+      λ chosen layout r sound. record {
+        drawn = subst (λ (n : ℕ). n < next_of pages) (sym stores.stored.its) number;
+        dead = λ dead. subst (λ (n : ℕ). oldest_of pages ≤ n) (sym stores.stored.its) interesting;
+        format = stores.stored.format;
+        spelled = subst (λ (f : ℕ). DecodesTo (columns_for (catalog_of pages) v.deleted) f v.body row)
+            (sym stores.stored.format) (subst (λ (d : Bool). DecodesTo (columns_for (catalog_of pages) d) 1 v.body row)
+            (sym stores.stored.deleted) (decodes catalog_shape.columns v.body row catalog_first stores.stored.row.fits
+            stores.stored.row.packed));
+        storable = rows_storable name shape page new below row is stores.stored.row.fits;
+        erased = λ gone. absurd (false≢true (sym stores.stored.deleted ∙ gone));
+        keyed = refl;
+      },
+    )
 
-  -- no record takes a key for which nobody speaks
-  pub none_free : (key : Value)
-      → IsSilentAt packed_form size o h s pages stands.shows stands.shows.layout.catalog.table.name key
-      → (chosen : ℕ → Bool) (layout : Layout) (r : Reading)
-      → IsSoundBy packed_form size (left_state chosen s.state) pages layout r → (p : RecId)
-      → table_in (facts_by (left_state chosen s.state) pages layout) p ≡ Some layout.catalog.table
-      → record_key layout.catalog.table (r p) ≡ key
-      → TakesKey (facts_by (left_state chosen s.state) pages layout) (r p) → ⊥
-  none_free key silent chosen layout r sound p of keyed takes =
-      none_takes packed_form size o h s pages stands.memory stands.shows cat.name key other cat refl (inr silent) p
-      apart of_all (ap (record_key cat) reads ∙ (subst (λ (x : Table). record_key x (r p) ≡ key) same keyed))
-      (takes_too packed_form one size s.state pages shows.layout shows.reading shows.sound chosen layout r sound cat
-      (catalog_stands shows.layout) its p of_cat takes)
-    where
-      cat : Table
-      cat = stands.shows.layout.catalog.table
+    -- no record takes a key for which nobody speaks
+    pub none_free : (key : Value)
+        → IsSilentAt packed_form size o h s pages stands.shows stands.shows.layout.catalog.table.name key
+        → (chosen : ℕ → Bool) (layout : Layout) (r : Reading)
+        → IsSoundBy packed_form size (left_state chosen s.state) pages layout r → (p : RecId)
+        → table_in (facts_by (left_state chosen s.state) pages layout) p ≡ Some layout.catalog.table
+        → record_key layout.catalog.table (r p) ≡ key
+        → TakesKey (facts_by (left_state chosen s.state) pages layout) (r p) → ⊥
+    none_free key silent chosen layout r sound p of keyed takes =
+        none_takes packed_form size o h s pages stands.memory stands.shows cat.name key other cat refl (inr silent) p
+        apart of_all (ap (record_key cat) reads ∙ (subst (λ (x : Table). record_key x (r p) ≡ key) same keyed))
+        (takes_too packed_form one size s.state pages shows.layout shows.reading shows.sound chosen layout r sound cat
+        (catalog_stands shows.layout) its p of_cat takes)
+      where
+        cat : Table
+        cat = stands.shows.layout.catalog.table
 
-      same : layout.catalog.table ≡ stands.shows.layout.catalog.table
-      same = same_catalog packed_form size (left_state chosen s.state) (left_state everyone s.state) pages layout
-          stands.shows.layout r stands.shows.reading sound stands.shows.sound
+        same : layout.catalog.table ≡ stands.shows.layout.catalog.table
+        same = same_catalog packed_form size (left_state chosen s.state) (left_state everyone s.state) pages layout
+            stands.shows.layout r stands.shows.reading sound stands.shows.sound
 
-      its : IsTableOf layout stands.shows.layout.catalog.table
-      its = subst (IsTableOf layout) same (catalog_stands layout)
+        its : IsTableOf layout stands.shows.layout.catalog.table
+        its = subst (IsTableOf layout) same (catalog_stands layout)
 
-      of_cat : page_table (stands_of layout) p.page.0 ≡ Some stands.shows.layout.catalog.table
-      of_cat = of ∙ ap (λ (x : Table). Some x) same
+        of_cat : page_table (stands_of layout) p.page.0 ≡ Some stands.shows.layout.catalog.table
+        of_cat = of ∙ ap (λ (x : Table). Some x) same
 
-      of_all : page_table (stands_of stands.shows.layout) p.page.0 ≡ Some stands.shows.layout.catalog.table
-      of_all = placed_back packed_form one size s.state pages stands.shows.layout stands.shows.reading
-          stands.shows.sound chosen layout r sound stands.shows.layout.catalog.table
-          (catalog_stands stands.shows.layout) its p.page.0 of_cat
+        of_all : page_table (stands_of stands.shows.layout) p.page.0 ≡ Some stands.shows.layout.catalog.table
+        of_all = placed_back packed_form one size s.state pages stands.shows.layout stands.shows.reading
+            stands.shows.sound chosen layout r sound stands.shows.layout.catalog.table
+            (catalog_stands stands.shows.layout) its p.page.0 of_cat
 
-      reads : stands.shows.reading p ≡ r p
-      reads = read packed_form one size s.state pages stands.shows.layout stands.shows.reading stands.shows.sound chosen
-          layout r sound stands.shows.layout.catalog.table (catalog_stands stands.shows.layout) its p of_all
+        reads : stands.shows.reading p ≡ r p
+        reads = read packed_form one size s.state pages stands.shows.layout stands.shows.reading stands.shows.sound chosen
+            layout r sound stands.shows.layout.catalog.table (catalog_stands stands.shows.layout) its p of_all
 
-      other : RecId
-      other = record { page = p.page; slot = suc p.slot }
+        other : RecId
+        other = record { page = p.page; slot = suc p.slot }
 
-      apart : p ≢ record { page = p.page; slot = suc p.slot }
-      apart is = let slots : p.slot ≡ suc p.slot = ap (λ (x : RecId). x.slot) is in omega (arith, slots)
+        apart : p ≢ record { page = p.page; slot = suc p.slot }
+        apart is = let slots : p.slot ≡ suc p.slot = ap (λ (x : RecId). x.slot) is in omega (arith, slots)

@@ -303,8 +303,11 @@ module _ (form : Form) (none : HasNoSequences form) (apart_law : OwnersKeepStand
   -- ---- none is twice
 
   stands_there : EachStand (HasTablePages form.in_primary size new) (stands_of (layout_with a c stand))
-  stands_there = (after.tables.0, each_stand_with (HasTablePages form.in_primary size new) stand a.tables stand_there
-      tables_there)
+  stands_there = (
+    after.tables.0,
+    each_stand_with (HasTablePages form.in_primary size new) stand a.tables stand_there
+        tables_there,
+  )
 
   all_once : EachStand (λ s. IsOnce (pages_of s)) (stands_of (layout_with a c stand))
   all_once = (

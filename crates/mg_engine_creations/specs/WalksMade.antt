@@ -228,10 +228,13 @@ module _ (one : RowsAreOne packed_coding) (size : ℕ) (s : Standing) (dead : �
           × IsOneOf (map (λ y. y.table) a.tables) x.table)
 
       each_either : EachStand Either (stands_of a)
-      each_either = (inl refl, each_inr (λ x. x.table ≡ a.catalog.table)
-          (λ x. HasTablePages packed_form.in_primary size later x × IsOneOf (map (λ y. y.table) a.tables) x.table)
-          a.tables (each_one a.tables a.tables (λ x is. is) (HasTablePages packed_form.in_primary size later)
-          joined.joins.tables_pages))
+      each_either = (
+        inl refl,
+        each_inr (λ x. x.table ≡ a.catalog.table)
+            (λ x. HasTablePages packed_form.in_primary size later x × IsOneOf (map (λ y. y.table) a.tables) x.table)
+            a.tables (each_one a.tables a.tables (λ x is. is) (HasTablePages packed_form.in_primary size later)
+            joined.joins.tables_pages),
+      )
 
       shows_on : ShowsOn size s s later u table a r was
       shows_on = at (each_mid Either was.stands.before was.stands.after was.stands.stand

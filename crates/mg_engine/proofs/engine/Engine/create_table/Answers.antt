@@ -16,28 +16,28 @@ invariant_of-self g c = record {
 
 pub returns-clause-adds : goal.returns-clause-adds
 returns-clause-adds g c = (makes_as g.D.Disk.meaning places c.self.inside.core c.args.self.now c.create_table.new.core
-      c.self.view_is c.self.invariant c.counts_fit.ensures.0 c.counts_fit.ensures.1 c.args.t c.args.name.now
-      c.args.shape.now c.requires.other c.requires.shape c.requires.pages c.note_name.ensures
-      (subst AreNamed c.as_slice.ensures c.note_columns.ensures) c.tables_are_made.ensures.made c.tables_are_made.ensures.refused c.create_table.result
-      c.create_table.ensures.creates).makes
+    c.self.view_is c.self.invariant c.counts_fit.ensures.0 c.counts_fit.ensures.1 c.args.t c.args.name.now
+    c.args.shape.now c.requires.other c.requires.shape c.requires.pages c.note_name.ensures
+    (subst AreNamed c.as_slice.ensures c.note_columns.ensures) c.tables_are_made.ensures.made c.tables_are_made.ensures.refused c.create_table.result
+    c.create_table.ensures.creates).makes
 
 pub returns-clause-leaves : goal.returns-clause-leaves
 returns-clause-leaves g c = (makes_as g.D.Disk.meaning places c.self.inside.core c.args.self.now c.create_table.new.core
-      c.self.view_is c.self.invariant c.counts_fit.ensures.0 c.counts_fit.ensures.1 c.args.t c.args.name.now
-      c.args.shape.now c.requires.other c.requires.shape c.requires.pages c.note_name.ensures
-      (subst AreNamed c.as_slice.ensures c.note_columns.ensures) c.tables_are_made.ensures.made c.tables_are_made.ensures.refused c.create_table.result
-      c.create_table.ensures.creates).leaves
+    c.self.view_is c.self.invariant c.counts_fit.ensures.0 c.counts_fit.ensures.1 c.args.t c.args.name.now
+    c.args.shape.now c.requires.other c.requires.shape c.requires.pages c.note_name.ensures
+    (subst AreNamed c.as_slice.ensures c.note_columns.ensures) c.tables_are_made.ensures.made c.tables_are_made.ensures.refused c.create_table.result
+    c.create_table.ensures.creates).leaves
 
 pub returns-clause-crash : goal.returns-clause-crash
 returns-clause-crash g c = (makes_as g.D.Disk.meaning places c.self.inside.core c.args.self.now c.create_table.new.core
-      c.self.view_is c.self.invariant c.counts_fit.ensures.0 c.counts_fit.ensures.1 c.args.t c.args.name.now
-      c.args.shape.now c.requires.other c.requires.shape c.requires.pages c.note_name.ensures
-      (subst AreNamed c.as_slice.ensures c.note_columns.ensures) c.tables_are_made.ensures.made c.tables_are_made.ensures.refused c.create_table.result
-      c.create_table.ensures.creates).crash
+    c.self.view_is c.self.invariant c.counts_fit.ensures.0 c.counts_fit.ensures.1 c.args.t c.args.name.now
+    c.args.shape.now c.requires.other c.requires.shape c.requires.pages c.note_name.ensures
+    (subst AreNamed c.as_slice.ensures c.note_columns.ensures) c.tables_are_made.ensures.made c.tables_are_made.ensures.refused c.create_table.result
+    c.create_table.ensures.creates).crash
 
 pub returns-clause-sessions : goal.returns-clause-sessions
 returns-clause-sessions g c = (makes_as g.D.Disk.meaning places c.self.inside.core c.args.self.now c.create_table.new.core
-      c.self.view_is c.self.invariant c.counts_fit.ensures.0 c.counts_fit.ensures.1 c.args.t c.args.name.now
-      c.args.shape.now c.requires.other c.requires.shape c.requires.pages c.note_name.ensures
-      (subst AreNamed c.as_slice.ensures c.note_columns.ensures) c.tables_are_made.ensures.made c.tables_are_made.ensures.refused c.create_table.result
-      c.create_table.ensures.creates).sessions
+    c.self.view_is c.self.invariant c.counts_fit.ensures.0 c.counts_fit.ensures.1 c.args.t c.args.name.now
+    c.args.shape.now c.requires.other c.requires.shape c.requires.pages c.note_name.ensures
+    (subst AreNamed c.as_slice.ensures c.note_columns.ensures) c.tables_are_made.ensures.made c.tables_are_made.ensures.refused c.create_table.result
+    c.create_table.ensures.creates).sessions
