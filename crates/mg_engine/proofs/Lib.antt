@@ -4,3 +4,4 @@ mod BeginLemmas
 mod MakingLemmas
 mod ReadLemmas
 mod WriteLemmas
+mod BackLemmas

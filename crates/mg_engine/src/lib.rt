@@ -6,9 +6,11 @@
 //!
 //! Invariant (`IsEngine`): the core is lawful, and each session has one active transaction at most.
 //! Below: `mg_core`, the calls over memory and pages; `mg_engine_meaning`, what an engine means; the laws of each kind
-//! of call (`mg_engine_calls`, `mg_engine_row_steps`, `mg_engine_creations`, `mg_engine_meaning`).
+//! of call (`mg_engine_calls`, `mg_engine_row_steps`, `mg_engine_back_steps`, `mg_engine_creations`,
+//! `mg_engine_meaning`).
 //! Above: the statements' steps.
-//! Not here yet: taking back, and so the impl of the trait.
+//! Not here yet: the impl of the trait; and that tables go as their maker is taken back, in whose place it is rolled back
+//! (`taking`).
 #![tactic(auto)]
 
 mod beginning;
@@ -19,6 +21,7 @@ mod events;
 mod making;
 mod opening;
 mod reading;
+mod taking;
 mod writing;
 
 pub use engine::Engine;

@@ -151,7 +151,7 @@ module _ {D : Type 0} (m : Meaning D) where
   own_left before after fills refuses fault (not_changed batch ready keeps online filled fails) =
       batch_left before ready after batch fault keeps fails
 
-  told_of : (before after : Pool D FireLinks) (fault : SpaceFault)
+  pub told_of : (before after : Pool D FireLinks) (fault : SpaceFault)
       → TellsFault m before after (pool_answer {T = Unit {0}} (Err fault)) → TellsOf m before after fault
   told_of before after (faults.Full limit) told = told.1
   told_of before after (faults.Damaged it) told = told.1
@@ -162,7 +162,7 @@ module _ {D : Type 0} (m : Meaning D) where
   told_of before after (faults.Pool pool_faults.Memory) told = told.1
 
   -- told from an earlier store on, where pages were only read in between
-  told_from : (before ready after : Pool D FireLinks) (fault : SpaceFault) → KeepsStore m before ready
+  pub told_from : (before ready after : Pool D FireLinks) (fault : SpaceFault) → KeepsStore m before ready
       → TellsOf m ready after fault → TellsOf m before after fault
   told_from before ready after (faults.Full limit) keeps told = told
   told_from before ready after (faults.Damaged it) keeps told = told

@@ -101,13 +101,14 @@ none_given number deeds given new none (gives c some more) =
 
 -- ---- tables are told apart by their first pages
 
-record FirstShown (stands : List Stand) (name : List ℕ) (page : ℕ) : Type 0 where
-  its : Table
-  one : IsOneOf (map (λ s. s.table) stands) its
-  named : its.name ≡ name
-  first : its.pointer.0 ≡ page
+-- The table of a name that begins at a page is one of these.
+pub record FirstShown (stands : List Stand) (name : List ℕ) (page : ℕ) : Type 0 where
+  pub its : Table
+  pub one : IsOneOf (map (λ s. s.table) stands) its
+  pub named : its.name ≡ name
+  pub first : its.pointer.0 ≡ page
 
-first_shown : (stands : List Stand) (name : List ℕ) (page : ℕ) → HasFirstPage stands name page
+pub first_shown : (stands : List Stand) (name : List ℕ) (page : ℕ) → HasFirstPage stands name page
     → FirstShown stands name page
 first_shown [] name page has = absurd has
 first_shown (x ∷ stands) name page (inl (named, first)) =
@@ -154,7 +155,7 @@ module _ (what_was : GivesWhatWas) (taken : KeysAreTaken) (size : ℕ) (state : 
     (h : Entries) (e : Entry) (point : Point) (t : ℕ) (s : Standing) (given : List Kept) (end : Undo)
     (memory : Remembers o h s) (active : s.state t ≡ Active) (finds : FindsTables o h s layout t)
     (back : effect_of e ≡ TakesBack t point) (may : MayGoTo point (deeds_by t (steps o h)))
-    (leaves : LeavesCatalog point (deeds_by t (steps o h))) (all : GivesAll (going_to (s.undo t) point) given end) where
+    (all : GivesAll (going_to (s.undo t) point) given end) where
   abbrev deeds : List Deed
   deeds = deeds_by t (steps o h)
 
@@ -195,39 +196,49 @@ module _ (what_was : GivesWhatWas) (taken : KeysAreTaken) (size : ℕ) (state : 
   given_for LastMark may_ tells own_is false none gave_ =
       none_given (s.number t) (deeds_by t (steps o h)) given end none gave_
 
+  pub what_is_given : given ≡ map (given_from (s.number t) (own o (e ∷ h) t))
+      (first_of (since_point point (deeds_by t (steps o h))))
+  what_is_given = given_for point may apart own_then (has_deed point (deeds_by t (steps o h))) refl gave
+
   since_each : (b : Bool) → EachChange (λ c. has_change (own o h t) c.table c.key ≡ true)
       (since_if b point (deeds_by t (steps o h)))
   since_each true = made
   since_each false = tt
 
+  -- each change since the point is one of its own
+  pub since_own : EachChange (λ c. has_change (own o h t) c.table c.key ≡ true)
+      (since_point point (deeds_by t (steps o h)))
+  since_own = since_each (has_deed point (deeds_by t (steps o h)))
+
   keys : AreKeysOf (first_of (since_point point (deeds_by t (steps o h)))) (since_point point (deeds_by t (steps o h)))
   keys = taken.first (since_point point (deeds_by t (steps o h)))
 
   -- none is of the catalog
-  both_each : (cs : List Change) → EachChange (λ c. has_change (own o h t) c.table c.key ≡ true) cs
-      → EachChange (λ c. has_change (since_point point (deeds_by t (steps o h))) c.table c.key ≡ true) cs
-      → EachChange (IsOfTable o h t) cs
-  both_each [] first second = tt
-  both_each (c ∷ cs) first second = (
-    record {
-      other = λ is. false≢true (sym (leaves c.key)
-          ∙ (ap (λ (n : List ℕ). has_change (since_point point (deeds_by t (steps o h))) n c.key) (sym is) ∙ second.0));
-      made = first.0;
-    },
-    both_each cs first.1 second.1,
-  )
+  module _ (leaves : LeavesCatalog point (deeds_by t (steps o h))) where
+    both_each : (cs : List Change) → EachChange (λ c. has_change (own o h t) c.table c.key ≡ true) cs
+        → EachChange (λ c. has_change (since_point point (deeds_by t (steps o h))) c.table c.key ≡ true) cs
+        → EachChange (IsOfTable o h t) cs
+    both_each [] first second = tt
+    both_each (c ∷ cs) first second = (
+      record {
+        other = λ is. false≢true (sym (leaves c.key)
+            ∙ (ap (λ (n : List ℕ). has_change (since_point point (deeds_by t (steps o h))) n c.key) (sym is) ∙ second.0));
+        made = first.0;
+      },
+      both_each cs first.1 second.1,
+    )
 
-  pub are_given : AreGiven o h e t (s.number t) (since_point point (deeds_by t (steps o h))) given
-  are_given = record {
-    given_is = given_for point may apart own_then (has_deed point (deeds_by t (steps o h))) refl gave;
-    each = both_each (first_of (since_point point (deeds_by t (steps o h))))
-        (first_some (λ c. has_change (own o h t) c.table c.key ≡ true) (since_point point (deeds_by t (steps o h)))
-        (since_each (has_deed point (deeds_by t (steps o h))))) keys.each;
-    keys = subst (λ (cs : List Change). AreKeysOf cs (since_point point (deeds_by t (steps o h))))
-        (sym (no_more (first_of (since_point point (deeds_by t (steps o h)))))) keys;
-  }
+    pub are_given : AreGiven o h e t (s.number t) (since_point point (deeds_by t (steps o h))) given
+    are_given = record {
+      given_is = what_is_given;
+      each = both_each (first_of (since_point point (deeds_by t (steps o h))))
+          (first_some (λ c. has_change (own o h t) c.table c.key ≡ true) (since_point point (deeds_by t (steps o h)))
+          since_own) keys.each;
+      keys = subst (λ (cs : List Change). AreKeysOf cs (since_point point (deeds_by t (steps o h))))
+          (sym (no_more (first_of (since_point point (deeds_by t (steps o h)))))) keys;
+    }
 
 pub undo_lists_give_keys : GivesWhatWas → KeysAreTaken → UndoListsGiveKeys
 undo_lists_give_keys what_was taken size state pages layout reading sound o h e point t s given end memory active finds
     back may leaves all = are_given what_was taken size state pages layout reading sound o h e point t s given end memory
-    active finds back may leaves all
+    active finds back may all leaves

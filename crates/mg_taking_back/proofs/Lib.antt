@@ -4,3 +4,4 @@ mod ChangeLemmas
 mod CoreLemmas
 mod TakingLemmas
 mod NotedLemmas
+mod TableLemmas

@@ -201,39 +201,44 @@ pub undo_known : (works : List Working) (t : ℕ) (work : Working) (result : Res
 undo_known works t work (Ok undo) its is = (work, sym its, sym is)
 undo_known works t work (Err e) its is = tt
 
+-- it is the same before the event began
+pub undo_before : {D : Type 0} (old begun : Core D) (t : ℕ) (undo : Undo) → EndsWait old begun t
+    → IsUndoOf begun.works t undo → IsUndoOf old.works t undo
+undo_before {D} old begun t undo ended its = subst (λ (ws : List Working). IsUndoOf ws t undo)
+    (ap (λ (c : Core D). c.works) ended.same) its
+
 module _ {D : Type 0} (m : Meaning D) (old begun new : Core D) (t : ℕ) (undo : Undo) (continues : Continues old t)
-    (ended : EndsWait old begun t) (its : IsUndoOf begun.works t undo) where
+    (ended : EndsWait old begun t) (its : IsUndoOf old.works t undo) where
   pub has_begun : HasBegun old begun t undo
-  has_begun = record {
-    continues = continues;
-    ended = ended;
-    its = subst (λ (ws : List Working). IsUndoOf ws t undo) (ap (λ (c : Core D). c.works) ended.same) its;
-  }
+  has_begun = record { continues = continues; ended = ended; its = its }
 
   pub to_mark : (result : Result (Unit {0}) Refusal)
       → MatchResult result (λ _. TakesBackFrom m begun new t undo) (FailsFrom m begun new t undo)
       → MatchResult result (λ _. TakesBackTo m old new t LastMark) (FailsBackTo m old new t LastMark)
-  to_mark (Ok x) given = record { begun = begun; undo = undo; has_begun = has_begun; takes = given }
-  to_mark (Err refusal) given = back_stopped begun undo has_begun given
+  to_mark (Ok x) given = record { begun = begun; undo = undo; has_begun = has_begun; reaches = tt; takes = given }
+  to_mark (Err refusal) given = back_stopped begun undo has_begun tt given
 
-  -- whether the savepoint stands
-  pub stands : (name : List ℕ) (b : Bool) → b ≡ has_point undo (Some name) → has_savepoint (work_of old.works t) name ≡ b
-  stands name b is = ap (λ (w : Option Working). has_savepoint w name) has_begun.its.1
-      ∙ (ap (λ (u : Undo). has_point u (Some name)) has_begun.its.2 ∙ sym is)
-
-  pub to_savepoint : (name : List ℕ) (going : Undo) → going ≡ after_back_to undo name
+  pub to_savepoint : (name : List ℕ) (going : Undo) → has_point undo (Some name) ≡ true → going ≡ after_back_to undo name
       → TakesBackFrom m begun new t going → TakesBackTo m old new t (SavepointNamed name)
-  to_savepoint name going is given = record {
+  to_savepoint name going reaches is given = record {
     begun = begun;
     undo = undo;
     has_begun = has_begun;
+    reaches = reaches;
     takes = subst (λ (u : Undo). TakesBackFrom m begun new t u) is given;
   }
 
-  pub not_to_savepoint : (name : List ℕ) (going : Undo) (refusal : Refusal) → going ≡ after_back_to undo name
+  pub not_to_savepoint : (name : List ℕ) (going : Undo) (refusal : Refusal) → has_point undo (Some name) ≡ true
+      → going ≡ after_back_to undo name
       → FailsFrom m begun new t going refusal → FailsBackTo m old new t (SavepointNamed name) refusal
-  not_to_savepoint name going refusal is given = back_stopped begun undo has_begun
+  not_to_savepoint name going refusal reaches is given = back_stopped begun undo has_begun reaches
       (subst (λ (u : Undo). FailsFrom m begun new t u refusal) is given)
+
+-- whether the savepoint stands
+pub stands : (works : List Working) (t : ℕ) (undo : Undo) → IsUndoOf works t undo → (name : List ℕ) (b : Bool)
+    → b ≡ has_point undo (Some name) → has_savepoint (work_of works t) name ≡ b
+stands works t undo its name b is = ap (λ (w : Option Working). has_savepoint w name) its.1
+    ∙ (ap (λ (u : Undo). has_point u (Some name)) its.2 ∙ sym is)
 
 -- ---- from the beginning of the event
 

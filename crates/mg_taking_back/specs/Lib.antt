@@ -3,3 +3,4 @@ pub mod Formers
 pub mod Keys
 pub mod Changes
 pub mod Taking
+pub mod Tables

@@ -3,14 +3,14 @@ use Rattle.std.specs.Prelude.{◌≡◌, ℕ, Bool, true, false, List, [], ◌�
 use Rattle.mg_base.specs.Disk.{Meaning}
 use Rattle.mg_base.specs.declared.transaction.TxState.TheVariants.{Dead}
 use Rattle.mg_model.specs.declared.change.Point.{Point}
-use Rattle.mg_model.specs.declared.change.Point.TheVariants.{SavepointNamed}
+use Rattle.mg_model.specs.declared.change.Point.TheVariants.{LastMark, SavepointNamed}
 use Rattle.mg_model.specs.declared.refusal.Refusal.{Refusal}
 use Rattle.mg_model.specs.declared.refusal.Refusal.TheVariants.{Memory}
 use Rattle.mg_records.specs.TakingBack.{is_given_up}
 use Rattle.mg_snap.specs.Live.{after_leave}
 use Rattle.mg_txlist.specs.TxList.{EndsIn}
 use Rattle.mg_undo.specs.Machine.{going_to}
-use Rattle.mg_undo.specs.Undo.{State as Undo, TakesBack, take_back}
+use Rattle.mg_undo.specs.Undo.{State as Undo, TakesBack, has_point, take_back}
 use Rattle.mg_undo.specs.declared.changes.Change.{Change}
 use Rattle.mg_works.specs.Works.{Working, has_savepoint, unasked, with_undo, with_work, without_tables, without_work, work_of}
 use Rattle.mg_core.specs.declared.parts.Core.{Core}
@@ -114,11 +114,17 @@ pub record HasBegun {D : Type 0} (old begun : Core D) (t : ℕ) (undo : Undo) : 
   pub ended : EndsWait old begun t
   pub its : IsUndoOf old.works t undo
 
+-- a savepoint stands; a mark may stand or not
+abbrev pub MayReach : Undo → Point → Type 0
+MayReach undo LastMark = Unit {0}
+MayReach undo (SavepointNamed name) = has_point undo (Some name) ≡ true
+
 -- A transaction is taken back to a point.
 pub record TakesBackTo {D : Type 0} (m : Meaning D) (old new : Core D) (t : ℕ) (point : Point) : Type 0 where
   pub begun : Core D
   pub undo : Undo
   pub has_begun : HasBegun old begun t undo
+  pub reaches : MayReach undo point
   pub takes : TakesBackFrom m begun new t (going_to undo point)
 
 -- Why it is not: the event is refused; what it has to take back is not copied, for want of memory, and it is given up;
@@ -128,13 +134,13 @@ pub data FailsBackTo {D : Type 0} (m : Meaning D) (old new : Core D) (t : ℕ) (
   back_not_begun : IsRefused old new t refusal → FailsBackTo m old new t point refusal
   back_not_copied : (begun : Core D) → Continues old t → EndsWait old begun t → refusal ≡ Memory
       → GivesUpBy begun new t refusal → FailsBackTo m old new t point refusal
-  back_stopped : (begun : Core D) (undo : Undo) → HasBegun old begun t undo
+  back_stopped : (begun : Core D) (undo : Undo) → HasBegun old begun t undo → MayReach undo point
       → FailsFrom m begun new t (going_to undo point) refusal → FailsBackTo m old new t point refusal
 
--- a transaction is taken back to its last savepoint of a name; without one only its wait is over
+-- a transaction is taken back to its last savepoint of a name; without one nothing has changed
 abbrev pub GoesBackTo : {D : Type 0} → Meaning D → Core D → Core D → ℕ → List ℕ → Result Bool Refusal → Type 0
 GoesBackTo m old new t name (Ok true) = (has_savepoint (work_of old.works t) name ≡ true)
     × TakesBackTo m old new t (SavepointNamed name)
 GoesBackTo m old new t name (Ok false) = (has_savepoint (work_of old.works t) name ≡ false)
-    × Continues old t × EndsWait old new t
+    × Continues old t × (new ≡ old)
 GoesBackTo m old new t name (Err refusal) = FailsBackTo m old new t (SavepointNamed name) refusal

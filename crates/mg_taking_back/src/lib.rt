@@ -21,8 +21,10 @@ mod formers;
 mod keys;
 mod laws;
 mod noting;
+mod tables;
 mod taking;
 
 pub use laws::steps_come_to_an_end;
 pub use noting::{note_written, write_noted};
+pub use tables::{takes_tables_to_mark, takes_tables_to_savepoint};
 pub use taking::{back_to, undo_mark};

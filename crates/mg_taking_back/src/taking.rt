@@ -2,10 +2,12 @@
 
 ghost use Rattle.std.specs.Prelude.{◌≡◌, IfOk, MatchResult};
 ghost use Rattle.mg_base.specs.declared.transaction.TxState.TheVariants.{Active as IsActive};
+ghost use Rattle.mg_model.specs.declared.change.Point.{Point};
 ghost use Rattle.mg_model.specs.declared.change.Point.TheVariants.{LastMark};
 ghost use Rattle.mg_records.specs.TakingBack.{is_given_up as is_given_up_by};
 ghost use Rattle.mg_txlist.specs.TxList.{said};
 ghost use Rattle.mg_core.specs.Cores.{Continues, IsCore};
+ghost use Rattle.mg_core.specs.Events.{EndsWait};
 ghost use Rattle.mg_taking_back.specs.Taking.{FailsBackTo, FailsFrom, GivesUpBy, GoesBackTo, IsUndoOf, StopsTaking, TakesAll, TakesBackFrom, TakesBackTo};
 
 use crate::changes::take_key;
@@ -42,7 +44,7 @@ pub fn undo_mark<D: Disk>(core: &mut Core<D>, t: TxNo) -> Result<(), Refusal>
 }
 
 /// Takes a transaction back to its last savepoint of a name, which stays, as `undo_mark` does to a mark. False exactly
-/// where no such savepoint stands: then nothing has changed but that the wait is over.
+/// where no such savepoint stands: then nothing has changed.
 ///
 /// # Errors
 ///
@@ -52,21 +54,46 @@ pub fn back_to<D: Disk>(core: &mut Core<D>, t: TxNo, name: &Name) -> Result<bool
     ensures core { IsCore D.meaning core.new }
     ensures goes { GoesBackTo D.meaning core.old core.new t.0 name.now result }
 {
-    match core.begin_event(t) {
+    // Without the savepoint there is no event, so that the wait is not over.
+    match core.begin_call(t) {
         Ok(()) => {}
-        Err(refusal) => return Err(refusal),
+        Err(refusal) => {
+            end_wait(core, t);
+            return Err(refusal);
+        }
     }
     let mut undo = match copy_undo(core, t) {
         Ok(undo) => undo,
-        Err(_) => return Err(give_up(core, t, Refusal::Memory)),
+        Err(_) => return Err(give_up_event(core, t)),
     };
     if !undo.back_to(name) {
         return Ok(false);
     }
+    end_wait(core, t);
     match take_back_from(core, t, undo) {
         Ok(()) => Ok(true),
         Err(refusal) => Err(refusal),
     }
+}
+
+/// An event of a transaction begins, whose wait is over with it.
+fn end_wait<D: Disk>(core: &mut Core<D>, t: TxNo)
+    requires core { IsCore D.meaning core.old }
+    ensures core { IsCore D.meaning core.new }
+    ensures wait { EndsWait core.old core.new t.0 }
+{
+    core.waits.over(t);
+}
+
+/// Gives a transaction up by an event for which memory is wanting.
+fn give_up_event<D: Disk>(core: &mut Core<D>, t: TxNo) -> Refusal
+    requires core { IsCore D.meaning core.old }
+    requires continues { Continues core.old t.0 }
+    ensures core { IsCore D.meaning core.new }
+    ensures fails { (point : Point) → FailsBackTo D.meaning core.old core.new t.0 point result }
+{
+    end_wait(core, t);
+    give_up(core, t, Refusal::Memory)
 }
 
 /// A copy of what an active transaction has to take back.

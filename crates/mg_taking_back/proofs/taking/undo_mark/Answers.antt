@@ -1,11 +1,12 @@
 use Rattle.mg_model.specs.declared.change.Point.TheVariants.{LastMark}
-use Rattle.mg_taking_back.proofs.TakingLemmas.{not_copied, to_mark}
+use Rattle.mg_taking_back.proofs.TakingLemmas.{not_copied, to_mark, undo_before}
 use Rattle.mg_taking_back.proofs.taking.undo_mark.Goals as goal
 
 pub returns-in-Ok-copy_undo-clause-takes : goal.returns-in-Ok-copy_undo-clause-takes
 returns-in-Ok-copy_undo-clause-takes g c = to_mark g.D.Disk.meaning c.args.core.now c.begin_event.new.self
     c.take_back_from.new.core c.args.t.0 c.in-Ok-copy_undo.undo c.in-Ok.ensures.begins c.in-Ok.ensures.wait
-    c.in-Ok-copy_undo.ensures c.take_back_from.result c.take_back_from.ensures.takes
+    (undo_before c.args.core.now c.begin_event.new.self c.args.t.0 c.in-Ok-copy_undo.undo c.in-Ok.ensures.wait
+    c.in-Ok-copy_undo.ensures) c.take_back_from.result c.take_back_from.ensures.takes
 
 pub returns-in-Err-copy_undo-clause-takes : goal.returns-in-Err-copy_undo-clause-takes
 returns-in-Err-copy_undo-clause-takes g c = not_copied g.D.Disk.meaning c.args.core.now c.begin_event.new.self

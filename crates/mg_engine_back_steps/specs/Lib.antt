@@ -1,0 +1,13 @@
+pub mod Steps
+pub mod Known
+pub mod Events
+pub mod Chains
+pub mod Stopping
+pub mod Overlays
+pub mod Stopped
+pub mod GivenUpLaws
+pub mod ShortLaws
+pub mod FailedLaws
+pub mod UndoneLaws
+pub mod CatalogLaws
+pub mod StepsLaws
