@@ -1,6 +1,5 @@
-use Rattle.std.proofs.Common.{◌∙◌, sym, ap, refl}
-use Rattle.mg_core.specs.declared.parts.Core.{Core}
-use Rattle.mg_works.specs.Works.{Working}
+use Rattle.std.proofs.Common.{◌∙◌, refl, sym}
+use Rattle.mg_model.specs.declared.change.Point.TheVariants.{SavepointNamed}
 use Rattle.mg_taking_back.proofs.TakingLemmas.{not_to_savepoint, stands, to_savepoint}
 use Rattle.mg_taking_back.proofs.taking.back_to.Goals as goal
 
@@ -16,14 +15,17 @@ pub returns-in-Ok-take_back_from-clause-goes : goal.returns-in-Ok-take_back_from
 returns-in-Ok-take_back_from-clause-goes g c = (
   stands c.args.core.now.works c.args.t.0 c.in-Ok-copy_undo.undo c.in-Ok-copy_undo.ensures c.args.name.now
       c.back_to.result c.back_to.ensures.found ∙ c.if-not-back_to.false,
-  to_savepoint g.D.Disk.meaning c.args.core.now c.end_wait.new.core c.take_back_from.new.core c.args.t.0
-      c.in-Ok-copy_undo.undo c.in-Ok.ensures c.end_wait.ensures.wait c.in-Ok-copy_undo.ensures c.args.name.now
+  to_savepoint g.D.Disk.meaning c.args.core.now c.end_wait-2.new.core c.take_back_from.new.core c.args.t.0
+      c.in-Ok-copy_undo.undo c.in-Ok.ensures c.end_wait-2.ensures.wait c.in-Ok-copy_undo.ensures c.args.name.now
       c.back_to.new.self (sym c.back_to.ensures.found ∙ c.if-not-back_to.false) c.back_to.ensures.after
       c.in-Ok-take_back_from.ensures.takes,
 )
 
 pub returns-in-Err-take_back_from-clause-goes : goal.returns-in-Err-take_back_from-clause-goes
 returns-in-Err-take_back_from-clause-goes g c = not_to_savepoint g.D.Disk.meaning c.args.core.now
-    c.end_wait.new.core c.take_back_from.new.core c.args.t.0 c.in-Ok-copy_undo.undo c.in-Ok.ensures
-    c.end_wait.ensures.wait c.in-Ok-copy_undo.ensures c.args.name.now c.back_to.new.self c.in-Err-take_back_from.refusal
+    c.end_wait-2.new.core c.take_back_from.new.core c.args.t.0 c.in-Ok-copy_undo.undo c.in-Ok.ensures
+    c.end_wait-2.ensures.wait c.in-Ok-copy_undo.ensures c.args.name.now c.back_to.new.self c.in-Err-take_back_from.refusal
     (sym c.back_to.ensures.found ∙ c.if-not-back_to.false) c.back_to.ensures.after c.in-Err-take_back_from.ensures.takes
+
+pub returns-in-Err-copy_undo-clause-goes : goal.returns-in-Err-copy_undo-clause-goes
+returns-in-Err-copy_undo-clause-goes g c = c.give_up_event.ensures.fails (SavepointNamed c.args.name.now)
