@@ -1,6 +1,7 @@
 //! A transaction is taken back to a point.
 
-ghost use Rattle.std.specs.Prelude.{None, Some, OnTrue, false};
+ghost use Rattle.std.specs.Bool.{OnTrue};
+ghost use Rattle.std.specs.Prelude.{None, Some, false};
 ghost use Rattle.mg_core.specs.Cores.{IsCore};
 ghost use Rattle.mg_engine_back_steps.specs.Steps.{IsRolledShort};
 ghost use Rattle.mg_engine_meaning.specs.Meaning.{means};

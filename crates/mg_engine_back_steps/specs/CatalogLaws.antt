@@ -37,6 +37,7 @@ use Rattle.mg_undo.specs.Machine.{first_of, given_from, going_to}
 use Rattle.mg_undo.specs.Undo.{TakesBack as GivesAll, State as Undo}
 use Rattle.mg_undo.specs.declared.changes.Change.{Change as Kept}
 use Rattle.mg_value.specs.declared.value.Value.{Value}
+
 -- ---- lists of changes
 
 -- what is changed in some of them is changed in all

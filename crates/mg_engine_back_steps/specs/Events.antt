@@ -23,6 +23,7 @@ use Rattle.mg_model.specs.declared.opening.Opening.{Opening}
 use Rattle.mg_taking_back.specs.Taking.{IsUndoOf, MayReach}
 use Rattle.mg_undo.specs.Machine.{NotesDeeds, undo_of}
 use Rattle.mg_undo.specs.Undo.{State as Undo, has_point}
+
 -- ---- what it says
 
 pub takes_back : (t : TxNo) (point : Point) → effect_of (entry (back_event t point) Fine) ≡ TakesBack t.0 point

@@ -54,6 +54,7 @@ use Rattle.mg_undo.specs.Undo.{State as Undo}
 use Rattle.mg_waits.specs.Waits.{NowWaits, edges_in}
 use Rattle.mg_works.specs.Works.{Working, given_by, given_to, unasked, with_work, work_of}
 use Rattle.mg_pool.specs.declared.fault.PoolFault.TheVariants as pool_faults
+
 module _ {D P : Type 0} (m : Meaning D) (places : Places P) (known : KnownOfBacks D P m) (old begun stopped : Core D)
     (t : TxNo) (point : Point) (undo : Undo) (refusal : Refusal) (core : IsCore m old) (counted : AreCounts old)
     (leaves : LeavesTheCatalog m old t.0 point) (has_begun : HasBegun old begun t.0 undo)

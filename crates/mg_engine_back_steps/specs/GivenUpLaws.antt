@@ -75,6 +75,7 @@ use Rattle.mg_undo.specs.Undo.{State as Undo}
 use Rattle.mg_waits.specs.Waits.{NowWaits, edges_in}
 use Rattle.mg_works.specs.Works.{AreApart, Working, unasked, with_work, without_work}
 use Rattle.mg_works.specs.WorksLaws.{with_others, without_others}
+
 -- ---- works
 
 -- without its work it does not matter what that is

@@ -25,6 +25,7 @@ use Rattle.mg_space.specs.declared.links.FireLinks.{FireLinks}
 use Rattle.mg_table_overlays.specs.OneLayout.{StandsOneWay}
 use Rattle.mg_taking_back.specs.Taking.{ComesToEnd, GivesOn}
 use Rattle.mg_undo.specs.Machine.{GivesWhatWas, NotesDeeds}
+
 -- What is known where a transaction is taken back.
 pub record KnownOfBacks (D P : Type 0) (m : Meaning D) : Type 0 where
   pub counts_now : CountsNow m

@@ -9,6 +9,7 @@ use Rattle.mg_pool.specs.Pool.{IsClosedOverlay, IsOverlay, LeavesClosed, LeavesO
 use Rattle.mg_pool.specs.Run.{HasWritten}
 use Rattle.mg_pool.specs.declared.pool.Pool.{Pool}
 use Rattle.mg_space.specs.ViewLaws.{CountsNow}
+
 -- an overlay of a closed set after pages were written out is one from before
 module _ {D L : Type 0} (m : Meaning D) (counts_now : CountsNow m) (holds : HoldsOne D m) (a b c : Pool D L)
     (run : HasWritten m a b) (crash : LeavesOverlays m b c) where

@@ -37,6 +37,7 @@ use Rattle.mg_txlist.specs.TxList.{EndsIn}
 use Rattle.mg_txlist.specs.declared.list.TxList.{TxList}
 use Rattle.mg_waits.specs.Waits.{NowWaits, edges_in}
 use Rattle.mg_works.specs.Works.{AreApart, without_work}
+
 -- a call that is refused gives nothing up
 refused_stays : {D : Type 0} (core : Core D) (t : ℕ) (refusal : Refusal) → RefusesCall core t refusal
     → is_given_up refusal ≡ false

@@ -52,6 +52,7 @@ use Rattle.mg_works.specs.Works.{AreApart, IsWork, Working, has_savepoint, unask
 use Rattle.mg_works.specs.WorksLaws.{with_apart, without_apart}
 use Rattle.mg_pool.specs.declared.fault.PoolFault.TheVariants as pool_faults
 use Rattle.mg_space.specs.declared.fault.SpaceFault.TheVariants as faults
+
 -- ---- each session has one active transaction at most
 
 its_work : (w : Working) → IsWork w → IsWork (unasked w)

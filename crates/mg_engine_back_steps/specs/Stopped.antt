@@ -52,6 +52,7 @@ use Rattle.mg_undo.specs.Undo.{TakesBack as GivesAll, State as Undo}
 use Rattle.mg_undo.specs.declared.changes.Change.{Change as Kept}
 use Rattle.mg_works.specs.Works.{unasked, with_work, work_of}
 use Rattle.mg_works.specs.WorksLaws.{with_its, with_others}
+
 -- ---- lists of what is given
 
 -- What is given is told by the first of these.

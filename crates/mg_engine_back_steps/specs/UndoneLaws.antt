@@ -34,6 +34,7 @@ use Rattle.mg_records.specs.Keeping.{WalksStay}
 use Rattle.mg_taking_back.specs.Taking.{TakesBackTo, TakesChanges, not_asking, works_back}
 use Rattle.mg_txlist.specs.TxList.{said}
 use Rattle.mg_works.specs.Works.{Working, given_by, given_to, unasked, with_undo, with_work, without_tables}
+
 module _ {D P : Type 0} (m : Meaning D) (places : Places P) (known : KnownOfBacks D P m) (old new : Core D) (t : TxNo)
     (point : Point) (core : IsCore m old) (leaves : LeavesTheCatalog m old t.0 point)
     (takes : TakesBackTo m old new t.0 point) where

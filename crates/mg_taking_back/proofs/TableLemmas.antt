@@ -1,11 +1,11 @@
 -- Whether a change that is given is of a table.
-use Rattle.std.proofs.Common.{◌≡◌, ◌==◌, ◌||◌, ◌∷◌, ℕ, Bool, true, false, List, [], Option, None, Some, ap, refl, subst, sym, ◌∙◌}
+use Rattle.std.proofs.Common.{◌≡◌, ◌==◌, ◌||◌, ℕ, Bool, true, false, List, None, Some, ap, refl, subst, sym, ◌∙◌}
 use Rattle.std.proofs.lemmas.Bool.{eq-eqb, ne_eqb}
 use Rattle.std.specs.Prelude.{◌≢◌}
 use Rattle.mg_model.specs.declared.change.Point.{Point}
-use Rattle.mg_model.specs.declared.change.Point.TheVariants.{LastMark, SavepointNamed}
+use Rattle.mg_model.specs.declared.change.Point.TheVariants.{SavepointNamed}
 use Rattle.mg_undo.specs.Machine.{going_to}
-use Rattle.mg_undo.specs.Undo.{State as Undo, TakesBack, after_back_to, ends, gives, given_as, has_point, take_back}
+use Rattle.mg_undo.specs.Undo.{State as Undo, TakesBack, ends, gives, given_as, has_point, take_back}
 use Rattle.mg_undo.specs.declared.changes.Change.{Change}
 use Rattle.mg_undo.specs.declared.changes.Was.{Was}
 use Rattle.mg_value.specs.declared.value.Value.{Value}

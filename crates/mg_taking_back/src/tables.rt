@@ -33,7 +33,11 @@ pub fn takes_tables_to_mark<D: Disk>(core: &Core<D>, t: TxNo) -> Result<bool, Me
 /// # Errors
 ///
 /// `Memory` only.
-pub fn takes_tables_to_savepoint<D: Disk>(core: &Core<D>, t: TxNo, name: &Name) -> Result<bool, Memory>
+pub fn takes_tables_to_savepoint<D: Disk>(
+    core: &Core<D>,
+    t: TxNo,
+    name: &Name,
+) -> Result<bool, Memory>
     requires core { IsCore D.meaning core.now }
     ensures { IfOk result (TellsTables core.now t.0 (SavepointNamed name.now)) }
 {
