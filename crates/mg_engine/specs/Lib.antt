@@ -1,2 +1,3 @@
 pub mod Engines
+pub mod KeeperLaws
 pub mod Places

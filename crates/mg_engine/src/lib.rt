@@ -2,15 +2,15 @@
 //!
 //! Owns: `Engine`, the core of an engine with its invariant. It is opened over a disk and closed (`OpensEngine`,
 //! `ClosesEngine`). Each other call is a call of the core; what its clauses say is what `mg_records` asks of a keeper of
-//! records, with the meaning that `mg_engine_meaning` gives (`means`).
+//! records, with the meaning that `mg_engine_meaning` gives (`means`); `keeping` has the impl, and that its pages can be written
+//! one by one. Statements run on it so (`mg_courses`).
 //!
 //! Invariant (`IsEngine`): the core is lawful, and each session has one active transaction at most.
 //! Below: `mg_core`, the calls over memory and pages; `mg_engine_meaning`, what an engine means; the laws of each kind
 //! of call (`mg_engine_calls`, `mg_engine_row_steps`, `mg_engine_back_steps`, `mg_engine_creations`,
 //! `mg_engine_meaning`).
 //! Above: the statements' steps.
-//! Not here yet: the impl of the trait; and that tables go as their maker is taken back, in whose place it is rolled back
-//! (`taking`).
+//! Not here yet: that tables go as their maker is taken back, in whose place it is rolled back (`taking`).
 #![tactic(auto)]
 
 mod beginning;
@@ -18,6 +18,7 @@ mod committing;
 mod ending;
 mod engine;
 mod events;
+mod keeping;
 mod making;
 mod opening;
 mod reading;
