@@ -1,5 +1,6 @@
 pub mod Taken
 pub mod TakenKept
 pub mod TakenNames
+pub mod TakenPages
 pub mod TakenRows
 pub mod TakenSound

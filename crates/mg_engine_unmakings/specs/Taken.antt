@@ -16,12 +16,14 @@ use Rattle.mg_image.specs.Form.{Form, Pages, Row, Rows}
 use Rattle.mg_image.specs.Held.{AreRows}
 use Rattle.mg_image.specs.Histories.{newest_at}
 use Rattle.mg_image.specs.Indexes.{IsFoundIn}
-use Rattle.mg_image.specs.Reached.{linked_pages}
+use Rattle.mg_image.specs.Inventory.{is_used}
+use Rattle.mg_image.specs.Reached.{linked_pages, tips_of}
 use Rattle.mg_image.specs.RecordRules.{Facts, TakesKey}
 use Rattle.mg_image.specs.Records.{Change, Reading, record_key, writer}
 use Rattle.mg_image.specs.Sound.{HasTablePages, IsSoundBy, facts_by}
 use Rattle.mg_image.specs.Tables.{EachStand, IsOnce, Layout, Stand, has, stands_of, table_at}
 use Rattle.mg_kept_images.specs.Begins.{Raises}
+use Rattle.mg_kept_images.specs.DataSound.{KeepsTrees}
 use Rattle.mg_kept_images.specs.KeptImages.{IsKept}
 use Rattle.mg_engine_unmakings.specs.TakenRows.{AreWhole}
 
@@ -64,9 +66,36 @@ pub record IsLeft (gone : Value → Bool) (f : Facts) (catalog : Table) (was now
 
 -- ---- what is taken back
 
+-- Pages change on data pages of the catalog alone, and it stands as it did.
+pub record LeavesTables (size : ℕ) (old new : Pages) (a c : Layout) : Type 0 where
+  pub header : new 0 ≡ old 0
+  pub used : (m : ℕ) → is_used size old m ≡ true → is_used size new m ≡ true
+  pub tips : tips_of size new ≡ tips_of size old
+  pub catalog : c.catalog ≡ a.catalog
+  pub sequences : c.sequences ≡ a.sequences
+  pub left : (m : ℕ) → has a.catalog.data_pages m ≡ false → new m ≡ old m
+  pub trees : KeepsTrees old new size a
+
+-- The catalog's records are as they were but for those that have gone, and these are of whole tables, whichever
+-- transactions in limbo come to be committed.
+pub record TakesRows (t : ℕ) (a : Layout) (f : Facts) (r rc : Reading) (gone : Value → Bool) : Type 0 where
+  pub each : (p : RecId) → has a.catalog.data_pages p.page.0 ≡ true
+      → HasGone gone a.catalog.table t (r p) (rc p) ⊎ IsLeft gone f a.catalog.table (r p) (rc p)
+  pub whole : (chosen : ℕ → Bool) (rows : Rows) → AreRows f (committed_with f chosen) r a.catalog.table rows
+      → AreWhole gone rows
+
 -- Before, the pages `old` are sound with the maker in limbo, with the layout `a` and the reading `r`; after, the pages
--- `new` are so with it dead, with `c` and `rc`. The catalog has the same pages, and its records are as before but for
--- those that have gone, which are of whole tables; all other tables stand as they were.
+-- `new` are so with it dead, with `c` and `rc`. So the pages after are sound with the maker in limbo, and have all that
+-- was read before, but for the tables that have gone.
+abbrev pub LeftAreSound : Form → Type 0
+LeftAreSound form = (size : ℕ) (state now : ℕ → TxState) (t : ℕ) (old new : Pages) (a c : Layout) (r rc : Reading)
+    (gone : Value → Bool) → Raises state now t → IsSoundBy form size now old a r → IsSoundBy form size state new c rc
+    → LeavesTables size old new a c → TakesRows t a (facts_by now old a) r rc gone
+    → IsSoundBy form size now new (layout_left gone a c) (reading_left gone a c r rc)
+
+-- ---- what comes of it
+
+-- The tables that are left stand as they did.
 pub record TakesBack (form : Form) (size : ℕ) (now : ℕ → TxState) (t : ℕ) (old new : Pages) (a c : Layout)
     (r rc : Reading) (gone : Value → Bool) : Type 0 where
   pub header : new 0 ≡ old 0
@@ -83,21 +112,12 @@ pub record TakesBack (form : Form) (size : ℕ) (now : ℕ → TxState) (t : ℕ
   pub each : (p : RecId) → has c.catalog.data_pages p.page.0 ≡ true
       → HasGone gone a.catalog.table t (r p) (rc p)
       ⊎ IsLeft gone (facts_by now old a) a.catalog.table (r p) (rc p)
-  -- whole tables have gone, whichever transactions in limbo come to be committed
   pub whole : (chosen : ℕ → Bool) (rows : Rows)
       → AreRows (facts_by now old a) (committed_with (facts_by now old a) chosen) r a.catalog.table rows
       → AreWhole gone rows
   -- rows are found in indexes
-  pub found : (p : RecId) (table : Table) (row : Row) → table_at (stands_of (layout_left gone a c)) p.page.0 ≡ Some table
-      → IsFoundIn new table.indexes p row
-
--- so the pages after are sound with the maker in limbo, and have all that was read before, but for the tables that have
--- gone
-abbrev pub LeftAreSound : Form → Type 0
-LeftAreSound form = (size : ℕ) (state now : ℕ → TxState) (t : ℕ) (old new : Pages) (a c : Layout) (r rc : Reading)
-    (gone : Value → Bool) → Raises state now t → IsSoundBy form size now old a r → IsSoundBy form size state new c rc
-    → TakesBack form size now t old new a c r rc gone
-    → IsSoundBy form size now new (layout_left gone a c) (reading_left gone a c r rc)
+  pub found : (table : Table) (p : RecId) (row : Row) → table_at (stands_of a) p.page.0 ≡ Some table
+      → IsFoundIn old table.indexes p row → IsFoundIn new table.indexes p row
 
 -- ---- histories
 
@@ -121,5 +141,6 @@ abbrev pub LeftAreKept : Form → Type 0
 LeftAreKept form = (size : ℕ) (o : Opening) (h later : Entries) (state now : ℕ → TxState) (t : ℕ) (old new : Pages)
     (c : Layout) (rc : Reading) (gone : Value → Bool) → Raises state now t → (kept : IsKept form size o h now old old)
     → IsSoundBy form size state new c rc
-    → TakesBack form size now t old new kept.layout c kept.reading rc gone → IsWithout o h later t gone
+    → LeavesTables size old new kept.layout c
+    → TakesRows t kept.layout (facts_by now old kept.layout) kept.reading rc gone → IsWithout o h later t gone
     → IsKept form size o later now new new

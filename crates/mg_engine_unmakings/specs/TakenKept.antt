@@ -28,6 +28,7 @@ use Rattle.mg_kept_images.specs.KeptImages.{IsKept}
 use Rattle.mg_kept_images.specs.StartLaws.{kept_by_itself}
 use Rattle.mg_engine_unmakings.specs.Taken.{HasGone, IsLeft, IsWithout, LeftAreKept, TakesBack, change_left, layout_left, read_of, reading_left, stands_left}
 use Rattle.mg_engine_unmakings.specs.TakenNames.{catalog_named, left_at, of_catalog, of_other, other_name, reads_catalog, shown_keyed, was_catalog, was_of_catalog, was_other}
+use Rattle.mg_engine_unmakings.specs.TakenPages.{takes_back}
 use Rattle.mg_engine_unmakings.specs.TakenSound.{left_sound}
 
 module _ (form : Form) (size : ℕ) (o : Opening) (h later : Entries) (state now : ℕ → TxState) (t : ℕ) (old new : Pages)
@@ -437,5 +438,6 @@ module _ (form : Form) (size : ℕ) (o : Opening) (h later : Entries) (state now
       (record { there = changed_there; whole = changed_whole }) changes_told
 
 pub left_are_kept : (form : Form) → LeftAreKept form
-left_are_kept form size o h later state now t old new c rc gone raises kept after takes without =
-    left_kept form size o h later state now t old new c rc gone raises kept after takes without
+left_are_kept form size o h later state now t old new c rc gone raises kept after leaves rows without =
+    left_kept form size o h later state now t old new c rc gone raises kept after
+    (takes_back form size now t old new kept.layout c kept.reading rc gone kept.sound leaves rows) without

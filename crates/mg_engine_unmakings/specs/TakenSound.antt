@@ -15,7 +15,9 @@ use Rattle.mg_version.specs.declared.cell.Link.{Link}
 use Rattle.mg_image.specs.declared.entry.Entry.{Entry}
 use Rattle.mg_image.specs.Catalog.{HasMade, IsNamed, MayStandIn}
 use Rattle.mg_image.specs.FactLaws.{each_has}
-use Rattle.mg_image.specs.Form.{Form, Pages}
+use Rattle.mg_image.specs.Held.{HasLimbo, Shows}
+use Rattle.mg_image.specs.Indexes.{IsFoundIn}
+use Rattle.mg_image.specs.Form.{Form, Pages, Row}
 use Rattle.mg_image.specs.Inventory.{next_of, oldest_of}
 use Rattle.mg_image.specs.RecordRules.{Each, EachBack, Facts, IsRecord, IsVersion, TakesKey, committed_in, table_in}
 use Rattle.mg_image.specs.Records.{Cells, Chain, Reading, Stands, cells_of, ended, goes, key_of, newest_of, record_key, shown, slot_cell, writer}
@@ -23,6 +25,7 @@ use Rattle.mg_image.specs.Sound.{IsSoundBy, facts_by}
 use Rattle.mg_image.specs.Tables.{Layout, has, table_at}
 use Rattle.mg_kept_images.specs.Begins.{Raises, committed_still, dead_before}
 use Rattle.mg_engine_unmakings.specs.Taken.{HasGone, IsLeft, LeftAreSound, TakesBack, layout_left, read_of, reading_left, stands_left}
+use Rattle.mg_engine_unmakings.specs.TakenPages.{takes_back}
 use Rattle.mg_engine_unmakings.specs.TakenNames.{catalog_named, catalog_page, left_at, left_is, names_left, of_catalog, of_other, other_name, reads_catalog, same_catalog, was_catalog, was_of_catalog, was_other}
 
 -- ---- lists
@@ -377,6 +380,57 @@ module _ (form : Form) (size : ℕ) (state now : ℕ → TxState) (t : ℕ) (old
           (each_has (MayStandIn f r a.catalog.table table) (MayStandIn g s c.catalog.table table) (may it.stays) (r p)
           (before.own_tables p table it.of_before))
 
+  -- ---- indexes
+
+  -- a record of the catalog that has versions reads as it did
+  catalog_was : (p : RecId) (table : Table) → InCatalog p table → table_in f p ≡ Some table
+  catalog_was p table it =
+      was_of_catalog form size state now t old new a c r rc gone raises before after takes p.page.0 it.placed
+      ∙ ap (λ (x : Table). Some x) (sym it.its)
+
+  catalog_same : (p : RecId) (table : Table) → InCatalog p table → reading_left gone a c r rc p ≢ []
+      → reading_left gone a c r rc p ≡ r p
+  catalog_same p table it some = it.reads ∙ at (takes.each p it.placed)
+    where
+      at : HasGone gone a.catalog.table t (r p) (rc p)
+          ⊎ IsLeft gone (facts_by now old a) a.catalog.table (r p) (rc p) → rc p ≡ r p
+      at (inl went) = absurd (some (it.reads ∙ went.none))
+      at (inr left) = left.same
+
+  committed_found : (p : RecId) (table : Table) (row : Row) → Shows g (committed_in g) s p table row
+      → InCatalog p table ⊎ InOther p table → IsFoundIn new table.indexes p row
+  committed_found p table row shows is = at is
+    where
+      found : table_in f p ≡ Some table → reading_left gone a c r rc p ≡ r p → IsFoundIn new table.indexes p row
+      found of same = takes.found table p row of (before.indexed.committed p table row
+          (record { of_table = of; row_shown = ap (shown (committed_in g)) (sym same) ∙ shows.row_shown }))
+
+      some : reading_left gone a c r rc p ≢ []
+      some none = let both : None ≡ Some row = sym (ap (shown (committed_in g)) none) ∙ shows.row_shown in absurd cc
+
+      at : InCatalog p table ⊎ InOther p table → IsFoundIn new table.indexes p row
+      at (inl it) = found (catalog_was p table it) (catalog_same p table it some)
+      at (inr it) = found it.of_before it.reads
+
+  limbo_found : (p : RecId) (table : Table) (e : Entry) → HasLimbo g s p table e → e.version.deleted ≡ false
+      → InCatalog p table ⊎ InOther p table → IsFoundIn new table.indexes p e.row
+  limbo_found p table e has_ alive is = at is
+    where
+      found : table_in f p ≡ Some table → reading_left gone a c r rc p ≡ r p → IsFoundIn new table.indexes p e.row
+      found of same = takes.found table p e.row of (before.indexed.limbo p table e (record {
+        of_table = of;
+        older = has_.older;
+        newest = sym same ∙ has_.newest;
+        limbo = has_.limbo;
+      }) alive)
+
+      some : reading_left gone a c r rc p ≢ []
+      some none = let both : [] ≡ e ∷ has_.older = sym none ∙ has_.newest in absurd cc
+
+      at : InCatalog p table ⊎ InOther p table → IsFoundIn new table.indexes p e.row
+      at (inl it) = found (catalog_was p table it) (catalog_same p table it some)
+      at (inr it) = found it.of_before it.reads
+
   -- ---- the whole
 
   pub left_sound : IsSoundBy form size now new (layout_left gone a c) (reading_left gone a c r rc)
@@ -400,11 +454,12 @@ module _ (form : Form) (size : ℕ) (state now : ℕ → TxState) (t : ℕ) (old
         (sym (ap (λ (page : List ℕ). (header_in page).oat.0) takes.header)) before.limbo;
     own_tables = own_on;
     indexed = record {
-      committed = λ p table row shows. takes.found p table row shows.of_table;
-      limbo = λ p table e has_ alive. takes.found p table e.row has_.of_table;
+      committed = λ p table row shows. committed_found p table row shows (whose p table shows.of_table);
+      limbo = λ p table e has_ alive. limbo_found p table e has_ alive (whose p table has_.of_table);
     };
   }
 
 pub left_are_sound : (form : Form) → LeftAreSound form
-left_are_sound form size state now t old new a c r rc gone raises before after takes =
-    left_sound form size state now t old new a c r rc gone raises before after takes
+left_are_sound form size state now t old new a c r rc gone raises before after leaves rows =
+    left_sound form size state now t old new a c r rc gone raises before after
+    (takes_back form size now t old new a c r rc gone before leaves rows)
