@@ -4,3 +4,5 @@ pub mod TakenNames
 pub mod TakenPages
 pub mod TakenRows
 pub mod TakenSound
+pub mod Whole
+pub mod WholeLaws

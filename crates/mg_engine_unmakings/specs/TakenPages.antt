@@ -1,5 +1,5 @@
 -- The tables that are left stand as they did where pages change on data pages of the catalog alone.
-use Rattle.std.proofs.Common.{◌≡◌, ◌≢◌, ◌⊎◌, inl, inr, refl, sym, ap, ◌∙◌, subst, ℕ, Bool, true, false, List, [], ◌∷◌, ◌++◌, Option, None, Some}
+use Rattle.std.proofs.Common.{◌≡◌, inl, inr, refl, sym, ap, ◌∙◌, subst, ℕ, Bool, true, false, List, [], ◌∷◌, ◌++◌, Some}
 use Rattle.std.specs.Prelude.{if◌then◌else◌}
 use Rattle.std.specs.List.{flat_map}
 use Rattle.mg_base.specs.declared.transaction.TxState.{TxState}
@@ -14,7 +14,7 @@ use Rattle.mg_image.specs.Records.{Reading}
 use Rattle.mg_image.specs.Sound.{HasTablePages, IsSoundBy, facts_by}
 use Rattle.mg_image.specs.Tables.{EachStand, Has, IsOnce, Layout, Stand, has, pages_of, stands_of, table_at, tree_pages}
 use Rattle.mg_kept_images.specs.Growth.{has_back, has_front}
-use Rattle.mg_kept_images.specs.Reach.{data_there, has_it, has_so, once_apart, once_back, once_front, page_there}
+use Rattle.mg_kept_images.specs.Reach.{data_there, has_it, once_apart, once_back, once_front, page_there}
 use Rattle.mg_engine_unmakings.specs.Taken.{LeavesTables, TakesBack, TakesRows, layout_left, stands_left}
 
 -- ---- a list without some of its numbers

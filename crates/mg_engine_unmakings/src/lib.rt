@@ -2,17 +2,27 @@
 //!
 //! Owns:
 //!
-//! - `rows`: of catalog rows alone: where whole tables go from them, the rows that are left name the other tables
-//!   (`TablesAreLeft`).
+//! - `rows`: of catalog rows alone: where whole tables go from them, the rows that are left are lawful and name the other
+//!   tables (`TablesAreLeft`). And the rows that a transaction has put since a point are of whole tables, if those until
+//!   then are and all of them (`GoneAreWhole`).
+//! - `pages`: the law from the pages before, in which the maker counts as in limbo, and those after, in which it counts
+//!   as dead, to those after in which it counts as in limbo: they are sound, and have all that was read before but for
+//!   the tables that have gone (`LeftAreSound`); and they are what they have to be for the history without those rows
+//!   (`LeftAreKept`).
+//!
+//! So all rows of the catalog since a point go in one batch, after the keys of all other tables: no overlay has half a
+//! table.
 //!
 //! There is no program here: each function does nothing, and its contract is a law.
 //!
 //! Invariant: none, it keeps no state.
-//! Below: `mg_catalog`, lawful rows; `mg_image`, sound pages. Above: the engine.
+//! Below: `mg_catalog`, lawful rows; `mg_image` and `mg_kept_images`, sound pages and what they have to be. Above: the
+//! engine's way back to a point.
+//! Not here: the batch that takes the rows out.
 #![tactic(auto)]
 
 mod pages;
 mod rows;
 
 pub use pages::left_tables_stand;
-pub use rows::tables_are_left;
+pub use rows::{gone_tables_are_whole, tables_are_left};
