@@ -1,3 +1,5 @@
+pub mod Outs
+pub mod OutsLaws
 pub mod Taken
 pub mod TakenKept
 pub mod TakenNames
