@@ -10,7 +10,7 @@ use Rattle.mg_chain.specs.Writing.{TakesOut}
 use Rattle.mg_model.specs.declared.opening.Opening.{Opening}
 use Rattle.mg_model.specs.declared.table.Table.{Table}
 use Rattle.mg_model.specs.History.{Entries}
-use Rattle.mg_image.specs.Form.{Form, Pages}
+use Rattle.mg_image.specs.Form.{Form}
 use Rattle.mg_image.specs.Records.{Reading}
 use Rattle.mg_image.specs.Sound.{IsSoundBy, facts_by}
 use Rattle.mg_image.specs.Tables.{Layout, stands_of, table_at}

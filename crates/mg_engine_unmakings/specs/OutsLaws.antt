@@ -7,7 +7,7 @@ use Rattle.mg_base.specs.Fields.{byte}
 use Rattle.mg_base.specs.Image.{Image}
 use Rattle.mg_base.specs.declared.numbers.RecId.{RecId}
 use Rattle.mg_base.specs.declared.transaction.TxState.{TxState}
-use Rattle.mg_base.specs.declared.transaction.TxState.TheVariants.{Active, Dead, Limbo}
+use Rattle.mg_base.specs.declared.transaction.TxState.TheVariants.{Dead, Limbo}
 use Rattle.mg_careful.specs.CarefulWrite.{PageSet}
 use Rattle.mg_careful.specs.Precedence.{Orders}
 use Rattle.mg_careful.specs.declared.graph.Order.{Order}
@@ -40,9 +40,8 @@ use Rattle.mg_page_overlays.specs.Creating.{without_raises}
 use Rattle.mg_pool.specs.Batch.{Changed, content_in, lists}
 use Rattle.mg_pool.specs.Pool.{shown}
 use Rattle.mg_pool.specs.declared.pool.Pool.{Pool}
-use Rattle.mg_pool_overlays.specs.Needs.{Asked, Sessions}
 use Rattle.mg_space.specs.View.{viewed}
-use Rattle.mg_space_ties.specs.Changed.{BatchIsChanged, ChangesFresh, KeptIn, cache_over, changed_fresh, fresh, needs_all, needs_in}
+use Rattle.mg_space_ties.specs.Changed.{BatchIsChanged, cache_over, changed_fresh, fresh, needs_all, needs_in}
 use Rattle.mg_table_overlays.specs.BackPart.{OrdersTakeOut, TakesOutPages, take_out_views}
 use Rattle.mg_table_overlays.specs.TakeOut.{back_cell}
 use Rattle.mg_value.specs.declared.value.Value.{Value}
@@ -277,10 +276,10 @@ module _ (form : Form) (one : RowsAreOne form.coding) (none : HasNoSequences for
 -- ---- the history
 
 -- what an image has to be, it is for the other history too, where the transaction does not count as in limbo
-later_kept : (form : Form) (size : ℕ) (o : Opening) (h later : Entries) (by : ℕ) (gone : Value → Bool)
-    (state : ℕ → TxState) (pool image : Pages) → IsWithout o h later by gone → state by ≢ Limbo
-    → IsKept form size o h state pool image → IsKept form size o later state pool image
-later_kept form size o h later by gone state pool image without_ out kept = record {
+later_kept : (form : Form) (n : ℕ) (o : Opening) (h later : Entries) (by : ℕ) (gone : Value → Bool)
+    (state : ℕ → TxState) (whole image : Pages) → IsWithout o h later by gone → state by ≢ Limbo
+    → IsKept form n o h state whole image → IsKept form n o later state whole image
+later_kept form n o h later by gone state whole image without_ out kept = record {
   of_pool = kept.of_pool;
   in_pool = kept.in_pool;
   layout = kept.layout;
