@@ -1,5 +1,5 @@
 -- What a batch with a new table leaves of the pages, from what is read of it where the maker counts as dead.
-use Rattle.std.proofs.Common.{◌≡◌, ◌≢◌, refl, sym, ap, ◌∙◌, subst, ◌^◌, ◌<◌, ◌≤◌, arith, ℕ, Bool, true, false, List, ◌++◌, None, Some}
+use Rattle.std.proofs.Common.{◌≡◌, ◌≢◌, sym, ap, ◌∙◌, subst, ◌^◌, ◌<◌, ◌≤◌, arith, ℕ, true, false, List, ◌++◌}
 use Rattle.mg_base.specs.Checks.{Check, PassesAll, common_checks}
 use Rattle.mg_base.specs.Disk.{Meaning}
 use Rattle.mg_base.specs.Fields.{byte}
@@ -20,7 +20,7 @@ use Rattle.mg_image.specs.Inventory.{is_used, next_of}
 use Rattle.mg_image.specs.ReadingLaws.{RowsAreOne}
 use Rattle.mg_image.specs.Records.{Reading}
 use Rattle.mg_image.specs.Sound.{IsSoundBy}
-use Rattle.mg_image.specs.Tables.{Has, Layout, pages_of, stands_of}
+use Rattle.mg_image.specs.Tables.{Layout, pages_of}
 use Rattle.std.specs.List.{flat_map}
 use Rattle.mg_kept_images.specs.DataPages.{kind_of}
 use Rattle.mg_kept_images.specs.Growth.{has_front}

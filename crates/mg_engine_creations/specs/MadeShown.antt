@@ -1,41 +1,39 @@
 -- A batch with a new table was changed: the pages show the history with an entry for each of its rows, and the cache
 -- lasts with it.
-use Rattle.std.proofs.Common.{◌≡◌, ◌≢◌, ◌⊎◌, inl, inr, refl, sym, ap, ◌∙◌, subst, ◌^◌, ◌<◌, ◌≤◌, arith, ℕ, zero, suc, Bool, true, false, List, [], ◌∷◌, Option, None, Some, map}
+use Rattle.std.proofs.Common.{◌≡◌, ◌≢◌, ◌⊎◌, inl, inr, refl, sym, ap, ◌∙◌, subst, ◌^◌, ◌<◌, arith, ℕ, Bool, true, false, List, [], ◌∷◌, Option, Some, map}
 use Rattle.std.specs.Prelude.{All}
-use Rattle.std.proofs.lemmas.Bool.{false≢true, ne_eqb}
+use Rattle.std.proofs.lemmas.Bool.{ne_eqb}
 use Rattle.mg_base.specs.Disk.{Meaning}
 use Rattle.mg_base.specs.Image.{Image}
 use Rattle.mg_base.specs.declared.numbers.RecId.{RecId}
 use Rattle.mg_base.specs.declared.numbers.TxNo.{TxNo}
 use Rattle.mg_base.specs.declared.transaction.TxState.{TxState}
-use Rattle.mg_base.specs.declared.transaction.TxState.TheVariants.{Active, Limbo}
+use Rattle.mg_base.specs.declared.transaction.TxState.TheVariants.{Active}
 use Rattle.mg_value.specs.Names.{IsName}
 use Rattle.mg_value.specs.declared.shape.Column.{Column}
 use Rattle.mg_value.specs.declared.shape.Shape.{Shape}
 use Rattle.mg_value.specs.declared.value.Value.{Value}
-use Rattle.mg_catalog.specs.ByKey.{HasKey, HaveOwnKeys, row_key}
+use Rattle.mg_catalog.specs.ByKey.{HasKey, HaveOwnKeys}
 use Rattle.mg_catalog.specs.RowsSaid.{column_rows, table_row}
 use Rattle.mg_header.specs.HeaderPage.{header_in}
 use Rattle.mg_model.specs.declared.opening.Opening.{Opening}
 use Rattle.mg_model.specs.declared.table.Table.{Table}
 use Rattle.mg_model.specs.Catalog.{catalog_name, catalog_shape, key_of as key_in_shape}
 use Rattle.mg_model.specs.Changes.{Cells}
-use Rattle.mg_model.specs.History.{Entries, Entry as Event}
+use Rattle.mg_model.specs.History.{Entries}
 use Rattle.mg_model.specs.Laws.{OpeningsBegin}
 use Rattle.mg_model.specs.Legal.{IsLegal, MayBegin}
-use Rattle.mg_model.specs.Machine.{mode_of, next_number, state_of}
+use Rattle.mg_model.specs.Machine.{next_number, state_of}
 use Rattle.mg_model.specs.Openings.{everyone}
 use Rattle.mg_records.specs.Writing.{FitsPage, IsNewShape, rows_made}
-use Rattle.mg_image.specs.Catalog.{catalog_table}
 use Rattle.mg_image.specs.Form.{Pages, Row, packed_coding, packed_form}
 use Rattle.mg_image.specs.Inventory.{next_of}
 use Rattle.mg_image.specs.ReadingLaws.{RowsAreOne}
-use Rattle.mg_image.specs.RecordRules.{Facts, TakesKey, table_in}
-use Rattle.mg_image.specs.Records.{Reading, key_of, record_key}
+use Rattle.mg_image.specs.RecordRules.{Facts, table_in}
+use Rattle.mg_image.specs.Records.{Reading, key_of}
 use Rattle.mg_image.specs.Sound.{IsSoundBy, facts_by}
-use Rattle.mg_image.specs.Tables.{Layout, Stand, has}
+use Rattle.mg_image.specs.Tables.{Layout, has}
 use Rattle.mg_kept_images.specs.Fronts.{is_dead}
-use Rattle.mg_kept_images.specs.CommitLaws.{LeavesOthers}
 use Rattle.mg_kept_images.specs.KeptImages.{IsKept}
 use Rattle.mg_kept_images.specs.Kinds.{HasNoSequences}
 use Rattle.mg_lasting.specs.Changing.{QuietHolds}
@@ -79,7 +77,7 @@ use Rattle.mg_engine_creations.specs.BatchLeaves.{batch_leaves}
 use Rattle.mg_engine_creations.specs.MadePages.{MadePages}
 use Rattle.mg_engine_creations.specs.PlainMade.{all_first, plain_made}
 use Rattle.mg_engine_creations.specs.RowsKnown.{none_free, rows_may}
-use Rattle.mg_engine_creations.specs.StandMade.{HasNoIndexes, LeavesPages, stand_at}
+use Rattle.mg_engine_creations.specs.StandMade.{HasNoIndexes, stand_at}
 use Rattle.mg_engine_creations.specs.StandMadeLaws.{left_pages_are_there}
 use Rattle.mg_engine_creations.specs.WalksMade.{walks_made}
 

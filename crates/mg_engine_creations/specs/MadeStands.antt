@@ -1,5 +1,5 @@
 -- An engine has made a table: it stands for the history with an entry for each of its rows.
-use Rattle.std.proofs.Common.{◌≡◌, ◌≢◌, ◌⊎◌, inl, inr, refl, sym, ap, ◌∙◌, subst, ◌==◌, ◌&&◌, ◌||◌, ℕ, Bool, true, false, List, [], ◌∷◌, length, map, Option, None, Some}
+use Rattle.std.proofs.Common.{◌≡◌, ◌≢◌, ◌⊎◌, inl, inr, refl, sym, ap, ◌∙◌, subst, ◌==◌, ◌&&◌, ℕ, Bool, true, false, List, [], ◌∷◌, map, Option, None, Some}
 use Rattle.std.specs.Prelude.{if◌then◌else◌, is_some}
 use Rattle.std.proofs.Math.Path.{fun_ext}
 use Rattle.std.proofs.lemmas.Bool.{cases_eq, eq-eqb, eqb-true, false≢true, ne_eqb}
@@ -10,7 +10,6 @@ use Rattle.std.specs.declared.cmp.Ordering.TheVariants.{Less, Equal, Greater}
 use Rattle.mg_base.specs.Disk.{Meaning}
 use Rattle.mg_base.specs.Image.{Image}
 use Rattle.mg_base.specs.declared.geometry.Geometry.{Geometry}
-use Rattle.mg_base.specs.declared.numbers.PageNo.{PageNo}
 use Rattle.mg_base.specs.declared.numbers.TxNo.{TxNo}
 use Rattle.mg_base.specs.declared.transaction.TxState.{TxState}
 use Rattle.mg_base.specs.declared.transaction.TxState.TheVariants.{Active}
@@ -26,11 +25,11 @@ use Rattle.mg_model.specs.declared.refusal.Refusal.TheVariants.{DuplicateKey, Re
 use Rattle.mg_model.specs.declared.table.Table.{Table}
 use Rattle.mg_model.specs.Answers.{answer, catalog_of, has_row, if_active, obstacle, past, told}
 use Rattle.mg_model.specs.Catalog.{catalog_name, shape_said, table_key}
-use Rattle.mg_model.specs.Changes.{Cells, by_order, has_change, is_at, same_key, same_name}
+use Rattle.mg_model.specs.Changes.{Cells, by_order, has_change, same_name}
 use Rattle.mg_model.specs.History.{Entries}
-use Rattle.mg_model.specs.Legal.{IsLawful, MayBegin}
+use Rattle.mg_model.specs.Legal.{IsLawful}
 use Rattle.mg_model.specs.Laws.{OpeningsBegin}
-use Rattle.mg_model.specs.Machine.{mode_of, own, state_of}
+use Rattle.mg_model.specs.Machine.{mode_of, own}
 use Rattle.mg_model.specs.Openings.{everyone}
 use Rattle.mg_model.specs.ReadLaws.{same_name_itself}
 use Rattle.mg_records.specs.Reading.{shape_seen}
@@ -38,8 +37,6 @@ use Rattle.mg_records.specs.Writing.{IsNewShape, new_table, rows_made}
 use Rattle.mg_grown_catalogs.specs.Grown.{EachMakes}
 use Rattle.mg_image.specs.Catalog.{IsSameTable, StaysAmong, catalog_table}
 use Rattle.mg_image.specs.Form.{Pages, packed_form}
-use Rattle.mg_image.specs.Records.{Reading}
-use Rattle.mg_image.specs.Sound.{IsSoundBy}
 use Rattle.mg_image.specs.Tables.{Layout, Stand, stands_of}
 use Rattle.mg_kept_images.specs.TableOwners.{IsOneOf}
 use Rattle.mg_lasting.specs.Lasting.{LastsOn}
@@ -48,13 +45,12 @@ use Rattle.mg_pool.specs.Pool.{shown}
 use Rattle.mg_pool.specs.declared.pool.Pool.{Pool}
 use Rattle.mg_pool_overlays.specs.Needs.{Sessions}
 use Rattle.mg_space.specs.declared.links.FireLinks.{FireLinks}
-use Rattle.mg_table_batch.specs.Filling.{rows_at, table_at}
+use Rattle.mg_table_batch.specs.Filling.{table_at}
 use Rattle.mg_table_making.specs.Keeping.{works_made}
 use Rattle.mg_table_making.specs.Keys.{keys_made}
 use Rattle.mg_table_overlays.specs.OneTable.{one_table, stands_in}
 use Rattle.mg_txlist.specs.TxList.{said}
 use Rattle.mg_undo.specs.Undo.{State as Undo}
-use Rattle.mg_undo.specs.declared.changes.Change.{Change}
 use Rattle.mg_waits.specs.Waits.{NowWaits, edges_in}
 use Rattle.mg_works.specs.Works.{Working, given_by, given_to, work_of, written_in}
 use Rattle.mg_core.specs.Cores.{IsCatalog}
@@ -62,15 +58,14 @@ use Rattle.mg_core.specs.declared.parts.Core.{Core}
 use Rattle.mg_engine_makings.specs.Joined.{layout_with, stands_with}
 use Rattle.mg_engine_makings.specs.JoinedKept.{others_newest, own_now}
 use Rattle.mg_engine_makings.specs.Remembering.{NotesRows, RowsAreRemembered, rows_kept}
-use Rattle.mg_engine_makings.specs.Rows.{AreLawful, AreUnwritten, MadeRow, MayMake, key_at, reading_with, row_entry, row_told, with_rows}
+use Rattle.mg_engine_makings.specs.Rows.{AreLawful, AreUnwritten, MadeRow, MayMake, reading_with, row_entry, row_told, with_rows}
 use Rattle.mg_engine_makings.specs.Seen.{MadeAreSeen, SeesMade}
-use Rattle.mg_engine_steps.specs.Following.{KeepsOne}
 use Rattle.mg_engine_steps.specs.ListShows.{ListsStay}
-use Rattle.mg_engine_steps.specs.Standing.{FindsTables, HasFirstPage, IsSeenAs, Remembers, RemembersOne, Standing, Stands}
+use Rattle.mg_engine_steps.specs.Standing.{HasFirstPage, IsSeenAs, Remembers, RemembersOne, Standing, Stands}
 use Rattle.mg_engine_meaning.specs.FrameLaws.{kept_all}
 use Rattle.mg_engine_meaning.specs.Frames.{WorksStay}
 use Rattle.mg_engine_meaning.specs.PlainTables.{HasPlainTables}
-use Rattle.mg_engine_meaning.specs.Standings.{AreOfKept, AreTold, HasTips, KeepsWritten, Numbers, SeesAlike, ShowsIt, StandsFor, StandsWhile, Tables, asked_in, asked_kept, mode_kept, session_kept, sessions_in, standing_of, undo_kept, written_kept}
+use Rattle.mg_engine_meaning.specs.Standings.{AreOfKept, AreTold, HasTips, Numbers, SeesAlike, ShowsIt, StandsFor, StandsWhile, Tables, asked_in, mode_kept, session_kept, sessions_in, standing_of, undo_kept, written_kept}
 use Rattle.mg_engine_creations.specs.MadePages.{MadePages}
 use Rattle.mg_engine_creations.specs.MadeShown.{rows_legal}
 use Rattle.mg_engine_creations.specs.StandMade.{stand_at}

@@ -1,6 +1,6 @@
 -- A table is made: its batch takes the engine to the history with an entry for each row, and with all that came before
 -- the batch this is what a keeper of records owes.
-use Rattle.std.proofs.Common.{◌≡◌, ◌≢◌, ◌⊎◌, inl, inr, refl, sym, ap, ◌∙◌, subst, ◌≤◌, ◌==◌, arith, ◌<◌, ℕ, zero, suc, Bool, true, false, List, [], ◌∷◌, length, map, Option, None, Some}
+use Rattle.std.proofs.Common.{◌≡◌, ◌≢◌, ◌⊎◌, inl, inr, refl, sym, ap, ◌∙◌, subst, ◌≤◌, arith, ℕ, zero, suc, true, false, List, [], ◌∷◌, Option, None, Some}
 use Rattle.std.specs.Prelude.{All}
 use Rattle.std.proofs.lemmas.Bool.{eqb-true}
 use Rattle.mg_base.specs.Disk.{Meaning}
@@ -21,21 +21,18 @@ use Rattle.mg_model.specs.Changes.{Cells, KeyedRows}
 use Rattle.mg_model.specs.History.{Entries}
 use Rattle.mg_model.specs.Laws.{OpeningsBegin}
 use Rattle.mg_model.specs.Legal.{durable_count}
-use Rattle.mg_model.specs.Machine.{mode_of, state_of}
+use Rattle.mg_model.specs.Machine.{state_of}
 use Rattle.mg_records.specs.Crashing.{LeavesOnly, LeavesQuietly}
 use Rattle.mg_records.specs.Keeping.{WalksStay}
 use Rattle.mg_records.specs.Writing.{FitsPage, InsertsEach, IsNewShape, rows_made}
-use Rattle.mg_image.specs.Form.{Pages, packed_coding, packed_form}
+use Rattle.mg_image.specs.Form.{packed_coding, packed_form}
 use Rattle.mg_image.specs.ReadingLaws.{RowsAreOne}
 use Rattle.mg_lasting.specs.Changing.{QuietHolds}
 use Rattle.mg_lasting.specs.Crashes.{HoldsAcknowledged, HoldsFrom, LeavesSince, asked}
 use Rattle.mg_lasting.specs.Lasting.{LastsOn}
 use Rattle.mg_lasting.specs.PoolLaws.{HoldsOne}
-use Rattle.mg_pool.specs.Batch.{Changed}
-use Rattle.mg_pool.specs.Dirty.{is_marked}
 use Rattle.mg_pool.specs.Pool.{IsPool, shown}
 use Rattle.mg_pool.specs.declared.pool.Pool.{Pool}
-use Rattle.mg_row_writes.specs.Changing.{nothing_yet}
 use Rattle.mg_space.specs.Taking.{IsGeometry}
 use Rattle.mg_space.specs.View.{Tells}
 use Rattle.mg_space.specs.ViewLaws.{CountsNow}
@@ -50,11 +47,9 @@ use Rattle.mg_table_making.specs.Keeping.{works_made}
 use Rattle.mg_table_making.specs.Keys.{keys_made}
 use Rattle.mg_table_ties.specs.Ties.{IsOneOf}
 use Rattle.mg_txlist.specs.TxList.{said}
-use Rattle.mg_txlist.specs.declared.list.TxList.{TxList}
 use Rattle.mg_waits.specs.Waits.{NowWaits, edges_in}
 use Rattle.mg_works.specs.Works.{Working, given_by, given_to, work_of}
 use Rattle.mg_core.specs.Cores.{IsCatalog, IsCore}
-use Rattle.mg_core.specs.Writing.{HasBegun}
 use Rattle.mg_core.specs.declared.parts.Core.{Core}
 use Rattle.mg_engine_makings.specs.JoinedBatch.{MadeTableKeeps}
 use Rattle.mg_engine_makings.specs.NewTable.{RowsSayTable}
@@ -69,7 +64,7 @@ use Rattle.mg_engine_steps.specs.Walking.{AreToCome}
 use Rattle.mg_engine_steps.specs.Writes.{IsSilentAt}
 use Rattle.mg_engine_writes.specs.Knowing.{WasChanged}
 use Rattle.mg_engine_writes.specs.Unasked.{UnaskingLasts}
-use Rattle.mg_engine_meaning.specs.FrameLaws.{apart_from, commits_of, kept_all, keeps_of, quiet_of, sessions_of, tables_of}
+use Rattle.mg_engine_meaning.specs.FrameLaws.{apart_from, commits_of, kept_all, keeps_of, sessions_of, tables_of}
 use Rattle.mg_engine_meaning.specs.Frames.{WorksStay}
 use Rattle.mg_engine_meaning.specs.LawfulLaws.{memory_of}
 use Rattle.mg_engine_meaning.specs.Meaning.{AreNext, Places, means, rec_at}

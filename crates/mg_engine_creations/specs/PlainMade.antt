@@ -1,7 +1,7 @@
 -- Tables stay plain where one is made: under each choice the tables are those that there were, and the new one where its
 -- maker counts as in limbo.
-use Rattle.std.proofs.Common.{◌≡◌, ◌≢◌, ◌⊎◌, inl, inr, refl, sym, ap, ◌∙◌, subst, ◌==◌, ◌||◌, ◌&&◌, not, arith, ℕ, suc, Bool, true, false, List, [], ◌∷◌, map}
-use Rattle.std.specs.Prelude.{All, length}
+use Rattle.std.proofs.Common.{◌≡◌, ◌⊎◌, inl, inr, refl, sym, ap, ◌∙◌, subst, ◌==◌, ◌||◌, ◌&&◌, not, arith, ℕ, suc, Bool, true, false, List, [], ◌∷◌, map}
+use Rattle.std.specs.Prelude.{All}
 use Rattle.std.proofs.Math.Path.{fun_ext}
 use Rattle.std.proofs.lemmas.Bool.{eq-eqb, eqb-true}
 use Rattle.std.specs.Cmp.Lexicographic.{slice_cmp}
@@ -31,7 +31,7 @@ use Rattle.mg_table_overlays.specs.Growing.{IsTableOf}
 use Rattle.mg_table_overlays.specs.OneLayout.{sound_once}
 use Rattle.mg_table_overlays.specs.OneTable.{one_standing, stands_in}
 use Rattle.mg_engine_makings.specs.Joined.{layout_with, stands_with}
-use Rattle.mg_engine_makings.specs.JoinedBatch.{HasJoined, ReadsBatch}
+use Rattle.mg_engine_makings.specs.JoinedBatch.{HasJoined}
 use Rattle.mg_engine_makings.specs.JoinedSound.{joined_sound}
 use Rattle.mg_engine_makings.specs.Rows.{reading_with}
 use Rattle.mg_engine_meaning.specs.PlainTables.{AreFirst, HasPlainTables, IsPlainTable}

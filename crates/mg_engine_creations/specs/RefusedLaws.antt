@@ -1,8 +1,7 @@
 -- A table that is not made: what was kept of its keys is taken back, and the event of its own row is given with the
 -- refusal. The catalog may have got pages, which add nothing.
-use Rattle.std.proofs.Common.{◌≡◌, ◌≢◌, ◌⊎◌, inl, inr, refl, sym, ap, ◌∙◌, subst, ◌≤◌, arith, ℕ, Bool, true, false, List, [], ◌∷◌, length, Option, None, Some}
+use Rattle.std.proofs.Common.{◌≡◌, ◌⊎◌, inl, inr, refl, sym, ap, ◌∙◌, subst, ◌≤◌, arith, ℕ, true, false, List, ◌∷◌, length, Option, None, Some}
 use Rattle.mg_base.specs.Disk.{Meaning}
-use Rattle.mg_base.specs.Image.{Image}
 use Rattle.mg_base.specs.declared.numbers.RecId.{RecId}
 use Rattle.mg_base.specs.declared.numbers.TxNo.{TxNo}
 use Rattle.mg_base.specs.declared.transaction.TxState.TheVariants.{Active}
@@ -11,11 +10,9 @@ use Rattle.mg_value.specs.declared.value.Value.{Value}
 use Rattle.mg_model.specs.declared.answer.Answer.TheVariants.{No}
 use Rattle.mg_model.specs.declared.opening.Opening.{Opening}
 use Rattle.mg_model.specs.declared.refusal.Refusal.{Refusal}
-use Rattle.mg_model.specs.declared.refusal.Refusal.TheVariants.{Memory}
 use Rattle.mg_model.specs.declared.table.Table.{Table}
 use Rattle.mg_model.specs.Changes.{KeyedRows}
 use Rattle.mg_model.specs.History.{Entries, Entry, entry}
-use Rattle.mg_model.specs.Laws.{OpeningsBegin}
 use Rattle.mg_model.specs.Legal.{is_outer}
 use Rattle.mg_model.specs.Machine.{waited_on}
 use Rattle.mg_records.specs.Keeping.{WalksStay}
@@ -27,9 +24,7 @@ use Rattle.mg_pool.specs.declared.pool.Pool.{Pool}
 use Rattle.mg_space.specs.View.{KeepsStore}
 use Rattle.mg_space.specs.ViewLaws.{keeps_itself}
 use Rattle.mg_space.specs.declared.fault.SpaceFault.{SpaceFault}
-use Rattle.mg_space.specs.declared.fault.SpaceFault.TheVariants as faults
 use Rattle.mg_space.specs.declared.links.FireLinks.{FireLinks}
-use Rattle.mg_row_writes.specs.Changing.{not_lawful}
 use Rattle.mg_table_batch.specs.Making.{FailsTable, FailsTry, at_try, no_page, not_at_once, wants_more}
 use Rattle.mg_table_making.specs.Creating.{FailsKeeping, FailsMaking, MayBeMade}
 use Rattle.mg_table_making.specs.Keeping.{kept_each, retracted}
@@ -49,11 +44,11 @@ use Rattle.mg_engine_steps.specs.PageWrites.{PageWritesFail}
 use Rattle.mg_engine_steps.specs.Standing.{Standing}
 use Rattle.mg_engine_writes.specs.Unasked.{UnaskingLasts}
 use Rattle.mg_engine_meaning.specs.FrameLaws.{apart_from, commits_of, kept_all, keeps_of, kept_with, same_sessions, sessions_of, tables_of, works_with}
-use Rattle.mg_engine_meaning.specs.Frames.{GivesEvent, MayAnswer, WorksStay}
+use Rattle.mg_engine_meaning.specs.Frames.{GivesEvent, MayAnswer}
 use Rattle.mg_engine_meaning.specs.LawfulLaws.{quiet_count, quiet_event}
 use Rattle.mg_engine_meaning.specs.Meaning.{AreNext, Places, means, rec_at}
 use Rattle.mg_engine_meaning.specs.MemoryCallLaws.{idle_finds, memory_stands, nothing_follows}
-use Rattle.mg_engine_meaning.specs.Standings.{StandsFor, asked_kept, sessions_in, standing_of, undo_kept, written_kept}
+use Rattle.mg_engine_meaning.specs.Standings.{StandsFor, asked_kept, sessions_in, standing_of, written_kept}
 use Rattle.mg_engine_meaning.specs.StepLaws.{as_standing}
 use Rattle.mg_engine_row_steps.specs.StageLaws.{fails_so, fault_may, own_left, own_tells, reads_so, so_then}
 use Rattle.mg_engine_row_steps.specs.Stages.{FailsReady, StaysSo, TellsOf}

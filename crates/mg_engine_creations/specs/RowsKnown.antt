@@ -1,15 +1,14 @@
 -- What is known of the rows of a new table where nobody speaks for their keys: each may be written into the catalog, and
 -- no record of a sound image takes one of the keys, whoever counts as in limbo.
-use Rattle.std.proofs.Common.{◌≡◌, ◌≢◌, ◌⊎◌, inl, inr, refl, sym, ap, ◌∙◌, subst, arith, ◌+◌, ◌-◌, ◌<◌, ◌≤◌, ◌^◌, ◌==◌, ℕ, zero, suc, Bool, true, false, List, [], ◌∷◌, ◌++◌, length, Option, None, Some, lit<, lit≤}
+use Rattle.std.proofs.Common.{◌≡◌, ◌≢◌, ◌⊎◌, inl, inr, refl, sym, ap, ◌∙◌, subst, arith, ◌+◌, ◌-◌, ◌<◌, ◌≤◌, ◌^◌, ◌==◌, ℕ, suc, Bool, true, false, List, [], ◌∷◌, ◌++◌, length, Some, lit<}
 use Rattle.std.specs.Int.{w64}
-use Rattle.std.specs.Prelude.{All, FitsSigned, if◌then◌else◌, nat_le, pos, replicate, slice_get, take}
+use Rattle.std.specs.Prelude.{All, FitsSigned, nat_le, pos, replicate, take}
 use Rattle.std.specs.List.{prefix_len}
 use Rattle.std.proofs.lemmas.Bool.{cases_lt, false≢true}
 use Rattle.mg_base.specs.Checks.{Check, PassesAll, common_checks}
 use Rattle.mg_base.specs.declared.numbers.RecId.{RecId}
 use Rattle.mg_base.specs.declared.numbers.TxNo.{TxNo}
-use Rattle.mg_base.specs.declared.transaction.TxState.{TxState}
-use Rattle.mg_base.specs.declared.transaction.TxState.TheVariants.{Active, Dead, Limbo}
+use Rattle.mg_base.specs.declared.transaction.TxState.TheVariants.{Active, Limbo}
 use Rattle.mg_header.specs.HeaderPage.{AreMarkers, marker_checks}
 use Rattle.mg_header.specs.HeaderPageLaws.{markers_from_passes}
 use Rattle.mg_header.specs.declared.header.TheConstants.{HEADER_KIND}
@@ -23,7 +22,6 @@ use Rattle.mg_value.specs.declared.shape.Kind.TheVariants as kinds
 use Rattle.mg_value.specs.declared.shape.Shape.{Shape}
 use Rattle.mg_value.specs.declared.value.Value.{Value}
 use Rattle.mg_value.specs.declared.value.Value.TheVariants.{Null}
-use Rattle.mg_version.specs.declared.cell.Version.{Version}
 use Rattle.mg_model.specs.Catalog.{catalog_shape}
 use Rattle.mg_model.specs.declared.opening.Opening.{Opening}
 use Rattle.mg_model.specs.declared.table.Table.{Table}
@@ -32,18 +30,17 @@ use Rattle.mg_model.specs.Laws.{OpeningsBegin}
 use Rattle.mg_model.specs.Openings.{everyone}
 use Rattle.mg_records.specs.Writing.{IsNewShape, IsOfLength}
 use Rattle.mg_catalog.specs.RowsSaid.{column_row, column_rows, flags_of, length_of, table_row}
-use Rattle.mg_row_writes.specs.Storing.{StoresRow as PacksRow}
 use Rattle.mg_image.specs.Form.{Pages, Row, packed_coding, packed_form}
 use Rattle.mg_image.specs.Inventory.{header_of, next_of, oldest_active_of, oldest_of}
 use Rattle.mg_image.specs.ReadingLaws.{RowsAreOne}
 use Rattle.mg_image.specs.RecordRules.{TakesKey, columns_for, table_in}
-use Rattle.mg_image.specs.Records.{Reading, key_of, record_key}
+use Rattle.mg_image.specs.Records.{Reading, record_key}
 use Rattle.mg_image.specs.Sound.{IsSoundBy, facts_by}
 use Rattle.mg_image.specs.Tables.{Layout, stands_of, table_at as page_table}
 use Rattle.mg_overlays.specs.Overlays.{left_state}
 use Rattle.mg_catalog_batches.specs.CatalogRows.{IsRowOf}
 use Rattle.mg_catalog_batches.specs.Filled.{catalog_of}
-use Rattle.mg_table_batch.specs.Filling.{StoresRow, rows_at, table_at}
+use Rattle.mg_table_batch.specs.Filling.{rows_at, table_at}
 use Rattle.mg_table_overlays.specs.Growing.{IsTableOf}
 use Rattle.mg_table_ties.specs.Ties.{HoldsOfRows, IsOneOf}
 use Rattle.mg_engine_steps.specs.Standing.{ShowsHistory, Standing, Stands}

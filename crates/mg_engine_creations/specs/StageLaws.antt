@@ -1,9 +1,8 @@
 -- A table's making up to the batch: the keys of its rows are free, and the catalog gets the pages that it needs.
-use Rattle.std.proofs.Common.{◌≡◌, ◌⊎◌, inl, inr, refl, sym, ap, ◌∙◌, subst, ℕ, ◌+◌, Bool, List, [], ◌∷◌, map, Option, None, Some}
+use Rattle.std.proofs.Common.{◌≡◌, ◌⊎◌, inl, inr, refl, sym, ap, ◌∙◌, subst, ℕ, Bool, List, [], ◌∷◌, map, None, Some}
 use Rattle.mg_base.specs.Disk.{Meaning}
 use Rattle.mg_base.specs.Image.{Image}
 use Rattle.mg_base.specs.declared.geometry.Geometry.{Geometry}
-use Rattle.mg_base.specs.declared.numbers.RecId.{RecId}
 use Rattle.mg_base.specs.declared.numbers.TxNo.{TxNo}
 use Rattle.mg_base.specs.declared.transaction.TxState.TheVariants.{Active}
 use Rattle.mg_value.specs.declared.shape.Shape.{Shape}
@@ -20,7 +19,7 @@ use Rattle.mg_model.specs.Openings.{everyone}
 use Rattle.mg_image.specs.Form.{Pages, packed_coding, packed_form}
 use Rattle.mg_image.specs.ReadingLaws.{RowsAreOne}
 use Rattle.mg_image.specs.Records.{Reading}
-use Rattle.mg_image.specs.Sound.{IsSoundBy, facts_by}
+use Rattle.mg_image.specs.Sound.{facts_by}
 use Rattle.mg_image.specs.Tables.{Layout}
 use Rattle.mg_overlays.specs.Overlays.{left_state}
 use Rattle.mg_pool.specs.Dirty.{DirtyPages}
@@ -30,10 +29,10 @@ use Rattle.mg_row_writes.specs.Finding.{IsRowAt}
 use Rattle.mg_row_writes.specs.declared.finding.RowAt.{RowAt}
 use Rattle.mg_seek.specs.Speaking.{IsSpeaker}
 use Rattle.mg_space.specs.Taking.{IsGeometry}
-use Rattle.mg_space.specs.View.{KeepsStore, Tells}
+use Rattle.mg_space.specs.View.{KeepsStore}
 use Rattle.mg_space.specs.ViewLaws.{CountsNow, keeps_itself}
 use Rattle.mg_space.specs.declared.links.FireLinks.{FireLinks}
-use Rattle.mg_table_batch.specs.Making.{GetsWanted, Grows, GrowsAsWanted, WantsPage, gets_one, has_enough}
+use Rattle.mg_table_batch.specs.Making.{Grows, GrowsAsWanted, gets_one, has_enough}
 use Rattle.mg_table_making.specs.Creating.{MayBeMade}
 use Rattle.mg_table_making.specs.Keys.{AreFreeKeys, IsFreeKey, free_more, free_none, keys_made}
 use Rattle.mg_table_overlays.specs.OneLayout.{sound_once}
@@ -45,15 +44,14 @@ use Rattle.mg_core.specs.Cores.{IsCore}
 use Rattle.mg_core.specs.Writing.{HasBegun, IsOfKey, ReadsRow}
 use Rattle.mg_engine_steps.specs.AnswersLaws.{SpeakersAreTold}
 use Rattle.mg_engine_steps.specs.Batches.{ReadsLast}
-use Rattle.mg_engine_steps.specs.Known.{IsShown, KnowsPages}
-use Rattle.mg_engine_steps.specs.Standing.{ShowsHistory, Standing}
+use Rattle.mg_engine_steps.specs.Known.{IsShown}
+use Rattle.mg_engine_steps.specs.Standing.{Standing}
 use Rattle.mg_engine_steps.specs.StandingLaws.{IsChainOf}
 use Rattle.mg_engine_steps.specs.Versions.{HaveVersions}
 use Rattle.mg_engine_meaning.specs.Meaning.{Places}
 use Rattle.mg_engine_meaning.specs.Standings.{ShowsIt, StandsFor, standing_of}
 use Rattle.mg_engine_meaning.specs.StepLaws.{shows_of}
 use Rattle.mg_engine_row_steps.specs.StageLaws.{over_so, reads_so, so_then}
-use Rattle.mg_engine_row_steps.specs.Stages.{StaysSo}
 use Rattle.mg_engine_row_writes.specs.MadeLaws.{own_on}
 use Rattle.mg_engine_row_writes.specs.Notes.{HasRead}
 use Rattle.mg_engine_row_writes.specs.StopLaws.{ended_read, reads_on, told_before}

@@ -1,5 +1,5 @@
 -- The pages of all tables are there where a new one is made: those of the others are left, and each says whose it is.
-use Rattle.std.proofs.Common.{◌≡◌, ◌≢◌, ◌⊎◌, inl, inr, refl, sym, ap, ◌∙◌, subst, ◌+◌, ◌^◌, ◌<◌, ◌≤◌, arith, ℕ, zero, suc, Bool, true, false, List, [], ◌∷◌, ◌++◌, Option, None, Some}
+use Rattle.std.proofs.Common.{◌≡◌, ◌≢◌, ◌⊎◌, inl, inr, refl, sym, ap, ◌∙◌, subst, ◌+◌, ◌≤◌, arith, ℕ, zero, suc, Bool, true, false, List, [], ◌∷◌, ◌++◌, Some}
 use Rattle.std.specs.List.{flat_map}
 use Rattle.std.specs.Prelude.{if◌then◌else◌, map}
 use Rattle.std.specs.Cmp.Lexicographic.{slice_cmp}
@@ -13,12 +13,12 @@ use Rattle.mg_value.specs.declared.shape.Shape.{Shape}
 use Rattle.mg_model.specs.declared.table.Index.{Index}
 use Rattle.mg_model.specs.declared.table.Table.{Table}
 use Rattle.mg_model.specs.Changes.{by_order}
-use Rattle.mg_pointer.specs.PointerPage.{new_pointer_page, next_in, pointer_checks}
+use Rattle.mg_pointer.specs.PointerPage.{next_in, pointer_checks}
 use Rattle.mg_pointer.specs.PointerPageLaws.{new_page_empty, new_page_next, new_page_passes}
 use Rattle.mg_image.specs.Catalog.{catalog_table}
 use Rattle.mg_image.specs.Form.{Form, Pages, Row}
 use Rattle.mg_image.specs.Indexes.{AreTrees, EachPage, IsFoundIn}
-use Rattle.mg_image.specs.Inventory.{is_used, last_sequence, tip_page}
+use Rattle.mg_image.specs.Inventory.{last_sequence, tip_page}
 use Rattle.mg_image.specs.KeptPageLaws.{table_pages_kept}
 use Rattle.mg_image.specs.Reached.{linked_pages, tips_below, tips_of}
 use Rattle.mg_image.specs.Records.{Reading}
@@ -34,10 +34,8 @@ use Rattle.mg_stand_owners.specs.StandOwners.{IsOwned, OwnersKeepStandsApart, fi
 use Rattle.mg_catalog_batches.specs.Others.{IsLeft, IsOther}
 use Rattle.mg_engine_makings.specs.Joined.{layout_with, stands_with}
 use Rattle.mg_engine_makings.specs.JoinedBatch.{HasPages}
-use Rattle.mg_engine_makings.specs.JoinedRows.{at_with}
 use Rattle.mg_engine_makings.specs.JoinedSound.{each_stand_with}
 use Rattle.mg_engine_steps.specs.ListShows.{TipsStay}
-use Rattle.mg_table_overlays.specs.Growing.{IsTableOf}
 use Rattle.mg_table_overlays.specs.OneTable.{stands_in}
 use Rattle.mg_engine_creations.specs.StandMade.{HasNoIndexes, LeavesPages, LeftPagesAreThere, stand_at}
 

@@ -1,6 +1,6 @@
 -- Each outcome of a table's making, as a keeper of records owes it, and that each session has one active transaction at
 -- most after it too.
-use Rattle.std.proofs.Common.{◌≡◌, ◌⊎◌, inl, inr, refl, sym, ap, ◌∙◌, subst, ℕ, zero, suc, List, [], ◌∷◌, length, Option, None, Some}
+use Rattle.std.proofs.Common.{◌≡◌, ◌⊎◌, inl, inr, refl, sym, subst, ℕ, zero, suc, List, [], ◌∷◌, None, Some}
 use Rattle.mg_base.specs.Disk.{Meaning}
 use Rattle.mg_base.specs.declared.numbers.TxNo.{TxNo}
 use Rattle.mg_value.specs.declared.shape.Shape.{Shape}
@@ -9,14 +9,12 @@ use Rattle.mg_model.specs.declared.answer.Answer.TheVariants.{No}
 use Rattle.mg_model.specs.declared.refusal.Refusal.{Refusal}
 use Rattle.mg_image.specs.Form.{packed_form}
 use Rattle.mg_space.specs.declared.links.FireLinks.{FireLinks}
-use Rattle.mg_table_making.specs.Creating.{CreatesTable, FailsCreation}
 use Rattle.mg_table_making.specs.Keeping.{kept_each, retracted, works_made}
 use Rattle.mg_table_making.specs.Keys.{keys_made}
 use Rattle.mg_undo.specs.Undo.{RetractTakesKeepBack}
 use Rattle.mg_undo.specs.declared.changes.Was.TheVariants.{Untouched}
-use Rattle.mg_works.specs.Works.{AreApart, IsWork, Working, unasked, with_change, with_work, without_change, without_tables}
+use Rattle.mg_works.specs.Works.{AreApart, Working, unasked, with_change, with_work, without_change, without_tables}
 use Rattle.mg_works.specs.WorksLaws.{with_apart}
-use Rattle.mg_core.specs.Cores.{IsCore}
 use Rattle.mg_core.specs.declared.parts.Core.{Core}
 use Rattle.mg_engine_makings.specs.Refusals.{CreationsAreRefused, IsNotPut, own_event}
 use Rattle.mg_engine_steps.specs.Following.{StandsOn}
@@ -24,7 +22,6 @@ use Rattle.mg_engine_steps.specs.Idle.{IdleGoesOn}
 use Rattle.mg_engine_steps.specs.PageWrites.{PageWritesFail}
 use Rattle.mg_engine_meaning.specs.Frames.{GivesEvent}
 use Rattle.mg_engine_meaning.specs.Meaning.{Places}
-use Rattle.mg_engine_row_writes.specs.Notes.{AreCounts}
 use Rattle.mg_engine_creations.specs.MakingLaws.{KnownOfTables, made_works}
 use Rattle.mg_engine_creations.specs.RefusedLaws.{not_put_gives, not_put_works}
 use Rattle.mg_engine_creations.specs.Steps.{CreationsKeepApart, GivesTable, RefusalsKeepApart, TablesAreRefused}

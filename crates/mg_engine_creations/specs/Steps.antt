@@ -1,5 +1,5 @@
 -- A table that is made, or not, as a keeper of records owes it.
-use Rattle.std.specs.Prelude.{◌≡◌, ◌≢◌, ◌⊎◌, ℕ, List, [], ◌∷◌, Option, None, Some}
+use Rattle.std.specs.Prelude.{◌≢◌, ℕ, List, [], ◌∷◌, Option, None, Some}
 use Rattle.mg_base.specs.Disk.{Meaning}
 use Rattle.mg_base.specs.declared.numbers.TxNo.{TxNo}
 use Rattle.mg_value.specs.Names.{IsName}

@@ -1,6 +1,6 @@
 -- What was kept of a table's keys is taken back: of what an engine stands for nothing has changed, but maybe that the
 -- transaction no longer asks for its commit.
-use Rattle.std.proofs.Common.{◌≡◌, ◌≤◌, ◌⊎◌, inl, inr, refl, sym, ap, ◌∙◌, subst, arith, ℕ, zero, suc, Bool, false, List, [], ◌∷◌, length, Option, None, Some}
+use Rattle.std.proofs.Common.{◌≡◌, ◌≤◌, ◌⊎◌, inl, inr, refl, sym, ap, ◌∙◌, subst, arith, ℕ, zero, suc, false, List, [], ◌∷◌, length, Option, None, Some}
 use Rattle.std.proofs.Math.Path.{fun_ext}
 use Rattle.mg_base.specs.Disk.{Meaning}
 use Rattle.mg_base.specs.declared.transaction.TxState.TheVariants.{Active}
@@ -10,7 +10,6 @@ use Rattle.mg_lasting.specs.Lasting.{LastsOn}
 use Rattle.mg_model.specs.declared.change.Deed.{Deed}
 use Rattle.mg_model.specs.declared.change.Deed.TheVariants.{Changed, Marked, Saved}
 use Rattle.mg_model.specs.declared.opening.Opening.{Opening}
-use Rattle.mg_model.specs.declared.table.Table.{Table}
 use Rattle.mg_model.specs.History.{Entries}
 use Rattle.mg_model.specs.Machine.{changes_in, deeds_by, steps}
 use Rattle.mg_pool_overlays.specs.Needs.{Asked, Sessions}

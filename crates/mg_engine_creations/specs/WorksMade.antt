@@ -1,16 +1,13 @@
 -- What is kept of a transaction that makes a table: it has not changed the keys of its rows.
-use Rattle.std.proofs.Common.{◌≡◌, ◌≢◌, ◌⊎◌, inl, inr, refl, sym, ap, ◌∙◌, subst, ℕ, suc, Bool, true, false, List, [], ◌∷◌, length, map, Option, None, Some}
-use Rattle.std.specs.Prelude.{is_some}
-use Rattle.std.proofs.lemmas.Bool.{cases_eq}
+use Rattle.std.proofs.Common.{◌≡◌, inl, refl, ap, ◌∙◌, ℕ, false, List, [], ◌∷◌, map, Option, None, Some}
 use Rattle.mg_value.specs.declared.shape.Shape.{Shape}
 use Rattle.mg_value.specs.declared.value.Value.{Value}
 use Rattle.mg_model.specs.declared.table.Table.{Table}
 use Rattle.mg_model.specs.Catalog.{catalog_shape, key_of}
 use Rattle.mg_model.specs.Changes.{Cells}
 use Rattle.mg_undo.specs.Undo.{State as Undo, after_keep}
-use Rattle.mg_undo.specs.declared.changes.Change.{Change}
 use Rattle.mg_undo.specs.declared.changes.Was.TheVariants.{Untouched}
-use Rattle.mg_works.specs.Works.{Working, given_by, given_to, unasked, with_change, with_work, without_tables, work_of}
+use Rattle.mg_works.specs.Works.{Working, given_by, unasked, with_change, with_work, without_tables, work_of}
 use Rattle.mg_works.specs.WorksLaws.{with_its, with_none}
 use Rattle.mg_table_batch.specs.Filling.{rows_at}
 use Rattle.mg_table_making.specs.Keeping.{kept_each, works_made}

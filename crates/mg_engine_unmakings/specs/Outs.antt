@@ -1,0 +1,54 @@
+-- Several records are taken out in one batch, and the tables that they say go.
+use Rattle.std.specs.Prelude.{◌≡◌, ℕ, Bool, true, false, Some}
+use Rattle.mg_base.specs.Disk.{Meaning}
+use Rattle.mg_base.specs.Image.{Image}
+use Rattle.mg_base.specs.declared.numbers.RecId.{RecId}
+use Rattle.mg_base.specs.declared.transaction.TxState.{TxState}
+use Rattle.mg_base.specs.declared.transaction.TxState.TheVariants.{Active}
+use Rattle.mg_value.specs.declared.value.Value.{Value}
+use Rattle.mg_chain.specs.Writing.{TakesOut}
+use Rattle.mg_model.specs.declared.opening.Opening.{Opening}
+use Rattle.mg_model.specs.declared.table.Table.{Table}
+use Rattle.mg_model.specs.History.{Entries}
+use Rattle.mg_image.specs.Form.{Form}
+use Rattle.mg_image.specs.Records.{Reading}
+use Rattle.mg_image.specs.Sound.{IsSoundBy, facts_by}
+use Rattle.mg_image.specs.Tables.{Layout, stands_of, table_at}
+use Rattle.mg_kept_images.specs.KeptImages.{IsKept}
+use Rattle.mg_overlays.specs.Overlays.{left_state, without}
+use Rattle.mg_pool.specs.Batch.{Changed}
+use Rattle.mg_pool.specs.Pool.{shown}
+use Rattle.mg_pool.specs.declared.pool.Pool.{Pool}
+use Rattle.mg_pool_overlays.specs.Needs.{Asked, Sessions}
+use Rattle.mg_space.specs.View.{viewed}
+use Rattle.mg_space_ties.specs.Changed.{ChangesFresh, KeptIn, fresh}
+use Rattle.mg_engine_unmakings.specs.Taken.{IsWithout, LeavesTables, TakesRows}
+
+-- One record after another is taken out in a batch, each of which had a transaction's version; whichever choice is made
+-- without it, the record is of a table of the pages as the batch has them.
+pub data TakesRecordsOut (form : Form) {D L : Type 0} (store : Pool D L) (image : Image) (state : ℕ → TxState) (by : ℕ)
+    : Changed → Changed → Type 0 where
+  none_out : (b : Changed) → TakesRecordsOut form store image state by b b
+  takes : (old mid new : Changed) (rec : RecId) (table : Table) (out : TakesOut store image old mid rec)
+      → out.was.tx.0 ≡ by
+      → ((chosen : ℕ → Bool) → chosen by ≡ false → (layout : Layout) (r : Reading)
+      → IsSoundBy form store.geometry.size (left_state chosen state) (viewed store image old) layout r
+      → table_at (stands_of layout) rec.page.0 ≡ Some table)
+      → TakesRecordsOut form store image state by mid new → TakesRecordsOut form store image state by old new
+
+-- Rows of the catalog are taken out in one batch by an active transaction that has not asked for its commit, with whole
+-- tables that it has made: every overlay is kept, for the history without them.
+abbrev pub TakenTablesKeep : Form → (D L : Type 0) → Meaning D → Type 0
+TakenTablesKeep form D L m = (before after : Pool D L) (i j : Image) (batch : Changed) (asked : Asked)
+    (session : Sessions) (o : Opening) (h later : Entries) (by : ℕ) (state : ℕ → TxState) (gone : Value → Bool)
+    → ChangesFresh m before after i j batch → TakesRecordsOut form before i state by fresh batch
+    → state by ≡ Active → asked by ≡ false → IsWithout o h later by gone
+    -- what has gone, where the transaction counts as in limbo
+    → ((chosen : ℕ → Bool) → chosen by ≡ true
+    → (was : IsKept form before.geometry.size o h (left_state chosen state) (shown before.dirty i)
+    (shown before.dirty i)) → (c : Layout) (rc : Reading)
+    → IsSoundBy form before.geometry.size (left_state (without by chosen) state) (viewed before i batch) c rc
+    → LeavesTables before.geometry.size (shown before.dirty i) (viewed before i batch) was.layout c
+    × TakesRows by was.layout (facts_by (left_state chosen state) (shown before.dirty i) was.layout) was.reading rc gone)
+    → KeptIn form before.geometry.size o h state asked session before i
+    → KeptIn form before.geometry.size o later state asked session after j

@@ -1,0 +1,372 @@
+-- A batch that takes records out, on an image in which their writer counts as dead: what an image has to be that has a
+-- set of the batch's pages is kept, record by record.
+use Rattle.std.proofs.Common.{◌≡◌, ◌≢◌, ◌⊎◌, inl, inr, refl, sym, ap, ◌∙◌, subst, arith, ◌++◌, ℕ, Bool, true, false, List, [], ◌∷◌, Option, None, Some}
+use Rattle.std.proofs.lemmas.Bool.{cases_eq}
+use Rattle.mg_base.specs.Disk.{Meaning}
+use Rattle.mg_base.specs.Fields.{byte}
+use Rattle.mg_base.specs.Image.{Image}
+use Rattle.mg_base.specs.declared.numbers.RecId.{RecId}
+use Rattle.mg_base.specs.declared.transaction.TxState.{TxState}
+use Rattle.mg_base.specs.declared.transaction.TxState.TheVariants.{Dead, Limbo}
+use Rattle.mg_careful.specs.CarefulWrite.{PageSet}
+use Rattle.mg_careful.specs.Precedence.{Orders}
+use Rattle.mg_careful.specs.declared.graph.Order.{Order}
+use Rattle.mg_chain.specs.Orders.{before_page, out_orders, unchanged_page}
+use Rattle.mg_chain.specs.Writing.{SlotIsReached, TakesOut, TurnsBack}
+use Rattle.mg_chain_ties.specs.FirstPages.{left_within}
+use Rattle.mg_chain_ties.specs.FreeTies.{back_cells, back_has, back_page, frees_cells, frees_page, frees_within, version_apart}
+use Rattle.mg_chain_ties.specs.Newest.{newest_found, newest_placed}
+use Rattle.mg_chain_ties.specs.Rows.{ordered_page, reached_entered, walk_four, within_orders, within_put}
+use Rattle.mg_heap.specs.Reach.{IsReached}
+use Rattle.mg_heap_ties.specs.Batches.{IsWithin, lists_later, lists_sooner, viewed_same, within_self}
+use Rattle.mg_heap_ties.specs.CellTies.{HasLawfulCells, cells_still, lawful_cells, owner_told}
+use Rattle.mg_image.specs.Form.{Form, Pages}
+use Rattle.mg_image.specs.ReadingLaws.{RowsAreOne}
+use Rattle.mg_image.specs.Records.{Changes, Reading, cells_of}
+use Rattle.mg_image.specs.Sound.{IsSoundBy, facts_by}
+use Rattle.mg_image.specs.Tables.{Has, Layout, stands_of, table_at}
+use Rattle.mg_kept_images.specs.DataPages.{ChangesData}
+use Rattle.mg_kept_images.specs.Kinds.{HasNoSequences}
+use Rattle.mg_kept_images.specs.KeptImages.{IsKept, keeping}
+use Rattle.mg_kept_images.specs.Reach.{IsEntered}
+use Rattle.mg_kept_images.specs.Trees.{data_leaves, trees_stay}
+use Rattle.mg_model.specs.History.{Entries}
+use Rattle.mg_model.specs.declared.opening.Opening.{Opening}
+use Rattle.mg_model.specs.declared.table.Table.{Table}
+use Rattle.mg_overlays.specs.BatchLaws.{change_keeps_raised}
+use Rattle.mg_overlays.specs.Overlays.{LaysBatch, laid, left_state, without}
+use Rattle.mg_overlays.specs.Views.{first_view, last_view, ordered_same, partly}
+use Rattle.mg_page_overlays.specs.Creating.{without_raises}
+use Rattle.mg_pool.specs.Batch.{Changed, content_in, lists}
+use Rattle.mg_pool.specs.Pool.{shown}
+use Rattle.mg_pool.specs.declared.pool.Pool.{Pool}
+use Rattle.mg_space.specs.View.{viewed}
+use Rattle.mg_space_ties.specs.Changed.{BatchIsChanged, cache_over, changed_fresh, fresh, needs_all, needs_in}
+use Rattle.mg_table_overlays.specs.BackPart.{OrdersTakeOut, TakesOutPages, take_out_views}
+use Rattle.mg_table_overlays.specs.TakeOut.{back_cell}
+use Rattle.mg_value.specs.declared.value.Value.{Value}
+use Rattle.mg_version.specs.declared.cell.Cell.TheVariants as cells
+use Rattle.mg_version.specs.declared.cell.Link.{Link}
+use Rattle.mg_engine_unmakings.specs.Outs.{TakenTablesKeep, TakesRecordsOut, none_out, takes}
+use Rattle.mg_engine_unmakings.specs.Taken.{IsWithout, LeavesTables, TakesRows}
+use Rattle.mg_engine_unmakings.specs.TakenKept.{left_are_kept}
+
+-- ---- what a step has is within what comes of it
+
+turns_within : {D L : Type 0} (store : Pool D L) (image : Image) (contents : ℕ → Option (List ℕ)) (orders : Orders)
+    (old new : Changed) (rec : RecId) (back : Option Link) → TurnsBack store image old new rec back
+    → IsWithin contents orders new → IsWithin contents orders old
+turns_within store image contents orders old new rec None turns within =
+    frees_within store image contents orders old new rec turns within
+turns_within store image contents orders old new rec (Some link) turns within =
+    within_put contents orders old new rec.page.0 turns.puts.one.bytes turns.puts.one.puts within
+
+pub out_within : {D L : Type 0} (store : Pool D L) (image : Image) (contents : ℕ → Option (List ℕ)) (orders : Orders)
+    (old new : Changed) (rec : RecId) → TakesOut store image old new rec → IsWithin contents orders new
+    → IsWithin contents orders old
+out_within store image contents orders old new rec out within =
+    turns_within store image contents orders old out.taken.swings.turned rec out.was.back out.taken.swings.turns
+    (frees_within store image contents orders out.taken.swings.turned out.taken.freed out.newest.rec
+    out.taken.swings.frees (within_orders contents orders out.taken.freed new
+    (out_orders out.taken.freed.pages rec.page.0 out.was.back out.taken.slot_pointers out.newest.rec.page.0)
+    out.taken.ordered within))
+
+outs_back : (form : Form) {D L : Type 0} (store : Pool D L) (image : Image) (state : ℕ → TxState) (by : ℕ)
+    (contents : ℕ → Option (List ℕ)) (orders : Orders) (old new : Changed)
+    → TakesRecordsOut form store image state by old new → IsWithin contents orders new → IsWithin contents orders old
+outs_back form store image state by contents orders old new (none_out b) within = within
+outs_back form store image state by contents orders old new (takes a mid c rec table out its placed more) within =
+    out_within store image contents orders a mid rec out
+    (outs_back form store image state by contents orders mid c more within)
+
+-- ---- a record is taken out
+
+module _ (form : Form) (one : RowsAreOne form.coding) (none : HasNoSequences form)
+    (no_primary : form.in_primary ≡ false) {D L : Type 0} (store : Pool D L) (image : Image) (state : ℕ → TxState)
+    (o : Opening) (h : Entries) (contents : ℕ → Option (List ℕ)) (orders : Orders) (old new : Changed) (rec : RecId)
+    (table : Table) (out : TakesOut store image old new rec) (dead : state out.was.tx.0 ≡ Dead)
+    (placed : (layout : Layout) (r : Reading)
+    → IsSoundBy form store.geometry.size state (viewed store image old) layout r
+    → table_at (stands_of layout) rec.page.0 ≡ Some table)
+    (within : IsWithin contents orders new)
+    (start : IsKept form store.geometry.size o h state (viewed store image old) (viewed store image old)) where
+  abbrev size : ℕ
+  size = store.geometry.size
+
+  abbrev pool : Pages
+  pool = viewed store image old
+
+  abbrev x : RecId
+  x = out.newest.rec
+
+  abbrev turned : Changed
+  turned = out.taken.swings.turned
+
+  abbrev freed : Changed
+  freed = out.taken.freed
+
+  of : table_at (stands_of start.layout) rec.page.0 ≡ Some table
+  of = placed start.layout start.reading start.sound
+
+  x_of : table_at (stands_of start.layout) x.page.0 ≡ Some table
+  x_of = newest_placed form size state pool start.layout start.reading start.sound rec table of out.newest
+      out.its.head.slot
+
+  owner_is : out.owner ≡ table.pointer.0
+  owner_is = out.its.head.owned.is ∙ owner_told form size state pool start.layout start.reading start.sound
+      rec.page.0 table of
+
+  rec_cells : HasLawfulCells form.in_primary pool rec.page.0
+  rec_cells = lawful_cells form size state pool start.layout start.reading start.sound rec.page.0 table of
+
+  x_cells : HasLawfulCells form.in_primary pool x.page.0
+  x_cells = lawful_cells form size state pool start.layout start.reading start.sound x.page.0 table x_of
+
+  abbrev os : List Order
+  os = out_orders freed.pages rec.page.0 out.was.back out.taken.slot_pointers x.page.0
+
+  within_freed : IsWithin contents orders freed
+  within_freed = within_orders contents orders freed new os out.taken.ordered within
+
+  within_turned : IsWithin contents orders turned
+  within_turned = frees_within store image contents orders turned freed x out.taken.swings.frees within_freed
+
+  within_old : IsWithin contents orders old
+  within_old = out_within store image contents orders old new rec out within
+
+  apart_x : x ≢ rec
+  apart_x same =
+      let both : Some (cells.Version out.was) ≡ Some (cells.Anchor out.newest) =
+      sym out.its.meets.cell ∙ (ap (cells_of pool) same ∙ out.its.head.slot) in absurd cc
+
+  slot_page : ChangesData form.in_primary pool (viewed store image turned) rec.page.0
+  slot_page = back_page form.in_primary store image old turned rec out.newest out.its.head.slot rec_cells
+      out.was.back out.taken.swings.turns
+
+  turn : Changes (cells_of pool) (cells_of (viewed store image turned)) rec (back_cell out.was.back)
+  turn = back_cells form.in_primary store image old turned rec out.newest out.its.head.slot rec_cells
+      out.was.back out.taken.swings.turns
+
+  x_there : cells_of (viewed store image turned) x ≡ Some (cells.Version out.was)
+  x_there = turn.others x apart_x ∙ out.its.meets.cell
+
+  pages : TakesOutPages form.in_primary pool (viewed store image turned) (viewed store image new) rec x out.was
+      out.newest
+  pages = subst (λ (p : Pages). TakesOutPages form.in_primary pool (viewed store image turned) p rec x out.was
+      out.newest) (sym (viewed_same store image freed new out.taken.ordered.same_pages)) (record {
+        slot_page = slot_page;
+        slot = out.its.head.slot;
+        turn = turn;
+        frees = record {
+          page = frees_page form.in_primary store image turned freed x out.taken.swings.frees
+              (cells.Version out.was) x_there
+              (cells_still form.in_primary pool (viewed store image turned) rec.page.0 x.page.0 slot_page x_cells);
+          cell = x_there;
+          apart = version_apart pool x out.was
+              (subst (λ (b : Bool). HasLawfulCells b pool x.page.0) no_primary x_cells) out.its.meets.cell;
+          freed = frees_cells form.in_primary store image turned freed x out.taken.swings.frees
+              (cells.Version out.was) x_there;
+        };
+      })
+
+  has_slot : contents rec.page.0 ≢ None
+  has_slot = within_turned.pages rec.page.0 (back_has form.in_primary store image old turned rec out.newest
+      out.its.head.slot rec_cells out.was.back out.taken.swings.turns)
+
+  in_out : (a c : ℕ) → lists os a c ≡ true → orders a c ≡ true
+  in_out a c is = within.listed a c (subst (λ (ps : List Order). lists ps a c ≡ true) (sym out.taken.ordered.added)
+      (lists_later freed.orders os a c is))
+
+  abbrev first_part : List Order
+  first_part = before_page (unchanged_page freed.pages out.was.back) rec.page.0
+      ++ before_page out.taken.slot_pointers rec.page.0
+
+  in_walk : (a c : ℕ) → lists (before_page out.taken.slot_pointers rec.page.0) a c ≡ true → orders a c ≡ true
+  in_walk a c is = in_out a c (lists_sooner first_part (before_page (rec.page.0 ∷ []) x.page.0) a c
+      (lists_later (before_page (unchanged_page freed.pages out.was.back) rec.page.0)
+      (before_page out.taken.slot_pointers rec.page.0) a c is))
+
+  in_freed : (a c : ℕ) → lists (before_page (rec.page.0 ∷ []) x.page.0) a c ≡ true → orders a c ≡ true
+  in_freed a c is = in_out a c (lists_later first_part (before_page (rec.page.0 ∷ []) x.page.0) a c is)
+
+  walked : (back : Option Link) → SlotIsReached pool out.owner rec.page.0 back out.taken.slot_pointers
+      → back ≡ None → IsEntered (λ k. orders k rec.page.0 ≡ true) pool rec.page.0 table.pointer.0
+  walked (Some link) reached is = absurd cc
+  walked None reached is = reached_entered (λ k. orders k rec.page.0 ≡ true) pool table.pointer.0 rec.page.0
+      out.taken.slot_pointers walk (λ k there. in_walk k rec.page.0
+      (ordered_page out.taken.slot_pointers k rec.page.0 there (off k there)))
+    where
+      walk : IsReached pool table.pointer.0 rec.page.0 out.taken.slot_pointers
+      walk = subst (λ (k : ℕ). IsReached pool k rec.page.0 out.taken.slot_pointers) owner_is reached
+
+      off : (k : ℕ) → Has out.taken.slot_pointers k → k ≢ rec.page.0
+      off k there same =
+          let four : byte (pool k) 0 ≡ 4 =
+          walk_four pool table.pointer.0 rec.page.0 out.taken.slot_pointers walk k there in
+          let five : byte (pool k) 0 ≡ 5 = ap (λ (q : ℕ). byte (pool q) 0) same ∙ rec_cells.kind in
+          omega (arith, four, five)
+
+  orders_out : OrdersTakeOut orders pool table x rec out.was
+  orders_out = record {
+    freed = λ ne. in_freed rec.page.0 x.page.0 (ordered_page (rec.page.0 ∷ []) rec.page.0 x.page.0
+        (inl refl) (λ e. ne (sym e)));
+    pointers = walked out.was.back out.taken.slot_reached;
+  }
+
+  go : (set_ : PageSet) (img : Pages) → (set_ x.page.0 ≡ true → set_ rec.page.0 ≡ true)
+      → ((m : ℕ) → orders m rec.page.0 ≡ true → set_ rec.page.0 ≡ true → partly set_ pool img m ≡ pool m)
+      → IsKept form size o h state pool (partly set_ pool img)
+      → IsKept form size o h state (viewed store image new) (partly set_ (viewed store image new) img)
+  go set_ img with_slot same kept = take_out_views form one none size o h state pool (viewed store image turned)
+      (viewed store image new) rec x table out.was out.newest pages
+      (λ layout r sound. newest_found form size state pool layout r sound rec table (placed layout r sound) out.newest
+      out.its.head.slot out.was out.its.meets.cell)
+      (data_leaves form size rec.page.0 none (trees_stay form size))
+      (data_leaves form size x.page.0 none (trees_stay form size)) dead start orders set_ img with_slot same orders_out
+      kept
+
+  -- the pool's own image
+  pub out_whole : IsKept form store.geometry.size o h state (viewed store image new) (viewed store image new)
+  out_whole = go (λ p. true) (viewed store image old) (λ is. refl) (λ m ordered is. refl) start
+
+  -- an image with a set of the batch's pages
+  module _ (changed : Pages) (set_ : PageSet) (img : Pages)
+      (lays : LaysBatch (shown store.dirty image) changed contents orders set_ img)
+      (left : (m : ℕ) → contents m ≡ None → shown store.dirty image m ≡ changed m) where
+    pub out_part : IsKept form store.geometry.size o h state (viewed store image old)
+        (partly set_ (viewed store image old) img)
+        → IsKept form store.geometry.size o h state (viewed store image new)
+        (partly set_ (viewed store image new) img)
+    out_part kept = go set_ img (λ in_set. with_slot in_set (cases_eq x.page.0 rec.page.0))
+        (λ m ordered in_set. ordered_same (shown store.dirty image) changed contents orders set_ img pool lays
+        (λ k is. left_within store image contents orders old within_old k is ∙ left k is) m rec.page.0 ordered in_set)
+        kept
+      where
+        with_slot : set_ x.page.0 ≡ true → (x.page.0 ≡ rec.page.0) ⊎ (x.page.0 ≢ rec.page.0)
+            → set_ rec.page.0 ≡ true
+        with_slot in_set (inl one_) = sym (ap set_ one_) ∙ in_set
+        with_slot in_set (inr two) = lays.together rec.page.0 x.page.0 (orders_out.freed two) has_slot in_set
+
+-- ---- one after another
+
+module _ (form : Form) (one : RowsAreOne form.coding) (none : HasNoSequences form)
+    (no_primary : form.in_primary ≡ false) {D L : Type 0} (store : Pool D L) (image : Image) (state : ℕ → TxState)
+    (by : ℕ) (o : Opening) (h : Entries) (contents : ℕ → Option (List ℕ)) (orders : Orders) (chosen : ℕ → Bool)
+    (off : chosen by ≡ false) (dead : left_state chosen state by ≡ Dead) (changed : Pages) (set_ : PageSet) (img : Pages)
+    (lays : LaysBatch (shown store.dirty image) changed contents orders set_ img)
+    (left : (m : ℕ) → contents m ≡ None → shown store.dirty image m ≡ changed m) where
+  pub outs_go : (old new : Changed) → TakesRecordsOut form store image state by old new
+      → IsWithin contents orders new
+      → IsKept form store.geometry.size o h (left_state chosen state) (viewed store image old) (viewed store image old)
+      → IsKept form store.geometry.size o h (left_state chosen state) (viewed store image old)
+      (partly set_ (viewed store image old) img)
+      → IsKept form store.geometry.size o h (left_state chosen state) (viewed store image new)
+      (partly set_ (viewed store image new) img)
+  outs_go old new (none_out b) within whole part = part
+  outs_go old new (takes a mid c rec table out its placed more) within whole part =
+      let at_mid : IsWithin contents orders mid =
+      outs_back form store image state by contents orders mid c more within in
+      let gone_ : left_state chosen state out.was.tx.0 ≡ Dead = ap (left_state chosen state) its ∙ dead in
+      outs_go mid c more within
+      (out_whole form one none no_primary store image (left_state chosen state) o h contents orders a mid rec table out
+      gone_ (placed chosen off) at_mid whole)
+      (out_part form one none no_primary store image (left_state chosen state) o h contents orders a mid rec table out
+      gone_ (placed chosen off) at_mid whole changed set_ img lays left part)
+
+-- ---- the history
+
+-- what an image has to be, it is for the other history too, where the transaction does not count as in limbo
+later_kept : (form : Form) (n : ℕ) (o : Opening) (h later : Entries) (by : ℕ) (gone : Value → Bool)
+    (state : ℕ → TxState) (whole image : Pages) → IsWithout o h later by gone → state by ≢ Limbo
+    → IsKept form n o h state whole image → IsKept form n o later state whole image
+later_kept form n o h later by gone state whole image without_ out kept = record {
+  of_pool = kept.of_pool;
+  in_pool = kept.in_pool;
+  layout = kept.layout;
+  reading = kept.reading;
+  sound = kept.sound;
+  pool_sound = kept.pool_sound;
+  behind = kept.behind;
+  fronts = kept.fronts;
+  rows = kept.rows;
+  held = kept.held;
+  rows_are = λ name key. kept.rows_are name key ∙ sym (without_.rows name key);
+  changes = kept.changes;
+  changed = kept.changed;
+  changes_are = λ u name key limbo. kept.changes_are u name key limbo
+      ∙ sym (without_.others u name key (λ same. out (ap state (sym same) ∙ limbo)));
+}
+
+-- ---- the law
+
+pub taken_tables_keep : (form : Form) → RowsAreOne form.coding → HasNoSequences form → form.in_primary ≡ false
+    → (D L : Type 0) (m : Meaning D) → TakenTablesKeep form D L m
+taken_tables_keep form one none no_primary D L m before after i j batch asked session o h later by state gone changes
+    outs active not_asked without_ there every =
+    change_keeps_raised (keeping form before.geometry.size o h) (keeping form before.geometry.size o later) state by
+    (cache_over before i) (cache_over after j) it.gone (content_in batch.pages) (lists batch.orders)
+    (needs_in asked session before) (needs_in asked session after) it.changes active it.left
+    (needs_all after j asked session by not_asked) (record { part = part; raise = raise }) every
+  where
+    it : BatchIsChanged before after i j batch asked session
+    it = changed_fresh m before after i j batch asked session changes
+
+    part : (chosen : ℕ → Bool) (set_ : PageSet) (image : Pages) → chosen by ≡ false
+        → LaysBatch (shown before.dirty i) (shown after.dirty j) (content_in batch.pages)
+        (lists batch.orders) set_ image
+        → IsKept form before.geometry.size o h (left_state chosen state) (shown before.dirty i)
+        (shown before.dirty i)
+        → IsKept form before.geometry.size o h (left_state chosen state) (shown before.dirty i) image
+        → IsKept form before.geometry.size o later (left_state chosen state) (shown after.dirty j)
+        (laid (content_in batch.pages) set_ image)
+    part chosen set_ image out lays of_pool was = later_kept form before.geometry.size o h later by gone
+        (left_state chosen state) (shown after.dirty j) (laid (content_in batch.pages) set_ image) without_
+        not_limbo (subst (λ (pages : Pages). IsKept form before.geometry.size o h (left_state chosen state)
+        pages (laid (content_in batch.pages) set_ image)) (sym it.pool)
+        (subst (IsKept form before.geometry.size o h (left_state chosen state) (viewed before i batch))
+        (last_view (shown before.dirty i) (viewed before i batch) (content_in batch.pages)
+        (lists batch.orders) set_ image lays_view) done))
+      where
+        dead : left_state chosen state by ≡ Dead
+        dead = rw (out, active) refl
+
+        not_limbo : left_state chosen state by ≢ Limbo
+        not_limbo is = let both : Dead ≡ Limbo = sym dead ∙ is in absurd cc
+
+        lays_view : LaysBatch (shown before.dirty i) (viewed before i batch) (content_in batch.pages)
+            (lists batch.orders) set_ image
+        lays_view = subst (λ (pages : Pages). LaysBatch (shown before.dirty i) pages
+            (content_in batch.pages) (lists batch.orders) set_ image) it.pool lays
+
+        left : (q : ℕ) → content_in batch.pages q ≡ None → shown before.dirty i q ≡ viewed before i batch q
+        left q none_ = sym (left_within before i (content_in batch.pages) (lists batch.orders) batch
+            (within_self batch) q none_)
+
+        done : IsKept form before.geometry.size o h (left_state chosen state) (viewed before i batch)
+            (partly set_ (viewed before i batch) image)
+        done = outs_go form one none no_primary before i state by o h (content_in batch.pages) (lists batch.orders)
+            chosen out dead (viewed before i batch) set_ image lays_view left fresh batch outs (within_self batch) of_pool
+            (subst (IsKept form before.geometry.size o h (left_state chosen state) (shown before.dirty i))
+            (sym (first_view (shown before.dirty i) (viewed before i batch) (content_in batch.pages)
+            (lists batch.orders) set_ image lays_view)) was)
+
+    raise : (chosen : ℕ → Bool) → chosen by ≡ true
+        → IsKept form before.geometry.size o h (left_state chosen state) (shown before.dirty i) (shown before.dirty i)
+        → IsKept form before.geometry.size o later (left_state (without by chosen) state) (shown after.dirty j)
+        (shown after.dirty j)
+        → IsKept form before.geometry.size o later (left_state chosen state) (shown after.dirty j) (shown after.dirty j)
+    raise chosen on was kept = subst (λ (pages : Pages). IsKept form before.geometry.size o later
+        (left_state chosen state) pages pages) (sym it.pool)
+        (left_are_kept form before.geometry.size o h later (left_state (without by chosen) state)
+        (left_state chosen state) by (shown before.dirty i) (viewed before i batch) kept.of_pool kept.in_pool gone
+        (without_raises state by chosen active on) was sound both.0 both.1 without_)
+      where
+        sound : IsSoundBy form before.geometry.size (left_state (without by chosen) state) (viewed before i batch)
+            kept.of_pool kept.in_pool
+        sound = subst (λ (pages : Pages). IsSoundBy form before.geometry.size (left_state (without by chosen) state) pages
+            kept.of_pool kept.in_pool) it.pool kept.pool_sound
+
+        both : LeavesTables before.geometry.size (shown before.dirty i) (viewed before i batch) was.layout kept.of_pool
+            × TakesRows by was.layout (facts_by (left_state chosen state) (shown before.dirty i) was.layout) was.reading
+            kept.in_pool gone
+        both = there chosen on was kept.of_pool kept.in_pool sound

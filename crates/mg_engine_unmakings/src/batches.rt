@@ -1,0 +1,15 @@
+//! Rows of the catalog are taken out in one batch. Each function's contract is the law.
+
+ghost use Rattle.mg_engine_unmakings.specs.Outs.{TakenTablesKeep};
+ghost use Rattle.mg_image.specs.Form.{packed_form};
+
+use mg_base::Disk;
+use mg_careful::Links;
+use mg_image::one_reading;
+
+/// A batch that takes tables out keeps every overlay.
+pub fn taken_tables_keep<D: Disk, L: Links>()
+    ensures { TakenTablesKeep packed_form D L D.meaning }
+{
+    one_reading();
+}
