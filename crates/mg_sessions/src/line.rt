@@ -1,6 +1,7 @@
 //! What a line itself does.
 
-ghost use Rattle.std.specs.Prelude.{◌≡◌, true, List};
+ghost use Rattle.std.specs.Prelude.{◌≡◌, FitsSigned, true, List};
+ghost use Rattle.std.specs.Int.{w64};
 ghost use Rattle.mg_model.specs.declared.opening.Opening.{Opening};
 ghost use Rattle.mg_model.specs.History.{Entries};
 ghost use Rattle.mg_transcript.specs.Lines.{Does};
@@ -54,9 +55,24 @@ where
         LineKind::Write { most } => obey_write(r, sessions, *most),
         LineKind::Silent => Reply::Ok(Outcome::Fine),
         LineKind::Bad => Reply::Bad,
-        LineKind::Put { key, value } => obey_put(r, alloc, sessions, *key, *value),
-        LineKind::Get { key } => obey_get(r, alloc, sessions, size, *key),
+        LineKind::Put { key, value } => {
+            let put = number_of(key);
+            let with = number_of(value);
+            obey_put(r, alloc, sessions, put, with)
+        }
+        LineKind::Get { key } => {
+            let wanted = number_of(key);
+            obey_get(r, alloc, sessions, size, wanted)
+        }
         // No such line is handed to this call.
         LineKind::Collect | LineKind::Sweep { .. } | LineKind::Prepare { .. } => Reply::Bad,
     }
+}
+
+// A number that stands in a line.
+fn number_of(number: &i64) -> i64
+    ensures same { result ≡ number.now }
+    ensures fits { FitsSigned w64 result }
+{
+    *number
 }

@@ -59,8 +59,7 @@ pair_fits (a ∷ b ∷ d ∷ more) key value is = absurd cc
 pub write_fits : (shape : Shape) (sees : Bool) (key value : ℤ) → is_of_numbers (Some shape) ≡ true
     → FitsShape shape (write_of sees key value)
 write_fits shape true key value is =
-    let each = both (shape.key == 0) (are_two_numbers shape.columns) is in
-    (
+    let each = both (shape.key == 0) (are_two_numbers shape.columns) is in (
       pair_fits shape.columns key value each.1,
       subst (λ (n : ℕ). key_of (record shape { key = n }) (pair_of key value) ≡ values.Int key)
           (sym (eqb-true shape.key 0 each.0)) refl,

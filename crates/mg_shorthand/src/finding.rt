@@ -123,5 +123,9 @@ where
 fn seen_at(found: &Key, key: &Value) -> Seen
     ensures { result ≡ seen_by (same_key found.now key.now) }
 {
-    if is_same(found, key) { Seen::Here } else { Seen::Further }
+    if is_same(found, key) {
+        Seen::Here
+    } else {
+        Seen::Further
+    }
 }
