@@ -1,5 +1,6 @@
 mod GoLemmas
 mod StatementLemmas
 mod BeginLemmas
+mod OwnLemmas
 mod HoldingLemmas
 mod TendingLemmas

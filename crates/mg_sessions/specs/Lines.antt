@@ -16,7 +16,7 @@ use Rattle.mg_transcript.specs.Lines.{RefusesText}
 use Rattle.mg_pending.specs.declared.pending.Pending.{Pending}
 use Rattle.mg_pending.specs.Statements.{has_statement}
 
--- A line that is obeyed. `@collect`, `@sweep`, `@prepare`, `@put` and `@get` are not yet.
+-- A line that is obeyed. `@collect`, `@sweep` and `@prepare` are not yet.
 abbrev pub IsObeyable : LineKind → Type 0
 IsObeyable (kinds.Sql session text) = session.0 < SESSIONS
 IsObeyable (kinds.Held session text) = (session.0 < SESSIONS) × MayBeHeld text
@@ -26,8 +26,8 @@ IsObeyable (kinds.Write most) = Unit {0}
 IsObeyable kinds.Collect = ⊥
 IsObeyable (kinds.Sweep most) = ⊥
 IsObeyable (kinds.Prepare session) = ⊥
-IsObeyable (kinds.Put key value) = ⊥
-IsObeyable (kinds.Get key) = ⊥
+IsObeyable (kinds.Put key value) = Unit {0}
+IsObeyable (kinds.Get key) = Unit {0}
 IsObeyable kinds.Silent = Unit {0}
 IsObeyable kinds.Bad = Unit {0}
 

@@ -13,13 +13,14 @@
 //! is made before it begins, so that a statement that was told to wait is always kept.
 //!
 //! Invariant: none of its own; that of the sessions is `AreReady` of `mg_pending`.
-//! Below: `mg_pending`, `mg_courses`. Above: the program.
-//! Not here: `@collect`, `@sweep`, `@prepare`, `@put` and `@get`, which statement goes on at a line, and
-//! where lines come from and go to.
+//! Below: `mg_pending`, `mg_courses`, and `mg_shorthand` for `@put` and `@get`. Above: the program.
+//! Not here: `@collect`, `@sweep` and `@prepare`, what `@put` and `@get` do in their transaction, which
+//! statement goes on at a line, and where lines come from and go to.
 #![tactic(auto)]
 
 mod holding;
 mod line;
+mod shorthand;
 mod statements;
 mod tending;
 

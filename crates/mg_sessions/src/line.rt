@@ -1,6 +1,7 @@
 //! What a line itself does.
 
-ghost use Rattle.std.specs.Prelude.{◌≡◌, true, List};
+ghost use Rattle.std.specs.Prelude.{◌≡◌, FitsSigned, true, List};
+ghost use Rattle.std.specs.Int.{w64};
 ghost use Rattle.mg_model.specs.declared.opening.Opening.{Opening};
 ghost use Rattle.mg_model.specs.History.{Entries};
 ghost use Rattle.mg_transcript.specs.Lines.{Does};
@@ -12,17 +13,18 @@ ghost use Rattle.mg_sessions.specs.Coming.{ComesTo};
 ghost use Rattle.mg_sessions.specs.Lines.{IsObeyable};
 
 use crate::holding::{obey_go, obey_step};
+use crate::shorthand::{obey_get, obey_put};
 use crate::statements::{obey_held, obey_sql};
 use crate::tending::obey_write;
-use mg_courses::Tends;
 use mg_pending::Sessions;
 use mg_rows::Outcome;
 use mg_script::{LineKind, Reply};
+use mg_shorthand::Serves;
 use std::alloc::Global;
 
 /// Does what a line itself does, and tells what it is answered. Statements that waited do not go on
 /// here.
-pub fn obey<R: Tends>(
+pub fn obey<R: Serves>(
     r: &mut R,
     alloc: Global,
     sessions: &mut Sessions<R::Run>,
@@ -53,11 +55,24 @@ where
         LineKind::Write { most } => obey_write(r, sessions, *most),
         LineKind::Silent => Reply::Ok(Outcome::Fine),
         LineKind::Bad => Reply::Bad,
+        LineKind::Put { key, value } => {
+            let put = number_of(key);
+            let with = number_of(value);
+            obey_put(r, alloc, sessions, put, with)
+        }
+        LineKind::Get { key } => {
+            let wanted = number_of(key);
+            obey_get(r, alloc, sessions, size, wanted)
+        }
         // No such line is handed to this call.
-        LineKind::Collect
-        | LineKind::Sweep { .. }
-        | LineKind::Prepare { .. }
-        | LineKind::Put { .. }
-        | LineKind::Get { .. } => Reply::Bad,
+        LineKind::Collect | LineKind::Sweep { .. } | LineKind::Prepare { .. } => Reply::Bad,
     }
+}
+
+// A number that stands in a line.
+fn number_of(number: &i64) -> i64
+    ensures same { result ≡ number.now }
+    ensures fits { FitsSigned w64 result }
+{
+    *number
 }

@@ -10,7 +10,7 @@
 //!
 //! Invariant: none of its own; that of the sessions is `AreReady` of `mg_pending`.
 //! Below: `mg_sessions`, what a line does itself and how a statement goes on. Above: whole scripts.
-//! Not here: `@put`, `@get`, `@prepare` and the end of a script.
+//! Not here: `@prepare` and the end of a script.
 #![tactic(auto)]
 
 mod turn;

@@ -19,6 +19,7 @@ use mg_courses::Tends;
 use mg_pending::{Sessions, first_released, is_last_released};
 use mg_script::LineKind;
 use mg_sessions::{obey, resume};
+use mg_shorthand::Serves;
 use mg_transcript::{Flow, Spoken, Turn, flow_of};
 use std::alloc::Global;
 
@@ -43,7 +44,7 @@ pub struct Taken {
 }
 
 /// Takes the turn of a line: it is obeyed, and then each statement goes on whose waiting is over.
-pub fn take_turn<R: Tends>(
+pub fn take_turn<R: Serves>(
     r: &mut R,
     alloc: Global,
     sessions: &mut Sessions<R::Run>,

@@ -1,0 +1,6 @@
+mod GoingLemmas
+mod KeyLemmas
+mod NameLemmas
+mod PutLemmas
+mod TreeLemmas
+mod GetLemmas

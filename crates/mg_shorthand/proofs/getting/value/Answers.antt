@@ -1,0 +1,14 @@
+use Rattle.std.proofs.Common.{[], ◌∷◌, ◌++◌, List, ap, ◌∙◌}
+use Rattle.std.specs.Prelude.{codes}
+use Rattle.mg_expr.specs.declared.expr.Expr.{Expr}
+use Rattle.mg_expr.specs.declared.expr.Expr.TheVariants as variants
+use Rattle.mg_shorthand.proofs.NameLemmas.{v_is_name}
+use Rattle.mg_shorthand.proofs.TreeLemmas.{alone}
+use Rattle.mg_shorthand.proofs.getting.value.Goals as goal
+
+pub name-requires : goal.name-requires
+name-requires c = v_is_name
+
+pub returns : goal.returns
+returns c = alone c.new-values.result.items c.push.new.self.items (codes "V") (rw c.name.ensures at c.in_ok-push.ensures.items)
+    c.new-values.ensures.items
