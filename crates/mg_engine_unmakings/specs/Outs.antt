@@ -1,5 +1,5 @@
 -- Several records are taken out in one batch, and the tables that they say go.
-use Rattle.std.specs.Prelude.{◌≡◌, ℕ, Bool, true, false, Some}
+use Rattle.std.specs.Prelude.{◌≡◌, ◌⊎◌, ℕ, Bool, true, false, List, [], ◌∷◌, None, Some}
 use Rattle.mg_base.specs.Disk.{Meaning}
 use Rattle.mg_base.specs.Image.{Image}
 use Rattle.mg_base.specs.declared.numbers.RecId.{RecId}
@@ -11,7 +11,8 @@ use Rattle.mg_model.specs.declared.opening.Opening.{Opening}
 use Rattle.mg_model.specs.declared.table.Table.{Table}
 use Rattle.mg_model.specs.History.{Entries}
 use Rattle.mg_image.specs.Form.{Form}
-use Rattle.mg_image.specs.Records.{Reading}
+use Rattle.mg_image.specs.declared.entry.Entry.{Entry}
+use Rattle.mg_image.specs.Records.{Reading, writer}
 use Rattle.mg_image.specs.Sound.{IsSoundBy, facts_by}
 use Rattle.mg_image.specs.Tables.{Layout, stands_of, table_at}
 use Rattle.mg_kept_images.specs.KeptImages.{IsKept}
@@ -52,3 +53,34 @@ TakenTablesKeep form D L m = (before after : Pool D L) (i j : Image) (batch : Ch
     × TakesRows by was.layout (facts_by (left_state chosen state) (shown before.dirty i) was.layout) was.reading rc gone)
     → KeptIn form before.geometry.size o h state asked session before i
     → KeptIn form before.geometry.size o later state asked session after j
+
+-- ---- what is read
+
+-- A record had one version, the transaction's own, and has none.
+pub record GoesWhole (by : ℕ) (was now : List Entry) : Type 0 where
+  pub version : Entry
+  pub alone : was ≡ version ∷ []
+  pub its : writer version ≡ by
+  pub none : now ≡ []
+
+-- each record reads as it did, or has gone
+abbrev pub GoOrStay : ℕ → Reading → Reading → Type 0
+GoOrStay by r s = (p : RecId) → (s p ≡ r p) ⊎ GoesWhole by (r p) (s p)
+
+-- each version that is taken out is the first of its record
+abbrev pub AreFirst : (form : Form) {D L : Type 0} (store : Pool D L) (image : Image) (state : ℕ → TxState) (by : ℕ)
+    (old new : Changed) → TakesRecordsOut form store image state by old new → Type 0
+AreFirst form store image state by old new (none_out b) = Unit {0}
+AreFirst form store image state by old new (takes a mid c rec table out its placed more) =
+    (out.was.back ≡ None) × AreFirst form store image state by mid c more
+
+-- so with the maker dead the pages have the layout that they had, and of each record what it had, or it has gone
+abbrev pub OutsAreRead : Form → (D L : Type 0) → Type 0
+OutsAreRead form D L = (store : Pool D L) (image : Image) (o : Opening) (h : Entries) (state : ℕ → TxState) (by : ℕ)
+    (chosen : ℕ → Bool) (batch : Changed) (outs : TakesRecordsOut form store image state by fresh batch)
+    → state by ≡ Active → chosen by ≡ false → AreFirst form store image state by fresh batch outs
+    → (start : IsKept form store.geometry.size o h (left_state chosen state) (shown store.dirty image)
+    (shown store.dirty image))
+    → (c : Layout) (rc : Reading)
+    → IsSoundBy form store.geometry.size (left_state chosen state) (viewed store image batch) c rc
+    → (c ≡ start.of_pool) × GoOrStay by start.in_pool rc

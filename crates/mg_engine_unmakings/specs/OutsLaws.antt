@@ -7,7 +7,7 @@ use Rattle.mg_base.specs.Fields.{byte}
 use Rattle.mg_base.specs.Image.{Image}
 use Rattle.mg_base.specs.declared.numbers.RecId.{RecId}
 use Rattle.mg_base.specs.declared.transaction.TxState.{TxState}
-use Rattle.mg_base.specs.declared.transaction.TxState.TheVariants.{Dead, Limbo}
+use Rattle.mg_base.specs.declared.transaction.TxState.TheVariants.{Committed, Dead, Limbo}
 use Rattle.mg_careful.specs.CarefulWrite.{PageSet}
 use Rattle.mg_careful.specs.Precedence.{Orders}
 use Rattle.mg_careful.specs.declared.graph.Order.{Order}
@@ -22,7 +22,10 @@ use Rattle.mg_heap_ties.specs.Batches.{IsWithin, lists_later, lists_sooner, view
 use Rattle.mg_heap_ties.specs.CellTies.{HasLawfulCells, cells_still, lawful_cells, owner_told}
 use Rattle.mg_image.specs.Form.{Form, Pages}
 use Rattle.mg_image.specs.ReadingLaws.{RowsAreOne}
-use Rattle.mg_image.specs.Records.{Changes, Reading, cells_of}
+use Rattle.mg_image.specs.declared.entry.Entry.{Entry}
+use Rattle.mg_image.specs.RecordRules.{Facts}
+use Rattle.mg_image.specs.Records.{Chain, Changes, Reading, Stands, cells_of, ended, newest_of, writer}
+use Rattle.mg_image.specs.StepLaws.{chain_stays, put_cases, put_reading}
 use Rattle.mg_image.specs.Sound.{IsSoundBy, facts_by}
 use Rattle.mg_image.specs.Tables.{Has, Layout, stands_of, table_at}
 use Rattle.mg_kept_images.specs.DataPages.{ChangesData}
@@ -43,11 +46,18 @@ use Rattle.mg_pool.specs.declared.pool.Pool.{Pool}
 use Rattle.mg_space.specs.View.{viewed}
 use Rattle.mg_space_ties.specs.Changed.{BatchIsChanged, cache_over, changed_fresh, fresh, needs_all, needs_in}
 use Rattle.mg_table_overlays.specs.BackPart.{OrdersTakeOut, TakesOutPages, take_out_views}
-use Rattle.mg_table_overlays.specs.TakeOut.{back_cell}
+use Rattle.mg_table_overlays.specs.OneLayout.{sound_once}
+use Rattle.mg_table_overlays.specs.OwnThere.{dead_newest, none_reads, older_off, open_newest, pool_behind}
+use Rattle.mg_table_overlays.specs.OwnVersion.{FindsNewest}
+use Rattle.mg_table_overlays.specs.TakeOut.{back_cell, back_leads, drop_living, drop_sound, free_sound, slot_off}
+use Rattle.mg_record_overlays.specs.QuietSteps.{StepsQuietly, pool_sound_after, quiet_out}
+use Rattle.mg_kept_images.specs.QuietVersions.{IsQuiet}
+use Rattle.mg_kept_images.specs.Rest.{LeavesRest}
+use Rattle.mg_version.specs.declared.cell.Version.{Version}
 use Rattle.mg_value.specs.declared.value.Value.{Value}
 use Rattle.mg_version.specs.declared.cell.Cell.TheVariants as cells
 use Rattle.mg_version.specs.declared.cell.Link.{Link}
-use Rattle.mg_engine_unmakings.specs.Outs.{TakenTablesKeep, TakesRecordsOut, none_out, takes}
+use Rattle.mg_engine_unmakings.specs.Outs.{AreFirst, GoesWhole, OutsAreRead, TakenTablesKeep, TakesRecordsOut, none_out, takes}
 use Rattle.mg_engine_unmakings.specs.Taken.{IsWithout, LeavesTables, TakesRows}
 use Rattle.mg_engine_unmakings.specs.TakenKept.{left_are_kept}
 
@@ -229,6 +239,109 @@ module _ (form : Form) (one : RowsAreOne form.coding) (none : HasNoSequences for
   pub out_whole : IsKept form store.geometry.size o h state (viewed store image new) (viewed store image new)
   out_whole = go (λ p. true) (viewed store image old) (λ is. refl) (λ m ordered is. refl) start
 
+  -- ---- what is read then
+
+  abbrev f : Facts
+  f = facts_by state (viewed store image old) start.of_pool
+
+  found : FindsNewest (facts_by state (viewed store image old) start.of_pool) start.in_pool rec table out.newest.rec
+      out.was
+  found = newest_found form size state pool start.of_pool start.in_pool start.pool_sound rec table
+      (placed start.of_pool start.in_pool start.pool_sound) out.newest out.its.head.slot out.was out.its.meets.cell
+
+  open_pool : state (writer found.newest) ≢ Committed
+  open_pool = open_newest form one none size o h state pool pool start start rec x table out.was out.newest found
+      out.its.head.slot dead
+
+  behind_ : Chain (cells_of (viewed store image old)) out.was.back found.older
+  behind_ = pool_behind form one none size o h state pool pool start start rec x table out.was out.newest found
+      out.its.head.slot dead
+
+  leads : Chain (cells_of (viewed store image turned)) (newest_of rec (back_cell out.was.back)) found.older
+  leads = subst (λ (k : Option Link). Chain (cells_of (viewed store image turned)) k found.older)
+      (sym (back_leads rec out.was.back)) (chain_stays (cells_of pool) (cells_of (viewed store image turned)) rec
+      (back_cell out.was.back) turn out.was.back found.older behind_ (slot_off (cells_of pool) rec out.newest
+      out.its.head.slot out.was.back found.older behind_))
+
+  abbrev after : Reading
+  after = put_reading start.in_pool rec found.older
+
+  turn_step : StepsQuietly form state store.geometry.size (viewed store image old) (viewed store image turned)
+      rec.page.0 (facts_by state (viewed store image old) start.of_pool) start.in_pool
+      (put_reading start.in_pool rec found.older)
+  turn_step = record {
+    page = slot_page;
+    records = drop_sound form.coding f (cells_of pool) (cells_of (viewed store image turned)) start.in_pool rec table
+        out.newest (back_cell out.was.back) start.pool_sound.records found.of out.its.head.slot turn found.newest
+        found.older found.first open_pool leads;
+    quiet = put_cases start.in_pool rec found.older (λ q fs. IsQuiet f (start.in_pool q) fs)
+        (inl (drop_living form.coding f (cells_of pool) (cells_of (viewed store image turned)) start.in_pool rec table
+        out.newest (back_cell out.was.back) start.pool_sound.records found.of out.its.head.slot turn found.newest
+        found.older found.first open_pool leads (dead_newest form one none size o h state pool pool start start rec x
+        table out.was out.newest found out.its.head.slot dead))) (λ q ne. inl refl);
+  }
+
+  turn_rest : LeavesRest form store.geometry.size (viewed store image old) (viewed store image turned) start.of_pool
+  turn_rest = data_leaves form size rec.page.0 none (trees_stay form size) state pool (viewed store image turned)
+      start.of_pool start.in_pool start.pool_sound slot_page
+
+  unread : (q : RecId) → Stands (put_reading start.in_pool rec found.older q) out.newest.rec → ⊥
+  unread = none_reads form size state pool start.of_pool start.in_pool start.pool_sound rec table x out.was out.newest
+      found out.its.head.slot found.older (older_off form size state pool start.of_pool start.in_pool start.pool_sound
+      rec table x out.was out.newest found out.its.head.slot)
+
+  at_turned : IsSoundBy form store.geometry.size state (viewed store image turned) start.of_pool
+      (put_reading start.in_pool rec found.older)
+  at_turned = pool_sound_after form size o h state pool (viewed store image turned) pool rec.page.0 start after
+      turn_step turn_rest
+
+  abbrev kept_turned : IsKept form store.geometry.size o h state (viewed store image turned) (viewed store image old)
+  kept_turned = quiet_out form store.geometry.size o h state (viewed store image old) (viewed store image turned)
+      (viewed store image old) rec.page.0 start (put_reading start.in_pool rec found.older) turn_step turn_rest
+
+  at_new : IsSoundBy form store.geometry.size state (viewed store image new) start.of_pool
+      (put_reading start.in_pool rec found.older)
+  unfolding quiet_out
+  at_new = pool_sound_after form size o h state (viewed store image turned) (viewed store image new) pool x.page.0
+      kept_turned after (record {
+        page = pages.frees.page;
+        records = free_sound form.coding (facts_by state (viewed store image turned) start.of_pool)
+            (cells_of (viewed store image turned)) (cells_of (viewed store image new)) after x out.was
+            at_turned.records pages.frees.cell pages.frees.apart pages.frees.freed unread;
+        quiet = λ q. inl refl;
+      }) (data_leaves form size x.page.0 none (trees_stay form size) state (viewed store image turned)
+      (viewed store image new) start.of_pool after at_turned pages.frees.page)
+
+  -- a first version leaves none
+  none_behind : out.was.back ≡ None → found.older ≡ []
+  none_behind first = at found.older (subst (λ (k : Option Link). Chain (cells_of pool) k found.older) first behind_)
+    where
+      at : (es : List Entry) → Chain (cells_of (viewed store image old)) None es → es ≡ []
+      at es ended = refl
+
+  pub out_read : out.was.back ≡ None → (c : Layout) (rc : Reading)
+      → IsSoundBy form store.geometry.size state (viewed store image new) c rc
+      → (start.of_pool ≡ c) × ((p : RecId) → (rc p ≡ start.in_pool p) ⊎ GoesWhole out.was.tx.0 (start.in_pool p) (rc p))
+  out_read first c rc sound = (
+    same.0,
+    λ p. subst (λ (s : Reading). (s p ≡ start.in_pool p) ⊎ GoesWhole out.was.tx.0 (start.in_pool p) (s p)) same.1
+        (each p),
+  )
+    where
+      same : (start.of_pool ≡ c) × (put_reading start.in_pool rec found.older ≡ rc)
+      same = sound_once form one none size state (viewed store image new) start.of_pool c after rc at_new sound
+
+      each : (p : RecId) → (put_reading start.in_pool rec found.older p ≡ start.in_pool p)
+          ⊎ GoesWhole out.was.tx.0 (start.in_pool p) (put_reading start.in_pool rec found.older p)
+      each = put_cases start.in_pool rec found.older
+          (λ q fs. (fs ≡ start.in_pool q) ⊎ GoesWhole out.was.tx.0 (start.in_pool q) fs)
+          (inr (record {
+            version = found.newest;
+            alone = found.first ∙ ap (λ (es : List Entry). found.newest ∷ es) (none_behind first);
+            its = ap (λ (w : Version). w.tx.0) found.version;
+            none = none_behind first;
+          })) (λ q ne. inl refl)
+
   -- an image with a set of the batch's pages
   module _ (changed : Pages) (set_ : PageSet) (img : Pages)
       (lays : LaysBatch (shown store.dirty image) changed contents orders set_ img)
@@ -272,6 +385,68 @@ module _ (form : Form) (one : RowsAreOne form.coding) (none : HasNoSequences for
       gone_ (placed chosen off) at_mid whole)
       (out_part form one none no_primary store image (left_state chosen state) o h contents orders a mid rec table out
       gone_ (placed chosen off) at_mid whole changed set_ img lays left part)
+
+-- ---- what is read of all
+
+still_goes : (by : ℕ) (r s u : List Entry) → (s ≡ r) ⊎ GoesWhole by r s → (u ≡ s) ⊎ GoesWhole by s u
+    → (u ≡ r) ⊎ GoesWhole by r u
+still_goes by r s u (inl same) (inl also) = inl (also ∙ same)
+still_goes by r s u (inl same) (inr goes_) = inr (record {
+  version = goes_.version;
+  alone = sym same ∙ goes_.alone;
+  its = goes_.its;
+  none = goes_.none;
+})
+still_goes by r s u (inr goes_) (inl also) = inr (record {
+  version = goes_.version;
+  alone = goes_.alone;
+  its = goes_.its;
+  none = also ∙ goes_.none;
+})
+still_goes by r s u (inr goes_) (inr more) =
+    let both : [] ≡ more.version ∷ [] = sym goes_.none ∙ more.alone in absurd cc
+
+module _ (form : Form) (one : RowsAreOne form.coding) (none : HasNoSequences form)
+    (no_primary : form.in_primary ≡ false) {D L : Type 0} (store : Pool D L) (image : Image) (state : ℕ → TxState)
+    (by : ℕ) (o : Opening) (h : Entries) (contents : ℕ → Option (List ℕ)) (orders : Orders) (chosen : ℕ → Bool)
+    (off : chosen by ≡ false) (dead : left_state chosen state by ≡ Dead) where
+  outs_read : (old new : Changed) (outs : TakesRecordsOut form store image state by old new)
+      → AreFirst form store image state by old new outs → IsWithin contents orders new
+      → (start : IsKept form store.geometry.size o h (left_state chosen state) (viewed store image old)
+      (viewed store image old)) → (c : Layout) (rc : Reading)
+      → IsSoundBy form store.geometry.size (left_state chosen state) (viewed store image new) c rc
+      → (c ≡ start.of_pool) × ((p : RecId) → (rc p ≡ start.in_pool p) ⊎ GoesWhole by (start.in_pool p) (rc p))
+  outs_read old new (none_out b) first within start c rc sound =
+      let same : (start.of_pool ≡ c) × (start.in_pool ≡ rc) = sound_once form one none store.geometry.size
+      (left_state chosen state) (viewed store image b) start.of_pool c start.in_pool rc start.pool_sound sound in
+      (sym same.0, λ p. inl (ap (λ (s : Reading). s p) (sym same.1)))
+  outs_read old new (takes a mid z rec table out its placed more) first within start c rc sound =
+      let at_mid : IsWithin contents orders mid =
+      outs_back form store image state by contents orders mid z more within in
+      let gone_ : left_state chosen state out.was.tx.0 ≡ Dead = ap (left_state chosen state) its ∙ dead in
+      let middle : IsKept form store.geometry.size o h (left_state chosen state) (viewed store image mid)
+      (viewed store image mid) = out_whole form one none no_primary store image (left_state chosen state) o h contents
+      orders a mid rec table out gone_ (placed chosen off) at_mid start in
+      let step : (start.of_pool ≡ middle.of_pool) × ((p : RecId) → (middle.in_pool p ≡ start.in_pool p)
+      ⊎ GoesWhole out.was.tx.0 (start.in_pool p) (middle.in_pool p)) =
+      out_read form one none no_primary store image (left_state chosen state) o h contents orders a mid rec table out
+      gone_ (placed chosen off) at_mid start first.0 middle.of_pool middle.in_pool middle.pool_sound in
+      let rest : (c ≡ middle.of_pool) × ((p : RecId) → (rc p ≡ middle.in_pool p)
+      ⊎ GoesWhole by (middle.in_pool p) (rc p)) = outs_read mid z more first.1 within middle c rc sound in (
+        rest.0 ∙ sym step.0,
+        λ p. still_goes by (start.in_pool p) (middle.in_pool p) (rc p)
+            (subst (λ (u : ℕ). (middle.in_pool p ≡ start.in_pool p)
+            ⊎ GoesWhole u (start.in_pool p) (middle.in_pool p)) its (step.1 p)) (rest.1 p),
+      )
+
+pub outs_are_read : (form : Form) → RowsAreOne form.coding → HasNoSequences form → form.in_primary ≡ false
+    → (D L : Type 0) → OutsAreRead form D L
+outs_are_read form one none no_primary D L store image o h state by chosen batch outs active off first start c rc sound =
+    outs_read form one none no_primary store image state by o h (content_in batch.pages) (lists batch.orders) chosen off
+    dead fresh batch outs first (within_self batch) start c rc sound
+  where
+    dead : left_state chosen state by ≡ Dead
+    dead = rw (off, active) refl
 
 -- ---- the history
 

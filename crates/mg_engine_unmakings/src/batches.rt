@@ -1,6 +1,6 @@
 //! Rows of the catalog are taken out in one batch. Each function's contract is the law.
 
-ghost use Rattle.mg_engine_unmakings.specs.Outs.{TakenTablesKeep};
+ghost use Rattle.mg_engine_unmakings.specs.Outs.{OutsAreRead, TakenTablesKeep};
 ghost use Rattle.mg_image.specs.Form.{packed_form};
 
 use mg_base::Disk;
@@ -10,6 +10,13 @@ use mg_image::one_reading;
 /// A batch that takes tables out keeps every overlay.
 pub fn taken_tables_keep<D: Disk, L: Links>()
     ensures { TakenTablesKeep packed_form D L D.meaning }
+{
+    one_reading();
+}
+
+/// What is read of such a batch, its maker dead.
+pub fn taken_tables_are_read<D: Disk, L: Links>()
+    ensures { OutsAreRead packed_form D L }
 {
     one_reading();
 }

@@ -12,7 +12,8 @@
 //!
 //! - `batches`: several records are taken out in one batch, one after another (`TakesRecordsOut`), rows of the catalog
 //!   with whole tables of theirs: every overlay is kept for the history without them (`TakenTablesKeep`). The steps are
-//!   taken with the maker dead, and the last one is the law of `pages`.
+//!   taken with the maker dead, and the last one is the law of `pages`. With it dead the pages keep their layout, and each
+//!   record reads as it did or has gone (`OutsAreRead`).
 //!
 //! So all rows of the catalog since a point go in one batch, after the keys of all other tables: no overlay has half a
 //! table.
@@ -31,6 +32,6 @@ mod batches;
 mod pages;
 mod rows;
 
-pub use batches::taken_tables_keep;
+pub use batches::{taken_tables_are_read, taken_tables_keep};
 pub use pages::left_tables_stand;
 pub use rows::{gone_tables_are_whole, tables_are_left};
