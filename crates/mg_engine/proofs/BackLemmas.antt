@@ -11,7 +11,7 @@ use Rattle.mg_model.specs.declared.refusal.Refusal.{Refusal}
 use Rattle.mg_taking_back.specs.Tables.{TellsTables}
 use Rattle.mg_taking_back.specs.Taking.{FailsBackTo, GoesBackTo, TakesBackTo}
 use Rattle.mg_engine.specs.Engines.{IsEngine}
-use Rattle.mg_engine_back_steps.specs.Steps.{IsBack, IsRolledShort, IsUndone, MarksGive, SavepointsGive, ShortMarksGive, ShortSavepointsGive}
+use Rattle.mg_engine_takings.specs.Outcomes.{IsBack, IsRolledShort, IsUndone, MarksGive, SavepointsGive, ShortMarksGive, ShortSavepointsGive}
 use Rattle.mg_engine_meaning.specs.Meaning.{Places}
 use Rattle.mg_engine_row_writes.specs.Notes.{AreCounts}
 

@@ -13,7 +13,7 @@ use Rattle.mg_value.specs.Names.{IsName}
 use Rattle.mg_value.specs.declared.shape.Shape.{Shape}
 use Rattle.mg_works.specs.Works.{AreApart}
 use Rattle.mg_engine.specs.Engines.{IsEngine}
-use Rattle.mg_engine_creations.specs.Steps.{AreNamed, CreationsKeepApart, GivesTable, MayHave, RefusalsKeepApart, TablesAreMade, TablesAreRefused}
+use Rattle.mg_engine_makings.specs.Steps.{AreNamed, CreationsKeepApart, GivesTable, MayHave, RefusalsKeepApart, TablesAreMade, TablesAreRefused}
 use Rattle.mg_engine_meaning.specs.Meaning.{Places, means}
 use Rattle.mg_engine_row_writes.specs.Notes.{AreCounts}
 

@@ -17,16 +17,16 @@ use Rattle.mg_engine_steps.specs.GoesOn.{HasGoneOn}
 use Rattle.mg_engine_steps.specs.ListShows.{ListsStay}
 use Rattle.mg_engine_steps.specs.Standing.{Standing, Stands}
 use Rattle.mg_engine_steps.specs.Walking.{AreToCome}
-use Rattle.mg_engine_takings.specs.Backs.{EnginesGoBackTo, IsBackEntry, OthersWalkOnBack}
+use Rattle.mg_engine_takings.specs.EngineBacks.{EnginesGoBackTo, IsBackEntry, OthersWalkOnBack}
 use Rattle.mg_engine_takings.specs.Given.{AreGiven, UndoListsGiveKeys}
 use Rattle.mg_engine_takings.specs.Keys.{CoresTakeAll, HasTakenKeys}
-use Rattle.mg_engine_undoing.specs.BackLists.{KeepsLists, KeysKeepLists}
-use Rattle.mg_engine_undoing.specs.BackPages.{KeysKeepPages}
-use Rattle.mg_engine_undoing.specs.BackWalks.{BackWalksGoOn}
-use Rattle.mg_engine_undoing.specs.Backs.{BacksGoOn, BeginsBack}
-use Rattle.mg_engine_undoing.specs.Memory.{IsBackInMemory}
-use Rattle.mg_engine_undoing.specs.Steps.{StandsMidway}
-use Rattle.mg_engine_undoing.specs.ToTake.{SinceAreTaken, since_point}
+use Rattle.mg_engine_takings.specs.BackLists.{KeepsLists, KeysKeepLists}
+use Rattle.mg_engine_takings.specs.BackPages.{KeysKeepPages}
+use Rattle.mg_engine_takings.specs.BackWalks.{BackWalksGoOn}
+use Rattle.mg_engine_takings.specs.Backs.{BacksGoOn, BeginsBack}
+use Rattle.mg_engine_takings.specs.Memory.{IsBackInMemory}
+use Rattle.mg_engine_takings.specs.Steps.{StandsMidway}
+use Rattle.mg_engine_takings.specs.ToTake.{SinceAreTaken, since_point}
 use Rattle.mg_engine_writes.specs.Midway.{GoesBack, MidwaysBegin}
 use Rattle.mg_engine_writes.specs.Shown.{ShowsFirst}
 use Rattle.mg_engine_writes.specs.Unasked.{UnaskingLasts}

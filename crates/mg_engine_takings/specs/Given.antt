@@ -4,8 +4,8 @@ use Rattle.mg_base.specs.declared.transaction.TxState.{TxState}
 use Rattle.mg_base.specs.declared.transaction.TxState.TheVariants.{Active}
 use Rattle.mg_engine_steps.specs.Standing.{FindsTables, Remembers, Standing}
 use Rattle.mg_engine_takings.specs.Keys.{IsOfTable}
-use Rattle.mg_engine_undoing.specs.Memory.{LeavesCatalog, MayGoTo}
-use Rattle.mg_engine_undoing.specs.ToTake.{AreKeysOf, EachChange, since_point}
+use Rattle.mg_engine_takings.specs.Memory.{LeavesCatalog, MayGoTo}
+use Rattle.mg_engine_takings.specs.ToTake.{AreKeysOf, EachChange, since_point}
 use Rattle.mg_image.specs.Form.{Pages, packed_form}
 use Rattle.mg_image.specs.Records.{Reading}
 use Rattle.mg_image.specs.Sound.{IsSoundBy}

@@ -8,9 +8,9 @@ use Rattle.mg_engine_steps.specs.Known.{IsShown}
 use Rattle.mg_engine_steps.specs.Standing.{FindsTables, HasFirstPage, Remembers, RemembersOne, Standing}
 use Rattle.mg_engine_takings.specs.Given.{AreGiven, UndoListsGiveKeys}
 use Rattle.mg_engine_takings.specs.Keys.{IsOfTable}
-use Rattle.mg_engine_undoing.specs.Memory.{LeavesCatalog, MayGoTo}
-use Rattle.mg_engine_undoing.specs.ToTake.{AreKeysOf, EachChange, KeysAreTaken, since_if, since_point}
-use Rattle.mg_engine_undoing.specs.WrittenLaws.{first_named}
+use Rattle.mg_engine_takings.specs.Memory.{LeavesCatalog, MayGoTo}
+use Rattle.mg_engine_takings.specs.ToTake.{AreKeysOf, EachChange, KeysAreTaken, since_if, since_point}
+use Rattle.mg_engine_takings.specs.WrittenLaws.{first_named}
 use Rattle.mg_image.specs.Form.{Pages, packed_form}
 use Rattle.mg_image.specs.Records.{Reading}
 use Rattle.mg_image.specs.Sound.{IsSoundBy}

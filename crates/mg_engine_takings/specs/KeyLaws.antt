@@ -14,11 +14,11 @@ use Rattle.mg_engine_steps.specs.Known.{IsShown}
 use Rattle.mg_engine_steps.specs.OtherIndexes.{as_other, speaker_on}
 use Rattle.mg_engine_steps.specs.Standing.{FindsTables, Remembers, ShowsHistory, Standing}
 use Rattle.mg_engine_takings.specs.Takings.{CoresTakeKeys, HasTakenKey, KnowsCache}
-use Rattle.mg_engine_undoing.specs.BackTables.{ItsTablesMayBeWritten}
-use Rattle.mg_engine_undoing.specs.Found.{IsItsRecord, ItsRecordIsFound}
-use Rattle.mg_engine_undoing.specs.KeySteps.{FindsIts, IsTableOfIts, KeyStepsAreTaken, PutsFormer, TakesItOut, TakesKeyAt}
-use Rattle.mg_engine_undoing.specs.Steps.{StandsMidway}
-use Rattle.mg_engine_undoing.specs.Written.{KeptTablesAreNamed, KeptTablesStand}
+use Rattle.mg_engine_takings.specs.BackTables.{ItsTablesMayBeWritten}
+use Rattle.mg_engine_takings.specs.Found.{IsItsRecord, ItsRecordIsFound}
+use Rattle.mg_engine_takings.specs.KeySteps.{FindsIts, IsTableOfIts, KeyStepsAreTaken, PutsFormer, TakesItOut, TakesKeyAt}
+use Rattle.mg_engine_takings.specs.Steps.{StandsMidway}
+use Rattle.mg_engine_takings.specs.Written.{KeptTablesAreNamed, KeptTablesStand}
 use Rattle.mg_engine_writes.specs.Again.{again}
 use Rattle.mg_engine_writes.specs.Knowing.{CodesRow}
 use Rattle.mg_image.specs.Form.{Pages, packed_coding, packed_form}

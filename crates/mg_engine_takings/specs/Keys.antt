@@ -6,8 +6,8 @@ use Rattle.mg_core.specs.declared.parts.Core.{Core}
 use Rattle.mg_engine_meaning.specs.Standings.{KeepsWritten}
 use Rattle.mg_engine_steps.specs.Standing.{Remembers, ShowsHistory, Standing}
 use Rattle.mg_engine_takings.specs.Takings.{KnowsCache}
-use Rattle.mg_engine_undoing.specs.Steps.{StandsMidway, TakesKeysOf}
-use Rattle.mg_engine_undoing.specs.ToTake.{AreKeysOf, EachChange}
+use Rattle.mg_engine_takings.specs.Steps.{StandsMidway, TakesKeysOf}
+use Rattle.mg_engine_takings.specs.ToTake.{AreKeysOf, EachChange}
 use Rattle.mg_engine_writes.specs.Midway.{GoesBack}
 use Rattle.mg_image.specs.Form.{Pages, packed_form}
 use Rattle.mg_image.specs.Inventory.{header_of}

@@ -12,10 +12,10 @@ use Rattle.mg_engine_steps.specs.Known.{catalog_is_shown}
 use Rattle.mg_engine_steps.specs.Standing.{Remembers, ShowsHistory, Standing}
 use Rattle.mg_engine_takings.specs.Keys.{CoresTakeAll, HasCatalog, HasTakenKeys, IsOfTable}
 use Rattle.mg_engine_takings.specs.Takings.{CoresTakeKeys, HasTakenKey, KnowsCache}
-use Rattle.mg_engine_undoing.specs.BackLists.{KeepsLists, KeysKeepLists}
-use Rattle.mg_engine_undoing.specs.Steps.{KeysGoOn, StandsMidway, TakesKeysOf, no_keys, one_key}
-use Rattle.mg_engine_undoing.specs.ToTake.{AreKeysOf, EachChange, KeysAreTaken}
-use Rattle.mg_engine_undoing.specs.WrittenLaws.{first_named}
+use Rattle.mg_engine_takings.specs.BackLists.{KeepsLists, KeysKeepLists}
+use Rattle.mg_engine_takings.specs.Steps.{KeysGoOn, StandsMidway, TakesKeysOf, no_keys, one_key}
+use Rattle.mg_engine_takings.specs.ToTake.{AreKeysOf, EachChange, KeysAreTaken}
+use Rattle.mg_engine_takings.specs.WrittenLaws.{first_named}
 use Rattle.mg_engine_writes.specs.Again.{without_key}
 use Rattle.mg_engine_writes.specs.Midway.{GoesBack}
 use Rattle.mg_image.specs.Form.{Pages, packed_form}

@@ -7,7 +7,7 @@ use Rattle.mg_base.specs.declared.transaction.TxState.TheVariants.{Active}
 use Rattle.mg_engine_meaning.specs.PlainTables.{HasPlainTables}
 use Rattle.mg_engine_meaning.specs.Standings.{KeepsWritten}
 use Rattle.mg_engine_steps.specs.Standing.{Remembers, ShowsHistory, Standing}
-use Rattle.mg_engine_undoing.specs.Steps.{StandsMidway, TakesKeyOf}
+use Rattle.mg_engine_takings.specs.Steps.{StandsMidway, TakesKeyOf}
 use Rattle.mg_image.specs.Form.{Pages, packed_form}
 use Rattle.mg_model.specs.Catalog.{catalog_name}
 use Rattle.mg_model.specs.Changes.{has_change}

@@ -1,18 +1,18 @@
 //! A transaction is taken back, key by key. The functions do nothing: their contracts are the laws.
 
-ghost use Rattle.mg_engine_takings.specs.Backs.{EnginesGoBackTo, OthersWalkOnBack};
+ghost use Rattle.mg_engine_takings.specs.EngineBacks.{EnginesGoBackTo, OthersWalkOnBack};
 ghost use Rattle.mg_engine_takings.specs.Given.{UndoListsGiveKeys};
 ghost use Rattle.mg_engine_takings.specs.Keys.{CoresTakeAll};
 ghost use Rattle.mg_engine_takings.specs.Takings.{CoresTakeKeys};
 
-use mg_base::Disk;
-use mg_engine_row_writes::stored_rows_are_coded;
-use mg_engine_steps::lists_go_on;
-use mg_engine_undoing::{
+use crate::{
     engines_take_back, its_records_are_found, its_tables_may_be_written, kept_tables_stand,
     key_steps_are_taken, keys_are_taken, keys_go_on, keys_keep_lists, keys_keep_pages,
     others_walk_on,
 };
+use mg_base::Disk;
+use mg_engine_row_writes::stored_rows_are_coded;
+use mg_engine_steps::lists_go_on;
 use mg_engine_writes::{changes_are_taken_back, pages_show_what_is_taken_back, unasking_lasts};
 use mg_model::histories_go_on;
 use mg_space::FireLinks;
