@@ -1,5 +1,5 @@
-use Rattle.mg_engine_row_steps.specs.NotLaidLaws.{not_laid_gives, not_laid_works}
-use Rattle.mg_engine_row_steps.proofs.steps.not_laid_give.Goals as goal
+use Rattle.mg_engine_row_writes.specs.NotLaidLaws.{not_laid_gives, not_laid_works}
+use Rattle.mg_engine_row_writes.proofs.outcomes.not_laid_give.Goals as goal
 
 pub returns : goal.returns
 returns g c = λ places old new t table write refusal core counted given kept fits storable failed. (

@@ -1,5 +1,5 @@
-use Rattle.mg_engine_row_steps.specs.NotedLaws as laws
-use Rattle.mg_engine_row_steps.proofs.steps.noted_writes_give.Goals as goal
+use Rattle.mg_engine_row_writes.specs.NotedLaws as laws
+use Rattle.mg_engine_row_writes.proofs.outcomes.noted_writes_give.Goals as goal
 
 pub returns-clause-writes : goal.returns-clause-writes
 returns-clause-writes g c = laws.noted_writes_give g.D.Disk.meaning c.noted_tables_are_quiet.ensures.works

@@ -1,5 +1,5 @@
-use Rattle.mg_engine_row_steps.specs.ApartLaws as laws
-use Rattle.mg_engine_row_steps.proofs.steps.noted_writes_keep_apart.Goals as goal
+use Rattle.mg_engine_row_writes.specs.ApartLaws as laws
+use Rattle.mg_engine_row_writes.proofs.outcomes.noted_writes_keep_apart.Goals as goal
 
 pub returns-clause-writes : goal.returns-clause-writes
 returns-clause-writes g c = laws.noted_writes_apart g.D.Disk.meaning g.met.D.Disk.counts_now

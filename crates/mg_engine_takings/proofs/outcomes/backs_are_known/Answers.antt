@@ -1,4 +1,4 @@
-use Rattle.mg_engine_back_steps.proofs.steps.backs_are_known.Goals as goal
+use Rattle.mg_engine_takings.proofs.outcomes.backs_are_known.Goals as goal
 
 pub returns : goal.returns
 returns g c = record {

@@ -1,5 +1,5 @@
-use Rattle.mg_engine_back_steps.specs.StepsLaws as laws
-use Rattle.mg_engine_back_steps.proofs.steps.backs_give.Goals as goal
+use Rattle.mg_engine_takings.specs.StepsLaws as laws
+use Rattle.mg_engine_takings.proofs.outcomes.backs_give.Goals as goal
 
 pub returns-clause-marks : goal.returns-clause-marks
 returns-clause-marks g c = laws.marks_give g.D.Disk.meaning c.backs_are_known.ensures
