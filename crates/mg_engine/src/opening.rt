@@ -53,6 +53,3 @@ impl<D: Disk> Engine<D> {
         core.close()
     }
 }
-
-#[cfg(test)]
-mod tests;
