@@ -18,7 +18,12 @@ use std::alloc::Global;
 /// # Errors
 ///
 /// `Memory`; `DiskWrite` where there is no room for the new database.
-pub fn new_engine(alloc: Global, size: u32, room: u32, writes: u32) -> Result<Engine<MemDisk>, Refusal>
+pub fn new_engine(
+    alloc: Global,
+    size: u32,
+    room: u32,
+    writes: u32,
+) -> Result<Engine<MemDisk>, Refusal>
     requires { is_page_size size ≡ true }
     ensures { IfOk result (λ engine. StandsFor mem_meaning engine new_history []) }
 {

@@ -83,9 +83,7 @@ fn a_database_whose_making_was_stopped_is_opened_again(rt: HostRuntime) -> Resul
 }
 
 #[test]
-fn an_opening_reads_page_0_twice_and_the_page_of_transactions(
-    rt: HostRuntime,
-) -> Result<(), Fail> {
+fn an_opening_reads_page_0_twice_and_the_page_of_transactions(rt: HostRuntime) -> Result<(), Fail> {
     let alloc = rt.alloc();
     // The page size, the number of pages and page 0 are asked for first. Then the cache reads page 0 and the page of
     // transactions, and asks each time how many pages there are. The closing settles the disk.

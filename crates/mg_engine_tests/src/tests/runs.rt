@@ -31,7 +31,13 @@ fn pair(alloc: Global, key: i64, value: i64) -> Result<Row, Memory> {
 }
 
 /// The write of a key and a value, if they are a row of the table: a new row, or another one under its key.
-fn write_of(alloc: Global, table: &Table, is_new: bool, key: i64, value: i64) -> Result<Option<Write>, Memory>
+fn write_of(
+    alloc: Global,
+    table: &Table,
+    is_new: bool,
+    key: i64,
+    value: i64,
+) -> Result<Option<Write>, Memory>
     ensures { IfOk result (λ write. IfSome write (FitsShape table.now.shape)) }
 {
     let row = pair(alloc, key, value)?;
@@ -114,7 +120,11 @@ fn end<D: Disk>(engine: &mut Engine<D>, t: TxNo) -> Result<bool, Refusal>
 }
 
 /// The value under a key of KV, as a transaction sees it.
-pub fn value_at<D: Disk>(engine: &mut Engine<D>, t: TxNo, key: i64) -> Result<Option<i64>, Refusal> {
+pub fn value_at<D: Disk>(
+    engine: &mut Engine<D>,
+    t: TxNo,
+    key: i64,
+) -> Result<Option<i64>, Refusal> {
     let table = kv(engine, t)?;
     let mut after: Option<Place> = None;
     for _ in 0..100u32 {
