@@ -1,3 +1,5 @@
 pub mod Printing
 pub mod Runs
 pub mod Steps
+pub mod Ending
+pub mod ReadableLaws

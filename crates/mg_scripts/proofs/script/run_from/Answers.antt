@@ -1,0 +1,52 @@
+use Rattle.std.proofs.Common.{◌≡◌, None, inl, sym, ap, ◌∙◌, subst}
+use Rattle.mg_model.specs.declared.refusal.Refusal.{Refusal}
+use Rattle.std.specs.Prelude.{Option}
+use Rattle.mg_sessions.specs.Accounts.{Accounts}
+use Rattle.mg_sessions.specs.AccountLaws.{account_then}
+use Rattle.mg_scripts.specs.declared.lines.LinesEnd.{LinesEnd}
+use Rattle.mg_scripts.specs.declared.lines.LinesEnd.TheVariants.{Whole}
+use Rattle.mg_scripts.specs.Runs.{LinesDone}
+use Rattle.mg_scripts.specs.Steps.{reason}
+use Rattle.mg_scripts.proofs.EndLemmas.{cut_none, ran_short, ran_whole, start_ready, start_stand}
+use Rattle.mg_scripts.proofs.script.run_from.Goals as goal
+
+pub run_lines-ran-requires-clause-ready : goal.run_lines-ran-requires-clause-ready
+run_lines-ran-requires-clause-ready g c =
+    rw (c.requires.transactions, c.requires.pending)
+    (start_ready g.R.Records.meaning g.R.Statements.runs c.args.r.now c.requires.free)
+
+pub returns-then-is_cut-clause-done : goal.returns-then-is_cut-clause-done
+returns-then-is_cut-clause-done g c = λ o stands none.
+    let m = g.R.Records.meaning in
+    let runs = g.R.Statements.runs in
+    let done = c.run_lines-ran.ensures.done o
+    (rw (c.requires.transactions, c.requires.pending) (start_stand m runs c.args.r.now o stands none)) in
+    inl (ran_short m runs g.K.Sink.meaning c.args.r.now c.run_lines-ran.new.r c.args.sink.now c.run_lines-ran.new.sink o
+    c.args.size c.args.lines.now c.run_lines-ran.new.sessions.transactions c.run_lines-ran.new.sessions.pending.items
+    c.run_lines-ran.result.end c.run_lines-ran.result.fine c.args.refusals.now.items
+    (sym c.is_cut.ensures ∙ c.if-is_cut.true) c.requires.none done)
+
+pub returns-clause-done : goal.returns-clause-done
+returns-clause-done g c = λ o stands none.
+    let m = g.R.Records.meaning in
+    let runs = g.R.Statements.runs in
+    let mid = c.run_lines-ran.new.r in
+    let all = c.run_lines-ran.new.sessions.transactions in
+    let ps = c.run_lines-ran.new.sessions.pending.items in
+    let fine = c.run_lines-ran.result.fine in
+    let whole = cut_none c.run_lines-ran.result.end (sym c.is_cut.ensures ∙ c.if-is_cut.false) in
+    let done = subst (λ (e : LinesEnd). LinesDone m runs g.K.Sink.meaning c.args.r.now mid c.args.sink.now
+    c.run_lines-ran.new.sink o c.args.size c.args.lines.now all ps e fine) whole
+    (c.run_lines-ran.ensures.done o
+    (rw (c.requires.transactions, c.requires.pending) (start_stand m runs c.args.r.now o stands none))) in
+    inl (ran_whole m runs g.met.R.Records.lasts g.K.Sink.meaning c.args.r.now mid c.end_script-fine.new.r c.args.sink.now
+    c.run_lines-ran.new.sink o c.args.size c.args.lines.now all ps fine c.end_script-fine.result
+    c.end_script-fine.new.refusals.items done
+    (λ h us stand. c.end_script-fine.ensures.ends o h us stand))
+
+pub returns-clause-accounts : goal.returns-clause-accounts
+returns-clause-accounts g c =
+    let m = g.R.Records.meaning in
+    let whole = cut_none c.run_lines-ran.result.end (sym c.is_cut.ensures ∙ c.if-is_cut.false) in
+    account_then m c.args.r.now c.run_lines-ran.new.r c.end_script-fine.new.r (reason c.run_lines-ran.result.end) None
+    c.run_lines-ran.ensures.accounts c.end_script-fine.ensures.accounts
