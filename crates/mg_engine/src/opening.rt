@@ -1,5 +1,6 @@
 //! An engine is opened over a disk, and closed.
 
+ghost use Rattle.std.specs.Prelude.{◌≡◌};
 ghost use Rattle.mg_engine_calls.specs.Closings.{ClosesEngine};
 ghost use Rattle.mg_engine_calls.specs.Openings.{OpensEngine};
 
@@ -51,5 +52,14 @@ impl<D: Disk> Engine<D> {
         closings_leave::<D>();
         let Engine { core } = self;
         core.close()
+    }
+
+    /// Leaves a database as a power cut would: the disk comes back as it is, nothing is written, and what is in
+    /// memory goes. So ends a run that a fault has stopped.
+    pub fn into_disk(self) -> D
+        ensures { result ≡ self.store.disk }
+    {
+        let Engine { core } = self;
+        core.into_disk()
     }
 }

@@ -5,5 +5,6 @@ pub mod Fault
 pub mod Law
 pub mod Lawful
 pub mod Pool
+pub mod Reading
 pub mod Refusal
 pub mod Run

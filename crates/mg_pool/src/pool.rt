@@ -3,11 +3,12 @@
 ghost use Rattle.std.specs.Option.{option_copied};
 ghost use Rattle.std.specs.Prelude.{◌≡◌, ◌≢◌, ◌⊎◌, ◌<◌, ◌≤◌, ◌+◌, ◌-◌, ◌^◌, min, Err, None, [], ℕ, length, unwrap_or, IfOk, IfSome, IsSome, true, false, Some, OnOk, OnErr, IfErr};
 ghost use Rattle.mg_base.specs.Image.{Image, page_at};
-ghost use Rattle.mg_base.specs.Disk.{MayLeave, Calm};
+ghost use Rattle.mg_base.specs.Disk.{MayLeave, Calm, ReadsPage};
 ghost use Rattle.mg_careful.specs.Graph.{IsFirstReady};
 ghost use Rattle.mg_pool.specs.Dirty.{is_dirty as dirty_test, is_marked, IsLeastPage, MarksAll};
 ghost use Rattle.mg_pool.specs.Fault.{TellsFault, OnlyWrites, OnlyRefuses};
 ghost use Rattle.mg_pool.specs.Refusal.{LeavesRefused};
+ghost use Rattle.mg_pool.specs.Reading.{Fetches};
 ghost use Rattle.mg_pool.specs.Run.{HasWritten, WritesPage};
 ghost use Rattle.mg_pool.specs.Pool.{IsPool, IsOnDisk, resident, KeepsContent, KeepsPages, number_of, shown, LeavesOverlays};
 
@@ -256,6 +257,7 @@ impl<D: Disk, L: Links> Pool<D, L> {
             × (D.meaning.count self.new.disk ≡ Some pages) × (pages ≤ page.0) }
         ensures never_written { (faults : ℕ) → result ≢ Err (PoolFault.DiskWrite faults) }
         ensures disk { KeepsContent D.meaning self.old.disk self.new.disk }
+        ensures reads { Fetches D.meaning self.old self.new page.0 }
     {
         self.online()?;
         if self.bytes(page).is_some() {
@@ -327,6 +329,7 @@ fn read_into<D: Disk>(disk: &mut D, page: PageNo, buffer: &mut Vec<u8>) -> Resul
     ensures page { OnOk result ((image : Image) → D.meaning.held disk.old ≡ Some image
         → buffer.new.items ≡ page_at (length buffer.old.items) image page.0) }
     ensures calm { Calm D.meaning disk.old disk.new result }
+    ensures reads { ReadsPage D.meaning disk.old disk.new page.0 }
 {
     disk.read(page, buffer)
 }

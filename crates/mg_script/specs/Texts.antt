@@ -1,5 +1,5 @@
 -- The texts of refusals, each with its numbers.
-use Rattle.std.specs.Prelude.{ℕ, List, ◌++◌, codes, decimal}
+use Rattle.std.specs.Prelude.{ℕ, List, [], ◌∷◌, ◌++◌, codes, decimal}
 use Rattle.mg_base.specs.declared.damage.Field.{Field}
 use Rattle.mg_base.specs.declared.damage.Field.TheVariants as fields
 use Rattle.mg_base.specs.declared.transaction.TxState.{TxState}
@@ -77,6 +77,10 @@ refusal_text (refusals.Damaged page field found wanted) = codes "DAMAGED PAGE " 
     ++ codes " " ++ field_word field ++ codes " FOUND " ++ decimal found ++ codes " WANTED "
     ++ decimal wanted
 refusal_text refusals.Memory = codes "OUT OF MEMORY"
+
+-- the line of a refusal that comes outside the lines of a script
+abbrev pub outside_text : Refusal → List ℕ
+outside_text refusal = codes "mgdb: " ++ (refusal_text refusal ++ (10 ∷ []))
 
 -- the text of a statement's refusal
 abbrev pub fault_text : StatementFault → List ℕ

@@ -27,5 +27,6 @@ mod splitting;
 pub use answer::{answer_text, session_text};
 pub use laws::lines_say_one_thing;
 pub use line::{Line, LineKind, MOST_STEPS, SESSIONS, Session};
+pub use refusal::refusal_line;
 pub use reply::Reply;
 pub use script::{Script, read_script};

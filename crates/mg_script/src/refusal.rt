@@ -1,7 +1,7 @@
 //! The texts of refusals.
 
-ghost use Rattle.std.specs.Prelude.{◌≡◌, ◌++◌, codes, decimal, OnOk};
-ghost use Rattle.mg_script.specs.Texts.{fault_text, field_word as word_of_field, refusal_text, state_word as word_of_state};
+ghost use Rattle.std.specs.Prelude.{◌≡◌, ◌++◌, codes, decimal, OnErr, OnOk};
+ghost use Rattle.mg_script.specs.Texts.{fault_text, field_word as word_of_field, outside_text, refusal_text, state_word as word_of_state};
 ghost use Rattle.mg_model.specs.declared.refusal.Refusal.TheVariants as refusals;
 ghost use Rattle.mg_value.specs.Values.{KeepsFront};
 
@@ -9,6 +9,33 @@ use crate::putting::{put_count, put_named, put_two_named, put_word};
 use mg_base::{Field, Memory, PageNo, TxState};
 use mg_model::Refusal;
 use mg_rows::StatementFault;
+
+/// Appends the line of a refusal that comes outside the lines of a script, with its end.
+///
+/// # Errors
+///
+/// `Memory` only. Then `out` is as before.
+pub fn refusal_line(refusal: Refusal, out: &mut Vec<u8>) -> Result<(), Memory>
+    ensures ok { OnOk result (out.new.items ≡ out.old.items ++ outside_text refusal) }
+    ensures err { OnErr result (out.new.items ≡ out.old.items) }
+{
+    let begun = out.len();
+    let result = put_outside(out, refusal);
+    if result.is_err() {
+        out.truncate(begun);
+    }
+    result
+}
+
+// Appends the line of a refusal outside the lines. Where memory runs out, a part of it may stand in `out`.
+fn put_outside(out: &mut Vec<u8>, refusal: Refusal) -> Result<(), Memory>
+    ensures ok { OnOk result (out.new.items ≡ out.old.items ++ outside_text refusal) }
+    ensures front { KeepsFront out.old.items out.new.items }
+{
+    put_word(out, "mgdb: ")?;
+    put_refusal(out, refusal)?;
+    put_word(out, "\n")
+}
 
 /// Appends the text of a statement's refusal.
 pub(crate) fn put_fault(out: &mut Vec<u8>, fault: StatementFault) -> Result<(), Memory>

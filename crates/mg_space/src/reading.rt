@@ -4,6 +4,7 @@ ghost use Rattle.std.specs.Prelude.{◌≡◌, Some, length, IfOk};
 ghost use Rattle.mg_base.specs.Image.{Image};
 ghost use Rattle.mg_pool.specs.Fault.{TellsFault};
 ghost use Rattle.mg_pool.specs.Pool.{IsPool};
+ghost use Rattle.mg_pool.specs.Reading.{Fetches};
 ghost use Rattle.mg_space.specs.View.{AreWhole, FindsPage, IsRead, KeepsStore, OnlyReads, RefusesRead, Tells, absence, bytes_found, pool_answer, viewed};
 
 use crate::fault::SpaceFault;
@@ -42,6 +43,7 @@ pub fn find_page<D: Disk>(
     ensures read { IfOk result (IsRead store.new batch.now.pages page.0) }
     ensures seen { IfOk result (λ found. (image : Image) → Tells D.meaning store.old.disk image
         → bytes_found store.old.geometry.size found ≡ viewed store.old image batch.now page.0) }
+    ensures reads { Fetches D.meaning store.old store.new page.0 }
 {
     store.online()?;
     if let Some(bytes) = batch.bytes(page) {
@@ -81,6 +83,8 @@ pub fn page_of<D: Disk>(
     ensures len { IfOk result (λ b. length b ≡ store.old.geometry.size) }
     ensures seen { IfOk result (λ b. (image : Image) → Tells D.meaning store.old.disk image
         → b ≡ viewed store.old image batch.now page.0) }
+    ensures reads { Fetches D.meaning store.old store.new page.0 }
+    ensures read { IfOk result (λ b. IsRead store.new batch.now.pages page.0 (Found.Page b)) }
 {
     match find_page(store, batch, page)? {
         Found::Page(bytes) => Ok(bytes),
