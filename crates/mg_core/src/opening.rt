@@ -1,6 +1,5 @@
 //! The opening of a disk, and the closing of a database.
 
-ghost use Rattle.std.specs.Prelude.{◌≡◌};
 ghost use Rattle.mg_pool.specs.Fault.{OnlyWrites};
 ghost use Rattle.mg_core.specs.Cores.{IsCore};
 ghost use Rattle.mg_core.specs.Opening.{ClosesDisk, IsAnswer, IsOpenRefusal, OpensDisk};
@@ -69,14 +68,6 @@ impl<D: Disk> Core<D> {
         let mut store = store;
         let ended = finish(&mut store);
         (store.into_disk(), answer_of(ended))
-    }
-
-    /// The disk, as it is: nothing is written, and what is in memory goes.
-    pub fn into_disk(self) -> D
-        ensures { result ≡ self.store.disk }
-    {
-        let Core { store, .. } = self;
-        store.into_disk()
     }
 }
 

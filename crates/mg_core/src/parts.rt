@@ -55,6 +55,13 @@ impl<D: Disk> Core<D> {
         }
     }
 
+    /// The size of a page, in bytes.
+    pub fn page_size(&self) -> u32
+        ensures { result ≡ self.now.store.geometry.size }
+    {
+        self.store.geometry().size
+    }
+
     /// The disk, with what was written to it.
     pub fn into_disk(self) -> D
         ensures { result ≡ self.store.disk }

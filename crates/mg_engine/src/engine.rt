@@ -54,4 +54,11 @@ impl<D: Disk> Engine<D> {
     {
         self.core.state(t)
     }
+
+    /// The size of a page, in bytes.
+    pub fn page_size(&self) -> u32
+        ensures { result ≡ self.now.store.geometry.size }
+    {
+        self.core.page_size()
+    }
 }
