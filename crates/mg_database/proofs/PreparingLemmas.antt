@@ -37,7 +37,7 @@ made_by m old new (Ok x) online pool geometry clean own told done = record {
 }
 made_by m old new (Err (faults.DiskRead n)) online pool geometry clean own told done = absurd own
 made_by m old new (Err (faults.DiskWrite n)) online pool geometry clean own told done =
-    (n, refl, told.2.2, done)
+    (n, refl, told.2.2, pool.size ∙ ap (λ (g : Geometry). Some g.size) geometry, done)
 made_by m old new (Err (faults.Offline n)) online pool geometry clean own told done =
     absurd (let no : None ≡ Some n = sym online ∙ told.0 in cc)
 made_by m old new (Err (faults.Absent n)) online pool geometry clean own told done = absurd own
@@ -128,9 +128,10 @@ module _ {D : Type 0} (m : Meaning D) (disk asked : D) (limit : ℕ) (it : Surve
   not_prepared true fault is makes = subst (λ (f : PoolFault). FailsToPrepare m disk new.disk (Space (space.Pool f)))
       (sym makes.1) (unmade makes.0 (record {
         size = old.geometry.size;
+        sized = makes.3;
         unmade = told_unmade is;
         leaves = λ image tells. since new.disk old.geometry.size (Err (faults.DiskWrite makes.0)) image tells
-            (makes.3 image (is_fresh is image tells));
+            (makes.4 image (is_fresh is image tells));
         rose = subst (λ (n : ℕ). Rose n (m.faults new.disk)) (ap m.faults disk_is ∙ steady) makes.2;
       }))
 

@@ -39,6 +39,7 @@ pub record IsPrepared {D : Type 0} (m : Meaning D) (disk : D) (limit : ℕ) (sto
 -- A new database was not made, as one might have been: a page write or the settling failed.
 pub record FailsToMake {D : Type 0} (m : Meaning D) (old new : D) (count : ℕ) : Type 0 where
   pub size : ℕ
+  pub sized : m.size new ≡ Some size
   pub unmade : (image : Image) → m.held old ≡ Some image → IsUnmadeImage size image
   pub leaves : (image : Image) → Tells m old image
       → FormatDone m old new size (Err (faults.DiskWrite count))
@@ -74,5 +75,6 @@ MakesIf m true old new (Ok x) = Makes m old new
 MakesIf m false old new (Err fault) = ⊥
 MakesIf {D} m true old new (Err fault) = (count : ℕ) × (fault ≡ faults.DiskWrite count)
     × Rose (m.faults old.disk) (m.faults new.disk)
+    × (m.size new.disk ≡ Some old.geometry.size)
     × ((image : Image) → IsFresh m old image
     → FormatDone m old.disk new.disk old.geometry.size (Err (faults.DiskWrite count)))

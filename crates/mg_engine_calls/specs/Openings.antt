@@ -110,12 +110,13 @@ pub record RefusesOpening {D : Type 0} (m : Meaning D) (disk new : D) (limit : �
   -- no sound image is judged, nor a database that was just made
   pub lawful : (size : ℕ) (image : Image) → m.size new ≡ Some size → Tells m new image
       → IsSoundImage size image ⊎ IsMade size image → IsNoJudgement refusal
-  -- a disk on which no database may be made, of any page size, was not written
+  -- a disk on which no database may be made was not written
   pub unwritten : (image : Image) → m.held disk ≡ Some image
-      → ((size : ℕ) → IsUnmadeImage size image → ⊥) → KeepsContent m disk new
+      → ((size : ℕ) → m.size new ≡ Some size → IsUnmadeImage size image → ⊥) → KeepsContent m disk new
   -- each image that a crash since the start might have left is one from before, one on which a database may be made,
   -- or the new one
-  pub crash : (image : Image) → Tells m disk image → (size : ℕ) × LeavesOnly m disk new (LeavesNew m disk size)
+  pub crash : (size : ℕ) → m.size new ≡ Some size → (image : Image) → Tells m disk image
+      → LeavesOnly m disk new (LeavesNew m disk size)
 
 -- a disk is opened, or the opening is refused, and the disk comes back
 abbrev pub OpensEngine : {D : Type 0} → Meaning D → D → ℕ → Result (Core D) (D × Refusal) → Type 0

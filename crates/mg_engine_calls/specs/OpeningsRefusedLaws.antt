@@ -49,19 +49,23 @@ module _ {D : Type 0} (m : Meaning D) (counts : CountsNow m) (counted : AreCount
   unprepared_free _ (no_memory keeps) is = subst IsNoJudgement (sym is) tt
   unprepared_free _ (unmade count fails) is = subst IsNoJudgement (sym is) tt
 
-  unprepared_kept : (image : Image) → m.held disk ≡ Some image → ((size : ℕ) → IsUnmadeImage size image → ⊥)
-      → (fault : OpenFault) → FailsToPrepare m disk new fault → KeepsContent m disk new
+  unprepared_kept : (image : Image) → m.held disk ≡ Some image
+      → ((size : ℕ) → m.size new ≡ Some size → IsUnmadeImage size image → ⊥) → (fault : OpenFault) → FailsToPrepare m disk new fault → KeepsContent m disk new
   unprepared_kept image held not_ _ (unasked count keeps rose) = keeps
   unprepared_kept image held not_ _ (no_memory keeps) = keeps
-  unprepared_kept image held not_ _ (unmade count fails) = absurd (not_ fails.size (fails.unmade image held))
+  unprepared_kept image held not_ _ (unmade count fails) = absurd (not_ fails.size fails.sized
+      (fails.unmade image held))
 
-  unprepared_leaves : (image : Image) → Tells m disk image → (fault : OpenFault)
-      → FailsToPrepare m disk new fault → (size : ℕ) × LeavesOnly m disk new (LeavesNew m disk size)
-  unprepared_leaves image tells _ (unasked count keeps rose) =
-      (0, content_leaves m counts (LeavesNew m disk 0) disk new tells.told keeps (λ c may. inl may))
-  unprepared_leaves image tells _ (no_memory keeps) =
-      (0, content_leaves m counts (LeavesNew m disk 0) disk new tells.told keeps (λ c may. inl may))
-  unprepared_leaves image tells _ (unmade count fails) = (fails.size, (fails.leaves image tells).crash)
+  unprepared_leaves : (size : ℕ) → m.size new ≡ Some size → (image : Image) → Tells m disk image
+      → (fault : OpenFault) → FailsToPrepare m disk new fault → LeavesOnly m disk new (LeavesNew m disk size)
+  unprepared_leaves size sized image tells _ (unasked count keeps rose) =
+      content_leaves m counts (LeavesNew m disk size) disk new tells.told keeps (λ c may. inl may)
+  unprepared_leaves size sized image tells _ (no_memory keeps) =
+      content_leaves m counts (LeavesNew m disk size) disk new tells.told keeps (λ c may. inl may)
+  unprepared_leaves size sized image tells _ (unmade count fails) =
+      let both : Some fails.size ≡ Some size = sym fails.sized ∙ sized in
+      let same : fails.size ≡ size = cc in
+      subst (λ (n : ℕ). LeavesOnly m disk new (LeavesNew m disk n)) same (fails.leaves image tells).crash
 
   -- ---- its pages were not read
 
@@ -69,29 +73,31 @@ module _ {D : Type 0} (m : Meaning D) (counts : CountsNow m) (counted : AreCount
     abbrev its_size : ℕ
     its_size = fails.before.geometry.size
 
-    read_kept : (image : Image) → m.held disk ≡ Some image → ((size : ℕ) → IsUnmadeImage size image → ⊥)
-        → KeepsContent m disk new
+    its_sized : m.size new ≡ Some its_size
+    its_sized = ap m.size fails.is_disk
+        ∙ (fails.keeps.pool.size ∙ ap (λ (g : Geometry). Some g.size) fails.keeps.geometry)
+
+    read_kept : (image : Image) → m.held disk ≡ Some image
+        → ((size : ℕ) → m.size new ≡ Some size → IsUnmadeImage size image → ⊥) → KeepsContent m disk new
     read_kept image held not_ = subst (KeepsContent m disk) (sym fails.is_disk)
         (content_on m counts disk fails.before.disk fails.after.disk
-        (ready_unwritten m counts disk fails.before.disk its_size fails.prepared.disk_is image held (not_ its_size))
-        fails.keeps.disk)
+        (ready_unwritten m counts disk fails.before.disk its_size fails.prepared.disk_is image held
+        (not_ its_size its_sized)) fails.keeps.disk)
 
-    read_since : (image : Image) → Tells m disk image → (size : ℕ) × LeavesOnly m disk new (LeavesNew m disk size)
-    read_since image tells = (
-      its_size,
-      subst (λ (d : D). LeavesOnly m disk d (LeavesNew m disk its_size)) (sym fails.is_disk)
-          (read_leaves m counts disk fails.before.disk its_size fails.prepared.disk_is image fails.after.disk tells
-          fails.keeps.disk),
-    )
+    read_since : (size : ℕ) → m.size new ≡ Some size → (image : Image) → Tells m disk image
+        → LeavesOnly m disk new (LeavesNew m disk size)
+    read_since size sized image tells =
+        let both : Some its_size ≡ Some size = sym its_sized ∙ sized in
+        let same : its_size ≡ size = cc in
+        subst (λ (n : ℕ). LeavesOnly m disk new (LeavesNew m disk n)) same
+        (subst (λ (d : D). LeavesOnly m disk d (LeavesNew m disk its_size)) (sym fails.is_disk)
+        (read_leaves m counts disk fails.before.disk its_size fails.prepared.disk_is image fails.after.disk tells
+        fails.keeps.disk))
 
     module _ (size : ℕ) (image : Image) (sized : m.size new ≡ Some size) (tells : Tells m new image)
         (lawful : IsSoundImage size image ⊎ IsMade size image) where
       size_is : size ≡ its_size
-      size_is =
-          let both : Some size ≡ Some fails.after.geometry.size =
-          sym sized ∙ (ap m.size fails.is_disk ∙ fails.keeps.pool.size) in
-          let same : size ≡ fails.after.geometry.size = cc in
-          same ∙ ap (λ (g : Geometry). g.size) fails.keeps.geometry
+      size_is = let both : Some size ≡ Some its_size = sym sized ∙ its_sized in cc
 
       readable : AreReadable its_size (page_at its_size image)
       readable = at (subst (λ (n : ℕ). IsSoundImage n image ⊎ IsMade n image) size_is lawful)
@@ -139,14 +145,15 @@ module _ {D : Type 0} (m : Meaning D) (counts : CountsNow m) (counted : AreCount
   its_lawful (unread fault is fails) size image sized tells sound = read_free fault fails size image sized tells sound is
 
   its_kept : RefusesOpen m disk new limit refusal → (image : Image) → m.held disk ≡ Some image
-      → ((size : ℕ) → IsUnmadeImage size image → ⊥) → KeepsContent m disk new
+      → ((size : ℕ) → m.size new ≡ Some size → IsUnmadeImage size image → ⊥) → KeepsContent m disk new
   its_kept (unprepared fault is fails) image held not_ = unprepared_kept image held not_ fault fails
   its_kept (unread fault is fails) image held not_ = read_kept fault fails image held not_
 
-  its_leaves : RefusesOpen m disk new limit refusal → (image : Image) → Tells m disk image
-      → (size : ℕ) × LeavesOnly m disk new (LeavesNew m disk size)
-  its_leaves (unprepared fault is fails) image tells = unprepared_leaves image tells fault fails
-  its_leaves (unread fault is fails) image tells = read_since fault fails image tells
+  its_leaves : RefusesOpen m disk new limit refusal → (size : ℕ) → m.size new ≡ Some size → (image : Image)
+      → Tells m disk image → LeavesOnly m disk new (LeavesNew m disk size)
+  its_leaves (unprepared fault is fails) size sized image tells =
+      unprepared_leaves size sized image tells fault fails
+  its_leaves (unread fault is fails) size sized image tells = read_since fault fails size sized image tells
 
   pub refuses_opening : RefusesOpen m disk new limit refusal → RefusesOpening m disk new limit refusal
   refuses_opening cause = record {
