@@ -136,6 +136,7 @@ module _ {D : Type 0} (m : Meaning D) (counts : CountsNow m) (stands_first : Sta
     pub opened_over : IsOpenedOver m disk limit core
     opened_over = record {
       free = λ session. ap (λ (works : List Working). has_session works session) opens.idle.works;
+      online = opens.idle.online;
       size_is = opens.idle.core_is.pool.size;
       limit_is = λ image held. ap (λ (g : Geometry). g.limit) opens.keeps.geometry
           ∙ opens.prepared.limit_is image held;

@@ -1,5 +1,5 @@
 -- What a disk holds that may be opened, and what an engine is over it.
-use Rattle.std.specs.Prelude.{◌≡◌, ◌⊎◌, ℕ, false, [], length, Some, Result, Ok, Err}
+use Rattle.std.specs.Prelude.{◌≡◌, ◌⊎◌, ℕ, false, [], length, None, Some, Result, Ok, Err}
 use Rattle.mg_base.specs.Disk.{MayLeave, Meaning}
 use Rattle.mg_base.specs.Image.{Image, page_at}
 use Rattle.mg_base.specs.Moments.{LeavesOnly}
@@ -67,6 +67,8 @@ new_history = new_opening GREATEST_NEXT
 pub record IsOpenedOver {D : Type 0} (m : Meaning D) (disk : D) (limit : ℕ) (core : Core D) : Type 0 where
   -- no session has an active transaction
   pub free : (session : ℕ) → has_session core.works session ≡ false
+  -- no page write has failed yet
+  pub online : core.store.offline ≡ None
   -- the page size is the disk's
   pub size_is : m.size core.store.disk ≡ Some core.store.geometry.size
   -- the page limit is the greater of the one that was asked for and the disk's number of pages
