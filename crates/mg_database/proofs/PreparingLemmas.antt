@@ -1,5 +1,5 @@
 -- A disk becomes one whose pages may be read.
-use Rattle.std.proofs.Common.{◌≡◌, inl, inr, ℕ, Bool, true, false, None, Some, length, refl, sym, ap, ◌∙◌, subst}
+use Rattle.std.proofs.Common.{◌≡◌, ◌≤◌, arith, inl, inr, ℕ, Bool, true, false, None, Some, length, refl, sym, ap, ◌∙◌, subst}
 use Rattle.std.specs.Prelude.{OnOk, Result, Ok, Err}
 use Rattle.std.proofs.lemmas.Bool.{false≢true}
 use Rattle.mg_base.specs.Disk.{Meaning, Rose}
@@ -26,22 +26,24 @@ use Rattle.mg_database.specs.Preparing.{BecomesReady, FailsToPrepare, IsPrepared
 pub made_by : {D : Type 0} (m : Meaning D) (old new : Pool D FireLinks)
     (result : Result (Unit {0}) PoolFault) → old.offline ≡ None → IsPool m new
     → new.geometry ≡ old.geometry → OnOk result (IsClean new) → OnlyWrites result
-    → TellsFault m old new result → ((image : Image) → IsFresh m old image
-    → FormatDone m old.disk new.disk old.geometry.size result) → MakesIf m true old new result
-made_by m old new (Ok x) online pool geometry clean own told done = record {
+    → TellsFault m old new result → OnOk result (m.faults old.disk ≤ m.faults new.disk)
+    → ((image : Image) → IsFresh m old image → FormatDone m old.disk new.disk old.geometry.size result)
+    → MakesIf m true old new result
+made_by m old new (Ok x) online pool geometry clean own told fell done = record {
   pool = pool;
   geometry = geometry;
   clean = clean;
   online = told.1;
+  never_falls = fell;
   done = done;
 }
-made_by m old new (Err (faults.DiskRead n)) online pool geometry clean own told done = absurd own
-made_by m old new (Err (faults.DiskWrite n)) online pool geometry clean own told done =
+made_by m old new (Err (faults.DiskRead n)) online pool geometry clean own told fell done = absurd own
+made_by m old new (Err (faults.DiskWrite n)) online pool geometry clean own told fell done =
     (n, refl, told.2.2, pool.size ∙ ap (λ (g : Geometry). Some g.size) geometry, done)
-made_by m old new (Err (faults.Offline n)) online pool geometry clean own told done =
+made_by m old new (Err (faults.Offline n)) online pool geometry clean own told fell done =
     absurd (let no : None ≡ Some n = sym online ∙ told.0 in cc)
-made_by m old new (Err (faults.Absent n)) online pool geometry clean own told done = absurd own
-made_by m old new (Err faults.Memory) online pool geometry clean own told done = absurd own
+made_by m old new (Err (faults.Absent n)) online pool geometry clean own told fell done = absurd own
+made_by m old new (Err faults.Memory) online pool geometry clean own told fell done = absurd own
 
 -- what the writing of a new database leaves, since before the disk was asked
 format_since : {D : Type 0} (m : Meaning D) (disk asked new : D) (size : ℕ)
@@ -99,6 +101,9 @@ module _ {D : Type 0} (m : Meaning D) (disk asked : D) (limit : ℕ) (it : Surve
   since later size result image tells done = format_since m disk asked later size result asks tells.told
       (subst (λ (d : D). FormatDone m d later size result) disk_is done)
 
+  asked_of_old : m.faults disk ≤ m.faults old.disk
+  asked_of_old = subst (λ (d : D). m.faults disk ≤ m.faults d) (sym disk_is) asks.never_falls
+
   pub prepared : (b : Bool) → it.unmade ≡ b → MakesIf m b old new (Ok tt) → IsPrepared m disk limit new
   prepared false is same = subst (IsPrepared m disk limit) (sym same) (record {
     pool = pool;
@@ -107,6 +112,7 @@ module _ {D : Type 0} (m : Meaning D) (disk asked : D) (limit : ℕ) (it : Surve
     online = online;
     disk_is = there (subst (KeepsContent m disk) (sym disk_is) asks) (told_other is);
     limit_is = limit_of_old;
+    never_falls = asked_of_old;
   })
   prepared true is makes = record {
     pool = makes.pool;
@@ -117,6 +123,7 @@ module _ {D : Type 0} (m : Meaning D) (disk asked : D) (limit : ℕ) (it : Surve
         (made (told_unmade is) (λ image tells. since new.disk old.geometry.size (Ok tt) image tells
         (makes.done image (is_fresh is image tells))));
     limit_is = λ image held. ap (λ (g : Geometry). g.limit) makes.geometry ∙ limit_of_old image held;
+    never_falls = let first = asked_of_old in let then_ = makes.never_falls in omega (arith, first, then_);
   }
     where
       same_size : old.geometry.size ≡ new.geometry.size

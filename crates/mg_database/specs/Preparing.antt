@@ -1,5 +1,5 @@
 -- A disk becomes one whose pages may be read.
-use Rattle.std.specs.Prelude.{◌≡◌, ℕ, Bool, true, false, length, None, Some, Result, Ok, Err}
+use Rattle.std.specs.Prelude.{◌≡◌, ◌≤◌, ℕ, Bool, true, false, length, None, Some, Result, Ok, Err}
 use Rattle.mg_base.specs.Disk.{Meaning, Rose}
 use Rattle.mg_base.specs.Image.{Image}
 use Rattle.mg_format.specs.Format.{FormatDone, IsClean, IsFresh, IsUnmadeImage}
@@ -35,6 +35,7 @@ pub record IsPrepared {D : Type 0} (m : Meaning D) (disk : D) (limit : ℕ) (sto
   pub disk_is : BecomesReady m disk store.disk store.geometry.size
   pub limit_is : (image : Image) → m.held disk ≡ Some image
       → store.geometry.limit ≡ limit_of limit (length image)
+  pub never_falls : m.faults disk ≤ m.faults store.disk
 
 -- A new database was not made, as one might have been: a page write or the settling failed.
 pub record FailsToMake {D : Type 0} (m : Meaning D) (old new : D) (count : ℕ) : Type 0 where
@@ -64,6 +65,7 @@ pub record Makes {D : Type 0} (m : Meaning D) (old new : Pool D FireLinks) : Typ
   pub geometry : new.geometry ≡ old.geometry
   pub clean : IsClean new
   pub online : new.offline ≡ None
+  pub never_falls : m.faults old.disk ≤ m.faults new.disk
   pub done : (image : Image) → IsFresh m old image
       → FormatDone {E = PoolFault} m old.disk new.disk old.geometry.size (Ok tt)
 

@@ -1,5 +1,5 @@
 -- What an opening leaves of a disk.
-use Rattle.std.proofs.Common.{◌≡◌, inl, ℕ, true, List, [], Some, refl, sym, ap, ◌∙◌, subst}
+use Rattle.std.proofs.Common.{◌≡◌, inl, ℕ, true, List, [], Some, refl, sym, ap, arith, ◌∙◌, subst}
 use Rattle.mg_base.specs.Disk.{MayLeave, Meaning}
 use Rattle.mg_base.specs.Geometry.{is_page_size}
 use Rattle.mg_base.specs.Image.{Image}
@@ -137,6 +137,8 @@ module _ {D : Type 0} (m : Meaning D) (counts : CountsNow m) (stands_first : Sta
     opened_over = record {
       free = λ session. ap (λ (works : List Working). has_session works session) opens.idle.works;
       online = opens.idle.online;
+      never_falls = let first = opens.prepared.never_falls in let then_ = opens.keeps.disk.never_falls in
+          omega (arith, first, then_);
       size_is = opens.idle.core_is.pool.size;
       limit_is = λ image held. ap (λ (g : Geometry). g.limit) opens.keeps.geometry
           ∙ opens.prepared.limit_is image held;

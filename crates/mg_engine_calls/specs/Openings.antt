@@ -1,5 +1,5 @@
 -- What a disk holds that may be opened, and what an engine is over it.
-use Rattle.std.specs.Prelude.{◌≡◌, ◌⊎◌, ℕ, false, [], length, None, Some, Result, Ok, Err}
+use Rattle.std.specs.Prelude.{◌≡◌, ◌⊎◌, ◌≤◌, ℕ, false, [], length, None, Some, Result, Ok, Err}
 use Rattle.mg_base.specs.Disk.{MayLeave, Meaning}
 use Rattle.mg_base.specs.Image.{Image, page_at}
 use Rattle.mg_base.specs.Moments.{LeavesOnly}
@@ -69,6 +69,7 @@ pub record IsOpenedOver {D : Type 0} (m : Meaning D) (disk : D) (limit : ℕ) (c
   pub free : (session : ℕ) → has_session core.works session ≡ false
   -- no page write has failed yet
   pub online : core.store.offline ≡ None
+  pub never_falls : m.faults disk ≤ m.faults core.store.disk
   -- the page size is the disk's
   pub size_is : m.size core.store.disk ≡ Some core.store.geometry.size
   -- the page limit is the greater of the one that was asked for and the disk's number of pages

@@ -55,6 +55,12 @@ pub told_so : {T E : Type 0} (result : Result T E) (Given P : Type 0) → Given
 told_so (Ok x) Given P given stays = stays given
 told_so (Err e) Given P given stays = tt
 
+-- the count has not fallen over page writes that answered and the settling behind them
+pub never_fell : {T E : Type 0} (result : Result T E) (start mid last end : ℕ) → mid ≡ start → last ≡ mid → last ≤ end
+    → OnOk result (start ≤ end)
+never_fell (Ok x) start mid last end first then_ more = omega (arith, first, then_, more)
+never_fell (Err e) start mid last end first then_ more = tt
+
 -- a page write by the size of an equal geometry
 pub sized : {D E : Type 0} (m : Meaning D) (a b : Geometry) → a ≡ b → {old new : D} {image : Image}
     {n : ℕ} {result : Result (Unit {0}) E} → WritesNew m old new a.size image n result

@@ -39,6 +39,8 @@ pub fn format_database<D: Disk>(store: &mut Store<D>) -> Result<(), PoolFault>
     ensures clean { OnOk result (IsClean store.new) }
     ensures own { OnlyWrites result }
     ensures fault { TellsFault D.meaning store.old store.new result }
+    ensures never_falls { OnOk result
+        (D.meaning.faults store.old.disk ≤ D.meaning.faults store.new.disk) }
     ensures done { (image : Image) → IsFresh D.meaning store.old image
         → FormatDone D.meaning store.old.disk store.new.disk store.old.geometry.size result }
 {

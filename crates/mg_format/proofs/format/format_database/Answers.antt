@@ -2,7 +2,7 @@ use Rattle.std.proofs.Common.{Err, Ok, Some, arith, subst, true, ℕ, ◌∙◌,
 use Rattle.mg_base.specs.Disk.{MayLeave}
 use Rattle.mg_base.specs.Image.{Image}
 use Rattle.mg_format.specs.Format.{HasWrittenUpTo}
-use Rattle.mg_format.proofs.FormatLemmas.{formatted, goes, last_leaves, leaves, sized, told_so}
+use Rattle.mg_format.proofs.FormatLemmas.{formatted, goes, last_leaves, leaves, never_fell, sized, told_so}
 use Rattle.mg_format.proofs.WriteLemmas.{off_ok}
 use Rattle.mg_format.proofs.format.format_database.Goals as goal
 
@@ -72,3 +72,7 @@ returns-clause-done g c = λ image fresh.
     ≡ true) ((image : Image) → MayLeave g.D.Disk.meaning c.settle.new.self.disk image
     → g.D.Disk.meaning.held c.settle.new.self.disk ≡ Some image) writes.written.tells.told
     c.settle.ensures.durable)
+
+pub returns-clause-never_falls : goal.returns-clause-never_falls
+returns-clause-never_falls g c = never_fell c.settle.result _ _ _ _ c.loop-n.invariant.steady
+    c.in_ok-write_new-2.ensures.steady c.settle.ensures.disk.never_falls
