@@ -1,0 +1,21 @@
+//! What a run of the program promises, in the terms of one history.
+//!
+//! Owns: how a run ends (`RunEnd`) and its status (`Status`), and the definitions by which a run is judged. In
+//! `specs/`: `Ends` (the status and the last line of an end), `Entry` (the disks on which a history can begin),
+//! `Printing` (what the sink takes), `Headline` (one legal history of the lines, its transcript, and what a crash leaves
+//! of it), `Promise` (the script, and the causes that hold over any disk). `Laws` has what the steps of a run give of
+//! it, `HeadlineLaws` and its neighbours prove that.
+//!
+//! Invariant: none, it keeps no state.
+//! Below: `mg_scripts`, the lines of a script; `mg_engine_calls`, the opening and closing of an engine; `mg_transcript`,
+//! the history of a script. Above: `mg_program`, whose calls keep these promises.
+//! Not here: where the words and the script come from.
+#![tactic(auto)]
+
+mod ending;
+mod laws;
+mod status;
+
+pub use ending::{RunEnd, SCRIPT_MOST};
+pub use laws::{openings_are_judged, runs_begin, runs_close, runs_stop};
+pub use status::Status;
