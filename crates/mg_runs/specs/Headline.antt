@@ -4,7 +4,7 @@ use Rattle.mg_base.specs.Disk.{MayLeave, Meaning}
 use Rattle.mg_base.specs.Image.{Image}
 use Rattle.mg_base.specs.Moments.{LeavesOnly}
 use Rattle.mg_base.specs.Streams.{SinkMeaning}
-use Rattle.mg_engine_calls.specs.Closings.{HasLeft}
+use Rattle.mg_engine_calls.specs.Closings.{GoesOnFrom, HasLeft}
 use Rattle.mg_engine_calls.specs.Openings.{IsNoJudgement}
 use Rattle.mg_format.specs.Format.{IsMade, IsUnmadeImage}
 use Rattle.mg_image.specs.Form.{packed_form}
@@ -23,7 +23,8 @@ use Rattle.mg_transcript.specs.Scripts.{Obeyed}
 use Rattle.mg_transcript.specs.Sessions.{Unfinished}
 use Rattle.mg_runs.specs.declared.ending.RunEnd.{RunEnd}
 use Rattle.mg_runs.specs.declared.ending.RunEnd.TheVariants.{Whole, InLine, Outside, Stream, ScriptTooLong}
-use Rattle.mg_runs.specs.Ends.{last_line}
+use Rattle.mg_runs.specs.Ends.{IsOutside, last_line}
+use Rattle.mg_runs.specs.Entry.{IsEntry}
 use Rattle.mg_runs.specs.Printing.{IsPrinted}
 
 -- ---- how a run ends behind its lines
@@ -42,7 +43,7 @@ EndsWhole [] fine (Outside refusal) = IsClosingRefusal refusal
 EndsWhole [] fine (InLine refusal) = ⊥
 EndsWhole [] fine Stream = ⊥
 EndsWhole [] fine ScriptTooLong = ⊥
-EndsWhole (first ∷ more) fine end = end ≡ Outside first
+EndsWhole (first ∷ more) fine end = IsOutside first end
 
 -- the end of the run, by how the lines came to theirs
 abbrev pub EndsBehind : LinesEnd → List Refusal → Bool → RunEnd → Type 0
@@ -98,9 +99,18 @@ abbrev pub IsLeftAtExit : ℕ → Image → Opening → Entries → Image → Ty
 IsLeftAtExit size image o entries c =
     HoldsAcknowledged packed_form size o entries c ⊎ ((entries ≡ []) × IsBeingMade size image c)
 
+-- A disk has what a run left whose database was closed: nothing is pending, and its image holds the history with all
+-- its durable events. A history can begin with it that goes on from there, so a second run has its premises.
+pub record HasEnded {D : Type 0} (m : Meaning D) (disk : D) (size : ℕ) (o : Opening) (entries : Entries) : Type 0
+  where
+    pub left : HasLeft m disk size o entries (durable_count entries)
+    pub later : Opening
+    pub goes_on : GoesOnFrom o entries (durable_count entries) later
+    pub entry : IsEntry m disk size left.image later
+
 -- where the database was closed, it is settled
 abbrev pub IsSettledAt : {D : Type 0} → Meaning D → D → ℕ → Opening → Entries → RunEnd → Type 0
-IsSettledAt m new size o entries (Whole fine) = HasLeft m new size o entries (durable_count entries)
+IsSettledAt m new size o entries (Whole fine) = HasEnded m new size o entries
 IsSettledAt m new size o entries end = Unit {0}
 
 -- ---- the promise
@@ -117,6 +127,6 @@ pub record Headline {D K : Type 0} (m : Meaning D) (n : SinkMeaning K) (size : �
   pub crash : LeavesOnly m old new (MayBeLeft size image o entries)
   pub exit : (c : Image) → MayLeave m new c → IsLeftAtExit size image o entries c
   pub settled : IsSettledAt m new size o entries end
-  -- a second run has its premises
+  -- the disk tells as before, and has pages of the same size
   pub tells : m.tells new ≡ m.tells old
   pub sized : m.size new ≡ Some size

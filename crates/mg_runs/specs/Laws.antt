@@ -2,10 +2,13 @@
 use Rattle.std.specs.Prelude.{◌≡◌, ℕ, Bool, true, false, List, [], ◌∷◌, None, Some, Result, Ok, Err}
 use Rattle.mg_base.specs.Disk.{Meaning}
 use Rattle.mg_base.specs.Image.{Image}
+use Rattle.mg_base.specs.MemDisk.{acts_in, mem_meaning}
 use Rattle.mg_base.specs.Streams.{SinkMeaning}
+use Rattle.mg_base.specs.declared.mem_disk.MemDisk.{MemDisk}
+use Rattle.mg_core.specs.Cores.{IsCore}
 use Rattle.mg_core.specs.declared.parts.Core.{Core}
 use Rattle.mg_engine_calls.specs.Closings.{ClosesEngine}
-use Rattle.mg_engine_calls.specs.Openings.{IsOpenedOver, RefusesOpening}
+use Rattle.mg_engine_calls.specs.Openings.{IsOpenedOver, RefusesOpening, new_history}
 use Rattle.mg_engine_meaning.specs.Meaning.{Places, means}
 use Rattle.mg_engine_meaning.specs.Standings.{StandsFor}
 use Rattle.mg_model.specs.Answers.{is_active}
@@ -20,7 +23,7 @@ use Rattle.mg_scripts.specs.Steps.{reason}
 use Rattle.mg_sessions.specs.Accounts.{Accounts}
 use Rattle.mg_runs.specs.declared.ending.RunEnd.{RunEnd}
 use Rattle.mg_runs.specs.declared.ending.RunEnd.TheVariants.{Whole, InLine, Outside}
-use Rattle.mg_runs.specs.Ends.{FailsWith, last_line}
+use Rattle.mg_runs.specs.Ends.{FailsWith, IsOutside, last_line}
 use Rattle.mg_runs.specs.Entry.{IsEntry}
 use Rattle.mg_runs.specs.Headline.{EndsBehind, Headline}
 use Rattle.mg_runs.specs.Printing.{IsPrinted}
@@ -30,9 +33,9 @@ use Rattle.mg_runs.specs.Printing.{IsPrinted}
 -- A disk that was not opened: its history has no entry.
 abbrev pub OpeningsAreJudged : {D K : Type 0} → Meaning D → SinkMeaning K → Type 0
 OpeningsAreJudged {D} {K} m n = (disk new : D) (limit : ℕ) (refusal : Refusal) (size : ℕ) (image : Image) (o : Opening)
-    (lines : List Line) (before after : K) → IsEntry m disk size image o → RefusesOpening m disk new limit refusal
-    → IsPrinted n before after (last_line (Outside refusal))
-    → Headline m n size image o lines disk new before after (Outside refusal)
+    (lines : List Line) (end : RunEnd) (before after : K) → IsEntry m disk size image o
+    → RefusesOpening m disk new limit refusal → IsOutside refusal end → IsPrinted n before after (last_line end)
+    → Headline m n size image o lines disk new before after end
 
 -- An engine that was opened stands for the history that begins with what its disk held.
 pub record BeginsRun {D : Type 0} (m : Meaning D) (core : Core D) (size : ℕ) (o : Opening) : Type 0 where
@@ -58,6 +61,7 @@ RunsStop {D} {P} {K} m places n = (disk : D) (limit : ℕ) (core now : Core D) (
     (lines : List Line) (refusals : List Refusal) (lines_end : LinesEnd) (fine : Bool) (end : RunEnd)
     (before mid after : K) → IsEntry m disk size image o → IsOpenedOver m disk limit core
     → ScriptDone (means m places) n core now before mid o size lines refusals lines_end fine
+    → IsCore m now → Accounts (means m places) core now (reason lines_end)
     → IsCutOff lines_end refusals → EndsBehind lines_end refusals fine end → IsPrinted n mid after (last_line end)
     → Headline m n size image o lines disk now.store.disk before after end
 
@@ -72,6 +76,7 @@ RunsClose {D} {P} {K} m places n = (disk new : D) (limit : ℕ) (core now : Core
     (o : Opening) (lines : List Line) (fine : Bool) (result : Result (Unit {0}) Refusal) (before mid after : K)
     → IsEntry m disk size image o → IsOpenedOver m disk limit core
     → ScriptDone (means m places) n core now before mid o size lines [] lines_ends.Whole fine
+    → IsCore m now → Accounts (means m places) core now None
     → ClosesEngine m now new result → IsPrinted n mid after (last_line (closed_end fine result))
     → Headline m n size image o lines disk new before after (closed_end fine result)
 
@@ -93,3 +98,9 @@ abbrev pub ClosingsFail : {D P : Type 0} → Meaning D → Places P → Type 0
 ClosingsFail {D} {P} m places = (disk new : D) (limit : ℕ) (core now : Core D) (lines_end : LinesEnd) (refusal : Refusal)
     → IsOpenedOver m disk limit core → Accounts (means m places) core now (reason lines_end)
     → ClosesEngine m now new (Err refusal) → FailsWith m disk new refusal
+
+-- ---- the premise
+
+-- a disk in memory of which nothing was asked yet is one on which a run has its history, that of a new database
+abbrev pub BlankIsEntry : Type 0
+BlankIsEntry = (disk : MemDisk) → acts_in disk ≡ [] → IsEntry mem_meaning disk disk.size [] new_history
