@@ -48,13 +48,6 @@ impl<D: Disk> Engine<D> {
         Engine { core }
     }
 
-    /// What an engine always has, for those who own one. It does nothing.
-    pub fn is_lawful(&self)
-        ensures { IsEngine D.meaning self.now }
-    {
-        let _ = &self.core;
-    }
-
     /// What has become of a transaction.
     pub fn state(&self, t: TxNo) -> TxState
         ensures { result ≡ said self.now.list t.0 }
