@@ -8,6 +8,7 @@ use Rattle.mg_base.specs.Streams.{SinkMeaning}
 use Rattle.mg_core.specs.Cores.{IsCore}
 use Rattle.mg_core.specs.declared.parts.Core.{Core}
 use Rattle.mg_engine_calls.specs.Closings.{ClosesEngine, HasLeft, RefusesClose}
+use Rattle.mg_engine_calls.specs.NewBegins.{NewBegin}
 use Rattle.mg_engine_calls.specs.Openings.{IsOpenedOver}
 use Rattle.mg_engine_meaning.specs.LawfulLaws.{left_of, opening_of}
 use Rattle.mg_engine_meaning.specs.Meaning.{Places, means}
@@ -33,7 +34,7 @@ use Rattle.mg_runs.specs.declared.ending.RunEnd.TheVariants.{Outside, Whole}
 use Rattle.mg_runs.specs.Ends.{last_line}
 use Rattle.mg_runs.specs.Entry.{IsEntry}
 use Rattle.mg_runs.specs.EntryLaws.{has_ended}
-use Rattle.mg_runs.specs.Headline.{AreServed, EndsBehind, HasEnded, Headline, IsClosingRefusal, IsSettledAt, MayBeLeft}
+use Rattle.mg_runs.specs.Headline.{AreServed, EndsBehind, HasEnded, Headline, IsClosingRefusal, IsSettledAt}
 use Rattle.mg_runs.specs.Laws.{IsCutOff, RunsClose, RunsStop, closed_end}
 use Rattle.mg_runs.specs.OpeningLaws.{crash_over, kept_over, nothing_settled, opening_leaves, size_over, sized_over, stands_over}
 use Rattle.mg_runs.specs.Printing.{IsPrinted}
@@ -45,22 +46,6 @@ alike : (a b : ℕ) → ((size : ℕ) → (a == size) ≡ (b == size)) → a ≡
 alike a b same = eqb-true a b (same b ∙ eq-eqb b b refl)
 
 -- ---- what a crash leaves
-
--- what is left of an opening, and then of a history that has gone on
-run_leaves : {D : Type 0} (m : Meaning D) (disk mid now : D) (size : ℕ) (image : Image) (o : Opening)
-    (entries : Entries) → LeavesOnly m disk mid (MayBeLeft size image o [])
-    → ((c : Image) → HoldsFrom packed_form size o [] 0 c → HoldsFrom packed_form size o (asked entries) 0 c)
-    → LeavesOnly m mid now (HoldsFrom packed_form size o (asked entries) 0)
-    → LeavesOnly m disk now (MayBeLeft size image o entries)
-run_leaves m disk mid now size image o entries first grow then_ = joined m disk mid now
-    (MayBeLeft size image o entries)
-    (leaves_as m disk mid (MayBeLeft size image o []) (MayBeLeft size image o entries) turn first)
-    (leaves_as m mid now (HoldsFrom packed_form size o (asked entries) 0) (MayBeLeft size image o entries)
-    (λ c holds. inl holds) then_)
-  where
-    turn : (c : Image) → MayBeLeft size image o [] c → MayBeLeft size image o entries c
-    turn c (inl holds) = inl (grow c holds)
-    turn c (inr made) = inr made
 
 -- what has all events that were acknowledged has some
 some_held : (size : ℕ) (o : Opening) (entries : Entries) (c : Image) → HoldsAcknowledged packed_form size o entries c
@@ -74,12 +59,13 @@ some_held size o entries c holds = record {
 
 -- ---- lines that were obeyed
 
-module _ {D P K : Type 0} (m : Meaning D) (places : Places P) (n : SinkMeaning K) (counts : CountsNow m) (disk : D)
-    (limit : ℕ) (core now : Core D) (size : ℕ) (image : Image) (o : Opening) (lines : List Line)
+module _ {D P K : Type 0} (m : Meaning D) (places : Places P) (n : SinkMeaning K) (counts : CountsNow m)
+    (new_begin : NewBegin) (disk : D) (limit : ℕ) (core now : Core D) (size : ℕ) (image : Image) (o : Opening) (lines : List Line)
     (lines_refusals : List Refusal) (lines_end : LinesEnd) (fine : Bool) (before mid : K)
     (entry : IsEntry m disk size image o) (opened : IsOpenedOver m disk limit core) where
-  opening_crash : LeavesOnly m disk core.store.disk (MayBeLeft size image o [])
-  opening_crash = opening_leaves m counts disk core.store.disk size image entry.settled
+  opening_crash : LeavesOnly m disk core.store.disk (HoldsFrom packed_form size o [] 0)
+  opening_crash = opening_leaves new_begin m counts disk core.store.disk size image entry.whole entry.lawful
+      (sized_over m disk limit core size image opened entry.sized) entry.settled
       (kept_over m disk limit core size image opened entry.sized entry.settled)
       (crash_over m disk limit core size image opened entry.sized entry.settled) o entry.opening
 
@@ -96,7 +82,7 @@ module _ {D P K : Type 0} (m : Meaning D) (places : Places P) (n : SinkMeaning K
   -- memory was short before the first line
   pub unbegun : (after : K) (end : RunEnd) → IsUnbegun core now before mid lines_refusals lines_end
       → EndsBehind lines_end lines_refusals fine end → IsPrinted n mid after (last_line end)
-      → Headline m n size image o lines disk now.store.disk before after end
+      → Headline m n size o lines disk now.store.disk before after end
   unbegun after end none ends last = record {
     entries = [];
     served = inr (record {
@@ -107,10 +93,10 @@ module _ {D P K : Type 0} (m : Meaning D) (places : Places P) (n : SinkMeaning K
       last = subst (λ (k : K). IsPrinted n k after (last_line end)) none.sink last;
     });
     legal = tt;
-    crash = subst (λ (c : Core D). LeavesOnly m disk c.store.disk (MayBeLeft size image o [])) (sym none.keeper)
+    crash = subst (λ (c : Core D). LeavesOnly m disk c.store.disk (HoldsFrom packed_form size o [] 0)) (sym none.keeper)
         opening_crash;
-    exit = λ c may. inl (subst (λ (s : ℕ). HoldsAcknowledged packed_form s o [] c) core_size
-        (left_of m core o [] opened_stands c (subst (λ (k : Core D). MayLeave m k.store.disk c) none.keeper may)));
+    exit = λ c may. subst (λ (s : ℕ). HoldsAcknowledged packed_form s o [] c) core_size
+        (left_of m core o [] opened_stands c (subst (λ (k : Core D). MayLeave m k.store.disk c) none.keeper may));
     settled = subst (IsSettledAt m now.store.disk size o []) (sym end_is) tt;
     tells = ap (λ (c : Core D). m.tells c.store.disk) none.keeper ∙ opened.same.tells;
     sized = ap (λ (c : Core D). m.size c.store.disk) none.keeper
@@ -150,8 +136,10 @@ module _ {D P K : Type 0} (m : Meaning D) (places : Places P) (n : SinkMeaning K
     grown c holds = subst (λ (s : ℕ). HoldsFrom packed_form s o (asked ran.entries) 0 c) now_size
         (ran.carries.holds 0 c (subst (λ (s : ℕ). HoldsFrom packed_form s o [] 0 c) (sym core_size) holds))
 
-    so_far : LeavesOnly m disk now.store.disk (MayBeLeft size image o ran.entries)
-    so_far = run_leaves m disk core.store.disk now.store.disk size image o ran.entries opening_crash grown lines_leave
+    so_far : LeavesOnly m disk now.store.disk (HoldsFrom packed_form size o (asked ran.entries) 0)
+    so_far = joined m disk core.store.disk now.store.disk (HoldsFrom packed_form size o (asked ran.entries) 0)
+        (leaves_as m disk core.store.disk (HoldsFrom packed_form size o [] 0)
+        (HoldsFrom packed_form size o (asked ran.entries) 0) grown opening_crash) lines_leave
 
     left_now : (c : Image) → MayLeave m now.store.disk c → HoldsAcknowledged packed_form size o ran.entries c
     left_now c may = subst (λ (s : ℕ). HoldsAcknowledged packed_form s o ran.entries c) now_size
@@ -176,13 +164,13 @@ module _ {D P K : Type 0} (m : Meaning D) (places : Places P) (n : SinkMeaning K
 
     pub stopped : (after : K) (end : RunEnd) → EndsBehind lines_end lines_refusals fine end
         → IsPrinted n mid after (last_line end) → IsSettledAt m now.store.disk size o ran.entries end
-        → Headline m n size image o lines disk now.store.disk before after end
+        → Headline m n size o lines disk now.store.disk before after end
     stopped after end ends last settled = record {
       entries = ran.entries;
       served = inl (are_served after end ends last);
       legal = ran.legal;
       crash = so_far;
-      exit = λ c may. inl (left_now c may);
+      exit = left_now;
       settled = settled;
       tells = tells_now;
       sized = sized_now;
@@ -194,21 +182,21 @@ module _ {D P K : Type 0} (m : Meaning D) (places : Places P) (n : SinkMeaning K
       its_crash = subst (λ (s : ℕ). LeavesSince m now.store.disk new (HoldsAcknowledged packed_form s o ran.entries))
           geometry_now (closes.crash o ran.entries ran.stands)
 
-      all_crash : LeavesOnly m disk new (MayBeLeft size image o ran.entries)
-      all_crash = joined m disk now.store.disk new (MayBeLeft size image o ran.entries) so_far
+      all_crash : LeavesOnly m disk new (HoldsFrom packed_form size o (asked ran.entries) 0)
+      all_crash = joined m disk now.store.disk new (HoldsFrom packed_form size o (asked ran.entries) 0) so_far
           (leaves_as m now.store.disk new (HoldsAcknowledged packed_form size o ran.entries)
-          (MayBeLeft size image o ran.entries) (λ c holds. inl (some_held size o ran.entries c holds))
+          (HoldsFrom packed_form size o (asked ran.entries) 0) (some_held size o ran.entries)
           its_crash.since)
 
       pub closed : (after : K) (end : RunEnd) → EndsBehind lines_end lines_refusals fine end
           → IsPrinted n mid after (last_line end) → IsSettledAt m new size o ran.entries end
-          → Headline m n size image o lines disk new before after end
+          → Headline m n size o lines disk new before after end
       closed after end ends last settled = record {
         entries = ran.entries;
         served = inl (are_served after end ends last);
         legal = ran.legal;
         crash = all_crash;
-        exit = λ c may. inl (its_crash.left c may);
+        exit = its_crash.left;
         settled = settled;
         tells = closes.same.tells ∙ tells_now;
         sized = closes.same.size size sized_now;
@@ -217,7 +205,7 @@ module _ {D P K : Type 0} (m : Meaning D) (places : Places P) (n : SinkMeaning K
       pub ended : OpeningsBegin → OwnRowsAreNew → (x : Unit {0}) → ClosesEngine m now new (Ok x) → HasEnded m new size o ran.entries
       ended begin own_new x closed_so = has_ended begin own_new m new size o ran.entries
           (begin o (opening_of m now o ran.entries ran.stands)) ran.legal ran.stands.grows
-          (closes.same.size size sized_now) entry.whole
+          (closes.same.size size sized_now) entry.lawful entry.whole
           (subst (λ (s : ℕ). HasLeft m new s o ran.entries (durable_count ran.entries)) geometry_now
           (closed_so.ended.1 o ran.entries ran.stands))
 
@@ -239,16 +227,16 @@ cut_settled m new size o entries lines_ends.SinkFailed lines_refusals fine end c
     subst (IsSettledAt m new size o entries) (sym ends) tt
 
 pub runs_stop : {D P K : Type 0} (m : Meaning D) (places : Places P) (n : SinkMeaning K) → CountsNow m
-    → RunsStop m places n
-runs_stop {D} {P} {K} m places n counts disk limit core now size image o lines lines_refusals lines_end fine end
+    → NewBegin → RunsStop m places n
+runs_stop {D} {P} {K} m places n counts new_begin disk limit core now size image o lines lines_refusals lines_end fine end
     before mid after entry opened done now_is accounts cut ends last = at done
   where
     at : ScriptDone (means m places) n core now before mid o size lines lines_refusals lines_end fine
-        → Headline m n size image o lines disk now.store.disk before after end
-    at (inl ran) = stopped m places n counts disk limit core now size image o lines lines_refusals lines_end fine
+        → Headline m n size o lines disk now.store.disk before after end
+    at (inl ran) = stopped m places n counts new_begin disk limit core now size image o lines lines_refusals lines_end fine
         before mid entry opened ran now_is accounts after end ends last
         (cut_settled m now.store.disk size o ran.entries lines_end lines_refusals fine end cut ends)
-    at (inr none) = unbegun m places n counts disk limit core now size image o lines lines_refusals lines_end fine
+    at (inr none) = unbegun m places n counts new_begin disk limit core now size image o lines lines_refusals lines_end fine
         before mid entry opened after end none ends last
 
 -- ---- a run whose database is closed
@@ -278,23 +266,23 @@ closing_refusal m old new (refusals.Damaged page field found wanted) why = absur
 closing_refusal m old new refusals.Memory why = absurd why
 
 pub runs_close : {D P K : Type 0} (m : Meaning D) (places : Places P) (n : SinkMeaning K) → CountsNow m
-    → OpeningsBegin → OwnRowsAreNew → RunsClose m places n
-runs_close {D} {P} {K} m places n counts begin own_new disk new limit core now size image o lines fine result before mid after
+    → NewBegin → OpeningsBegin → OwnRowsAreNew → RunsClose m places n
+runs_close {D} {P} {K} m places n counts new_begin begin own_new disk new limit core now size image o lines fine result before mid after
     entry opened done now_is accounts closes last = at done
   where
     with_ran : (ran : ScriptRan (means m places) n core now before mid o size lines [] lines_ends.Whole fine)
         → (it : Result (Unit {0}) Refusal) → ClosesEngine m now new it
         → IsPrinted n mid after (last_line (closed_end fine it))
-        → Headline m n size image o lines disk new before after (closed_end fine it)
-    with_ran ran (Ok x) ends printed = closed m places n counts disk limit core now size image o lines [] lines_ends.Whole fine
+        → Headline m n size o lines disk new before after (closed_end fine it)
+    with_ran ran (Ok x) ends printed = closed m places n counts new_begin disk limit core now size image o lines [] lines_ends.Whole fine
         before mid entry opened ran now_is accounts new (Ok x) ends after (Whole fine) refl printed
-        (ended m places n counts disk limit core now size image o lines [] lines_ends.Whole fine before mid entry
+        (ended m places n counts new_begin disk limit core now size image o lines [] lines_ends.Whole fine before mid entry
         opened ran now_is accounts new (Ok x) ends begin own_new x ends)
-    with_ran ran (Err refusal) ends printed = closed m places n counts disk limit core now size image o lines []
+    with_ran ran (Err refusal) ends printed = closed m places n counts new_begin disk limit core now size image o lines []
         lines_ends.Whole fine before mid entry opened ran now_is accounts new (Err refusal) ends after (Outside refusal)
         (closing_refusal m now new refusal ends.ended) printed tt
 
     at : ScriptDone (means m places) n core now before mid o size lines [] lines_ends.Whole fine
-        → Headline m n size image o lines disk new before after (closed_end fine result)
+        → Headline m n size o lines disk new before after (closed_end fine result)
     at (inl ran) = with_ran ran result closes last
     at (inr none) = let short = none.short in absurd cc

@@ -1,7 +1,8 @@
 -- Disks on which a history can begin: those in memory without pages, and those that a run has left.
-use Rattle.std.proofs.Common.{◌≡◌, inl, ℕ, List, [], Option, Some, refl, ap, subst, length}
+use Rattle.std.proofs.Common.{◌≡◌, inl, ℕ, true, List, [], Option, Some, refl, ap, subst, length}
 use Rattle.mg_base.specs.Acts.{Act, Leaves, Left, image_of, leaves_left}
 use Rattle.mg_base.specs.Disk.{Meaning}
+use Rattle.mg_base.specs.Geometry.{is_page_size}
 use Rattle.mg_base.specs.Image.{Image, page_at}
 use Rattle.mg_base.specs.MemDisk.{acts_in, mem_meaning}
 use Rattle.mg_base.specs.declared.mem_disk.MemDisk.{MemDisk}
@@ -20,6 +21,7 @@ use Rattle.mg_space.specs.View.{Tells}
 use Rattle.mg_runs.specs.Entry.{TellsWholePages, of_new, of_sound}
 use Rattle.mg_runs.specs.Headline.{HasEnded}
 use Rattle.mg_runs.specs.Laws.{BlankIsEntry}
+use Rattle.mg_runs.specs.MemLaws.{crashes_whole}
 
 -- ---- disks in memory
 
@@ -27,7 +29,7 @@ use Rattle.mg_runs.specs.Laws.{BlankIsEntry}
 none_left : (size : ℕ) (acts : List Act) (c : Image) → acts ≡ [] → Left size acts (length acts) c → c ≡ []
 none_left size acts c none left = subst (λ (others : List Act). Leaves size others c) none (leaves_left size acts c left)
 
-some_image : Image → Option Image
+abbrev some_image : Image → Option Image
 some_image image = Some image
 
 whole_of : (size other : ℕ) (image : Image) → Some other ≡ Some size → HasWholePages other image
@@ -38,7 +40,11 @@ whole_of size other image told whole = let same : other ≡ size = cc in
 pub blank_is_entry : MemDisksAreWhole → BlankIsEntry
 blank_is_entry are_whole disk none = record {
   sized = refl;
-  whole = λ other image sized tells. whole_of disk.size other.size image sized (are_whole other image tells.held);
+  lawful = disk.kept.lawful;
+  whole = record {
+    held = λ other image sized tells. whole_of disk.size other.size image sized (are_whole other image tells.held);
+    left = λ other t c sized left. whole_of disk.size other.size c sized (crashes_whole other t c left);
+  };
   settled = record {
     tells = record { told = refl; held = ap (λ (acts : List Act). some_image (image_of disk.size acts)) none };
     only = λ c may. none_left disk.size (acts_in disk) c none may;
@@ -49,14 +55,15 @@ blank_is_entry are_whole disk none = record {
 -- ---- disks that a run has left
 
 pub has_ended : OpeningsBegin → OwnRowsAreNew → {D : Type 0} (m : Meaning D) (disk : D) (size : ℕ) (o : Opening)
-    (h : Entries) → MayBegin o → IsLegal o h → CatalogGrows o h → m.size disk ≡ Some size → TellsWholePages m size
-    → HasLeft m disk size o h (durable_count h) → HasEnded m disk size o h
-has_ended begin own_new m disk size o h opening legal grows sized whole left = record {
+    (h : Entries) → MayBegin o → IsLegal o h → CatalogGrows o h → m.size disk ≡ Some size
+    → is_page_size size ≡ true → TellsWholePages m size → HasLeft m disk size o h (durable_count h) → HasEnded m disk size o h
+has_ended begin own_new m disk size o h opening legal grows sized lawful whole left = record {
   left = left;
   later = begun packed_form packed_fitting size (page_at size left.image) left.holds.opened left.sound;
   goes_on = goes_on_from begin own_new m disk size o h (durable_count h) opening legal grows left;
   entry = record {
     sized = sized;
+    lawful = lawful;
     whole = whole;
     settled = left.settled;
     opening = of_sound (begun packed_form packed_fitting size (page_at size left.image) left.holds.opened left.sound)

@@ -25,6 +25,9 @@ rose_since : (a b c : ℕ) → a ≤ b → Rose b c → Rose a c
 rose_since a b c before (inl below) = inl (omega (arith, before, below))
 rose_since a b c before (inr most) = inr most
 
+no_count : (x : Option ℕ) (count : ℕ) → x ≡ None → x ≡ Some count → ⊥
+no_count x count none some = let both : None ≡ Some count = sym none ∙ some in absurd cc
+
 -- ---- the opening
 
 module _ {D : Type 0} (m : Meaning D) (disk new : D) (limit : ℕ) (refusal : Refusal) where
@@ -49,7 +52,8 @@ module _ {D : Type 0} (m : Meaning D) (disk new : D) (limit : ℕ) (refusal : Re
   unread_fails (Space (space.Pool (faults.DiskRead count))) fails is = subst (FailsWith m disk new) (sym is)
       (read_rose count fails)
   unread_fails (Space (space.Pool (faults.DiskWrite count))) fails is = absurd fails.own
-  unread_fails (Space (space.Pool (faults.Offline count))) fails is = absurd fails.own
+  unread_fails (Space (space.Pool (faults.Offline count))) fails is =
+      absurd (no_count fails.before.offline count fails.prepared.online fails.told.0)
   unread_fails (Space (space.Pool (faults.Absent pages))) fails is = subst (FailsWith m disk new) (sym is) tt
   unread_fails (Space (space.Pool faults.Memory)) fails is = subst (FailsWith m disk new) (sym is) tt
 
@@ -61,9 +65,6 @@ pub openings_fail : {D : Type 0} (m : Meaning D) → OpeningsFail m
 openings_fail m disk new limit refusal refused = opening_fails m disk new limit refusal refused.cause
 
 -- ---- the lines
-
-no_count : (x : Option ℕ) (count : ℕ) → x ≡ None → x ≡ Some count → ⊥
-no_count x count none some = let both : None ≡ Some count = sym none ∙ some in absurd cc
 
 -- what is blamed on the disk has risen since the start
 blamed : {D P : Type 0} (m : Meaning D) (places : Places P) (disk : D) (core now : Core D) (refusal : Refusal)

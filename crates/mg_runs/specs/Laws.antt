@@ -35,7 +35,7 @@ abbrev pub OpeningsAreJudged : {D K : Type 0} → Meaning D → SinkMeaning K �
 OpeningsAreJudged {D} {K} m n = (disk new : D) (limit : ℕ) (refusal : Refusal) (size : ℕ) (image : Image) (o : Opening)
     (lines : List Line) (end : RunEnd) (before after : K) → IsEntry m disk size image o
     → RefusesOpening m disk new limit refusal → IsOutside refusal end → IsPrinted n before after (last_line end)
-    → Headline m n size image o lines disk new before after end
+    → Headline m n size o lines disk new before after end
 
 -- An engine that was opened stands for the history that begins with what its disk held.
 pub record BeginsRun {D : Type 0} (m : Meaning D) (core : Core D) (size : ℕ) (o : Opening) : Type 0 where
@@ -63,7 +63,7 @@ RunsStop {D} {P} {K} m places n = (disk : D) (limit : ℕ) (core now : Core D) (
     → ScriptDone (means m places) n core now before mid o size lines refusals lines_end fine
     → IsCore m now → Accounts (means m places) core now (reason lines_end)
     → IsCutOff lines_end refusals → EndsBehind lines_end refusals fine end → IsPrinted n mid after (last_line end)
-    → Headline m n size image o lines disk now.store.disk before after end
+    → Headline m n size o lines disk now.store.disk before after end
 
 -- the end of a run whose database was closed, or not
 abbrev pub closed_end : Bool → Result (Unit {0}) Refusal → RunEnd
@@ -78,7 +78,7 @@ RunsClose {D} {P} {K} m places n = (disk new : D) (limit : ℕ) (core now : Core
     → ScriptDone (means m places) n core now before mid o size lines [] lines_ends.Whole fine
     → IsCore m now → Accounts (means m places) core now None
     → ClosesEngine m now new result → IsPrinted n mid after (last_line (closed_end fine result))
-    → Headline m n size image o lines disk new before after (closed_end fine result)
+    → Headline m n size o lines disk new before after (closed_end fine result)
 
 -- ---- faults of the disk
 

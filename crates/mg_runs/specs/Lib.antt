@@ -5,6 +5,7 @@ pub mod EntryLaws
 pub mod FaultLaws
 pub mod Headline
 pub mod Laws
+pub mod MemLaws
 pub mod OpeningLaws
 pub mod Printing
 pub mod Promise

@@ -4,6 +4,7 @@ ghost use Rattle.mg_engine_meaning.specs.Meaning.{Places};
 ghost use Rattle.mg_runs.specs.Laws.{BlankIsEntry, ClosingsFail, LinesFail, OpeningsAreJudged, OpeningsFail, RunsBegin, RunsClose, RunsStop};
 
 use mg_base::{Disk, Sink};
+use mg_engine_calls::new_databases_begin;
 use mg_grown_catalogs::catalogs_grow;
 use mg_model::histories_go_on;
 use mg_new_databases::disks_in_memory_are_whole;
@@ -11,7 +12,9 @@ use mg_new_databases::disks_in_memory_are_whole;
 /// A disk that was not opened: its history has no entry.
 pub fn openings_are_judged<D: Disk, K: Sink>()
     ensures { OpeningsAreJudged D.meaning K.meaning }
-{}
+{
+    new_databases_begin();
+}
 
 /// An engine that was opened stands for the history that begins with what its disk held.
 pub fn runs_begin<D: Disk>()
@@ -21,12 +24,15 @@ pub fn runs_begin<D: Disk>()
 /// A run ends without that its database is closed.
 pub fn runs_stop<D: Disk, P, K: Sink>()
     ensures { (places : Places P) → RunsStop D.meaning places K.meaning }
-{}
+{
+    new_databases_begin();
+}
 
 /// A run ends, and its database is closed, or that is refused.
 pub fn runs_close<D: Disk, P, K: Sink>()
     ensures { (places : Places P) → RunsClose D.meaning places K.meaning }
 {
+    new_databases_begin();
     histories_go_on();
     catalogs_grow();
 }

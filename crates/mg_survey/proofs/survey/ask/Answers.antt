@@ -1,5 +1,11 @@
-use Rattle.mg_survey.proofs.AskingLemmas.{calm_same, sized_same, twice_same}
+use Rattle.std.proofs.Common.{◌∙◌}
+use Rattle.mg_survey.proofs.AskingLemmas.{head_alone, calm_same, sized_same, twice_same}
 use Rattle.mg_survey.proofs.survey.ask.Goals as goal
+
+pub returns-clause-reads : goal.returns-clause-reads
+returns-clause-reads g c = head_alone g.D.Disk.meaning c.args.disk.now c.page_size.new.disk c.pages.new.disk
+    c.is_unmade.new.disk c.in-Ok.size c.page_size.ensures.unread c.pages.ensures.unread
+    (c.pages.ensures.calm.held ∙ c.page_size.ensures.calm.held) c.is_unmade.ensures.alone
 
 pub returns-in-Err-clause-same : goal.returns-in-Err-clause-same
 returns-in-Err-clause-same g c = calm_same g.D.Disk.meaning c.args.disk.now c.page_size.new.self c.in-Err.ensures.calm
