@@ -229,7 +229,7 @@ cut_settled m new size o entries lines_ends.SinkFailed lines_refusals fine end c
 pub runs_stop : {D P K : Type 0} (m : Meaning D) (places : Places P) (n : SinkMeaning K) → CountsNow m
     → NewBegin → RunsStop m places n
 runs_stop {D} {P} {K} m places n counts new_begin disk limit core now size image o lines lines_refusals lines_end fine end
-    before mid after entry opened done now_is accounts cut ends last = at done
+    before mid after entry opened now_is accounts done cut ends last = at done
   where
     at : ScriptDone (means m places) n core now before mid o size lines lines_refusals lines_end fine
         → Headline m n size o lines disk now.store.disk before after end
@@ -268,7 +268,7 @@ closing_refusal m old new refusals.Memory why = absurd why
 pub runs_close : {D P K : Type 0} (m : Meaning D) (places : Places P) (n : SinkMeaning K) → CountsNow m
     → NewBegin → OpeningsBegin → OwnRowsAreNew → RunsClose m places n
 runs_close {D} {P} {K} m places n counts new_begin begin own_new disk new limit core now size image o lines fine result before mid after
-    entry opened done now_is accounts closes last = at done
+    entry opened now_is accounts done closes last = at done
   where
     with_ran : (ran : ScriptRan (means m places) n core now before mid o size lines [] lines_ends.Whole fine)
         → (it : Result (Unit {0}) Refusal) → ClosesEngine m now new it

@@ -59,9 +59,9 @@ IsCutOff lines_end refusals = Unit {0}
 abbrev pub RunsStop : {D P K : Type 0} → Meaning D → Places P → SinkMeaning K → Type 0
 RunsStop {D} {P} {K} m places n = (disk : D) (limit : ℕ) (core now : Core D) (size : ℕ) (image : Image) (o : Opening)
     (lines : List Line) (refusals : List Refusal) (lines_end : LinesEnd) (fine : Bool) (end : RunEnd)
-    (before mid after : K) → IsEntry m disk size image o → IsOpenedOver m disk limit core
+    (before mid after : K) → IsEntry m disk size image o → IsOpenedOver m disk limit core → IsCore m now
+    → Accounts (means m places) core now (reason lines_end)
     → ScriptDone (means m places) n core now before mid o size lines refusals lines_end fine
-    → IsCore m now → Accounts (means m places) core now (reason lines_end)
     → IsCutOff lines_end refusals → EndsBehind lines_end refusals fine end → IsPrinted n mid after (last_line end)
     → Headline m n size o lines disk now.store.disk before after end
 
@@ -74,9 +74,9 @@ closed_end fine (Err refusal) = Outside refusal
 abbrev pub RunsClose : {D P K : Type 0} → Meaning D → Places P → SinkMeaning K → Type 0
 RunsClose {D} {P} {K} m places n = (disk new : D) (limit : ℕ) (core now : Core D) (size : ℕ) (image : Image)
     (o : Opening) (lines : List Line) (fine : Bool) (result : Result (Unit {0}) Refusal) (before mid after : K)
-    → IsEntry m disk size image o → IsOpenedOver m disk limit core
+    → IsEntry m disk size image o → IsOpenedOver m disk limit core → IsCore m now
+    → Accounts (means m places) core now (reason lines_ends.Whole)
     → ScriptDone (means m places) n core now before mid o size lines [] lines_ends.Whole fine
-    → IsCore m now → Accounts (means m places) core now None
     → ClosesEngine m now new result → IsPrinted n mid after (last_line (closed_end fine result))
     → Headline m n size o lines disk new before after (closed_end fine result)
 
