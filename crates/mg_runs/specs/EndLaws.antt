@@ -60,8 +60,8 @@ some_held size o entries c holds = record {
 -- ---- lines that were obeyed
 
 module _ {D P K : Type 0} (m : Meaning D) (places : Places P) (n : SinkMeaning K) (counts : CountsNow m)
-    (new_begin : NewBegin) (disk : D) (limit : ℕ) (core now : Core D) (size : ℕ) (image : Image) (o : Opening) (lines : List Line)
-    (lines_refusals : List Refusal) (lines_end : LinesEnd) (fine : Bool) (before mid : K)
+    (new_begin : NewBegin) (disk : D) (limit : ℕ) (core now : Core D) (size : ℕ) (image : Image) (o : Opening)
+    (lines : List Line) (lines_refusals : List Refusal) (lines_end : LinesEnd) (fine : Bool) (before mid : K)
     (entry : IsEntry m disk size image o) (opened : IsOpenedOver m disk limit core) where
   opening_crash : LeavesOnly m disk core.store.disk (HoldsFrom packed_form size o [] 0)
   opening_crash = opening_leaves new_begin m counts disk core.store.disk size image entry.whole entry.lawful
@@ -202,7 +202,8 @@ module _ {D P K : Type 0} (m : Meaning D) (places : Places P) (n : SinkMeaning K
         sized = closes.same.size size sized_now;
       }
 
-      pub ended : OpeningsBegin → OwnRowsAreNew → (x : Unit {0}) → ClosesEngine m now new (Ok x) → HasEnded m new size o ran.entries
+      pub ended : OpeningsBegin → OwnRowsAreNew → (x : Unit {0}) → ClosesEngine m now new (Ok x)
+          → HasEnded m new size o ran.entries
       ended begin own_new x closed_so = has_ended begin own_new m new size o ran.entries
           (begin o (opening_of m now o ran.entries ran.stands)) ran.legal ran.stands.grows
           (closes.same.size size sized_now) entry.lawful entry.whole
@@ -228,16 +229,16 @@ cut_settled m new size o entries lines_ends.SinkFailed lines_refusals fine end c
 
 pub runs_stop : {D P K : Type 0} (m : Meaning D) (places : Places P) (n : SinkMeaning K) → CountsNow m
     → NewBegin → RunsStop m places n
-runs_stop {D} {P} {K} m places n counts new_begin disk limit core now size image o lines lines_refusals lines_end fine end
-    before mid after entry opened now_is accounts done cut ends last = at done
+runs_stop {D} {P} {K} m places n counts new_begin disk limit core now size image o lines lines_refusals lines_end
+    fine end before mid after entry opened now_is accounts done cut ends last = at done
   where
     at : ScriptDone (means m places) n core now before mid o size lines lines_refusals lines_end fine
         → Headline m n size o lines disk now.store.disk before after end
-    at (inl ran) = stopped m places n counts new_begin disk limit core now size image o lines lines_refusals lines_end fine
-        before mid entry opened ran now_is accounts after end ends last
+    at (inl ran) = stopped m places n counts new_begin disk limit core now size image o lines lines_refusals
+        lines_end fine before mid entry opened ran now_is accounts after end ends last
         (cut_settled m now.store.disk size o ran.entries lines_end lines_refusals fine end cut ends)
-    at (inr none) = unbegun m places n counts new_begin disk limit core now size image o lines lines_refusals lines_end fine
-        before mid entry opened after end none ends last
+    at (inr none) = unbegun m places n counts new_begin disk limit core now size image o lines lines_refusals
+        lines_end fine before mid entry opened after end none ends last
 
 -- ---- a run whose database is closed
 
@@ -267,19 +268,19 @@ closing_refusal m old new refusals.Memory why = absurd why
 
 pub runs_close : {D P K : Type 0} (m : Meaning D) (places : Places P) (n : SinkMeaning K) → CountsNow m
     → NewBegin → OpeningsBegin → OwnRowsAreNew → RunsClose m places n
-runs_close {D} {P} {K} m places n counts new_begin begin own_new disk new limit core now size image o lines fine result before mid after
-    entry opened now_is accounts done closes last = at done
+runs_close {D} {P} {K} m places n counts new_begin begin own_new disk new limit core now size image o lines fine
+    result before mid after entry opened now_is accounts done closes last = at done
   where
     with_ran : (ran : ScriptRan (means m places) n core now before mid o size lines [] lines_ends.Whole fine)
         → (it : Result (Unit {0}) Refusal) → ClosesEngine m now new it
         → IsPrinted n mid after (last_line (closed_end fine it))
         → Headline m n size o lines disk new before after (closed_end fine it)
-    with_ran ran (Ok x) ends printed = closed m places n counts new_begin disk limit core now size image o lines [] lines_ends.Whole fine
-        before mid entry opened ran now_is accounts new (Ok x) ends after (Whole fine) refl printed
-        (ended m places n counts new_begin disk limit core now size image o lines [] lines_ends.Whole fine before mid entry
-        opened ran now_is accounts new (Ok x) ends begin own_new x ends)
-    with_ran ran (Err refusal) ends printed = closed m places n counts new_begin disk limit core now size image o lines []
-        lines_ends.Whole fine before mid entry opened ran now_is accounts new (Err refusal) ends after (Outside refusal)
+    with_ran ran (Ok x) ends printed = closed m places n counts new_begin disk limit core now size image o lines []
+        lines_ends.Whole fine before mid entry opened ran now_is accounts new (Ok x) ends after (Whole fine) refl
+        printed (ended m places n counts new_begin disk limit core now size image o lines [] lines_ends.Whole fine before
+        mid entry opened ran now_is accounts new (Ok x) ends begin own_new x ends)
+    with_ran ran (Err refusal) ends printed = closed m places n counts new_begin disk limit core now size image o lines
+        [] lines_ends.Whole fine before mid entry opened ran now_is accounts new (Err refusal) ends after (Outside refusal)
         (closing_refusal m now new refusal ends.ended) printed tt
 
     at : ScriptDone (means m places) n core now before mid o size lines [] lines_ends.Whole fine

@@ -91,7 +91,8 @@ unmade_is_blank size pages lawful unmade = record {
   where
     far : (region : ℕ) → 1 ≤ region → 7 ≤ inventory_page size region
     far zero some = absurd (omega (arith, some))
-    far (suc region) some = let more : suc region * bits size ≡ region * bits size + bits size = suc-mul region (bits size) in
+    far (suc region) some =
+        let more : suc region * bits size ≡ region * bits size + bits size = suc-mul region (bits size) in
         let least = bits_some size lawful in omega (arith, more, least)
 
 -- so it holds a new database
