@@ -4,8 +4,7 @@ use Rattle.mg_base.specs.Acts.{Act, Leaves, Left, image_of, leaves_left}
 use Rattle.mg_base.specs.Disk.{Meaning}
 use Rattle.mg_base.specs.Geometry.{is_page_size}
 use Rattle.mg_base.specs.Image.{Image, page_at}
-use Rattle.mg_base.specs.MemDisk.{acts_in, mem_meaning}
-use Rattle.mg_base.specs.declared.mem_disk.MemDisk.{MemDisk}
+use Rattle.mg_base.specs.MemDisk.{acts_in}
 use Rattle.mg_engine_calls.specs.Closings.{HasLeft}
 use Rattle.mg_engine_calls.specs.ComposeLaws.{begins_with, goes_on_from}
 use Rattle.mg_grown_catalogs.specs.Grown.{CatalogGrows, OwnRowsAreNew}
@@ -17,7 +16,6 @@ use Rattle.mg_model.specs.Laws.{OpeningsBegin}
 use Rattle.mg_model.specs.Legal.{IsLegal, MayBegin, durable_count}
 use Rattle.mg_model.specs.declared.opening.Opening.{Opening}
 use Rattle.mg_new_databases.specs.Soundness.{HasWholePages, MemDisksAreWhole}
-use Rattle.mg_space.specs.View.{Tells}
 use Rattle.mg_runs.specs.Entry.{TellsWholePages, of_new, of_sound}
 use Rattle.mg_runs.specs.Headline.{HasEnded}
 use Rattle.mg_runs.specs.Laws.{BlankIsEntry}

@@ -1,5 +1,5 @@
 -- What the disk refuses comes only where its count of faults rose.
-use Rattle.std.proofs.Common.{◌≡◌, ◌⊎◌, inl, inr, ◌<◌, ◌≤◌, ◌-◌, ◌^◌, ℕ, Option, None, Some, Result, Err, refl, sym, ap, ◌∙◌, subst, arith}
+use Rattle.std.proofs.Common.{◌≡◌, ◌⊎◌, inl, inr, ◌≤◌, ℕ, Option, None, Some, sym, ◌∙◌, subst, arith}
 use Rattle.mg_base.specs.Disk.{Meaning, Rose}
 use Rattle.mg_calls.specs.Frames.{Blames}
 use Rattle.mg_core.specs.Opening.{FailsToRead, IsOpenRefusal, RefusesOpen, unprepared, unread}
@@ -7,15 +7,11 @@ use Rattle.mg_core.specs.declared.parts.Core.{Core}
 use Rattle.mg_database.specs.Preparing.{FailsToPrepare, no_memory, unasked, unmade}
 use Rattle.mg_database.specs.declared.fault.OpenFault.{OpenFault}
 use Rattle.mg_database.specs.declared.fault.OpenFault.TheVariants.{NotADatabase, Space}
-use Rattle.mg_engine_calls.specs.Closings.{ClosesEngine, RefusesClose}
-use Rattle.mg_engine_calls.specs.Openings.{IsOpenedOver, RefusesOpening}
+use Rattle.mg_engine_calls.specs.Closings.{RefusesClose}
 use Rattle.mg_engine_meaning.specs.Meaning.{Places, means}
 use Rattle.mg_model.specs.declared.refusal.Refusal.{Refusal}
 use Rattle.mg_model.specs.declared.refusal.Refusal.TheVariants as refusals
 use Rattle.mg_pool.specs.declared.fault.PoolFault.TheVariants as faults
-use Rattle.mg_scripts.specs.declared.lines.LinesEnd.{LinesEnd}
-use Rattle.mg_scripts.specs.Steps.{reason}
-use Rattle.mg_sessions.specs.Accounts.{Accounts}
 use Rattle.mg_space.specs.declared.fault.SpaceFault.TheVariants as space
 use Rattle.mg_runs.specs.Ends.{FailsWith}
 use Rattle.mg_runs.specs.Laws.{ClosingsFail, LinesFail, OpeningsFail}

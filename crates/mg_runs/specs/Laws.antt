@@ -1,5 +1,5 @@
 -- What the steps of a run give of its promise.
-use Rattle.std.specs.Prelude.{◌≡◌, ℕ, Bool, true, false, List, [], ◌∷◌, None, Some, Result, Ok, Err}
+use Rattle.std.specs.Prelude.{◌≡◌, ℕ, Bool, false, List, [], ◌∷◌, Some, Result, Ok, Err}
 use Rattle.mg_base.specs.Disk.{Meaning}
 use Rattle.mg_base.specs.Image.{Image}
 use Rattle.mg_base.specs.MemDisk.{acts_in, mem_meaning}
@@ -18,11 +18,11 @@ use Rattle.mg_model.specs.declared.refusal.Refusal.{Refusal}
 use Rattle.mg_script.specs.declared.line.Line.{Line}
 use Rattle.mg_scripts.specs.declared.lines.LinesEnd.{LinesEnd}
 use Rattle.mg_scripts.specs.declared.lines.LinesEnd.TheVariants as lines_ends
-use Rattle.mg_scripts.specs.Ending.{ScriptDone, is_cut}
+use Rattle.mg_scripts.specs.Ending.{ScriptDone}
 use Rattle.mg_scripts.specs.Steps.{reason}
 use Rattle.mg_sessions.specs.Accounts.{Accounts}
 use Rattle.mg_runs.specs.declared.ending.RunEnd.{RunEnd}
-use Rattle.mg_runs.specs.declared.ending.RunEnd.TheVariants.{Whole, InLine, Outside}
+use Rattle.mg_runs.specs.declared.ending.RunEnd.TheVariants.{Whole, Outside}
 use Rattle.mg_runs.specs.Ends.{FailsWith, IsOutside, last_line}
 use Rattle.mg_runs.specs.Entry.{IsEntry}
 use Rattle.mg_runs.specs.Headline.{EndsBehind, Headline}

@@ -1,7 +1,7 @@
 -- What an opening gives of a run's promise.
-use Rattle.std.proofs.Common.{◌≡◌, ◌≢◌, ◌⊎◌, inl, inr, ◌≤◌, ◌+◌, ◌*◌, ℕ, zero, suc, Bool, true, false, List, [], Some, refl, sym, ◌∙◌, subst, arith}
+use Rattle.std.proofs.Common.{◌≡◌, ◌≢◌, ◌⊎◌, inl, inr, ◌≤◌, ◌+◌, ◌*◌, ℕ, zero, suc, true, false, List, [], Some, refl, sym, ◌∙◌, subst, arith}
 use Rattle.std.proofs.Math.Nat.{suc-mul}
-use Rattle.mg_base.specs.Disk.{MayLeave, Meaning}
+use Rattle.mg_base.specs.Disk.{Meaning}
 use Rattle.mg_base.specs.Geometry.{is_page_size}
 use Rattle.mg_base.specs.Image.{Image, blank, page_at}
 use Rattle.mg_base.specs.Moments.{LeavesOnly}
@@ -32,14 +32,13 @@ use Rattle.mg_model.specs.declared.refusal.Refusal.TheVariants as refusals
 use Rattle.mg_new_databases.specs.Soundness.{HasWholePages}
 use Rattle.mg_pip.specs.PipPage.{bits}
 use Rattle.mg_pool.specs.Pool.{KeepsContent}
-use Rattle.mg_script.specs.declared.line.Line.{Line}
 use Rattle.mg_space.specs.TakingLaws.{bits_some}
 use Rattle.mg_space.specs.View.{Tells}
 use Rattle.mg_space.specs.ViewLaws.{CountsNow}
 use Rattle.mg_runs.specs.declared.ending.RunEnd.{RunEnd}
 use Rattle.mg_runs.specs.Ends.{IsOutside, last_line}
-use Rattle.mg_runs.specs.Entry.{IsEntry, IsOpeningOf, TellsWholePages, of_new, of_sound}
-use Rattle.mg_runs.specs.Headline.{AreUnserved, Headline, IsSettledAt}
+use Rattle.mg_runs.specs.Entry.{IsOpeningOf, TellsWholePages, of_new, of_sound}
+use Rattle.mg_runs.specs.Headline.{AreUnserved, IsSettledAt}
 use Rattle.mg_runs.specs.Laws.{BeginsRun, OpeningsAreJudged, RunsBegin}
 use Rattle.mg_runs.specs.Printing.{IsPrinted}
 

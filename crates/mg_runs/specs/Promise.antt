@@ -7,7 +7,7 @@ use Rattle.mg_model.specs.declared.refusal.Refusal.TheVariants.{Memory}
 use Rattle.mg_script.specs.declared.line.Line.{Line}
 use Rattle.mg_script.specs.Lines.{IsScript}
 use Rattle.mg_runs.specs.declared.ending.RunEnd.{RunEnd}
-use Rattle.mg_runs.specs.declared.ending.RunEnd.TheVariants.{Whole, InLine, Outside, Stream, ScriptTooLong}
+use Rattle.mg_runs.specs.declared.ending.RunEnd.TheVariants.{Whole, Outside, Stream, ScriptTooLong}
 use Rattle.mg_runs.specs.declared.ending.TheConstants.{SCRIPT_MOST}
 use Rattle.mg_runs.specs.Ends.{last_line}
 use Rattle.mg_runs.specs.Headline.{Headline}
