@@ -62,24 +62,24 @@ changed_tells m old new pages orders changes = ap m.tells changes.enters.disk
     ∙ (ap m.tells changes.puts.disk ∙ changes.written.tells)
 
 -- so does one that is refused, and a page write that fails
-refused_tells : {D L T : Type 0} (m : Meaning D) (old new : Pool D L) (fault : PoolFault)
+refused_tells : {D L : Type 0} (T : Type 0) (m : Meaning D) (old new : Pool D L) (fault : PoolFault)
     → LeavesRefused {T = T} m old new (Err fault) → m.tells new.disk ≡ m.tells old.disk
-refused_tells m old new (DiskRead n) left = absurd left
-refused_tells m old new (DiskWrite n) left = left.fails.time.tells ∙ left.written.tells
-refused_tells {D} {L} m old new (Offline n) left = ap (λ (s : Pool D L). m.tells s.disk) left
-refused_tells m old new (Absent n) left = absurd left
-refused_tells {D} {L} m old new Memory left = ap (λ (s : Pool D L). m.tells s.disk) left
+refused_tells T m old new (DiskRead n) left = absurd left
+refused_tells T m old new (DiskWrite n) left = left.fails.time.tells ∙ left.written.tells
+refused_tells {D} {L} T m old new (Offline n) left = ap (λ (s : Pool D L). m.tells s.disk) left
+refused_tells T m old new (Absent n) left = absurd left
+refused_tells {D} {L} T m old new Memory left = ap (λ (s : Pool D L). m.tells s.disk) left
 
 pub change_tells : {D L : Type 0} (m : Meaning D) (old new : Pool D L) (pages : List BatchPage)
     (orders : List Order) (result : Result (Unit {0}) PoolFault) → OnOk result (Changes m old new pages orders)
     → LeavesRefused m old new result → m.tells new.disk ≡ m.tells old.disk
 change_tells m old new pages orders (Ok x) changes left = changed_tells m old new pages orders changes
-change_tells m old new pages orders (Err fault) changes left = refused_tells {T = Unit {0}} m old new fault left
+change_tells m old new pages orders (Err fault) changes left = refused_tells (Unit {0}) m old new fault left
 
-pub fail_tells : {D L T : Type 0} (m : Meaning D) (old mid new : Pool D L) (fault : PoolFault)
+pub fail_tells : {D L : Type 0} (T : Type 0) (m : Meaning D) (old mid new : Pool D L) (fault : PoolFault)
     → m.tells mid.disk ≡ m.tells old.disk → LeavesRefused {T = T} m mid new (Err fault)
     → m.tells new.disk ≡ m.tells old.disk
-fail_tells {T = T} m old mid new fault before left = refused_tells {T = T} m mid new fault left ∙ before
+fail_tells T m old mid new fault before left = refused_tells T m mid new fault left ∙ before
 
 -- ---- the settling
 

@@ -51,7 +51,7 @@ returns-clause-writes g c = λ image tells.
     }
 
 pub returns-in_err-write_one-clause-tells : goal.returns-in_err-write_one-clause-tells
-returns-in_err-write_one-clause-tells g c = fail_tells {T = PageNo} g.D.Disk.meaning c.args.store.now c.put_page.new.store
+returns-in_err-write_one-clause-tells g c = fail_tells PageNo g.D.Disk.meaning c.args.store.now c.put_page.new.store
     c.write_one.new.self c.in_err-write_one.field-0.0 c.put_page.ensures.tells c.in_err-write_one.ensures.refused
 
 pub returns-clause-tells : goal.returns-clause-tells
