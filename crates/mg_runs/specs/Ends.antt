@@ -1,5 +1,5 @@
 -- How a run ends: its status, and what is printed of a fault outside the lines.
-use Rattle.std.specs.Prelude.{◌≡◌, ℕ, true, false, List, [], ◌∷◌, ◌++◌, codes}
+use Rattle.std.specs.Prelude.{◌≡◌, ◌⊎◌, ℕ, Bool, true, false, List, [], ◌∷◌, ◌++◌, codes}
 use Rattle.mg_base.specs.Disk.{Meaning, Rose}
 use Rattle.mg_model.specs.declared.refusal.Refusal.{Refusal}
 use Rattle.mg_model.specs.declared.refusal.Refusal.TheVariants as refusals
@@ -36,6 +36,19 @@ last_line (InLine refusal) = []
 last_line (Outside refusal) = outside_text refusal
 last_line Stream = []
 last_line ScriptTooLong = codes "mgdb: SCRIPT TOO LONG" ++ (10 ∷ [])
+
+-- no memory is taken for the line of such a refusal, whatever its numbers are
+abbrev pub has_fixed_line : Refusal → Bool
+has_fixed_line (refusals.DiskRead faults) = true
+has_fixed_line (refusals.DiskWrite faults) = true
+has_fixed_line (refusals.Offline faults) = true
+has_fixed_line refusals.Memory = true
+has_fixed_line refusal = false
+
+-- a refusal outside the lines ends the run; or there is no memory for its line, and that ends it
+abbrev pub IsOutside : Refusal → RunEnd → Type 0
+IsOutside refusal end =
+    (end ≡ Outside refusal) ⊎ ((has_fixed_line refusal ≡ false) × (end ≡ Outside refusals.Memory))
 
 -- a refusal by the disk comes only where its count of faults rose
 abbrev pub FailsWith : {D : Type 0} → Meaning D → D → D → Refusal → Type 0

@@ -23,7 +23,7 @@ use Rattle.mg_transcript.specs.Scripts.{Obeyed}
 use Rattle.mg_transcript.specs.Sessions.{Unfinished}
 use Rattle.mg_runs.specs.declared.ending.RunEnd.{RunEnd}
 use Rattle.mg_runs.specs.declared.ending.RunEnd.TheVariants.{Whole, InLine, Outside, Stream, ScriptTooLong}
-use Rattle.mg_runs.specs.Ends.{last_line}
+use Rattle.mg_runs.specs.Ends.{IsOutside, last_line}
 use Rattle.mg_runs.specs.Printing.{IsPrinted}
 
 -- ---- how a run ends behind its lines
@@ -42,7 +42,7 @@ EndsWhole [] fine (Outside refusal) = IsClosingRefusal refusal
 EndsWhole [] fine (InLine refusal) = ⊥
 EndsWhole [] fine Stream = ⊥
 EndsWhole [] fine ScriptTooLong = ⊥
-EndsWhole (first ∷ more) fine end = end ≡ Outside first
+EndsWhole (first ∷ more) fine end = IsOutside first end
 
 -- the end of the run, by how the lines came to theirs
 abbrev pub EndsBehind : LinesEnd → List Refusal → Bool → RunEnd → Type 0

@@ -20,7 +20,7 @@ use Rattle.mg_scripts.specs.Steps.{reason}
 use Rattle.mg_sessions.specs.Accounts.{Accounts}
 use Rattle.mg_runs.specs.declared.ending.RunEnd.{RunEnd}
 use Rattle.mg_runs.specs.declared.ending.RunEnd.TheVariants.{Whole, InLine, Outside}
-use Rattle.mg_runs.specs.Ends.{FailsWith, last_line}
+use Rattle.mg_runs.specs.Ends.{FailsWith, IsOutside, last_line}
 use Rattle.mg_runs.specs.Entry.{IsEntry}
 use Rattle.mg_runs.specs.Headline.{EndsBehind, Headline}
 use Rattle.mg_runs.specs.Printing.{IsPrinted}
@@ -30,9 +30,9 @@ use Rattle.mg_runs.specs.Printing.{IsPrinted}
 -- A disk that was not opened: its history has no entry.
 abbrev pub OpeningsAreJudged : {D K : Type 0} → Meaning D → SinkMeaning K → Type 0
 OpeningsAreJudged {D} {K} m n = (disk new : D) (limit : ℕ) (refusal : Refusal) (size : ℕ) (image : Image) (o : Opening)
-    (lines : List Line) (before after : K) → IsEntry m disk size image o → RefusesOpening m disk new limit refusal
-    → IsPrinted n before after (last_line (Outside refusal))
-    → Headline m n size image o lines disk new before after (Outside refusal)
+    (lines : List Line) (end : RunEnd) (before after : K) → IsEntry m disk size image o
+    → RefusesOpening m disk new limit refusal → IsOutside refusal end → IsPrinted n before after (last_line end)
+    → Headline m n size image o lines disk new before after end
 
 -- An engine that was opened stands for the history that begins with what its disk held.
 pub record BeginsRun {D : Type 0} (m : Meaning D) (core : Core D) (size : ℕ) (o : Opening) : Type 0 where

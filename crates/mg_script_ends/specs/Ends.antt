@@ -8,6 +8,7 @@ use Rattle.mg_model.specs.declared.refusal.Refusal.{Refusal}
 use Rattle.mg_model.specs.History.{Entries, entry}
 use Rattle.mg_model.specs.Legal.{IsLawful}
 use Rattle.mg_records.specs.Meaning.{Means}
+use Rattle.mg_calls.specs.Frames.{Blames}
 use Rattle.mg_transcript.specs.Scripts.{AreRolledBack}
 use Rattle.mg_transcript.specs.Sessions.{transaction_of}
 use Rattle.mg_courses.specs.Carrying.{Carries}
@@ -59,3 +60,8 @@ StopsOrGoes m runs old new all all' whole rest refusals true = (o : Opening) (h 
     → EndsWith m runs old new o h all' (λ after. AreRolledBack o h whole after refusals)
 StopsOrGoes m runs old new all all' whole rest refusals false =
     EndsSoFar m runs old new all all' whole rest refusals
+
+-- each of these refusals has its cause in these calls
+abbrev pub AreCaused : {R P : Type 0} → Means R P → R → R → List Refusal → Type 0
+AreCaused m old new [] = Unit {0}
+AreCaused m old new (refusal ∷ more) = Blames m old new (Some refusal) × AreCaused m old new more

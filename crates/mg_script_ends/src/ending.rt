@@ -10,7 +10,7 @@ ghost use Rattle.mg_pending.specs.declared.transactions.Transaction.{Transaction
 ghost use Rattle.mg_pending.specs.Standing.{AreReady, StandAt};
 ghost use Rattle.mg_pending.specs.Transactions.{number_at};
 ghost use Rattle.mg_sessions.specs.Accounts.{Accounts};
-ghost use Rattle.mg_script_ends.specs.Ends.{EndsSession, EndsSoFar, EndsWith, StopsOrGoes};
+ghost use Rattle.mg_script_ends.specs.Ends.{AreCaused, EndsSession, EndsSoFar, EndsWith, StopsOrGoes};
 
 use mg_base::TxNo;
 use mg_courses::Statements;
@@ -36,6 +36,7 @@ pub fn roll_back_all<R: Statements>(
         → EndsWith R.meaning R.runs r.old r.new o h transactions.new
         (λ after. AreRolledBack o h sessions after refusals.new.items) }
     ensures accounts { Accounts R.meaning r.old r.new None }
+    ensures caused { AreCaused R.meaning r.old r.new refusals.new.items }
 {
     for s in 0..17u8 {
         if end_one(r, transactions, refusals, Session(s)) {
@@ -62,6 +63,8 @@ fn end_one<R: Statements>(
     ensures room { (left : ℕ) → vec_len refusals.old + (left + 1) ≤ vec_capacity refusals.old
         → vec_len refusals.new + left ≤ vec_capacity refusals.new }
     ensures accounts { (start : R) → Accounts R.meaning start r.old None → Accounts R.meaning start r.new None }
+    ensures caused { (start : R) → Accounts R.meaning start r.old None → AreCaused R.meaning start r.old refusals.old.items
+        → AreCaused R.meaning start r.new refusals.new.items }
 {
     match end_session(r, transactions, session) {
         Some(refusal) => {

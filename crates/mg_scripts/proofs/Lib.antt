@@ -1,3 +1,4 @@
 mod RunLemmas
 mod TurnLemmas
 mod EndLemmas
+mod SinkLemmas

@@ -10,6 +10,7 @@ ghost use Rattle.mg_transcript.specs.Transcript.{fine, flow};
 ghost use Rattle.mg_pending.specs.Standing.{AreReady, StandAt};
 ghost use Rattle.mg_sessions.specs.Accounts.{Accounts};
 ghost use Rattle.mg_sessions.specs.Lines.{IsObeyable};
+ghost use Rattle.mg_scripts.specs.Printing.{LineSays, SinkSays};
 ghost use Rattle.mg_scripts.specs.Runs.{CanBeObeyed, LinesDone, is_known as is_known_of, read_as};
 ghost use Rattle.mg_scripts.specs.Steps.{LineDone, are_fine as are_fine_of, end_of_turn, end_or, reason, reason_in, stop_by};
 
@@ -65,6 +66,7 @@ where
         sessions.new.transactions sessions.new.pending.items result.end result.fine }
     ensures ready { AreReady R.meaning R.runs r.new sessions.new.transactions sessions.new.pending.items }
     ensures accounts { Accounts R.meaning r.old r.new (reason result.end) }
+    ensures sinks { SinkSays K.meaning sink.old sink.new result.end }
 {
     let mut fine = true;
     let mut rest = lines;
@@ -118,6 +120,7 @@ where
         sessions.new.transactions sessions.new.pending.items result.end result.fine }
     ensures ready { AreReady R.meaning R.runs r.new sessions.new.transactions sessions.new.pending.items }
     ensures accounts { Accounts R.meaning r.old r.new (reason_in result.end) }
+    ensures sinks { LineSays K.meaning sink.old sink.new result.end }
 {
     if is_known(&line.kind) {
         return take_line(r, alloc, sessions, size, line, sink);
@@ -159,6 +162,7 @@ where
         sessions.new.transactions sessions.new.pending.items result.end result.fine }
     ensures ready { AreReady R.meaning R.runs r.new sessions.new.transactions sessions.new.pending.items }
     ensures accounts { Accounts R.meaning r.old r.new (reason_in result.end) }
+    ensures sinks { LineSays K.meaning sink.old sink.new result.end }
 {
     let taken = take_turn(r, alloc, sessions, size, &line.kind);
     let failed = print_turn(alloc, line, &taken.turn, sink);

@@ -10,7 +10,9 @@ ghost use Rattle.mg_pending.specs.Standing.{AreReady, StandAt};
 ghost use Rattle.mg_pending.specs.Transactions.{no_transactions};
 ghost use Rattle.mg_sessions.specs.Accounts.{Accounts};
 ghost use Rattle.mg_transcript.specs.Sessions.{Unfinished};
+ghost use Rattle.mg_script_ends.specs.Ends.{AreCaused};
 ghost use Rattle.mg_scripts.specs.Ending.{EndsLive, ScriptDone, is_cut as is_cut_of, is_none};
+ghost use Rattle.mg_scripts.specs.Printing.{SinkSays};
 ghost use Rattle.mg_scripts.specs.ReadableLaws.{ScriptsCanBeObeyed};
 ghost use Rattle.mg_scripts.specs.Runs.{CanBeObeyed};
 ghost use Rattle.mg_scripts.specs.Steps.{reason};
@@ -55,6 +57,8 @@ where
         → ScriptDone R.meaning K.meaning r.old r.new sink.old sink.new o size lines.now refusals.new.items
         result.end result.fine }
     ensures accounts { Accounts R.meaning r.old r.new (reason result.end) }
+    ensures sinks { SinkSays K.meaning sink.old sink.new result.end }
+    ensures caused { AreCaused R.meaning r.old r.new refusals.new.items }
 {
     match Sessions::new(alloc) {
         Ok(sessions) => run_from(r, alloc, sessions, size, lines, sink, refusals),
@@ -89,6 +93,8 @@ where
         → ScriptDone R.meaning K.meaning r.old r.new sink.old sink.new o size lines.now refusals.new.items
         result.end result.fine }
     ensures accounts { Accounts R.meaning r.old r.new (reason result.end) }
+    ensures sinks { SinkSays K.meaning sink.old sink.new result.end }
+    ensures caused { AreCaused R.meaning r.old r.new refusals.new.items }
 {
     let mut sessions = sessions;
     let ran = run_lines(r, alloc, &mut sessions, size, lines, sink);
@@ -128,6 +134,7 @@ where
         → StandAt R.meaning R.runs r.old o h sessions.transactions sessions.pending.items us
         → EndsLive R.meaning r.old r.new o h us fine refusals.new.items result }
     ensures accounts { Accounts R.meaning r.old r.new None }
+    ensures caused { AreCaused R.meaning r.old r.new refusals.new.items }
 {
     let Sessions {
         mut transactions,

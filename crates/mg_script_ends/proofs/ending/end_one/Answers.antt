@@ -1,4 +1,10 @@
 use Rattle.std.proofs.Common.{[], ◌∷◌, ◌++◌, None, Some, refl}
+use Rattle.std.proofs.Common.{subst, sym}
+use Rattle.std.specs.Prelude.{List}
+use Rattle.mg_model.specs.declared.refusal.Refusal.{Refusal}
+use Rattle.mg_sessions.specs.AccountLaws.{account_then}
+use Rattle.mg_script_ends.specs.CauseLaws.{caused_also, caused_then}
+use Rattle.mg_script_ends.specs.Ends.{AreCaused}
 use Rattle.mg_script_ends.proofs.EndLemmas.{accounts_both, one_more, so_far_none_refused, stops_as}
 use Rattle.mg_transcript.specs.Shorthand.{stops_run}
 use Rattle.mg_script_ends.proofs.ending.end_one.Goals as goal
@@ -25,3 +31,17 @@ returns-in-Some-clause-accounts g c = λ start first. accounts_both g.R.Records.
 pub returns-in-None-clause-accounts : goal.returns-in-None-clause-accounts
 returns-in-None-clause-accounts g c = λ start first. accounts_both g.R.Records.meaning start c.args.r.now
     c.end_session.new.r None first c.in-None.ensures.accounts
+
+pub returns-in-Some-clause-caused : goal.returns-in-Some-clause-caused
+returns-in-Some-clause-caused g c = λ start first are.
+    let m = g.R.Records.meaning in
+    subst (λ (xs : List Refusal). AreCaused m start c.end_session.new.r xs) (sym c.push_reserved.ensures.items)
+    (caused_also m start c.end_session.new.r c.args.refusals.now.items c.in-Some.refusal
+    (caused_then m start c.args.r.now c.end_session.new.r (Some c.in-Some.refusal) c.in-Some.ensures.accounts
+    c.args.refusals.now.items are)
+    (account_then m start c.args.r.now c.end_session.new.r None (Some c.in-Some.refusal) first
+    c.in-Some.ensures.accounts).cause)
+
+pub returns-in-None-clause-caused : goal.returns-in-None-clause-caused
+returns-in-None-clause-caused g c = λ start first are. caused_then g.R.Records.meaning start c.args.r.now
+    c.end_session.new.r None c.in-None.ensures.accounts c.args.refusals.now.items are

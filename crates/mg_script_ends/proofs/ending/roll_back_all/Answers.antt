@@ -1,7 +1,10 @@
 use Rattle.std.proofs.Common.{◌≡◌, ◌≤◌, ◌+◌, ◌-◌, arith, [], ◌∷◌, None, ap}
 use Rattle.std.specs.Prelude.{vec_capacity, vec_len}
 use Rattle.mg_sessions.specs.AccountLaws.{no_account}
-use Rattle.mg_script_ends.specs.Ends.{count_from}
+use Rattle.std.proofs.Common.{subst, sym}
+use Rattle.std.specs.Prelude.{List}
+use Rattle.mg_model.specs.declared.refusal.Refusal.{Refusal}
+use Rattle.mg_script_ends.specs.Ends.{AreCaused, count_from}
 use Rattle.mg_script_ends.proofs.EndLemmas.{counts_on, ends_whole, so_far_as, so_far_none, so_far_to}
 use Rattle.mg_script_ends.proofs.ending.roll_back_all.Goals as goal
 
@@ -16,6 +19,7 @@ loop-s-init g c =
       ready = c.requires.ready;
       room = room;
       accounts = no_account m c.args.r.now None tt;
+      caused = subst (λ (xs : List Refusal). AreCaused m c.args.r.now c.args.r.now xs) (sym c.requires.none) tt;
     }
 
 pub loop-s-preserved : goal.loop-s-preserved
@@ -30,6 +34,7 @@ loop-s-preserved g c = record {
   room = c.end_one.ensures.room (17 - (c.loop-s.s + 1))
       (let room = c.loop-s.invariant.room in let less = c.loop-s-test.true in omega (arith, room, less));
   accounts = c.end_one.ensures.accounts c.args.r.now c.loop-s.invariant.accounts;
+  caused = c.end_one.ensures.caused c.args.r.now c.loop-s.invariant.accounts c.loop-s.invariant.caused;
 }
 
 pub returns-then-end_one-clause-ends : goal.returns-then-end_one-clause-ends
@@ -49,3 +54,7 @@ returns-clause-ends g c = ends_whole g.R.Records.meaning g.R.Statements.runs c.a
     c.loop-s.refusals.items
     (let past = c.loop-s-test.false in let none : 17 - c.loop-s.s ≡ 0 = omega (arith, past) in
     ap (count_from c.loop-s.s) none) c.loop-s.invariant.ends
+
+pub returns-then-end_one-clause-caused : goal.returns-then-end_one-clause-caused
+returns-then-end_one-clause-caused g c =
+    c.end_one.ensures.caused c.args.r.now c.loop-s.invariant.accounts c.loop-s.invariant.caused

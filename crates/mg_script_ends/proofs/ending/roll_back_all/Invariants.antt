@@ -2,7 +2,7 @@ use Rattle.std.proofs.Common.{◌≤◌, ◌+◌, ◌-◌, [], None}
 use Rattle.std.specs.Prelude.{vec_capacity, vec_len}
 use Rattle.mg_pending.specs.Standing.{AreReady}
 use Rattle.mg_sessions.specs.Accounts.{Accounts}
-use Rattle.mg_script_ends.specs.Ends.{EndsSoFar, count_from}
+use Rattle.mg_script_ends.specs.Ends.{AreCaused, EndsSoFar, count_from}
 use Rattle.mg_script_ends.proofs.ending.roll_back_all.Given as goal
 
 -- the sessions before this one are at their end
@@ -13,4 +13,5 @@ invariant-loop-s g l = record {
   ready : AreReady g.R.Records.meaning g.R.Statements.runs l.r l.transactions [];
   room : vec_len l.refusals + (17 - l.s) ≤ vec_capacity l.refusals;
   accounts : Accounts g.R.Records.meaning l.fn.r l.r None;
+  caused : AreCaused g.R.Records.meaning l.fn.r l.r l.refusals.items;
 }

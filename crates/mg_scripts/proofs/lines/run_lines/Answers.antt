@@ -1,7 +1,8 @@
-use Rattle.std.proofs.Common.{◌∙◌, None}
+use Rattle.std.proofs.Common.{◌∙◌, None, refl}
 use Rattle.mg_sessions.specs.AccountLaws.{account_then, no_account}
 use Rattle.mg_scripts.specs.Steps.{reason_in}
 use Rattle.mg_scripts.proofs.RunLemmas.{last_line, next_line, obeyable_rest, so_far_none}
+use Rattle.mg_scripts.proofs.SinkLemmas.{last_says, next_says}
 use Rattle.mg_scripts.proofs.TurnLemmas.{any_account}
 use Rattle.mg_scripts.proofs.lines.run_lines.Goals as goal
 
@@ -11,6 +12,7 @@ loop-line-init g c = record {
   size = c.requires.size;
   obeyable = c.requires.obeyable;
   accounts = no_account g.R.Records.meaning c.args.r.now None tt;
+  steady = refl;
   so_far = λ o stand. so_far_none g.R.Records.meaning g.R.Statements.runs g.K.Sink.meaning o c.args.size
       g.met.R.Records.crashes c.args.r.now c.args.sink.now c.args.lines.now c.args.sessions.now.transactions
       c.args.sessions.now.pending.items stand;
@@ -25,6 +27,11 @@ returns-in-Some-end-clause-done g c = λ o stand. last_line g.R.Records.meaning 
     c.obey_line-said.result.fine c.both-fine.result c.in-Some.ensures.cases.0 c.both-fine.ensures c.obey_line-said.result.end
     (c.loop-line.invariant.so_far o stand) (c.obey_line-said.ensures.done o) c.in-Some-end.end c.in-Some-end.is
 
+pub returns-in-Some-end-clause-sinks : goal.returns-in-Some-end-clause-sinks
+returns-in-Some-end-clause-sinks g c = last_says g.K.Sink.meaning c.args.sink.now c.loop-line.sink
+    c.obey_line-said.new.sink c.obey_line-said.result.end c.in-Some-end.end c.loop-line.invariant.steady
+    c.in-Some-end.is c.obey_line-said.ensures.sinks
+
 pub loop-line-preserved : goal.loop-line-preserved
 loop-line-preserved g c = record {
   ready = c.obey_line-said.ensures.ready;
@@ -35,6 +42,8 @@ loop-line-preserved g c = record {
       (reason_in c.obey_line-said.result.end) (account_then g.R.Records.meaning c.args.r.now c.loop-line.r
       c.obey_line-said.new.r None (reason_in c.obey_line-said.result.end) c.loop-line.invariant.accounts
       c.obey_line-said.ensures.accounts);
+  steady = next_says g.K.Sink.meaning c.args.sink.now c.loop-line.sink c.obey_line-said.new.sink
+      c.obey_line-said.result.end c.loop-line.invariant.steady c.in_default-end.is c.obey_line-said.ensures.sinks;
   so_far = λ o stand. next_line g.R.Records.meaning g.R.Statements.runs g.K.Sink.meaning o c.args.size
       g.met.R.Records.lasts c.args.r.now c.loop-line.r c.obey_line-said.new.r c.args.sink.now c.loop-line.sink
       c.obey_line-said.new.sink c.args.lines.now c.loop-line.rest.now c.in-Some.later.now c.in-Some.line.now

@@ -14,6 +14,7 @@ invariant-loop-line g l = record {
   size : g.R.Records.meaning.is_size l.r l.size ≡ true;
   obeyable : All CanBeObeyed l.rest;
   accounts : Accounts g.R.Records.meaning l.fn.r l.r None;
+  steady : g.K.Sink.meaning.faults l.sink ≡ g.K.Sink.meaning.faults l.fn.sink;
   so_far : (o : Opening)
       → StandAt g.R.Records.meaning g.R.Statements.runs l.fn.r o [] l.fn.sessions.transactions
       l.fn.sessions.pending.items []

@@ -1,6 +1,6 @@
-use Rattle.std.proofs.Common.{◌≡◌, None, inl, sym, ap, ◌∙◌, subst}
+use Rattle.std.proofs.Common.{◌≡◌, None, inl, refl, sym, ap, ◌∙◌, subst}
 use Rattle.mg_model.specs.declared.refusal.Refusal.{Refusal}
-use Rattle.std.specs.Prelude.{Option}
+use Rattle.std.specs.Prelude.{List, Option}
 use Rattle.mg_sessions.specs.Accounts.{Accounts}
 use Rattle.mg_sessions.specs.AccountLaws.{account_then}
 use Rattle.mg_scripts.specs.declared.lines.LinesEnd.{LinesEnd}
@@ -8,6 +8,9 @@ use Rattle.mg_scripts.specs.declared.lines.LinesEnd.TheVariants.{Whole}
 use Rattle.mg_scripts.specs.Runs.{LinesDone}
 use Rattle.mg_scripts.specs.Steps.{reason}
 use Rattle.mg_scripts.proofs.EndLemmas.{cut_none, ran_short, ran_whole, start_ready, start_stand}
+use Rattle.mg_script_ends.specs.CauseLaws.{caused_since}
+use Rattle.mg_script_ends.specs.Ends.{AreCaused}
+use Rattle.mg_scripts.proofs.SinkLemmas.{all_say}
 use Rattle.mg_scripts.proofs.script.run_from.Goals as goal
 
 pub run_lines-ran-requires-clause-ready : goal.run_lines-ran-requires-clause-ready
@@ -50,3 +53,18 @@ returns-clause-accounts g c =
     let whole = cut_none c.run_lines-ran.result.end (sym c.is_cut.ensures ∙ c.if-is_cut.false) in
     account_then m c.args.r.now c.run_lines-ran.new.r c.end_script-fine.new.r (reason c.run_lines-ran.result.end) None
     c.run_lines-ran.ensures.accounts c.end_script-fine.ensures.accounts
+
+pub returns-clause-sinks : goal.returns-clause-sinks
+returns-clause-sinks g c =
+    let whole = cut_none c.run_lines-ran.result.end (sym c.is_cut.ensures ∙ c.if-is_cut.false) in
+    all_say g.K.Sink.meaning c.args.sink.now c.run_lines-ran.new.sink Whole refl
+    (c.run_lines-ran.ensures.sinks.steady whole)
+
+pub returns-then-is_cut-clause-caused : goal.returns-then-is_cut-clause-caused
+returns-then-is_cut-clause-caused g c = subst (λ (xs : List Refusal).
+    AreCaused g.R.Records.meaning c.args.r.now c.run_lines-ran.new.r xs) (sym c.requires.none) tt
+
+pub returns-clause-caused : goal.returns-clause-caused
+returns-clause-caused g c = caused_since g.R.Records.meaning c.args.r.now c.run_lines-ran.new.r
+    c.end_script-fine.new.r (reason c.run_lines-ran.result.end) None c.run_lines-ran.ensures.accounts
+    c.end_script-fine.ensures.accounts c.end_script-fine.new.refusals.items c.end_script-fine.ensures.caused
