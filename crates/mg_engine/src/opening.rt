@@ -1,6 +1,7 @@
 //! An engine is opened over a disk, and closed.
 
 ghost use Rattle.std.specs.Prelude.{◌≡◌};
+ghost use Rattle.mg_core.specs.Cores.{IsCore};
 ghost use Rattle.mg_engine_calls.specs.Closings.{ClosesEngine};
 ghost use Rattle.mg_engine_calls.specs.Openings.{OpensEngine};
 
@@ -47,7 +48,8 @@ impl<D: Disk> Engine<D> {
     /// `Offline` exactly where a page write had failed before, and then nothing is written; `DiskWrite` only where
     /// the disk's count of faults rose in this call.
     pub fn close(self) -> (D, Result<(), Refusal>)
-        ensures { ClosesEngine D.meaning self result.0 result.1 }
+        ensures closes { ClosesEngine D.meaning self result.0 result.1 }
+        ensures lawful { IsCore D.meaning self }
     {
         closings_leave::<D>();
         let Engine { core } = self;
@@ -57,7 +59,8 @@ impl<D: Disk> Engine<D> {
     /// Leaves a database as a power cut would: the disk comes back as it is, nothing is written, and what is in
     /// memory goes. So ends a run that a fault has stopped.
     pub fn into_disk(self) -> D
-        ensures { result ≡ self.store.disk }
+        ensures disk { result ≡ self.store.disk }
+        ensures lawful { IsCore D.meaning self }
     {
         let Engine { core } = self;
         core.into_disk()
