@@ -1,8 +1,9 @@
 -- An engine over a disk that was opened.
-use Rattle.std.proofs.Common.{◌≡◌, ℕ, [], false, true, refl, sym, ap, ◌∙◌, subst}
+use Rattle.std.proofs.Common.{◌≡◌, ◌≢◌, ◌+◌, ◌==◌, ℕ, Some, length, [], false, true, refl, sym, ap, ◌∙◌, subst, arith}
 use Rattle.std.specs.Prelude.{List, Result, Ok, Err, is_some}
+use Rattle.mg_base.specs.Asking.{AsksReads, more_reads}
 use Rattle.mg_base.specs.Disk.{Meaning}
-use Rattle.mg_base.specs.Image.{Image}
+use Rattle.mg_base.specs.Image.{Image, blank, page_at}
 use Rattle.mg_base.specs.declared.geometry.Geometry.{Geometry}
 use Rattle.mg_database.specs.Finishing.{Finishes, offline, unsettled, unwritten}
 use Rattle.mg_database.specs.Loading.{IsLoaded, OpensAlone, SaysPages, cache_answer}
@@ -14,21 +15,43 @@ use Rattle.mg_model.specs.declared.table.Table.{Table}
 use Rattle.mg_pool.specs.Dirty.{DirtyPages, is_dirty}
 use Rattle.mg_pool.specs.Fault.{OnlyWrites, TellsFault}
 use Rattle.mg_pool.specs.Pool.{shown}
+use Rattle.mg_pool.specs.Reading.{ReadsPages}
 use Rattle.mg_pool.specs.declared.fault.PoolFault.{PoolFault}
 use Rattle.mg_pool.specs.declared.pool.Pool.{Pool}
 use Rattle.mg_space.specs.Taking.{IsGeometry}
 use Rattle.mg_space.specs.View.{KeepsStore, Tells}
 use Rattle.mg_space.specs.declared.links.FireLinks.{FireLinks}
+use Rattle.mg_txlist.specs.Reading.{is_head_or_tip}
+use Rattle.mg_txlist.specs.ReadingLaws.{of_more}
+use Rattle.mg_txlist.specs.declared.list.TipPage.{TipPage}
 use Rattle.mg_works.specs.Works.{Working, work_of}
 use Rattle.mg_core.specs.declared.parts.Core.{Core}
 use Rattle.mg_core.specs.Cores.{IsCore}
 use Rattle.mg_core.specs.Opening.{Opens}
 
+-- what was asked before the pages were read, and then
+read_then : {D : Type 0} (m : Meaning D) (disk mid new : D) (pages : List TipPage)
+    → AsksReads m disk mid 1 (λ n. n == 0)
+    → AsksReads m mid new (1 + length pages) (is_head_or_tip pages)
+    → AsksReads m disk new (2 + length pages) (is_head_or_tip pages)
+read_then m disk mid new pages first next =
+    subst (λ (most : ℕ). AsksReads m disk new most (is_head_or_tip pages)) two
+    (more_reads m disk mid new 1 (1 + length pages) (is_head_or_tip pages)
+    (of_more m disk mid 1 (λ n. n == 0) (is_head_or_tip pages) within first) next)
+  where
+    two : 1 + (1 + length pages) ≡ 2 + length pages
+    two = omega arith
+
+    within : (n : ℕ) → (n == 0) ≡ true → is_head_or_tip pages n ≡ true
+    within n is = rw is refl
+
 -- An engine has what was read, and nobody works with it yet.
 module _ {D : Type 0} (m : Meaning D) (disk : D) (limit : ℕ) (before after : Pool D FireLinks)
     (loaded : Loaded) (waits : List (ℕ × ℕ)) (works : List Working)
     (prepared : IsPrepared m disk limit before) (keeps : KeepsStore m before after)
-    (is : IsLoaded before.geometry.size loaded) (nobody : waits ≡ []) (none : works ≡ []) where
+    (is : IsLoaded before.geometry.size loaded)
+    (loads : ReadsPages m before after (1 + length loaded.list.pages.items)
+    (is_head_or_tip loaded.list.pages.items)) (nobody : waits ≡ []) (none : works ≡ []) where
   abbrev core : Core D
   core = record {
     store = after;
@@ -63,6 +86,14 @@ module _ {D : Type 0} (m : Meaning D) (disk : D) (limit : ℕ) (before after : P
     };
   }
 
+  reads_all : (image : Image) → m.held disk ≡ Some image
+      → page_at after.geometry.size image 0 ≢ blank after.geometry.size
+      → AsksReads m disk after.disk (2 + length loaded.list.pages.items)
+      (is_head_or_tip loaded.list.pages.items)
+  reads_all image held other = read_then m disk before.disk after.disk loaded.list.pages.items
+      (prepared.reads image held (λ zero. other (subst (λ (g : Geometry).
+      page_at g.size image 0 ≡ blank g.size) (sym keeps.geometry) zero))) loads.asks
+
   pub opened : ((image : Image) → Tells m before.disk image
       → SaysPages before.geometry.size (shown before.dirty image) loaded.list loaded.catalog.pointer
       loaded.markers) → Opens m disk limit core
@@ -82,6 +113,7 @@ module _ {D : Type 0} (m : Meaning D) (disk : D) (limit : ℕ) (before after : P
       shortages = refl;
     };
     says = says;
+    reads = reads_all;
   }
 
 -- the faults with which a database is not closed are those of calls that read nothing and take no memory

@@ -1,7 +1,8 @@
 -- The opening of a disk, and the closing of a database.
-use Rattle.std.specs.Prelude.{◌≡◌, ℕ, [], None, Result, Ok, Err}
+use Rattle.std.specs.Prelude.{◌≡◌, ◌≢◌, ◌+◌, ℕ, length, Some, [], None, Result, Ok, Err}
+use Rattle.mg_base.specs.Asking.{AsksReads}
 use Rattle.mg_base.specs.Disk.{Meaning}
-use Rattle.mg_base.specs.Image.{Image}
+use Rattle.mg_base.specs.Image.{Image, blank, page_at}
 use Rattle.mg_database.specs.Finishing.{Finishes}
 use Rattle.mg_database.specs.Loading.{AreUndecided, OpensAlone, RefusesPages, SaysPages, cache_answer}
 use Rattle.mg_database.specs.Preparing.{FailsToPrepare, IsPrepared}
@@ -16,6 +17,7 @@ use Rattle.mg_pool.specs.declared.fault.PoolFault.{PoolFault}
 use Rattle.mg_pool.specs.declared.pool.Pool.{Pool}
 use Rattle.mg_space.specs.View.{KeepsStore, Tells}
 use Rattle.mg_space.specs.declared.links.FireLinks.{FireLinks}
+use Rattle.mg_txlist.specs.Reading.{is_head_or_tip}
 use Rattle.mg_core.specs.declared.parts.Core.{Core}
 use Rattle.mg_core.specs.Cores.{IsCore}
 use Rattle.mg_core.specs.Refusing.{IsRefusal, IsRefusalOf}
@@ -42,6 +44,12 @@ pub record Opens {D : Type 0} (m : Meaning D) (disk : D) (limit : ℕ) (core : C
   pub says : (image : Image) → Tells m before.disk image
       → SaysPages before.geometry.size (shown before.dirty image) core.list core.catalog.pointer
       core.markers
+  -- where page 0 is not zero, that page and the transaction inventory pages alone were read, and no more
+  -- often in sum than page 0 twice and each of the others once
+  pub reads : (image : Image) → m.held disk ≡ Some image
+      → page_at core.store.geometry.size image 0 ≢ blank core.store.geometry.size
+      → AsksReads m disk core.store.disk (2 + length core.list.pages.items)
+      (is_head_or_tip core.list.pages.items)
 
 -- The pages of a disk that was prepared were not read.
 pub record FailsToRead {D : Type 0} (m : Meaning D) (disk new : D) (limit : ℕ) (fault : OpenFault)

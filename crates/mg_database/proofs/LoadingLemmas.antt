@@ -1,6 +1,6 @@
 -- What is read of a database.
 use Rattle.std.proofs.Common.{◌≡◌, ◌≢◌, ◌⊎◌, inl, inr, ◌<◌, ◌≤◌, ◌+◌, ◌-◌, ◌==◌, ◌&&◌, ◌||◌, ◌++◌, nat_lt, ℕ, zero, suc, Bool, true, false, List, [], ◌∷◌, None, length, refl, sym, ap, ◌∙◌, subst, arith, cond, lt-ltb, le-ltb}
-use Rattle.std.specs.Prelude.{IfErr, map, max, unwrap_or, Result, Ok, Err}
+use Rattle.std.specs.Prelude.{IfErr, OnOk, map, max, unwrap_or, Result, Ok, Err}
 use Rattle.std.proofs.lemmas.Bool.{cases_eq, cases_lt, eq-eqb, ne_eqb}
 use Rattle.mg_base.specs.Disk.{Meaning}
 use Rattle.mg_base.specs.Image.{Image}
@@ -312,6 +312,11 @@ pub seen_alone : {D L : Type 0} (store : Pool D L) (image : Image) (batch : Chan
     → page ≡ shown store.dirty image n
 seen_alone store image batch n page none seen = seen ∙ ap (λ (pages : List BatchPage).
     unwrap_or (content_in pages n) (shown store.dirty image n)) none
+
+-- what holds whatever the answer holds at Ok
+pub at_ok : {T E P : Type 0} (result : Result T E) → P → OnOk result P
+at_ok (Ok x) holds = holds
+at_ok (Err fault) holds = tt
 
 -- what the test of a state tells
 pub in_limbo : (x : TxState) (b : Bool) → b ≡ true → b ≡ is_limbo x → x ≡ Limbo

@@ -3,7 +3,7 @@ use Rattle.std.proofs.Common.{◌≡◌, ◌≤◌, arith, inl, inr, ℕ, Bool, 
 use Rattle.std.specs.Prelude.{OnOk, Result, Ok, Err}
 use Rattle.std.proofs.lemmas.Bool.{false≢true}
 use Rattle.mg_base.specs.Disk.{Meaning, Rose}
-use Rattle.mg_base.specs.Image.{Image}
+use Rattle.mg_base.specs.Image.{Image, blank, page_at}
 use Rattle.mg_base.specs.Moments.{goes_on, joined, leaves_as, started}
 use Rattle.mg_base.specs.declared.geometry.Geometry.{Geometry}
 use Rattle.mg_format.specs.Format.{FormatDone, IsClean, IsFresh, IsUnmadeImage, LeavesNew}
@@ -16,7 +16,7 @@ use Rattle.mg_space.specs.Taking.{IsGeometry}
 use Rattle.mg_space.specs.View.{Tells}
 use Rattle.mg_space.specs.declared.fault.SpaceFault.TheVariants as space
 use Rattle.mg_space.specs.declared.links.FireLinks.{FireLinks}
-use Rattle.mg_survey.specs.Survey.{IsSurveyed, OnlyAsks, limit_of}
+use Rattle.mg_survey.specs.Survey.{IsSurveyed, OnlyAsks, ReadsHead, limit_of}
 use Rattle.mg_survey.specs.declared.survey.Survey.{Survey}
 use Rattle.mg_database.specs.declared.fault.OpenFault.{OpenFault}
 use Rattle.mg_database.specs.declared.fault.OpenFault.TheVariants.{Space}
@@ -66,6 +66,7 @@ format_since {D} m disk asked new size result asks told done = record {
 module _ {D : Type 0} (m : Meaning D) (disk asked : D) (limit : ℕ) (it : Survey)
     (old new : Pool D FireLinks) (asks : KeepsContent m disk asked)
     (steady : m.faults asked ≡ m.faults disk) (surveyed : IsSurveyed m disk asked limit it)
+    (reads : ReadsHead m disk asked it.geometry.size)
     (pool : IsPool m old) (disk_is : old.disk ≡ asked) (geometry_is : old.geometry ≡ it.geometry)
     (clean : IsClean old) (online : old.offline ≡ None) where
   pub lawful_geometry : IsGeometry old.geometry
@@ -88,6 +89,10 @@ module _ {D : Type 0} (m : Meaning D) (disk asked : D) (limit : ℕ) (it : Surve
       → IsUnmadeImage old.geometry.size image → ⊥
   told_other is image held unmade_ = false≢true (sym is ∙ (surveyed.unmade_is image held).1
       (subst (λ (size : ℕ). IsUnmadeImage size image) (sym size_is) unmade_))
+
+  reads_of_old : ReadsHead m disk old.disk old.geometry.size
+  reads_of_old = subst (λ (d : D). ReadsHead m disk d old.geometry.size) (sym disk_is)
+      (subst (ReadsHead m disk asked) size_is reads)
 
   is_fresh : it.unmade ≡ true → (image : Image) → Tells m disk image → IsFresh m old image
   is_fresh is image tells = record {
@@ -113,6 +118,7 @@ module _ {D : Type 0} (m : Meaning D) (disk asked : D) (limit : ℕ) (it : Surve
     disk_is = there (subst (KeepsContent m disk) (sym disk_is) asks) (told_other is);
     limit_is = limit_of_old;
     never_falls = asked_of_old;
+    reads = reads_of_old;
   })
   prepared true is makes = record {
     pool = makes.pool;
@@ -124,6 +130,9 @@ module _ {D : Type 0} (m : Meaning D) (disk asked : D) (limit : ℕ) (it : Surve
         (makes.done image (is_fresh is image tells))));
     limit_is = λ image held. ap (λ (g : Geometry). g.limit) makes.geometry ∙ limit_of_old image held;
     never_falls = let first = asked_of_old in let then_ = makes.never_falls in omega (arith, first, then_);
+    -- page 0 was zero
+    reads = λ image held other. absurd (other (subst (λ (size : ℕ). page_at size image 0 ≡ blank size) same_size
+        (told_unmade is image held).header));
   }
     where
       same_size : old.geometry.size ≡ new.geometry.size

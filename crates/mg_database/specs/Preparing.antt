@@ -11,7 +11,7 @@ use Rattle.mg_space.specs.Taking.{IsGeometry}
 use Rattle.mg_space.specs.View.{Tells}
 use Rattle.mg_space.specs.declared.fault.SpaceFault.TheVariants as space
 use Rattle.mg_space.specs.declared.links.FireLinks.{FireLinks}
-use Rattle.mg_survey.specs.Survey.{limit_of}
+use Rattle.mg_survey.specs.Survey.{ReadsHead, limit_of}
 use Rattle.mg_database.specs.declared.fault.OpenFault.{OpenFault}
 use Rattle.mg_database.specs.declared.fault.OpenFault.TheVariants.{Space}
 
@@ -36,6 +36,7 @@ pub record IsPrepared {D : Type 0} (m : Meaning D) (disk : D) (limit : ℕ) (sto
   pub limit_is : (image : Image) → m.held disk ≡ Some image
       → store.geometry.limit ≡ limit_of limit (length image)
   pub never_falls : m.faults disk ≤ m.faults store.disk
+  pub reads : ReadsHead m disk store.disk store.geometry.size
 
 -- A new database was not made, as one might have been: a page write or the settling failed.
 pub record FailsToMake {D : Type 0} (m : Meaning D) (old new : D) (count : ℕ) : Type 0 where

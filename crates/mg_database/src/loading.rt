@@ -1,14 +1,16 @@
 //! What an engine has in memory of the pages is read, when a database is opened.
 
-ghost use Rattle.std.specs.Prelude.{◌≡◌, ◌<◌, ◌+◌, [], None, Ok, IfErr, IfOk, OnOk};
+ghost use Rattle.std.specs.Prelude.{◌≡◌, ◌<◌, ◌+◌, [], None, Ok, IfErr, IfOk, IsSome, OnOk, length};
 ghost use Rattle.mg_base.specs.Image.{Image};
 ghost use Rattle.mg_base.specs.declared.geometry.TheConstants.{GREATEST_LIMIT as MOST_LIMIT};
 ghost use Rattle.mg_header.specs.HeaderPage.{reading};
 ghost use Rattle.mg_model.specs.Legal.{is_limbo};
 ghost use Rattle.mg_pool.specs.Fault.{TellsFault};
-ghost use Rattle.mg_pool.specs.Pool.{IsPool, shown};
+ghost use Rattle.mg_pool.specs.Pool.{IsPool, resident, shown};
+ghost use Rattle.mg_pool.specs.Reading.{Fetches, ReadsPages};
 ghost use Rattle.mg_space.specs.Taking.{IsGeometry};
 ghost use Rattle.mg_space.specs.View.{KeepsStore, Tells};
+ghost use Rattle.mg_txlist.specs.Reading.{is_head_or_tip};
 ghost use Rattle.mg_txlist.specs.TxList.{IsTxList, next_said};
 ghost use Rattle.mg_database.specs.Loading.{AreUndecided, AreUndecidedBelow, ChecksCatalog, IsLoaded, OpensAlone, RefusesPages, SaysPages, cache_answer, head_fault, markers_in};
 
@@ -57,6 +59,8 @@ pub fn load<D: Disk>(store: &mut Store<D>) -> Result<Loaded, OpenFault>
         loaded.catalog.pointer loaded.markers) }
     ensures refused { (image : Image) → Tells D.meaning store.old.disk image → IfErr result
         (RefusesPages D.meaning store.new store.old.geometry (shown store.old.dirty image)) }
+    ensures reads { IfOk result (λ loaded. ReadsPages D.meaning store.old store.new
+        (1 + length loaded.list.pages.items) (is_head_or_tip loaded.list.pages.items)) }
 {
     let alloc = store.alloc();
     let header = match read_first(store) {
@@ -102,6 +106,8 @@ fn read_first<D: Disk>(store: &mut Store<D>) -> Result<Header, OpenFault>
         (λ header. reading (shown store.old.dirty image 0) store.old.geometry.size ≡ Ok header) }
     ensures refused { (image : Image) → Tells D.meaning store.old.disk image → IfErr result
         (RefusesPages D.meaning store.new store.old.geometry (shown store.old.dirty image)) }
+    ensures reads { Fetches D.meaning store.old store.new 0 }
+    ensures held { OnOk result (IsSome (resident store.new 0)) }
 {
     let batch = Batch::new(store.alloc());
     let size = store.geometry().size;

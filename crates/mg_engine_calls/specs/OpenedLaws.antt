@@ -146,6 +146,7 @@ module _ {D : Type 0} (m : Meaning D) (counts : CountsNow m) (stands_first : Sta
       stands = λ image o on it. begins_standing m disk limit core opens stands_first starts loaded begin image o on
           it;
       unwritten = kept;
+      reads = opens.reads;
       made = new_on;
       begins_new = λ image now tells is then_ whole. new_stands now (new_on image tells is) then_ whole;
       crash = λ image tells. read_leaves m counts disk opens.before.disk size ready image core.store.disk tells

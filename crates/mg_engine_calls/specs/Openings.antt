@@ -1,7 +1,8 @@
 -- What a disk holds that may be opened, and what an engine is over it.
-use Rattle.std.specs.Prelude.{◌≡◌, ◌⊎◌, ◌≤◌, ℕ, false, [], length, None, Some, Result, Ok, Err}
+use Rattle.std.specs.Prelude.{◌≡◌, ◌≢◌, ◌⊎◌, ◌+◌, ◌≤◌, ℕ, false, [], length, None, Some, Result, Ok, Err}
+use Rattle.mg_base.specs.Asking.{AsksReads}
 use Rattle.mg_base.specs.Disk.{MayLeave, Meaning}
-use Rattle.mg_base.specs.Image.{Image, page_at}
+use Rattle.mg_base.specs.Image.{Image, blank, page_at}
 use Rattle.mg_base.specs.Moments.{LeavesOnly}
 use Rattle.mg_core.specs.Opening.{RefusesOpen}
 use Rattle.mg_core.specs.declared.parts.Core.{Core}
@@ -28,6 +29,7 @@ use Rattle.mg_new_databases.specs.Soundness.{HasWholePages}
 use Rattle.mg_pool.specs.Pool.{KeepsContent}
 use Rattle.mg_space.specs.View.{Tells}
 use Rattle.mg_survey.specs.Survey.{limit_of}
+use Rattle.mg_txlist.specs.Reading.{is_head_or_tip}
 use Rattle.mg_works.specs.Works.{has_session}
 
 -- ---- what a disk holds
@@ -85,6 +87,12 @@ pub record IsOpenedOver {D : Type 0} (m : Meaning D) (disk : D) (limit : ℕ) (c
   -- a disk on which no database may be made was not written
   pub unwritten : (image : Image) → m.held disk ≡ Some image
       → (IsUnmadeImage core.store.geometry.size image → ⊥) → KeepsContent m disk core.store.disk
+  -- where page 0 of the disk is not zero, that page and the transaction inventory pages alone were read, and no more
+  -- often in sum than page 0 twice and each of the others once
+  pub reads : (image : Image) → m.held disk ≡ Some image
+      → page_at core.store.geometry.size image 0 ≢ blank core.store.geometry.size
+      → AsksReads m disk core.store.disk (2 + length core.list.pages.items)
+      (is_head_or_tip core.list.pages.items)
   -- any other holds a new one, and nothing is pending
   pub made : (image : Image) → Tells m disk image → IsUnmadeImage core.store.geometry.size image
       → HasNew m core.store.disk core.store.geometry.size

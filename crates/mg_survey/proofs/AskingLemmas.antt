@@ -1,9 +1,10 @@
 -- A disk that is asked, call by call.
-use Rattle.std.proofs.Common.{◌≡◌, ◌⊎◌, inl, inr, ◌<◌, ◌≤◌, ◌+◌, ℕ, zero, suc, Bool, true, Some, length, subst, refl, ◌∙◌, arith}
+use Rattle.std.proofs.Common.{◌≡◌, ◌≢◌, ◌==◌, ◌⊎◌, inl, inr, ◌<◌, ◌≤◌, ◌+◌, ℕ, zero, suc, Bool, true, Some, length, subst, refl, ◌∙◌, arith}
 use Rattle.std.specs.Prelude.{◌↔◌, IsTrue, Result, Ok, Err, IfOk, min}
 use Rattle.std.proofs.lemmas.Bool.{cases_lt}
 use Rattle.std.proofs.lemmas.List.{get_or_past}
-use Rattle.mg_base.specs.Disk.{MayLeave, Meaning}
+use Rattle.mg_base.specs.Asking.{kept_reads, no_reads, one_read}
+use Rattle.mg_base.specs.Disk.{KeepsReads, MayLeave, Meaning, ReadsPage}
 use Rattle.mg_base.specs.Image.{Image, blank, page_at}
 use Rattle.mg_base.specs.declared.geometry.TheConstants.{GREATEST_LIMIT}
 use Rattle.mg_image.specs.Form.{Pages, packed_coding, packed_form}
@@ -11,7 +12,7 @@ use Rattle.mg_image.specs.NewDatabase.{IsNewPage}
 use Rattle.mg_image.specs.Opening.{IsUnmade}
 use Rattle.mg_pool.specs.Pool.{KeepsContent}
 use Rattle.mg_space.specs.ViewLaws.{content_on}
-use Rattle.mg_survey.specs.Survey.{AreUnmadeBehind, HasPages, HasTested, IsUnmadeAt}
+use Rattle.mg_survey.specs.Survey.{AreUnmadeBehind, HasPages, HasTested, IsUnmadeAt, ReadsHead}
 use Rattle.mg_survey.specs.UnmadeLaws.{zero_is_unmade}
 
 abbrev pub CountsNow : {D : Type 0} → Meaning D → Type 0
@@ -97,3 +98,16 @@ empty_unmade m counts disk size pages has none image held = both_unmade size (pa
     zero : (n : ℕ) → page_at size image n ≡ blank size
     zero n = let counted = counts disk image pages held has.count in
         past_end size image n (omega (arith, counted, none))
+
+-- ---- what is read
+
+-- two calls read nothing, and the third page 0 alone where it is not zero
+pub head_alone : {D : Type 0} (m : Meaning D) (disk sized counted new : D) (size : ℕ)
+    → KeepsReads m disk sized → KeepsReads m sized counted → m.held counted ≡ m.held disk
+    → ((image : Image) → m.held counted ≡ Some image → page_at size image 0 ≢ blank size
+    → ReadsPage m counted new 0) → ReadsHead m disk new size
+head_alone m disk sized counted new size first second held reads = λ image is other.
+    one_read m disk counted new 0 0 (λ n. n == 0)
+    (kept_reads m disk sized counted 0 (λ n. n == 0)
+    (kept_reads m disk disk sized 0 (λ n. n == 0) (no_reads m disk (λ n. n == 0)) first) second)
+    (reads image (held ∙ is) other) refl

@@ -1,5 +1,6 @@
 -- What a disk is asked before it is opened, and on which a database may be made.
-use Rattle.std.specs.Prelude.{◌≡◌, ◌↔◌, ◌<◌, ◌≤◌, ◌⊎◌, ℕ, zero, suc, true, List, length, min, max, Some, Result, IsErr, IsTrue, OnOk}
+use Rattle.std.specs.Prelude.{◌≡◌, ◌≢◌, ◌↔◌, ◌==◌, ◌<◌, ◌≤◌, ◌⊎◌, ℕ, zero, suc, true, List, length, min, max, Some, Result, IsErr, IsTrue, OnOk}
+use Rattle.mg_base.specs.Asking.{AsksReads}
 use Rattle.mg_base.specs.Disk.{Meaning, Rose}
 use Rattle.mg_base.specs.Geometry.{is_page_size}
 use Rattle.mg_base.specs.Image.{Image, blank, page_at}
@@ -32,6 +33,11 @@ pub record OnlyAsks {D T E : Type 0} (m : Meaning D) (old new : D) (result : Res
   pub content : KeepsContent m old new
   pub cause : IsErr result → Rose (m.faults old) (m.faults new)
   pub steady : OnOk result (m.faults new ≡ m.faults old)
+
+-- where page 0 is not zero, it alone was read, and once at most
+abbrev pub ReadsHead : {D : Type 0} → Meaning D → D → D → ℕ → Type 0
+ReadsHead m old new size = (image : Image) → m.held old ≡ Some image
+    → page_at size image 0 ≢ blank size → AsksReads m old new 1 (λ n. n == 0)
 
 -- The pages of a disk from 1 up to one were read, a database may be made on each, and no call has failed.
 pub record HasTested {D : Type 0} (m : Meaning D) (old now : D) (size pages n : ℕ) : Type 0 where

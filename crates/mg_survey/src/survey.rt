@@ -1,7 +1,7 @@
 //! What a disk is asked before it is opened.
 
 ghost use Rattle.std.specs.Prelude.{IfOk};
-ghost use Rattle.mg_survey.specs.Survey.{IsSurveyed, OnlyAsks};
+ghost use Rattle.mg_survey.specs.Survey.{IsSurveyed, OnlyAsks, ReadsHead};
 
 use crate::disk::is_unmade;
 use mg_base::{Disk, DiskFault, GREATEST_LIMIT, Geometry};
@@ -24,6 +24,7 @@ pub struct Survey {
 pub fn ask<D: Disk>(disk: &mut D, limit: u32) -> Result<Survey, DiskFault>
     ensures asks { OnlyAsks D.meaning disk.old disk.new result }
     ensures survey { IfOk result (IsSurveyed D.meaning disk.old disk.new limit) }
+    ensures reads { IfOk result (λ it. ReadsHead D.meaning disk.old disk.new it.geometry.size) }
 {
     let size = match disk.page_size() {
         Ok(size) => size,

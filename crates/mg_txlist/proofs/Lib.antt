@@ -5,5 +5,6 @@ mod EndLemmas
 mod ListLemmas
 mod LoadedLemmas
 mod LoadLemmas
+mod ReadingLemmas
 mod RefusalLemmas
 mod WritingLemmas

@@ -1,15 +1,17 @@
 //! The list is loaded: the header, and the chain of transaction inventory pages from the last one
 //! back.
 
-ghost use Rattle.std.specs.Prelude.{◌≡◌, ◌<◌, ◌≤◌, ◌+◌, [], ℕ, length, Ok, IfErr, IfOk};
+ghost use Rattle.std.specs.Prelude.{◌≡◌, ◌<◌, ◌≤◌, ◌+◌, [], ℕ, length, Ok, IfErr, IfOk, IsSome, OnOk};
 ghost use Rattle.mg_base.specs.Image.{Image};
 ghost use Rattle.mg_header.specs.HeaderPage.{reading};
 ghost use Rattle.mg_header.specs.declared.header.TheConstants.{GREATEST_NEXT as MOST_NEXT};
 ghost use Rattle.mg_pool.specs.Fault.{TellsFault};
-ghost use Rattle.mg_pool.specs.Pool.{IsPool, shown};
+ghost use Rattle.mg_pool.specs.Pool.{IsPool, resident, shown};
+ghost use Rattle.mg_pool.specs.Reading.{Fetches, ReadsPages};
 ghost use Rattle.mg_space.specs.Taking.{IsGeometry};
 ghost use Rattle.mg_space.specs.View.{KeepsStore, ReadsAlone, Tells, pool_answer};
 ghost use Rattle.mg_txlist.specs.Chain.{AreTested, AreWholePages, HasHead, IsTipOf, tips_below};
+ghost use Rattle.mg_txlist.specs.Reading.{ReadsList, is_among_tips};
 ghost use Rattle.mg_txlist.specs.Refusals.{RefusesHead, RefusesLoad, RefusesTip, RefusesTips, link_to_head, wanted_in};
 ghost use Rattle.mg_txlist.specs.TxList.{IsTxList};
 
@@ -43,6 +45,7 @@ impl TxList {
             list.first list.pages.items) }
         ensures refused { (image : Image) → Tells D.meaning store.old.disk image → IfErr result
             (RefusesLoad D.meaning store.new store.old.geometry (shown store.old.dirty image)) }
+        ensures reads { IfOk result (λ list. ReadsList D.meaning store.old store.new list.pages.items) }
     {
         let batch = Batch::new(store.alloc());
         let header = read_head(store, &batch)?;
@@ -73,6 +76,8 @@ pub(crate) fn read_head<D: Disk>(store: &mut Store<D>, batch: &Batch) -> Result<
         (λ header. reading (shown store.old.dirty image 0) store.old.geometry.size ≡ Ok header) }
     ensures refused { (image : Image) → Tells D.meaning store.old.disk image → IfErr result
         (RefusesHead D.meaning store.new store.old.geometry.size (shown store.old.dirty image 0)) }
+    ensures reads { Fetches D.meaning store.old store.new 0 }
+    ensures held { OnOk result (IsSome (resident store.new 0)) }
 {
     let size = store.geometry().size;
     let page = page_of(store, batch, PageNo(0))?;
@@ -122,6 +127,8 @@ fn load_pages<D: Disk>(
     ensures refused { (image : Image) → Tells D.meaning store.old.disk image → IfErr result
         (RefusesTips D.meaning store.new store.old.geometry.limit (shown store.old.dirty image) last.0
         count) }
+    ensures reads { IfOk result (λ pages. ReadsPages D.meaning store.old store.new (length pages.items)
+        (is_among_tips pages.items)) }
 {
     store.online()?;
     let mut pages = Vec::new(store.alloc());
@@ -156,6 +163,7 @@ fn load_page<D: Disk>(
     ensures refused { (image : Image) → Tells D.meaning store.old.disk image → IfErr result
         (RefusesTip D.meaning store.new store.old.geometry.limit (shown store.old.dirty image) sequence
         at) }
+    ensures reads { Fetches D.meaning store.old store.new at.0 }
 {
     store.online()?;
     if at.0 == 0 {

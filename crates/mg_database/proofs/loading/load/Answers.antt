@@ -1,7 +1,9 @@
-use Rattle.std.proofs.Common.{ap, ◌∙◌}
+use Rattle.std.proofs.Common.{ap, ◌∙◌, length, refl}
 use Rattle.mg_base.specs.declared.geometry.Geometry.{Geometry}
 use Rattle.mg_model.specs.declared.table.Table.{Table}
 use Rattle.mg_space.specs.ViewLaws.{keeps_on}
+use Rattle.mg_txlist.specs.Reading.{is_head_or_tip}
+use Rattle.mg_txlist.specs.ReadingLaws.{head_first}
 use Rattle.mg_database.proofs.LoadingLemmas.{catalog_lawful, list_refused, nobody_active, says_pages}
 use Rattle.mg_database.proofs.loading.load.Goals as goal
 
@@ -19,6 +21,12 @@ returns-clause-says g c = λ image tells. says_pages g.D.Disk.meaning c.args.sto
     image c.in-Ok.header c.in-Ok-load.list _ _ c.read_first.ensures.keeps tells
     (c.in-Ok.ensures.says image tells) (c.in-Ok-load.ensures.says image)
     (ap (λ (t : Table). t.pointer) c.in-Ok-catalog_table.ensures) c.markers_of-markers.ensures
+
+pub returns-clause-reads : goal.returns-clause-reads
+returns-clause-reads g c = head_first g.D.Disk.meaning c.args.store.now c.read_first.new.store
+    c.load.new.store (length c.in-Ok-load.list.pages.items) (is_head_or_tip c.in-Ok-load.list.pages.items)
+    (is_head_or_tip c.in-Ok-load.list.pages.items) c.read_first.ensures.reads refl
+    (c.in-Ok-load.ensures.reads.head_held c.in-Ok.ensures.held) (λ n is. is)
 
 pub returns-clause-lawful : goal.returns-clause-lawful
 returns-clause-lawful g c = record {

@@ -1,7 +1,8 @@
 use Rattle.std.proofs.Common.{ap}
 use Rattle.mg_base.specs.declared.geometry.Geometry.{Geometry}
 use Rattle.mg_pool.specs.Pool.{shown}
-use Rattle.mg_database.proofs.LoadingLemmas.{catalog_strays, head_differs, head_missing, head_read, seen_alone}
+use Rattle.mg_txlist.specs.ReadingLaws.{read_held}
+use Rattle.mg_database.proofs.LoadingLemmas.{at_ok, catalog_strays, head_differs, head_missing, head_read, seen_alone}
 use Rattle.mg_database.proofs.loading.read_first.Goals as goal
 
 pub returns-in-Err-clause-refused : goal.returns-in-Err-clause-refused
@@ -29,3 +30,8 @@ returns-clause-refused g c = λ image tells. head_differs g.D.Disk.meaning c.pag
     (c.in-Ok.ensures.seen image tells))
     (ap (λ (x : Geometry). x.size) c.geometry-size.ensures) c.read_header.ensures c.in-Err-read_header.is)
     c.fault_of.ensures
+
+pub returns-in-Ok-read_header-clause-held : goal.returns-in-Ok-read_header-clause-held
+returns-in-Ok-read_header-clause-held g c = at_ok c.check_catalog.result
+    (read_held c.page_of.new.store c.new-batch.result.pages 0 c.in-Ok.page c.new-batch.ensures.pages
+    c.in-Ok.ensures.read)

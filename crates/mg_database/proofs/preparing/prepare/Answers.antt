@@ -18,14 +18,14 @@ make_if-requires-clause-clean g c = empty_clean c.in-Ok-new.store c.in-Ok-new.en
 pub returns-in-Ok-make_if : goal.returns-in-Ok-make_if
 returns-in-Ok-make_if g c = prepared g.D.Disk.meaning c.args.disk c.ask.new.disk c.args.limit
     c.in-Ok.surveyed c.in-Ok-new.store c.make_if.new.store c.in-Ok.ensures.asks.content
-    c.in-Ok.ensures.asks.steady c.in-Ok.ensures.survey c.in-Ok-new.ensures.pool c.in-Ok-new.ensures.disk
+    c.in-Ok.ensures.asks.steady c.in-Ok.ensures.survey c.in-Ok.ensures.reads c.in-Ok-new.ensures.pool c.in-Ok-new.ensures.disk
     c.in-Ok-new.ensures.geometry (empty_clean c.in-Ok-new.store c.in-Ok-new.ensures.dirty)
     c.in-Ok-new.ensures.online c.in-Ok.surveyed.unmade refl c.in-Ok-make_if.ensures
 
 pub returns-in-Err-make_if : goal.returns-in-Err-make_if
 returns-in-Err-make_if g c = not_prepared_as g.D.Disk.meaning c.args.disk c.ask.new.disk c.args.limit
     c.in-Ok.surveyed c.in-Ok-new.store c.make_if.new.store c.in-Ok.ensures.asks.content
-    c.in-Ok.ensures.asks.steady c.in-Ok.ensures.survey c.in-Ok-new.ensures.pool c.in-Ok-new.ensures.disk
+    c.in-Ok.ensures.asks.steady c.in-Ok.ensures.survey c.in-Ok.ensures.reads c.in-Ok-new.ensures.pool c.in-Ok-new.ensures.disk
     c.in-Ok-new.ensures.geometry (empty_clean c.in-Ok-new.store c.in-Ok-new.ensures.dirty)
     c.in-Ok-new.ensures.online c.in-Ok.surveyed.unmade c.in-Err-make_if.fault c.into_disk.result
     c.of_pool-in-Err-make_if.result refl c.in-Err-make_if.ensures c.into_disk.ensures

@@ -4,6 +4,7 @@ use Rattle.mg_pool.specs.Pool.{shown}
 use Rattle.mg_space.specs.ViewLaws.{keeps_on, tells_on}
 use Rattle.mg_txlist.specs.Refusals.{RefusesTips}
 use Rattle.mg_txlist.proofs.ChainLemmas.{read_at, read_tested, read_whole}
+use Rattle.mg_txlist.proofs.ReadingLemmas.{read_front}
 use Rattle.mg_txlist.proofs.RefusalLemmas.{err_as, one_back, tips_refused}
 use Rattle.mg_txlist.proofs.loading.load_pages.Goals as goal
 
@@ -34,6 +35,9 @@ loop-k-preserved g c = record {
       (tells_on g.D.Disk.meaning c.args.store.now c.loop-k.store image c.loop-k.invariant.keeps tells)
       ∙ ap (λ (d : DirtyPages). shown d image c.loop-k.at.0) c.loop-k.invariant.keeps.dirty)
       c.prev_of-at.ensures;
+  reads = read_front g.D.Disk.meaning c.args.store.now c.loop-k.store c.load_page.new.store c.loop-k.at.0
+      c.in_ok-page.page c.loop-k.pages.items c.insert.new.self.items c.loop-k.invariant.reads
+      c.load_page.ensures.reads c.in_ok-page.ensures.page c.in_ok-insert.ensures.items;
 }
 
 pub returns-in_err-page-clause-refused : goal.returns-in_err-page-clause-refused

@@ -9,7 +9,8 @@ returns-in-Err g c = unprepared c.in-Err.fault c.open_refusal.ensures c.in-Err.e
 pub returns-in-Ok-load : goal.returns-in-Ok-load
 returns-in-Ok-load g c = opened g.D.Disk.meaning c.args.disk c.args.limit c.in-Ok.store c.load.new.store
     c.in-Ok-load.loaded c.new.result c.new-in-Ok-load.result c.in-Ok.ensures c.load.ensures.keeps
-    c.in-Ok-load.ensures.lawful c.new.ensures c.new-in-Ok-load.ensures c.in-Ok-load.ensures.says
+    c.in-Ok-load.ensures.lawful c.in-Ok-load.ensures.reads c.new.ensures c.new-in-Ok-load.ensures
+    c.in-Ok-load.ensures.says
 
 pub returns-in-Err-load : goal.returns-in-Err-load
 returns-in-Err-load g c = unread c.in-Err-load.fault c.open_refusal-in-Err-load.ensures (record {

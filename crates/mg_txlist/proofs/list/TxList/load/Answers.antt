@@ -2,6 +2,7 @@ use Rattle.std.proofs.Common.{refl}
 use Rattle.mg_txlist.proofs.LoadLemmas.{head_read, list_made}
 use Rattle.mg_pool.specs.Pool.{shown}
 use Rattle.mg_txlist.specs.Refusals.{RefusesLoad}
+use Rattle.mg_txlist.proofs.ReadingLemmas.{read_list}
 use Rattle.mg_txlist.proofs.RefusalLemmas.{err_as, head_load, load_refused}
 use Rattle.mg_txlist.proofs.list.TxList.load.Goals as goal
 
@@ -19,6 +20,10 @@ returns-clause-says g c = λ image tells. head_read g.D.Disk.meaning c.args.stor
     c.in_ok-pages.pages.items c.in_ok-header.ensures.keeps tells c.geometry-size.ensures
     c.places_of.ensures (c.in_ok-header.ensures.says image tells)
     c.in_ok-pages.ensures.tested (c.in_ok-pages.ensures.says image)
+
+pub returns-clause-reads : goal.returns-clause-reads
+returns-clause-reads g c = read_list g.D.Disk.meaning c.args.store.now c.read_head.new.store
+    c.load_pages.new.store c.in_ok-pages.pages.items c.read_head.ensures.reads c.in_ok-pages.ensures.reads
 
 pub returns-in_err-header-clause-refused : goal.returns-in_err-header-clause-refused
 returns-in_err-header-clause-refused g c = λ image tells. err_as c.from_residual.result
