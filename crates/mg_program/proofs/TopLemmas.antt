@@ -1,0 +1,139 @@
+-- A run on a disk behind a fuse is one on the disk itself.
+use Rattle.std.proofs.Common.{◌≡◌, ◌≢◌, ◌<◌, ◌⊎◌, ◌∙◌, inl, inr, ℕ, Bool, true, false, List, Option, None, Some, refl, sym, ap, subst, arith}
+use Rattle.mg_base.specs.Disk.{MayLeave, Meaning}
+use Rattle.mg_base.specs.Fused.{fused_meaning, inner_of}
+use Rattle.mg_base.specs.declared.fused.Fused.{Fused}
+use Rattle.mg_base.specs.Image.{Image}
+use Rattle.mg_base.specs.Moments.{LeavesOnly}
+use Rattle.mg_base.specs.Streams.{SinkMeaning, SourceMeaning}
+use Rattle.mg_engine_calls.specs.Closings.{HasLeft}
+use Rattle.mg_model.specs.declared.opening.Opening.{Opening}
+use Rattle.mg_model.specs.declared.refusal.Refusal.{Refusal}
+use Rattle.mg_model.specs.declared.refusal.Refusal.TheVariants as refusals
+use Rattle.mg_model.specs.History.{Entries}
+use Rattle.mg_model.specs.Legal.{durable_count}
+use Rattle.mg_script.specs.declared.line.Line.{Line}
+use Rattle.mg_runs.specs.declared.ending.RunEnd.{RunEnd}
+use Rattle.mg_runs.specs.declared.ending.RunEnd.TheVariants.{InLine, Outside, ScriptTooLong, Stream, Whole}
+use Rattle.mg_runs.specs.Ends.{EndsWith, refused_status, status_of}
+use Rattle.mg_runs.specs.Entry.{IsEntry}
+use Rattle.mg_runs.specs.Headline.{Headline, IsSettledAt, MayBeLeft}
+use Rattle.mg_runs.specs.Promise.{IsUnread, Promise, ScriptCauses, StreamCauses}
+use Rattle.mg_program.specs.Top.{Runs}
+
+-- ---- statuses
+
+refused_below : (refusal : Refusal) → ((refused_status refusal).0 < 8) × ((refused_status refusal).0 ≢ 2)
+refused_below (refusals.DiskRead faults) = (omega arith, λ is. omega (arith, is))
+refused_below (refusals.DiskWrite faults) = (omega arith, λ is. omega (arith, is))
+refused_below (refusals.Offline faults) = (omega arith, λ is. omega (arith, is))
+refused_below (refusals.NotADatabase field found) = (omega arith, λ is. omega (arith, is))
+refused_below (refusals.Damaged page field found wanted) = (omega arith, λ is. omega (arith, is))
+refused_below refusals.Memory = (omega arith, λ is. omega (arith, is))
+refused_below refusal = (omega arith, λ is. omega (arith, is))
+
+pub status_below : (end : RunEnd) → ((status_of end).0 < 8) × ((status_of end).0 ≢ 2)
+status_below (Whole fine) = at fine
+  where
+    at : (fine : Bool) → ((status_of (Whole fine)).0 < 8) × ((status_of (Whole fine)).0 ≢ 2)
+    at true = (omega arith, λ is. omega (arith, is))
+    at false = (omega arith, λ is. omega (arith, is))
+status_below (InLine refusal) = refused_below refusal
+status_below (Outside refusal) = refused_below refusal
+status_below Stream = (omega arith, λ is. omega (arith, is))
+status_below ScriptTooLong = (omega arith, λ is. omega (arith, is))
+
+-- ---- a fuse
+
+module _ {D : Type 0} (m : Meaning D) where
+  entered : (old : Fused D) (size : ℕ) (image : Image) (o : Opening) → IsEntry m (inner_of old) size image o
+      → IsEntry (fused_meaning m) old size image o
+  entered old size image o entry = record {
+    sized = entry.sized;
+    whole = λ disk held sized tells. entry.whole (inner_of disk) held sized
+        (record { told = tells.told; held = tells.held });
+    settled = record {
+      tells = record { told = entry.settled.tells.told; held = entry.settled.tells.held };
+      only = entry.settled.only;
+    };
+    opening = entry.opening;
+  }
+
+  leaves : (old new : Fused D) (P : Image → Type 0) → LeavesOnly (fused_meaning m) old new P
+      → LeavesOnly m (inner_of old) (inner_of new) P
+  leaves old new P run = record { later = run.later; each = run.each; before = run.before }
+
+  settled : (new : Fused D) (size : ℕ) (o : Opening) (h : Entries) (end : RunEnd)
+      → IsSettledAt (fused_meaning m) new size o h end → IsSettledAt m (inner_of new) size o h end
+  settled new size o h (Whole fine) left = record {
+    image = left.image;
+    settled = record {
+      tells = record { told = left.settled.tells.told; held = left.settled.tells.held };
+      only = left.settled.only;
+    };
+    holds = left.holds;
+    sound = left.sound;
+    plain = left.plain;
+  }
+  settled new size o h (InLine refusal) left = tt
+  settled new size o h (Outside refusal) left = tt
+  settled new size o h Stream left = tt
+  settled new size o h ScriptTooLong left = tt
+
+  module _ {K : Type 0} (n : SinkMeaning K) where
+    headline_of : (size : ℕ) (image : Image) (o : Opening) (lines : List Line) (old new : Fused D)
+        (before after : K) (end : RunEnd) → Headline (fused_meaning m) n size image o lines old new before after end
+        → Headline m n size image o lines (inner_of old) (inner_of new) before after end
+    headline_of size image o lines old new before after end line = record {
+      entries = line.entries;
+      served = line.served;
+      legal = line.legal;
+      crash = leaves old new (MayBeLeft size image o line.entries) line.crash;
+      exit = line.exit;
+      settled = settled new size o line.entries end line.settled;
+      tells = line.tells;
+      sized = line.sized;
+    }
+
+    promise_of : (size : ℕ) (image : Image) (o : Opening) (script : List ℕ) (old new : Fused D) (before after : K)
+        (end : RunEnd) → Promise (fused_meaning m) n size image o script old new before after end
+        → Promise m n size image o script (inner_of old) (inner_of new) before after end
+    promise_of size image o script old new before after end (inl unread) = inl (record {
+      ends = unread.ends;
+      disk = ap inner_of unread.disk;
+      last = unread.last;
+    })
+    promise_of size image o script old new before after end (inr (lines, is, line)) =
+        inr (lines, is, headline_of size image o lines old new before after end line)
+
+    module _ {S : Type 0} (s : SourceMeaning S) where
+      -- with `--stop`, of a disk behind a fuse
+      runs_of_inner : (most : ℕ) (source source' : S) (old new : Fused D) (sink sink' : K) (end : RunEnd)
+          → StreamCauses s n source source' sink sink' end → ScriptCauses s source old new end
+          → ((size : ℕ) (image : Image) (o : Opening) (script : List ℕ) → IsEntry (fused_meaning m) old size image o
+          → s.left source ≡ Some script
+          → Promise (fused_meaning m) n size image o script old new sink sink' end)
+          → Runs m s n (Some most) source source' (inner_of old) (inner_of new) sink sink' end
+      runs_of_inner most source source' old new sink sink' end streams script headline = record {
+        disk = λ none. absurd cc;
+        streams = streams;
+        script = record {
+          too_long = script.too_long;
+          not_asked = λ is. ap inner_of (script.not_asked is);
+          short = script.short;
+        };
+        headline = λ size image o bytes entry left. promise_of size image o bytes old new sink sink' end
+            (headline size image o bytes (entered old size image o entry) left);
+      }
+
+      pub runs_of_fused : (most : ℕ) (source source' : S) (first result : D) (old new : Fused D) (sink sink' : K)
+          (end : RunEnd) → inner_of old ≡ first → result ≡ inner_of new
+          → StreamCauses s n source source' sink sink' end → ScriptCauses s source old new end
+          → ((size : ℕ) (image : Image) (o : Opening) (script : List ℕ) → IsEntry (fused_meaning m) old size image o
+          → s.left source ≡ Some script
+          → Promise (fused_meaning m) n size image o script old new sink sink' end)
+          → Runs m s n (Some most) source source' first result sink sink' end
+      runs_of_fused most source source' first result old new sink sink' end was is streams script headline =
+          subst (λ (d : D). Runs m s n (Some most) source source' d result sink sink' end) was
+          (subst (λ (d : D). Runs m s n (Some most) source source' (inner_of old) d sink sink' end) (sym is)
+          (runs_of_inner most source source' old new sink sink' end streams script headline))
