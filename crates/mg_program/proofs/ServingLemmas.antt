@@ -164,7 +164,7 @@ module _ {D P K : Type 0} (m : Meaning D) (places : Places P) (n : SinkMeaning K
         stream = cut.stream;
         sink_steady = λ f whole. absurd (cut.whole f whole);
         headline = λ size image o entry. stops disk did.limit did.core now size image o lines refused_at lines_end fine
-            told before mid after entry did.opened core did.accounts (did.done size image o entry) cut.cut cut.behind
+            told before mid after entry did.opened (did.done size image o entry) core did.accounts cut.cut cut.behind
             says.printed;
       }
 
@@ -197,8 +197,8 @@ module _ {D P K : Type 0} (m : Meaning D) (places : Places P) (n : SinkMeaning K
         stream = λ stream. absurd cc;
         sink_steady = λ f whole. ap n.faults same ∙ did.sinks.steady refl;
         headline = λ size image o entry. subst (Headline m n size image o lines disk new before after) (sym is)
-            (closes disk new did.limit did.core now size image o lines fine (Ok x) before mid after entry did.opened core
-            did.accounts (did.done size image o entry) closing
+            (closes disk new did.limit did.core now size image o lines fine (Ok x) before mid after entry did.opened
+            (did.done size image o entry) core did.accounts closing
             (subst (λ (e : RunEnd). IsPrinted n mid after (last_line e)) is says.printed));
       }
   closed_as new fine (Err refusal) told did fails closes core closing says =
@@ -210,7 +210,7 @@ module _ {D P K : Type 0} (m : Meaning D) (places : Places P) (n : SinkMeaning K
         sink_steady = λ f whole. absurd cc;
         headline = λ size image o entry. subst (Headline m n size image o lines disk new before after) (sym is)
             (closes disk new did.limit did.core now size image o lines fine (Err refusal) before mid after entry did.opened
-            core did.accounts (did.done size image o entry) closing
+            (did.done size image o entry) core did.accounts closing
             (subst (λ (e : RunEnd). IsPrinted n mid after (last_line e)) is says.printed));
       }
 

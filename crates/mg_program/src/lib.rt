@@ -16,12 +16,12 @@
 #![tactic(auto)]
 
 mod printing;
-mod run;
+mod running;
 mod script_source;
 mod serving;
 mod top;
 
 pub use mg_runs::{RunEnd, SCRIPT_MOST, Status};
 pub use mg_words::wanted_page;
-pub use run::run;
+pub use running::run;
 pub use top::{Shelf, mgdb};

@@ -1,6 +1,7 @@
 //! The script as it comes from the source.
 
-ghost use Rattle.std.specs.Prelude.{◌≡◌, ◌≤◌, ◌++◌, length, List, ℕ, Some, IfOk, IfErr, OnOk, OnTrue};
+ghost use Rattle.std.specs.Bool.{OnTrue};
+ghost use Rattle.std.specs.Prelude.{◌≡◌, ◌≤◌, ◌++◌, length, List, ℕ, Some, IfOk, IfErr, OnOk};
 ghost use Rattle.mg_runs.specs.declared.ending.TheConstants.{SCRIPT_MOST};
 ghost use Rattle.mg_program.specs.Reading.{FailsToRead, ReadsScript};
 

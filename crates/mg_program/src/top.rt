@@ -6,7 +6,7 @@ ghost use Rattle.mg_words.specs.Words.{IsRun, texts};
 ghost use Rattle.mg_program.specs.Top.{HasRun, IsUsage, Runs};
 
 use crate::printing::put_line;
-use crate::run::run;
+use crate::running::run;
 use mg_base::{Disk, Fused, GREATEST_LIMIT, Sink, Source};
 use mg_runs::{RunEnd, Status};
 use mg_words::{Asked, read_words};
