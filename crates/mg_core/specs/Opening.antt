@@ -18,6 +18,7 @@ use Rattle.mg_pool.specs.declared.pool.Pool.{Pool}
 use Rattle.mg_space.specs.View.{KeepsStore, Tells}
 use Rattle.mg_space.specs.declared.links.FireLinks.{FireLinks}
 use Rattle.mg_txlist.specs.Reading.{is_head_or_tip}
+use Rattle.mg_survey.specs.Survey.{IsSameDisk}
 use Rattle.mg_core.specs.declared.parts.Core.{Core}
 use Rattle.mg_core.specs.Cores.{IsCore}
 use Rattle.mg_core.specs.Refusing.{IsRefusal, IsRefusalOf}
@@ -96,3 +97,4 @@ pub record ClosesDisk {D : Type 0} (m : Meaning D) (old : Pool D FireLinks) (dis
   pub ended : Result (Unit {0}) PoolFault
   pub is : IsAnswer ended result
   pub finishes : Finishes m old new ended
+  pub same : IsSameDisk m old.disk disk

@@ -5,9 +5,10 @@ use Rattle.mg_base.specs.Disk.{MayLeave, Meaning, Rose}
 use Rattle.mg_base.specs.Image.{Image, page_at}
 use Rattle.mg_format.specs.Format.{IsClean}
 use Rattle.mg_pool.specs.Dirty.{content_of}
+use Rattle.mg_base.specs.declared.geometry.Geometry.{Geometry}
 use Rattle.mg_base.specs.declared.numbers.PageNo.{PageNo}
 use Rattle.mg_pool.specs.Fault.{OnlyRefuses, OnlyWrites, TellsFault}
-use Rattle.mg_pool.specs.Pool.{KeepsContent, shown}
+use Rattle.mg_pool.specs.Pool.{IsPool, KeepsContent, shown}
 use Rattle.mg_pool.specs.Refusal.{LeavesRefused}
 use Rattle.mg_pool.specs.Run.{HasWritten}
 use Rattle.mg_pool.specs.declared.fault.PoolFault.{PoolFault}
@@ -15,7 +16,8 @@ use Rattle.mg_pool.specs.declared.fault.PoolFault.TheVariants as faults
 use Rattle.mg_pool.specs.declared.pool.Pool.{Pool}
 use Rattle.mg_space.specs.View.{Tells}
 use Rattle.mg_space.specs.declared.links.FireLinks.{FireLinks}
-use Rattle.mg_database.specs.Finishing.{FailsToEnd, Finishes, HasWrittenOn, WritesAll, WritesOn, offline, unsettled, unwritten}
+use Rattle.mg_survey.specs.Survey.{IsSameDisk}
+use Rattle.mg_database.specs.Finishing.{FailsToEnd, FailsWriting, Finishes, HasWrittenOn, WritesAll, WritesOn, offline, unsettled, unwritten}
 
 abbrev pub Holds : {D : Type 0} → Meaning D → Type 0
 Holds {D} m = (disk : D) → m.tells disk ≡ true
@@ -37,6 +39,40 @@ steady : {D : Type 0} (m : Meaning D) (between : List (Pool D FireLinks)) (old n
 steady m [] old now run = rw run (refl, refl, refl)
 steady m (mid ∷ earlier) old now run = let before = steady m earlier old mid run.0 in
     (run.1.steady ∙ before.0, run.1.tells ∙ before.1, run.1.size ∙ before.2)
+
+-- nor has its page size changed
+same_geometry : {D : Type 0} (m : Meaning D) (between : List (Pool D FireLinks)) (old now : Pool D FireLinks)
+    → WritesOn m between old now → now.geometry ≡ old.geometry
+same_geometry {D} m [] old now run = ap (λ (s : Pool D FireLinks). s.geometry) run
+same_geometry m (mid ∷ earlier) old now run = run.1.geometry ∙ same_geometry m earlier old mid run.0
+
+-- two caches of one geometry have disks of one page size
+sized_alike : {D : Type 0} (m : Meaning D) (old new : Pool D FireLinks) → IsPool m old → IsPool m new
+    → new.geometry ≡ old.geometry → m.tells new.disk ≡ m.tells old.disk → IsSameDisk m old.disk new.disk
+sized_alike m old new before after same tells = record {
+  size = λ n known. after.size ∙ (ap (λ (g : Geometry). Some g.size) same ∙ (sym before.size ∙ known));
+  tells = tells;
+}
+
+-- the disk is what it was, where a page write failed
+writing_same : {D : Type 0} (m : Meaning D) (old new : Pool D FireLinks) (count : ℕ) → IsPool m old
+    → FailsWriting m old new count → IsSameDisk m old.disk new.disk
+writing_same {D} m old new count pool fails = sized_alike m old new pool fails.fails.fails.pool
+    (ap (λ (s : Pool D FireLinks). s.geometry) fails.fails.fails.same
+    ∙ (fails.fails.written.geometry ∙ same_geometry m fails.run.between old fails.mid fails.run.run))
+    (fails.fails.fails.time.tells ∙ (fails.fails.written.tells
+    ∙ (steady m fails.run.between old fails.mid fails.run.run).1))
+
+pub all_same : {D : Type 0} (m : Meaning D) (old new : Pool D FireLinks) (fault : PoolFault) → IsPool m old
+    → WritesAll m old new (Err fault) → IsSameDisk m old.disk new.disk
+all_same m old new fault pool fails = writing_same m old new fails.0 pool fails.2
+
+-- and where it was settled, or that failed
+pub settled_same : {D : Type 0} (m : Meaning D) (old mid new : Pool D FireLinks) → IsPool m old → IsPool m new
+    → HasWrittenOn m old mid → new.geometry ≡ mid.geometry → KeepsContent m mid.disk new.disk
+    → IsSameDisk m old.disk new.disk
+settled_same m old mid new before after run same keeps = sized_alike m old new before after
+    (same ∙ same_geometry m run.between old mid run.run) (keeps.tells ∙ (steady m run.between old mid run.run).1)
 
 -- and each page is shown as before
 pub same_pages : {D : Type 0} (m : Meaning D) → Holds m → (between : List (Pool D FireLinks))

@@ -16,7 +16,7 @@ use Rattle.mg_space.specs.Taking.{IsGeometry}
 use Rattle.mg_space.specs.View.{Tells}
 use Rattle.mg_space.specs.declared.fault.SpaceFault.TheVariants as space
 use Rattle.mg_space.specs.declared.links.FireLinks.{FireLinks}
-use Rattle.mg_survey.specs.Survey.{IsSurveyed, OnlyAsks, ReadsHead, limit_of}
+use Rattle.mg_survey.specs.Survey.{IsSurveyed, OnlyAsks, ReadsHead, limit_of, IsSameDisk}
 use Rattle.mg_survey.specs.declared.survey.Survey.{Survey}
 use Rattle.mg_database.specs.declared.fault.OpenFault.{OpenFault}
 use Rattle.mg_database.specs.declared.fault.OpenFault.TheVariants.{Space}
@@ -27,23 +27,25 @@ pub made_by : {D : Type 0} (m : Meaning D) (old new : Pool D FireLinks)
     (result : Result (Unit {0}) PoolFault) → old.offline ≡ None → IsPool m new
     → new.geometry ≡ old.geometry → OnOk result (IsClean new) → OnlyWrites result
     → TellsFault m old new result → OnOk result (m.faults old.disk ≤ m.faults new.disk)
+    → m.tells new.disk ≡ m.tells old.disk
     → ((image : Image) → IsFresh m old image → FormatDone m old.disk new.disk old.geometry.size result)
     → MakesIf m true old new result
-made_by m old new (Ok x) online pool geometry clean own told fell done = record {
+made_by m old new (Ok x) online pool geometry clean own told fell tells done = record {
   pool = pool;
   geometry = geometry;
   clean = clean;
   online = told.1;
   never_falls = fell;
+  tells = tells;
   done = done;
 }
-made_by m old new (Err (faults.DiskRead n)) online pool geometry clean own told fell done = absurd own
-made_by m old new (Err (faults.DiskWrite n)) online pool geometry clean own told fell done =
-    (n, refl, told.2.2, pool.size ∙ ap (λ (g : Geometry). Some g.size) geometry, done)
-made_by m old new (Err (faults.Offline n)) online pool geometry clean own told fell done =
+made_by m old new (Err (faults.DiskRead n)) online pool geometry clean own told fell tells done = absurd own
+made_by m old new (Err (faults.DiskWrite n)) online pool geometry clean own told fell tells done =
+    (n, refl, told.2.2, pool.size ∙ ap (λ (g : Geometry). Some g.size) geometry, tells, done)
+made_by m old new (Err (faults.Offline n)) online pool geometry clean own told fell tells done =
     absurd (let no : None ≡ Some n = sym online ∙ told.0 in cc)
-made_by m old new (Err (faults.Absent n)) online pool geometry clean own told fell done = absurd own
-made_by m old new (Err faults.Memory) online pool geometry clean own told fell done = absurd own
+made_by m old new (Err (faults.Absent n)) online pool geometry clean own told fell tells done = absurd own
+made_by m old new (Err faults.Memory) online pool geometry clean own told fell tells done = absurd own
 
 -- what the writing of a new database leaves, since before the disk was asked
 format_since : {D : Type 0} (m : Meaning D) (disk asked new : D) (size : ℕ)
@@ -65,8 +67,8 @@ format_since {D} m disk asked new size result asks told done = record {
 -- A disk was asked, and a cache made over it.
 module _ {D : Type 0} (m : Meaning D) (disk asked : D) (limit : ℕ) (it : Survey)
     (old new : Pool D FireLinks) (asks : KeepsContent m disk asked)
-    (steady : m.faults asked ≡ m.faults disk) (surveyed : IsSurveyed m disk asked limit it)
-    (reads : ReadsHead m disk asked it.geometry.size)
+    (same : IsSameDisk m disk asked) (steady : m.faults asked ≡ m.faults disk)
+    (surveyed : IsSurveyed m disk asked limit it) (reads : ReadsHead m disk asked it.geometry.size)
     (pool : IsPool m old) (disk_is : old.disk ≡ asked) (geometry_is : old.geometry ≡ it.geometry)
     (clean : IsClean old) (online : old.offline ≡ None) where
   pub lawful_geometry : IsGeometry old.geometry
@@ -109,8 +111,17 @@ module _ {D : Type 0} (m : Meaning D) (disk asked : D) (limit : ℕ) (it : Surve
   asked_of_old : m.faults disk ≤ m.faults old.disk
   asked_of_old = subst (λ (d : D). m.faults disk ≤ m.faults d) (sym disk_is) asks.never_falls
 
+  -- the disk then has the page size of the cache
+  same_then : (later : D) → m.size later ≡ Some old.geometry.size → m.tells later ≡ m.tells old.disk
+      → IsSameDisk m disk later
+  same_then later sized tells = record {
+    size = λ n known. let told : Some n ≡ Some it.geometry.size = sym (same.size n known) ∙ surveyed.sized in
+        sized ∙ (ap Some (sym size_is) ∙ sym told);
+    tells = tells ∙ (ap m.tells disk_is ∙ same.tells);
+  }
+
   pub prepared : (b : Bool) → it.unmade ≡ b → MakesIf m b old new (Ok tt) → IsPrepared m disk limit new
-  prepared false is same = subst (IsPrepared m disk limit) (sym same) (record {
+  prepared false is kept = subst (IsPrepared m disk limit) (sym kept) (record {
     pool = pool;
     geometry = lawful_geometry;
     clean = clean;
@@ -119,6 +130,7 @@ module _ {D : Type 0} (m : Meaning D) (disk asked : D) (limit : ℕ) (it : Surve
     limit_is = limit_of_old;
     never_falls = asked_of_old;
     reads = reads_of_old;
+    same = same_then old.disk pool.size refl;
   })
   prepared true is makes = record {
     pool = makes.pool;
@@ -133,6 +145,7 @@ module _ {D : Type 0} (m : Meaning D) (disk asked : D) (limit : ℕ) (it : Surve
     -- page 0 was zero
     reads = λ image held other. absurd (other (subst (λ (size : ℕ). page_at size image 0 ≡ blank size) same_size
         (told_unmade is image held).header));
+    same = same_then new.disk (makes.pool.size ∙ ap (λ (g : Geometry). Some g.size) makes.geometry) makes.tells;
   }
     where
       same_size : old.geometry.size ≡ new.geometry.size
@@ -147,28 +160,29 @@ module _ {D : Type 0} (m : Meaning D) (disk asked : D) (limit : ℕ) (it : Surve
         sized = makes.3;
         unmade = told_unmade is;
         leaves = λ image tells. since new.disk old.geometry.size (Err (faults.DiskWrite makes.0)) image tells
-            (makes.4 image (is_fresh is image tells));
+            (makes.5 image (is_fresh is image tells));
         rose = subst (λ (n : ℕ). Rose n (m.faults new.disk)) (ap m.faults disk_is ∙ steady) makes.2;
+        same = same_then new.disk makes.3 makes.4;
       }))
 
   -- the same, as the disk comes back and the fault is told
   pub not_prepared_as : (b : Bool) (fault : PoolFault) (back : D) (told : OpenFault) → it.unmade ≡ b
       → MakesIf m b old new (Err fault) → back ≡ new.disk → told ≡ Space (space.Pool fault)
       → FailsToPrepare m disk back told
-  not_prepared_as b fault back told is makes same told_is =
-      subst (λ (d : D). FailsToPrepare m disk d told) (sym same)
+  not_prepared_as b fault back told is makes back_is told_is =
+      subst (λ (d : D). FailsToPrepare m disk d told) (sym back_is)
       (subst (FailsToPrepare m disk new.disk) (sym told_is) (not_prepared b fault is makes))
 
 -- the disk's first calls failed
 pub not_asked : {D T E : Type 0} (m : Meaning D) (disk asked : D) (error : E) (count : ℕ) (told : OpenFault)
-    → OnlyAsks {T = T} m disk asked (Err error) → told ≡ Space (space.Pool (faults.DiskRead count))
+    → OnlyAsks {T = T} m disk asked (Err error) → IsSameDisk m disk asked → told ≡ Space (space.Pool (faults.DiskRead count))
     → FailsToPrepare m disk asked told
-not_asked m disk asked error count told asks is = subst (FailsToPrepare m disk asked) (sym is)
-    (unasked count asks.content (asks.cause refl))
+not_asked m disk asked error count told asks same is = subst (FailsToPrepare m disk asked) (sym is)
+    (unasked count asks.content same (asks.cause refl))
 
 -- there was no memory for the cache
 pub not_held : {D : Type 0} (m : Meaning D) (disk asked back : D) (told : OpenFault)
-    → KeepsContent m disk asked → back ≡ asked → told ≡ Space (space.Pool faults.Memory)
+    → KeepsContent m disk asked → IsSameDisk m disk asked → back ≡ asked → told ≡ Space (space.Pool faults.Memory)
     → FailsToPrepare m disk back told
-not_held {D} m disk asked back told asks same is = subst (λ (d : D). FailsToPrepare m disk d told) (sym same)
-    (subst (FailsToPrepare m disk asked) (sym is) (no_memory asks))
+not_held {D} m disk asked back told asks same back_is is = subst (λ (d : D). FailsToPrepare m disk d told) (sym back_is)
+    (subst (FailsToPrepare m disk asked) (sym is) (no_memory asks same))

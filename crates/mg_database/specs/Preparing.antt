@@ -11,7 +11,7 @@ use Rattle.mg_space.specs.Taking.{IsGeometry}
 use Rattle.mg_space.specs.View.{Tells}
 use Rattle.mg_space.specs.declared.fault.SpaceFault.TheVariants as space
 use Rattle.mg_space.specs.declared.links.FireLinks.{FireLinks}
-use Rattle.mg_survey.specs.Survey.{ReadsHead, limit_of}
+use Rattle.mg_survey.specs.Survey.{ReadsHead, limit_of, IsSameDisk}
 use Rattle.mg_database.specs.declared.fault.OpenFault.{OpenFault}
 use Rattle.mg_database.specs.declared.fault.OpenFault.TheVariants.{Space}
 
@@ -37,6 +37,7 @@ pub record IsPrepared {D : Type 0} (m : Meaning D) (disk : D) (limit : ℕ) (sto
       → store.geometry.limit ≡ limit_of limit (length image)
   pub never_falls : m.faults disk ≤ m.faults store.disk
   pub reads : ReadsHead m disk store.disk store.geometry.size
+  pub same : IsSameDisk m disk store.disk
 
 -- A new database was not made, as one might have been: a page write or the settling failed.
 pub record FailsToMake {D : Type 0} (m : Meaning D) (old new : D) (count : ℕ) : Type 0 where
@@ -46,12 +47,14 @@ pub record FailsToMake {D : Type 0} (m : Meaning D) (old new : D) (count : ℕ) 
   pub leaves : (image : Image) → Tells m old image
       → FormatDone m old new size (Err (faults.DiskWrite count))
   pub rose : Rose (m.faults old) (m.faults new)
+  pub same : IsSameDisk m old new
 
 -- why a disk does not become one whose pages may be read, and what becomes of it
 pub data FailsToPrepare {D : Type 0} (m : Meaning D) (old new : D) : OpenFault → Type 0 where
-  unasked : (count : ℕ) → KeepsContent m old new → Rose (m.faults old) (m.faults new)
+  unasked : (count : ℕ) → KeepsContent m old new → IsSameDisk m old new → Rose (m.faults old) (m.faults new)
       → FailsToPrepare m old new (Space (space.Pool (faults.DiskRead count)))
-  no_memory : KeepsContent m old new → FailsToPrepare m old new (Space (space.Pool faults.Memory))
+  no_memory : KeepsContent m old new → IsSameDisk m old new
+      → FailsToPrepare m old new (Space (space.Pool faults.Memory))
   unmade : (count : ℕ) → FailsToMake m old new count
       → FailsToPrepare m old new (Space (space.Pool (faults.DiskWrite count)))
 
@@ -67,6 +70,7 @@ pub record Makes {D : Type 0} (m : Meaning D) (old new : Pool D FireLinks) : Typ
   pub clean : IsClean new
   pub online : new.offline ≡ None
   pub never_falls : m.faults old.disk ≤ m.faults new.disk
+  pub tells : m.tells new.disk ≡ m.tells old.disk
   pub done : (image : Image) → IsFresh m old image
       → FormatDone {E = PoolFault} m old.disk new.disk old.geometry.size (Ok tt)
 
@@ -79,5 +83,6 @@ MakesIf m false old new (Err fault) = ⊥
 MakesIf {D} m true old new (Err fault) = (count : ℕ) × (fault ≡ faults.DiskWrite count)
     × Rose (m.faults old.disk) (m.faults new.disk)
     × (m.size new.disk ≡ Some old.geometry.size)
+    × (m.tells new.disk ≡ m.tells old.disk)
     × ((image : Image) → IsFresh m old image
     → FormatDone m old.disk new.disk old.geometry.size (Err (faults.DiskWrite count)))

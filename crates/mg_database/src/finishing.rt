@@ -2,6 +2,7 @@
 
 ghost use Rattle.std.specs.Prelude.{◌≡◌, None};
 ghost use Rattle.mg_pool.specs.Pool.{IsPool};
+ghost use Rattle.mg_survey.specs.Survey.{IsSameDisk};
 ghost use Rattle.mg_database.specs.Finishing.{Finishes, WritesAll};
 
 use mg_base::Disk;
@@ -16,7 +17,8 @@ use mg_space::Store;
 /// where the disk's count of faults rose in this call.
 pub fn finish<D: Disk>(store: &mut Store<D>) -> Result<(), PoolFault>
     requires { IsPool D.meaning store.old }
-    ensures { Finishes D.meaning store.old store.new result }
+    ensures ends { Finishes D.meaning store.old store.new result }
+    ensures same { IsSameDisk D.meaning store.old.disk store.new.disk }
 {
     match store.online() {
         Ok(()) => {}

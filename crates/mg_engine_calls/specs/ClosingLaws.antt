@@ -36,6 +36,7 @@ use Rattle.mg_pool.specs.declared.pool.Pool.{Pool}
 use Rattle.mg_pool_overlays.specs.Needs.{Asked, Sessions}
 use Rattle.mg_space.specs.ViewLaws.{CountsNow}
 use Rattle.mg_space.specs.declared.links.FireLinks.{FireLinks}
+use Rattle.mg_survey.specs.Survey.{IsSameDisk}
 use Rattle.mg_txlist.specs.TxList.{said}
 use Rattle.mg_engine_calls.specs.BlankLaws.{no_header}
 use Rattle.mg_engine_calls.specs.Closings.{ClosesEngine, Ends, HasLeft, RefusesClose}
@@ -326,5 +327,6 @@ module _ {D : Type 0} (m : Meaning D) (counts : CountsNow m) (holds_one : HoldsO
       → ClosesEngine m old disk result
   closes_engine disk result closes = subst (λ (d : D). ClosesEngine m old d result) (sym closes.is_disk) (record {
     ended = its_end closes.new closes.ended result closes.finishes closes.is;
+    same = subst (IsSameDisk m old.store.disk) closes.is_disk closes.same;
     crash = finish_crash closes.new closes.ended closes.finishes;
   })

@@ -18,6 +18,7 @@ use Rattle.mg_model.specs.Machine.{opening_rows, opening_state, own}
 use Rattle.mg_model.specs.declared.opening.Opening.{Opening}
 use Rattle.mg_model.specs.declared.refusal.Refusal.{Refusal}
 use Rattle.mg_model.specs.declared.refusal.Refusal.TheVariants.{DiskWrite, Offline}
+use Rattle.mg_survey.specs.Survey.{IsSameDisk}
 use Rattle.mg_value.specs.declared.value.Value.{Value}
 use Rattle.mg_engine_calls.specs.Openings.{IsSettledOn}
 
@@ -53,6 +54,7 @@ Ends m old new (Err refusal) = RefusesClose m old new refusal
 pub record ClosesEngine {D : Type 0} (m : Meaning D) (old : Core D) (new : D) (result : Result (Unit {0}) Refusal)
     : Type 0 where
   pub ended : Ends m old new result
+  pub same : IsSameDisk m old.store.disk new
   pub crash : (o : Opening) (h : Entries) → StandsFor m old o h
       → LeavesSince m old.store.disk new (HoldsAcknowledged packed_form old.store.geometry.size o h)
 

@@ -14,11 +14,13 @@ use Rattle.mg_lasting.specs.StartingLaws.{StartsOn}
 use Rattle.mg_model.specs.Laws.{OpeningsBegin}
 use Rattle.mg_engine_meaning.specs.Standings.{StandsFor}
 use Rattle.mg_new_databases.specs.Soundness.{HasWholePages}
-use Rattle.mg_pool.specs.Pool.{KeepsContent}
-use Rattle.mg_space.specs.View.{Tells}
+use Rattle.mg_pool.specs.Pool.{IsPool, KeepsContent}
+use Rattle.mg_pool.specs.declared.pool.Pool.{Pool}
+use Rattle.mg_space.specs.View.{KeepsStore, Tells}
 use Rattle.mg_space.specs.ViewLaws.{CountsNow, content_on}
 use Rattle.mg_space.specs.declared.links.FireLinks.{FireLinks}
 use Rattle.mg_engine_steps.specs.StartLaws.{StandsFirst}
+use Rattle.mg_survey.specs.Survey.{IsSameDisk}
 use Rattle.mg_txlist.specs.Laws.{LoadedSays}
 use Rattle.mg_works.specs.Works.{Working, has_session}
 use Rattle.mg_engine_calls.specs.BlankLaws.{header_is_made}
@@ -43,7 +45,7 @@ module _ {D : Type 0} (m : Meaning D) (counts : CountsNow m) where
     only = λ c may. on.only c (keeps.crash on.tells.told c may);
   }
 
-  new_still : (old new : D) (size : ℕ) → KeepsContent m old new → HasNew m old size → HasNew m new size
+  pub new_still : (old new : D) (size : ℕ) → KeepsContent m old new → HasNew m old size → HasNew m new size
   new_still old new size keeps has = record {
     image = has.image;
     tells = record { told = keeps.tells ∙ has.tells.told; held = keeps.held ∙ has.tells.held };
@@ -62,7 +64,7 @@ module _ {D : Type 0} (m : Meaning D) (counts : CountsNow m) where
         at (there keeps no_new) = keeps
         at (made was done) = absurd (not_ (was image held))
 
-    ready_made : (image : Image) → Tells m disk image → IsUnmadeImage size image → HasNew m mid size
+    pub ready_made : (image : Image) → Tells m disk image → IsUnmadeImage size image → HasNew m mid size
     ready_made image tells is = at ready
       where
         at : BecomesReady m disk mid size → HasNew m mid size
@@ -94,6 +96,15 @@ module _ {D : Type 0} (m : Meaning D) (counts : CountsNow m) where
     read_leaves image new tells keeps = goes_on m disk mid new (LeavesNew m disk size) (ready_leaves image tells)
         (keeps.time (ready_tells image tells))
         (λ c may. ready_may image c tells (keeps.crash (ready_tells image tells) c may))
+
+-- a disk that was prepared, and then read
+pub ready_same : {D : Type 0} (m : Meaning D) (disk : D) (before after : Pool D FireLinks) → IsSameDisk m disk before.disk
+    → IsPool m before → KeepsStore m before after → IsSameDisk m disk after.disk
+ready_same m disk before after same pool keeps = record {
+  size = λ n known. let told : Some n ≡ Some before.geometry.size = sym (same.size n known) ∙ pool.size in
+      keeps.pool.size ∙ (ap (λ (g : Geometry). Some g.size) keeps.geometry ∙ sym told);
+  tells = keeps.disk.tells ∙ same.tells;
+}
 
 -- ---- an engine
 
@@ -135,10 +146,12 @@ module _ {D : Type 0} (m : Meaning D) (counts : CountsNow m) (stands_first : Sta
 
     pub opened_over : IsOpenedOver m disk limit core
     opened_over = record {
+      core_is = opens.idle.core_is;
       free = λ session. ap (λ (works : List Working). has_session works session) opens.idle.works;
       online = opens.idle.online;
       never_falls = let first = opens.prepared.never_falls in let then_ = opens.keeps.disk.never_falls in
           omega (arith, first, then_);
+      same = ready_same m disk opens.before core.store opens.prepared.same opens.prepared.pool opens.keeps;
       size_is = opens.idle.core_is.pool.size;
       limit_is = λ image held. ap (λ (g : Geometry). g.limit) opens.keeps.geometry
           ∙ opens.prepared.limit_is image held;

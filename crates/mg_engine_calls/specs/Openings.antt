@@ -4,6 +4,7 @@ use Rattle.mg_base.specs.Asking.{AsksReads}
 use Rattle.mg_base.specs.Disk.{MayLeave, Meaning}
 use Rattle.mg_base.specs.Image.{Image, blank, page_at}
 use Rattle.mg_base.specs.Moments.{LeavesOnly}
+use Rattle.mg_core.specs.Cores.{IsCore}
 use Rattle.mg_core.specs.Opening.{RefusesOpen}
 use Rattle.mg_core.specs.declared.parts.Core.{Core}
 use Rattle.mg_engine_meaning.specs.PlainTables.{HasPlainTables}
@@ -28,7 +29,7 @@ use Rattle.mg_model.specs.declared.refusal.Refusal.TheVariants.{Damaged, NotADat
 use Rattle.mg_new_databases.specs.Soundness.{HasWholePages}
 use Rattle.mg_pool.specs.Pool.{KeepsContent}
 use Rattle.mg_space.specs.View.{Tells}
-use Rattle.mg_survey.specs.Survey.{limit_of}
+use Rattle.mg_survey.specs.Survey.{limit_of, IsSameDisk}
 use Rattle.mg_txlist.specs.Reading.{is_head_or_tip}
 use Rattle.mg_works.specs.Works.{has_session}
 
@@ -67,11 +68,13 @@ new_history = new_opening GREATEST_NEXT
 
 -- An engine was opened over a disk.
 pub record IsOpenedOver {D : Type 0} (m : Meaning D) (disk : D) (limit : ℕ) (core : Core D) : Type 0 where
+  pub core_is : IsCore m core
   -- no session has an active transaction
   pub free : (session : ℕ) → has_session core.works session ≡ false
   -- no page write has failed yet
   pub online : core.store.offline ≡ None
   pub never_falls : m.faults disk ≤ m.faults core.store.disk
+  pub same : IsSameDisk m disk core.store.disk
   -- the page size is the disk's
   pub size_is : m.size core.store.disk ≡ Some core.store.geometry.size
   -- the page limit is the greater of the one that was asked for and the disk's number of pages
@@ -118,9 +121,13 @@ pub record RefusesOpening {D : Type 0} (m : Meaning D) (disk new : D) (limit : �
     : Type 0 where
   -- each refusal comes from its cause
   pub cause : RefusesOpen m disk new limit refusal
+  pub same : IsSameDisk m disk new
   -- no sound image is judged, nor a database that was just made
   pub lawful : (size : ℕ) (image : Image) → m.size new ≡ Some size → Tells m new image
       → IsSoundImage size image ⊎ IsMade size image → IsNoJudgement refusal
+  -- nor is a disk judged on which a database may be made
+  pub lawful_new : (size : ℕ) (image : Image) → m.size new ≡ Some size → Tells m disk image
+      → IsUnmadeImage size image → IsNoJudgement refusal
   -- a disk on which no database may be made was not written
   pub unwritten : (image : Image) → m.held disk ≡ Some image
       → ((size : ℕ) → m.size new ≡ Some size → IsUnmadeImage size image → ⊥) → KeepsContent m disk new

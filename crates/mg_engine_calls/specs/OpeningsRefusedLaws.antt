@@ -12,7 +12,7 @@ use Rattle.mg_database.specs.Loading.{OpensAlone, RefusesPages}
 use Rattle.mg_database.specs.Preparing.{FailsToPrepare, no_memory, unasked, unmade}
 use Rattle.mg_database.specs.declared.fault.OpenFault.{OpenFault}
 use Rattle.mg_database.specs.declared.fault.OpenFault.TheVariants.{NotADatabase, Space}
-use Rattle.mg_format.specs.Format.{IsMade, IsUnmadeImage, LeavesNew}
+use Rattle.mg_format.specs.Format.{HasNew, IsMade, IsUnmadeImage, LeavesNew}
 use Rattle.mg_header.specs.declared.header.HeadFault.TheVariants as heads
 use Rattle.mg_image.specs.Form.{Pages}
 use Rattle.mg_lasting.specs.PoolLaws.{needs_are}
@@ -23,8 +23,9 @@ use Rattle.mg_space.specs.View.{Tells}
 use Rattle.mg_space.specs.ViewLaws.{CountsNow, content_on}
 use Rattle.mg_space.specs.declared.fault.SpaceFault.{SpaceFault}
 use Rattle.mg_space.specs.declared.fault.SpaceFault.TheVariants as space
+use Rattle.mg_survey.specs.Survey.{IsSameDisk}
 use Rattle.mg_new_images.specs.Readable.{AreReadable, NewAreReadable}
-use Rattle.mg_engine_calls.specs.OpenedLaws.{content_leaves, read_leaves, ready_unwritten}
+use Rattle.mg_engine_calls.specs.OpenedLaws.{content_leaves, new_still, read_leaves, ready_made, ready_same, ready_unwritten}
 use Rattle.mg_engine_calls.specs.Openings.{IsNoJudgement, IsSoundImage, RefusesOpening}
 use Rattle.mg_engine_calls.specs.RefusalLaws.{AreCounted, is_database, not_damaged, sound_readable}
 
@@ -45,27 +46,32 @@ module _ {D : Type 0} (m : Meaning D) (counts : CountsNow m) (counted : AreCount
 
   unprepared_free : (fault : OpenFault) → FailsToPrepare m disk new fault → IsOpenRefusal fault refusal
       → IsNoJudgement refusal
-  unprepared_free _ (unasked count keeps rose) is = subst IsNoJudgement (sym is) tt
-  unprepared_free _ (no_memory keeps) is = subst IsNoJudgement (sym is) tt
+  unprepared_free _ (unasked count keeps same rose) is = subst IsNoJudgement (sym is) tt
+  unprepared_free _ (no_memory keeps same) is = subst IsNoJudgement (sym is) tt
   unprepared_free _ (unmade count fails) is = subst IsNoJudgement (sym is) tt
 
   unprepared_kept : (image : Image) → m.held disk ≡ Some image
       → ((size : ℕ) → m.size new ≡ Some size → IsUnmadeImage size image → ⊥) → (fault : OpenFault) → FailsToPrepare m disk new fault → KeepsContent m disk new
-  unprepared_kept image held not_ _ (unasked count keeps rose) = keeps
-  unprepared_kept image held not_ _ (no_memory keeps) = keeps
+  unprepared_kept image held not_ _ (unasked count keeps same rose) = keeps
+  unprepared_kept image held not_ _ (no_memory keeps same) = keeps
   unprepared_kept image held not_ _ (unmade count fails) = absurd (not_ fails.size fails.sized
       (fails.unmade image held))
 
   unprepared_leaves : (size : ℕ) → m.size new ≡ Some size → (image : Image) → Tells m disk image
       → (fault : OpenFault) → FailsToPrepare m disk new fault → LeavesOnly m disk new (LeavesNew m disk size)
-  unprepared_leaves size sized image tells _ (unasked count keeps rose) =
+  unprepared_leaves size sized image tells _ (unasked count keeps same rose) =
       content_leaves m counts (LeavesNew m disk size) disk new tells.told keeps (λ c may. inl may)
-  unprepared_leaves size sized image tells _ (no_memory keeps) =
+  unprepared_leaves size sized image tells _ (no_memory keeps same) =
       content_leaves m counts (LeavesNew m disk size) disk new tells.told keeps (λ c may. inl may)
   unprepared_leaves size sized image tells _ (unmade count fails) =
       let both : Some fails.size ≡ Some size = sym fails.sized ∙ sized in
       let same : fails.size ≡ size = cc in
       subst (λ (n : ℕ). LeavesOnly m disk new (LeavesNew m disk n)) same (fails.leaves image tells).crash
+
+  unprepared_same : (fault : OpenFault) → FailsToPrepare m disk new fault → IsSameDisk m disk new
+  unprepared_same _ (unasked count keeps same rose) = same
+  unprepared_same _ (no_memory keeps same) = same
+  unprepared_same _ (unmade count fails) = fails.same
 
   -- ---- its pages were not read
 
@@ -137,12 +143,35 @@ module _ {D : Type 0} (m : Meaning D) (counts : CountsNow m) (counted : AreCount
       read_free : IsOpenRefusal fault refusal → IsNoJudgement refusal
       read_free is = free fault why fails.own is
 
+    -- a new database was made, and then read
+    made_free : (image : Image) → Tells m disk image → IsUnmadeImage its_size image → IsOpenRefusal fault refusal
+        → IsNoJudgement refusal
+    made_free image tells unmade_ is = read_free its_size there.image its_sized there.tells (inr there.made) is
+      where
+        there : HasNew m new its_size
+        there = subst (λ (d : D). HasNew m d its_size) (sym fails.is_disk)
+            (new_still m counts fails.before.disk fails.after.disk its_size fails.keeps.disk
+            (ready_made m counts disk fails.before.disk its_size fails.prepared.disk_is image tells unmade_))
+
   -- ---- both
 
   its_lawful : RefusesOpen m disk new limit refusal → (size : ℕ) (image : Image) → m.size new ≡ Some size
       → Tells m new image → IsSoundImage size image ⊎ IsMade size image → IsNoJudgement refusal
   its_lawful (unprepared fault is fails) size image sized tells sound = unprepared_free fault fails is
   its_lawful (unread fault is fails) size image sized tells sound = read_free fault fails size image sized tells sound is
+
+  its_lawful_new : RefusesOpen m disk new limit refusal → (size : ℕ) (image : Image) → m.size new ≡ Some size
+      → Tells m disk image → IsUnmadeImage size image → IsNoJudgement refusal
+  its_lawful_new (unprepared fault is fails) size image sized tells unmade_ = unprepared_free fault fails is
+  its_lawful_new (unread fault is fails) size image sized tells unmade_ =
+      let both : Some size ≡ Some (its_size fault fails) = sym sized ∙ its_sized fault fails in
+      let same : size ≡ its_size fault fails = cc in
+      made_free fault fails image tells (subst (λ (n : ℕ). IsUnmadeImage n image) same unmade_) is
+
+  its_same : RefusesOpen m disk new limit refusal → IsSameDisk m disk new
+  its_same (unprepared fault is fails) = unprepared_same fault fails
+  its_same (unread fault is fails) = subst (IsSameDisk m disk) (sym fails.is_disk)
+      (ready_same m disk fails.before fails.after fails.prepared.same fails.prepared.pool fails.keeps)
 
   its_kept : RefusesOpen m disk new limit refusal → (image : Image) → m.held disk ≡ Some image
       → ((size : ℕ) → m.size new ≡ Some size → IsUnmadeImage size image → ⊥) → KeepsContent m disk new
@@ -158,7 +187,9 @@ module _ {D : Type 0} (m : Meaning D) (counts : CountsNow m) (counted : AreCount
   pub refuses_opening : RefusesOpen m disk new limit refusal → RefusesOpening m disk new limit refusal
   refuses_opening cause = record {
     cause = cause;
+    same = its_same cause;
     lawful = its_lawful cause;
+    lawful_new = its_lawful_new cause;
     unwritten = its_kept cause;
     crash = its_leaves cause;
   }

@@ -8,8 +8,12 @@ use Rattle.mg_base.specs.declared.geometry.Geometry.{Geometry}
 use Rattle.mg_base.specs.declared.geometry.TheConstants.{GREATEST_LIMIT}
 use Rattle.mg_image.specs.Form.{Coding, packed_coding}
 use Rattle.mg_image.specs.NewDatabase.{IsNewPage}
+use Rattle.mg_careful.specs.declared.graph.Order.{Order}
+use Rattle.mg_pool.specs.declared.batch.BatchPage.{BatchPage}
+use Rattle.mg_pool.specs.Change.{Changes}
 use Rattle.mg_pool.specs.Fault.{Counts, StaysOnline, TellsFault}
 use Rattle.mg_pool.specs.Pool.{KeepsContent}
+use Rattle.mg_pool.specs.Refusal.{LeavesRefused}
 use Rattle.mg_pool.specs.declared.fault.PoolFault.{PoolFault}
 use Rattle.mg_pool.specs.declared.fault.PoolFault.TheVariants.{DiskRead, DiskWrite, Offline, Absent, Memory}
 use Rattle.mg_pool.specs.declared.pool.Pool.{Pool}
@@ -48,6 +52,36 @@ tells_after m a b c (Err (Offline n)) stays same tells =
     (stays.0 ∙ sym stays.1 ∙ tells.0, tells.1, tells.2 ∙ stays.2)
 tells_after m a b c (Err (Absent n)) stays same tells = (stays.0, tells.1, tells.2 ∙ stays.2)
 tells_after m a b c (Err Memory) stays same tells = (stays.0, tells.1, tells.2 ∙ stays.2)
+
+-- ---- what a disk tells of itself
+
+-- a change of one page leaves a disk that tells as before
+changed_tells : {D L : Type 0} (m : Meaning D) (old new : Pool D L) (pages : List BatchPage) (orders : List Order)
+    → Changes m old new pages orders → m.tells new.disk ≡ m.tells old.disk
+changed_tells m old new pages orders changes = ap m.tells changes.enters.disk
+    ∙ (ap m.tells changes.puts.disk ∙ changes.written.tells)
+
+-- so does one that is refused, and a page write that fails
+refused_tells : {D L T : Type 0} (m : Meaning D) (old new : Pool D L) (fault : PoolFault)
+    → LeavesRefused {T = T} m old new (Err fault) → m.tells new.disk ≡ m.tells old.disk
+refused_tells m old new (DiskRead n) left = absurd left
+refused_tells m old new (DiskWrite n) left = left.fails.time.tells ∙ left.written.tells
+refused_tells {D} {L} m old new (Offline n) left = ap (λ (s : Pool D L). m.tells s.disk) left
+refused_tells m old new (Absent n) left = absurd left
+refused_tells {D} {L} m old new Memory left = ap (λ (s : Pool D L). m.tells s.disk) left
+
+pub change_tells : {D L : Type 0} (m : Meaning D) (old new : Pool D L) (pages : List BatchPage)
+    (orders : List Order) (result : Result (Unit {0}) PoolFault) → OnOk result (Changes m old new pages orders)
+    → LeavesRefused m old new result → m.tells new.disk ≡ m.tells old.disk
+change_tells m old new pages orders (Ok x) changes left = changed_tells m old new pages orders changes
+change_tells m old new pages orders (Err fault) changes left = refused_tells {T = Unit {0}} m old new fault left
+
+pub fail_tells : {D L T : Type 0} (m : Meaning D) (old mid new : Pool D L) (fault : PoolFault)
+    → m.tells mid.disk ≡ m.tells old.disk → LeavesRefused {T = T} m mid new (Err fault)
+    → m.tells new.disk ≡ m.tells old.disk
+fail_tells {T = T} m old mid new fault before left = refused_tells {T = T} m mid new fault left ∙ before
+
+-- ---- the settling
 
 -- what a settle promises where the disk tells its images
 pub told_so : {T E : Type 0} (result : Result T E) (Given P : Type 0) → Given

@@ -39,6 +39,7 @@ pub fn format_database<D: Disk>(store: &mut Store<D>) -> Result<(), PoolFault>
     ensures clean { OnOk result (IsClean store.new) }
     ensures own { OnlyWrites result }
     ensures fault { TellsFault D.meaning store.old store.new result }
+    ensures tells { D.meaning.tells store.new.disk ≡ D.meaning.tells store.old.disk }
     ensures never_falls { OnOk result
         (D.meaning.faults store.old.disk ≤ D.meaning.faults store.new.disk) }
     ensures done { (image : Image) → IsFresh D.meaning store.old image
@@ -64,6 +65,7 @@ fn write_new<D: Disk>(store: &mut Store<D>, n: u32) -> Result<(), PoolFault>
     ensures clean { OnOk result (IsClean store.new) }
     ensures own { OnlyWrites result }
     ensures fault { TellsFault D.meaning store.old store.new result }
+    ensures tells { D.meaning.tells store.new.disk ≡ D.meaning.tells store.old.disk }
     ensures steady { OnOk result
         (D.meaning.faults store.new.disk ≡ D.meaning.faults store.old.disk) }
     ensures writes { (image : Image) → Tells D.meaning store.old.disk image
@@ -88,6 +90,7 @@ fn write_page<D: Disk>(store: &mut Store<D>, n: u32, bytes: &[u8]) -> Result<(),
     ensures clean { OnOk result (IsClean store.new) }
     ensures own { OnlyWrites result }
     ensures fault { TellsFault D.meaning store.old store.new result }
+    ensures tells { D.meaning.tells store.new.disk ≡ D.meaning.tells store.old.disk }
     ensures steady { OnOk result
         (D.meaning.faults store.new.disk ≡ D.meaning.faults store.old.disk) }
     ensures writes { (image : Image) → Tells D.meaning store.old.disk image
@@ -109,10 +112,9 @@ fn put_page<D: Disk>(store: &mut Store<D>, n: u32, bytes: &[u8]) -> Result<(), P
     ensures only { OnOk result (IsOnlyDirty store.new n) }
     ensures own { OnlyWrites result }
     ensures fault { TellsFault D.meaning store.old store.new result }
+    ensures tells { D.meaning.tells store.new.disk ≡ D.meaning.tells store.old.disk }
     ensures steady { OnOk result
         (D.meaning.faults store.new.disk ≡ D.meaning.faults store.old.disk) }
-    ensures tells { OnOk result
-        (D.meaning.tells store.new.disk ≡ D.meaning.tells store.old.disk) }
     ensures unordered { OnOk result
         ((a b : ℕ) → is_ordered store.new.graph a b ≡ false) }
     ensures frame { OnOk result (ChangesOverlays D.meaning

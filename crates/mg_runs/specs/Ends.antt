@@ -37,7 +37,7 @@ last_line (Outside refusal) = outside_text refusal
 last_line Stream = []
 last_line ScriptTooLong = codes "mgdb: SCRIPT TOO LONG" ++ (10 ∷ [])
 
--- no memory is taken for the line of such a refusal, whatever its numbers are
+-- the line of such a refusal is fixed, and takes no memory
 abbrev pub has_fixed_line : Refusal → Bool
 has_fixed_line (refusals.DiskRead faults) = true
 has_fixed_line (refusals.DiskWrite faults) = true

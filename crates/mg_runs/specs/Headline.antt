@@ -4,9 +4,8 @@ use Rattle.mg_base.specs.Disk.{MayLeave, Meaning}
 use Rattle.mg_base.specs.Image.{Image}
 use Rattle.mg_base.specs.Moments.{LeavesOnly}
 use Rattle.mg_base.specs.Streams.{SinkMeaning}
-use Rattle.mg_engine_calls.specs.Closings.{HasLeft}
+use Rattle.mg_engine_calls.specs.Closings.{GoesOnFrom, HasLeft}
 use Rattle.mg_engine_calls.specs.Openings.{IsNoJudgement}
-use Rattle.mg_format.specs.Format.{IsMade, IsUnmadeImage}
 use Rattle.mg_image.specs.Form.{packed_form}
 use Rattle.mg_lasting.specs.Crashes.{HoldsAcknowledged, HoldsFrom, asked}
 use Rattle.mg_model.specs.declared.opening.Opening.{Opening}
@@ -24,6 +23,7 @@ use Rattle.mg_transcript.specs.Sessions.{Unfinished}
 use Rattle.mg_runs.specs.declared.ending.RunEnd.{RunEnd}
 use Rattle.mg_runs.specs.declared.ending.RunEnd.TheVariants.{Whole, InLine, Outside, Stream, ScriptTooLong}
 use Rattle.mg_runs.specs.Ends.{IsOutside, last_line}
+use Rattle.mg_runs.specs.Entry.{IsEntry}
 use Rattle.mg_runs.specs.Printing.{IsPrinted}
 
 -- ---- how a run ends behind its lines
@@ -82,25 +82,20 @@ pub record AreUnserved {K : Type 0} (n : SinkMeaning K) (before after : K) (end 
   pub none : entries ≡ []
   pub last : IsPrinted n before after (last_line end)
 
--- ---- what a crash leaves
+-- ---- what is left
 
--- a database was to be made, and such an image has none yet, or a new one
-abbrev pub IsBeingMade : ℕ → Image → Image → Type 0
-IsBeingMade size image c = IsUnmadeImage size image × (IsUnmadeImage size c ⊎ IsMade size c)
-
--- what holds the history after some durable event
-abbrev pub MayBeLeft : ℕ → Image → Opening → Entries → Image → Type 0
-MayBeLeft size image o entries c =
-    HoldsFrom packed_form size o (asked entries) 0 c ⊎ IsBeingMade size image c
-
--- and what holds it after all durable events that were acknowledged
-abbrev pub IsLeftAtExit : ℕ → Image → Opening → Entries → Image → Type 0
-IsLeftAtExit size image o entries c =
-    HoldsAcknowledged packed_form size o entries c ⊎ ((entries ≡ []) × IsBeingMade size image c)
+-- A disk has what a run left whose database was closed: nothing is pending, and its image holds the history with all
+-- its durable events. A history can begin with it that goes on from there, so a second run has its premises.
+pub record HasEnded {D : Type 0} (m : Meaning D) (disk : D) (size : ℕ) (o : Opening) (entries : Entries) : Type 0
+  where
+    pub left : HasLeft m disk size o entries (durable_count entries)
+    pub later : Opening
+    pub goes_on : GoesOnFrom o entries (durable_count entries) later
+    pub entry : IsEntry m disk size left.image later
 
 -- where the database was closed, it is settled
 abbrev pub IsSettledAt : {D : Type 0} → Meaning D → D → ℕ → Opening → Entries → RunEnd → Type 0
-IsSettledAt m new size o entries (Whole fine) = HasLeft m new size o entries (durable_count entries)
+IsSettledAt m new size o entries (Whole fine) = HasEnded m new size o entries
 IsSettledAt m new size o entries end = Unit {0}
 
 -- ---- the promise
@@ -109,14 +104,14 @@ IsSettledAt m new size o entries end = Unit {0}
 -- transcript, and the line that says why the run has ended; every image that a crash since the start might have left
 -- holds what the history has after some durable event, and each that a crash may leave at the end has all that were
 -- acknowledged.
-pub record Headline {D K : Type 0} (m : Meaning D) (n : SinkMeaning K) (size : ℕ) (image : Image) (o : Opening)
+pub record Headline {D K : Type 0} (m : Meaning D) (n : SinkMeaning K) (size : ℕ) (o : Opening)
     (lines : List Line) (old new : D) (before after : K) (end : RunEnd) : Type 0 where
   pub entries : Entries
   pub served : AreServed n before after size o lines end entries ⊎ AreUnserved n before after end entries
   pub legal : IsLegal o entries
-  pub crash : LeavesOnly m old new (MayBeLeft size image o entries)
-  pub exit : (c : Image) → MayLeave m new c → IsLeftAtExit size image o entries c
+  pub crash : LeavesOnly m old new (HoldsFrom packed_form size o (asked entries) 0)
+  pub exit : (c : Image) → MayLeave m new c → HoldsAcknowledged packed_form size o entries c
   pub settled : IsSettledAt m new size o entries end
-  -- a second run has its premises
+  -- the disk tells as before, and has pages of the same size
   pub tells : m.tells new ≡ m.tells old
   pub sized : m.size new ≡ Some size

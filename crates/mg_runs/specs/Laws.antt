@@ -2,10 +2,13 @@
 use Rattle.std.specs.Prelude.{◌≡◌, ℕ, Bool, true, false, List, [], ◌∷◌, None, Some, Result, Ok, Err}
 use Rattle.mg_base.specs.Disk.{Meaning}
 use Rattle.mg_base.specs.Image.{Image}
+use Rattle.mg_base.specs.MemDisk.{acts_in, mem_meaning}
 use Rattle.mg_base.specs.Streams.{SinkMeaning}
+use Rattle.mg_base.specs.declared.mem_disk.MemDisk.{MemDisk}
+use Rattle.mg_core.specs.Cores.{IsCore}
 use Rattle.mg_core.specs.declared.parts.Core.{Core}
 use Rattle.mg_engine_calls.specs.Closings.{ClosesEngine}
-use Rattle.mg_engine_calls.specs.Openings.{IsOpenedOver, RefusesOpening}
+use Rattle.mg_engine_calls.specs.Openings.{IsOpenedOver, RefusesOpening, new_history}
 use Rattle.mg_engine_meaning.specs.Meaning.{Places, means}
 use Rattle.mg_engine_meaning.specs.Standings.{StandsFor}
 use Rattle.mg_model.specs.Answers.{is_active}
@@ -32,7 +35,7 @@ abbrev pub OpeningsAreJudged : {D K : Type 0} → Meaning D → SinkMeaning K �
 OpeningsAreJudged {D} {K} m n = (disk new : D) (limit : ℕ) (refusal : Refusal) (size : ℕ) (image : Image) (o : Opening)
     (lines : List Line) (end : RunEnd) (before after : K) → IsEntry m disk size image o
     → RefusesOpening m disk new limit refusal → IsOutside refusal end → IsPrinted n before after (last_line end)
-    → Headline m n size image o lines disk new before after end
+    → Headline m n size o lines disk new before after end
 
 -- An engine that was opened stands for the history that begins with what its disk held.
 pub record BeginsRun {D : Type 0} (m : Meaning D) (core : Core D) (size : ℕ) (o : Opening) : Type 0 where
@@ -56,10 +59,11 @@ IsCutOff lines_end refusals = Unit {0}
 abbrev pub RunsStop : {D P K : Type 0} → Meaning D → Places P → SinkMeaning K → Type 0
 RunsStop {D} {P} {K} m places n = (disk : D) (limit : ℕ) (core now : Core D) (size : ℕ) (image : Image) (o : Opening)
     (lines : List Line) (refusals : List Refusal) (lines_end : LinesEnd) (fine : Bool) (end : RunEnd)
-    (before mid after : K) → IsEntry m disk size image o → IsOpenedOver m disk limit core
+    (before mid after : K) → IsEntry m disk size image o → IsOpenedOver m disk limit core → IsCore m now
+    → Accounts (means m places) core now (reason lines_end)
     → ScriptDone (means m places) n core now before mid o size lines refusals lines_end fine
     → IsCutOff lines_end refusals → EndsBehind lines_end refusals fine end → IsPrinted n mid after (last_line end)
-    → Headline m n size image o lines disk now.store.disk before after end
+    → Headline m n size o lines disk now.store.disk before after end
 
 -- the end of a run whose database was closed, or not
 abbrev pub closed_end : Bool → Result (Unit {0}) Refusal → RunEnd
@@ -70,10 +74,11 @@ closed_end fine (Err refusal) = Outside refusal
 abbrev pub RunsClose : {D P K : Type 0} → Meaning D → Places P → SinkMeaning K → Type 0
 RunsClose {D} {P} {K} m places n = (disk new : D) (limit : ℕ) (core now : Core D) (size : ℕ) (image : Image)
     (o : Opening) (lines : List Line) (fine : Bool) (result : Result (Unit {0}) Refusal) (before mid after : K)
-    → IsEntry m disk size image o → IsOpenedOver m disk limit core
+    → IsEntry m disk size image o → IsOpenedOver m disk limit core → IsCore m now
+    → Accounts (means m places) core now (reason lines_ends.Whole)
     → ScriptDone (means m places) n core now before mid o size lines [] lines_ends.Whole fine
     → ClosesEngine m now new result → IsPrinted n mid after (last_line (closed_end fine result))
-    → Headline m n size image o lines disk new before after (closed_end fine result)
+    → Headline m n size o lines disk new before after (closed_end fine result)
 
 -- ---- faults of the disk
 
@@ -93,3 +98,9 @@ abbrev pub ClosingsFail : {D P : Type 0} → Meaning D → Places P → Type 0
 ClosingsFail {D} {P} m places = (disk new : D) (limit : ℕ) (core now : Core D) (lines_end : LinesEnd) (refusal : Refusal)
     → IsOpenedOver m disk limit core → Accounts (means m places) core now (reason lines_end)
     → ClosesEngine m now new (Err refusal) → FailsWith m disk new refusal
+
+-- ---- the premise
+
+-- a disk in memory of which nothing was asked yet is one on which a run has its history, that of a new database
+abbrev pub BlankIsEntry : Type 0
+BlankIsEntry = (disk : MemDisk) → acts_in disk ≡ [] → IsEntry mem_meaning disk disk.size [] new_history

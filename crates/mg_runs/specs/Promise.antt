@@ -1,7 +1,6 @@
 -- What the program promises of the words `run DB`.
 use Rattle.std.specs.Prelude.{◌≡◌, ◌≢◌, ◌⊎◌, ◌≤◌, ◌<◌, ℕ, Bool, List, length, Some}
 use Rattle.mg_base.specs.Disk.{Meaning, Rose}
-use Rattle.mg_base.specs.Image.{Image}
 use Rattle.mg_base.specs.Streams.{SinkMeaning, SourceMeaning}
 use Rattle.mg_model.specs.declared.opening.Opening.{Opening}
 use Rattle.mg_model.specs.declared.refusal.Refusal.TheVariants.{Memory}
@@ -28,10 +27,10 @@ pub record IsUnread {D K : Type 0} (n : SinkMeaning K) (old new : D) (before aft
     pub last : IsPrinted n before after (last_line end)
 
 -- The script was not read to its end; or it was, and its lines have their history.
-abbrev pub Promise : {D K : Type 0} → Meaning D → SinkMeaning K → ℕ → Image → Opening → List ℕ → D → D → K → K
+abbrev pub Promise : {D K : Type 0} → Meaning D → SinkMeaning K → ℕ → Opening → List ℕ → D → D → K → K
     → RunEnd → Type 0
-Promise m n size image o script old new before after end = IsUnread n old new before after end
-    ⊎ ((lines : List Line) × IsScript script lines × Headline m n size image o lines old new before after end)
+Promise m n size o script old new before after end = IsUnread n old new before after end
+    ⊎ ((lines : List Line) × IsScript script lines × Headline m n size o lines old new before after end)
 
 -- ---- causes, over any disk and any streams
 

@@ -44,7 +44,8 @@ fn refused_status(refusal: Refusal) -> Status
     ensures { result ≡ refused_status_of refusal }
 {
     match refusal {
-        Refusal::DiskRead { .. } | Refusal::DiskWrite { .. } | Refusal::Offline { .. } => Status::DISK,
+        Refusal::DiskRead { .. } | Refusal::DiskWrite { .. } | Refusal::Offline { .. } =>
+            Status::DISK,
         Refusal::NotADatabase { .. } | Refusal::Damaged { .. } => Status::IMAGE,
         Refusal::Memory => Status::MEMORY,
         _ => Status::NOT_ALL_OK,

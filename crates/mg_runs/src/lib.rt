@@ -17,5 +17,8 @@ mod laws;
 mod status;
 
 pub use ending::{RunEnd, SCRIPT_MOST};
-pub use laws::{openings_are_judged, runs_begin, runs_close, runs_stop};
+pub use laws::{
+    blank_disks_are_entries, closings_fail, lines_fail, openings_are_judged, openings_fail,
+    runs_begin, runs_close, runs_stop,
+};
 pub use status::Status;

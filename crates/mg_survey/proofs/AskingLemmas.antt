@@ -1,10 +1,10 @@
 -- A disk that is asked, call by call.
-use Rattle.std.proofs.Common.{◌≡◌, ◌≢◌, ◌==◌, ◌⊎◌, inl, inr, ◌<◌, ◌≤◌, ◌+◌, ℕ, zero, suc, Bool, true, Some, length, subst, refl, ◌∙◌, arith}
+use Rattle.std.proofs.Common.{◌≡◌, ◌≢◌, ◌==◌, ◌⊎◌, inl, inr, ◌<◌, ◌≤◌, ◌+◌, ℕ, zero, suc, Bool, true, Some, length, subst, refl, ◌∙◌, arith, Option, None, sym}
 use Rattle.std.specs.Prelude.{◌↔◌, IsTrue, Result, Ok, Err, IfOk, min}
 use Rattle.std.proofs.lemmas.Bool.{cases_lt}
 use Rattle.std.proofs.lemmas.List.{get_or_past}
 use Rattle.mg_base.specs.Asking.{kept_reads, no_reads, one_read}
-use Rattle.mg_base.specs.Disk.{KeepsReads, MayLeave, Meaning, ReadsPage}
+use Rattle.mg_base.specs.Disk.{KeepsReads, MayLeave, Meaning, ReadsPage, Calm, Stays}
 use Rattle.mg_base.specs.Image.{Image, blank, page_at}
 use Rattle.mg_base.specs.declared.geometry.TheConstants.{GREATEST_LIMIT}
 use Rattle.mg_image.specs.Form.{Pages, packed_coding, packed_form}
@@ -12,7 +12,7 @@ use Rattle.mg_image.specs.NewDatabase.{IsNewPage}
 use Rattle.mg_image.specs.Opening.{IsUnmade}
 use Rattle.mg_pool.specs.Pool.{KeepsContent}
 use Rattle.mg_space.specs.ViewLaws.{content_on}
-use Rattle.mg_survey.specs.Survey.{AreUnmadeBehind, HasPages, HasTested, IsUnmadeAt, ReadsHead}
+use Rattle.mg_survey.specs.Survey.{AreUnmadeBehind, HasPages, HasTested, IsUnmadeAt, ReadsHead, IsSameDisk}
 use Rattle.mg_survey.specs.UnmadeLaws.{zero_is_unmade}
 
 abbrev pub CountsNow : {D : Type 0} → Meaning D → Type 0
@@ -22,6 +22,36 @@ CountsNow {D} m = (disk : D) (t : ℕ) (c : Image) → m.tells disk ≡ true →
 abbrev pub Counted : {D : Type 0} → Meaning D → Type 0
 Counted {D} m = (disk : D) (image : Image) (n : ℕ) → m.held disk ≡ Some image → m.count disk ≡ Some n
     → length image ≡ n
+
+-- ---- what a disk has told of itself
+
+stays_known : (a b : Option ℕ) (n : ℕ) → a ≡ Some n → Stays a b → b ≡ Some n
+stays_known None b n is stays = absurd cc
+stays_known (Some k) b n is stays = stays ∙ is
+
+-- it stays over a call that changes nothing,
+pub calm_same : {D T E : Type 0} {result : Result T E} (m : Meaning D) (old new : D) → Calm m old new result
+    → IsSameDisk m old new
+calm_same m old new calm = record {
+  size = λ n known. stays_known (m.size old) (m.size new) n known calm.keeps.size;
+  tells = calm.keeps.tells;
+}
+
+-- over two of them,
+pub twice_same : {D : Type 0} (m : Meaning D) (old mid new : D) → IsSameDisk m old mid → IsSameDisk m mid new
+    → IsSameDisk m old new
+twice_same m old mid new first then_ = record {
+  size = λ n known. then_.size n (first.size n known);
+  tells = then_.tells ∙ first.tells;
+}
+
+-- and where the page size is still the same
+pub sized_same : {D : Type 0} (m : Meaning D) (old mid new : D) (size : ℕ) → IsSameDisk m old mid
+    → m.size mid ≡ Some size → m.size new ≡ Some size → m.tells new ≡ m.tells mid → IsSameDisk m old new
+sized_same m old mid new size first told sized tells = record {
+  size = λ n known. sized ∙ (sym told ∙ first.size n known);
+  tells = tells ∙ first.tells;
+}
 
 -- ---- the pages one after another
 

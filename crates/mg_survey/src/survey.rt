@@ -1,7 +1,7 @@
 //! What a disk is asked before it is opened.
 
 ghost use Rattle.std.specs.Prelude.{IfOk};
-ghost use Rattle.mg_survey.specs.Survey.{IsSurveyed, OnlyAsks, ReadsHead};
+ghost use Rattle.mg_survey.specs.Survey.{IsSurveyed, OnlyAsks, ReadsHead, IsSameDisk};
 
 use crate::disk::is_unmade;
 use mg_base::{Disk, DiskFault, GREATEST_LIMIT, Geometry};
@@ -23,6 +23,7 @@ pub struct Survey {
 /// The disk's.
 pub fn ask<D: Disk>(disk: &mut D, limit: u32) -> Result<Survey, DiskFault>
     ensures asks { OnlyAsks D.meaning disk.old disk.new result }
+    ensures same { IsSameDisk D.meaning disk.old disk.new }
     ensures survey { IfOk result (IsSurveyed D.meaning disk.old disk.new limit) }
     ensures reads { IfOk result (λ it. ReadsHead D.meaning disk.old disk.new it.geometry.size) }
 {

@@ -29,6 +29,7 @@ loop-n-preserved g c = record {
     c.in_ok-write_new.ensures.fault.1,
     c.in_ok-write_new.ensures.fault.2 ∙ c.loop-n.invariant.online.2,
   );
+  tells = c.write_new.ensures.tells ∙ c.loop-n.invariant.tells;
   steady = c.in_ok-write_new.ensures.steady ∙ c.loop-n.invariant.steady;
   upto = λ image fresh.
       let upto = c.loop-n.invariant.upto image fresh in
@@ -76,3 +77,12 @@ returns-clause-done g c = λ image fresh.
 pub returns-clause-never_falls : goal.returns-clause-never_falls
 returns-clause-never_falls g c = never_fell c.settle.result _ _ _ _ c.loop-n.invariant.steady
     c.in_ok-write_new-2.ensures.steady c.settle.ensures.disk.never_falls
+
+pub returns-in_err-write_new-clause-tells : goal.returns-in_err-write_new-clause-tells
+returns-in_err-write_new-clause-tells g c = c.write_new.ensures.tells ∙ c.loop-n.invariant.tells
+
+pub returns-in_err-write_new-2-clause-tells : goal.returns-in_err-write_new-2-clause-tells
+returns-in_err-write_new-2-clause-tells g c = c.write_new-2.ensures.tells ∙ c.loop-n.invariant.tells
+
+pub returns-clause-tells : goal.returns-clause-tells
+returns-clause-tells g c = c.settle.ensures.disk.tells ∙ (c.write_new-2.ensures.tells ∙ c.loop-n.invariant.tells)
