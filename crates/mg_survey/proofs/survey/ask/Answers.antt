@@ -3,7 +3,7 @@ use Rattle.mg_survey.proofs.AskingLemmas.{head_alone, calm_same, sized_same, twi
 use Rattle.mg_survey.proofs.survey.ask.Goals as goal
 
 pub returns-clause-reads : goal.returns-clause-reads
-returns-clause-reads g c = head_alone g.D.Disk.meaning c.args.disk.now c.page_size.new.disk c.pages.new.disk
+returns-clause-reads g c = head_alone g.D.Disk.meaning c.args.disk.now c.page_size.new.self c.pages.new.self
     c.is_unmade.new.disk c.in-Ok.size c.page_size.ensures.unread c.pages.ensures.unread
     (c.pages.ensures.calm.held ∙ c.page_size.ensures.calm.held) c.is_unmade.ensures.alone
 
