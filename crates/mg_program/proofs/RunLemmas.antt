@@ -41,7 +41,7 @@ module _ {D S K : Type 0} (m : Meaning D) (s : SourceMeaning S) (n : SinkMeaning
   }
 
   pub served_promise : (size : ℕ) (image : Image) (o : Opening) (script : List ℕ) → IsEntry m old size image o
-      → s.left source ≡ Some script → Promise m n size image o script old new before after end
+      → s.left source ≡ Some script → Promise m n size o script old new before after end
   served_promise size image o script entry left = inr (
     lines,
     subst (λ (bytes : List ℕ). IsScript bytes lines) (sym (whole.whole script left)) whole.is_script,
@@ -126,6 +126,6 @@ module _ {D S K : Type 0} (m : Meaning D) (s : SourceMeaning S) (n : SinkMeaning
       by (inr (inl is)) a b c = a is
       by (inr (inr is)) a b c = c is
 
-  pub unread_promise : (size : ℕ) (image : Image) (o : Opening) (script : List ℕ)
-      → Promise m n size image o script disk disk before after told
-  unread_promise size image o script = inl (record { ends = still.ends; disk = refl; last = says.printed })
+  pub unread_promise : (size : ℕ) (o : Opening) (script : List ℕ)
+      → Promise m n size o script disk disk before after told
+  unread_promise size o script = inl (record { ends = still.ends; disk = refl; last = says.printed })

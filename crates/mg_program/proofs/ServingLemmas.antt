@@ -1,5 +1,5 @@
 -- How a run ends on an engine.
-use Rattle.std.proofs.Common.{◌≡◌, ◌∙◌, ℕ, Bool, true, false, List, [], ◌∷◌, Option, None, Some, inl, inr, refl, sym, ap, subst}
+use Rattle.std.proofs.Common.{◌≡◌, ◌∙◌, ℕ, Bool, true, false, List, [], ◌∷◌, Option, None, Some, inl, inr, refl, sym, ap, subst, arith}
 use Rattle.std.specs.Prelude.{Result, Ok, Err}
 use Rattle.mg_base.specs.Disk.{Meaning, Rose}
 use Rattle.mg_base.specs.Image.{Image}
@@ -7,22 +7,28 @@ use Rattle.mg_base.specs.Streams.{SinkMeaning}
 use Rattle.mg_core.specs.Cores.{IsCore}
 use Rattle.mg_core.specs.declared.parts.Core.{Core}
 use Rattle.mg_engine_calls.specs.Closings.{ClosesEngine, RefusesClose}
-use Rattle.mg_engine_calls.specs.Openings.{RefusesOpening}
+use Rattle.mg_engine_calls.specs.Openings.{IsOpenedOver, RefusesOpening}
 use Rattle.mg_engine_meaning.specs.Meaning.{Places, means}
+use Rattle.mg_model.specs.Answers.{is_active}
+use Rattle.mg_model.specs.Machine.{state_of}
 use Rattle.mg_model.specs.declared.opening.Opening.{Opening}
 use Rattle.mg_model.specs.declared.refusal.Refusal.{Refusal}
 use Rattle.mg_model.specs.declared.refusal.Refusal.TheVariants as refusals
 use Rattle.mg_script.specs.declared.line.Line.{Line}
+use Rattle.mg_script_ends.specs.Ends.{AreCaused}
+use Rattle.mg_sessions.specs.AccountLaws.{no_account}
 use Rattle.mg_sessions.specs.Accounts.{Accounts}
 use Rattle.mg_scripts.specs.declared.lines.LinesEnd.{LinesEnd}
 use Rattle.mg_scripts.specs.declared.lines.LinesEnd.TheVariants as lines_ends
+use Rattle.mg_scripts.specs.Ending.{ScriptDone}
+use Rattle.mg_scripts.specs.Printing.{SinkSays}
 use Rattle.mg_scripts.specs.Steps.{reason}
 use Rattle.mg_runs.specs.declared.ending.RunEnd.{RunEnd}
 use Rattle.mg_runs.specs.declared.ending.RunEnd.TheVariants.{InLine, Outside, ScriptTooLong, Stream, Whole}
 use Rattle.mg_runs.specs.Ends.{EndsWith, FailsWith, IsOutside, last_line}
 use Rattle.mg_runs.specs.Entry.{IsEntry}
 use Rattle.mg_runs.specs.Headline.{EndsBehind, Headline}
-use Rattle.mg_runs.specs.Laws.{ClosingsFail, IsCutOff, LinesFail, OpeningsAreJudged, OpeningsFail, RunsClose, RunsStop, closed_end}
+use Rattle.mg_runs.specs.Laws.{ClosingsFail, IsCutOff, LinesFail, OpeningsAreJudged, OpeningsFail, RunsBegin, RunsClose, RunsStop, closed_end}
 use Rattle.mg_runs.specs.Printing.{IsPrinted}
 use Rattle.mg_program.specs.Saying.{IsTold, SaysEnd}
 use Rattle.mg_program.specs.Serving.{HasObeyed, Serves, cut_end}
@@ -153,24 +159,32 @@ module _ {D P K : Type 0} (m : Meaning D) (places : Places P) (n : SinkMeaning K
       cut_by_sink refused_at fine told did (says.silent (ap last_line (sym same)))
       (subst (λ (e : RunEnd). IsTold e told) (sym same) says.is_told)
 
-  pub left : (refused_at : List Refusal) (lines_end : LinesEnd) (fine : Bool) (end told : RunEnd)
+  left_there : (refused_at : List Refusal) (lines_end : LinesEnd) (fine : Bool) (end told : RunEnd)
       → HasObeyed m places n lines disk now before mid refused_at lines_end fine → LinesFail m places
       → RunsStop m places n → IsCore m now → cut_end lines_end refused_at ≡ Some end → SaysEnd n mid after end told
       → Serves m n lines disk now.store.disk before after told
-  left refused_at lines_end fine end told did fails stops core is says =
+  left_there refused_at lines_end fine end told did fails stops core is says =
       let cut = is_cut refused_at lines_end fine end told did fails is says in record {
         read = cut.read;
         disk = cut.disk_fails;
         stream = cut.stream;
         sink_steady = λ f whole. absurd (cut.whole f whole);
         headline = λ size image o entry. stops disk did.limit did.core now size image o lines refused_at lines_end fine
-            told before mid after entry did.opened (did.done size image o entry) core did.accounts cut.cut cut.behind
+            told before mid after entry did.opened core did.accounts (did.done size image o entry) cut.cut cut.behind
             says.printed;
       }
 
+  pub left : (new : D) (refused_at : List Refusal) (lines_end : LinesEnd) (fine : Bool) (end told : RunEnd)
+      → new ≡ now.store.disk → HasObeyed m places n lines disk now before mid refused_at lines_end fine
+      → LinesFail m places → RunsStop m places n → IsCore m now → cut_end lines_end refused_at ≡ Some end
+      → SaysEnd n mid after end told → Serves m n lines disk new before after told
+  left new refused_at lines_end fine end told same did fails stops core is says =
+      subst (λ (d : D). Serves m n lines disk d before after told) (sym same)
+      (left_there refused_at lines_end fine end told did fails stops core is says)
+
   -- ---- a database that is closed
 
-  pub none_cut : (refused_at : List Refusal) (lines_end : LinesEnd) → cut_end lines_end refused_at ≡ None
+  none_cut : (refused_at : List Refusal) (lines_end : LinesEnd) → cut_end lines_end refused_at ≡ None
       → (refused_at ≡ []) × (lines_end ≡ lines_ends.Whole)
   none_cut [] lines_ends.Whole is = (refl, refl)
   none_cut (first ∷ more) lines_ends.Whole is = absurd cc
@@ -196,9 +210,9 @@ module _ {D P K : Type 0} (m : Meaning D) (places : Places P) (n : SinkMeaning K
         disk = subst (EndsWith m disk new) (sym is) tt;
         stream = λ stream. absurd cc;
         sink_steady = λ f whole. ap n.faults same ∙ did.sinks.steady refl;
-        headline = λ size image o entry. subst (Headline m n size image o lines disk new before after) (sym is)
+        headline = λ size image o entry. subst (Headline m n size o lines disk new before after) (sym is)
             (closes disk new did.limit did.core now size image o lines fine (Ok x) before mid after entry did.opened
-            (did.done size image o entry) core did.accounts closing
+            core did.accounts (did.done size image o entry) closing
             (subst (λ (e : RunEnd). IsPrinted n mid after (last_line e)) is says.printed));
       }
   closed_as new fine (Err refusal) told did fails closes core closing says =
@@ -208,9 +222,9 @@ module _ {D P K : Type 0} (m : Meaning D) (places : Places P) (n : SinkMeaning K
             (fails disk new did.limit did.core now lines_ends.Whole refusal did.opened did.accounts closing);
         stream = λ stream. absurd cc;
         sink_steady = λ f whole. absurd cc;
-        headline = λ size image o entry. subst (Headline m n size image o lines disk new before after) (sym is)
+        headline = λ size image o entry. subst (Headline m n size o lines disk new before after) (sym is)
             (closes disk new did.limit did.core now size image o lines fine (Err refusal) before mid after entry did.opened
-            (did.done size image o entry) core did.accounts closing
+            core did.accounts (did.done size image o entry) closing
             (subst (λ (e : RunEnd). IsPrinted n mid after (last_line e)) is says.printed));
       }
 
@@ -225,3 +239,42 @@ module _ {D P K : Type 0} (m : Meaning D) (places : Places P) (n : SinkMeaning K
       (subst (λ (e : LinesEnd). HasObeyed m places n lines disk now before mid [] e fine) both.1
       (subst (λ (xs : List Refusal). HasObeyed m places n lines disk now before mid xs lines_end fine) both.0 did))
       fails closes core closing (subst (λ (e : RunEnd). SaysEnd n mid after e told) is says)
+
+-- ---- what was obeyed
+
+-- there was no room for what is refused at the end, and no line was obeyed
+pub unbegun : {D P K : Type 0} (m : Meaning D) (places : Places P) (n : SinkMeaning K) (lines : List Line) (disk : D)
+    (limit : ℕ) (core : Core D) (sink : K) → IsOpenedOver m disk limit core
+    → HasObeyed m places n lines disk core sink sink [] lines_ends.NoMemory true
+unbegun m places n lines disk limit core sink opened = record {
+  limit = limit;
+  core = core;
+  opened = opened;
+  accounts = no_account (means m places) core None tt;
+  caused = tt;
+  sinks = record { never_falls = omega arith; steady = λ is. absurd cc; failed = λ is. absurd cc };
+  done = λ size image o entry. inr (record { short = refl; keeper = refl; sink = refl; none = refl });
+}
+
+-- the page size that the engine tells is the one of the history
+pub obeyed : {D P K : Type 0} (m : Meaning D) (places : Places P) (n : SinkMeaning K) (lines : List Line) (disk : D)
+    (limit : ℕ) (core now : Core D) (before mid : K) (refused_at : List Refusal) (lines_end : LinesEnd) (fine : Bool)
+    (page : ℕ) → page ≡ core.store.geometry.size → RunsBegin m → IsOpenedOver m disk limit core
+    → Accounts (means m places) core now (reason lines_end) → AreCaused (means m places) core now refused_at
+    → SinkSays n before mid lines_end
+    → ((o : Opening) → (means m places).stands core o [] → ((t : ℕ) → is_active (state_of o [] t) ≡ false)
+    → ScriptDone (means m places) n core now before mid o page lines refused_at lines_end fine)
+    → HasObeyed m places n lines disk now before mid refused_at lines_end fine
+obeyed m places n lines disk limit core now before mid refused_at lines_end fine page is begins opened accounts caused
+    sinks done = record {
+      limit = limit;
+      core = core;
+      opened = opened;
+      accounts = accounts;
+      caused = caused;
+      sinks = sinks;
+      done = λ size image o entry.
+          let begun = begins disk limit core size image o opened entry in
+          subst (λ (s : ℕ). ScriptDone (means m places) n core now before mid o s lines refused_at lines_end fine)
+          (is ∙ begun.size_is) (done o begun.stands begun.idle);
+    }

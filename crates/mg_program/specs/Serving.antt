@@ -32,7 +32,7 @@ pub record Serves {D K : Type 0} (m : Meaning D) (n : SinkMeaning K) (lines : Li
   pub stream : end ≡ Stream → Rose (n.faults before) (n.faults after)
   pub sink_steady : (fine : Bool) → end ≡ Whole fine → n.faults after ≡ n.faults before
   pub headline : (size : ℕ) (image : Image) (o : Opening) → IsEntry m old size image o
-      → Headline m n size image o lines old new before after end
+      → Headline m n size o lines old new before after end
 
 -- ---- lines on an engine
 

@@ -32,7 +32,7 @@ pub record Runs {D S K : Type 0} (m : Meaning D) (s : SourceMeaning S) (n : Sink
   pub streams : StreamCauses s n source source' sink sink' end
   pub script : ScriptCauses s source old new end
   pub headline : (size : ℕ) (image : Image) (o : Opening) (script : List ℕ) → IsEntry m old size image o
-      → s.left source ≡ Some script → Promise m n size image o script old new sink sink' end
+      → s.left source ≡ Some script → Promise m n size o script old new sink sink' end
 
 -- The words are a command line; its run has ended, and the status tells how.
 pub record HasRun {D S K : Type 0} (m : Meaning D) (s : SourceMeaning S) (n : SinkMeaning K) (words : List (List ℕ))

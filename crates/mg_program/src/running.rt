@@ -35,7 +35,7 @@ pub fn run<D: Disk, S: Source, K: Sink>(
     ensures script { ScriptCauses S.meaning source.old disk result.1 result.0 }
     ensures headline { (size : ℕ) (image : Image) (o : Opening) (script : List ℕ)
         → IsEntry D.meaning disk size image o → S.meaning.left source.old ≡ Some script
-        → Promise D.meaning K.meaning size image o script disk result.1 sink.old sink.new result.0 }
+        → Promise D.meaning K.meaning size o script disk result.1 sink.old sink.new result.0 }
 {
     lines_of_scripts_can_be_obeyed();
     match read_lines(alloc, source) {

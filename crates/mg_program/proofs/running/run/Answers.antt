@@ -61,4 +61,4 @@ returns-in-Err-clause-script g c = unread_script g.D.Disk.meaning g.S.Source.mea
 pub returns-in-Err-clause-headline : goal.returns-in-Err-clause-headline
 returns-in-Err-clause-headline g c = λ size image o script entry left. unread_promise g.D.Disk.meaning
     g.S.Source.meaning g.K.Sink.meaning c.args.source.now c.read_lines.new.source c.args.disk c.args.sink.now
-    c.say_end.new.sink c.in-Err.end c.say_end.result c.in-Err.ensures c.say_end.ensures size image o script
+    c.say_end.new.sink c.in-Err.end c.say_end.result c.in-Err.ensures c.say_end.ensures size o script
