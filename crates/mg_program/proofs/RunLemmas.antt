@@ -61,7 +61,6 @@ told_reading s source source' end told fails is = absurd fails
 -- how such a run ends, and why
 record IsStillUnread {S : Type 0} (s : SourceMeaning S) (source source' : S) (end : RunEnd) : Type 0 where
   ends : IsReadingEnd end
-  disk_fails : {D : Type 0} (m : Meaning D) (disk : D) → EndsWith m disk disk end
   stream : end ≡ Stream → Rose (s.faults source) (s.faults source')
   source_steady : end ≢ Stream → s.faults source' ≡ s.faults source
   whole : (fine : Bool) → end ≡ Whole fine → ⊥
@@ -71,7 +70,6 @@ still_unread : {S : Type 0} (s : SourceMeaning S) (source source' : S) (end : Ru
     → FailsToRead s source source' end → IsStillUnread s source source' end
 still_unread s source source' Stream fails = record {
   ends = inl refl;
-  disk_fails = λ m disk. tt;
   stream = λ is. fails;
   source_steady = λ other. absurd (other refl);
   whole = λ fine is. absurd cc;
@@ -79,7 +77,6 @@ still_unread s source source' Stream fails = record {
 }
 still_unread s source source' ScriptTooLong fails = record {
   ends = inr (inl refl);
-  disk_fails = λ m disk. tt;
   stream = λ is. absurd cc;
   source_steady = λ other. fails.0;
   whole = λ fine is. absurd cc;
@@ -87,13 +84,20 @@ still_unread s source source' ScriptTooLong fails = record {
 }
 still_unread s source source' (Outside Memory) fails = record {
   ends = inr (inr refl);
-  disk_fails = λ m disk. tt;
   stream = λ is. absurd cc;
   source_steady = λ other. fails;
   whole = λ fine is. absurd cc;
   too_long = λ is. absurd cc;
 }
 still_unread s source source' end fails = absurd fails
+
+-- the disk has no part in it
+unread_fails : {D S : Type 0} (m : Meaning D) (disk : D) (s : SourceMeaning S) (source source' : S) (end : RunEnd)
+    → FailsToRead s source source' end → EndsWith m disk disk end
+unread_fails m disk s source source' Stream fails = tt
+unread_fails m disk s source source' ScriptTooLong fails = tt
+unread_fails m disk s source source' (Outside Memory) fails = tt
+unread_fails m disk s source source' end fails = absurd fails
 
 module _ {D S K : Type 0} (m : Meaning D) (s : SourceMeaning S) (n : SinkMeaning K) (source source' : S) (disk : D)
     (before after : K) (end told : RunEnd) (fails : FailsToRead s source source' end)
@@ -105,7 +109,7 @@ module _ {D S K : Type 0} (m : Meaning D) (s : SourceMeaning S) (n : SinkMeaning
   still = subst (IsStillUnread s source source') (sym is_end) (still_unread s source source' end fails)
 
   pub unread_disk : EndsWith m disk disk told
-  unread_disk = still.disk_fails m disk
+  unread_disk = subst (EndsWith m disk disk) (sym is_end) (unread_fails m disk s source source' end fails)
 
   pub unread_streams : StreamCauses s n source source' before after told
   unread_streams = record {

@@ -257,7 +257,7 @@ unbegun m places n lines disk limit core sink opened = record {
 }
 
 -- the page size that the engine tells is the one of the history
-pub obeyed : {D P K : Type 0} (m : Meaning D) (places : Places P) (n : SinkMeaning K) (lines : List Line) (disk : D)
+obeyed_as : {D P K : Type 0} (m : Meaning D) (places : Places P) (n : SinkMeaning K) (lines : List Line) (disk : D)
     (limit : ℕ) (core now : Core D) (before mid : K) (refused_at : List Refusal) (lines_end : LinesEnd) (fine : Bool)
     (page : ℕ) → page ≡ core.store.geometry.size → RunsBegin m → IsOpenedOver m disk limit core
     → Accounts (means m places) core now (reason lines_end) → AreCaused (means m places) core now refused_at
@@ -265,7 +265,7 @@ pub obeyed : {D P K : Type 0} (m : Meaning D) (places : Places P) (n : SinkMeani
     → ((o : Opening) → (means m places).stands core o [] → ((t : ℕ) → is_active (state_of o [] t) ≡ false)
     → ScriptDone (means m places) n core now before mid o page lines refused_at lines_end fine)
     → HasObeyed m places n lines disk now before mid refused_at lines_end fine
-obeyed m places n lines disk limit core now before mid refused_at lines_end fine page is begins opened accounts caused
+obeyed_as m places n lines disk limit core now before mid refused_at lines_end fine page is begins opened accounts caused
     sinks done = record {
       limit = limit;
       core = core;
@@ -278,3 +278,17 @@ obeyed m places n lines disk limit core now before mid refused_at lines_end fine
           subst (λ (s : ℕ). ScriptDone (means m places) n core now before mid o s lines refused_at lines_end fine)
           (is ∙ begun.size_is) (done o begun.stands begun.idle);
     }
+
+pub obeyed : {D P K : Type 0} (m : Meaning D) (places : Places P) (n : SinkMeaning K) (lines : List Line) (disk : D)
+    (limit : ℕ) (core now : Core D) (before mid : K) (given refused_at : List Refusal) (lines_end : LinesEnd)
+    (fine : Bool) (page : ℕ) → given ≡ refused_at → page ≡ core.store.geometry.size → RunsBegin m
+    → IsOpenedOver m disk limit core → Accounts (means m places) core now (reason lines_end)
+    → AreCaused (means m places) core now refused_at → SinkSays n before mid lines_end
+    → ((o : Opening) → (means m places).stands core o [] → ((t : ℕ) → is_active (state_of o [] t) ≡ false)
+    → ScriptDone (means m places) n core now before mid o page lines refused_at lines_end fine)
+    → HasObeyed m places n lines disk now before mid given lines_end fine
+obeyed m places n lines disk limit core now before mid given refused_at lines_end fine page same is begins opened
+    accounts caused sinks done =
+    subst (λ (xs : List Refusal). HasObeyed m places n lines disk now before mid xs lines_end fine) (sym same)
+    (obeyed_as m places n lines disk limit core now before mid refused_at lines_end fine page is begins opened accounts
+    caused sinks done)

@@ -11,7 +11,8 @@ loop-piece-preserved g c = record {
       let front = c.in-Ok.ensures.front before.0 before.1 in (
         drop c.in-Ok.count before.0,
         front.2,
-        ?,
+        moved bytes c.loop-piece.text.items before.0 c.take.new.into c.append.new.text.items c.in-Ok.count before.2
+            c.if-not-append.ensures front.1,
       );
 }
   where

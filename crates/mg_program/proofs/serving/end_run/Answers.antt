@@ -11,7 +11,7 @@ returns-in-Some g c = λ disk before lines did. left g.D.Disk.meaning places g.K
 
 pub returns-in-None : goal.returns-in-None
 returns-in-None g c = λ disk before lines did. closed g.D.Disk.meaning places g.K.Sink.meaning lines disk
-    c.args.engine before c.args.sink.now c.say_end.new.sink c.close.result.0 c.args.refusals.now c.args.ran.end
-    c.args.ran.fine c.close.result.1 c.closed_end.result c.say_end.result did (c.closings_fail.ensures places)
-    (c.runs_close.ensures places) c.close.ensures.lawful c.close.ensures.closes (sym c.cut_end.ensures ∙ c.in-None.is)
+    c.args.engine before c.args.sink.now c.say_end.new.sink c.close-disk.result.0 c.args.refusals.now c.args.ran.end
+    c.args.ran.fine c.close-disk.result.1 c.closed_end.result c.say_end.result did (c.closings_fail.ensures places)
+    (c.runs_close.ensures places) c.close-disk.ensures.lawful c.close-disk.ensures.closes (sym c.cut_end.ensures ∙ c.in-None.is)
     c.closed_end.ensures c.say_end.ensures

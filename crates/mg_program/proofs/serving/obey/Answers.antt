@@ -15,6 +15,9 @@ pub run_script-ran-requires-clause-room : goal.run_script-ran-requires-clause-ro
 run_script-ran-requires-clause-room g c =
     let none = c.in-Ok.ensures.len in let room = c.in-Ok.ensures.capacity in omega (arith, none, room)
 
+pub run_script-ran-requires-clause-none : goal.run_script-ran-requires-clause-none
+run_script-ran-requires-clause-none g c = c.in-Ok.ensures.items
+
 pub returns-in_default : goal.returns-in_default
 returns-in_default g c = λ disk limit opened. c.end_run.ensures disk c.args.sink.now c.args.lines.now
     (unbegun g.D.Disk.meaning places g.K.Sink.meaning c.args.lines.now disk limit c.args.engine c.args.sink.now opened)
@@ -22,7 +25,8 @@ returns-in_default g c = λ disk limit opened. c.end_run.ensures disk c.args.sin
 pub returns : goal.returns
 returns g c = λ disk limit opened. c.end_run-2.ensures disk c.args.sink.now c.args.lines.now
     (obeyed g.D.Disk.meaning places g.K.Sink.meaning c.args.lines.now disk limit c.args.engine c.run_script-ran.new.r
-    c.args.sink.now c.run_script-ran.new.sink c.run_script-ran.new.refusals.items c.run_script-ran.result.end
-    c.run_script-ran.result.fine c.page_size-size.result c.page_size-size.ensures c.runs_begin.ensures opened
+    c.args.sink.now c.run_script-ran.new.sink c.as_slice.result.now c.run_script-ran.new.refusals.items
+    c.run_script-ran.result.end c.run_script-ran.result.fine c.page_size-size.result c.as_slice.ensures.value
+    c.page_size-size.ensures c.runs_begin.ensures opened
     c.run_script-ran.ensures.accounts c.run_script-ran.ensures.caused c.run_script-ran.ensures.sinks
     c.run_script-ran.ensures.done)
