@@ -7,8 +7,12 @@ ghost use Rattle.mg_runs.specs.Ends.{EndsWith};
 ghost use Rattle.mg_runs.specs.Entry.{IsEntry};
 ghost use Rattle.mg_runs.specs.Promise.{Promise, ScriptCauses, StreamCauses};
 
-use crate::ending::RunEnd;
+use crate::printing::say_end;
+use crate::script_source::read_lines;
+use crate::serving::serve;
 use mg_base::{Disk, Sink, Source};
+use mg_runs::RunEnd;
+use mg_scripts::lines_of_scripts_can_be_obeyed;
 use std::alloc::Global;
 
 /// Obeys the script that the source gives, on a disk that is opened for it and comes back. Behind the transcript the
@@ -31,7 +35,11 @@ pub fn run<D: Disk, S: Source, K: Sink>(
     ensures script { ScriptCauses S.meaning source.old disk result.1 result.0 }
     ensures headline { (size : ℕ) (image : Image) (o : Opening) (script : List ℕ)
         → IsEntry D.meaning disk size image o → S.meaning.left source.old ≡ Some script
-        → Promise D.meaning K.meaning size image o script disk result.1 sink.old sink.new result.0 }
+        → Promise D.meaning K.meaning size o script disk result.1 sink.old sink.new result.0 }
 {
-    todo!()
+    lines_of_scripts_can_be_obeyed();
+    match read_lines(alloc, source) {
+        Ok(script) => serve(alloc, disk, limit, script.as_slice(), sink),
+        Err(end) => (say_end(alloc, end, sink), disk),
+    }
 }
