@@ -1,36 +1,22 @@
-//! The program: `mgdb run FILE` obeys a script of lines of up to 16 sessions on one file of pages.
+//! The program: `mgdb run DB` obeys the script on standard input, on the database in the file DB, and
+//! prints on standard output.
 //!
-//! Owns: the words of a command line, the script as it comes from the source, which files are
-//! opened, what a line does to the disk, the statuses and the fault lines, and what is promised of
-//! a run.
+//! Owns: which file and which streams the top call gets, and the status that the process ends with.
 //!
-//! Invariant: between two lines the pages in memory stand for the history of the lines so far
-//! (`Work`), and the disk holds what outlasts a crash of it. Below: `mg_base` for the outside;
-//! `mg_opening` for the test of an image; `mg_store` for the pages on the disk; `mg_session` for
-//! what a line does in memory; `mg_lines` for the lines, their history and their texts. Not here:
-//! what a page of any kind means, and the order of page writes.
+//! Invariant: none, it keeps no state.
+//! Below: `mg_program`, the top call, with all that is promised of a run; `mg_words` for the page size
+//! of a new file; `mg_device` for the file; `mg_base` for the streams.
+//! Not here: everything else.
 #![tactic(auto)]
 
-mod laws;
-mod open;
-mod run;
-mod script_source;
-mod status;
-mod top;
-mod words;
-mod work;
-
-pub use laws::{blank_disks_are_entries, known_images_are_entries, scripts_are_limited};
 use mg_base::{StdSink, StdSource};
 use mg_device::FileDisk;
-pub use run::run;
-pub use status::Status;
+use mg_program::{Shelf, Status, mgdb};
+use mg_words::wanted_page;
 use std::alloc::AllocError;
 use std::env;
 use std::io::ErrorKind;
 use std::process::ExitCode;
-pub use top::{Shelf, mgdb};
-pub use words::wanted_page;
 
 // The words of the command line. Where one is no UTF-8 there are none, which is no command line.
 fn given_words(rt: &HostRuntime) -> Result<Vec<String>, AllocError> {
@@ -62,6 +48,3 @@ fn main(rt: HostRuntime) -> ExitCode {
     let status = program(rt).unwrap_or(Status::MEMORY);
     ExitCode::from(status.0)
 }
-
-#[cfg(test)]
-mod tests;

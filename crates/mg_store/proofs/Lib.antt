@@ -1,6 +1,0 @@
-mod CommitLemmas
-mod CrashLemmas
-mod NewDoneLemmas
-mod NewImageLemmas
-mod StepLemmas
-mod StoreLemmas
