@@ -90,8 +90,10 @@ statuses() {
     check 'status 1, a refusal' $'A: NO TRANSACTION\nstatus 1' "$(run s0 'A: COMMIT\n')"
     check 'status 3, no page write' $'mgdb: DISK WRITE FAULT\nstatus 3' "$(run s3 '' --stop 0)"
     check 'status 3, within a line' $'@put: DISK WRITE FAULT\nstatus 3' "$(run s3 '@put 1 1\n@get 1\n' --stop 7)"
+    check 'status 6, ROLLBACK TO before a CREATE TABLE' $'A: OK TX 1\nA: OK\nA: OK\nA: OUT OF MEMORY\nstatus 6' \
+        "$(run s6 'A: SET TRANSACTION\nA: SAVEPOINT S\nA: CREATE TABLE T (ID BIGINT PRIMARY KEY)\nA: ROLLBACK TO S\n')"
     check 'status 3 left a database' $'@get: NONE\nstatus 0' "$(run s3 '@get 1\n')"
-    head -c 1048577 /dev/zero | tr '\0' '\n' > long
+    { printf -- '--'; head -c 1048575 /dev/zero | tr '\0' x; } > long
     check 'status 7' $'mgdb: SCRIPT TOO LONG\nstatus 7' "$("$mgdb" run s7 < long; echo "status $?")"
     check 'status 7 asks no disk' 'no' "$([ -e s7 ] && echo yes || echo no)"
     check 'a script of the greatest length' 'status 0' "$(head -c 1048576 long | "$mgdb" run s7; echo "status $?")"
@@ -125,7 +127,7 @@ other_files() {
     check 'a damaged page stays' "$before" "$(sum kind)"
     fresh cut
     truncate -s 20480 cut
-    check 'a cut file' $'@get: DAMAGED PAGE 6 PRESENCE FOUND 5 WANTED 7\nstatus 4' "$(run cut '@get 1\n')"
+    check 'a cut file' $'@get: DAMAGED PAGE 5 PRESENCE FOUND 5 WANTED 6\nstatus 4' "$(run cut '@get 1\n')"
 }
 
 # The file is not opened under the number of a closed stream, so nothing is printed into it.
@@ -203,14 +205,14 @@ many_tables() {
     check 'forty tables in the next run' "${found}status 0" "$(run tables "$later")"
 }
 
-# A thousand rows in one transaction, which take many pages, and are all there in the next run.
+# Many rows in one transaction, which take many pages, and are all there in the next run.
 many_rows() {
     local script='A: SET TRANSACTION\nA: CREATE TABLE T (ID BIGINT PRIMARY KEY, NOTE VARCHAR(200))\n' n
-    for n in $(seq 1 1000); do
-        script+="A: INSERT INTO T VALUES ($n, 'row number $n of a thousand')\n"
+    for n in $(seq 1 300); do
+        script+="A: INSERT INTO T VALUES ($n, 'row number $n of many')\n"
     done
-    check 'a thousand rows' 'status 0' "$(run rows "$script"'A: COMMIT\n' --page 1024 | tail -n 1)"
-    check 'a thousand rows in the next run' $'A: OK TX 2\nA| 1000, 500500\nA: OK 1\nstatus 0' \
+    check 'many rows' 'status 0' "$(run rows "$script"'A: COMMIT\n' --page 1024 | tail -n 1)"
+    check 'many rows in the next run' $'A: OK TX 2\nA| 300, 45150\nA: OK 1\nstatus 0' \
         "$(run rows 'A: SET TRANSACTION\nA: SELECT COUNT(*), SUM(ID) FROM T\n')"
 }
 
