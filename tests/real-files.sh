@@ -208,11 +208,11 @@ many_tables() {
 # Many rows in one transaction, which take many pages, and are all there in the next run.
 many_rows() {
     local script='A: SET TRANSACTION\nA: CREATE TABLE T (ID BIGINT PRIMARY KEY, NOTE VARCHAR(200))\n' n
-    for n in $(seq 1 300); do
+    for n in $(seq 1 100); do
         script+="A: INSERT INTO T VALUES ($n, 'row number $n of many')\n"
     done
     check 'many rows' 'status 0' "$(run rows "$script"'A: COMMIT\n' --page 1024 | tail -n 1)"
-    check 'many rows in the next run' $'A: OK TX 2\nA| 300, 45150\nA: OK 1\nstatus 0' \
+    check 'many rows in the next run' $'A: OK TX 2\nA| 100, 5050\nA: OK 1\nstatus 0' \
         "$(run rows 'A: SET TRANSACTION\nA: SELECT COUNT(*), SUM(ID) FROM T\n')"
 }
 
@@ -233,23 +233,21 @@ many_waits() {
 stopped_runs() {
     local script='@put 1 1\nA: SET TRANSACTION\nA: CREATE TABLE T (ID BIGINT PRIMARY KEY, N VARCHAR(9))\n'
     script+="A: INSERT INTO T VALUES (1, 'one')\nA: INSERT INTO T VALUES (2, 'two')\nA: COMMIT\n@put 1 2\n"
-    local n given left ends
+    local n given left without='B: NO TABLE' with='B| 2' one or_other
     for n in $(seq 0 40); do
         rm -f stopped
         given=$(run stopped "$script" --stop "$n")
-        left=$(run stopped '@get 1\nB: SET TRANSACTION\nB: SELECT COUNT(*) FROM T\n' | grep -v 'OK')
-        case "$(grep -c '' <<< "$given") $(grep -c FAULT <<< "$given")" in
-            '2 1') ends='@get: NONE|B: NO TABLE @get: 1|B: NO TABLE' ;;
-            '7 1') ends='@get: 1|B: NO TABLE @get: 1|B| 2' ;;
-            '8 1') ends='@get: 1|B| 2 @get: 2|B| 2' ;;
-            '8 0') ends='@get: 2|B| 2' ;;
-            *) ends='a stop at another line' ;;
+        left=$(run stopped '@get 1\nB: SET TRANSACTION\nB: SELECT COUNT(*) FROM T\n' | grep -v OK | head -n 2 | paste -sd'|')
+        # By the line at which it was stopped: one end, or the other where a commit was under way.
+        case "$(grep -c '' <<< "$given") $(tail -n 1 <<< "$given")" in
+            '2 status 3') one="@get: NONE|$without" or_other="@get: 1|$without" ;;
+            [3456]' status 3') one="@get: 1|$without" or_other=$one ;;
+            '7 status 3') one="@get: 1|$without" or_other="@get: 1|$with" ;;
+            '8 status 3') one="@get: 1|$with" or_other="@get: 2|$with" ;;
+            *) one="@get: 2|$with" or_other=$one ;;
         esac
-        left=$(head -n 2 <<< "$left" | paste -sd'|')
-        case " $ends " in
-            *" $left "*) passed=$((passed + 1)) ;;
-            *) check "stopped after $n page writes: $given" "$ends" "$left" ;;
-        esac
+        [ "$left" == "$or_other" ] && one=$or_other
+        check "stopped after $n page writes: $given" "$one" "$left"
         [ "$(tail -n 1 <<< "$given")" == 'status 0' ] && break
     done
     check 'a run that is not stopped' 'status 0' "$(tail -n 1 <<< "$given")"
