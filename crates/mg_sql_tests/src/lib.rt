@@ -1,14 +1,13 @@
-//! Tests of SQL and of scripts, a module for each crate that they test: texts are parsed and bound,
-//! their statements run over rows that are given and over the plain machine, and what is printed is
-//! compared with what the rules of the language say, written by hand; so are the lines of scripts.
+//! Tests of SQL, a module for each crate that they test: texts are parsed and bound, expressions
+//! computed, and what comes is compared with what the rules of the language say, written by hand; so
+//! are command lines.
 //!
-//! Owns: nothing but the tests, and a session that runs a statement to its end. They stand apart
-//! from what they test, so that each library is proved once, and not again with its tests.
+//! Owns: nothing but the tests. They stand apart from what they test, so that each library is proved
+//! once, and not again with its tests.
 //!
 //! Invariant: none, it keeps no state.
-//! Below: the crates from `mg_expr` and `mg_sql` up to `mg_exec` and `mg_transcript`, and
-//! `mg_plain`, over which statements run. Above: nothing.
-//! Not here: statements that are held or wait.
+//! Below: `mg_expr`, `mg_sql`, `mg_plan` and `mg_words`. Above: nothing.
+//! Not here: statements that run, and lines of scripts. They are rows of `mg_worked_runs`.
 #![tactic(auto)]
 
 #[cfg(test)]

@@ -23,7 +23,7 @@
 //! | `% fails FROM TO` | the same, where the N-th call of the disk in that first run fails |
 //! | other lines | prose, which is repeated |
 //!
-//! Of a run that prints more than 20 lines the first and the last three are written. In a block the
+//! Of a run that prints more than 40 lines the first and the last three are written. In a block the
 //! answers stand in one line, and numbers with the same answers stand together.
 //!
 //! Invariant: none. Below: `mg_program`, the top call; `mg_base`, the disks in memory.

@@ -7,7 +7,7 @@ use mg_base::Memory;
 use std::alloc::Global;
 
 /// The most lines of a run that are all written.
-const LINES_MOST: usize = 20;
+const LINES_MOST: usize = 40;
 
 /// How many of the first and of the last lines are written of a longer one.
 const LINES_KEPT: usize = 3;

@@ -1,7 +1,0 @@
-use Rattle.std.proofs.Common.{◌≡◌, Some}
-use Rattle.mg_engine.specs.Places.{places}
-use Rattle.mg_engine_meaning.specs.Meaning.{means}
-use Rattle.mg_engine_tests.proofs.tests.runs.value_at.Given as goal
-
-abbrev pub invariant-loop : goal.invariant-loop
-invariant-loop g l = (means g.D.Disk.meaning places).table l.engine l.t.0 l.table.name ≡ Some l.table
