@@ -1,0 +1,4 @@
+mod PrintLemmas
+mod ServingLemmas
+mod RunLemmas
+mod TopLemmas

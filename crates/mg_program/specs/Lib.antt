@@ -1,0 +1,4 @@
+pub mod Reading
+pub mod Saying
+pub mod Serving
+pub mod Top

@@ -1,0 +1,59 @@
+-- What a run whose script was read promises.
+use Rattle.std.specs.Prelude.{◌≡◌, ◌≢◌, ℕ, Bool, List, [], ◌∷◌, Option, None, Some}
+use Rattle.mg_base.specs.Disk.{Meaning, Rose}
+use Rattle.mg_base.specs.Image.{Image}
+use Rattle.mg_base.specs.Streams.{SinkMeaning}
+use Rattle.mg_core.specs.declared.parts.Core.{Core}
+use Rattle.mg_engine_calls.specs.Openings.{IsOpenedOver}
+use Rattle.mg_engine_meaning.specs.Meaning.{Places, means}
+use Rattle.mg_model.specs.declared.opening.Opening.{Opening}
+use Rattle.mg_model.specs.declared.refusal.Refusal.{Refusal}
+use Rattle.mg_model.specs.declared.refusal.Refusal.TheVariants.{Memory}
+use Rattle.mg_script.specs.declared.line.Line.{Line}
+use Rattle.mg_script_ends.specs.Ends.{AreCaused}
+use Rattle.mg_scripts.specs.declared.lines.LinesEnd.{LinesEnd}
+use Rattle.mg_scripts.specs.declared.lines.LinesEnd.TheVariants as lines_ends
+use Rattle.mg_scripts.specs.Ending.{ScriptDone}
+use Rattle.mg_scripts.specs.Printing.{SinkSays}
+use Rattle.mg_scripts.specs.Steps.{reason}
+use Rattle.mg_sessions.specs.Accounts.{Accounts}
+use Rattle.mg_runs.specs.declared.ending.RunEnd.{RunEnd}
+use Rattle.mg_runs.specs.declared.ending.RunEnd.TheVariants.{InLine, Outside, ScriptTooLong, Stream, Whole}
+use Rattle.mg_runs.specs.Ends.{EndsWith}
+use Rattle.mg_runs.specs.Entry.{IsEntry}
+use Rattle.mg_runs.specs.Headline.{Headline}
+
+-- A run whose script was read has ended: where the disk's count of faults has risen, where the sink's has, and the
+-- history of the lines.
+pub record Serves {D K : Type 0} (m : Meaning D) (n : SinkMeaning K) (lines : List Line) (old new : D) (before after : K)
+    (end : RunEnd) : Type 0 where
+  pub read : end ≢ ScriptTooLong
+  pub disk : EndsWith m old new end
+  pub stream : end ≡ Stream → Rose (n.faults before) (n.faults after)
+  pub sink_steady : (fine : Bool) → end ≡ Whole fine → n.faults after ≡ n.faults before
+  pub headline : (size : ℕ) (image : Image) (o : Opening) → IsEntry m old size image o
+      → Headline m n size o lines old new before after end
+
+-- ---- lines on an engine
+
+-- An engine was opened over a disk, and the lines of a script were obeyed on it, or as many of them as its end lets:
+-- what came of them.
+pub record HasObeyed {D P K : Type 0} (m : Meaning D) (places : Places P) (n : SinkMeaning K) (lines : List Line)
+    (disk : D) (now : Core D) (before mid : K) (refusals : List Refusal) (lines_end : LinesEnd) (fine : Bool) : Type 0
+  where
+    pub limit : ℕ
+    pub core : Core D
+    pub opened : IsOpenedOver m disk limit core
+    pub accounts : Accounts (means m places) core now (reason lines_end)
+    pub caused : AreCaused (means m places) core now refusals
+    pub sinks : SinkSays n before mid lines_end
+    pub done : (size : ℕ) (image : Image) (o : Opening) → IsEntry m disk size image o
+        → ScriptDone (means m places) n core now before mid o size lines refusals lines_end fine
+
+-- how a run ends that doesn't close the database: its lines were cut short, or a rolling back was refused
+abbrev pub cut_end : LinesEnd → List Refusal → Option RunEnd
+cut_end lines_ends.Whole [] = None
+cut_end lines_ends.Whole (first ∷ more) = Some (Outside first)
+cut_end (lines_ends.Stopped refusal) refusals = Some (InLine refusal)
+cut_end lines_ends.NoMemory refusals = Some (Outside Memory)
+cut_end lines_ends.SinkFailed refusals = Some Stream

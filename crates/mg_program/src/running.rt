@@ -1,0 +1,45 @@
+//! The command `run`: a script is obeyed on a disk.
+
+ghost use Rattle.std.specs.Prelude.{◌≡◌, ℕ, List, Some};
+ghost use Rattle.mg_base.specs.Image.{Image};
+ghost use Rattle.mg_model.specs.declared.opening.Opening.{Opening};
+ghost use Rattle.mg_runs.specs.Ends.{EndsWith};
+ghost use Rattle.mg_runs.specs.Entry.{IsEntry};
+ghost use Rattle.mg_runs.specs.Promise.{Promise, ScriptCauses, StreamCauses};
+
+use crate::printing::say_end;
+use crate::script_source::read_lines;
+use crate::serving::serve;
+use mg_base::{Disk, Sink, Source};
+use mg_runs::RunEnd;
+use mg_scripts::lines_of_scripts_can_be_obeyed;
+use std::alloc::Global;
+
+/// Obeys the script that the source gives, on a disk that is opened for it and comes back. Behind the transcript the
+/// sink gets the line that says why the run has ended, if a fault outside the lines has stopped it.
+///
+/// The script is read whole before the disk is first asked, and a commit's line goes into the sink after the disk was
+/// settled. Where nothing stops the run, what is live at the end of the script is rolled back, every dirty page is
+/// written and the disk settled; where something does, nothing is written any more.
+///
+/// `limit` is the greatest number of pages that the database may have.
+pub fn run<D: Disk, S: Source, K: Sink>(
+    alloc: Global,
+    disk: D,
+    limit: u32,
+    source: &mut S,
+    sink: &mut K,
+) -> (RunEnd, D)
+    ensures disk { EndsWith D.meaning disk result.1 result.0 }
+    ensures streams { StreamCauses S.meaning K.meaning source.old source.new sink.old sink.new result.0 }
+    ensures script { ScriptCauses S.meaning source.old disk result.1 result.0 }
+    ensures headline { (size : ℕ) (image : Image) (o : Opening) (script : List ℕ)
+        → IsEntry D.meaning disk size image o → S.meaning.left source.old ≡ Some script
+        → Promise D.meaning K.meaning size o script disk result.1 sink.old sink.new result.0 }
+{
+    lines_of_scripts_can_be_obeyed();
+    match read_lines(alloc, source) {
+        Ok(script) => serve(alloc, disk, limit, script.as_slice(), sink),
+        Err(end) => (say_end(alloc, end, sink), disk),
+    }
+}

@@ -1,0 +1,85 @@
+//! The top call: the whole program, over any disk and any streams.
+
+ghost use Rattle.std.specs.Prelude.{◌≡◌, ◌≢◌, ◌↔◌, ◌<◌, Some};
+ghost use Rattle.mg_words.specs.declared.asked.Asked.{Asked as AnyAsked};
+ghost use Rattle.mg_words.specs.Words.{IsRun, texts};
+ghost use Rattle.mg_program.specs.Top.{HasRun, IsUsage, Runs};
+
+use crate::printing::put_line;
+use crate::running::run;
+use mg_base::{Disk, Fused, GREATEST_LIMIT, Sink, Source};
+use mg_runs::{RunEnd, Status};
+use mg_words::{Asked, read_words};
+use std::alloc::Global;
+
+/// The disks that a command line names.
+#[derive(Drop)]
+pub struct Shelf<D> {
+    pub first: D,
+    /// The second database of a command that works on two.
+    pub second: Option<D>,
+}
+
+/// Does what the words ask for, and gives the disks back.
+///
+/// `words` begin with the program's name. Where they are no command line it prints USAGE, and neither reads nor writes
+/// anything else. `--stop N` lets the first N page writes through and fails each later one; `--limit N` is the greatest
+/// number of pages, and 131,072 without it. `--page` is for who makes the disk (`wanted_page`).
+pub fn mgdb<R: AllocGlobal + Drop, D: Disk + Send + 'static, S: Source, K: Sink>(
+    rt: R,
+    words: &[String],
+    shelf: Shelf<D>,
+    source: &mut S,
+    sink: &mut K,
+) -> (Status, Shelf<D>)
+    ensures usage { (result.0.0 ≡ 2) ↔ ((asked : AnyAsked) → IsRun (texts words.now) asked → ⊥) }
+    ensures untouched { result.0.0 ≡ 2
+        → IsUsage K.meaning shelf result.1 source.old source.new sink.old sink.new }
+    ensures runs { result.0.0 ≢ 2
+        → HasRun D.meaning S.meaning K.meaning (texts words.now) source.old source.new shelf.first
+        result.1.first sink.old sink.new result.0 }
+    ensures second { result.1.second ≡ shelf.second }
+    ensures range { result.0.0 < 8 }
+{
+    let Some(asked) = read_words(words) else {
+        put_line(b"mgdb: USAGE\n", sink);
+        return (Status::USAGE, shelf);
+    };
+    let Shelf { first, second } = shelf;
+    let (end, first) = run_asked(rt.alloc(), asked, first, source, sink);
+    (end.status(), Shelf { first, second })
+}
+
+// Obeys a command line that was read.
+fn run_asked<D: Disk + Send + 'static, S: Source, K: Sink>(
+    alloc: Global,
+    asked: Asked,
+    disk: D,
+    source: &mut S,
+    sink: &mut K,
+) -> (RunEnd, D)
+    ensures { Runs D.meaning S.meaning K.meaning asked.stop source.old source.new disk result.1
+        sink.old sink.new result.0 }
+{
+    let limit = asked.limit.unwrap_or(GREATEST_LIMIT);
+    match asked.stop {
+        None => run(alloc, disk, limit, source, sink),
+        Some(most) => run_stopped(alloc, disk, limit, most, source, sink),
+    }
+}
+
+// The same on a disk that lets only the first page writes through.
+fn run_stopped<D: Disk + Send + 'static, S: Source, K: Sink>(
+    alloc: Global,
+    disk: D,
+    limit: u32,
+    most: u32,
+    source: &mut S,
+    sink: &mut K,
+) -> (RunEnd, D)
+    ensures { Runs D.meaning S.meaning K.meaning (Some most) source.old source.new disk result.1
+        sink.old sink.new result.0 }
+{
+    let (end, fused) = run(alloc, Fused::new(disk, most), limit, source, sink);
+    (end, fused.into_inner())
+}

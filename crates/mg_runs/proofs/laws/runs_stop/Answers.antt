@@ -1,0 +1,6 @@
+use Rattle.mg_runs.specs.EndLaws.{runs_stop}
+use Rattle.mg_runs.proofs.laws.runs_stop.Goals as goal
+
+pub returns : goal.returns
+returns g c = λ places. runs_stop g.D.Disk.meaning places g.K.Sink.meaning g.met.D.Disk.counts_now
+    c.new_databases_begin.ensures

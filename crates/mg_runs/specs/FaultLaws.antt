@@ -1,0 +1,142 @@
+-- What the disk refuses comes only where its count of faults rose.
+use Rattle.std.proofs.Common.{◌≡◌, ◌⊎◌, inl, inr, ◌≤◌, ℕ, Option, None, Some, sym, ◌∙◌, subst, arith}
+use Rattle.mg_base.specs.Disk.{Meaning, Rose}
+use Rattle.mg_calls.specs.Frames.{Blames}
+use Rattle.mg_core.specs.Opening.{FailsToRead, IsOpenRefusal, RefusesOpen, unprepared, unread}
+use Rattle.mg_core.specs.declared.parts.Core.{Core}
+use Rattle.mg_database.specs.Preparing.{FailsToPrepare, no_memory, unasked, unmade}
+use Rattle.mg_database.specs.declared.fault.OpenFault.{OpenFault}
+use Rattle.mg_database.specs.declared.fault.OpenFault.TheVariants.{NotADatabase, Space}
+use Rattle.mg_engine_calls.specs.Closings.{RefusesClose}
+use Rattle.mg_engine_meaning.specs.Meaning.{Places, means}
+use Rattle.mg_model.specs.declared.refusal.Refusal.{Refusal}
+use Rattle.mg_model.specs.declared.refusal.Refusal.TheVariants as refusals
+use Rattle.mg_pool.specs.declared.fault.PoolFault.TheVariants as faults
+use Rattle.mg_space.specs.declared.fault.SpaceFault.TheVariants as space
+use Rattle.mg_runs.specs.Ends.{FailsWith}
+use Rattle.mg_runs.specs.Laws.{ClosingsFail, LinesFail, OpeningsFail}
+
+-- a count that has risen has risen since any earlier moment
+rose_since : (a b c : ℕ) → a ≤ b → Rose b c → Rose a c
+rose_since a b c before (inl below) = inl (omega (arith, before, below))
+rose_since a b c before (inr most) = inr most
+
+no_count : (x : Option ℕ) (count : ℕ) → x ≡ None → x ≡ Some count → ⊥
+no_count x count none some = let both : None ≡ Some count = sym none ∙ some in absurd cc
+
+-- ---- the opening
+
+module _ {D : Type 0} (m : Meaning D) (disk new : D) (limit : ℕ) (refusal : Refusal) where
+  unprepared_fails : (fault : OpenFault) → FailsToPrepare m disk new fault → IsOpenRefusal fault refusal
+      → FailsWith m disk new refusal
+  unprepared_fails _ (unasked count keeps same rose) is = subst (FailsWith m disk new) (sym is) rose
+  unprepared_fails _ (no_memory keeps same) is = subst (FailsWith m disk new) (sym is) tt
+  unprepared_fails _ (unmade count fails) is = subst (FailsWith m disk new) (sym is) fails.rose
+
+  -- a read failed, after the disk was prepared
+  read_rose : (count : ℕ) → FailsToRead m disk new limit (Space (space.Pool (faults.DiskRead count)))
+      → Rose (m.faults disk) (m.faults new)
+  read_rose count fails = subst (λ (d : D). Rose (m.faults disk) (m.faults d)) (sym fails.is_disk)
+      (rose_since (m.faults disk) (m.faults fails.before.disk) (m.faults fails.after.disk)
+      fails.prepared.never_falls fails.told.2.2)
+
+  unread_fails : (fault : OpenFault) → FailsToRead m disk new limit fault → IsOpenRefusal fault refusal
+      → FailsWith m disk new refusal
+  unread_fails (NotADatabase field found) fails is = subst (FailsWith m disk new) (sym is) tt
+  unread_fails (Space (space.Full most)) fails is = subst (FailsWith m disk new) (sym is) tt
+  unread_fails (Space (space.Damaged damage)) fails is = subst (FailsWith m disk new) (sym is) tt
+  unread_fails (Space (space.Pool (faults.DiskRead count))) fails is = subst (FailsWith m disk new) (sym is)
+      (read_rose count fails)
+  unread_fails (Space (space.Pool (faults.DiskWrite count))) fails is = absurd fails.own
+  unread_fails (Space (space.Pool (faults.Offline count))) fails is =
+      absurd (no_count fails.before.offline count fails.prepared.online fails.told.0)
+  unread_fails (Space (space.Pool (faults.Absent pages))) fails is = subst (FailsWith m disk new) (sym is) tt
+  unread_fails (Space (space.Pool faults.Memory)) fails is = subst (FailsWith m disk new) (sym is) tt
+
+  opening_fails : RefusesOpen m disk new limit refusal → FailsWith m disk new refusal
+  opening_fails (unprepared fault is fails) = unprepared_fails fault fails is
+  opening_fails (unread fault is fails) = unread_fails fault fails is
+
+pub openings_fail : {D : Type 0} (m : Meaning D) → OpeningsFail m
+openings_fail m disk new limit refusal refused = opening_fails m disk new limit refusal refused.cause
+
+-- ---- the lines
+
+-- what is blamed on the disk has risen since the start
+blamed : {D P : Type 0} (m : Meaning D) (places : Places P) (disk : D) (core now : Core D) (refusal : Refusal)
+    → m.faults disk ≤ m.faults core.store.disk → core.store.offline ≡ None
+    → Blames (means m places) core now (Some refusal) → FailsWith m disk now.store.disk refusal
+blamed m places disk core now (refusals.DiskRead count) fell online cause =
+    rose_since (m.faults disk) (m.faults core.store.disk) (m.faults now.store.disk) fell cause
+blamed m places disk core now (refusals.DiskWrite count) fell online cause =
+    rose_since (m.faults disk) (m.faults core.store.disk) (m.faults now.store.disk) fell cause
+blamed m places disk core now (refusals.Offline count) fell online (inl down) =
+    absurd (no_count core.store.offline count online down)
+blamed m places disk core now (refusals.Offline count) fell online (inr rose) =
+    rose_since (m.faults disk) (m.faults core.store.disk) (m.faults now.store.disk) fell rose
+blamed m places disk core now (refusals.UpdateConflict by) fell online cause = tt
+blamed m places disk core now (refusals.LockConflict by) fell online cause = tt
+blamed m places disk core now (refusals.Waits on) fell online cause = tt
+blamed m places disk core now (refusals.Deadlock by) fell online cause = tt
+blamed m places disk core now (refusals.InLimbo by) fell online cause = tt
+blamed m places disk core now refusals.DuplicateKey fell online cause = tt
+blamed m places disk core now refusals.NoRow fell online cause = tt
+blamed m places disk core now refusals.ReadOnly fell online cause = tt
+blamed m places disk core now refusals.NoTransaction fell online cause = tt
+blamed m places disk core now (refusals.NotActive state) fell online cause = tt
+blamed m places disk core now refusals.NoTable fell online cause = tt
+blamed m places disk core now refusals.TableExists fell online cause = tt
+blamed m places disk core now (refusals.RowTooLong len limit) fell online cause = tt
+blamed m places disk core now (refusals.DatabaseFull limit) fell online cause = tt
+blamed m places disk core now refusals.TransactionLimit fell online cause = tt
+blamed m places disk core now (refusals.NotADatabase field found) fell online cause = tt
+blamed m places disk core now (refusals.Damaged page field found wanted) fell online cause = tt
+blamed m places disk core now refusals.Memory fell online cause = tt
+
+pub lines_fail : {D P : Type 0} (m : Meaning D) (places : Places P) → LinesFail m places
+lines_fail m places disk limit core now lines_end refusal opened accounts is =
+    blamed m places disk core now refusal opened.never_falls opened.online
+    (subst (Blames (means m places) core now) is accounts.cause)
+
+-- ---- the end
+
+module _ {D : Type 0} (m : Meaning D) (disk new : D) (core now : Core D) (fell : m.faults disk ≤ m.faults core.store.disk)
+    (online : core.store.offline ≡ None) (later : m.faults core.store.disk ≤ m.faults now.store.disk)
+    (down : (now.store.offline ≡ core.store.offline) ⊎ Rose (m.faults core.store.disk) (m.faults now.store.disk)) where
+  went_down : (count : ℕ) → now.store.offline ≡ Some count → Rose (m.faults disk) (m.faults now.store.disk)
+  went_down count is = at down
+    where
+      at : (now.store.offline ≡ core.store.offline) ⊎ Rose (m.faults core.store.disk) (m.faults now.store.disk)
+          → Rose (m.faults disk) (m.faults now.store.disk)
+      at (inl same) = absurd (no_count core.store.offline count online (sym same ∙ is))
+      at (inr rose) = rose_since (m.faults disk) (m.faults core.store.disk) (m.faults now.store.disk) fell rose
+
+  closing_fails : (refusal : Refusal) → RefusesClose m now new refusal → FailsWith m disk new refusal
+  closing_fails (refusals.Offline count) why = subst (λ (d : D). Rose (m.faults disk) (m.faults d)) (sym why.1)
+      (went_down count why.0)
+  closing_fails (refusals.DiskWrite count) why = rose_since (m.faults disk) (m.faults now.store.disk) (m.faults new)
+      (omega (arith, fell, later)) why.1
+  closing_fails (refusals.DiskRead count) why = absurd why
+  closing_fails (refusals.UpdateConflict by) why = absurd why
+  closing_fails (refusals.LockConflict by) why = absurd why
+  closing_fails (refusals.Waits on) why = absurd why
+  closing_fails (refusals.Deadlock by) why = absurd why
+  closing_fails (refusals.InLimbo by) why = absurd why
+  closing_fails refusals.DuplicateKey why = absurd why
+  closing_fails refusals.NoRow why = absurd why
+  closing_fails refusals.ReadOnly why = absurd why
+  closing_fails refusals.NoTransaction why = absurd why
+  closing_fails (refusals.NotActive state) why = absurd why
+  closing_fails refusals.NoTable why = absurd why
+  closing_fails refusals.TableExists why = absurd why
+  closing_fails (refusals.RowTooLong len limit) why = absurd why
+  closing_fails (refusals.DatabaseFull limit) why = absurd why
+  closing_fails refusals.TransactionLimit why = absurd why
+  closing_fails (refusals.NotADatabase field found) why = absurd why
+  closing_fails (refusals.Damaged page field found wanted) why = absurd why
+  closing_fails refusals.Memory why = absurd why
+
+pub closings_fail : {D P : Type 0} (m : Meaning D) (places : Places P) → ClosingsFail m places
+closings_fail m places disk new limit core now lines_end refusal opened accounts closes =
+    closing_fails m disk new core now opened.never_falls opened.online accounts.faults accounts.down refusal
+    closes.ended

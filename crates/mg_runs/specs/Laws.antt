@@ -1,0 +1,106 @@
+-- What the steps of a run give of its promise.
+use Rattle.std.specs.Prelude.{◌≡◌, ℕ, Bool, false, List, [], ◌∷◌, Some, Result, Ok, Err}
+use Rattle.mg_base.specs.Disk.{Meaning}
+use Rattle.mg_base.specs.Image.{Image}
+use Rattle.mg_base.specs.MemDisk.{acts_in, mem_meaning}
+use Rattle.mg_base.specs.Streams.{SinkMeaning}
+use Rattle.mg_base.specs.declared.mem_disk.MemDisk.{MemDisk}
+use Rattle.mg_core.specs.Cores.{IsCore}
+use Rattle.mg_core.specs.declared.parts.Core.{Core}
+use Rattle.mg_engine_calls.specs.Closings.{ClosesEngine}
+use Rattle.mg_engine_calls.specs.Openings.{IsOpenedOver, RefusesOpening, new_history}
+use Rattle.mg_engine_meaning.specs.Meaning.{Places, means}
+use Rattle.mg_engine_meaning.specs.Standings.{StandsFor}
+use Rattle.mg_model.specs.Answers.{is_active}
+use Rattle.mg_model.specs.Machine.{state_of}
+use Rattle.mg_model.specs.declared.opening.Opening.{Opening}
+use Rattle.mg_model.specs.declared.refusal.Refusal.{Refusal}
+use Rattle.mg_script.specs.declared.line.Line.{Line}
+use Rattle.mg_scripts.specs.declared.lines.LinesEnd.{LinesEnd}
+use Rattle.mg_scripts.specs.declared.lines.LinesEnd.TheVariants as lines_ends
+use Rattle.mg_scripts.specs.Ending.{ScriptDone}
+use Rattle.mg_scripts.specs.Steps.{reason}
+use Rattle.mg_sessions.specs.Accounts.{Accounts}
+use Rattle.mg_runs.specs.declared.ending.RunEnd.{RunEnd}
+use Rattle.mg_runs.specs.declared.ending.RunEnd.TheVariants.{Whole, Outside}
+use Rattle.mg_runs.specs.Ends.{FailsWith, IsOutside, last_line}
+use Rattle.mg_runs.specs.Entry.{IsEntry}
+use Rattle.mg_runs.specs.Headline.{EndsBehind, Headline}
+use Rattle.mg_runs.specs.Printing.{IsPrinted}
+
+-- ---- the opening
+
+-- A disk that was not opened: its history has no entry.
+abbrev pub OpeningsAreJudged : {D K : Type 0} → Meaning D → SinkMeaning K → Type 0
+OpeningsAreJudged {D} {K} m n = (disk new : D) (limit : ℕ) (refusal : Refusal) (size : ℕ) (image : Image) (o : Opening)
+    (lines : List Line) (end : RunEnd) (before after : K) → IsEntry m disk size image o
+    → RefusesOpening m disk new limit refusal → IsOutside refusal end → IsPrinted n before after (last_line end)
+    → Headline m n size o lines disk new before after end
+
+-- An engine that was opened stands for the history that begins with what its disk held.
+pub record BeginsRun {D : Type 0} (m : Meaning D) (core : Core D) (size : ℕ) (o : Opening) : Type 0 where
+  pub size_is : core.store.geometry.size ≡ size
+  pub stands : StandsFor m core o []
+  pub idle : (t : ℕ) → is_active (state_of o [] t) ≡ false
+
+abbrev pub RunsBegin : {D : Type 0} → Meaning D → Type 0
+RunsBegin {D} m = (disk : D) (limit : ℕ) (core : Core D) (size : ℕ) (image : Image) (o : Opening)
+    → IsOpenedOver m disk limit core → IsEntry m disk size image o → BeginsRun m core size o
+
+-- ---- the end
+
+-- the run ends without that the database is closed: its lines were cut short, or a rolling back was refused
+abbrev pub IsCutOff : LinesEnd → List Refusal → Type 0
+IsCutOff lines_ends.Whole [] = ⊥
+IsCutOff lines_ends.Whole (first ∷ more) = Unit {0}
+IsCutOff lines_end refusals = Unit {0}
+
+-- Its disk is as the engine left it.
+abbrev pub RunsStop : {D P K : Type 0} → Meaning D → Places P → SinkMeaning K → Type 0
+RunsStop {D} {P} {K} m places n = (disk : D) (limit : ℕ) (core now : Core D) (size : ℕ) (image : Image) (o : Opening)
+    (lines : List Line) (refusals : List Refusal) (lines_end : LinesEnd) (fine : Bool) (end : RunEnd)
+    (before mid after : K) → IsEntry m disk size image o → IsOpenedOver m disk limit core → IsCore m now
+    → Accounts (means m places) core now (reason lines_end)
+    → ScriptDone (means m places) n core now before mid o size lines refusals lines_end fine
+    → IsCutOff lines_end refusals → EndsBehind lines_end refusals fine end → IsPrinted n mid after (last_line end)
+    → Headline m n size o lines disk now.store.disk before after end
+
+-- the end of a run whose database was closed, or not
+abbrev pub closed_end : Bool → Result (Unit {0}) Refusal → RunEnd
+closed_end fine (Ok x) = Whole fine
+closed_end fine (Err refusal) = Outside refusal
+
+-- All lines were obeyed, nothing was refused at the end, and the engine was closed, or not.
+abbrev pub RunsClose : {D P K : Type 0} → Meaning D → Places P → SinkMeaning K → Type 0
+RunsClose {D} {P} {K} m places n = (disk new : D) (limit : ℕ) (core now : Core D) (size : ℕ) (image : Image)
+    (o : Opening) (lines : List Line) (fine : Bool) (result : Result (Unit {0}) Refusal) (before mid after : K)
+    → IsEntry m disk size image o → IsOpenedOver m disk limit core → IsCore m now
+    → Accounts (means m places) core now (reason lines_ends.Whole)
+    → ScriptDone (means m places) n core now before mid o size lines [] lines_ends.Whole fine
+    → ClosesEngine m now new result → IsPrinted n mid after (last_line (closed_end fine result))
+    → Headline m n size o lines disk new before after (closed_end fine result)
+
+-- ---- faults of the disk
+
+-- what the disk refuses comes only where its count of faults rose since the start: at the opening,
+abbrev pub OpeningsFail : {D : Type 0} → Meaning D → Type 0
+OpeningsFail {D} m = (disk new : D) (limit : ℕ) (refusal : Refusal) → RefusesOpening m disk new limit refusal
+    → FailsWith m disk new refusal
+
+-- within the lines,
+abbrev pub LinesFail : {D P : Type 0} → Meaning D → Places P → Type 0
+LinesFail {D} {P} m places = (disk : D) (limit : ℕ) (core now : Core D) (lines_end : LinesEnd) (refusal : Refusal)
+    → IsOpenedOver m disk limit core → Accounts (means m places) core now (reason lines_end)
+    → reason lines_end ≡ Some refusal → FailsWith m disk now.store.disk refusal
+
+-- and as the database is closed
+abbrev pub ClosingsFail : {D P : Type 0} → Meaning D → Places P → Type 0
+ClosingsFail {D} {P} m places = (disk new : D) (limit : ℕ) (core now : Core D) (lines_end : LinesEnd) (refusal : Refusal)
+    → IsOpenedOver m disk limit core → Accounts (means m places) core now (reason lines_end)
+    → ClosesEngine m now new (Err refusal) → FailsWith m disk new refusal
+
+-- ---- the premise
+
+-- a disk in memory of which nothing was asked yet is one on which a run has its history, that of a new database
+abbrev pub BlankIsEntry : Type 0
+BlankIsEntry = (disk : MemDisk) → acts_in disk ≡ [] → IsEntry mem_meaning disk disk.size [] new_history

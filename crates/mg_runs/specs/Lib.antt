@@ -1,0 +1,11 @@
+pub mod EndLaws
+pub mod Ends
+pub mod Entry
+pub mod EntryLaws
+pub mod FaultLaws
+pub mod Headline
+pub mod Laws
+pub mod MemLaws
+pub mod OpeningLaws
+pub mod Printing
+pub mod Promise

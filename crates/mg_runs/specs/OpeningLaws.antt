@@ -1,0 +1,285 @@
+-- What an opening gives of a run's promise.
+use Rattle.std.proofs.Common.{◌≡◌, ◌≢◌, ◌⊎◌, inl, inr, ◌≤◌, ◌+◌, ◌*◌, ℕ, zero, suc, true, false, List, [], Some, refl, sym, ◌∙◌, subst, arith}
+use Rattle.std.proofs.Math.Nat.{suc-mul}
+use Rattle.mg_base.specs.Disk.{Meaning}
+use Rattle.mg_base.specs.Geometry.{is_page_size}
+use Rattle.mg_base.specs.Image.{Image, blank, page_at}
+use Rattle.mg_base.specs.Moments.{LeavesOnly}
+use Rattle.mg_base.specs.Streams.{SinkMeaning}
+use Rattle.mg_base.specs.declared.transaction.TxState.{TxState}
+use Rattle.mg_base.specs.declared.transaction.TxState.TheVariants.{Active, Committed, Dead, Limbo}
+use Rattle.mg_core.specs.declared.parts.Core.{Core}
+use Rattle.mg_engine_calls.specs.BlankLaws.{header_is_made}
+use Rattle.mg_engine_calls.specs.NewBegins.{NewBegin}
+use Rattle.mg_engine_calls.specs.OpenedLaws.{content_leaves, settled_on_opened}
+use Rattle.mg_engine_calls.specs.Openings.{BeginsWith, IsNoJudgement, IsOpenedOver, IsSettledOn, IsSoundImage, RefusesOpening, new_history}
+use Rattle.mg_engine_meaning.specs.LawfulLaws.{opening_of}
+use Rattle.mg_engine_meaning.specs.Standings.{StandsFor}
+use Rattle.mg_format.specs.Format.{HasNew, IsUnmadeImage, LeavesNew}
+use Rattle.mg_header.specs.declared.header.TheConstants.{GREATEST_NEXT}
+use Rattle.mg_image.specs.Form.{Pages, packed_coding, packed_form}
+use Rattle.mg_image.specs.HistoryLaws.{blank_holds, opened_holds}
+use Rattle.mg_image.specs.Inventory.{inventory_page}
+use Rattle.mg_image.specs.NewDatabase.{IsNewPage}
+use Rattle.mg_image.specs.Opening.{IsBlank, IsUnmade, sound_image}
+use Rattle.mg_lasting.specs.Crashes.{HoldsFrom}
+use Rattle.mg_model.specs.Answers.{is_active}
+use Rattle.mg_model.specs.History.{Entries}
+use Rattle.mg_model.specs.Machine.{opening_state}
+use Rattle.mg_model.specs.declared.opening.Opening.{Opening}
+use Rattle.mg_model.specs.declared.refusal.Refusal.{Refusal}
+use Rattle.mg_model.specs.declared.refusal.Refusal.TheVariants as refusals
+use Rattle.mg_new_databases.specs.Soundness.{HasWholePages}
+use Rattle.mg_pip.specs.PipPage.{bits}
+use Rattle.mg_pool.specs.Pool.{KeepsContent}
+use Rattle.mg_space.specs.TakingLaws.{bits_some}
+use Rattle.mg_space.specs.View.{Tells}
+use Rattle.mg_space.specs.ViewLaws.{CountsNow}
+use Rattle.mg_runs.specs.declared.ending.RunEnd.{RunEnd}
+use Rattle.mg_runs.specs.Ends.{IsOutside, last_line}
+use Rattle.mg_runs.specs.Entry.{IsOpeningOf, TellsWholePages, of_new, of_sound}
+use Rattle.mg_runs.specs.Headline.{AreUnserved, IsSettledAt}
+use Rattle.mg_runs.specs.Laws.{BeginsRun, OpeningsAreJudged, RunsBegin}
+use Rattle.mg_runs.specs.Printing.{IsPrinted}
+
+-- ---- images
+
+-- a sound image holds what begins with it
+begins_hold : (size : ℕ) (image : Image) (o : Opening) → BeginsWith size image o
+    → HoldsFrom packed_form size o [] 0 image
+begins_hold size image o it = record {
+  k = 0;
+  at_least = omega arith;
+  at_most = omega arith;
+  holds = opened_holds packed_form size (page_at size image) it.opened o 0 (sound_image it.sound) it.begins
+      it.whole.first;
+}
+
+is_sound : (size : ℕ) (image : Image) (o : Opening) → BeginsWith size image o → IsSoundImage size image
+is_sound size image o it = record {
+  layout = it.sound.layout;
+  records = it.sound.reading;
+  sound = it.sound.sound;
+}
+
+-- no database is made on it
+not_unmade : (size : ℕ) (image : Image) (o : Opening) → BeginsWith size image o → IsUnmadeImage size image → ⊥
+not_unmade size image o it = header_is_made size size image it.sound.sound.header refl
+
+-- on an image where a database may be made nothing stands: behind the seven pages each is zero
+zero_behind : (size n : ℕ) (page : List ℕ) → 7 ≤ n → (page ≡ blank size) ⊎ IsNewPage packed_coding size n page
+    → page ≡ blank size
+zero_behind size n page far (inl zero_) = zero_
+zero_behind size zero page far (inr new) = absurd (omega (arith, far))
+zero_behind size (suc zero) page far (inr new) = absurd (omega (arith, far))
+zero_behind size (suc (suc zero)) page far (inr new) = absurd (omega (arith, far))
+zero_behind size (suc (suc (suc zero))) page far (inr new) = absurd (omega (arith, far))
+zero_behind size (suc (suc (suc (suc zero)))) page far (inr new) = absurd (omega (arith, far))
+zero_behind size (suc (suc (suc (suc (suc zero))))) page far (inr new) = absurd (omega (arith, far))
+zero_behind size (suc (suc (suc (suc (suc (suc zero)))))) page far (inr new) = absurd (omega (arith, far))
+zero_behind size (suc (suc (suc (suc (suc (suc (suc n))))))) page far (inr new) = new
+
+unmade_is_blank : (size : ℕ) (pages : Pages) → is_page_size size ≡ true → IsUnmade packed_form size pages
+    → IsBlank size pages
+unmade_is_blank size pages lawful unmade = record {
+  header = unmade.header;
+  inventory = λ region some inside. zero_behind size (inventory_page size region) (pages (inventory_page size region))
+      (far region some) (unmade.others (inventory_page size region)
+      (let behind = far region some in omega (arith, behind)) inside);
+}
+  where
+    far : (region : ℕ) → 1 ≤ region → 7 ≤ inventory_page size region
+    far zero some = absurd (omega (arith, some))
+    far (suc region) some =
+        let more : suc region * bits size ≡ region * bits size + bits size = suc-mul region (bits size) in
+        let least = bits_some size lawful in omega (arith, more, least)
+
+-- so it holds a new database
+unmade_holds : (size : ℕ) (image : Image) → is_page_size size ≡ true → IsUnmadeImage size image
+    → HoldsFrom packed_form size new_history [] 0 image
+unmade_holds size image lawful unmade = record {
+  k = 0;
+  at_least = omega arith;
+  at_most = omega arith;
+  holds = blank_holds packed_form size (page_at size image) GREATEST_NEXT 0
+      (unmade_is_blank size (page_at size image) lawful unmade);
+}
+
+-- ---- what a crash leaves since an opening
+
+-- what is known of every image of a run, put in other words, by the disk that tells it
+leaves_with : {D : Type 0} (m : Meaning D) (old new : D) (P Q : Image → Type 0)
+    → ((t : ℕ) (c : Image) → m.left new t c → P c → Q c) → LeavesOnly m old new P → LeavesOnly m old new Q
+leaves_with m old new P Q turn run = record {
+  later = run.later;
+  each = λ c left. turn (m.moment old) c left (run.each c left);
+  before = λ t c early left. other t c left (run.before t c early left);
+}
+  where
+    other : (t : ℕ) (c : Image) → m.left new t c → m.left old t c ⊎ P c → m.left old t c ⊎ Q c
+    other t c left (inl was) = inl was
+    other t c left (inr is) = inr (turn t c left is)
+
+module _ (new_begin : NewBegin) {D : Type 0} (m : Meaning D) (counts : CountsNow m) (disk new : D) (size : ℕ)
+    (image : Image) (entry_whole : TellsWholePages m size) (lawful : is_page_size size ≡ true)
+    (sized : m.size new ≡ Some size) (on : IsSettledOn m disk image)
+    (unwritten : (IsUnmadeImage size image → ⊥) → KeepsContent m disk new)
+    (crash : LeavesOnly m disk new (LeavesNew m disk size)) where
+  sound_leaves : (o : Opening) → BeginsWith size image o → LeavesOnly m disk new (HoldsFrom packed_form size o [] 0)
+  sound_leaves o it = content_leaves m counts (HoldsFrom packed_form size o [] 0) disk new on.tells.told
+      (unwritten (not_unmade size image o it)) (λ c may. subst (HoldsFrom packed_form size o [] 0)
+      (sym (on.only c may)) (begins_hold size image o it))
+
+  new_leaves : IsUnmadeImage size image → LeavesOnly m disk new (HoldsFrom packed_form size new_history [] 0)
+  new_leaves unmade = leaves_with m disk new (LeavesNew m disk size) (HoldsFrom packed_form size new_history [] 0)
+      turn crash
+    where
+      turn : (t : ℕ) (c : Image) → m.left new t c → LeavesNew m disk size c
+          → HoldsFrom packed_form size new_history [] 0 c
+      turn t c left (inl may) = subst (HoldsFrom packed_form size new_history [] 0) (sym (on.only c may))
+          (unmade_holds size image lawful unmade)
+      turn t c left (inr (inl is)) = unmade_holds size c lawful is
+      turn t c left (inr (inr made)) = begins_hold size c new_history
+          (new_begin size c lawful made (entry_whole.left new t c sized left))
+
+  pub opening_leaves : (o : Opening) → IsOpeningOf size image o
+      → LeavesOnly m disk new (HoldsFrom packed_form size o [] 0)
+  opening_leaves _ (of_new unmade) = new_leaves unmade
+  opening_leaves _ (of_sound o it) = sound_leaves o it
+
+-- ---- a disk that was not opened
+
+module _ {D : Type 0} (m : Meaning D) (disk new : D) (limit : ℕ) (refusal : Refusal) (size : ℕ) (image : Image)
+    (refused : RefusesOpening m disk new limit refusal) (sized : m.size disk ≡ Some size)
+    (on : IsSettledOn m disk image) where
+  its_size : m.size new ≡ Some size
+  its_size = refused.same.size size sized
+
+  -- by the disk's page size
+  pub kept_by_size : (IsUnmadeImage size image → ⊥) → KeepsContent m disk new
+  kept_by_size not_ = refused.unwritten image on.tells.held (λ other told is.
+      let both : Some other ≡ Some size = sym told ∙ its_size in
+      let same : other ≡ size = cc in
+      not_ (subst (λ (n : ℕ). IsUnmadeImage n image) same is))
+
+  still_told : KeepsContent m disk new → Tells m new image
+  still_told keeps = record {
+    told = keeps.tells ∙ on.tells.told;
+    held = keeps.held ∙ on.tells.held;
+  }
+
+  pub not_judged : (o : Opening) → IsOpeningOf size image o → IsNoJudgement refusal
+  not_judged _ (of_new unmade) = refused.lawful_new size image its_size on.tells unmade
+  not_judged _ (of_sound o it) = refused.lawful size image its_size
+      (still_told (kept_by_size (not_unmade size image o it))) (inl (is_sound size image o it))
+
+-- the refusal by which the run has ended then
+unserved : {K : Type 0} (n : SinkMeaning K) (before after : K) (refusal : Refusal) (end : RunEnd)
+    → IsNoJudgement refusal → IsOutside refusal end → IsPrinted n before after (last_line end)
+    → AreUnserved n before after end []
+unserved n before after refusal end judged (inl is) last = record {
+  refusal = refusal;
+  ends = is;
+  judged = judged;
+  none = refl;
+  last = last;
+}
+unserved n before after refusal end judged (inr (other, is)) last = record {
+  refusal = refusals.Memory;
+  ends = is;
+  judged = tt;
+  none = refl;
+  last = last;
+}
+
+-- it does not end whole, so nothing is said of what is settled
+pub nothing_settled : {D : Type 0} (m : Meaning D) (new : D) (size : ℕ) (o : Opening) (entries : Entries)
+    (refusal : Refusal) (end : RunEnd) → IsOutside refusal end → IsSettledAt m new size o entries end
+nothing_settled m new size o entries refusal end (inl is) = subst (IsSettledAt m new size o entries) (sym is) tt
+nothing_settled m new size o entries refusal end (inr (other, is)) =
+    subst (IsSettledAt m new size o entries) (sym is) tt
+
+pub openings_are_judged : {D K : Type 0} (m : Meaning D) (n : SinkMeaning K) → CountsNow m → NewBegin
+    → OpeningsAreJudged m n
+openings_are_judged m n counts new_begin disk new limit refusal size image o lines end before after entry refused ends last =
+    record {
+      entries = [];
+      served = inr (unserved n before after refusal end
+          (not_judged m disk new limit refusal size image refused entry.sized entry.settled o entry.opening) ends last);
+      legal = tt;
+      crash = leaves;
+      exit = λ c may. leaves.each c (counts new (m.moment disk) c
+          (refused.same.tells ∙ entry.settled.tells.told) leaves.later may);
+      settled = nothing_settled m new size o [] refusal end ends;
+      tells = refused.same.tells;
+      sized = refused.same.size size entry.sized;
+    }
+  where
+    leaves : LeavesOnly m disk new (HoldsFrom packed_form size o [] 0)
+    leaves = opening_leaves new_begin m counts disk new size image entry.whole entry.lawful
+        (refused.same.size size entry.sized) entry.settled
+        (kept_by_size m disk new limit refusal size image refused entry.sized entry.settled)
+        (refused.crash size (refused.same.size size entry.sized) image entry.settled.tells) o entry.opening
+
+-- ---- an engine that was opened
+
+module _ {D : Type 0} (m : Meaning D) (disk : D) (limit : ℕ) (core : Core D) (size : ℕ) (image : Image)
+    (opened : IsOpenedOver m disk limit core) (sized : m.size disk ≡ Some size) where
+  pub sized_over : m.size core.store.disk ≡ Some size
+  sized_over = opened.same.size size sized
+
+  pub size_over : core.store.geometry.size ≡ size
+  size_over = let both : Some core.store.geometry.size ≡ Some size = sym opened.size_is ∙ sized_over in cc
+
+  pub kept_over : IsSettledOn m disk image → (IsUnmadeImage size image → ⊥) → KeepsContent m disk core.store.disk
+  kept_over on not_ = opened.unwritten image on.tells.held (λ is. not_
+      (subst (λ (n : ℕ). IsUnmadeImage n image) size_over is))
+
+  pub crash_over : IsSettledOn m disk image → LeavesOnly m disk core.store.disk (LeavesNew m disk size)
+  crash_over on = subst (λ (n : ℕ). LeavesOnly m disk core.store.disk (LeavesNew m disk n)) size_over
+      (opened.crash image on.tells)
+
+  -- the engine stands for the history of a new database
+  stands_new : IsSettledOn m disk image → TellsWholePages m size → IsUnmadeImage size image
+      → StandsFor m core new_history []
+  stands_new on whole unmade = opened.begins_new image has.image on.tells its has.tells whole_pages
+    where
+      its : IsUnmadeImage core.store.geometry.size image
+      its = subst (λ (n : ℕ). IsUnmadeImage n image) (sym size_over) unmade
+
+      has : HasNew m core.store.disk core.store.geometry.size
+      has = opened.made image on.tells its
+
+      whole_pages : HasWholePages core.store.geometry.size has.image
+      whole_pages = subst (λ (n : ℕ). HasWholePages n has.image) (sym size_over)
+          (whole.held core.store.disk has.image sized_over has.tells)
+
+  -- or for the one that begins with a sound image
+  stands_sound : CountsNow m → IsSettledOn m disk image → (o : Opening) → BeginsWith size image o
+      → StandsFor m core o []
+  stands_sound counts on o it = opened.stands image o
+      (settled_on_opened m counts disk limit core image opened on
+      (subst (λ (n : ℕ). IsSoundImage n image) (sym size_over) (is_sound size image o it)))
+      (subst (λ (n : ℕ). BeginsWith n image o) (sym size_over) it)
+
+  pub stands_over : CountsNow m → IsSettledOn m disk image → TellsWholePages m size → (o : Opening)
+      → IsOpeningOf size image o → StandsFor m core o []
+  stands_over counts on whole _ (of_new unmade) = stands_new on whole unmade
+  stands_over counts on whole _ (of_sound o it) = stands_sound counts on o it
+
+not_active : (s : TxState) → s ≢ Active → is_active s ≡ false
+not_active Active not_ = absurd (not_ refl)
+not_active Limbo not_ = refl
+not_active Dead not_ = refl
+not_active Committed not_ = refl
+
+pub runs_begin : {D : Type 0} (m : Meaning D) → CountsNow m → RunsBegin m
+runs_begin {D} m counts disk limit core size image o opened entry = by
+    (stands_over m disk limit core size image opened entry.sized counts entry.settled entry.whole o entry.opening)
+  where
+    by : StandsFor m core o [] → BeginsRun m core size o
+    by stands = record {
+      size_is = size_over m disk limit core size image opened entry.sized;
+      stands = stands;
+      idle = λ t. not_active (opening_state o t) ((opening_of m core o [] stands).ended t);
+    }

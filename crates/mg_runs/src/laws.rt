@@ -1,0 +1,60 @@
+//! What the steps of a run give of its promise. Each function does nothing: its contract is the law.
+
+ghost use Rattle.mg_engine_meaning.specs.Meaning.{Places};
+ghost use Rattle.mg_runs.specs.Laws.{BlankIsEntry, ClosingsFail, LinesFail, OpeningsAreJudged, OpeningsFail, RunsBegin, RunsClose, RunsStop};
+
+use mg_base::{Disk, Sink};
+use mg_engine_calls::new_databases_begin;
+use mg_grown_catalogs::catalogs_grow;
+use mg_model::histories_go_on;
+use mg_new_databases::disks_in_memory_are_whole;
+
+/// A disk that was not opened: its history has no entry.
+pub fn openings_are_judged<D: Disk, K: Sink>()
+    ensures { OpeningsAreJudged D.meaning K.meaning }
+{
+    new_databases_begin();
+}
+
+/// An engine that was opened stands for the history that begins with what its disk held.
+pub fn runs_begin<D: Disk>()
+    ensures { RunsBegin D.meaning }
+{}
+
+/// A run ends without that its database is closed.
+pub fn runs_stop<D: Disk, P, K: Sink>()
+    ensures { (places : Places P) → RunsStop D.meaning places K.meaning }
+{
+    new_databases_begin();
+}
+
+/// A run ends, and its database is closed, or that is refused.
+pub fn runs_close<D: Disk, P, K: Sink>()
+    ensures { (places : Places P) → RunsClose D.meaning places K.meaning }
+{
+    new_databases_begin();
+    histories_go_on();
+    catalogs_grow();
+}
+
+/// What the disk refuses at the opening comes only where its count of faults rose.
+pub fn openings_fail<D: Disk>()
+    ensures { OpeningsFail D.meaning }
+{}
+
+/// So does what it refuses within the lines.
+pub fn lines_fail<D: Disk, P>()
+    ensures { (places : Places P) → LinesFail D.meaning places }
+{}
+
+/// And what it refuses as the database is closed.
+pub fn closings_fail<D: Disk, P>()
+    ensures { (places : Places P) → ClosingsFail D.meaning places }
+{}
+
+/// A disk in memory of which nothing was asked yet is one on which a run has its history.
+pub fn blank_disks_are_entries()
+    ensures { BlankIsEntry }
+{
+    disks_in_memory_are_whole();
+}
