@@ -1,5 +1,5 @@
 -- What a sink took of one piece.
-use Rattle.std.specs.Prelude.{◌≡◌, ℕ, List, [], ◌++◌, length, take, Some, Result, Ok, Err, refl}
+use Rattle.std.specs.Prelude.{ℕ, List, [], ◌++◌, length, Some, Result, Ok, Err, refl}
 use Rattle.std.proofs.Common.{sym, ◌∙◌, ap, arith, append-nil}
 use Rattle.std.proofs.lemmas.List.{take_all}
 use Rattle.mg_base.specs.Streams.{Puts, SinkMeaning}

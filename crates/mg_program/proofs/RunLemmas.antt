@@ -1,21 +1,19 @@
 -- A script is read, and its lines are obeyed.
-use Rattle.std.proofs.Common.{◌≡◌, ℕ, Bool, List, Option, Some, inl, inr, refl, sym, subst}
+use Rattle.std.proofs.Common.{◌≡◌, ℕ, Bool, List, Some, inl, inr, refl, sym, subst}
 use Rattle.std.specs.Prelude.{◌≢◌, ◌≤◌, ◌<◌, length}
 use Rattle.mg_base.specs.Disk.{Meaning, Rose}
 use Rattle.mg_base.specs.Image.{Image}
 use Rattle.mg_base.specs.Streams.{SinkMeaning, SourceMeaning}
 use Rattle.mg_model.specs.declared.opening.Opening.{Opening}
-use Rattle.mg_model.specs.declared.refusal.Refusal.{Refusal}
 use Rattle.mg_model.specs.declared.refusal.Refusal.TheVariants.{Memory}
 use Rattle.mg_script.specs.declared.line.Line.{Line}
 use Rattle.mg_script.specs.Lines.{IsScript}
 use Rattle.mg_runs.specs.declared.ending.RunEnd.{RunEnd}
-use Rattle.mg_runs.specs.declared.ending.RunEnd.TheVariants.{InLine, Outside, ScriptTooLong, Stream, Whole}
+use Rattle.mg_runs.specs.declared.ending.RunEnd.TheVariants.{Outside, ScriptTooLong, Stream, Whole}
 use Rattle.mg_runs.specs.declared.ending.TheConstants.{SCRIPT_MOST}
-use Rattle.mg_runs.specs.Ends.{EndsWith, IsOutside, last_line}
+use Rattle.mg_runs.specs.Ends.{EndsWith}
 use Rattle.mg_runs.specs.Entry.{IsEntry}
-use Rattle.mg_runs.specs.Printing.{IsPrinted}
-use Rattle.mg_runs.specs.Promise.{IsReadingEnd, IsUnread, Promise, ScriptCauses, StreamCauses}
+use Rattle.mg_runs.specs.Promise.{IsReadingEnd, Promise, ScriptCauses, StreamCauses}
 use Rattle.mg_program.specs.Reading.{FailsToRead, IsWholeScript}
 use Rattle.mg_program.specs.Saying.{IsTold, SaysEnd}
 use Rattle.mg_program.specs.Serving.{Serves}

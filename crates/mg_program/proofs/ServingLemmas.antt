@@ -1,8 +1,7 @@
 -- How a run ends on an engine.
-use Rattle.std.proofs.Common.{◌≡◌, ◌∙◌, ℕ, Bool, true, false, List, [], ◌∷◌, Option, None, Some, inl, inr, refl, sym, ap, subst, arith}
+use Rattle.std.proofs.Common.{◌≡◌, ◌∙◌, ℕ, Bool, true, false, List, [], ◌∷◌, None, Some, inl, inr, refl, sym, ap, subst, arith}
 use Rattle.std.specs.Prelude.{Result, Ok, Err}
 use Rattle.mg_base.specs.Disk.{Meaning, Rose}
-use Rattle.mg_base.specs.Image.{Image}
 use Rattle.mg_base.specs.Streams.{SinkMeaning}
 use Rattle.mg_core.specs.Cores.{IsCore}
 use Rattle.mg_core.specs.declared.parts.Core.{Core}
@@ -26,7 +25,6 @@ use Rattle.mg_scripts.specs.Steps.{reason}
 use Rattle.mg_runs.specs.declared.ending.RunEnd.{RunEnd}
 use Rattle.mg_runs.specs.declared.ending.RunEnd.TheVariants.{InLine, Outside, ScriptTooLong, Stream, Whole}
 use Rattle.mg_runs.specs.Ends.{EndsWith, FailsWith, IsOutside, last_line}
-use Rattle.mg_runs.specs.Entry.{IsEntry}
 use Rattle.mg_runs.specs.Headline.{EndsBehind, Headline}
 use Rattle.mg_runs.specs.Laws.{ClosingsFail, IsCutOff, LinesFail, OpeningsAreJudged, OpeningsFail, RunsBegin, RunsClose, RunsStop, closed_end}
 use Rattle.mg_runs.specs.Printing.{IsPrinted}

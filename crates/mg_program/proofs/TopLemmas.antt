@@ -1,7 +1,7 @@
 -- A run on a disk behind a fuse is one on the disk itself.
-use Rattle.std.proofs.Common.{◌≡◌, ◌≢◌, ◌<◌, ◌⊎◌, ◌∙◌, inl, inr, ℕ, Bool, true, false, List, Option, None, Some, refl, sym, ap, subst, arith}
-use Rattle.mg_base.specs.Disk.{MayLeave, Meaning}
-use Rattle.mg_base.specs.Fused.{fused_meaning, inner_of}
+use Rattle.std.proofs.Common.{◌≡◌, ◌≢◌, ◌<◌, ◌∙◌, inl, inr, ℕ, Bool, true, false, List, Some, refl, sym, ap, subst, arith}
+use Rattle.mg_base.specs.Disk.{Meaning}
+use Rattle.mg_base.specs.Fused.{blown_of, fused_meaning, inner_of, most_of, passed_of}
 use Rattle.mg_base.specs.declared.fused.Fused.{Fused}
 use Rattle.mg_base.specs.Image.{Image}
 use Rattle.mg_base.specs.Moments.{LeavesOnly}
@@ -20,7 +20,7 @@ use Rattle.mg_runs.specs.declared.status.Status.{Status}
 use Rattle.mg_runs.specs.Ends.{EndsWith, refused_status, status_of}
 use Rattle.mg_runs.specs.Entry.{IsEntry, TellsWholePages}
 use Rattle.mg_runs.specs.Headline.{Headline, IsSettledAt}
-use Rattle.mg_runs.specs.Promise.{IsUnread, Promise, ScriptCauses, StreamCauses}
+use Rattle.mg_runs.specs.Promise.{Promise, ScriptCauses, StreamCauses}
 use Rattle.mg_program.specs.Top.{Runs}
 
 -- ---- statuses
@@ -138,13 +138,22 @@ module _ {D : Type 0} (m : Meaning D) where
     module _ {S : Type 0} (s : SourceMeaning S) where
       -- with `--stop`, of a disk behind a fuse
       runs_of_inner : (most : ℕ) (source source' : S) (old new : Fused D) (sink sink' : K) (end : RunEnd)
+          → most_of old ≡ most → passed_of old ≡ 0 → blown_of old ≡ 0 → EndsWith (fused_meaning m) old new end
           → StreamCauses s n source source' sink sink' end → ScriptCauses s source old new end
           → ((size : ℕ) (image : Image) (o : Opening) (script : List ℕ) → IsEntry (fused_meaning m) old size image o
-          → s.left source ≡ Some script
-          → Promise (fused_meaning m) n size o script old new sink sink' end)
+          → s.left source ≡ Some script → Promise (fused_meaning m) n size o script old new sink sink' end)
           → Runs m s n (Some most) source source' (inner_of old) (inner_of new) sink sink' end
-      runs_of_inner most source source' old new sink sink' end streams script headline = record {
-        disk = λ none. absurd cc;
+      runs_of_inner most source source' old new sink sink' end lets passed blown ends streams script headline = record {
+        disk = record {
+          before = old;
+          after = new;
+          inner_before = refl;
+          lets = lets;
+          passed = passed;
+          blown = blown;
+          inner_after = refl;
+          ends = ends;
+        };
         streams = streams;
         script = record {
           too_long = script.too_long;
@@ -156,13 +165,13 @@ module _ {D : Type 0} (m : Meaning D) where
       }
 
       pub runs_of_fused : (most : ℕ) (source source' : S) (first result : D) (old new : Fused D) (sink sink' : K)
-          (end : RunEnd) → inner_of old ≡ first → result ≡ inner_of new
+          (end : RunEnd) → inner_of old ≡ first → result ≡ inner_of new → most_of old ≡ most → passed_of old ≡ 0
+          → blown_of old ≡ 0 → EndsWith (fused_meaning m) old new end
           → StreamCauses s n source source' sink sink' end → ScriptCauses s source old new end
           → ((size : ℕ) (image : Image) (o : Opening) (script : List ℕ) → IsEntry (fused_meaning m) old size image o
-          → s.left source ≡ Some script
-          → Promise (fused_meaning m) n size o script old new sink sink' end)
+          → s.left source ≡ Some script → Promise (fused_meaning m) n size o script old new sink sink' end)
           → Runs m s n (Some most) source source' first result sink sink' end
-      runs_of_fused most source source' first result old new sink sink' end was is streams script headline =
-          subst (λ (d : D). Runs m s n (Some most) source source' d result sink sink' end) was
+      runs_of_fused most source source' first result old new sink sink' end was is lets passed blown ends streams script
+          headline = subst (λ (d : D). Runs m s n (Some most) source source' d result sink sink' end) was
           (subst (λ (d : D). Runs m s n (Some most) source source' (inner_of old) d sink sink' end) (sym is)
-          (runs_of_inner most source source' old new sink sink' end streams script headline))
+          (runs_of_inner most source source' old new sink sink' end lets passed blown ends streams script headline))

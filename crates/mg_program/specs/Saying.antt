@@ -2,7 +2,7 @@
 use Rattle.std.specs.Prelude.{◌≡◌, []}
 use Rattle.mg_base.specs.Streams.{SinkMeaning}
 use Rattle.mg_runs.specs.declared.ending.RunEnd.{RunEnd}
-use Rattle.mg_runs.specs.declared.ending.RunEnd.TheVariants.{InLine, Outside, ScriptTooLong, Stream, Whole}
+use Rattle.mg_runs.specs.declared.ending.RunEnd.TheVariants.{Outside}
 use Rattle.mg_runs.specs.Ends.{IsOutside, last_line}
 use Rattle.mg_runs.specs.Printing.{IsPrinted}
 

@@ -1,6 +1,8 @@
 -- What the program promises of a command line.
 use Rattle.std.specs.Prelude.{◌≡◌, ℕ, List, [], ◌∷◌, ◌++◌, Option, None, Some, codes}
 use Rattle.mg_base.specs.Disk.{Meaning}
+use Rattle.mg_base.specs.Fused.{blown_of, fused_meaning, inner_of, most_of, passed_of}
+use Rattle.mg_base.specs.declared.fused.Fused.{Fused}
 use Rattle.mg_base.specs.Image.{Image}
 use Rattle.mg_base.specs.Streams.{SinkMeaning, SourceMeaning}
 use Rattle.mg_model.specs.declared.opening.Opening.{Opening}
@@ -24,11 +26,27 @@ pub record IsUsage {D S K : Type 0} (n : SinkMeaning K) (shelf shelf' : D) (sour
 
 -- ---- a run
 
+-- A run has ended so on a disk behind a fuse that lets so many page writes through: by the disk only where a count of
+-- faults rose, that of the disk itself or that of the page writes which the fuse refused.
+pub record EndsBehindFuse {D : Type 0} (m : Meaning D) (most : ℕ) (old new : D) (end : RunEnd) : Type 0 where
+  pub before : Fused D
+  pub after : Fused D
+  pub inner_before : inner_of before ≡ old
+  pub lets : most_of before ≡ most
+  pub passed : passed_of before ≡ 0
+  pub blown : blown_of before ≡ 0
+  pub inner_after : inner_of after ≡ new
+  pub ends : EndsWith (fused_meaning m) before after end
+
+-- with `--stop` a run ends so behind a fuse, without it on the disk itself
+abbrev pub EndsOn : {D : Type 0} → Meaning D → Option ℕ → D → D → RunEnd → Type 0
+EndsOn m None old new end = EndsWith m old new end
+EndsOn m (Some most) old new end = EndsBehindFuse m most old new end
+
 -- A run has ended so on a disk, of which `--stop` lets so many page writes through, if it is given.
 pub record Runs {D S K : Type 0} (m : Meaning D) (s : SourceMeaning S) (n : SinkMeaning K) (stop : Option ℕ)
     (source source' : S) (old new : D) (sink sink' : K) (end : RunEnd) : Type 0 where
-  -- it ends by the disk only where the disk's own count of faults rose, or `--stop` is given
-  pub disk : stop ≡ None → EndsWith m old new end
+  pub disk : EndsOn m stop old new end
   pub streams : StreamCauses s n source source' sink sink' end
   pub script : ScriptCauses s source old new end
   pub headline : (size : ℕ) (image : Image) (o : Opening) (script : List ℕ) → IsEntry m old size image o
