@@ -2,8 +2,9 @@ use Rattle.std.proofs.Common.{◌∙◌, None, refl}
 use Rattle.mg_sessions.specs.AccountLaws.{account_then, no_account}
 use Rattle.mg_scripts.specs.Steps.{reason_in}
 use Rattle.mg_scripts.proofs.RunLemmas.{last_line, next_line, obeyable_rest, so_far_none}
-use Rattle.mg_scripts.proofs.SinkLemmas.{last_says, next_says}
+use Rattle.mg_scripts.proofs.SinkLemmas.{all_say, last_says, next_says}
 use Rattle.mg_scripts.proofs.TurnLemmas.{any_account}
+use Rattle.mg_scripts.specs.declared.lines.LinesEnd.TheVariants.{Whole}
 use Rattle.mg_scripts.proofs.lines.run_lines.Goals as goal
 
 pub loop-line-init : goal.loop-line-init
@@ -31,6 +32,10 @@ pub returns-in-Some-end-clause-sinks : goal.returns-in-Some-end-clause-sinks
 returns-in-Some-end-clause-sinks g c = last_says g.K.Sink.meaning c.args.sink.now c.loop-line.sink
     c.obey_line-said.new.sink c.obey_line-said.result.end c.in-Some-end.end c.loop-line.invariant.steady
     c.in-Some-end.is c.obey_line-said.ensures.sinks
+
+pub returns-clause-sinks : goal.returns-clause-sinks
+returns-clause-sinks g c = all_say g.K.Sink.meaning c.args.sink.now c.loop-line.sink Whole refl
+    c.loop-line.invariant.steady
 
 pub loop-line-preserved : goal.loop-line-preserved
 loop-line-preserved g c = record {
