@@ -2,3 +2,4 @@ mod PrintLemmas
 mod ServingLemmas
 mod RunLemmas
 mod TopLemmas
+mod CompleteLemmas

@@ -2,3 +2,4 @@ pub mod Reading
 pub mod Saying
 pub mod Serving
 pub mod Top
+pub mod Complete

@@ -15,12 +15,14 @@
 //! Not here: what a line does.
 #![tactic(auto)]
 
+mod laws;
 mod printing;
 mod running;
 mod script_source;
 mod serving;
 mod top;
 
+pub use laws::runs_are_complete;
 pub use mg_runs::{RunEnd, SCRIPT_MOST, Status};
 pub use mg_words::wanted_page;
 pub use running::run;
