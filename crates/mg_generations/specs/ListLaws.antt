@@ -116,16 +116,6 @@ pub shown_put : (counts : ℕ → Bool) (t : ℕ) (row : Option Cells) (gs : Lis
     → counts t ≡ false → shown_by counts (put t row gs) ≡ shown_by counts gs
 shown_put counts t row gs off = rw off (shown_without counts t gs off)
 
-pub first_put : (who : ℕ → Bool) (t : ℕ) (row : Option Cells) (gs : List Generation)
-    → first_writer who (put t row gs) ≡ cond (who t) (Some t) (first_writer who gs)
-first_put who t row gs = at (who t) refl
-  where
-    at : (b : Bool) → who t ≡ b
-        → cond b (Some t) (first_writer who (without_newest_by t gs))
-        ≡ cond b (Some t) (first_writer who gs)
-    at true is = refl
-    at false off = first_without who t gs off
-
 -- ---- the newest of them
 
 -- where the newest counts, it is shown

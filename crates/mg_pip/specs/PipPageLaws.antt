@@ -37,11 +37,6 @@ unfolding new_pip_page
 new_page_passes size page seq fits small_page small_seq =
     new_passes size page PIP_KIND 0 seq fits small_page (omega arith) small_seq
 
--- a new page has the size that was asked for
-pub length-new_pip_page : (size page seq : ℕ) → length (new_pip_page size page seq) ≡ size
-unfolding new_pip_page
-length-new_pip_page size page seq = length-new_page size page PIP_KIND 0 seq
-
 -- two pages with one common part have the same tests
 pub same_tests : (old new : List ℕ) (page seq : ℕ) → take BITS_AT new ≡ take BITS_AT old
     → pip_checks new page seq ≡ pip_checks old page seq

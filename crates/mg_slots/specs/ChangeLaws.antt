@@ -28,19 +28,3 @@ full_after_put old new slot cell full within puts =
     at s below (inl e) = rw (e, puts.sets.here) refl
     at s below (inr ne) =
         rw (puts.sets.others s ne) (used_before_least_free old s (omega (arith, puts.count)))
-
--- a new cell in a new slot takes its bytes and the slot's from the room
-pub room_after_new_slot : (old new : List ℕ) (cell : List ℕ) → IsDataPage old
-    → least_free old ≡ slot_count old → PutsCell old new (slot_count old) cell
-    → room_of new ≡ room_of old - (SLOT_LEN + taken (length cell))
-room_after_new_slot old new cell page full puts =
-    let full_new : least_free new ≡ slot_count new =
-    full_after_put old new (slot_count old) cell full (omega arith) puts in
-    let none : taken_by (cell_of old (slot_count old)) ≡ 0 =
-    ap taken_by (cell_past old (slot_count old) (omega arith)) in
-    let count : slot_count new ≡ slot_count old + 1 = omega (arith, puts.count) in
-    rw (
-      le-ltb (least_free new) (slot_count new) (omega arith),
-      le-ltb (least_free old) (slot_count old) (omega arith),
-    )
-    (omega (arith, rest_after old new (slot_count old) (Some cell) page puts.sets))

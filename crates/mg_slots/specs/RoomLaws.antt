@@ -156,9 +156,6 @@ first_without_all cells (suc n) all =
 
 -- The same of a page.
 
-pub least_free_within : (b : List ℕ) → least_free b ≤ slot_count b
-least_free_within b = first_without_le (cell_of b) (slot_count b)
-
 pub least_free_is_free : (b : List ℕ) → cell_of b (least_free b) ≡ None
 least_free_is_free b = at (cases_lt (least_free b) (slot_count b))
   where

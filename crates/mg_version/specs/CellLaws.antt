@@ -85,20 +85,3 @@ pub one_spelling : (b : List ℕ) (first second : Cell) → IsSpelling b first �
     → first ≡ second
 one_spelling b first second spelled also =
     spelling_unique first second spelled.is_cell also.is_cell (sym spelled.spelled ∙ also.spelled)
-
--- an anchor has eleven bytes
-pub length_of_anchor : (link : Link) → length (cell_bytes (cells.Anchor link)) ≡ ANCHOR_LEN
-unfolding cell_bytes
-length_of_anchor link = refl
-
--- a version has eight bytes before its row, or eighteen with a back pointer
-pub length_of_version : (v : Version) → length (cell_bytes (cells.Version v))
-    ≡ (if is_some v.back then BODY_AFTER_BACK else BACK_AT) + length v.body
-unfolding cell_bytes
-length_of_version v = by_back v v.back refl
-  where
-    by_back : (v : Version) (back : Option Link) → v.back ≡ back
-        → length (cell_bytes (cells.Version v))
-        ≡ (if is_some v.back then BODY_AFTER_BACK else BACK_AT) + length v.body
-    by_back v None is = rw is (omega arith)
-    by_back v (Some link) is = rw is (omega arith)
