@@ -1,11 +1,13 @@
+//! Scenarios of the plain machine, event by event.
+
 ghost use Rattle.std.specs.Prelude.{◌≡◌, IfOk, length};
 
-use super::*;
 use mg_base::{Memory, TxNo, TxState};
 use mg_expr::{Expr, Sign};
 use mg_model::{
     Answer, CATALOG, Changes, Event, LimboChange, Mode, Opening, Placed, PlacedRow, Refusal, States,
 };
+use mg_plain::Plain;
 use mg_value::{Key, Name, Row, Txt, Value};
 use std::alloc::Global;
 use std::fmt::Write;
@@ -37,7 +39,7 @@ enum Act {
     Decide(u32, bool),
 }
 
-pub(crate) fn name(rt: &impl Abort, bytes: &[u8]) -> Name {
+pub(super) fn name(rt: &impl Abort, bytes: &[u8]) -> Name {
     match Name::new(bytes) {
         Some(name) => name,
         None => panic!(rt; "no name"),
@@ -51,7 +53,7 @@ fn key(rt: &impl Abort, number: i64) -> Key {
     }
 }
 
-pub(crate) fn row(alloc: Global, k: i64, v: i64) -> Result<Row, Fail> {
+pub(super) fn row(alloc: Global, k: i64, v: i64) -> Result<Row, Fail> {
     Ok(Row::new(vec![in alloc; Value::Int(k), Value::Int(v)]?))
 }
 
@@ -88,7 +90,7 @@ fn catalog_row(
 }
 
 /// A new database.
-pub(crate) fn new_opening(rt: &impl Abort, alloc: Global, limit: u32) -> Result<Opening, Fail>
+pub(super) fn new_opening(rt: &impl Abort, alloc: Global, limit: u32) -> Result<Opening, Fail>
     ensures states { IfOk result (λ opening. length opening.states ≡ 0) }
     ensures next { IfOk result (λ opening. opening.next.0 ≡ 1) }
     ensures limit { IfOk result (λ opening. opening.limit.0 ≡ limit) }

@@ -1,9 +1,11 @@
+//! The plain machine as a keeper of records.
+
 ghost use Rattle.std.specs.Prelude.{◌<◌};
 
-use super::*;
-use crate::tests::{name, new_opening, row};
+use super::machine::{name, new_opening, row};
 use mg_base::TxNo;
 use mg_model::{Mode, Refusal, Rows};
+use mg_plain::Plain;
 use mg_records::{Records, Write};
 use mg_value::{Key, Name, Row, Value, row_fits};
 use std::alloc::Global;
