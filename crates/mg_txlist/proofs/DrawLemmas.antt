@@ -11,10 +11,10 @@ use Rattle.mg_base.specs.declared.geometry.Geometry.{Geometry}
 use Rattle.mg_careful.specs.Precedence.{Precedes}
 use Rattle.mg_careful.specs.Precedence.Precedes.{directly, through}
 use Rattle.mg_careful.specs.declared.graph.Order.{Order}
-use Rattle.mg_header.specs.HeaderPage.{AreMarkers, database_checks, marker_checks, reading}
+use Rattle.mg_header.specs.HeaderPage.{AreMarkers, database_checks, file_checks, marker_checks, reading}
 use Rattle.mg_header.specs.HeaderPageLaws.{reading_ok}
 use Rattle.mg_header.specs.declared.header.Header.{Header}
-use Rattle.mg_header.specs.declared.header.TheConstants.{GREATEST_MINOR, GREATEST_NEXT, HEADER_KIND, MINOR_AT}
+use Rattle.mg_header.specs.declared.header.TheConstants.{GREATEST_NEXT, HEADER_KIND, MINOR_AT, OPENED_MINOR}
 use Rattle.mg_image.specs.Form.{Pages}
 use Rattle.mg_image.specs.Inventory.{header_of, inventory_page}
 use Rattle.mg_pool.specs.Batch.{Changed, IsLawful, PutsPage, content_in, is_in, lists}
@@ -41,7 +41,7 @@ written_back len made rest put same is = is
 
 pub head_again : (size : ℕ) (header : Header) (page items opened made put : List ℕ)
     → length page ≡ size → items ≡ page → opened ≡ items → put ≡ made
-    → (header.minor ≤ GREATEST_MINOR
+    → (header.minor ≤ OPENED_MINOR
     → AreMarkers header.oit.0 header.ost.0 header.oat.0 header.next.0
     → PassesAll (common_checks opened 0 HEADER_KIND 0 0) → reading made (length opened) ≡ Ok header)
     → MayBeHeader header page → reading put size ≡ Ok header
@@ -61,9 +61,9 @@ at_most : (a k : ℕ) → a ≡ min a k → a ≤ k
 at_most a k is = omega (arith, is)
 
 minor_low : (b : List ℕ) (size : ℕ) → PassesAll (database_checks b size)
-    → u16_at b MINOR_AT ≤ GREATEST_MINOR
-unfolding database_checks
-minor_low b size passes = at_most (u16_at b MINOR_AT) GREATEST_MINOR passes.1.1.0
+    → u16_at b MINOR_AT ≤ OPENED_MINOR
+unfolding file_checks
+minor_low b size passes = at_most (u16_at b MINOR_AT) OPENED_MINOR passes.1.1.0
 
 -- a header that was read may have its next number one higher
 pub may_raise : (b : List ℕ) (size last : ℕ) (h : Header) → reading b size ≡ Ok h
@@ -72,7 +72,7 @@ may_raise b size last h is below =
     let parts = reading_ok b size h is in
     let markers = head_markers b b size h (Ok h) refl (sym is) refl in record {
       common = passes_first (common_checks b 0 HEADER_KIND 0 0) (marker_checks b) parts.1;
-      minor = subst (λ (x : Header). x.minor ≤ GREATEST_MINOR) (sym parts.2)
+      minor = subst (λ (x : Header). x.minor ≤ OPENED_MINOR) (sym parts.2)
           (minor_low b size parts.0);
       markers = record {
         least = markers.least;

@@ -8,7 +8,7 @@ use Rattle.mg_base.specs.declared.transaction.TxState.TheVariants.{Active}
 use Rattle.mg_careful.specs.declared.graph.Order.{Order}
 use Rattle.mg_header.specs.HeaderPage.{AreMarkers, reading}
 use Rattle.mg_header.specs.declared.header.Header.{Header}
-use Rattle.mg_header.specs.declared.header.TheConstants.{GREATEST_MINOR, HEADER_KIND}
+use Rattle.mg_header.specs.declared.header.TheConstants.{HEADER_KIND, OPENED_MINOR}
 use Rattle.mg_image.specs.Form.{Pages}
 use Rattle.mg_image.specs.Inventory.{header_of, inventory_page}
 use Rattle.mg_pool.specs.Batch.{Changed, PutsPage, content_in}
@@ -66,7 +66,7 @@ raised_header header last_tip = record header {
 -- the page is a header page by its common part, and these fields may stand on one
 pub record MayBeHeader (header : Header) (page : List ℕ) : Type 0 where
   pub common : PassesAll (common_checks page 0 HEADER_KIND 0 0)
-  pub minor : header.minor ≤ GREATEST_MINOR
+  pub minor : header.minor ≤ OPENED_MINOR
   pub markers : AreMarkers header.oit.0 header.ost.0 header.oat.0 header.next.0
 
 -- the header page is put, one page long
