@@ -2,10 +2,9 @@
 
 ghost use Rattle.mg_engine_changes.specs.MakingSteps.{CreationsKeepApart, RefusalsKeepApart, TablesAreMade, TablesAreRefused};
 
-use crate::pages::growths_stay;
 use crate::{
-    creations_are_refused, made_rows_are_remembered, made_rows_follow, made_tables_are_seen,
-    made_tables_keep, new_rows_say_a_table,
+    creations_are_refused, growths_stay, made_rows_are_remembered, made_rows_follow,
+    made_tables_are_seen, made_tables_keep, new_rows_say_a_table,
 };
 use mg_base::Disk;
 use mg_engine_steps::{
