@@ -6,4 +6,5 @@ pub mod TakeLaws
 pub mod NumberLaws
 pub mod TipLaws
 pub mod PointerLaws
+pub mod CellLaws
 pub mod Scratch

@@ -1,0 +1,2 @@
+pub mod DrawDemands
+pub mod Scratch

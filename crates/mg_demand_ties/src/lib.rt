@@ -1,0 +1,6 @@
+//! What each batch pays.
+#![tactic(auto)]
+
+mod batches;
+
+pub use batches::scratch;
