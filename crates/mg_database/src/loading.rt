@@ -17,7 +17,7 @@ ghost use Rattle.mg_database.specs.Loading.{AreUndecided, AreUndecidedBelow, Che
 use crate::catalog::catalog_table;
 use crate::fault::OpenFault;
 use mg_base::{Damaged, Disk, Field, GREATEST_LIMIT, Markers, Memory, PageNo, TxNo, TxState};
-use mg_header::{HeadFault, Header, read_header};
+use mg_header::{HeadFault, Header, open_header};
 use mg_model::Table;
 use mg_pool::{Batch, PoolFault};
 use mg_snap::Live;
@@ -115,7 +115,7 @@ fn read_first<D: Disk>(store: &mut Store<D>) -> Result<Header, OpenFault>
         Ok(page) => page,
         Err(fault) => return Err(OpenFault::Space(fault)),
     };
-    match read_header(page.as_slice(), size) {
+    match open_header(page.as_slice(), size) {
         Ok(header) => check_catalog(header),
         Err(fault) => Err(fault_of(fault)),
     }

@@ -11,9 +11,9 @@ use Rattle.mg_model.specs.declared.refusal.Refusal.{Refusal}
 use Rattle.mg_taking_back.specs.Tables.{TellsTables}
 use Rattle.mg_taking_back.specs.Taking.{FailsBackTo, GoesBackTo, TakesBackTo}
 use Rattle.mg_engine.specs.Engines.{IsEngine}
-use Rattle.mg_engine_takings.specs.Outcomes.{IsBack, IsRolledShort, IsUndone, MarksGive, SavepointsGive, ShortMarksGive, ShortSavepointsGive}
+use Rattle.mg_engine_changes.specs.Outcomes.{IsBack, IsRolledShort, IsUndone, MarksGive, SavepointsGive, ShortMarksGive, ShortSavepointsGive}
 use Rattle.mg_engine_meaning.specs.Meaning.{Places}
-use Rattle.mg_engine_row_writes.specs.Notes.{AreCounts}
+use Rattle.mg_engine_changes.specs.Notes.{AreCounts}
 
 -- what holds where a test passes
 told_so : (b : Bool) (P : Type 0) → OnTrue b P → b ≡ true → P

@@ -26,8 +26,8 @@ use Rattle.mg_works.specs.Works.{AreApart, MayBeGiven, given_to}
 use Rattle.mg_engine.specs.Engines.{IsEngine}
 use Rattle.mg_engine_meaning.specs.Frames.{GivesEvent}
 use Rattle.mg_engine_meaning.specs.Meaning.{Places}
-use Rattle.mg_engine_row_writes.specs.Steps.{NotedFailsApart, NotedFailsGive, NotedWritesApart, NotedWritesGive}
-use Rattle.mg_engine_row_writes.specs.Notes.{AreCounts}
+use Rattle.mg_engine_changes.specs.Steps.{NotedFailsApart, NotedFailsGive, NotedWritesApart, NotedWritesGive}
+use Rattle.mg_engine_changes.specs.Notes.{AreCounts}
 
 -- ---- values
 

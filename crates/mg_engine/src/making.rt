@@ -7,7 +7,7 @@ ghost use Rattle.mg_records.specs.Keeping.{Leaves, refusal_in};
 ghost use Rattle.mg_records.specs.Sessions.{SessionsStay};
 ghost use Rattle.mg_records.specs.Writing.{FitsPages, IsNewShape, MakesTable};
 ghost use Rattle.mg_value.specs.Names.{IsName};
-ghost use Rattle.mg_engine_makings.specs.Steps.{AreNamed};
+ghost use Rattle.mg_engine_changes.specs.MakingSteps.{AreNamed};
 ghost use Rattle.mg_engine_meaning.specs.Meaning.{means};
 ghost use Rattle.mg_engine.specs.Places.{places};
 
@@ -15,7 +15,7 @@ use crate::engine::Engine;
 use crate::reading::counts_fit;
 use mg_base::{Disk, TxNo};
 use mg_core::Place;
-use mg_engine_makings::{creations_keep_apart, tables_are_made};
+use mg_engine_changes::{creations_keep_apart, tables_are_made};
 use mg_model::Refusal;
 use mg_table_making::create_table;
 use mg_value::{Column, Name, Shape};

@@ -3,7 +3,7 @@
 ghost use Rattle.std.specs.Bool.{OnTrue};
 ghost use Rattle.std.specs.Prelude.{None, Some, false};
 ghost use Rattle.mg_core.specs.Cores.{IsCore};
-ghost use Rattle.mg_engine_takings.specs.Outcomes.{IsRolledShort};
+ghost use Rattle.mg_engine_changes.specs.Outcomes.{IsRolledShort};
 ghost use Rattle.mg_engine_meaning.specs.Meaning.{means};
 ghost use Rattle.mg_model.specs.declared.change.Point.TheVariants.{LastMark, SavepointNamed};
 ghost use Rattle.mg_records.specs.Crashing.{LeavesQuietly};
@@ -17,7 +17,7 @@ use crate::engine::Engine;
 use crate::reading::counts_fit;
 use mg_base::{Disk, TxNo};
 use mg_core::{Core, Place};
-use mg_engine_takings::backs_give;
+use mg_engine_changes::backs_give;
 use mg_model::Refusal;
 use mg_taking_back::{back_to, takes_tables_to_mark, takes_tables_to_savepoint, undo_mark};
 use mg_value::Name;

@@ -16,7 +16,7 @@ use crate::engine::Engine;
 use crate::reading::counts_fit;
 use mg_base::{Disk, TxNo};
 use mg_core::Place;
-use mg_engine_row_writes::{noted_writes_give, noted_writes_keep_apart};
+use mg_engine_changes::{noted_writes_give, noted_writes_keep_apart};
 use mg_model::{Refusal, Table};
 use mg_records::Write;
 use mg_taking_back::write_noted;

@@ -5,7 +5,7 @@ use Rattle.mg_base.specs.Checks.{PassesAll}
 use Rattle.mg_base.specs.Fields.{u32_at}
 use Rattle.mg_base.specs.Image.{Image, blank, page_at}
 use Rattle.mg_format.specs.Format.{IsUnmadeImage}
-use Rattle.mg_header.specs.HeaderPage.{database_checks}
+use Rattle.mg_header.specs.HeaderPage.{database_checks, file_checks}
 use Rattle.mg_header.specs.declared.header.TheConstants.{MAGIC, MAGIC_AT}
 use Rattle.mg_image.specs.Form.{Pages}
 use Rattle.mg_image.specs.Sound.{HasHeader}
@@ -26,11 +26,11 @@ no_magic page size none is =
 
 -- a page that passes the tests of a database is not zero
 pub no_database : (size other : ℕ) (b : List ℕ) → PassesAll (database_checks b size) → b ≡ blank other → ⊥
-unfolding database_checks
+unfolding file_checks
 no_database size other b passes none = no_magic b other none passes.0
 
 has_magic : (size : ℕ) (pages : Pages) → HasHeader size pages → u32_at (pages 0) MAGIC_AT ≡ MAGIC
-unfolding database_checks
+unfolding file_checks
 has_magic size pages header = header.database.0
 
 pub no_header : (size other : ℕ) (pages : Pages) → HasHeader size pages → pages 0 ≡ blank other → ⊥

@@ -8,7 +8,7 @@ use Rattle.mg_base.specs.Image.{Image, blank, page_at}
 use Rattle.mg_core.specs.declared.parts.Core.{Core}
 use Rattle.mg_engine_meaning.specs.Standings.{ShowsIt, StandsWhile, standing_of}
 use Rattle.mg_grown_catalogs.specs.Grown.{CatalogGrows, OwnRowsAreNew}
-use Rattle.mg_header.specs.HeaderPage.{database_checks, reading}
+use Rattle.mg_header.specs.HeaderPage.{database_checks, file_checks, reading}
 use Rattle.mg_header.specs.HeaderPageLaws.{reading_ok}
 use Rattle.mg_header.specs.declared.header.Header.{Header}
 use Rattle.mg_header.specs.declared.header.TheConstants.{PAGE_SIZE_AT}
@@ -43,7 +43,7 @@ first_same size other [] not_ = absurd (not_ refl)
 first_same size other (page ∷ pages) not_ = refl
 
 size_told : (b : List ℕ) (size : ℕ) → PassesAll (database_checks b size) → u32_at b PAGE_SIZE_AT ≡ size
-unfolding database_checks
+unfolding file_checks
 size_told b size passes = passes.1.1.1.0
 
 -- a header tells its page size

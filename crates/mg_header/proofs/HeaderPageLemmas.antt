@@ -5,7 +5,7 @@ use Rattle.mg_base.specs.declared.damage.Damaged.{Damaged}
 use Rattle.mg_base.specs.Checks.{verdict}
 use Rattle.mg_header.specs.declared.header.Header.{Header}
 use Rattle.mg_header.specs.declared.header.HeadFault.TheVariants as faults
-use Rattle.mg_header.specs.HeaderPage.{WritesHeader, database_checks, header_in, page_checks, reading, the_page}
+use Rattle.mg_header.specs.HeaderPage.{WritesHeader, file_checks, header_in, page_checks, reading_upto, the_page}
 use Rattle.mg_header.proofs.Writes.{with_all, length-with_all, u32_kept, u16_kept, u32_written, front_kept, behind_kept}
 
 -- the numbers of a header fit their widths
@@ -119,19 +119,19 @@ writes_header old h fits least most =
         → at + 4 ≤ length base
     room old base at len least before = omega arith
 
-pub reading_foreign : (b : List ℕ) (size : ℕ) (damage : Damaged)
-    → verdict the_page (database_checks b size) ≡ Err damage
-    → reading b size ≡ Err (faults.NotADatabase damage.field damage.found)
-unfolding reading
-reading_foreign b size damage err = rw err refl
+pub reading_foreign : (b : List ℕ) (minor size : ℕ) (damage : Damaged)
+    → verdict the_page (file_checks b minor size) ≡ Err damage
+    → reading_upto b minor size ≡ Err (faults.NotADatabase damage.field damage.found)
+unfolding reading_upto
+reading_foreign b minor size damage err = rw err refl
 
-pub reading_damaged : (b : List ℕ) (size : ℕ) (damage : Damaged)
-    → verdict the_page (database_checks b size) ≡ Ok tt
-    → verdict the_page (page_checks b) ≡ Err damage → reading b size ≡ Err (faults.Damaged damage)
-unfolding reading
-reading_damaged b size damage ok err = rw (ok, err) refl
+pub reading_damaged : (b : List ℕ) (minor size : ℕ) (damage : Damaged)
+    → verdict the_page (file_checks b minor size) ≡ Ok tt
+    → verdict the_page (page_checks b) ≡ Err damage → reading_upto b minor size ≡ Err (faults.Damaged damage)
+unfolding reading_upto
+reading_damaged b minor size damage ok err = rw (ok, err) refl
 
-pub reading_sound : (b : List ℕ) (size : ℕ) → verdict the_page (database_checks b size) ≡ Ok tt
-    → verdict the_page (page_checks b) ≡ Ok tt → reading b size ≡ Ok (header_in b)
-unfolding reading
-reading_sound b size ok also = rw (ok, also) refl
+pub reading_sound : (b : List ℕ) (minor size : ℕ) → verdict the_page (file_checks b minor size) ≡ Ok tt
+    → verdict the_page (page_checks b) ≡ Ok tt → reading_upto b minor size ≡ Ok (header_in b)
+unfolding reading_upto
+reading_sound b minor size ok also = rw (ok, also) refl

@@ -6,7 +6,7 @@ use Rattle.mg_base.specs.declared.numbers.PageNo.{PageNo}
 use Rattle.mg_base.specs.declared.damage.Damaged.{Damaged}
 use Rattle.mg_base.specs.declared.damage.Field.TheVariants as fields
 use Rattle.mg_base.specs.Checks.{Check, common_checks, verdict}
-use Rattle.mg_header.specs.declared.header.TheConstants.{HEADER_KIND, MAGIC, MAJOR, GREATEST_MINOR, GREATEST_NEXT, MAGIC_AT, MAJOR_AT, MINOR_AT, PAGE_SIZE_AT, NEXT_AT, OIT_AT, OAT_AT, OST_AT, LAST_TIP_AT, INTERVAL_AT, CATALOG_AT, HEADER_END}
+use Rattle.mg_header.specs.declared.header.TheConstants.{HEADER_KIND, MAGIC, MAJOR, OPENED_MINOR, GREATEST_NEXT, MAGIC_AT, MAJOR_AT, MINOR_AT, PAGE_SIZE_AT, NEXT_AT, OIT_AT, OAT_AT, OST_AT, LAST_TIP_AT, INTERVAL_AT, CATALOG_AT, HEADER_END}
 use Rattle.mg_header.specs.declared.header.Header.{Header}
 use Rattle.mg_header.specs.declared.header.HeadFault.{HeadFault}
 use Rattle.mg_header.specs.declared.header.HeadFault.TheVariants as faults
@@ -32,14 +32,18 @@ header_in b = record {
 abbrev pub nearest : ℕ → ℕ → ℕ → ℕ
 nearest low high number = max (min number high) low
 
--- the tests that tell a file of another kind
-unfoldable pub database_checks : List ℕ → ℕ → List Check
-database_checks b size =
+-- the tests that tell a file of another kind, where minor versions up to one are read
+unfoldable pub file_checks : List ℕ → ℕ → ℕ → List Check
+file_checks b minor size =
     (fields.Magic, u32_at b MAGIC_AT, MAGIC)
     ∷ (fields.Major, u16_at b MAJOR_AT, MAJOR)
-    ∷ (fields.Minor, u16_at b MINOR_AT, min (u16_at b MINOR_AT) GREATEST_MINOR)
+    ∷ (fields.Minor, u16_at b MINOR_AT, min (u16_at b MINOR_AT) minor)
     ∷ (fields.PageSize, u32_at b PAGE_SIZE_AT, size)
     ∷ []
+
+-- those of a database that is opened
+abbrev pub database_checks : List ℕ → ℕ → List Check
+database_checks b size = file_checks b OPENED_MINOR size
 
 -- the tests of the numbers of transactions, each by those before it
 unfoldable pub marker_checks : List ℕ → List Check
@@ -61,12 +65,16 @@ told (Err damage) page header = Err (faults.NotADatabase damage.field damage.fou
 told (Ok _) (Err damage) header = Err (faults.Damaged damage)
 told (Ok _) (Ok _) header = Ok header
 
--- what reading a page with a page size answers
-unfoldable pub reading : List ℕ → ℕ → Result Header HeadFault
-reading b size = told
-    (verdict the_page (database_checks b size))
+-- what reading a page with a page size answers, where minor versions up to one are read
+unfoldable pub reading_upto : List ℕ → ℕ → ℕ → Result Header HeadFault
+reading_upto b minor size = told
+    (verdict the_page (file_checks b minor size))
     (verdict the_page (page_checks b))
     (header_in b)
+
+-- what it answers of a database that is opened
+abbrev pub reading : List ℕ → ℕ → Result Header HeadFault
+reading b size = reading_upto b OPENED_MINOR size
 
 -- the numbers of transactions are in order
 pub record AreMarkers (oit ost oat next : ℕ) : Type 0 where

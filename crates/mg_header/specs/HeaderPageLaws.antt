@@ -5,10 +5,10 @@ use Rattle.mg_base.specs.Fields.{u16_at, u32_at}
 use Rattle.mg_base.specs.declared.damage.Damaged.{Damaged}
 use Rattle.mg_base.specs.Checks.{PassesAll, common_checks, verdict}
 use Rattle.mg_base.specs.CheckLaws.{front_checks, passes-append, passes_from_verdict, verdict_from_passes}
-use Rattle.mg_header.specs.declared.header.TheConstants.{HEADER_KIND, GREATEST_MINOR, NEXT_AT, OIT_AT, OAT_AT, OST_AT}
+use Rattle.mg_header.specs.declared.header.TheConstants.{HEADER_KIND, OPENED_MINOR, NEXT_AT, OIT_AT, OAT_AT, OST_AT}
 use Rattle.mg_header.specs.declared.header.Header.{Header}
 use Rattle.mg_header.specs.declared.header.HeadFault.{HeadFault}
-use Rattle.mg_header.specs.HeaderPage.{AreMarkers, WritesHeader, database_checks, header_in, marker_checks, nearest, page_checks, reading, the_page, told}
+use Rattle.mg_header.specs.HeaderPage.{AreMarkers, WritesHeader, database_checks, file_checks, header_in, marker_checks, nearest, page_checks, reading, reading_upto, the_page, told}
 
 abbrev ok : Header → Result Header HeadFault
 ok h = Ok h
@@ -69,7 +69,7 @@ passes_from_markers b are = passing (u32_at b 28) (u32_at b 32) (u32_at b 36) (u
 -- what is read was tested
 pub reading_ok : (b : List ℕ) (size : ℕ) (h : Header) → reading b size ≡ Ok h
     → PassesAll (database_checks b size) × PassesAll (page_checks b) × (h ≡ header_in b)
-unfolding reading
+unfolding reading_upto
 reading_ok b size h is = of (verdict the_page (database_checks b size)) (verdict the_page
     (page_checks b)) refl refl is
   where
@@ -89,7 +89,7 @@ reading_ok b size h is = of (verdict the_page (database_checks b size)) (verdict
 -- a page that passes its tests is read
 pub reads : (b : List ℕ) (size : ℕ) → PassesAll (database_checks b size) → PassesAll (page_checks b)
     → reading b size ≡ Ok (header_in b)
-unfolding reading
+unfolding reading_upto
 reads b size file page = rw (
   verdict_from_passes the_page
       (database_checks b size) file,
@@ -98,8 +98,8 @@ reads b size file page = rw (
 
 -- what was written tells that the file is a database with pages of this size
 pub database_written : (old new : List ℕ) (h : Header) → WritesHeader old new h
-    → h.minor ≤ GREATEST_MINOR → PassesAll (database_checks new (length old))
-unfolding database_checks
+    → h.minor ≤ OPENED_MINOR → PassesAll (database_checks new (length old))
+unfolding file_checks
 database_written old new h writes lawful =
     let minor : u16_at new 22 ≡ h.minor = ap (λ (x : Header). x.minor) writes.header in (
       writes.magic,
@@ -112,12 +112,12 @@ database_written old new h writes lawful =
       ),
     )
   where
-    small : (minor wanted : ℕ) → minor ≡ wanted → wanted ≤ 1 → minor ≡ min minor 1
+    small : (minor wanted : ℕ) → minor ≡ wanted → wanted ≤ 0 → minor ≡ min minor 0
     small minor wanted is lawful = omega arith
 
 -- on a page with a sound common part, what was written is read again
 pub written_again : (old new : List ℕ) (h : Header) → WritesHeader old new h
-    → h.minor ≤ GREATEST_MINOR → AreMarkers h.oit.0 h.ost.0 h.oat.0 h.next.0
+    → h.minor ≤ OPENED_MINOR → AreMarkers h.oit.0 h.ost.0 h.oat.0 h.next.0
     → PassesAll (common_checks old 0 HEADER_KIND 0 0) → reading new (length old) ≡ Ok h
 written_again old new h writes lawful are common =
     let ordered : AreMarkers (u32_at new OIT_AT) (u32_at new OST_AT) (u32_at new OAT_AT)

@@ -10,6 +10,8 @@ pub const MAGIC: u32 = 0x4244_474d;
 pub const MAJOR: u16 = 1;
 /// The greatest minor version of the format: from it on a table's shape may change.
 pub const GREATEST_MINOR: u16 = 1;
+/// The greatest minor version of a database that is opened: no statement changes a table's shape yet.
+pub const OPENED_MINOR: u16 = 0;
 /// The greatest number of a next transaction (chosen).
 pub const GREATEST_NEXT: u32 = 1_000_000_000;
 
@@ -46,6 +48,8 @@ const _: () = prove!(MAGIC == 0x4244_474d);
 const _: () = prove!(MAJOR == 1);
 
 const _: () = prove!(GREATEST_MINOR == 1);
+
+const _: () = prove!(OPENED_MINOR == 0);
 
 const _: () = prove!(GREATEST_NEXT == 1_000_000_000);
 

@@ -8,7 +8,7 @@
 //! | 0 | 16 | common part | |
 //! | 16 | 4 | the bytes `MGDB` | 4d 47 44 42 |
 //! | 20 | 2 | major version of the format | 1 |
-//! | 22 | 2 | minor version, 0 or 1 | 0 |
+//! | 22 | 2 | minor version, 0 or 1 (a database of version 1 is read here, and not opened) | 0 |
 //! | 24 | 4 | page size in bytes | P |
 //! | 28 | 4 | next transaction | 1 |
 //! | 32 | 4 | oldest interesting transaction (OIT) | 1 |
@@ -31,7 +31,7 @@ mod writing;
 pub use header::{
     CATALOG_AT, GREATEST_MINOR, GREATEST_NEXT, HEADER_END, HEADER_KIND, HeadFault, Header,
     INTERVAL_AT, LAST_TIP_AT, MAGIC, MAGIC_AT, MAJOR, MAJOR_AT, MINOR_AT, NEXT_AT, OAT_AT, OIT_AT,
-    OST_AT, PAGE_SIZE_AT,
+    OPENED_MINOR, OST_AT, PAGE_SIZE_AT,
 };
-pub use reading::read_header;
+pub use reading::{open_header, read_header};
 pub use writing::write_header;

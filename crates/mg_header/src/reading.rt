@@ -2,19 +2,19 @@
 
 ghost use Rattle.std.specs.Prelude.{◌≡◌, ◌≤◌, length};
 ghost use Rattle.mg_base.specs.Checks.{verdict};
-ghost use Rattle.mg_header.specs.HeaderPage.{database_checks, header_in, marker_checks, nearest as nearest_number, page_checks, reading, the_page};
+ghost use Rattle.mg_header.specs.HeaderPage.{file_checks, header_in, marker_checks, nearest as nearest_number, page_checks, reading, reading_upto, the_page};
 
 use crate::{
     CATALOG_AT, GREATEST_MINOR, GREATEST_NEXT, HEADER_END, HEADER_KIND, HeadFault, Header,
     INTERVAL_AT, LAST_TIP_AT, MAGIC, MAGIC_AT, MAJOR, MAJOR_AT, MINOR_AT, NEXT_AT, OAT_AT, OIT_AT,
-    OST_AT, PAGE_SIZE_AT,
+    OPENED_MINOR, OST_AT, PAGE_SIZE_AT,
 };
 use mg_base::{Damaged, Field, PageNo, TxNo, check_common, check_field, get_u16, get_u32};
 
 /// The number of the header page.
 const PAGE: PageNo = PageNo(0);
 
-/// Reads the header page of a database with this page size, in bytes.
+/// Reads the header page of a database with this page size, in bytes, of each version of the format.
 ///
 /// # Errors
 ///
@@ -24,9 +24,33 @@ const PAGE: PageNo = PageNo(0);
 ///   transaction, OIT, OAT and OST, each judged by those before it.
 pub fn read_header(b: &[u8], size: u32) -> Result<Header, HeadFault>
     requires { HEADER_END ≤ length b.now }
+    ensures { result ≡ reading_upto b.now GREATEST_MINOR size }
+{
+    read_upto(b, GREATEST_MINOR, size)
+}
+
+/// Reads the header page of a database that is opened, with this page size, in bytes: one of minor version 0.
+///
+/// # Errors
+///
+/// As `read_header`; `NotADatabase` at the minor version where it is 1, too.
+pub fn open_header(b: &[u8], size: u32) -> Result<Header, HeadFault>
+    requires { HEADER_END ≤ length b.now }
     ensures { result ≡ reading b.now size }
 {
-    if let Err(damage) = check_database(b, size) {
+    read_upto(b, OPENED_MINOR, size)
+}
+
+/// Reads the header page of a database of a minor version up to one.
+///
+/// # Errors
+///
+/// As `read_header`.
+fn read_upto(b: &[u8], minor: u16, size: u32) -> Result<Header, HeadFault>
+    requires { HEADER_END ≤ length b.now }
+    ensures { result ≡ reading_upto b.now minor size }
+{
+    if let Err(damage) = check_file(b, minor, size) {
         return Err(HeadFault::NotADatabase {
             field: damage.field,
             found: damage.found,
@@ -38,14 +62,14 @@ pub fn read_header(b: &[u8], size: u32) -> Result<Header, HeadFault>
     Ok(header_of(b))
 }
 
-/// Tests what tells a file of another kind.
-#[tactic(auto, unfolding(crate::specs::HeaderPage::database_checks))]
-fn check_database(b: &[u8], size: u32) -> Result<(), Damaged>
+/// Tests what tells a file of another kind, or of a minor version above one.
+#[tactic(auto, unfolding(crate::specs::HeaderPage::file_checks))]
+fn check_file(b: &[u8], most: u16, size: u32) -> Result<(), Damaged>
     requires { HEADER_END ≤ length b.now }
-    ensures { result ≡ verdict the_page (database_checks b.now size) }
+    ensures { result ≡ verdict the_page (file_checks b.now most size) }
 {
     let minor = get_u16(b, MINOR_AT);
-    let lawful_minor = minor.min(GREATEST_MINOR);
+    let lawful_minor = minor.min(most);
     check_field(PAGE, Field::Magic, get_u32(b, MAGIC_AT), MAGIC)?;
     check_field(
         PAGE,

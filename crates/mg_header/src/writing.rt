@@ -5,8 +5,8 @@ ghost use Rattle.mg_header.specs.HeaderPage.{AreMarkers, WritesHeader, reading};
 ghost use Rattle.mg_base.specs.Checks.{PassesAll, common_checks};
 
 use crate::{
-    CATALOG_AT, GREATEST_MINOR, HEADER_END, HEADER_KIND, Header, INTERVAL_AT, LAST_TIP_AT, MAGIC,
-    MAGIC_AT, MAJOR, MAJOR_AT, MINOR_AT, NEXT_AT, OAT_AT, OIT_AT, OST_AT, PAGE_SIZE_AT,
+    CATALOG_AT, HEADER_END, HEADER_KIND, Header, INTERVAL_AT, LAST_TIP_AT, MAGIC, MAGIC_AT, MAJOR,
+    MAJOR_AT, MINOR_AT, NEXT_AT, OAT_AT, OIT_AT, OPENED_MINOR, OST_AT, PAGE_SIZE_AT,
 };
 use mg_base::{put_u16, put_u32};
 
@@ -20,7 +20,7 @@ pub fn write_header(b: &mut [u8], h: &Header)
     requires least { HEADER_END ≤ length b.old }
     requires most { length b.old < 2 ^ 32 }
     ensures written { WritesHeader b.old b.new h.now }
-    ensures read_again { h.now.minor ≤ GREATEST_MINOR
+    ensures read_again { h.now.minor ≤ OPENED_MINOR
         → AreMarkers h.now.oit.0 h.now.ost.0 h.now.oat.0 h.now.next.0
         → PassesAll (common_checks b.old 0 HEADER_KIND 0 0)
         → reading b.new (length b.old) ≡ Ok h.now }

@@ -6,7 +6,7 @@ use Rattle.std.proofs.lemmas.List.{get_or-replicate, get_or-set_other}
 use Rattle.mg_base.specs.CheckLaws.{front_checks, new_passes, passes-append}
 use Rattle.mg_base.specs.Checks.{PassesAll, common_checks}
 use Rattle.mg_base.specs.Fields.{byte, byte_apart, byte_apart16, length-new_page, length-with_u16, length-with_u32, new_page, take-with_u16, take-with_u32, u16_again, u16_at, u32_again, u32_apart16, u32_at, with_u16, with_u32}
-use Rattle.mg_header.specs.HeaderPage.{AreMarkers, database_checks, marker_checks, page_checks}
+use Rattle.mg_header.specs.HeaderPage.{AreMarkers, database_checks, file_checks, marker_checks, page_checks}
 use Rattle.mg_header.specs.HeaderPageLaws.{passes_from_markers}
 use Rattle.mg_header.specs.declared.header.TheConstants.{HEADER_KIND, MAGIC, MAJOR}
 use Rattle.mg_image.specs.NewDatabase.{new_header_page}
@@ -100,10 +100,10 @@ module _ (size : ℕ) (least : 1024 ≤ size) (most : size ≤ 16384) where
       (omega (arith, long, least)) (lit< tt) refl
 
   pub database_passes : PassesAll (database_checks page size)
-  unfolding database_checks
+  unfolding file_checks
   database_passes = (
     magic_is,
-    (major_is, (minor_is ∙ sym (ap (λ (n : ℕ). min n 1) minor_is), (size_is, tt))),
+    (major_is, (minor_is ∙ sym (ap (λ (n : ℕ). min n 0) minor_is), (size_is, tt))),
   )
 
   markers : AreMarkers (u32_at page 32) (u32_at page 40) (u32_at page 36) (u32_at page 28)

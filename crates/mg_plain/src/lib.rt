@@ -23,8 +23,3 @@ mod plain;
 mod rows;
 
 pub use plain::Plain;
-
-#[cfg(test)]
-mod records_tests;
-#[cfg(test)]
-mod tests;

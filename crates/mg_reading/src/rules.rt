@@ -23,7 +23,7 @@ impl Image {
     pub fn has_header(&self) -> bool
         ensures { IsTrue result ↔ HasHeader self.now.size (pages_in self.now) }
     {
-        mg_header::read_header(self.page(0), self.size()).is_ok() && self.is_used(0)
+        mg_header::open_header(self.page(0), self.size()).is_ok() && self.is_used(0)
     }
 
     /// Whether a page is part of the image and marked as used.

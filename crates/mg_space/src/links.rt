@@ -13,7 +13,7 @@ use crate::fields::page_size_of;
 use crate::taking::region_len;
 use mg_base::{Memory, PageNo, check_common, get_u32};
 use mg_careful::{Demand, Links};
-use mg_header::{NEXT_AT, read_header};
+use mg_header::{NEXT_AT, open_header};
 use mg_node::{check_node_common, level_of};
 use mg_pip::{check_pip, is_used};
 use mg_pointer::check_pointer;
@@ -117,7 +117,7 @@ fn is_header(b: &[u8], size: u32) -> bool
     requires len { length b.now ≡ size }
     ensures { result ≡ header_test size b.now }
 {
-    read_header(b, size).is_ok()
+    open_header(b, size).is_ok()
 }
 
 /// Tells whether a slot holds a version of a transaction.

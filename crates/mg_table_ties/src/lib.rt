@@ -9,7 +9,7 @@
 //! all that it has made, without data pages (`FilledTablesKeep`).
 //!
 //! Invariant: none, it keeps no state.
-//! Below: `mg_table_batch`, `mg_catalog_batches`. Above: `mg_engine_makings`, for the engine's CREATE TABLE.
+//! Below: `mg_table_batch`, `mg_catalog_batches`. Above: `mg_engine_changes`, for the engine's CREATE TABLE.
 //! Not here: which tables a transaction finds then, and that the pages show the longer history.
 #![tactic(auto)]
 

@@ -1,20 +1,21 @@
 -- A number is drawn: the header, the page, and the batch of both.
-use Rattle.std.proofs.Common.{◌≡◌, ◌≢◌, ◌<◌, ◌≤◌, ◌⊎◌, ◌+◌, ◌/◌, ◌++◌, ◌&&◌, ◌||◌, ◌==◌, min, ℕ, Bool, true, false, List, [], ◌∷◌, length, take, refl, sym, ap, subst, ◌∙◌, arith, append_assoc, inl, inr, if◌then◌else◌, unwrap_or}
-use Rattle.std.proofs.Common.{Option, Some, None, Ok, is_some}
+use Rattle.std.proofs.Common.{◌≡◌, ◌≢◌, ◌<◌, ◌≤◌, ◌⊎◌, ◌+◌, ◌/◌, ◌++◌, ◌&&◌, ◌||◌, ◌==◌, min, ℕ, Bool, true, false, List, [], ◌∷◌, length, take, refl, sym, ap, subst, ◌∙◌, arith, append-nil, append_assoc, inl, inr, if◌then◌else◌, unwrap_or}
+use Rattle.std.proofs.Common.{Option, Some, None, Ok, is_some, not, nat_lt}
 use Rattle.std.proofs.Math.Seq.{take-append_seam}
-use Rattle.std.proofs.lemmas.Bool.{and_parts, eqb-true, or_cases}
+use Rattle.std.proofs.lemmas.Bool.{and_parts, eq-eqb, eqb-true, or_cases}
 use Rattle.mg_base.specs.Checks.{Check, PassesAll, common_checks}
 use Rattle.mg_base.specs.Disk.{Meaning}
 use Rattle.mg_base.specs.Fields.{u16_at}
 use Rattle.mg_base.specs.Image.{Image}
 use Rattle.mg_base.specs.declared.geometry.Geometry.{Geometry}
+use Rattle.mg_base.specs.declared.geometry.TheConstants.{GREATEST_LIMIT}
 use Rattle.mg_careful.specs.Precedence.{Precedes}
 use Rattle.mg_careful.specs.Precedence.Precedes.{directly, through}
 use Rattle.mg_careful.specs.declared.graph.Order.{Order}
-use Rattle.mg_header.specs.HeaderPage.{AreMarkers, database_checks, marker_checks, reading}
+use Rattle.mg_header.specs.HeaderPage.{AreMarkers, database_checks, file_checks, marker_checks, reading}
 use Rattle.mg_header.specs.HeaderPageLaws.{reading_ok}
 use Rattle.mg_header.specs.declared.header.Header.{Header}
-use Rattle.mg_header.specs.declared.header.TheConstants.{GREATEST_MINOR, GREATEST_NEXT, HEADER_KIND, MINOR_AT}
+use Rattle.mg_header.specs.declared.header.TheConstants.{GREATEST_NEXT, HEADER_KIND, MINOR_AT, OPENED_MINOR}
 use Rattle.mg_image.specs.Form.{Pages}
 use Rattle.mg_image.specs.Inventory.{header_of, inventory_page}
 use Rattle.mg_pool.specs.Batch.{Changed, IsLawful, PutsPage, content_in, is_in, lists}
@@ -26,7 +27,7 @@ use Rattle.mg_space.specs.View.{AreWhole, KeepsStore, Tells, viewed}
 use Rattle.mg_space.specs.ViewLaws.{tells_on, viewed_else, viewed_here, viewed_on, whole_on}
 use Rattle.mg_tip.specs.TipPage.{new_tip_page, places}
 use Rattle.mg_tip.specs.TipPageLaws.{length-new_tip_page}
-use Rattle.mg_txlist.specs.Drawing.{DrawsOn, MayBeHeader, PutsHead, PutsTip, RaisesHead, raised_header, tip_orders}
+use Rattle.mg_txlist.specs.Drawing.{DrawsOn, MayBeHeader, PutsHead, PutsTip, RaisesHead, last_orders, may_precede, orders_before, raised_header, tip_orders}
 use Rattle.mg_txlist.specs.Drawing.DrawsOn.{on_last, on_new}
 use Rattle.mg_txlist.specs.declared.list.TipPage.{TipPage}
 use Rattle.mg_txlist.proofs.ChainLemmas.{head_markers}
@@ -41,7 +42,7 @@ written_back len made rest put same is = is
 
 pub head_again : (size : ℕ) (header : Header) (page items opened made put : List ℕ)
     → length page ≡ size → items ≡ page → opened ≡ items → put ≡ made
-    → (header.minor ≤ GREATEST_MINOR
+    → (header.minor ≤ OPENED_MINOR
     → AreMarkers header.oit.0 header.ost.0 header.oat.0 header.next.0
     → PassesAll (common_checks opened 0 HEADER_KIND 0 0) → reading made (length opened) ≡ Ok header)
     → MayBeHeader header page → reading put size ≡ Ok header
@@ -61,9 +62,9 @@ at_most : (a k : ℕ) → a ≡ min a k → a ≤ k
 at_most a k is = omega (arith, is)
 
 minor_low : (b : List ℕ) (size : ℕ) → PassesAll (database_checks b size)
-    → u16_at b MINOR_AT ≤ GREATEST_MINOR
-unfolding database_checks
-minor_low b size passes = at_most (u16_at b MINOR_AT) GREATEST_MINOR passes.1.1.0
+    → u16_at b MINOR_AT ≤ OPENED_MINOR
+unfolding file_checks
+minor_low b size passes = at_most (u16_at b MINOR_AT) OPENED_MINOR passes.1.1.0
 
 -- a header that was read may have its next number one higher
 pub may_raise : (b : List ℕ) (size last : ℕ) (h : Header) → reading b size ≡ Ok h
@@ -72,7 +73,7 @@ may_raise b size last h is below =
     let parts = reading_ok b size h is in
     let markers = head_markers b b size h (Ok h) refl (sym is) refl in record {
       common = passes_first (common_checks b 0 HEADER_KIND 0 0) (marker_checks b) parts.1;
-      minor = subst (λ (x : Header). x.minor ≤ GREATEST_MINOR) (sym parts.2)
+      minor = subst (λ (x : Header). x.minor ≤ OPENED_MINOR) (sym parts.2)
           (minor_low b size parts.0);
       markers = record {
         least = markers.least;
@@ -128,17 +129,41 @@ tip_made size t at last k opened made put len k_is is back =
     back ∙ (is ∙ (ap (λ (n : ℕ). new_tip_page n at (t / k) last) len
     ∙ ap (λ (n : ℕ). new_tip_page size at (t / n) last) k_is))
 
-pub orders_made : (size at inventory : ℕ) (a b c d e : List Order) → b ≡ a → c ≡ b
+-- two orders, one behind the other
+two_made : (size at inventory later : ℕ) (a b c : List Order)
+    → b ≡ a ++ record { first = at; later = later } ∷ []
+    → c ≡ b ++ record { first = inventory; later = later } ∷ []
+    → inventory ≡ inventory_page size (region_of size at) → c ≡ a ++ orders_before size at later
+two_made size at inventory later a b c first second is =
+    second ∙ (ap (λ (x : List Order). x ++ record { first = inventory; later = later } ∷ []) first
+    ∙ (ap (λ (n : ℕ). (a ++ record { first = at; later = later } ∷ [])
+    ++ record { first = n; later = later } ∷ []) is
+    ∙ append_assoc a (record { first = at; later = later } ∷ [])
+    (record { first = inventory_page size (region_of size at); later = later } ∷ [])))
+
+-- the orders of the last page so far, where it may come before the new one, and where it may not
+pub with_last : (size page last inventory : ℕ) (a b c : List Order)
+    → b ≡ a ++ record { first = last; later = page } ∷ []
+    → c ≡ b ++ record { first = inventory; later = page } ∷ []
+    → inventory ≡ inventory_page size (region_of size last) → may_precede page last ≡ true
+    → c ≡ a ++ last_orders size page last
+with_last size page last inventory a b c first second is may =
+    rw may (two_made size last inventory page a b c first second is)
+
+pub without_last : (size page last : ℕ) (a : List Order) → may_precede page last ≡ false
+    → a ≡ a ++ last_orders size page last
+without_last size page last a not_ = rw (not_, append-nil) refl
+
+pub orders_made : (size at inventory last : ℕ) (a b c d e f : List Order) → b ≡ a → c ≡ b
     → d ≡ c ++ record { first = at; later = 0 } ∷ []
     → e ≡ d ++ record { first = inventory; later = 0 } ∷ []
-    → inventory ≡ inventory_page size (region_of size at) → e ≡ a ++ tip_orders size at
-orders_made size at inventory a b c d e taken put first second is =
-    second ∙ (ap (λ (x : List Order). x ++ record { first = inventory; later = 0 } ∷ [])
-    (first ∙ ap (λ (x : List Order). x ++ record { first = at; later = 0 } ∷ []) (put ∙ taken))
-    ∙ (ap (λ (n : ℕ). (a ++ record { first = at; later = 0 } ∷ [])
-    ++ record { first = n; later = 0 } ∷ []) is
-    ∙ append_assoc a (record { first = at; later = 0 } ∷ [])
-    (record { first = inventory_page size (region_of size at); later = 0 } ∷ [])))
+    → inventory ≡ inventory_page size (region_of size at) → f ≡ e ++ last_orders size at last
+    → f ≡ a ++ tip_orders size at last
+orders_made size at inventory last a b c d e f taken put first second is behind =
+    behind ∙ (ap (λ (x : List Order). x ++ last_orders size at last)
+    (two_made size at inventory 0 c d e first second is
+    ∙ ap (λ (x : List Order). x ++ orders_before size at 0) (put ∙ taken))
+    ∙ append_assoc a (orders_before size at 0) (last_orders size at last))
 
 -- ---- the batch
 
@@ -157,56 +182,123 @@ one_more old new page bytes puts =
     subst (λ (n : ℕ). n ≤ length old.pages + 1) (sym puts.count)
     (count_most (is_in old.pages page) (length old.pages))
 
--- each order is one before the header page
-abbrev BeforeHead : List Order → Type 0
-BeforeHead orders = (a b : ℕ) → lists orders a b ≡ true → (b ≡ 0) × (a ≢ 0)
+-- one page comes before the header page, or before a new page, which is neither
+abbrev Leads : ℕ → ℕ → ℕ → Type 0
+Leads page a b = ((b ≡ 0) × (a ≢ 0)) ⊎ ((b ≡ page) × (a ≢ 0) × (a ≢ page))
 
-ends : (orders : List Order) → BeforeHead orders → (a b : ℕ) → Precedes (lists orders) a b
-    → (b ≡ 0) × (a ≢ 0)
-ends orders before a b (directly is) = before a b is
-ends orders before a b (through x y) = ((ends orders before _ b y).0, (ends orders before a _ x).1)
+-- each order is such a one
+abbrev AllLead : ℕ → List Order → Type 0
+AllLead page orders = (a b : ℕ) → lists orders a b ≡ true → Leads page a b
 
-lawful_of : (size : ℕ) (old new : Changed) → length old.pages ≤ 2 → AreWhole size old.pages
-    → PutsHead size old new → BeforeHead new.orders → IsLawful size new.pages new.orders
-lawful_of size old new few whole puts before = record {
+no_head : (page a b : ℕ) → Leads page a b → a ≢ 0
+no_head page a b (inl head) = head.1
+no_head page a b (inr new) = new.1
+
+leads_on : (page a mid b : ℕ) → Leads page a mid → Leads page mid b → Leads page a b
+leads_on page a mid b first (inl head) = inl (head.0, no_head page a mid first)
+leads_on page a mid b (inl head) (inr new) = absurd (new.1 head.0)
+leads_on page a mid b (inr other) (inr new) = absurd (new.2 other.0)
+
+ends : (page : ℕ) (orders : List Order) → AllLead page orders → (a b : ℕ) → Precedes (lists orders) a b
+    → Leads page a b
+ends page orders before a b (directly is) = before a b is
+ends page orders before a b (through x y) =
+    leads_on page a _ b (ends page orders before a _ x) (ends page orders before _ b y)
+
+no_way_back : (page p : ℕ) → Leads page p p → ⊥
+no_way_back page p (inl head) = head.1 head.0
+no_way_back page p (inr new) = new.2 new.0
+
+later_there : (pages : List BatchPage) (page a b : ℕ) → is_in pages 0 ≡ true → is_in pages page ≡ true
+    → Leads page a b → is_in pages b ≡ true
+later_there pages page a b head there (inl is) = subst (λ (n : ℕ). is_in pages n ≡ true) (sym is.0) head
+later_there pages page a b head there (inr is) = subst (λ (n : ℕ). is_in pages n ≡ true) (sym is.0) there
+
+head_there : (size : ℕ) (old new : Changed) → PutsHead size old new → is_in new.pages 0 ≡ true
+head_there size old new puts = ap (λ (o : Option (List ℕ)). is_some o) puts.puts.here
+
+lawful_of : (size page : ℕ) (old new : Changed) → length old.pages ≤ 2 → AreWhole size old.pages
+    → PutsHead size old new → is_in new.pages page ≡ true → AllLead page new.orders
+    → IsLawful size new.pages new.orders
+lawful_of size page old new few whole puts there before = record {
   few = let most = one_more old new 0 puts.bytes puts.puts in omega (arith, few, most);
   whole = whole_on size old new 0 puts.bytes whole puts.len puts.puts;
-  acyclic = λ page chain. (ends new.orders before page page chain).1
-      (ends new.orders before page page chain).0;
-  later_in = λ a b is. subst (λ (n : ℕ). is_in new.pages n ≡ true) (sym (before a b is).0)
-      (ap (λ (o : Option (List ℕ)). is_some o) puts.puts.here);
+  acyclic = λ p chain. no_way_back page p (ends page new.orders before p p chain);
+  later_in = λ a b is. later_there new.pages page a b (head_there size old new puts) there (before a b is);
 }
 
-none_before : (orders : List Order) → orders ≡ [] → BeforeHead orders
-none_before orders none a b is =
+none_before : (page : ℕ) (orders : List Order) → orders ≡ [] → AllLead page orders
+none_before page orders none a b is =
     let no : false ≡ true = sym (ap (λ (os : List Order). lists os a b) none) ∙ is in absurd cc
 
 pub lawful_last : (size : ℕ) (old new : Changed) → old.pages ≡ [] → old.orders ≡ []
     → PutsHead size old new → IsLawful size new.pages new.orders
 lawful_last size old new none unordered puts =
-    lawful_of size old new
+    lawful_of size 0 old new
     (let long : length old.pages ≡ 0 = ap (λ (xs : List BatchPage). length xs) none in
-    omega (arith, long)) (empty_whole size old.pages none) puts
-    (none_before new.orders (puts.puts.same_orders ∙ unordered))
+    omega (arith, long)) (empty_whole size old.pages none) puts (head_there size old new puts)
+    (none_before 0 new.orders (puts.puts.same_orders ∙ unordered))
 
-one_order : (x a b : ℕ) → x ≢ 0 → (x == a && 0 == b) ≡ true → (b ≡ 0) × (a ≢ 0)
-one_order x a b some is =
+head_order : (x a b : ℕ) → x ≢ 0 → (x == a && 0 == b) ≡ true → (b ≡ 0) × (a ≢ 0)
+head_order x a b some is =
     let parts = and_parts (x == a) (0 == b) is in
     (sym (eqb-true 0 b parts.1), λ zero. some (eqb-true x a parts.0 ∙ zero))
 
-tip_before_head : (size at : ℕ) → at ≢ 0 → BeforeHead (tip_orders size at)
-tip_before_head size at some a b is = of (or_cases _ _ is)
+page_order : (page x a b : ℕ) → x ≢ 0 → x ≢ page → (x == a && page == b) ≡ true
+    → (b ≡ page) × (a ≢ 0) × (a ≢ page)
+page_order page x a b some other is =
+    let parts = and_parts (x == a) (page == b) is in
+    let same : x ≡ a = eqb-true x a parts.0 in
+    (sym (eqb-true page b parts.1), λ zero. some (same ∙ zero), λ page_. other (same ∙ page_))
+
+-- the page that a new one leads back to is neither that one nor the header page
+last_apart : (page last : ℕ) → may_precede page last ≡ true → (last ≢ 0) × (last ≢ page)
+last_apart page last may =
+    let parts = and_parts (not (last == 0)) (not (last == page) && nat_lt last GREATEST_LIMIT) may in
+    let more = and_parts (not (last == page)) (nat_lt last GREATEST_LIMIT) parts.1 in
+    (other_than last 0 parts.0, other_than last page more.0)
+  where
+    other_than : (x y : ℕ) → not (x == y) ≡ true → x ≢ y
+    other_than x y not_ same =
+        let no : not true ≡ true = ap not (sym (eq-eqb x y same)) ∙ not_ in absurd cc
+
+last_leads : (size page last a b : ℕ) → ((region : ℕ) → inventory_page size region ≢ page)
+    → lists (last_orders size page last) a b ≡ true → Leads page a b
+last_leads size page last a b apart is = by (may_precede page last) refl is
   where
     inventory : ℕ
-    inventory = inventory_page size (region_of size at)
+    inventory = inventory_page size (region_of size last)
 
-    rest : ((inventory == a && 0 == b) ≡ true) ⊎ (false ≡ true) → (b ≡ 0) × (a ≢ 0)
-    rest (inl here) = one_order inventory a b (λ zero. absurd (omega (arith, zero))) here
-    rest (inr never) = absurd cc
+    of_two : (last ≢ 0) × (last ≢ page) → ((last == a && page == b) ≡ true)
+        ⊎ (((inventory == a && page == b) || false) ≡ true) → Leads page a b
+    of_two two (inl here) = inr (page_order page last a b two.0 two.1 here)
+    of_two two (inr more) = second (or_cases _ _ more)
+      where
+        second : ((inventory == a && page == b) ≡ true) ⊎ (false ≡ true) → Leads page a b
+        second (inl here) = inr (page_order page inventory a b (λ zero. absurd (omega (arith, zero)))
+            (apart (region_of size last)) here)
+        second (inr never) = absurd cc
 
-    of : ((at == a && 0 == b) ≡ true) ⊎ (((inventory == a && 0 == b) || false) ≡ true)
-        → (b ≡ 0) × (a ≢ 0)
-    of (inl here) = one_order at a b some here
+    by : (q : Bool) → may_precede page last ≡ q
+        → lists (if q then orders_before size last page else []) a b ≡ true → Leads page a b
+    by true may listed = of_two (last_apart page last may) (or_cases _ _ listed)
+    by false may listed = absurd cc
+
+tip_leads : (size page last : ℕ) → page ≢ 0 → ((region : ℕ) → inventory_page size region ≢ page)
+    → AllLead page (tip_orders size page last)
+tip_leads size page last some apart a b is = of (or_cases _ _ is)
+  where
+    inventory : ℕ
+    inventory = inventory_page size (region_of size page)
+
+    rest : ((inventory == a && 0 == b) ≡ true) ⊎ (lists (last_orders size page last) a b ≡ true)
+        → Leads page a b
+    rest (inl here) = inl (head_order inventory a b (λ zero. absurd (omega (arith, zero))) here)
+    rest (inr behind) = last_leads size page last a b apart behind
+
+    of : ((page == a && 0 == b) ≡ true)
+        ⊎ (((inventory == a && 0 == b) || lists (last_orders size page last) a b) ≡ true) → Leads page a b
+    of (inl here) = inl (head_order page a b some here)
     of (inr more) = rest (or_cases _ _ more)
 
 module _ {D L : Type 0} (m : Meaning D) (store : Pool D L) (old new : Changed) (t last : ℕ)
@@ -234,16 +326,21 @@ module _ {D L : Type 0} (m : Meaning D) (store : Pool D L) (old new : Changed) (
       let same : length new.pages ≡ length tip.put.pages =
       ap (λ (xs : List BatchPage). length xs) tip.pages in omega (arith, long, one, two, same)
 
-  pub tip_orders_are : old.orders ≡ [] → new.orders ≡ tip_orders size page.page
+  pub tip_orders_are : old.orders ≡ [] → new.orders ≡ tip_orders size page.page last
   tip_orders_are none = tip.orders
-      ∙ ap (λ (os : List Order). os ++ tip_orders size page.page) none
+      ∙ ap (λ (os : List Order). os ++ tip_orders size page.page last) none
+
+  page_there : (last_ : Changed) → PutsHead size new last_ → is_in last_.pages page.page ≡ true
+  page_there last_ puts = ap (λ (o : Option (List ℕ)). is_some o)
+      (puts.puts.others page.page tip.inventory.no_header
+      ∙ (ap (λ (xs : List BatchPage). content_in xs page.page) tip.pages ∙ tip.puts.here))
 
   pub lawful_new : (last_ : Changed) → old.pages ≡ [] → old.orders ≡ [] → PutsHead size new last_
       → IsLawful size last_.pages last_.orders
-  lawful_new last_ none unordered puts = lawful_of size new last_ (tip_few none) (tip_whole none)
-      puts (subst (λ (os : List Order). BeforeHead os)
+  lawful_new last_ none unordered puts = lawful_of size page.page new last_ (tip_few none) (tip_whole none)
+      puts (page_there last_ puts) (subst (λ (os : List Order). AllLead page.page os)
       (sym (puts.puts.same_orders ∙ tip_orders_are unordered))
-      (tip_before_head size page.page tip.inventory.no_header))
+      (tip_leads size page.page last tip.inventory.no_header tip.inventory.no_inventory))
 
 -- ---- what is seen
 
@@ -293,9 +390,10 @@ module _ {D L : Type 0} (m : Meaning D) (start : Pool D L) (t : ℕ) (image : Im
       (Some page) os) (sym orders)
       (on_new page (viewed start image tip.taken) taking bytes here raises others)
     where
-      orders : new.orders ≡ tip_orders size_ page.page
+      orders : new.orders ≡ tip_orders size_ page.page (header_of before).last_tip.0
       orders = puts.puts.same_orders ∙ (tip_orders_are m one old mid t h.last_tip.0 page tip unordered
-          ∙ ap (λ (g : Geometry). tip_orders g.size page.page) kept_one.geometry)
+          ∙ (ap (λ (g : Geometry). tip_orders g.size page.page h.last_tip.0) kept_one.geometry
+          ∙ ap (λ (x : Header). tip_orders size_ page.page x.last_tip.0) head_is))
 
       taking : TakesPage start.geometry before (viewed start image tip.taken) page.page
       taking = subst (λ (v : Pages). TakesPage start.geometry v (viewed start image tip.taken) page.page)

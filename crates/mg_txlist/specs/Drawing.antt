@@ -1,14 +1,15 @@
 -- A number is drawn: what becomes of the list, of the batch, and of the pages as viewed.
-use Rattle.std.specs.Prelude.{◌≡◌, ◌≢◌, ◌≤◌, ◌+◌, ◌/◌, ◌%◌, ◌++◌, ◌∷◌, [], ℕ, List, Option, None, Some, Ok, Err, length}
+use Rattle.std.specs.Prelude.{◌≡◌, ◌≢◌, ◌≤◌, ◌+◌, ◌/◌, ◌%◌, ◌++◌, ◌∷◌, [], ◌==◌, ◌&&◌, ℕ, Bool, not, nat_lt, if◌then◌else◌, List, Option, None, Some, Ok, Err, length}
 use Rattle.mg_base.specs.Checks.{PassesAll, common_checks}
 use Rattle.mg_base.specs.Disk.{Meaning}
 use Rattle.mg_base.specs.Image.{Image}
 use Rattle.mg_base.specs.declared.geometry.Geometry.{Geometry}
+use Rattle.mg_base.specs.declared.geometry.TheConstants.{GREATEST_LIMIT}
 use Rattle.mg_base.specs.declared.transaction.TxState.TheVariants.{Active}
 use Rattle.mg_careful.specs.declared.graph.Order.{Order}
 use Rattle.mg_header.specs.HeaderPage.{AreMarkers, reading}
 use Rattle.mg_header.specs.declared.header.Header.{Header}
-use Rattle.mg_header.specs.declared.header.TheConstants.{GREATEST_MINOR, HEADER_KIND}
+use Rattle.mg_header.specs.declared.header.TheConstants.{HEADER_KIND, OPENED_MINOR}
 use Rattle.mg_image.specs.Form.{Pages}
 use Rattle.mg_image.specs.Inventory.{header_of, inventory_page}
 use Rattle.mg_pool.specs.Batch.{Changed, PutsPage, content_in}
@@ -66,7 +67,7 @@ raised_header header last_tip = record header {
 -- the page is a header page by its common part, and these fields may stand on one
 pub record MayBeHeader (header : Header) (page : List ℕ) : Type 0 where
   pub common : PassesAll (common_checks page 0 HEADER_KIND 0 0)
-  pub minor : header.minor ≤ GREATEST_MINOR
+  pub minor : header.minor ≤ OPENED_MINOR
   pub markers : AreMarkers header.oit.0 header.ost.0 header.oat.0 header.next.0
 
 -- the header page is put, one page long
@@ -77,10 +78,24 @@ pub record PutsHead (size : ℕ) (old new : Changed) : Type 0 where
 
 -- ---- the page
 
--- the orders of a page and of the page with its bit, before the header
-abbrev pub tip_orders : ℕ → ℕ → List Order
-tip_orders size page = record { first = page; later = 0 }
-    ∷ record { first = inventory_page size (region_of size page); later = 0 } ∷ []
+-- the orders of a page and of the page with its bit, before another page
+abbrev pub orders_before : ℕ → ℕ → ℕ → List Order
+orders_before size page later = record { first = page; later = later }
+    ∷ record { first = inventory_page size (region_of size page); later = later } ∷ []
+
+-- a page may come before a new one: it is one that a database may have, and neither the header page nor the
+-- new one (only a damaged header names such a page as its last one)
+abbrev pub may_precede : ℕ → ℕ → Bool
+may_precede page last = not (last == 0) && (not (last == page) && nat_lt last GREATEST_LIMIT)
+
+-- the orders of the page that a new one leads back to
+abbrev pub last_orders : ℕ → ℕ → ℕ → List Order
+last_orders size page last = if may_precede page last then orders_before size last page else []
+
+-- the orders of a new page: it comes before the header, which names it, and behind the last one so far, which
+-- it names; each with the page that has its bit
+abbrev pub tip_orders : ℕ → ℕ → ℕ → List Order
+tip_orders size page last = orders_before size page 0 ++ last_orders size page last
 
 -- A page was taken and made the transaction inventory page of a number, behind this one.
 pub record PutsTip {D L : Type 0} (m : Meaning D) (store : Pool D L) (old new : Changed)
@@ -94,7 +109,7 @@ pub record PutsTip {D L : Type 0} (m : Meaning D) (store : Pool D L) (old new : 
   pub put : Changed
   pub puts : PutsPage taken put page.page page.bytes
   pub pages : new.pages ≡ put.pages
-  pub orders : new.orders ≡ old.orders ++ tip_orders store.geometry.size page.page
+  pub orders : new.orders ≡ old.orders ++ tip_orders store.geometry.size page.page last_tip
 
 -- ---- the pages as viewed
 
@@ -112,7 +127,7 @@ pub data DrawsOn (g : Geometry) (t : ℕ) (old new : Pages) : Option TipPage →
         → page.bytes ≡ new_tip_page g.size page.page (t / places g.size) (header_of old).last_tip.0
         → new page.page ≡ page.bytes → RaisesHead g.size old new page.page
         → ((p : ℕ) → p ≢ 0 → p ≢ page.page → new p ≡ taken p)
-        → DrawsOn g t old new (Some page) (tip_orders g.size page.page)
+        → DrawsOn g t old new (Some page) (tip_orders g.size page.page (header_of old).last_tip.0)
 
 -- A number was drawn: pages were read, and then one batch was changed.
 pub record DrawsIn {D L : Type 0} (m : Meaning D) (old new : TxList) (before after : Pool D L)

@@ -12,7 +12,7 @@ use Rattle.mg_header.specs.HeaderPage.{reading, the_page}
 use Rattle.mg_header.specs.declared.header.HeadFault.{HeadFault}
 use Rattle.mg_header.specs.declared.header.HeadFault.TheVariants as head_faults
 use Rattle.mg_header.specs.declared.header.Header.{Header}
-use Rattle.mg_header.specs.declared.header.TheConstants.{GREATEST_MINOR, MAGIC, MAJOR}
+use Rattle.mg_header.specs.declared.header.TheConstants.{MAGIC, MAJOR, OPENED_MINOR}
 use Rattle.mg_image.specs.Form.{Pages}
 use Rattle.mg_image.specs.Inventory.{tip_before}
 use Rattle.mg_pool.specs.declared.pool.Pool.{Pool}
@@ -26,7 +26,7 @@ use Rattle.mg_tip.specs.TipPage.{places, tip_checks}
 abbrev pub wanted_in : ℕ → Field → ℕ
 wanted_in size Magic = MAGIC
 wanted_in size Major = MAJOR
-wanted_in size Minor = GREATEST_MINOR
+wanted_in size Minor = OPENED_MINOR
 wanted_in size field = size
 
 -- the damage of a header page that is not read: a file of another kind is damage, too

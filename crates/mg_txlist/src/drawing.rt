@@ -1,8 +1,11 @@
 //! A number is drawn: the header has a higher next one, and the first transaction of a transaction
 //! inventory page gets that page.
 
-ghost use Rattle.std.specs.Prelude.{◌≡◌, ◌≢◌, ◌<◌, ◌≤◌, ◌+◌, ◌/◌, ◌%◌, ◌↔◌, ◌++◌, ◌∷◌, [], Ok, ℕ, IfErr, IfOk, OnErr, OnOk};
+ghost use Rattle.std.specs.Prelude.{◌≡◌, ◌≢◌, ◌<◌, ◌≤◌, ◌+◌, ◌/◌, ◌%◌, ◌↔◌, ◌++◌, ◌∷◌, [], Ok, ℕ, IfErr, IfOk, OnErr, OnOk, true};
+ghost use Rattle.std.specs.Bool.{OnTrue};
+ghost use Rattle.mg_base.specs.Geometry.{is_page_size};
 ghost use Rattle.mg_base.specs.Image.{Image};
+ghost use Rattle.mg_base.specs.declared.geometry.TheConstants.{GREATEST_LIMIT as MOST_LIMIT};
 ghost use Rattle.mg_base.specs.declared.transaction.TxState.TheVariants.{Active as ActiveState};
 ghost use Rattle.mg_header.specs.HeaderPage.{reading, the_page};
 ghost use Rattle.mg_header.specs.declared.header.TheConstants.{GREATEST_NEXT as MOST_NEXT};
@@ -11,13 +14,13 @@ ghost use Rattle.mg_pool.specs.Fault.{TellsFault};
 ghost use Rattle.mg_pool.specs.Pool.{IsPool, shown};
 ghost use Rattle.mg_space.specs.Taking.{IsGeometry, RefusesTake};
 ghost use Rattle.mg_space.specs.View.{AreWhole, KeepsStore, ReadsAlone, Tells, pool_answer, viewed};
-ghost use Rattle.mg_txlist.specs.Drawing.{AddsNumber, AddsPage, DrawsIn, DrawsOn, FailsDraw, IsTipFor, MayBeHeader, PutsHead, PutsTip, SaysSame, raised_header};
+ghost use Rattle.mg_txlist.specs.Drawing.{AddsNumber, AddsPage, DrawsIn, DrawsOn, FailsDraw, IsTipFor, MayBeHeader, PutsHead, PutsTip, SaysSame, last_orders, may_precede as may_precede_one, raised_header};
 ghost use Rattle.mg_txlist.specs.Refusals.{LacksHead, RefusesDraw};
 ghost use Rattle.mg_txlist.specs.TxList.{IsTxList, next_said};
 
 use crate::list::{TipPage, TxList};
 use crate::loading::read_head;
-use mg_base::{Bytes, Damaged, Disk, Field, PageNo, TxNo, TxState};
+use mg_base::{Bytes, Damaged, Disk, Field, GREATEST_LIMIT, Memory, PageNo, TxNo, TxState};
 use mg_careful::Order;
 use mg_header::{Header, write_header};
 use mg_pool::{Batch, PoolFault};
@@ -27,7 +30,7 @@ use mg_tip::new_tip;
 impl TxList {
     /// Draws the next number: its transaction is active then. One batch raises the next number of
     /// the header. For the first transaction of a transaction inventory page it takes that page, and
-    /// orders it and the page inventory page before the header.
+    /// orders it and the page inventory page before the header, and the last such page so far before it.
     ///
     /// The bits of a number that was not drawn are those of active or dead, which count alike, so
     /// they are left as they are.
@@ -201,7 +204,7 @@ fn put_head<D: Disk>(
 }
 
 /// Takes a page and makes it the transaction inventory page of a number, with the orders of it and
-/// its bit before the header.
+/// its bit before the header, and of the last page so far and its bit before it.
 fn put_tip<D: Disk>(
     store: &mut Store<D>,
     batch: &mut Batch,
@@ -233,10 +236,44 @@ fn put_tip<D: Disk>(
         first: inventory_page_of(size, at).0,
         later: 0,
     })?;
+    order_last(batch, size, at, last_tip)?;
     Ok(TipPage {
         page: at.0,
         bytes: Bytes::new(bytes),
     })
+}
+
+/// Orders the last page so far, and the page with its bit, before the new one, which leads back to it.
+///
+/// # Errors
+///
+/// For want of memory.
+fn order_last(batch: &mut Batch, size: u32, page: PageNo, last: PageNo) -> Result<(), Memory>
+    requires size { is_page_size size ≡ true }
+    ensures pages { batch.new.pages ≡ batch.old.pages }
+    ensures orders { OnOk result
+        (batch.new.orders ≡ batch.old.orders ++ last_orders size page.0 last.0) }
+{
+    if !may_precede(page, last) {
+        return Ok(());
+    }
+    batch.order(Order {
+        first: last.0,
+        later: page.0,
+    })?;
+    batch.order(Order {
+        first: inventory_page_of(size, last).0,
+        later: page.0,
+    })?;
+    Ok(())
+}
+
+/// Tells whether the page that a header names as its last one may come before a new one.
+fn may_precede(page: PageNo, last: PageNo) -> bool
+    ensures is { result ≡ may_precede_one page.0 last.0 }
+    ensures below { OnTrue result (last.0 < MOST_LIMIT) }
+{
+    last.0 != 0 && last.0 != page.0 && last.0 < GREATEST_LIMIT
 }
 
 /// Want of memory, as a fault of the cache.

@@ -17,7 +17,7 @@ ghost use Rattle.mg_txlist.specs.TxList.{IsTxList};
 
 use crate::list::{TipPage, TxList};
 use mg_base::{Damaged, Disk, Field, PageNo};
-use mg_header::{GREATEST_MINOR, HeadFault, Header, MAGIC, MAJOR, read_header};
+use mg_header::{HeadFault, Header, MAGIC, MAJOR, OPENED_MINOR, open_header};
 use mg_pool::Batch;
 use mg_space::{SpaceFault, Store, page_of, places_of};
 use mg_tip::{check_tip, prev_of};
@@ -81,7 +81,7 @@ pub(crate) fn read_head<D: Disk>(store: &mut Store<D>, batch: &Batch) -> Result<
 {
     let size = store.geometry().size;
     let page = page_of(store, batch, PageNo(0))?;
-    match read_header(page.as_slice(), size) {
+    match open_header(page.as_slice(), size) {
         Ok(header) => Ok(header),
         Err(HeadFault::Damaged(damage)) => Err(SpaceFault::Damaged(damage)),
         Err(HeadFault::NotADatabase { field, found }) => Err(SpaceFault::Damaged(Damaged {
@@ -100,7 +100,7 @@ fn wanted_of(field: Field, size: u32) -> u64
     match field {
         Field::Magic => u64::from(MAGIC),
         Field::Major => u64::from(MAJOR),
-        Field::Minor => u64::from(GREATEST_MINOR),
+        Field::Minor => u64::from(OPENED_MINOR),
         _ => u64::from(size),
     }
 }

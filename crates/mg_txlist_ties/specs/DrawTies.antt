@@ -37,7 +37,7 @@ use Rattle.mg_page_overlays.specs.DrawPage.{DrawsPage, draw_page_every}
 use Rattle.mg_page_overlays.specs.TakePart.{OccupiesPage}
 use Rattle.mg_tip.specs.TipPage.{new_tip_page, places, prev_in, state_in, tip_checks}
 use Rattle.mg_tip.specs.TipPageLaws.{length-new_tip_page, new_page_active, new_page_passes, new_page_prev}
-use Rattle.mg_txlist.specs.Drawing.{AddsNumber, AddsPage, DrawsIn, DrawsOn, RaisesHead, on_last, on_new, raised_header, tip_orders}
+use Rattle.mg_txlist.specs.Drawing.{AddsNumber, AddsPage, DrawsIn, DrawsOn, RaisesHead, last_orders, on_last, on_new, raised_header, tip_orders}
 use Rattle.mg_txlist.specs.TxList.{IsTxList, next_said}
 use Rattle.mg_txlist.specs.declared.list.TipPage.{TipPage}
 use Rattle.mg_txlist.specs.declared.list.TxList.{TxList}
@@ -241,15 +241,15 @@ bits_on : (size : ℕ) (pool taken : Pages) (page : ℕ)
 unfolding is_used
 bits_on size pool taken page same used = ap (λ (b : List ℕ). used_in b (page % bits size)) same ∙ used
 
-lists_first : (page at : ℕ) → lists (record { first = page; later = 0 }
-    ∷ record { first = at; later = 0 } ∷ []) page 0 ≡ true
-lists_first page at = rw (eq-eqb page page refl) refl
+lists_first : (page at : ℕ) (more : List Order) → lists (record { first = page; later = 0 }
+    ∷ record { first = at; later = 0 } ∷ more) page 0 ≡ true
+lists_first page at more = rw (eq-eqb page page refl) refl
 
-lists_second : (page at : ℕ) → lists (record { first = page; later = 0 }
-    ∷ record { first = at; later = 0 } ∷ []) at 0 ≡ true
-lists_second page at = by (page == at)
+lists_second : (page at : ℕ) (more : List Order) → lists (record { first = page; later = 0 }
+    ∷ record { first = at; later = 0 } ∷ more) at 0 ≡ true
+lists_second page at more = by (page == at)
   where
-    by : (b : Bool) → ((b && true) || (((at == at) && true) || false)) ≡ true
+    by : (b : Bool) → ((b && true) || (((at == at) && true) || lists more at 0)) ≡ true
     by true = refl
     by false = rw (eq-eqb at at refl) refl
 
@@ -312,9 +312,9 @@ module _ (form : Form) (none : HasNoSequences form) {D L : Type 0} (m : Meaning 
       (subst (λ (pages : Pages). DrawsPage size (with_header view pool) pages made.page) (sym it.pool) draws)
       (record {
         bits = ordered (inventory_page size (region_of size made.page)) (lists_second made.page
-            (inventory_page size (region_of size made.page)));
+            (inventory_page size (region_of size made.page)) behind);
         page_first = ordered made.page (lists_first made.page
-            (inventory_page size (region_of size made.page)));
+            (inventory_page size (region_of size made.page)) behind);
         bits_in = has_bits;
       }) (oldest_stays made.page raises) every
     where
@@ -353,7 +353,12 @@ module _ (form : Form) (none : HasNoSequences form) {D L : Type 0} (m : Meaning 
           (header_of pool).last_tip.0 (next_said old / places size) takes made_there takes.free.no_header
           others start.sound.header.whole raises more seq_is refl small_seq small_last
 
-      ordered : (a : ℕ) → lists (tip_orders size made.page) a 0 ≡ true → lists batch.orders a 0 ≡ true
+      -- those of the page before it
+      behind : List Order
+      behind = last_orders size made.page (header_of pool).last_tip.0
+
+      ordered : (a : ℕ) → lists (tip_orders size made.page (header_of pool).last_tip.0) a 0 ≡ true
+          → lists batch.orders a 0 ≡ true
       ordered a is = subst (λ (os : List Order). lists os a 0 ≡ true) (sym orders_are) is
 
       -- the inventory page has another content, so the batch has it

@@ -1,7 +1,7 @@
 //! Header pages, byte by byte.
 
 use mg_base::{Damaged, Field, PageNo, TxNo, new_common};
-use mg_header::{HEADER_KIND, HeadFault, Header, read_header, write_header};
+use mg_header::{HEADER_KIND, HeadFault, Header, open_header, read_header, write_header};
 use std::test::*;
 
 /// The fields of a new database with pages of 4,096 bytes.
@@ -35,13 +35,18 @@ fn a_new_header_has_the_bytes_of_the_format(rt: HostRuntime) {
 }
 
 #[test]
-fn the_second_minor_version_is_read(rt: HostRuntime) {
+fn the_second_minor_version_is_read_and_not_opened(rt: HostRuntime) {
     let mut page = [0u8; 1024];
     new_common(&mut page, PageNo(0), HEADER_KIND, 0, 0);
     let mut second = header(900, 17, 40, 30);
     second.minor = 1;
     write_header(&mut page, &second);
     assert_eq!(rt; read_header(&page, 1024), Ok(second));
+    let fault = HeadFault::NotADatabase {
+        field: Field::Minor,
+        found: 1,
+    };
+    assert_eq!(rt; open_header(&page, 1024), Err(fault));
 }
 
 #[test]

@@ -1,10 +1,11 @@
-use Rattle.std.proofs.Common.{◌≡◌, ◌∙◌, ◌/◌, List, ap, arith, drop, length, subst, sym, ℕ}
+use Rattle.std.proofs.Common.{◌≡◌, ◌∙◌, ◌/◌, ◌++◌, List, ap, arith, drop, length, subst, sym, ℕ}
 use Rattle.mg_base.specs.declared.geometry.Geometry.{Geometry}
 use Rattle.mg_image.specs.Inventory.{inventory_page}
 use Rattle.mg_pool.specs.Batch.{PutsPage}
 use Rattle.mg_space.specs.Taking.{region_of}
 use Rattle.mg_tip.specs.TipPage.{places}
 use Rattle.mg_tip.specs.TipPageLaws.{length-new_tip_page}
+use Rattle.mg_txlist.specs.Drawing.{last_orders}
 use Rattle.mg_txlist.proofs.DrawLemmas.{orders_made, tip_made, written_back}
 use Rattle.mg_txlist.proofs.drawing.put_tip.Goals as goal
 
@@ -35,12 +36,15 @@ returns-clause-puts g c =
       put = c.put.new.self;
       puts = subst (λ (b : List ℕ). PutsPage c.take_page.new.batch c.put.new.self c.in_ok-at.at.0 b)
           (given ∙ sym kept) c.in_ok-put.ensures.puts;
-      pages = c.in_ok-order-2.ensures.pages ∙ c.in_ok-order.ensures.pages;
+      pages = c.in_ok-order_last.ensures.pages ∙ (c.in_ok-order-2.ensures.pages ∙ c.in_ok-order.ensures.pages);
       orders = orders_made c.args.store.now.geometry.size c.in_ok-at.at.0
-          c.inventory_page_of.result.0 c.args.batch.now.orders c.take_page.new.batch.orders
-          c.put.new.self.orders c.order.new.self.orders c.order-2.new.self.orders
+          c.inventory_page_of.result.0 c.args.last_tip.0 c.args.batch.now.orders
+          c.take_page.new.batch.orders c.put.new.self.orders c.order.new.self.orders
+          c.order-2.new.self.orders c.order_last.new.batch.orders
           c.in_ok-at.ensures.puts.puts.same_orders c.in_ok-put.ensures.puts.same_orders
           c.in_ok-order.ensures.orders c.in_ok-order-2.ensures.orders
           (c.inventory_page_of.ensures
-          ∙ ap (λ (n : ℕ). inventory_page n (region_of n c.in_ok-at.at.0)) size);
+          ∙ ap (λ (n : ℕ). inventory_page n (region_of n c.in_ok-at.at.0)) size)
+          (c.in_ok-order_last.ensures.orders
+          ∙ ap (λ (n : ℕ). c.order-2.new.self.orders ++ last_orders n c.in_ok-at.at.0 c.args.last_tip.0) size);
     }

@@ -1,7 +1,7 @@
 use Rattle.std.proofs.Common.{subst}
 use Rattle.mg_engine.specs.Places.{places}
 use Rattle.mg_engine.proofs.MakingLemmas.{makes_apart, makes_as}
-use Rattle.mg_engine_makings.specs.Steps.{AreNamed}
+use Rattle.mg_engine_changes.specs.MakingSteps.{AreNamed}
 use Rattle.mg_engine.proofs.engine.Engine.create_table.Goals as goal
 
 pub invariant_of-self : goal.invariant_of-self

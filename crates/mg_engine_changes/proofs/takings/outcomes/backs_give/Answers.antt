@@ -1,0 +1,14 @@
+use Rattle.mg_engine_changes.specs.StepsLaws as laws
+use Rattle.mg_engine_changes.proofs.takings.outcomes.backs_give.Goals as goal
+
+pub returns-clause-marks : goal.returns-clause-marks
+returns-clause-marks g c = laws.marks_give g.D.Disk.meaning c.backs_are_known.ensures
+
+pub returns-clause-savepoints : goal.returns-clause-savepoints
+returns-clause-savepoints g c = laws.savepoints_give g.D.Disk.meaning c.backs_are_known.ensures
+
+pub returns-clause-short_marks : goal.returns-clause-short_marks
+returns-clause-short_marks g c = laws.short_marks_give g.D.Disk.meaning c.backs_are_known.ensures
+
+pub returns-clause-short_savepoints : goal.returns-clause-short_savepoints
+returns-clause-short_savepoints g c = laws.short_savepoints_give g.D.Disk.meaning c.backs_are_known.ensures

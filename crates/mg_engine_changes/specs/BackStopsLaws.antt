@@ -1,0 +1,144 @@
+-- Taking back stops after some keys.
+use Rattle.std.proofs.Common.{◌≡◌, sym, subst, ◌∙◌, ℕ, true, false, List, ◌∷◌, None, Some}
+use Rattle.mg_base.specs.Disk.{MayLeave, Meaning}
+use Rattle.mg_base.specs.Image.{Image}
+use Rattle.mg_base.specs.Moments.{joined, leaves_as}
+use Rattle.mg_engine_changes.specs.BackStops.{StopsAreGivenUp, StopsReading, WritesFailMidway}
+use Rattle.mg_engine_writes.specs.Again.{AreTaken, rolling}
+use Rattle.mg_engine_writes.specs.Midway.{IsMidway, MidwaysBegin}
+use Rattle.mg_engine_writes.specs.MidwayLaws.{holds_back}
+use Rattle.mg_engine_writes.specs.Shown.{ShowsFirst, ShowsMidway}
+use Rattle.mg_engine_steps.specs.PageWrites.{KeepAsking}
+use Rattle.mg_engine_changes.specs.GivenUp.{EnginesGiveUp, GivesUp}
+use Rattle.mg_engine_steps.specs.Batches.{ReadsLast}
+use Rattle.mg_engine_changes.specs.Backs.{BeginsBack, EndsOver}
+use Rattle.mg_engine_changes.specs.TakingStepLaws.{read_midway}
+use Rattle.mg_engine_changes.specs.TakingSteps.{KeysGoOn, StandsMidway}
+use Rattle.mg_engine_changes.specs.ToTake.{SinceAreTaken, since_point}
+use Rattle.mg_grown_catalogs.specs.Grown.{CatalogGrows}
+use Rattle.mg_image.specs.Form.{packed_form}
+use Rattle.mg_lasting.specs.Changing.{QuietHolds}
+use Rattle.mg_lasting.specs.CrashStatements.{PoolLeaves}
+use Rattle.mg_lasting.specs.Crashes.{HoldsAcknowledged, LeavesSince, may_last}
+use Rattle.mg_lasting.specs.Lasting.{LastsOn, LeftOn}
+use Rattle.mg_model.specs.History.{Entries, Entry}
+use Rattle.mg_model.specs.Laws.{OpeningsBegin}
+use Rattle.mg_model.specs.Legal.{IsLawful, is_durable}
+use Rattle.mg_model.specs.Machine.{deeds_by, steps}
+use Rattle.mg_model.specs.declared.change.Change.{Change}
+use Rattle.mg_model.specs.declared.change.Point.{Point}
+use Rattle.mg_model.specs.declared.opening.Opening.{Opening}
+use Rattle.mg_pool.specs.Pool.{LeavesOverlays, shown}
+use Rattle.mg_pool.specs.declared.pool.Pool.{Pool}
+use Rattle.mg_pool_overlays.specs.Needs.{Asked, Sessions}
+use Rattle.mg_engine_steps.specs.Following.{FollowsEntry, StandsOn}
+use Rattle.mg_engine_steps.specs.Standing.{Standing, Stands}
+
+module _ {D L : Type 0} (m : Meaning D) (since : SinceAreTaken) (begin : MidwaysBegin packed_form D L m)
+    (first_shows : ShowsFirst packed_form) (go_on : KeysGoOn D L m) (reads : ReadsLast D L m packed_form)
+    (openings : OpeningsBegin) (o : Opening) (h : Entries) (e : Entry) (point : Point) (t : ℕ) (s : Standing)
+    (start stopped : Pool D L) (k j : Image) (asked : Asked) (session : Sessions)
+    (begins : BeginsBack m o h e point t s start k asked session)
+    (stops : StopsReading m o h e point t s start stopped k j asked session begins)
+    (ends : EndsOver m start stopped j) where
+  abbrev whole : List Change
+  whole = since_point point (deeds_by t (steps o h))
+
+  taken : AreTaken o h e t (since_point point (deeds_by t (steps o h)))
+  taken = since o h e t point begins.goes.back
+
+  at_stop : StandsMidway m start.geometry.size o h e t whole stops.rest s start stops.at (shown start.dirty k)
+      begins.stands.shows j asked session
+  at_stop = go_on start.geometry.size o h e point s start start stops.at (shown start.dirty k) begins.stands.shows k j
+      asked session t whole whole stops.rest stops.keys (openings o begins.stands.opening) begins.stands.legal
+      begins.stands.memory begins.goes stops.takes (record {
+        cache = begin o h e point s start k asked session t (since_point point (deeds_by t (steps o h))) begins.stands
+            begins.lasts begins.pool begins.held begins.tells begins.goes taken;
+        pages = first_shows start.geometry.size o h e t (since_point point (deeds_by t (steps o h))) s
+            (shown start.dirty k) begins.stands.shows;
+      })
+
+  pub midway : StandsMidway m start.geometry.size o h e t whole stops.rest s start stopped (shown start.dirty k)
+      begins.stands.shows j asked session
+  midway = read_midway m reads start.geometry.size o h e point s start stops.at stopped (shown start.dirty k)
+      begins.stands.shows j asked session t whole stops.rest (openings o begins.stands.opening) begins.stands.legal
+      begins.goes stops.keeps stops.tells (stops.ends.pool.page_size ∙ stops.ends.size) at_stop
+
+  module _ (give_up : EnginesGiveUp D L m) (refused : Entry) (mid new : Standing) (now_asked : Asked)
+      (now_session : Sessions) (grows : CatalogGrows o h) (lawful : IsLawful o h refused)
+      (ends_lawful : IsLawful o (refused ∷ h) (rolling t)) (passing : is_durable refused ≡ false)
+      (no_failure : may_last refused ≡ false) (gives : GivesUp o h refused (rolling t) t s mid new)
+      (keep_asking : KeepAsking o (rolling t ∷ refused ∷ h) asked now_asked session now_session) where
+    pub given_up : Stands packed_form start.geometry.size o (rolling t ∷ refused ∷ h) new
+        (Some (shown stopped.dirty j))
+        × LastsOn m packed_form o (rolling t ∷ refused ∷ h) stopped now_asked now_session
+        × LeavesSince m start.disk stopped.disk (HoldsAcknowledged packed_form start.geometry.size o h)
+    given_up = subst (λ (n : ℕ). (stands : Stands packed_form n o h s (Some (shown start.dirty k)))
+        → IsMidway m packed_form n o h e t stops.rest s start stopped j asked session
+        → ShowsMidway packed_form n o h e t whole stops.rest s (shown start.dirty k) stands.shows
+        (shown stopped.dirty j)
+        → Stands packed_form n o (rolling t ∷ refused ∷ h) new (Some (shown stopped.dirty j))
+        × LastsOn m packed_form o (rolling t ∷ refused ∷ h) stopped now_asked now_session
+        × LeavesSince m start.disk stopped.disk (HoldsAcknowledged packed_form n o h)) ends.size
+        (λ stands cache pages. give_up o h e refused t whole stops.rest s mid new start stopped k j asked now_asked
+        session now_session stands ends.pool ends.held grows taken lawful ends_lawful passing no_failure gives
+        keep_asking cache pages)
+        begins.stands midway.cache midway.pages
+
+  -- ---- a page write failed
+
+  module _ (leaves : PoolLeaves D L m packed_form) (quiet : QuietHolds packed_form) (on : StandsOn packed_form)
+      (refused : Entry) (new : Standing) (after : Pool D L) (lawful : IsLawful o h refused)
+      (passing : is_durable refused ≡ false) (no_failure : may_last refused ≡ false)
+      (follows : FollowsEntry o h refused s new) (told : m.tells stopped.disk ≡ true)
+      (crash : LeavesOverlays m stopped after) (tells : m.tells after.disk ≡ true)
+      (size_is : after.dirty.size ≡ stopped.dirty.size) where
+    page_size : stopped.dirty.size ≡ start.geometry.size
+    page_size = ends.pool.page_size ∙ ends.size
+
+    as_was : (c : Image) → HoldsAcknowledged packed_form stopped.dirty.size o (rolling t ∷ h) c
+        → HoldsAcknowledged packed_form start.geometry.size o h c
+    as_was c holds = subst (λ (n : ℕ). HoldsAcknowledged packed_form n o h c) page_size
+        (holds_back packed_form stopped.dirty.size o h t c holds)
+
+    since_stop : LeavesSince m stopped.disk after.disk
+        (HoldsAcknowledged packed_form stopped.dirty.size o (rolling t ∷ h))
+    since_stop = leaves o (rolling t ∷ h) stopped after asked session (openings o begins.stands.opening)
+        (begins.goes.ends, begins.stands.legal) told tells midway.cache.lasts crash
+
+    left_now : (c : Image) → MayLeave m after.disk c → HoldsAcknowledged packed_form start.geometry.size o h c
+    left_now c may = as_was c (since_stop.left c may)
+
+    pub fails : Stands packed_form start.geometry.size o (refused ∷ h) new None
+        × LeftOn m packed_form o (refused ∷ h) after
+        × LeavesSince m start.disk after.disk (HoldsAcknowledged packed_form start.geometry.size o h)
+    fails = (
+      on start.geometry.size o h refused s new (Some (shown start.dirty k)) None begins.stands lawful follows tt,
+      λ c may. subst (λ (n : ℕ). HoldsAcknowledged packed_form n o (refused ∷ h) c) (sym (size_is ∙ page_size))
+          (quiet start.geometry.size o h refused c passing no_failure (left_now c may)),
+      record {
+        since = joined m start.disk stopped.disk after.disk (HoldsAcknowledged packed_form start.geometry.size o h)
+            midway.cache.leaves.since
+            (leaves_as m stopped.disk after.disk
+            (HoldsAcknowledged packed_form stopped.dirty.size o (rolling t ∷ h))
+            (HoldsAcknowledged packed_form start.geometry.size o h) as_was since_stop.since);
+        left = left_now;
+      },
+    )
+
+pub stops_are_given_up : (D L : Type 0) (m : Meaning D) → SinceAreTaken → MidwaysBegin packed_form D L m
+    → ShowsFirst packed_form → KeysGoOn D L m → ReadsLast D L m packed_form → OpeningsBegin → EnginesGiveUp D L m
+    → StopsAreGivenUp D L m
+stops_are_given_up D L m since begin first_shows go_on reads openings give_up o h e refused point t s mid new start
+    stopped k j asked now_asked session now_session begins grows lawful ends_lawful passing no_failure gives keep_asking
+    stops ends = given_up m since begin first_shows go_on reads openings o h e point t s start stopped k j asked session
+    begins stops ends give_up refused mid new now_asked now_session grows lawful ends_lawful passing no_failure gives
+    keep_asking
+
+pub writes_fail_midway : (D L : Type 0) (m : Meaning D) → SinceAreTaken → MidwaysBegin packed_form D L m
+    → ShowsFirst packed_form → KeysGoOn D L m → ReadsLast D L m packed_form → OpeningsBegin
+    → PoolLeaves D L m packed_form → QuietHolds packed_form → StandsOn packed_form → WritesFailMidway D L m
+writes_fail_midway D L m since begin first_shows go_on reads openings leaves quiet on o h e refused point t s new start
+    stopped after k j asked session begins lawful passing no_failure follows stops ends told crash tells size_is =
+    fails m since begin first_shows go_on reads openings o h e point t s start stopped k j asked session begins stops
+    ends leaves quiet on refused new after lawful passing no_failure follows told crash tells size_is

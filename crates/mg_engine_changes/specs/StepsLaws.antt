@@ -1,0 +1,310 @@
+-- Each outcome of the core's calls gives what a keeper of records owes.
+use Rattle.std.proofs.Common.{◌≡◌, ◌⊎◌, ◌∙◌, ◌∷◌, ◌&&◌, ◌||◌, ◌==◌, [], ℕ, Bool, Err, List, None, Ok, Option, Some, ap, arith, false, inl, inr, refl, subst, sym, true}
+use Rattle.std.proofs.lemmas.Bool.{false≢true}
+use Rattle.std.specs.Prelude.{if◌then◌else◌, is_some}
+use Rattle.mg_base.specs.Disk.{Meaning}
+use Rattle.mg_base.specs.declared.numbers.TxNo.{TxNo}
+use Rattle.mg_base.specs.declared.transaction.TxState.TheVariants.{Active}
+use Rattle.mg_core.specs.Cores.{IsCore}
+use Rattle.mg_core.specs.Events.{IsRefused, RollsBack}
+use Rattle.mg_core.specs.Refusing.{IsRefusal}
+use Rattle.mg_core.specs.declared.parts.Core.{Core}
+use Rattle.mg_engine_changes.specs.CatalogLaws.{leaves_the_catalog}
+use Rattle.mg_engine_changes.specs.Chains.{keys_taken}
+use Rattle.mg_engine_changes.specs.FailedLaws.{failed_gives}
+use Rattle.mg_engine_changes.specs.StoppedLaws.{given_up_gives}
+use Rattle.mg_engine_changes.specs.Known.{KnownOfBacks}
+use Rattle.mg_engine_changes.specs.ShortLaws.{refused_given, rolled_short, short_given}
+use Rattle.mg_engine_changes.specs.Outcomes.{IsBack, IsGivenUp, IsRolledShort, LeavesTheCatalog, MarksGive, SavepointsGive, ShortMarksGive, ShortSavepointsGive, back_event}
+use Rattle.mg_engine_changes.specs.Stopped.{stopped_is, stopping, taken}
+use Rattle.mg_engine_changes.specs.Stopping.{StopsAs}
+use Rattle.mg_engine_changes.specs.UndoneLaws.{taken_back_gives}
+use Rattle.mg_engine_calls.specs.StillLaws.{still_quiet}
+use Rattle.mg_engine_meaning.specs.FrameLaws.{commits_of, keeps_of, sessions_of, store_stands, tables_of, works_same}
+use Rattle.mg_engine_meaning.specs.Frames.{GivesEvent}
+use Rattle.mg_engine_meaning.specs.LawfulLaws.{memory_of}
+use Rattle.mg_engine_meaning.specs.Meaning.{Places}
+use Rattle.mg_engine_meaning.specs.Standings.{StandsFor, undo_kept}
+use Rattle.mg_engine_changes.specs.Stages.{FailsReady, TellsOf}
+use Rattle.mg_engine_changes.specs.Notes.{AreCounts}
+use Rattle.mg_model.specs.Effects.{has_deed}
+use Rattle.mg_model.specs.History.{Entries}
+use Rattle.mg_model.specs.Machine.{deeds_by, has_point as has_point_in, is_point, state_of, steps}
+use Rattle.mg_model.specs.declared.answer.Answer.TheVariants.{Fine}
+use Rattle.mg_model.specs.declared.change.Point.{Point}
+use Rattle.mg_model.specs.declared.change.Point.TheVariants.{LastMark, SavepointNamed}
+use Rattle.mg_model.specs.declared.change.Step.{Step}
+use Rattle.mg_model.specs.declared.opening.Opening.{Opening}
+use Rattle.mg_model.specs.declared.refusal.Refusal.{Refusal}
+use Rattle.mg_model.specs.declared.refusal.Refusal.TheVariants.{Memory}
+use Rattle.mg_pool.specs.Pool.{IsPool}
+use Rattle.mg_pool.specs.declared.pool.Pool.{Pool}
+use Rattle.mg_records.specs.TakingBack.{is_given_up}
+use Rattle.mg_space.specs.View.{KeepsStore}
+use Rattle.mg_space.specs.declared.fault.SpaceFault.{SpaceFault}
+use Rattle.mg_space.specs.declared.links.FireLinks.{FireLinks}
+use Rattle.mg_taking_back.specs.Tables.{TellsTables}
+use Rattle.mg_taking_back.specs.Taking.{FailsBackTo, FailsFrom, GivesUpBy, GivesUpIf, HasBegun, IsRolledBack, MayReach, TakesBackTo, back_not_begun, back_not_copied, back_stopped, not_asking, works_back}
+use Rattle.mg_txlist.specs.TxList.{said}
+use Rattle.mg_undo.specs.Machine.{going_to}
+use Rattle.mg_undo.specs.Undo.{State as Undo, has_point}
+use Rattle.mg_works.specs.Works.{AreApart, IsWork, Working, has_savepoint, unasked, with_undo, with_work, without_tables, work_of}
+use Rattle.mg_works.specs.WorksLaws.{with_apart, without_apart}
+use Rattle.mg_pool.specs.declared.fault.PoolFault.TheVariants as pool_faults
+use Rattle.mg_space.specs.declared.fault.SpaceFault.TheVariants as faults
+
+-- ---- each session has one active transaction at most
+
+its_work : (w : Working) → IsWork w → IsWork (unasked w)
+its_work w is = record { session_below = is.session_below; lawful = is.lawful; written_lawful = is.written_lawful }
+
+undone_apart : (t : ℕ) (end : Undo) (works : List Working) → AreApart works
+    → AreApart (works_back t end (with_work t unasked works))
+undone_apart t end works apart = with_apart t without_tables (λ w. refl) (λ w. refl)
+    (λ w is. record { session_below = is.session_below; lawful = tt; written_lawful = is.written_lawful })
+    (with_work t (with_undo end) (with_work t unasked works))
+    (with_apart t (with_undo end) (λ w. refl) (λ w. refl)
+    (λ w is. record { session_below = is.session_below; lawful = is.lawful; written_lawful = is.written_lawful })
+    (with_work t unasked works) (with_apart t unasked (λ w. refl) (λ w. refl) its_work works apart))
+
+-- ---- which way a change was not taken back
+
+-- where pages were read, and the cache was and is online, the transaction is given up
+given_up_by : {D : Type 0} (m : Meaning D) (before after : Pool D FireLinks) (fault : SpaceFault) (refusal : Refusal)
+    → before.offline ≡ None → after.offline ≡ None → IsRefusal fault refusal → TellsOf m before after fault
+    → is_given_up refusal ≡ true
+given_up_by m before after (faults.Full limit) refusal up also is told = ap is_given_up is
+given_up_by m before after (faults.Damaged it) refusal up also is told = ap is_given_up is
+given_up_by m before after (faults.Pool (pool_faults.Absent pages)) refusal up also is told = ap is_given_up is
+given_up_by m before after (faults.Pool (pool_faults.DiskRead n)) refusal up also is told = ap is_given_up is
+given_up_by m before after (faults.Pool (pool_faults.DiskWrite n)) refusal up also is told =
+    let both : None ≡ Some n = sym also ∙ told.0 in absurd cc
+given_up_by m before after (faults.Pool (pool_faults.Offline n)) refusal up also is told =
+    let both : None ≡ Some n = sym up ∙ told in absurd cc
+given_up_by m before after (faults.Pool pool_faults.Memory) refusal up also is told = ap is_given_up is
+
+-- ---- a call that fails
+
+-- what it leaves, and that sessions are apart
+pub record GivenUpApart {D P : Type 0} (m : Meaning D) (places : Places P) (old new : Core D) (t : TxNo) (point : Point)
+    (refusal : Refusal) : Type 0 where
+  pub gives : IsGivenUp m places old new t (back_event t point) refusal
+  pub apart : AreApart new.works
+
+module _ {D P : Type 0} (m : Meaning D) (places : Places P) (known : KnownOfBacks D P m) (old new : Core D) (t : TxNo)
+    (core : IsCore m old) (apart : AreApart old.works) where
+  -- the event is refused
+  not_begun : (point : Point) (refusal : Refusal) → IsRefused old new t.0 refusal
+      → GivenUpApart m places old new t point refusal
+  not_begun point refusal refused = record {
+    gives = refused_given m places known old new t point refusal refused;
+    apart = subst AreApart (sym (ap (λ (c : Core D). c.works) refused.wait.same)) apart;
+  }
+
+  -- memory is wanting
+  short : (point : Point) → RollsBack old new t.0 → GivenUpApart m places old new t point Memory
+  short point rolls = record {
+    gives = short_given m places known old new t point core apart rolls;
+    apart = subst AreApart (sym (ap (λ (c : Core D). c.works) rolls.same)) (without_apart old.works t.0 apart);
+  }
+
+  pub rolled_given : (point : Point) (refusal : Refusal) → IsRolledShort old new t.0 refusal
+      → GivenUpApart m places old new t point refusal
+  rolled_given point refusal (inl (rolls, is)) =
+      subst (λ (r : Refusal). GivenUpApart m places old new t point r) (sym is) (short point rolls)
+  rolled_given point refusal (inr refused) = not_begun point refusal refused
+
+  -- a change is not taken back
+  module _ (counted : AreCounts old) (point : Point) (refusal : Refusal) (none : TellsTables old t.0 point false) where
+    module _ (begun : Core D) (undo : Undo) (has_begun : HasBegun old begun t.0 undo) (reaches : MayReach undo point)
+        (fails : FailsFrom m begun new t.0 (going_to undo point) refusal) where
+      abbrev leaves : LeavesTheCatalog m old t.0 point
+      leaves = leaves_the_catalog m known old begun t point undo has_begun reaches none
+
+      abbrev stops : StopsAs m fails.stops.at fails.stopped refusal
+      stops = stopping m places known old begun fails.stopped t point undo refusal core leaves has_begun reaches
+          fails.stops
+
+      up : fails.stops.at.store.offline ≡ None
+      up = (taken m places known old begun fails.stopped t point undo refusal core leaves has_begun reaches
+          fails.stops).on.online
+
+      stopped_apart : AreApart fails.stopped.works
+      stopped_apart = subst AreApart (sym (ap (λ (c : Core D). c.works) (stopped_is m places known old begun
+          fails.stopped t point undo refusal core leaves has_begun reaches fails.stops)))
+          (with_apart t.0 unasked (λ w. refl) (λ w. refl) its_work old.works apart)
+
+      gone : (keeps : KeepsStore m fails.stops.at.store fails.stopped.store) → is_given_up refusal ≡ true
+          → IsRolledBack fails.stopped new t.0 → GivenUpApart m places old new t point refusal
+      gone keeps is rolled = record {
+        gives = given_up_gives m places known old begun fails.stopped new t point undo refusal core counted apart leaves
+            has_begun reaches fails.stops rolled is keeps;
+        apart = subst AreApart (sym (ap (λ (c : Core D). c.works) rolled.same))
+            (without_apart fails.stopped.works t.0 stopped_apart);
+      }
+
+      still : FailsReady m fails.stops.at.store fails.stopped.store stops.fault → new ≡ fails.stopped
+          → GivenUpApart m places old new t point refusal
+      still ready same = subst (λ (c : Core D). GivenUpApart m places old c t point refusal) (sym same) (record {
+        gives = failed_gives m places known old begun fails.stopped t point undo refusal core counted leaves has_begun
+            reaches fails.stops ready;
+        apart = stopped_apart;
+      })
+
+      at : KeepsStore m fails.stops.at.store fails.stopped.store
+          ⊎ FailsReady m fails.stops.at.store fails.stopped.store stops.fault
+          → GivenUpApart m places old new t point refusal
+      at (inl keeps) =
+          let is : is_given_up refusal ≡ true =
+          given_up_by m fails.stops.at.store fails.stopped.store stops.fault refusal up (keeps.offline ∙ up) stops.is
+          stops.told in
+          gone keeps is (subst (λ (b : Bool). GivesUpIf b fails.stopped new t.0) is fails.gives_up)
+      at (inr ready) =
+          let is : is_given_up refusal ≡ false =
+          ap is_given_up (subst (λ (f : SpaceFault). IsRefusal f refusal) ready.is stops.is) in
+          still ready (subst (λ (b : Bool). GivesUpIf b fails.stopped new t.0) is fails.gives_up)
+
+      stopped_given : GivenUpApart m places old new t point refusal
+      stopped_given = at stops.left
+
+    pub not_taken : FailsBackTo m old new t.0 point refusal → GivenUpApart m places old new t point refusal
+    not_taken (back_not_begun refused) = not_begun point refusal refused
+    not_taken (back_not_copied begun continues ended is gives_up) =
+        subst (λ (r : Refusal). GivenUpApart m places old new t point r) (sym is) (short point
+        (rolled_short old begun new t.0 continues ended
+        (subst (λ (r : Refusal). GivesUpBy begun new t.0 r) is gives_up)))
+    not_taken (back_stopped begun undo has_begun reaches fails) = stopped_given begun undo has_begun reaches fails
+
+  -- ---- a call that succeeds
+
+  pub taken_apart : (point : Point) → TakesBackTo m old new t.0 point → AreApart new.works
+  taken_apart point takes = subst AreApart (sym (ap (λ (c : Core D). c.works) takes.takes.same
+      ∙ ap (λ (ws : List Working). works_back t.0 takes.takes.end ws) its_works))
+      (undone_apart t.0 takes.takes.end old.works apart)
+    where
+      its_works : takes.takes.taken.works ≡ with_work t.0 unasked old.works
+      its_works = ap (λ (c : Core D). c.works) (keys_taken m t.0 (not_asking t.0 takes.begun) takes.takes.taken
+          takes.takes.takes.given (ap (λ (c : Core D). c.store.offline) takes.has_begun.ended.same
+          ∙ takes.has_begun.continues.0)
+          (subst (λ (c : Core D). IsPool m c.store) (sym takes.has_begun.ended.same) core.pool)
+          takes.takes.takes.takes).same
+          ∙ ap (λ (c : Core D). with_work t.0 unasked c.works) takes.has_begun.ended.same
+
+  pub taken_gives : (point : Point) → TellsTables old t.0 point false → TakesBackTo m old new t.0 point
+      → GivesEvent m places old new (back_event t point) Fine None (Some t.0) (Some t.0) None None
+  taken_gives point none takes = taken_back_gives m places known old new t point core
+      (leaves_the_catalog m known old takes.begun t point takes.undo takes.has_begun takes.reaches none) takes
+
+-- ---- the laws
+
+pub marks_give : {D P : Type 0} (m : Meaning D) → KnownOfBacks D P m → MarksGive D P m
+marks_give m known places old new t (Ok x) core counted apart none takes =
+    let gives = taken_gives m places known old new t core apart LastMark none takes in record {
+      undoes = gives.adds;
+      leaves = gives.leaves;
+      crash = gives.crash;
+      sessions = gives.sessions;
+      apart = taken_apart m places known old new t core apart LastMark takes;
+    }
+marks_give m known places old new t (Err refusal) core counted apart none fails =
+    let both = not_taken m places known old new t core apart counted LastMark refusal none fails in record {
+      undoes = both.gives.gives_up;
+      leaves = both.gives.leaves;
+      crash = both.gives.crash;
+      sessions = both.gives.sessions;
+      apart = both.apart;
+    }
+
+pub short_marks_give : {D P : Type 0} (m : Meaning D) → KnownOfBacks D P m → ShortMarksGive D P m
+short_marks_give m known places old new t refusal core apart rolled =
+    let both = rolled_given m places known old new t core apart LastMark refusal rolled in record {
+      undoes = both.gives.gives_up;
+      leaves = both.gives.leaves;
+      crash = both.gives.crash;
+      sessions = both.gives.sessions;
+      apart = both.apart;
+    }
+
+-- whether the savepoint stands in the history
+point_deeds : (t : ℕ) (point : Point) (all : List Step) → has_deed point (deeds_by t all) ≡ has_point_in t point all
+point_deeds t point [] = refl
+point_deeds t point (s ∷ all) = at (s.by.0 == t) (point_deeds t point all)
+  where
+    at : (b : Bool) → has_deed point (deeds_by t all) ≡ has_point_in t point all
+        → has_deed point (if b then s.deed ∷ deeds_by t all else deeds_by t all)
+        ≡ ((b && is_point point s.deed) || has_point_in t point all)
+    at true more = ap (λ (c : Bool). is_point point s.deed || c) more
+    at false more = more
+
+module _ {D P : Type 0} (m : Meaning D) (known : KnownOfBacks D P m) (old : Core D) (t : TxNo) (name : List ℕ)
+    (active : said old.list t.0 ≡ Active) (o : Opening) (h : Entries) (stands : StandsFor m old o h) where
+  its_state : state_of o h t.0 ≡ Active
+  its_state = sym ((memory_of m old o h stands).state t.0) ∙ active
+
+  work_there : (work : Working) → work_of old.works t.0 ≡ Some work
+      → has_savepoint (work_of old.works t.0) name ≡ has_point_in t.0 (SavepointNamed name) (steps o h)
+  work_there work is = ap (λ (w : Option Working). has_savepoint w name) is
+      ∙ (ap (λ (u : Undo). has_point u (Some name)) (sym (ap undo_kept is)
+      ∙ ((memory_of m old o h stands).active t.0 its_state).undo)
+      ∙ (known.notes.found (stands.numbers t.0) name (deeds_by t.0 (steps o h))
+      ∙ point_deeds t.0 (SavepointNamed name) (steps o h)))
+
+  pub point_there : IsCore m old
+      → has_savepoint (work_of old.works t.0) name ≡ has_point_in t.0 (SavepointNamed name) (steps o h)
+  point_there core = at (work_of old.works t.0) refl
+    where
+      at : (found : Option Working) → work_of old.works t.0 ≡ found
+          → has_savepoint (work_of old.works t.0) name ≡ has_point_in t.0 (SavepointNamed name) (steps o h)
+      at None is = absurd (false≢true (sym (ap is_some is) ∙ core.active.has_work t.0 active))
+      at (Some work) is = work_there work is
+
+pub savepoints_give : {D P : Type 0} (m : Meaning D) → KnownOfBacks D P m → SavepointsGive D P m
+savepoints_give m known places old new t name (Ok true) core counted apart none (there, takes) =
+    let gives = taken_gives m places known old new t core apart (SavepointNamed name) none takes in record {
+      goes = λ o h stands. let adds = gives.adds o h stands in (
+        sym (point_there m known old t name takes.has_begun.continues.1 o h stands core) ∙ there,
+        adds.0,
+        adds.1,
+      );
+      leaves = gives.leaves;
+      crash = gives.crash;
+      sessions = gives.sessions;
+      apart = taken_apart m places known old new t core apart (SavepointNamed name) takes;
+    }
+savepoints_give {D} {P} m known places old new t name (Ok false) core counted apart none (gone, continues, same) =
+    subst (λ (c : Core D). IsBack m places old c t name (Ok false)) (sym same) (record {
+      goes = λ o h stands. (
+        sym ((memory_of m old o h stands).state t.0) ∙ continues.1,
+        sym (point_there m known old t name continues.1 o h stands core) ∙ gone,
+        stands,
+      );
+      leaves = record {
+        keeps = keeps_of m places old old None (store_stands m old.store) (omega arith) (omega arith)
+            (record { cause = tt; offline = rw continues.0 tt; down = refl });
+        tables_stay = tables_of m places old old (Some t.0) (λ u its not_. refl);
+        walks_stay = λ u table after rows not_ comes. comes;
+        commits = commits_of m places old old (Some t.0) (λ u not_. refl) (λ u not_. refl)
+            (λ u page not_ was none. none);
+      };
+      crash = still_quiet m places old;
+      sessions = sessions_of m places old old t.0 (works_same old.works t.0);
+      apart = apart;
+    })
+savepoints_give m known places old new t name (Err refusal) core counted apart none fails =
+    let both = not_taken m places known old new t core apart counted (SavepointNamed name) refusal none fails in record {
+      goes = both.gives.gives_up;
+      leaves = both.gives.leaves;
+      crash = both.gives.crash;
+      sessions = both.gives.sessions;
+      apart = both.apart;
+    }
+
+pub short_savepoints_give : {D P : Type 0} (m : Meaning D) → KnownOfBacks D P m → ShortSavepointsGive D P m
+short_savepoints_give m known places old new t name refusal core apart rolled =
+    let both = rolled_given m places known old new t core apart (SavepointNamed name) refusal rolled in record {
+      goes = both.gives.gives_up;
+      leaves = both.gives.leaves;
+      crash = both.gives.crash;
+      sessions = both.gives.sessions;
+      apart = both.apart;
+    }

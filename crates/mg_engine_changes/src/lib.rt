@@ -1,0 +1,37 @@
+//! Calls of an engine that change tables, as laws: from what the core says of a call to what a keeper of records owes.
+//!
+//! Owns:
+//!
+//! - `row_writes`: a row is written.
+//! - `makings`: a transaction makes a table.
+//! - `takings`: a transaction takes back what it has changed since a mark or a savepoint.
+//!
+//! There is no program here: each function does nothing, and its contract is a law.
+//!
+//! Invariant: none, it keeps no state.
+//! Below: `mg_taking_back` and `mg_table_making`, the calls; `mg_engine_writes`, what one write or one key taken back makes
+//! of the pages; `mg_engine_meaning` and `mg_engine_calls`. Above: the engine.
+#![tactic(auto)]
+
+mod makings;
+mod row_writes;
+mod takings;
+
+pub use makings::{
+    creations_are_refused, creations_keep_apart, growths_stay, joined_tables_stand,
+    left_pages_are_there, made_rows_are_remembered, made_rows_follow, made_tables_are_seen,
+    made_tables_keep, new_rows_say_a_table, new_tables_are_read, tables_are_made,
+};
+pub use row_writes::{
+    befores_are_told, first_batches_stay, made_rows_give, made_writes_follow, new_rows_go_on,
+    not_laid_give, noted_tables_are_quiet, noted_writes_give, noted_writes_keep_apart,
+    over_dead_rows_go_on, refusals_go_on, row_walks_go_on, rows_go_on, seen_may_be_written,
+    stored_rows_are_coded, ways_are_free, writes_keep_plain, writes_keep_tips,
+};
+pub use takings::{
+    backs_are_known, backs_follow, backs_give, cores_take_all, cores_take_keys, engines_give_up,
+    engines_go_back_to, engines_take_back, given_up_is_shown, its_records_are_found,
+    its_tables_may_be_written, kept_tables_stand, key_steps_are_taken, keys_are_taken, keys_go_on,
+    keys_keep_lists, keys_keep_pages, others_walk_on, stops_go_on, tables_are_found_back,
+    undo_lists_give_keys,
+};

@@ -1,0 +1,30 @@
+//! What comes of pages where a table is made. Each function's contract is the law.
+
+ghost use Rattle.mg_engine_changes.specs.Growth.{GrowthsStay};
+ghost use Rattle.mg_engine_changes.specs.StandMade.{LeftPagesAreThere};
+ghost use Rattle.mg_image.specs.Form.{packed_form};
+
+use mg_base::Disk;
+use mg_engine_steps::{batches_last, lists_go_on, tips_stay};
+use mg_image::one_reading;
+use mg_model::histories_go_on;
+use mg_space::FireLinks;
+use mg_stand_owners::owners_keep_stands_apart;
+
+/// The pages of all tables are there.
+pub fn left_pages_are_there()
+    ensures { LeftPagesAreThere packed_form }
+{
+    owners_keep_stands_apart();
+}
+
+/// A data page that the catalog gets changes nothing.
+pub fn growths_stay<D: Disk>()
+    ensures { GrowthsStay D D.meaning }
+{
+    histories_go_on();
+    one_reading();
+    tips_stay();
+    lists_go_on::<D, FireLinks>();
+    batches_last::<D, FireLinks>();
+}

@@ -1,0 +1,70 @@
+//! A transaction is taken back, key by key. The functions do nothing: their contracts are the laws.
+
+ghost use Rattle.mg_engine_changes.specs.EngineBacks.{EnginesGoBackTo, OthersWalkOnBack};
+ghost use Rattle.mg_engine_changes.specs.Given.{UndoListsGiveKeys};
+ghost use Rattle.mg_engine_changes.specs.Keys.{CoresTakeAll};
+ghost use Rattle.mg_engine_changes.specs.Takings.{CoresTakeKeys};
+
+use crate::row_writes::stored_rows_are_coded;
+use crate::{
+    engines_take_back, its_records_are_found, its_tables_may_be_written, kept_tables_stand,
+    key_steps_are_taken, keys_are_taken, keys_go_on, keys_keep_lists, keys_keep_pages,
+    others_walk_on,
+};
+use mg_base::Disk;
+use mg_engine_steps::lists_go_on;
+use mg_engine_writes::{changes_are_taken_back, pages_show_what_is_taken_back, unasking_lasts};
+use mg_model::histories_go_on;
+use mg_space::FireLinks;
+use mg_table_overlays::sound_images_stand_one_way;
+use mg_undo::what_was_is_given;
+
+/// What the core takes back for a key is a step of the laws.
+pub fn cores_take_keys<D: Disk>()
+    ensures { CoresTakeKeys D D.meaning }
+{
+    stored_rows_are_coded();
+    its_records_are_found();
+    its_tables_may_be_written();
+    kept_tables_stand();
+    key_steps_are_taken::<D>();
+}
+
+/// So are its steps for keys one after another; the cache is known after them as before.
+pub fn cores_take_all<D: Disk>()
+    ensures { CoresTakeAll D D.meaning }
+{
+    cores_take_keys::<D>();
+    keys_are_taken();
+    keys_go_on::<D, FireLinks>();
+    keys_keep_lists::<D, FireLinks>();
+}
+
+/// The undo list of a transaction gives the keys that it has changed since a point, each with what was.
+pub fn undo_lists_give_keys()
+    ensures { UndoListsGiveKeys }
+{
+    what_was_is_given();
+    keys_are_taken();
+}
+
+/// An engine whose transaction is taken back to a point stands for the history with the event, and the walks of all
+/// others go on.
+pub fn engines_go_back_to<D: Disk>()
+    ensures stands { EnginesGoBackTo D D.meaning }
+    ensures walks { OthersWalkOnBack D D.meaning }
+{
+    histories_go_on();
+    unasking_lasts::<D, FireLinks>();
+    lists_go_on::<D, FireLinks>();
+    keys_are_taken();
+    changes_are_taken_back::<D, FireLinks>();
+    pages_show_what_is_taken_back();
+    undo_lists_give_keys();
+    cores_take_all::<D>();
+    keys_keep_lists::<D, FireLinks>();
+    engines_take_back::<D, FireLinks>();
+    sound_images_stand_one_way();
+    keys_keep_pages::<D, FireLinks>();
+    others_walk_on();
+}

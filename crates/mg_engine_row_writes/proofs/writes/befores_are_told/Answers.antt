@@ -1,6 +1,0 @@
-use Rattle.mg_engine_row_writes.specs.BeforeLaws as laws
-use Rattle.mg_engine_row_writes.proofs.writes.befores_are_told.Goals as goal
-
-pub returns : goal.returns
-returns c = laws.befores_are_told c.records_are_those_of_every_reading.ensures.places
-    c.records_are_those_of_every_reading.ensures.rows

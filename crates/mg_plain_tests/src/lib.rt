@@ -1,0 +1,13 @@
+//! Tests of the plain machine: scenarios of several transactions, each answer written by hand from the rules, and a walk
+//! of it as a keeper of records.
+//!
+//! Owns: nothing but the tests. They stand apart from what they test, so that the machine is proved once, and not again
+//! with its tests.
+//!
+//! Invariant: none, it keeps no state.
+//! Below: `mg_plain`, and what its events are made of. Above: nothing.
+//! Not here: statements and scripts. They are rows of `mg_worked_runs`.
+#![tactic(auto)]
+
+#[cfg(test)]
+mod tests;

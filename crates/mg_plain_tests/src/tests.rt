@@ -1,0 +1,4 @@
+//! Tests of the plain machine.
+
+mod machine;
+mod records;
