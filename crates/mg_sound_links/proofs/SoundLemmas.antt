@@ -1,32 +1,28 @@
 -- What a sound image has: a property of each demand that is reached from its roots, which goes on
 -- along links and makes sure that what is wanted is met.
-use Rattle.std.specs.Prelude.{◌≡◌, ◌≢◌, ◌<◌, ◌≤◌, ◌+◌, ◌*◌, ◌/◌, ◌%◌, ◌-◌, ◌==◌, ◌&&◌, ◌||◌, ◌⊎◌, ◌++◌, ℕ, zero, suc, Bool, true, false, not, nat_lt, List, [], ◌∷◌, length, Option, None, Some, is_ok, if◌then◌else◌}
-use Rattle.std.specs.List.{flat_map}
+use Rattle.std.specs.Prelude.{◌≡◌, ◌≢◌, ◌<◌, ◌≤◌, ◌+◌, ◌*◌, ◌/◌, ◌%◌, ◌-◌, ◌==◌, ◌&&◌, ◌||◌, ◌⊎◌, ◌++◌, ℕ, zero, suc, Bool, true, false, nat_lt, List, [], ◌∷◌, length, Option, None, Some, is_ok, if◌then◌else◌}
 use Rattle.std.proofs.Common.{arith, length-append, inl, inr, refl, sym, subst, ap, ◌∙◌}
 use Rattle.std.proofs.Math.Nat.{div-lt_iff_lt-mul, suc-mul, zero-mul}
 use Rattle.std.proofs.lemmas.Nat.{div-mul-add, mod-mul-add}
-use Rattle.std.proofs.lemmas.Bool.{both_ways, cases_eq, cases_lt, eq-eqb, eqb-true, ltb-true, lt-ltb, and_from, and_parts, or_cases, or_right}
+use Rattle.std.proofs.lemmas.Bool.{both_ways, cases_lt, eq-eqb, eqb-true, ltb-true, lt-ltb, and_from, or_cases, or_right}
 use Rattle.mg_base.specs.CheckLaws.{verdict_from_passes}
 use Rattle.mg_base.specs.Checks.{Check, PassesAll, verdict}
 use Rattle.mg_base.specs.Fields.{byte, u32_at}
 use Rattle.mg_base.specs.Geometry.{is_page_size}
 use Rattle.mg_base.specs.Image.{blank}
 use Rattle.mg_base.specs.declared.geometry.TheConstants.{GREATEST_LIMIT}
-use Rattle.mg_base.specs.declared.numbers.PageNo.{PageNo}
 use Rattle.mg_base.specs.declared.numbers.RecId.{RecId}
 use Rattle.mg_base.specs.declared.transaction.TxState.{TxState}
 use Rattle.mg_base.specs.declared.transaction.TxState.TheVariants.{Active, Committed, Dead, Limbo}
 use Rattle.mg_careful.specs.declared.links.Demand.{Demand}
 use Rattle.mg_careful.specs.CarefulWrite.{Has, IsLinked, ListsAreSets, listed}
 use Rattle.mg_demands.specs.Wanted.{linked_where}
-use Rattle.mg_header.specs.HeaderPage.{database_checks, page_checks, reading, the_page}
-use Rattle.mg_image.specs.Catalog.{catalog_table}
+use Rattle.mg_header.specs.HeaderPage.{database_checks, page_checks, reading_upto, the_page}
 use Rattle.mg_image.specs.Form.{Form, Pages}
-use Rattle.mg_image.specs.Indexes.{AreChildren, AreNodes, HasEntry, AreTrees, EachPage, HasChildren, IsNode, IsTree, LevelChain, Levels, above, first_level, lowest}
+use Rattle.mg_image.specs.Indexes.{AreChildren, AreNodes, HasEntry, AreTrees, EachPage, HasChildren, IsNode, IsTree, Levels, above, first_level, lowest}
 use Rattle.mg_image.specs.Inventory.{bits_state, header_of, inventory_page, is_used, last_sequence, next_of, tip_before, tip_page}
-use Rattle.mg_image.specs.Reached.{IsAsWanted}
 use Rattle.mg_image.specs.RecordRules.{Each, IsVersion}
-use Rattle.mg_image.specs.Records.{Chain, Reading, cells_of, ended, goes, newest_of, slot_cell, writer}
+use Rattle.mg_image.specs.Records.{Chain, Reading, cells_of, ended, goes, newest_of, writer}
 use Rattle.mg_image.specs.Sound.{HasRegion, HasTablePages, IsSoundBy, IsTableData, IsTablePointer, IsUndrawn, facts_by}
 use Rattle.mg_image.specs.Tables.{EachFrom, EachStand, HasStand, Layout, LinkChain, PointerChain, Stand, entries_in, has, stands_of, table_at}
 use Rattle.mg_image.specs.Tables.{Has as HasPage, ended as chain_ended, goes as chain_goes}
@@ -37,12 +33,11 @@ use Rattle.mg_node.specs.NodePage.{entries_of as node_entries, entry_at, first_e
 use Rattle.mg_node.specs.declared.entry.Entry.{Entry as nodes}
 use Rattle.mg_pip.specs.PipPage.{bits, pip_checks, used_in}
 use Rattle.mg_pip.specs.PipPageLaws.{zero_unused}
-use Rattle.std.proofs.Common.{get_or}
 use Rattle.std.proofs.lemmas.List.{get_or-replicate, get_or_past, length-replicate}
 use Rattle.mg_base.specs.declared.numbers.TxNo.{TxNo}
 use Rattle.mg_pointer.specs.PointerPage.{capacity, count_in, entries_of, first_entries, next_in, place_of, pointer_checks}
-use Rattle.mg_slots.specs.DataPage.{cell_of, slot_count}
-use Rattle.mg_space.specs.Demands.{back_demands, bit_demand, cell_demands, child_demand, child_demands, data_demands, demand, demands_by, demands_of, drawn_demands, entry_demand, entry_demands, header_demands, is_decided, is_header, is_version_of, link_demand, linked, meets_bit, meets_by, meets_of, meets_tree, node_demands, pointer_demands, right_demands, slot_demands, state_demands, target_of, tip_demands, tree_demands, version_demands, wanted_demands}
+use Rattle.mg_slots.specs.DataPage.{slot_count}
+use Rattle.mg_space.specs.Demands.{back_demands, bit_demand, cell_demands, child_demands, demand, demands_by, demands_of, drawn_demands, entry_demands, header_demands, is_decided, is_header, is_version_of, linked, meets_bit, meets_by, meets_of, node_demands, pointer_demands, right_demands, slot_demands, tip_demands, tree_demands, version_demands, wanted_demands}
 use Rattle.mg_space.specs.declared.links.TheConstants.{BIT, DATA, HEADER, NEXT, NODE, POINTER, TRANSACTIONS, TREE, VERSION}
 use Rattle.mg_tip.specs.TipPage.{places, prev_in, state_in, tip_checks}
 use Rattle.mg_version.specs.declared.cell.Cell.{Cell}
@@ -252,9 +247,11 @@ module _ (form : Form) (size : ℕ) (state : ℕ → TxState) (pages : Pages) (l
   passes n checks all = ap is_ok (verdict_from_passes (record { 0 = n }) checks all)
 
   header_reads : is_header size (pages 0) ≡ true
-  unfolding reading
-  header_reads = rw (verdict_from_passes the_page (database_checks (pages 0) size) sound.header.database,
-      verdict_from_passes the_page (page_checks (pages 0)) sound.header.fields) refl
+  unfolding reading_upto
+  header_reads = rw (
+    verdict_from_passes the_page (database_checks (pages 0) size) sound.header.database,
+    verdict_from_passes the_page (page_checks (pages 0)) sound.header.fields,
+  ) refl
 
   -- ---- the pages that are marked
 

@@ -41,6 +41,3 @@ abbrev pub SoundIsLinked : Form → Type 0
 SoundIsLinked form = (size : ℕ) (state : ℕ → TxState) (pages : Pages) (layout : Layout) (r : Reading)
     → IsSoundBy form size state pages layout r → EachStand (IsFilled size pages) (stands_of layout)
     → IsLinked demands_of meets_of pages (listed (roots_of size layout))
-
-abbrev pub Scratch : Type 0
-Scratch = Unit {0}

@@ -1,7 +1,7 @@
 //! Sound images and the law of careful write.
 
 ghost use Rattle.mg_image.specs.Form.{packed_form};
-ghost use Rattle.mg_sound_links.specs.Roots.{Scratch, SoundIsLinked};
+ghost use Rattle.mg_sound_links.specs.Roots.{SoundIsLinked};
 
 use mg_careful::careful_write;
 use mg_space::FireLinks;
@@ -14,5 +14,3 @@ pub fn sound_images_are_linked()
 {
     careful_write::<FireLinks>()
 }
-
-pub fn scratch() ensures { Scratch } {}
