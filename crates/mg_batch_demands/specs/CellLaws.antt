@@ -1,7 +1,7 @@
 -- What a cell pays that is put on a data page: an anchor that leads to a version, or a version.
-use Rattle.std.specs.Prelude.{◌≡◌, ◌≢◌, ◌⊎◌, ◌<◌, ◌≤◌, ◌+◌, ◌++◌, ◌==◌, ◌&&◌, ℕ, zero, suc, max, Bool, true, false, nat_lt, List, [], ◌∷◌, length, take, Option, None, Some, if◌then◌else◌}
+use Rattle.std.specs.Prelude.{◌≡◌, ◌≢◌, ◌⊎◌, ◌<◌, ◌≤◌, ℕ, zero, suc, Bool, true, false, nat_lt, List, [], ◌∷◌, length, Option, None, Some}
 use Rattle.std.proofs.Common.{inl, inr, refl, sym, subst, ap, ◌∙◌, arith}
-use Rattle.std.proofs.lemmas.Bool.{both_ways, cases_eq, cases_lt, eq-eqb, eqb-true, ltb-true}
+use Rattle.std.proofs.lemmas.Bool.{cases_eq, cases_lt, ltb-true}
 use Rattle.mg_base.specs.CheckLaws.{byte_front, front_checks}
 use Rattle.mg_base.specs.Checks.{PassesAll, common_checks}
 use Rattle.mg_base.specs.Fields.{byte}
@@ -13,16 +13,15 @@ use Rattle.mg_image.specs.Form.{Pages}
 use Rattle.mg_image.specs.Inventory.{inventory_page, is_used}
 use Rattle.mg_image.specs.Records.{slot_cell}
 use Rattle.mg_slots.specs.Changes.{PutsCell}
-use Rattle.mg_slots.specs.DataPage.{cell_of, offset_at, slot_count}
+use Rattle.mg_slots.specs.DataPage.{cell_of, slot_count}
 use Rattle.mg_slots.specs.declared.page.TheConstants.{DATA_KIND}
 use Rattle.mg_space.specs.Demands.{cell_demands, data_demands, demands_of, is_version_of, meets_of, slot_demands, wanted_demands}
 use Rattle.mg_space.specs.declared.links.TheConstants.{DATA, VERSION}
-use Rattle.mg_version.specs.declared.cell.Cell.{Cell}
-use Rattle.mg_batch_demands.specs.KindLaws.{data_alone, kind_of}
-use Rattle.mg_batch_demands.specs.Met.{has_back, has_either, has_front, in_listed, met_is, mk, of_data, of_listed, of_version}
+use Rattle.mg_batch_demands.specs.KindLaws.{data_alone}
+use Rattle.mg_batch_demands.specs.Met.{has_back, has_either, has_front, met_is, mk, of_data, of_listed, of_version}
 use Rattle.mg_batch_demands.specs.NumberLaws.{as_want, from_want}
 use Rattle.mg_batch_demands.specs.TakeLaws.{used_same}
-use Rattle.mg_batch_demands.specs.Wanting.{IsWanting, OwesPage, Pays}
+use Rattle.mg_batch_demands.specs.Wanting.{IsWanting, Pays}
 use Rattle.mg_batch_demands.specs.WantingLaws.{page_pays}
 
 -- a slot past the last one has no cell
@@ -109,8 +108,12 @@ module _ (size : ℕ) (old new : Pages) (x slot : ℕ) (cell : List ℕ) (of : O
       at (inr (is, there)) =
           let here : is_version_of d.b (slot_cell (cell_of (old x) d.a)) ≡ true =
           subst (λ (m : ℕ). is_version_of d.b (slot_cell (cell_of (old m) d.a)) ≡ true) same there in
-          inr (is, here, λ there_. puts.no_version d.b
-          (subst (λ (s : ℕ). is_version_of d.b (slot_cell (cell_of (old x) s)) ≡ true) there_ here))
+          inr (
+            is,
+            here,
+            λ there_. puts.no_version d.b
+                (subst (λ (s : ℕ). is_version_of d.b (slot_cell (cell_of (old x) s)) ≡ true) there_ here),
+          )
 
   still_version : (d : Demand) → IsVersionWant d
       → is_version_of d.b (slot_cell (cell_of (new x) d.a)) ≡ true
@@ -148,9 +151,9 @@ module _ (size : ℕ) (old new : Pages) (x slot : ℕ) (cell : List ℕ) (of : O
           → Has (demands_of (old x) d) e ⊎ IsPaid orders on_disk wanted cell_more d e
       at (inl it) = elim (of_slots d e same (slot_count (new x))
           (as_want size old wanted was (new x) whole (mk d.target DATA d.a d.b) d e it.0 made)) [
-        | inl there ↦ inl (from_want size old wanted was (old x) (was.whole x) (mk d.target DATA d.a d.b) d e it.0 there)
-        | inr pays ↦ inr pays
-      ]
+            | inl there ↦ inl (from_want size old wanted was (old x) (was.whole x) (mk d.target DATA d.a d.b) d e it.0 there)
+            | inr pays ↦ inr pays
+          ]
       at (inr it) = inl (from_want size old wanted was (old x) (was.whole x) (mk d.target VERSION d.a d.b) d e it.0
           (subst (λ (c : Option (List ℕ)). Has (wanted_demands (slot_cell c)) e)
           (puts.puts.sets.others d.a it.2)

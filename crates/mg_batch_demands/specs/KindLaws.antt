@@ -1,21 +1,19 @@
 -- What is wanted of a page, by its kind.
-use Rattle.std.specs.Prelude.{◌≡◌, ◌≢◌, ◌⊎◌, ◌<◌, ◌/◌, ◌%◌, ℕ, true, List, length}
-use Rattle.std.proofs.Common.{inl, inr, refl, sym, subst, ap, ◌∙◌, arith}
+use Rattle.std.specs.Prelude.{◌≡◌, ◌≢◌, ◌⊎◌, ◌<◌, ◌/◌, ◌%◌, ℕ, true, List}
+use Rattle.std.proofs.Common.{inl, inr, sym, ap, ◌∙◌, arith}
 use Rattle.std.proofs.lemmas.Bool.{ltb-true}
 use Rattle.mg_base.specs.Checks.{PassesAll, common_checks}
 use Rattle.mg_base.specs.Fields.{byte}
 use Rattle.mg_careful.specs.declared.links.Demand.{Demand}
 use Rattle.mg_careful.specs.CarefulWrite.{DemandSet, IsIn}
-use Rattle.mg_header.specs.HeaderPage.{header_in, marker_checks, reading}
+use Rattle.mg_header.specs.HeaderPage.{header_in}
 use Rattle.mg_image.specs.Form.{Pages}
-use Rattle.mg_image.specs.Inventory.{inventory_page, is_used}
-use Rattle.mg_node.specs.NodePage.{node_checks}
 use Rattle.mg_pip.specs.PipPage.{bits, pip_checks, used_in}
 use Rattle.mg_pointer.specs.PointerPage.{pointer_checks}
 use Rattle.mg_slots.specs.DataPage.{cell_of}
 use Rattle.mg_slots.specs.declared.page.TheConstants.{DATA_KIND}
 use Rattle.mg_image.specs.Records.{slot_cell}
-use Rattle.mg_space.specs.Demands.{is_header, is_version_of}
+use Rattle.mg_space.specs.Demands.{is_version_of}
 use Rattle.mg_space.specs.declared.links.TheConstants.{BIT, DATA, HEADER, NEXT, POINTER, TRANSACTIONS, VERSION}
 use Rattle.mg_tip.specs.TipPage.{tip_checks}
 use Rattle.mg_batch_demands.specs.Met.{IsMet, is_met, mk, of_bit, of_data, of_header, of_next, of_node, of_pointer, of_tip, of_tree, of_version}

@@ -7,4 +7,4 @@ pub mod NumberLaws
 pub mod TipLaws
 pub mod PointerLaws
 pub mod CellLaws
-pub mod Scratch
+pub mod Steps

@@ -1,24 +1,22 @@
 -- What a page is that meets a demand, case by case; and lists of demands.
-use Rattle.std.specs.Prelude.{◌≡◌, ◌≢◌, ◌⊎◌, ◌/◌, ◌%◌, ◌==◌, ◌&&◌, ◌++◌, ℕ, zero, suc, Bool, true, false, nat_lt, List, [], ◌∷◌, length, Option, None, Some, Ok, Err, Result, is_ok, if◌then◌else◌}
-use Rattle.std.proofs.Common.{inl, inr, refl, sym, subst, ap, ◌∙◌, arith}
-use Rattle.std.proofs.lemmas.Bool.{and_from, and_parts, both_ways, cases_Bool, eq-eqb, eqb-true, or_cases, or_left, or_right}
+use Rattle.std.specs.Prelude.{◌≡◌, ◌⊎◌, ◌/◌, ◌%◌, ◌==◌, ◌&&◌, ◌++◌, ℕ, Bool, true, false, nat_lt, List, [], ◌∷◌, length, Ok, Err, Result, is_ok, if◌then◌else◌}
+use Rattle.std.proofs.Common.{inl, inr, refl, sym, subst, ap, ◌∙◌}
+use Rattle.std.proofs.lemmas.Bool.{and_from, and_parts, both_ways, eq-eqb, eqb-true, or_cases, or_left, or_right}
 use Rattle.mg_base.specs.CheckLaws.{passes_from_verdict, verdict_from_passes}
 use Rattle.mg_base.specs.Checks.{Check, PassesAll, common_checks, verdict}
-use Rattle.mg_base.specs.Fields.{byte}
 use Rattle.mg_base.specs.Geometry.{is_page_size}
 use Rattle.mg_base.specs.declared.damage.Damaged.{Damaged}
 use Rattle.mg_base.specs.declared.numbers.PageNo.{PageNo}
 use Rattle.mg_careful.specs.declared.links.Demand.{Demand}
-use Rattle.mg_careful.specs.CarefulWrite.{DemandSet, Has, IsIn, is_same, listed}
+use Rattle.mg_careful.specs.CarefulWrite.{Has, IsIn, is_same, listed}
 use Rattle.mg_header.specs.HeaderPage.{header_in}
-use Rattle.mg_image.specs.Inventory.{inventory_page}
 use Rattle.mg_image.specs.Records.{slot_cell}
 use Rattle.mg_node.specs.NodePage.{level_in, node_checks}
 use Rattle.mg_pip.specs.PipPage.{bits, pip_checks, used_in}
 use Rattle.mg_pointer.specs.PointerPage.{pointer_checks}
 use Rattle.mg_slots.specs.DataPage.{cell_of}
 use Rattle.mg_slots.specs.declared.page.TheConstants.{DATA_KIND}
-use Rattle.mg_space.specs.Demands.{bit_demand, demand, demands_by, demands_of, is_header, is_version_of, linked, meets_by, meets_of}
+use Rattle.mg_space.specs.Demands.{demand, demands_by, demands_of, is_header, is_version_of, meets_by, meets_of}
 use Rattle.mg_space.specs.declared.links.TheConstants.{BIT, DATA, HEADER, NEXT, NODE, POINTER, TRANSACTIONS, TREE, VERSION}
 use Rattle.mg_tip.specs.TipPage.{tip_checks}
 

@@ -1,31 +1,26 @@
 -- What a new number pays: its header, its transaction inventory page, its bits.
-use Rattle.std.specs.Prelude.{◌≡◌, ◌≢◌, ◌⊎◌, ◌<◌, ◌≤◌, ◌^◌, ◌/◌, ◌%◌, ◌+◌, ◌-◌, ◌*◌, ◌++◌, ◌==◌, ℕ, zero, suc, Bool, true, false, List, [], ◌∷◌, length, take, Ok, is_ok, if◌then◌else◌}
+use Rattle.std.specs.Prelude.{◌≡◌, ◌≢◌, ◌⊎◌, ◌<◌, ◌/◌, ◌+◌, ◌-◌, ℕ, true, List, [], ◌∷◌, length, Ok, is_ok}
 use Rattle.std.proofs.Common.{inl, inr, refl, sym, subst, ap, ◌∙◌, arith}
-use Rattle.std.proofs.lemmas.Bool.{both_ways, cases_eq, cases_lt, eq-eqb, lt-ltb, ltb-true}
-use Rattle.mg_base.specs.Checks.{PassesAll, common_checks}
+use Rattle.std.proofs.lemmas.Bool.{lt-ltb}
+use Rattle.mg_base.specs.Checks.{common_checks}
 use Rattle.mg_base.specs.Fields.{byte}
-use Rattle.mg_base.specs.declared.transaction.TxState.{TxState}
 use Rattle.mg_base.specs.declared.numbers.PageNo.{PageNo}
-use Rattle.mg_base.specs.declared.transaction.TxState.TheVariants.{Active, Committed}
 use Rattle.mg_careful.specs.declared.links.Demand.{Demand}
 use Rattle.mg_careful.specs.Precedence.{Orders}
 use Rattle.mg_careful.specs.CarefulWrite.{DemandSet, Has, IsIn, listed}
 use Rattle.mg_demands.specs.Bearing.{IsPaid}
-use Rattle.mg_header.specs.HeaderPage.{header_in, page_checks, reading}
+use Rattle.mg_header.specs.HeaderPage.{header_in, reading}
 use Rattle.mg_header.specs.HeaderPageLaws.{reading_ok}
 use Rattle.mg_header.specs.declared.header.Header.{Header}
 use Rattle.mg_image.specs.Form.{Pages}
 use Rattle.mg_image.specs.Inventory.{header_of, inventory_page, is_used, next_of}
-use Rattle.mg_pip.specs.PipPage.{bits}
-use Rattle.mg_slots.specs.declared.page.TheConstants.{DATA_KIND}
-use Rattle.mg_space.specs.Demands.{demand, demands_by, demands_of, drawn_demands, header_demands, is_decided, is_header, linked, meets_of, tip_demands}
-use Rattle.mg_space.specs.declared.links.TheConstants.{BIT, HEADER, NEXT, POINTER, TRANSACTIONS, VERSION}
-use Rattle.mg_tip.specs.TipPage.{SetsState, new_tip_page, places, prev_in, state_in, tip_checks}
-use Rattle.mg_tip.specs.TipPageLaws.{length-new_tip_page, new_page_active, new_page_passes, new_page_prev, same_prev, same_tests}
-use Rattle.mg_batch_demands.specs.KindLaws.{header_alone, tip_alone, tip_kind, tip_seq}
-use Rattle.mg_batch_demands.specs.Met.{has_back, has_either, has_front, in_listed, is_demand, met_is, mk, of_header, of_listed, of_next, of_tip, opened}
-use Rattle.mg_batch_demands.specs.TakeLaws.{MakesPage, make_pays, used_same}
-use Rattle.mg_batch_demands.specs.Wanting.{IsWanting, OwesPage, Pays}
+use Rattle.mg_space.specs.Demands.{demands_by, demands_of, header_demands, is_header, linked, meets_of}
+use Rattle.mg_space.specs.declared.links.TheConstants.{HEADER, NEXT, POINTER, TRANSACTIONS}
+use Rattle.mg_tip.specs.TipPage.{places}
+use Rattle.mg_batch_demands.specs.KindLaws.{header_alone}
+use Rattle.mg_batch_demands.specs.Met.{has_back, has_either, has_front, met_is, mk, of_header, of_listed, of_next, opened}
+use Rattle.mg_batch_demands.specs.TakeLaws.{used_same}
+use Rattle.mg_batch_demands.specs.Wanting.{IsWanting, Pays}
 use Rattle.mg_batch_demands.specs.WantingLaws.{page_pays}
 
 -- a header page is one by its kind

@@ -1,9 +1,8 @@
 -- What the pages of a table pay as it grows: an entry more, a next pointer page, a new data page.
-use Rattle.std.specs.Prelude.{◌≡◌, ◌≢◌, ◌⊎◌, ◌<◌, ◌≤◌, ◌^◌, ◌+◌, ◌-◌, ◌*◌, ◌++◌, ◌==◌, ℕ, zero, suc, Bool, true, false, List, [], ◌∷◌, length, take, if◌then◌else◌}
+use Rattle.std.specs.Prelude.{◌≡◌, ◌≢◌, ◌⊎◌, ◌<◌, ◌+◌, ◌*◌, ◌++◌, ◌==◌, ℕ, zero, suc, Bool, true, false, List, [], ◌∷◌, length, if◌then◌else◌}
 use Rattle.std.proofs.Common.{inl, inr, refl, sym, subst, ap, ◌∙◌, arith, length-append}
-use Rattle.std.proofs.lemmas.Bool.{both_ways, cases_eq, eq-eqb}
 use Rattle.mg_base.specs.Checks.{PassesAll, common_checks}
-use Rattle.mg_base.specs.Fields.{byte, u16_at, u32_at}
+use Rattle.mg_base.specs.Fields.{byte, u32_at}
 use Rattle.mg_careful.specs.declared.links.Demand.{Demand}
 use Rattle.mg_careful.specs.Precedence.{Orders}
 use Rattle.mg_careful.specs.CarefulWrite.{DemandSet, Has, IsIn, listed}
@@ -11,16 +10,16 @@ use Rattle.mg_demands.specs.Bearing.{IsPaid}
 use Rattle.mg_image.specs.Form.{Pages}
 use Rattle.mg_image.specs.Inventory.{inventory_page, is_used}
 use Rattle.mg_pointer.specs.PointerPage.{AddsEntry, SetsNext, capacity, count_in, entries_of, first_entries, next_in, place_of, pointer_checks}
-use Rattle.mg_slots.specs.DataPage.{IsNewPage, slot_count}
+use Rattle.mg_slots.specs.DataPage.{slot_count}
 use Rattle.mg_slots.specs.declared.page.TheConstants.{DATA_KIND}
-use Rattle.mg_space.specs.Demands.{data_demands, demands_of, entry_demand, entry_demands, linked, meets_of, pointer_demands, slot_demands}
-use Rattle.mg_space.specs.declared.links.TheConstants.{DATA, POINTER, VERSION}
+use Rattle.mg_space.specs.Demands.{demands_of, entry_demand, entry_demands, linked, meets_of, pointer_demands, slot_demands}
+use Rattle.mg_space.specs.declared.links.TheConstants.{DATA, POINTER}
 use Rattle.mg_batch_demands.specs.KindLaws.{kind_of, pointer_alone, pointer_is, pointer_kind}
-use Rattle.mg_batch_demands.specs.Met.{has_back, has_either, has_front, in_listed, met_is, mk, of_data, of_listed, of_pointer}
+use Rattle.mg_batch_demands.specs.Met.{has_back, has_either, has_front, met_is, mk, of_data, of_listed, of_pointer}
 use Rattle.mg_batch_demands.specs.NumberLaws.{as_want, from_want}
 use Rattle.mg_batch_demands.specs.TakeLaws.{MakesPage, used_same}
 use Rattle.mg_batch_demands.specs.TipLaws.{one_of}
-use Rattle.mg_batch_demands.specs.Wanting.{IsWanting, OwesPage, Pays}
+use Rattle.mg_batch_demands.specs.Wanting.{IsWanting, Pays}
 use Rattle.mg_batch_demands.specs.WantingLaws.{page_pays}
 
 -- nothing is newly wanted

@@ -1,7 +1,6 @@
 -- What the taking of a page pays, and the making of a page of which nothing was wanted.
-use Rattle.std.specs.Prelude.{◌≡◌, ◌≢◌, ◌⊎◌, ◌<◌, ◌/◌, ◌%◌, ◌+◌, ◌*◌, ℕ, true, List, [], length}
+use Rattle.std.specs.Prelude.{◌≡◌, ◌≢◌, ◌⊎◌, ◌<◌, ◌/◌, ◌%◌, ℕ, true, List, length}
 use Rattle.std.proofs.Common.{inl, inr, refl, sym, subst, ap, ◌∙◌, arith}
-use Rattle.std.proofs.Common.{get_or}
 use Rattle.std.specs.Prelude.{◌≤◌}
 use Rattle.std.proofs.lemmas.List.{get_or-replicate, get_or_past, length-replicate}
 use Rattle.std.proofs.lemmas.Bool.{both_ways, cases_lt, or_left}
@@ -23,7 +22,7 @@ use Rattle.mg_space.specs.TakingLaws.{takes_bit, takes_keeps, takes_own}
 use Rattle.mg_space.specs.declared.links.TheConstants.{BIT, VERSION}
 use Rattle.mg_batch_demands.specs.KindLaws.{bits_alone, kind_of, owner_of}
 use Rattle.mg_batch_demands.specs.Met.{is_demand, met_is, mk, of_bit, of_listed, opened}
-use Rattle.mg_batch_demands.specs.Wanting.{IsWanting, OwesPage, Pays}
+use Rattle.mg_batch_demands.specs.Wanting.{IsWanting, Pays}
 use Rattle.mg_batch_demands.specs.WantingLaws.{page_pays}
 
 -- a bit demands nothing

@@ -1,28 +1,26 @@
 -- What a new transaction inventory page pays, and what the bits of a transaction pay.
-use Rattle.std.specs.Prelude.{◌≡◌, ◌≢◌, ◌⊎◌, ◌<◌, ◌≤◌, ◌^◌, ◌/◌, ◌%◌, ◌+◌, ◌-◌, ◌*◌, ◌++◌, ◌==◌, ℕ, zero, suc, Bool, true, false, List, [], ◌∷◌, length, take, if◌then◌else◌}
+use Rattle.std.specs.Prelude.{◌≡◌, ◌≢◌, ◌⊎◌, ◌<◌, ◌≤◌, ◌^◌, ◌+◌, ◌-◌, ◌*◌, ◌==◌, ℕ, zero, suc, Bool, true, false, List, [], ◌∷◌, length, if◌then◌else◌}
 use Rattle.std.proofs.Common.{inl, inr, refl, sym, subst, ap, ◌∙◌, arith}
 use Rattle.std.proofs.lemmas.Bool.{both_ways, cases_eq, eq-eqb, lt-ltb}
 use Rattle.mg_base.specs.Checks.{PassesAll}
 use Rattle.mg_base.specs.Fields.{byte, u32_at}
 use Rattle.mg_base.specs.declared.transaction.TxState.{TxState}
-use Rattle.mg_base.specs.declared.transaction.TxState.TheVariants.{Active, Committed}
 use Rattle.mg_careful.specs.declared.links.Demand.{Demand}
 use Rattle.mg_careful.specs.Precedence.{Orders}
 use Rattle.mg_careful.specs.CarefulWrite.{DemandSet, Has, IsIn, listed}
 use Rattle.mg_demands.specs.Bearing.{IsPaid}
 use Rattle.mg_image.specs.Form.{Pages}
 use Rattle.mg_image.specs.Inventory.{inventory_page, is_used, next_of}
-use Rattle.mg_slots.specs.declared.page.TheConstants.{DATA_KIND}
-use Rattle.mg_space.specs.Demands.{demand, demands_of, drawn_demands, is_decided, is_header, linked, meets_of, state_demands, tip_demands}
+use Rattle.mg_space.specs.Demands.{demand, demands_of, drawn_demands, is_decided, is_header, linked, meets_of, tip_demands}
 use Rattle.mg_space.specs.TakingLaws.{page_sizes}
-use Rattle.mg_space.specs.declared.links.TheConstants.{NEXT, TRANSACTIONS, VERSION}
+use Rattle.mg_space.specs.declared.links.TheConstants.{NEXT, TRANSACTIONS}
 use Rattle.mg_tip.specs.TipPage.{SetsState, new_tip_page, places, prev_in, state_in, tip_checks}
 use Rattle.mg_tip.specs.TipPageLaws.{length-new_tip_page, new_page_active, new_page_passes, new_page_prev, same_prev, same_tests}
 use Rattle.mg_batch_demands.specs.KindLaws.{tip_alone, tip_kind, tip_seq}
 use Rattle.mg_batch_demands.specs.Met.{has_back, has_either, has_front, in_listed, is_demand, met_is, mk, of_listed, of_next, of_tip}
 use Rattle.mg_batch_demands.specs.NumberLaws.{as_want, from_want, number_more}
 use Rattle.mg_batch_demands.specs.TakeLaws.{MakesPage, used_same}
-use Rattle.mg_batch_demands.specs.Wanting.{IsWanting, OwesPage, Pays}
+use Rattle.mg_batch_demands.specs.Wanting.{IsWanting, Pays}
 use Rattle.mg_batch_demands.specs.WantingLaws.{page_pays}
 
 pub one_of : (want d : Demand) → IsIn (listed (want ∷ [])) d → d ≡ want

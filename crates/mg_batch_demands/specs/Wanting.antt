@@ -1,5 +1,5 @@
 -- What the pages of a database are wanted for, and what a change of pages pays.
-use Rattle.std.specs.Prelude.{◌≡◌, ◌≢◌, ◌⊎◌, ℕ, Bool, true, List, length}
+use Rattle.std.specs.Prelude.{◌≡◌, ◌≢◌, ◌⊎◌, ℕ, true, length}
 use Rattle.mg_base.specs.Fields.{byte}
 use Rattle.mg_base.specs.Geometry.{is_page_size}
 use Rattle.mg_careful.specs.declared.links.Demand.{Demand}

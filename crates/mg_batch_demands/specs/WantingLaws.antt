@@ -1,15 +1,14 @@
 -- Laws of what pages are wanted for: a change of one page, two changes one after the other, and what
 -- one change pays under more orders.
-use Rattle.std.specs.Prelude.{◌≡◌, ◌≢◌, ◌⊎◌, ◌||◌, ℕ, Bool, true, List, [], ◌∷◌, length}
-use Rattle.std.proofs.Common.{inl, inr, refl, sym, subst, ap, ◌∙◌}
+use Rattle.std.specs.Prelude.{◌≡◌, ◌⊎◌, ℕ, true, List, length}
+use Rattle.std.proofs.Common.{inl, inr, sym, subst, ap, ◌∙◌}
 use Rattle.std.proofs.lemmas.Bool.{cases_eq, or_cases, or_left, or_right}
 use Rattle.mg_base.specs.Fields.{byte}
 use Rattle.mg_careful.specs.declared.links.Demand.{Demand}
 use Rattle.mg_careful.specs.Precedence.{Orders}
-use Rattle.mg_careful.specs.CarefulWrite.{DemandSet, Has, IsIn, KeepsDemands, either}
-use Rattle.mg_demands.specs.Bearing.{IsPaid, PaysDemands}
+use Rattle.mg_careful.specs.CarefulWrite.{DemandSet, Has, IsIn, either}
+use Rattle.mg_demands.specs.Bearing.{IsPaid}
 use Rattle.mg_image.specs.Form.{Pages}
-use Rattle.mg_image.specs.Inventory.{is_used}
 use Rattle.mg_slots.specs.declared.page.TheConstants.{DATA_KIND}
 use Rattle.mg_space.specs.Demands.{demands_of, meets_of}
 use Rattle.mg_space.specs.declared.links.TheConstants.{VERSION}
