@@ -1,10 +1,10 @@
 -- What the drawing of a number pays: its batch is the header, and where the number is the first of a
 -- transaction inventory page, that page and the inventory page with its bit.
-use Rattle.std.specs.Prelude.{◌≡◌, ◌≢◌, ◌⊎◌, ◌<◌, ◌≤◌, ◌^◌, ◌/◌, ◌%◌, ◌+◌, ◌-◌, ◌*◌, ◌==◌, ◌&&◌, ◌||◌, ◌++◌, ℕ, Bool, true, false, List, [], ◌∷◌, length, Option, None, Some, Ok, if◌then◌else◌}
+use Rattle.std.specs.Prelude.{◌≡◌, ◌≢◌, ◌⊎◌, ◌<◌, ◌≤◌, ◌^◌, ◌/◌, ◌%◌, ◌+◌, ◌-◌, ◌*◌, ◌==◌, ◌&&◌, ◌++◌, ℕ, Bool, true, List, [], ◌∷◌, Option, None, Some, Ok, if◌then◌else◌}
 use Rattle.std.proofs.Common.{inl, inr, refl, sym, subst, ap, ◌∙◌, arith}
 use Rattle.std.proofs.Math.Nat.{div-le_self, mod-lt, mod-add-div', suc-mul, zero-mul}
 use Rattle.std.specs.Prelude.{suc}
-use Rattle.std.proofs.lemmas.Bool.{and_from, cases_eq, eq-eqb, ne_eqb, or_left, or_right}
+use Rattle.std.proofs.lemmas.Bool.{and_from, both_ways, cases_eq, eq-eqb, lt-ltb, ne_eqb, not_from_false, or_left, or_right}
 use Rattle.std.proofs.lemmas.Nat.{div-mul-add}
 use Rattle.mg_base.specs.declared.geometry.Geometry.{Geometry}
 use Rattle.mg_careful.specs.declared.graph.Order.{Order}
@@ -16,19 +16,20 @@ use Rattle.mg_header.specs.HeaderPageLaws.{reading_ok}
 use Rattle.mg_header.specs.declared.header.Header.{Header}
 use Rattle.mg_image.specs.Form.{Pages}
 use Rattle.mg_image.specs.Inventory.{header_of, inventory_page, is_used, next_of}
-use Rattle.mg_pip.specs.PipPage.{bits}
 use Rattle.mg_pool.specs.Batch.{lists}
 use Rattle.mg_space.specs.Demands.{bit_demand, demand, linked}
 use Rattle.mg_space.specs.Taking.{IsGeometry, TakesPage, region_of}
 use Rattle.mg_space.specs.TakingLaws.{page_sizes, takes_bit}
 use Rattle.mg_space.specs.declared.links.TheConstants.{BIT, HEADER, NEXT, TRANSACTIONS}
 use Rattle.mg_tip.specs.TipPage.{new_tip_page, places}
-use Rattle.mg_txlist.specs.Drawing.{DrawsOn, IsTipFor, RaisesHead, on_last, on_new, raised_header, tip_orders}
+use Rattle.mg_base.specs.declared.geometry.TheConstants.{GREATEST_LIMIT}
+use Rattle.mg_careful.specs.Precedence.{Orders}
+use Rattle.mg_txlist.specs.Drawing.{DrawsOn, IsTipFor, RaisesHead, may_precede, on_last, on_new, orders_before, raised_header, tip_orders}
 use Rattle.mg_txlist.specs.declared.list.TipPage.{TipPage}
 use Rattle.mg_batch_demands.specs.Met.{has_either, has_front, in_listed, is_demand, mk}
 use Rattle.mg_batch_demands.specs.NumberLaws.{RaisesHeader, from_want, header_pays, number_more}
-use Rattle.mg_batch_demands.specs.TakeLaws.{bit_is_elsewhere, make_pays, take_pays, taken_is_unwanted, used_same}
-use Rattle.mg_batch_demands.specs.TipLaws.{MakesTip, made_tip}
+use Rattle.mg_batch_demands.specs.TakeLaws.{bit_is_elsewhere, make_pays, take_pays, taken_is_unwanted}
+use Rattle.mg_batch_demands.specs.TipLaws.{made_tip}
 use Rattle.mg_batch_demands.specs.Wanting.{IsWanting, Pays}
 use Rattle.mg_batch_demands.specs.WantingLaws.{either_cases, in_one, in_other, two_pay}
 
@@ -39,26 +40,22 @@ pub record SaysNumber (size : ℕ) (old : Pages) (t : ℕ) : Type 0 where
   pub next_is : next_of old ≡ t
   pub some : 1 ≤ t
   pub most : t < 2 ^ 32
-  pub last : (header_of old).last_tip.0 < 2 ^ 32
+  -- its last transaction inventory page is one that a database may have, and is marked as used
+  pub last : (header_of old).last_tip.0 < GREATEST_LIMIT
+  pub last_some : (header_of old).last_tip.0 ≢ 0
+  pub last_used : is_used size old (header_of old).last_tip.0 ≡ true
 
 -- a set of demands that is newly wanted, the number's among them, is paid for
 abbrev pub DrawPays : ℕ → Pages → Pages → List Order → DemandSet → DemandSet → ℕ → Type 0
 DrawPays size old new orders on_disk wanted t = (more : DemandSet)
     × Pays size old new (lists orders) on_disk wanted more × IsIn more (mk 0 NEXT t 0)
 
--- The last transaction inventory page, and its bit, are on the disk.
-abbrev pub HasLastTip : ℕ → Pages → DemandSet → Type 0
-HasLastTip size old on_disk = (e : Demand)
-    → Has (linked size (header_of old).last_tip.0 TRANSACTIONS ((next_of old - 1) / places size) 0) e
-    → IsIn on_disk e
-
--- The law of drawing. A new transaction inventory page leads to the one before it, which has to be on
--- the disk.
+-- the law of drawing
 abbrev pub DrawsPay : Type 0
 DrawsPay = (g : Geometry) (t : ℕ) (old new : Pages) (page : Option TipPage) (orders : List Order)
     (on_disk wanted : DemandSet) → IsGeometry g → SaysNumber g.size old t
     → DrawsOn g t old new page orders → IsTipFor g.size t page
-    → IsWanting g.size old wanted → IsIn wanted (mk 0 HEADER 0 0) → HasLastTip g.size old on_disk
+    → IsWanting g.size old wanted → IsIn wanted (mk 0 HEADER 0 0)
     → DrawPays g.size old new orders on_disk wanted t
 
 -- the numbers of one page but the first have the sequence of the number before
@@ -89,7 +86,7 @@ next_sequence t p first some wide = (is_some, is_next)
         let before : t - 1 ≡ (t / p - 1) * p + (p - 1) = omega (arith, more, same, all, wide) in
         ap (λ (k : ℕ). k / p) before ∙ div-mul-add (t / p - 1) p (p - 1) (omega (arith, wide))
 
-module _ (g : Geometry) (t : ℕ) (old new : Pages) (on_disk wanted : DemandSet) (lawful : IsGeometry g) (says : SaysNumber g.size old t) (was : IsWanting g.size old wanted) (header_in_ : IsIn wanted (mk 0 HEADER 0 0)) (has_last : HasLastTip g.size old on_disk) where
+module _ (g : Geometry) (t : ℕ) (old new : Pages) (on_disk wanted : DemandSet) (lawful : IsGeometry g) (says : SaysNumber g.size old t) (was : IsWanting g.size old wanted) (header_in_ : IsIn wanted (mk 0 HEADER 0 0)) where
   abbrev size : ℕ
   size = g.size
 
@@ -97,7 +94,7 @@ module _ (g : Geometry) (t : ℕ) (old new : Pages) (on_disk wanted : DemandSet)
   wide = let sizes = page_sizes size lawful.size in let least = sizes.0 in omega (arith, least)
 
   low : t % places size < places size
-  low = mod-lt t (places size) wide
+  low = mod-lt t wide
 
   -- what the new header says
   head_is : (last : ℕ) → RaisesHead size old new last → raised_header (header_of old) last ≡ header_of new
@@ -148,8 +145,11 @@ module _ (g : Geometry) (t : ℕ) (old new : Pages) (on_disk wanted : DemandSet)
     abbrev s : ℕ
     s = t / places size
 
+    abbrev last : ℕ
+    last = (header_of old).last_tip.0
+
     abbrev orders : List Order
-    orders = tip_orders size n
+    orders = tip_orders size n last
 
     -- the page is made, and the header is as it was
     made : Pages
@@ -187,7 +187,38 @@ module _ (g : Geometry) (t : ℕ) (old new : Pages) (on_disk wanted : DemandSet)
       | inr y ↦ bit_is_elsewhere g old taken n (lists orders) on_disk wanted lawful takes was d y
     ]
 
-    -- the page before is wanted of the header, and on the disk
+    -- the last page may come before the new one
+    precedes : may_precede n last ≡ true
+    precedes = and_from _ _ (not_from_false _ (ne_eqb last 0 says.last_some))
+        (and_from _ _ (not_from_false _ (ne_eqb last n apart)) (lt-ltb last GREATEST_LIMIT says.last))
+      where
+        apart : last ≢ n
+        apart same = both_ways _ takes.free.unused
+            (subst (λ (k : ℕ). is_used size old k ≡ true) same says.last_used)
+
+    orders_are : lists orders ≡ lists (orders_before size n 0 ++ orders_before size last n)
+    orders_are = ap (λ (b : Bool). lists (orders_before size n 0 ++ (if b then orders_before size last n else []))) precedes
+
+    last_first : (k : ℕ) → (k ≡ last) ⊎ (k ≡ inventory_page size (region_of size last))
+        → lists orders k n ≡ true
+    last_first k which = subst (λ (o : Orders). o k n ≡ true) (sym orders_are)
+        (or_right (n == k && 0 == n) _
+        (or_right (inventory_page size (region_of size n) == k && 0 == n) _ (at which)))
+      where
+        at : (k ≡ last) ⊎ (k ≡ inventory_page size (region_of size last))
+            → lists (orders_before size last n) k n ≡ true
+        at (inl is) = or_left _ _ (and_from _ _ (eq-eqb last k (sym is)) (eq-eqb n n refl))
+        at (inr is) = or_right (last == k && n == n) _ (or_left _ _
+            (and_from _ _ (eq-eqb (inventory_page size (region_of size last)) k (sym is)) (eq-eqb n n refl)))
+
+    before_first : (e : Demand) → Has (linked size last TRANSACTIONS (s - 1) 0) e → lists orders e.target n ≡ true
+    before_first e there = elim (has_either (demand last TRANSACTIONS (s - 1) 0) (bit_demand size last) e there) [
+      | inl x ↦ last_first e.target (inl (ap (λ (y : Demand). y.target) (is_demand last TRANSACTIONS (s - 1) 0 e x)))
+      | inr y ↦ last_first e.target (inr (ap (λ (z : Demand). z.target)
+          (is_demand (inventory_page size (region_of size last)) BIT last 0 e y)))
+    ]
+
+    -- the page before is wanted of the header, and ordered before this one
     before_paid : (e : Demand) → Has (linked size (header_of old).last_tip.0 TRANSACTIONS (s - 1) 0) e
         → IsPaid (lists orders) on_disk wanted_bit more_tip (mk n TRANSACTIONS s 0) e
     before_paid e there =
@@ -199,7 +230,7 @@ module _ (g : Geometry) (t : ℕ) (old new : Pages) (on_disk wanted : DemandSet)
               (from_want size old wanted was (old 0) (was.whole 0) (mk 0 HEADER 0 0) (mk 0 HEADER 0 0) e refl
               (has_front (linked size (header_of old).last_tip.0 TRANSACTIONS ((next_of old - 1) / places size) 0)
               _ e link))));
-          is_first = inr (inr (has_last e link));
+          is_first = inr (inl (before_first e there));
         }
 
     tip_step : Pays size taken made (lists orders) on_disk wanted_bit more_tip
@@ -212,7 +243,7 @@ module _ (g : Geometry) (t : ℕ) (old new : Pages) (on_disk wanted : DemandSet)
           small = (
             let below = takes.free.below in let most = lawful.limit in omega (arith, below, most),
             (let most = says.most in let less = div-le_self t (places size) in omega (arith, most, less)),
-            says.last,
+            (let low_ = says.last in omega (arith, low_)),
           );
           some = sequences.0;
         }) bit_step.wants unwanted before_paid)
@@ -247,19 +278,19 @@ module _ (g : Geometry) (t : ℕ) (old new : Pages) (on_disk wanted : DemandSet)
         → IsPaid (lists orders) on_disk wanted_tip (number_more (next_of made)) (mk 0 HEADER 0 0) e
     link_paid e there = elim (has_either (demand n TRANSACTIONS s 0) (bit_demand size n) e
         (subst (λ (k : ℕ). Has (linked size n TRANSACTIONS k 0) e) now_sequence there)) [
-      | inl x ↦ subst (λ (y : Demand). IsPaid (lists orders) on_disk wanted_tip (number_more (next_of made)) (mk 0 HEADER 0 0) y)
-          (sym (is_demand n TRANSACTIONS s 0 e x)) (record {
-            is_wanted = inl (in_other wanted_bit more_tip (mk n TRANSACTIONS s 0)
-                (in_listed (mk n TRANSACTIONS s 0 ∷ []) (mk n TRANSACTIONS s 0) (inl refl)));
-            is_first = inr (inl page_ordered);
-          })
-      | inr y ↦ record {
-          is_wanted = inl (in_one wanted_bit more_tip e (in_other wanted more_bit e
-              (in_listed (bit_demand size n) e y)));
-          is_first = inr (inl (subst (λ (z : Demand). lists orders z.target 0 ≡ true)
-              (sym (is_demand (inventory_page size (region_of size n)) BIT n 0 e y)) bit_ordered));
-        }
-    ]
+          | inl x ↦ subst (λ (y : Demand). IsPaid (lists orders) on_disk wanted_tip (number_more (next_of made)) (mk 0 HEADER 0 0) y)
+              (sym (is_demand n TRANSACTIONS s 0 e x)) (record {
+                is_wanted = inl (in_other wanted_bit more_tip (mk n TRANSACTIONS s 0)
+                    (in_listed (mk n TRANSACTIONS s 0 ∷ []) (mk n TRANSACTIONS s 0) (inl refl)));
+                is_first = inr (inl page_ordered);
+              })
+          | inr y ↦ record {
+            is_wanted = inl (in_one wanted_bit more_tip e (in_other wanted more_bit e
+                (in_listed (bit_demand size n) e y)));
+            is_first = inr (inl (subst (λ (z : Demand). lists orders z.target 0 ≡ true)
+                (sym (is_demand (inventory_page size (region_of size n)) BIT n 0 e y)) bit_ordered));
+          }
+        ]
 
     head_step : Pays size made new (lists orders) on_disk wanted_tip (number_more (next_of made))
     head_step = header_pays size made new n (lists orders) on_disk wanted_tip
@@ -282,13 +313,13 @@ module _ (g : Geometry) (t : ℕ) (old new : Pages) (on_disk wanted : DemandSet)
     )
 
 pub draws_pay : DrawsPay
-draws_pay g t old new page orders on_disk wanted lawful says draws tip was header_in_ has_last =
+draws_pay g t old new page orders on_disk wanted lawful says draws tip was header_in_ =
     at page orders draws tip
   where
     at : (page : Option TipPage) (orders : List Order) → DrawsOn g t old new page orders
         → IsTipFor g.size t page → DrawPays g.size old new orders on_disk wanted t
     at None orders (on_last raises others) inner =
-        draw_last g t old new on_disk wanted lawful says was header_in_ has_last raises others inner
+        draw_last g t old new on_disk wanted lawful says was header_in_ raises others inner
     at (Some page) orders (on_new p taken takes bytes_are put raises others) tip =
-        draw_new g t old new on_disk wanted lawful says was header_in_ has_last p taken takes bytes_are put
+        draw_new g t old new on_disk wanted lawful says was header_in_ p taken takes bytes_are put
         raises others tip.0 tip.1

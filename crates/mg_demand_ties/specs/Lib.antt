@@ -1,2 +1,4 @@
+pub mod Runs
 pub mod DrawDemands
-pub mod Scratch
+pub mod CommitDemands
+pub mod GrowDemands

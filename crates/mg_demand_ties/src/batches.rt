@@ -1,5 +1,32 @@
-//! Batches.
+//! The batches, and runs of them.
 
-ghost use Rattle.mg_demand_ties.specs.Scratch.{Scratch};
+ghost use Rattle.mg_demand_ties.specs.CommitDemands.{EndsPay};
+ghost use Rattle.mg_demand_ties.specs.DrawDemands.{DrawsPay};
+ghost use Rattle.mg_demand_ties.specs.GrowDemands.{GrowthPays};
+ghost use Rattle.mg_demand_ties.specs.Runs.{RunsBear};
 
-pub fn scratch() ensures { Scratch } {}
+use mg_demands::demands_are_borne;
+use mg_space::FireLinks;
+
+/// The drawing of a number pays for its header, and for its new transaction inventory page.
+pub fn draws_pay()
+    ensures { DrawsPay }
+{}
+
+/// The end of a transaction pays for its bits.
+pub fn ends_pay()
+    ensures { EndsPay }
+{}
+
+/// A table that gets a data page pays for its entry.
+pub fn growth_pays()
+    ensures { GrowthPays }
+{}
+
+/// Page writes, and batches that pay, one after the other: the demands are borne still, with all roots,
+/// and every crash image is linked from them.
+pub fn runs_bear()
+    ensures { RunsBear }
+{
+    demands_are_borne::<FireLinks>()
+}
