@@ -10,7 +10,7 @@ use Rattle.mg_careful.specs.CarefulWrite.{Cache, PageSet}
 use Rattle.mg_careful.specs.Precedence.{Orders}
 use Rattle.mg_header.specs.HeaderPage.{database_checks, header_in, page_checks}
 use Rattle.mg_image.specs.Catalog.{catalog_table}
-use Rattle.mg_image.specs.FactLaws.{records_grow, records_on_same_cells, same_names}
+use Rattle.mg_image.specs.FactLaws.{records_on_same_cells, same_names}
 use Rattle.mg_image.specs.Form.{Form, Pages}
 use Rattle.mg_image.specs.Held.{AreChanges, Changes, HasLimbo, IsChangedAt}
 use Rattle.mg_image.specs.HeldLaws.{same_held}
@@ -37,6 +37,7 @@ use Rattle.mg_model.specs.declared.table.Table.{Table}
 use Rattle.mg_overlays.specs.BatchLaws.{change_keeps_always}
 use Rattle.mg_overlays.specs.Overlays.{ChangesCache, EveryOverlay, KeepsLaidAlways, KeepsNeeds, laid, left_by, left_state}
 use Rattle.mg_page_overlays.specs.GrowPages.{stands_still}
+use Rattle.mg_page_overlays.specs.GrownFacts.{records_grow}
 use Rattle.mg_pip.specs.PipPage.{bits, pip_checks, used_in}
 use Rattle.mg_slots.specs.DataPage.{cell_of}
 use Rattle.mg_tip.specs.TipPage.{places, prev_in, state_in, tip_checks}

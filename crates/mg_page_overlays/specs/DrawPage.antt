@@ -10,7 +10,7 @@ use Rattle.mg_careful.specs.CarefulWrite.{Cache, PageSet}
 use Rattle.mg_careful.specs.Precedence.{Orders}
 use Rattle.mg_header.specs.HeaderPage.{database_checks, header_in, page_checks}
 use Rattle.mg_image.specs.Catalog.{catalog_table}
-use Rattle.mg_image.specs.FactLaws.{records_grow, records_on_same_cells, same_names}
+use Rattle.mg_image.specs.FactLaws.{records_on_same_cells, same_names}
 use Rattle.mg_image.specs.Form.{Form, Pages}
 use Rattle.mg_image.specs.HeldLaws.{same_held}
 use Rattle.mg_image.specs.Indexes.{EachPage}
@@ -35,6 +35,7 @@ use Rattle.mg_overlays.specs.BatchLaws.{change_keeps_always}
 use Rattle.mg_overlays.specs.Overlays.{ChangesCache, EveryOverlay, KeepsLaidAlways, KeepsNeeds, left_by, left_state}
 use Rattle.mg_page_overlays.specs.Draw.{changes_on}
 use Rattle.mg_page_overlays.specs.GrowPages.{stands_still}
+use Rattle.mg_page_overlays.specs.GrownFacts.{records_grow}
 use Rattle.mg_overlays.specs.Views.{first_view, last_view, ordered_same, partly, step_in, step_out}
 use Rattle.mg_overlays.specs.Views.{LaysPage}
 use Rattle.mg_page_overlays.specs.TakePart.{IsTaken, OccupiesPage, bits_alike, take_views}

@@ -2,6 +2,7 @@ pub mod FrameKept
 pub mod GrowKept
 pub mod GrowPages
 pub mod GrowEvery
+pub mod GrownFacts
 pub mod Draw
 pub mod Creating
 pub mod TakePart

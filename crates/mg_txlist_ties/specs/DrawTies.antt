@@ -312,9 +312,11 @@ module _ (form : Form) (none : HasNoSequences form) {D L : Type 0} (m : Meaning 
       (subst (λ (pages : Pages). DrawsPage size (with_header view pool) pages made.page) (sym it.pool) draws)
       (record {
         bits = ordered (inventory_page size (region_of size made.page)) (lists_second made.page
-            (inventory_page size (region_of size made.page)) behind);
+            (inventory_page size (region_of size made.page))
+            (last_orders size made.page (header_of pool).last_tip.0));
         page_first = ordered made.page (lists_first made.page
-            (inventory_page size (region_of size made.page)) behind);
+            (inventory_page size (region_of size made.page))
+            (last_orders size made.page (header_of pool).last_tip.0));
         bits_in = has_bits;
       }) (oldest_stays made.page raises) every
     where
@@ -352,10 +354,6 @@ module _ (form : Form) (none : HasNoSequences form) {D L : Type 0} (m : Meaning 
       draws = tip_draws before.geometry from.geometry pool taken view made.page
           (header_of pool).last_tip.0 (next_said old / places size) takes made_there takes.free.no_header
           others start.sound.header.whole raises more seq_is refl small_seq small_last
-
-      -- those of the page before it
-      behind : List Order
-      behind = last_orders size made.page (header_of pool).last_tip.0
 
       ordered : (a : ℕ) → lists (tip_orders size made.page (header_of pool).last_tip.0) a 0 ≡ true
           → lists batch.orders a 0 ≡ true
