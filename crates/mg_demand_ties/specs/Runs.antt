@@ -4,14 +4,14 @@ use Rattle.mg_careful.specs.declared.links.Demand.{Demand}
 use Rattle.mg_careful.specs.Precedence.{Orders}
 use Rattle.mg_careful.specs.CarefulWrite.{Cache, DemandSet, IsClosed, IsIn, IsLinked, PageSet, overlay, three_parts}
 use Rattle.mg_careful.specs.CarefulSteps.{Contents, LaysBatch, written_out}
-use Rattle.mg_demands.specs.Bearing.{IsBearing}
+use Rattle.mg_demands.specs.Bearing.{BearsItsDemands}
 use Rattle.mg_space.specs.Demands.{demands_of, meets_of}
 use Rattle.mg_batch_demands.specs.Wanting.{IsWanting, Pays}
 
 -- A cache of the pages of a database bears its demands, and the pool's pages are wanted for what it
 -- wants.
 pub record BearsLinks (size : ℕ) (cache : Cache) (of_disk of_pool : DemandSet) : Type 0 where
-  pub bears : IsBearing demands_of meets_of cache of_disk of_pool
+  pub bears : BearsItsDemands demands_of meets_of cache of_disk of_pool
   pub wants : IsWanting size cache.pool of_pool
 
 -- whatever disk and pool want, a batch that is laid on the cache pays for its pages

@@ -8,7 +8,7 @@ use Rattle.mg_careful.specs.Precedence.{Orders, Precedes, directly}
 use Rattle.mg_careful.specs.PrecedenceLaws.{precedes_in}
 use Rattle.mg_careful.specs.CarefulWrite.{BearsDemands, Cache, CarefulWrite, DemandSet, Demands, Has, IsClosed, IsIn, Meets, PageSet, either, overlay, three_parts}
 use Rattle.mg_careful.specs.CarefulSteps.{BatchBears, BatchStaysCareful, Contents, LaysBatch, StaysCareful, goes_on, laid_demands, written_out}
-use Rattle.mg_demands.specs.Bearing.{BatchesBear, BearingStarts, IsBearing, IsPaid, OverlaysAreLinked, PaysDemands, WritesBear}
+use Rattle.mg_demands.specs.Bearing.{BatchesBear, BearingStarts, BearsItsDemands, IsPaid, OverlaysAreLinked, PaysDemands, WritesBear}
 
 pub starts : (demands : Demands) (meets : Meets) → BearingStarts demands meets
 starts demands meets = λ cache kept none same unordered keeps. record {
@@ -75,7 +75,7 @@ same_wanted demands meets cache of_disk one other to from bears = record {
   ];
 }
 
-module _ (demands : Demands) (meets : Meets) (stays : StaysCareful demands meets) (law : BatchStaysCareful demands meets) (old new : Cache) (of_disk of_pool more : DemandSet) (bearing : IsBearing demands meets old of_disk of_pool) (gone : PageSet) (closed : IsClosed old gone) (batch : Contents) (orders : Orders) (lays : LaysBatch old new gone batch orders) (own : (a b : ℕ) → orders a b ≡ true → is_some (batch b) ≡ true) (pays : PaysDemands demands meets old.pool new.pool orders (three_parts old gone of_disk of_pool) of_pool more) where
+module _ (demands : Demands) (meets : Meets) (stays : StaysCareful demands meets) (law : BatchStaysCareful demands meets) (old new : Cache) (of_disk of_pool more : DemandSet) (bearing : BearsItsDemands demands meets old of_disk of_pool) (gone : PageSet) (closed : IsClosed old gone) (batch : Contents) (orders : Orders) (lays : LaysBatch old new gone batch orders) (own : (a b : ℕ) → orders a b ≡ true → is_some (batch b) ≡ true) (pays : PaysDemands demands meets old.pool new.pool orders (three_parts old gone of_disk of_pool) of_pool more) where
   abbrev three : DemandSet
   three = three_parts old gone of_disk of_pool
 
@@ -87,7 +87,7 @@ module _ (demands : Demands) (meets : Meets) (stays : StaysCareful demands meets
   abbrev stated : DemandSet
   stated d witness = more d witness || (is_some (batch d.target) && of_pool d witness)
 
-  middle : IsBearing demands meets (written_out old gone) three of_pool
+  middle : BearsItsDemands demands meets (written_out old gone) three of_pool
   middle = writes demands meets stays old of_disk of_pool bearing gone closed
 
   stated_cases : (d : Demand) → IsIn stated d
@@ -259,7 +259,7 @@ module _ (demands : Demands) (meets : Meets) (stays : StaysCareful demands meets
       ∙ (ap (λ (o : Option (List ℕ)). unwrap_or o (old.pool p)) both.0
       ∙ (middle.careful.clean p both.1 ∙ sym (lays.disk p)))
 
-  pub batch_then : IsBearing demands meets new three (either of_pool more)
+  pub batch_then : BearsItsDemands demands meets new three (either of_pool more)
   batch_then = record {
     careful = record {
       bears = same_wanted demands meets new three laid (either of_pool more) to_either from_either

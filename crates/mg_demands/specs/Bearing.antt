@@ -9,7 +9,7 @@ use Rattle.mg_careful.specs.CarefulSteps.{Contents, LaysBatch, written_out}
 
 -- A cache bears its demands: its writer is careful, for what the disk's image keeps and what the
 -- pool's image keeps; and what the disk has on a clean page is wanted in the pool still.
-pub record IsBearing (demands : Demands) (meets : Meets) (cache : Cache) (of_disk of_pool : DemandSet)
+pub record BearsItsDemands (demands : Demands) (meets : Meets) (cache : Cache) (of_disk of_pool : DemandSet)
     : Type 0 where
   pub careful : IsCareful demands meets cache of_disk of_pool
   pub clean : (d : Demand) → IsIn of_disk d → cache.dirty d.target ≡ false → IsIn of_pool d
@@ -38,33 +38,33 @@ abbrev pub BearingStarts : Demands → Meets → Type 0
 BearingStarts demands meets = (cache : Cache) (kept : DemandSet)
     → ((p : ℕ) → cache.dirty p ≡ false) → ((p : ℕ) → cache.pool p ≡ cache.disk p)
     → ((a b : ℕ) → cache.ordered a b ≡ false) → KeepsDemands demands meets cache.disk kept
-    → IsBearing demands meets cache kept kept
+    → BearsItsDemands demands meets cache kept kept
 
 -- after the pages of a closed set were written out the demands are borne still
 abbrev pub WritesBear : Demands → Meets → Type 0
 WritesBear demands meets = (cache : Cache) (of_disk of_pool : DemandSet)
-    → IsBearing demands meets cache of_disk of_pool
+    → BearsItsDemands demands meets cache of_disk of_pool
     → (gone : PageSet) → IsClosed cache gone
-    → IsBearing demands meets (written_out cache gone) (three_parts cache gone of_disk of_pool)
+    → BearsItsDemands demands meets (written_out cache gone) (three_parts cache gone of_disk of_pool)
     of_pool
 
 -- The law of a batch: where the demands were borne before, and the batch pays for its own pages, they
 -- are borne after it. The later page of each of its orders is one of its own.
 abbrev pub BatchesBear : Demands → Meets → Type 0
 BatchesBear demands meets = (old new : Cache) (of_disk of_pool more : DemandSet)
-    → IsBearing demands meets old of_disk of_pool
+    → BearsItsDemands demands meets old of_disk of_pool
     → (gone : PageSet) → IsClosed old gone
     → (batch : Contents) (orders : Orders) → LaysBatch old new gone batch orders
     → ((a b : ℕ) → orders a b ≡ true → is_some (batch b) ≡ true)
     → PaysDemands demands meets old.pool new.pool orders (three_parts old gone of_disk of_pool) of_pool
     more
-    → IsBearing demands meets new (three_parts old gone of_disk of_pool) (either of_pool more)
+    → BearsItsDemands demands meets new (three_parts old gone of_disk of_pool) (either of_pool more)
 
 -- where the demands are borne, the overlay of each closed set is linked from all roots that disk and
 -- pool have
 abbrev pub OverlaysAreLinked : Demands → Meets → Type 0
 OverlaysAreLinked demands meets = (cache : Cache) (of_disk of_pool roots : DemandSet)
-    → IsBearing demands meets cache of_disk of_pool
+    → BearsItsDemands demands meets cache of_disk of_pool
     → ((d : Demand) → IsIn roots d → IsIn of_disk d × IsIn of_pool d)
     → (set_ : PageSet) → IsClosed cache set_
     → IsLinked demands meets (overlay cache set_) roots

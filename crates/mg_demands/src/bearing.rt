@@ -4,7 +4,7 @@ ghost use Rattle.mg_demands.specs.Bearing.{BatchesBear, BearingStarts, OverlaysA
 
 use mg_careful::{Links, careful_write};
 
-/// The law of careful write as one invariant (`IsBearing`) that a writer keeps from change to change:
+/// The law of careful write as one invariant (`BearsItsDemands`) that a writer keeps from change to change:
 /// it holds where nothing is dirty; page writes keep it; so does a batch that pays for the links that
 /// its own pages come to hold (`PaysDemands`); and where it holds, each image that a crash may leave is
 /// linked from every root that disk and pool have.

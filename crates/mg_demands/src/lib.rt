@@ -1,6 +1,6 @@
 //! What every batch owes to the law of careful write, for any format of links.
 //!
-//! Owns: the invariant of a careful writer (`IsBearing`), what a batch pays (`PaysDemands`), and the laws
+//! Owns: the invariant of a careful writer (`BearsItsDemands`), what a batch pays (`PaysDemands`), and the laws
 //! that page writes and batches keep the invariant, and that crash images are linked where it holds.
 //! A batch owes the links alone that its own pages come to hold: what such a link leads to is wanted,
 //! and stands on the holder's own page, or is ordered before it, or is on the disk already.
