@@ -2,3 +2,4 @@ pub mod Runs
 pub mod DrawDemands
 pub mod CommitDemands
 pub mod GrowDemands
+pub mod CellDemands

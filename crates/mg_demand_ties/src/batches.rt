@@ -1,5 +1,6 @@
 //! The batches, and runs of them.
 
+ghost use Rattle.mg_demand_ties.specs.CellDemands.{VersionsPay};
 ghost use Rattle.mg_demand_ties.specs.CommitDemands.{EndsPay};
 ghost use Rattle.mg_demand_ties.specs.DrawDemands.{DrawsPay};
 ghost use Rattle.mg_demand_ties.specs.GrowDemands.{GrowthPays};
@@ -21,6 +22,12 @@ pub fn ends_pay()
 /// A table that gets a data page pays for its entry.
 pub fn growth_pays()
     ensures { GrowthPays }
+{}
+
+/// A version that is written, first or over another one, pays for its cell and for the slot that comes to
+/// lead to it.
+pub fn versions_pay()
+    ensures { VersionsPay }
 {}
 
 /// Page writes, and batches that pay, one after the other: the demands are borne still, with all roots,

@@ -10,10 +10,10 @@
 //! | a number is drawn (`draw` of mg_txlist) | `DrawDemands` | a new inventory page and its bit before the header; the last one and its bit before the new one |
 //! | the bits of a transaction (`mark_committed` of mg_txlist) | `CommitDemands` | the header before the page |
 //! | a table gets a data page (mg_heap) | `GrowDemands` | the page and its bit before the pointer page |
+//! | a version is written, first or over another one (`first`, `push` of mg_chain) | `CellDemands` | the header and the page of the version behind before the version's page, that before the slot's page |
 //!
-//! There is no program here: each function does nothing, and its contract is a law. Batches that write
-//! cells have their step in `mg_batch_demands` (`CellPays`); those that free cells drop demands, and none of
-//! these laws speaks of them.
+//! There is no program here: each function does nothing, and its contract is a law. Batches that free cells
+//! drop demands, and none of these laws speaks of them.
 //!
 //! Invariant: none, it keeps no state.
 //! Below: `mg_batch_demands`, what each step pays; `mg_txlist`. Above: nothing yet.
@@ -22,4 +22,4 @@
 
 mod batches;
 
-pub use batches::{draws_pay, ends_pay, growth_pays, runs_bear};
+pub use batches::{draws_pay, ends_pay, growth_pays, runs_bear, versions_pay};
