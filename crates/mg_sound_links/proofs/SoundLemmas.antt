@@ -6,7 +6,7 @@ use Rattle.std.proofs.Math.Nat.{div-lt_iff_lt-mul, suc-mul, zero-mul}
 use Rattle.std.proofs.lemmas.Nat.{div-mul-add, mod-mul-add}
 use Rattle.std.proofs.lemmas.Bool.{both_ways, cases_lt, eq-eqb, eqb-true, ltb-true, lt-ltb, and_from, or_cases, or_right}
 use Rattle.mg_base.specs.CheckLaws.{verdict_from_passes}
-use Rattle.mg_base.specs.Checks.{Check, PassesAll, verdict}
+use Rattle.mg_base.specs.Checks.{Check, PassesAll, common_checks, verdict}
 use Rattle.mg_base.specs.Fields.{byte, u32_at}
 use Rattle.mg_base.specs.Geometry.{is_page_size}
 use Rattle.mg_base.specs.Image.{blank}
@@ -16,7 +16,7 @@ use Rattle.mg_base.specs.declared.transaction.TxState.{TxState}
 use Rattle.mg_base.specs.declared.transaction.TxState.TheVariants.{Active, Committed, Dead, Limbo}
 use Rattle.mg_careful.specs.declared.links.Demand.{Demand}
 use Rattle.mg_careful.specs.CarefulWrite.{Has, IsLinked, ListsAreSets, listed}
-use Rattle.mg_demands.specs.Wanted.{linked_where}
+use Rattle.mg_demands.specs.Wanted.{linked_where, roots_wanted, wanted_have, wanted_keeps}
 use Rattle.mg_header.specs.HeaderPage.{database_checks, page_checks, reading_upto, the_page}
 use Rattle.mg_image.specs.Form.{Form, Pages}
 use Rattle.mg_image.specs.Indexes.{AreChildren, AreNodes, HasEntry, AreTrees, EachPage, HasChildren, IsNode, IsTree, Levels, above, first_level, lowest}
@@ -36,6 +36,7 @@ use Rattle.mg_pip.specs.PipPageLaws.{zero_unused}
 use Rattle.std.proofs.lemmas.List.{get_or-replicate, get_or_past, length-replicate}
 use Rattle.mg_base.specs.declared.numbers.TxNo.{TxNo}
 use Rattle.mg_pointer.specs.PointerPage.{capacity, count_in, entries_of, first_entries, next_in, place_of, pointer_checks}
+use Rattle.mg_slots.specs.declared.page.TheConstants.{DATA_KIND}
 use Rattle.mg_slots.specs.DataPage.{slot_count}
 use Rattle.mg_space.specs.Demands.{back_demands, bit_demand, cell_demands, child_demands, demand, demands_by, demands_of, drawn_demands, entry_demands, header_demands, is_decided, is_header, is_version_of, linked, meets_bit, meets_by, meets_of, node_demands, pointer_demands, right_demands, slot_demands, tip_demands, tree_demands, version_demands, wanted_demands}
 use Rattle.mg_space.specs.declared.links.TheConstants.{BIT, DATA, HEADER, NEXT, NODE, POINTER, TRANSACTIONS, TREE, VERSION}
@@ -44,7 +45,7 @@ use Rattle.mg_version.specs.declared.cell.Cell.{Cell}
 use Rattle.mg_version.specs.declared.cell.Cell.TheVariants as cells
 use Rattle.mg_version.specs.declared.cell.Link.{Link}
 use Rattle.mg_version.specs.declared.cell.Version.{Version}
-use Rattle.mg_sound_links.specs.Roots.{IsFilled, SoundIsLinked, index_roots, roots_of, table_roots}
+use Rattle.mg_sound_links.specs.Roots.{IsFilled, IsWantedFrom, SoundIsLinked, SoundIsWanted, index_roots, roots_of, table_roots}
 
 -- ---- lists of demands
 
@@ -207,6 +208,11 @@ module _ (form : Form) (size : ℕ) (state : ℕ → TxState) (pages : Pages) (l
     pub nodes : AreNodes size pages owner (level ∷ below)
     pub chains : AreLevels pages (level ∷ below)
 
+  -- a version of a drawn transaction, on a data page of a table
+  record IsPlaced (x : Entry) : Type 0 where
+    pub below : writer x < next_of pages
+    pub of_table : (table : Table) × (table_at (stands_of layout) x.at.page.0 ≡ Some table)
+
   data Stands : Demand → Type 0 where
     header : {d : Demand} → d ≡ mk 0 HEADER 0 0 → Stands d
     drawn : {d : Demand} (t : ℕ) → d ≡ mk 0 NEXT t 0 → t < next_of pages → Stands d
@@ -218,7 +224,7 @@ module _ (form : Form) (size : ℕ) (state : ℕ → TxState) (pages : Pages) (l
         → Stands d
     version : {d : Demand} (link : Link) (e : Entry) (es : List Entry)
         → d ≡ mk link.rec.page.0 VERSION link.rec.slot link.tx.0
-        → Chain (cells_of pages) (Some link) (e ∷ es) → Each (λ x. writer x < next_of pages) (e ∷ es)
+        → Chain (cells_of pages) (Some link) (e ∷ es) → Each IsPlaced (e ∷ es)
         → Stands d
     tree : {d : Demand} (n owner : ℕ) (level : List ℕ) (below : List (List ℕ)) → d ≡ mk n TREE owner 0
         → IsInTree owner n level below → Stands d
@@ -442,12 +448,12 @@ module _ (form : Form) (size : ℕ) (state : ℕ → TxState) (pages : Pages) (l
 
   -- what a link of a chain leads to
   of_link : (link : Link) (es : List Entry) → Chain (cells_of pages) (Some link) es
-      → Each (λ x. writer x < next_of pages) es
+      → Each IsPlaced es
       → Stands (mk link.rec.page.0 VERSION link.rec.slot link.tx.0)
   of_link link es chain each = at (Some link) es chain each link refl
     where
       at : (o : Option Link) (es : List Entry) → Chain (cells_of pages) o es
-          → Each (λ x. writer x < next_of pages) es → (l : Link) → o ≡ Some l
+          → Each IsPlaced es → (l : Link) → o ≡ Some l
           → Stands (mk l.rec.page.0 VERSION l.rec.slot l.tx.0)
       at None es ended each l is = absurd cc
       at (Some k) es (goes m e more there cell by rest) each l is =
@@ -457,14 +463,14 @@ module _ (form : Form) (size : ℕ) (state : ℕ → TxState) (pages : Pages) (l
 
   -- the version before one
   behind_in : (o : Option Link) (es : List Entry) → Chain (cells_of pages) o es
-      → Each (λ x. writer x < next_of pages) es → (link : Link) → o ≡ Some link
+      → Each IsPlaced es → (link : Link) → o ≡ Some link
       → Stands (mk link.rec.page.0 VERSION link.rec.slot link.tx.0)
   behind_in o es chain each link is =
       of_link link es (subst (λ (x : Option Link). Chain (cells_of pages) x es) is chain) each
 
   -- what a slot of a data page leads to
   of_cell : (p : RecId) (es : List Entry) (cell : Option Cell) → cells_of pages p ≡ cell
-      → Chain (cells_of pages) (newest_of p cell) es → Each (λ x. writer x < next_of pages) es
+      → Chain (cells_of pages) (newest_of p cell) es → Each IsPlaced es
       → (e : Demand) → Has (cell_demands cell) e → Stands e
   of_cell p es None is chain each e h = absurd h
   of_cell p es (Some (cells.Anchor link)) is chain each e h = subst Stands
@@ -472,7 +478,7 @@ module _ (form : Form) (size : ℕ) (state : ℕ → TxState) (pages : Pages) (l
   of_cell p es (Some (cells.Version v)) is chain each e h = at v.primary refl h
     where
       inner : (o : Option Link) (es : List Entry) → Chain (cells_of pages) o es
-          → Each (λ x. writer x < next_of pages) es → o ≡ Some (record { rec = p; tx = v.tx })
+          → Each IsPlaced es → o ≡ Some (record { rec = p; tx = v.tx })
           → Has (version_demands v) e → Stands e
       inner None es ended each same h = absurd cc
       inner (Some k) es (goes m f more there cell by rest) each same h =
@@ -481,7 +487,7 @@ module _ (form : Form) (size : ℕ) (state : ℕ → TxState) (pages : Pages) (l
           let cell_is : Some (cells.Version f.version) ≡ Some (cells.Version v) =
           sym cell ∙ (ap (cells_of pages) place ∙ is) in
           let one : f.version ≡ v = cc in
-          of_version v more (subst (λ (x : Version). x.tx.0 < next_of pages) one each.0)
+          of_version v more (subst (λ (x : Version). x.tx.0 < next_of pages) one each.0.below)
           (behind_in v.back more (subst (λ (x : Version). Chain (cells_of pages) x.back more) one rest) each.1)
           e h
 
@@ -492,9 +498,12 @@ module _ (form : Form) (size : ℕ) (state : ℕ → TxState) (pages : Pages) (l
 
   all_drawn : (table : Table) (key : _) (es : List Entry)
       → Each (IsVersion form.coding (facts_by state pages layout) table key) es
-      → Each (λ x. writer x < next_of pages) es
+      → Each IsPlaced es
   all_drawn table key [] each = tt
-  all_drawn table key (e ∷ es) each = (each.0.drawn, all_drawn table key es each.1)
+  all_drawn table key (e ∷ es) each = (
+    record { below = each.0.drawn; of_table = (table, each.0.placed) },
+    all_drawn table key es each.1,
+  )
 
   of_slots : (n k : ℕ) (table : Table) → table_at (stands_of layout) n ≡ Some table → (e : Demand)
       → Has (slot_demands (pages n) k) e → Stands e
@@ -726,10 +735,10 @@ module _ (form : Form) (size : ℕ) (state : ℕ → TxState) (pages : Pages) (l
       (subst (λ (x : Demand). Has (demands_of (pages x.target) x) e) is made))
 
   of_wanted : (link : Link) (f : Entry) (fs : List Entry) → Chain (cells_of pages) (Some link) (f ∷ fs)
-      → Each (λ x. writer x < next_of pages) (f ∷ fs) → (e : Demand)
+      → Each IsPlaced (f ∷ fs) → (e : Demand)
       → Has (wanted_demands (cells_of pages link.rec)) e → Stands e
   of_wanted link f fs (goes l g gs there cell by rest) each e h =
-      of_version f.version fs each.0 (behind_in f.version.back fs rest each.1) e
+      of_version f.version fs each.0.below (behind_in f.version.back fs rest each.1) e
       (subst (λ (c : Option Cell). Has (wanted_demands c) e) (ap (cells_of pages) (sym there) ∙ cell) h)
 
   along : (d e : Demand) → Stands d → Has (demands_of (pages d.target) d) e → Stands e
@@ -813,6 +822,115 @@ module _ (form : Form) (size : ℕ) (state : ℕ → TxState) (pages : Pages) (l
   met d (bit n is below used) = met_by (mk (inventory_page size (n / bits size)) BIT n 0) d is
       (marks n below used)
 
+  -- ---- marked, and on data pages
+
+  has_it : (ns : List ℕ) (n : ℕ) → has ns n ≡ true → HasPage ns n
+  has_it [] n is = absurd cc
+  has_it (m ∷ ns) n is = elim (or_cases (n == m) _ is) [
+    | inl same ↦ inl (eqb-true n m same)
+    | inr more ↦ inr (has_it ns n more)
+  ]
+
+  data_at : (owner at : ℕ) (ns : List ℕ) → EachFrom (IsTableData form.in_primary size pages owner) at ns
+      → (n : ℕ) → HasPage ns n
+      → (k : ℕ) × IsTableData form.in_primary size pages owner k n
+  data_at owner at [] each n there = absurd there
+  data_at owner at (m ∷ ns) each n (inl same) =
+      (at, subst (IsTableData form.in_primary size pages owner at) (sym same) each.0)
+  data_at owner at (m ∷ ns) each n (inr there) = data_at owner (suc at) ns each.1 n there
+
+  -- a page that belongs to a table is marked as used, and is a data page
+  abbrev IsMarkedData : ℕ → Type 0
+  IsMarkedData n = (is_used size pages n ≡ true) × (byte (pages n) 0 ≡ DATA_KIND)
+
+  of_data : (owner k n : ℕ) → IsTableData form.in_primary size pages owner k n → IsMarkedData n
+  unfolding common_checks
+  of_data owner k n data_ = (data_.wanted.used, data_.wanted.fields.0)
+
+  in_table : (stands : List Stand) → EachStand (HasTablePages form.in_primary size pages) stands → (n : ℕ)
+      (table : Table) → table_at stands n ≡ Some table → IsMarkedData n
+  in_table [] has_ n table is = absurd cc
+  in_table (stand ∷ stands) has_ n table is = at (has stand.data_pages n) refl is (in_table stands has_.1 n table)
+    where
+      at : (b : Bool) → has stand.data_pages n ≡ b
+          → (if b then Some stand.table else table_at stands n) ≡ Some table
+          → (table_at stands n ≡ Some table → IsMarkedData n) → IsMarkedData n
+      at true there is others =
+          let found = data_at stand.table.pointer.0 0 stand.data_pages has_.0.data_pages n
+          (has_it stand.data_pages n there) in of_data stand.table.pointer.0 found.0 n found.1
+      at false there is others = others is
+
+  of_placed : (link : Link) (f : Entry) (fs : List Entry) → Chain (cells_of pages) (Some link) (f ∷ fs)
+      → IsPlaced f → IsMarkedData link.rec.page.0
+  of_placed link f fs (goes l g gs there cell by rest) placed =
+      subst (λ (p : RecId). IsMarkedData p.page.0) there
+      (in_table (stands_of layout) sound.tables f.at.page.0 placed.of_table.0 placed.of_table.1)
+
+  used_by : (want d : Demand) → d ≡ want → is_used size pages want.target ≡ true
+      → is_used size pages d.target ≡ true
+  used_by want d is used = subst (λ (x : Demand). is_used size pages x.target ≡ true) (sym is) used
+
+  region_used : (n : ℕ) → n < GREATEST_LIMIT → is_used size pages n ≡ true
+      → is_used size pages (inventory_page size (n / bits size)) ≡ true
+  unfolding is_used
+  region_used n below used = on (sound.inventory (n / bits size) (inside size lawful n below))
+    where
+      on : HasRegion size pages (inventory_page size (n / bits size)) (n / bits size)
+          → is_used size pages (inventory_page size (n / bits size)) ≡ true
+      on (inl empty) =
+          let unused : used_in (pages (inventory_page size (n / bits size))) (n % bits size) ≡ false =
+          ap (λ (page : List ℕ). used_in page (n % bits size)) empty
+          ∙ zero_unused (blank size) (n % bits size) (zeros _) in
+          absurd (both_ways _ unused used)
+      on (inr wanted) = wanted.used
+
+  is_marked : (d : Demand) → Stands d → is_used size pages d.target ≡ true
+  is_marked d (header is) = used_by (mk 0 HEADER 0 0) d is sound.header.used
+  is_marked d (drawn t is below) = used_by (mk 0 NEXT t 0) d is sound.header.used
+  is_marked d (tip s is least) = used_by (mk (tip_page size pages s) TRANSACTIONS s 0) d is
+      (sound.transactions.each s least).used
+  is_marked d (pointer n owner place ns is chain some are) = used_by (mk n POINTER owner place) d is
+      (first_each (IsTablePointer size pages owner) (λ k. next_in (pages k)) n place ns chain some
+      are.pointers).used
+  is_marked d (data_page n owner place is there) = used_by (mk n DATA owner place) d is there.data_.wanted.used
+  is_marked d (version link f fs is chain each) =
+      used_by (mk link.rec.page.0 VERSION link.rec.slot link.tx.0) d is (of_placed link f fs chain each.0).0
+  is_marked d (tree n owner level below is there) = used_by (mk n TREE owner 0) d is
+      (node_of owner n level below there).wanted.used
+  is_marked d (node n owner level below is there) = used_by (mk n NODE owner (length below)) d is
+      (node_of owner n level below there).wanted.used
+  is_marked d (bit n is below used) = used_by (mk (inventory_page size (n / bits size)) BIT n 0) d is
+      (region_used n below used)
+
+  not_version : (d : Demand) (k : ℕ) → d.what ≡ k → k ≢ 6 → d.what ≡ VERSION
+      → byte (pages d.target) 0 ≡ DATA_KIND
+  not_version d k is ne what = absurd (ne (sym is ∙ what))
+
+  on_data : (d : Demand) → Stands d → d.what ≡ VERSION → byte (pages d.target) 0 ≡ DATA_KIND
+  on_data d (header is) = not_version d 1 (ap (λ (x : Demand). x.what) is) (λ e. omega (arith, e))
+  on_data d (drawn t is below) = not_version d 2 (ap (λ (x : Demand). x.what) is) (λ e. omega (arith, e))
+  on_data d (tip s is least) = not_version d 3 (ap (λ (x : Demand). x.what) is) (λ e. omega (arith, e))
+  on_data d (pointer n owner place ns is chain some are) =
+      not_version d 4 (ap (λ (x : Demand). x.what) is) (λ e. omega (arith, e))
+  on_data d (data_page n owner place is there) =
+      not_version d 5 (ap (λ (x : Demand). x.what) is) (λ e. omega (arith, e))
+  on_data d (version link f fs is chain each) = λ what.
+      subst (λ (x : Demand). byte (pages x.target) 0 ≡ DATA_KIND) (sym is) (of_placed link f fs chain each.0).1
+  on_data d (tree n owner level below is there) =
+      not_version d 7 (ap (λ (x : Demand). x.what) is) (λ e. omega (arith, e))
+  on_data d (node n owner level below is there) =
+      not_version d 8 (ap (λ (x : Demand). x.what) is) (λ e. omega (arith, e))
+  on_data d (bit n is below used) =
+      not_version d 9 (ap (λ (x : Demand). x.what) is) (λ e. omega (arith, e))
+
+  wanted_so : ListsAreSets → IsWantedFrom size pages (roots_of size layout)
+  wanted_so sets = record {
+    keeps = wanted_keeps demands_of meets_of pages (roots_of size layout) sets Stands of_roots along met;
+    rooted = λ d h. roots_wanted demands_of meets_of pages (roots_of size layout) sets d h;
+    used = λ d h. is_marked d (wanted_have demands_of meets_of pages (roots_of size layout) sets Stands of_roots along d h);
+    on_data = λ d h. on_data d (wanted_have demands_of meets_of pages (roots_of size layout) sets Stands of_roots along d h);
+  }
+
   linked_so : ListsAreSets → IsLinked demands_of meets_of pages (listed (roots_of size layout))
   linked_so sets = linked_where demands_of meets_of pages (roots_of size layout) sets Stands of_roots
       along met
@@ -820,3 +938,7 @@ module _ (form : Form) (size : ℕ) (state : ℕ → TxState) (pages : Pages) (l
 pub sound_is_linked : (form : Form) → ListsAreSets → SoundIsLinked form
 sound_is_linked form sets = λ size state pages layout r sound filled.
     linked_so form size state pages layout r sound filled sets
+
+pub sound_is_wanted : (form : Form) → ListsAreSets → SoundIsWanted form
+sound_is_wanted form sets = λ size state pages layout r sound filled.
+    wanted_so form size state pages layout r sound filled sets
