@@ -1,15 +1,14 @@
 -- What the writing of a version pays: its cell is put, and then its record's primary slot leads to it.
-use Rattle.std.specs.Prelude.{◌≡◌, ◌≢◌, ◌⊎◌, ◌+◌, ◌++◌, ℕ, Bool, true, false, List, [], ◌∷◌, Option, None, Some, if◌then◌else◌}
+use Rattle.std.specs.Prelude.{◌≡◌, ◌⊎◌, ℕ, Bool, true, false, List, [], ◌∷◌, Option, None, Some, if◌then◌else◌}
 use Rattle.std.proofs.Common.{inl, inr, refl, sym, subst, ap, ◌∙◌}
 use Rattle.std.proofs.lemmas.Bool.{eq-eqb}
 use Rattle.mg_careful.specs.declared.links.Demand.{Demand}
 use Rattle.mg_careful.specs.Precedence.{Orders}
-use Rattle.mg_careful.specs.CarefulWrite.{DemandSet, Has, IsIn, either, listed}
+use Rattle.mg_careful.specs.CarefulWrite.{DemandSet, Has, IsIn, either}
 use Rattle.mg_demands.specs.Bearing.{IsPaid}
 use Rattle.mg_image.specs.Form.{Pages}
-use Rattle.mg_image.specs.Inventory.{next_of}
 use Rattle.mg_image.specs.Records.{slot_cell}
-use Rattle.mg_space.specs.Demands.{back_demands, cell_demands, demand, is_version_of, link_demand, version_demands, wanted_demands}
+use Rattle.mg_space.specs.Demands.{back_demands, cell_demands, demand, is_version_of, version_demands, wanted_demands}
 use Rattle.mg_space.specs.declared.links.TheConstants.{NEXT, VERSION}
 use Rattle.mg_version.specs.declared.cell.Cell.{Cell}
 use Rattle.mg_version.specs.declared.cell.Cell.TheVariants as cells
@@ -18,7 +17,7 @@ use Rattle.mg_version.specs.declared.cell.Version.{Version}
 use Rattle.mg_batch_demands.specs.CellLaws.{IsVersionCell, PutsOn, cell_pays, version_more}
 use Rattle.mg_batch_demands.specs.Met.{has_either, in_listed, is_demand, mk, of_listed}
 use Rattle.mg_batch_demands.specs.Wanting.{IsWanting, Pays}
-use Rattle.mg_batch_demands.specs.WantingLaws.{in_one, in_other, two_pay}
+use Rattle.mg_batch_demands.specs.WantingLaws.{in_other, two_pay}
 
 -- A demand is paid for before the pages of a batch: it is wanted, and its page comes before a page, or is
 -- that page, or the disk has it.

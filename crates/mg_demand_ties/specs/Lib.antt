@@ -3,3 +3,4 @@ pub mod DrawDemands
 pub mod CommitDemands
 pub mod GrowDemands
 pub mod CellDemands
+pub mod Starts

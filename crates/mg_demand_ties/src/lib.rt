@@ -3,7 +3,8 @@
 //!
 //! Owns: the invariant (`BearsLinks`: the cache bears its demands, at the links of the file format), runs of
 //! page writes and batches that pay (`Goes`), and the law that a run keeps the invariant, with every root
-//! that disk and pool had, and leaves crash images that are linked (`RunsBear`). Of batches:
+//! that disk and pool had, and leaves crash images that are linked (`RunsBear`); over a sound image that
+//! begins so, from that image's roots (`CrashesAreLinked`). Of batches:
 //!
 //! | batch | file | orders that pay |
 //! |---|---|---|
@@ -16,10 +17,13 @@
 //! drop demands, and none of these laws speaks of them.
 //!
 //! Invariant: none, it keeps no state.
-//! Below: `mg_batch_demands`, what each step pays; `mg_txlist`. Above: nothing yet.
+//! Below: `mg_batch_demands`, what each step pays; `mg_sound_links`; `mg_txlist`. Above: nothing yet.
 //! Not here: index pages, and the catalog.
 #![tactic(auto)]
 
 mod batches;
 
-pub use batches::{draws_pay, ends_pay, growth_pays, runs_bear, versions_pay};
+pub use batches::{
+    crashes_are_linked, draws_pay, ends_pay, growth_pays, opened_images_bear, runs_bear,
+    versions_pay,
+};
