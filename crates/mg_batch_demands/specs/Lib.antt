@@ -1,0 +1,10 @@
+pub mod Wanting
+pub mod Met
+pub mod WantingLaws
+pub mod KindLaws
+pub mod TakeLaws
+pub mod NumberLaws
+pub mod TipLaws
+pub mod PointerLaws
+pub mod CellLaws
+pub mod Steps

@@ -1,0 +1,31 @@
+//! What each step of a batch pays to the law of careful write: the taking of a page, the making of one, a
+//! raised header, the bits of a transaction, an entry of a pointer page, a cell of a data page.
+//!
+//! Owns: how the pages of a database are wanted (`IsWanting`): what is wanted is met and wanted in turn, a
+//! page of which something is wanted is marked as used, and versions are wanted of data pages alone; what a
+//! change of pages pays (`Pays`); and for each kind of step the law that it pays, between two views. Each
+//! link that a step newly makes has to be paid for (`IsPaid` of mg_demands): the premise of the law says
+//! which these are, and the orders of the batch are what the callers pay them with. Several steps are one
+//! (`two_pay`), so a batch is judged view by view.
+//!
+//! | file | has |
+//! |---|---|
+//! | `Wanting`, `WantingLaws` | the definitions; a change of one page; two changes |
+//! | `Met`, `KindLaws` | what a page is that meets a demand; what is wanted of a page, by its kind |
+//! | `TakeLaws`, `NumberLaws`, `TipLaws`, `PointerLaws`, `CellLaws` | the steps |
+//! | `Steps` | the laws as the contracts name them |
+//!
+//! There is no program here: each function does nothing, and its contract is a law. A step that drops a
+//! demand (a freed cell) is not among them.
+//!
+//! Invariant: none, it keeps no state.
+//! Below: `mg_demands`, the law of a batch; `mg_space`, the links of the file format. Above:
+//! `mg_demand_ties`, of the batches of each crate.
+//! Not here: orders of batches, and the page cache.
+#![tactic(auto)]
+
+mod steps;
+
+pub use steps::{
+    cells_pay, made_pages_pay, numbers_pay, steps_are_one, tables_pay, taken_pages_pay,
+};
