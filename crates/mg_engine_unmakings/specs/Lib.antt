@@ -1,5 +1,9 @@
+pub mod CatalogPages
+pub mod ChangedTables
+pub mod ChangedTablesLaws
 pub mod Outs
 pub mod OutsLaws
+pub mod OutsThereLaws
 pub mod Taken
 pub mod TakenKept
 pub mod TakenNames

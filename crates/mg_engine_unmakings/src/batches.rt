@@ -1,6 +1,6 @@
 //! Rows of the catalog are taken out in one batch. Each function's contract is the law.
 
-ghost use Rattle.mg_engine_unmakings.specs.Outs.{OutsAreRead, TakenTablesKeep};
+ghost use Rattle.mg_engine_unmakings.specs.Outs.{OutsAreRead, OutsThere, TakenTablesKeep};
 ghost use Rattle.mg_image.specs.Form.{packed_form};
 
 use mg_base::Disk;
@@ -17,6 +17,13 @@ pub fn taken_tables_keep<D: Disk, L: Links>()
 /// What is read of such a batch, its maker dead.
 pub fn taken_tables_are_read<D: Disk, L: Links>()
     ensures { OutsAreRead packed_form D L }
+{
+    one_reading();
+}
+
+/// Such a batch leaves and takes what the law of it wants, where its keys are of whole tables.
+pub fn taken_tables_are_there<D: Disk, L: Links>()
+    ensures { OutsThere packed_form D L }
 {
     one_reading();
 }

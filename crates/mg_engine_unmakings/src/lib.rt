@@ -29,9 +29,11 @@
 #![tactic(auto)]
 
 mod batches;
+mod histories;
 mod pages;
 mod rows;
 
-pub use batches::{taken_tables_are_read, taken_tables_keep};
+pub use batches::{taken_tables_are_read, taken_tables_are_there, taken_tables_keep};
+pub use histories::changed_tables_are_there;
 pub use pages::left_tables_stand;
 pub use rows::{gone_tables_are_whole, tables_are_left};
