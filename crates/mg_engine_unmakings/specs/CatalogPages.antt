@@ -13,6 +13,7 @@ use Rattle.mg_image.specs.Records.{Reading}
 use Rattle.mg_image.specs.Sound.{HasHeader, HasInventory, HasTransactions, IsSoundBy}
 use Rattle.mg_image.specs.Tables.{Layout, has, stands_of, table_at}
 use Rattle.mg_kept_images.specs.DataPages.{ChangesData, tips_same, used_kept}
+use Rattle.mg_table_overlays.specs.DataKept.{KeepsBits, bits_more, bits_self}
 use Rattle.mg_engine_unmakings.specs.TakenNames.{other_name}
 
 -- Each page is as it was, or is a data page of the catalog.
@@ -20,9 +21,10 @@ pub record ChangesCatalogPages (size : ℕ) (old new : Pages) (layout : Layout) 
   pub each : (m : ℕ) → (new m ≡ old m) ⊎ ((has layout.catalog.data_pages m ≡ true) × (byte (old m) 0 ≡ 5))
   pub used : (m : ℕ) → is_used size new m ≡ is_used size old m
   pub tips : tips_of size new ≡ tips_of size old
+  pub bits : KeepsBits size old new
 
 pub changes_none : (size : ℕ) (pages : Pages) (layout : Layout) → ChangesCatalogPages size pages pages layout
-changes_none size pages layout = record { each = λ m. inl refl; used = λ m. refl; tips = refl }
+changes_none size pages layout = record { each = λ m. inl refl; used = λ m. refl; tips = refl; bits = bits_self size pages }
 
 pub changes_join : (size : ℕ) (old mid new : Pages) (layout : Layout) → ChangesCatalogPages size old mid layout
     → ChangesCatalogPages size mid new layout → ChangesCatalogPages size old new layout
@@ -30,6 +32,7 @@ changes_join size old mid new layout first then_ = record {
   each = λ m. at m (first.each m) (then_.each m);
   used = λ m. then_.used m ∙ first.used m;
   tips = then_.tips ∙ first.tips;
+  bits = bits_more size old mid new first.bits then_.bits;
 }
   where
     at : (m : ℕ) → (mid m ≡ old m) ⊎ ((has layout.catalog.data_pages m ≡ true) × (byte (old m) 0 ≡ 5))
@@ -41,11 +44,12 @@ changes_join size old mid new layout first then_ = record {
 
 pub data_changes : (in_primary : Bool) (size : ℕ) (old new : Pages) (b : ℕ) (change : ChangesData in_primary old new b)
     → HasHeader size old → HasInventory size old → HasTransactions size old → (layout : Layout)
-    → has layout.catalog.data_pages b ≡ true → ChangesCatalogPages size old new layout
-data_changes in_primary size old new b change header inventory transactions layout on = record {
+    → has layout.catalog.data_pages b ≡ true → KeepsBits size old new → ChangesCatalogPages size old new layout
+data_changes in_primary size old new b change header inventory transactions layout on bits = record {
   each = λ m. at m (cases_eq m b);
   used = used_kept in_primary size old new b change header inventory transactions;
   tips = tips_same in_primary size old new b change header inventory transactions;
+  bits = bits;
 }
   where
     at : (m : ℕ) → (m ≡ b) ⊎ (m ≢ b)

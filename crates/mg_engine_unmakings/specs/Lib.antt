@@ -1,9 +1,16 @@
 pub mod CatalogPages
 pub mod ChangedTables
 pub mod ChangedTablesLaws
+pub mod LeftFinds
+pub mod LeftRecords
+pub mod LeftShown
+pub mod LeftShownLaws
+pub mod LeftShows
 pub mod Outs
 pub mod OutsLaws
 pub mod OutsThereLaws
+pub mod TablesBack
+pub mod TablesBackLaws
 pub mod Taken
 pub mod TakenKept
 pub mod TakenNames
@@ -12,3 +19,4 @@ pub mod TakenRows
 pub mod TakenSound
 pub mod Whole
 pub mod WholeLaws
+pub mod Scratch

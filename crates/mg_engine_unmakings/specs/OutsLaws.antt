@@ -28,7 +28,7 @@ use Rattle.mg_image.specs.Records.{Chain, Changes, Reading, Stands, cells_of, en
 use Rattle.mg_image.specs.StepLaws.{chain_stays, put_cases, put_reading}
 use Rattle.mg_image.specs.Sound.{IsSoundBy, facts_by}
 use Rattle.mg_image.specs.Tables.{Has, Layout, stands_of, table_at}
-use Rattle.mg_kept_images.specs.DataPages.{ChangesData, header_kept, inventory_kept, transactions_kept}
+use Rattle.mg_kept_images.specs.DataPages.{ChangesData}
 use Rattle.mg_kept_images.specs.Kinds.{HasNoSequences}
 use Rattle.mg_kept_images.specs.KeptImages.{IsKept, keeping}
 use Rattle.mg_kept_images.specs.Reach.{IsEntered}
@@ -47,6 +47,7 @@ use Rattle.mg_pool.specs.declared.pool.Pool.{Pool}
 use Rattle.mg_space.specs.View.{viewed}
 use Rattle.mg_space_ties.specs.Changed.{BatchIsChanged, cache_over, changed_fresh, fresh, needs_all, needs_in}
 use Rattle.mg_table_overlays.specs.BackPart.{OrdersTakeOut, TakesOutPages, take_out_views}
+use Rattle.mg_table_overlays.specs.DataKept.{IsDataChanged, data_more, data_self}
 use Rattle.mg_table_overlays.specs.OneLayout.{sound_once}
 use Rattle.mg_table_overlays.specs.OwnThere.{dead_newest, none_reads, older_off, open_newest, pool_behind}
 use Rattle.mg_table_overlays.specs.OwnVersion.{FindsNewest}
@@ -377,19 +378,26 @@ module _ (form : Form) (one : RowsAreOne form.coding) (none : HasNoSequences for
   out_pages named = changes_join size pool (viewed store image turned) (viewed store image new) start.of_pool
       (data_changes form.in_primary size pool (viewed store image turned) rec.page.0 slot_page start.pool_sound.header
       start.pool_sound.inventory start.pool_sound.transactions start.of_pool (catalog_page_named form size state pool
-      start.of_pool start.in_pool start.pool_sound rec.page.0 table at_pool named).0)
+      start.of_pool start.in_pool start.pool_sound rec.page.0 table at_pool named).0 at_turn.bits)
       (data_changes form.in_primary size (viewed store image turned) (viewed store image new) x.page.0 pages.frees.page
-      (header_kept form.in_primary size pool (viewed store image turned) rec.page.0 slot_page start.pool_sound.header
-      start.pool_sound.inventory start.pool_sound.transactions) (inventory_kept form.in_primary size pool
-      (viewed store image turned) rec.page.0 slot_page start.pool_sound.header start.pool_sound.inventory
-      start.pool_sound.transactions) (transactions_kept form.in_primary size pool (viewed store image turned) rec.page.0
-      slot_page start.pool_sound.header start.pool_sound.inventory start.pool_sound.transactions) start.of_pool
-      (catalog_page_named form size state pool start.of_pool start.in_pool start.pool_sound x.page.0 table
-      (newest_placed form size state pool start.of_pool start.in_pool start.pool_sound rec table at_pool out.newest
-      out.its.head.slot) named).0)
+      at_turn.header at_turn.inventory at_turn.transactions start.of_pool (catalog_page_named form size state pool
+      start.of_pool start.in_pool start.pool_sound x.page.0 table (newest_placed form size state pool start.of_pool
+      start.in_pool start.pool_sound rec table at_pool out.newest out.its.head.slot) named).0 (record {
+        bits = λ u. at_end.bits.bits u ∙ sym (at_turn.bits.bits u);
+        next = at_end.bits.next ∙ sym at_turn.bits.next;
+      }))
     where
       at_pool : table_at (stands_of start.of_pool) rec.page.0 ≡ Some table
       at_pool = placed start.of_pool start.in_pool start.pool_sound
+
+      at_turn : IsDataChanged form size pool (viewed store image turned) start.of_pool
+      at_turn = data_more form size state pool start.of_pool start.in_pool start.pool_sound pool
+          (viewed store image turned) rec.page.0
+          (data_self form size state pool start.of_pool start.in_pool start.pool_sound) slot_page
+
+      at_end : IsDataChanged form size pool (viewed store image new) start.of_pool
+      at_end = data_more form size state pool start.of_pool start.in_pool start.pool_sound (viewed store image turned)
+          (viewed store image new) x.page.0 at_turn pages.frees.page
 
   -- an image with a set of the batch's pages
   module _ (changed : Pages) (set_ : PageSet) (img : Pages)

@@ -32,8 +32,10 @@ mod batches;
 mod histories;
 mod pages;
 mod rows;
+mod shown;
 
 pub use batches::{taken_tables_are_read, taken_tables_are_there, taken_tables_keep};
 pub use histories::changed_tables_are_there;
 pub use pages::left_tables_stand;
 pub use rows::{gone_tables_are_whole, tables_are_left};
+pub use shown::{left_tables_are_shown, tables_go_back};

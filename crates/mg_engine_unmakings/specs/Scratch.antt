@@ -1,0 +1,2 @@
+abbrev pub Scratch : Type 0
+Scratch = Unit {0}
