@@ -19,4 +19,3 @@ pub mod TakenRows
 pub mod TakenSound
 pub mod Whole
 pub mod WholeLaws
-pub mod Scratch

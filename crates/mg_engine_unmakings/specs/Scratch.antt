@@ -1,2 +1,0 @@
-abbrev pub Scratch : Type 0
-Scratch = Unit {0}
