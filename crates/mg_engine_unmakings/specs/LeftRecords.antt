@@ -41,7 +41,7 @@ use Rattle.mg_engine_unmakings.specs.TakenNames.{catalog_named, catalog_page, le
 use Rattle.mg_engine_unmakings.specs.TakenPages.{takes_back}
 
 -- the newest of two lists is that of the first, where it has one
-newest_first : (cs rest : List Change) (name : List ℕ) (key : Value) (c : records.Change)
+pub newest_first : (cs rest : List Change) (name : List ℕ) (key : Value) (c : records.Change)
     → newest_at cs name key ≡ Some c → newest_at (cs ++ rest) name key ≡ Some c
 newest_first [] rest name key c is = absurd cc
 newest_first (d ∷ cs) rest name key c is = at (is_at d name key) is (newest_first cs rest name key c)

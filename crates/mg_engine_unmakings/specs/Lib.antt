@@ -1,6 +1,8 @@
 pub mod CatalogPages
 pub mod ChangedTables
 pub mod ChangedTablesLaws
+pub mod EngineTables
+pub mod EngineTablesLaws
 pub mod LeftFinds
 pub mod LeftRecords
 pub mod LeftShown
@@ -9,6 +11,11 @@ pub mod LeftShows
 pub mod Outs
 pub mod OutsLaws
 pub mod OutsThereLaws
+pub mod RowsOut
+pub mod RowsTaken
+pub mod RowsTakenLaws
+pub mod ShapesLeft
+pub mod ShapesLeftLaws
 pub mod TablesBack
 pub mod TablesBackLaws
 pub mod Taken

@@ -1,6 +1,7 @@
-//! Tables that a transaction has changed. The function does nothing: its contract is the laws.
+//! Tables that a transaction has changed, and those that it sees. Each function does nothing: its contract is the laws.
 
 ghost use Rattle.mg_engine_unmakings.specs.ChangedTables.{ChangedAreThere, NoneOfGone};
+ghost use Rattle.mg_engine_unmakings.specs.ShapesLeft.{ShapesLeft};
 
 use mg_grown_catalogs::catalogs_grow;
 
@@ -9,6 +10,13 @@ use mg_grown_catalogs::catalogs_grow;
 pub fn changed_tables_are_there()
     ensures there { ChangedAreThere }
     ensures gone { NoneOfGone }
+{
+    catalogs_grow();
+}
+
+/// It sees the tables that it saw, but for those whose rows have gone.
+pub fn left_tables_are_seen()
+    ensures { ShapesLeft }
 {
     catalogs_grow();
 }
