@@ -1,10 +1,9 @@
 -- A transaction changes tables alone whose row it has made itself, or which the database has.
-use Rattle.std.proofs.Common.{◌≡◌, ◌≢◌, ◌⊎◌, inl, inr, refl, sym, ap, ◌∙◌, subst, ◌++◌, ◌==◌, ◌&&◌, ℕ, Bool, true, false, List, [], ◌∷◌, Option, None, Some, arith}
+use Rattle.std.proofs.Common.{◌≡◌, ◌≢◌, ◌⊎◌, inl, inr, refl, sym, ap, ◌∙◌, subst, ◌==◌, ◌&&◌, ℕ, Bool, true, false, List, [], ◌∷◌, Option, None, Some, arith}
 use Rattle.std.specs.Prelude.{IsSome, cond, is_some}
 use Rattle.std.specs.Cmp.Lexicographic.{same_text}
-use Rattle.std.proofs.lemmas.Bool.{eq-eqb, eqb-true, false≢true}
-use Rattle.mg_base.specs.declared.transaction.TxState.{TxState}
-use Rattle.mg_base.specs.declared.transaction.TxState.TheVariants.{Active, Limbo, Dead, Committed}
+use Rattle.std.proofs.lemmas.Bool.{eqb-true, false≢true}
+use Rattle.mg_base.specs.declared.transaction.TxState.TheVariants.{Active, Limbo}
 use Rattle.mg_value.specs.declared.value.Value.{Value}
 use Rattle.mg_grown_catalogs.specs.Grown.{BasesAreWithin, CatalogGrows, CommittedRowsStay, OwnRowsAreNew, makes_alone}
 use Rattle.mg_model.specs.declared.answer.Answer.{Answer}
@@ -14,7 +13,6 @@ use Rattle.mg_model.specs.declared.change.Deed.{Deed}
 use Rattle.mg_model.specs.declared.change.Deed.TheVariants.{Changed, Marked, Saved}
 use Rattle.mg_model.specs.declared.event.Event.{Event}
 use Rattle.mg_model.specs.declared.event.Event.TheVariants.{Begin, Look, Find, Claim, Insert, Change, Erase, Mark, UndoMark, Savepoint, BackTo, Prepare, Commit, Rollback, Decide}
-use Rattle.mg_model.specs.declared.event.Mode.{Mode}
 use Rattle.mg_model.specs.declared.opening.Opening.{Opening}
 use Rattle.mg_model.specs.declared.refusal.Refusal.{Refusal}
 use Rattle.mg_model.specs.Answers.{answer, catalog_of, has_table, is_active, is_open, told}
@@ -22,12 +20,12 @@ use Rattle.mg_model.specs.Catalog.{CatalogRows, catalog_name, catalog_shape, sha
 use Rattle.mg_model.specs.Changes.{Cells, has_change, is_at, row_at, same_key, same_name}
 use Rattle.mg_model.specs.DeedLaws.{deeds_after, deeds_after_entry}
 use Rattle.mg_model.specs.Effects.{deeds_back, deeds_left, doer, from_point, has_deed}
-use Rattle.mg_model.specs.History.{Begins, Effect, Ends, Entries, Entry, Gives, Looks, Makes, Marks, Nothing, Saves, TakesBack, deed_of, effect_of, effect_with}
+use Rattle.mg_model.specs.History.{Begins, Effect, Ends, Entries, Gives, Looks, Makes, Marks, Nothing, Saves, TakesBack, deed_of, effect_of, effect_with}
 use Rattle.mg_model.specs.declared.change.Point.{Point}
 use Rattle.mg_model.specs.declared.change.Point.TheVariants.{LastMark, SavepointNamed}
-use Rattle.mg_model.specs.Legal.{IsLawful, IsLegal, MayBegin, is_outer}
+use Rattle.mg_model.specs.Legal.{IsLegal, MayBegin, is_outer}
 use Rattle.mg_model.specs.LegalLaws.{IsAllowed, active_from_fine, fine_by_true, lawful_is_allowed}
-use Rattle.mg_model.specs.Machine.{base, changed, changes_in, database, database_after, deeds_by, is_point, next_number, opening_state, own, state_after, state_of, steps, view}
+use Rattle.mg_model.specs.Machine.{base, changed, changes_in, database, database_after, deeds_by, is_point, next_number, own, state_after, state_of, steps, view}
 use Rattle.mg_model.specs.NumberLaws.{undrawn_has_no_deeds}
 use Rattle.mg_model.specs.RowLaws.{row_at-append}
 use Rattle.mg_engine_unmakings.specs.ChangedTables.{ChangedAreThere, NoneOfGone}

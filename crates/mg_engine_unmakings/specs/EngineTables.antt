@@ -1,5 +1,5 @@
 -- An engine whose transaction is taken back to a point, with tables that it had made, stands for the history with the entry.
-use Rattle.std.specs.Prelude.{◌≡◌, ◌∷◌, ℕ, List, Option, None, Some}
+use Rattle.std.specs.Prelude.{◌≡◌, ℕ, List, Some}
 use Rattle.mg_base.specs.Disk.{Meaning}
 use Rattle.mg_base.specs.Image.{Image}
 use Rattle.mg_value.specs.declared.value.Value.{Value}
@@ -25,7 +25,7 @@ use Rattle.mg_pool.specs.Pool.{IsPool, shown}
 use Rattle.mg_pool.specs.declared.pool.Pool.{Pool}
 use Rattle.mg_pool_overlays.specs.Needs.{Asked, Sessions}
 use Rattle.mg_space_ties.specs.Changed.{fresh}
-use Rattle.mg_engine_unmakings.specs.RowsOut.{TakesRows}
+use Rattle.mg_table_unmaking.specs.Rows.{TakesRows}
 use Rattle.mg_engine_unmakings.specs.TablesBack.{AreRowsLeft}
 
 -- The rows of the catalog that were left to take back are taken out in a batch, and it was changed: the cache then, over a

@@ -1,5 +1,5 @@
 -- An engine whose transaction takes back tables that it had made.
-use Rattle.std.proofs.Common.{◌≡◌, subst, sym, ◌∙◌, [], ◌∷◌, ℕ, List, Option, None, Some}
+use Rattle.std.proofs.Common.{◌≡◌, subst, sym, ◌∙◌, [], ◌∷◌, ℕ, List, Some}
 use Rattle.mg_base.specs.Disk.{Meaning}
 use Rattle.mg_base.specs.Image.{Image}
 use Rattle.mg_value.specs.declared.value.Value.{Value}

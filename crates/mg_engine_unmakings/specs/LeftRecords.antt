@@ -8,12 +8,11 @@ use Rattle.mg_base.specs.declared.transaction.TxState.{TxState}
 use Rattle.mg_base.specs.declared.transaction.TxState.TheVariants.{Active, Committed, Dead, Limbo}
 use Rattle.mg_value.specs.declared.value.Value.{Value}
 use Rattle.mg_engine_steps.specs.Standing.{Standing}
-use Rattle.mg_engine_writes.specs.Again.{again, own_again}
+use Rattle.mg_engine_writes.specs.Again.{own_again}
 use Rattle.mg_engine_writes.specs.OwnChains.{newest_second}
-use Rattle.mg_generations.specs.Generations.{Generation}
 use Rattle.mg_image.specs.declared.entry.Entry.{Entry as Read}
 use Rattle.mg_image.specs.Catalog.{HasMade, IsNamed, MayStandIn}
-use Rattle.mg_image.specs.Form.{Form, Pages, Row}
+use Rattle.mg_image.specs.Form.{Form, Pages}
 use Rattle.mg_image.specs.Held.{AreChanges, IsChangedAt, told_change}
 use Rattle.mg_image.specs.Histories.{newest_at, row_change}
 use Rattle.mg_image.specs.ReadingLaws.{RowsAreOne}
@@ -21,7 +20,7 @@ use Rattle.mg_image.specs.RecordRules.{Each, EachBack, Facts, IsVersion, TakesKe
 use Rattle.mg_image.specs.Records.{Reading, change_in, key_of, record_key, shown, writer}
 use Rattle.mg_image.specs.Records as records
 use Rattle.mg_image.specs.Sound.{IsSoundBy, facts_by}
-use Rattle.mg_image.specs.Tables.{Layout, Stand, has, stands_of, table_at}
+use Rattle.mg_image.specs.Tables.{Layout, Stand, has, table_at}
 use Rattle.mg_kept_images.specs.Fronts.{is_dead}
 use Rattle.mg_kept_images.specs.Kinds.{HasNoSequences}
 use Rattle.mg_model.specs.Catalog.{catalog_name, table_key}
@@ -37,7 +36,7 @@ use Rattle.mg_seek.specs.Histories.{told_versions}
 use Rattle.mg_table_overlays.specs.OneLayout.{sound_once}
 use Rattle.mg_engine_unmakings.specs.LeftShown.{TakesTables}
 use Rattle.mg_engine_unmakings.specs.Taken.{HasGone, IsLeft, TakesBack, layout_left, read_of, reading_left, stands_left}
-use Rattle.mg_engine_unmakings.specs.TakenNames.{catalog_named, catalog_page, left_at, left_is, other_name, shown_keyed}
+use Rattle.mg_engine_unmakings.specs.TakenNames.{catalog_page, left_at, left_is, other_name, shown_keyed}
 use Rattle.mg_engine_unmakings.specs.TakenPages.{takes_back}
 
 -- the newest of two lists is that of the first, where it has one

@@ -1,5 +1,5 @@
 -- What the pages show once all is taken back, also the rows of tables that the transaction had made.
-use Rattle.std.specs.Prelude.{◌≡◌, ℕ, Bool, true, List, [], ◌∷◌, Option, None, Some, is_some}
+use Rattle.std.specs.Prelude.{◌≡◌, ℕ, Bool, true, List, ◌∷◌, None, Some, is_some}
 use Rattle.mg_base.specs.declared.transaction.TxState.TheVariants.{Active}
 use Rattle.mg_value.specs.declared.value.Value.{Value}
 use Rattle.mg_engine_steps.specs.Following.{FollowsEntry}

@@ -1,15 +1,13 @@
 -- Pages on which all is taken back, also rows of the catalog with their tables, show the history that has the entry.
-use Rattle.std.proofs.Common.{◌≡◌, ◌≢◌, ◌⊎◌, inl, inr, refl, sym, ap, ◌∙◌, subst, ◌++◌, ℕ, Bool, true, false, List, [], ◌∷◌, Option, None, Some}
+use Rattle.std.proofs.Common.{◌≡◌, ◌≢◌, ◌⊎◌, inl, inr, refl, sym, ap, ◌∙◌, subst, ℕ, Bool, true, false, List, [], ◌∷◌, Option, None, Some}
 use Rattle.std.specs.Prelude.{if◌then◌else◌, is_some}
-use Rattle.std.proofs.Math.Path.{fun_ext}
 use Rattle.std.proofs.lemmas.Bool.{eqb-true, false≢true}
 use Rattle.mg_base.specs.declared.numbers.RecId.{RecId}
 use Rattle.mg_base.specs.declared.transaction.TxState.{TxState}
 use Rattle.mg_base.specs.declared.transaction.TxState.TheVariants.{Active, Committed, Limbo}
 use Rattle.mg_value.specs.declared.value.Value.{Value}
 use Rattle.mg_engine_steps.specs.ChainLaws.{erased_still}
-use Rattle.mg_engine_steps.specs.Following.{FollowsEntry}
-use Rattle.mg_engine_steps.specs.Standing.{FindsTables, Remembers, ShowsHistory, Standing}
+use Rattle.mg_engine_steps.specs.Standing.{Remembers, ShowsHistory, Standing}
 use Rattle.mg_engine_steps.specs.StandingLaws.{IsChainOf}
 use Rattle.mg_engine_steps.specs.Versions.{HaveVersions, IsRecordOf, SpeaksFor, SpeaksOrSilent}
 use Rattle.mg_engine_steps.specs.VersionsLaws.{versions_follow}
@@ -22,14 +20,13 @@ use Rattle.mg_generations.specs.After.{generations_after, generations_back, gene
 use Rattle.mg_generations.specs.Generations.{Generation, generation, is_newest_by, newest_row, put, without_newest_by}
 use Rattle.mg_generations.specs.Kept.{IsErasedForAll, StandFor}
 use Rattle.mg_image.specs.declared.entry.Entry.{Entry as Read}
-use Rattle.mg_image.specs.Form.{Form, Pages, packed_form}
+use Rattle.mg_image.specs.Form.{Form, Pages}
 use Rattle.mg_image.specs.Histories.{newest_at}
-use Rattle.mg_image.specs.Inventory.{next_of}
 use Rattle.mg_image.specs.ReadingLaws.{RowsAreOne}
 use Rattle.mg_image.specs.RecordRules.{Facts, table_in}
 use Rattle.mg_image.specs.Records.{Reading, record_key, writer}
 use Rattle.mg_image.specs.Records as records
-use Rattle.mg_image.specs.Sound.{IsSoundBy, facts_by}
+use Rattle.mg_image.specs.Sound.{facts_by}
 use Rattle.mg_image.specs.Tables.{Layout, has, stands_of, table_at}
 use Rattle.mg_kept_images.specs.Fronts.{is_dead, living}
 use Rattle.mg_kept_images.specs.Kinds.{HasNoSequences}
@@ -37,7 +34,7 @@ use Rattle.mg_model.specs.Catalog.{catalog_name, table_key}
 use Rattle.mg_model.specs.Changes.{Cells, has_change, row_at}
 use Rattle.mg_model.specs.History.{Effect, Entries, Entry, TakesBack, effect_of}
 use Rattle.mg_model.specs.Legal.{IsLegal, MayBegin}
-use Rattle.mg_model.specs.Machine.{next_after, own, state_after, state_of}
+use Rattle.mg_model.specs.Machine.{own, state_of}
 use Rattle.mg_model.specs.Openings.{everyone}
 use Rattle.mg_model.specs.declared.change.Change.{Change}
 use Rattle.mg_model.specs.declared.change.Point.{Point}
@@ -48,7 +45,7 @@ use Rattle.mg_seek.specs.Histories.{told_all, told_given, told_versions}
 use Rattle.mg_engine_unmakings.specs.LeftRecords.{catalog_in, fate, gone_there, reads_catalog, reads_left, reads_none, silent, whose}
 use Rattle.mg_engine_unmakings.specs.LeftShown.{TakesTables}
 use Rattle.mg_engine_unmakings.specs.Taken.{HasGone, IsLeft, layout_left, reading_left}
-use Rattle.mg_engine_unmakings.specs.TakenNames.{catalog_named, catalog_page, other_name}
+use Rattle.mg_engine_unmakings.specs.TakenNames.{catalog_named, other_name}
 
 spoken_some : (es : List Read) (p : RecId) → es ≢ [] → spoken_if es p ≡ Some p
 spoken_some [] p some = absurd (some refl)

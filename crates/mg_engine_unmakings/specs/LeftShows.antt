@@ -1,5 +1,5 @@
 -- Pages on which all is taken back, also tables that the transaction had made, show the history that has the entry.
-use Rattle.std.proofs.Common.{◌≡◌, ◌≢◌, ◌⊎◌, inl, inr, refl, sym, ap, ◌∙◌, subst, ◌==◌, ℕ, Bool, true, false, List, ◌∷◌, Option, None, Some}
+use Rattle.std.proofs.Common.{◌≡◌, ◌≢◌, ◌⊎◌, inl, inr, refl, sym, ap, ◌∙◌, subst, ℕ, Bool, true, false, List, ◌∷◌, Option, None, Some}
 use Rattle.std.specs.Prelude.{is_some}
 use Rattle.std.proofs.Math.Path.{fun_ext}
 use Rattle.std.proofs.lemmas.Bool.{cases_eq, false≢true, ne_eqb}
@@ -7,7 +7,7 @@ use Rattle.mg_base.specs.declared.transaction.TxState.{TxState}
 use Rattle.mg_base.specs.declared.transaction.TxState.TheVariants.{Active}
 use Rattle.mg_header.specs.HeaderPage.{header_in}
 use Rattle.mg_value.specs.declared.value.Value.{Value}
-use Rattle.mg_engine_steps.specs.Following.{FollowsEntry, KeepsTables, OthersKeepTables}
+use Rattle.mg_engine_steps.specs.Following.{FollowsEntry, OthersKeepTables}
 use Rattle.mg_engine_steps.specs.ShowsLaws.{tables_kept}
 use Rattle.mg_engine_steps.specs.Standing.{FindsTables, Remembers, ShowsHistory, Standing}
 use Rattle.mg_engine_steps.specs.Versions.{HaveVersions}

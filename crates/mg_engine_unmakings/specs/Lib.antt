@@ -11,7 +11,6 @@ pub mod LeftShows
 pub mod Outs
 pub mod OutsLaws
 pub mod OutsThereLaws
-pub mod RowsOut
 pub mod RowsTaken
 pub mod RowsTakenLaws
 pub mod ShapesLeft

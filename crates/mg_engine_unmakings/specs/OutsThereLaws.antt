@@ -17,27 +17,24 @@ use Rattle.mg_model.specs.Changes.{same_key}
 use Rattle.mg_model.specs.History.{Entries}
 use Rattle.mg_model.specs.Machine.{own}
 use Rattle.mg_model.specs.RowLaws.{same_from_same_key}
-use Rattle.mg_chain.specs.Writing.{TakesOut}
-use Rattle.mg_chain_ties.specs.Rows.{within_orders}
 use Rattle.mg_engine_steps.specs.GoesOnLaws.{pool_is_kept}
 use Rattle.mg_engine_writes.specs.SameRecords.{catalog_stands, same_catalog, same_record}
 use Rattle.mg_heap_ties.specs.Batches.{IsWithin, within_self}
 use Rattle.mg_image.specs.declared.entry.Entry.{Entry}
 use Rattle.mg_image.specs.Form.{Form, Pages}
 use Rattle.mg_image.specs.Indexes.{EachPage}
-use Rattle.mg_image.specs.Reached.{linked_pages}
 use Rattle.mg_image.specs.ReadingLaws.{RowsAreOne}
 use Rattle.mg_image.specs.RecordRules.{Facts, TakesKey, table_in}
 use Rattle.mg_image.specs.Records.{Reading, key_of, record_key, writer}
 use Rattle.mg_image.specs.Sound.{IsSoundBy, facts_by}
 use Rattle.mg_image.specs.StepLaws.{cases_place, same_place}
-use Rattle.mg_image.specs.Tables.{Has, Layout, Stand, has, stands_of, table_at}
+use Rattle.mg_image.specs.Tables.{Layout, Stand, has, stands_of, table_at}
 use Rattle.mg_kept_images.specs.DataPages.{kind_of}
 use Rattle.mg_kept_images.specs.DataSound.{KeepsTrees}
 use Rattle.mg_kept_images.specs.Kinds.{HasNoSequences}
 use Rattle.mg_kept_images.specs.KeptImages.{IsKept}
 use Rattle.mg_kept_images.specs.Trees.{trees_stay}
-use Rattle.mg_overlays.specs.Overlays.{left_by, left_state, without}
+use Rattle.mg_overlays.specs.Overlays.{left_state, without}
 use Rattle.mg_page_overlays.specs.Creating.{without_raises}
 use Rattle.mg_pool.specs.Batch.{Changed, content_in, lists}
 use Rattle.mg_pool.specs.Pool.{shown}
@@ -49,7 +46,7 @@ use Rattle.mg_table_overlays.specs.Growing.{IsTableOf}
 use Rattle.mg_table_overlays.specs.OneChain.{same_stand}
 use Rattle.mg_table_overlays.specs.OneLayout.{sound_once}
 use Rattle.mg_engine_unmakings.specs.CatalogPages.{ChangesCatalogPages, catalog_page_named, changes_join, changes_none}
-use Rattle.mg_engine_unmakings.specs.Outs.{AreFirst, AreRowsOut, GoesWhole, IsRowOut, OutsThere, TakesRecordsOut, is_among, none_out, takes}
+use Rattle.mg_engine_unmakings.specs.Outs.{AreFirst, AreRowsOut, GoesWhole, OutsThere, TakesRecordsOut, is_among, none_out, takes}
 use Rattle.mg_engine_unmakings.specs.OutsLaws.{out_pages, out_there, out_whole, outs_back}
 use Rattle.mg_engine_unmakings.specs.Taken.{HasGone, IsLeft, LeavesTables, TakesRows}
 use Rattle.mg_engine_unmakings.specs.TakenNames.{catalog_page}

@@ -16,8 +16,8 @@ use Rattle.mg_pool.specs.declared.pool.Pool.{Pool}
 use Rattle.mg_pool_overlays.specs.Needs.{Asked, Sessions}
 use Rattle.mg_snap.specs.Live.{State}
 use Rattle.mg_space_ties.specs.Changed.{KeptIn, fresh}
+use Rattle.mg_table_unmaking.specs.Rows.{TakesRows}
 use Rattle.mg_engine_unmakings.specs.Outs.{AreRowsOut, TakesRecordsOut}
-use Rattle.mg_engine_unmakings.specs.RowsOut.{TakesRows}
 
 -- The records are taken out one after another, each one of the catalog with its key, if all are what the overlays have to be.
 abbrev pub RowsAreTaken : (D L : Type 0) → Type 0

@@ -41,10 +41,11 @@ use Rattle.mg_seek.specs.declared.walk.Placed.{Placed}
 use Rattle.mg_seek.specs.declared.whose.Wanted.TheVariants.{Any}
 use Rattle.mg_snap.specs.Live.{State}
 use Rattle.mg_space.specs.View.{viewed}
-use Rattle.mg_space_ties.specs.Changed.{KeptIn, fresh}
+use Rattle.mg_space_ties.specs.Changed.{fresh}
 use Rattle.mg_table_overlays.specs.Growing.{IsTableOf}
 use Rattle.mg_table_overlays.specs.OneChain.{link_once}
 use Rattle.mg_table_overlays.specs.OneTable.{its_data}
+use Rattle.mg_table_unmaking.specs.Rows.{IsAlone, TakesRow, TakesRows, takes_more, takes_none}
 use Rattle.mg_value.specs.declared.value.Value.{Value}
 use Rattle.mg_version.specs.declared.cell.Cell.TheVariants as cells
 use Rattle.mg_version.specs.declared.cell.Link.{Link}
@@ -52,7 +53,6 @@ use Rattle.mg_version.specs.declared.cell.Version.{Version}
 use Rattle.mg_engine_unmakings.specs.CatalogPages.{ChangesCatalogPages}
 use Rattle.mg_engine_unmakings.specs.Outs.{AreRowsOut, TakesRecordsOut, none_out, takes}
 use Rattle.mg_engine_unmakings.specs.OutsLaws.{out_pages, out_whole, out_within}
-use Rattle.mg_engine_unmakings.specs.RowsOut.{IsAlone, TakesRow, TakesRows, takes_more, takes_none}
 use Rattle.mg_engine_unmakings.specs.RowsTaken.{RowsAreTaken}
 
 -- the first version from a link on is the one that it meets

@@ -1,9 +1,7 @@
 -- A transaction sees the tables that it saw, but for those that it has taken back.
-use Rattle.std.proofs.Common.{◌≡◌, refl, sym, ap, ◌∙◌, subst, ◌+◌, ◌++◌, ◌∷◌, ℕ, zero, suc, Bool, true, false, List, Option, None, Some}
+use Rattle.std.proofs.Common.{◌≡◌, refl, sym, ap, ◌∙◌, subst, ◌+◌, ◌∷◌, ℕ, zero, suc, Bool, true, false, List, Option, None, Some}
 use Rattle.std.specs.Prelude.{if◌then◌else◌, is_some}
-use Rattle.std.proofs.lemmas.Bool.{false≢true}
 use Rattle.mg_base.specs.declared.transaction.TxState.TheVariants.{Active}
-use Rattle.mg_value.specs.declared.shape.Column.{Column}
 use Rattle.mg_value.specs.declared.shape.Shape.{Shape}
 use Rattle.mg_value.specs.declared.value.Value.{Value}
 use Rattle.mg_engine_steps.specs.Standing.{IsSeenAs}

@@ -1,15 +1,14 @@
 -- Tables that a transaction has made go in one batch.
-use Rattle.std.proofs.Common.{◌≡◌, ◌≢◌, ◌⊎◌, inl, inr, refl, sym, ap, ◌∙◌, subst, ◌&&◌, ◌==◌, ◌∷◌, ◌++◌, [], ℕ, Bool, true, false, List, Option, None, Some}
+use Rattle.std.proofs.Common.{◌≡◌, ◌≢◌, refl, sym, ap, ◌∙◌, subst, ◌&&◌, ◌∷◌, ◌++◌, [], ℕ, Bool, true, false, List, Option, None, Some}
 use Rattle.std.specs.Prelude.{if◌then◌else◌, is_some}
 use Rattle.std.specs.Cmp.Lexicographic.{same_text}
 use Rattle.std.proofs.lemmas.Bool.{eq-eqb, false≢true}
 use Rattle.mg_base.specs.Disk.{Meaning}
 use Rattle.mg_base.specs.Image.{Image}
-use Rattle.mg_base.specs.declared.transaction.TxState.{TxState}
 use Rattle.mg_base.specs.declared.transaction.TxState.TheVariants.{Active, Dead}
 use Rattle.mg_value.specs.declared.value.Value.{Value}
 use Rattle.mg_engine_steps.specs.Batches.{RowsLastStill}
-use Rattle.mg_engine_steps.specs.Following.{FollowsEntry, OthersKeepTables}
+use Rattle.mg_engine_steps.specs.Following.{FollowsEntry}
 use Rattle.mg_engine_steps.specs.GoesOnLaws.{pool_is_kept}
 use Rattle.mg_engine_steps.specs.Standing.{Remembers, ShowsHistory, Standing}
 use Rattle.mg_engine_writes.specs.Again.{AreTaken, again, others_again, own_again, rows_again}

@@ -1,5 +1,5 @@
 -- Rows that a transaction takes back are of whole tables.
-use Rattle.std.proofs.Common.{◌≡◌, ◌≢◌, inr, refl, sym, ap, ◌∙◌, subst, ◌<◌, ◌==◌, ◌&&◌, ◌||◌, ℕ, Bool, true, false, List, [], ◌∷◌, Option, None, Some}
+use Rattle.std.proofs.Common.{◌≡◌, ◌≢◌, inr, refl, sym, ap, ◌∙◌, subst, ◌==◌, ◌&&◌, ◌||◌, ℕ, Bool, true, false, List, [], ◌∷◌, Option, None, Some}
 use Rattle.std.specs.Prelude.{if◌then◌else◌}
 use Rattle.std.proofs.lemmas.Bool.{eq-eqb, ne_eqb}
 use Rattle.mg_base.specs.declared.numbers.RecId.{RecId}
@@ -10,7 +10,7 @@ use Rattle.mg_catalog.specs.LawfulLaws.{column_lawful, index_lawful}
 use Rattle.mg_model.specs.declared.opening.Opening.{Opening}
 use Rattle.mg_model.specs.declared.table.Table.{Table}
 use Rattle.mg_model.specs.Answers.{is_committed}
-use Rattle.mg_model.specs.Catalog.{catalog_name, column_key, index_key, said_b, said_name, table_key}
+use Rattle.mg_model.specs.Catalog.{catalog_name, column_key, index_key, said_name, table_key}
 use Rattle.mg_model.specs.Changes.{Cells}
 use Rattle.mg_model.specs.History.{Entries}
 use Rattle.mg_model.specs.Legal.{is_limbo}

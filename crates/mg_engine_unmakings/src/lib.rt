@@ -13,7 +13,7 @@
 //!   with whole tables of theirs: every overlay is kept for the history without them (`TakenTablesKeep`). The steps are
 //!   taken with the maker dead, and the last one is the law of `pages`, which has what it wants of the batch by
 //!   `OutsThere`. With the maker dead the pages keep their layout, and each record reads as it did or has gone
-//!   (`OutsAreRead`). What a call says that takes the rows of keys out (`TakesRows`) is such a batch (`RowsAreTaken`).
+//!   (`OutsAreRead`). What `take_rows_out` of mg_table_unmaking takes out is such a batch (`RowsAreTaken`).
 //! - `histories`: a transaction has no change left of a table whose row it has taken back (`ChangedAreThere`), and sees the
 //!   tables that it saw but for these (`ShapesLeft`).
 //! - `shown`: the pages after show the history with the entry (`ShowsLeft`); so the batch is the last step on the way back
@@ -29,7 +29,7 @@
 //! Below: `mg_catalog`, lawful rows; `mg_image` and `mg_kept_images`, sound pages and what they have to be;
 //! `mg_table_overlays` and `mg_chain_ties`, a record that is taken out; `mg_grown_catalogs`, rows that a transaction puts;
 //! `mg_engine_steps` and `mg_engine_writes`, an engine on its way back. Above: the engine's way back to a point.
-//! Not here: the call that fills such a batch; and which changes of a transaction go to a point.
+//! Not here: the call that fills such a batch (`mg_table_unmaking`); and which changes of a transaction go to a point.
 #![tactic(auto)]
 
 mod batches;
