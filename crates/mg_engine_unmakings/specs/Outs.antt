@@ -1,5 +1,5 @@
 -- Several records are taken out in one batch, and the tables that they say go.
-use Rattle.std.specs.Prelude.{◌≡◌, ◌⊎◌, ℕ, Bool, true, false, List, [], ◌∷◌, None, Some}
+use Rattle.std.specs.Prelude.{◌≡◌, ◌⊎◌, ◌||◌, ℕ, Bool, true, false, List, [], ◌∷◌, None, Some}
 use Rattle.mg_base.specs.Disk.{Meaning}
 use Rattle.mg_base.specs.Image.{Image}
 use Rattle.mg_base.specs.declared.numbers.RecId.{RecId}
@@ -9,10 +9,13 @@ use Rattle.mg_value.specs.declared.value.Value.{Value}
 use Rattle.mg_chain.specs.Writing.{TakesOut}
 use Rattle.mg_model.specs.declared.opening.Opening.{Opening}
 use Rattle.mg_model.specs.declared.table.Table.{Table}
+use Rattle.mg_model.specs.Catalog.{catalog_name}
+use Rattle.mg_model.specs.Changes.{same_key}
 use Rattle.mg_model.specs.History.{Entries}
+use Rattle.mg_model.specs.Machine.{own}
 use Rattle.mg_image.specs.Form.{Form}
 use Rattle.mg_image.specs.declared.entry.Entry.{Entry}
-use Rattle.mg_image.specs.Records.{Reading, writer}
+use Rattle.mg_image.specs.Records.{Reading, record_key, writer}
 use Rattle.mg_image.specs.Sound.{IsSoundBy, facts_by}
 use Rattle.mg_image.specs.Tables.{Layout, stands_of, table_at}
 use Rattle.mg_kept_images.specs.KeptImages.{IsKept}
@@ -24,6 +27,7 @@ use Rattle.mg_pool_overlays.specs.Needs.{Asked, Sessions}
 use Rattle.mg_space.specs.View.{viewed}
 use Rattle.mg_space_ties.specs.Changed.{ChangesFresh, KeptIn, fresh}
 use Rattle.mg_engine_unmakings.specs.Taken.{IsWithout, LeavesTables, TakesRows}
+use Rattle.mg_engine_unmakings.specs.Whole.{GoWhole}
 
 -- One record after another is taken out in a batch, each of which had a transaction's version; whichever choice is made
 -- without it, the record is of a table of the pages as the batch has them.
@@ -84,3 +88,43 @@ OutsAreRead form D L = (store : Pool D L) (image : Image) (o : Opening) (h : Ent
     → (c : Layout) (rc : Reading)
     → IsSoundBy form store.geometry.size (left_state chosen state) (viewed store image batch) c rc
     → (c ≡ start.of_pool) × GoOrStay by start.in_pool rc
+
+-- ---- rows of the catalog
+
+-- one of these keys is this one
+abbrev pub is_among : List Value → Value → Bool
+is_among [] key = false
+is_among (k ∷ keys) key = same_key k key || is_among keys key
+
+-- A record that is taken out is one of the catalog with a key, and had one version.
+pub record IsRowOut (form : Form) {D L : Type 0} (store : Pool D L) (image : Image) (state : ℕ → TxState) (by : ℕ)
+    (old mid : Changed) (rec : RecId) (table : Table) (out : TakesOut store image old mid rec) (key : Value) : Type 0
+  where
+    pub catalog : table.name ≡ catalog_name
+    pub first : out.was.back ≡ None
+    pub keyed : (chosen : ℕ → Bool) → chosen by ≡ false → (layout : Layout) (r : Reading)
+        → IsSoundBy form store.geometry.size (left_state chosen state) (viewed store image old) layout r
+        → record_key table (r rec) ≡ key
+
+-- the records that are taken out are those of these keys, in turn
+abbrev pub AreRowsOut : (form : Form) {D L : Type 0} (store : Pool D L) (image : Image) (state : ℕ → TxState) (by : ℕ)
+    (old new : Changed) → TakesRecordsOut form store image state by old new → List Value → Type 0
+AreRowsOut form store image state by old new (none_out b) [] = Unit {0}
+AreRowsOut form store image state by old new (none_out b) (key ∷ keys) = ⊥
+AreRowsOut form store image state by old new (takes a mid c rec table out its placed more) [] = ⊥
+AreRowsOut form store image state by old new (takes a mid c rec table out its placed more) (key ∷ keys) =
+    IsRowOut form store image state by a mid rec table out key × AreRowsOut form store image state by mid c more keys
+
+-- So the batch leaves and takes what the law of a batch wants, where whole tables go.
+abbrev pub OutsThere : Form → (D L : Type 0) → Type 0
+OutsThere form D L = (store : Pool D L) (image : Image) (o : Opening) (h : Entries) (state : ℕ → TxState) (by : ℕ)
+    (keys : List Value) (batch : Changed) (outs : TakesRecordsOut form store image state by fresh batch) (asked : Asked)
+    (session : Sessions) → state by ≡ Active → AreRowsOut form store image state by fresh batch outs keys
+    → GoWhole (own o h by) (is_among keys) → KeptIn form store.geometry.size o h state asked session store image
+    → (chosen : ℕ → Bool) → chosen by ≡ true
+    → (was : IsKept form store.geometry.size o h (left_state chosen state) (shown store.dirty image)
+    (shown store.dirty image)) → (c : Layout) (rc : Reading)
+    → IsSoundBy form store.geometry.size (left_state (without by chosen) state) (viewed store image batch) c rc
+    → LeavesTables store.geometry.size (shown store.dirty image) (viewed store image batch) was.layout c
+    × TakesRows by was.layout (facts_by (left_state chosen state) (shown store.dirty image) was.layout) was.reading rc
+    (is_among keys)

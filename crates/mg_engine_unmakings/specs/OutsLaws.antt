@@ -33,6 +33,7 @@ use Rattle.mg_kept_images.specs.Kinds.{HasNoSequences}
 use Rattle.mg_kept_images.specs.KeptImages.{IsKept, keeping}
 use Rattle.mg_kept_images.specs.Reach.{IsEntered}
 use Rattle.mg_kept_images.specs.Trees.{data_leaves, trees_stay}
+use Rattle.mg_model.specs.Catalog.{catalog_name}
 use Rattle.mg_model.specs.History.{Entries}
 use Rattle.mg_model.specs.declared.opening.Opening.{Opening}
 use Rattle.mg_model.specs.declared.table.Table.{Table}
@@ -46,6 +47,7 @@ use Rattle.mg_pool.specs.declared.pool.Pool.{Pool}
 use Rattle.mg_space.specs.View.{viewed}
 use Rattle.mg_space_ties.specs.Changed.{BatchIsChanged, cache_over, changed_fresh, fresh, needs_all, needs_in}
 use Rattle.mg_table_overlays.specs.BackPart.{OrdersTakeOut, TakesOutPages, take_out_views}
+use Rattle.mg_table_overlays.specs.DataKept.{IsDataChanged, data_more, data_self}
 use Rattle.mg_table_overlays.specs.OneLayout.{sound_once}
 use Rattle.mg_table_overlays.specs.OwnThere.{dead_newest, none_reads, older_off, open_newest, pool_behind}
 use Rattle.mg_table_overlays.specs.OwnVersion.{FindsNewest}
@@ -59,6 +61,7 @@ use Rattle.mg_version.specs.declared.cell.Cell.TheVariants as cells
 use Rattle.mg_version.specs.declared.cell.Link.{Link}
 use Rattle.mg_engine_unmakings.specs.Outs.{AreFirst, GoesWhole, OutsAreRead, TakenTablesKeep, TakesRecordsOut, none_out, takes}
 use Rattle.mg_engine_unmakings.specs.Taken.{IsWithout, LeavesTables, TakesRows}
+use Rattle.mg_engine_unmakings.specs.CatalogPages.{ChangesCatalogPages, catalog_page_named, changes_join, data_changes}
 use Rattle.mg_engine_unmakings.specs.TakenKept.{left_are_kept}
 
 -- ---- what a step has is within what comes of it
@@ -81,7 +84,7 @@ out_within store image contents orders old new rec out within =
     (out_orders out.taken.freed.pages rec.page.0 out.was.back out.taken.slot_pointers out.newest.rec.page.0)
     out.taken.ordered within))
 
-outs_back : (form : Form) {D L : Type 0} (store : Pool D L) (image : Image) (state : ℕ → TxState) (by : ℕ)
+pub outs_back : (form : Form) {D L : Type 0} (store : Pool D L) (image : Image) (state : ℕ → TxState) (by : ℕ)
     (contents : ℕ → Option (List ℕ)) (orders : Orders) (old new : Changed)
     → TakesRecordsOut form store image state by old new → IsWithin contents orders new → IsWithin contents orders old
 outs_back form store image state by contents orders old new (none_out b) within = within
@@ -341,6 +344,60 @@ module _ (form : Form) (one : RowsAreOne form.coding) (none : HasNoSequences for
             its = ap (λ (w : Version). w.tx.0) found.version;
             none = none_behind first;
           })) (λ q ne. inl refl)
+
+  -- the record has gone, and every other one reads as it did
+  pub out_there : out.was.back ≡ None → (c : Layout) (rc : Reading)
+      → IsSoundBy form store.geometry.size state (viewed store image new) c rc
+      → (start.of_pool ≡ c) × GoesWhole out.was.tx.0 (start.in_pool rec) (rc rec)
+      × ((p : RecId) → p ≢ rec → rc p ≡ start.in_pool p)
+  out_there first c rc sound = (
+    same.0,
+    record {
+      version = found.newest;
+      alone = found.first ∙ ap (λ (es : List Entry). found.newest ∷ es) (none_behind first);
+      its = ap (λ (w : Version). w.tx.0) found.version;
+      none = sym (ap (λ (s : Reading). s rec) same.1) ∙ (here ∙ none_behind first);
+    },
+    λ p ne. sym (ap (λ (s : Reading). s p) same.1) ∙ there p ne,
+  )
+    where
+      same : (start.of_pool ≡ c) × (put_reading start.in_pool rec found.older ≡ rc)
+      same = sound_once form one none size state (viewed store image new) start.of_pool c after rc at_new sound
+
+      here : put_reading start.in_pool rec found.older rec ≡ found.older
+      here = put_cases start.in_pool rec found.older (λ q fs. q ≡ rec → fs ≡ found.older) (λ e. refl)
+          (λ q ne e. absurd (ne e)) rec refl
+
+      there : (p : RecId) → p ≢ rec → put_reading start.in_pool rec found.older p ≡ start.in_pool p
+      there = put_cases start.in_pool rec found.older (λ q fs. q ≢ rec → fs ≡ start.in_pool q)
+          (λ ne. absurd (ne refl)) (λ q ne also. refl)
+
+  -- of the catalog, it changes its data pages alone
+  pub out_pages : table.name ≡ catalog_name → ChangesCatalogPages store.geometry.size (viewed store image old)
+      (viewed store image new) start.of_pool
+  out_pages named = changes_join size pool (viewed store image turned) (viewed store image new) start.of_pool
+      (data_changes form.in_primary size pool (viewed store image turned) rec.page.0 slot_page start.pool_sound.header
+      start.pool_sound.inventory start.pool_sound.transactions start.of_pool (catalog_page_named form size state pool
+      start.of_pool start.in_pool start.pool_sound rec.page.0 table at_pool named).0 at_turn.bits)
+      (data_changes form.in_primary size (viewed store image turned) (viewed store image new) x.page.0 pages.frees.page
+      at_turn.header at_turn.inventory at_turn.transactions start.of_pool (catalog_page_named form size state pool
+      start.of_pool start.in_pool start.pool_sound x.page.0 table (newest_placed form size state pool start.of_pool
+      start.in_pool start.pool_sound rec table at_pool out.newest out.its.head.slot) named).0 (record {
+        bits = λ u. at_end.bits.bits u ∙ sym (at_turn.bits.bits u);
+        next = at_end.bits.next ∙ sym at_turn.bits.next;
+      }))
+    where
+      at_pool : table_at (stands_of start.of_pool) rec.page.0 ≡ Some table
+      at_pool = placed start.of_pool start.in_pool start.pool_sound
+
+      at_turn : IsDataChanged form size pool (viewed store image turned) start.of_pool
+      at_turn = data_more form size state pool start.of_pool start.in_pool start.pool_sound pool
+          (viewed store image turned) rec.page.0
+          (data_self form size state pool start.of_pool start.in_pool start.pool_sound) slot_page
+
+      at_end : IsDataChanged form size pool (viewed store image new) start.of_pool
+      at_end = data_more form size state pool start.of_pool start.in_pool start.pool_sound (viewed store image turned)
+          (viewed store image new) x.page.0 at_turn pages.frees.page
 
   -- an image with a set of the batch's pages
   module _ (changed : Pages) (set_ : PageSet) (img : Pages)

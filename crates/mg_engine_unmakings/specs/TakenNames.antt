@@ -66,7 +66,7 @@ shown_takes f chosen (e ∷ es) backs row is = at (f.state (writer e)) refl
 -- ---- the catalog's pages
 
 -- a table that rows name is not the catalog
-others_named : (rows : Rows) → IsCatalog rows → (ts : List Table) → EachTable (IsTable rows) ts
+pub others_named : (rows : Rows) → IsCatalog rows → (ts : List Table) → EachTable (IsTable rows) ts
     → EachTable (λ x. x.name ≢ catalog_name) ts
 others_named rows lawful [] each = tt
 others_named rows lawful (t ∷ ts) each =
@@ -156,7 +156,7 @@ left_at gone (s ∷ ss) n table is off = at (has s.data_pages n) refl is (λ is_
 
 -- ---- tables that stay
 
-stays_left : (gone : Value → Bool) (ts : List Table) (u : Table) → gone (table_key u.name) ≡ false → StaysAmong ts u
+pub stays_left : (gone : Value → Bool) (ts : List Table) (u : Table) → gone (table_key u.name) ≡ false → StaysAmong ts u
     → StaysAmong (tables_left gone ts) u
 stays_left gone [] u off stays = absurd stays
 stays_left gone (t ∷ ts) u off (inl same) = at (gone (table_key t.name)) refl
