@@ -103,6 +103,13 @@ has_so [] n h = absurd h
 has_so (m ∷ ns) n (inl same) = rw (eq-eqb n m same) refl
 has_so (m ∷ ns) n (inr h) = or_right (n == m) _ (has_so ns n h)
 
+pub has_it : (ns : List ℕ) (n : ℕ) → has ns n ≡ true → HasPage ns n
+has_it [] n is = absurd cc
+has_it (m ∷ ns) n is = elim (or_cases (n == m) _ is) [
+  | inl same ↦ inl (eqb-true n m same)
+  | inr more ↦ inr (has_it ns n more)
+]
+
 -- ---- levels
 
 -- where a page of a level has a right neighbour, this is one of the level

@@ -4,7 +4,7 @@ use Rattle.std.specs.Prelude.{◌≡◌, ◌≢◌, ◌<◌, ◌≤◌, ◌+◌,
 use Rattle.std.proofs.Common.{arith, inl, inr, refl, sym, subst, ap, ◌∙◌}
 use Rattle.std.proofs.Math.Nat.{div-lt_iff_lt-mul, suc-mul, zero-mul}
 use Rattle.std.proofs.lemmas.Nat.{div-mul-add, mod-mul-add}
-use Rattle.std.proofs.lemmas.Bool.{both_ways, cases_lt, eq-eqb, eqb-true, ltb-true, lt-ltb, and_from, or_cases}
+use Rattle.std.proofs.lemmas.Bool.{both_ways, cases_lt, eq-eqb, ltb-true, lt-ltb, and_from}
 use Rattle.mg_base.specs.CheckLaws.{verdict_from_passes}
 use Rattle.mg_base.specs.Checks.{Check, PassesAll, common_checks, verdict}
 use Rattle.mg_base.specs.Fields.{byte, u32_at}
@@ -46,7 +46,7 @@ use Rattle.mg_version.specs.declared.cell.Cell.TheVariants as cells
 use Rattle.mg_version.specs.declared.cell.Link.{Link}
 use Rattle.mg_version.specs.declared.cell.Version.{Version}
 use Rattle.mg_sound_links.specs.Roots.{IsFilled, IsWantedFrom, SoundIsLinked, SoundIsWanted, index_roots, roots_of, table_roots}
-use Rattle.mg_sound_links.proofs.ListLemmas.{AreLevels, are_levels, each_back, each_front, each_page, either, has_so, inside, is_demand, is_linked, length-first, mk, root_there}
+use Rattle.mg_sound_links.proofs.ListLemmas.{AreLevels, are_levels, each_back, each_front, each_page, either, has_so, inside, is_demand, is_linked, length-first, mk, root_there, has_it}
 
 -- ---- what is wanted
 
@@ -683,13 +683,6 @@ module _ (form : Form) (size : ℕ) (state : ℕ → TxState) (pages : Pages) (l
       (marks n below used)
 
   -- ---- marked, and on data pages
-
-  has_it : (ns : List ℕ) (n : ℕ) → has ns n ≡ true → HasPage ns n
-  has_it [] n is = absurd cc
-  has_it (m ∷ ns) n is = elim (or_cases (n == m) _ is) [
-    | inl same ↦ inl (eqb-true n m same)
-    | inr more ↦ inr (has_it ns n more)
-  ]
 
   data_at : (owner at : ℕ) (ns : List ℕ) → EachFrom (IsTableData form.in_primary size pages owner) at ns
       → (n : ℕ) → HasPage ns n
