@@ -3,6 +3,7 @@ use Rattle.mg_base.specs.Image.{Image}
 use Rattle.mg_base.specs.declared.geometry.TheConstants.{GREATEST_LIMIT}
 use Rattle.mg_image.specs.Tables.{Has, IsOnce, entries_in}
 use Rattle.mg_space.specs.View.{KeepsStore, Tells, viewed}
+use Rattle.mg_heap.specs.Reads.{ReadsListed}
 use Rattle.mg_heap.specs.Table.{LeadsTo}
 use Rattle.mg_heap.proofs.table.table_pages.Given as goal
 
@@ -16,6 +17,7 @@ invariant-loop-n g l = record {
   some : l.n.0 ≢ l.owner.0 → 0 < length l.pointers.items;
   few : length l.data_pages.items ≤ 4090 * length l.pointers.items;
   new_one : l.n.0 ≢ 0 → Has l.pointers.items l.n.0 → ⊥;
+  reads : ReadsListed g.D.Disk.meaning l.initial.store l.store l.pointers.items;
   leads : (image : Image) → Tells g.D.Disk.meaning l.initial.store.disk image
       → LeadsTo (viewed l.initial.store image l.batch) l.owner.0 l.pointers.items l.n.0;
   entries : (image : Image) → Tells g.D.Disk.meaning l.initial.store.disk image
