@@ -251,9 +251,9 @@ change_online m old new pages orders changes online = (
   online,
   changes.enters.offline ∙ (changes.puts.offline ∙ (changes.written.offline ∙ online)),
   let counted : new.faults ≡ old.faults = changes.enters.faults ∙ (changes.puts.faults ∙ changes.written.faults) in
-  let told : m.faults new.disk ≡ m.faults old.disk =
+      let told : m.faults new.disk ≡ m.faults old.disk =
       ap m.faults (changes.enters.disk ∙ changes.puts.disk) ∙ changes.written.steady in
-  cc,
+      cc,
 )
 
 -- the room that is left as a page is put
