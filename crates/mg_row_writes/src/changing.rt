@@ -24,7 +24,12 @@ pub fn unlawful() -> Damaged
 }
 
 /// Has the cache change a batch, if it is lawful.
-fn change_batch<D: Disk>(store: &mut Store<D>, batch: Batch) -> Result<(), SpaceFault>
+///
+/// # Errors
+///
+/// `Damaged` by `unlawful` where it is not, which no lawful caller meets; what the cache is refused for. No content has
+/// changed then.
+pub fn change_batch<D: Disk>(store: &mut Store<D>, batch: Batch) -> Result<(), SpaceFault>
     requires pool { IsPool D.meaning store.old }
 
     ensures pool { IsPool D.meaning store.new }

@@ -20,7 +20,9 @@ mod laying;
 mod storing;
 
 pub use before::{Before, Way, before_at};
-pub use changing::{make_first, push_over, replace_newest, take_newest_out, take_place, unlawful};
+pub use changing::{
+    change_batch, make_first, push_over, replace_newest, take_newest_out, take_place, unlawful,
+};
 pub use finding::{RowAt, obstacle_at, obstacle_of_record, row_at};
 pub use laying::lay;
 pub use storing::{may_be_stored, stored_version, table_key, written_key};

@@ -10,7 +10,7 @@ ghost use Rattle.mg_table_batch.specs.Making.{FailsGrowth, Grows};
 use mg_base::{Disk, GREATEST_LIMIT, PageNo};
 use mg_heap::page_with_room;
 use mg_pool::Batch;
-use mg_row_writes::unlawful;
+use mg_row_writes::change_batch;
 use mg_space::{SpaceFault, Store};
 
 /// Gives a table a data page more, in a batch of its own.
@@ -34,21 +34,6 @@ pub(crate) fn grow<D: Disk>(store: &mut Store<D>, owner: PageNo) -> Result<(), S
     // No data page has room for a whole page, so this one is new.
     page_with_room(store, &mut batch, owner, size)?;
     change_batch(store, batch)
-}
-
-/// Has the cache change a batch, if it is lawful.
-fn change_batch<D: Disk>(store: &mut Store<D>, batch: Batch) -> Result<(), SpaceFault>
-    requires pool { IsPool D.meaning store.old }
-
-    ensures pool { IsPool D.meaning store.new }
-    ensures geometry { store.new.geometry ≡ store.old.geometry }
-    ensures changes { MatchResult result (λ _. ChangesBatch D.meaning store.old store.new batch)
-        (FailsBatch D.meaning store.old store.new batch) }
-{
-    if !batch.is_lawful(store.geometry().size) {
-        return Err(SpaceFault::Damaged(unlawful()));
-    }
-    change_lawful(store, batch)
 }
 
 /// Has the cache change a lawful batch.

@@ -5,7 +5,6 @@ ghost use Rattle.mg_base.specs.Image.{Image};
 ghost use Rattle.mg_heap.specs.Reading.{ReadsData};
 ghost use Rattle.mg_pool.specs.Fault.{TellsFault};
 ghost use Rattle.mg_pool.specs.Pool.{IsPool};
-ghost use Rattle.mg_row_writes.specs.Changing.{ChangesBatch, FailsBatch};
 ghost use Rattle.mg_space.specs.Taking.{IsGeometry};
 ghost use Rattle.mg_space.specs.View.{AreWhole, KeepsStore, Tells, pool_answer, viewed};
 ghost use Rattle.mg_table_unmaking.specs.Rows.{FailsRowsOut, IsAlone, IsAloneAt, RefusesAloneAt, RefusesRow, RefusesRows, TakesRow, TakesRows, TakesRowsOut};
@@ -14,7 +13,7 @@ use mg_base::{Disk, GREATEST_LIMIT, RecId, TxNo};
 use mg_chain::{States, back_out};
 use mg_model::Table;
 use mg_pool::Batch;
-use mg_row_writes::unlawful;
+use mg_row_writes::{change_batch, unlawful};
 use mg_seek::{Placed, Wanted, first_version, speaker};
 use mg_snap::Live;
 use mg_space::{SpaceFault, Store};
@@ -138,24 +137,6 @@ fn take_rows<D: Disk, S: States>(
         rest = later;
     }
     Ok(())
-}
-
-/// Has the cache change a batch, if it is lawful.
-fn change_batch<D: Disk>(store: &mut Store<D>, batch: Batch) -> Result<(), SpaceFault>
-    requires pool { IsPool D.meaning store.old }
-
-    ensures pool { IsPool D.meaning store.new }
-    ensures geometry { store.new.geometry ≡ store.old.geometry }
-    ensures changes { MatchResult result (λ _. ChangesBatch D.meaning store.old store.new batch)
-        (FailsBatch D.meaning store.old store.new batch) }
-{
-    if !batch.is_lawful(store.geometry().size) {
-        return Err(SpaceFault::Damaged(unlawful()));
-    }
-    match store.change(batch) {
-        Ok(()) => Ok(()),
-        Err(fault) => Err(SpaceFault::Pool(fault)),
-    }
 }
 
 /// Takes the rows of keys out of a table, in one batch: each is the one version of the record that speaks for its key, and

@@ -1,7 +1,5 @@
 mod ReadLemmas
 mod KeyLemmas
 mod ChangeLemmas
-mod CoreLemmas
-mod TakingLemmas
 mod NotedLemmas
 mod TableLemmas

@@ -13,7 +13,7 @@ use Rattle.mg_works.specs.Works.{Working, work_of}
 use Rattle.mg_taking_back.specs.Changes.{change_of}
 use Rattle.mg_taking_back.specs.Tables.{TellsTable, has_table}
 use Rattle.mg_taking_back.specs.Taking.{IsUndoOf, MayReach}
-use Rattle.mg_taking_back.proofs.TakingLemmas.{given_is, given_none}
+use Rattle.mg_taking_back.specs.TakingLaws.{given_is, given_none}
 
 -- What is told from a list on is told of all.
 abbrev pub Leads : ℕ → Undo → Undo → Type 0

@@ -4,3 +4,5 @@ pub mod Keys
 pub mod Changes
 pub mod Taking
 pub mod Tables
+pub mod TakingLaws
+pub mod CoreLaws

@@ -24,7 +24,8 @@ mod noting;
 mod tables;
 mod taking;
 
+pub use changes::take_key;
 pub use laws::steps_come_to_an_end;
 pub use noting::{note_written, write_noted};
 pub use tables::{takes_tables_to_mark, takes_tables_to_savepoint};
-pub use taking::{back_to, undo_mark};
+pub use taking::{back_to, copy_undo, end_wait, give_up, undo_mark};

@@ -77,7 +77,7 @@ pub fn back_to<D: Disk>(core: &mut Core<D>, t: TxNo, name: &Name) -> Result<bool
 }
 
 /// An event of a transaction begins, whose wait is over with it.
-fn end_wait<D: Disk>(core: &mut Core<D>, t: TxNo)
+pub fn end_wait<D: Disk>(core: &mut Core<D>, t: TxNo)
     requires core { IsCore D.meaning core.old }
     ensures core { IsCore D.meaning core.new }
     ensures wait { EndsWait core.old core.new t.0 }
@@ -101,7 +101,7 @@ fn give_up_event<D: Disk>(core: &mut Core<D>, t: TxNo) -> Refusal
 /// # Errors
 ///
 /// `Memory` only.
-fn copy_undo<D: Disk>(core: &Core<D>, t: TxNo) -> Result<Undo, Memory>
+pub fn copy_undo<D: Disk>(core: &Core<D>, t: TxNo) -> Result<Undo, Memory>
     requires core { IsCore D.meaning core.now }
     requires active { said core.now.list t.0 ≡ IsActive }
     ensures { IfOk result (IsUndoOf core.now.works t.0) }
@@ -163,7 +163,7 @@ fn take_all<D: Disk>(core: &mut Core<D>, t: TxNo, undo: &mut Undo) -> Result<(),
 }
 
 /// Gives a transaction up for a refusal after which it can't go on: it is rolled back. It takes no memory.
-fn give_up<D: Disk>(core: &mut Core<D>, t: TxNo, refusal: Refusal) -> Refusal
+pub fn give_up<D: Disk>(core: &mut Core<D>, t: TxNo, refusal: Refusal) -> Refusal
     requires core { IsCore D.meaning core.old }
     requires active { said core.old.list t.0 ≡ IsActive }
     ensures core { IsCore D.meaning core.new }

@@ -3,3 +3,4 @@ mod Given
 mod MachineLemmas
 mod PlacesLemmas
 mod PlacingLemmas
+mod WholeLemmas

@@ -2,3 +2,4 @@ pub mod Undo
 pub mod Places
 pub mod Placing
 pub mod Machine
+pub mod Whole

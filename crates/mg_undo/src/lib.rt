@@ -8,6 +8,9 @@
 //! change it tells which one of the same key was the last before, so that nothing is searched when
 //! changes are taken back. A key leaves the map with its first change, and then it is the last.
 //!
+//! `goes_whole` tests which rows of the catalog are taken back: a transaction that takes back a CREATE TABLE takes back
+//! all rows of that table, and the engine takes them out in one batch.
+//!
 //! Invariant: a point stands no higher than the changes that are left, and no lower than an older
 //! point. The places are those of the changes.
 //! Below: `mg_value`; `mg_sortkey`, whose bytes tell keys apart; `mg_model` for the laws. Above: the engine, which keeps each change before
@@ -21,6 +24,7 @@ mod laws;
 mod places;
 mod points;
 mod undo;
+mod whole;
 
 pub use changes::{Change, Changes, Was};
 pub use laws::{
@@ -30,3 +34,4 @@ pub use laws::{
 pub use places::{Place, Places, Push};
 pub use points::Standing;
 pub use undo::Undo;
+pub use whole::has_table_key;

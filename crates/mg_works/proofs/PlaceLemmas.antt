@@ -1,14 +1,16 @@
 -- A transaction's place is set to another work.
-use Rattle.std.proofs.Common.{◌≡◌, ◌<◌, ◌==◌, ℕ, zero, suc, Bool, true, false, List, [], ◌∷◌, arith, Bor, cond, Option, None, Some, Result, Ok, Err, get_or, set, length, sym, ◌∙◌, ap, refl, subst}
+use Rattle.std.proofs.Common.{◌≡◌, ◌<◌, ◌==◌, not, ℕ, zero, suc, Bool, true, false, List, [], ◌∷◌, arith, Bor, cond, Option, None, Some, Result, Ok, Err, get_or, set, length, sym, ◌∙◌, ap, refl, subst}
 use Rattle.std.specs.Option.{option_copied}
 use Rattle.std.specs.Prelude.{IfSome, OnErr, OnOk}
+use Rattle.mg_model.specs.Catalog.{table_key}
 use Rattle.mg_model.specs.Changes.{same_name}
 use Rattle.mg_base.specs.declared.memory.Memory.{Memory}
 use Rattle.mg_model.specs.declared.table.Table.{Table}
 use Rattle.mg_value.specs.declared.value.Value.{Value}
 use Rattle.mg_undo.specs.Undo.{State as Undo}
+use Rattle.mg_undo.specs.Whole.{is_one_of}
 use Rattle.mg_undo.specs.declared.changes.Was.{Was}
-use Rattle.mg_works.specs.Works.{AllMayBeGiven, AreApart, IsNowhere, IsPlaceOf, IsWork, MayBeGiven, Working, given_in, has_asked, going_back_to, with_change, with_point, with_step_back, with_table, with_undo, with_work, with_written, unasked, without_change, without_tables, written_in}
+use Rattle.mg_works.specs.Works.{AllMayBeGiven, AreApart, IsNowhere, IsPlaceOf, IsWork, MayBeGiven, Working, given_in, has_asked, going_back_to, tables_left, with_change, with_point, with_step_back, with_table, with_undo, with_work, with_written, unasked, without_change, without_tables, without_written, written_in}
 use Rattle.mg_works.specs.WorksLaws.{none_untouched, nowhere_none, set_is_with, with_apart}
 
 -- what a call makes of a work keeps its number and its session, and is lawful
@@ -92,6 +94,27 @@ writing_keeps table may = record {
   number = λ w. refl;
   session = λ w. refl;
   lawful = λ w is. record { session_below = is.session_below; lawful = is.lawful; written_lawful = (may, is.written_lawful) };
+}
+
+-- of lawful tables those that are left are so
+lawful_left : (keys : List Value) (tables : List Table) → AllMayBeGiven tables → AllMayBeGiven (tables_left keys tables)
+lawful_left keys [] all = tt
+lawful_left keys (table ∷ tables) all = at (not (is_one_of keys (table_key table.name))) (lawful_left keys tables all.1)
+  where
+    at : (b : Bool) → AllMayBeGiven (tables_left keys tables)
+        → AllMayBeGiven (cond b (table ∷ tables_left keys tables) (tables_left keys tables))
+    at true more = (all.0, more)
+    at false more = more
+
+pub dropping_keeps : (keys : List Value) → Keeps (without_written keys)
+dropping_keeps keys = record {
+  number = λ w. refl;
+  session = λ w. refl;
+  lawful = λ w is. record {
+    session_below = is.session_below;
+    lawful = is.lawful;
+    written_lawful = lawful_left keys w.written is.written_lawful;
+  };
 }
 
 nothing_keeps : Keeps (λ w. w)

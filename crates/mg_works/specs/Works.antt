@@ -5,8 +5,10 @@ use Rattle.mg_base.specs.declared.geometry.TheConstants.{GREATEST_LIMIT}
 use Rattle.mg_value.specs.declared.shape.TheConstants.{MOST_COLUMNS}
 use Rattle.mg_model.specs.declared.event.Mode.{Mode}
 use Rattle.mg_model.specs.declared.table.Table.{Table}
+use Rattle.mg_model.specs.Catalog.{table_key}
 use Rattle.mg_model.specs.Changes.{same_name}
 use Rattle.mg_undo.specs.Undo.{State as Undo, after_back_to, after_keep, after_point, after_retract, has_point, take_back}
+use Rattle.mg_undo.specs.Whole.{is_one_of}
 use Rattle.mg_undo.specs.declared.changes.Change.{Change}
 use Rattle.mg_undo.specs.declared.changes.Was.{Was}
 use Rattle.mg_value.specs.declared.value.Value.{Value}
@@ -129,6 +131,14 @@ with_table table w = record w { tables = table ∷ w.tables }
 -- a table was written into
 abbrev pub with_written : Table → Working → Working
 with_written table w = record w { written = table ∷ w.written }
+
+-- the tables without those whose rows of the catalog have one of these keys
+abbrev pub tables_left : List Value → List Table → List Table
+tables_left keys tables = filter (λ table. not (is_one_of keys (table_key table.name))) tables
+
+-- the tables that were written into without those whose rows of the catalog go, under these keys
+abbrev pub without_written : List Value → Working → Working
+without_written keys w = record w { written = tables_left keys w.written }
 
 -- the commit was asked for
 abbrev pub has_asked : Working → Working

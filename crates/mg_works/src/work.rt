@@ -4,11 +4,11 @@ ghost use Rattle.std.specs.Prelude.{◌≡◌, ◌==◌, ◌∷◌, None, Some, 
 ghost use Rattle.std.specs.Option.{option_copied};
 ghost use Rattle.mg_model.specs.Changes.{same_name};
 ghost use Rattle.mg_undo.specs.Undo.{given_as, has_point, take_back as taken_back};
-ghost use Rattle.mg_works.specs.Works.{begun, given_in, going_back_to, has_asked as asked_for, with_change, with_point, with_step_back, with_table, with_undo, with_written, unasked, without_change, without_tables, written_in};
+ghost use Rattle.mg_works.specs.Works.{begun, given_in, going_back_to, has_asked as asked_for, tables_left, with_change, with_point, with_step_back, with_table, with_undo, with_written, unasked, without_change, without_tables, without_written, written_in};
 
 use mg_base::{Memory, TxNo};
 use mg_model::{Mode, Table};
-use mg_undo::{Undo, Was};
+use mg_undo::{Undo, Was, has_table_key};
 use mg_value::{Key, Name};
 use std::alloc::Global;
 use std::marker::Model;
@@ -204,6 +204,13 @@ impl Work {
         Ok(())
     }
 
+    /// Drops the tables that were written into whose rows of the catalog go, under these keys.
+    pub fn drop_written(&mut self, keys: &[Key])
+        ensures { self.new ≡ without_written keys.now self.old }
+    {
+        drop_tables(&mut self.written, keys);
+    }
+
     /// The commit was asked for.
     pub fn ask(&mut self)
         ensures { self.new ≡ asked_for self.old }
@@ -241,6 +248,13 @@ impl Work {
         }
         None
     }
+}
+
+/// Drops the tables whose rows of the catalog have one of these keys.
+fn drop_tables(tables: &mut Vec<Table>, keys: &[Key])
+    ensures { tables.new.items ≡ tables_left keys.now tables.old.items }
+{
+    tables.retain(|table| !has_table_key(keys, table.name.as_slice()));
 }
 
 /// Tells whether two names are the same.

@@ -2,7 +2,7 @@
 
 ghost use Rattle.std.specs.Prelude.{◌≡◌, ◌<◌, ◌++◌, ◌∷◌, [], None, Some, false, IfSome, IfNone, OnOk, OnErr};
 ghost use Rattle.std.specs.Option.{option_copied};
-ghost use Rattle.mg_works.specs.Works.{IsNowhere, IsPlaceOf, MayBeGiven, begun, given_to, given_back, going_back_to, has_asked, has_savepoint, has_session as has_session_in, with_change, with_point, with_step_back, with_table, with_undo, with_work, with_written, unasked, without_change, without_tables, without_work, work_of, written_to};
+ghost use Rattle.mg_works.specs.Works.{IsNowhere, IsPlaceOf, MayBeGiven, begun, given_to, given_back, going_back_to, has_asked, has_savepoint, has_session as has_session_in, with_change, with_point, with_step_back, with_table, with_undo, with_work, with_written, unasked, without_change, without_tables, without_work, without_written, work_of, written_to};
 ghost use Rattle.mg_undo.specs.Undo.{given_as};
 
 use crate::work::Work;
@@ -227,6 +227,16 @@ impl Works {
         match find(&self.items, t) {
             Some(place) => self.items[place].note_written(table),
             None => Ok(()),
+        }
+    }
+
+    /// Of the tables that a transaction has written into those go whose rows of the catalog go, under these keys: it has
+    /// taken them back, and nothing is left to take back of what it wrote there. It takes no memory.
+    pub fn drop_written(&mut self, t: TxNo, keys: &[Key])
+        ensures { self.new ≡ with_work t.0 (without_written keys.now) self.old }
+    {
+        if let Some(place) = find(&self.items, t) {
+            self.items[place].drop_written(keys);
         }
     }
 

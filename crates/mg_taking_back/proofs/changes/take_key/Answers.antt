@@ -1,6 +1,6 @@
 use Rattle.mg_taking_back.specs.Changes.{change_of}
 use Rattle.mg_taking_back.proofs.ChangeLemmas.{fault_told_of}
-use Rattle.mg_taking_back.proofs.CoreLemmas.{core_counted}
+use Rattle.mg_taking_back.specs.CoreLaws.{core_counted}
 use Rattle.mg_taking_back.proofs.changes.take_key.Goals as goal
 
 pub returns-in-Err-clause-core : goal.returns-in-Err-clause-core

@@ -6,7 +6,7 @@ use Rattle.mg_txlist.specs.declared.list.TxList.{TxList}
 use Rattle.mg_taking_back.specs.Changes.{change_of}
 use Rattle.mg_taking_back.specs.Keys.{FailsKey, TakesKey}
 use Rattle.mg_taking_back.proofs.ChangeLemmas.{pages_come}
-use Rattle.mg_taking_back.proofs.CoreLemmas.{core_store}
+use Rattle.mg_taking_back.specs.CoreLaws.{core_store}
 use Rattle.mg_taking_back.proofs.changes.take_pages.Goals as goal
 
 pub returns-clause-core : goal.returns-clause-core

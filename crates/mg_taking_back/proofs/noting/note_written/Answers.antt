@@ -1,4 +1,4 @@
-use Rattle.mg_taking_back.proofs.CoreLemmas.{core_noted}
+use Rattle.mg_taking_back.specs.CoreLaws.{core_noted}
 use Rattle.mg_taking_back.proofs.noting.note_written.Goals as goal
 
 pub returns-in-Ok-note_in-clause-core : goal.returns-in-Ok-note_in-clause-core

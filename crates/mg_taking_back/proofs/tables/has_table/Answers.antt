@@ -1,5 +1,5 @@
 use Rattle.std.proofs.Common.{false, sym, true, ◌∙◌}
-use Rattle.mg_taking_back.proofs.TakingLemmas.{fewer_left}
+use Rattle.mg_taking_back.specs.TakingLaws.{fewer_left}
 use Rattle.mg_taking_back.proofs.TableLemmas.{leads_itself, told_false, told_on, told_true}
 use Rattle.mg_taking_back.proofs.tables.has_table.Goals as goal
 

@@ -1,6 +1,6 @@
 use Rattle.std.proofs.Common.{◌∙◌, refl, sym}
 use Rattle.mg_model.specs.declared.change.Point.TheVariants.{SavepointNamed}
-use Rattle.mg_taking_back.proofs.TakingLemmas.{not_to_savepoint, stands, to_savepoint}
+use Rattle.mg_taking_back.specs.TakingLaws.{not_to_savepoint, stands, to_savepoint}
 use Rattle.mg_taking_back.proofs.taking.back_to.Goals as goal
 
 pub returns-then-not-back_to-clause-goes : goal.returns-then-not-back_to-clause-goes

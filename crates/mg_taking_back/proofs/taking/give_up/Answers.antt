@@ -1,4 +1,4 @@
-use Rattle.mg_taking_back.proofs.CoreLemmas.{core_rolled}
+use Rattle.mg_taking_back.specs.CoreLaws.{core_rolled}
 use Rattle.mg_taking_back.proofs.taking.give_up.Goals as goal
 
 pub returns-clause-core : goal.returns-clause-core

@@ -1,4 +1,4 @@
-use Rattle.mg_taking_back.proofs.TakingLemmas.{not_copied}
+use Rattle.mg_taking_back.specs.TakingLaws.{not_copied}
 use Rattle.mg_taking_back.proofs.taking.give_up_event.Goals as goal
 
 pub returns-clause-fails : goal.returns-clause-fails

@@ -1,5 +1,5 @@
 use Rattle.std.proofs.Common.{sym, ◌∙◌}
-use Rattle.mg_taking_back.proofs.TakingLemmas.{all_taken, fails_list, fails_works, fewer_left, going, going_on, stopped_at}
+use Rattle.mg_taking_back.specs.TakingLaws.{all_taken, fails_list, fails_works, fewer_left, going, going_on, stopped_at}
 use Rattle.mg_taking_back.specs.Changes.{change_of}
 use Rattle.mg_taking_back.proofs.taking.take_all.Goals as goal
 

@@ -1,5 +1,5 @@
 use Rattle.std.proofs.Common.{length}
-use Rattle.mg_taking_back.proofs.TakingLemmas.{Going}
+use Rattle.mg_taking_back.specs.TakingLaws.{Going}
 use Rattle.mg_taking_back.proofs.taking.take_all.Given as goal
 
 abbrev pub invariant-loop-change : goal.invariant-loop-change

@@ -1,8 +1,8 @@
 use Rattle.std.proofs.Common.{ap, ◌∙◌}
 use Rattle.mg_txlist.specs.TxList.{said}
 use Rattle.mg_txlist.specs.declared.list.TxList.{TxList}
-use Rattle.mg_taking_back.proofs.CoreLemmas.{back_same, core_works, unasked_same}
-use Rattle.mg_taking_back.proofs.TakingLemmas.{stopped_from, taken_from}
+use Rattle.mg_taking_back.specs.CoreLaws.{back_same, core_works, unasked_same}
+use Rattle.mg_taking_back.specs.TakingLaws.{stopped_from, taken_from}
 use Rattle.mg_taking_back.proofs.taking.take_back_from.Goals as goal
 
 pub take_all-requires : goal.take_all-requires

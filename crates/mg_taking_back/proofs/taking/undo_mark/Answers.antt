@@ -1,5 +1,5 @@
 use Rattle.mg_model.specs.declared.change.Point.TheVariants.{LastMark}
-use Rattle.mg_taking_back.proofs.TakingLemmas.{not_copied, to_mark, undo_before}
+use Rattle.mg_taking_back.specs.TakingLaws.{not_copied, to_mark, undo_before}
 use Rattle.mg_taking_back.proofs.taking.undo_mark.Goals as goal
 
 pub returns-in-Ok-copy_undo-clause-takes : goal.returns-in-Ok-copy_undo-clause-takes
