@@ -25,7 +25,7 @@ use Rattle.mg_batch_demands.specs.Wanting.{IsWanting, Pays, may_go, want_of}
 use Rattle.mg_batch_demands.specs.WantingLaws.{page_pays}
 
 -- a slot past the last one has no cell
-past_none : (page : List ℕ) (slot : ℕ) → slot_count page ≤ slot → cell_of page slot ≡ None
+pub past_none : (page : List ℕ) (slot : ℕ) → slot_count page ≤ slot → cell_of page slot ≡ None
 unfolding cell_of
 past_none page slot past = at (nat_lt slot (slot_count page)) refl
   where
@@ -80,8 +80,10 @@ module _ (size : ℕ) (old new : Pages) (x slot : ℕ) (cell : Option (List ℕ)
           × (is_version_of d.b (slot_cell (cell_of (old d.target) d.a)) ≡ true))
           → IsDataWant d ⊎ IsVersionWant d
       at (inl (is, passes)) = inl (is, subst (λ (m : ℕ). PassesAll (common_checks (old m) m DATA_KIND d.a d.b)) same passes)
-      at (inr (is, there)) = inr (is,
-          subst (λ (m : ℕ). is_version_of d.b (slot_cell (cell_of (old m) d.a)) ≡ true) same there)
+      at (inr (is, there)) = inr (
+        is,
+        subst (λ (m : ℕ). is_version_of d.b (slot_cell (cell_of (old m) d.a)) ≡ true) same there,
+      )
 
   still_version : (d : Demand) → IsVersionWant d
       → is_version_of d.b (slot_cell (cell_of (new x) d.a)) ≡ true

@@ -109,7 +109,7 @@ of_listed list d h = listed_is list d h.0 h.1
 
 -- ---- met
 
-ok_passes : (page : PageNo) (checks : List Check) → is_ok (verdict page checks) ≡ true
+pub ok_passes : (page : PageNo) (checks : List Check) → is_ok (verdict page checks) ≡ true
     → PassesAll checks
 ok_passes page checks ok = at (verdict page checks) refl
   where

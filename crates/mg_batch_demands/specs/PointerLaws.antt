@@ -28,7 +28,7 @@ none_in d h = of_listed [] d h
 
 -- ---- entries
 
-length-first : (page : List ℕ) (n : ℕ) → length (first_entries page n) ≡ n
+pub length-first : (page : List ℕ) (n : ℕ) → length (first_entries page n) ≡ n
 length-first page zero = refl
 length-first page (suc n) =
     let before = length-first page n in

@@ -13,11 +13,10 @@ use Rattle.mg_space.specs.declared.links.TheConstants.{VERSION}
 use Rattle.mg_batch_demands.specs.VersionLaws.{may_is_version}
 use Rattle.mg_batch_demands.specs.Wanting.{may_go}
 use Rattle.mg_batch_demands.specs.WantingLaws.{in_one}
-use Rattle.mg_demand_ties.specs.Runs.{BatchBearsLinks, BearsLinks, Lasting, PaysThenDrops, RunsBear, StillBears, changes, stays, writes}
+use Rattle.mg_demand_ties.specs.Runs.{BatchBearsLinks, BearsLinks, Lasting, PaysThenDrops, RunsBear, StillBears, ThreeHasBoth, changes, stays, writes}
 
 -- what both sets have, the set of three parts has
-in_three : (cache : Cache) (gone : PageSet) (of_disk of_pool : DemandSet) (d : Demand) → IsIn of_disk d
-    → IsIn of_pool d → IsIn (three_parts cache gone of_disk of_pool) d
+pub in_three : ThreeHasBoth
 in_three cache gone of_disk of_pool d disk pool = at (gone d.target) refl (cache.dirty d.target) refl
   where
     at : (x : Bool) → gone d.target ≡ x → (y : Bool) → cache.dirty d.target ≡ y
@@ -117,13 +116,15 @@ module _ (by_writes : WritesBearAll demands_of meets_of) (by_batches : BatchesBe
         → IsIn now_disk d × IsIn now_pool d
     still_there d other disk pool = (
       in_three old gone of_disk of_pool d disk pool,
-      (pool.0, and_from _ _ (or_left _ _ pool.1)
-          (not_from_false _ (kept_else it.settled paid.dropped paid.drops.may d other))),
+      (
+        pool.0,
+        and_from _ _ (or_left _ _ pool.1)
+            (not_from_false _ (kept_else it.settled paid.dropped paid.drops.may d other)),
+      ),
     )
 
   pub batch_bears : BatchBearsLinks
-  batch_bears size old new it gone batch orders closed lays own pays of_disk of_pool bears =
-      let paid = pays of_disk of_pool bears in
+  batch_bears size old new it gone batch orders closed lays own of_disk of_pool bears paid =
       earlier size new it of_disk of_pool
       (now_disk size old new it gone batch orders closed lays own of_disk of_pool bears paid)
       (now_pool size old new it gone batch orders closed lays own of_disk of_pool bears paid)

@@ -29,12 +29,12 @@ none_index size owner (index ∷ indexes) = none_both (linked size index.root.0 
 
 none_table : (size : ℕ) (stands : List Stand) → NoVersion (table_roots size stands)
 none_table size [] = none_empty
-none_table size (stand ∷ stands) =
-    none_both (linked size stand.table.pointer.0 POINTER stand.table.pointer.0 0)
-    (index_roots size stand.table.pointer.0 stand.table.indexes ++ table_roots size stands)
+none_table size (stand ∷ stands) = none_both (linked size stand.table.pointer.0 POINTER stand.table.pointer.0 0
+    ++ index_roots size stand.table.pointer.0 stand.table.indexes) (table_roots size stands)
+    (none_both (linked size stand.table.pointer.0 POINTER stand.table.pointer.0 0)
+    (index_roots size stand.table.pointer.0 stand.table.indexes)
     (none_linked size stand.table.pointer.0 POINTER stand.table.pointer.0 0 (λ is. omega (arith, is)))
-    (none_both (index_roots size stand.table.pointer.0 stand.table.indexes) (table_roots size stands)
-    (none_index size stand.table.pointer.0 stand.table.indexes) (none_table size stands))
+    (none_index size stand.table.pointer.0 stand.table.indexes)) (none_table size stands)
 
 no_root : (size : ℕ) (layout : Layout) → NoVersion (roots_of size layout)
 no_root size layout = none_both (demand 0 HEADER 0 0) (table_roots size (stands_of layout))

@@ -11,7 +11,7 @@ use Rattle.mg_demands.specs.Bearing.{IsPaid}
 use Rattle.mg_image.specs.Form.{Pages}
 use Rattle.mg_image.specs.Records.{slot_cell}
 use Rattle.mg_slots.specs.DataPage.{cell_of}
-use Rattle.mg_space.specs.Demands.{back_demands, cell_demands, demand, is_version_of, version_demands, wanted_demands}
+use Rattle.mg_space.specs.Demands.{back_demands, cell_demands, demand, is_version_of, link_demand, version_demands, wanted_demands}
 use Rattle.mg_space.specs.declared.links.TheConstants.{NEXT, VERSION}
 use Rattle.mg_version.specs.declared.cell.Cell.{Cell}
 use Rattle.mg_version.specs.declared.cell.Cell.TheVariants as cells
@@ -37,7 +37,8 @@ want_by link = want_of link.rec.page.0 VERSION link.rec.slot link.tx.0
 -- what a version or a slot leads to: the version behind, if there is one
 abbrev pub BackIsBehind : Orders → DemandSet → DemandSet → ℕ → Option Link → Type 0
 BackIsBehind orders on_disk wanted page None = Unit {0}
-BackIsBehind orders on_disk wanted page (Some link) = IsBehind orders on_disk wanted page (want_by link)
+BackIsBehind orders on_disk wanted page (Some link) =
+    (e : Demand) → Has (link_demand link) e → IsBehind orders on_disk wanted page e
 
 -- the cell of a primary slot: an anchor, or none
 abbrev pub anchor_to : Option Link → Option Cell
@@ -87,7 +88,7 @@ turns_pay size old new rec slot cell from to orders settled on_disk wanted turns
     cell_pays size old new rec slot cell None orders settled on_disk wanted turns.sets
     (λ t is. absurd (no_version_in from t (subst (λ (c : Option Cell). is_version_of t c ≡ true) turns.led is)))
     tt was (record {
-      led = λ d e same h. inr (paid d e same (led_in to e (cell_now e h)));
+      led = λ d e same h. inr (paid to behind d e same (cell_now e h));
       wanted_led = λ d e same at h. absurd (none_wanted_in to e (wanted_now e h));
       new_led = λ d e same h made. absurd (of_listed [] d h);
       leaves = λ e may apart h. inr (left e may apart (led_in from e
@@ -102,15 +103,14 @@ turns_pay size old new rec slot cell from to orders settled on_disk wanted turns
     wanted_now : (e : Demand) → Has (wanted_demands (slot_cell cell)) e → Has (wanted_demands (anchor_to to)) e
     wanted_now e h = subst (λ (c : Option Cell). Has (wanted_demands c) e) turns.leads h
 
-    paid : (d e : Demand) → d.target ≡ rec → (link : Link) × (to ≡ Some link) × (e ≡ want_by link)
-        → IsPaid orders on_disk wanted (listed []) d e
-    paid d e same (link, is, one) =
-        let it = subst (BackIsBehind orders on_disk wanted rec) is behind in
-        subst (λ (x : Demand). IsPaid orders on_disk wanted (listed []) d x) (sym one) (record {
-          is_wanted = inl it.is_wanted;
-          is_first = subst (λ (n : ℕ). (link.rec.page.0 ≡ n)
-              ⊎ ((orders link.rec.page.0 n ≡ true) ⊎ IsIn on_disk (want_by link))) (sym same) it.is_first;
-        })
+    paid : (o : Option Link) → BackIsBehind orders on_disk wanted rec o → (d e : Demand) → d.target ≡ rec
+        → Has (cell_demands (anchor_to o)) e → IsPaid orders on_disk wanted (listed []) d e
+    paid None all d e same h = absurd h
+    paid (Some link) all d e same h = let it = all e h in record {
+      is_wanted = inl it.is_wanted;
+      is_first = subst (λ (n : ℕ). (e.target ≡ n) ⊎ ((orders e.target n ≡ true) ⊎ IsIn on_disk e)) (sym same)
+          it.is_first;
+    }
 
     left : (e : Demand) → may_go settled e ≡ true → e.target ≢ rec
         → (link : Link) × (from ≡ Some link) × (e ≡ want_by link) → orders rec e.target ≡ true
@@ -175,8 +175,7 @@ puts_pay size old new at slot bytes v orders settled on_disk wanted puts was num
         → d.target ≡ at → Has (back_demands o) e
         → IsPaid orders on_disk wanted (listed (want_of at VERSION slot v.tx.0 ∷ [])) d e
     back_paid None it d e same h = absurd h
-    back_paid (Some link) it d e same h = paid_by d e (want_by link) same
-        (is_demand link.rec.page.0 VERSION link.rec.slot link.tx.0 e h) it
+    back_paid (Some link) it d e same h = paid_by d e e same refl (it e h)
 
     version_led : (d e : Demand) → d.target ≡ at → Has (wanted_demands (slot_cell (Some bytes))) e
         → IsPaid orders on_disk wanted (listed (want_of at VERSION slot v.tx.0 ∷ [])) d e
@@ -215,9 +214,10 @@ versions_pay size old put new at rec slot rec_slot bytes anchor v from link orde
     cell_step : Pays size old put orders settled on_disk wanted (listed (want_of at VERSION slot v.tx.0 ∷ []))
     cell_step = puts_pay size old put at slot bytes v orders settled on_disk wanted writes.puts was number behind
 
-    there : IsBehind orders on_disk (either wanted (listed (want_of at VERSION slot v.tx.0 ∷ []))) rec (want_by link)
-    there = subst (λ (x : Demand). IsBehind orders on_disk (either wanted (listed (want_of at VERSION slot v.tx.0 ∷ []))) rec x)
-        (sym writes.leads) (record {
+    there : (e : Demand) → Has (link_demand link) e
+        → IsBehind orders on_disk (either wanted (listed (want_of at VERSION slot v.tx.0 ∷ []))) rec e
+    there e h = subst (λ (x : Demand). IsBehind orders on_disk (either wanted (listed (want_of at VERSION slot v.tx.0 ∷ []))) rec x)
+        (sym (is_demand link.rec.page.0 VERSION link.rec.slot link.tx.0 e h ∙ writes.leads)) (record {
           is_wanted = in_other wanted (listed (want_of at VERSION slot v.tx.0 ∷ [])) (want_of at VERSION slot v.tx.0)
               (in_listed (want_of at VERSION slot v.tx.0 ∷ []) (want_of at VERSION slot v.tx.0) (inl refl));
           is_first = elim order [

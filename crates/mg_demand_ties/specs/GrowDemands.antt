@@ -1,5 +1,5 @@
 -- What the growth of a table pays: a data page is taken, made, and listed by a pointer page.
-use Rattle.std.specs.Prelude.{◌≡◌, ◌≢◌, ◌+◌, ◌*◌, ◌++◌, min, ℕ, true, List, [], ◌∷◌, length, Bool}
+use Rattle.std.specs.Prelude.{◌≡◌, ◌≢◌, ◌+◌, ◌*◌, ◌++◌, ◌≤◌, min, ℕ, true, List, [], ◌∷◌, length, Bool}
 use Rattle.std.proofs.Common.{inl, inr, refl, sym, subst, ◌∙◌, arith, ap}
 use Rattle.std.proofs.lemmas.Bool.{both_ways}
 use Rattle.mg_base.specs.CheckLaws.{front_checks, passes-append}
@@ -104,7 +104,7 @@ passes_behind [] others passes = passes
 passes_behind (check ∷ checks) others passes = passes_behind checks others passes.1
 
 -- a pointer page with an entry more passes its tests
-entry_passes : (old new : List ℕ) (entry page owner seq : ℕ) → AddsEntry old new entry
+pub entry_passes : (old new : List ℕ) (entry page owner seq : ℕ) → AddsEntry old new entry
     → PassesAll (pointer_checks old page owner seq) → PassesAll (pointer_checks new page owner seq)
 unfolding pointer_checks
 entry_passes old new entry page owner seq adds passes =
@@ -125,6 +125,16 @@ entry_passes old new entry page owner seq adds passes =
         let low = adds.outside 22 (λ past. omega (arith, past)) (λ past. omega (arith, past)) in
         let high = adds.outside 23 (λ past. omega (arith, past)) (λ past. omega (arith, past)) in
         omega (arith, was, low, high)
+
+-- a pointer page that passes its tests has no more entries than fit
+pub count_in_fits : (page : List ℕ) (n owner at : ℕ) → PassesAll (pointer_checks page n owner at)
+    → count_in page ≤ capacity (length page)
+unfolding pointer_checks
+count_in_fits page n owner at passes =
+    let rest : PassesAll (rest_checks page) =
+    passes_behind (common_checks page n POINTER_KIND owner at) (rest_checks page) passes in
+    let fits : count_in page ≡ min (count_in page) (capacity (length page)) = rest.0 in
+    omega (arith, fits)
 
 module _ (g : Geometry) (old taken made new : Pages) (q n owner at : ℕ) (orders : Orders) (settled : ℕ → Bool) (on_disk wanted : DemandSet) (lawful : IsGeometry g) (grows : GrowsIn g old taken made new q n owner at) (was : IsWanting g.size old wanted) (page_first : orders n q ≡ true) (bit_first : orders (inventory_page g.size (region_of g.size n)) q ≡ true) where
   abbrev size : ℕ

@@ -91,6 +91,12 @@ RunsBear = (size : ℕ) (first last : Cache) (it end : Lasting) → Goes size fi
 abbrev pub BatchBearsLinks : Type 0
 BatchBearsLinks = (size : ℕ) (old new : Cache) (it : Lasting) (gone : PageSet) (batch : Contents)
     (orders : Orders) → IsClosed old gone → LaysBatch old new gone batch orders
-    → ((a b : ℕ) → orders a b ≡ true → is_some (batch b) ≡ true)
-    → PaysIn size old new gone batch orders it → (of_disk of_pool : DemandSet)
-    → BearsLinks size old it of_disk of_pool → StillBears size new it of_disk of_pool
+    → ((a b : ℕ) → orders a b ≡ true → is_some (batch b) ≡ true) → (of_disk of_pool : DemandSet)
+    → BearsLinks size old it of_disk of_pool
+    → PaysThenDrops size old.pool new.pool batch orders it (three_parts old gone of_disk of_pool) of_pool
+    → StillBears size new it of_disk of_pool
+
+-- after page writes the disk has what it had and the pool has
+abbrev pub ThreeHasBoth : Type 0
+ThreeHasBoth = (cache : Cache) (gone : PageSet) (of_disk of_pool : DemandSet) (d : Demand)
+    → IsIn of_disk d → IsIn of_pool d → IsIn (three_parts cache gone of_disk of_pool) d
