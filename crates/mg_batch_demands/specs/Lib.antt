@@ -1,10 +1,13 @@
 pub mod Wanting
+pub mod Steps
 pub mod Met
 pub mod WantingLaws
 pub mod KindLaws
+pub mod VersionLaws
 pub mod TakeLaws
 pub mod NumberLaws
 pub mod TipLaws
 pub mod PointerLaws
 pub mod CellLaws
-pub mod Steps
+pub mod FreeLaws
+pub mod StepLaws

@@ -19,28 +19,26 @@ use Rattle.mg_slots.specs.declared.page.TheConstants.{DATA_KIND}
 use Rattle.mg_space.specs.Demands.{demand, demands_by, demands_of, is_header, is_version_of, meets_by, meets_of}
 use Rattle.mg_space.specs.declared.links.TheConstants.{BIT, DATA, HEADER, NEXT, NODE, POINTER, TRANSACTIONS, TREE, VERSION}
 use Rattle.mg_tip.specs.TipPage.{tip_checks}
-
-abbrev pub mk : ℕ → ℕ → ℕ → ℕ → Demand
-mk target what a b = record { target = target; what = what; a = a; b = b }
+use Rattle.mg_batch_demands.specs.Wanting.{want_of}
 
 -- a page of a size meets a demand: by what is wanted, it is that
 pub data IsMet (size : ℕ) (page : List ℕ) : Demand → Type 0 where
-  of_header : {d : Demand} → d ≡ mk 0 HEADER d.a d.b → is_header size page ≡ true → IsMet size page d
-  of_next : {d : Demand} → d ≡ mk 0 NEXT d.a d.b → is_header size page ≡ true
+  of_header : {d : Demand} → d ≡ want_of 0 HEADER d.a d.b → is_header size page ≡ true → IsMet size page d
+  of_next : {d : Demand} → d ≡ want_of 0 NEXT d.a d.b → is_header size page ≡ true
       → nat_lt d.a (header_in page).next.0 ≡ true → IsMet size page d
-  of_tip : {d : Demand} → d ≡ mk d.target TRANSACTIONS d.a d.b
+  of_tip : {d : Demand} → d ≡ want_of d.target TRANSACTIONS d.a d.b
       → PassesAll (tip_checks page d.target d.a) → IsMet size page d
-  of_pointer : {d : Demand} → d ≡ mk d.target POINTER d.a d.b
+  of_pointer : {d : Demand} → d ≡ want_of d.target POINTER d.a d.b
       → PassesAll (pointer_checks page d.target d.a d.b) → IsMet size page d
-  of_data : {d : Demand} → d ≡ mk d.target DATA d.a d.b
+  of_data : {d : Demand} → d ≡ want_of d.target DATA d.a d.b
       → PassesAll (common_checks page d.target DATA_KIND d.a d.b) → IsMet size page d
-  of_version : {d : Demand} → d ≡ mk d.target VERSION d.a d.b
+  of_version : {d : Demand} → d ≡ want_of d.target VERSION d.a d.b
       → is_version_of d.b (slot_cell (cell_of page d.a)) ≡ true → IsMet size page d
-  of_tree : {d : Demand} → d ≡ mk d.target TREE d.a d.b
+  of_tree : {d : Demand} → d ≡ want_of d.target TREE d.a d.b
       → PassesAll (node_checks page d.target d.a) → IsMet size page d
-  of_node : {d : Demand} → d ≡ mk d.target NODE d.a d.b
+  of_node : {d : Demand} → d ≡ want_of d.target NODE d.a d.b
       → PassesAll (node_checks page d.target d.a) → level_in page ≡ d.b → IsMet size page d
-  of_bit : {d : Demand} → d ≡ mk d.target BIT d.a d.b
+  of_bit : {d : Demand} → d ≡ want_of d.target BIT d.a d.b
       → PassesAll (pip_checks page d.target (d.a / bits size)) → used_in page (d.a % bits size) ≡ true
       → IsMet size page d
 
@@ -69,11 +67,11 @@ where_true true x e (inr h) = absurd h
 where_true false x e h = absurd h
 
 pub is_demand : (target what a b : ℕ) (e : Demand) → Has (demand target what a b) e
-    → e ≡ mk target what a b
+    → e ≡ want_of target what a b
 unfolding demand
 is_demand target what a b e h =
     where_true (nat_lt target 4294967296 && nat_lt a 4294967296 && nat_lt b 4294967296)
-    (mk target what a b) e h
+    (want_of target what a b) e h
 
 same_itself : (d : Demand) → is_same d d ≡ true
 same_itself d = and_from _ _ (eq-eqb d.target d.target refl)
@@ -85,10 +83,10 @@ same_demand d e same =
     let one = and_parts (d.target == e.target) _ same in
     let two = and_parts (d.what == e.what) _ one.1 in
     let three = and_parts (d.a == e.a) _ two.1 in
-    ap (λ (x : ℕ). mk x d.what d.a d.b) (eqb-true d.target e.target one.0)
-    ∙ (ap (λ (x : ℕ). mk e.target x d.a d.b) (eqb-true d.what e.what two.0)
-    ∙ (ap (λ (x : ℕ). mk e.target e.what x d.b) (eqb-true d.a e.a three.0)
-    ∙ ap (λ (x : ℕ). mk e.target e.what e.a x) (eqb-true d.b e.b three.1)))
+    ap (λ (x : ℕ). want_of x d.what d.a d.b) (eqb-true d.target e.target one.0)
+    ∙ (ap (λ (x : ℕ). want_of e.target x d.a d.b) (eqb-true d.what e.what two.0)
+    ∙ (ap (λ (x : ℕ). want_of e.target e.what x d.b) (eqb-true d.a e.a three.0)
+    ∙ ap (λ (x : ℕ). want_of e.target e.what e.a x) (eqb-true d.b e.b three.1)))
 
 listed_so : (list : List Demand) (d : Demand) → Has list d → (w : List ℕ) → listed list d w ≡ true
 listed_so [] d h w = absurd h
@@ -111,7 +109,7 @@ of_listed list d h = listed_is list d h.0 h.1
 
 -- ---- met
 
-ok_passes : (page : PageNo) (checks : List Check) → is_ok (verdict page checks) ≡ true
+pub ok_passes : (page : PageNo) (checks : List Check) → is_ok (verdict page checks) ≡ true
     → PassesAll checks
 ok_passes page checks ok = at (verdict page checks) refl
   where
@@ -151,16 +149,16 @@ met_is size page d lawful len met = so met
         (met_so size page want lawful len ok)
 
     so : IsMet size page d → meets_of page d ≡ true
-    so (of_header is head) = as_want (mk 0 HEADER d.a d.b) is head
-    so (of_next is head below) = as_want (mk 0 NEXT d.a d.b) is (and_from _ _ head below)
-    so (of_tip is passes) = as_want (mk d.target TRANSACTIONS d.a d.b) is (passes_ok _ _ passes)
-    so (of_pointer is passes) = as_want (mk d.target POINTER d.a d.b) is (passes_ok _ _ passes)
-    so (of_data is passes) = as_want (mk d.target DATA d.a d.b) is (passes_ok _ _ passes)
-    so (of_version is there) = as_want (mk d.target VERSION d.a d.b) is there
-    so (of_tree is passes) = as_want (mk d.target TREE d.a d.b) is (passes_ok _ _ passes)
-    so (of_node is passes level) = as_want (mk d.target NODE d.a d.b) is
+    so (of_header is head) = as_want (want_of 0 HEADER d.a d.b) is head
+    so (of_next is head below) = as_want (want_of 0 NEXT d.a d.b) is (and_from _ _ head below)
+    so (of_tip is passes) = as_want (want_of d.target TRANSACTIONS d.a d.b) is (passes_ok _ _ passes)
+    so (of_pointer is passes) = as_want (want_of d.target POINTER d.a d.b) is (passes_ok _ _ passes)
+    so (of_data is passes) = as_want (want_of d.target DATA d.a d.b) is (passes_ok _ _ passes)
+    so (of_version is there) = as_want (want_of d.target VERSION d.a d.b) is there
+    so (of_tree is passes) = as_want (want_of d.target TREE d.a d.b) is (passes_ok _ _ passes)
+    so (of_node is passes level) = as_want (want_of d.target NODE d.a d.b) is
         (and_from _ _ (passes_ok _ _ passes) (eq-eqb (level_in page) d.b level))
-    so (of_bit is passes used) = as_want (mk d.target BIT d.a d.b) is
+    so (of_bit is passes used) = as_want (want_of d.target BIT d.a d.b) is
         (and_from _ _ (passes_ok _ _ passes) used)
 
 -- and a page that meets a demand is what is wanted
@@ -174,8 +172,8 @@ is_met size page d len met = one (d.what == HEADER) refl
     page_is : PageNo
     page_is = record { 0 = d.target }
 
-    kind : (k : ℕ) → (d.what == k) ≡ true → d ≡ mk d.target k d.a d.b
-    kind k yes_ = ap (λ (x : ℕ). mk d.target x d.a d.b) (eqb-true d.what k yes_)
+    kind : (k : ℕ) → (d.what == k) ≡ true → d ≡ want_of d.target k d.a d.b
+    kind k yes_ = ap (λ (x : ℕ). want_of d.target x d.a d.b) (eqb-true d.what k yes_)
 
     nine : (b : Bool) → (d.what == BIT) ≡ b → (d.what == HEADER) ≡ false → (d.what == NEXT) ≡ false
         → (d.what == TRANSACTIONS) ≡ false → (d.what == POINTER) ≡ false → (d.what == DATA) ≡ false
@@ -235,12 +233,12 @@ is_met size page d len met = one (d.what == HEADER) refl
         let on = rw (n1, is) at all in
         let parts = and_parts (d.target == 0) _ on in
         let more = and_parts (is_header size page) _ parts.1 in
-        of_next (kind NEXT is ∙ ap (λ (n : ℕ). mk n NEXT d.a d.b) (eqb-true d.target 0 parts.0)) more.0 more.1
+        of_next (kind NEXT is ∙ ap (λ (n : ℕ). want_of n NEXT d.a d.b) (eqb-true d.target 0 parts.0)) more.0 more.1
     two false is n1 = three (d.what == TRANSACTIONS) refl n1 is
 
     one : (b : Bool) → (d.what == HEADER) ≡ b → IsMet size page d
     one true is =
         let on = rw is at all in
         let parts = and_parts (d.target == 0) _ on in
-        of_header (kind HEADER is ∙ ap (λ (n : ℕ). mk n HEADER d.a d.b) (eqb-true d.target 0 parts.0)) parts.1
+        of_header (kind HEADER is ∙ ap (λ (n : ℕ). want_of n HEADER d.a d.b) (eqb-true d.target 0 parts.0)) parts.1
     one false is = two (d.what == NEXT) refl is

@@ -14,24 +14,21 @@ use Rattle.mg_slots.specs.DataPage.{slot_count}
 use Rattle.mg_slots.specs.declared.page.TheConstants.{DATA_KIND}
 use Rattle.mg_space.specs.Demands.{demands_of, entry_demand, entry_demands, linked, meets_of, pointer_demands, slot_demands}
 use Rattle.mg_space.specs.declared.links.TheConstants.{DATA, POINTER}
-use Rattle.mg_batch_demands.specs.KindLaws.{kind_of, pointer_alone, pointer_is, pointer_kind}
-use Rattle.mg_batch_demands.specs.Met.{has_back, has_either, has_front, met_is, mk, of_data, of_listed, of_pointer}
-use Rattle.mg_batch_demands.specs.NumberLaws.{as_want, from_want}
-use Rattle.mg_batch_demands.specs.TakeLaws.{MakesPage, used_same}
+use Rattle.mg_batch_demands.specs.KindLaws.{as_want, from_want, kind_of, pointer_alone, pointer_is, pointer_kind}
+use Rattle.mg_batch_demands.specs.Met.{has_back, has_either, has_front, met_is, of_data, of_listed, of_pointer}
+use Rattle.mg_batch_demands.specs.Steps.{LinksNext, ListsData, MakesPage, MakesTablePage, no_more}
+use Rattle.mg_batch_demands.specs.TakeLaws.{used_same}
 use Rattle.mg_batch_demands.specs.TipLaws.{one_of}
-use Rattle.mg_batch_demands.specs.Wanting.{IsWanting, Pays}
+use Rattle.mg_batch_demands.specs.VersionLaws.{none_may_go}
+use Rattle.mg_batch_demands.specs.Wanting.{IsWanting, Pays, want_of}
 use Rattle.mg_batch_demands.specs.WantingLaws.{page_pays}
-
--- nothing is newly wanted
-abbrev pub no_more : DemandSet
-no_more = listed []
 
 none_in : (d : Demand) → IsIn no_more d → ⊥
 none_in d h = of_listed [] d h
 
 -- ---- entries
 
-length-first : (page : List ℕ) (n : ℕ) → length (first_entries page n) ≡ n
+pub length-first : (page : List ℕ) (n : ℕ) → length (first_entries page n) ≡ n
 length-first page zero = refl
 length-first page (suc n) =
     let before = length-first page n in
@@ -71,33 +68,24 @@ same_u32 one other p same =
     let c = same 2 (omega arith) in
     let d = same 3 (omega arith) in omega (arith, a, b, c, d)
 
--- A page of a table's chain has one entry more.
-pub record ListsData (size : ℕ) (old new : Pages) (q n owner at : ℕ) : Type 0 where
-  pub others : (m : ℕ) → m ≢ q → new m ≡ old m
-  pub adds : AddsEntry (old q) (new q) n
-  pub was_passes : PassesAll (pointer_checks (old q) q owner at)
-  pub passes : PassesAll (pointer_checks (new q) q owner at)
-  pub off_header : q ≢ 0
-  pub off_inventory : (region : ℕ) → inventory_page size region ≢ q
-
-module _ (size : ℕ) (old new : Pages) (q n owner at : ℕ) (orders : Orders) (on_disk wanted : DemandSet) (lists : ListsData size old new q n owner at) (was : IsWanting size old wanted)
+module _ (size : ℕ) (old new : Pages) (q n owner at : ℕ) (orders : Orders) (settled : ℕ → Bool) (on_disk wanted : DemandSet) (lists : ListsData size old new q n owner at) (was : IsWanting size old wanted)
     -- the data page is paid for, at its place behind the entries that were there
     (paid : (e : Demand) → Has (linked size n DATA owner (at * capacity size + count_in (old q))) e
-    → IsPaid orders on_disk wanted no_more (mk q POINTER owner at) e) where
+    → IsPaid orders on_disk wanted no_more (want_of q POINTER owner at) e) where
   abbrev c : ℕ
   c = count_in (old q)
 
   whole : length (new q) ≡ size
   whole = lists.adds.len ∙ was.whole q
 
-  on_pointer : (d : Demand) → IsIn wanted d → d.target ≡ q → d ≡ mk q POINTER owner at
+  on_pointer : (d : Demand) → IsIn wanted d → d.target ≡ q → d ≡ want_of q POINTER owner at
   on_pointer d h same =
       let alone = pointer_alone size old wanted was d h (λ none. lists.off_header (sym same ∙ none))
       (ap (λ (m : ℕ). byte (old m) 0) same ∙ pointer_kind (old q) q owner at lists.was_passes) in
       let its = pointer_is (old q) q d.a d.b owner at
       (subst (λ (m : ℕ). PassesAll (pointer_checks (old m) m d.a d.b)) same alone.1) lists.was_passes in
-      alone.0 ∙ (ap (λ (m : ℕ). mk m POINTER d.a d.b) same
-      ∙ (ap (λ (m : ℕ). mk q POINTER m d.b) its.0 ∙ ap (λ (m : ℕ). mk q POINTER owner m) its.1))
+      alone.0 ∙ (ap (λ (m : ℕ). want_of m POINTER d.a d.b) same
+      ∙ (ap (λ (m : ℕ). want_of q POINTER m d.b) its.0 ∙ ap (λ (m : ℕ). want_of q POINTER owner m) its.1))
 
   count_is : count_in (new q) ≡ suc c
   unfolding entries_of
@@ -121,13 +109,13 @@ module _ (size : ℕ) (old new : Pages) (q n owner at : ℕ) (orders : Orders) (
       → Has (demands_of (old q) d) e ⊎ IsPaid orders on_disk wanted no_more d e
   pointer_links d e h same made =
       cases (has_either (entry_demands size (new q) owner at (count_in (new q))) _ e
-      (as_want size old wanted was (new q) whole (mk q POINTER owner at) d e is made))
+      (as_want size old wanted was (new q) whole (want_of q POINTER owner at) d e is made))
     where
-      is : d ≡ mk q POINTER owner at
+      is : d ≡ want_of q POINTER owner at
       is = on_pointer d h same
 
       stood : Has (pointer_demands size (old q) owner at) e → Has (demands_of (old q) d) e
-      stood there = from_want size old wanted was (old q) (was.whole q) (mk q POINTER owner at) d e is there
+      stood there = from_want size old wanted was (old q) (was.whole q) (want_of q POINTER owner at) d e is there
 
       entry : Has (entry_demands size (new q) owner at (suc c)) e
           → Has (demands_of (old q) d) e ⊎ IsPaid orders on_disk wanted no_more d e
@@ -146,14 +134,17 @@ module _ (size : ℕ) (old new : Pages) (q n owner at : ℕ) (orders : Orders) (
           (subst (λ (m : ℕ). Has (if m == 0 then [] else linked size m POINTER owner (at + 1)) e)
           lists.adds.next y)))
 
-  pub entry_pays : Pays size old new orders on_disk wanted no_more
-  entry_pays = page_pays size old new q orders on_disk wanted no_more was (record {
+  pub entry_pays : Pays size old new orders settled on_disk wanted no_more
+  entry_pays = page_pays size old new q orders settled on_disk wanted no_more was (record {
     others = lists.others;
     len = whole;
     used = λ m is. used_same size old new q lists.others lists.off_inventory m ∙ is;
     still = λ d h same. subst (λ (x : Demand). meets_of (new q) x ≡ true) (sym (on_pointer d h same))
-        (met_is size (new q) (mk q POINTER owner at) was.lawful whole (of_pointer refl lists.passes));
+        (met_is size (new q) (want_of q POINTER owner at) was.lawful whole (of_pointer refl lists.passes));
     links = pointer_links;
+    leaves = λ d e h same made may apart. absurd (none_may_go size old wanted was settled q
+        (λ five. let four = pointer_kind (old q) q owner at lists.was_passes in omega (arith, five, four))
+        d e h same made may);
     kept_data = λ d h same is. absurd (let what : d.what ≡ 4 =
         ap (λ (x : Demand). x.what) (on_pointer d h same) in omega (arith, what, is));
     met = λ d h. absurd (none_in d h);
@@ -164,30 +155,21 @@ module _ (size : ℕ) (old new : Pages) (q n owner at : ℕ) (orders : Orders) (
 
 -- ---- a next pointer page
 
--- The last pointer page of a chain comes to name a next one.
-pub record LinksNext (size : ℕ) (old new : Pages) (q p owner at : ℕ) : Type 0 where
-  pub others : (m : ℕ) → m ≢ q → new m ≡ old m
-  pub sets : SetsNext (old q) (new q) p
-  pub was_passes : PassesAll (pointer_checks (old q) q owner at)
-  pub passes : PassesAll (pointer_checks (new q) q owner at)
-  pub off_header : q ≢ 0
-  pub off_inventory : (region : ℕ) → inventory_page size region ≢ q
-
-module _ (size : ℕ) (old new : Pages) (q p owner at : ℕ) (orders : Orders) (on_disk wanted : DemandSet) (links : LinksNext size old new q p owner at) (was : IsWanting size old wanted)
+module _ (size : ℕ) (old new : Pages) (q p owner at : ℕ) (orders : Orders) (settled : ℕ → Bool) (on_disk wanted : DemandSet) (links : LinksNext size old new q p owner at) (was : IsWanting size old wanted)
     -- the next page is paid for
     (paid : (e : Demand) → Has (linked size p POINTER owner (at + 1)) e
-    → IsPaid orders on_disk wanted no_more (mk q POINTER owner at) e) where
+    → IsPaid orders on_disk wanted no_more (want_of q POINTER owner at) e) where
   next_whole : length (new q) ≡ size
   next_whole = links.sets.len ∙ was.whole q
 
-  on_last : (d : Demand) → IsIn wanted d → d.target ≡ q → d ≡ mk q POINTER owner at
+  on_last : (d : Demand) → IsIn wanted d → d.target ≡ q → d ≡ want_of q POINTER owner at
   on_last d h same =
       let alone = pointer_alone size old wanted was d h (λ none. links.off_header (sym same ∙ none))
       (ap (λ (m : ℕ). byte (old m) 0) same ∙ pointer_kind (old q) q owner at links.was_passes) in
       let its = pointer_is (old q) q d.a d.b owner at
       (subst (λ (m : ℕ). PassesAll (pointer_checks (old m) m d.a d.b)) same alone.1) links.was_passes in
-      alone.0 ∙ (ap (λ (m : ℕ). mk m POINTER d.a d.b) same
-      ∙ (ap (λ (m : ℕ). mk q POINTER m d.b) its.0 ∙ ap (λ (m : ℕ). mk q POINTER owner m) its.1))
+      alone.0 ∙ (ap (λ (m : ℕ). want_of m POINTER d.a d.b) same
+      ∙ (ap (λ (m : ℕ). want_of q POINTER m d.b) its.0 ∙ ap (λ (m : ℕ). want_of q POINTER owner m) its.1))
 
   count_same : count_in (new q) ≡ count_in (old q)
   count_same =
@@ -203,9 +185,9 @@ module _ (size : ℕ) (old new : Pages) (q p owner at : ℕ) (orders : Orders) (
       → Has (demands_of (old q) d) e ⊎ IsPaid orders on_disk wanted no_more d e
   next_links d e h same made =
       cases (has_either (entry_demands size (new q) owner at (count_in (new q))) _ e
-      (as_want size old wanted was (new q) next_whole (mk q POINTER owner at) d e is made))
+      (as_want size old wanted was (new q) next_whole (want_of q POINTER owner at) d e is made))
     where
-      is : d ≡ mk q POINTER owner at
+      is : d ≡ want_of q POINTER owner at
       is = on_last d h same
 
       next : (b : Bool) → Has (if b then [] else linked size (next_in (new q)) POINTER owner (at + 1)) e
@@ -217,20 +199,23 @@ module _ (size : ℕ) (old new : Pages) (q p owner at : ℕ) (orders : Orders) (
       cases : Has (entry_demands size (new q) owner at (count_in (new q))) e
           ⊎ Has (if next_in (new q) == 0 then [] else linked size (next_in (new q)) POINTER owner (at + 1)) e
           → Has (demands_of (old q) d) e ⊎ IsPaid orders on_disk wanted no_more d e
-      cases (inl x) = inl (from_want size old wanted was (old q) (was.whole q) (mk q POINTER owner at) d e is
+      cases (inl x) = inl (from_want size old wanted was (old q) (was.whole q) (want_of q POINTER owner at) d e is
           (has_front (entry_demands size (old q) owner at (count_in (old q))) _ e
           (entries_as size (new q) (old q) owner at (count_in (old q)) entry_same e
           (subst (λ (k : ℕ). Has (entry_demands size (new q) owner at k) e) count_same x))))
       cases (inr y) = next (next_in (new q) == 0) y
 
-  pub next_pays : Pays size old new orders on_disk wanted no_more
-  next_pays = page_pays size old new q orders on_disk wanted no_more was (record {
+  pub next_pays : Pays size old new orders settled on_disk wanted no_more
+  next_pays = page_pays size old new q orders settled on_disk wanted no_more was (record {
     others = links.others;
     len = next_whole;
     used = λ m is. used_same size old new q links.others links.off_inventory m ∙ is;
     still = λ d h same. subst (λ (x : Demand). meets_of (new q) x ≡ true) (sym (on_last d h same))
-        (met_is size (new q) (mk q POINTER owner at) was.lawful next_whole (of_pointer refl links.passes));
+        (met_is size (new q) (want_of q POINTER owner at) was.lawful next_whole (of_pointer refl links.passes));
     links = next_links;
+    leaves = λ d e h same made may apart. absurd (none_may_go size old wanted was settled q
+        (λ five. let four = pointer_kind (old q) q owner at links.was_passes in omega (arith, five, four))
+        d e h same made may);
     kept_data = λ d h same is. absurd (let what : d.what ≡ 4 =
         ap (λ (x : Demand). x.what) (on_last d h same) in omega (arith, what, is));
     met = λ d h. absurd (none_in d h);
@@ -241,16 +226,9 @@ module _ (size : ℕ) (old new : Pages) (q p owner at : ℕ) (orders : Orders) (
 
 -- ---- pages that are made
 
--- A taken page was made the data page of an owner at a place, or a pointer page with one entry.
-pub record MakesTablePage (size : ℕ) (old new : Pages) (n : ℕ) : Type 0 where
-  pub others : (m : ℕ) → m ≢ n → new m ≡ old m
-  pub len : length (new n) ≡ size
-  pub off_inventory : (region : ℕ) → inventory_page size region ≢ n
-  pub used : is_used size old n ≡ true
-
-module _ (size : ℕ) (old new : Pages) (n owner place : ℕ) (orders : Orders) (on_disk wanted : DemandSet) (makes : MakesTablePage size old new n) (was : IsWanting size old wanted) (unwanted : (d : Demand) → IsIn wanted d → d.target ≢ n) where
+module _ (size : ℕ) (old new : Pages) (n owner place : ℕ) (orders : Orders) (settled : ℕ → Bool) (on_disk wanted : DemandSet) (makes : MakesTablePage size old new n) (was : IsWanting size old wanted) (unwanted : (d : Demand) → IsIn wanted d → d.target ≢ n) where
   abbrev data_more : DemandSet
-  data_more = listed (mk n DATA owner place ∷ [])
+  data_more = listed (want_of n DATA owner place ∷ [])
 
   -- a new data page has no cell, and demands nothing
   pub made_data : PassesAll (common_checks (new n) n DATA_KIND owner place) → slot_count (new n) ≡ 0
@@ -261,21 +239,21 @@ module _ (size : ℕ) (old new : Pages) (n owner place : ℕ) (orders : Orders) 
     off_inventory = makes.off_inventory;
     used = makes.used;
     unwanted = unwanted;
-    aimed = λ d h. ap (λ (x : Demand). x.target) (one_of (mk n DATA owner place) d h);
-    met = λ d h. subst (λ (x : Demand). meets_of (new n) x ≡ true) (sym (one_of (mk n DATA owner place) d h))
-        (met_is size (new n) (mk n DATA owner place) was.lawful makes.len (of_data refl passes));
+    aimed = λ d h. ap (λ (x : Demand). x.target) (one_of (want_of n DATA owner place) d h);
+    met = λ d h. subst (λ (x : Demand). meets_of (new n) x ≡ true) (sym (one_of (want_of n DATA owner place) d h))
+        (met_is size (new n) (want_of n DATA owner place) was.lawful makes.len (of_data refl passes));
     links = λ d e h made. absurd (subst (λ (k : ℕ). Has (slot_demands (new n) k) e) empty
-        (as_want size old wanted was (new n) makes.len (mk n DATA owner place) d e
-        (one_of (mk n DATA owner place) d h) made));
+        (as_want size old wanted was (new n) makes.len (want_of n DATA owner place) d e
+        (one_of (want_of n DATA owner place) d h) made));
     on_data = λ d h is. kind_of (new n) n DATA_KIND owner place passes;
   }
 
-module _ (size : ℕ) (old new : Pages) (p n owner at : ℕ) (orders : Orders) (on_disk wanted : DemandSet) (makes : MakesTablePage size old new p) (was : IsWanting size old wanted) (unwanted : (d : Demand) → IsIn wanted d → d.target ≢ p)
+module _ (size : ℕ) (old new : Pages) (p n owner at : ℕ) (orders : Orders) (settled : ℕ → Bool) (on_disk wanted : DemandSet) (makes : MakesTablePage size old new p) (was : IsWanting size old wanted) (unwanted : (d : Demand) → IsIn wanted d → d.target ≢ p)
     -- its data page is paid for
     (paid : (e : Demand) → Has (linked size n DATA owner (at * capacity size)) e
-    → IsPaid orders on_disk wanted (listed (mk p POINTER owner at ∷ [])) (mk p POINTER owner at) e) where
+    → IsPaid orders on_disk wanted (listed (want_of p POINTER owner at ∷ [])) (want_of p POINTER owner at) e) where
   abbrev pointer_more : DemandSet
-  pointer_more = listed (mk p POINTER owner at ∷ [])
+  pointer_more = listed (want_of p POINTER owner at ∷ [])
 
   -- a new pointer page with one entry
   pub made_pointer : PassesAll (pointer_checks (new p) p owner at) → entries_of (new p) ≡ n ∷ []
@@ -287,16 +265,16 @@ module _ (size : ℕ) (old new : Pages) (p n owner at : ℕ) (orders : Orders) (
     off_inventory = makes.off_inventory;
     used = makes.used;
     unwanted = unwanted;
-    aimed = λ d h. ap (λ (x : Demand). x.target) (one_of (mk p POINTER owner at) d h);
-    met = λ d h. subst (λ (x : Demand). meets_of (new p) x ≡ true) (sym (one_of (mk p POINTER owner at) d h))
-        (met_is size (new p) (mk p POINTER owner at) was.lawful makes.len (of_pointer refl passes));
+    aimed = λ d h. ap (λ (x : Demand). x.target) (one_of (want_of p POINTER owner at) d h);
+    met = λ d h. subst (λ (x : Demand). meets_of (new p) x ≡ true) (sym (one_of (want_of p POINTER owner at) d h))
+        (met_is size (new p) (want_of p POINTER owner at) was.lawful makes.len (of_pointer refl passes));
     links = λ d e h made.
-        let is = one_of (mk p POINTER owner at) d h in
+        let is = one_of (want_of p POINTER owner at) d h in
         subst (λ (x : Demand). IsPaid orders on_disk wanted pointer_more x e) (sym is)
         (cases e (has_either (entry_demands size (new p) owner at (count_in (new p))) _ e
-        (as_want size old wanted was (new p) makes.len (mk p POINTER owner at) d e is made)));
+        (as_want size old wanted was (new p) makes.len (want_of p POINTER owner at) d e is made)));
     on_data = λ d h is. absurd (let what : d.what ≡ 4 =
-        ap (λ (x : Demand). x.what) (one_of (mk p POINTER owner at) d h) in omega (arith, what, is));
+        ap (λ (x : Demand). x.what) (one_of (want_of p POINTER owner at) d h) in omega (arith, what, is));
   }
     where
       one : count_in (new p) ≡ 1
@@ -309,7 +287,7 @@ module _ (size : ℕ) (old new : Pages) (p n owner at : ℕ) (orders : Orders) (
           (ap (first_entries (new p)) (sym one) ∙ entries)
 
       entry : (e : Demand) → Has (entry_demands size (new p) owner at 1) e
-          → IsPaid orders on_disk wanted pointer_more (mk p POINTER owner at) e
+          → IsPaid orders on_disk wanted pointer_more (want_of p POINTER owner at) e
       entry e there = elim (has_either [] (entry_demand size (new p) owner at 0) e there) [
         | inl x ↦ absurd x
         | inr y ↦ paid e (subst (λ (k : ℕ). Has (linked size n DATA owner k) e)
@@ -319,7 +297,7 @@ module _ (size : ℕ) (old new : Pages) (p n owner at : ℕ) (orders : Orders) (
 
       cases : (e : Demand) → Has (entry_demands size (new p) owner at (count_in (new p))) e
           ⊎ Has (if next_in (new p) == 0 then [] else linked size (next_in (new p)) POINTER owner (at + 1)) e
-          → IsPaid orders on_disk wanted pointer_more (mk p POINTER owner at) e
+          → IsPaid orders on_disk wanted pointer_more (want_of p POINTER owner at) e
       cases e (inl x) = entry e (subst (λ (k : ℕ). Has (entry_demands size (new p) owner at k) e) one x)
       cases e (inr y) = absurd (subst (λ (m : ℕ). Has (if m == 0 then []
           else linked size m POINTER owner (at + 1)) e) last y)

@@ -1,5 +1,5 @@
 -- What the taking of a page pays, and the making of a page of which nothing was wanted.
-use Rattle.std.specs.Prelude.{◌≡◌, ◌≢◌, ◌⊎◌, ◌<◌, ◌/◌, ◌%◌, ℕ, true, List, length}
+use Rattle.std.specs.Prelude.{◌≡◌, ◌≢◌, ◌⊎◌, ◌<◌, ◌/◌, ◌%◌, ℕ, true, List, length, Bool}
 use Rattle.std.proofs.Common.{inl, inr, refl, sym, subst, ap, ◌∙◌, arith}
 use Rattle.std.specs.Prelude.{◌≤◌}
 use Rattle.std.proofs.lemmas.List.{get_or-replicate, get_or_past, length-replicate}
@@ -21,17 +21,19 @@ use Rattle.mg_space.specs.Taking.{IsGeometry, IsLawfulRegion, TakesPage, region_
 use Rattle.mg_space.specs.TakingLaws.{takes_bit, takes_keeps, takes_own}
 use Rattle.mg_space.specs.declared.links.TheConstants.{BIT, VERSION}
 use Rattle.mg_batch_demands.specs.KindLaws.{bits_alone, kind_of, owner_of}
-use Rattle.mg_batch_demands.specs.Met.{is_demand, met_is, mk, of_bit, of_listed, opened}
-use Rattle.mg_batch_demands.specs.Wanting.{IsWanting, Pays}
+use Rattle.mg_batch_demands.specs.Met.{is_demand, met_is, of_bit, of_listed, opened}
+use Rattle.mg_batch_demands.specs.Steps.{MakesPage}
+use Rattle.mg_batch_demands.specs.VersionLaws.{none_may_go}
+use Rattle.mg_batch_demands.specs.Wanting.{IsWanting, Pays, want_of}
 use Rattle.mg_batch_demands.specs.WantingLaws.{page_pays}
 
 -- a bit demands nothing
 pub bit_demands : (size : ℕ) (pages : Pages) (wanted : DemandSet) → IsWanting size pages wanted
-    → (page : List ℕ) → length page ≡ size → (d e : Demand) → d ≡ mk d.target BIT d.a d.b
+    → (page : List ℕ) → length page ≡ size → (d e : Demand) → d ≡ want_of d.target BIT d.a d.b
     → Has (demands_of page d) e → ⊥
 bit_demands size pages wanted was page len d e is made =
-    let none : Has (demands_by size page (mk d.target BIT d.a d.b)) e =
-    subst (λ (ds : List Demand). Has ds e) (opened size page (mk d.target BIT d.a d.b) was.lawful len)
+    let none : Has (demands_by size page (want_of d.target BIT d.a d.b)) e =
+    subst (λ (ds : List Demand). Has ds e) (opened size page (want_of d.target BIT d.a d.b) was.lawful len)
     (subst (λ (x : Demand). Has (demands_of page x) e) is made) in
     none
 
@@ -59,14 +61,14 @@ same_region at region other page (inl empty) passes =
 same_region at region other page (inr is) passes = (owner_of page at 2 0 other 0 region passes is).1
 
 -- the page that is taken is marked: its bit is wanted newly
-module _ (g : Geometry) (old new : Pages) (n : ℕ) (orders : Orders) (on_disk wanted : DemandSet) (lawful : IsGeometry g) (takes : TakesPage g old new n) (was : IsWanting g.size old wanted) where
+module _ (g : Geometry) (old new : Pages) (n : ℕ) (orders : Orders) (settled : ℕ → Bool) (on_disk wanted : DemandSet) (lawful : IsGeometry g) (takes : TakesPage g old new n) (was : IsWanting g.size old wanted) where
   abbrev at : ℕ
   at = inventory_page g.size (region_of g.size n)
 
   abbrev more : DemandSet
   more = listed (bit_demand g.size n)
 
-  on_page : (d : Demand) → IsIn wanted d → d.target ≡ at → (d ≡ mk d.target BIT d.a d.b)
+  on_page : (d : Demand) → IsIn wanted d → d.target ≡ at → (d ≡ want_of d.target BIT d.a d.b)
       × PassesAll (pip_checks (old at) at (d.a / bits g.size))
       × (used_in (old at) (d.a % bits g.size) ≡ true)
   on_page d h same =
@@ -87,29 +89,32 @@ module _ (g : Geometry) (old new : Pages) (n : ℕ) (orders : Orders) (on_disk w
       (subst (λ (r : ℕ). PassesAll (pip_checks (new at) at r)) (sym region_is) takes.tests))
       (takes.bits_are (d.a % bits g.size) ∙ or_left _ _ alone.2))
 
-  is_new : (d : Demand) → IsIn more d → d ≡ mk at BIT n 0
+  is_new : (d : Demand) → IsIn more d → d ≡ want_of at BIT n 0
   is_new d h = is_demand at BIT n 0 d (of_listed (bit_demand g.size n) d h)
 
   new_met : (d : Demand) → IsIn more d → meets_of (new d.target) d ≡ true
   unfolding is_used
   new_met d h = subst (λ (x : Demand). meets_of (new x.target) x ≡ true) (sym (is_new d h))
-      (met_is g.size (new at) (mk at BIT n 0) was.lawful takes.len
+      (met_is g.size (new at) (want_of at BIT n 0) was.lawful takes.len
       (of_bit refl takes.tests (takes_bit g old new n lawful takes)))
 
-  pub take_pays : Pays g.size old new orders on_disk wanted more
-  take_pays = page_pays g.size old new at orders on_disk wanted more was (record {
+  pub take_pays : Pays g.size old new orders settled on_disk wanted more
+  take_pays = page_pays g.size old new at orders settled on_disk wanted more was (record {
     others = takes.others;
     len = takes.len;
     used = takes_keeps g old new n lawful takes;
     still = still_there;
     links = λ d e h same made. absurd (bit_demands g.size old wanted was (new at) takes.len d e
         (on_page d h same).0 made);
+    leaves = λ d e h same made may apart. absurd (none_may_go g.size old wanted was settled at
+        (λ five. let low = low_kind at (region_of g.size n) (old at) takes.was in omega (arith, five, low))
+        d e h same made may);
     kept_data = λ d h same is. absurd (let what : d.what ≡ 9 = ap (λ (x : Demand). x.what) (on_page d h same).0 in
         omega (arith, what, is));
     met = new_met;
     new_links = λ d e h made. absurd (bit_demands g.size old wanted was (new d.target)
         (ap (λ (x : Demand). length (new x.target)) (is_new d h) ∙ takes.len) d e
-        (subst (λ (x : Demand). x ≡ mk x.target BIT x.a x.b) (sym (is_new d h)) refl) made);
+        (subst (λ (x : Demand). x ≡ want_of x.target BIT x.a x.b) (sym (is_new d h)) refl) made);
     new_used = λ d h. subst (λ (x : Demand). is_used g.size new x.target ≡ true) (sym (is_new d h))
         (takes_own g old new n lawful takes);
     new_data = λ d h is. absurd (let what : d.what ≡ 9 = ap (λ (x : Demand). x.what) (is_new d h) in
@@ -132,30 +137,17 @@ unfolding is_used
 used_same size old new b others off m = ap (λ (page : List ℕ). used_in page (m % bits size))
     (others (inventory_page size (m / bits size)) (off (m / bits size)))
 
--- What is wanted of a page that is made: all of it newly, and it is met and paid for.
-pub record MakesPage (size : ℕ) (old new : Pages) (n : ℕ) (orders : Orders)
-    (on_disk wanted more : DemandSet) : Type 0 where
-  pub others : (m : ℕ) → m ≢ n → new m ≡ old m
-  pub len : length (new n) ≡ size
-  pub off_inventory : (region : ℕ) → inventory_page size region ≢ n
-  pub used : is_used size old n ≡ true
-  pub unwanted : (d : Demand) → IsIn wanted d → d.target ≢ n
-  pub aimed : (d : Demand) → IsIn more d → d.target ≡ n
-  pub met : (d : Demand) → IsIn more d → meets_of (new n) d ≡ true
-  pub links : (d e : Demand) → IsIn more d → Has (demands_of (new n) d) e
-      → IsPaid orders on_disk wanted more d e
-  pub on_data : (d : Demand) → IsIn more d → d.what ≡ VERSION → byte (new n) 0 ≡ DATA_KIND
-
-pub make_pays : (size : ℕ) (old new : Pages) (n : ℕ) (orders : Orders) (on_disk wanted more : DemandSet)
+pub make_pays : (size : ℕ) (old new : Pages) (n : ℕ) (orders : Orders) (settled : ℕ → Bool) (on_disk wanted more : DemandSet)
     → IsWanting size old wanted → MakesPage size old new n orders on_disk wanted more
-    → Pays size old new orders on_disk wanted more
-make_pays size old new n orders on_disk wanted more was makes =
-    page_pays size old new n orders on_disk wanted more was (record {
+    → Pays size old new orders settled on_disk wanted more
+make_pays size old new n orders settled on_disk wanted more was makes =
+    page_pays size old new n orders settled on_disk wanted more was (record {
       others = makes.others;
       len = makes.len;
       used = λ m is. used_same size old new n makes.others makes.off_inventory m ∙ is;
       still = λ d h same. absurd (makes.unwanted d h same);
       links = λ d e h same made. absurd (makes.unwanted d h same);
+      leaves = λ d e h same made may apart. absurd (makes.unwanted d h same);
       kept_data = λ d h same is. absurd (makes.unwanted d h same);
       met = λ d h. subst (λ (m : ℕ). meets_of (new m) d ≡ true) (sym (makes.aimed d h)) (makes.met d h);
       new_links = λ d e h made. makes.links d e h

@@ -16,11 +16,12 @@ use Rattle.mg_space.specs.TakingLaws.{page_sizes}
 use Rattle.mg_space.specs.declared.links.TheConstants.{NEXT, TRANSACTIONS}
 use Rattle.mg_tip.specs.TipPage.{SetsState, new_tip_page, places, prev_in, state_in, tip_checks}
 use Rattle.mg_tip.specs.TipPageLaws.{length-new_tip_page, new_page_active, new_page_passes, new_page_prev, same_prev, same_tests}
-use Rattle.mg_batch_demands.specs.KindLaws.{tip_alone, tip_kind, tip_seq}
-use Rattle.mg_batch_demands.specs.Met.{has_back, has_either, has_front, in_listed, is_demand, met_is, mk, of_listed, of_next, of_tip}
-use Rattle.mg_batch_demands.specs.NumberLaws.{as_want, from_want, number_more}
-use Rattle.mg_batch_demands.specs.TakeLaws.{MakesPage, used_same}
-use Rattle.mg_batch_demands.specs.Wanting.{IsWanting, Pays}
+use Rattle.mg_batch_demands.specs.KindLaws.{as_want, from_want, tip_alone, tip_kind, tip_seq}
+use Rattle.mg_batch_demands.specs.Met.{has_back, has_either, has_front, in_listed, is_demand, met_is, of_listed, of_next, of_tip}
+use Rattle.mg_batch_demands.specs.Steps.{MakesPage, MakesTip, SetsBits, number_more}
+use Rattle.mg_batch_demands.specs.TakeLaws.{used_same}
+use Rattle.mg_batch_demands.specs.VersionLaws.{none_may_go}
+use Rattle.mg_batch_demands.specs.Wanting.{IsWanting, Pays, want_of}
 use Rattle.mg_batch_demands.specs.WantingLaws.{page_pays}
 
 pub one_of : (want d : Demand) → IsIn (listed (want ∷ [])) d → d ≡ want
@@ -62,21 +63,12 @@ new_demands size n s prev fits small e h =
     at (inl x) = absurd (none (places size) x)
     at (inr y) = before (s == 0) refl y
 
--- A page was made the transaction inventory page of a sequence, behind another one.
-pub record MakesTip (size : ℕ) (old new : Pages) (n s prev : ℕ) : Type 0 where
-  pub others : (m : ℕ) → m ≢ n → new m ≡ old m
-  pub is : new n ≡ new_tip_page size n s prev
-  pub off_inventory : (region : ℕ) → inventory_page size region ≢ n
-  pub used : is_used size old n ≡ true
-  pub small : (n < 2 ^ 32) × (s < 2 ^ 32) × (prev < 2 ^ 32)
-  pub some : s ≢ 0
-
-module _ (size : ℕ) (old new : Pages) (n s prev : ℕ) (orders : Orders) (on_disk wanted : DemandSet) (makes : MakesTip size old new n s prev) (was : IsWanting size old wanted) (unwanted : (d : Demand) → IsIn wanted d → d.target ≢ n)
+module _ (size : ℕ) (old new : Pages) (n s prev : ℕ) (orders : Orders) (settled : ℕ → Bool) (on_disk wanted : DemandSet) (makes : MakesTip size old new n s prev) (was : IsWanting size old wanted) (unwanted : (d : Demand) → IsIn wanted d → d.target ≢ n)
     -- the page before is paid for
     (paid : (e : Demand) → Has (linked size prev TRANSACTIONS (s - 1) 0) e
-    → IsPaid orders on_disk wanted (listed (mk n TRANSACTIONS s 0 ∷ [])) (mk n TRANSACTIONS s 0) e) where
+    → IsPaid orders on_disk wanted (listed (want_of n TRANSACTIONS s 0 ∷ [])) (want_of n TRANSACTIONS s 0) e) where
   abbrev tip_more : DemandSet
-  tip_more = listed (mk n TRANSACTIONS s 0 ∷ [])
+  tip_more = listed (want_of n TRANSACTIONS s 0 ∷ [])
 
   fits : 20 ≤ size
   fits = let sizes = page_sizes size was.lawful in let least = sizes.0 in omega (arith, least)
@@ -92,8 +84,8 @@ module _ (size : ℕ) (old new : Pages) (n s prev : ℕ) (orders : Orders) (on_d
   tip_links : (d e : Demand) → IsIn tip_more d → Has (demands_of (new n) d) e
       → IsPaid orders on_disk wanted tip_more d e
   tip_links d e h made =
-      let is = one_of (mk n TRANSACTIONS s 0) d h in
-      let there = as_want size old wanted was (new n) len_is (mk n TRANSACTIONS s 0) d e is made in
+      let is = one_of (want_of n TRANSACTIONS s 0) d h in
+      let there = as_want size old wanted was (new n) len_is (want_of n TRANSACTIONS s 0) d e is made in
       let link = new_demands size n s prev fits makes.small.2 e
       (subst (λ (page : List ℕ). Has (tip_demands size page s) e) makes.is there) in
       subst (λ (x : Demand). IsPaid orders on_disk wanted tip_more x e) (sym is) (paid e link.1)
@@ -105,28 +97,17 @@ module _ (size : ℕ) (old new : Pages) (n s prev : ℕ) (orders : Orders) (on_d
     off_inventory = makes.off_inventory;
     used = makes.used;
     unwanted = unwanted;
-    aimed = λ d h. ap (λ (x : Demand). x.target) (one_of (mk n TRANSACTIONS s 0) d h);
-    met = λ d h. subst (λ (x : Demand). meets_of (new n) x ≡ true) (sym (one_of (mk n TRANSACTIONS s 0) d h))
-        (met_is size (new n) (mk n TRANSACTIONS s 0) was.lawful len_is (of_tip refl passes));
+    aimed = λ d h. ap (λ (x : Demand). x.target) (one_of (want_of n TRANSACTIONS s 0) d h);
+    met = λ d h. subst (λ (x : Demand). meets_of (new n) x ≡ true) (sym (one_of (want_of n TRANSACTIONS s 0) d h))
+        (met_is size (new n) (want_of n TRANSACTIONS s 0) was.lawful len_is (of_tip refl passes));
     links = tip_links;
     on_data = λ d h is. absurd (let what : d.what ≡ 3 =
-        ap (λ (x : Demand). x.what) (one_of (mk n TRANSACTIONS s 0) d h) in omega (arith, what, is));
+        ap (λ (x : Demand). x.what) (one_of (want_of n TRANSACTIONS s 0) d h) in omega (arith, what, is));
   }
 
 -- ---- the bits of a transaction
 
--- On the page of a sequence the state of one place is set. The header reads, and says a next number
--- above this transaction's.
-pub record SetsBits (size : ℕ) (old new : Pages) (n s place : ℕ) (state : TxState) : Type 0 where
-  pub others : (m : ℕ) → m ≢ n → new m ≡ old m
-  pub sets : SetsState (old n) (new n) place state
-  pub passes : PassesAll (tip_checks (old n) n s)
-  pub off_header : n ≢ 0
-  pub off_inventory : (region : ℕ) → inventory_page size region ≢ n
-  pub head : is_header size (old 0) ≡ true
-  pub drawn : s * places size + place < next_of old
-
-module _ (size : ℕ) (old new : Pages) (n s place : ℕ) (state : TxState) (orders : Orders) (on_disk wanted : DemandSet) (sets : SetsBits size old new n s place state) (was : IsWanting size old wanted) (used_zero : is_used size old 0 ≡ true)
+module _ (size : ℕ) (old new : Pages) (n s place : ℕ) (state : TxState) (orders : Orders) (settled : ℕ → Bool) (on_disk wanted : DemandSet) (sets : SetsBits size old new n s place state) (was : IsWanting size old wanted) (used_zero : is_used size old 0 ≡ true)
     -- the header is written before the page
     (order : orders 0 n ≡ true) where
   abbrev t : ℕ
@@ -141,7 +122,7 @@ module _ (size : ℕ) (old new : Pages) (n s place : ℕ) (state : TxState) (ord
   head_same : new 0 ≡ old 0
   head_same = sets.others 0 (λ none. sets.off_header (sym none))
 
-  on_tip : (d : Demand) → IsIn wanted d → d.target ≡ n → (d ≡ mk d.target TRANSACTIONS d.a d.b)
+  on_tip : (d : Demand) → IsIn wanted d → d.target ≡ n → (d ≡ want_of d.target TRANSACTIONS d.a d.b)
       × (d.a ≡ s)
   on_tip d h same =
       let alone = tip_alone size old wanted was d h (λ none. sets.off_header (sym same ∙ none))
@@ -159,9 +140,9 @@ module _ (size : ℕ) (old new : Pages) (n s place : ℕ) (state : TxState) (ord
       (subst (λ (k : ℕ). PassesAll (tip_checks (new n) n k)) (sym it.1)
       (subst PassesAll (sym (same_tests (old n) (new n) n s sets.sets.front)) sets.passes))))
 
-  number_paid : (d : Demand) → d.target ≡ n → IsPaid orders on_disk wanted bits_more d (mk 0 NEXT t 0)
+  number_paid : (d : Demand) → d.target ≡ n → IsPaid orders on_disk wanted bits_more d (want_of 0 NEXT t 0)
   number_paid d same = record {
-    is_wanted = inr (in_listed (mk 0 NEXT t 0 ∷ []) (mk 0 NEXT t 0) (inl refl));
+    is_wanted = inr (in_listed (want_of 0 NEXT t 0 ∷ []) (want_of 0 NEXT t 0) (inl refl));
     is_first = inr (inl (subst (λ (m : ℕ). orders 0 m ≡ true) (sym same) order));
   }
 
@@ -185,8 +166,8 @@ module _ (size : ℕ) (old new : Pages) (n s place : ℕ) (state : TxState) (ord
       at : (b : Bool) → k ≡ place → Has (if b then demand 0 NEXT (s * places size + k) 0 else []) e
           → Has (drawn_demands size (old n) s (suc k)) e ⊎ IsPaid orders on_disk wanted bits_more d e
       at true here y =
-          let is : e ≡ mk 0 NEXT t 0 = is_demand 0 NEXT (s * places size + k) 0 e y
-          ∙ ap (λ (p : ℕ). mk 0 NEXT (s * places size + p) 0) here in
+          let is : e ≡ want_of 0 NEXT t 0 = is_demand 0 NEXT (s * places size + k) 0 e y
+          ∙ ap (λ (p : ℕ). want_of 0 NEXT (s * places size + p) 0) here in
           inr (subst (λ (x : Demand). IsPaid orders on_disk wanted bits_more d x) (sym is) (number_paid d same))
       at false here y = absurd y
 
@@ -194,17 +175,17 @@ module _ (size : ℕ) (old new : Pages) (n s place : ℕ) (state : TxState) (ord
       → Has (demands_of (old n) d) e ⊎ IsPaid orders on_disk wanted bits_more d e
   tip_still_links d e h same made =
       let it = on_tip d h same in
-      let is : d ≡ mk d.target TRANSACTIONS s d.b = it.0
-      ∙ ap (λ (k : ℕ). mk d.target TRANSACTIONS k d.b) it.1 in
+      let is : d ≡ want_of d.target TRANSACTIONS s d.b = it.0
+      ∙ ap (λ (k : ℕ). want_of d.target TRANSACTIONS k d.b) it.1 in
       at is (has_either (drawn_demands size (new n) s (places size)) _ e
-      (as_want size old wanted was (new n) whole (mk d.target TRANSACTIONS s d.b) d e is made))
+      (as_want size old wanted was (new n) whole (want_of d.target TRANSACTIONS s d.b) d e is made))
     where
-      stood : d ≡ mk d.target TRANSACTIONS s d.b → Has (tip_demands size (old n) s) e
+      stood : d ≡ want_of d.target TRANSACTIONS s d.b → Has (tip_demands size (old n) s) e
           → Has (demands_of (old n) d) e
       stood is there = from_want size old wanted was (old n) (was.whole n)
-          (mk d.target TRANSACTIONS s d.b) d e is there
+          (want_of d.target TRANSACTIONS s d.b) d e is there
 
-      at : d ≡ mk d.target TRANSACTIONS s d.b → Has (drawn_demands size (new n) s (places size)) e
+      at : d ≡ want_of d.target TRANSACTIONS s d.b → Has (drawn_demands size (new n) s (places size)) e
           ⊎ Has (if s == 0 then [] else linked size (prev_in (new n)) TRANSACTIONS (s - 1) 0) e
           → Has (demands_of (old n) d) e ⊎ IsPaid orders on_disk wanted bits_more d e
       at is (inl x) = elim (of_states d e same (places size) x) [
@@ -215,26 +196,28 @@ module _ (size : ℕ) (old new : Pages) (n s place : ℕ) (state : TxState) (ord
           (subst (λ (p : ℕ). Has (if s == 0 then [] else linked size p TRANSACTIONS (s - 1) 0) e)
           (same_prev (old n) (new n) sets.sets.front) y)))
 
-  pub bits_pay : Pays size old new orders on_disk wanted bits_more
-  bits_pay = page_pays size old new n orders on_disk wanted bits_more was (record {
+  pub bits_pay : Pays size old new orders settled on_disk wanted bits_more
+  bits_pay = page_pays size old new n orders settled on_disk wanted bits_more was (record {
     others = sets.others;
     len = whole;
     used = λ m is. used_same size old new n sets.others sets.off_inventory m ∙ is;
     still = still_tip;
     links = tip_still_links;
+    leaves = λ d e h same made may apart. absurd (none_may_go size old wanted was settled n
+        (λ five. let three = tip_kind (old n) n s sets.passes in omega (arith, five, three)) d e h same made may);
     kept_data = λ d h same is. absurd (let what : d.what ≡ 3 = ap (λ (x : Demand). x.what) (on_tip d h same).0 in
         omega (arith, what, is));
-    met = λ d h. subst (λ (x : Demand). meets_of (new x.target) x ≡ true) (sym (one_of (mk 0 NEXT t 0) d h))
-        (met_is size (new 0) (mk 0 NEXT t 0) was.lawful
+    met = λ d h. subst (λ (x : Demand). meets_of (new x.target) x ≡ true) (sym (one_of (want_of 0 NEXT t 0) d h))
+        (met_is size (new 0) (want_of 0 NEXT t 0) was.lawful
         (ap (λ (page : List ℕ). length page) head_same ∙ was.whole 0)
         (of_next refl (ap (is_header size) head_same ∙ sets.head)
         (lt-ltb t (next_of new) (subst (λ (page : List ℕ). t < u32_at page 28) (sym head_same) sets.drawn))));
-    new_links = λ d e h made. absurd (let is = one_of (mk 0 NEXT t 0) d h in
+    new_links = λ d e h made. absurd (let is = one_of (want_of 0 NEXT t 0) d h in
         as_want size old wanted was (new d.target)
         (ap (λ (x : Demand). length (new x.target)) is
-        ∙ (ap (λ (page : List ℕ). length page) head_same ∙ was.whole 0)) (mk 0 NEXT t 0) d e is made);
-    new_used = λ d h. subst (λ (x : Demand). is_used size new x.target ≡ true) (sym (one_of (mk 0 NEXT t 0) d h))
+        ∙ (ap (λ (page : List ℕ). length page) head_same ∙ was.whole 0)) (want_of 0 NEXT t 0) d e is made);
+    new_used = λ d h. subst (λ (x : Demand). is_used size new x.target ≡ true) (sym (one_of (want_of 0 NEXT t 0) d h))
         (used_same size old new n sets.others sets.off_inventory 0 ∙ used_zero);
-    new_data = λ d h is. absurd (let what : d.what ≡ 2 = ap (λ (x : Demand). x.what) (one_of (mk 0 NEXT t 0) d h) in
+    new_data = λ d h is. absurd (let what : d.what ≡ 2 = ap (λ (x : Demand). x.what) (one_of (want_of 0 NEXT t 0) d h) in
         omega (arith, what, is));
   })

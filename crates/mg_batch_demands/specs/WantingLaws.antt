@@ -1,18 +1,20 @@
--- Laws of what pages are wanted for: a change of one page, two changes one after the other, and what
--- one change pays under more orders.
-use Rattle.std.specs.Prelude.{◌≡◌, ◌⊎◌, ℕ, true, List, length}
-use Rattle.std.proofs.Common.{inl, inr, sym, subst, ap, ◌∙◌}
+-- Laws of what pages are wanted for: a change of one page, two changes one after the other, more orders,
+-- and the same demands by another set.
+use Rattle.std.specs.Prelude.{◌++◌, ◌≡◌, ◌⊎◌, ℕ, true, List, length, Bool}
+use Rattle.std.proofs.Common.{inl, inr, refl, sym, subst, ap, ◌∙◌}
 use Rattle.std.proofs.lemmas.Bool.{cases_eq, or_cases, or_left, or_right}
 use Rattle.mg_base.specs.Fields.{byte}
 use Rattle.mg_careful.specs.declared.links.Demand.{Demand}
 use Rattle.mg_careful.specs.Precedence.{Orders}
-use Rattle.mg_careful.specs.CarefulWrite.{DemandSet, Has, IsIn, either}
+use Rattle.mg_careful.specs.CarefulWrite.{listed, DemandSet, Has, IsIn, either}
 use Rattle.mg_demands.specs.Bearing.{IsPaid}
+use Rattle.mg_demands.specs.Freeing.{KeepsLinks}
 use Rattle.mg_image.specs.Form.{Pages}
 use Rattle.mg_slots.specs.declared.page.TheConstants.{DATA_KIND}
 use Rattle.mg_space.specs.Demands.{demands_of, meets_of}
 use Rattle.mg_space.specs.declared.links.TheConstants.{VERSION}
-use Rattle.mg_batch_demands.specs.Wanting.{IsWanting, OwesPage, Pays}
+use Rattle.mg_batch_demands.specs.Met.{has_back, has_either, has_front, in_listed, of_listed}
+use Rattle.mg_batch_demands.specs.Wanting.{IsWanting, OwesPage, Pays, may_go, nothing}
 
 -- ---- members of two sets
 
@@ -31,7 +33,7 @@ in_other one other d h = (h.0, or_right (one d h.0) _ h.1)
 
 -- ---- a change of one page
 
-module _ (size : ℕ) (old new : Pages) (b : ℕ) (orders : Orders) (on_disk wanted more : DemandSet) (was : IsWanting size old wanted) (owes : OwesPage size old new b orders on_disk wanted more) where
+module _ (size : ℕ) (old new : Pages) (b : ℕ) (orders : Orders) (settled : ℕ → Bool) (on_disk wanted more : DemandSet) (was : IsWanting size old wanted) (owes : OwesPage size old new b orders settled on_disk wanted more) where
   still_met : (d : Demand) → IsIn wanted d → meets_of (new d.target) d ≡ true
   still_met d h = elim (cases_eq d.target b) [
     | inl same ↦ subst (λ (n : ℕ). meets_of (new n) d ≡ true) (sym same) (owes.still d h same)
@@ -52,6 +54,16 @@ module _ (size : ℕ) (old new : Pages) (b : ℕ) (orders : Orders) (on_disk wan
   still_data d h is = elim (cases_eq d.target b) [
     | inl same ↦ subst (λ (n : ℕ). byte (new n) 0 ≡ DATA_KIND) (sym same) (owes.kept_data d h same is)
     | inr ne ↦ ap (λ (page : List ℕ). byte page 0) (owes.others d.target ne) ∙ was.on_data d h is
+  ]
+
+  page_leaves : KeepsLinks demands_of old new orders wanted nothing (may_go settled)
+  page_leaves d e h made may apart = elim (cases_eq d.target b) [
+    | inl same ↦ elim (owes.leaves d e h same (subst (λ (n : ℕ). Has (demands_of (old n) d) e) same made) may
+        (λ on. apart (on ∙ sym same))) [
+          | inl stays ↦ inl (subst (λ (n : ℕ). Has (demands_of (new n) d) e) (sym same) stays, refl)
+          | inr order ↦ inr (subst (λ (n : ℕ). orders n e.target ≡ true) (sym same) order)
+        ]
+    | inr ne ↦ inl (subst (λ (page : List ℕ). Has (demands_of page d) e) (sym (owes.others d.target ne)) made, refl)
   ]
 
   now_whole : (n : ℕ) → length (new n) ≡ size
@@ -75,9 +87,10 @@ module _ (size : ℕ) (old new : Pages) (b : ℕ) (orders : Orders) (on_disk wan
     | inr y ↦ in_other wanted more e y
   ]
 
-  pub page_pays : Pays size old new orders on_disk wanted more
+  pub page_pays : Pays size old new orders settled on_disk wanted more
   page_pays = record {
     pays = record { still = still_met; met = owes.met; links = still_links; new_links = owes.new_links };
+    leaves = page_leaves;
     wants = record {
       lawful = was.lawful;
       whole = now_whole;
@@ -101,7 +114,7 @@ module _ (size : ℕ) (old new : Pages) (b : ℕ) (orders : Orders) (on_disk wan
 
 -- ---- two changes, one after the other
 
-module _ (size : ℕ) (old mid new : Pages) (orders : Orders) (on_disk wanted more most : DemandSet) (first : Pays size old mid orders on_disk wanted more) (second : Pays size mid new orders on_disk (either wanted more) most) where
+module _ (size : ℕ) (old mid new : Pages) (orders : Orders) (settled : ℕ → Bool) (on_disk wanted more most : DemandSet) (first : Pays size old mid orders settled on_disk wanted more) (second : Pays size mid new orders settled on_disk (either wanted more) most) where
   abbrev both_sets : DemandSet
   both_sets = either more most
 
@@ -146,7 +159,7 @@ module _ (size : ℕ) (old mid new : Pages) (orders : Orders) (on_disk wanted mo
     | inr z ↦ in_other wanted both_sets d (in_other more most d z)
   ]
 
-  pub two_pay : Pays size old new orders on_disk wanted (either more most)
+  pub two_pay : Pays size old new orders settled on_disk wanted (either more most)
   two_pay = record {
     pays = record {
       still = λ d h. second.pays.still d (in_one wanted more d h);
@@ -169,6 +182,10 @@ module _ (size : ℕ) (old mid new : Pages) (orders : Orders) (on_disk wanted mo
         | inr y ↦ second_paid d e (second.pays.new_links d e y made)
       ];
     };
+    leaves = λ d e h made may apart. elim (first.leaves d e h made may apart) [
+      | inl stays ↦ second.leaves d e (in_one wanted more d h) stays.0 may apart
+      | inr order ↦ inr order
+    ];
     wants = record {
       lawful = second.wants.lawful;
       whole = second.wants.whole;
@@ -180,3 +197,114 @@ module _ (size : ℕ) (old mid new : Pages) (orders : Orders) (on_disk wanted mo
       on_data = λ d h is. second.wants.on_data d (regroup d h) is;
     };
   }
+
+-- ---- more orders, and other sets with the same members
+
+-- what is paid for by some orders is paid for by more
+pub more_orders : (size : ℕ) (old new : Pages) (orders all : Orders) (settled : ℕ → Bool)
+    (on_disk wanted more : DemandSet) → ((a b : ℕ) → orders a b ≡ true → all a b ≡ true)
+    → Pays size old new orders settled on_disk wanted more → Pays size old new all settled on_disk wanted more
+more_orders size old new orders all settled on_disk wanted more grows it = record {
+  pays = record {
+    still = it.pays.still;
+    met = it.pays.met;
+    links = λ d e h made. elim (it.pays.links d e h made) [
+      | inl stood ↦ inl stood
+      | inr paid ↦ inr (by d e paid)
+    ];
+    new_links = λ d e h made. by d e (it.pays.new_links d e h made);
+  };
+  wants = it.wants;
+  leaves = λ d e h made may apart. elim (it.leaves d e h made may apart) [
+    | inl stays ↦ inl stays
+    | inr order ↦ inr (grows d.target e.target order)
+  ];
+}
+  where
+    by : (d e : Demand) → IsPaid orders on_disk wanted more d e → IsPaid all on_disk wanted more d e
+    by d e paid = record {
+      is_wanted = paid.is_wanted;
+      is_first = elim paid.is_first [
+        | inl same ↦ inl same
+        | inr other ↦ inr (elim other [
+          | inl order ↦ inl (grows e.target d.target order)
+          | inr there ↦ inr there
+        ])
+      ];
+    }
+
+-- what is newly wanted may be told by another set with the same members
+pub same_more : (size : ℕ) (old new : Pages) (orders : Orders) (settled : ℕ → Bool)
+    (on_disk wanted one other : DemandSet) → ((d : Demand) → IsIn one d → IsIn other d)
+    → ((d : Demand) → IsIn other d → IsIn one d)
+    → Pays size old new orders settled on_disk wanted one → Pays size old new orders settled on_disk wanted other
+same_more size old new orders settled on_disk wanted one other to from it = record {
+  pays = record {
+    still = it.pays.still;
+    met = λ d h. it.pays.met d (from d h);
+    links = λ d e h made. elim (it.pays.links d e h made) [
+      | inl stood ↦ inl stood
+      | inr paid ↦ inr (by d e paid)
+    ];
+    new_links = λ d e h made. by d e (it.pays.new_links d e (from d h) made);
+  };
+  wants = record {
+    lawful = it.wants.lawful;
+    whole = it.wants.whole;
+    keeps = record {
+      met = λ d h. it.wants.keeps.met d (back d h);
+      in_turn = λ d e h made. forth e (it.wants.keeps.in_turn d e (back d h) made);
+    };
+    used = λ d h. it.wants.used d (back d h);
+    on_data = λ d h is. it.wants.on_data d (back d h) is;
+  };
+  leaves = it.leaves;
+}
+  where
+    back : (d : Demand) → IsIn (either wanted other) d → IsIn (either wanted one) d
+    back d h = elim (either_cases wanted other d h) [
+      | inl x ↦ in_one wanted one d x
+      | inr y ↦ in_other wanted one d (from d y)
+    ]
+
+    forth : (d : Demand) → IsIn (either wanted one) d → IsIn (either wanted other) d
+    forth d h = elim (either_cases wanted one d h) [
+      | inl x ↦ in_one wanted other d x
+      | inr y ↦ in_other wanted other d (to d y)
+    ]
+
+    by : (d e : Demand) → IsPaid orders on_disk wanted one d e → IsPaid orders on_disk wanted other d e
+    by d e paid = record {
+      is_wanted = elim paid.is_wanted [
+        | inl x ↦ inl x
+        | inr y ↦ inr (to e y)
+      ];
+      is_first = paid.is_first;
+    }
+
+-- ---- what is newly wanted, as a list
+
+to_both : (ds es : List Demand) (d : Demand) → IsIn (either (listed ds) (listed es)) d
+    → IsIn (listed (ds ++ es)) d
+to_both ds es d h = in_listed (ds ++ es) d (elim (either_cases (listed ds) (listed es) d h) [
+  | inl x ↦ has_front ds es d (of_listed ds d x)
+  | inr y ↦ has_back ds es d (of_listed es d y)
+])
+
+from_both : (ds es : List Demand) (d : Demand) → IsIn (listed (ds ++ es)) d
+    → IsIn (either (listed ds) (listed es)) d
+from_both ds es d h = elim (has_either ds es d (of_listed (ds ++ es) d h)) [
+  | inl x ↦ in_one (listed ds) (listed es) d (in_listed ds d x)
+  | inr y ↦ in_other (listed ds) (listed es) d (in_listed es d y)
+]
+
+-- two steps that newly want lists are one that wants both
+pub two_listed : (size : ℕ) (old mid new : Pages) (orders : Orders) (settled : ℕ → Bool)
+    (on_disk wanted : DemandSet) (ds es : List Demand)
+    → Pays size old mid orders settled on_disk wanted (listed ds)
+    → Pays size mid new orders settled on_disk (either wanted (listed ds)) (listed es)
+    → Pays size old new orders settled on_disk wanted (listed (ds ++ es))
+two_listed size old mid new orders settled on_disk wanted ds es first second =
+    same_more size old new orders settled on_disk wanted (either (listed ds) (listed es)) (listed (ds ++ es))
+    (to_both ds es) (from_both ds es)
+    (two_pay size old mid new orders settled on_disk wanted (listed ds) (listed es) first second)

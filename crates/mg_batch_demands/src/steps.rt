@@ -1,8 +1,8 @@
 //! The steps of batches.
 
-ghost use Rattle.mg_batch_demands.specs.Steps.{BitsPay, CellPays, DataPays, EntryPays, HeaderPays};
-ghost use Rattle.mg_batch_demands.specs.Steps.{MakingPays, NextPays, PointerPays, StepsAreOne};
-ghost use Rattle.mg_batch_demands.specs.Steps.{TakingPays, TipPays};
+ghost use Rattle.mg_batch_demands.specs.StepLaws.{BitsPay, CellPays, DataPays, EntryPays, FreedCellDrops, HeaderPays};
+ghost use Rattle.mg_batch_demands.specs.StepLaws.{MakingPays, NextPays, PointerPays, StepsAreOne};
+ghost use Rattle.mg_batch_demands.specs.StepLaws.{TakingPays, TipPays};
 
 /// Two steps that pay, one after the other, are one that does.
 pub fn steps_are_one()
@@ -34,7 +34,8 @@ pub fn tables_pay()
     ensures pointer { PointerPays }
 {}
 
-/// A cell is put on a data page.
+/// A cell is put on a data page, written over, or freed.
 pub fn cells_pay()
-    ensures { CellPays }
+    ensures put { CellPays }
+    ensures freed { FreedCellDrops }
 {}

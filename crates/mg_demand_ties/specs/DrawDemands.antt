@@ -26,12 +26,14 @@ use Rattle.mg_base.specs.declared.geometry.TheConstants.{GREATEST_LIMIT}
 use Rattle.mg_careful.specs.Precedence.{Orders}
 use Rattle.mg_txlist.specs.Drawing.{DrawsOn, IsTipFor, RaisesHead, may_precede, on_last, on_new, orders_before, raised_header, tip_orders}
 use Rattle.mg_txlist.specs.declared.list.TipPage.{TipPage}
-use Rattle.mg_batch_demands.specs.Met.{has_either, has_front, in_listed, is_demand, mk}
-use Rattle.mg_batch_demands.specs.NumberLaws.{RaisesHeader, from_want, header_pays, number_more}
+use Rattle.mg_batch_demands.specs.KindLaws.{from_want}
+use Rattle.mg_batch_demands.specs.Met.{has_either, has_front, in_listed, is_demand}
+use Rattle.mg_batch_demands.specs.NumberLaws.{header_pays}
+use Rattle.mg_batch_demands.specs.Steps.{RaisesHeader, number_more}
 use Rattle.mg_batch_demands.specs.TakeLaws.{bit_is_elsewhere, make_pays, take_pays, taken_is_unwanted}
 use Rattle.mg_batch_demands.specs.TipLaws.{made_tip}
-use Rattle.mg_batch_demands.specs.Wanting.{IsWanting, Pays}
-use Rattle.mg_batch_demands.specs.WantingLaws.{either_cases, in_one, in_other, two_pay}
+use Rattle.mg_batch_demands.specs.Wanting.{IsWanting, Pays, want_of}
+use Rattle.mg_batch_demands.specs.WantingLaws.{either_cases, in_one, in_other, two_listed}
 
 -- What is known of the header when a number is drawn.
 pub record SaysNumber (size : ℕ) (old : Pages) (t : ℕ) : Type 0 where
@@ -45,18 +47,19 @@ pub record SaysNumber (size : ℕ) (old : Pages) (t : ℕ) : Type 0 where
   pub last_some : (header_of old).last_tip.0 ≢ 0
   pub last_used : is_used size old (header_of old).last_tip.0 ≡ true
 
--- a set of demands that is newly wanted, the number's among them, is paid for
-abbrev pub DrawPays : ℕ → Pages → Pages → List Order → DemandSet → DemandSet → ℕ → Type 0
-DrawPays size old new orders on_disk wanted t = (more : DemandSet)
-    × Pays size old new (lists orders) on_disk wanted more × IsIn more (mk 0 NEXT t 0)
+-- what is newly wanted: the number; and where it gets a page, that page, behind the one before, with its bit
+abbrev pub draw_wants : ℕ → ℕ → Option TipPage → List Demand
+draw_wants size t None = want_of 0 NEXT t 0 ∷ []
+draw_wants size t (Some page) = bit_demand size page.page
+    ++ want_of page.page TRANSACTIONS (t / places size) 0 ∷ want_of 0 NEXT t 0 ∷ []
 
 -- the law of drawing
 abbrev pub DrawsPay : Type 0
 DrawsPay = (g : Geometry) (t : ℕ) (old new : Pages) (page : Option TipPage) (orders : List Order)
-    (on_disk wanted : DemandSet) → IsGeometry g → SaysNumber g.size old t
+    (settled : ℕ → Bool) (on_disk wanted : DemandSet) → IsGeometry g → SaysNumber g.size old t
     → DrawsOn g t old new page orders → IsTipFor g.size t page
-    → IsWanting g.size old wanted → IsIn wanted (mk 0 HEADER 0 0)
-    → DrawPays g.size old new orders on_disk wanted t
+    → IsWanting g.size old wanted → IsIn wanted (want_of 0 HEADER 0 0)
+    → Pays g.size old new (lists orders) settled on_disk wanted (listed (draw_wants g.size t page))
 
 -- the numbers of one page but the first have the sequence of the number before
 same_sequence : (t p : ℕ) → t % p ≢ 0 → t % p < p → (t - 1) / p ≡ t / p
@@ -86,7 +89,7 @@ next_sequence t p first some wide = (is_some, is_next)
         let before : t - 1 ≡ (t / p - 1) * p + (p - 1) = omega (arith, more, same, all, wide) in
         ap (λ (k : ℕ). k / p) before ∙ div-mul-add (t / p - 1) p (p - 1) (omega (arith, wide))
 
-module _ (g : Geometry) (t : ℕ) (old new : Pages) (on_disk wanted : DemandSet) (lawful : IsGeometry g) (says : SaysNumber g.size old t) (was : IsWanting g.size old wanted) (header_in_ : IsIn wanted (mk 0 HEADER 0 0)) where
+module _ (g : Geometry) (t : ℕ) (old new : Pages) (settled : ℕ → Bool) (on_disk wanted : DemandSet) (lawful : IsGeometry g) (says : SaysNumber g.size old t) (was : IsWanting g.size old wanted) (header_in_ : IsIn wanted (want_of 0 HEADER 0 0)) where
   abbrev size : ℕ
   size = g.size
 
@@ -119,16 +122,14 @@ module _ (g : Geometry) (t : ℕ) (old new : Pages) (on_disk wanted : DemandSet)
   }
 
   draw_last : RaisesHead size old new (header_of old).last_tip.0 → ((p : ℕ) → p ≢ 0 → new p ≡ old p)
-      → t % places size ≢ 0 → DrawPays size old new [] on_disk wanted t
-  draw_last raises others inner = (
-    number_more (next_of old),
-    header_pays size old new (header_of old).last_tip.0 (lists []) on_disk wanted
-        (raises_from old (header_of old).last_tip.0 raises refl others) was
-        (was.used (mk 0 HEADER 0 0) header_in_) (λ e there. inl (subst
-        (λ (s : ℕ). Has (linked size (header_of old).last_tip.0 TRANSACTIONS s 0) e) sequence_same there)),
-    in_listed (mk 0 NEXT (next_of old) 0 ∷ []) (mk 0 NEXT t 0)
-        (inl (ap (λ (k : ℕ). mk 0 NEXT k 0) (sym says.next_is))),
-  )
+      → t % places size ≢ 0
+      → Pays size old new (lists []) settled on_disk wanted (listed (draw_wants size t None))
+  draw_last raises others inner = subst (λ (k : ℕ). Pays size old new (lists []) settled on_disk wanted (number_more k))
+      says.next_is
+      (header_pays size old new (header_of old).last_tip.0 (lists []) settled on_disk wanted
+      (raises_from old (header_of old).last_tip.0 raises refl others) was
+      (was.used (want_of 0 HEADER 0 0) header_in_) (λ e there. inl (subst
+      (λ (s : ℕ). Has (linked size (header_of old).last_tip.0 TRANSACTIONS s 0) e) sequence_same there)))
     where
       sequence_same : (next_of new - 1) / places size ≡ (next_of old - 1) / places size
       sequence_same =
@@ -167,7 +168,7 @@ module _ (g : Geometry) (t : ℕ) (old new : Pages) (on_disk wanted : DemandSet)
     more_bit = listed (bit_demand size n)
 
     abbrev more_tip : DemandSet
-    more_tip = listed (mk n TRANSACTIONS s 0 ∷ [])
+    more_tip = listed (want_of n TRANSACTIONS s 0 ∷ [])
 
     abbrev wanted_bit : DemandSet
     wanted_bit = either wanted more_bit
@@ -178,13 +179,13 @@ module _ (g : Geometry) (t : ℕ) (old new : Pages) (on_disk wanted : DemandSet)
     sequences : (s ≢ 0) × ((t - 1) / places size ≡ s - 1)
     sequences = next_sequence t (places size) first says.some wide
 
-    bit_step : Pays size old taken (lists orders) on_disk wanted more_bit
-    bit_step = take_pays g old taken n (lists orders) on_disk wanted lawful takes was
+    bit_step : Pays size old taken (lists orders) settled on_disk wanted more_bit
+    bit_step = take_pays g old taken n (lists orders) settled on_disk wanted lawful takes was
 
     unwanted : (d : Demand) → IsIn wanted_bit d → d.target ≢ n
     unwanted d h = elim (either_cases wanted more_bit d h) [
-      | inl x ↦ taken_is_unwanted g old taken n (lists orders) on_disk wanted lawful takes was d x
-      | inr y ↦ bit_is_elsewhere g old taken n (lists orders) on_disk wanted lawful takes was d y
+      | inl x ↦ taken_is_unwanted g old taken n (lists orders) settled on_disk wanted lawful takes was d x
+      | inr y ↦ bit_is_elsewhere g old taken n (lists orders) settled on_disk wanted lawful takes was d y
     ]
 
     -- the last page may come before the new one
@@ -220,22 +221,22 @@ module _ (g : Geometry) (t : ℕ) (old new : Pages) (on_disk wanted : DemandSet)
 
     -- the page before is wanted of the header, and ordered before this one
     before_paid : (e : Demand) → Has (linked size (header_of old).last_tip.0 TRANSACTIONS (s - 1) 0) e
-        → IsPaid (lists orders) on_disk wanted_bit more_tip (mk n TRANSACTIONS s 0) e
+        → IsPaid (lists orders) on_disk wanted_bit more_tip (want_of n TRANSACTIONS s 0) e
     before_paid e there =
         let same : (next_of old - 1) / places size ≡ s - 1 =
         ap (λ (k : ℕ). (k - 1) / places size) says.next_is ∙ sequences.1 in
         let link = subst (λ (k : ℕ). Has (linked size (header_of old).last_tip.0 TRANSACTIONS k 0) e) (sym same) there in
         record {
-          is_wanted = inl (in_one wanted more_bit e (was.keeps.in_turn (mk 0 HEADER 0 0) e header_in_
-              (from_want size old wanted was (old 0) (was.whole 0) (mk 0 HEADER 0 0) (mk 0 HEADER 0 0) e refl
+          is_wanted = inl (in_one wanted more_bit e (was.keeps.in_turn (want_of 0 HEADER 0 0) e header_in_
+              (from_want size old wanted was (old 0) (was.whole 0) (want_of 0 HEADER 0 0) (want_of 0 HEADER 0 0) e refl
               (has_front (linked size (header_of old).last_tip.0 TRANSACTIONS ((next_of old - 1) / places size) 0)
               _ e link))));
           is_first = inr (inl (before_first e there));
         }
 
-    tip_step : Pays size taken made (lists orders) on_disk wanted_bit more_tip
-    tip_step = make_pays size taken made n (lists orders) on_disk wanted_bit more_tip bit_step.wants
-        (made_tip size taken made n s (header_of old).last_tip.0 (lists orders) on_disk wanted_bit (record {
+    tip_step : Pays size taken made (lists orders) settled on_disk wanted_bit more_tip
+    tip_step = make_pays size taken made n (lists orders) settled on_disk wanted_bit more_tip bit_step.wants
+        (made_tip size taken made n s (header_of old).last_tip.0 (lists orders) settled on_disk wanted_bit (record {
           others = made_else;
           is = made_here ∙ (put ∙ bytes_are);
           off_inventory = takes.free.no_inventory;
@@ -258,8 +259,8 @@ module _ (g : Geometry) (t : ℕ) (old new : Pages) (on_disk wanted : DemandSet)
       | inr apart ↦ others p ne apart ∙ sym (made_else p apart)
     ]
 
-    in_tip : IsIn wanted_tip (mk 0 HEADER 0 0)
-    in_tip = in_one wanted_bit more_tip (mk 0 HEADER 0 0) (in_one wanted more_bit (mk 0 HEADER 0 0) header_in_)
+    in_tip : IsIn wanted_tip (want_of 0 HEADER 0 0)
+    in_tip = in_one wanted_bit more_tip (want_of 0 HEADER 0 0) (in_one wanted more_bit (want_of 0 HEADER 0 0) header_in_)
 
     now_sequence : (next_of new - 1) / places size ≡ s
     now_sequence =
@@ -275,13 +276,13 @@ module _ (g : Geometry) (t : ℕ) (old new : Pages) (on_disk wanted : DemandSet)
 
     -- the header leads to the new page
     link_paid : (e : Demand) → Has (linked size n TRANSACTIONS ((next_of new - 1) / places size) 0) e
-        → IsPaid (lists orders) on_disk wanted_tip (number_more (next_of made)) (mk 0 HEADER 0 0) e
+        → IsPaid (lists orders) on_disk wanted_tip (number_more (next_of made)) (want_of 0 HEADER 0 0) e
     link_paid e there = elim (has_either (demand n TRANSACTIONS s 0) (bit_demand size n) e
         (subst (λ (k : ℕ). Has (linked size n TRANSACTIONS k 0) e) now_sequence there)) [
-          | inl x ↦ subst (λ (y : Demand). IsPaid (lists orders) on_disk wanted_tip (number_more (next_of made)) (mk 0 HEADER 0 0) y)
+          | inl x ↦ subst (λ (y : Demand). IsPaid (lists orders) on_disk wanted_tip (number_more (next_of made)) (want_of 0 HEADER 0 0) y)
               (sym (is_demand n TRANSACTIONS s 0 e x)) (record {
-                is_wanted = inl (in_other wanted_bit more_tip (mk n TRANSACTIONS s 0)
-                    (in_listed (mk n TRANSACTIONS s 0 ∷ []) (mk n TRANSACTIONS s 0) (inl refl)));
+                is_wanted = inl (in_other wanted_bit more_tip (want_of n TRANSACTIONS s 0)
+                    (in_listed (want_of n TRANSACTIONS s 0 ∷ []) (want_of n TRANSACTIONS s 0) (inl refl)));
                 is_first = inr (inl page_ordered);
               })
           | inr y ↦ record {
@@ -292,34 +293,31 @@ module _ (g : Geometry) (t : ℕ) (old new : Pages) (on_disk wanted : DemandSet)
           }
         ]
 
-    head_step : Pays size made new (lists orders) on_disk wanted_tip (number_more (next_of made))
-    head_step = header_pays size made new n (lists orders) on_disk wanted_tip
+    head_step : Pays size made new (lists orders) settled on_disk wanted_tip (number_more (next_of made))
+    head_step = header_pays size made new n (lists orders) settled on_disk wanted_tip
         (raises_from made n raises header_page made_new) tip_step.wants
-        (tip_step.wants.used (mk 0 HEADER 0 0) in_tip) (λ e there. inr (link_paid e there))
+        (tip_step.wants.used (want_of 0 HEADER 0 0) in_tip) (λ e there. inr (link_paid e there))
 
     next_made : next_of made ≡ t
     next_made = ap (λ (p : List ℕ). (header_in p).next.0) header_page ∙ says.next_is
 
-    draw_new : DrawPays size old new orders on_disk wanted t
-    draw_new = (
-      either more_bit (either more_tip (number_more (next_of made))),
-      two_pay size old taken new (lists orders) on_disk wanted more_bit (either more_tip (number_more (next_of made)))
-          bit_step (two_pay size taken made new (lists orders) on_disk wanted_bit more_tip
-          (number_more (next_of made)) tip_step head_step),
-      in_other more_bit (either more_tip (number_more (next_of made))) (mk 0 NEXT t 0)
-          (in_other more_tip (number_more (next_of made)) (mk 0 NEXT t 0)
-          (in_listed (mk 0 NEXT (next_of made) 0 ∷ []) (mk 0 NEXT t 0)
-          (inl (ap (λ (k : ℕ). mk 0 NEXT k 0) (sym next_made))))),
-    )
+    draw_new : Pays size old new (lists orders) settled on_disk wanted (listed (draw_wants size t (Some page)))
+    draw_new = two_listed size old taken new (lists orders) settled on_disk wanted (bit_demand size n)
+        (want_of n TRANSACTIONS s 0 ∷ want_of 0 NEXT t 0 ∷ []) bit_step
+        (two_listed size taken made new (lists orders) settled on_disk wanted_bit (want_of n TRANSACTIONS s 0 ∷ [])
+        (want_of 0 NEXT t 0 ∷ []) tip_step
+        (subst (λ (k : ℕ). Pays size made new (lists orders) settled on_disk wanted_tip (number_more k))
+        next_made head_step))
 
 pub draws_pay : DrawsPay
-draws_pay g t old new page orders on_disk wanted lawful says draws tip was header_in_ =
+draws_pay g t old new page orders settled on_disk wanted lawful says draws tip was header_in_ =
     at page orders draws tip
   where
     at : (page : Option TipPage) (orders : List Order) → DrawsOn g t old new page orders
-        → IsTipFor g.size t page → DrawPays g.size old new orders on_disk wanted t
+        → IsTipFor g.size t page
+        → Pays g.size old new (lists orders) settled on_disk wanted (listed (draw_wants g.size t page))
     at None orders (on_last raises others) inner =
-        draw_last g t old new on_disk wanted lawful says was header_in_ raises others inner
+        draw_last g t old new settled on_disk wanted lawful says was header_in_ raises others inner
     at (Some page) orders (on_new p taken takes bytes_are put raises others) tip =
-        draw_new g t old new on_disk wanted lawful says was header_in_ p taken takes bytes_are put
+        draw_new g t old new settled on_disk wanted lawful says was header_in_ p taken takes bytes_are put
         raises others tip.0 tip.1

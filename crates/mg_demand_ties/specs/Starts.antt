@@ -10,7 +10,7 @@ use Rattle.mg_image.specs.Sound.{IsSoundBy}
 use Rattle.mg_image.specs.Tables.{EachStand, Layout, stands_of}
 use Rattle.mg_sound_links.specs.Roots.{IsFilled, roots_of}
 use Rattle.mg_space.specs.Demands.{demands_of, meets_of}
-use Rattle.mg_demand_ties.specs.Runs.{BearsLinks, Goes}
+use Rattle.mg_demand_ties.specs.Runs.{BearsLinks, Goes, IsLasting, Lasting}
 
 -- a cache has nothing dirty yet: its pool is its disk, which is a sound image with full pointer pages
 pub record IsOpened (form : Form) (size : ℕ) (state : ℕ → TxState) (cache : Cache) (layout : Layout)
@@ -25,15 +25,16 @@ pub record IsOpened (form : Form) (size : ℕ) (state : ℕ → TxState) (cache 
 abbrev pub wanted_in : ℕ → Cache → Layout → DemandSet
 wanted_in size cache layout = wanted demands_of cache.disk (roots_of size layout)
 
--- the law of openings
+-- the law of openings: whatever lasts, of the versions, and those of settled transactions do
 abbrev pub OpenedBears : Form → Type 0
-OpenedBears form = (size : ℕ) (state : ℕ → TxState) (cache : Cache) (layout : Layout) (r : Reading)
-    → IsOpened form size state cache layout r
-    → BearsLinks size cache (wanted_in size cache layout) (wanted_in size cache layout)
+OpenedBears form = (size : ℕ) (state : ℕ → TxState) (cache : Cache) (it : Lasting) (layout : Layout)
+    (r : Reading) → IsOpened form size state cache layout r → IsLasting it
+    → BearsLinks size cache it (wanted_in size cache layout) (wanted_in size cache layout)
 
 -- the law of crashes
 abbrev pub CrashesAreLinked : Form → Type 0
-CrashesAreLinked form = (size : ℕ) (state : ℕ → TxState) (first last : Cache) (layout : Layout) (r : Reading)
-    → IsOpened form size state first layout r → Goes size first last
+CrashesAreLinked form = (size : ℕ) (state : ℕ → TxState) (first last : Cache) (it end : Lasting)
+    (layout : Layout) (r : Reading)
+    → IsOpened form size state first layout r → IsLasting it → Goes size first it last end
     → (set_ : PageSet) → IsClosed last set_
     → IsLinked demands_of meets_of (overlay last set_) (listed (roots_of size layout))

@@ -1,14 +1,14 @@
 //! The batches, and runs of them.
 
 ghost use Rattle.mg_image.specs.Form.{packed_form};
-ghost use Rattle.mg_demand_ties.specs.CellDemands.{VersionsPay};
+ghost use Rattle.mg_demand_ties.specs.CellDemands.{OverwritesPay, PutsPay, TurnsPay, VersionsPay};
 ghost use Rattle.mg_demand_ties.specs.CommitDemands.{EndsPay};
 ghost use Rattle.mg_demand_ties.specs.DrawDemands.{DrawsPay};
-ghost use Rattle.mg_demand_ties.specs.GrowDemands.{GrowthPays};
-ghost use Rattle.mg_demand_ties.specs.Runs.{RunsBear};
+ghost use Rattle.mg_demand_ties.specs.GrowDemands.{ChainPays, GrowthPays};
+ghost use Rattle.mg_demand_ties.specs.Runs.{BatchBearsLinks, RunsBear, ThreeHasBoth};
 ghost use Rattle.mg_demand_ties.specs.Starts.{CrashesAreLinked, OpenedBears};
 
-use mg_demands::demands_are_borne;
+use mg_demands::{all_is_borne, demands_are_borne};
 use mg_sound_links::sound_images_are_linked;
 use mg_space::FireLinks;
 
@@ -22,22 +22,29 @@ pub fn ends_pay()
     ensures { EndsPay }
 {}
 
-/// A table that gets a data page pays for its entry.
+/// A table that gets a data page pays for its entry, and for a new pointer page where that lists it.
 pub fn growth_pays()
-    ensures { GrowthPays }
+    ensures growth { GrowthPays }
+    ensures chain { ChainPays }
 {}
 
-/// A version that is written, first or over another one, pays for its cell and for the slot that comes to
-/// lead to it.
+/// A version that is written pays for its cell, and for the slot that comes to lead to it; a slot that is
+/// turned pays for what it leads to; and a version that is written over costs nothing.
 pub fn versions_pay()
-    ensures { VersionsPay }
+    ensures put { PutsPay }
+    ensures turned { TurnsPay }
+    ensures written { VersionsPay }
+    ensures over { OverwritesPay }
 {}
 
-/// Page writes, and batches that pay, one after the other: the demands are borne still, with all roots,
-/// and every crash image is linked from them.
+/// Page writes, and batches that pay and drop, one after the other: the demands are borne still, with all
+/// roots, and every crash image is linked from them.
 pub fn runs_bear()
-    ensures { RunsBear }
+    ensures runs { RunsBear }
+    ensures batch { BatchBearsLinks }
+    ensures both { ThreeHasBoth }
 {
+    all_is_borne::<FireLinks>();
     demands_are_borne::<FireLinks>()
 }
 
@@ -45,7 +52,7 @@ pub fn runs_bear()
 pub fn opened_images_bear()
     ensures { OpenedBears packed_form }
 {
-    demands_are_borne::<FireLinks>();
+    all_is_borne::<FireLinks>();
     sound_images_are_linked()
 }
 

@@ -1,1 +1,2 @@
 mod BearingLemmas
+mod AllLemmas

@@ -45,7 +45,7 @@ use Rattle.mg_version.specs.declared.cell.Cell.{Cell}
 use Rattle.mg_version.specs.declared.cell.Cell.TheVariants as cells
 use Rattle.mg_version.specs.declared.cell.Link.{Link}
 use Rattle.mg_version.specs.declared.cell.Version.{Version}
-use Rattle.mg_sound_links.specs.Roots.{IsFilled, IsWantedFrom, SoundIsLinked, SoundIsWanted, index_roots, roots_of, table_roots}
+use Rattle.mg_sound_links.specs.Roots.{IsFilled, SoundIsLinked, SoundIsWanted, WantsFrom, index_roots, roots_of, table_roots}
 use Rattle.mg_sound_links.proofs.ListLemmas.{AreLevels, are_levels, each_back, each_front, each_page, either, has_so, inside, is_demand, is_linked, length-first, mk, root_there, has_it}
 
 -- ---- what is wanted
@@ -776,12 +776,16 @@ module _ (form : Form) (size : ℕ) (state : ℕ → TxState) (pages : Pages) (l
   on_data d (bit n is below used) =
       not_version d 9 (ap (λ (x : Demand). x.what) is) (λ e. omega (arith, e))
 
-  wanted_so : ListsAreSets → IsWantedFrom size pages (roots_of size layout)
+  wanted_so : ListsAreSets → WantsFrom size pages (roots_of size layout)
   wanted_so sets = record {
-    keeps = wanted_keeps demands_of meets_of pages (roots_of size layout) sets Stands of_roots along met;
+    wants = record {
+      lawful = sound.header.lawful_size;
+      whole = sound.header.whole;
+      keeps = wanted_keeps demands_of meets_of pages (roots_of size layout) sets Stands of_roots along met;
+      used = λ d h. is_marked d (wanted_have demands_of meets_of pages (roots_of size layout) sets Stands of_roots along d h);
+      on_data = λ d h. on_data d (wanted_have demands_of meets_of pages (roots_of size layout) sets Stands of_roots along d h);
+    };
     rooted = λ d h. roots_wanted demands_of meets_of pages (roots_of size layout) sets d h;
-    used = λ d h. is_marked d (wanted_have demands_of meets_of pages (roots_of size layout) sets Stands of_roots along d h);
-    on_data = λ d h. on_data d (wanted_have demands_of meets_of pages (roots_of size layout) sets Stands of_roots along d h);
   }
 
   linked_so : ListsAreSets → IsLinked demands_of meets_of pages (listed (roots_of size layout))

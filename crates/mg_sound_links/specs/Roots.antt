@@ -2,11 +2,9 @@
 use Rattle.std.specs.Prelude.{◌≡◌, ◌≢◌, ℕ, true, List, [], ◌∷◌, ◌++◌}
 use Rattle.mg_base.specs.declared.transaction.TxState.{TxState}
 use Rattle.mg_careful.specs.declared.links.Demand.{Demand}
-use Rattle.mg_careful.specs.CarefulWrite.{Has, IsIn, IsLinked, KeepsDemands, listed}
+use Rattle.mg_batch_demands.specs.Wanting.{IsWanting}
+use Rattle.mg_careful.specs.CarefulWrite.{Has, IsIn, IsLinked, listed}
 use Rattle.mg_demands.specs.Wanted.{wanted}
-use Rattle.mg_base.specs.Fields.{byte}
-use Rattle.mg_image.specs.Inventory.{is_used}
-use Rattle.mg_slots.specs.declared.page.TheConstants.{DATA_KIND}
 use Rattle.mg_image.specs.Form.{Form, Pages}
 use Rattle.mg_image.specs.Records.{Reading}
 use Rattle.mg_image.specs.Sound.{IsSoundBy}
@@ -15,7 +13,7 @@ use Rattle.mg_image.specs.Tables.{EachStand, Layout, Stand, stands_of}
 use Rattle.mg_model.specs.declared.table.Index.{Index}
 use Rattle.mg_pointer.specs.PointerPage.{capacity, count_in, next_in}
 use Rattle.mg_space.specs.Demands.{demand, demands_of, linked, meets_of}
-use Rattle.mg_space.specs.declared.links.TheConstants.{HEADER, POINTER, TREE, VERSION}
+use Rattle.mg_space.specs.declared.links.TheConstants.{HEADER, POINTER, TREE}
 
 -- the roots of the indexes of a table
 abbrev pub index_roots : ℕ → ℕ → List Index → List Demand
@@ -47,18 +45,13 @@ SoundIsLinked form = (size : ℕ) (state : ℕ → TxState) (pages : Pages) (lay
     → IsSoundBy form size state pages layout r → EachStand (IsFilled size pages) (stands_of layout)
     → IsLinked demands_of meets_of pages (listed (roots_of size layout))
 
--- What is wanted of pages from some roots on is met, and wanted in turn; a page of which something is
--- wanted is marked as used; and versions are wanted of data pages alone.
-pub record IsWantedFrom (size : ℕ) (pages : Pages) (roots : List Demand) : Type 0 where
-  pub keeps : KeepsDemands demands_of meets_of pages (wanted demands_of pages roots)
+-- The pages of a database are wanted for what some roots lead to, and the roots are wanted.
+pub record WantsFrom (size : ℕ) (pages : Pages) (roots : List Demand) : Type 0 where
+  pub wants : IsWanting size pages (wanted demands_of pages roots)
   pub rooted : (d : Demand) → Has roots d → IsIn (wanted demands_of pages roots) d
-  pub used : (d : Demand) → IsIn (wanted demands_of pages roots) d
-      → is_used size pages d.target ≡ true
-  pub on_data : (d : Demand) → IsIn (wanted demands_of pages roots) d → d.what ≡ VERSION
-      → byte (pages d.target) 0 ≡ DATA_KIND
 
 -- the law of what is wanted of a sound image from its roots on
 abbrev pub SoundIsWanted : Form → Type 0
 SoundIsWanted form = (size : ℕ) (state : ℕ → TxState) (pages : Pages) (layout : Layout) (r : Reading)
     → IsSoundBy form size state pages layout r → EachStand (IsFilled size pages) (stands_of layout)
-    → IsWantedFrom size pages (roots_of size layout)
+    → WantsFrom size pages (roots_of size layout)

@@ -15,7 +15,7 @@
 //!
 //! Invariant: none, it keeps no state.
 //! Below: `mg_image`, what is sound; `mg_space`, the links of the file format; `mg_demands`, when an image is
-//! linked. Above: nothing yet.
+//! linked; `mg_batch_demands`, how pages are wanted. Above: `mg_demand_ties`.
 //! Not here: what a batch pays, and crash images.
 #![tactic(auto)]
 

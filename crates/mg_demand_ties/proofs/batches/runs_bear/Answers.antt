@@ -1,6 +1,13 @@
-use Rattle.mg_demand_ties.proofs.RunLemmas.{runs_bear}
+use Rattle.mg_demand_ties.proofs.RunLemmas.{batch_bears, in_three, runs_bear}
 use Rattle.mg_demand_ties.proofs.batches.runs_bear.Goals as goal
 
-pub returns : goal.returns
-returns c = runs_bear c.demands_are_borne.ensures.writes c.demands_are_borne.ensures.batches
+pub returns-clause-runs : goal.returns-clause-runs
+returns-clause-runs c = runs_bear c.all_is_borne.ensures.writes c.all_is_borne.ensures.batches
     c.demands_are_borne.ensures.overlays
+
+pub returns-clause-batch : goal.returns-clause-batch
+returns-clause-batch c = batch_bears c.all_is_borne.ensures.writes c.all_is_borne.ensures.batches
+    c.demands_are_borne.ensures.overlays
+
+pub returns-clause-both : goal.returns-clause-both
+returns-clause-both c = in_three

@@ -1,6 +1,14 @@
-use Rattle.mg_demand_ties.specs.CellDemands.{version_pays}
+use Rattle.mg_demand_ties.specs.CellDemands.{overwrites_pay, puts_pay, turns_pay, versions_pay}
 use Rattle.mg_demand_ties.proofs.batches.versions_pay.Goals as goal
 
-pub returns : goal.returns
-returns c = λ size old put new at rec slot rec_slot bytes anchor v link orders on_disk wanted writes was number behind order.
-    version_pays size old put new at rec slot rec_slot bytes anchor v link orders on_disk wanted writes was number behind order
+pub returns-clause-put : goal.returns-clause-put
+returns-clause-put c = puts_pay
+
+pub returns-clause-turned : goal.returns-clause-turned
+returns-clause-turned c = turns_pay
+
+pub returns-clause-written : goal.returns-clause-written
+returns-clause-written c = versions_pay
+
+pub returns-clause-over : goal.returns-clause-over
+returns-clause-over c = overwrites_pay

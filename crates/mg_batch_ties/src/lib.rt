@@ -1,0 +1,25 @@
+//! What the batches of mg_heap, mg_chain and mg_txlist pay to the law of careful write, by the records of
+//! those crates' own contracts, so that a caller keeps one invariant over a cache.
+//!
+//! Owns: the ties from the calls' clauses to the laws over views. A caller who knows what is wanted of a table's
+//! pages (`WantsTable`) and of a record's page, and that a number is drawn, learns of each batch what it newly
+//! wants and that it pays (`Pays`); the cache's change of it then leaves the links borne (`ChangesBear`).
+//!
+//! | call | record | law | file |
+//! |---|---|---|---|
+//! | `add`, `add_apart` of mg_heap | `GivesRoom` | `room_pays` | `GrowthTies` |
+//! | `first`, `push` of mg_chain | `MakesRecord`, `Pushes` | `FirstPays`, `PushPays` | `CellTies` |
+//! | `mark_committed` of mg_txlist | `CommitsBits` | `CommitPays` | `EndTies` |
+//! | a change by mg_pool | `ChangesOverlays` | `ChangesBear` | `PoolTies` |
+//!
+//! `Lists` has the orders of a batch and its pages as viewed; `Wants` what is known of pages that are wanted.
+//! There is no program here: each function does nothing, and its contract is a law.
+//!
+//! Invariant: none, it keeps no state.
+//! Below: `mg_demand_ties`, the laws over views; `mg_heap`, `mg_chain`, `mg_txlist`, `mg_pool`. Above: nothing yet.
+//! Not here: own versions that are replaced or taken out, the catalog's batch, and index pages.
+#![tactic(auto)]
+
+mod ties;
+
+pub use ties::{changes_bear, commits_pay, writes_pay};
