@@ -123,7 +123,7 @@ other_files() {
     fresh kind
     printf '\011' | dd of=kind bs=1 seek=12288 conv=notrunc 2> /dev/null
     before=$(sum kind)
-    check 'a damaged page' $'@put: DAMAGED PAGE 3 KIND FOUND 9 WANTED 4\nstatus 4' "$(run kind '@put 1 1\n')"
+    check 'a damaged page' $'mgdb: DAMAGED PAGE 3 KIND FOUND 9 WANTED 4\nstatus 4' "$(run kind '')"
     check 'a damaged page stays' "$before" "$(sum kind)"
     fresh cut
     truncate -s 20480 cut

@@ -20,7 +20,7 @@ use Rattle.mg_btree.specs.Reading.{Reads}
 
 -- after a call that answered a cache stayed online
 pub online_then : {D L A : Type 0} (m : Meaning D) (old a : Pool D L) (result : Result A SpaceFault) (x : A)
-    → result ≡ Ok x → Reads m old a result → StaysOnline old a
+    → result ≡ Ok x → Reads m old a result → StaysOnline m old a
 online_then m old a result x is reads = subst (λ r. TellsFault m old a (pool_answer r)) is reads.fault
 
 pub online_itself : {D L : Type 0} (m : Meaning D) (store : Pool D L) → IsPool m store

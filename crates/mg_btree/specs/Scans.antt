@@ -4,6 +4,7 @@ use Rattle.mg_base.specs.Disk.{Meaning}
 use Rattle.mg_base.specs.Image.{Image}
 use Rattle.mg_base.specs.declared.geometry.TheConstants.{GREATEST_LIMIT}
 use Rattle.mg_node.specs.declared.entry.Entry.{Entry}
+use Rattle.mg_pool.specs.Fault.{MeetsNoFault}
 use Rattle.mg_pool.specs.Batch.{Changed}
 use Rattle.mg_pool.specs.declared.pool.Pool.{Pool}
 use Rattle.mg_space.specs.View.{KeepsStore, Tells, viewed}
@@ -17,7 +18,7 @@ use Rattle.mg_btree.specs.Changing.{IsLeaf}
 pub record IsScanning {D L : Type 0} (m : Meaning D) (old new : Pool D L) (batch : Changed)
     (first read : ReadNode) (low : List ℕ) (bound : Option Entry) (count : ℕ) : Type 0 where
   pub keeps : KeepsStore m old new
-  pub faults : new.faults ≡ old.faults
+  pub faults : MeetsNoFault m old new
   pub online : new.offline ≡ None
   pub scans : (image : Image) (owner root : ℕ) (levels : List (List ℕ)) → Tells m old.disk image
       → ScansFrom old.geometry.size (viewed old image batch) owner root levels low bound first

@@ -13,7 +13,7 @@ use Rattle.mg_pool.specs.Batch.{Changed, content_in}
 use Rattle.mg_pool.specs.Pool.{shown}
 use Rattle.mg_pool.specs.declared.batch.BatchPage.{BatchPage}
 use Rattle.mg_pool.specs.declared.pool.Pool.{Pool}
-use Rattle.mg_pool.specs.Fault.{TellsFault}
+use Rattle.mg_pool.specs.Fault.{MeetsNoFault, TellsFault}
 use Rattle.mg_pool.specs.declared.fault.PoolFault.{PoolFault}
 use Rattle.mg_space.specs.View.{KeepsStore, Tells, pool_answer, viewed}
 use Rattle.mg_space.specs.ViewLaws.{fault_on, tells_on, viewed_on}
@@ -228,7 +228,7 @@ same_answer A B (faults.Pool fault) = refl
 
 -- a fault that a later call met is handed on, and told since the start
 pub fault_up : {D L T : Type 0} (A : Type 0) (m : Meaning D) (a b c : Pool D L) (result : Result T SpaceFault)
-    (fault : SpaceFault) → KeepsStore m a b → b.faults ≡ a.faults → IsErr result
+    (fault : SpaceFault) → KeepsStore m a b → MeetsNoFault m a b → IsErr result
     → IsErrAnd result (λ given. given ≡ fault) → TellsFault m b c (pool_answer {T = A} (Err fault))
     → TellsFault m a c (pool_answer result)
 fault_up A m a b c (Ok x) fault kept same err is tells = absurd cc

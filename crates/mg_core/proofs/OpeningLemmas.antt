@@ -1,12 +1,12 @@
 -- An engine over a disk that was opened.
-use Rattle.std.proofs.Common.{◌≡◌, ◌≢◌, ◌+◌, ◌==◌, ℕ, Some, length, [], false, true, refl, sym, ap, ◌∙◌, subst, arith}
+use Rattle.std.proofs.Common.{◌≡◌, ◌≢◌, ◌+◌, ◌==◌, ℕ, Some, [], false, true, refl, sym, ap, ◌∙◌, subst}
 use Rattle.std.specs.Prelude.{List, Result, Ok, Err, is_some}
 use Rattle.mg_base.specs.Asking.{AsksReads, more_reads}
 use Rattle.mg_base.specs.Disk.{Meaning}
 use Rattle.mg_base.specs.Image.{Image, blank, page_at}
 use Rattle.mg_base.specs.declared.geometry.Geometry.{Geometry}
 use Rattle.mg_database.specs.Finishing.{Finishes, offline, unsettled, unwritten}
-use Rattle.mg_database.specs.Loading.{IsLoaded, OpensAlone, SaysPages, cache_answer}
+use Rattle.mg_database.specs.Loading.{IsLoaded, OpensAlone, ReadsFront, SaysPages, cache_answer, front_length, is_front}
 use Rattle.mg_database.specs.Preparing.{IsPrepared}
 use Rattle.mg_database.specs.declared.fault.OpenFault.{OpenFault}
 use Rattle.mg_database.specs.declared.fault.OpenFault.TheVariants.{NotADatabase, Space}
@@ -15,13 +15,11 @@ use Rattle.mg_model.specs.declared.table.Table.{Table}
 use Rattle.mg_pool.specs.Dirty.{DirtyPages, is_dirty}
 use Rattle.mg_pool.specs.Fault.{OnlyWrites, TellsFault}
 use Rattle.mg_pool.specs.Pool.{shown}
-use Rattle.mg_pool.specs.Reading.{ReadsPages}
 use Rattle.mg_pool.specs.declared.fault.PoolFault.{PoolFault}
 use Rattle.mg_pool.specs.declared.pool.Pool.{Pool}
 use Rattle.mg_space.specs.Taking.{IsGeometry}
 use Rattle.mg_space.specs.View.{KeepsStore, Tells}
 use Rattle.mg_space.specs.declared.links.FireLinks.{FireLinks}
-use Rattle.mg_txlist.specs.Reading.{is_head_or_tip}
 use Rattle.mg_txlist.specs.ReadingLaws.{of_more}
 use Rattle.mg_txlist.specs.declared.list.TipPage.{TipPage}
 use Rattle.mg_works.specs.Works.{Working, work_of}
@@ -30,19 +28,15 @@ use Rattle.mg_core.specs.Cores.{IsCore}
 use Rattle.mg_core.specs.Opening.{Opens}
 
 -- what was asked before the pages were read, and then
-read_then : {D : Type 0} (m : Meaning D) (disk mid new : D) (pages : List TipPage)
+read_then : {D : Type 0} (m : Meaning D) (disk mid new : D) (tips : List TipPage) (pointers data_pages : List ℕ)
     → AsksReads m disk mid 1 (λ n. n == 0)
-    → AsksReads m mid new (1 + length pages) (is_head_or_tip pages)
-    → AsksReads m disk new (2 + length pages) (is_head_or_tip pages)
-read_then m disk mid new pages first next =
-    subst (λ (most : ℕ). AsksReads m disk new most (is_head_or_tip pages)) two
-    (more_reads m disk mid new 1 (1 + length pages) (is_head_or_tip pages)
-    (of_more m disk mid 1 (λ n. n == 0) (is_head_or_tip pages) within first) next)
+    → AsksReads m mid new (front_length tips pointers data_pages) (is_front tips pointers data_pages)
+    → AsksReads m disk new (1 + front_length tips pointers data_pages) (is_front tips pointers data_pages)
+read_then m disk mid new tips pointers data_pages first next = more_reads m disk mid new 1
+    (front_length tips pointers data_pages) (is_front tips pointers data_pages)
+    (of_more m disk mid 1 (λ n. n == 0) (is_front tips pointers data_pages) within first) next
   where
-    two : 1 + (1 + length pages) ≡ 2 + length pages
-    two = omega arith
-
-    within : (n : ℕ) → (n == 0) ≡ true → is_head_or_tip pages n ≡ true
+    within : (n : ℕ) → (n == 0) ≡ true → is_front tips pointers data_pages n ≡ true
     within n is = rw is refl
 
 -- An engine has what was read, and nobody works with it yet.
@@ -50,8 +44,8 @@ module _ {D : Type 0} (m : Meaning D) (disk : D) (limit : ℕ) (before after : P
     (loaded : Loaded) (waits : List (ℕ × ℕ)) (works : List Working)
     (prepared : IsPrepared m disk limit before) (keeps : KeepsStore m before after)
     (is : IsLoaded before.geometry.size loaded)
-    (loads : ReadsPages m before after (1 + length loaded.list.pages.items)
-    (is_head_or_tip loaded.list.pages.items)) (nobody : waits ≡ []) (none : works ≡ []) where
+    (loads : ReadsFront m before after loaded.list.pages.items loaded.catalog_pages.pointers.items
+    loaded.catalog_pages.data_pages.items) (nobody : waits ≡ []) (none : works ≡ []) where
   abbrev core : Core D
   core = record {
     store = after;
@@ -88,15 +82,18 @@ module _ {D : Type 0} (m : Meaning D) (disk : D) (limit : ℕ) (before after : P
 
   reads_all : (image : Image) → m.held disk ≡ Some image
       → page_at after.geometry.size image 0 ≢ blank after.geometry.size
-      → AsksReads m disk after.disk (2 + length loaded.list.pages.items)
-      (is_head_or_tip loaded.list.pages.items)
+      → AsksReads m disk after.disk (1 + front_length loaded.list.pages.items
+      loaded.catalog_pages.pointers.items loaded.catalog_pages.data_pages.items)
+      (is_front loaded.list.pages.items loaded.catalog_pages.pointers.items
+      loaded.catalog_pages.data_pages.items)
   reads_all image held other = read_then m disk before.disk after.disk loaded.list.pages.items
-      (prepared.reads image held (λ zero. other (subst (λ (g : Geometry).
+      loaded.catalog_pages.pointers.items loaded.catalog_pages.data_pages.items (prepared.reads image held (λ zero. other (subst (λ (g : Geometry).
       page_at g.size image 0 ≡ blank g.size) (sym keeps.geometry) zero))) loads.asks
 
   pub opened : ((image : Image) → Tells m before.disk image
       → SaysPages before.geometry.size (shown before.dirty image) loaded.list loaded.catalog.pointer
-      loaded.markers) → Opens m disk limit core
+      loaded.markers loaded.catalog_pages.pointers.items loaded.catalog_pages.data_pages.items)
+      → Opens m disk limit core
   opened says = record {
     before = before;
     prepared = prepared;
@@ -112,6 +109,8 @@ module _ {D : Type 0} (m : Meaning D) (disk : D) (limit : ℕ) (before after : P
       damage = refl;
       shortages = refl;
     };
+    pointers = loaded.catalog_pages.pointers.items;
+    data_pages = loaded.catalog_pages.data_pages.items;
     says = says;
     reads = reads_all;
   }

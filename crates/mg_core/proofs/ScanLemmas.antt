@@ -157,7 +157,7 @@ scan_fails {D} m old mid new t table after fault refusal continues visits is cou
 
 -- a row without a key, or want of memory, is no fault of the cache that is told of its disk
 pub keys_told : {D : Type 0} (m : Meaning D) (old new : Pool D FireLinks) (table : Table) (page : ℕ)
-    (row : Option Row) (fault : SpaceFault) → StaysOnline old new → KeysRow table page row (Err fault)
+    (row : Option Row) (fault : SpaceFault) → StaysOnline m old new → KeysRow table page row (Err fault)
     → TellsFault m old new (pool_answer {T = Unit {0}} (Err fault))
 keys_told m old new table page row fault online (inr memory) = subst (λ (f : SpaceFault).
     TellsFault m old new (pool_answer {T = Unit {0}} (Err f))) (sym memory) online

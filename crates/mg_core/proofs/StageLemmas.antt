@@ -116,7 +116,7 @@ fails_reading {D} T m old final store why fault refusal keeps told own caused is
 pub passed_by : {D : Type 0} (m : Meaning D) (old new : Core D) (store : Pool D FireLinks) (t : ℕ) (wait : Bool)
     (is : Pages → Option Obstacle → Type 0) (why : Pool D FireLinks → Pages → SpaceFault → Type 0)
     (found : Option Obstacle) (result : Result (Unit {0}) Refusal) → KeepsStore m old.store store
-    → StaysOnline old.store store
+    → StaysOnline m old.store store
     → ((image : Image) → Tells m old.store.disk image → is (shown old.store.dirty image) found)
     → MatchResult result
     (λ _. (new ≡ record old { store = store }) × IsPassed (edges_in old.waits) t wait found)
@@ -126,7 +126,7 @@ passed_by {D} m old new store t wait is why found (Ok x) keeps online told passe
   found = found;
   reads = record {
     keeps = subst (λ (s : Pool D FireLinks). KeepsStore m old.store s) (sym now) keeps;
-    online = subst (λ (s : Pool D FireLinks). StaysOnline old.store s) (sym now) online;
+    online = subst (λ (s : Pool D FireLinks). StaysOnline m old.store s) (sym now) online;
     same = passed.0 ∙ ap (λ (s : Pool D FireLinks). record old { store = s }) (sym now);
   };
   told = told;

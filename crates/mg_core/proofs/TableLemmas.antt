@@ -122,7 +122,7 @@ table_kept {D} m old mid new t name table (Ok given) continues other fresh seen 
       may = seen.1;
       reads = record {
         keeps = subst (KeepsStore m old.store) (sym same_store) seen.2.keeps;
-        online = subst (StaysOnline old.store) (sym same_store) seen.2.online;
+        online = subst (StaysOnline m old.store) (sym same_store) seen.2.online;
       };
       same = keeps.1 ∙ ap (λ (c : Core D). record c { works = with_work t.0 (with_table table) c.works }) seen.3
           ∙ ap (λ (s : Pool D FireLinks). record old {

@@ -33,7 +33,7 @@ refused_on (Err e) refusal P Q err is holds = subst Q (sym is) holds
 pub put_by : {D : Type 0} (m : Meaning D) (old new : Core D) (store : Pool D FireLinks) (t : TxNo) (table : Table)
     (write : Write) (key : Value) (rec : Option RecId) (before : Before) (v : Version)
     (result : Result (Unit {0}) Refusal) → IsStored table t.0 write v → KeepsStore m old.store store
-    → StaysOnline old.store store
+    → StaysOnline m old.store store
     → ((image : Image) → Tells m old.store.disk image
     → StandsBefore old t table rec before (shown old.store.dirty image))
     → MatchResult result (λ _. LaysKept m (record old { store = store }) new t.0 table.pointer.0 key before v)

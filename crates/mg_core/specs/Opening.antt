@@ -1,10 +1,10 @@
 -- The opening of a disk, and the closing of a database.
-use Rattle.std.specs.Prelude.{◌≡◌, ◌≢◌, ◌+◌, ℕ, length, Some, [], None, Result, Ok, Err}
+use Rattle.std.specs.Prelude.{◌≡◌, ◌≢◌, ◌+◌, ℕ, List, Some, [], None, Result, Ok, Err}
 use Rattle.mg_base.specs.Asking.{AsksReads}
 use Rattle.mg_base.specs.Disk.{Meaning}
 use Rattle.mg_base.specs.Image.{Image, blank, page_at}
 use Rattle.mg_database.specs.Finishing.{Finishes}
-use Rattle.mg_database.specs.Loading.{AreUndecided, OpensAlone, RefusesPages, SaysPages, cache_answer}
+use Rattle.mg_database.specs.Loading.{AreUndecided, OpensAlone, RefusesPages, SaysPages, cache_answer, front_length, is_front}
 use Rattle.mg_database.specs.Preparing.{FailsToPrepare, IsPrepared}
 use Rattle.mg_database.specs.declared.fault.OpenFault.{OpenFault}
 use Rattle.mg_database.specs.declared.fault.OpenFault.TheVariants.{NotADatabase, Space}
@@ -17,7 +17,6 @@ use Rattle.mg_pool.specs.declared.fault.PoolFault.{PoolFault}
 use Rattle.mg_pool.specs.declared.pool.Pool.{Pool}
 use Rattle.mg_space.specs.View.{KeepsStore, Tells}
 use Rattle.mg_space.specs.declared.links.FireLinks.{FireLinks}
-use Rattle.mg_txlist.specs.Reading.{is_head_or_tip}
 use Rattle.mg_survey.specs.Survey.{IsSameDisk}
 use Rattle.mg_core.specs.declared.parts.Core.{Core}
 use Rattle.mg_core.specs.Cores.{IsCore}
@@ -42,15 +41,18 @@ pub record Opens {D : Type 0} (m : Meaning D) (disk : D) (limit : ℕ) (core : C
   pub prepared : IsPrepared m disk limit before
   pub keeps : KeepsStore m before core.store
   pub idle : IsIdle m core
+  -- the pages of the catalog
+  pub pointers : List ℕ
+  pub data_pages : List ℕ
   pub says : (image : Image) → Tells m before.disk image
       → SaysPages before.geometry.size (shown before.dirty image) core.list core.catalog.pointer
-      core.markers
-  -- where page 0 is not zero, that page and the transaction inventory pages alone were read, and no more
-  -- often in sum than page 0 twice and each of the others once
+      core.markers pointers data_pages
+  -- where page 0 is not zero, that page, the transaction inventory pages and the catalog's alone were read, and
+  -- no more often in sum than page 0 twice and each of the others once
   pub reads : (image : Image) → m.held disk ≡ Some image
       → page_at core.store.geometry.size image 0 ≢ blank core.store.geometry.size
-      → AsksReads m disk core.store.disk (2 + length core.list.pages.items)
-      (is_head_or_tip core.list.pages.items)
+      → AsksReads m disk core.store.disk (1 + front_length core.list.pages.items pointers data_pages)
+      (is_front core.list.pages.items pointers data_pages)
 
 -- The pages of a disk that was prepared were not read.
 pub record FailsToRead {D : Type 0} (m : Meaning D) (disk new : D) (limit : ℕ) (fault : OpenFault)

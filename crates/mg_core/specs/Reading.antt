@@ -17,7 +17,7 @@ use Rattle.mg_core.specs.Refusing.{CountsFault, IsRefusal}
 -- Pages were only read, and nothing else has happened.
 pub record OnlyReads {D : Type 0} (m : Meaning D) (old new : Core D) : Type 0 where
   pub keeps : KeepsStore m old.store new.store
-  pub online : StaysOnline old.store new.store
+  pub online : StaysOnline m old.store new.store
   pub same : new ≡ record old { store = new.store }
 
 -- A reading was refused: the fault is told and counted. `why` says its cause over an image that the disk tells, by

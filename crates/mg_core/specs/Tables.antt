@@ -33,7 +33,7 @@ SeesTable m core t name found = (image : Image) → Tells m core.store.disk imag
 -- Pages were read, no fault was met, and nothing else has happened to the pages.
 pub record ReadsPages {D : Type 0} (m : Meaning D) (old new : Core D) : Type 0 where
   pub keeps : KeepsStore m old.store new.store
-  pub online : StaysOnline old.store new.store
+  pub online : StaysOnline m old.store new.store
 
 -- A table that was given to the transaction already is given again: nothing changes.
 pub record GivesAgain {D : Type 0} (old new : Core D) (t : TxNo) (name : List ℕ) (table : Table)

@@ -16,8 +16,8 @@ use std::alloc::Global;
 
 impl<D: Disk> Core<D> {
     /// Opens a disk. On one on which a database may be made a new one is written first, its header last; any
-    /// other is not written. Then page 0 and the transaction inventory pages are read. The pages of the
-    /// catalog are read when a table is asked for.
+    /// other is not written. Then page 0 and the transaction inventory pages are read, and the pages of the
+    /// catalog are read and tested, as pages. Its rows are read when a table is asked for.
     ///
     /// The page limit is the greater of `limit` and the disk's number of pages, and at most 131,072; pages
     /// past that are neither read nor written.
@@ -26,7 +26,8 @@ impl<D: Disk> Core<D> {
     ///
     /// `DiskRead`; `DiskWrite` only where a new database is written; `NotADatabase` exactly where that field
     /// of page 0 is the first that differs, as of a file whose page 0 alone is zero; `Damaged` at a field of
-    /// page 0 or of a transaction inventory page; `Memory`. The disk comes back.
+    /// page 0 or of a transaction inventory page, or else at the first of the catalog's pages that is missing
+    /// or not as wanted at its place; `Memory`. The disk comes back.
     pub fn open(alloc: Global, disk: D, limit: u32) -> Result<Core<D>, (D, Refusal)>
         ensures { OpensDisk D.meaning disk limit result }
     {

@@ -1,4 +1,5 @@
 mod NameLemmas
 mod PreparingLemmas
+mod TestedLemmas
 mod LoadingLemmas
 mod FinishingLemmas

@@ -18,6 +18,7 @@ use Rattle.mg_header.specs.declared.header.HeadFault.TheVariants as heads
 use Rattle.mg_header.specs.declared.header.Header.{Header}
 use Rattle.mg_image.specs.Catalog.{catalog_table}
 use Rattle.mg_image.specs.Form.{Pages}
+use Rattle.mg_heap.specs.Reading.{ReadsData}
 use Rattle.mg_image.specs.Inventory.{settled}
 use Rattle.mg_model.specs.Answers.{is_open}
 use Rattle.mg_model.specs.Legal.{is_limbo}
@@ -26,6 +27,7 @@ use Rattle.mg_model.specs.declared.table.Table.{Table}
 use Rattle.mg_pool.specs.Batch.{Changed, content_in}
 use Rattle.mg_pool.specs.Dirty.{DirtyPages}
 use Rattle.mg_pool.specs.Pool.{shown}
+use Rattle.mg_pool.specs.Reading.{ReadsPages}
 use Rattle.mg_pool.specs.declared.batch.BatchPage.{BatchPage}
 use Rattle.mg_pool.specs.declared.pool.Pool.{Pool}
 use Rattle.mg_space.specs.View.{IsMissing, KeepsStore, RefusesRead, Tells, viewed}
@@ -36,12 +38,17 @@ use Rattle.mg_space.specs.declared.links.FireLinks.{FireLinks}
 use Rattle.mg_snap.specs.Live.{Entered, State as Bases, after_enter, after_limbo, is_among, undecided, unended_in}
 use Rattle.mg_snap.specs.LiveLaws.{among_more, numbers_more, numbers_undecided}
 use Rattle.mg_txlist.specs.Chain.{HasHead}
+use Rattle.mg_txlist.specs.Reading.{is_head_or_tip}
+use Rattle.mg_txlist.specs.ReadingLaws.{all_more}
 use Rattle.mg_txlist.specs.Refusals.{RefusesLoad}
 use Rattle.mg_txlist.specs.TxList.{bits_said, next_said, own_said, said}
+use Rattle.mg_txlist.specs.declared.list.TipPage.{TipPage}
 use Rattle.mg_txlist.specs.declared.list.TxList.{TxList}
 use Rattle.mg_database.specs.declared.fault.OpenFault.{OpenFault}
 use Rattle.mg_database.specs.declared.fault.OpenFault.TheVariants.{Space}
-use Rattle.mg_database.specs.Loading.{AreUndecided, AreUndecidedBelow, ChecksCatalog, RefusesPages, SaysPages, head_fault, markers_in, no_catalog, no_list}
+use Rattle.mg_database.specs.Loading.{AreUndecided, AreUndecidedBelow, ChecksCatalog, OpensAlone, ReadsFront, RefusesPages, SaysPages, head_fault, is_front, markers_in, no_catalog, no_list, untested}
+use Rattle.mg_database.specs.Tested.{IsTested, ReadsTable, RefusesTested, is_of_table}
+use Rattle.mg_database.proofs.TestedLemmas.{or_left, or_right, wider}
 
 -- ---- who has not ended
 
@@ -287,24 +294,73 @@ list_refused m old mid new image fault keeps tells refuses = at fault
     at (space.Damaged it) is = no_list it is
     at (space.Pool fault) is = tt
 
+-- what the list says, as the pages were seen before
+list_said : {D : Type 0} (m : Meaning D) (old mid : Pool D FireLinks) (image : Image) (first : ℕ)
+    (tips : List TipPage) → KeepsStore m old mid → Tells m old.disk image
+    → (Tells m mid.disk image → HasHead mid.geometry.size (shown mid.dirty image) first tips)
+    → HasHead old.geometry.size (shown old.dirty image) first tips
+list_said m old mid image first tips keeps tells head =
+    subst (λ (g : Geometry). HasHead g.size (shown old.dirty image) first tips) keeps.geometry
+    (subst (λ (dirty : DirtyPages). HasHead mid.geometry.size (shown dirty image) first tips) keeps.dirty
+    (head (tells_on m old mid image keeps tells)))
+
+-- a page of the catalog is not as wanted
+pub table_refused : {D : Type 0} (m : Meaning D) (old mid later new : Pool D FireLinks) (image : Image)
+    (header : Header) (first : ℕ) (tips : List TipPage) (fault : SpaceFault) → KeepsStore m old mid
+    → KeepsStore m old later → Tells m old.disk image
+    → reading (shown old.dirty image 0) old.geometry.size ≡ Ok header
+    → (Tells m mid.disk image → HasHead mid.geometry.size (shown mid.dirty image) first tips)
+    → (Tells m later.disk image → RefusesTested m new [] (shown later.dirty image) header.catalog.0 fault)
+    → RefusesPages m new old.geometry (shown old.dirty image) (Space fault)
+table_refused m old mid later new image header first tips fault kept keeps tells read head refuses = at fault
+    (subst (λ (dirty : DirtyPages). RefusesTested m new [] (shown dirty image) header.catalog.0 fault) keeps.dirty
+    (refuses (tells_on m old later image keeps tells)))
+  where
+    at : (fault : SpaceFault) → RefusesTested m new [] (shown old.dirty image) header.catalog.0 fault
+        → RefusesPages m new old.geometry (shown old.dirty image) (Space fault)
+    at (space.Full limit) is = is
+    at (space.Damaged it) is = untested header first tips it read
+        (list_said m old mid image first tips kept tells head) is
+    at (space.Pool fault) is = tt
+
+-- of the cache's faults those of a reading call alone are handed on
+pub table_alone : (T : Type 0) (fault : SpaceFault) → ReadsData {T = T} (Err fault)
+    → OpensAlone {T = T} (Err (Space fault))
+table_alone T (space.Full limit) own = tt
+table_alone T (space.Damaged it) own = tt
+table_alone T (space.Pool fault) own = own
+
 -- what was read is what the pages say
-pub says_pages : {D : Type 0} (m : Meaning D) (old mid : Pool D FireLinks) (image : Image) (header : Header)
-    (list : TxList) (catalog : PageNo) (markers : Markers) → KeepsStore m old mid → Tells m old.disk image
+pub says_pages : {D : Type 0} (m : Meaning D) (old mid later : Pool D FireLinks) (image : Image)
+    (header : Header) (list : TxList) (catalog : PageNo) (markers : Markers) (ps ds : List ℕ)
+    → KeepsStore m old mid → KeepsStore m old later → Tells m old.disk image
     → reading (shown old.dirty image 0) old.geometry.size ≡ Ok header
     → (Tells m mid.disk image → HasHead mid.geometry.size (shown mid.dirty image) list.first list.pages.items)
+    → (Tells m later.disk image → IsTested (shown later.dirty image) header.catalog.0 ps ds)
     → catalog ≡ header.catalog → markers ≡ markers_in header
-    → SaysPages old.geometry.size (shown old.dirty image) list catalog markers
-says_pages m old mid image header list catalog markers keeps tells read head catalog_is markers_are = record {
-  head = subst (λ (g : Geometry). HasHead g.size (shown old.dirty image) list.first list.pages.items)
-      keeps.geometry
-      (subst (λ (dirty : DirtyPages). HasHead mid.geometry.size (shown dirty image) list.first list.pages.items)
-      keeps.dirty (head (tells_on m old mid image keeps tells)));
-  catalog_is = catalog_is ∙ ap (λ (h : Header). h.catalog) its;
-  markers_are = markers_are ∙ ap markers_in its;
-}
+    → SaysPages old.geometry.size (shown old.dirty image) list catalog markers ps ds
+says_pages m old mid later image header list catalog markers ps ds kept keeps tells read head tests catalog_is
+    markers_are = record {
+      head = list_said m old mid image list.first list.pages.items kept tells head;
+      catalog_is = catalog_is ∙ ap (λ (h : Header). h.catalog) its;
+      markers_are = markers_are ∙ ap markers_in its;
+      tested = subst (λ (p : PageNo). IsTested (shown old.dirty image) p.0 ps ds) (sym catalog_is)
+          (subst (λ (dirty : DirtyPages). IsTested (shown dirty image) header.catalog.0 ps ds) keeps.dirty
+          (tests (tells_on m old later image keeps tells)));
+    }
   where
     its : header ≡ header_in (shown old.dirty image 0)
     its = header_is (shown old.dirty image 0) old.geometry.size header read
+
+-- page 0 and the list were looked for, and then the catalog's pages
+pub front_read : {D : Type 0} (m : Meaning D) (old later new : Pool D FireLinks) (tips : List TipPage)
+    (ps ds : List ℕ) → ReadsPages m old later (1 + length tips) (is_head_or_tip tips)
+    → ReadsTable m later new ps ds → ReadsFront m old new tips ps ds
+front_read m old later new tips ps ds list table = all_more m old later new (1 + length tips)
+    (length ps + length ds) (is_of_table ps ds) (is_front tips ps ds)
+    (wider m old later (1 + length tips) (is_head_or_tip tips) (is_front tips ps ds)
+    (λ n is. or_left (is_head_or_tip tips n) (is_of_table ps ds n) is) list)
+    table (λ n is. or_right (is_head_or_tip tips n) (is_of_table ps ds n) is)
 
 -- a page is seen through a batch without pages as the cache shows it
 pub seen_alone : {D L : Type 0} (store : Pool D L) (image : Image) (batch : Changed) (n : ℕ)

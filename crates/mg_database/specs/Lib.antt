@@ -1,3 +1,4 @@
 pub mod Preparing
+pub mod Tested
 pub mod Loading
 pub mod Finishing

@@ -7,17 +7,18 @@ ghost use Rattle.mg_header.specs.HeaderPage.{reading};
 ghost use Rattle.mg_model.specs.Legal.{is_limbo};
 ghost use Rattle.mg_pool.specs.Fault.{TellsFault};
 ghost use Rattle.mg_pool.specs.Pool.{IsPool, resident, shown};
-ghost use Rattle.mg_pool.specs.Reading.{Fetches, ReadsPages};
+ghost use Rattle.mg_pool.specs.Reading.{Fetches};
 ghost use Rattle.mg_space.specs.Taking.{IsGeometry};
 ghost use Rattle.mg_space.specs.View.{KeepsStore, Tells};
-ghost use Rattle.mg_txlist.specs.Reading.{is_head_or_tip};
 ghost use Rattle.mg_txlist.specs.TxList.{IsTxList, next_said};
-ghost use Rattle.mg_database.specs.Loading.{AreUndecided, AreUndecidedBelow, ChecksCatalog, IsLoaded, OpensAlone, RefusesPages, SaysPages, cache_answer, head_fault, markers_in};
+ghost use Rattle.mg_database.specs.Loading.{AreUndecided, AreUndecidedBelow, ChecksCatalog, IsLoaded, OpensAlone, ReadsFront, RefusesPages, SaysPages, cache_answer, head_fault, markers_in};
 
 use crate::catalog::catalog_table;
 use crate::fault::OpenFault;
+use crate::tested::check_table;
 use mg_base::{Damaged, Disk, Field, GREATEST_LIMIT, Markers, Memory, PageNo, TxNo, TxState};
 use mg_header::{HeadFault, Header, open_header};
+use mg_heap::TablePages;
 use mg_model::Table;
 use mg_pool::{Batch, PoolFault};
 use mg_snap::Live;
@@ -36,15 +37,19 @@ pub struct Loaded {
     pub catalog: Table,
     /// Those of the header.
     pub markers: Markers,
+    /// The pages of the catalog, which were tested.
+    pub catalog_pages: TablePages,
 }
 
-/// Reads page 0 and the transaction inventory pages of a database.
+/// Reads page 0 and the transaction inventory pages of a database, and tests the pages of its catalog: the chain
+/// of its pointer pages, and then the data pages that they list, in their order. Each page is read once.
 ///
 /// # Errors
 ///
 /// `NotADatabase` exactly where that field of page 0 is the first that differs; `Damaged` at a field of page 0
 /// or of a transaction inventory page, or at `Link` of page 0 where the catalog stands on a page that is no
-/// part of a database; `Pool` with `DiskRead` or `Memory`.
+/// part of a database, or at the first of the catalog's pages that is missing or not as wanted at its place;
+/// `Pool` with `DiskRead` or `Memory`.
 pub fn load<D: Disk>(store: &mut Store<D>) -> Result<Loaded, OpenFault>
     requires pool { IsPool D.meaning store.old }
     requires geometry { IsGeometry store.old.geometry }
@@ -56,11 +61,12 @@ pub fn load<D: Disk>(store: &mut Store<D>) -> Result<Loaded, OpenFault>
     ensures own { OpensAlone result }
     ensures says { (image : Image) → Tells D.meaning store.old.disk image → IfOk result (λ loaded.
         SaysPages store.old.geometry.size (shown store.old.dirty image) loaded.list
-        loaded.catalog.pointer loaded.markers) }
+        loaded.catalog.pointer loaded.markers loaded.catalog_pages.pointers.items
+        loaded.catalog_pages.data_pages.items) }
     ensures refused { (image : Image) → Tells D.meaning store.old.disk image → IfErr result
         (RefusesPages D.meaning store.new store.old.geometry (shown store.old.dirty image)) }
-    ensures reads { IfOk result (λ loaded. ReadsPages D.meaning store.old store.new
-        (1 + length loaded.list.pages.items) (is_head_or_tip loaded.list.pages.items)) }
+    ensures reads { IfOk result (λ loaded. ReadsFront D.meaning store.old store.new loaded.list.pages.items
+        loaded.catalog_pages.pointers.items loaded.catalog_pages.data_pages.items) }
 {
     let alloc = store.alloc();
     let header = match read_first(store) {
@@ -80,11 +86,16 @@ pub fn load<D: Disk>(store: &mut Store<D>) -> Result<Loaded, OpenFault>
         Err(_) => return Err(no_memory()),
     };
     let markers = markers_of(header);
+    let catalog_pages = match check_table(store, header.catalog) {
+        Ok(pages) => pages,
+        Err(fault) => return Err(OpenFault::Space(fault)),
+    };
     Ok(Loaded {
         list,
         live,
         catalog,
         markers,
+        catalog_pages,
     })
 }
 

@@ -14,7 +14,8 @@ use std::alloc::Global;
 
 impl<D: Disk> Engine<D> {
     /// Opens a disk. On one on which a database may be made a new one is written first, its header last; any
-    /// other is not written. Then page 0 and the transaction inventory pages are read, and no record is.
+    /// other is not written. Then page 0 and the transaction inventory pages are read, and the pages of the
+    /// catalog are read and tested, as pages: no record is read.
     ///
     /// Where the disk holds a sound image and nothing is pending, the engine stands for the history that begins
     /// with that image and has no entry. Two things are asked of the image beside its soundness: its transactions
@@ -27,8 +28,9 @@ impl<D: Disk> Engine<D> {
     /// # Errors
     ///
     /// `NotADatabase` exactly where that field of page 0 is the first that differs, as of a file whose page 0
-    /// alone is zero; `Damaged` at a field of page 0 or of a transaction inventory page, neither of them of a
-    /// sound image; `DiskRead`; `DiskWrite` only where a new database is written; `Memory`. The disk comes back.
+    /// alone is zero; `Damaged` at a field of page 0 or of a transaction inventory page, or at the first of the
+    /// catalog's pages that is missing or not as wanted at its place, none of them of a sound image; `DiskRead`;
+    /// `DiskWrite` only where a new database is written; `Memory`. The disk comes back.
     pub fn open(alloc: Global, disk: D, limit: u32) -> Result<Engine<D>, (D, Refusal)>
         ensures { OpensEngine D.meaning disk limit result }
     {

@@ -24,7 +24,7 @@ use Rattle.mg_survey.specs.Survey.{IsSameDisk}
 use Rattle.mg_txlist.specs.Laws.{LoadedSays}
 use Rattle.mg_works.specs.Works.{Working, has_session}
 use Rattle.mg_engine_calls.specs.BlankLaws.{header_is_made}
-use Rattle.mg_engine_calls.specs.OpeningLaws.{begins_standing, header_read}
+use Rattle.mg_engine_calls.specs.OpeningLaws.{begins_standing, catalog_tested, header_read}
 use Rattle.mg_engine_calls.specs.NewBegins.{NewBegin}
 use Rattle.mg_engine_calls.specs.Openings.{IsOpenedOver, IsSettledOn, IsSoundImage, new_history}
 
@@ -159,6 +159,9 @@ module _ {D : Type 0} (m : Meaning D) (counts : CountsNow m) (stands_first : Sta
       stands = λ image o on it. begins_standing m disk limit core opens stands_first starts loaded begin image o on
           it;
       unwritten = kept;
+      pointers = opens.pointers;
+      data_pages = opens.data_pages;
+      tested = λ image tells. catalog_tested m disk limit core opens image tells;
       reads = opens.reads;
       made = new_on;
       begins_new = λ image now tells is then_ whole. new_stands now (new_on image tells is) then_ whole;

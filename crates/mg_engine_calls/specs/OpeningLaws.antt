@@ -9,12 +9,13 @@ use Rattle.mg_base.specs.declared.transaction.TxState.{TxState}
 use Rattle.mg_core.specs.Opening.{Opens}
 use Rattle.mg_core.specs.declared.parts.Core.{Core}
 use Rattle.mg_database.specs.Loading.{SaysPages}
+use Rattle.mg_database.specs.Tested.{IsTested}
 use Rattle.mg_engine_meaning.specs.PlainTables.{HasPlainTables}
 use Rattle.mg_engine_meaning.specs.Standings.{AreSeen, KeepsWritten, ShowsIt, StandsFor, StandsWhile, standing_of}
 use Rattle.mg_header.specs.HeaderPage.{reading}
 use Rattle.mg_header.specs.declared.header.Header.{Header}
 use Rattle.mg_image.specs.Form.{Pages, packed_form}
-use Rattle.mg_image.specs.Inventory.{next_of, state_at}
+use Rattle.mg_image.specs.Inventory.{header_of, next_of, state_at}
 use Rattle.mg_image.specs.Opening.{IsOpened}
 use Rattle.mg_lasting.specs.Lasting.{LastsOn}
 use Rattle.mg_lasting.specs.PoolLaws.{needs_are}
@@ -61,11 +62,19 @@ module _ {D : Type 0} (m : Meaning D) (disk : D) (limit : ℕ) (core : Core D) (
     held = sym opens.keeps.disk.held ∙ tells.held;
   }
 
-  pub says : SaysPages size pages core.list core.catalog.pointer core.markers
-  says = subst (λ (g : Geometry). SaysPages g.size pages core.list core.catalog.pointer core.markers)
-      (sym opens.keeps.geometry)
+  pub says : SaysPages size pages core.list core.catalog.pointer core.markers opens.pointers opens.data_pages
+  says = subst (λ (g : Geometry). SaysPages g.size pages core.list core.catalog.pointer core.markers
+      opens.pointers opens.data_pages) (sym opens.keeps.geometry)
       (subst (λ (d : DirtyPages). SaysPages opens.before.geometry.size (shown d image) core.list
-      core.catalog.pointer core.markers) (sym opens.keeps.dirty) (opens.says image before_tells))
+      core.catalog.pointer core.markers opens.pointers opens.data_pages) (sym opens.keeps.dirty)
+      (opens.says image before_tells))
+
+  -- the pages of the catalog are as wanted, on the disk
+  pub catalog_tested : IsTested (page_at size image) (header_of (page_at size image)).catalog.0 opens.pointers
+      opens.data_pages
+  catalog_tested = subst (λ (ps : Pages). IsTested ps (header_of ps).catalog.0 opens.pointers opens.data_pages)
+      (sym as_shown)
+      (subst (λ (p : PageNo). IsTested pages p.0 opens.pointers opens.data_pages) says.catalog_is says.tested)
 
   pub header_read : (header : Header) × (reading (page_at size image 0) size ≡ Ok header)
   header_read = (
@@ -83,7 +92,8 @@ module _ {D : Type 0} (m : Meaning D) (disk : D) (limit : ℕ) (core : Core D) (
   abbrev its_pages : Pages
   its_pages = shown core.store.dirty image
 
-  its_head : SaysPages its_size its_pages core.list core.catalog.pointer core.markers
+  its_head : SaysPages its_size its_pages core.list core.catalog.pointer core.markers opens.pointers
+      opens.data_pages
   its_head = says m disk limit core opens image on.tells
 
   opened_is : IsOpened packed_form its_size its_pages it.opened

@@ -1,5 +1,5 @@
 -- What a disk holds that may be opened, and what an engine is over it.
-use Rattle.std.specs.Prelude.{◌≡◌, ◌≢◌, ◌⊎◌, ◌+◌, ◌≤◌, ℕ, false, [], length, None, Some, Result, Ok, Err}
+use Rattle.std.specs.Prelude.{◌≡◌, ◌≢◌, ◌⊎◌, ◌+◌, ◌≤◌, ℕ, false, List, [], length, None, Some, Result, Ok, Err}
 use Rattle.mg_base.specs.Asking.{AsksReads}
 use Rattle.mg_base.specs.Disk.{MayLeave, Meaning}
 use Rattle.mg_base.specs.Image.{Image, blank, page_at}
@@ -7,6 +7,8 @@ use Rattle.mg_base.specs.Moments.{LeavesOnly}
 use Rattle.mg_core.specs.Cores.{IsCore}
 use Rattle.mg_core.specs.Opening.{RefusesOpen}
 use Rattle.mg_core.specs.declared.parts.Core.{Core}
+use Rattle.mg_database.specs.Loading.{front_length, is_front}
+use Rattle.mg_database.specs.Tested.{IsTested}
 use Rattle.mg_engine_meaning.specs.PlainTables.{HasPlainTables}
 use Rattle.mg_engine_meaning.specs.Standings.{StandsFor}
 use Rattle.mg_format.specs.Format.{HasNew, IsMade, IsUnmadeImage, LeavesNew}
@@ -16,7 +18,7 @@ use Rattle.mg_header.specs.declared.header.Header.{Header}
 use Rattle.mg_header.specs.declared.header.TheConstants.{GREATEST_NEXT}
 use Rattle.mg_image.specs.Form.{packed_form}
 use Rattle.mg_image.specs.Histories.{Begins}
-use Rattle.mg_image.specs.Inventory.{state_at}
+use Rattle.mg_image.specs.Inventory.{header_of, state_at}
 use Rattle.mg_image.specs.Opening.{IsOpened, Opened}
 use Rattle.mg_image.specs.Records.{Reading}
 use Rattle.mg_image.specs.Sound.{IsSound}
@@ -30,7 +32,6 @@ use Rattle.mg_new_databases.specs.Soundness.{HasWholePages}
 use Rattle.mg_pool.specs.Pool.{KeepsContent}
 use Rattle.mg_space.specs.View.{Tells}
 use Rattle.mg_survey.specs.Survey.{limit_of, IsSameDisk}
-use Rattle.mg_txlist.specs.Reading.{is_head_or_tip}
 use Rattle.mg_works.specs.Works.{has_session}
 
 -- ---- what a disk holds
@@ -90,12 +91,18 @@ pub record IsOpenedOver {D : Type 0} (m : Meaning D) (disk : D) (limit : ℕ) (c
   -- a disk on which no database may be made was not written
   pub unwritten : (image : Image) → m.held disk ≡ Some image
       → (IsUnmadeImage core.store.geometry.size image → ⊥) → KeepsContent m disk core.store.disk
-  -- where page 0 of the disk is not zero, that page and the transaction inventory pages alone were read, and no more
-  -- often in sum than page 0 twice and each of the others once
+  -- the pages of the catalog, which begins where page 0 says, are as wanted
+  pub pointers : List ℕ
+  pub data_pages : List ℕ
+  pub tested : (image : Image) → Tells m core.store.disk image
+      → IsTested (page_at core.store.geometry.size image)
+      (header_of (page_at core.store.geometry.size image)).catalog.0 pointers data_pages
+  -- where page 0 of the disk is not zero, that page, the transaction inventory pages and the catalog's alone were read,
+  -- and no more often in sum than page 0 twice and each of the others once
   pub reads : (image : Image) → m.held disk ≡ Some image
       → page_at core.store.geometry.size image 0 ≢ blank core.store.geometry.size
-      → AsksReads m disk core.store.disk (2 + length core.list.pages.items)
-      (is_head_or_tip core.list.pages.items)
+      → AsksReads m disk core.store.disk (1 + front_length core.list.pages.items pointers data_pages)
+      (is_front core.list.pages.items pointers data_pages)
   -- any other holds a new one, and nothing is pending
   pub made : (image : Image) → Tells m disk image → IsUnmadeImage core.store.geometry.size image
       → HasNew m core.store.disk core.store.geometry.size

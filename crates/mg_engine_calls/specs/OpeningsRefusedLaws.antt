@@ -14,9 +14,11 @@ use Rattle.mg_database.specs.declared.fault.OpenFault.{OpenFault}
 use Rattle.mg_database.specs.declared.fault.OpenFault.TheVariants.{NotADatabase, Space}
 use Rattle.mg_format.specs.Format.{HasNew, IsMade, IsUnmadeImage, LeavesNew}
 use Rattle.mg_header.specs.declared.header.HeadFault.TheVariants as heads
+use Rattle.mg_heap.specs.Stands.{WalksMeetNoDamage}
 use Rattle.mg_image.specs.Form.{Pages}
 use Rattle.mg_lasting.specs.PoolLaws.{needs_are}
 use Rattle.mg_model.specs.declared.refusal.Refusal.{Refusal}
+use Rattle.mg_pool.specs.Dirty.{DirtyPages}
 use Rattle.mg_pool.specs.Pool.{KeepsContent, shown}
 use Rattle.mg_pool.specs.declared.fault.PoolFault.TheVariants as pool_faults
 use Rattle.mg_space.specs.View.{Tells}
@@ -27,7 +29,7 @@ use Rattle.mg_survey.specs.Survey.{IsSameDisk}
 use Rattle.mg_new_images.specs.Readable.{AreReadable, NewAreReadable}
 use Rattle.mg_engine_calls.specs.OpenedLaws.{content_leaves, new_still, read_leaves, ready_made, ready_same, ready_unwritten}
 use Rattle.mg_engine_calls.specs.Openings.{IsNoJudgement, IsSoundImage, RefusesOpening}
-use Rattle.mg_engine_calls.specs.RefusalLaws.{AreCounted, is_database, not_damaged, sound_readable}
+use Rattle.mg_engine_calls.specs.RefusalLaws.{AreCounted, HasCatalog, is_database, new_has_catalog, not_damaged, sound_has_catalog, sound_readable}
 
 -- a fault of the cache is no judgement on the disk
 pool_free : (fault : SpaceFault) (refusal : Refusal) → OpensAlone {T = Unit {0}} (Err (Space fault))
@@ -40,8 +42,8 @@ pool_free (space.Pool (pool_faults.Offline n)) refusal own is not_ = subst IsNoJ
 pool_free (space.Pool (pool_faults.Absent n)) refusal own is not_ = absurd own
 pool_free (space.Pool pool_faults.Memory) refusal own is not_ = subst IsNoJudgement (sym is) tt
 
-module _ {D : Type 0} (m : Meaning D) (counts : CountsNow m) (counted : AreCounted m) (new_reads : NewAreReadable)
-    (disk new : D) (limit : ℕ) (refusal : Refusal) where
+module _ {D : Type 0} (m : Meaning D) (counts : CountsNow m) (counted : AreCounted m) (walks : WalksMeetNoDamage m)
+    (new_reads : NewAreReadable) (disk new : D) (limit : ℕ) (refusal : Refusal) where
   -- ---- it was not prepared
 
   unprepared_free : (fault : OpenFault) → FailsToPrepare m disk new fault → IsOpenRefusal fault refusal
@@ -112,19 +114,33 @@ module _ {D : Type 0} (m : Meaning D) (counts : CountsNow m) (counted : AreCount
           at (inl sound) = sound_readable its_size image sound
           at (inr made) = new_reads its_size image fails.prepared.geometry.size made
 
+      catalog : HasCatalog its_size (page_at its_size image)
+      catalog = at (subst (λ (n : ℕ). IsSoundImage n image ⊎ IsMade n image) size_is lawful)
+        where
+          at : IsSoundImage its_size image ⊎ IsMade its_size image → HasCatalog its_size (page_at its_size image)
+          at (inl sound) = sound_has_catalog its_size image sound
+          at (inr made) = new_has_catalog its_size image fails.prepared.geometry.size made
+
       before_tells : Tells m fails.before.disk image
       before_tells = record {
         told = sym fails.keeps.disk.tells ∙ (ap m.tells (sym fails.is_disk) ∙ tells.told);
         held = sym fails.keeps.disk.held ∙ (ap m.held (sym fails.is_disk) ∙ tells.held);
       }
 
-      after_held : m.held fails.after.disk ≡ Some image
-      after_held = ap m.held (sym fails.is_disk) ∙ tells.held
+      after_tells : Tells m fails.after.disk image
+      after_tells = record {
+        told = ap m.tells (sym fails.is_disk) ∙ tells.told;
+        held = ap m.held (sym fails.is_disk) ∙ tells.held;
+      }
 
       as_shown : shown fails.before.dirty image ≡ page_at its_size image
       as_shown = fun_ext (λ p. (needs_are fails.before.dirty fails.before.graph image (λ t. false) (λ t. 0)).clean p
           (fails.prepared.clean p))
           ∙ ap (λ (n : ℕ). page_at n image) fails.prepared.pool.page_size
+
+      -- no page is dirty after the reading either
+      after_shown : shown fails.after.dirty image ≡ page_at its_size image
+      after_shown = ap (λ (dirty : DirtyPages). shown dirty image) fails.keeps.dirty ∙ as_shown
 
       why : RefusesPages m fails.after fails.before.geometry (page_at its_size image) fault
       why = subst (λ (ps : Pages). RefusesPages m fails.after fails.before.geometry ps fault) as_shown
@@ -133,11 +149,11 @@ module _ {D : Type 0} (m : Meaning D) (counts : CountsNow m) (counted : AreCount
       -- each fault, with why it came
       free : (it : OpenFault) → RefusesPages m fails.after fails.before.geometry (page_at its_size image) it
           → OpensAlone {T = Unit {0}} (Err it) → IsOpenRefusal it refusal → IsNoJudgement refusal
-      free (NotADatabase field found) wrong own is = absurd (is_database m counted fails.after fails.before.geometry
-          image after_held readable (heads.NotADatabase field found) wrong)
+      free (NotADatabase field found) wrong own is = absurd (is_database m counted walks fails.after
+          fails.before.geometry image after_tells after_shown readable catalog (heads.NotADatabase field found) wrong)
       free (Space (space.Full most)) wrong own is = absurd wrong
-      free (Space (space.Damaged d)) wrong own is = absurd (not_damaged m counted fails.after fails.before.geometry
-          image after_held readable d wrong)
+      free (Space (space.Damaged d)) wrong own is = absurd (not_damaged m counted walks fails.after
+          fails.before.geometry image after_tells after_shown readable catalog d wrong)
       free (Space (space.Pool p)) wrong own is = pool_free (space.Pool p) refusal own is (λ d same. absurd cc)
 
       read_free : IsOpenRefusal fault refusal → IsNoJudgement refusal

@@ -1,5 +1,5 @@
 -- No sound image, and no new database, is refused as damaged, nor as no database.
-use Rattle.std.proofs.Common.{◌≡◌, ◌≢◌, inl, inr, ◌<◌, ◌≤◌, ◌+◌, ◌-◌, ◌/◌, ℕ, zero, suc, List, [], ◌∷◌, Some, Result, Ok, Err, length, refl, sym, ap, ◌∙◌, subst, arith}
+use Rattle.std.proofs.Common.{◌≡◌, ◌≢◌, inl, inr, ◌<◌, ◌≤◌, ◌+◌, ◌-◌, ◌/◌, ℕ, Bool, true, false, zero, suc, List, [], ◌∷◌, None, Some, Result, Ok, Err, length, refl, sym, ap, ◌∙◌, subst, arith}
 use Rattle.mg_base.specs.Checks.{PassesAll, common_checks}
 use Rattle.mg_base.specs.CheckLaws.{verdict_from_passes}
 use Rattle.mg_base.specs.Disk.{Meaning}
@@ -7,24 +7,35 @@ use Rattle.mg_base.specs.Fields.{byte}
 use Rattle.mg_base.specs.Image.{Image, blank, page_at}
 use Rattle.mg_base.specs.declared.damage.Damaged.{Damaged}
 use Rattle.mg_base.specs.declared.geometry.Geometry.{Geometry}
+use Rattle.mg_base.specs.Geometry.{is_page_size}
 use Rattle.mg_base.specs.declared.geometry.TheConstants.{GREATEST_LIMIT}
-use Rattle.mg_database.specs.Loading.{IsLoadDamage, no_catalog, no_list}
+use Rattle.mg_database.specs.Loading.{IsLoadDamage, no_catalog, no_list, untested}
+use Rattle.mg_database.specs.Tested.{RefusesTested}
+use Rattle.mg_format.specs.Format.{IsMade}
 use Rattle.mg_header.specs.HeaderPage.{page_checks, reading}
 use Rattle.mg_header.specs.HeaderPageLaws.{reads}
 use Rattle.mg_header.specs.declared.header.HeadFault.{HeadFault}
 use Rattle.mg_header.specs.declared.header.Header.{Header}
-use Rattle.mg_image.specs.Form.{Pages}
+use Rattle.mg_heap.specs.Stands.{WalksMeetNoDamage}
+use Rattle.mg_heap.specs.Walk.{RefusesWalk}
+use Rattle.mg_image.specs.Form.{Pages, packed_form}
 use Rattle.mg_image.specs.Inventory.{header_of, last_sequence, tip_before}
-use Rattle.mg_image.specs.Tables.{EachFrom, LinkChain, ended, goes}
-use Rattle.mg_image.specs.Sound.{IsTablePointer}
+use Rattle.mg_image.specs.Tables.{EachFrom, LinkChain, Stand, ended, goes}
+use Rattle.mg_image.specs.Sound.{HasTablePages, IsTablePointer}
+use Rattle.mg_model.specs.Catalog.{catalog_name, catalog_shape}
 use Rattle.mg_model.specs.declared.table.Table.{Table}
 use Rattle.mg_pointer.specs.PointerPage.{next_in}
+use Rattle.mg_pool.specs.Pool.{shown}
+use Rattle.mg_pool.specs.declared.batch.BatchPage.{BatchPage}
 use Rattle.mg_pool.specs.declared.pool.Pool.{Pool}
-use Rattle.mg_space.specs.View.{IsMissing}
+use Rattle.mg_space.specs.View.{IsMissing, Tells}
 use Rattle.mg_space.specs.declared.fault.SpaceFault.TheVariants as faults
 use Rattle.mg_space.specs.declared.links.FireLinks.{FireLinks}
 use Rattle.mg_tip.specs.TipPage.{places, tip_checks}
 use Rattle.mg_txlist.specs.Refusals.{RefusesHead, RefusesTip, RefusesTips}
+use Rattle.mg_new_cells.specs.Data.{stand_on}
+use Rattle.mg_new_cells.specs.PageLaws.{new_have_tables}
+use Rattle.mg_new_databases.specs.PageLaws.{catalog_at}
 use Rattle.mg_new_images.specs.Readable.{AreReadable}
 use Rattle.mg_engine_calls.specs.BlankLaws.{no_database, zeros}
 use Rattle.mg_engine_calls.specs.Openings.{IsSoundImage}
@@ -75,10 +86,50 @@ sound_readable size image it = record {
       it.layout.catalog.pointers it.sound.tables.0.chain it.sound.tables.0.first it.sound.tables.0.pointers);
 }
 
+-- ---- the pages of the catalog
+
+-- The catalog's pages are those of a table that stands in a layout.
+pub record HasCatalog (size : ℕ) (pages : Pages) : Type 0 where
+  pub in_primary : Bool
+  pub stand : Stand
+  pub at : stand.table.pointer.0 ≡ (header_of pages).catalog.0
+  pub has : HasTablePages in_primary size pages stand
+
+pub sound_has_catalog : (size : ℕ) (image : Image) → IsSoundImage size image → HasCatalog size (page_at size image)
+sound_has_catalog size image it = record {
+  in_primary = packed_form.in_primary;
+  stand = it.layout.catalog;
+  at = ap (λ (t : Table). t.pointer.0) it.sound.catalog;
+  has = it.sound.tables.0;
+}
+
+pub new_has_catalog : (size : ℕ) (image : Image) → is_page_size size ≡ true → IsMade size image
+    → HasCatalog size (page_at size image)
+new_has_catalog size image lawful made = record {
+  in_primary = false;
+  stand = stand_on catalog_name catalog_shape 3 4;
+  at = sym (catalog_at size image lawful made);
+  has = (new_have_tables size image catalog_name catalog_shape lawful made).0;
+}
+
+-- what is told where the pages of a table are tested is told where they are walked
+walk_refused : {D : Type 0} (m : Meaning D) (store : Pool D FireLinks) (batch : List BatchPage) (pages : Pages)
+    (owner : ℕ) (it : Damaged) → RefusesTested m store batch pages owner (faults.Damaged it)
+    → RefusesWalk m store batch pages owner (faults.Damaged it)
+walk_refused m store batch pages owner it (inl chain) = inl chain
+walk_refused m store batch pages owner it (inr first) = inr (record {
+  pointers = first.pointers;
+  data_pages = first.data_pages;
+  table = first.table;
+  broken = first.first.broken;
+})
+
 -- ---- pages that are read without finding damage
 
-module _ {D : Type 0} (m : Meaning D) (counted : AreCounted m) (store : Pool D FireLinks) (g : Geometry)
-    (image : Image) (held : m.held store.disk ≡ Some image) (readable : AreReadable g.size (page_at g.size image))
+module _ {D : Type 0} (m : Meaning D) (counted : AreCounted m) (walks : WalksMeetNoDamage m)
+    (store : Pool D FireLinks) (g : Geometry) (image : Image) (tells : Tells m store.disk image)
+    (as_shown : shown store.dirty image ≡ page_at g.size image) (readable : AreReadable g.size (page_at g.size image))
+    (catalog : HasCatalog g.size (page_at g.size image))
   where
     abbrev pages : Pages
     pages = page_at g.size image
@@ -88,7 +139,7 @@ module _ {D : Type 0} (m : Meaning D) (counted : AreCounted m) (store : Pool D F
 
     missing_is_blank : (n count : ℕ) → IsMissing m store [] n count → pages n ≡ blank g.size
     missing_is_blank n count missing =
-        let long : length image ≡ count = counted store.disk image count held missing.count_is in
+        let long : length image ≡ count = counted store.disk image count tells.held missing.count_is in
         let past = missing.past in
         past_end g.size image n (omega (arith, long, past))
 
@@ -129,6 +180,19 @@ module _ {D : Type 0} (m : Meaning D) (counted : AreCounted m) (store : Pool D F
         let both : ◌≡◌ {A = Result Header HeadFault} (Ok (header_of pages)) (Ok header) = sym header_reads ∙ is in
         let same : header_of pages ≡ header = cc in same
 
+    -- the catalog's pages are walked without finding damage
+    catalog_there : (header : Header) (it : Damaged) → reading (pages 0) g.size ≡ Ok header
+        → RefusesTested m store [] pages header.catalog.0 (faults.Damaged it) → ⊥
+    catalog_there header it is refused = walks store image catalog.in_primary g.size catalog.stand None it tells
+        (subst (λ (ps : Pages). HasTablePages catalog.in_primary g.size ps catalog.stand) (sym as_shown) catalog.has) tt
+        (subst (λ (ps : Pages). RefusesWalk m store [] ps catalog.stand.table.pointer.0 (faults.Damaged it))
+        (sym as_shown)
+        (subst (λ (owner : ℕ). RefusesWalk m store [] pages owner (faults.Damaged it)) (sym begins)
+        (walk_refused m store [] pages header.catalog.0 it refused)))
+      where
+        begins : catalog.stand.table.pointer.0 ≡ header.catalog.0
+        begins = catalog.at ∙ ap (λ (h : Header). h.catalog.0) (its_header header is)
+
     pub not_damaged : (it : Damaged) → IsLoadDamage m store g pages it → ⊥
     not_damaged _ (no_list it (inl head)) = head_there it head
     not_damaged _ (no_list it (inr (header, is, tips))) = by header (its_header header is) tips
@@ -149,6 +213,7 @@ module _ {D : Type 0} (m : Meaning D) (counted : AreCounted m) (store : Pool D F
         let same : (header_of pages).catalog.0 ≡ header.catalog.0 =
         ap (λ (h : Header). h.catalog.0) (its_header header is) in
         omega (arith, below, same, past)
+    not_damaged _ (untested header first tips it is head refused) = catalog_there header it is refused
 
     pub is_database : (fault : HeadFault) → reading (pages 0) g.size ≡ Err fault → ⊥
     is_database fault wrong =

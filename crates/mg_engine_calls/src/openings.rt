@@ -15,6 +15,7 @@ ghost use Rattle.mg_engine_calls.specs.NewBegins.{NewBegin};
 use mg_base::Disk;
 use mg_engine_steps::standings_begin;
 use mg_grown_catalogs::catalogs_grow;
+use mg_heap::walks_of_layouts_meet_no_damage;
 use mg_lasting::{pools_last, starts_last};
 use mg_model::histories_go_on;
 use mg_new_databases::new_databases_are_sound;
@@ -35,6 +36,7 @@ pub fn new_databases_begin()
 pub fn openings_stand<D: Disk>()
     ensures { OpeningsStand D D.meaning }
 {
+    walks_of_layouts_meet_no_damage::<D>();
     new_databases_are_readable();
     new_databases_begin();
     standings_begin();

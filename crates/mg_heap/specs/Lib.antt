@@ -5,6 +5,8 @@ pub mod Growth
 pub mod GrowthLaws
 pub mod Reach
 pub mod Reading
+pub mod Reads
+pub mod ReadsLaws
 pub mod Room
 pub mod Stacked
 pub mod Stands

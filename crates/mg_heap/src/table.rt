@@ -7,9 +7,11 @@ ghost use Rattle.mg_image.specs.Tables.{Has};
 ghost use Rattle.mg_pointer.specs.PointerPage.{IsPointerPage, entries_of, pointer_checks};
 ghost use Rattle.mg_pool.specs.Fault.{TellsFault};
 ghost use Rattle.mg_pool.specs.Pool.{IsPool};
+ghost use Rattle.mg_pool.specs.Reading.{Fetches};
 ghost use Rattle.mg_space.specs.Taking.{IsGeometry};
 ghost use Rattle.mg_space.specs.View.{AreWhole, KeepsStore, Tells, pool_answer, viewed};
 ghost use Rattle.mg_heap.specs.Reading.{ReadsData};
+ghost use Rattle.mg_heap.specs.Reads.{ReadsListed};
 ghost use Rattle.mg_heap.specs.Table.{FollowsPage, IsLinkDamage, IsTable, LinksTo, ListsPage, RefusesPointer, RefusesPointerPage, RefusesTable, link_damage};
 
 use mg_base::{Bytes, Damaged, Disk, Field, GREATEST_LIMIT, Memory, PageNo, get_u16, get_u32};
@@ -24,7 +26,8 @@ pub struct TablePages {
     pub data_pages: Vec<u32>,
 }
 
-/// Follows the chain of pointer pages of a table from the first one on. Page 0 stands for none.
+/// Follows the chain of pointer pages of a table from the first one on. Page 0 stands for none. No
+/// pointer page is read twice, and no other page.
 ///
 /// # Errors
 ///
@@ -52,6 +55,8 @@ pub fn table_pages<D: Disk>(
         table.data_pages.items)
         (RefusesTable D.meaning store.new batch.now.pages (viewed store.old image batch.now)
         owner.0) }
+    ensures reads { IfOk result (λ table.
+        ReadsListed D.meaning store.old store.new table.pointers.items) }
 {
     store.online()?;
     let mut pointers = Vec::new(store.alloc());
@@ -96,6 +101,7 @@ pub(crate) fn follow<D: Disk>(
         data_pages.old.items data_pages.new.items next.0)
         (RefusesPointer D.meaning store.new batch.now.pages (viewed store.old image batch.now)
         owner.0 pointers.old.items n) }
+    ensures reads { Fetches D.meaning store.old store.new n.0 }
 {
     let page = pointer_page(store, batch, owner, n, pointers.len() as u32)?;
     add_entries(page.as_slice(), data_pages)?;
@@ -129,6 +135,7 @@ pub(crate) fn pointer_page<D: Disk>(
         (λ b. b ≡ viewed store.old image batch.now n.0)
         (RefusesPointerPage D.meaning store.new batch.now.pages
         (viewed store.old image batch.now n.0) owner.0 at n) }
+    ensures reads { Fetches D.meaning store.old store.new n.0 }
 {
     let page = page_of(store, batch, n)?;
     check_chain_page(page.as_slice(), n, owner.0, at)?;

@@ -5,6 +5,7 @@ ghost use Rattle.mg_base.specs.Fields.{byte};
 ghost use Rattle.mg_base.specs.Image.{Image};
 ghost use Rattle.mg_pool.specs.Fault.{TellsFault};
 ghost use Rattle.mg_pool.specs.Pool.{IsPool, shown};
+ghost use Rattle.mg_pool.specs.Reading.{Fetches};
 ghost use Rattle.mg_slots.specs.Damage.{IsFirstDamage};
 ghost use Rattle.mg_slots.specs.DataPage.{IsDataPage, cell_of};
 ghost use Rattle.mg_slots.specs.Verdict.{common_verdict};
@@ -214,6 +215,7 @@ pub fn table_data_page<D: Disk>(
         (λ b. b ≡ viewed store.old image batch.now n.0)
         (RefusesTableData D.meaning store.new batch.now.pages
         (viewed store.old image batch.now n.0) owner.0 at n) }
+    ensures reads { Fetches D.meaning store.old store.new n.0 }
 {
     let page = page_of(store, batch, n)?;
     check_table_data(page.as_slice(), n, owner.0, at)?;

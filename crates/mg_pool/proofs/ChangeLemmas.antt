@@ -246,11 +246,14 @@ enters_open m start now orders k entered open_ first later is_first is_later cha
     ]
 
 -- a change is no fault
-pub change_online : {D L : Type 0} (m : Meaning D) (old new : Pool D L) (pages : List BatchPage) (orders : List Order) → Changes m old new pages orders → old.offline ≡ None → StaysOnline old new
+pub change_online : {D L : Type 0} (m : Meaning D) (old new : Pool D L) (pages : List BatchPage) (orders : List Order) → Changes m old new pages orders → old.offline ≡ None → StaysOnline m old new
 change_online m old new pages orders changes online = (
   online,
   changes.enters.offline ∙ (changes.puts.offline ∙ (changes.written.offline ∙ online)),
-  changes.enters.faults ∙ (changes.puts.faults ∙ changes.written.faults),
+  let counted : new.faults ≡ old.faults = changes.enters.faults ∙ (changes.puts.faults ∙ changes.written.faults) in
+      let told : m.faults new.disk ≡ m.faults old.disk =
+      ap m.faults (changes.enters.disk ∙ changes.puts.disk) ∙ changes.written.steady in
+      cc,
 )
 
 -- the room that is left as a page is put

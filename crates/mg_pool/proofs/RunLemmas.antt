@@ -38,6 +38,7 @@ run_leaves m holds counts start now next run crash told old held =
 pub time_stands : {D : Type 0} (m : Meaning D) (disk : D) → TimeGoesOn m disk disk
 time_stands m disk = record {
   tells = refl;
+  most_writes = refl;
   never_falls = omega arith;
   later = λ told. omega arith;
   keeps = λ told t c early left. left;
@@ -47,6 +48,7 @@ pub time_of_call : {D T E : Type 0} (m : Meaning D) (old new : D) (result : Resu
     → TimeGoesOn m old new
 time_of_call m old new result keeps = record {
   tells = keeps.tells;
+  most_writes = keeps.most_writes;
   never_falls = keeps.never_falls;
   later = λ told. (keeps.time told).later;
   keeps = λ told. (keeps.time told).keeps;
@@ -55,6 +57,7 @@ time_of_call m old new result keeps = record {
 pub time_then : {D : Type 0} (m : Meaning D) (a b c : D) → TimeGoesOn m a b → TimeGoesOn m b c → TimeGoesOn m a c
 time_then m a b c first next = record {
   tells = next.tells ∙ first.tells;
+  most_writes = next.most_writes ∙ first.most_writes;
   never_falls = omega (arith, first.never_falls, next.never_falls);
   later = λ told. let one = first.later told in let two = next.later (first.tells ∙ told) in omega (arith, one, two);
   keeps = λ told t image early left. let one = first.later told in

@@ -5,9 +5,17 @@ use Rattle.mg_pool.specs.declared.pool.Pool.{Pool}
 use Rattle.mg_pool.specs.declared.fault.PoolFault.{PoolFault}
 use Rattle.mg_pool.specs.declared.fault.PoolFault.TheVariants.{DiskRead, DiskWrite, Offline, Absent, Memory}
 
+-- the pool's own count of faults, and that of its disk
+abbrev pub fault_counts : {D L : Type 0} → Meaning D → Pool D L → ℕ × ℕ
+fault_counts m pool = (pool.faults, m.faults pool.disk)
+
+-- the pool counted no fault, and its disk's count stands
+abbrev pub MeetsNoFault : {D L : Type 0} → Meaning D → Pool D L → Pool D L → Type 0
+MeetsNoFault m old new = fault_counts m new ≡ fault_counts m old
+
 -- the pool was not refused before, isn't from now on, and met no fault
-abbrev pub StaysOnline : {D L : Type 0} → Pool D L → Pool D L → Type 0
-StaysOnline old new = (old.offline ≡ None) × (new.offline ≡ None) × (new.faults ≡ old.faults)
+abbrev pub StaysOnline : {D L : Type 0} → Meaning D → Pool D L → Pool D L → Type 0
+StaysOnline m old new = (old.offline ≡ None) × (new.offline ≡ None) × MeetsNoFault m old new
 
 -- the disk's count of faults rose in the call, and the pool counted one fault, which it tells
 abbrev pub Counts : {D L : Type 0} → Meaning D → Pool D L → Pool D L → ℕ → Type 0
@@ -15,18 +23,18 @@ Counts m old new n = (new.faults ≡ n) × (n ≡ min (old.faults + 1) (2 ^ 64 -
     × Rose (m.faults old.disk) (m.faults new.disk)
 
 -- Offline comes exactly where an earlier call answered DiskWrite, with the count that was told
--- then. DiskRead and DiskWrite come only where the disk's count of faults rose in the call.
+-- then. DiskRead and DiskWrite come exactly where the disk's count of faults rose in the call.
 abbrev pub TellsFault : {D L T : Type 0} → Meaning D → Pool D L → Pool D L → Result T PoolFault
     → Type 0
-TellsFault m old new (Ok x) = StaysOnline old new
+TellsFault m old new (Ok x) = StaysOnline m old new
 TellsFault m old new (Err (DiskRead n)) =
     (old.offline ≡ None) × (new.offline ≡ None) × Counts m old new n
 TellsFault m old new (Err (DiskWrite n)) =
     (old.offline ≡ None) × (new.offline ≡ Some n) × Counts m old new n
 TellsFault m old new (Err (Offline n)) =
-    (old.offline ≡ Some n) × (new.offline ≡ Some n) × (new.faults ≡ old.faults)
-TellsFault m old new (Err (Absent pages)) = StaysOnline old new
-TellsFault m old new (Err Memory) = StaysOnline old new
+    (old.offline ≡ Some n) × (new.offline ≡ Some n) × MeetsNoFault m old new
+TellsFault m old new (Err (Absent pages)) = StaysOnline m old new
+TellsFault m old new (Err Memory) = StaysOnline m old new
 
 -- a call that reads nothing and takes no memory tells no other faults than these two
 abbrev pub OnlyWrites : {T : Type 0} → Result T PoolFault → Type 0

@@ -10,10 +10,11 @@ use Rattle.mg_pool.specs.Batch.{IsOrPrecedes}
 use Rattle.mg_pool.specs.Dirty.{content_of, is_dirty, is_marked, TakesOut}
 use Rattle.mg_pool.specs.Pool.{IsPool, WritesOut, WritesSet, taken_out, LeavesOverlays}
 
--- Time went on at a disk: it tells what it told, its count of faults has not fallen, and what a crash might
--- have left it still might have left.
+-- Time went on at a disk: it tells what it told, lets as many page writes pass in all, its count of faults has not
+-- fallen, and what a crash might have left it still might have left.
 pub record TimeGoesOn {D : Type 0} (m : Meaning D) (old new : D) : Type 0 where
   pub tells : m.tells new ≡ m.tells old
+  pub most_writes : m.most_writes new ≡ m.most_writes old
   pub never_falls : m.faults old ≤ m.faults new
   pub later : m.tells old ≡ true → m.moment old ≤ m.moment new
   pub keeps : m.tells old ≡ true → (t : ℕ) (c : Image) → t ≤ m.moment old → m.left old t c

@@ -36,7 +36,7 @@ pub record ChangesBatch {D : Type 0} (m : Meaning D) (before after : Pool D Fire
     : Type 0 where
   pub pool : IsPool m after
   pub geometry : after.geometry ≡ before.geometry
-  pub online : StaysOnline before after
+  pub online : StaysOnline m before after
   pub lawful : IsLawful before.geometry.size batch.pages batch.orders
   pub changes : Changes m before after batch.pages batch.orders
   pub frame : ChangesOverlays m (content_in batch.pages) batch.orders before after
@@ -75,7 +75,7 @@ pub record ChangesOwn {D : Type 0} (m : Meaning D) (before after : Pool D FireLi
   pub batch : Changed
   pub ready : Pool D FireLinks
   pub keeps : KeepsStore m before ready
-  pub online : StaysOnline before ready
+  pub online : StaysOnline m before ready
   pub filled : (image : Image) → Tells m before.disk image → fills image batch
   pub changed : ChangesBatch m ready after batch
 
@@ -89,7 +89,7 @@ pub data FailsOwn {D : Type 0} (m : Meaning D) (before after : Pool D FireLinks)
       → ((image : Image) → Tells m before.disk image → refuses image fault)
       → FailsOwn m before after fills refuses fault
   not_changed : (batch : Changed) (ready : Pool D FireLinks) → KeepsStore m before ready
-      → StaysOnline before ready
+      → StaysOnline m before ready
       → ((image : Image) → Tells m before.disk image → fills image batch)
       → FailsBatch m ready after batch fault
       → FailsOwn m before after fills refuses fault

@@ -103,7 +103,7 @@ tables_fault_as T page rows (faults.Pool fault) refuses = inr (ap Err refuses)
 
 pub tables_fault : {D L T : Type 0} (m : Meaning D) (a b : Pool D L) (page : ℕ) (rows : List Row)
     (result : Result T SpaceFault) (fault : SpaceFault) → IsErr result
-    → IsErrAnd result (λ given. given ≡ fault) → RefusesTables page rows fault → StaysOnline a b
+    → IsErrAnd result (λ given. given ≡ fault) → RefusesTables page rows fault → StaysOnline m a b
     → TellsFault m a b (pool_answer result)
 tables_fault m a b page rows (Ok x) fault err is refuses stays = absurd cc
 tables_fault {T = T} m a b page rows (Err given) fault err is refuses stays =

@@ -125,7 +125,7 @@ row_fault_as T table p (faults.Pool fault) refuses = inr (ap Err refuses)
 -- a body that is not read is no fault of the cache, but for memory
 pub row_fault : {D L T : Type 0} (m : Meaning D) (a b : Pool D L) (table : Table) (p : Placed)
     (result : Result T SpaceFault) (fault : SpaceFault) → IsErr result
-    → IsErrAnd result (λ given. given ≡ fault) → RefusesRowOf table p fault → StaysOnline a b
+    → IsErrAnd result (λ given. given ≡ fault) → RefusesRowOf table p fault → StaysOnline m a b
     → TellsFault m a b (pool_answer result)
 row_fault m a b table p (Ok x) fault err is refuses stays = absurd cc
 row_fault {T = T} m a b table p (Err given) fault err is refuses stays =

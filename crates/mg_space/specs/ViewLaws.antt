@@ -3,7 +3,7 @@ use Rattle.std.specs.Prelude.{◌≡◌, ◌≢◌, ◌≤◌, ◌⊎◌, ◌+�
 use Rattle.std.proofs.Common.{refl, sym, ap, ◌∙◌, arith, inl, inr}
 use Rattle.mg_base.specs.Disk.{MayLeave, Meaning, Rose}
 use Rattle.mg_base.specs.Image.{Image}
-use Rattle.mg_pool.specs.Fault.{Counts, TellsFault}
+use Rattle.mg_pool.specs.Fault.{Counts, MeetsNoFault, TellsFault}
 use Rattle.mg_pool.specs.Pool.{IsPool, KeepsContent}
 use Rattle.mg_pool.specs.declared.fault.PoolFault.{PoolFault}
 use Rattle.mg_pool.specs.declared.fault.PoolFault.TheVariants.{DiskRead, DiskWrite, Offline, Absent, Memory}
@@ -24,6 +24,7 @@ pub same_content : {D : Type 0} (m : Meaning D) (disk : D) → KeepsContent m di
 same_content m disk = record {
   held = refl;
   tells = refl;
+  most_writes = refl;
   never_falls = omega arith;
   crash = λ told c may. may;
   time = λ told. record {
@@ -39,6 +40,7 @@ pub content_on : {D : Type 0} (m : Meaning D) → CountsNow m → (a b c : D) �
 content_on m counts a b c first second = record {
   held = second.held ∙ first.held;
   tells = second.tells ∙ first.tells;
+  most_writes = second.most_writes ∙ first.most_writes;
   never_falls = let f = first.never_falls in let s = second.never_falls in omega arith;
   crash = λ told image may. first.crash told image (second.crash (first.tells ∙ told) image may);
   time = λ told. let f = first.time told in let s = second.time (first.tells ∙ told) in record {
@@ -128,16 +130,16 @@ rose_on a b c le (inl more) = inl (omega arith)
 rose_on a b c le (inr end) = inr end
 
 counts_on : {D L : Type 0} (m : Meaning D) (a b c : Pool D L) (n : ℕ) → KeepsStore m a b
-    → b.faults ≡ a.faults → Counts m b c n → Counts m a c n
+    → MeetsNoFault m a b → Counts m b c n → Counts m a c n
 counts_on m a b c n kept same counts = (
   counts.0,
-  counts.1 ∙ ap (λ (x : ℕ). min (x + 1) (2 ^ 64 - 1)) same,
+  counts.1 ∙ ap (λ (both : ℕ × ℕ). min (both.0 + 1) (2 ^ 64 - 1)) same,
   rose_on (m.faults a.disk) (m.faults b.disk) (m.faults c.disk) kept.disk.never_falls counts.2,
 )
 
 -- the fault of a call after others that answered, and have only read, is told for all of them
 pub fault_on : {D L T : Type 0} (m : Meaning D) (a b c : Pool D L) (result : Result T PoolFault)
-    → KeepsStore m a b → (b.faults ≡ a.faults) → TellsFault m b c result → TellsFault m a c result
+    → KeepsStore m a b → MeetsNoFault m a b → TellsFault m b c result → TellsFault m a c result
 fault_on m a b c (Ok x) kept same tells =
     (sym kept.offline ∙ tells.0, tells.1, tells.2 ∙ same)
 fault_on m a b c (Err (DiskRead n)) kept same tells =

@@ -39,7 +39,7 @@ module _ {D : Type 0} (m : Meaning D) (catalog : Table) (t : ℕ) (name : List �
   pub record WantsPage (before ready : Pool D FireLinks) : Type 0 where
     pub batch : Changed
     pub keeps : KeepsStore m before ready
-    pub online : StaysOnline before ready
+    pub online : StaysOnline m before ready
     pub filled : (image : Image) → Tells m before.disk image
         → FillsTable before image catalog t name shape nothing_yet batch
     pub unlawful : IsLawful before.geometry.size batch.pages batch.orders → ⊥

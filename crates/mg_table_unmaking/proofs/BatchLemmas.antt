@@ -23,7 +23,7 @@ pub own_batch : {D : Type 0} (m : Meaning D) (before ready after : Pool D FireLi
     (P : Changed → Image → Changed → Type 0) (result : Result (Unit {0}) SpaceFault)
     → empty.pages ≡ [] → empty.orders ≡ []
     → ((image : Image) (b : Changed) → P nothing_yet image b → fills image b)
-    → KeepsStore m before ready → StaysOnline before ready
+    → KeepsStore m before ready → StaysOnline m before ready
     → ((image : Image) → Tells m before.disk image → P empty image batch)
     → MatchResult result (λ _. ChangesBatch m ready after batch) (FailsBatch m ready after batch)
     → MatchResult result (λ _. ChangesOwn m before after fills) (FailsOwn m before after fills refuses)

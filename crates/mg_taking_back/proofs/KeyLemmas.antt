@@ -38,7 +38,7 @@ replaced_by m before after t table rec write v (Err fault) fits stored may given
 pub key_comes : {D : Type 0} (m : Meaning D) (before ready after : Pool D FireLinks) (state : ℕ → TxState)
     (live : State) (t : ℕ) (table : Table) (key : Value) (was : Was) (rec : RecId) (write : Option Write)
     (result : Result (Unit {0}) SpaceFault) → MayComeBack table.shape key was → KeepsStore m before ready
-    → StaysOnline before ready
+    → StaysOnline m before ready
     → ((image : Image) → Tells m before.disk image
     → IsOwnAt state live t (shown before.dirty image) table key rec)
     → write ≡ former key was

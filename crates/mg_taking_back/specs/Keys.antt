@@ -119,7 +119,7 @@ pub record TakesKey {D : Type 0} (m : Meaning D) (before after : Pool D FireLink
   pub rec : RecId
   pub ready : Pool D FireLinks
   pub keeps : KeepsStore m before ready
-  pub online : StaysOnline before ready
+  pub online : StaysOnline m before ready
   pub own : (image : Image) → Tells m before.disk image
       → IsOwnAt state live t (shown before.dirty image) table key rec
   pub puts : PutsBack m ready after t table rec (former key was)
@@ -135,7 +135,7 @@ pub data FailsKey {D : Type 0} (m : Meaning D) (before after : Pool D FireLinks)
       → ((image : Image) → Tells m before.disk image
       → RefusesOwnAt m after before.geometry.limit (shown before.dirty image) state live t table key fault)
       → FailsKey m before after state live t table key was fault
-  key_not_put : (rec : RecId) (ready : Pool D FireLinks) → KeepsStore m before ready → StaysOnline before ready
+  key_not_put : (rec : RecId) (ready : Pool D FireLinks) → KeepsStore m before ready → StaysOnline m before ready
       → ((image : Image) → Tells m before.disk image
       → IsOwnAt state live t (shown before.dirty image) table key rec)
       → FailsPuttingBack m ready after t table rec (former key was) fault

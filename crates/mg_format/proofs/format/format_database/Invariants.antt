@@ -10,7 +10,7 @@ invariant-loop-n g l = record {
   pool : IsPool g.D.Disk.meaning l.store;
   geometry : l.store.geometry ≡ l.initial.store.geometry;
   clean : IsClean l.store;
-  online : StaysOnline l.initial.store l.store;
+  online : StaysOnline g.D.Disk.meaning l.initial.store l.store;
   tells : g.D.Disk.meaning.tells l.store.disk ≡ g.D.Disk.meaning.tells l.initial.store.disk;
   steady : g.D.Disk.meaning.faults l.store.disk ≡ g.D.Disk.meaning.faults l.initial.store.disk;
   upto : (image : Image) → IsFresh g.D.Disk.meaning l.initial.store image

@@ -2,6 +2,7 @@ use Rattle.std.proofs.Common.{◌≡◌, ◌≢◌, ◌<◌, ◌-◌, ℕ, lengt
 use Rattle.mg_base.specs.Image.{Image}
 use Rattle.mg_base.specs.declared.geometry.TheConstants.{GREATEST_LIMIT}
 use Rattle.mg_image.specs.Tables.{Has, IsOnce, entries_in}
+use Rattle.mg_pool.specs.Fault.{MeetsNoFault}
 use Rattle.mg_space.specs.View.{KeepsStore, Tells, viewed}
 use Rattle.mg_heap.specs.Table.{LeadsTo}
 use Rattle.mg_heap.proofs.reach.pointers_to.Given as goal
@@ -9,7 +10,7 @@ use Rattle.mg_heap.proofs.reach.pointers_to.Given as goal
 abbrev pub invariant-loop-n : goal.invariant-loop-n
 invariant-loop-n g l = record {
   keeps : KeepsStore g.D.Disk.meaning l.initial.store l.store;
-  faults : l.store.faults ≡ l.initial.store.faults;
+  faults : MeetsNoFault g.D.Disk.meaning l.initial.store l.store;
   once : IsOnce l.pointers.items;
   small : (m : ℕ) → Has l.pointers.items m → m < GREATEST_LIMIT;
   below : l.n.0 < GREATEST_LIMIT;

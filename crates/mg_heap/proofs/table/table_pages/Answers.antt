@@ -4,6 +4,8 @@ use Rattle.mg_image.specs.Form.{Pages}
 use Rattle.mg_image.specs.Tables.{Has, IsOnce, entries_in}
 use Rattle.mg_space.specs.View.{viewed}
 use Rattle.mg_space.specs.ViewLaws.{keeps_itself, keeps_on}
+use Rattle.mg_heap.specs.Reads.{ReadsListed}
+use Rattle.mg_heap.specs.ReadsLaws.{listed_more, none_listed}
 use Rattle.mg_heap.specs.Table.{FollowsPage, LeadsTo, RefusesPointer, RefusesTable, none}
 use Rattle.mg_heap.specs.TableLaws.{once_short, table_ends}
 use Rattle.mg_heap.proofs.TableLemmas.{as_started, broken, entries_further, few, handed_on, leads_further, still_once, still_small}
@@ -19,6 +21,8 @@ loop-n-init g c = record {
   some = λ other. absurd (other refl);
   few = omega (arith, ap (length {A = ℕ}) c.new-data_pages.ensures.items);
   new_one = λ some is. subst (λ (ns : List ℕ). Has ns c.args.owner.0) c.new-pointers.ensures.items is;
+  reads = subst (ReadsListed g.D.Disk.meaning c.args.store.now c.args.store.now)
+      (sym c.new-pointers.ensures.items) (none_listed g.D.Disk.meaning c.args.store.now);
   leads = λ image tells. subst (λ (ns : List ℕ). LeadsTo (viewed c.args.store.now image c.args.batch.now)
       c.args.owner.0 ns c.args.owner.0) (sym c.new-pointers.ensures.items)
       (record { run = none c.args.owner.0; tested = tt });
@@ -83,6 +87,9 @@ loop-n-preserved g c = record {
     length-append c.loop-n.pointers.items (c.loop-n.n.0 ∷ []),
   );
   new_one = c.in_ok-n.ensures.lists.new_one;
+  reads = listed_more g.D.Disk.meaning c.args.store.now c.loop-n.store c.follow.new.store
+      c.loop-n.pointers.items c.follow.new.pointers.items c.loop-n.n.0 c.loop-n.invariant.reads
+      c.in_ok-n.ensures.reads c.in_ok-n.ensures.lists.listed;
   leads = λ image tells. leads_further (viewed c.args.store.now image c.args.batch.now)
       c.args.owner.0 c.loop-n.pointers.items c.follow.new.pointers.items c.loop-n.n.0
       c.loop-n.data_pages.items c.follow.new.data_pages.items c.in_ok-n.n.0

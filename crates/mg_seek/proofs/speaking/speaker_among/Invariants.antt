@@ -1,6 +1,7 @@
 use Rattle.std.proofs.Common.{◌≡◌, Option, length}
 use Rattle.mg_base.specs.Image.{Image}
 use Rattle.mg_base.specs.declared.numbers.RecId.{RecId}
+use Rattle.mg_pool.specs.Fault.{MeetsNoFault}
 use Rattle.mg_space.specs.View.{KeepsStore, Tells, viewed}
 use Rattle.mg_seek.specs.Speaking.{SpeaksAmong}
 use Rattle.mg_seek.specs.TableRecords.{IsAmong}
@@ -9,7 +10,7 @@ use Rattle.mg_seek.proofs.speaking.speaker_among.Given as goal
 abbrev pub invariant-loop-rec : goal.invariant-loop-rec
 invariant-loop-rec g l = record {
   keeps : KeepsStore g.D.Disk.meaning l.initial.store l.store;
-  faults : l.store.faults ≡ l.initial.store.faults;
+  faults : MeetsNoFault g.D.Disk.meaning l.initial.store l.store;
   among : (rec : RecId) → IsAmong l.rest rec → IsAmong l.records rec;
   further : (image : Image) → Tells g.D.Disk.meaning l.initial.store.disk image → (found : Option RecId)
       → SpeaksAmong (g.S.States.state_of l.states) l.live (viewed l.initial.store image l.batch) l.table

@@ -1,5 +1,6 @@
 use Rattle.std.proofs.Common.{◌≡◌, None}
 use Rattle.mg_base.specs.Image.{Image}
+use Rattle.mg_pool.specs.Fault.{MeetsNoFault}
 use Rattle.mg_space.specs.View.{KeepsStore, Tells, viewed}
 use Rattle.mg_seek.specs.Versions.{wants}
 use Rattle.mg_seek.proofs.Steps.{WalkAt}
@@ -8,7 +9,7 @@ use Rattle.mg_seek.proofs.walk.first_version.Given as goal
 abbrev pub invariant-loop-step : goal.invariant-loop-step
 invariant-loop-step g l = record {
   keeps : KeepsStore g.D.Disk.meaning l.fn.store l.store;
-  faults : l.store.faults ≡ l.fn.store.faults;
+  faults : MeetsNoFault g.D.Disk.meaning l.fn.store l.store;
   online : l.fn.store.offline ≡ None;
   walk : (image : Image) → Tells g.D.Disk.meaning l.fn.store.disk image
       → WalkAt (viewed l.fn.store image l.batch) l.fn.rec

@@ -1,5 +1,6 @@
 use Rattle.std.proofs.Common.{◌≡◌, length}
 use Rattle.mg_base.specs.Image.{Image}
+use Rattle.mg_pool.specs.Fault.{MeetsNoFault}
 use Rattle.mg_pool.specs.Batch.{Changed}
 use Rattle.mg_pool.specs.declared.pool.Pool.{Pool}
 use Rattle.mg_space.specs.View.{AreWhole, KeepsStore, Tells}
@@ -12,7 +13,7 @@ use Rattle.mg_table_batch.proofs.rows.put_rows.Given as goal
 abbrev pub invariant-loop-row : goal.invariant-loop-row
 invariant-loop-row g l = record {
   keeps : KeepsStore g.D.Disk.meaning l.initial.store l.store;
-  faults : l.store.faults ≡ l.initial.store.faults;
+  faults : MeetsNoFault g.D.Disk.meaning l.initial.store l.store;
   whole : AreWhole l.initial.store.geometry.size l.batch.pages;
   puts : (image : Image) → Tells g.D.Disk.meaning l.initial.store.disk image → (new : Changed)
       → PutsRows l.initial.store image l.catalog l.t.0 l.rest l.batch new

@@ -1,5 +1,6 @@
 use Rattle.std.proofs.Common.{◌≡◌, length}
 use Rattle.mg_base.specs.Image.{Image}
+use Rattle.mg_pool.specs.Fault.{MeetsNoFault}
 use Rattle.mg_pool.specs.Batch.{Changed}
 use Rattle.mg_pool.specs.declared.pool.Pool.{Pool}
 use Rattle.mg_space.specs.View.{AreWhole, KeepsStore, Tells}
@@ -11,7 +12,7 @@ use Rattle.mg_table_unmaking.proofs.rows.take_rows.Given as goal
 abbrev pub invariant-loop-key : goal.invariant-loop-key
 invariant-loop-key g l = record {
   keeps : KeepsStore g.D.Disk.meaning l.initial.store l.store;
-  faults : l.store.faults ≡ l.initial.store.faults;
+  faults : MeetsNoFault g.D.Disk.meaning l.initial.store l.store;
   whole : AreWhole l.initial.store.geometry.size l.batch.pages;
   takes : (image : Image) → Tells g.D.Disk.meaning l.initial.store.disk image → (new : Changed)
       → TakesRows l.initial.store image (g.S.States.state_of l.states) l.live l.t.0 l.table l.rest l.batch new

@@ -1,6 +1,7 @@
 use Rattle.std.proofs.Common.{◌≡◌, ◌-◌, ◌++◌, length}
 use Rattle.mg_base.specs.Image.{Image}
 use Rattle.mg_image.specs.Inventory.{tip_before}
+use Rattle.mg_pool.specs.Fault.{MeetsNoFault}
 use Rattle.mg_pool.specs.Pool.{shown}
 use Rattle.mg_pool.specs.Reading.{ReadsPages}
 use Rattle.mg_space.specs.View.{KeepsStore, Tells}
@@ -11,7 +12,7 @@ use Rattle.mg_txlist.proofs.loading.load_pages.Given as goal
 abbrev pub invariant-loop-k : goal.invariant-loop-k
 invariant-loop-k g l = record {
   keeps : KeepsStore g.D.Disk.meaning l.initial.store l.store;
-  faults : l.store.faults ≡ l.initial.store.faults;
+  faults : MeetsNoFault g.D.Disk.meaning l.initial.store l.store;
   read : length l.pages.items ≡ l.k;
   whole : AreWholePages l.initial.store.geometry.size l.pages.items;
   tested : AreTested (l.count - l.k) l.pages.items;
