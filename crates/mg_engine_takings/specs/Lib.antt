@@ -1,0 +1,2 @@
+pub mod ListsTell
+pub mod ListsTellLaws
