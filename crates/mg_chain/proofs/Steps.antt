@@ -1,29 +1,25 @@
--- The steps of a walk, and how its refusals are handed on.
-use Rattle.std.specs.Prelude.{◌≡◌, ◌⊎◌, ℕ, ◌+◌, ◌<◌, ◌≤◌, ◌-◌, ◌^◌, Bool, true, false, List, [], Option, None, Some, unwrap_or, Result, Ok, Err, IsErr, IsErrAnd, MatchResult, refl}
+-- How the refusals of the reading of a version are handed on.
+use Rattle.std.specs.Prelude.{◌≡◌, ℕ, ◌≤◌, ◌-◌, List, Option, Result, Ok, Err, IsErr, IsErrAnd, MatchResult}
 use Rattle.std.proofs.Common.{sym, ◌∙◌, ap, subst, inl, inr, arith}
 use Rattle.mg_base.specs.Disk.{Meaning}
 use Rattle.mg_base.specs.Image.{Image}
 use Rattle.mg_base.specs.declared.damage.Damaged.{Damaged}
 use Rattle.mg_base.specs.declared.damage.Field.TheVariants as fields
 use Rattle.mg_base.specs.declared.geometry.Geometry.{Geometry}
-use Rattle.mg_base.specs.declared.numbers.RecId.{RecId}
 use Rattle.mg_image.specs.Form.{Pages}
 use Rattle.mg_image.specs.Records.{cells_of}
-use Rattle.mg_pool.specs.Batch.{Changed, content_in}
-use Rattle.mg_pool.specs.Pool.{shown}
+use Rattle.mg_pool.specs.Batch.{Changed}
 use Rattle.mg_pool.specs.declared.batch.BatchPage.{BatchPage}
 use Rattle.mg_pool.specs.declared.pool.Pool.{Pool}
-use Rattle.mg_pool.specs.Fault.{MeetsNoFault, TellsFault}
-use Rattle.mg_pool.specs.declared.fault.PoolFault.{PoolFault}
-use Rattle.mg_space.specs.View.{KeepsStore, Tells, pool_answer, viewed}
-use Rattle.mg_space.specs.ViewLaws.{fault_on, tells_on, viewed_on}
+use Rattle.mg_space.specs.View.{KeepsStore, Tells, viewed}
+use Rattle.mg_space.specs.ViewLaws.{tells_on, viewed_on}
 use Rattle.mg_space.specs.declared.fault.SpaceFault.{SpaceFault}
 use Rattle.mg_space.specs.declared.fault.SpaceFault.TheVariants as faults
 use Rattle.mg_version.specs.declared.cell.Cell.{Cell}
 use Rattle.mg_version.specs.declared.cell.Link.{Link}
 use Rattle.mg_version.specs.declared.cell.Version.{Version}
-use Rattle.mg_chain.specs.Chains.{Meets, FirstOf, ended, here, behind, newest_link, starts, goes_on, IsNewest}
-use Rattle.mg_chain.specs.Refusals.{RefusesCellAt, RefusesVersion, Follows, IsChainDamage, primary, version, comes_back, too_long, RefusesChain, damage, IsLinkDamage, past, target, IsOfOther, writer_in}
+use Rattle.mg_chain.specs.Chains.{Meets}
+use Rattle.mg_chain.specs.Refusals.{RefusesCellAt, RefusesVersion, version, damage, IsLinkDamage, past, target, IsOfOther, writer_in}
 
 -- a fault that a call met is handed on
 pub handed_on : {T : Type 0} (result : Result T SpaceFault) (fault : SpaceFault)
@@ -31,22 +27,6 @@ pub handed_on : {T : Type 0} (result : Result T SpaceFault) (fault : SpaceFault)
     → IsErrAnd result (λ given. given ≡ fault) → Q fault → MatchResult result P Q
 handed_on (Ok x) fault P Q err is holds = absurd cc
 handed_on (Err e) fault P Q err is holds = subst Q (sym is) holds
-
-module _ {D L : Type 0} (m : Meaning D) (store : Pool D L) (pages : List BatchPage) (limit : ℕ)
-    (view : Pages) (rec : RecId) where
-  pub primary_refuses : (fault : SpaceFault) → RefusesCellAt m store pages view rec fault
-      → RefusesChain m store pages limit view rec fault
-  primary_refuses (faults.Full most) refuses = refuses
-  primary_refuses (faults.Damaged it) refuses = primary it refuses
-  primary_refuses (faults.Pool fault) refuses = tt
-
-  pub version_refuses : (n holder : ℕ) (l : Link) → Follows view rec n holder l
-      → (fault : SpaceFault) → RefusesVersion m store pages limit view holder l fault
-      → RefusesChain m store pages limit view rec fault
-  version_refuses n holder l follows (faults.Full most) refuses = refuses
-  version_refuses n holder l follows (faults.Damaged it) refuses =
-      version n holder l it follows refuses
-  version_refuses n holder l follows (faults.Pool fault) refuses = tt
 
 -- ---- one call after another
 
@@ -68,129 +48,7 @@ met_on m a b c image batch holder l result kept tells gives =
     subst Q kept.geometry
     (subst P (viewed_on m a b image batch kept) (gives image (tells_on m a b image kept tells)))
 
--- an empty batch shows what the cache shows
-pub through_empty : {D L T : Type 0} (store : Pool D L) (image : Image) (batch : Changed)
-    (result : Result T SpaceFault) (P : Pages → T → Type 0)
-    (Q : List BatchPage → Pages → SpaceFault → Type 0) → batch.pages ≡ []
-    → MatchResult result (P (viewed store image batch)) (Q batch.pages (viewed store image batch))
-    → MatchResult result (P (shown store.dirty image)) (Q [] (shown store.dirty image))
-through_empty store image batch result P Q empty given =
-    let R : List BatchPage → Type 0 = λ pages. MatchResult result
-    (P (λ n. unwrap_or (content_in pages n) (shown store.dirty image n)))
-    (Q pages (λ n. unwrap_or (content_in pages n) (shown store.dirty image n))) in
-    subst R empty given
-
--- ---- the newest version
-
-pub newest_none : (view : Pages) (rec : RecId) (found : Option Link) → found ≡ newest_link view rec
-    → found ≡ None → IsNewest view rec None
-newest_none view rec found is none =
-    let P : Option Link → Type 0 = λ link. FirstOf (cells_of view) (λ by. true) link None in
-    subst P (sym (sym is ∙ none)) ended
-
-pub newest_some : (view : Pages) (rec : RecId) (found : Option Link) (l : Link) (v : Version)
-    → found ≡ newest_link view rec → found ≡ Some l → Meets (cells_of view) l v
-    → IsNewest view rec (Some v)
-newest_some view rec found l v is some meets =
-    let P : Option Link → Type 0 = λ link. FirstOf (cells_of view) (λ by. true) link (Some v) in
-    subst P (sym (sym is ∙ some)) (here l v meets refl)
-
-pub starts_at : (view : Pages) (rec : RecId) (found : Option Link) (l : Link)
-    → found ≡ newest_link view rec → found ≡ Some l → Follows view rec 0 rec.page.0 l
-starts_at view rec found l is some = starts l (sym is ∙ some)
-
--- ---- the walk
-
--- a place that is marked was come to before
-abbrev pub IsMark : Pages → RecId → ℕ → Option RecId → Type 0
-IsMark view rec n None = Unit {0}
-IsMark view rec n (Some at) =
-    (earlier : ℕ) × (before : ℕ) × (first : Link) × (earlier < n) × (at ≡ first.rec)
-    × Follows view rec earlier before first
-
--- where a walk stands: the link that it has come to, what comes from there is what comes from the
--- start, and the mark
-pub record WalkAt (view : Pages) (rec : RecId) (takes : ℕ → Bool) (n holder : ℕ) (l : Link)
-    (mark : Option RecId) : Type 0 where
-  pub follows : Follows view rec n holder l
-  pub onward : (found : Option Version) → FirstOf (cells_of view) takes (Some l) found
-      → FirstOf (cells_of view) takes (newest_link view rec) found
-  pub marked : IsMark view rec n mark
-
-module _ (view : Pages) (rec : RecId) (takes : ℕ → Bool) where
-  pub walk_starts : (found : Option Link) (l : Link) → found ≡ newest_link view rec
-      → found ≡ Some l → WalkAt view rec takes 0 rec.page.0 l None
-  walk_starts found l is some = record {
-    follows = starts_at view rec found l is some;
-    onward = λ out first.
-        let P : Option Link → Type 0 = λ link. FirstOf (cells_of view) takes link out in
-        subst P (sym (sym is ∙ some)) first;
-    marked = tt;
-  }
-
-  pub walk_none : (found : Option Link) → found ≡ newest_link view rec → found ≡ None
-      → FirstOf (cells_of view) takes (newest_link view rec) None
-  walk_none found is none =
-      let P : Option Link → Type 0 = λ link. FirstOf (cells_of view) takes link None in
-      subst P (sym (sym is ∙ none)) ended
-
-  later_mark : (n : ℕ) (mark : Option RecId) → IsMark view rec n mark → IsMark view rec (n + 1) mark
-  later_mark n None is = tt
-  later_mark n (Some at) (earlier, before, first, less, same, follows) =
-      (earlier, before, first, omega arith, same, follows)
-
-  pub walk_on : (n holder : ℕ) (l m : Link) (v : Version) (mark new : Option RecId)
-      → WalkAt view rec takes n holder l mark → Meets (cells_of view) l v → takes v.tx.0 ≡ false
-      → v.back ≡ Some m → (new ≡ mark) ⊎ (new ≡ Some l.rec)
-      → WalkAt view rec takes (n + 1) l.rec.page.0 m new
-  walk_on n holder l m v mark new walk meets other back marks = record {
-    follows = goes_on n holder l m v walk.follows meets back;
-    onward = λ out first.
-        let P : Option Link → Type 0 = λ link. FirstOf (cells_of view) takes link out in
-        walk.onward out (behind l v out meets other (subst P (sym back) first));
-    marked = at marks;
-  }
-    where
-      at : (new ≡ mark) ⊎ (new ≡ Some l.rec) → IsMark view rec (n + 1) new
-      at (inl same) =
-          let P : Option RecId → Type 0 = λ it. IsMark view rec (n + 1) it in
-          subst P (sym same) (later_mark n mark walk.marked)
-      at (inr here_) =
-          let P : Option RecId → Type 0 = λ it. IsMark view rec (n + 1) it in
-          subst P (sym here_) (n, holder, l, omega arith, refl, walk.follows)
-
-  pub walk_here : (n holder : ℕ) (l : Link) (v : Version) (mark : Option RecId)
-      → WalkAt view rec takes n holder l mark → Meets (cells_of view) l v → takes v.tx.0 ≡ true
-      → FirstOf (cells_of view) takes (newest_link view rec) (Some v)
-  walk_here n holder l v mark walk meets taken = walk.onward (Some v) (here l v meets taken)
-
-  pub walk_ends : (n holder : ℕ) (l : Link) (v : Version) (mark : Option RecId)
-      → WalkAt view rec takes n holder l mark → Meets (cells_of view) l v → takes v.tx.0 ≡ false
-      → v.back ≡ None → FirstOf (cells_of view) takes (newest_link view rec) None
-  walk_ends n holder l v mark walk meets other back =
-      let P : Option Link → Type 0 = λ link. FirstOf (cells_of view) takes link None in
-      walk.onward None (behind l v None meets other (subst P (sym back) ended))
-
-  module _ {D L : Type 0} (m : Meaning D) (store : Pool D L) (pages : List BatchPage) (limit : ℕ)
-    where
-      pub walk_comes_back : (n holder : ℕ) (l : Link) (mark : Option RecId)
-          → WalkAt view rec takes n holder l mark → mark ≡ Some l.rec
-          → IsChainDamage m store pages limit view rec (damage holder fields.Link l.rec.page.0 0)
-      walk_comes_back n holder l mark walk is =
-          let P : Option RecId → Type 0 = λ it. IsMark view rec n it in
-          at (subst P is walk.marked)
-        where
-          at : IsMark view rec n (Some l.rec)
-              → IsChainDamage m store pages limit view rec (damage holder fields.Link l.rec.page.0 0)
-          at (earlier, before, first, less, same, follows) =
-              comes_back n before holder earlier l first walk.follows follows less same
-
-      pub walk_is_long : (n holder : ℕ) (l : Link) (mark : Option RecId)
-          → WalkAt view rec takes n holder l mark → 2 ^ 32 - 1 ≤ n
-          → IsChainDamage m store pages limit view rec (damage holder fields.Link l.rec.page.0 0)
-      walk_is_long n holder l mark walk long = too_long n holder l walk.follows long
-
--- ---- one version
+-- ---- why a version is not read
 
 module _ {D L : Type 0} (m : Meaning D) (store : Pool D L) (pages : List BatchPage) (limit : ℕ)
     (view : Pages) (holder : ℕ) (l : Link) where
@@ -217,32 +75,3 @@ module _ {D L : Type 0} (m : Meaning D) (store : Pool D L) (pages : List BatchPa
       let Q : Option Cell → Type 0 = λ cell. IsOfOther l.tx.0 cell in
       inr (subst P (sym (damage_is ∙ ap (λ (cell : Option Cell).
       damage l.rec.page.0 fields.Target (writer_in cell) l.tx.0) is)) (target (subst Q is other)))
-
--- ---- faults of a later call
-
-same_answer : (A B : Type 0) (fault : SpaceFault)
-    → pool_answer {T = A} (Err fault) ≡ pool_answer {T = B} (Err fault)
-same_answer A B (faults.Full most) = refl
-same_answer A B (faults.Damaged it) = refl
-same_answer A B (faults.Pool fault) = refl
-
--- a fault that a later call met is handed on, and told since the start
-pub fault_up : {D L T : Type 0} (A : Type 0) (m : Meaning D) (a b c : Pool D L) (result : Result T SpaceFault)
-    (fault : SpaceFault) → KeepsStore m a b → MeetsNoFault m a b → IsErr result
-    → IsErrAnd result (λ given. given ≡ fault) → TellsFault m b c (pool_answer {T = A} (Err fault))
-    → TellsFault m a c (pool_answer result)
-fault_up A m a b c (Ok x) fault kept same err is tells = absurd cc
-fault_up {T = T} A m a b c (Err e) fault kept same err is tells =
-    let P : Result (Unit {0}) PoolFault → Type 0 = λ answer. TellsFault m b c answer in
-    let Q : SpaceFault → Type 0 = λ f. TellsFault m b c (pool_answer {T = T} (Err f)) in
-    fault_on m a b c (pool_answer {T = T} (Err e)) kept same
-    (subst Q (sym is) (subst P (same_answer A T fault) tells))
-
--- the damage that is told is the one that is meant
-pub damage_at : {D L : Type 0} (m : Meaning D) (store : Pool D L) (pages : List BatchPage)
-    (limit : ℕ) (view : Pages) (rec : RecId) (told meant : Damaged) → told ≡ meant
-    → IsChainDamage m store pages limit view rec meant
-    → IsChainDamage m store pages limit view rec told
-damage_at m store pages limit view rec told meant is it =
-    let P : Damaged → Type 0 = λ d. IsChainDamage m store pages limit view rec d in
-    subst P (sym is) it

@@ -18,7 +18,7 @@ pub(crate) fn cell_damage(page: PageNo, at: u32, len: usize) -> Damaged
     }
 }
 
-/// A link to a page that it may not name: the limit is wanted, or 0 where a chain comes back.
+/// A link to a page that it may not name, at or above what is wanted.
 pub(crate) fn link_damage(holder: PageNo, link: Link, wanted: u32) -> Damaged
     ensures { result ≡ damage holder.0 Field.Link link.rec.page.0 wanted }
 {

@@ -1,12 +1,10 @@
-//! The versions of records: which one is the newest, which one a transaction sees, and how they are
-//! written.
+//! The versions of records: how one leads to the next, and how they are written.
 //!
-//! Owns: how a chain of versions is followed and changed. The cell of a record's primary slot names the
+//! Owns: how a chain of versions is linked and changed. The cell of a record's primary slot names the
 //! newest version; each version names the one before it, by its place and by the transaction that wrote
 //! it.
 //!
-//! Each link is followed only to a version of the transaction that it names. A walk ends on every
-//! file: a chain that comes back to itself is refused.
+//! Each link is followed only to a version of the transaction that it names.
 //!
 //! The calls that write (`spot`, `first`, `push`, `replace_own`, `back_out`) fill a batch that the caller
 //! lends, and leave the cache as it was. Each contract is a row of steps, one cell after another, with
@@ -17,8 +15,8 @@
 //! Below: `mg_heap` for cells by their places, `mg_version` for what a cell spells, `mg_snap` for
 //! what a base sees, `mg_txlist` for `ListStates`, and `mg_generations` for the laws. Above: the engine and
 //! the collection of garbage.
-//! Not here: what becomes of a transaction, which a caller tells by `States`; when a batch is changed; and
-//! how versions behind others are collected.
+//! Not here: the walk along a chain (`mg_seek`); what becomes of a transaction, which a caller tells by
+//! `States`; when a batch is changed; and how versions behind others are collected.
 #![tactic(auto)]
 
 mod cells;
@@ -34,12 +32,11 @@ mod spelling;
 mod states;
 mod taking_out;
 mod turning;
-mod walk;
 
 pub use cells::{newest_link, version_at};
 pub use laws::{
     a_transaction_sees_its_view, bases_follow_the_machine, cells_are_changed,
-    newest_versions_are_changed, versions_are_added, versions_are_those_of_every_reading,
+    newest_versions_are_changed, versions_are_added,
 };
 pub use list_states::ListStates;
 pub use making::{first, spot};
@@ -47,4 +44,3 @@ pub use pushing::push;
 pub use replacing::replace_own;
 pub use states::States;
 pub use taking_out::back_out;
-pub use walk::{newest, visible};

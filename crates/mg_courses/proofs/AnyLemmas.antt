@@ -7,7 +7,7 @@ use Rattle.mg_base.specs.declared.transaction.TxState.TheVariants.{Active}
 use Rattle.mg_value.specs.declared.shape.Kind.{Kind}
 use Rattle.mg_value.specs.declared.shape.Kind.TheVariants as kinds
 use Rattle.mg_sql.specs.Lengths.{HasLengths, IsOfSize}
-use Rattle.mg_sql.specs.Plain.{Plain, Table as Creation, Insert, Update, Delete, Totals, Select, RollbackTo, Savepoint}
+use Rattle.mg_statements.specs.Plain.{Plain, Table as Creation, Insert, Update, Delete, Totals, Select, RollbackTo, Savepoint}
 use Rattle.mg_model.specs.declared.opening.Opening.{Opening}
 use Rattle.mg_model.specs.declared.refusal.Refusal.TheVariants as refusals
 use Rattle.mg_model.specs.History.{Entries}

@@ -2,7 +2,7 @@
 use Rattle.std.proofs.Common.{◌≡◌, ◌⊎◌, inl, inr, ℕ, Bool, true, false, ◌∷◌, Some, Option, ap, ◌∙◌, refl}
 use Rattle.mg_base.specs.declared.numbers.TxNo.{TxNo}
 use Rattle.mg_base.specs.declared.transaction.TxState.TheVariants.{Active}
-use Rattle.mg_sql.specs.Plain.{Plain}
+use Rattle.mg_statements.specs.Plain.{Plain}
 use Rattle.mg_model.specs.declared.answer.Answer.TheVariants as answers
 use Rattle.mg_model.specs.declared.event.Event.TheVariants as events
 use Rattle.mg_model.specs.declared.opening.Opening.{Opening}

@@ -3,8 +3,8 @@ use Rattle.std.specs.Prelude.{◌≡◌, ◌&&◌, ℕ, Bool, true, false, List,
 use Rattle.std.proofs.Common.{ap, subst}
 use Rattle.mg_base.specs.declared.numbers.TxNo.{TxNo}
 use Rattle.mg_value.specs.declared.shape.Shape.{Shape}
-use Rattle.mg_sql.specs.declared.statement.Def.{Def}
-use Rattle.mg_sql.specs.Plain.{Plain, Table, Insert, Update, Delete, Totals, Select, SetTransaction, Commit, Rollback, RollbackTo, Savepoint}
+use Rattle.mg_statements.specs.declared.statement.Def.{Def}
+use Rattle.mg_statements.specs.Plain.{Plain, Table, Insert, Update, Delete, Totals, Select, SetTransaction, Commit, Rollback, RollbackTo, Savepoint}
 use Rattle.mg_plan.specs.Statements.{bound_plain, places_in}
 use Rattle.mg_plan.specs.Shapes.{shape_of}
 use Rattle.mg_model.specs.declared.answer.Answer.{Answer}

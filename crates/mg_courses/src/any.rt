@@ -14,7 +14,7 @@ use mg_model::Refusal;
 use mg_records::Records;
 use mg_rows::StatementFault;
 use mg_script::Reply;
-use mg_sql::Statement;
+use mg_statements::Statement;
 use std::alloc::Global;
 
 /// Tells whether a statement is at its end.

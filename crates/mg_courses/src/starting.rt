@@ -7,7 +7,7 @@ ghost use Rattle.mg_model.specs.History.{Entries};
 ghost use Rattle.mg_model.specs.Machine.{state_of, mode_of};
 ghost use Rattle.mg_records.specs.Sessions.{SessionsStay};
 ghost use Rattle.mg_sql.specs.Lengths.{HasLengths};
-ghost use Rattle.mg_sql.specs.Plain.{plain_of, Commit, Rollback};
+ghost use Rattle.mg_statements.specs.Plain.{plain_of, Commit, Rollback};
 ghost use Rattle.mg_calls.specs.Frames.{Frames};
 ghost use Rattle.mg_transcript.specs.Lines.{begins};
 ghost use Rattle.mg_transcript.specs.Statements.{looks};
@@ -19,7 +19,7 @@ use crate::statements::{Ending, Statements};
 use crate::work::{Work, over, refused};
 use mg_base::TxNo;
 use mg_script::Reply;
-use mg_sql::Statement;
+use mg_statements::Statement;
 use std::alloc::Global;
 
 /// What the beginning of a statement came to.

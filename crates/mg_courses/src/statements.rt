@@ -7,7 +7,7 @@ ghost use Rattle.mg_model.specs.History.{Entries};
 ghost use Rattle.mg_model.specs.Machine.{state_of};
 ghost use Rattle.mg_records.specs.Sessions.{SessionsStay};
 ghost use Rattle.mg_sql.specs.Lengths.{HasLengths};
-ghost use Rattle.mg_sql.specs.Plain.{plain_of};
+ghost use Rattle.mg_statements.specs.Plain.{plain_of};
 ghost use Rattle.mg_calls.specs.Frames.{Frames};
 ghost use Rattle.mg_calls.specs.Quiet.{AreQuiet};
 ghost use Rattle.mg_transcript.specs.Courses.{Course};
@@ -18,7 +18,7 @@ use mg_base::TxNo;
 use mg_records::Records;
 use mg_rows::StatementFault;
 use mg_script::Reply;
-use mg_sql::Statement;
+use mg_statements::Statement;
 use std::alloc::Global;
 
 /// How a statement has ended.

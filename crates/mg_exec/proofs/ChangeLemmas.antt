@@ -4,8 +4,8 @@ use Rattle.std.proofs.lemmas.List.{length-map}
 use Rattle.mg_value.specs.declared.shape.Column.{Column}
 use Rattle.mg_value.specs.declared.shape.Shape.{Shape}
 use Rattle.mg_expr.specs.Trees.{Tree, tree_of}
-use Rattle.mg_sql.specs.declared.statement.Statement.{Statement}
-use Rattle.mg_sql.specs.declared.statement.Statement.TheVariants as statements
+use Rattle.mg_statements.specs.declared.statement.Statement.{Statement}
+use Rattle.mg_statements.specs.declared.statement.Statement.TheVariants as statements
 use Rattle.mg_plan.specs.declared.bound.Bound.{Bound}
 use Rattle.mg_model.specs.declared.refusal.Refusal.TheVariants as refusals
 use Rattle.mg_model.specs.declared.table.Table.{Table}

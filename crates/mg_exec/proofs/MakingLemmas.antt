@@ -10,8 +10,8 @@ use Rattle.mg_value.specs.declared.shape.Column.{Column}
 use Rattle.mg_expr.specs.declared.expr.Expr.{Expr}
 use Rattle.mg_expr.specs.Trees.{Tree, tree_of}
 use Rattle.mg_expr.specs.Typing.{Sort, sort_of}
-use Rattle.mg_sql.specs.declared.statement.Assign.{Assign}
-use Rattle.mg_sql.specs.Plain.{assign_of}
+use Rattle.mg_statements.specs.declared.statement.Assign.{Assign}
+use Rattle.mg_statements.specs.Plain.{assign_of}
 use Rattle.mg_plan.specs.Types.{fit_places, fits_column, is_filter_truth}
 
 pub first : (a b : Bool) → (a && b) ≡ true → a ≡ true

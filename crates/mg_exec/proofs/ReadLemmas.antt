@@ -10,7 +10,7 @@ use Rattle.mg_expr.specs.declared.expr.Expr.{Expr}
 use Rattle.mg_expr.specs.declared.fault.EvalFault.{EvalFault}
 use Rattle.mg_expr.specs.declared.fault.EvalFault.TheVariants as evals
 use Rattle.mg_expr.specs.Trees.{Tree}
-use Rattle.mg_sql.specs.Plain.{tree_in}
+use Rattle.mg_statements.specs.Plain.{tree_in}
 use Rattle.mg_plan.specs.declared.bound.Bound.{Bound}
 use Rattle.mg_model.specs.declared.answer.Answer.TheVariants.{No, Rows}
 use Rattle.mg_model.specs.declared.event.Event.TheVariants.{Find}

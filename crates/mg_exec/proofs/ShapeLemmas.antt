@@ -11,8 +11,8 @@ use Rattle.mg_value.specs.declared.shape.Column.{Column}
 use Rattle.mg_value.specs.declared.shape.TheConstants.{MOST_COLUMNS}
 use Rattle.mg_value.specs.Rows.{row_len_of}
 use Rattle.mg_sortkey.specs.KeyBytes.{most_key_bytes}
-use Rattle.mg_sql.specs.declared.statement.Def.{Def}
-use Rattle.mg_sql.specs.Plain.{Plain, Table as Creation}
+use Rattle.mg_statements.specs.declared.statement.Def.{Def}
+use Rattle.mg_statements.specs.Plain.{Plain, Table as Creation}
 use Rattle.mg_plan.specs.declared.fault.PlanFault.TheVariants as plans
 use Rattle.mg_plan.specs.Names.{has_twice}
 use Rattle.mg_plan.specs.Refusing.{first_refusal}

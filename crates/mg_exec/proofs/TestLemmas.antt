@@ -1,7 +1,7 @@
 -- Where a statement begins that was tested.
 use Rattle.std.proofs.Common.{◌≡◌, ℕ, Bool, false, List, [], ◌∷◌, Ok, refl, sym, ap, subst}
 use Rattle.mg_base.specs.declared.numbers.TxNo.{TxNo}
-use Rattle.mg_sql.specs.Plain.{Plain, RollbackTo, Savepoint, Table as Creation, Insert, Update, Delete, Totals, Select}
+use Rattle.mg_statements.specs.Plain.{Plain, RollbackTo, Savepoint, Table as Creation, Insert, Update, Delete, Totals, Select}
 use Rattle.mg_model.specs.declared.opening.Opening.{Opening}
 use Rattle.mg_model.specs.declared.answer.Answer.TheVariants.{Fine}
 use Rattle.mg_model.specs.declared.event.Event.TheVariants as events

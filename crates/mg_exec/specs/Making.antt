@@ -1,8 +1,8 @@
 -- The writes that a statement makes of the rows that it found.
 use Rattle.std.specs.Prelude.{◌≡◌, ℕ, List, [], ◌∷◌, map, All, Result, Ok, Err}
 use Rattle.mg_expr.specs.Trees.{tree_of}
-use Rattle.mg_sql.specs.declared.statement.Statement.{Statement}
-use Rattle.mg_sql.specs.declared.statement.Statement.TheVariants as statements
+use Rattle.mg_statements.specs.declared.statement.Statement.{Statement}
+use Rattle.mg_statements.specs.declared.statement.Statement.TheVariants as statements
 use Rattle.mg_value.specs.declared.shape.Shape.{Shape}
 use Rattle.mg_plan.specs.declared.bound.Bound.{Bound}
 use Rattle.mg_model.specs.declared.table.Table.{Table}

@@ -2,8 +2,8 @@
 use Rattle.std.specs.Prelude.{◌≡◌, ◌⊎◌, ℕ, ◌||◌, Bool, true, false, List, [], ◌∷◌, All, Option, Some, None, is_some, Result, Ok, Err}
 use Rattle.mg_base.specs.declared.numbers.TxNo.{TxNo}
 use Rattle.mg_value.specs.declared.shape.Shape.{Shape}
-use Rattle.mg_sql.specs.declared.statement.Def.{Def}
-use Rattle.mg_sql.specs.Plain.{Plain, Table}
+use Rattle.mg_statements.specs.declared.statement.Def.{Def}
+use Rattle.mg_statements.specs.Plain.{Plain, Table}
 use Rattle.mg_plan.specs.declared.fault.PlanFault.{PlanFault}
 use Rattle.mg_plan.specs.declared.fault.PlanFault.TheVariants as plans
 use Rattle.mg_plan.specs.Refusing.{first_refusal}

@@ -1,9 +1,9 @@
 -- Where a statement stands, and what the next call of it asks.
 use Rattle.std.specs.Prelude.{◌≡◌, ◌≢◌, ℕ, ◌&&◌, Bool, true, false, Option, Some, None, Result, Err}
 use Rattle.mg_expr.specs.declared.expr.Expr.{Expr}
-use Rattle.mg_sql.specs.declared.statement.Statement.{Statement}
-use Rattle.mg_sql.specs.declared.statement.Statement.TheVariants as statements
-use Rattle.mg_sql.specs.Plain.{Plain, Table as Creation, Insert, Update, Delete, Totals, Select, plain_of, tree_in}
+use Rattle.mg_statements.specs.declared.statement.Statement.{Statement}
+use Rattle.mg_statements.specs.declared.statement.Statement.TheVariants as statements
+use Rattle.mg_statements.specs.Plain.{Plain, Table as Creation, Insert, Update, Delete, Totals, Select, plain_of, tree_in}
 use Rattle.mg_plan.specs.declared.bound.Bound.{Bound}
 use Rattle.mg_plan.specs.Statements.{is_typed}
 use Rattle.mg_model.specs.declared.opening.Opening.{Opening}

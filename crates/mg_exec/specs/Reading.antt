@@ -3,7 +3,7 @@ use Rattle.std.specs.Prelude.{◌≡◌, ◌⊎◌, ◌≤◌, ◌+◌, ℕ, len
 use Rattle.mg_base.specs.declared.numbers.TxNo.{TxNo}
 use Rattle.mg_value.specs.declared.value.Value.{Value}
 use Rattle.mg_expr.specs.declared.fault.EvalFault.{EvalFault}
-use Rattle.mg_sql.specs.Plain.{tree_in, plain_of}
+use Rattle.mg_statements.specs.Plain.{tree_in, plain_of}
 use Rattle.mg_plan.specs.declared.bound.Bound.{Bound}
 use Rattle.mg_model.specs.declared.answer.Answer.TheVariants.{No, Rows}
 use Rattle.mg_model.specs.declared.event.Event.{Event}

@@ -2,8 +2,8 @@
 use Rattle.std.specs.Prelude.{◌≡◌, ℕ, ◌&&◌, Bool, true, false, List, [], ◌∷◌, ◌++◌, length, Option, Some, None, Result, Ok, Err, cond}
 use Rattle.mg_base.specs.declared.numbers.TxNo.{TxNo}
 use Rattle.mg_expr.specs.declared.fault.EvalFault.{EvalFault}
-use Rattle.mg_sql.specs.declared.statement.Def.{Def}
-use Rattle.mg_sql.specs.Plain.{Plain, plain_of, RollbackTo, Savepoint, Table as Creation, Insert, Update, Delete, Totals, Select}
+use Rattle.mg_statements.specs.declared.statement.Def.{Def}
+use Rattle.mg_statements.specs.Plain.{Plain, plain_of, RollbackTo, Savepoint, Table as Creation, Insert, Update, Delete, Totals, Select}
 use Rattle.mg_plan.specs.declared.bound.Bound.{Bound}
 use Rattle.mg_plan.specs.Refusing.{first_refusal, IsBoundAs}
 use Rattle.mg_plan.specs.Shapes.{shape_of}

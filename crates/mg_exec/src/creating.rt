@@ -6,7 +6,7 @@ ghost use Rattle.mg_model.specs.declared.opening.Opening.{Opening};
 ghost use Rattle.mg_model.specs.Catalog.{catalog_name};
 ghost use Rattle.mg_model.specs.Changes.{same_name};
 ghost use Rattle.mg_model.specs.History.{Entries};
-ghost use Rattle.mg_sql.specs.Plain.{plain_of};
+ghost use Rattle.mg_statements.specs.Plain.{plain_of};
 ghost use Rattle.mg_plan.specs.Shapes.{shape_of as shape_said};
 ghost use Rattle.mg_plan.specs.Statements.{count_defined};
 ghost use Rattle.mg_calls.specs.Frames.{Frames};
@@ -26,7 +26,7 @@ use mg_model::{CATALOG, Refusal};
 use mg_plan::{PlanFault, bind, shape_of};
 use mg_records::Records;
 use mg_rows::{Outcome, StatementFault};
-use mg_sql::Statement;
+use mg_statements::Statement;
 use mg_value::{Name, Shape};
 use std::alloc::Global;
 

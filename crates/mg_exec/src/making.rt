@@ -15,7 +15,7 @@ use mg_model::Table;
 use mg_plan::Bound;
 use mg_records::Write;
 use mg_rows::{NewRowFault, insert_row, update_rows};
-use mg_sql::{Assign, Statement};
+use mg_statements::{Assign, Statement};
 use mg_value::{Key, Row, Shape, row_fits};
 use std::alloc::Global;
 use std::collections::VecDeque;

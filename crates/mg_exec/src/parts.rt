@@ -1,11 +1,11 @@
 //! The parts of a bound statement.
 
 ghost use Rattle.std.specs.Prelude.{◌≡◌, None};
-ghost use Rattle.mg_sql.specs.Plain.{plain_of};
+ghost use Rattle.mg_statements.specs.Plain.{plain_of};
 ghost use Rattle.mg_exec.specs.Phases.{filter_in, is_insert as is_insert_test, is_select as is_select_test, is_writing as is_writing_test};
 
 use mg_expr::Expr;
-use mg_sql::Statement;
+use mg_statements::Statement;
 
 /// The filter of a statement; `none`, which is none, where it has none.
 pub fn filter_of<'a>(s: &'a Statement, none: &'a Option<Expr>) -> &'a Option<Expr>

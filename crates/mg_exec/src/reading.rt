@@ -6,7 +6,7 @@ ghost use Rattle.mg_model.specs.declared.event.Event.TheVariants.{Find};
 ghost use Rattle.mg_model.specs.declared.opening.Opening.{Opening};
 ghost use Rattle.mg_model.specs.Answers.{answer as answer_to};
 ghost use Rattle.mg_model.specs.History.{Entries};
-ghost use Rattle.mg_sql.specs.Plain.{tree_in};
+ghost use Rattle.mg_statements.specs.Plain.{tree_in};
 ghost use Rattle.mg_records.specs.Keeping.{TablesStay, refusal_in};
 ghost use Rattle.mg_records.specs.Reading.{FindAdds};
 ghost use Rattle.mg_rows.specs.Found.{Keeps, passes_filter};
@@ -29,7 +29,7 @@ use mg_model::{Refusal, Rows, Table};
 use mg_plan::Bound;
 use mg_records::Records;
 use mg_rows::{StatementFault, keep, sort_by_key};
-use mg_sql::Statement;
+use mg_statements::Statement;
 use mg_value::{Key, Row};
 use std::alloc::Global;
 

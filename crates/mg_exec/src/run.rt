@@ -4,7 +4,7 @@ ghost use Rattle.std.specs.Prelude.{◌≡◌, ◌+◌, [], true, None, Ok, Err,
 ghost use Rattle.std.specs.Option.{option_copied};
 ghost use Rattle.mg_model.specs.declared.opening.Opening.{Opening};
 ghost use Rattle.mg_model.specs.History.{Entries};
-ghost use Rattle.mg_sql.specs.Plain.{plain_of};
+ghost use Rattle.mg_statements.specs.Plain.{plain_of};
 ghost use Rattle.mg_calls.specs.Frames.{Frames};
 ghost use Rattle.mg_calls.specs.Quiet.{AreQuiet, IsQuietAt};
 ghost use Rattle.mg_exec.specs.Phases.{IsReady, IsReadyToInsert, Leaves, StandsAt, rolled_back_at};
@@ -25,7 +25,7 @@ use mg_base::TxNo;
 use mg_model::Table;
 use mg_records::Records;
 use mg_rows::StatementFault;
-use mg_sql::Statement;
+use mg_statements::Statement;
 use std::alloc::Global;
 use std::mem::replace;
 

@@ -1,7 +1,7 @@
 //! What a SELECT answers.
 
 ghost use Rattle.std.specs.Prelude.{◌≡◌, true, map};
-ghost use Rattle.mg_sql.specs.Plain.{plain_of, total_of};
+ghost use Rattle.mg_statements.specs.Plain.{plain_of, total_of};
 ghost use Rattle.mg_exec.specs.Phases.{is_select};
 ghost use Rattle.mg_rows.specs.Answering.{order_of as order_by_of, Answers, TotalsAnswer};
 ghost use Rattle.mg_exec.specs.Selecting.{answer_told};
@@ -11,7 +11,7 @@ use mg_expr::EvalFault;
 use mg_model::{Rows, Table};
 use mg_plan::Bound;
 use mg_rows::{OrderBy, Outcome, StatementFault, select, total_row};
-use mg_sql::{Agg, Sorted, Statement};
+use mg_statements::{Agg, Sorted, Statement};
 use mg_value::Row;
 use std::alloc::Global;
 

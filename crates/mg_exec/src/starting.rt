@@ -5,7 +5,7 @@ ghost use Rattle.mg_base.specs.declared.transaction.TxState.TheVariants.{Active}
 ghost use Rattle.mg_model.specs.declared.opening.Opening.{Opening};
 ghost use Rattle.mg_model.specs.History.{Entries};
 ghost use Rattle.mg_model.specs.Machine.{state_of};
-ghost use Rattle.mg_sql.specs.Plain.{plain_of};
+ghost use Rattle.mg_statements.specs.Plain.{plain_of};
 ghost use Rattle.mg_calls.specs.Frames.{Frames};
 ghost use Rattle.mg_calls.specs.Quiet.{AreQuiet};
 ghost use Rattle.mg_exec.specs.Phases.{IsReady, StandsAt, may_not_write};
@@ -19,7 +19,7 @@ use mg_model::{Refusal, Table};
 use mg_plan::{Bound, bind};
 use mg_records::Records;
 use mg_rows::StatementFault;
-use mg_sql::Statement;
+use mg_statements::Statement;
 use mg_value::Name;
 use std::alloc::Global;
 

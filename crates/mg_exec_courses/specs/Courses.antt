@@ -2,8 +2,8 @@
 -- step of it comes to.
 use Rattle.std.specs.Prelude.{◌≡◌, ◌≢◌, ◌≤◌, ℕ, true, List, [], map, Result, Ok, Err, length, Bool, false, ◌⊎◌, Some, None, not}
 use Rattle.mg_base.specs.declared.numbers.TxNo.{TxNo}
-use Rattle.mg_sql.specs.declared.statement.Def.{Def}
-use Rattle.mg_sql.specs.Plain.{Plain, RollbackTo, Savepoint, Table as Creation}
+use Rattle.mg_statements.specs.declared.statement.Def.{Def}
+use Rattle.mg_statements.specs.Plain.{Plain, RollbackTo, Savepoint, Table as Creation}
 use Rattle.mg_plan.specs.declared.bound.Bound.{Bound}
 use Rattle.mg_plan.specs.Refusing.{IsBoundAs}
 use Rattle.mg_plan.specs.Shapes.{shape_of}

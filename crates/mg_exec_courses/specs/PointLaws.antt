@@ -1,7 +1,7 @@
 -- SAVEPOINT and ROLLBACK TO.
 use Rattle.std.proofs.Common.{◌≡◌, ℕ, false, List, ◌∷◌, Result, Ok, Err, refl, sym, ap, subst}
 use Rattle.mg_base.specs.declared.numbers.TxNo.{TxNo}
-use Rattle.mg_sql.specs.Plain.{RollbackTo, Savepoint}
+use Rattle.mg_statements.specs.Plain.{RollbackTo, Savepoint}
 use Rattle.mg_model.specs.declared.answer.Answer.TheVariants.{Fine, No}
 use Rattle.mg_model.specs.declared.event.Event.{Event}
 use Rattle.mg_model.specs.declared.event.Event.TheVariants as events

@@ -9,10 +9,10 @@ use Rattle.mg_value.specs.declared.shape.Column.{Column}
 use Rattle.mg_value.specs.declared.shape.Shape.{Shape}
 use Rattle.mg_expr.specs.declared.fault.EvalFault.{EvalFault}
 use Rattle.mg_expr.specs.Trees.{Tree, tree_of}
-use Rattle.mg_sql.specs.declared.statement.Assign.{Assign}
-use Rattle.mg_sql.specs.declared.statement.Statement.{Statement}
-use Rattle.mg_sql.specs.declared.statement.Statement.TheVariants as statements
-use Rattle.mg_sql.specs.Plain.{Plain, Delete, Select, Totals, Update, plain_of, tree_in}
+use Rattle.mg_statements.specs.declared.statement.Assign.{Assign}
+use Rattle.mg_statements.specs.declared.statement.Statement.{Statement}
+use Rattle.mg_statements.specs.declared.statement.Statement.TheVariants as statements
+use Rattle.mg_statements.specs.Plain.{Plain, Delete, Select, Totals, Update, plain_of, tree_in}
 use Rattle.mg_plan.specs.declared.bound.Bound.{Bound}
 use Rattle.mg_plan.specs.Statements.{bound_plain}
 use Rattle.mg_model.specs.declared.answer.Answer.TheVariants.{No, Rows}

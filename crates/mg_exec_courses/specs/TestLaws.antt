@@ -6,8 +6,8 @@ use Rattle.mg_base.specs.declared.numbers.TxNo.{TxNo}
 use Rattle.mg_base.specs.declared.transaction.TxState.TheVariants.{Active}
 use Rattle.mg_value.specs.declared.shape.Shape.{Shape}
 use Rattle.mg_value.specs.declared.value.Value.{Value}
-use Rattle.mg_sql.specs.declared.statement.Def.{Def}
-use Rattle.mg_sql.specs.Plain.{Plain, Delete, Insert, RollbackTo, Savepoint, Select, Table as Creation, Totals, Update}
+use Rattle.mg_statements.specs.declared.statement.Def.{Def}
+use Rattle.mg_statements.specs.Plain.{Plain, Delete, Insert, RollbackTo, Savepoint, Select, Table as Creation, Totals, Update}
 use Rattle.mg_plan.specs.declared.bound.Bound.{Bound}
 use Rattle.mg_plan.specs.declared.fault.PlanFault.{PlanFault}
 use Rattle.mg_plan.specs.Refusing.{first_refusal}

@@ -2,7 +2,7 @@
 use Rattle.std.proofs.Common.{inl, inr, ◌≡◌, ◌≢◌, ℕ, Bool, false, true, List, [], ◌∷◌, Some, refl, sym, ap, ◌∙◌, subst}
 use Rattle.std.specs.Prelude.{map, length}
 use Rattle.mg_base.specs.declared.numbers.TxNo.{TxNo}
-use Rattle.mg_sql.specs.Plain.{Plain}
+use Rattle.mg_statements.specs.Plain.{Plain}
 use Rattle.mg_model.specs.declared.answer.Answer.TheVariants.{Fine, No}
 use Rattle.mg_model.specs.declared.event.Event.{Event}
 use Rattle.mg_model.specs.declared.event.Event.TheVariants as events

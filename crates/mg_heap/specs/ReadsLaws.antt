@@ -4,7 +4,7 @@ use Rattle.std.proofs.Common.{refl, sym, subst, arith, inl, inr, length-append}
 use Rattle.std.proofs.lemmas.Bool.{eq-eqb}
 use Rattle.mg_base.specs.Asking.{AsksReads, no_reads, one_read}
 use Rattle.mg_base.specs.Disk.{Meaning}
-use Rattle.mg_pool.specs.Reading.{Fetches, ReadsPages}
+use Rattle.mg_pool.specs.Reading.{Fetches}
 use Rattle.mg_pool.specs.declared.pool.Pool.{Pool}
 use Rattle.mg_heap.specs.Reads.{ReadsListed, is_listed}
 

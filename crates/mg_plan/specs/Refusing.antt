@@ -3,7 +3,7 @@ use Rattle.std.specs.Prelude.{◌≡◌, ℕ, ◌/◌, ◌≤◌, not, nat_lt, B
 use Rattle.mg_value.specs.declared.shape.Column.{Column}
 use Rattle.mg_value.specs.declared.shape.TheConstants.{MOST_COLUMNS}
 use Rattle.mg_model.specs.declared.table.Table.{Table}
-use Rattle.mg_sql.specs.Plain.{Plain, plain_of}
+use Rattle.mg_statements.specs.Plain.{Plain, plain_of}
 use Rattle.mg_plan.specs.declared.fault.PlanFault.{PlanFault}
 use Rattle.mg_plan.specs.declared.fault.PlanFault.TheVariants as faults
 use Rattle.mg_plan.specs.declared.bound.Bound.{Bound}

@@ -3,7 +3,7 @@ use Rattle.std.specs.Prelude.{ℕ, ◌+◌, ◌||◌, Bool, List, [], ◌∷◌,
 use Rattle.mg_value.specs.declared.shape.Column.{Column}
 use Rattle.mg_value.specs.declared.shape.Shape.{Shape}
 use Rattle.mg_sortkey.specs.KeyBytes.{most_key_bytes}
-use Rattle.mg_sql.specs.declared.statement.Def.{Def}
+use Rattle.mg_statements.specs.declared.statement.Def.{Def}
 
 -- the column that is defined so; that of the primary key is never NULL
 abbrev pub column_of : Def → Column

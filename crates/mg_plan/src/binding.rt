@@ -3,7 +3,7 @@
 ghost use Rattle.std.specs.Prelude.{◌≡◌, ◌≤◌, map, IfOk, length};
 ghost use Rattle.mg_value.specs.declared.shape.TheConstants.{MOST_COLUMNS};
 ghost use Rattle.mg_expr.specs.Trees.{tree_of, part_tree};
-ghost use Rattle.mg_sql.specs.Plain.{tree_in};
+ghost use Rattle.mg_statements.specs.Plain.{tree_in};
 ghost use Rattle.mg_plan.specs.Binding.{column_or_name, bound as bound_tree, bound_expr, bound_part, bound_filter};
 ghost use Rattle.mg_plan.specs.Names.{place_of as place_of_name};
 

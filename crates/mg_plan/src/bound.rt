@@ -3,7 +3,7 @@
 ghost use Rattle.std.specs.Prelude.{◌≡◌, ◌≤◌, length};
 ghost use Rattle.std.specs.Option.{option_copied};
 ghost use Rattle.mg_value.specs.declared.shape.TheConstants.{MOST_COLUMNS};
-ghost use Rattle.mg_sql.specs.Plain.{plain_of};
+ghost use Rattle.mg_statements.specs.Plain.{plain_of};
 ghost use Rattle.mg_plan.specs.Refusing.{Binds, HasFewColumns, columns_in, key_in};
 
 use crate::PlanFault;
@@ -13,7 +13,7 @@ use crate::statements::{
     is_typed, new_key_len, new_row_len, places_in, sets_key,
 };
 use mg_model::Table;
-use mg_sql::Statement;
+use mg_statements::Statement;
 use mg_value::{Column, MOST_COLUMNS};
 use std::alloc::Global;
 

@@ -12,7 +12,7 @@
 //! that is no column's, not one primary key, values and columns that differ in number, a primary key
 //! that is set, a wrong type, a row too long, a key too long.
 //!
-//! Below: `mg_sql`, `mg_expr`, `mg_model`, `mg_sortkey`. Above: the statements' steps.
+//! Below: `mg_statements`, `mg_expr`, `mg_model`, `mg_sortkey`. Above: the statements' steps.
 //! Not here: whether there is such a table, and all that depends on rows.
 #![tactic(auto)]
 

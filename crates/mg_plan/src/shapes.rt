@@ -7,7 +7,7 @@ ghost use Rattle.mg_plan.specs.Shapes.{column_of as column_defined, key_from, ke
 
 use mg_base::Memory;
 use mg_sortkey::key_most;
-use mg_sql::Def;
+use mg_statements::Def;
 use mg_value::{Column, Columns, Shape, columns_len};
 use std::alloc::Global;
 

@@ -5,7 +5,7 @@ ghost use Rattle.std.specs.List.{list_all, list_any};
 ghost use Rattle.mg_value.specs.declared.shape.TheConstants.{MOST_COLUMNS};
 ghost use Rattle.mg_expr.specs.Trees.{tree_of};
 ghost use Rattle.mg_expr.specs.Typing.{fits_value as fits_value_test, sort_of};
-ghost use Rattle.mg_sql.specs.Plain.{plain_of, tree_in, trees_in, names_in, assign_of, total_of};
+ghost use Rattle.mg_statements.specs.Plain.{plain_of, tree_in, trees_in, names_in, assign_of, total_of};
 ghost use Rattle.mg_plan.specs.Binding.{is_known, bound as bound_tree, is_filter_known as is_filter_known_test};
 ghost use Rattle.mg_plan.specs.Names.{place_of as place_of_name, place_or_0 as place_or_0_of, is_column as is_column_test};
 ghost use Rattle.mg_plan.specs.Types.{sort_if, fit_places as fit_places_test, fits_column as fits_column_test, is_filter_truth as is_filter_truth_test};
@@ -18,7 +18,7 @@ use crate::shapes::{count_keys, key_len, row_len};
 use crate::typing::{ValueType, fits_integer, fits_kind, fits_truth, fits_value, type_of};
 use mg_base::Memory;
 use mg_expr::Expr;
-use mg_sql::{Agg, Assign, Def, Sorted, Statement};
+use mg_statements::{Agg, Assign, Def, Sorted, Statement};
 use mg_value::{Column, Name};
 use std::alloc::Global;
 

@@ -2,8 +2,8 @@
 use Rattle.std.specs.Prelude.{◌≡◌, ℕ, List, [], ◌∷◌, get_or, Option, Some, None, Result, Ok, Err}
 use Rattle.mg_expr.specs.declared.fault.EvalFault.{EvalFault}
 use Rattle.mg_expr.specs.declared.fault.EvalFault.TheVariants as evals
-use Rattle.mg_sql.specs.declared.statement.Sorted.{Sorted}
-use Rattle.mg_sql.specs.Plain.{Total, Plain, Totals, Select}
+use Rattle.mg_statements.specs.declared.statement.Sorted.{Sorted}
+use Rattle.mg_statements.specs.Plain.{Total, Plain, Totals, Select}
 use Rattle.mg_model.specs.Changes.{Cells}
 use Rattle.mg_rows.specs.declared.ordering.OrderBy.{OrderBy}
 use Rattle.mg_rows.specs.Selecting.{Selects}

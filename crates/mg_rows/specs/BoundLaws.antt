@@ -7,8 +7,8 @@ use Rattle.mg_value.specs.declared.shape.Column.{Column}
 use Rattle.mg_value.specs.declared.shape.TheConstants.{MOST_COLUMNS}
 use Rattle.mg_expr.specs.Trees.{Tree, tree_of}
 use Rattle.mg_expr.specs.Typing.{Sort, sort_of}
-use Rattle.mg_sql.specs.declared.statement.Assign.{Assign}
-use Rattle.mg_sql.specs.Plain.{Plain, plain_of, assign_of, SetTransaction, Commit, Rollback, RollbackTo, Savepoint, Table, Insert, Update, Delete, Totals, Select}
+use Rattle.mg_statements.specs.declared.statement.Assign.{Assign}
+use Rattle.mg_statements.specs.Plain.{Plain, plain_of, assign_of, SetTransaction, Commit, Rollback, RollbackTo, Savepoint, Table, Insert, Update, Delete, Totals, Select}
 use Rattle.mg_plan.specs.declared.bound.Bound.{Bound}
 use Rattle.mg_plan.specs.declared.fault.PlanFault.{PlanFault}
 use Rattle.mg_plan.specs.declared.fault.PlanFault.TheVariants as faults

@@ -4,8 +4,8 @@ use Rattle.mg_expr.specs.declared.fault.EvalFault.TheVariants as evals
 use Rattle.mg_model.specs.declared.refusal.Refusal.TheVariants as refusals
 use Rattle.mg_plan.specs.declared.fault.PlanFault.{PlanFault}
 use Rattle.mg_plan.specs.declared.fault.PlanFault.TheVariants as plans
-use Rattle.mg_sql.specs.declared.fault.SqlFault.{SqlFault}
-use Rattle.mg_sql.specs.declared.fault.SqlFault.TheVariants as texts
+use Rattle.mg_statements.specs.declared.fault.SqlFault.{SqlFault}
+use Rattle.mg_statements.specs.declared.fault.SqlFault.TheVariants as texts
 use Rattle.mg_rows.specs.declared.fault.NewRowFault.{NewRowFault}
 use Rattle.mg_rows.specs.declared.fault.NewRowFault.TheVariants as rows
 use Rattle.mg_rows.specs.declared.statement_fault.StatementFault.{StatementFault}

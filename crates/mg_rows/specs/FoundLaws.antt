@@ -12,7 +12,7 @@ use Rattle.mg_expr.specs.declared.fault.EvalFault.TheVariants as faults
 use Rattle.mg_expr.specs.Trees.{Tree}
 use Rattle.mg_expr.specs.Filters.{is_passed}
 use Rattle.mg_expr.specs.FilterLaws.{passes_where_true}
-use Rattle.mg_sql.specs.Plain.{tree_in}
+use Rattle.mg_statements.specs.Plain.{tree_in}
 use Rattle.mg_model.specs.Changes.{Cells, KeyedRows}
 use Rattle.mg_model.specs.Answers.{passes}
 use Rattle.mg_model.specs.RowLaws.{IsBelow, IsAscending}

@@ -4,7 +4,7 @@ use Rattle.std.specs.List.{list_any}
 use Rattle.std.specs.List.Sorted.{IsPermutation}
 use Rattle.mg_expr.specs.declared.expr.Expr.{Expr}
 use Rattle.mg_expr.specs.Trees.{Tree}
-use Rattle.mg_sql.specs.Plain.{tree_in}
+use Rattle.mg_statements.specs.Plain.{tree_in}
 use Rattle.mg_expr.specs.Typing.{sort_of}
 use Rattle.mg_plan.specs.Types.{fit_places}
 use Rattle.mg_value.specs.declared.shape.Column.{Column}

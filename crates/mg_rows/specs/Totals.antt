@@ -3,7 +3,7 @@ use Rattle.std.specs.Prelude.{ℤ, pos, ◌+ℤ◌, List, [], ◌∷◌, length,
 use Rattle.mg_value.specs.declared.value.Value.{Value}
 use Rattle.mg_value.specs.declared.value.Value.TheVariants.{Null, Int, Text}
 use Rattle.mg_expr.specs.Meaning.{within}
-use Rattle.mg_sql.specs.Plain.{Total, Count, SumOf}
+use Rattle.mg_statements.specs.Plain.{Total, Count, SumOf}
 use Rattle.mg_model.specs.Changes.{Cells}
 use Rattle.mg_rows.specs.Selecting.{each_of, tree_value}
 

@@ -4,7 +4,7 @@ ghost use Rattle.std.specs.Prelude.{◌≡◌, ◌∷◌, [], map};
 ghost use Rattle.mg_expr.specs.Meaning.{says_of};
 ghost use Rattle.mg_expr.specs.Filters.{passes_all, passes_of};
 ghost use Rattle.mg_expr.specs.Outcomes.{Answers};
-ghost use Rattle.mg_sql.specs.Plain.{tree_in};
+ghost use Rattle.mg_statements.specs.Plain.{tree_in};
 ghost use Rattle.mg_rows.specs.Found.{passes_filter, Keeps};
 
 use crate::filling::push;

@@ -11,7 +11,7 @@ use crate::filling::push;
 use crate::selecting::each_value;
 use mg_base::Memory;
 use mg_expr::{EvalFault, Expr, evaluate};
-use mg_sql::Assign;
+use mg_statements::Assign;
 use mg_value::{Column, Kind, Row, Value};
 use std::alloc::Global;
 

@@ -3,7 +3,7 @@
 ghost use Rattle.std.specs.Prelude.{◌≡◌, map, IfOk};
 ghost use Rattle.mg_expr.specs.Trees.{tree_of};
 ghost use Rattle.mg_expr.specs.Outcomes.{Answers};
-ghost use Rattle.mg_sql.specs.Plain.{trees_in};
+ghost use Rattle.mg_statements.specs.Plain.{trees_in};
 ghost use Rattle.mg_rows.specs.Selecting.{each_value as each_value_of, selected as selected_of, each_selected, Selects};
 
 use crate::filling::push;

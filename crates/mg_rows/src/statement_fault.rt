@@ -10,7 +10,7 @@ use mg_base::Memory;
 use mg_expr::EvalFault;
 use mg_model::Refusal;
 use mg_plan::PlanFault;
-use mg_sql::SqlFault;
+use mg_statements::SqlFault;
 use std::fmt;
 
 /// Why a statement is refused: what it is tested for itself, and what the machine refuses its

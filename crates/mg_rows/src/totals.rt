@@ -4,14 +4,14 @@ ghost use Rattle.std.specs.Prelude.{◌≡◌, ◌≤◌, ◌<◌, ◌+◌, ◌*
 ghost use Rattle.mg_expr.specs.Trees.{tree_of};
 ghost use Rattle.mg_expr.specs.Meaning.{within as within_64};
 ghost use Rattle.mg_expr.specs.Outcomes.{Answers};
-ghost use Rattle.mg_sql.specs.Plain.{total_of};
+ghost use Rattle.mg_statements.specs.Plain.{total_of};
 ghost use Rattle.mg_rows.specs.Selecting.{each_of, tree_value};
 ghost use Rattle.mg_rows.specs.Totals.{sum_if, total_over, totals_over};
 ghost use Rattle.mg_rows.specs.Running.{Holds, added_up};
 
 use crate::filling::push;
 use mg_expr::{EvalFault, Expr, evaluate};
-use mg_sql::Agg;
+use mg_statements::Agg;
 use mg_value::{Row, Value};
 use std::alloc::Global;
 

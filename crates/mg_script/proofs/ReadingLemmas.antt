@@ -7,7 +7,7 @@ use Rattle.std.specs.Prelude.{◌==◌, codes, length}
 use Rattle.std.specs.Str.Lines.{lines}
 use Rattle.mg_sql.specs.Answers.{FaultIn}
 use Rattle.mg_sql.specs.Laws.{StatementsHaveNoFault}
-use Rattle.mg_sql.specs.declared.fault.SqlFault.{SqlFault}
+use Rattle.mg_statements.specs.declared.fault.SqlFault.{SqlFault}
 use Rattle.std.specs.Fmt.{decimal}
 use Rattle.mg_script.specs.Lines.{AreLines, Asks, IsScript, IsStep, MayBeHeld, NamesNumber, has_statement, letter}
 use Rattle.mg_script.specs.declared.line.Line.{Line}

@@ -4,7 +4,7 @@ use Rattle.std.specs.Int.{w64}
 use Rattle.std.specs.Fmt.{signed_decimal}
 use Rattle.std.specs.Str.Lines.{lines}
 use Rattle.mg_sql.specs.Answers.{Parses}
-use Rattle.mg_sql.specs.Plain.{Plain, Commit, Insert, Update, Delete, Totals, Select}
+use Rattle.mg_statements.specs.Plain.{Plain, Commit, Insert, Update, Delete, Totals, Select}
 use Rattle.mg_script.specs.declared.line.Line.{Line}
 use Rattle.mg_script.specs.declared.line.LineKind.{LineKind}
 use Rattle.mg_script.specs.declared.line.LineKind.TheVariants.{Sql, Held, Step, Go, Write, Collect, Sweep, Prepare, Put, Get, Silent, Bad}

@@ -10,7 +10,7 @@
 //! zero; keys and values of `@put` and `@get` may have `-` before a number other than 0.
 //!
 //! Invariant: none, it keeps no state.
-//! Below: `mg_sql`, which says of a text which statement it is. Above: the program.
+//! Below: `mg_statements` and `mg_sql`, which say of a text which statement it is. Above: the program.
 //! Not here: what a line does.
 #![tactic(auto)]
 

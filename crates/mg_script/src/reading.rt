@@ -7,13 +7,14 @@ ghost use Rattle.mg_script.specs.Lines.{Asks, IsGet, IsLine, IsPut, IsStep, MayB
 ghost use Rattle.mg_script.specs.declared.line.LineKind.{LineKind as AnyKind};
 ghost use Rattle.mg_script.specs.declared.line.LineKind.TheVariants as kinds;
 ghost use Rattle.mg_script.specs.declared.line.Session.{Session as AnySession};
-ghost use Rattle.mg_sql.specs.Plain.{plain_of};
+ghost use Rattle.mg_statements.specs.Plain.{plain_of};
 
 use crate::line::{LineKind, MOST_STEPS, SESSIONS, Session};
 use crate::splitting::{behind, two_numbers};
 use mg_base::{Bytes, Memory};
 use mg_decimal::{signed, unsigned};
-use mg_sql::{SqlFault, Statement, parse, statements_have_no_fault, texts_are_one_statement};
+use mg_sql::{parse, statements_have_no_fault, texts_are_one_statement};
+use mg_statements::{SqlFault, Statement};
 use std::alloc::Global;
 
 /// Reads one line, without its end.

@@ -9,7 +9,7 @@ use Rattle.mg_records.specs.Meaning.{Means}
 use Rattle.mg_script.specs.declared.line.Session.{Session}
 use Rattle.mg_script.specs.declared.reply.Reply.{Reply}
 use Rattle.mg_script.specs.Lines.{takes_steps}
-use Rattle.mg_sql.specs.Plain.{Plain, SetTransaction, Commit, Rollback, RollbackTo, Savepoint, Table, Insert, Update, Delete, Totals, Select}
+use Rattle.mg_statements.specs.Plain.{Plain, SetTransaction, Commit, Rollback, RollbackTo, Savepoint, Table, Insert, Update, Delete, Totals, Select}
 use Rattle.mg_calls.specs.Frames.{Frames}
 use Rattle.mg_transcript.specs.Courses.{Course, Comes, Later, Parks, Ends, reply_of}
 use Rattle.mg_transcript.specs.Growing.{GrowsBy}

@@ -5,7 +5,7 @@ ghost use Rattle.mg_model.specs.declared.opening.Opening.{Opening};
 ghost use Rattle.mg_model.specs.History.{Entries};
 ghost use Rattle.mg_sql.specs.Answers.{Parses};
 ghost use Rattle.mg_sql.specs.Lengths.{HasLengths};
-ghost use Rattle.mg_sql.specs.Plain.{plain_of, SetTransaction};
+ghost use Rattle.mg_statements.specs.Plain.{plain_of, SetTransaction};
 ghost use Rattle.mg_script.specs.declared.line.LineKind.TheVariants as kinds;
 ghost use Rattle.mg_script.specs.declared.line.TheConstants.{SESSIONS};
 ghost use Rattle.mg_script.specs.Lines.{MayBeHeld};
@@ -29,7 +29,8 @@ use mg_model::{Mode, Refusal};
 use mg_pending::{Pending, Sessions, Transaction, is_busy};
 use mg_rows::StatementFault;
 use mg_script::{Reply, Session};
-use mg_sql::{Statement, parse, statements_have_lengths};
+use mg_sql::{parse, statements_have_lengths};
+use mg_statements::Statement;
 use std::alloc::Global;
 
 /// Obeys `A: sql`: a statement of a session runs until it waits or is at its end.

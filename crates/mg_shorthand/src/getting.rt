@@ -5,7 +5,7 @@ ghost use Rattle.mg_model.specs.declared.opening.Opening.{Opening};
 ghost use Rattle.mg_model.specs.History.{Entries};
 ghost use Rattle.mg_model.specs.Machine.{mode_of};
 ghost use Rattle.mg_expr.specs.Trees.{Compare as CompareTree, Integer as IntegerTree, Name as NameTree, tree_of};
-ghost use Rattle.mg_sql.specs.Plain.{plain_of};
+ghost use Rattle.mg_statements.specs.Plain.{plain_of};
 ghost use Rattle.mg_transcript.specs.Courses.{Begun};
 ghost use Rattle.mg_transcript.specs.Shorthand.{Gets, IsGot, value_of_key as value_of_key_of};
 ghost use Rattle.mg_transcript.specs.Statements.{fault_seen};
@@ -23,7 +23,7 @@ use mg_expr::{Expr, Sign};
 use mg_model::Refusal;
 use mg_rows::StatementFault;
 use mg_script::Reply;
-use mg_sql::Statement;
+use mg_statements::Statement;
 use mg_value::Name;
 use std::alloc::Global;
 

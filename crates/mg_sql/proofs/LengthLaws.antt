@@ -5,11 +5,11 @@ use Rattle.std.specs.Prelude.{All, Option, Some, None, true, false}
 use Rattle.mg_expr.specs.Trees.{Tree}
 use Rattle.mg_value.specs.declared.shape.Kind.{Kind as Type_}
 use Rattle.mg_value.specs.declared.shape.Kind.TheVariants as types
-use Rattle.mg_sql.specs.declared.statement.Def.{Def}
+use Rattle.mg_statements.specs.declared.statement.Def.{Def}
 use Rattle.mg_sql.specs.Answers.{Parses}
 use Rattle.mg_sql.specs.Grammar.{Limits}
 use Rattle.mg_sql.specs.Lengths.{HasLengths, IsOfSize, StatementsHaveLengths}
-use Rattle.mg_sql.specs.Plain.{Count, Plain, RollbackTo, Rollback, Select, SetTransaction, SumOf, Table}
+use Rattle.mg_statements.specs.Plain.{Count, Plain, RollbackTo, Rollback, Select, SetTransaction, SumOf, Table}
 use Rattle.mg_sql.specs.Reading.{IsSize}
 use Rattle.mg_sql.specs.Spelling.{capitals, number}
 use Rattle.mg_sql.specs.Statements.{Rest, Item, Of, finish, word, either, name, size, expression, list, item, behind, def, names, expressions, assignments, definitions, totals, Spells, finished, closed, took, left, right, named, sized, expressed, listed, statement, filter, level, isolation, modes, set_transaction, rollback, optional, insert, order, selected, select, unnullable, keyed}

@@ -2,13 +2,13 @@
 use Rattle.std.proofs.Common.{◌≡◌, ◌≢◌, ℕ, zero, suc, ◌+◌, ◌<◌, ◌≤◌, Bool, true, false, ◌&&◌, List, [], ◌∷◌, ◌++◌, ◌-◌, length, map, get_or, Option, Some, None, Result, Ok, Err, refl, sym, ◌∙◌, ap, subst, arith, append_assoc, append-nil}
 use Rattle.std.proofs.lemmas.Bool.{and_parts}
 use Rattle.mg_expr.specs.Trees.{Tree, Null}
-use Rattle.mg_sql.specs.declared.fault.SqlFault.{SqlFault}
-use Rattle.mg_sql.specs.declared.fault.SqlFault.TheVariants as faults
+use Rattle.mg_statements.specs.declared.fault.SqlFault.{SqlFault}
+use Rattle.mg_statements.specs.declared.fault.SqlFault.TheVariants as faults
 use Rattle.mg_sql.specs.declared.token.Kind.{Kind}
 use Rattle.mg_sql.specs.declared.token.Kind.TheVariants as kinds
 use Rattle.mg_sql.specs.declared.parser.Parser.{Parser}
 use Rattle.mg_sql.specs.declared.parts.TheConstants.{LEVELS}
-use Rattle.mg_sql.specs.declared.statement.TheConstants.{MOST_SIZE}
+use Rattle.mg_statements.specs.declared.statement.TheConstants.{MOST_SIZE}
 use Rattle.mg_sql.specs.Tokens.{Token, token, Takes}
 use Rattle.mg_sql.specs.Spelling.{spelling, capitals, number}
 use Rattle.mg_sql.specs.Lexing.{Lexes, none, one, Stands, spelled, ended, past, stray, between}
@@ -16,7 +16,7 @@ use Rattle.mg_sql.specs.Ends.{Ends, kind_in, binds, front_binds, opens, front_op
 use Rattle.mg_sql.specs.Grammar.{Limits, Expr}
 use Rattle.mg_sql.specs.Grammar as e
 use Rattle.mg_value.specs.declared.shape.Kind.TheVariants as types
-use Rattle.mg_sql.specs.Plain.{Plain, Total, Count, SetTransaction}
+use Rattle.mg_statements.specs.Plain.{Plain, Total, Count, SetTransaction}
 use Rattle.mg_sql.specs.Statements as g
 use Rattle.mg_sql.specs.Statements.{Rest, Item, Of, Spells, shift, item, behind, def, keyed, unnullable, kind_of_column}
 use Rattle.mg_sql.specs.Reading.{the_limits, Allows, Reads, Completes, CompletesBeyond, Refuses, Keeps, IsReady, Fails, Told, Expects, Takes_, TellsName, TellsSize, IsSize, ahead, bounded}

@@ -1,12 +1,12 @@
 -- A text that is a statement has no fault.
 use Rattle.std.proofs.Common.{◌≡◌, ◌≢◌, ℕ, ◌<◌, ◌≤◌, Bool, true, false, List, [], ◌∷◌, ◌++◌, length, refl, sym, ◌∙◌, ap, subst, arith, append_assoc, append-nil}
-use Rattle.mg_sql.specs.declared.fault.SqlFault.{SqlFault}
+use Rattle.mg_statements.specs.declared.fault.SqlFault.{SqlFault}
 use Rattle.mg_sql.specs.declared.parts.TheConstants.{LEVELS}
 use Rattle.mg_sql.specs.declared.token.Kind.{Kind}
 use Rattle.mg_sql.specs.declared.token.Kind.TheVariants as kinds
 use Rattle.mg_sql.specs.Tokens.{Token, token}
 use Rattle.mg_sql.specs.Lexing.{Stands, spelled, ended, past, stray, Lexes, none, one, AreBlank, between}
-use Rattle.mg_sql.specs.Plain.{Plain}
+use Rattle.mg_statements.specs.Plain.{Plain}
 use Rattle.mg_sql.specs.Statements.{Spells, statement}
 use Rattle.mg_sql.specs.Reading.{the_limits}
 use Rattle.mg_sql.specs.Answers.{Front, Parses, Begins, Stops, FaultIn}

@@ -8,8 +8,8 @@ use Rattle.mg_sql.specs.declared.token.Kind.TheVariants as kinds
 use Rattle.mg_sql.specs.Tokens.{Token, token, Takes}
 use Rattle.mg_sql.specs.Grammar.{Limits, sign_of, adds, multiplies}
 use Rattle.mg_sql.specs.Grammar as e
-use Rattle.mg_sql.specs.Plain as plain
-use Rattle.mg_sql.specs.Plain.{Plain}
+use Rattle.mg_statements.specs.Plain as plain
+use Rattle.mg_statements.specs.Plain.{Plain}
 use Rattle.mg_sql.specs.Statements as g
 use Rattle.mg_sql.specs.Statements.{Rest, Item, Of, Spells, item, behind}
 

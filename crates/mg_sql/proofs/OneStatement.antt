@@ -2,15 +2,15 @@
 use Rattle.std.proofs.Common.{◌≡◌, ◌≢◌, ℕ, ◌<◌, ◌≤◌, Bool, true, false, List, [], ◌∷◌, ◌++◌, Option, Some, None, refl, sym, ◌∙◌, ap, subst, arith, append_assoc, append-nil}
 use Rattle.mg_expr.specs.Trees.{Tree}
 use Rattle.mg_sql.specs.declared.parts.TheConstants.{LEVELS}
-use Rattle.mg_sql.specs.declared.statement.Sorted.{Sorted}
+use Rattle.mg_statements.specs.declared.statement.Sorted.{Sorted}
 use Rattle.mg_sql.specs.declared.token.Kind.{Kind}
 use Rattle.mg_sql.specs.declared.token.Kind.TheVariants as kinds
 use Rattle.mg_sql.specs.Tokens.{Token, token, Takes}
 use Rattle.mg_sql.specs.Spelling.{capitals, number}
 use Rattle.mg_sql.specs.Ends.{kind_in}
 use Rattle.mg_sql.specs.Grammar.{Limits}
-use Rattle.mg_sql.specs.Plain as plain
-use Rattle.mg_sql.specs.Plain.{Plain}
+use Rattle.mg_statements.specs.Plain as plain
+use Rattle.mg_statements.specs.Plain.{Plain}
 use Rattle.mg_sql.specs.Statements as g
 use Rattle.mg_sql.specs.Statements.{Rest, Item, Of, Spells, item, behind, statement}
 use Rattle.mg_sql.specs.Reading.{the_limits}

@@ -6,8 +6,8 @@ use mir.Val.{to_z, of_z}
 use Rattle.mg_expr.specs.declared.expr.Sign.{Sign}
 use Rattle.mg_sql.specs.declared.token.Kind.{Kind}
 use Rattle.mg_sql.specs.declared.token.Kind.TheVariants as kinds
-use Rattle.mg_sql.specs.declared.fault.SqlFault.{SqlFault}
-use Rattle.mg_sql.specs.declared.fault.SqlFault.TheVariants as faults
+use Rattle.mg_statements.specs.declared.fault.SqlFault.{SqlFault}
+use Rattle.mg_statements.specs.declared.fault.SqlFault.TheVariants as faults
 use Rattle.mg_sql.specs.declared.parser.Parser.{Parser}
 use Rattle.mg_sql.specs.Spelling.{IsSpelled}
 use Rattle.mg_sql.specs.Tokens.{Token, token}

@@ -1,14 +1,14 @@
 -- What is told of the whole text.
 use Rattle.std.proofs.Common.{◌≡◌, ℕ, ◌≤◌, Bool, true, false, List, [], ◌∷◌, ◌++◌, Result, Ok, Err, refl, sym, ◌∙◌, ap, subst, arith, append_assoc, append-nil}
-use Rattle.mg_sql.specs.declared.fault.SqlFault.{SqlFault}
-use Rattle.mg_sql.specs.declared.fault.SqlFault.TheVariants as faults
-use Rattle.mg_sql.specs.declared.statement.Statement.{Statement}
+use Rattle.mg_statements.specs.declared.fault.SqlFault.{SqlFault}
+use Rattle.mg_statements.specs.declared.fault.SqlFault.TheVariants as faults
+use Rattle.mg_statements.specs.declared.statement.Statement.{Statement}
 use Rattle.mg_sql.specs.declared.parser.Parser.{Parser}
 use Rattle.mg_sql.specs.declared.token.Kind.{Kind}
 use Rattle.mg_sql.specs.Tokens.{Token, token}
 use Rattle.mg_sql.specs.Lexing.{AreBlank, Lexes, Stands, between}
 use Rattle.mg_sql.specs.Grammar.{Limits}
-use Rattle.mg_sql.specs.Plain.{Plain, plain_of}
+use Rattle.mg_statements.specs.Plain.{Plain, plain_of}
 use Rattle.mg_sql.specs.Statements as g
 use Rattle.mg_sql.specs.Statements.{Rest, Spells, statement}
 use Rattle.mg_sql.specs.Going.{Spelled, Derives}

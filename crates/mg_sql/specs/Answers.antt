@@ -1,8 +1,8 @@
 -- What a text is: a statement, or a text with its first fault.
 use Rattle.std.specs.Prelude.{◌≡◌, ℕ, List, [], ◌∷◌, ◌++◌, Option, Some, None, Result, Ok, Err}
-use Rattle.mg_sql.specs.declared.fault.SqlFault.{SqlFault}
-use Rattle.mg_sql.specs.declared.fault.SqlFault.TheVariants as faults
-use Rattle.mg_sql.specs.declared.statement.Statement.{Statement as AnyStatement}
+use Rattle.mg_statements.specs.declared.fault.SqlFault.{SqlFault}
+use Rattle.mg_statements.specs.declared.fault.SqlFault.TheVariants as faults
+use Rattle.mg_statements.specs.declared.statement.Statement.{Statement as AnyStatement}
 use Rattle.mg_sql.specs.declared.parts.TheConstants.{LEVELS}
 use Rattle.mg_sql.specs.declared.token.Kind.{Kind}
 use Rattle.mg_sql.specs.declared.token.Kind.TheVariants as kinds
@@ -10,7 +10,7 @@ use Rattle.mg_sql.specs.Tokens.{Token, token}
 use Rattle.mg_sql.specs.Lexing.{Lexes, Stands, AreBlank, between}
 use Rattle.mg_sql.specs.Grammar.{Limits}
 use Rattle.mg_sql.specs.Reading.{the_limits, IsOpening, bounded}
-use Rattle.mg_sql.specs.Plain.{Plain, plain_of}
+use Rattle.mg_statements.specs.Plain.{Plain, plain_of}
 use Rattle.mg_sql.specs.Statements.{Spells, statement}
 
 -- these are the tokens of a text up to a place, and blanks behind them

@@ -1,6 +1,6 @@
 -- What a function says that reads the next part of a statement.
 use Rattle.std.specs.Prelude.{◌≡◌, ℕ, ◌≤◌, Bool, true, false, ◌&&◌, List, [], ◌∷◌, ◌++◌, Result, Ok, Err}
-use Rattle.mg_sql.specs.declared.fault.SqlFault.{SqlFault}
+use Rattle.mg_statements.specs.declared.fault.SqlFault.{SqlFault}
 use Rattle.mg_sql.specs.declared.token.Kind.{Kind}
 use Rattle.mg_sql.specs.declared.token.Kind.TheVariants as kinds
 use Rattle.mg_sql.specs.declared.parser.Parser.{Parser}
@@ -9,7 +9,7 @@ use Rattle.mg_sql.specs.Tokens.{Token}
 use Rattle.mg_sql.specs.Lexing.{Lexes}
 use Rattle.mg_sql.specs.Grammar.{Limits}
 use Rattle.mg_sql.specs.Ends.{kind_in}
-use Rattle.mg_sql.specs.Plain.{Plain}
+use Rattle.mg_statements.specs.Plain.{Plain}
 use Rattle.mg_sql.specs.Statements.{Rest, finish, word, either, name, size, expression, list, Item, names, expressions, assignments, definitions, totals, Spells}
 use Rattle.mg_sql.specs.Reading.{the_limits, Allows, Keeps, Fails}
 

@@ -1,7 +1,7 @@
 -- What follows of statements and faults.
 use Rattle.std.specs.Prelude.{◌≡◌, ℕ, List}
-use Rattle.mg_sql.specs.declared.fault.SqlFault.{SqlFault}
-use Rattle.mg_sql.specs.Plain.{Plain}
+use Rattle.mg_statements.specs.declared.fault.SqlFault.{SqlFault}
+use Rattle.mg_statements.specs.Plain.{Plain}
 use Rattle.mg_sql.specs.Answers.{Parses, FaultIn}
 
 -- a text that is a statement has no fault

@@ -3,7 +3,7 @@ use Rattle.std.specs.Prelude.{ℕ, List, All}
 use Rattle.mg_value.specs.declared.shape.Kind.{Kind as Type_}
 use Rattle.mg_value.specs.declared.shape.Kind.TheVariants as types
 use Rattle.mg_sql.specs.Answers.{Parses}
-use Rattle.mg_sql.specs.Plain.{Plain, Table}
+use Rattle.mg_statements.specs.Plain.{Plain, Table}
 use Rattle.mg_sql.specs.Reading.{IsSize}
 
 -- a VARCHAR has 1 to 1000 bytes

@@ -4,7 +4,6 @@ pub mod Lexing
 pub mod Grammar
 pub mod Ends
 pub mod Reading
-pub mod Plain
 pub mod Statements
 pub mod Going
 pub mod Answers

@@ -1,12 +1,12 @@
 -- What a reading function of the parser says of its part of the text.
 use Rattle.std.specs.Prelude.{◌≡◌, ◌≢◌, ℕ, zero, suc, ◌<◌, ◌≤◌, Bool, true, false, List, [], ◌∷◌, ◌++◌, length, ℤ, pos, min, Result, Ok, Err}
-use Rattle.mg_sql.specs.declared.fault.SqlFault.{SqlFault}
-use Rattle.mg_sql.specs.declared.fault.SqlFault.TheVariants as faults
+use Rattle.mg_statements.specs.declared.fault.SqlFault.{SqlFault}
+use Rattle.mg_statements.specs.declared.fault.SqlFault.TheVariants as faults
 use Rattle.mg_sql.specs.declared.token.Kind.{Kind}
 use Rattle.mg_sql.specs.declared.token.Kind.TheVariants as kinds
 use Rattle.mg_sql.specs.declared.parser.Parser.{Parser}
 use Rattle.mg_sql.specs.declared.scanning.TheConstants.{MOST_TEXT}
-use Rattle.mg_sql.specs.declared.statement.TheConstants.{MOST_SIZE}
+use Rattle.mg_statements.specs.declared.statement.TheConstants.{MOST_SIZE}
 use Rattle.mg_sql.specs.Spelling.{number, capitals, quoted}
 use Rattle.mg_sql.specs.Tokens.{Token, token, Takes}
 use Rattle.mg_sql.specs.Lexing.{Lexes, Stands, between}

@@ -5,15 +5,15 @@ use Rattle.std.specs.Prelude.{◌≡◌, ℕ, suc, ◌≤◌, Bool, true, false,
 use Rattle.mg_value.specs.declared.shape.Kind.TheVariants as types
 use Rattle.mg_value.specs.declared.shape.Kind.{Kind as Type_}
 use Rattle.mg_expr.specs.Trees.{Tree}
-use Rattle.mg_sql.specs.declared.statement.Def.{Def}
-use Rattle.mg_sql.specs.declared.statement.Sorted.{Sorted}
+use Rattle.mg_statements.specs.declared.statement.Def.{Def}
+use Rattle.mg_statements.specs.declared.statement.Sorted.{Sorted}
 use Rattle.mg_sql.specs.declared.token.Kind.{Kind}
 use Rattle.mg_sql.specs.declared.token.Kind.TheVariants as kinds
-use Rattle.mg_sql.specs.declared.statement.TheConstants.{MOST_SIZE}
+use Rattle.mg_statements.specs.declared.statement.TheConstants.{MOST_SIZE}
 use Rattle.mg_sql.specs.Spelling.{capitals, number}
 use Rattle.mg_sql.specs.Tokens.{Token, Takes}
 use Rattle.mg_sql.specs.Grammar.{Limits, Expr}
-use Rattle.mg_sql.specs.Plain.{Plain, Total, Count, SumOf, SetTransaction, Commit, Rollback, RollbackTo, Savepoint, Table, Insert, Update, Delete, Totals, Select}
+use Rattle.mg_statements.specs.Plain.{Plain, Total, Count, SumOf, SetTransaction, Commit, Rollback, RollbackTo, Savepoint, Table, Insert, Update, Delete, Totals, Select}
 
 -- what stands in a list: names; expressions, within parentheses or not; what is set; columns of a
 -- new table; totals

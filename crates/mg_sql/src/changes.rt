@@ -2,17 +2,16 @@
 
 ghost use Rattle.std.specs.Prelude.{ℕ, List, Option, None};
 ghost use Rattle.mg_sql.specs.Reading.{IsReady, Keeps};
-ghost use Rattle.mg_sql.specs.Plain.{plain_of, names_in};
+ghost use Rattle.mg_statements.specs.Plain.{plain_of, names_in};
 ghost use Rattle.mg_sql.specs.Statements.{Rest, finish, targets as targets_rule, insert as insert_rule, update as update_rule, delete as delete_rule};
 ghost use Rattle.mg_sql.specs.Going.{Goes, Never};
 ghost use Rattle.mg_sql.specs.declared.token.Kind.TheVariants as kinds;
 
-use crate::fault::SqlFault;
 use crate::lists::{assignments, expressions, names};
 use crate::parser::Parser;
 use crate::parts::{filter, name};
-use crate::statement::Statement;
 use crate::token::Kind;
+use mg_statements::{SqlFault, Statement};
 use mg_value::Name;
 
 /// ["(" name {"," name} ")"]

@@ -2,19 +2,18 @@
 
 ghost use Rattle.std.specs.Prelude.{◌≡◌, ◌≤◌, ℕ, List, Bool, true, pos};
 ghost use Rattle.mg_sql.specs.Reading.{IsReady, Keeps};
-ghost use Rattle.mg_sql.specs.Plain.{plain_of};
+ghost use Rattle.mg_statements.specs.Plain.{plain_of};
 ghost use Rattle.mg_sql.specs.Statements.{Rest, item, size as size_rule, kind_of_column, keyed, unnullable, definitions as definitions_item, create_table as create_table_rule, finish};
 ghost use Rattle.mg_sql.specs.Going.{Goes, Never, begins_in, behind_item};
-ghost use Rattle.mg_sql.specs.declared.statement.Def.{Def as AnyDef};
+ghost use Rattle.mg_statements.specs.declared.statement.Def.{Def as AnyDef};
 ghost use Rattle.mg_sql.specs.declared.token.Kind.TheVariants as kinds;
 ghost use Rattle.mg_value.specs.declared.shape.Kind.{Kind as AnyType};
 
-use crate::fault::SqlFault;
 use crate::lists::definitions;
 use crate::parser::Parser;
 use crate::parts::name;
-use crate::statement::{Def, Statement};
 use crate::token::Kind;
+use mg_statements::{Def, SqlFault, Statement};
 use mg_value::Kind as Type;
 
 /// Reads the greatest length of a VARCHAR: an integer from 1 to 1000.

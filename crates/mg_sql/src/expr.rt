@@ -7,11 +7,11 @@ ghost use Rattle.mg_sql.specs.Ends.{binds as binds_by};
 ghost use Rattle.mg_sql.specs.Reading.{IsReady, Keeps, Told, EndsTest};
 ghost use Rattle.mg_sql.specs.declared.token.Kind.TheVariants as kinds;
 
-use crate::fault::SqlFault;
 use crate::parser::Parser;
 use crate::token::Kind;
 use mg_base::Memory;
 use mg_expr::{Expr, Part, Sign};
+use mg_statements::SqlFault;
 use std::alloc::Global;
 
 /// Whether a sign of a sum subtracts.

@@ -3,18 +3,17 @@
 ghost use Rattle.std.specs.Prelude.{◌≡◌, List, ℕ, map, true};
 ghost use Rattle.mg_expr.specs.Trees.{Tree, tree_of};
 ghost use Rattle.mg_sql.specs.Reading.{IsReady, Keeps};
-ghost use Rattle.mg_sql.specs.Plain.{Total, assign_of, total_of};
+ghost use Rattle.mg_statements.specs.Plain.{Total, assign_of, total_of};
 ghost use Rattle.mg_sql.specs.Statements.{Rest, list, item, names as names_item, expressions as expressions_item, assignments as assignments_item, definitions as definitions_item, totals as totals_item};
 ghost use Rattle.mg_sql.specs.Going.{Goes, begins_in, behind_item, behind_list};
-ghost use Rattle.mg_sql.specs.declared.statement.Def.{Def as AnyDef};
+ghost use Rattle.mg_statements.specs.declared.statement.Def.{Def as AnyDef};
 
 use crate::columns::definition;
-use crate::fault::SqlFault;
 use crate::parser::Parser;
 use crate::parts::{expression, name};
-use crate::statement::{Agg, Assign, Def};
 use crate::token::Kind;
 use mg_expr::Expr;
+use mg_statements::{Agg, Assign, Def, SqlFault};
 use mg_value::Name;
 
 /// name {"," name}

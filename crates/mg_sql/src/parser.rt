@@ -5,10 +5,10 @@ ghost use Rattle.mg_sql.specs.Reading.{IsReady, Keeps, Expects, Decides, Takes_,
 ghost use Rattle.mg_sql.specs.declared.token.Kind.TheVariants as kinds;
 ghost use Rattle.mg_sql.specs.Lexing.{Lexes, Stands};
 
-use crate::fault::SqlFault;
 use crate::scanning::{MOST_TEXT, scan};
 use crate::token::Kind;
 use crate::values::{name_of, number_of, size_of, text_of};
+use mg_statements::SqlFault;
 use mg_value::{Name, Txt};
 use std::alloc::Global;
 

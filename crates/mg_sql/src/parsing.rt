@@ -1,20 +1,19 @@
 //! The statement that a text is.
 
 ghost use Rattle.mg_sql.specs.Reading.{IsReady, Keeps, Told};
-ghost use Rattle.mg_sql.specs.Plain.{Plain, plain_of};
+ghost use Rattle.mg_statements.specs.Plain.{Plain, plain_of};
 ghost use Rattle.mg_sql.specs.Statements.{finish, statement as statement_rule};
 ghost use Rattle.mg_sql.specs.Going.{Goes, Spelled};
 ghost use Rattle.mg_sql.specs.Answers.{Answers};
 
 use crate::changes::{delete, insert, update};
 use crate::columns::create_table;
-use crate::fault::SqlFault;
 use crate::parser::Parser;
 use crate::scanning::scan;
 use crate::selecting::select;
-use crate::statement::Statement;
 use crate::token::Kind;
 use crate::transactions::{commit, rollback, savepoint, set_transaction};
+use mg_statements::{SqlFault, Statement};
 use std::alloc::Global;
 
 /// Reads a statement.

@@ -4,15 +4,15 @@ ghost use Rattle.std.specs.Prelude.{◌≡◌, ◌<◌, List, ℕ, Option, None,
 ghost use Rattle.mg_sql.specs.declared.token.Kind.TheVariants as kinds;
 ghost use Rattle.mg_expr.specs.Trees.{Tree, tree_of};
 ghost use Rattle.mg_sql.specs.Reading.{IsReady, Keeps};
-ghost use Rattle.mg_sql.specs.Plain.{tree_in};
+ghost use Rattle.mg_statements.specs.Plain.{tree_in};
 ghost use Rattle.mg_sql.specs.Statements.{Rest, name as name_rule, expression as expression_rule, filter as filter_rule, shift};
 ghost use Rattle.mg_sql.specs.Going.{Goes, Never, begins_in, behind_item};
 
 use crate::expr::expr;
-use crate::fault::SqlFault;
 use crate::parser::Parser;
 use crate::token::Kind;
 use mg_expr::Expr;
+use mg_statements::SqlFault;
 use mg_value::Name;
 
 /// So many levels of parentheses, NOT and minus may be open.

@@ -3,19 +3,18 @@
 ghost use Rattle.std.specs.Prelude.{◌≡◌, List, Option, None, true, false, Bool};
 ghost use Rattle.mg_expr.specs.Trees.{Tree};
 ghost use Rattle.mg_sql.specs.Reading.{IsReady, Keeps};
-ghost use Rattle.mg_sql.specs.Plain.{plain_of, trees_in};
+ghost use Rattle.mg_statements.specs.Plain.{plain_of, trees_in};
 ghost use Rattle.mg_sql.specs.Statements.{Rest, finish, totalled as totalled_rule, results as results_rule, selected, direction as direction_rule, order as order_rule, select as select_rule};
 ghost use Rattle.mg_sql.specs.Going.{Goes, Derives, Never, begins_in, behind_list};
 ghost use Rattle.mg_sql.specs.declared.token.Kind.TheVariants as kinds;
-ghost use Rattle.mg_sql.specs.declared.statement.Sorted.{Sorted as AnySorted};
+ghost use Rattle.mg_statements.specs.declared.statement.Sorted.{Sorted as AnySorted};
 
-use crate::fault::SqlFault;
 use crate::lists::{expressions, totals};
 use crate::parser::Parser;
 use crate::parts::{filter, name};
-use crate::statement::{Sorted, Statement};
 use crate::token::Kind;
 use mg_expr::Expr;
+use mg_statements::{Sorted, SqlFault, Statement};
 
 /// agg {"," agg} FROM name [WHERE expr]
 fn totalled(p: &mut Parser) -> Result<Statement, SqlFault>

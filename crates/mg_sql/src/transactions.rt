@@ -2,16 +2,15 @@
 
 ghost use Rattle.std.specs.Prelude.{Bool, true};
 ghost use Rattle.mg_sql.specs.Reading.{IsReady, Keeps};
-ghost use Rattle.mg_sql.specs.Plain.{plain_of};
+ghost use Rattle.mg_statements.specs.Plain.{plain_of};
 ghost use Rattle.mg_sql.specs.Statements.{Rest, finish, waiting as waiting_rule, isolation as isolation_rule, level as level_rule, set_transaction as set_rule, modes as modes_rule, behind_read as behind_read_rule, commit as commit_rule, rollback as rollback_rule, savepoint as savepoint_rule};
 ghost use Rattle.mg_sql.specs.Going.{Goes, Never};
 ghost use Rattle.mg_sql.specs.declared.token.Kind.TheVariants as kinds;
 
-use crate::fault::SqlFault;
 use crate::parser::Parser;
 use crate::parts::name;
-use crate::statement::Statement;
 use crate::token::Kind;
+use mg_statements::{SqlFault, Statement};
 
 /// SNAPSHOT | READ COMMITTED: whether the transaction has a snapshot.
 fn level(p: &mut Parser) -> Result<bool, SqlFault>

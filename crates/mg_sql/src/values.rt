@@ -6,8 +6,8 @@ ghost use Rattle.mg_sql.specs.Spelling.{IsSpelled, number, capitals, quoted};
 ghost use Rattle.mg_sql.specs.declared.token.Kind.TheVariants as kinds;
 
 use crate::scanning::capital;
-use crate::statement::MOST_SIZE;
 use mg_base::Memory;
+use mg_statements::MOST_SIZE;
 use mg_value::{Name, Txt};
 use std::alloc::Global;
 

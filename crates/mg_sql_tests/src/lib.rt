@@ -6,7 +6,7 @@
 //! once, and not again with its tests.
 //!
 //! Invariant: none, it keeps no state.
-//! Below: `mg_expr`, `mg_sql`, `mg_plan` and `mg_words`. Above: nothing.
+//! Below: `mg_expr`, `mg_statements`, `mg_sql`, `mg_plan` and `mg_words`. Above: nothing.
 //! Not here: statements that run, and lines of scripts. They are rows of `mg_worked_runs`.
 #![tactic(auto)]
 

@@ -7,7 +7,7 @@ use Rattle.mg_rows.specs.declared.outcome.Outcome.{Outcome}
 use Rattle.mg_rows.specs.declared.statement_fault.StatementFault.TheVariants.{Engine}
 use Rattle.mg_script.specs.declared.reply.Reply.{Reply}
 use Rattle.mg_script.specs.declared.reply.Reply.TheVariants as replies
-use Rattle.mg_sql.specs.Plain.{Plain}
+use Rattle.mg_statements.specs.Plain.{Plain}
 
 -- what is left of a statement that has begun
 pub data Course : Type 0 where

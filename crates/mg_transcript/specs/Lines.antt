@@ -1,10 +1,10 @@
 -- What a line does, and which statements that waited go on at it.
 use Rattle.std.specs.Prelude.{◌≡◌, ℕ, ℤ, Bool, true, false, List, [], ◌∷◌, ◌++◌, Some, None}
 use Rattle.mg_base.specs.declared.numbers.TxNo.{TxNo}
-use Rattle.mg_sql.specs.declared.fault.SqlFault.{SqlFault}
-use Rattle.mg_sql.specs.declared.fault.SqlFault.TheVariants as texts
+use Rattle.mg_statements.specs.declared.fault.SqlFault.{SqlFault}
+use Rattle.mg_statements.specs.declared.fault.SqlFault.TheVariants as texts
 use Rattle.mg_sql.specs.Answers.{Parses, FaultIn}
-use Rattle.mg_sql.specs.Plain.{Plain, SetTransaction}
+use Rattle.mg_statements.specs.Plain.{Plain, SetTransaction}
 use Rattle.mg_model.specs.declared.answer.Answer.{Answer}
 use Rattle.mg_model.specs.declared.answer.Answer.TheVariants as answers
 use Rattle.mg_model.specs.declared.event.Event.TheVariants as events

@@ -3,7 +3,7 @@ use Rattle.std.specs.Prelude.{◌≡◌, ◌&&◌, ℕ, Bool, true, false, List,
 use Rattle.std.proofs.Common.{ap}
 use Rattle.mg_base.specs.declared.numbers.TxNo.{TxNo}
 use Rattle.mg_value.specs.declared.shape.Shape.{Shape}
-use Rattle.mg_sql.specs.Plain.{Plain}
+use Rattle.mg_statements.specs.Plain.{Plain}
 use Rattle.mg_model.specs.declared.answer.Answer.{Answer}
 use Rattle.mg_model.specs.declared.answer.Answer.TheVariants as answers
 use Rattle.mg_model.specs.declared.event.Event.{Event}

@@ -2,7 +2,7 @@
 use Rattle.std.specs.Prelude.{List, Result, Ok, Err}
 use Rattle.mg_value.specs.declared.shape.Shape.{Shape}
 use Rattle.mg_expr.specs.declared.fault.EvalFault.{EvalFault}
-use Rattle.mg_sql.specs.Plain.{Plain}
+use Rattle.mg_statements.specs.Plain.{Plain}
 use Rattle.mg_plan.specs.Statements.{bound_plain, places_in}
 use Rattle.mg_model.specs.Changes.{Cells}
 use Rattle.mg_rows.specs.declared.outcome.Outcome.TheVariants as outcomes

@@ -8,7 +8,7 @@ use Rattle.mg_value.specs.declared.shape.Shape.{Shape}
 use Rattle.mg_value.specs.declared.value.Value.TheVariants as values
 use Rattle.mg_expr.specs.declared.expr.Sign.TheVariants as signs
 use Rattle.mg_expr.specs.Trees.{Name, Compare, Integer}
-use Rattle.mg_sql.specs.Plain.{Plain, Select}
+use Rattle.mg_statements.specs.Plain.{Plain, Select}
 use Rattle.mg_model.specs.declared.answer.Answer.TheVariants as answers
 use Rattle.mg_model.specs.declared.event.Event.{Event}
 use Rattle.mg_model.specs.declared.event.Event.TheVariants as events

@@ -5,7 +5,7 @@ use Rattle.mg_base.specs.declared.numbers.TxNo.{TxNo}
 use Rattle.mg_value.specs.declared.shape.Column.{Column}
 use Rattle.mg_value.specs.declared.shape.Shape.{Shape}
 use Rattle.mg_expr.specs.Trees.{Tree}
-use Rattle.mg_sql.specs.Plain.{Plain, Table, Insert, Update, Delete, Totals, Select}
+use Rattle.mg_statements.specs.Plain.{Plain, Table, Insert, Update, Delete, Totals, Select}
 use Rattle.mg_plan.specs.declared.fault.PlanFault.{PlanFault}
 use Rattle.mg_plan.specs.Refusing.{first_refusal}
 use Rattle.mg_plan.specs.Shapes.{shape_of}

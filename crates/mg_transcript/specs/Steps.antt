@@ -5,9 +5,9 @@ use Rattle.mg_base.specs.declared.numbers.TxNo.{TxNo}
 use Rattle.mg_value.specs.declared.shape.Shape.{Shape}
 use Rattle.mg_expr.specs.declared.expr.Expr.{Expr}
 use Rattle.mg_expr.specs.declared.fault.EvalFault.{EvalFault}
-use Rattle.mg_sql.specs.declared.statement.Def.{Def}
+use Rattle.mg_statements.specs.declared.statement.Def.{Def}
 use Rattle.mg_expr.specs.Trees.{Tree}
-use Rattle.mg_sql.specs.Plain.{Plain, tree_in, Commit, Rollback, RollbackTo, Savepoint, Table, Insert}
+use Rattle.mg_statements.specs.Plain.{Plain, tree_in, Commit, Rollback, RollbackTo, Savepoint, Table, Insert}
 use Rattle.mg_plan.specs.Statements.{bound_plain}
 use Rattle.mg_model.specs.declared.answer.Answer.{Answer}
 use Rattle.mg_model.specs.declared.answer.Answer.TheVariants as answers

@@ -2,7 +2,7 @@
 use Rattle.std.proofs.Common.{◌≡◌, true, List, [], ◌∷◌, refl}
 use Rattle.mg_base.specs.declared.numbers.TxNo.{TxNo}
 use Rattle.mg_value.specs.declared.shape.Shape.{Shape}
-use Rattle.mg_sql.specs.Plain.{Plain}
+use Rattle.mg_statements.specs.Plain.{Plain}
 use Rattle.mg_model.specs.declared.answer.Answer.TheVariants as answers
 use Rattle.mg_model.specs.declared.event.Event.{Event}
 use Rattle.mg_model.specs.declared.opening.Opening.{Opening}

@@ -8,7 +8,7 @@ use super::texts::statement_of;
 use mg_expr::Expr;
 use mg_model::Table;
 use mg_plan::{PlanFault, bind};
-use mg_sql::Statement;
+use mg_statements::Statement;
 use mg_value::Kind;
 use std::alloc::Global;
 use std::process::Abort;

@@ -1,7 +1,8 @@
 //! Which texts are statements, and the fault of each that is none.
 
 use super::texts::nested;
-use mg_sql::{SqlFault, parse};
+use mg_sql::parse;
+use mg_statements::SqlFault;
 use std::alloc::Global;
 use std::process::Abort;
 use std::test::Fail;

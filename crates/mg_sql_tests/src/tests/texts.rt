@@ -1,6 +1,7 @@
 //! Texts of statements: long ones, deep ones, and what they parse to.
 
-use mg_sql::{Statement, parse};
+use mg_sql::parse;
+use mg_statements::Statement;
 use std::alloc::Global;
 use std::process::Abort;
 use std::test::Fail;

@@ -8,12 +8,12 @@ ghost use Rattle.mg_space.specs.Taking.{IsGeometry};
 
 use crate::tests::stores::empty_store;
 use mg_base::{Damaged, Field, MemDisk, Memory, PageNo, RecId, TxNo, TxState};
-use mg_chain::{States, newest, visible};
-use mg_pool::PoolFault;
+use mg_chain::States;
+use mg_pool::{Batch, PoolFault};
+use mg_seek::{Placed, Wanted, first_version};
 use mg_slots::{new_data, put_cell};
 use mg_snap::Live;
 use mg_space::{SpaceFault, Store};
-use mg_version::Version;
 use std::alloc::Global;
 use std::test::Fail;
 
@@ -70,10 +70,10 @@ fn put_record(
     store.change_one(PAGE, &page, None)
 }
 
-/// The transaction of a version, 0 where there is none.
-fn writer_of(version: &Option<Version>) -> u32 {
-    match version {
-        Some(version) => version.tx.0,
+/// The transaction of a version that was found, 0 where there is none.
+fn writer_of(found: &Option<Placed>) -> u32 {
+    match found {
+        Some(found) => found.version.tx.0,
         None => 0,
     }
 }
@@ -89,6 +89,21 @@ fn bases(alloc: Global) -> Result<Live, Memory> {
     Ok(live)
 }
 
+/// The first version of the record that is wanted.
+fn find(
+    store: &mut Store<MemDisk>,
+    live: &Live,
+    wanted: Wanted,
+) -> Result<Option<Placed>, SpaceFault>
+    requires pool { IsPool mem_meaning store.old }
+    requires geometry { IsGeometry store.old.geometry }
+    ensures pool { IsPool mem_meaning store.new }
+    ensures geometry { store.new.geometry ≡ store.old.geometry }
+{
+    let batch = Batch::new(store.alloc());
+    first_version(store, &batch, REC, &TwoAndFour, live, wanted)
+}
+
 /// Whose version a transaction sees, 0 where it sees none.
 fn seen(store: &mut Store<MemDisk>, live: &Live, t: u32) -> Result<u32, SpaceFault>
     requires pool { IsPool mem_meaning store.old }
@@ -96,8 +111,8 @@ fn seen(store: &mut Store<MemDisk>, live: &Live, t: u32) -> Result<u32, SpaceFau
     ensures pool { IsPool mem_meaning store.new }
     ensures geometry { store.new.geometry ≡ store.old.geometry }
 {
-    let version = visible(store, REC, &TwoAndFour, live, TxNo(t))?;
-    Ok(writer_of(&version))
+    let found = find(store, live, Wanted::SeenBy(TxNo(t)))?;
+    Ok(writer_of(&found))
 }
 
 #[test]
@@ -114,18 +129,9 @@ fn a_transaction_sees_its_own_version_and_what_was_committed_before_its_base(
     assert_eq!(rt; seen(&mut store, &live, 3)?, 2);
     assert_eq!(rt; seen(&mut store, &live, 5)?, 5);
     assert_eq!(rt; seen(&mut store, &live, 6)?, 4);
-    assert_eq!(rt; writer_of(&newest_of(&mut store)?), 5);
+    let newest = find(&mut store, &live, Wanted::Any)?;
+    assert_eq!(rt; writer_of(&newest), 5);
     Ok(())
-}
-
-/// The newest version of the record.
-fn newest_of(store: &mut Store<MemDisk>) -> Result<Option<Version>, SpaceFault>
-    requires pool { IsPool mem_meaning store.old }
-    requires geometry { IsGeometry store.old.geometry }
-    ensures pool { IsPool mem_meaning store.new }
-    ensures geometry { store.new.geometry ≡ store.old.geometry }
-{
-    newest(store, REC)
 }
 
 /// The damage that a reader of this number meets, if it meets any.
@@ -135,7 +141,7 @@ fn damage_for(store: &mut Store<MemDisk>, live: &Live, t: u32) -> Option<Damaged
     ensures pool { IsPool mem_meaning store.new }
     ensures geometry { store.new.geometry ≡ store.old.geometry }
 {
-    match visible(store, REC, &TwoAndFour, live, TxNo(t)) {
+    match find(store, live, Wanted::SeenBy(TxNo(t))) {
         Err(SpaceFault::Damaged(damage)) => Some(damage),
         _ => None,
     }

@@ -1,7 +1,7 @@
 use Rattle.std.proofs.Common.{None, refl}
 use Rattle.mg_calls.specs.Quiet.{as_it_was}
 use Rattle.mg_script.specs.declared.reply.Reply.TheVariants.{No}
-use Rattle.mg_sql.specs.Plain.{plain_of}
+use Rattle.mg_statements.specs.Plain.{plain_of}
 use Rattle.mg_courses.specs.CarryLaws.{carries_quietly}
 use Rattle.mg_courses.specs.Running.{fault_if_looks}
 use Rattle.mg_courses.proofs.StartLemmas.{told_fault}

@@ -7,7 +7,7 @@ use Rattle.mg_transcript.specs.Steps.{looks_not, refused}
 use Rattle.mg_courses.specs.CarryLaws.{carries_event}
 use Rattle.mg_courses.proofs.WorkLemmas.{still_active}
 use Rattle.mg_courses.proofs.StartLemmas.{looks_and_begins}
-use Rattle.mg_sql.specs.Plain.{plain_of}
+use Rattle.mg_statements.specs.Plain.{plain_of}
 use Rattle.mg_courses.proofs.starting.look_and_begin.Goals as goal
 
 pub returns-in-Ok-clause-starts : goal.returns-in-Ok-clause-starts

@@ -2,7 +2,7 @@ use Rattle.std.proofs.Common.{ap, refl}
 use Rattle.mg_transcript.specs.Steps.{sets_savepoint, takes_back}
 use Rattle.mg_courses.proofs.StartLemmas.{begins_at_once}
 use Rattle.std.proofs.Common.{◌≡◌}
-use Rattle.mg_sql.specs.Plain.{plain_of, Savepoint, RollbackTo}
+use Rattle.mg_statements.specs.Plain.{plain_of, Savepoint, RollbackTo}
 use Rattle.mg_courses.proofs.starting.start.Goals as goal
 
 pub returns-in-Savepoint-clause-starts : goal.returns-in-Savepoint-clause-starts

@@ -1,4 +1,4 @@
-use Rattle.mg_sql.specs.Plain.{plain_of}
+use Rattle.mg_statements.specs.Plain.{plain_of}
 use Rattle.mg_exec.proofs.TableStartLemmas.{phase_refused}
 use Rattle.mg_exec.proofs.creating.plan.Goals as goal
 

@@ -1,4 +1,4 @@
-use Rattle.mg_sql.specs.Plain.{plain_of}
+use Rattle.mg_statements.specs.Plain.{plain_of}
 use Rattle.mg_exec.proofs.ShapeLemmas.{few_defined}
 use Rattle.mg_exec.proofs.creating.plan_table.Goals as goal
 

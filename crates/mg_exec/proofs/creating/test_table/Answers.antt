@@ -1,5 +1,5 @@
 use Rattle.std.proofs.Common.{Some, None, sym, ◌∙◌}
-use Rattle.mg_sql.specs.Plain.{plain_of}
+use Rattle.mg_statements.specs.Plain.{plain_of}
 use Rattle.mg_calls.specs.QuietLaws.{quiet_nothing, quiet_reading}
 use Rattle.mg_exec.specs.NewTables.{may_not, not_read, taken}
 use Rattle.mg_exec.proofs.TableStartLemmas.{named_catalog, phase_frames, phase_ready, refused_otherwise, seen_already, tested}

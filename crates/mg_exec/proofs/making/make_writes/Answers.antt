@@ -2,9 +2,9 @@ use Rattle.std.proofs.Common.{◌≡◌, ℕ, true, List, map, length, sym, ap, 
 use Rattle.std.specs.Result.{MatchResult}
 use Rattle.mg_expr.specs.declared.expr.Expr.{Expr}
 use Rattle.mg_expr.specs.Trees.{tree_of}
-use Rattle.mg_sql.specs.declared.statement.Assign.{Assign}
-use Rattle.mg_sql.specs.declared.statement.Statement.{Statement}
-use Rattle.mg_sql.specs.Plain.{plain_of, tree_in}
+use Rattle.mg_statements.specs.declared.statement.Assign.{Assign}
+use Rattle.mg_statements.specs.declared.statement.Statement.{Statement}
+use Rattle.mg_statements.specs.Plain.{plain_of, tree_in}
 use Rattle.mg_plan.specs.Statements.{is_typed}
 use Rattle.mg_rows.specs.NewRows.{updated}
 use Rattle.mg_records.specs.Writing.{FitsShape}

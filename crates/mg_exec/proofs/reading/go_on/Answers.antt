@@ -1,5 +1,5 @@
 use Rattle.std.proofs.Common.{List, Result, ap, sym, subst, ◌∙◌}
-use Rattle.mg_sql.specs.Plain.{plain_of}
+use Rattle.mg_statements.specs.Plain.{plain_of}
 use Rattle.mg_model.specs.Changes.{Cells}
 use Rattle.mg_rows.specs.declared.statement_fault.StatementFault.{StatementFault}
 use Rattle.mg_exec.specs.declared.phase.Step.{Step}

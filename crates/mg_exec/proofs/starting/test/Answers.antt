@@ -1,4 +1,4 @@
-use Rattle.mg_sql.specs.Plain.{plain_of}
+use Rattle.mg_statements.specs.Plain.{plain_of}
 use Rattle.std.proofs.Common.{Some, None}
 use Rattle.mg_calls.specs.QuietLaws.{quiet_nothing, quiet_reading}
 use Rattle.mg_exec.proofs.StartLemmas.{barred, untold, unbound, unbound_frames, started, ready_at_start}

@@ -1,6 +1,6 @@
 use Rattle.std.proofs.Common.{◌≡◌, ◌&&◌, length, map}
 use Rattle.std.specs.List.{list_all}
-use Rattle.mg_sql.specs.Plain.{assign_of}
+use Rattle.mg_statements.specs.Plain.{assign_of}
 use Rattle.mg_plan.specs.Names.{is_column}
 use Rattle.mg_plan.specs.Binding.{is_known}
 use Rattle.mg_plan.proofs.statements.are_sets_known.Given as goal

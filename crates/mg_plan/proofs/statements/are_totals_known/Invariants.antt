@@ -1,6 +1,6 @@
 use Rattle.std.proofs.Common.{◌≡◌, length, map}
 use Rattle.std.specs.List.{list_all}
-use Rattle.mg_sql.specs.Plain.{total_of}
+use Rattle.mg_statements.specs.Plain.{total_of}
 use Rattle.mg_plan.specs.Statements.{is_total_known}
 use Rattle.mg_plan.proofs.statements.are_totals_known.Given as goal
 

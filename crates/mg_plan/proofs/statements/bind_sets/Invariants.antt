@@ -1,5 +1,5 @@
 use Rattle.std.proofs.Common.{◌≡◌, map, take}
-use Rattle.mg_sql.specs.Plain.{assign_of}
+use Rattle.mg_statements.specs.Plain.{assign_of}
 use Rattle.mg_plan.specs.Binding.{bound}
 use Rattle.mg_plan.proofs.statements.bind_sets.Given as goal
 

@@ -1,5 +1,5 @@
 use Rattle.std.proofs.Common.{◌≡◌, map, take}
-use Rattle.mg_sql.specs.Plain.{total_of}
+use Rattle.mg_statements.specs.Plain.{total_of}
 use Rattle.mg_plan.specs.Statements.{bound_total}
 use Rattle.mg_plan.proofs.statements.bind_totals.Given as goal
 

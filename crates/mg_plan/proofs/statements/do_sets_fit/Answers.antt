@@ -1,6 +1,6 @@
 use Rattle.std.proofs.Common.{◌∙◌}
 use Rattle.mg_expr.specs.Typing.{sort_of}
-use Rattle.mg_sql.specs.Plain.{assign_of}
+use Rattle.mg_statements.specs.Plain.{assign_of}
 use Rattle.mg_plan.proofs.TypeLemmas.{fits_none}
 use Rattle.mg_plan.proofs.statements.do_sets_fit.Goals as goal
 

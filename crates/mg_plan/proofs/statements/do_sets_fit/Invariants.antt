@@ -1,5 +1,5 @@
 use Rattle.std.proofs.Common.{◌≡◌, length, map}
-use Rattle.mg_sql.specs.Plain.{assign_of}
+use Rattle.mg_statements.specs.Plain.{assign_of}
 use Rattle.mg_expr.specs.Typing.{sort_of}
 use Rattle.mg_plan.specs.Types.{fit_places}
 use Rattle.mg_plan.proofs.statements.do_sets_fit.Given as goal

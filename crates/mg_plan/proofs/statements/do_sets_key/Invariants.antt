@@ -1,6 +1,6 @@
 use Rattle.std.proofs.Common.{◌≡◌, length, map}
 use Rattle.std.specs.List.{list_any}
-use Rattle.mg_sql.specs.Plain.{assign_of}
+use Rattle.mg_statements.specs.Plain.{assign_of}
 use Rattle.mg_plan.specs.Names.{place_of}
 use Rattle.mg_plan.specs.Statements.{is_place}
 use Rattle.mg_plan.proofs.statements.do_sets_key.Given as goal

@@ -1,4 +1,4 @@
-use Rattle.mg_sql.specs.Plain.{trees_in}
+use Rattle.mg_statements.specs.Plain.{trees_in}
 use Rattle.mg_rows.proofs.SelectLemmas.{selects_sorted}
 use Rattle.mg_rows.proofs.selecting.select.Goals as goal
 

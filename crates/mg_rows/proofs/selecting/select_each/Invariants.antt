@@ -1,5 +1,5 @@
 use Rattle.std.proofs.Common.{◌≡◌, drop}
-use Rattle.mg_sql.specs.Plain.{trees_in}
+use Rattle.mg_statements.specs.Plain.{trees_in}
 use Rattle.mg_rows.specs.Selecting.{each_of, selected}
 use Rattle.mg_rows.proofs.EachLemmas.{fronted}
 use Rattle.mg_rows.proofs.selecting.select_each.Given as goal

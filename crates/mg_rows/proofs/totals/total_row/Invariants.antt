@@ -1,5 +1,5 @@
 use Rattle.std.proofs.Common.{◌≡◌, map, drop}
-use Rattle.mg_sql.specs.Plain.{total_of}
+use Rattle.mg_statements.specs.Plain.{total_of}
 use Rattle.mg_rows.specs.Selecting.{each_of}
 use Rattle.mg_rows.specs.Totals.{total_over}
 use Rattle.mg_rows.proofs.EachLemmas.{fronted}

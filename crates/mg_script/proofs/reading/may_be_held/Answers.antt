@@ -1,7 +1,7 @@
 use Rattle.std.proofs.Common.{sym, ap, ◌∙◌, refl}
 use Rattle.mg_script.specs.Lines.{takes_steps}
-use Rattle.mg_sql.specs.Plain.{plain_of}
-use Rattle.mg_sql.specs.declared.fault.SqlFault.TheVariants.{Syntax, NameTooLong, NumberTooLarge, TooDeep}
+use Rattle.mg_statements.specs.Plain.{plain_of}
+use Rattle.mg_statements.specs.declared.fault.SqlFault.TheVariants.{Syntax, NameTooLong, NumberTooLarge, TooDeep}
 use Rattle.mg_script.proofs.ReadingLemmas.{faulty_held}
 use Rattle.mg_script.proofs.reading.may_be_held.Goals as goal
 

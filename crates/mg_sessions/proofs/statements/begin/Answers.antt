@@ -5,7 +5,7 @@ use Rattle.mg_rows.specs.declared.statement_fault.StatementFault.TheVariants.{En
 use Rattle.mg_script.specs.declared.line.LineKind.TheVariants as kinds
 use Rattle.mg_script.specs.declared.reply.Reply.{Reply}
 use Rattle.mg_script.specs.declared.reply.Reply.TheVariants as replies
-use Rattle.mg_sql.specs.Plain.{SetTransaction}
+use Rattle.mg_statements.specs.Plain.{SetTransaction}
 use Rattle.mg_transcript.specs.Lines.{Does, declines, has_one, begins_one}
 use Rattle.mg_courses.specs.BesideLaws.{works_stay_at, works_stay_ready}
 use Rattle.mg_pending.specs.AgreeLaws.{same_busy}

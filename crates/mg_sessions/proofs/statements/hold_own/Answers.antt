@@ -4,7 +4,7 @@ use Rattle.mg_rows.specs.declared.statement_fault.StatementFault.TheVariants.{En
 use Rattle.mg_script.specs.declared.line.LineKind.TheVariants as kinds
 use Rattle.mg_script.specs.declared.reply.Reply.{Reply}
 use Rattle.mg_script.specs.declared.reply.Reply.TheVariants.{No}
-use Rattle.mg_sql.specs.Plain.{plain_of}
+use Rattle.mg_statements.specs.Plain.{plain_of}
 use Rattle.mg_transcript.specs.Lines.{Does, declines_held, has_none, wants_memory, holds}
 use Rattle.mg_transcript.specs.LegalLaws.{starts_legal}
 use Rattle.mg_transcript.specs.OwnEventLaws.{starts_own}

@@ -2,7 +2,7 @@ use Rattle.std.proofs.Common.{ap, subst}
 use Rattle.mg_script.specs.declared.line.LineKind.TheVariants as kinds
 use Rattle.mg_script.specs.declared.reply.Reply.TheVariants.{No}
 use Rattle.mg_sql.specs.Answers.{Parses}
-use Rattle.mg_sql.specs.Plain.{Plain, plain_of}
+use Rattle.mg_statements.specs.Plain.{Plain, plain_of}
 use Rattle.mg_transcript.specs.Lines.{Does, declines}
 use Rattle.mg_sessions.proofs.StatementLemmas.{declined, stays_so}
 use Rattle.mg_sessions.proofs.statements.obey_sql.Goals as goal

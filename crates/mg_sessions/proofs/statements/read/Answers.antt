@@ -1,4 +1,4 @@
-use Rattle.mg_sql.specs.Plain.{plain_of}
+use Rattle.mg_statements.specs.Plain.{plain_of}
 use Rattle.mg_sessions.proofs.statements.read.Goals as goal
 
 pub returns-in-Ok-clause-lengths : goal.returns-in-Ok-clause-lengths

@@ -1,5 +1,5 @@
 use Rattle.std.proofs.Common.{◌⊎◌, inl, inr, Bool, true, false, None, Some, Ok, Err, refl, sym, ap, ◌∙◌, subst}
-use Rattle.mg_sql.specs.Plain.{Plain}
+use Rattle.mg_statements.specs.Plain.{Plain}
 use Rattle.mg_records.specs.Reading.{shape_seen}
 use Rattle.mg_calls.specs.Quiet.{as_it_was}
 use Rattle.mg_transcript.specs.Shorthand.{Gets, GivesUp, value_of_key}

@@ -1,6 +1,6 @@
 use Rattle.std.proofs.Common.{Option, subst, sym}
 use Rattle.mg_model.specs.declared.refusal.Refusal.{Refusal}
-use Rattle.mg_sql.specs.Plain.{plain_of}
+use Rattle.mg_statements.specs.Plain.{plain_of}
 use Rattle.mg_calls.specs.Frames.{Frames}
 use Rattle.mg_courses.proofs.AnyLemmas.{going, refusals_tested, runs_here, tested}
 use Rattle.mg_courses.proofs.any.AnyStatements.test.Goals as goal

@@ -1,4 +1,4 @@
-use Rattle.mg_sql.specs.Plain.{plain_of}
+use Rattle.mg_statements.specs.Plain.{plain_of}
 use Rattle.mg_exec.proofs.GiveLemmas.{start_gives}
 use Rattle.mg_exec.proofs.run.Run.start.Goals as goal
 

@@ -1,4 +1,4 @@
-use Rattle.mg_sql.specs.Plain.{plain_of}
+use Rattle.mg_statements.specs.Plain.{plain_of}
 use Rattle.mg_exec.proofs.TestLemmas.{test_begins}
 use Rattle.mg_exec.proofs.run.Run.test.Goals as goal
 

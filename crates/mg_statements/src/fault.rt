@@ -1,7 +1,7 @@
 //! Why a text is no statement.
 
 ghost use Rattle.std.specs.Prelude.{◌≡◌};
-ghost use Rattle.mg_sql.specs.declared.fault.SqlFault.TheVariants as faults;
+ghost use Rattle.mg_statements.specs.declared.fault.SqlFault.TheVariants as faults;
 
 use mg_base::Memory;
 use std::alloc::{AllocError, AllocFailed};

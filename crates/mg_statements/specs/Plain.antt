@@ -4,13 +4,13 @@ use Rattle.std.specs.declared.alloc.Global.{Global}
 use Rattle.std.specs.declared.vec.Vec.{Vec}
 use Rattle.mg_expr.specs.declared.expr.Expr.{Expr}
 use Rattle.mg_expr.specs.Trees.{Tree, tree_of}
-use Rattle.mg_sql.specs.declared.statement.Statement.{Statement}
-use Rattle.mg_sql.specs.declared.statement.Statement.TheVariants as variants
-use Rattle.mg_sql.specs.declared.statement.Agg.{Agg}
-use Rattle.mg_sql.specs.declared.statement.Agg.TheVariants as aggs
-use Rattle.mg_sql.specs.declared.statement.Assign.{Assign}
-use Rattle.mg_sql.specs.declared.statement.Def.{Def}
-use Rattle.mg_sql.specs.declared.statement.Sorted.{Sorted}
+use Rattle.mg_statements.specs.declared.statement.Statement.{Statement}
+use Rattle.mg_statements.specs.declared.statement.Statement.TheVariants as variants
+use Rattle.mg_statements.specs.declared.statement.Agg.{Agg}
+use Rattle.mg_statements.specs.declared.statement.Agg.TheVariants as aggs
+use Rattle.mg_statements.specs.declared.statement.Assign.{Assign}
+use Rattle.mg_statements.specs.declared.statement.Def.{Def}
+use Rattle.mg_statements.specs.declared.statement.Sorted.{Sorted}
 
 -- what a total counts or adds up
 pub data Total : Type 0 where
