@@ -16,7 +16,9 @@ pub record KeysGoWhole (changes : List Change) (keys : List Value) : Type 0 wher
       → is_one_of keys (column_key name place) ≡ is_one_of keys (table_key name)
   pub indexes : (name : List ℕ) → has_change changes catalog_name (index_key name) ≡ false
 
--- so it is where the changes that are kept of what a transaction did pass the test
+-- So it is where the changes that are kept of what a transaction did pass the test. They are kept with the first page of
+-- the catalog where they are of it.
 abbrev pub ListsTellWhole : Type 0
-ListsTellWhole = (number : List ℕ → ℕ) (deeds : List Deed) (keys : List Value)
-    → goes_whole (number catalog_name) keys (changes_of number deeds) ≡ true → KeysGoWhole (changes_in deeds) keys
+ListsTellWhole = (number : List ℕ → ℕ) (catalog : ℕ) (deeds : List Deed) (keys : List Value)
+    → ((key : Value) → has_change (changes_in deeds) catalog_name key ≡ true → number catalog_name ≡ catalog)
+    → goes_whole catalog keys (changes_of number deeds) ≡ true → KeysGoWhole (changes_in deeds) keys

@@ -72,20 +72,21 @@ index_never keys name = refl
 
 -- ---- all changes
 
-module _ (number : List ℕ → ℕ) (keys : List Value) where
+module _ (number : List ℕ → ℕ) (catalog : ℕ) (keys : List Value) where
   -- a change of the catalog at a key: the key passes
-  passes : (deeds : List Deed) (key : Value)
-      → goes_whole (number catalog_name) keys (changes_of number deeds) ≡ true
+  passes : (deeds : List Deed) (key : Value) → number catalog_name ≡ catalog
+      → goes_whole catalog keys (changes_of number deeds) ≡ true
       → has_change (changes_in deeds) catalog_name key ≡ true → key_goes_whole keys key ≡ true
-  passes [] key test there = absurd cc
-  passes (Marked ∷ deeds) key test there = passes deeds key test there
-  passes (Saved name ∷ deeds) key test there = passes deeds key test there
-  passes (Changed c ∷ deeds) key test there = at (is_at c catalog_name key) refl there (passes deeds key both.1)
+  passes [] key its test there = absurd cc
+  passes (Marked ∷ deeds) key its test there = passes deeds key its test there
+  passes (Saved name ∷ deeds) key its test there = passes deeds key its test there
+  passes (Changed c ∷ deeds) key its test there =
+      at (is_at c catalog_name key) refl there (passes deeds key its both.1)
     where
-      both : ((cond (number c.table == number catalog_name) (key_goes_whole keys c.key) true) ≡ true)
-          × (goes_whole (number catalog_name) keys (changes_of number deeds) ≡ true)
-      both = both_true (cond (number c.table == number catalog_name) (key_goes_whole keys c.key) true)
-          (goes_whole (number catalog_name) keys (changes_of number deeds)) test
+      both : ((cond (number c.table == catalog) (key_goes_whole keys c.key) true) ≡ true)
+          × (goes_whole catalog keys (changes_of number deeds) ≡ true)
+      both = both_true (cond (number c.table == catalog) (key_goes_whole keys c.key) true)
+          (goes_whole catalog keys (changes_of number deeds)) test
 
       at : (b : Bool) → is_at c catalog_name key ≡ b
           → cond b true (has_change (changes_in deeds) catalog_name key) ≡ true
@@ -93,20 +94,21 @@ module _ (number : List ℕ → ℕ) (keys : List Value) where
           → key_goes_whole keys key ≡ true
       at false off there_ more = more there_
       at true on there_ more =
-          let its = both_true (same_name c.table catalog_name) (same_key c.key key) on in
-          let table : c.table ≡ catalog_name = same_text c.table catalog_name (sym its.0) in
-          let here : (number c.table == number catalog_name) ≡ true =
-          eq-eqb (number c.table) (number catalog_name) (ap number table) in
-          subst (λ (k : Value). key_goes_whole keys k ≡ true) (keys_same c.key key its.1)
+          let parts = both_true (same_name c.table catalog_name) (same_key c.key key) on in
+          let table : c.table ≡ catalog_name = same_text c.table catalog_name (sym parts.0) in
+          let here : (number c.table == catalog) ≡ true = eq-eqb (number c.table) catalog (ap number table ∙ its) in
+          subst (λ (k : Value). key_goes_whole keys k ≡ true) (keys_same c.key key parts.1)
           (sym (ap (λ (b : Bool). cond b (key_goes_whole keys c.key) true) here) ∙ both.0)
 
 pub lists_tell_whole : ListsTellWhole
-lists_tell_whole number deeds keys test = record {
-  columns = λ name place there. column_goes keys name place (passes number keys deeds (column_key name place) test there);
+lists_tell_whole number catalog deeds keys its test = record {
+  columns = λ name place there. column_goes keys name place
+      (passes number catalog keys deeds (column_key name place) (its (column_key name place) there) test there);
   indexes = λ name. at name (has_change (changes_in deeds) catalog_name (index_key name)) refl;
 }
   where
     at : (name : List ℕ) (b : Bool) → has_change (changes_in deeds) catalog_name (index_key name) ≡ b
         → has_change (changes_in deeds) catalog_name (index_key name) ≡ false
     at name false off = off
-    at name true on = absurd (false≢true (sym (index_never keys name) ∙ passes number keys deeds (index_key name) test on))
+    at name true on = absurd (false≢true (sym (index_never keys name)
+        ∙ passes number catalog keys deeds (index_key name) (its (index_key name) on) test on))

@@ -1,5 +1,5 @@
 -- What a transaction's list gives to take back: the changes of other tables, and then the rows of the catalog.
-use Rattle.std.specs.Prelude.{◌≡◌, ◌++◌, ◌∷◌, ℕ, true, List, [], if◌then◌else◌, map}
+use Rattle.std.specs.Prelude.{◌≡◌, ◌==◌, ◌++◌, ◌∷◌, ℕ, true, List, [], if◌then◌else◌, map}
 use Rattle.mg_value.specs.declared.value.Value.{Value}
 use Rattle.mg_model.specs.declared.change.Change.{Change}
 use Rattle.mg_model.specs.Catalog.{catalog_name}
@@ -24,26 +24,26 @@ abbrev pub of_others : List Change → List Change
 of_others [] = []
 of_others (c ∷ cs) = if same_name c.table catalog_name then of_others cs else c ∷ of_others cs
 
--- the number of the catalog is no other table's
-abbrev pub TellsCatalog : (List ℕ → ℕ) → List Change → Type 0
-TellsCatalog number cs = EachChange (λ c. number c.table ≡ number catalog_name → c.table ≡ catalog_name) cs
+-- those of these changes that are of the catalog have its first page as their number, and no others
+abbrev pub TellsCatalog : (List ℕ → ℕ) → ℕ → List Change → Type 0
+TellsCatalog number catalog cs = EachChange (λ c. (number c.table == catalog) ≡ same_name c.table catalog_name) cs
 
--- What is given of both kinds, where the number of the catalog tells them apart.
+-- What is given of both kinds, where the first page of the catalog tells them apart.
 pub record GivenApart : Type 0 where
-  pub others : (number : List ℕ → ℕ) (left cs : List Change) → TellsCatalog number cs
-      → others_of (number catalog_name) (map (given_from number left) cs) ≡ map (given_from number left) (of_others cs)
-  pub rows : (number : List ℕ → ℕ) (left cs : List Change) → TellsCatalog number cs
-      → keys_of (number catalog_name) (map (given_from number left) cs) ≡ map (λ c. c.key) (of_catalog cs)
+  pub others : (number : List ℕ → ℕ) (catalog : ℕ) (left cs : List Change) → TellsCatalog number catalog cs
+      → others_of catalog (map (given_from number left) cs) ≡ map (given_from number left) (of_others cs)
+  pub rows : (number : List ℕ → ℕ) (catalog : ℕ) (left cs : List Change) → TellsCatalog number catalog cs
+      → keys_of catalog (map (given_from number left) cs) ≡ map (λ c. c.key) (of_catalog cs)
   -- they are all, the rows last
   pub all : (keys left : List Change) → AreKeysOf keys left → AreKeysOf (of_others keys ++ of_catalog keys) left
 
 -- what is left to take back once the changes of other tables are: the rows of the catalog, of whole tables, each made by the
 -- transaction
 abbrev pub RowsAreLeft : Type 0
-RowsAreLeft = (o : Opening) (h : Entries) (e : Entry) (t : ℕ) (number : List ℕ → ℕ) (keys whole left : List Change)
-    → AreTaken o h e t whole
+RowsAreLeft = (o : Opening) (h : Entries) (e : Entry) (t : ℕ) (number : List ℕ → ℕ) (catalog : ℕ)
+    (keys whole left : List Change) → TellsCatalog number catalog keys → AreTaken o h e t whole
     → ((name : List ℕ) (key : Value) → has_change left name key ≡ true → has_change whole name key ≡ true)
     → AreKeysOf (of_catalog keys) left → EachChange (λ c. has_change (own o h t) c.table c.key ≡ true) keys
-    → AreNewIn (number catalog_name) (map (given_from number (own o (e ∷ h) t)) keys)
+    → AreNewIn catalog (map (given_from number (own o (e ∷ h) t)) keys)
     → KeysGoWhole (own o h t) (map (λ c. c.key) (of_catalog keys))
     → AreRowsLeft o h e t left (map (λ c. c.key) (of_catalog keys))

@@ -2,7 +2,7 @@
 use Rattle.std.proofs.Common.{◌≡◌, ◌≢◌, ◌⊎◌, inl, inr, ◌∙◌, ◌==◌, ◌&&◌, ◌||◌, ◌++◌, ◌∷◌, ℕ, Bool, true, false, List, [], Option, None, Some, ap, cond, map, refl, subst, sym}
 use Rattle.std.specs.Prelude.{if◌then◌else◌, is_some}
 use Rattle.std.specs.Cmp.Lexicographic.{same_text}
-use Rattle.std.proofs.lemmas.Bool.{eq-eqb, false≢true, ne_eqb}
+use Rattle.std.proofs.lemmas.Bool.{eqb-true, false≢true}
 use Rattle.mg_value.specs.declared.value.Value.{Value}
 use Rattle.mg_model.specs.declared.change.Change.{Change}
 use Rattle.mg_model.specs.declared.opening.Opening.{Opening}
@@ -39,45 +39,35 @@ is_catalog name is = same_text name catalog_name (sym is)
 
 -- ---- what is given
 
--- a table has the catalog's number exactly where it is the catalog
-told : (number : List ℕ → ℕ) (name : List ℕ) → (number name ≡ number catalog_name → name ≡ catalog_name)
-    → (number name == number catalog_name) ≡ same_name name catalog_name
-told number name tells = at (same_name name catalog_name) refl
-  where
-    at : (b : Bool) → same_name name catalog_name ≡ b → (number name == number catalog_name) ≡ b
-    at true is = eq-eqb (number name) (number catalog_name) (ap number (is_catalog name is))
-    at false off = ne_eqb (number name) (number catalog_name) (λ same. false≢true (sym off
-        ∙ (ap (λ (n : List ℕ). same_name n catalog_name) (tells same) ∙ same_name_itself catalog_name)))
-
-module _ (number : List ℕ → ℕ) (left : List Change) where
-  others_given : (cs : List Change) → TellsCatalog number cs
-      → others_of (number catalog_name) (map (given_from number left) cs) ≡ map (given_from number left) (of_others cs)
+module _ (number : List ℕ → ℕ) (catalog : ℕ) (left : List Change) where
+  others_given : (cs : List Change) → TellsCatalog number catalog cs
+      → others_of catalog (map (given_from number left) cs) ≡ map (given_from number left) (of_others cs)
   others_given [] tells = refl
   others_given (c ∷ cs) tells = ap (λ (b : Bool). cond b
-      (others_of (number catalog_name) (map (given_from number left) cs))
-      (given_from number left c ∷ others_of (number catalog_name) (map (given_from number left) cs)))
-      (told number c.table tells.0) ∙ at (same_name c.table catalog_name) (others_given cs tells.1)
+      (others_of catalog (map (given_from number left) cs))
+      (given_from number left c ∷ others_of catalog (map (given_from number left) cs)))
+      tells.0 ∙ at (same_name c.table catalog_name) (others_given cs tells.1)
     where
       at : (b : Bool)
-          → others_of (number catalog_name) (map (given_from number left) cs) ≡ map (given_from number left) (of_others cs)
-          → cond b (others_of (number catalog_name) (map (given_from number left) cs))
-          (given_from number left c ∷ others_of (number catalog_name) (map (given_from number left) cs))
+          → others_of catalog (map (given_from number left) cs) ≡ map (given_from number left) (of_others cs)
+          → cond b (others_of catalog (map (given_from number left) cs))
+          (given_from number left c ∷ others_of catalog (map (given_from number left) cs))
           ≡ map (given_from number left) (cond b (of_others cs) (c ∷ of_others cs))
       at true more = more
       at false more = ap (λ (ks : List Kept). given_from number left c ∷ ks) more
 
-  rows_given : (cs : List Change) → TellsCatalog number cs
-      → keys_of (number catalog_name) (map (given_from number left) cs) ≡ map (λ c. c.key) (of_catalog cs)
+  rows_given : (cs : List Change) → TellsCatalog number catalog cs
+      → keys_of catalog (map (given_from number left) cs) ≡ map (λ c. c.key) (of_catalog cs)
   rows_given [] tells = refl
   rows_given (c ∷ cs) tells = ap (λ (b : Bool). cond b
-      (c.key ∷ keys_of (number catalog_name) (map (given_from number left) cs))
-      (keys_of (number catalog_name) (map (given_from number left) cs)))
-      (told number c.table tells.0) ∙ at (same_name c.table catalog_name) (rows_given cs tells.1)
+      (c.key ∷ keys_of catalog (map (given_from number left) cs))
+      (keys_of catalog (map (given_from number left) cs)))
+      tells.0 ∙ at (same_name c.table catalog_name) (rows_given cs tells.1)
     where
       at : (b : Bool)
-          → keys_of (number catalog_name) (map (given_from number left) cs) ≡ map (λ c. c.key) (of_catalog cs)
-          → cond b (c.key ∷ keys_of (number catalog_name) (map (given_from number left) cs))
-          (keys_of (number catalog_name) (map (given_from number left) cs))
+          → keys_of catalog (map (given_from number left) cs) ≡ map (λ c. c.key) (of_catalog cs)
+          → cond b (c.key ∷ keys_of catalog (map (given_from number left) cs))
+          (keys_of catalog (map (given_from number left) cs))
           ≡ map (λ c. c.key) (cond b (c ∷ of_catalog cs) (of_catalog cs))
       at true more = ap (λ (ks : List Value). c.key ∷ ks) more
       at false more = more
@@ -235,8 +225,8 @@ all_keys keys left are = record {
 
 pub given_apart : GivenApart
 given_apart = record {
-  others = λ number left cs tells. others_given number left cs tells;
-  rows = λ number left cs tells. rows_given number left cs tells;
+  others = λ number catalog left cs tells. others_given number catalog left cs tells;
+  rows = λ number catalog left cs tells. rows_given number catalog left cs tells;
   all = all_keys;
 }
 
@@ -319,14 +309,15 @@ untouched_none (c ∷ cs) name key is = at (is_at c name key) is (untouched_none
     at true is_ more = absurd (given c.row is_)
     at false is_ more = more is_
 
-each_new : (number : List ℕ → ℕ) (left keys : List Change)
-    → AreNewIn (number catalog_name) (map (given_from number left) keys)
+each_new : (number : List ℕ → ℕ) (catalog : ℕ) (left keys : List Change) → TellsCatalog number catalog keys
+    → AreNewIn catalog (map (given_from number left) keys)
     → EachChange (λ c. c.table ≡ catalog_name → newest_at left catalog_name c.key ≡ None) keys
-each_new number left [] new = tt
-each_new number left (c ∷ cs) new = (
+each_new number catalog left [] tells new = tt
+each_new number catalog left (c ∷ cs) tells new = (
   λ is. ap (λ (n : List ℕ). newest_at left n c.key) (sym is)
-      ∙ untouched_none left c.table c.key (new.0 (ap number is)),
-  each_new number left cs new.1,
+      ∙ untouched_none left c.table c.key (new.0 (eqb-true (number c.table) catalog (tells.0
+      ∙ (ap (λ (n : List ℕ). same_name n catalog_name) is ∙ same_name_itself catalog_name)))),
+  each_new number catalog left cs tells.1 new.1,
 )
 
 each_made : (own_ keys : List Change) → EachChange (λ c. has_change own_ c.table c.key ≡ true) keys
@@ -342,12 +333,12 @@ same_tests true b to from = sym (to refl)
 same_tests false true to from = from refl
 same_tests false false to from = refl
 
-module _ (o : Opening) (h : Entries) (e : Entry) (t : ℕ) (number : List ℕ → ℕ) (keys whole left : List Change)
-    (taken : AreTaken o h e t whole)
+module _ (o : Opening) (h : Entries) (e : Entry) (t : ℕ) (number : List ℕ → ℕ) (catalog : ℕ)
+    (keys whole left : List Change) (tells : TellsCatalog number catalog keys) (taken : AreTaken o h e t whole)
     (within : (name : List ℕ) (key : Value) → has_change left name key ≡ true → has_change whole name key ≡ true)
     (are : AreKeysOf (of_catalog keys) left)
     (made : EachChange (λ c. has_change (own o h t) c.table c.key ≡ true) keys)
-    (new : AreNewIn (number catalog_name) (map (given_from number (own o (e ∷ h) t)) keys))
+    (new : AreNewIn catalog (map (given_from number (own o (e ∷ h) t)) keys))
     (goes : KeysGoWhole (own o h t) (map (λ c. c.key) (of_catalog keys))) where
   abbrev gone : Value → Bool
   gone = is_among (map (λ c. c.key) (of_catalog keys))
@@ -458,10 +449,10 @@ module _ (o : Opening) (h : Entries) (e : Entry) (t : ℕ) (number : List ℕ �
     keys_are = keys_are;
     made = row_is_key (λ k. has_change (own o h t) catalog_name k ≡ true) keys (each_made (own o h t) keys made);
     none = row_is_key (λ k. newest_at (own o (e ∷ h) t) catalog_name k ≡ None) keys
-        (each_new number (own o (e ∷ h) t) keys new);
+        (each_new number catalog (own o (e ∷ h) t) keys tells new);
     whole = goes_whole;
   }
 
 pub rows_are_left : RowsAreLeft
-rows_are_left o h e t number keys whole left taken within are made new goes =
-    rows_left o h e t number keys whole left taken within are made new goes
+rows_are_left o h e t number catalog keys whole left tells taken within are made new goes =
+    rows_left o h e t number catalog keys whole left tells taken within are made new goes
