@@ -1,2 +1,0 @@
-pub mod ListsTell
-pub mod ListsTellLaws
