@@ -18,7 +18,6 @@ use Rattle.mg_header.specs.declared.header.HeadFault.TheVariants as heads
 use Rattle.mg_header.specs.declared.header.Header.{Header}
 use Rattle.mg_image.specs.Catalog.{catalog_table}
 use Rattle.mg_image.specs.Form.{Pages}
-use Rattle.mg_heap.specs.Reading.{ReadsData}
 use Rattle.mg_image.specs.Inventory.{settled}
 use Rattle.mg_model.specs.Answers.{is_open}
 use Rattle.mg_model.specs.Legal.{is_limbo}
@@ -46,7 +45,7 @@ use Rattle.mg_txlist.specs.declared.list.TipPage.{TipPage}
 use Rattle.mg_txlist.specs.declared.list.TxList.{TxList}
 use Rattle.mg_database.specs.declared.fault.OpenFault.{OpenFault}
 use Rattle.mg_database.specs.declared.fault.OpenFault.TheVariants.{Space}
-use Rattle.mg_database.specs.Loading.{AreUndecided, AreUndecidedBelow, ChecksCatalog, OpensAlone, ReadsFront, RefusesPages, SaysPages, head_fault, is_front, markers_in, no_catalog, no_list, untested}
+use Rattle.mg_database.specs.Loading.{AreUndecided, AreUndecidedBelow, ChecksCatalog, ReadsFront, RefusesPages, SaysPages, head_fault, is_front, markers_in, no_catalog, no_list, untested}
 use Rattle.mg_database.specs.Tested.{IsTested, ReadsTable, RefusesTested, is_of_table}
 use Rattle.mg_database.proofs.TestedLemmas.{or_left, or_right, wider}
 
@@ -322,13 +321,6 @@ table_refused m old mid later new image header first tips fault kept keeps tells
     at (space.Damaged it) is = untested header first tips it read
         (list_said m old mid image first tips kept tells head) is
     at (space.Pool fault) is = tt
-
--- of the cache's faults those of a reading call alone are handed on
-pub table_alone : (T : Type 0) (fault : SpaceFault) → ReadsData {T = T} (Err fault)
-    → OpensAlone {T = T} (Err (Space fault))
-table_alone T (space.Full limit) own = tt
-table_alone T (space.Damaged it) own = tt
-table_alone T (space.Pool fault) own = own
 
 -- what was read is what the pages say
 pub says_pages : {D : Type 0} (m : Meaning D) (old mid later : Pool D FireLinks) (image : Image)

@@ -1,5 +1,6 @@
 -- The pages of the catalog are tested.
-use Rattle.std.proofs.Common.{◌≡◌, ◌∙◌, inl, inr, ◌<◌, ◌≤◌, ◌+◌, ◌||◌, ℕ, Bool, true, false, List, [], ◌∷◌, length, length-take-le, take, take_more, get_or, refl, sym, subst, arith, Result, Ok, Err}
+use Rattle.std.proofs.Common.{◌≡◌, inl, inr, ◌<◌, ◌+◌, ◌||◌, ℕ, Bool, true, false, List, [], length, length-take-le, take, get_or, refl, sym, subst, arith, Result, Ok, Err}
+use Rattle.std.proofs.lemmas.List.{take_more}
 use Rattle.std.specs.Prelude.{IsErr, IsErrAnd, MatchResult, unwrap_or}
 use Rattle.mg_base.specs.Disk.{Meaning}
 use Rattle.mg_base.specs.Image.{Image}
@@ -22,7 +23,7 @@ use Rattle.mg_space.specs.ViewLaws.{tells_on, viewed_on}
 use Rattle.mg_space.specs.declared.fault.SpaceFault.{SpaceFault}
 use Rattle.mg_space.specs.declared.fault.SpaceFault.TheVariants as space
 use Rattle.mg_txlist.specs.ReadingLaws.{all_more, of_more}
-use Rattle.mg_database.specs.Tested.{AreDataPages, IsDataAt, IsTested, ReadsTable, RefusesListed, RefusesTested, is_of_table}
+use Rattle.mg_database.specs.Tested.{AreDataPages, IsDataAt, ReadsTable, RefusesListed, RefusesTested, is_of_table}
 
 -- what holds of a fault holds of the answer that hands it on
 pub handed_on : {T : Type 0} (result : Result T SpaceFault) (fault : SpaceFault) (P : T → Type 0)

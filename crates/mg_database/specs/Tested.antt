@@ -1,5 +1,5 @@
 -- The pages of the catalog are tested when a database is opened: as pages, and nothing of what stands in them.
-use Rattle.std.specs.Prelude.{◌≡◌, ◌⊎◌, ◌+◌, ◌==◌, ◌||◌, ℕ, Bool, List, [], Ok, length, take}
+use Rattle.std.specs.Prelude.{◌≡◌, ◌⊎◌, ◌+◌, ◌||◌, ℕ, Bool, List, Ok, length, take}
 use Rattle.mg_base.specs.Disk.{Meaning}
 use Rattle.mg_heap.specs.Reads.{is_listed}
 use Rattle.mg_heap.specs.Table.{IsBrokenChain, IsTable}

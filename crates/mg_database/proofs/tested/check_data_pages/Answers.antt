@@ -1,5 +1,5 @@
-use Rattle.std.proofs.Common.{◌≡◌, ◌∙◌, Ok, arith, refl, get_or, subst, take, take_all, take_more}
-use Rattle.std.specs.Prelude.{List, ℕ}
+use Rattle.std.proofs.Common.{◌≡◌, ◌+◌, ◌∙◌, arith, refl, get_or, subst, take, take_all}
+use Rattle.std.proofs.lemmas.List.{take_more}
 use Rattle.mg_heap.specs.Reads.{ReadsListed}
 use Rattle.mg_heap.specs.ReadsLaws.{listed_more, none_listed}
 use Rattle.mg_heap.specs.Walk.{RefusesTableData}

@@ -1,7 +1,5 @@
-use Rattle.mg_heap.specs.Reads.{ReadsListed}
 use Rattle.mg_image.specs.Form.{Pages}
 use Rattle.mg_space.specs.View.{viewed}
-use Rattle.mg_space.specs.ViewLaws.{keeps_on}
 use Rattle.mg_database.specs.Tested.{AreDataPages, RefusesListed, RefusesTested}
 use Rattle.mg_database.proofs.TestedLemmas.{as_started, chain_untested, handed_on, listed_untested, table_read}
 use Rattle.mg_database.proofs.tested.check_pages.Goals as goal
