@@ -40,25 +40,25 @@ module _ (number : ℕ) (left next : Undo) (table : ℕ) (key : Value) (was : Wa
   -- that is of the table
   module _ (keys : List Value) (are : AreKeysGiven number next keys) (same : table ≡ number) (untouched : was ≡ Untouched)
     where
-    here : (c : Change) → (take_back left).given ≡ Some c → (c.table == number) ≡ true
-    here c some = eq-eqb c.table number (ap (λ (d : Change). d.table) (its_change c some) ∙ same)
+      here : (c : Change) → (take_back left).given ≡ Some c → (c.table == number) ≡ true
+      here c some = eq-eqb c.table number (ap (λ (d : Change). d.table) (its_change c some) ∙ same)
 
-    its_more : (given : List Change) (end : Undo) → TakesBack left given end → key ∷ keys ≡ keys_of number given
-    its_more given end (ends none after_) = absurd (not_ended none)
-    its_more given end (gives {given = rest} c some more) =
-        ap (λ (ks : List Value). key ∷ ks) (are.its rest end (on_next rest end more))
-        ∙ (ap (λ (d : Change). d.key ∷ keys_of number rest) (sym (its_change c some))
-        ∙ sym (ap (λ (b : Bool). cond b (c.key ∷ keys_of number rest) (keys_of number rest)) (here c some)))
+      its_more : (given : List Change) (end : Undo) → TakesBack left given end → key ∷ keys ≡ keys_of number given
+      its_more given end (ends none after_) = absurd (not_ended none)
+      its_more given end (gives {given = rest} c some more) =
+          ap (λ (ks : List Value). key ∷ ks) (are.its rest end (on_next rest end more))
+          ∙ (ap (λ (d : Change). d.key ∷ keys_of number rest) (sym (its_change c some))
+          ∙ sym (ap (λ (b : Bool). cond b (c.key ∷ keys_of number rest) (keys_of number rest)) (here c some)))
 
-    new_more : (given : List Change) (end : Undo) → TakesBack left given end → AreNewIn number given
-    new_more given end (ends none after_) = absurd (not_ended none)
-    new_more given end (gives {given = rest} c some more) = (
-      λ of_table. ap (λ (d : Change). d.was) (its_change c some) ∙ untouched,
-      are.new rest end (on_next rest end more),
-    )
+      new_more : (given : List Change) (end : Undo) → TakesBack left given end → AreNewIn number given
+      new_more given end (ends none after_) = absurd (not_ended none)
+      new_more given end (gives {given = rest} c some more) = (
+        λ of_table. ap (λ (d : Change). d.was) (its_change c some) ∙ untouched,
+        are.new rest end (on_next rest end more),
+      )
 
-    one_more : AreKeysGiven number left (key ∷ keys)
-    one_more = record { its = its_more; new = new_more }
+      one_more : AreKeysGiven number left (key ∷ keys)
+      one_more = record { its = its_more; new = new_more }
 
   -- that is of another one
   module _ (keys : List Value) (are : AreKeysGiven number next keys) (other : table ≢ number) where
