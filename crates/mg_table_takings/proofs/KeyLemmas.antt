@@ -1,5 +1,5 @@
 -- The keys of a table that are given, one after another.
-use Rattle.std.proofs.Common.{◌≡◌, ◌≢◌, ◌==◌, ◌++◌, ◌∷◌, ℕ, Bool, true, false, List, [], None, Some, ap, append_assoc, append-nil, cond, refl, subst, sym, ◌∙◌}
+use Rattle.std.proofs.Common.{◌≡◌, ◌≢◌, ◌==◌, ◌++◌, ◌∷◌, ℕ, Bool, true, List, [], None, Some, ap, append_assoc, append-nil, cond, refl, subst, sym, ◌∙◌}
 use Rattle.std.proofs.lemmas.Bool.{eq-eqb, ne_eqb}
 use Rattle.mg_value.specs.declared.value.Value.{Value}
 use Rattle.mg_undo.specs.Undo.{State as Undo, TakesBack, ends, gives, given_as, take_back}

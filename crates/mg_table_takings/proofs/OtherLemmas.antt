@@ -86,7 +86,7 @@ going m old t start is online = record {
 module _ {D : Type 0} (m : Meaning D) (old now : Core D) (t : ℕ) (start left next : Undo) (table : ℕ) (key : Value)
     (was : Was) (so : Going m old now t start left) (is : Some (table, key, was) ≡ given_as (take_back left).given)
     (after : next ≡ (take_back left).after) where
-  c : Change
+  abbrev c : Change
   c = change_of table key was
 
   given : (take_back left).given ≡ Some c

@@ -13,7 +13,7 @@ use Rattle.mg_space.specs.declared.links.FireLinks.{FireLinks}
 use Rattle.mg_txlist.specs.TxList.{said}
 use Rattle.mg_undo.specs.Undo.{State as Undo, after_back_to, has_point}
 use Rattle.mg_works.specs.Works.{Working, unasked, with_undo, with_work, without_tables, without_written, work_of}
-use Rattle.mg_core.specs.Cores.{Continues, IsCore}
+use Rattle.mg_core.specs.Cores.{Continues}
 use Rattle.mg_core.specs.Events.{EndsWait}
 use Rattle.mg_core.specs.Refusing.{CountsFault, IsRefusal}
 use Rattle.mg_core.specs.declared.parts.Core.{Core}
@@ -21,7 +21,7 @@ use Rattle.mg_taking_back.specs.Taking.{GivesUpBy, HasBegun, IsUndoOf, not_askin
 use Rattle.mg_taking_back.specs.CoreLaws.{with_same}
 use Rattle.mg_table_unmaking.specs.Rows.{FailsRowsOut}
 use Rattle.mg_table_takings.specs.Keys.{AreRowsToTake}
-use Rattle.mg_table_takings.specs.Takings.{FailsTablesFrom, FailsTablesTo, FailsTheRows, StopsBoth, TakesBoth, TakesTablesFrom, TakesTablesTo, TakesTheRows, rows_unknown, tables_not_copied, tables_not_taken, tables_stopped}
+use Rattle.mg_table_takings.specs.Takings.{FailsTablesFrom, FailsTablesTo, FailsTheRows, StopsBoth, TakesBoth, TakesOthers, TakesTablesFrom, TakesTablesTo, TakesTheRows, rows_unknown, stops_at_rows, tables_not_copied, tables_not_taken, tables_stopped}
 
 -- the same transactions have works
 pub left_same : (works set dropped now : List Working) (t : ℕ) (end : Undo) (keys : List Value)
@@ -127,3 +127,12 @@ pub not_copied : {D : Type 0} (m : Meaning D) (old begun new : Core D) (t : ℕ)
     → FailsTablesTo m old new t point told
 not_copied {D} m old begun new t point told continues ended is gives_up = tables_not_copied begun continues ended is
     (subst (λ (r : Refusal). GivesUpBy begun new t r) (sym is) gives_up)
+
+-- ---- both
+
+pub both_by : {D : Type 0} (m : Meaning D) (old mid new : Core D) (t : ℕ) (start end : Undo) (keys : List Value)
+    (result : Result (Unit {0}) Refusal) → TakesOthers m old mid t start end
+    → MatchResult result (λ _. TakesTheRows m mid new t keys) (FailsTheRows m mid new t keys)
+    → MatchResult result (λ _. TakesBoth m old new t start end keys) (StopsBoth m old new t start keys)
+both_by m old mid new t start end keys (Ok x) others rows = record { mid = mid; others = others; rows = rows }
+both_by m old mid new t start end keys (Err refusal) others rows = stops_at_rows mid end others rows

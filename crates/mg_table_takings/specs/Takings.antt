@@ -3,7 +3,7 @@ use Rattle.std.specs.Prelude.{◌≡◌, ◌≢◌, ℕ, Bool, true, false, List
 use Rattle.mg_base.specs.Disk.{Meaning}
 use Rattle.mg_value.specs.declared.value.Value.{Value}
 use Rattle.mg_model.specs.declared.change.Point.{Point}
-use Rattle.mg_model.specs.declared.change.Point.TheVariants.{LastMark, SavepointNamed}
+use Rattle.mg_model.specs.declared.change.Point.TheVariants.{SavepointNamed}
 use Rattle.mg_model.specs.declared.refusal.Refusal.{Refusal}
 use Rattle.mg_model.specs.declared.refusal.Refusal.TheVariants.{Memory}
 use Rattle.mg_space.specs.declared.fault.SpaceFault.{SpaceFault}
@@ -16,7 +16,7 @@ use Rattle.mg_core.specs.declared.parts.Core.{Core}
 use Rattle.mg_core.specs.Cores.{Continues}
 use Rattle.mg_core.specs.Events.{EndsWait, IsRefused}
 use Rattle.mg_core.specs.Refusing.{CountsFault, IsRefusal}
-use Rattle.mg_taking_back.specs.Changes.{FailsChange, TakesChange}
+use Rattle.mg_taking_back.specs.Changes.{FailsChange}
 use Rattle.mg_taking_back.specs.Taking.{Gives, GivesUpBy, HasBegun, MayReach, TakesChanges, not_asking}
 use Rattle.mg_table_unmaking.specs.Rows.{FailsRowsOut, TakesRowsOut}
 use Rattle.mg_table_takings.specs.Keys.{AreRowsToTake, others_of}
