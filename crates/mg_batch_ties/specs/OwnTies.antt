@@ -1,7 +1,7 @@
 -- A transaction's own newest version is written over in its cell, or taken out: what its batch pays, and drops.
-use Rattle.std.specs.Prelude.{◌≡◌, ◌≢◌, ◌⊎◌, ◌++◌, ◌==◌, ◌&&◌, ℕ, Bool, true, false, List, [], ◌∷◌, Option, None, Some, IsSome, is_some, not, if◌then◌else◌}
+use Rattle.std.specs.Prelude.{◌≡◌, ◌≢◌, ◌⊎◌, ◌++◌, ℕ, Bool, true, false, List, [], ◌∷◌, Option, None, Some, IsSome, is_some, not, if◌then◌else◌}
 use Rattle.std.proofs.Common.{inl, inr, refl, sym, subst, ap, ◌∙◌, arith}
-use Rattle.std.proofs.lemmas.Bool.{both_ways, cases_eq, eq-eqb}
+use Rattle.std.proofs.lemmas.Bool.{cases_eq, eq-eqb}
 use Rattle.mg_base.specs.CheckLaws.{byte_front}
 use Rattle.mg_base.specs.Fields.{byte}
 use Rattle.mg_base.specs.Image.{Image}
@@ -12,12 +12,11 @@ use Rattle.mg_careful.specs.declared.graph.Order.{Order}
 use Rattle.mg_careful.specs.declared.links.Demand.{Demand}
 use Rattle.mg_careful.specs.CarefulWrite.{DemandSet, Has, IsIn, either, listed}
 use Rattle.mg_chain.specs.Orders.{before_page, out_orders, unchanged_page}
-use Rattle.mg_chain.specs.Writing.{PutsAt, Replaces, TakesOut, TurnsBack, leading_to, link_to}
+use Rattle.mg_chain.specs.Writing.{PutsAt, Replaces, TakesOut, TurnsBack, leading_to}
 use Rattle.mg_demand_ties.specs.Runs.{Lasting, PaysThenDrops}
-use Rattle.mg_demand_ties.specs.CellDemands.{BackIsBehind, MayLeave, TurnsSlot, anchor_to, overwrites_pay, turns_pay, want_by}
+use Rattle.mg_demand_ties.specs.CellDemands.{BackIsBehind, TurnsSlot, overwrites_pay, turns_pay, want_by}
 use Rattle.mg_image.specs.Form.{Pages}
-use Rattle.mg_image.specs.Inventory.{inventory_page, is_used}
-use Rattle.mg_image.specs.Records.{cells_of, slot_cell}
+use Rattle.mg_image.specs.Records.{slot_cell}
 use Rattle.mg_image.specs.Tables.{Has as HasPage}
 use Rattle.mg_pool.specs.Batch.{Changed, content_in, is_in, lists}
 use Rattle.mg_pool.specs.declared.batch.BatchPage.{BatchPage}
@@ -28,8 +27,7 @@ use Rattle.mg_slots.specs.declared.page.TheConstants.{DATA_KIND}
 use Rattle.mg_heap.specs.Changing.{ChangesOne}
 use Rattle.mg_space.specs.Demands.{back_demands, cell_demands, demand, demands_of, is_version_of, link_demand, version_demands, wanted_demands}
 use Rattle.mg_space.specs.View.{viewed}
-use Rattle.mg_space.specs.declared.links.TheConstants.{DATA, HEADER, NEXT, VERSION}
-use Rattle.mg_version.specs.Cells.{IsSpelling}
+use Rattle.mg_space.specs.declared.links.TheConstants.{HEADER, NEXT, VERSION}
 use Rattle.mg_version.specs.declared.cell.Cell.{Cell}
 use Rattle.mg_version.specs.declared.cell.Cell.TheVariants as cells
 use Rattle.mg_version.specs.declared.cell.Link.{Link}
