@@ -52,7 +52,7 @@ use Rattle.mg_batch_ties.specs.Lists.{HaveOrders, before_in, have_added, have_sa
 use Rattle.mg_batch_ties.specs.Wants.{IsDataOf, IsTaken, WantsTable, data_passes, data_taken, still_data}
 
 -- bytes that spell a cell are read as it
-spelled_is : (b : List ℕ) (cell : Cell) → IsSpelling b cell → cell_spelled b ≡ cell
+pub spelled_is : (b : List ℕ) (cell : Cell) → IsSpelling b cell → cell_spelled b ≡ cell
 unfolding cell_bytes
 spelled_is b cell spells = ap cell_spelled spells.spelled ∙ at cell spells.is_cell
   where
