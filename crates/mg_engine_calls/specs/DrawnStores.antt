@@ -31,9 +31,8 @@ use Rattle.mg_txlist_ties.specs.DrawTies.{DrawsFrom, raised_is, tip_occupied}
 use Rattle.mg_engine_steps.specs.DrawnPages.{view_is}
 use Rattle.mg_engine_meaning.specs.Frames.{StoreGoesOn}
 use Rattle.mg_engine_meaning.specs.ReadLaws.{reads_go}
-use Rattle.mg_engine_meaning.specs.StepLaws.{run_goes, unmarked_run}
+use Rattle.mg_engine_meaning.specs.StepLaws.{run_goes, time_then, unmarked_run}
 use Rattle.mg_engine_tables.specs.Alike.{DataPagesStay}
-use Rattle.mg_engine_calls.specs.StillLaws.{time_then}
 
 -- ---- the store
 

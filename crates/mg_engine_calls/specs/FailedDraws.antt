@@ -42,10 +42,10 @@ use Rattle.mg_engine_meaning.specs.Frames.{GivesEvent, MayAnswer, StoreGoesOn}
 use Rattle.mg_engine_meaning.specs.Meaning.{Places, means}
 use Rattle.mg_engine_meaning.specs.Standings.{StandsFor, sessions_in}
 use Rattle.mg_engine_meaning.specs.ReadLaws.{reads_go, reads_quiet, reads_stand, reads_walks}
-use Rattle.mg_engine_meaning.specs.StepLaws.{fail_quiet, fail_stands, fail_walks, fails_goes, unmarked_run}
+use Rattle.mg_engine_meaning.specs.StepLaws.{fail_quiet, fail_stands, fail_walks, fails_goes, time_then, unmarked_run}
 use Rattle.mg_engine_calls.specs.Begins.{HasCounts}
 use Rattle.mg_engine_calls.specs.CallsRefusedLaws.{list_stands, list_walks, refused_gives}
-use Rattle.mg_engine_calls.specs.StillLaws.{quiet_then, time_then}
+use Rattle.mg_engine_calls.specs.StillLaws.{quiet_then}
 
 -- ---- what a drawing left
 

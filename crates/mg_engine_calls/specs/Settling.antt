@@ -21,21 +21,12 @@ use Rattle.mg_txlist.specs.Ending.{ChangesBits, FailsToSettle, SettlesPage, not_
 use Rattle.mg_core.specs.declared.parts.Core.{Core}
 use Rattle.mg_engine_meaning.specs.Frames.{StoreGoesOn}
 use Rattle.mg_engine_meaning.specs.Meaning.{Places, means}
-use Rattle.mg_engine_meaning.specs.StepLaws.{fails_goes, run_goes, unmarked_run}
+use Rattle.mg_engine_meaning.specs.StepLaws.{fails_goes, run_goes, time_then, unmarked_run}
 
 -- A store went on, and what was not marked in it is not.
 pub record GoesUnmarked {D L : Type 0} (m : Meaning D) (old new : Pool D L) : Type 0 where
   pub goes : StoreGoesOn m old new
   pub unmarked : (page who : ℕ) → is_marked old.dirty page who ≡ false → is_marked new.dirty page who ≡ false
-
-time_then : {D : Type 0} (m : Meaning D) (a b c : D) → TimeGoesOn m a b → TimeGoesOn m b c → TimeGoesOn m a c
-time_then m a b c first next = record {
-  tells = next.tells ∙ first.tells;
-  never_falls = let one = first.never_falls in let two = next.never_falls in omega (arith, one, two);
-  later = λ told. let one = first.later told in let two = next.later (first.tells ∙ told) in omega (arith, one, two);
-  keeps = λ told t image early left. let one = first.later told in
-      next.keeps (first.tells ∙ told) t image (omega (arith, early, one)) (first.keeps told t image early left);
-}
 
 module _ {D L : Type 0} (m : Meaning D) where
   goes_then : (a b c : Pool D L) → GoesUnmarked m a b → GoesUnmarked m b c → GoesUnmarked m a c
@@ -64,6 +55,7 @@ module _ {D L : Type 0} (m : Meaning D) where
           time = subst (λ (disk : D). TimeGoesOn m changes.changes.ready.disk disk)
               (sym (changes.changes.enters.disk ∙ changes.changes.puts.disk)) (record {
                 tells = refl;
+                most_writes = refl;
                 never_falls = omega arith;
                 later = λ told. omega arith;
                 keeps = λ told t c early left. left;
@@ -83,6 +75,7 @@ module _ {D L : Type 0} (m : Meaning D) where
     goes = record {
       time = record {
         tells = keeps.tells;
+        most_writes = keeps.most_writes;
         never_falls = keeps.never_falls;
         later = λ told. (keeps.time told).later;
         keeps = λ told t c early left. (keeps.time told).keeps t c early left;

@@ -9,7 +9,6 @@ use Rattle.mg_model.specs.History.{Entries}
 use Rattle.mg_model.specs.Legal.{durable_count}
 use Rattle.mg_image.specs.Form.{packed_form}
 use Rattle.mg_lasting.specs.Crashes.{HoldsAcknowledged, HoldsFrom, asked}
-use Rattle.mg_pool.specs.Run.{TimeGoesOn}
 use Rattle.mg_records.specs.Crashing.{LeavesOnly, LeavesQuietly}
 use Rattle.mg_records.specs.Keeping.{Reads}
 use Rattle.mg_records.specs.Sessions.{SessionsStay}
@@ -42,16 +41,6 @@ module _ {D P : Type 0} (m : Meaning D) (places : Places P) (old : Core D) where
   still_sessions = sessions_of m places old old 0 (works_same old.works 0)
 
 -- ---- two calls one after another
-
--- time goes on over both
-pub time_then : {D : Type 0} (m : Meaning D) (a b c : D) → TimeGoesOn m a b → TimeGoesOn m b c → TimeGoesOn m a c
-time_then m a b c first next = record {
-  tells = next.tells ∙ first.tells;
-  never_falls = let one = first.never_falls in let two = next.never_falls in omega (arith, one, two);
-  later = λ told. let one = first.later told in let two = next.later (first.tells ∙ told) in omega (arith, one, two);
-  keeps = λ told t image early left. let one = first.later told in
-      next.keeps (first.tells ∙ told) t image (omega (arith, early, one)) (first.keeps told t image early left);
-}
 
 -- where neither adds an entry, each crash leaves the history
 pub quiet_then : {D P : Type 0} (m : Meaning D) (places : Places P) (old mid new : Core D)

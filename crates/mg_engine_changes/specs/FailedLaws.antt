@@ -12,7 +12,6 @@ use Rattle.mg_engine_changes.specs.Known.{KnownOfBacks}
 use Rattle.mg_engine_changes.specs.Overlays.{overlays_then}
 use Rattle.mg_engine_changes.specs.Outcomes.{IsGivenUp, LeavesTheCatalog, back_event}
 use Rattle.mg_engine_changes.specs.Stopped.{begins, counts, ends_over, has_taken, may_answer, shows, stopped_is, stopping, stops_reading, taken}
-use Rattle.mg_engine_calls.specs.StillLaws.{time_then}
 use Rattle.mg_engine_meaning.specs.FrameLaws.{apart_from, commits_of, keeps_of, kept_all, kept_with, quiet_of, same_modes, same_sessions, sessions_of, tables_of, works_with}
 use Rattle.mg_engine_meaning.specs.Frames.{StoreGoesOn, WorksStay}
 use Rattle.mg_engine_meaning.specs.KeptLaws.{kept_with_work}
@@ -20,7 +19,7 @@ use Rattle.mg_engine_meaning.specs.LawfulLaws.{quiet_count, quiet_event}
 use Rattle.mg_engine_meaning.specs.Meaning.{AreNext, Places, means, rec_at}
 use Rattle.mg_engine_meaning.specs.MemoryCallLaws.{nothing_follows}
 use Rattle.mg_engine_meaning.specs.Standings.{KeepsIt, Numbers, StandsFor, StandsWhile, Tables, asked_in, asked_kept, mode_kept, session_kept, sessions_in, standing_of, undo_kept}
-use Rattle.mg_engine_meaning.specs.StepLaws.{fails_goes, unmarked_run}
+use Rattle.mg_engine_meaning.specs.StepLaws.{fails_goes, time_then, unmarked_run}
 use Rattle.mg_engine_changes.specs.Stages.{FailsReady, TellsOf}
 use Rattle.mg_engine_changes.specs.MadeLaws.{StoreOn, on_then, read_on}
 use Rattle.mg_engine_changes.specs.Notes.{AreCounts}

@@ -36,7 +36,7 @@ use Rattle.mg_engine_meaning.specs.Frames.{GivesEvent, StoreGoesOn, WorksStay}
 use Rattle.mg_engine_meaning.specs.Meaning.{Places, means, AreNext, rec_at}
 use Rattle.mg_engine_meaning.specs.Standings.{StandsFor, asked_kept, session_kept, sessions_in, Numbers, Tables, standing_of}
 use Rattle.mg_engine_meaning.specs.ReadLaws.{reads_go}
-use Rattle.mg_engine_meaning.specs.StepLaws.{as_standing, run_goes, unmarked_run}
+use Rattle.mg_engine_meaning.specs.StepLaws.{as_standing, run_goes, time_then, unmarked_run}
 use Rattle.mg_engine_steps.specs.Walking.{AreToCome}
 use Rattle.mg_model.specs.Changes.{KeyedRows}
 use Rattle.mg_pool.specs.Pool.{shown}
@@ -57,15 +57,6 @@ pub record StoreOn {D : Type 0} (m : Meaning D) (before after : Pool D FireLinks
   pub goes : StoreGoesOn m before after
   pub online : after.offline ≡ None
   pub unmarked : (page who : ℕ) → is_marked before.dirty page who ≡ false → is_marked after.dirty page who ≡ false
-
-time_then : {D : Type 0} (m : Meaning D) (a b c : D) → TimeGoesOn m a b → TimeGoesOn m b c → TimeGoesOn m a c
-time_then m a b c first next = record {
-  tells = next.tells ∙ first.tells;
-  never_falls = let one = first.never_falls in let two = next.never_falls in omega (arith, one, two);
-  later = λ told. let one = first.later told in let two = next.later (first.tells ∙ told) in omega (arith, one, two);
-  keeps = λ told t image early left. let one = first.later told in
-      next.keeps (first.tells ∙ told) t image (omega (arith, early, one)) (first.keeps told t image early left);
-}
 
 goes_then : {D : Type 0} (m : Meaning D) (a b c : Pool D FireLinks) → StoreGoesOn m a b → StoreGoesOn m b c
     → StoreGoesOn m a c

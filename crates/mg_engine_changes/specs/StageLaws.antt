@@ -2,7 +2,7 @@
 use Rattle.std.proofs.Common.{◌≡◌, ◌⊎◌, inl, inr, ◌≤◌, ℕ, Option, None, Some, Err, refl, sym, ap, ◌∙◌, subst}
 use Rattle.mg_base.specs.Disk.{Meaning}
 use Rattle.mg_base.specs.Image.{Image}
-use Rattle.mg_engine_calls.specs.StillLaws.{quiet_then, time_then}
+use Rattle.mg_engine_calls.specs.StillLaws.{quiet_then}
 use Rattle.mg_engine_steps.specs.Batches.{ReadsLast}
 use Rattle.mg_engine_steps.specs.PageWrites.{PageWritesFail}
 use Rattle.mg_image.specs.Form.{packed_form}
@@ -31,7 +31,7 @@ use Rattle.mg_engine_meaning.specs.LawfulLaws.{memory_of}
 use Rattle.mg_engine_meaning.specs.Meaning.{AreNext, Places, rec_at}
 use Rattle.mg_engine_meaning.specs.ReadLaws.{reads_go, reads_quiet, reads_stand, reads_walks}
 use Rattle.mg_engine_meaning.specs.Standings.{StandsFor, standing_of}
-use Rattle.mg_engine_meaning.specs.StepLaws.{as_standing, fail_quiet, fail_stands, fail_walks, fails_goes, unmarked_run}
+use Rattle.mg_engine_meaning.specs.StepLaws.{as_standing, fail_quiet, fail_stands, fail_walks, fails_goes, time_then, unmarked_run}
 use Rattle.mg_engine_changes.specs.Laid.{StaysOver, bare_standing}
 use Rattle.mg_engine_changes.specs.MadeLaws.{StoreOn}
 use Rattle.mg_engine_changes.specs.StopLaws.{rose_later, rose_one}

@@ -44,6 +44,7 @@ pub store_stands : {D L : Type 0} (m : Meaning D) (store : Pool D L) → StoreGo
 store_stands m store = record {
   time = record {
     tells = refl;
+    most_writes = refl;
     never_falls = omega arith;
     later = λ told. omega arith;
     keeps = λ told t c early left. left;

@@ -40,6 +40,7 @@ pub reads_go : {D L : Type 0} (m : Meaning D) (old new : Pool D L) → KeepsStor
 reads_go m old new keeps = record {
   time = record {
     tells = keeps.disk.tells;
+    most_writes = keeps.disk.most_writes;
     never_falls = keeps.disk.never_falls;
     later = λ told. (keeps.disk.time told).later;
     keeps = λ told. (keeps.disk.time told).keeps;

@@ -89,9 +89,11 @@ pub run_goes : {D L : Type 0} (m : Meaning D) (old new : Pool D L) → HasWritte
     → StoreGoesOn m old new
 run_goes m old new run = record { time = run.time; geometry = run.geometry; size = run.size }
 
-time_then : {D : Type 0} (m : Meaning D) (a b c : D) → TimeGoesOn m a b → TimeGoesOn m b c → TimeGoesOn m a c
+-- time goes on over both of two calls
+pub time_then : {D : Type 0} (m : Meaning D) (a b c : D) → TimeGoesOn m a b → TimeGoesOn m b c → TimeGoesOn m a c
 time_then m a b c first next = record {
   tells = next.tells ∙ first.tells;
+  most_writes = next.most_writes ∙ first.most_writes;
   never_falls = let one = first.never_falls in let two = next.never_falls in omega (arith, one, two);
   later = λ told. let one = first.later told in let two = next.later (first.tells ∙ told) in omega (arith, one, two);
   keeps = λ told t image early left. let one = first.later told in
