@@ -1,5 +1,5 @@
 -- A version that version chains write: what its batch pays.
-use Rattle.std.specs.Prelude.{◌≡◌, ◌≢◌, ◌⊎◌, ◌<◌, ◌≤◌, ◌++◌, ℕ, Bool, true, false, slice_index, List, [], ◌∷◌, length, Option, None, Some, if◌then◌else◌}
+use Rattle.std.specs.Prelude.{◌≡◌, ◌≢◌, ◌⊎◌, ◌++◌, ℕ, Bool, true, false, List, [], ◌∷◌, Option, None, Some, if◌then◌else◌}
 use Rattle.std.proofs.Common.{inl, inr, refl, sym, subst, ap, ◌∙◌, arith}
 use Rattle.std.proofs.lemmas.Bool.{cases_eq, cases_lt}
 use Rattle.mg_base.specs.Fields.{byte}
@@ -9,18 +9,15 @@ use Rattle.mg_base.specs.declared.numbers.PageNo.{PageNo}
 use Rattle.mg_base.specs.declared.numbers.RecId.{RecId}
 use Rattle.mg_base.specs.declared.numbers.TxNo.{TxNo}
 use Rattle.mg_careful.specs.Precedence.{Orders}
-use Rattle.mg_careful.specs.declared.graph.Order.{Order}
 use Rattle.mg_careful.specs.declared.links.Demand.{Demand}
 use Rattle.mg_careful.specs.CarefulWrite.{DemandSet, Has, IsIn, either, listed}
 use Rattle.mg_chain.specs.Orders.{before_page, first_orders, push_orders, slot_orders, unchanged_page, version_orders}
 use Rattle.mg_chain.specs.Writing.{MakesRecord, Pushes, TurnsTo, leading_to, link_to}
-use Rattle.mg_demand_ties.specs.CellDemands.{BackIsBehind, IsBehind, MayLeave, anchor_to, versions_pay, want_by}
+use Rattle.mg_demand_ties.specs.CellDemands.{BackIsBehind, MayLeave, anchor_to, versions_pay, want_by}
 use Rattle.mg_heap.specs.Apart.{need_with_anchor}
-use Rattle.mg_heap.specs.Growth.{AddsOrders}
 use Rattle.mg_heap.specs.Room.{GivesRoom}
 use Rattle.mg_heap.specs.Table.{IsTable}
 use Rattle.mg_image.specs.Form.{Pages}
-use Rattle.mg_image.specs.Inventory.{inventory_page, is_used}
 use Rattle.mg_image.specs.Records.{cells_of, cell_spelled, slot_cell}
 use Rattle.mg_image.specs.Tables.{Has as HasPage}
 use Rattle.mg_pool.specs.Batch.{Changed, is_in, lists}
@@ -32,9 +29,9 @@ use Rattle.mg_slots.specs.Room.{least_free, need_of}
 use Rattle.mg_slots.specs.RoomLaws.{first_without_at}
 use Rattle.mg_slots.specs.declared.page.TheConstants.{DATA_KIND}
 use Rattle.mg_space.specs.Demands.{cell_demands, link_demand}
-use Rattle.mg_space.specs.Taking.{IsGeometry, region_of}
+use Rattle.mg_space.specs.Taking.{IsGeometry}
 use Rattle.mg_space.specs.View.{viewed}
-use Rattle.mg_space.specs.declared.links.TheConstants.{BIT, DATA, HEADER, NEXT, VERSION}
+use Rattle.mg_space.specs.declared.links.TheConstants.{DATA, HEADER, NEXT, VERSION}
 use Rattle.mg_version.specs.CellLaws.{cell_again}
 use Rattle.mg_version.specs.Cells.{IsCell, IsSpelling, cell_bytes}
 use Rattle.mg_version.specs.declared.cell.Cell.{Cell}
@@ -52,7 +49,7 @@ use Rattle.mg_batch_ties.specs.Lists.{HaveOrders, before_in, have_added, have_sa
 use Rattle.mg_batch_ties.specs.Wants.{IsDataOf, IsTaken, WantsTable, data_passes, data_taken, still_data}
 
 -- bytes that spell a cell are read as it
-spelled_is : (b : List ℕ) (cell : Cell) → IsSpelling b cell → cell_spelled b ≡ cell
+pub spelled_is : (b : List ℕ) (cell : Cell) → IsSpelling b cell → cell_spelled b ≡ cell
 unfolding cell_bytes
 spelled_is b cell spells = ap cell_spelled spells.spelled ∙ at cell spells.is_cell
   where

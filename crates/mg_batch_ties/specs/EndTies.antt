@@ -1,22 +1,18 @@
 -- The end of a transaction: what the change of its page pays, by the clause of the call that sets its bits.
-use Rattle.std.specs.Prelude.{◌≡◌, ◌≢◌, ◌<◌, ◌/◌, ◌%◌, ◌*◌, ◌+◌, ◌==◌, ◌&&◌, ◌||◌, ℕ, Bool, true, List, Some, unwrap_or}
-use Rattle.std.proofs.Common.{inl, inr, refl, sym, subst, ap, ◌∙◌, arith}
+use Rattle.std.specs.Prelude.{◌≡◌, ◌≢◌, ◌<◌, ◌/◌, ◌%◌, ◌*◌, ◌+◌, ℕ, Bool, List, unwrap_or}
+use Rattle.std.proofs.Common.{refl, sym, subst, arith}
 use Rattle.std.proofs.Math.Nat.{mod-add-div'}
 use Rattle.std.proofs.lemmas.Bool.{eq-eqb, ne_eqb}
 use Rattle.mg_base.specs.Checks.{PassesAll}
 use Rattle.mg_base.specs.Disk.{Meaning}
-use Rattle.mg_base.specs.Image.{Image}
-use Rattle.mg_base.specs.declared.transaction.TxState.{TxState}
 use Rattle.mg_base.specs.declared.transaction.TxState.TheVariants.{Committed}
-use Rattle.mg_careful.specs.CarefulWrite.{DemandSet, IsIn, listed}
+use Rattle.mg_careful.specs.CarefulWrite.{DemandSet, IsIn}
 use Rattle.mg_demand_ties.specs.CommitDemands.{ends_pay}
 use Rattle.mg_image.specs.Form.{Pages}
-use Rattle.mg_image.specs.Inventory.{inventory_page, is_used, next_of}
+use Rattle.mg_image.specs.Inventory.{next_of}
 use Rattle.mg_pool.specs.Batch.{content_in, lists, one_page, orders_of}
-use Rattle.mg_pool.specs.Pool.{shown}
 use Rattle.mg_pool.specs.declared.pool.Pool.{Pool}
-use Rattle.mg_space.specs.Demands.{is_header}
-use Rattle.mg_space.specs.declared.links.TheConstants.{BIT, HEADER, NEXT, TRANSACTIONS}
+use Rattle.mg_space.specs.declared.links.TheConstants.{HEADER, TRANSACTIONS}
 use Rattle.mg_tip.specs.TipPage.{SetsState, places, tip_checks}
 use Rattle.mg_txlist.specs.Ending.{CommitsBits, header_first}
 use Rattle.mg_txlist.specs.TxList.{tip_in}

@@ -1,5 +1,5 @@
 -- A table's page with room: what the batch pays that found it, or made it.
-use Rattle.std.specs.Prelude.{◌≡◌, ◌≢◌, ◌⊎◌, ◌<◌, ◌≤◌, ◌+◌, ◌-◌, ◌*◌, ◌^◌, ◌++◌, min, ◌==◌, ℕ, zero, suc, Bool, true, false, slice_index, take, if◌then◌else◌, List, [], ◌∷◌, length}
+use Rattle.std.specs.Prelude.{◌≡◌, ◌≢◌, ◌<◌, ◌≤◌, ◌+◌, ◌-◌, ◌*◌, ◌^◌, ◌++◌, ◌==◌, ℕ, zero, suc, Bool, true, false, slice_index, take, if◌then◌else◌, List, [], ◌∷◌, length}
 use Rattle.std.proofs.Common.{inl, inr, refl, sym, subst, ap, ◌∙◌, arith}
 use Rattle.std.proofs.lemmas.Bool.{both_ways, cases_lt}
 use Rattle.mg_base.specs.CheckLaws.{front_checks, new_passes}
@@ -14,7 +14,7 @@ use Rattle.mg_careful.specs.declared.links.Demand.{Demand}
 use Rattle.mg_careful.specs.CarefulWrite.{DemandSet, Has, IsIn, either, listed}
 use Rattle.mg_demand_ties.specs.GrowDemands.{chain_pays, chain_wants, count_in_fits, entry_passes, grow_wants, growth_pays}
 use Rattle.mg_heap.specs.Room.{FindsOrGrows, GivesRoom, looked_at}
-use Rattle.mg_heap.specs.Growth.{AddsOrders, GrowsTable, HasEntryRoom, ListsInLast, ListsInNew, orders_to}
+use Rattle.mg_heap.specs.Growth.{HasEntryRoom, ListsInLast, ListsInNew, orders_to}
 use Rattle.mg_image.specs.Form.{Pages}
 use Rattle.mg_image.specs.Inventory.{inventory_page, is_used}
 use Rattle.mg_image.specs.Tables.{Has as HasPage}
@@ -29,7 +29,7 @@ use Rattle.mg_space.specs.Demands.{bit_demand}
 use Rattle.mg_space.specs.TakingLaws.{page_sizes, takes_keeps}
 use Rattle.mg_space.specs.View.{viewed}
 use Rattle.mg_space.specs.ViewLaws.{viewed_else, viewed_here}
-use Rattle.mg_space.specs.declared.links.TheConstants.{BIT, DATA, HEADER, POINTER}
+use Rattle.mg_space.specs.declared.links.TheConstants.{BIT, DATA, HEADER}
 use Rattle.mg_batch_demands.specs.KindLaws.{kind_of, pointer_kind}
 use Rattle.mg_batch_demands.specs.Met.{has_back, has_front, in_listed, of_listed}
 use Rattle.mg_batch_demands.specs.PointerLaws.{length-first}

@@ -1,18 +1,16 @@
 -- What a caller knows of the pages that a batch writes: they are wanted, as pages of their tables.
-use Rattle.std.specs.Prelude.{◌≡◌, ◌≢◌, ◌⊎◌, ◌<◌, ◌+◌, ◌-◌, ◌*◌, ◌/◌, ◌^◌, ◌==◌, ◌&&◌, ℕ, Bool, true, false, nat_lt, slice_index, List, [], ◌∷◌, length, Ok, Err, Result, is_ok, if◌then◌else◌}
-use Rattle.std.proofs.Common.{inl, inr, refl, sym, subst, ap, ◌∙◌, arith}
-use Rattle.std.proofs.lemmas.Bool.{and_from, and_parts, lt-ltb}
+use Rattle.std.specs.Prelude.{◌≡◌, ◌≢◌, ◌<◌, ◌+◌, ◌-◌, ◌*◌, ◌/◌, ◌^◌, ℕ, true, nat_lt, slice_index, List, length, Ok, Err, Result, is_ok}
+use Rattle.std.proofs.Common.{inl, refl, sym, subst, ap, ◌∙◌, arith}
+use Rattle.std.proofs.lemmas.Bool.{and_parts, lt-ltb}
 use Rattle.std.proofs.lemmas.Nat.{div-mul-add}
 use Rattle.mg_base.specs.Checks.{PassesAll, common_checks}
 use Rattle.mg_base.specs.Fields.{byte}
-use Rattle.mg_base.specs.declared.damage.Damaged.{Damaged}
 use Rattle.mg_base.specs.declared.geometry.Geometry.{Geometry}
 use Rattle.mg_careful.specs.declared.links.Demand.{Demand}
 use Rattle.mg_careful.specs.CarefulWrite.{DemandSet, Has, IsIn, either}
 use Rattle.mg_header.specs.declared.header.HeadFault.{HeadFault}
 use Rattle.mg_header.specs.declared.header.Header.{Header}
 use Rattle.mg_header.specs.HeaderPage.{reading}
-use Rattle.mg_header.specs.HeaderPageLaws.{reading_ok}
 use Rattle.mg_image.specs.Form.{Pages}
 use Rattle.mg_image.specs.Inventory.{inventory_page, is_used}
 use Rattle.mg_image.specs.Tables.{Has as HasPage}

@@ -9,6 +9,8 @@
 //! |---|---|---|---|
 //! | `add`, `add_apart` of mg_heap | `GivesRoom` | `room_pays` | `GrowthTies` |
 //! | `first`, `push` of mg_chain | `MakesRecord`, `Pushes` | `FirstPays`, `PushPays` | `CellTies` |
+//! | `replace_own` of mg_chain, in the version's cell | `Replaces` | `OverPays` | `OwnTies` |
+//! | `back_out` of mg_chain | `TakesOut` | `OutPays` | `OwnTies` |
 //! | `mark_committed` of mg_txlist | `CommitsBits` | `CommitPays` | `EndTies` |
 //! | a change by mg_pool | `ChangesOverlays` | `ChangesBear` | `PoolTies` |
 //!
@@ -17,9 +19,9 @@
 //!
 //! Invariant: none, it keeps no state.
 //! Below: `mg_demand_ties`, the laws over views; `mg_heap`, `mg_chain`, `mg_txlist`, `mg_pool`. Above: nothing yet.
-//! Not here: own versions that are replaced or taken out, the catalog's batch, and index pages.
+//! Not here: own versions that are moved to another cell, the catalog's batch, and index pages.
 #![tactic(auto)]
 
 mod ties;
 
-pub use ties::{changes_bear, commits_pay, writes_pay};
+pub use ties::{changes_bear, commits_pay, own_versions_pay, writes_pay};

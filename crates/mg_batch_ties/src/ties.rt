@@ -2,6 +2,7 @@
 
 ghost use Rattle.mg_batch_ties.specs.CellTies.{FirstPays, PushPays};
 ghost use Rattle.mg_batch_ties.specs.EndTies.{CommitPays};
+ghost use Rattle.mg_batch_ties.specs.OwnTies.{OutPays, OverPays};
 ghost use Rattle.mg_batch_ties.specs.PoolTies.{ChangesBear};
 
 use mg_base::Disk;
@@ -20,6 +21,13 @@ pub fn changes_bear<D: Disk>()
 pub fn writes_pay<D: Disk>()
     ensures push { PushPays D FireLinks }
     ensures first { FirstPays D FireLinks }
+{}
+
+/// A transaction's own newest version that is written over in its cell costs nothing; one that is taken out
+/// pays for the slot that is turned, and then it is dropped.
+pub fn own_versions_pay<D: Disk>()
+    ensures over { OverPays D FireLinks }
+    ensures out { OutPays D FireLinks }
 {}
 
 /// A commit that the transaction list has made pays for its bits.

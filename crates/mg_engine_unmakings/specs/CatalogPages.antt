@@ -1,5 +1,5 @@
 -- Pages that change on data pages of the catalog alone.
-use Rattle.std.proofs.Common.{◌≡◌, ◌≢◌, ◌⊎◌, inl, inr, refl, sym, ap, ◌∙◌, ℕ, Bool, true, false, Some}
+use Rattle.std.proofs.Common.{◌≡◌, ◌≢◌, ◌⊎◌, inl, inr, refl, sym, ap, ◌∙◌, subst, ℕ, ◌≤◌, Bool, true, false, Some}
 use Rattle.std.specs.Prelude.{if◌then◌else◌}
 use Rattle.std.proofs.lemmas.Bool.{cases_eq}
 use Rattle.mg_base.specs.Fields.{byte}
@@ -7,12 +7,13 @@ use Rattle.mg_base.specs.declared.transaction.TxState.{TxState}
 use Rattle.mg_model.specs.Catalog.{catalog_name}
 use Rattle.mg_model.specs.declared.table.Table.{Table}
 use Rattle.mg_image.specs.Form.{Form, Pages}
-use Rattle.mg_image.specs.Inventory.{is_used}
+use Rattle.mg_engine_steps.specs.ListShows.{TipsStay, tips_stay_on}
+use Rattle.mg_image.specs.Inventory.{is_used, last_sequence}
 use Rattle.mg_image.specs.Reached.{tips_of}
 use Rattle.mg_image.specs.Records.{Reading}
 use Rattle.mg_image.specs.Sound.{HasHeader, HasInventory, HasTransactions, IsSoundBy}
 use Rattle.mg_image.specs.Tables.{Layout, has, stands_of, table_at}
-use Rattle.mg_kept_images.specs.DataPages.{ChangesData, tips_same, used_kept}
+use Rattle.mg_kept_images.specs.DataPages.{ChangesData, last_same, tip_content, tip_same, tips_same, used_kept}
 use Rattle.mg_table_overlays.specs.DataKept.{KeepsBits, bits_more, bits_self}
 use Rattle.mg_engine_unmakings.specs.TakenNames.{other_name}
 
@@ -22,9 +23,17 @@ pub record ChangesCatalogPages (size : ℕ) (old new : Pages) (layout : Layout) 
   pub used : (m : ℕ) → is_used size new m ≡ is_used size old m
   pub tips : tips_of size new ≡ tips_of size old
   pub bits : KeepsBits size old new
+  -- the pages of transactions are where and as they were
+  pub stay : TipsStay size old new
 
 pub changes_none : (size : ℕ) (pages : Pages) (layout : Layout) → ChangesCatalogPages size pages pages layout
-changes_none size pages layout = record { each = λ m. inl refl; used = λ m. refl; tips = refl; bits = bits_self size pages }
+changes_none size pages layout = record {
+  each = λ m. inl refl;
+  used = λ m. refl;
+  tips = refl;
+  bits = bits_self size pages;
+  stay = λ sequence below. (refl, refl);
+}
 
 pub changes_join : (size : ℕ) (old mid new : Pages) (layout : Layout) → ChangesCatalogPages size old mid layout
     → ChangesCatalogPages size mid new layout → ChangesCatalogPages size old new layout
@@ -33,6 +42,7 @@ changes_join size old mid new layout first then_ = record {
   used = λ m. then_.used m ∙ first.used m;
   tips = then_.tips ∙ first.tips;
   bits = bits_more size old mid new first.bits then_.bits;
+  stay = tips_stay_on size old mid new then_.bits.next first.stay then_.stay;
 }
   where
     at : (m : ℕ) → (mid m ≡ old m) ⊎ ((has layout.catalog.data_pages m ≡ true) × (byte (old m) 0 ≡ 5))
@@ -50,6 +60,11 @@ data_changes in_primary size old new b change header inventory transactions layo
   used = used_kept in_primary size old new b change header inventory transactions;
   tips = tips_same in_primary size old new b change header inventory transactions;
   bits = bits;
+  stay = λ sequence below. let within : sequence ≤ last_sequence size old = subst (λ (n : ℕ). sequence ≤ n)
+      (last_same in_primary size old new b change header inventory transactions) below in (
+        tip_same in_primary size old new b change header inventory transactions sequence within,
+        tip_content in_primary size old new b change header inventory transactions sequence within,
+      );
 }
   where
     at : (m : ℕ) → (m ≡ b) ⊎ (m ≢ b)

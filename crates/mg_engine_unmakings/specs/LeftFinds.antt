@@ -67,12 +67,12 @@ no_catalog (x ∷ xs) name page each (inr more) same = no_catalog xs name page e
 -- ---- what a transaction sees
 
 -- Who sees a table sees a row of it.
-record SeesRow (rows : CatalogRows) (name : List ℕ) (table : Table) : Type 0 where
-  named : table.name ≡ name
-  row : Cells
-  there : rows (table_key name) ≡ Some row
+pub record SeesRow (rows : CatalogRows) (name : List ℕ) (table : Table) : Type 0 where
+  pub named : table.name ≡ name
+  pub row : Cells
+  pub there : rows (table_key name) ≡ Some row
 
-sees_row : (o : Opening) (h : Entries) (u : ℕ) (name : List ℕ) (table : Table)
+pub sees_row : (o : Opening) (h : Entries) (u : ℕ) (name : List ℕ) (table : Table)
     → IsSeenAs name (shape_seen o h u name) (Some table) → SeesRow (row_at (view o h u) catalog_name) name table
 sees_row o h u name table seen = at (same_name name catalog_name) seen
   where

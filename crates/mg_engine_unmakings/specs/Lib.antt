@@ -25,3 +25,4 @@ pub mod TakenRows
 pub mod TakenSound
 pub mod Whole
 pub mod WholeLaws
+pub mod TablesBefore

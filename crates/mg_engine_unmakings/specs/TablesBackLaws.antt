@@ -10,6 +10,7 @@ use Rattle.mg_value.specs.declared.value.Value.{Value}
 use Rattle.mg_engine_steps.specs.Batches.{RowsLastStill}
 use Rattle.mg_engine_steps.specs.Following.{FollowsEntry}
 use Rattle.mg_engine_steps.specs.GoesOnLaws.{pool_is_kept}
+use Rattle.mg_engine_steps.specs.ListShows.{TipsStay}
 use Rattle.mg_engine_steps.specs.Standing.{Remembers, ShowsHistory, Standing}
 use Rattle.mg_engine_writes.specs.Again.{AreTaken, again, others_again, own_again, rows_again}
 use Rattle.mg_engine_writes.specs.Knowing.{WasChanged}
@@ -20,6 +21,7 @@ use Rattle.mg_engine_writes.specs.Shown.{ShowsMidway}
 use Rattle.mg_grown_catalogs.specs.Grown.{CatalogGrows}
 use Rattle.mg_image.specs.Form.{Pages, packed_form}
 use Rattle.mg_image.specs.Histories.{newest_at}
+use Rattle.mg_image.specs.Inventory.{next_of}
 use Rattle.mg_image.specs.ReadingLaws.{RowsAreOne}
 use Rattle.mg_image.specs.Records.{Reading}
 use Rattle.mg_image.specs.Records as records
@@ -47,13 +49,15 @@ use Rattle.mg_space.specs.View.{viewed}
 use Rattle.mg_space_ties.specs.Changed.{BatchIsChanged, KeptIn, changed_fresh, fresh}
 use Rattle.mg_heap_ties.specs.Batches.{within_self}
 use Rattle.mg_table_overlays.specs.DataKept.{KeepsBits}
+use Rattle.mg_table_overlays.specs.Growing.{IsTableOf}
 use Rattle.mg_table_overlays.specs.OneLayout.{sound_once}
 use Rattle.mg_engine_unmakings.specs.CatalogPages.{ChangesCatalogPages}
 use Rattle.mg_engine_unmakings.specs.ChangedTables.{NoneOfGone}
 use Rattle.mg_engine_unmakings.specs.LeftShown.{ShowsLeft, TakesTables}
 use Rattle.mg_engine_unmakings.specs.Outs.{AreRowsOut, OutsThere, TakenTablesKeep, TakesRecordsOut, is_among}
 use Rattle.mg_engine_unmakings.specs.OutsThereLaws.{ReadsWithout, rows_go}
-use Rattle.mg_engine_unmakings.specs.TablesBack.{AreRowsLeft, TablesGoBack}
+use Rattle.mg_engine_unmakings.specs.TablesBefore.{stood_before}
+use Rattle.mg_engine_unmakings.specs.TablesBack.{AreRowsLeft, TablesGoBack, StoodUnder, TablesAreTaken, TakesOnPages}
 use Rattle.mg_engine_unmakings.specs.Taken.{IsWithout, LeavesTables, TakesRows, change_left, layout_left, reading_left}
 use Rattle.mg_engine_unmakings.specs.TakenSound.{left_are_sound}
 use Rattle.mg_engine_unmakings.specs.Whole.{GoWhole}
@@ -260,6 +264,96 @@ module _ (D L : Type 0) (m : Meaning D) (one : RowsAreOne packed_form.coding) (n
     sound = sound_left;
   }
 
+  -- ---- each table that stands stood before
+
+  module _ (chosen : ℕ → Bool) (layout : Layout) (q : Reading)
+      (sound : IsSoundBy packed_form before.geometry.size (left_state chosen s.state) (shown after.dirty j) layout q)
+      (its : Table) (of : IsTableOf layout its) where
+    kept_before : IsKept packed_form before.geometry.size o (again t left (e ∷ h)) (left_state chosen s.state)
+        (shown before.dirty i) (shown before.dirty i)
+    kept_before = pool_is_kept packed_form D L before.geometry.size o (again t left (e ∷ h)) s.state asked session before i
+        chosen midway.kept
+
+    -- where the transaction counts as dead the layout is the one that was
+    stood_dead : chosen t ≡ false → StoodUnder before.geometry.size (left_state chosen s.state) (shown before.dirty i) its
+    stood_dead not_ = record {
+      layout = kept_before.of_pool;
+      reading = kept_before.in_pool;
+      sound = kept_before.pool_sound;
+      of = subst (λ (l : Layout). IsTableOf l its) (sym same_layout) of;
+    }
+      where
+        dies : left_state chosen s.state t ≡ Dead
+        dies = rw (not_, goes.active) refl
+
+        same_layout : kept_before.of_pool ≡ layout
+        same_layout = (rows_go packed_form one no_pages no_primary before i s.state t o (again t left (e ∷ h))
+            (content_in batch.pages) (lists batch.orders) chosen not_ dies fresh batch outs keys are (within_self batch)
+            kept_before layout q (subst (λ (p : Pages). IsSoundBy packed_form before.geometry.size
+            (left_state chosen s.state) p layout q) pool_is sound)).0
+
+    -- where it counts as in limbo the layout is what is left of the one that was
+    stood_limbo : chosen t ≡ true → StoodUnder before.geometry.size (left_state chosen s.state) (shown before.dirty i) its
+    stood_limbo is = record {
+      layout = kept_before.layout;
+      reading = kept_before.reading;
+      sound = kept_before.sound;
+      of = stood_before (is_among keys) kept_before.layout after_not.layout leaves_.catalog its
+          (subst (λ (l : Layout). IsTableOf l its) (sym same_layout) of);
+    }
+      where
+        after_not : IsKept packed_form before.geometry.size o (e ∷ h) (left_state (without t chosen) s.state)
+            (shown after.dirty j) (shown after.dirty j)
+        after_not = pool_is_kept packed_form D L before.geometry.size o (e ∷ h) s.state asked session after j
+            (without t chosen) kept_then
+
+        both : LeavesTables before.geometry.size (shown before.dirty i) (shown after.dirty j) kept_before.layout
+            after_not.layout
+            × TakesRows t kept_before.layout (facts_by (left_state chosen s.state) (shown before.dirty i)
+            kept_before.layout) kept_before.reading after_not.reading (is_among keys)
+        both = subst (λ (p : Pages). LeavesTables before.geometry.size (shown before.dirty i) p kept_before.layout
+            after_not.layout
+            × TakesRows t kept_before.layout (facts_by (left_state chosen s.state) (shown before.dirty i)
+            kept_before.layout) kept_before.reading after_not.reading (is_among keys)) (sym pool_is)
+            (there chosen is kept_before after_not.layout after_not.reading
+            (subst (λ (p : Pages). IsSoundBy packed_form before.geometry.size (left_state (without t chosen) s.state) p
+            after_not.layout after_not.reading) pool_is after_not.sound))
+
+        leaves_ : LeavesTables before.geometry.size (shown before.dirty i) (shown after.dirty j) kept_before.layout
+            after_not.layout
+        leaves_ = both.0
+
+        sound_then : IsSoundBy packed_form before.geometry.size (left_state chosen s.state) (shown after.dirty j)
+            (layout_left (is_among keys) kept_before.layout after_not.layout)
+            (reading_left (is_among keys) kept_before.layout after_not.layout kept_before.reading after_not.reading)
+        sound_then = left_are_sound packed_form before.geometry.size (left_state (without t chosen) s.state)
+            (left_state chosen s.state) t (shown before.dirty i) (shown after.dirty j) kept_before.layout after_not.layout
+            kept_before.reading after_not.reading (is_among keys) (without_raises s.state t chosen goes.active is)
+            kept_before.sound after_not.sound both.0 both.1
+
+        same_layout : layout_left (is_among keys) kept_before.layout after_not.layout ≡ layout
+        same_layout = (sound_once packed_form one no_pages before.geometry.size (left_state chosen s.state)
+            (shown after.dirty j) (layout_left (is_among keys) kept_before.layout after_not.layout) layout
+            (reading_left (is_among keys) kept_before.layout after_not.layout kept_before.reading after_not.reading) q
+            sound_then sound).0
+
+    stood : StoodUnder before.geometry.size (left_state chosen s.state) (shown before.dirty i) its
+    stood = at (chosen t) refl
+      where
+        at : (b : Bool) → chosen t ≡ b
+            → StoodUnder before.geometry.size (left_state chosen s.state) (shown before.dirty i) its
+        at true is = stood_limbo is
+        at false not_ = stood_dead not_
+
+  pub on_pages : TakesOnPages before.geometry.size o h e t left s shows.layout shows.reading (shown before.dirty i)
+      (shown after.dirty j) (is_among keys)
+  on_pages = record {
+    tables = takes_tables;
+    stay = subst (TipsStay before.geometry.size (shown before.dirty i)) (sym pool_is) read.2.stay;
+    next = ap next_of pool_is ∙ read.2.bits.next;
+    before = stood;
+  }
+
   pub pages_back : (new : Standing) → FollowsEntry o h e s new → new.number t ≡ s.number t
       → ((name : List ℕ) (table : Table) → new.table t name ≡ Some table → s.table t name ≡ Some table)
       → ShowsHistory packed_form before.geometry.size o (e ∷ h) new (shown after.dirty j)
@@ -277,3 +371,11 @@ tables_go_back D L m one no_pages no_primary last tables keep leave none_left o 
       pages_back D L m one no_pages no_primary last tables keep leave none_left o h e point s start before after i j batch
           asked session t whole left keys begun first opening legal grows memory goes taken rows midway shows was outs are,
     )
+
+pub tables_are_taken : (D L : Type 0) (m : Meaning D) → RowsAreOne packed_form.coding → HasNoSequences packed_form
+    → packed_form.in_primary ≡ false → RowsLastStill D L m packed_form → ShowsLeft → TakenTablesKeep packed_form D L m
+    → OutsThere packed_form D L → NoneOfGone → TablesAreTaken D L m
+tables_are_taken D L m one no_pages no_primary last tables keep leave none_left o h e point s start before after i j batch
+    asked session t whole left keys begun first opening legal grows memory goes taken rows midway shows was outs are =
+    on_pages D L m one no_pages no_primary last tables keep leave none_left o h e point s start before after i j batch
+    asked session t whole left keys begun first opening legal grows memory goes taken rows midway shows was outs are

@@ -1,7 +1,7 @@
 //! What is known once tables are taken back. Each function does nothing: its contract is the law.
 
 ghost use Rattle.mg_engine_unmakings.specs.LeftShown.{ShowsLeft};
-ghost use Rattle.mg_engine_unmakings.specs.TablesBack.{TablesGoBack};
+ghost use Rattle.mg_engine_unmakings.specs.TablesBack.{TablesAreTaken, TablesGoBack};
 
 use crate::{changed_tables_are_there, taken_tables_are_there, taken_tables_keep};
 use mg_base::Disk;
@@ -22,7 +22,8 @@ pub fn left_tables_are_shown()
 
 /// The batch with the rows is the last step on the way back.
 pub fn tables_go_back<D: Disk, L: Links>()
-    ensures { TablesGoBack D L D.meaning }
+    ensures back { TablesGoBack D L D.meaning }
+    ensures taken { TablesAreTaken D L D.meaning }
 {
     one_reading();
     batches_last::<D, L>();

@@ -1,7 +1,5 @@
 //! Scenarios of the plain machine, event by event.
 
-ghost use Rattle.std.specs.Prelude.{◌≡◌, IfOk, length};
-
 use mg_base::{Memory, TxNo, TxState};
 use mg_expr::{Expr, Sign};
 use mg_model::{
@@ -90,11 +88,7 @@ fn catalog_row(
 }
 
 /// A new database.
-pub(super) fn new_opening(rt: &impl Abort, alloc: Global, limit: u32) -> Result<Opening, Fail>
-    ensures states { IfOk result (λ opening. length opening.states ≡ 0) }
-    ensures next { IfOk result (λ opening. opening.next.0 ≡ 1) }
-    ensures limit { IfOk result (λ opening. opening.limit.0 ≡ limit) }
-{
+pub(super) fn new_opening(rt: &impl Abort, alloc: Global, limit: u32) -> Result<Opening, Fail> {
     let catalog = name(rt, CATALOG);
     let rows = vec![in alloc;
         catalog_row(alloc, catalog, b"CKV.00", text(alloc, b"K")?, [0, 3, 1, 0])?,
@@ -108,6 +102,13 @@ pub(super) fn new_opening(rt: &impl Abort, alloc: Global, limit: u32) -> Result<
         next: TxNo(1),
         limit: TxNo(limit),
     })
+}
+
+/// The plain machine at an opening, whose numbers have to agree.
+pub(super) fn machine_at(rt: &impl Abort, alloc: Global, opening: &Opening) -> Result<Plain, Fail> {
+    assert!(rt; opening.states.as_slice().len() + 1 == opening.next.0 as usize);
+    assert!(rt; opening.next.0 <= opening.limit.0);
+    Ok(Plain::new(alloc, opening)?)
 }
 
 fn mode(read_only: bool, wait: bool, snapshot: bool) -> Mode {
@@ -171,7 +172,11 @@ fn told(alloc: Global, answer: &Answer) -> Result<String, Fail> {
     Ok(out)
 }
 
-const SCENARIOS: [(&str, &[(Act, &str)]); 14] = [
+/// An act and its answer.
+type Line = (Act, &'static str);
+
+/// Scripts that begin on a new database, each with what it shows.
+const SCENARIOS: &[(&str, &[Line])] = &[
     (
         "a snapshot reads the old row, and its own write is an update conflict",
         &[
@@ -369,71 +374,122 @@ const SCENARIOS: [(&str, &[(Act, &str)]); 14] = [
     ),
 ];
 
-/// Obeys the acts of a scenario on a new database.
-fn obey(rt: &impl Abort, alloc: Global, scenario: &str, acts: &[(Act, &str)]) -> Result<(), Fail> {
-    let mut plain = Plain::new(alloc, &new_opening(rt, alloc, 100)?)?;
-    for (act, wanted) in acts {
-        let answer = plain.answer(&event(rt, alloc, *act)?)?;
-        let text = told(alloc, &answer)?;
+/// The answer to an act, as a text.
+fn answered(rt: &impl Abort, alloc: Global, plain: &mut Plain, act: Act) -> Result<String, Fail> {
+    let answer = plain.answer(&event(rt, alloc, act)?)?;
+    told(alloc, &answer)
+}
+
+/// Wants the machine to answer the acts of a script so.
+fn obeys(
+    rt: &impl Abort,
+    alloc: Global,
+    plain: &mut Plain,
+    scenario: &str,
+    script: &[Line],
+) -> Result<(), Fail> {
+    for (act, wanted) in script {
+        let text = answered(rt, alloc, plain, *act)?;
         assert_eq!(rt; text.as_str(), *wanted, "{scenario}");
+    }
+    Ok(())
+}
+
+/// Wants a new machine to answer the acts of a script so; it draws numbers below the limit.
+fn new_one_obeys(
+    rt: &impl Abort,
+    alloc: Global,
+    limit: u32,
+    scenario: &str,
+    script: &[Line],
+) -> Result<(), Fail> {
+    let mut plain = machine_at(rt, alloc, &new_opening(rt, alloc, limit)?)?;
+    obeys(rt, alloc, &mut plain, scenario, script)
+}
+
+/// Wants a new machine to answer the acts of each scenario so.
+fn new_ones_obey(
+    rt: &impl Abort,
+    alloc: Global,
+    scenarios: &[(&str, &[Line])],
+) -> Result<(), Fail> {
+    for (scenario, script) in scenarios {
+        new_one_obeys(rt, alloc, 100, scenario, script)?;
     }
     Ok(())
 }
 
 #[test]
 fn the_plain_machine_answers_as_the_rules_say(rt: HostRuntime) -> Result<(), Fail> {
-    let alloc = rt.alloc();
-    for (scenario, acts) in SCENARIOS {
-        obey(&rt, alloc, scenario, acts)?;
-    }
-    Ok(())
+    new_ones_obey(&rt, rt.alloc(), SCENARIOS)
 }
+
+/// Transactions to draw, where the limit is 3.
+const DRAWS: &[Line] = &[
+    (Act::Begin, "TX 1"),
+    (Act::Begin, "TX 2"),
+    (Act::Begin, "TRANSACTION LIMIT"),
+    (Act::Begin, "TRANSACTION LIMIT"),
+];
 
 #[test]
 fn the_last_number_is_not_drawn(rt: HostRuntime) -> Result<(), Fail> {
-    let alloc = rt.alloc();
-    let mut plain = Plain::new(alloc, &new_opening(&rt, alloc, 3)?)?;
-    for wanted in ["TX 1", "TX 2", "TRANSACTION LIMIT", "TRANSACTION LIMIT"] {
-        let answer = plain.answer(&event(&rt, alloc, Act::Begin)?)?;
-        assert_eq!(rt; told(alloc, &answer)?.as_str(), wanted);
-    }
-    Ok(())
+    new_one_obeys(&rt, rt.alloc(), 3, "a limit of 3", DRAWS)
 }
+
+/// An opening at which transaction 1 is dead, and 2 is in limbo with a row.
+fn limbo_opening(rt: &impl Abort, alloc: Global) -> Result<Opening, Fail> {
+    let new = new_opening(rt, alloc, 100)?;
+    let change = LimboChange {
+        by: TxNo(2),
+        table: name(rt, b"KV"),
+        key: key(rt, 1),
+        row: Some(row(alloc, 1, 10)?),
+    };
+    Ok(Opening {
+        rows: new.rows,
+        limbo: Changes::new(vec![in alloc; change]?),
+        states: States::new(vec![in alloc; TxState::Dead, TxState::Limbo]?),
+        next: TxNo(3),
+        limit: new.limit,
+    })
+}
+
+/// What is answered at that opening.
+const IN_LIMBO: &[Line] = &[
+    (Act::Begin, "TX 3"),
+    (Act::Read(3), "ROWS"),
+    (Act::Insert(3, 1, 20), "IN LIMBO 2"),
+    (Act::Decide(1, true), "NOT ACTIVE DEAD"),
+    (Act::Decide(2, true), "FINE"),
+    (Act::Begin, "TX 4"),
+    (Act::Read(4), "ROWS 1=10"),
+];
 
 #[test]
 fn an_opening_has_its_limbo_transactions_in_the_way(rt: HostRuntime) -> Result<(), Fail> {
     let alloc = rt.alloc();
-    let mut opening = new_opening(&rt, alloc, 100)?;
-    opening.next = TxNo(3);
-    opening.states = States::new(vec![in alloc; TxState::Dead, TxState::Limbo]?);
-    opening.limbo = Changes::new(vec![in alloc;
-        LimboChange {
-            by: TxNo(2),
-            table: name(&rt, b"KV"),
-            key: key(&rt, 1),
-            row: Some(row(alloc, 1, 10)?),
-        },
-    ]?);
-    let mut plain = Plain::new(alloc, &opening)?;
-    for (act, wanted) in [
-        (Act::Begin, "TX 3"),
-        (Act::Read(3), "ROWS"),
-        (Act::Insert(3, 1, 20), "IN LIMBO 2"),
-        (Act::Decide(1, true), "NOT ACTIVE DEAD"),
-        (Act::Decide(2, true), "FINE"),
-        (Act::Begin, "TX 4"),
-        (Act::Read(4), "ROWS 1=10"),
-    ] {
-        let answer = plain.answer(&event(&rt, alloc, act)?)?;
-        assert_eq!(rt; told(alloc, &answer)?.as_str(), wanted);
+    let mut plain = machine_at(&rt, alloc, &limbo_opening(&rt, alloc)?)?;
+    obeys(&rt, alloc, &mut plain, "in limbo", IN_LIMBO)
+}
+
+/// A refusal, its number and its text.
+type Numbered = (Refusal, u8, &'static str);
+
+/// Wants the refusals to have these numbers and texts.
+fn are_told(rt: &impl Abort, alloc: Global, refusals: &[Numbered]) -> Result<(), Fail> {
+    for (refusal, number, wanted) in refusals {
+        let mut out = String::new(alloc);
+        write!(out, "{refusal}")?;
+        assert_eq!(rt; out.as_str(), *wanted);
+        assert_eq!(rt; refusal.number(), *number);
     }
     Ok(())
 }
 
 #[test]
 fn refusals_have_their_numbers_and_texts(rt: HostRuntime) -> Result<(), Fail> {
-    let alloc = rt.alloc();
-    let texts = [
+    let refusals = [
         (
             Refusal::UpdateConflict { by: TxNo(7) },
             1,
@@ -463,11 +519,5 @@ fn refusals_have_their_numbers_and_texts(rt: HostRuntime) -> Result<(), Fail> {
         (Refusal::DiskWrite { faults: 1 }, 17, "DISK WRITE FAULT"),
         (Refusal::from(Memory), 21, "OUT OF MEMORY"),
     ];
-    for (refusal, number, wanted) in texts {
-        let mut out = String::new(alloc);
-        write!(out, "{refusal}")?;
-        assert_eq!(rt; out.as_str(), wanted);
-        assert_eq!(rt; refusal.number(), number);
-    }
-    Ok(())
+    are_told(&rt, rt.alloc(), &refusals)
 }

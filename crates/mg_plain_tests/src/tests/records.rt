@@ -2,7 +2,7 @@
 
 ghost use Rattle.std.specs.Prelude.{◌<◌};
 
-use super::machine::{name, new_opening, row};
+use super::machine::{machine_at, name, new_opening, row};
 use mg_base::TxNo;
 use mg_model::{Mode, Refusal, Rows};
 use mg_plain::Plain;
@@ -71,57 +71,120 @@ fn done<T>(rt: &impl Abort, given: Result<T, Refusal>) -> T {
     }
 }
 
+// The calls of the machine as the test makes them, without what they promise: a promise would be
+// carried along in the proof of all that follows.
+
+/// Wants the table KV to get the row k, v.
+fn put(
+    rt: &impl Abort,
+    alloc: Global,
+    plain: &mut Plain,
+    t: TxNo,
+    k: i64,
+    v: i64,
+) -> Result<(), Fail> {
+    done(rt, insert(plain, t, &name(rt, b"KV"), row(alloc, k, v)?));
+    Ok(())
+}
+
+/// Wants a walk over KV to come to these keys.
+fn sees(rt: &impl Abort, alloc: Global, plain: &mut Plain, t: TxNo, wanted: &[i64]) {
+    let seen = done(rt, keys(alloc, plain, t, &name(rt, b"KV")));
+    assert_eq!(rt; seen.as_slice(), wanted);
+}
+
+/// Begins a statement.
+fn look(plain: &mut Plain, t: TxNo) -> Result<(), Refusal> {
+    Records::look(plain, t)
+}
+
+fn mark(plain: &mut Plain, t: TxNo) -> Result<(), Refusal> {
+    plain.mark(t)
+}
+
+fn undo_mark(plain: &mut Plain, t: TxNo) -> Result<(), Refusal> {
+    plain.undo_mark(t)
+}
+
+/// Sets the savepoint S.
+fn save(rt: &impl Abort, plain: &mut Plain, t: TxNo) -> Result<(), Refusal> {
+    plain.savepoint(t, &name(rt, b"S"))
+}
+
+/// Goes back to the savepoint S, and tells whether there is one.
+fn back(rt: &impl Abort, plain: &mut Plain, t: TxNo) -> Result<bool, Refusal> {
+    plain.back_to(t, &name(rt, b"S"))
+}
+
+/// Commits, and tells whether all was written before.
+fn commit(plain: &mut Plain, t: TxNo) -> Result<bool, Refusal> {
+    plain.commit_ask(t)?;
+    let written = plain.commit_step(t)?;
+    plain.commit_end(t)?;
+    Ok(written)
+}
+
+/// Tells that a statement found no rows in KV.
+fn found_none(rt: &impl Abort, alloc: Global, plain: &mut Plain, t: TxNo) -> Result<(), Refusal> {
+    plain.found(t, &name(rt, b"KV"), &None, &Rows::new(Vec::new(alloc)))
+}
+
+fn rollback(plain: &mut Plain, t: TxNo) -> Result<(), Refusal> {
+    plain.rollback(t)
+}
+
+/// The refusal of a table.
+fn refusal_of(rt: &impl Abort, plain: &mut Plain, t: TxNo, table: &[u8]) -> Option<Refusal> {
+    plain.table(t, &name(rt, table)).err()
+}
+
+/// What is taken back is not seen, and the savepoint stays.
+fn takes_back(rt: &impl Abort, alloc: Global, plain: &mut Plain, a: TxNo) -> Result<(), Fail> {
+    done(rt, mark(plain, a));
+    put(rt, alloc, plain, a, 3, 30)?;
+    done(rt, undo_mark(plain, a));
+    sees(rt, alloc, plain, a, &[1, 2]);
+    assert!(rt; !done(rt, back(rt, plain, a)));
+    done(rt, save(rt, plain, a));
+    put(rt, alloc, plain, a, 4, 40)?;
+    assert!(rt; done(rt, back(rt, plain, a)));
+    assert!(rt; done(rt, back(rt, plain, a)));
+    sees(rt, alloc, plain, a, &[1, 2]);
+    Ok(())
+}
+
+/// Another transaction, which sees the rows of the first once they are committed and it looks anew.
+fn shows_another(rt: &impl Abort, alloc: Global, plain: &mut Plain, a: TxNo) -> TxNo {
+    let b = done(rt, begin(plain, 1, false));
+    sees(rt, alloc, plain, b, &[]);
+    assert!(rt; done(rt, commit(plain, a)));
+    sees(rt, alloc, plain, b, &[]);
+    done(rt, look(plain, b));
+    sees(rt, alloc, plain, b, &[1, 2]);
+    b
+}
+
+/// A key that is there, a table that isn't, and a transaction that has ended are refused.
+fn refuses(rt: &impl Abort, alloc: Global, plain: &mut Plain, b: TxNo) -> Result<(), Fail> {
+    let twice = insert(plain, b, &name(rt, b"KV"), row(alloc, 1, 0)?);
+    assert!(rt; matches!(twice, Err(Refusal::DuplicateKey)));
+    assert!(rt; matches!(refusal_of(rt, plain, b, b"S"), Some(Refusal::NoTable)));
+    done(rt, found_none(rt, alloc, plain, b));
+    done(rt, rollback(plain, b));
+    let ended = refusal_of(rt, plain, b, b"KV");
+    assert!(rt; matches!(ended, Some(Refusal::NotActive { .. })));
+    Ok(())
+}
+
 #[test]
 fn a_walk_comes_to_the_rows_that_its_transaction_sees(rt: HostRuntime) -> Result<(), Fail> {
     let alloc = rt.alloc();
-    let kv = name(&rt, b"KV");
-    let mut plain = Plain::new(alloc, &new_opening(&rt, alloc, 1000)?)?;
+    let mut plain = machine_at(&rt, alloc, &new_opening(&rt, alloc, 1000)?)?;
     let a = done(&rt, begin(&mut plain, 0, true));
-    done(&rt, insert(&mut plain, a, &kv, row(alloc, 2, 20)?));
-    done(&rt, insert(&mut plain, a, &kv, row(alloc, 1, 10)?));
-    assert_eq!(rt;
-        done(&rt, keys(alloc, &mut plain, a, &kv)).as_slice(),
-        [1, 2].as_slice()
-    );
-    // What is taken back is not seen, and the savepoint stays.
-    done(&rt, plain.mark(a));
-    done(&rt, insert(&mut plain, a, &kv, row(alloc, 3, 30)?));
-    done(&rt, plain.undo_mark(a));
-    assert_eq!(rt;
-        done(&rt, keys(alloc, &mut plain, a, &kv)).as_slice(),
-        [1, 2].as_slice()
-    );
-    let save = name(&rt, b"S");
-    assert!(rt; !done(&rt, plain.back_to(a, &save)));
-    done(&rt, plain.savepoint(a, &save));
-    done(&rt, insert(&mut plain, a, &kv, row(alloc, 4, 40)?));
-    assert!(rt; done(&rt, plain.back_to(a, &save)));
-    assert!(rt; done(&rt, plain.back_to(a, &save)));
-    assert_eq!(rt;
-        done(&rt, keys(alloc, &mut plain, a, &kv)).as_slice(),
-        [1, 2].as_slice()
-    );
-    // Another transaction sees them once they are committed and it looks anew.
-    let b = done(&rt, begin(&mut plain, 1, false));
-    assert_eq!(rt; done(&rt, keys(alloc, &mut plain, b, &kv)).len(), 0);
-    done(&rt, plain.commit_ask(a));
-    assert!(rt; done(&rt, plain.commit_step(a)));
-    done(&rt, plain.commit_end(a));
-    assert_eq!(rt; done(&rt, keys(alloc, &mut plain, b, &kv)).len(), 0);
-    done(&rt, Records::look(&mut plain, b));
-    assert_eq!(rt;
-        done(&rt, keys(alloc, &mut plain, b, &kv)).as_slice(),
-        [1, 2].as_slice()
-    );
-    assert!(rt;
-        matches!(
-            insert(&mut plain, b, &kv, row(alloc, 1, 0)?),
-            Err(Refusal::DuplicateKey)
-        )
-    );
-    assert!(rt; matches!(plain.table(b, &save), Err(Refusal::NoTable)));
-    done(&rt, plain.found(b, &kv, &None, &Rows::new(Vec::new(alloc))));
-    done(&rt, plain.rollback(b));
-    assert!(rt; matches!(plain.table(b, &kv), Err(Refusal::NotActive { .. })));
-    Ok(())
+    put(&rt, alloc, &mut plain, a, 2, 20)?;
+    put(&rt, alloc, &mut plain, a, 1, 10)?;
+    sees(&rt, alloc, &mut plain, a, &[1, 2]);
+    takes_back(&rt, alloc, &mut plain, a)?;
+    let b = shows_another(&rt, alloc, &mut plain, a);
+    refuses(&rt, alloc, &mut plain, b)
 }
