@@ -90,8 +90,8 @@ statuses() {
     check 'status 1, a refusal' $'A: NO TRANSACTION\nstatus 1' "$(run s0 'A: COMMIT\n')"
     check 'status 3, no page write' $'mgdb: DISK WRITE FAULT\nstatus 3' "$(run s3 '' --stop 0)"
     check 'status 3, within a line' $'@put: DISK WRITE FAULT\nstatus 3' "$(run s3 '@put 1 1\n@get 1\n' --stop 7)"
-    check 'status 6, ROLLBACK TO before a CREATE TABLE' $'A: OK TX 1\nA: OK\nA: OK\nA: OUT OF MEMORY\nstatus 6' \
-        "$(run s6 'A: SET TRANSACTION\nA: SAVEPOINT S\nA: CREATE TABLE T (ID BIGINT PRIMARY KEY)\nA: ROLLBACK TO S\n')"
+    check 'ROLLBACK TO before a CREATE TABLE' $'A: OK TX 1\nA: OK\nA: OK\nA: OK\nA: OK\nA: OK\nstatus 0' \
+        "$(run back 'A: SET TRANSACTION\nA: SAVEPOINT S\nA: CREATE TABLE T (ID BIGINT PRIMARY KEY)\nA: ROLLBACK TO S\nA: CREATE TABLE T (ID BIGINT PRIMARY KEY)\nA: COMMIT\n')"
     check 'status 3 left a database' $'@get: NONE\nstatus 0' "$(run s3 '@get 1\n')"
     { printf -- '--'; head -c 1048575 /dev/zero | tr '\0' x; } > long
     check 'status 7' $'mgdb: SCRIPT TOO LONG\nstatus 7' "$("$mgdb" run s7 < long; echo "status $?")"

@@ -7,9 +7,8 @@
 //!
 //! Invariant (`IsEngine`): the core is lawful, and each session has one active transaction at most.
 //! Below: `mg_core`, the calls over memory and pages; `mg_engine_meaning`, what an engine means; the laws of each kind
-//! of call (`mg_engine_calls`, `mg_engine_changes`, `mg_engine_meaning`).
+//! of call (`mg_engine_calls`, `mg_engine_changes`).
 //! Above: the statements' steps.
-//! Not here yet: that tables go as their maker is taken back, in whose place it is rolled back (`taking`).
 #![tactic(auto)]
 
 mod beginning;

@@ -1,33 +1,29 @@
 //! A transaction is taken back to a point.
 
-ghost use Rattle.std.specs.Bool.{OnTrue};
-ghost use Rattle.std.specs.Prelude.{None, Some, false};
+ghost use Rattle.std.specs.Prelude.{None, Some};
 ghost use Rattle.mg_core.specs.Cores.{IsCore};
-ghost use Rattle.mg_engine_changes.specs.Outcomes.{IsRolledShort};
+ghost use Rattle.mg_engine_changes.specs.Notes.{AreCounts};
+ghost use Rattle.mg_engine_changes.specs.Outcomes.{IsBack, IsRolledShort, IsUndone};
 ghost use Rattle.mg_engine_meaning.specs.Meaning.{means};
-ghost use Rattle.mg_model.specs.declared.change.Point.TheVariants.{LastMark, SavepointNamed};
 ghost use Rattle.mg_records.specs.Crashing.{LeavesQuietly};
 ghost use Rattle.mg_records.specs.Keeping.{Leaves, refusal_in};
 ghost use Rattle.mg_records.specs.Sessions.{SessionsStay, given_up_in};
 ghost use Rattle.mg_records.specs.TakingBack.{GoesBack, Undoes};
-ghost use Rattle.mg_taking_back.specs.Tables.{TellsTables};
+ghost use Rattle.mg_engine.specs.Engines.{IsEngine};
 ghost use Rattle.mg_engine.specs.Places.{places};
 
 use crate::engine::Engine;
 use crate::reading::counts_fit;
 use mg_base::{Disk, TxNo};
 use mg_core::{Core, Place};
-use mg_engine_changes::backs_give;
+use mg_engine_changes::{backs_give, backs_give_over};
 use mg_model::Refusal;
+use mg_table_takings::{back_over_tables, undo_tables_to_mark};
 use mg_taking_back::{back_to, takes_tables_to_mark, takes_tables_to_savepoint, undo_mark};
 use mg_value::Name;
 
 impl<D: Disk> Engine<D> {
-    /// Takes back all since the last mark, which ends; where there is none, nothing.
-    ///
-    /// Not there yet: that a table which the transaction has made goes. Where it has made one since the mark it is rolled
-    /// back, and told `Memory`. That does not come of a statement that is refused: a CREATE TABLE which is refused has put
-    /// no row.
+    /// Takes back all since the last mark, which ends, with the tables that were made since; where there is none, nothing.
     ///
     /// # Errors
     ///
@@ -39,19 +35,12 @@ impl<D: Disk> Engine<D> {
         ensures crash { LeavesQuietly (means D.meaning places) self.old self.new }
         ensures sessions { SessionsStay (means D.meaning places) self.old self.new None (given_up_in t.0 result) }
     {
-        backs_give::<D, Place>();
         counts_fit(self.core.damage, self.core.shortages);
-        if !spares_tables_to_mark(&self.core, t) {
-            return Err(roll_back(&mut self.core, t));
-        }
-        undo_mark(&mut self.core, t)
+        take_to_mark(&mut self.core, t)
     }
 
-    /// Takes back all since the last savepoint of a name, which stays; later ones go. It answers false exactly where
-    /// there is no such savepoint, and then nothing has changed.
-    ///
-    /// Not there yet: that a table which the transaction has made goes. Where it has made one since the savepoint it is
-    /// rolled back, and told `Memory`.
+    /// Takes back all since the last savepoint of a name, which stays; later ones go, and the tables that were made
+    /// since. It answers false exactly where there is no such savepoint, and then nothing has changed.
     ///
     /// # Errors
     ///
@@ -62,36 +51,49 @@ impl<D: Disk> Engine<D> {
         ensures crash { LeavesQuietly (means D.meaning places) self.old self.new }
         ensures sessions { SessionsStay (means D.meaning places) self.old self.new None (given_up_in t.0 result) }
     {
-        backs_give::<D, Place>();
         counts_fit(self.core.damage, self.core.shortages);
-        if !spares_tables_to_savepoint(&self.core, t, name) {
-            return Err(roll_back(&mut self.core, t));
-        }
-        back_to(&mut self.core, t, name)
+        take_to_savepoint(&mut self.core, t, name)
     }
 }
 
-/// Tells whether a transaction that is taken back to its last mark takes no table back that it has made. False also
-/// where memory is wanting to tell.
-fn spares_tables_to_mark<D: Disk>(core: &Core<D>, t: TxNo) -> bool
-    requires core { IsCore D.meaning core.now }
-    ensures { OnTrue result (TellsTables core.now t.0 LastMark false) }
+/// Takes a transaction back to its last mark: key by key, and where it has made tables since, with their rows of the
+/// catalog in one batch. Where memory is wanting to tell, it is rolled back.
+///
+/// # Errors
+///
+/// As `Engine::undo_mark`.
+fn take_to_mark<D: Disk>(core: &mut Core<D>, t: TxNo) -> Result<(), Refusal>
+    requires engine { IsEngine D.meaning core.old }
+    requires counts { AreCounts core.old }
+    ensures core { IsCore D.meaning core.new }
+    ensures undone { IsUndone D.meaning places core.old core.new t result }
 {
+    backs_give::<D, Place>();
+    backs_give_over::<D, Place>();
     match takes_tables_to_mark(core, t) {
-        Ok(takes) => !takes,
-        Err(_) => false,
+        Ok(true) => undo_tables_to_mark(core, t),
+        Ok(false) => undo_mark(core, t),
+        Err(_) => Err(roll_back(core, t)),
     }
 }
 
-/// Tells whether a transaction that is taken back to its last savepoint of a name takes no table back that it has made.
-/// False also where memory is wanting to tell.
-fn spares_tables_to_savepoint<D: Disk>(core: &Core<D>, t: TxNo, name: &Name) -> bool
-    requires core { IsCore D.meaning core.now }
-    ensures { OnTrue result (TellsTables core.now t.0 (SavepointNamed name.now) false) }
+/// Takes a transaction back to its last savepoint of a name, as `take_to_mark` does to a mark.
+///
+/// # Errors
+///
+/// As `Engine::undo_mark`.
+fn take_to_savepoint<D: Disk>(core: &mut Core<D>, t: TxNo, name: &Name) -> Result<bool, Refusal>
+    requires engine { IsEngine D.meaning core.old }
+    requires counts { AreCounts core.old }
+    ensures core { IsCore D.meaning core.new }
+    ensures back { IsBack D.meaning places core.old core.new t name.now result }
 {
+    backs_give::<D, Place>();
+    backs_give_over::<D, Place>();
     match takes_tables_to_savepoint(core, t, name) {
-        Ok(takes) => !takes,
-        Err(_) => false,
+        Ok(true) => back_over_tables(core, t, name),
+        Ok(false) => back_to(core, t, name),
+        Err(_) => Err(roll_back(core, t)),
     }
 }
 

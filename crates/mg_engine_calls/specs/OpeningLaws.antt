@@ -156,7 +156,7 @@ module _ {D : Type 0} (m : Meaning D) (disk : D) (limit : ℕ) (core : Core D) (
 
   kept : KeepsWritten core.catalog.pointer.0 core.works (λ t name. None)
   kept = subst (λ (works : List Working). KeepsWritten core.catalog.pointer.0 works (λ t name. None))
-      (sym opens.idle.works) (record { seen = λ t number table is. absurd cc; told = λ t. tt })
+      (sym opens.idle.works) (record { seen = λ t table is. absurd is; told = λ t. tt })
 
   pub begins_standing : StandsFor m core o []
   begins_standing = record {

@@ -51,6 +51,7 @@ use Rattle.mg_pool.specs.Pool.{shown}
 use Rattle.mg_pool_overlays.specs.Needs.{Asked, Sessions}
 use Rattle.mg_space.specs.declared.links.FireLinks.{FireLinks}
 use Rattle.mg_kept_images.specs.KeptImages.{AreFrontStands}
+use Rattle.mg_kept_images.specs.TableOwners.{IsOneOf}
 use Rattle.mg_table_overlays.specs.OneLayout.{StandsOneWay}
 use Rattle.mg_taking_back.specs.Taking.{TakesBackTo, TakesChanges, not_asking, works_back}
 use Rattle.mg_txlist.specs.TxList.{said}
@@ -58,7 +59,7 @@ use Rattle.mg_undo.specs.Machine.{first_of, going_to}
 use Rattle.mg_undo.specs.Undo.{State as Undo, Taken, TakesBack as GivesAll, after_back_to, ends, give_newest, gives, goal_points, has_point, settled, take_back, take_to}
 use Rattle.mg_undo.specs.declared.changes.Change.{Change as Kept}
 use Rattle.mg_undo.specs.declared.points.Standing.{Standing as Point_at}
-use Rattle.mg_works.specs.Works.{Working, given_by, given_to, unasked, with_undo, with_work, without_tables, work_of, written_in}
+use Rattle.mg_works.specs.Works.{Working, given_by, given_to, unasked, with_undo, with_work, without_tables, work_of}
 use Rattle.mg_works.specs.WorksLaws.{with_its, with_others}
 
 -- ---- what is left to take back is of tables that are kept
@@ -98,14 +99,14 @@ module _ (catalog : ℕ) (written : List Table) where
   step_kept undo (p ∷ ps) are = newest_kept undo.going_back p ps (settled p.at undo.changes)
       (settled_kept p.at undo.changes are)
 
-  all_kept : (old new : Undo) (given : List Kept) → GivesAll old given new → AreOfKept catalog written old.changes
+  pub all_kept : (old new : Undo) (given : List Kept) → GivesAll old given new → AreOfKept catalog written old.changes
       → AreOfKept catalog written new.changes
   all_kept old new given (ends none after) are = subst (λ (u : Undo). AreOfKept catalog written u.changes) after
       (step_kept old (goal_points old) are)
   all_kept old new given (gives {given = rest} c some more) are = all_kept (take_back old).after new rest more
       (step_kept old (goal_points old) are)
 
-  going_kept : (undo : Undo) (point : Point) → AreOfKept catalog written undo.changes
+  pub going_kept : (undo : Undo) (point : Point) → AreOfKept catalog written undo.changes
       → AreOfKept catalog written (going_to undo point).changes
   going_kept undo LastMark are = are
   going_kept undo (SavepointNamed name) are = at (has_point undo (Some name)) refl
@@ -344,8 +345,8 @@ module _ {D : Type 0} (m : Meaning D) (openings : OpeningsBegin) (unask : Unaski
 
   kept_now : KeepsWritten old.catalog.pointer.0 works_now stands.tables
   kept_now = record {
-    seen = λ u n table there. stands.kept.seen u n table
-        (sym (all_work (λ (w : Option Working). written_in (written_kept w) n) refl u) ∙ there);
+    seen = λ u table there. stands.kept.seen u table
+        (subst (λ (xs : List Table). IsOneOf xs table) (all_work written_kept refl u) there);
     told = λ u. at u (cases_eq u t);
   }
     where

@@ -66,7 +66,7 @@ use Rattle.mg_version.specs.declared.cell.Cell.TheVariants as cells
 use Rattle.mg_version.specs.declared.cell.Link.{Link}
 use Rattle.mg_version.specs.declared.cell.Version.{Version}
 use Rattle.mg_waits.specs.Waits.{NowWaits, edges_in}
-use Rattle.mg_works.specs.Works.{Working, given_by, given_to, unasked, with_change, with_work, work_of, written_by, written_in}
+use Rattle.mg_works.specs.Works.{Working, given_by, given_to, unasked, with_change, with_work, work_of, written_by}
 use Rattle.mg_works.specs.WorksLaws.{with_its, with_others}
 use Rattle.mg_core.specs.declared.parts.Core.{Core}
 use Rattle.mg_core.specs.Putting.{works_kept}
@@ -349,8 +349,8 @@ module _ (speakers : SpeakersAreTold) (befores : BeforesAreTold) (follow : MadeW
   -- the table of the change is kept
   kept_now : HasNoted core.works t.0 table → KeepsWritten core.catalog.pointer.0 works_now stands.tables
   kept_now noted = record {
-    seen = λ u n x is. stands.kept.seen u n x
-        (sym (all_work (λ (w : Option Working). written_in (written_kept w) n) refl u) ∙ is);
+    seen = λ u x is. stands.kept.seen u x
+        (subst (λ (xs : List Table). IsOneOf xs x) (all_work written_kept refl u) is);
     told = λ u. at u (cases_eq u t.0);
   }
     where

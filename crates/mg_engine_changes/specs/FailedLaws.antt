@@ -10,16 +10,19 @@ use Rattle.mg_core.specs.declared.parts.Core.{Core}
 use Rattle.mg_engine_changes.specs.Events.{passing_back, whose_back}
 use Rattle.mg_engine_changes.specs.Known.{KnownOfBacks}
 use Rattle.mg_engine_changes.specs.Overlays.{overlays_then}
-use Rattle.mg_engine_changes.specs.Outcomes.{IsGivenUp, LeavesTheCatalog, back_event}
-use Rattle.mg_engine_changes.specs.Stopped.{begins, counts, ends_over, has_taken, may_answer, shows, stopped_is, stopping, stops_reading, taken}
+use Rattle.mg_engine_changes.specs.Outcomes.{IsGivenUp, back_event}
+use Rattle.mg_engine_changes.specs.BackBegun.{begins}
+use Rattle.mg_engine_changes.specs.Backs.{BeginsBack}
+use Rattle.mg_engine_changes.specs.StopsAfter.{StopsAfter, TakesSome}
+use Rattle.mg_engine_changes.specs.StopsAfterLaws.{counts, ends_over, may_answer, stopped_is, stops_reading}
 use Rattle.mg_engine_meaning.specs.FrameLaws.{apart_from, commits_of, keeps_of, kept_all, kept_with, quiet_of, same_modes, same_sessions, sessions_of, tables_of, works_with}
 use Rattle.mg_engine_meaning.specs.Frames.{StoreGoesOn, WorksStay}
 use Rattle.mg_engine_meaning.specs.KeptLaws.{kept_with_work}
 use Rattle.mg_engine_meaning.specs.LawfulLaws.{quiet_count, quiet_event}
 use Rattle.mg_engine_meaning.specs.Meaning.{AreNext, Places, means, rec_at}
 use Rattle.mg_engine_meaning.specs.MemoryCallLaws.{nothing_follows}
-use Rattle.mg_engine_meaning.specs.Standings.{KeepsIt, Numbers, StandsFor, StandsWhile, Tables, asked_in, asked_kept, mode_kept, session_kept, sessions_in, standing_of, undo_kept}
-use Rattle.mg_engine_meaning.specs.StepLaws.{fails_goes, time_then, unmarked_run}
+use Rattle.mg_engine_meaning.specs.Standings.{KeepsIt, Numbers, ShowsIt, StandsFor, StandsWhile, Tables, asked_in, asked_kept, mode_kept, session_kept, sessions_in, standing_of, undo_kept}
+use Rattle.mg_engine_meaning.specs.StepLaws.{fails_goes, shows_of, time_then, unmarked_run}
 use Rattle.mg_engine_changes.specs.Stages.{FailsReady, TellsOf}
 use Rattle.mg_engine_changes.specs.MadeLaws.{StoreOn, on_then, read_on}
 use Rattle.mg_engine_changes.specs.Notes.{AreCounts}
@@ -47,8 +50,7 @@ use Rattle.mg_records.specs.TakingBack.{after_refusal, is_given_up}
 use Rattle.mg_space.specs.ViewLaws.{tells_on}
 use Rattle.mg_space.specs.declared.fault.SpaceFault.{SpaceFault}
 use Rattle.mg_space.specs.declared.links.FireLinks.{FireLinks}
-use Rattle.mg_taking_back.specs.Taking.{HasBegun, MayReach, StopsTaking, not_asking}
-use Rattle.mg_undo.specs.Machine.{going_to}
+use Rattle.mg_taking_back.specs.Taking.{HasBegun}
 use Rattle.mg_undo.specs.Undo.{State as Undo}
 use Rattle.mg_waits.specs.Waits.{NowWaits, edges_in}
 use Rattle.mg_works.specs.Works.{Working, given_by, given_to, unasked, with_work, work_of}
@@ -56,10 +58,8 @@ use Rattle.mg_pool.specs.declared.fault.PoolFault.TheVariants as pool_faults
 
 module _ {D P : Type 0} (m : Meaning D) (places : Places P) (known : KnownOfBacks D P m) (old begun stopped : Core D)
     (t : TxNo) (point : Point) (undo : Undo) (refusal : Refusal) (core : IsCore m old) (counted : AreCounts old)
-    (leaves : LeavesTheCatalog m old t.0 point) (has_begun : HasBegun old begun t.0 undo)
-    (reaches : MayReach undo point)
-    (stops : StopsTaking m (not_asking t.0 begun) stopped t.0 (going_to undo point) refusal)
-    (fails : FailsReady m stops.at.store stopped.store (stopping m places known old begun stopped t point undo refusal core leaves has_begun reaches stops).fault) where
+    (has_begun : HasBegun old begun t.0 undo) (stops : StopsAfter m old begun stopped t point refusal)
+    (fails : FailsReady m stops.at.store stopped.store stops.stopping.fault) where
   abbrev now : Core D
   now = record old {
     waits = begun.waits;
@@ -70,13 +70,13 @@ module _ {D P : Type 0} (m : Meaning D) (places : Places P) (known : KnownOfBack
   }
 
   refusal_is : refusal ≡ DiskWrite fails.count
-  refusal_is = subst (λ (f : SpaceFault). IsRefusal f refusal) fails.is (stopping m places known old begun stopped t point undo refusal core leaves has_begun reaches stops).is
+  refusal_is = subst (λ (f : SpaceFault). IsRefusal f refusal) fails.is stops.stopping.is
 
   stays : is_given_up refusal ≡ false
   stays = ap is_given_up refusal_is
 
   offline_is : stopped.store.offline ≡ Some fails.count
-  offline_is = (subst (λ (f : SpaceFault). TellsOf m stops.at.store stopped.store f) fails.is (stopping m places known old begun stopped t point undo refusal core leaves has_begun reaches stops).told).0
+  offline_is = (subst (λ (f : SpaceFault). TellsOf m stops.at.store stopped.store f) fails.is stops.stopping.told).0
 
   -- ---- the store
 
@@ -84,8 +84,8 @@ module _ {D P : Type 0} (m : Meaning D) (places : Places P) (known : KnownOfBack
   failed_goes = fails_goes m fails.ready stopped.store (pool_faults.DiskWrite fails.count) fails.fails
 
   ready_on : StoreOn m old.store fails.ready
-  ready_on = on_then m old.store stops.at.store fails.ready (taken m places known old begun stopped t point undo refusal core leaves has_begun reaches stops).on
-      (read_on m stops.at.store fails.ready fails.keeps (fails.keeps.offline ∙ (taken m places known old begun stopped t point undo refusal core leaves has_begun reaches stops).on.online))
+  ready_on = on_then m old.store stops.at.store fails.ready stops.taken.on
+      (read_on m stops.at.store fails.ready fails.keeps (fails.keeps.offline ∙ stops.taken.on.online))
 
   goes_now : StoreGoesOn m old.store stopped.store
   goes_now = record {
@@ -138,14 +138,26 @@ module _ {D P : Type 0} (m : Meaning D) (places : Places P) (known : KnownOfBack
   -- ---- over a history
 
   outer : is_outer (No refusal) ≡ true
-  outer = fault_outer (stopping m places known old begun stopped t point undo refusal core leaves has_begun reaches stops).fault refusal (stopping m places known old begun stopped t point undo refusal core leaves has_begun reaches stops).is
+  outer = fault_outer stops.stopping.fault refusal stops.stopping.is
 
   no_wait : waited_on (No refusal) ≡ None
-  no_wait = fault_waits (stopping m places known old begun stopped t point undo refusal core leaves has_begun reaches stops).fault refusal (stopping m places known old begun stopped t point undo refusal core leaves has_begun reaches stops).is
+  no_wait = fault_waits stops.stopping.fault refusal stops.stopping.is
 
   module _ (o : Opening) (h : Entries) (stands : StandsFor m old o h) where
     abbrev size : ℕ
     size = old.store.geometry.size
+
+    abbrev shows : ShowsIt m old o h (standing_of old stands.numbers stands.tables)
+    shows = shows_of m old o h stands has_begun.continues.0
+
+    -- what was taken back till then
+    abbrev some : TakesSome m old begun stops.at t point o h stands shows
+    some = stops.over o h stands shows
+
+    abbrev begins_so : BeginsBack m o h (entry (back_event t point) Fine) point t.0
+        (standing_of old stands.numbers stands.tables) old.store shows.image
+        (asked_in (with_work t.0 unasked old.works)) (sessions_in old.works)
+    begins_so = begins m known old begun t point undo core has_begun o h stands shows
 
     abbrev s_now : Standing
     s_now = standing_of now stands.numbers stands.tables
@@ -161,16 +173,16 @@ module _ {D P : Type 0} (m : Meaning D) (places : Places P) (known : KnownOfBack
         has_begun.ended.over) stands.numbers stands.tables)
 
     told_ready : m.tells fails.ready.disk ≡ true
-    told_ready = (tells_on m stops.at.store fails.ready (has_taken m places known old begun stopped t point undo refusal core leaves has_begun reaches stops o h stands).image fails.keeps (has_taken m places known old begun stopped t point undo refusal core leaves has_begun reaches stops o h stands).knows.tells).told
+    told_ready = (tells_on m stops.at.store fails.ready some.taken.image fails.keeps some.taken.knows.tells).told
 
     pub all : Stands packed_form size o (entry (back_event t point) (No refusal) ∷ h) s_now None
         × LeftOn m packed_form o (entry (back_event t point) (No refusal) ∷ h) stopped.store
         × LeavesSince m old.store.disk stopped.store.disk (HoldsAcknowledged packed_form size o h)
     all = known.failed o h (entry (back_event t point) Fine) (entry (back_event t point) (No refusal)) point t.0
-        (standing_of old stands.numbers stands.tables) s_now old.store fails.ready stopped.store (shows m places known old begun stopped t point undo refusal core leaves has_begun reaches stops o h stands).image
-        (has_taken m places known old begun stopped t point undo refusal core leaves has_begun reaches stops o h stands).image (asked_in (with_work t.0 unasked old.works)) (sessions_in old.works) (begins m places known old begun stopped t point undo refusal core leaves has_begun reaches stops o h stands) lawful
+        (standing_of old stands.numbers stands.tables) s_now old.store fails.ready stopped.store shows.image
+        some.taken.image (asked_in (with_work t.0 unasked old.works)) (sessions_in old.works) begins_so lawful
         (quiet_count (entry (back_event t point) (No refusal)) (passing_back t point)) (quiet_event (entry (back_event t point) (No refusal)) (passing_back t point)) follows
-        (stops_reading m places known old begun stopped t point undo refusal core leaves has_begun reaches stops o h stands fails.ready fails.keeps) (ends_over m places known old begun stopped t point undo refusal core leaves has_begun reaches stops o h stands fails.ready fails.keeps) told_ready crash_now
+        (stops_reading m known old begun stopped t point undo refusal core has_begun stops o h stands fails.ready fails.keeps) (ends_over m known old begun stopped t point undo refusal core has_begun stops o h stands fails.ready fails.keeps) told_ready crash_now
         (failed_goes.time.tells ∙ told_ready) failed_goes.size
 
     keeps_it : KeepsIt m now o (entry (back_event t point) (No refusal) ∷ h) s_now
@@ -210,8 +222,8 @@ module _ {D P : Type 0} (m : Meaning D) (places : Places P) (known : KnownOfBack
   }
 
   risen_counts : (old.damage ≤ stopped.damage) × (old.shortages ≤ stopped.shortages)
-  risen_counts = risen (stopping m places known old begun stopped t point undo refusal core leaves has_begun reaches stops).fault old.damage stopped.damage old.shortages stopped.shortages counted.damage
-      counted.shortages (counts m places known old begun stopped t point undo refusal core leaves has_begun reaches stops)
+  risen_counts = risen stops.stopping.fault old.damage stopped.damage old.shortages stopped.shortages counted.damage
+      counted.shortages (counts m old begun stopped t point refusal stops)
 
   now_gives : IsGivenUp m places old now t (back_event t point) refusal
   now_gives = record {
@@ -221,7 +233,7 @@ module _ {D P : Type 0} (m : Meaning D) (places : Places P) (known : KnownOfBack
     );
     leaves = record {
       keeps = keeps_of m places old now (Some refusal) goes_now risen_counts.0 risen_counts.1
-          (may_answer m places known old begun stopped t point undo refusal core leaves has_begun reaches stops now (stopping m places known old begun stopped t point undo refusal core leaves has_begun reaches stops).told (counts m places known old begun stopped t point undo refusal core leaves has_begun reaches stops));
+          (may_answer m old begun stopped t point refusal stops places now has_begun.continues.0 stops.stopping.told (counts m old begun stopped t point refusal stops));
       tables_stay = tables_of m places old now (Some t.0) (λ u name not_. given_same u name);
       walks_stay = walks_now;
       commits = commits_of m places old now (Some t.0)
@@ -238,4 +250,4 @@ module _ {D P : Type 0} (m : Meaning D) (places : Places P) (known : KnownOfBack
 
   pub failed_gives : IsGivenUp m places old stopped t (back_event t point) refusal
   failed_gives = subst (λ (c : Core D). IsGivenUp m places old c t (back_event t point) refusal)
-      (sym (stopped_is m places known old begun stopped t point undo refusal core leaves has_begun reaches stops)) now_gives
+      (sym (stopped_is m old begun stopped t point refusal stops)) now_gives

@@ -38,7 +38,7 @@ use Rattle.mg_undo.specs.declared.changes.Change.{Change as Kept}
 
 -- ---- lists of changes
 
-each_as : (P Q : Change → Type 0) → ((c : Change) → P c → Q c) → (cs : List Change) → EachChange P cs → EachChange Q cs
+pub each_as : (P Q : Change → Type 0) → ((c : Change) → P c → Q c) → (cs : List Change) → EachChange P cs → EachChange Q cs
 each_as P Q to [] each = tt
 each_as P Q to (c ∷ cs) each = (to c each.0, each_as P Q to cs each.1)
 
@@ -76,7 +76,7 @@ since_made point (Saved name ∷ deeds) = none_or (λ c. has_change (changes_in 
     (is_point point (Saved name)) (changes_since point deeds) (since_made point deeds)
 
 -- the first changes of keys are some of all
-first_some : (P : Change → Type 0) (cs : List Change) → EachChange P cs → EachChange P (first_of cs)
+pub first_some : (P : Change → Type 0) (cs : List Change) → EachChange P cs → EachChange P (first_of cs)
 first_some P [] each = tt
 first_some P (c ∷ cs) each = at (has_same c cs) (first_some P cs each.1)
   where

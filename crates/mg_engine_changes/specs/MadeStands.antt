@@ -52,7 +52,7 @@ use Rattle.mg_table_overlays.specs.OneTable.{one_table, stands_in}
 use Rattle.mg_txlist.specs.TxList.{said}
 use Rattle.mg_undo.specs.Undo.{State as Undo}
 use Rattle.mg_waits.specs.Waits.{NowWaits, edges_in}
-use Rattle.mg_works.specs.Works.{Working, given_by, given_to, work_of, written_in}
+use Rattle.mg_works.specs.Works.{Working, given_by, given_to, work_of}
 use Rattle.mg_core.specs.Cores.{IsCatalog}
 use Rattle.mg_core.specs.declared.parts.Core.{Core}
 use Rattle.mg_engine_changes.specs.Joined.{layout_with, stands_with}
@@ -482,12 +482,11 @@ module _ (begins : OpeningsBegin) (seen_law : MadeAreSeen) (remembered : RowsAre
   written_same u = all_work written_kept (made_with t.0 first_page keys core.works written_kept (λ key w. refl)
       (λ w. refl) (λ w. refl)) u
 
-  kept_seen : (u number : ℕ) (x : Table) → written_in (written_kept (work_of works_now u)) number ≡ Some x
-      → SeesAlike (tables_now u x.name) x
-  kept_seen u number x is = at ((u == t.0) && same_name x.name name) refl
+  kept_seen : (u : ℕ) (x : Table) → IsOneOf (written_kept (work_of works_now u)) x → SeesAlike (tables_now u x.name) x
+  kept_seen u x is = at ((u == t.0) && same_name x.name name) refl
     where
       was : SeesAlike (stands.tables u x.name) x
-      was = stands.kept.seen u number x (sym (ap (λ (xs : List Table). written_in xs number) (written_same u)) ∙ is)
+      was = stands.kept.seen u x (subst (λ (xs : List Table). IsOneOf xs x) (written_same u) is)
 
       both_on : (a b : Bool) → (a && b) ≡ true → (a ≡ true) × (b ≡ true)
       both_on true true on = (refl, refl)

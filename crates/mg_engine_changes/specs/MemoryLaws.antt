@@ -41,11 +41,11 @@ no_mark (Changed c ∷ deeds) none = no_mark deeds none
 no_mark (Marked ∷ deeds) none = absurd cc
 no_mark (Saved name ∷ deeds) none = no_mark deeds none
 
-nothing_given : (number : List ℕ → ℕ) (deeds : List Deed) → has_deed LastMark deeds ≡ false
+pub nothing_given : (number : List ℕ → ℕ) (deeds : List Deed) → has_deed LastMark deeds ≡ false
     → take_back (undo_of number deeds) ≡ record { given = None; after = undo_of number deeds }
 nothing_given number deeds none = ap (take_to (undo_of number deeds)) (no_mark deeds none)
 
-none_left : (old new : Undo) (given : List Kept) → take_back old ≡ record { given = None; after = old }
+pub none_left : (old new : Undo) (given : List Kept) → take_back old ≡ record { given = None; after = old }
     → GivesAll old given new → new ≡ old
 none_left old new given is (ends none after) = sym after ∙ ap (λ (x : Taken). x.after) is
 none_left old new given is (gives c some more) =

@@ -10,6 +10,7 @@ use Rattle.mg_pool_overlays.specs.Needs.{Asked, Sessions}
 use Rattle.mg_engine_steps.specs.Standing.{Standing}
 use Rattle.mg_lasting.specs.Lasting.{LastsOn}
 use Rattle.mg_image.specs.Form.{packed_form}
+use Rattle.mg_kept_images.specs.TableOwners.{IsOneOf}
 use Rattle.mg_works.specs.Works.{Working, given_by, has_session, with_work, with_written, work_of, written_by, written_in, written_to}
 use Rattle.mg_works.specs.WorksLaws.{none_untouched, with_its, with_none, with_others}
 use Rattle.mg_core.specs.declared.parts.Core.{Core}
@@ -88,7 +89,7 @@ noted_tables_are_kept t table works work its = at (is_some (written_to works t t
         ∙ ap (λ (b : Bool). is_some (if b then Some table else written_in work.written table.pointer.0))
         (eq-eqb table.pointer.0 table.pointer.0 refl)
 
--- what is kept under a number, with the table behind those that are kept already
+-- what is kept, with the table before those that are kept already
 kept_by : (t catalog : ℕ) (table : Table) (works : List Working) (tables : Tables) → tables t table.name ≡ Some table
     → KeepsWritten catalog works tables → KeepsWritten catalog (noted t table works) tables
 kept_by t catalog table works tables seen keeps = at _
@@ -107,17 +108,12 @@ kept_by t catalog table works tables seen keeps = at _
     alike u e = subst (λ (x : Option Table). SeesAlike x table) (sym (ap (λ (n : ℕ). tables n table.name) e ∙ seen))
         (record { name = refl; shape = refl; pointer = refl })
 
-    -- under a number it is the one that is found, or one that was kept is
-    found : (u number : ℕ) (x : Table) → u ≡ t → (w : Working) → work_of works u ≡ Some w
-        → written_in (table ∷ w.written) number ≡ Some x → SeesAlike (tables u x.name) x
-    found u number x e w is there = by (table.pointer.0 == number) there
-      where
-        by : (b : Bool) → (if b then Some table else written_in w.written number) ≡ Some x
-            → SeesAlike (tables u x.name) x
-        by true some = let same : table ≡ x = cc in
-            subst (λ (y : Table). SeesAlike (tables u y.name) y) same (alike u e)
-        by false more = keeps.seen u number x
-            (ap (λ (v : Option Working). written_in (written_kept v) number) is ∙ more)
+    -- one that is kept is this one, or was kept
+    found : (u : ℕ) (x : Table) → u ≡ t → (w : Working) → work_of works u ≡ Some w → IsOneOf (table ∷ w.written) x
+        → SeesAlike (tables u x.name) x
+    found u x e w is (inl same) = subst (λ (y : Table). SeesAlike (tables u y.name) y) same (alike u e)
+    found u x e w is (inr more) = keeps.seen u x
+        (subst (λ (v : Option Working). IsOneOf (written_kept v) x) (sym is) more)
 
     -- by whom a work is
     by_work : (P : Option Working → Type 0) (u : ℕ) → (work_of (with_work t (with_written table) works) u
@@ -134,10 +130,9 @@ kept_by t catalog table works tables seen keeps = at _
 
     with_it : KeepsWritten catalog (with_work t (with_written table) works) tables
     with_it = record {
-      seen = λ u number x. by_work (λ v. written_in (written_kept v) number ≡ Some x → SeesAlike (tables u x.name) x)
-          u (λ same is. keeps.seen u number x
-          (ap (λ (v : Option Working). written_in (written_kept v) number) (sym same) ∙ is))
-          (λ e w was is. found u number x e w was is);
+      seen = λ u x. by_work (λ v. IsOneOf (written_kept v) x → SeesAlike (tables u x.name) x) u
+          (λ same is. keeps.seen u x (subst (λ (v : Option Working). IsOneOf (written_kept v) x) same is))
+          (λ e w was is. found u x e w was is);
       told = λ u. by_work (AreTold catalog) u
           (λ same. subst (AreTold catalog) (sym same)
           (keeps.told u)) (λ e w was. kept_behind catalog table w.written w.undo.changes

@@ -45,6 +45,12 @@ pub record IsGivenUp {D P : Type 0} (m : Meaning D) (places : Places P) (old new
   pub crash : LeavesQuietly (means m places) old new
   pub sessions : SessionsStay (means m places) old new None (given_up_in {T = Unit {0}} t.0 (Err refusal))
 
+-- So a call that was to take it back to a point was refused, and each session has one active transaction at most.
+pub record GivenUpApart {D P : Type 0} (m : Meaning D) (places : Places P) (old new : Core D) (t : TxNo) (point : Point)
+    (refusal : Refusal) : Type 0 where
+  pub gives : IsGivenUp m places old new t (back_event t point) refusal
+  pub apart : AreApart new.works
+
 -- ---- what the calls owe
 
 -- A transaction was to be taken back to its last mark.

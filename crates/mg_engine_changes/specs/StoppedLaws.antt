@@ -12,8 +12,12 @@ use Rattle.mg_core.specs.Cores.{IsCore}
 use Rattle.mg_core.specs.declared.parts.Core.{Core}
 use Rattle.mg_engine_changes.specs.Events.{active_here, passing_back, whose_back}
 use Rattle.mg_engine_changes.specs.Known.{KnownOfBacks}
-use Rattle.mg_engine_changes.specs.Outcomes.{IsGivenUp, LeavesTheCatalog, back_event}
-use Rattle.mg_engine_changes.specs.Stopped.{begins, counts, ends_over, goes, has_taken, keeps_lists, keys_of, may_answer, midway, opening, shows, stopped_is, stopping, stops_reading, taken}
+use Rattle.mg_engine_changes.specs.Outcomes.{IsGivenUp, back_event}
+use Rattle.mg_engine_changes.specs.BackBegun.{begins, goes, midway, opening}
+use Rattle.mg_engine_changes.specs.Backs.{BeginsBack, EndsOver}
+use Rattle.mg_engine_changes.specs.StopsAfter.{StopsAfter, TakesSome}
+use Rattle.mg_engine_changes.specs.StopsAfterLaws.{counts, ends_over, keeps_lists, may_answer, stopped_is, stops_reading}
+use Rattle.mg_engine_meaning.specs.StepLaws.{shows_of}
 use Rattle.mg_engine_calls.specs.Freeing.{sessions_end}
 use Rattle.mg_engine_calls.specs.Leaving.{follows_end, given_same, seen_still, still_active}
 use Rattle.mg_engine_calls.specs.RollbackEnds.{none_by_dead}
@@ -36,7 +40,9 @@ use Rattle.mg_engine_steps.specs.Walking.{AreToCome}
 use Rattle.mg_engine_changes.specs.BackLists.{KeepsLists}
 use Rattle.mg_engine_changes.specs.BackWalks.{WalksBeside}
 use Rattle.mg_engine_changes.specs.GivenUp.{GivesUp}
+use Rattle.mg_engine_changes.specs.TakingSteps.{StandsMidway}
 use Rattle.mg_engine_changes.specs.ToTake.{since_point}
+use Rattle.mg_engine_writes.specs.Midway.{GoesBack}
 use Rattle.mg_engine_writes.specs.Again.{rolling}
 use Rattle.mg_image.specs.Form.{Pages, packed_form}
 use Rattle.mg_image.specs.Inventory.{header_of}
@@ -49,7 +55,7 @@ use Rattle.mg_lasting.specs.Lasting.{LastsOn}
 use Rattle.mg_model.specs.Answers.{is_active}
 use Rattle.mg_model.specs.Changes.{KeyedRows}
 use Rattle.mg_model.specs.History.{Ends, Entries, Entry, entry}
-use Rattle.mg_model.specs.Legal.{IsLawful, is_durable, is_outer}
+use Rattle.mg_model.specs.Legal.{IsLawful, MayBegin, is_durable, is_outer}
 use Rattle.mg_model.specs.Machine.{deeds_by, is_of, state_after, state_of, steps, waited_on}
 use Rattle.mg_model.specs.Openings.{everyone}
 use Rattle.mg_model.specs.declared.answer.Answer.TheVariants.{Fine, No}
@@ -67,10 +73,9 @@ use Rattle.mg_records.specs.TakingBack.{after_refusal, is_given_up}
 use Rattle.mg_snap.specs.Live.{after_leave}
 use Rattle.mg_space.specs.View.{KeepsStore}
 use Rattle.mg_space.specs.ViewLaws.{tells_on}
-use Rattle.mg_taking_back.specs.Taking.{HasBegun, IsRolledBack, MayReach, StopsTaking, not_asking}
+use Rattle.mg_taking_back.specs.Taking.{HasBegun, IsRolledBack}
 use Rattle.mg_txlist.specs.TxList.{EndsIn, said}
 use Rattle.mg_txlist.specs.declared.list.TxList.{TxList}
-use Rattle.mg_undo.specs.Machine.{going_to}
 use Rattle.mg_undo.specs.Undo.{State as Undo}
 use Rattle.mg_waits.specs.Waits.{NowWaits, edges_in}
 use Rattle.mg_works.specs.Works.{AreApart, Working, unasked, with_work, without_work}
@@ -94,17 +99,16 @@ without_with t made number (w ∷ works) = at (w.number == t) refl (without_with
 
 module _ {D P : Type 0} (m : Meaning D) (places : Places P) (known : KnownOfBacks D P m)
     (old begun stopped new : Core D) (t : TxNo) (point : Point) (undo : Undo) (refusal : Refusal) (core : IsCore m old)
-    (counted : AreCounts old) (apart : AreApart old.works) (leaves : LeavesTheCatalog m old t.0 point)
-    (has_begun : HasBegun old begun t.0 undo) (reaches : MayReach undo point)
-    (stops : StopsTaking m (not_asking t.0 begun) stopped t.0 (going_to undo point) refusal)
+    (counted : AreCounts old) (apart : AreApart old.works) (has_begun : HasBegun old begun t.0 undo)
+    (stops : StopsAfter m old begun stopped t point refusal)
     (rolled : IsRolledBack stopped new t.0) (given_up : is_given_up refusal ≡ true)
     (keeps : KeepsStore m stops.at.store stopped.store) where
   ends_now : EndsIn old.list new.list t.0 Dead
   ends_now = subst (λ (l : TxList). EndsIn l new.list t.0 Dead)
-      (ap (λ (c : Core D). c.list) (stopped_is m places known old begun stopped t point undo refusal core leaves has_begun reaches stops)) rolled.ends
+      (ap (λ (c : Core D). c.list) (stopped_is m old begun stopped t point refusal stops)) rolled.ends
 
   pages_now : new.list.pages ≡ old.list.pages
-  pages_now = rolled.pages ∙ ap (λ (c : Core D). c.list.pages) (stopped_is m places known old begun stopped t point undo refusal core leaves has_begun reaches stops)
+  pages_now = rolled.pages ∙ ap (λ (c : Core D). c.list.pages) (stopped_is m old begun stopped t point refusal stops)
 
   abbrev now : Core D
   now = record old {
@@ -130,7 +134,7 @@ module _ {D P : Type 0} (m : Meaning D) (places : Places P) (known : KnownOfBack
     list = new.list;
     works = without_work t.0 c.works;
     live = after_leave c.live t.0;
-  }) (stopped_is m places known old begun stopped t point undo refusal core leaves has_begun reaches stops)
+  }) (stopped_is m old begun stopped t point refusal stops)
       ∙ ap (λ (ws : List Working). record old {
         waits = begun.waits;
         store = stopped.store;
@@ -150,10 +154,10 @@ module _ {D P : Type 0} (m : Meaning D) (places : Places P) (known : KnownOfBack
   refused = entry (back_event t point) (No refusal)
 
   outer : is_outer (No refusal) ≡ true
-  outer = fault_outer (stopping m places known old begun stopped t point undo refusal core leaves has_begun reaches stops).fault refusal (stopping m places known old begun stopped t point undo refusal core leaves has_begun reaches stops).is
+  outer = fault_outer stops.stopping.fault refusal stops.stopping.is
 
   no_wait : waited_on (No refusal) ≡ None
-  no_wait = fault_waits (stopping m places known old begun stopped t point undo refusal core leaves has_begun reaches stops).fault refusal (stopping m places known old begun stopped t point undo refusal core leaves has_begun reaches stops).is
+  no_wait = fault_waits stops.stopping.fault refusal stops.stopping.is
 
   passing : is_durable (entry (back_event t point) (No refusal)) ≡ false
   passing = quiet_count (entry (back_event t point) (No refusal)) (passing_back t point)
@@ -164,8 +168,8 @@ module _ {D P : Type 0} (m : Meaning D) (places : Places P) (known : KnownOfBack
   -- ---- the store
 
   store_on : StoreOn m old.store stopped.store
-  store_on = on_then m old.store stops.at.store stopped.store (taken m places known old begun stopped t point undo refusal core leaves has_begun reaches stops).on
-      (read_on m stops.at.store stopped.store keeps (keeps.offline ∙ (taken m places known old begun stopped t point undo refusal core leaves has_begun reaches stops).on.online))
+  store_on = on_then m old.store stops.at.store stopped.store stops.taken.on
+      (read_on m stops.at.store stopped.store keeps (keeps.offline ∙ stops.taken.on.online))
 
   -- ---- over a history
 
@@ -189,8 +193,34 @@ module _ {D P : Type 0} (m : Meaning D) (places : Places P) (known : KnownOfBack
     abbrev whole : List Change
     whole = since_point point (deeds_by t.0 (steps o h))
 
+    abbrev shows : ShowsIt m old o h (standing_of old stands.numbers stands.tables)
+    shows = shows_of m old o h stands has_begun.continues.0
+
+    -- what was taken back till then
+    abbrev some : TakesSome m old begun stops.at t point o h stands shows
+    some = stops.over o h stands shows
+
+    abbrev begins_so : BeginsBack m o h (entry (back_event t point) Fine) point t.0
+        (standing_of old stands.numbers stands.tables) old.store shows.image
+        (asked_in (with_work t.0 unasked old.works)) (sessions_in old.works)
+    begins_so = begins m known old begun t point undo core has_begun o h stands shows
+
     abbrev image : Image
-    image = (has_taken m places known old begun stopped t point undo refusal core leaves has_begun reaches stops o h stands).image
+    image = some.taken.image
+
+    may_begin : MayBegin o
+    may_begin = opening m known old begun t point undo core has_begun o h stands shows
+
+    goes_back : GoesBack o h e point s (asked_in (with_work t.0 unasked old.works)) t.0
+    goes_back = goes m known old begun t point undo core has_begun o h stands shows
+
+    at_first : StandsMidway m size o h e t.0 whole whole s old.store old.store (shown old.store.dirty shows.image)
+        shows.stands.shows shows.image (asked_in (with_work t.0 unasked old.works)) (sessions_in old.works)
+    at_first = midway m known old begun t point undo core has_begun o h stands shows
+
+    its_end : EndsOver m old.store stopped.store image
+    its_end = ends_over m known old begun stopped t point undo refusal core has_begun stops o h stands stopped.store
+        keeps
 
     active : state_of o h t.0 ≡ Active
     active = active_here m old t point undo has_begun.continues has_begun.its o h stands
@@ -241,41 +271,41 @@ module _ {D P : Type 0} (m : Meaning D) (places : Places P) (known : KnownOfBack
         (asked_in (without_work t.0 old.works)) (sessions_in (without_work t.0 old.works))
         × LeavesSince m old.store.disk stopped.store.disk (HoldsAcknowledged packed_form size o h)
     all = known.given_up o h e (entry (back_event t point) (No refusal)) point t.0 s s_mid s_now old.store stopped.store
-        (shows m places known old begun stopped t point undo refusal core leaves has_begun reaches stops o h stands).image image (asked_in (with_work t.0 unasked old.works)) (asked_in (without_work t.0 old.works))
-        (sessions_in old.works) (sessions_in (without_work t.0 old.works)) (begins m places known old begun stopped t point undo refusal core leaves has_begun reaches stops o h stands) stands.grows lawful ends_lawful
-        passing no_failure gives asks (stops_reading m places known old begun stopped t point undo refusal core leaves has_begun reaches stops o h stands stopped.store keeps) (ends_over m places known old begun stopped t point undo refusal core leaves has_begun reaches stops o h stands stopped.store keeps)
+        shows.image image (asked_in (with_work t.0 unasked old.works)) (asked_in (without_work t.0 old.works))
+        (sessions_in old.works) (sessions_in (without_work t.0 old.works)) begins_so stands.grows lawful ends_lawful
+        passing no_failure gives asks (stops_reading m known old begun stopped t point undo refusal core has_begun stops o h stands stopped.store keeps) its_end
 
     -- ---- what it stands for
 
     same_shown : shown stopped.store.dirty image ≡ shown stops.at.store.dirty image
     same_shown = ap (λ (d : DirtyPages). shown d image) keeps.dirty
 
-    lists_now : KeepsLists size s (shown old.store.dirty (shows m places known old begun stopped t point undo refusal core leaves has_begun reaches stops o h stands).image) (shown stopped.store.dirty image)
-    lists_now = subst (λ (x : Pages). KeepsLists size s (shown old.store.dirty (shows m places known old begun stopped t point undo refusal core leaves has_begun reaches stops o h stands).image) x) (sym same_shown)
-        (keeps_lists m places known old begun stopped t point undo refusal core leaves has_begun reaches stops o h stands)
+    lists_now : KeepsLists size s (shown old.store.dirty shows.image) (shown stopped.store.dirty image)
+    lists_now = subst (λ (x : Pages). KeepsLists size s (shown old.store.dirty shows.image) x) (sym same_shown)
+        (keeps_lists m known old begun stopped t point undo refusal core has_begun stops o h stands)
 
     shows_now : ShowsIt m now o (rolling t.0 ∷ entry (back_event t point) (No refusal) ∷ h) s_now
     shows_now = record {
       image = image;
-      held = (ends_over m places known old begun stopped t point undo refusal core leaves has_begun reaches stops o h stands stopped.store keeps).held;
+      held = its_end.held;
       stands = subst (λ (n : ℕ). Stands packed_form n o (rolling t.0 ∷ entry (back_event t point) (No refusal) ∷ h) s_now
-          (Some (shown stopped.store.dirty image))) (sym (ends_over m places known old begun stopped t point undo refusal core leaves has_begun reaches stops o h stands stopped.store keeps).size) all.0;
+          (Some (shown stopped.store.dirty image))) (sym its_end.size) all.0;
       lasts = all.1;
       tips = subst (λ (n : ℕ). HasTips new.list n (shown stopped.store.dirty image))
-          (sym (ends_over m places known old begun stopped t point undo refusal core leaves has_begun reaches stops o h stands stopped.store keeps).size)
-          (known.lists old.list new.list size (shown old.store.dirty (shows m places known old begun stopped t point undo refusal core leaves has_begun reaches stops o h stands).image) (shown stopped.store.dirty image)
-          ends_now.size pages_now lists_now.tips.next lists_now.tips.tips (shows m places known old begun stopped t point undo refusal core leaves has_begun reaches stops o h stands).tips);
+          (sym its_end.size)
+          (known.lists old.list new.list size (shown old.store.dirty shows.image) (shown stopped.store.dirty image)
+          ends_now.size pages_now lists_now.tips.next lists_now.tips.tips shows.tips);
       catalog = subst (λ (x : Pages). old.catalog.pointer.0 ≡ (header_of x).catalog.0) (sym same_shown)
-          (has_taken m places known old begun stopped t point undo refusal core leaves has_begun reaches stops o h stands).catalog;
+          some.taken.catalog;
       plain_tables = subst (λ (n : ℕ). HasPlainTables n (said new.list) (shown stopped.store.dirty image))
-          (sym (ends_over m places known old begun stopped t point undo refusal core leaves has_begun reaches stops o h stands stopped.store keeps).size)
+          (sym its_end.size)
           (none_by_dead size (said old.list) (said new.list) (shown stopped.store.dirty image) t.0 has_begun.continues.1
-          ends_now.here ends_now.others (lists_now.plain (shows m places known old begun stopped t point undo refusal core leaves has_begun reaches stops o h stands).plain_tables));
+          ends_now.here ends_now.others (lists_now.plain shows.plain_tables));
     }
 
     abbrev stands_now : StandsFor m now o (rolling t.0 ∷ entry (back_event t point) (No refusal) ∷ h)
     stands_now = record {
-      tells = (tells_on m stops.at.store stopped.store image keeps (has_taken m places known old begun stopped t point undo refusal core leaves has_begun reaches stops o h stands).knows.tells).told;
+      tells = (tells_on m stops.at.store stopped.store image keeps some.taken.knows.tells).told;
       grows = record { limbo = stands.grows.limbo; entries = (refl, (refl, stands.grows.entries)) };
       numbers = stands.numbers;
       tables = stands.tables;
@@ -300,10 +330,10 @@ module _ {D P : Type 0} (m : Meaning D) (places : Places P) (known : KnownOfBack
         back = has_begun.continues.1;
         active = said_so;
         apart = ne;
-        takes = known.take o (entry (back_event t point) (No refusal) ∷ h) (rolling t.0) s_mid s_now u (opening m places known old begun stopped t point undo refusal core leaves has_begun reaches stops o h stands)
-            (ends_lawful, (lawful, (shows m places known old begun stopped t point undo refusal core leaves has_begun reaches stops o h stands).stands.legal))
+        takes = known.take o (entry (back_event t point) (No refusal) ∷ h) (rolling t.0) s_mid s_now u may_begin
+            (ends_lawful, (lawful, shows.stands.legal))
             (known.on size o h (entry (back_event t point) (No refusal)) s s_mid
-            (Some (shown old.store.dirty (shows m places known old begun stopped t point undo refusal core leaves has_begun reaches stops o h stands).image)) None (shows m places known old begun stopped t point undo refusal core leaves has_begun reaches stops o h stands).stands lawful first tt).memory then_ not_;
+            (Some (shown old.store.dirty shows.image)) None shows.stands lawful first tt).memory then_ not_;
       }
 
       falls : Falls (left_state everyone (said old.list)) (left_state everyone (said new.list)) t.0
@@ -313,28 +343,28 @@ module _ {D P : Type 0} (m : Meaning D) (places : Places P) (known : KnownOfBack
         others = λ v off. ap (left_by true) (ends_now.others v off);
       }
 
-      fronts : AreFrontStands (stands_of (shows m places known old begun stopped t point undo refusal core leaves has_begun reaches stops o h stands).stands.shows.layout) (stands_of (has_taken m places known old begun stopped t point undo refusal core leaves has_begun reaches stops o h stands).midway.pages.layout)
-      fronts = subst (λ (ss : List Stand). AreFrontStands ss (stands_of (has_taken m places known old begun stopped t point undo refusal core leaves has_begun reaches stops o h stands).midway.pages.layout))
+      fronts : AreFrontStands (stands_of shows.stands.shows.layout) (stands_of some.taken.midway.pages.layout)
+      fronts = subst (λ (ss : List Stand). AreFrontStands ss (stands_of some.taken.midway.pages.layout))
           (sym (ap stands_of (known.one_way size (left_state everyone s.state)
-          (shown old.store.dirty (shows m places known old begun stopped t point undo refusal core leaves has_begun reaches stops o h stands).image) (shows m places known old begun stopped t point undo refusal core leaves has_begun reaches stops o h stands).stands.shows.layout (midway m places known old begun stopped t point undo refusal core leaves has_begun reaches stops o h stands).pages.layout
-          (shows m places known old begun stopped t point undo refusal core leaves has_begun reaches stops o h stands).stands.shows.reading (midway m places known old begun stopped t point undo refusal core leaves has_begun reaches stops o h stands).pages.reading (shows m places known old begun stopped t point undo refusal core leaves has_begun reaches stops o h stands).stands.shows.sound
-          (midway m places known old begun stopped t point undo refusal core leaves has_begun reaches stops o h stands).pages.sound).0))
+          (shown old.store.dirty shows.image) shows.stands.shows.layout at_first.pages.layout
+          shows.stands.shows.reading at_first.pages.reading shows.stands.shows.sound
+          at_first.pages.sound).0))
           (known.keep_pages size o h e point s old.store old.store stops.at.store
-          (shown old.store.dirty (shows m places known old begun stopped t point undo refusal core leaves has_begun reaches stops o h stands).image) (shows m places known old begun stopped t point undo refusal core leaves has_begun reaches stops o h stands).stands.shows (shows m places known old begun stopped t point undo refusal core leaves has_begun reaches stops o h stands).image image
-          (asked_in (with_work t.0 unasked old.works)) (sessions_in old.works) t.0 whole whole (has_taken m places known old begun stopped t point undo refusal core leaves has_begun reaches stops o h stands).rest
-          (keys_of m places known old begun stopped t point undo refusal core leaves has_begun reaches stops o h stands) (opening m places known old begun stopped t point undo refusal core leaves has_begun reaches stops o h stands) (shows m places known old begun stopped t point undo refusal core leaves has_begun reaches stops o h stands).stands.legal (shows m places known old begun stopped t point undo refusal core leaves has_begun reaches stops o h stands).stands.memory (goes m places known old begun stopped t point undo refusal core leaves has_begun reaches stops o h stands) (has_taken m places known old begun stopped t point undo refusal core leaves has_begun reaches stops o h stands).steps
-          (midway m places known old begun stopped t point undo refusal core leaves has_begun reaches stops o h stands) (has_taken m places known old begun stopped t point undo refusal core leaves has_begun reaches stops o h stands).midway)
+          (shown old.store.dirty shows.image) shows.stands.shows shows.image image
+          (asked_in (with_work t.0 unasked old.works)) (sessions_in old.works) t.0 whole whole some.taken.rest
+          some.keys may_begin shows.stands.legal shows.stands.memory goes_back some.taken.steps
+          at_first some.taken.midway)
 
       is_shown : IsShown all.0.shows.layout table
       is_shown = seen_is_shown all.0.shows.layout table
           ((all.0.shows.tables u (ends_now.others u ne ∙ said_so)).seen table.name table seen)
 
       walk_on : (after : Option RecId) (rows : KeyedRows)
-          → AreToCome size s (shown old.store.dirty (shows m places known old begun stopped t point undo refusal core leaves has_begun reaches stops o h stands).image) u table after rows
+          → AreToCome size s (shown old.store.dirty shows.image) u table after rows
           → AreToCome size s_now (shown stopped.store.dirty image) u table after rows
       walk_on after rows next = subst (λ (x : Pages). AreToCome size s_now x u table after rows) (sym same_shown)
-          (known.walks size o h e t.0 u whole (has_taken m places known old begun stopped t point undo refusal core leaves has_begun reaches stops o h stands).rest s s_now (shown old.store.dirty (shows m places known old begun stopped t point undo refusal core leaves has_begun reaches stops o h stands).image)
-          (shown stops.at.store.dirty image) (shows m places known old begun stopped t point undo refusal core leaves has_begun reaches stops o h stands).stands.shows (has_taken m places known old begun stopped t point undo refusal core leaves has_begun reaches stops o h stands).midway.pages beside fronts falls
+          (known.walks size o h e t.0 u whole some.taken.rest s s_now (shown old.store.dirty shows.image)
+          (shown stops.at.store.dirty image) shows.stands.shows some.taken.midway.pages beside fronts falls
           all.0.shows.layout all.0.shows.reading
           (subst (λ (x : Pages). IsSoundBy packed_form size (left_state everyone (said new.list)) x all.0.shows.layout
           all.0.shows.reading) same_shown all.0.shows.sound) table is_shown after rows next)
@@ -343,12 +373,12 @@ module _ {D P : Type 0} (m : Meaning D) (places : Places P) (known : KnownOfBack
           → AreNext m old (standing_of old stands.numbers stands.tables) u table after rows None
           → AreNext m now (standing_of now stands.numbers stands.tables) u table after rows None
       next_on after rows (i, held, next) =
-          let both : Some (shows m places known old begun stopped t point undo refusal core leaves has_begun reaches stops o h stands).image ≡ Some i = sym (shows m places known old begun stopped t point undo refusal core leaves has_begun reaches stops o h stands).held ∙ held in
-          let same : i ≡ (shows m places known old begun stopped t point undo refusal core leaves has_begun reaches stops o h stands).image = cc in (
+          let both : Some shows.image ≡ Some i = sym shows.held ∙ held in
+          let same : i ≡ shows.image = cc in (
             image,
-            (ends_over m places known old begun stopped t point undo refusal core leaves has_begun reaches stops o h stands stopped.store keeps).held,
+            its_end.held,
             subst (λ (n : ℕ). AreToCome n s_now (shown stopped.store.dirty image) u table after rows)
-                (sym (ends_over m places known old begun stopped t point undo refusal core leaves has_begun reaches stops o h stands stopped.store keeps).size) (walk_on after rows
+                (sym its_end.size) (walk_on after rows
                 (subst (λ (k : Image). AreToCome size s (shown old.store.dirty k) u table after rows) same next)),
           )
 
@@ -380,8 +410,8 @@ module _ {D P : Type 0} (m : Meaning D) (places : Places P) (known : KnownOfBack
   -- ---- the whole
 
   risen_counts : (old.damage ≤ stopped.damage) × (old.shortages ≤ stopped.shortages)
-  risen_counts = risen (stopping m places known old begun stopped t point undo refusal core leaves has_begun reaches stops).fault old.damage stopped.damage old.shortages stopped.shortages counted.damage
-      counted.shortages (counts m places known old begun stopped t point undo refusal core leaves has_begun reaches stops)
+  risen_counts = risen stops.stopping.fault old.damage stopped.damage old.shortages stopped.shortages counted.damage
+      counted.shortages (counts m old begun stopped t point refusal stops)
 
   given_in : given_up_in {T = Unit {0}} t.0 (Err refusal) ≡ Some t.0
   given_in = rw given_up refl
@@ -394,7 +424,7 @@ module _ {D P : Type 0} (m : Meaning D) (places : Places P) (known : KnownOfBack
     );
     leaves = record {
       keeps = keeps_of m places old now (Some refusal) store_on.goes risen_counts.0 risen_counts.1
-          (may_answer m places known old begun stopped t point undo refusal core leaves has_begun reaches stops now (stopping m places known old begun stopped t point undo refusal core leaves has_begun reaches stops).told (counts m places known old begun stopped t point undo refusal core leaves has_begun reaches stops));
+          (may_answer m old begun stopped t point refusal stops places now has_begun.continues.0 stops.stopping.told (counts m old begun stopped t point refusal stops));
       tables_stay = tables_of m places old now (Some t.0)
           (λ u name not_. given_same m places old begun.waits new.list stopped.store t.0 u name not_);
       walks_stay = walks_now;

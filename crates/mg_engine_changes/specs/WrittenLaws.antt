@@ -16,6 +16,7 @@ use Rattle.mg_image.specs.Records.{Reading}
 use Rattle.mg_image.specs.Sound.{HasTablePages, IsSoundBy}
 use Rattle.mg_image.specs.Tables.{Has, HasStand, IsOnce, Layout, LinkChain, Stand, ended, goes, pages_of, stands_of}
 use Rattle.mg_kept_images.specs.Reach.{once_back, once_front}
+use Rattle.mg_kept_images.specs.TableOwners.{IsOneOf}
 use Rattle.mg_model.specs.Changes.{has_change, same_name}
 use Rattle.mg_model.specs.History.{Entries}
 use Rattle.mg_model.specs.Machine.{own}
@@ -34,7 +35,7 @@ use Rattle.mg_works.specs.Works.{Working, work_of, written_by, written_in, writt
 -- ---- what is kept under a number
 
 -- it begins there
-first_in : (tables : List Table) (number : ℕ) (table : Table) → written_in tables number ≡ Some table
+pub first_in : (tables : List Table) (number : ℕ) (table : Table) → written_in tables number ≡ Some table
     → table.pointer.0 ≡ number
 first_in [] number table is = absurd cc
 first_in (x ∷ xs) number table is = at (x.pointer.0 == number) refl is (λ more. first_in xs number table more)
@@ -45,6 +46,17 @@ first_in (x ∷ xs) number table is = at (x.pointer.0 == number) refl is (λ mor
         let same : x ≡ table = cc in
         ap (λ (y : Table). y.pointer.0) (sym same) ∙ eqb-true x.pointer.0 number on
     at false off some more = more some
+
+-- it is one of them
+pub one_in : (tables : List Table) (number : ℕ) (table : Table) → written_in tables number ≡ Some table
+    → IsOneOf tables table
+one_in [] number table is = absurd cc
+one_in (x ∷ xs) number table is = at (x.pointer.0 == number) is (one_in xs number table)
+  where
+    at : (b : Bool) → (if b then Some x else written_in xs number) ≡ Some table
+        → (written_in xs number ≡ Some table → IsOneOf xs table) → IsOneOf (x ∷ xs) table
+    at true some more = inl cc
+    at false some more = inr (more some)
 
 -- as it is kept in the work
 pub in_work : (work : Option Working) (number : ℕ) → written_by work number ≡ written_in (written_kept work) number
@@ -61,14 +73,16 @@ module _ (works : List Working) (t number : ℕ) (table : Table) (kept : written
 -- ---- where it stands
 
 module _ (o : Opening) (h : Entries) (s : Standing) (t : ℕ) (layout : Layout) (catalog : ℕ) (works : List Working)
-    (finds : FindsTables o h s layout t) (keeps : KeepsWritten catalog works s.table) (number : ℕ) (table : Table)
-    (kept : written_to works t number ≡ Some table) where
-  pub kept_stands : IsShown layout table
-  kept_stands =
-      let (x, is, same) = alike_some (s.table t table.name) table
-      (keeps.seen t number table (kept_in works t number table kept)) in
+    (finds : FindsTables o h s layout t) (keeps : KeepsWritten catalog works s.table) where
+  pub one_stands : (table : Table) → IsOneOf (written_kept (work_of works t)) table → IsShown layout table
+  one_stands table one =
+      let (x, is, same) = alike_some (s.table t table.name) table (keeps.seen t table one) in
       let it = seen_is_shown layout x (finds.seen table.name x is) in
       record { its = it.its; stands = it.stands; same = same_through it.its x table it.same same }
+
+  pub kept_stands : (number : ℕ) (table : Table) → written_to works t number ≡ Some table → IsShown layout table
+  kept_stands number table kept =
+      one_stands table (one_in (written_kept (work_of works t)) number table (kept_in works t number table kept))
 
 pub kept_tables_stand : KeptTablesStand
 kept_tables_stand o h s t layout catalog works finds keeps number table kept =

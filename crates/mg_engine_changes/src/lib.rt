@@ -5,15 +5,18 @@
 //! - `row_writes`: a row is written.
 //! - `makings`: a transaction makes a table.
 //! - `takings`: a transaction takes back what it has changed since a mark or a savepoint.
+//! - `over_tables`: the same, with tables that it has made since.
 //!
 //! There is no program here: each function does nothing, and its contract is a law.
 //!
 //! Invariant: none, it keeps no state.
-//! Below: `mg_taking_back` and `mg_table_making`, the calls; `mg_engine_writes`, what one write or one key taken back makes
-//! of the pages; `mg_engine_meaning` and `mg_engine_calls`. Above: the engine.
+//! Below: `mg_taking_back`, `mg_table_takings` and `mg_table_making`, the calls; `mg_engine_writes`, what one write or one
+//! key taken back makes of the pages; `mg_engine_unmakings`, rows of the catalog that go; `mg_engine_meaning` and
+//! `mg_engine_calls`. Above: the engine.
 #![tactic(auto)]
 
 mod makings;
+mod over_tables;
 mod row_writes;
 mod takings;
 
@@ -21,6 +24,10 @@ pub use makings::{
     creations_are_refused, creations_keep_apart, growths_stay, joined_tables_stand,
     left_pages_are_there, made_rows_are_remembered, made_rows_follow, made_tables_are_seen,
     made_tables_keep, new_rows_say_a_table, new_tables_are_read, tables_are_made,
+};
+pub use over_tables::{
+    backs_give_over, cores_take_rows, engines_go_over, lists_tell_whole, refusals_give_over,
+    rows_are_given, tables_follow, tables_walks_go_on,
 };
 pub use row_writes::{
     befores_are_told, first_batches_stay, made_rows_give, made_writes_follow, new_rows_go_on,

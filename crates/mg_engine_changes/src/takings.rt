@@ -16,9 +16,9 @@
 //! - `outcomes`: from what the core's `undo_mark` and `back_to` (`mg_taking_back`) say to what a keeper of records owes,
 //!   where no change since the point is of the catalog, which the list of changes in memory tells (`MarksGive`,
 //!   `SavepointsGive`). All is taken back (`specs/UndoneLaws`). Or the event is refused at its beginning, or memory is
-//!   wanting for a copy of the list (`ShortLaws`). Or a change is not taken back, after some that are (`Stopped`): pages
-//!   were read, and the transaction is rolled back (`StoppedLaws`); or a page write failed (`FailedLaws`), after which
-//!   memory is as it was and crashes leave the history (`Overlays`). Without the savepoint nothing has changed.
+//!   wanting for a copy of the list (`ShortLaws`). Or a step is refused after some keys (`StopsAfter`, which `Stopped`
+//!   gives for these calls): pages were read, and the transaction is rolled back (`StoppedLaws`); or a page write failed
+//!   (`FailedLaws`), after which memory is as it was and crashes leave the history (`Overlays`). Without the savepoint nothing has changed.
 //!   `CatalogLaws` goes from the list in memory to the changes of the history. And a call which gives the transaction up
 //!   without a change taken back owes no more (`ShortMarksGive`, `ShortSavepointsGive`). Each session has one active
 //!   transaction at most after each of them.

@@ -9,6 +9,7 @@ use Rattle.mg_image.specs.Form.{Pages, packed_form}
 use Rattle.mg_image.specs.Records.{Reading}
 use Rattle.mg_image.specs.Sound.{IsSoundBy}
 use Rattle.mg_image.specs.Tables.{Layout}
+use Rattle.mg_kept_images.specs.TableOwners.{IsOneOf}
 use Rattle.mg_model.specs.declared.table.Table.{Table}
 use Rattle.mg_table_overlays.specs.OneTable.{one_table}
 use Rattle.mg_undo.specs.declared.changes.Change.{Change}
@@ -68,16 +69,14 @@ module _ (catalog : ℕ) (old new : List Working) (tables now : Tables) (kept : 
   -- transaction by transaction
   pub kept_each : ((u : ℕ) → IsBare (work_of new u) ⊎ StaysKept (work_of old u) (work_of new u) (tables u) (now u))
       → KeepsWritten catalog new now
-  kept_each each = record { seen = λ u number table is. seen_by u number table is (each u); told = λ u. told_by u (each u) }
+  kept_each each = record { seen = λ u table is. seen_by u table is (each u); told = λ u. told_by u (each u) }
     where
-      seen_by : (u number : ℕ) (table : Table) → written_in (written_kept (work_of new u)) number ≡ Some table
+      seen_by : (u : ℕ) (table : Table) → IsOneOf (written_kept (work_of new u)) table
           → IsBare (work_of new u) ⊎ StaysKept (work_of old u) (work_of new u) (tables u) (now u)
           → SeesAlike (now u table.name) table
-      seen_by u number table is (inl bare) =
-          let none : None ≡ Some table = sym (ap (λ (xs : List Table). written_in xs number) bare.written) ∙ is in
-          absurd cc
-      seen_by u number table is (inr stays) = stays.seen table
-          (kept.seen u number table (sym (ap (λ (xs : List Table). written_in xs number) stays.written) ∙ is))
+      seen_by u table is (inl bare) = absurd (subst (λ (xs : List Table). IsOneOf xs table) bare.written is)
+      seen_by u table is (inr stays) = stays.seen table
+          (kept.seen u table (subst (λ (xs : List Table). IsOneOf xs table) stays.written is))
 
       told_by : (u : ℕ) → IsBare (work_of new u) ⊎ StaysKept (work_of old u) (work_of new u) (tables u) (now u)
           → AreTold catalog (work_of new u)

@@ -7,6 +7,7 @@ use Rattle.mg_header.specs.declared.header.TheConstants.{GREATEST_NEXT}
 use Rattle.mg_image.specs.Catalog.{IsSameTable}
 use Rattle.mg_image.specs.Form.{Pages, packed_form}
 use Rattle.mg_image.specs.Inventory.{header_of, next_of}
+use Rattle.mg_kept_images.specs.TableOwners.{IsOneOf}
 use Rattle.mg_lasting.specs.Lasting.{LastsOn, LeftOn}
 use Rattle.mg_model.specs.declared.event.Mode.{Mode}
 use Rattle.mg_model.specs.declared.opening.Opening.{Opening}
@@ -104,7 +105,7 @@ AreTold catalog work = AreOfKept catalog (written_kept work) (undo_kept work).ch
 -- The tables that transactions keep, since they have written into them: each is one that its transaction sees, and
 -- each change that a transaction has to take back is of one of these, or of the catalog.
 pub record KeepsWritten (catalog : ℕ) (works : List Working) (tables : Tables) : Type 0 where
-  pub seen : (t number : ℕ) (table : Table) → written_in (written_kept (work_of works t)) number ≡ Some table
+  pub seen : (t : ℕ) (table : Table) → IsOneOf (written_kept (work_of works t)) table
       → SeesAlike (tables t table.name) table
   pub told : (t : ℕ) → AreTold catalog (work_of works t)
 

@@ -1,0 +1,21 @@
+use Rattle.mg_engine.specs.Places.{places}
+use Rattle.mg_engine.proofs.BackLemmas.{told_no}
+use Rattle.mg_model.specs.declared.change.Point.TheVariants.{SavepointNamed}
+use Rattle.mg_taking_back.specs.Tables.{TellsTables}
+use Rattle.mg_engine.proofs.taking.take_to_savepoint.Goals as goal
+
+pub returns-in-Ok-true-clause-back : goal.returns-in-Ok-true-clause-back
+returns-in-Ok-true-clause-back g c = c.backs_give_over.ensures.savepoints places c.args.core.now c.back_over_tables.new.core
+    c.args.t c.args.name.now c.back_over_tables.result c.requires.engine.lawful c.requires.counts c.requires.engine.apart
+    c.back_over_tables.ensures.goes
+
+pub returns-in-Ok-false-clause-back : goal.returns-in-Ok-false-clause-back
+returns-in-Ok-false-clause-back g c = c.backs_give.ensures.savepoints places c.args.core.now c.back_to.new.core c.args.t
+    c.args.name.now c.back_to.result c.requires.engine.lawful c.requires.counts c.requires.engine.apart
+    (told_no c.takes_tables_to_savepoint.result c.in-Ok-false.field-0
+    (TellsTables c.args.core.now c.args.t.0 (SavepointNamed c.args.name.now)) c.takes_tables_to_savepoint.ensures
+    c.in-Ok-false.is c.in-Ok-false.field-0-test) c.back_to.ensures.goes
+
+pub returns-in-Err-clause-back : goal.returns-in-Err-clause-back
+returns-in-Err-clause-back g c = c.backs_give.ensures.short_savepoints places c.args.core.now c.roll_back.new.core c.args.t
+    c.args.name.now c.roll_back.result c.requires.engine.lawful c.requires.engine.apart c.roll_back.ensures.rolled

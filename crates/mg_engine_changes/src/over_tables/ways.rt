@@ -1,0 +1,32 @@
+//! Memory, walks and the batch in which the rows of the catalog go. Each function does nothing: its contract is the law.
+
+ghost use Rattle.mg_engine_changes.specs.CoreRows.{CoresTakeRows};
+ghost use Rattle.mg_engine_changes.specs.TablesMemory.{TablesFollow};
+ghost use Rattle.mg_engine_changes.specs.TablesWalks.{TablesWalksGoOn};
+
+use crate::row_walks_go_on;
+use mg_base::Disk;
+use mg_engine_unmakings::left_tables_are_seen;
+use mg_table_overlays::sound_images_stand_one_way;
+use mg_undo::the_list_follows_the_machine;
+
+/// Memory follows the entry by which a transaction is taken back, with tables that it had made.
+pub fn tables_follow()
+    ensures { TablesFollow }
+{
+    the_list_follows_the_machine();
+    left_tables_are_seen();
+}
+
+/// The walks of all others go on where rows of the catalog go with their tables.
+pub fn tables_walks_go_on()
+    ensures { TablesWalksGoOn }
+{
+    sound_images_stand_one_way();
+    row_walks_go_on();
+}
+
+/// What the core takes out of the catalog is what the laws take out of it.
+pub fn cores_take_rows<D: Disk>()
+    ensures { CoresTakeRows D D.meaning }
+{}
