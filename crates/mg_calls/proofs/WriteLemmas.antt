@@ -5,6 +5,7 @@ use Rattle.std.specs.Prelude.{◌&&◌, ◌++◌, ◌<◌, ◌+◌, length, All,
 use Rattle.std.specs.Option.{option_to_list}
 use Rattle.mg_value.specs.declared.shape.Shape.{Shape}
 use Rattle.mg_base.specs.declared.numbers.TxNo.{TxNo}
+use Rattle.mg_faults.specs.Faults.{tells_fault, worse}
 use Rattle.mg_model.specs.declared.answer.Answer.{Answer}
 use Rattle.mg_model.specs.declared.answer.Answer.TheVariants.{Fine, No}
 use Rattle.mg_model.specs.declared.event.Event.{Event}
@@ -29,14 +30,14 @@ use Rattle.mg_calls.specs.Quiet.{AreQuiet}
 use Rattle.mg_calls.specs.QuietLaws.{quiet_event, quiet_given_up}
 use Rattle.mg_calls.specs.declared.writing.Written.TheVariants as written
 use Rattle.mg_calls.specs.declared.writing.Written.{Written}
-use Rattle.mg_calls.specs.FrameLaws.{frames_changes, frames_then}
+use Rattle.mg_calls.specs.FrameLaws.{frames_changes, frames_first, frames_then}
 use Rattle.mg_calls.specs.Undoing.{Undoes, is_waiting, left_so}
 use Rattle.mg_calls.specs.Writes.{IsWritten, WritesOne, ended_by, goes_on, refusal_written, refused_twice}
 
 -- the undoing was refused, and the transaction rolled back if the refusal is one that gives it up
 pub not_undone : {R P : Type 0} (m : Means R P) (old new : R) (t : TxNo) (refusal later : Refusal)
     → GivesUp m old new t (UndoMark t) later → (o : Opening) (h : Entries) → m.stands old o h
-    → Undoes m new o h t refusal (refused_twice later)
+    → Undoes m new o h t refusal (refused_twice refusal later)
 not_undone m old new t refusal later back o h stands = by (is_given_up later) refl undoes.1
   where
     undoes : IsLawful o h (entry (UndoMark t) (No later))
@@ -44,36 +45,45 @@ not_undone m old new t refusal later back o h stands = by (is_given_up later) re
     undoes = back o h stands
 
     by : (b : Bool) → is_given_up later ≡ b → m.stands new o (after_refusal o h t (UndoMark t) later)
-        → Undoes m new o h t refusal (if b then written.RolledBack later else written.Refused later)
-    by true gives is = record { gives_up = gives; undoing = undoes.0; stands = is }
+        → Undoes m new o h t refusal
+        (if b then written.RolledBack (worse refusal later) else written.Refused (worse refusal later))
+    by true gives is =
+        record { later = later; answered = refl; gives_up = gives; undoing = undoes.0; stands = is }
     by false keeps is = left_so later keeps undoes.0
         (subst (λ (b : Bool). m.stands new o (cond (b && is_active (state_of o h t.0))
         (entry (Rollback t) Fine ∷ entry (UndoMark t) (No later) ∷ h)
         (entry (UndoMark t) (No later) ∷ h))) keeps is)
 
-pub ends_twice : (later : Refusal) → goes_on (refused_twice later) ≡ false
-ends_twice later = by (is_given_up later)
+pub ends_twice : (first later : Refusal) → goes_on (refused_twice first later) ≡ false
+ends_twice first later = by (is_given_up later)
   where
-    by : (b : Bool) → goes_on (if b then written.RolledBack later else written.Refused later) ≡ false
+    by : (b : Bool) → goes_on (if b then written.RolledBack (worse first later)
+        else written.Refused (worse first later)) ≡ false
     by true = refl
     by false = refl
 
-told_twice : (later : Refusal) → refusal_written (refused_twice later) ≡ Some later
-told_twice later = by (is_given_up later)
+told_twice : (first later : Refusal) → refusal_written (refused_twice first later) ≡ Some (worse first later)
+told_twice first later = by (is_given_up later)
   where
-    by : (b : Bool)
-        → refusal_written (if b then written.RolledBack later else written.Refused later) ≡ Some later
+    by : (b : Bool) → refusal_written (if b then written.RolledBack (worse first later)
+        else written.Refused (worse first later)) ≡ Some (worse first later)
     by true = refl
     by false = refl
 
 pub not_undone_frames : {R P : Type 0} (m : Means R P) (before old new : R) (t : ℕ)
     (refusal later : Refusal) → Frames m before old t (Some refusal)
     → Leaves m old new (Some later) (Some t) (Some t)
-    → Frames m before new t (refusal_written (refused_twice later))
+    → Frames m before new t (refusal_written (refused_twice refusal later))
 not_undone_frames m before old new t refusal later first second =
-    subst (λ (told : Option Refusal). Frames m before new t told) (sym (told_twice later))
-    (frames_then m before old new t (Some refusal) (Some later) first
-    (frames_changes m old new t (Some later) second))
+    subst (λ (told : Option Refusal). Frames m before new t told) (sym (told_twice refusal later))
+    (by (tells_fault (Some refusal)))
+  where
+    undoing : Frames m old new t (Some later)
+    undoing = frames_changes m old new t (Some later) second
+
+    by : (b : Bool) → Frames m before new t (Some (if b then refusal else later))
+    by true = frames_first m before old new t (Some refusal) (Some later) first undoing
+    by false = frames_then m before old new t (Some refusal) (Some later) first undoing
 
 -- a write was refused, and its statement undone
 pub comes_to_nothing : {R P : Type 0} (m : Means R P) (old mid new : R) (t : TxNo) (event : Event)
@@ -119,17 +129,18 @@ quiet_write m old new t name w answer refusal adds leaves crash sessions =
     adds leaves crash sessions
 
 -- the undoing of a refused statement was refused
-pub quiet_not_undone : {R P : Type 0} (m : Means R P) (old new : R) (t : TxNo) (refusal : Refusal)
+pub quiet_not_undone : {R P : Type 0} (m : Means R P) (old new : R) (t : TxNo) (first refusal : Refusal)
     (tables walks : Option ℕ) → GivesUp m old new t (UndoMark t) refusal
     → Leaves m old new (Some refusal) tables walks → LeavesQuietly m old new
     → SessionsStay m old new None (if is_given_up refusal then Some t.0 else None)
-    → AreQuiet m old new (ended_by t.0 (refused_twice refusal))
-quiet_not_undone m old new t refusal tables walks gives leaves crash sessions =
+    → AreQuiet m old new (ended_by t.0 (refused_twice first refusal))
+quiet_not_undone m old new t first refusal tables walks gives leaves crash sessions =
     subst (λ (ends : Option ℕ). AreQuiet m old new ends) (by (is_given_up refusal))
     (quiet_given_up m old new t (UndoMark t) refusal tables walks refl gives leaves crash sessions)
   where
     by : (b : Bool) → (if b then Some t.0 else None)
-        ≡ ended_by t.0 (if b then written.RolledBack refusal else written.Refused refusal)
+        ≡ ended_by t.0 (if b then written.RolledBack (worse first refusal)
+        else written.Refused (worse first refusal))
     by true = refl
     by false = refl
 

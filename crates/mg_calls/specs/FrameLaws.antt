@@ -113,7 +113,7 @@ goes_down down mid new a b c less more (inl same) (inr rose) = inr (rose_behind 
 goes_down down mid new a b c less more (inr rose) second = inr (rose_before a b c rose more)
 
 -- the cause of what the first of two calls answered, and of what the second did
-blames_first : {R P : Type 0} (m : Means R P) (old mid new : R) (refusal : Option Refusal)
+pub blames_first : {R P : Type 0} (m : Means R P) (old mid new : R) (refusal : Option Refusal)
     → m.faults mid ≤ m.faults new → m.damage mid ≤ m.damage new → m.shortages mid ≤ m.shortages new
     → Blames m old mid refusal → Blames m old new refusal
 blames_first m old mid new None faults damage shortages cause = tt

@@ -1,6 +1,7 @@
 -- The undoing of a refused statement.
 use Rattle.std.specs.Prelude.{◌≡◌, Bool, true, false, ◌∷◌}
 use Rattle.mg_base.specs.declared.numbers.TxNo.{TxNo}
+use Rattle.mg_faults.specs.Faults.{worse}
 use Rattle.mg_model.specs.declared.answer.Answer.TheVariants.{Fine, No}
 use Rattle.mg_model.specs.declared.event.Event.TheVariants.{UndoMark}
 use Rattle.mg_model.specs.declared.opening.Opening.{Opening}
@@ -25,21 +26,24 @@ pub data IsUndone {R P : Type 0} (m : Means R P) (new : R) (o : Opening) (h : En
   -- all since the mark is taken back: its own refusal is answered
   taken_back : IsLawful o h (entry (UndoMark t) Fine)
       → m.stands new o (entry (UndoMark t) Fine ∷ h) → IsUndone m new o h t first first
-  -- that is refused too, which is answered: nothing is taken back, and the transaction goes on
+  -- that is refused too, and the worse of the two is answered: nothing is taken back, and the transaction
+  -- goes on
   left_so : (later : Refusal) → is_given_up later ≡ false
       → IsLawful o h (entry (UndoMark t) (No later))
-      → m.stands new o (entry (UndoMark t) (No later) ∷ h) → IsUndone m new o h t first later
+      → m.stands new o (entry (UndoMark t) (No later) ∷ h) → IsUndone m new o h t first (worse first later)
 
--- the undoing is refused too, which is answered: the transaction is rolled back
+-- The undoing is refused too, and the worse of the two is answered: the transaction is rolled back.
 pub record IsGivenUp {R P : Type 0} (m : Means R P) (new : R) (o : Opening) (h : Entries) (t : TxNo)
-    (answer : Refusal) : Type 0 where
-  pub gives_up : is_given_up answer ≡ true
-  pub undoing : IsLawful o h (entry (UndoMark t) (No answer))
-  pub stands : m.stands new o (after_refusal o h t (UndoMark t) answer)
+    (first answer : Refusal) : Type 0 where
+  pub later : Refusal
+  pub answered : answer ≡ worse first later
+  pub gives_up : is_given_up later ≡ true
+  pub undoing : IsLawful o h (entry (UndoMark t) (No later))
+  pub stands : m.stands new o (after_refusal o h t (UndoMark t) later)
 
 -- a statement that had set its mark was refused so, and is undone
 abbrev pub Undoes : {R P : Type 0} → Means R P → R → Opening → Entries → TxNo → Refusal → Written → Type 0
 Undoes m new o h t first written.Done = ⊥
 Undoes m new o h t first (written.Waits on) = ⊥
 Undoes m new o h t first (written.Refused answer) = IsUndone m new o h t first answer
-Undoes m new o h t first (written.RolledBack answer) = IsGivenUp m new o h t answer
+Undoes m new o h t first (written.RolledBack answer) = IsGivenUp m new o h t first answer

@@ -1,6 +1,7 @@
 -- A write of a statement that has set its mark.
 use Rattle.std.specs.Prelude.{◌≡◌, ℕ, Bool, true, false, List, ◌∷◌, Option, Some, None, if◌then◌else◌}
 use Rattle.mg_base.specs.declared.numbers.TxNo.{TxNo}
+use Rattle.mg_faults.specs.Faults.{worse}
 use Rattle.mg_model.specs.declared.answer.Answer.{Answer}
 use Rattle.mg_model.specs.declared.answer.Answer.TheVariants.{Fine, No}
 use Rattle.mg_model.specs.declared.event.Event.{Event}
@@ -42,10 +43,10 @@ WritesOne m new o h t event (written.Refused answer) =
 WritesOne m new o h t event (written.RolledBack answer) =
     ComesToNothing m new o h t event (written.RolledBack answer)
 
--- a write was refused, and so was the undoing of its statement
-abbrev pub refused_twice : Refusal → Written
-refused_twice later =
-    if is_given_up later then written.RolledBack later else written.Refused later
+-- a write was refused first, and the undoing of its statement later
+abbrev pub refused_twice : Refusal → Refusal → Written
+refused_twice first later =
+    if is_given_up later then written.RolledBack (worse first later) else written.Refused (worse first later)
 
 -- the refusal that is answered
 abbrev pub refusal_written : Written → Option Refusal

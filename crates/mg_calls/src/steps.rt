@@ -29,9 +29,10 @@ pub enum Wrote {
     /// The next write waits for this transaction, and can be tried again.
     Waits(TxNo),
     /// It was refused, and the statement undone. Where the undoing was refused too, the refusal is
-    /// its own, and nothing was undone.
+    /// the worse of the two, and nothing was undone.
     Refused(Refusal),
-    /// It was refused, and so was the undoing, with this refusal: the transaction is rolled back.
+    /// It was refused, and so was the undoing: the transaction is rolled back. The refusal is the worse
+    /// of the two.
     RolledBack(Refusal),
 }
 

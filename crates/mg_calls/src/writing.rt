@@ -10,6 +10,7 @@ ghost use Rattle.mg_calls.specs.Writes.{WritesOne, IsWritten, ended_by, goes_on,
 ghost use Rattle.mg_calls.specs.Quiet.{AreQuiet};
 
 use mg_base::TxNo;
+use mg_faults::worse;
 use mg_model::{Refusal, Table};
 use mg_records::{Records, Write, gives_up};
 
@@ -21,10 +22,10 @@ pub enum Written {
     /// It waits for this transaction, and can be tried again.
     Waits(TxNo),
     /// It was refused and its statement undone, all since its mark. Where the undoing was refused
-    /// too, the refusal is its own, and nothing was undone.
+    /// too, the refusal is the worse of the two, and nothing was undone.
     Refused(Refusal),
-    /// It was refused, and so was the undoing of its statement, with this refusal: the transaction is
-    /// rolled back.
+    /// It was refused, and so was the undoing of its statement: the transaction is rolled back. The
+    /// refusal is the worse of the two.
     RolledBack(Refusal),
 }
 
@@ -68,17 +69,18 @@ pub(crate) fn undo<R: Records>(r: &mut R, t: TxNo, refusal: Refusal) -> Written
 {
     match r.undo_mark(t) {
         Ok(()) => Written::Refused(refusal),
-        Err(later) => not_undone(later),
+        Err(later) => not_undone(refusal, later),
     }
 }
 
-/// What became of a statement that was refused, and whose undoing was refused so.
-fn not_undone(later: Refusal) -> Written
-    ensures { result ≡ refused_twice later }
+/// What became of a statement that was refused first, and whose undoing was refused later.
+fn not_undone(first: Refusal, later: Refusal) -> Written
+    ensures { result ≡ refused_twice first later }
 {
+    let answered = worse(first, later);
     if gives_up(later) {
-        Written::RolledBack(later)
+        Written::RolledBack(answered)
     } else {
-        Written::Refused(later)
+        Written::Refused(answered)
     }
 }

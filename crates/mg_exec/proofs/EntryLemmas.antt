@@ -176,22 +176,22 @@ undone_by m new o h t first answer (left_so later keeps lawful stands) = record 
   lawful = (lawful, tt);
   quietly = with_entry (entry (UndoMark t) (No later)) refl as_it_was;
   stands = stands;
-  by = given_up_so (ap (λ (g : Bool). entries_given_up g t (UndoMark t) later)
+  by = given_up_so later refl (ap (λ (g : Bool). entries_given_up g t (UndoMark t) later)
       (sym (ap (λ (g : Bool). g && is_active (state_of o h t.0)) keeps)));
 }
 
 -- the same of a transaction that is rolled back
 pub rolled_by : {R P : Type 0} (m : Means R P) (new : R) (o : Opening) (h : Entries) (t : TxNo)
-    (first answer : Refusal) → IsGivenUp m new o h t answer
+    (first answer : Refusal) → IsGivenUp m new o h t first answer
     → (u : Undone m new o h t first answer) × (is_active (state_of o (u.undoing ++ h) t.0) ≡ false)
 rolled_by m new o h t first answer is =
-    let g = given_up m new o h t (UndoMark t) answer refl is.gives_up is.undoing is.stands in (
+    let g = given_up m new o h t (UndoMark t) is.later refl is.gives_up is.undoing is.stands in (
       record {
         undoing = g.entries;
         lawful = g.lawful;
         quietly = g.quietly;
         stands = g.stands;
-        by = given_up_so g.are;
+        by = given_up_so is.later is.answered g.are;
       },
       g.inactive,
     )

@@ -24,6 +24,7 @@ use Rattle.mg_records.specs.declared.write.Write.{Write}
 use Rattle.mg_records.specs.Adding.{IsRefused}
 use Rattle.mg_records.specs.Meaning.{Means}
 use Rattle.mg_records.specs.Reading.{shape_seen}
+use Rattle.mg_faults.specs.Faults.{worse}
 use Rattle.mg_records.specs.TakingBack.{is_given_up}
 use Rattle.mg_records.specs.Writing.{event_of, rows_made}
 use Rattle.mg_value.specs.declared.shape.Shape.{Shape}
@@ -142,7 +143,8 @@ pub data IsUndoneBy (o : Opening) (h : Entries) (t : TxNo) (first : Refusal) (an
     (undoing : Entries) : Type 0 where
   taken_back_so : answer ≡ first → undoing ≡ entry (events.UndoMark t) Fine ∷ []
       → IsUndoneBy o h t first answer undoing
-  given_up_so : undoing ≡ entries_given_up (does_give_up o h t answer) t (events.UndoMark t) answer
+  given_up_so : (later : Refusal) → answer ≡ worse first later
+      → undoing ≡ entries_given_up (does_give_up o h t later) t (events.UndoMark t) later
       → IsUndoneBy o h t first answer undoing
 
 -- ---- what it comes to

@@ -67,12 +67,13 @@ undone_here m new o h t first answered (left_so later kept lawful stands) = reco
 }
 
 pub given_here : {R P : Type 0} (m : Means R P) (new : R) (o : Opening) (h : Entries) (t : TxNo) (first answered : Refusal)
-    → IsGivenUp m new o h t answered → UndoneHere m new o h t first answered true
+    → IsGivenUp m new o h t first answered → UndoneHere m new o h t first answered true
 given_here m new o h t first answered given = record {
-  after = after_refusal o h t (events.UndoMark t) answered;
-  undone_so = given_up answered given.undoing;
+  after = after_refusal o h t (events.UndoMark t) given.later;
+  undone_so = subst (λ (r : Refusal). IsUndone o h t first (after_refusal o h t (events.UndoMark t) given.later) r)
+      (sym given.answered) (given_up given.later given.undoing);
   stands = given.stands;
-  active = given_up_ends o h t (events.UndoMark t) answered given.gives_up;
+  active = given_up_ends o h t (events.UndoMark t) given.later given.gives_up;
 }
 
 -- an event came to nothing

@@ -14,14 +14,13 @@ use Rattle.mg_model.specs.declared.opening.Opening.{Opening}
 use Rattle.mg_model.specs.declared.refusal.Refusal.{Refusal}
 use Rattle.mg_model.specs.declared.refusal.Refusal.TheVariants as refusals
 use Rattle.mg_script.specs.declared.line.Line.{Line}
-use Rattle.mg_script_ends.specs.Ends.{AreCaused}
+use Rattle.mg_script_ends.specs.Ends.{told_first}
 use Rattle.mg_sessions.specs.AccountLaws.{no_account}
 use Rattle.mg_sessions.specs.Accounts.{Accounts}
 use Rattle.mg_scripts.specs.declared.lines.LinesEnd.{LinesEnd}
 use Rattle.mg_scripts.specs.declared.lines.LinesEnd.TheVariants as lines_ends
-use Rattle.mg_scripts.specs.Ending.{ScriptDone}
+use Rattle.mg_scripts.specs.Ending.{ScriptDone, reason_at}
 use Rattle.mg_scripts.specs.Printing.{SinkSays}
-use Rattle.mg_scripts.specs.Steps.{reason}
 use Rattle.mg_runs.specs.declared.ending.RunEnd.{RunEnd}
 use Rattle.mg_runs.specs.declared.ending.RunEnd.TheVariants.{InLine, Outside, ScriptTooLong, Stream, Whole}
 use Rattle.mg_runs.specs.Ends.{EndsWith, FailsWith, IsOutside, last_line}
@@ -80,22 +79,16 @@ module _ {D P K : Type 0} (m : Meaning D) (places : Places P) (n : SinkMeaning K
 
   cut_by_refusal : (first : Refusal) (more : List Refusal) (fine : Bool) (told : RunEnd)
       → HasObeyed m places n lines disk now before mid (first ∷ more) lines_ends.Whole fine → LinesFail m places
-      → IsOutside first told → IsCut (first ∷ more) lines_ends.Whole fine told
+      → IsOutside (told_first first more) told → IsCut (first ∷ more) lines_ends.Whole fine told
   cut_by_refusal first more fine told did fails is = record {
     cut = tt;
     behind = is;
-    read = outside_read first told is;
-    disk_fails = outside_fails m disk now.store.disk first told is
-        (fails disk did.limit did.core now (lines_ends.Stopped first) first did.opened (record {
-          faults = did.accounts.faults;
-          damage = did.accounts.damage;
-          shortages = did.accounts.shortages;
-          cause = did.caused.0;
-          down = did.accounts.down;
-          sizes = did.accounts.sizes;
-        }) refl);
-    stream = λ same. absurd (outside_stream first told is same);
-    whole = outside_whole first told is;
+    read = outside_read (told_first first more) told is;
+    disk_fails = outside_fails m disk now.store.disk (told_first first more) told is
+        (fails disk did.limit did.core now (Some (told_first first more)) (told_first first more) did.opened
+        did.accounts refl);
+    stream = λ same. absurd (outside_stream (told_first first more) told is same);
+    whole = outside_whole (told_first first more) told is;
   }
 
   cut_in_line : (refusal : Refusal) (refused_at : List Refusal) (fine : Bool) (told : RunEnd)
@@ -106,7 +99,7 @@ module _ {D P K : Type 0} (m : Meaning D) (places : Places P) (n : SinkMeaning K
     behind = is;
     read = λ same. absurd cc;
     disk_fails = subst (EndsWith m disk now.store.disk) (sym is)
-        (fails disk did.limit did.core now (lines_ends.Stopped refusal) refusal did.opened did.accounts refl);
+        (fails disk did.limit did.core now (Some refusal) refusal did.opened did.accounts refl);
     stream = λ same. absurd cc;
     whole = λ f same. absurd cc;
   }
@@ -143,7 +136,7 @@ module _ {D P K : Type 0} (m : Meaning D) (places : Places P) (n : SinkMeaning K
       → cut_end lines_end refused_at ≡ Some end → SaysEnd n mid after end told → IsCut refused_at lines_end fine told
   is_cut [] lines_ends.Whole fine end told did fails is says = absurd cc
   is_cut (first ∷ more) lines_ends.Whole fine end told did fails is says =
-      let same : Outside first ≡ end = cc in
+      let same : Outside (told_first first more) ≡ end = cc in
       cut_by_refusal first more fine told did fails (subst (λ (e : RunEnd). IsTold e told) (sym same) says.is_told)
   is_cut refused_at (lines_ends.Stopped refusal) fine end told did fails is says =
       let same : InLine refusal ≡ end = cc in
@@ -249,7 +242,6 @@ unbegun m places n lines disk limit core sink opened = record {
   core = core;
   opened = opened;
   accounts = no_account (means m places) core None tt;
-  caused = tt;
   sinks = record { never_falls = omega arith; steady = λ is. absurd cc; failed = λ is. absurd cc };
   done = λ size image o entry. inr (record { short = refl; keeper = refl; sink = refl; none = refl });
 }
@@ -258,18 +250,16 @@ unbegun m places n lines disk limit core sink opened = record {
 obeyed_as : {D P K : Type 0} (m : Meaning D) (places : Places P) (n : SinkMeaning K) (lines : List Line) (disk : D)
     (limit : ℕ) (core now : Core D) (before mid : K) (refused_at : List Refusal) (lines_end : LinesEnd) (fine : Bool)
     (page : ℕ) → page ≡ core.store.geometry.size → RunsBegin m → IsOpenedOver m disk limit core
-    → Accounts (means m places) core now (reason lines_end) → AreCaused (means m places) core now refused_at
-    → SinkSays n before mid lines_end
+    → Accounts (means m places) core now (reason_at lines_end refused_at) → SinkSays n before mid lines_end
     → ((o : Opening) → (means m places).stands core o [] → ((t : ℕ) → is_active (state_of o [] t) ≡ false)
     → ScriptDone (means m places) n core now before mid o page lines refused_at lines_end fine)
     → HasObeyed m places n lines disk now before mid refused_at lines_end fine
-obeyed_as m places n lines disk limit core now before mid refused_at lines_end fine page is begins opened accounts caused
+obeyed_as m places n lines disk limit core now before mid refused_at lines_end fine page is begins opened accounts
     sinks done = record {
       limit = limit;
       core = core;
       opened = opened;
       accounts = accounts;
-      caused = caused;
       sinks = sinks;
       done = λ size image o entry.
           let begun = begins disk limit core size image o opened entry in
@@ -280,13 +270,13 @@ obeyed_as m places n lines disk limit core now before mid refused_at lines_end f
 pub obeyed : {D P K : Type 0} (m : Meaning D) (places : Places P) (n : SinkMeaning K) (lines : List Line) (disk : D)
     (limit : ℕ) (core now : Core D) (before mid : K) (given refused_at : List Refusal) (lines_end : LinesEnd)
     (fine : Bool) (page : ℕ) → given ≡ refused_at → page ≡ core.store.geometry.size → RunsBegin m
-    → IsOpenedOver m disk limit core → Accounts (means m places) core now (reason lines_end)
-    → AreCaused (means m places) core now refused_at → SinkSays n before mid lines_end
+    → IsOpenedOver m disk limit core → Accounts (means m places) core now (reason_at lines_end refused_at)
+    → SinkSays n before mid lines_end
     → ((o : Opening) → (means m places).stands core o [] → ((t : ℕ) → is_active (state_of o [] t) ≡ false)
     → ScriptDone (means m places) n core now before mid o page lines refused_at lines_end fine)
     → HasObeyed m places n lines disk now before mid given lines_end fine
 obeyed m places n lines disk limit core now before mid given refused_at lines_end fine page same is begins opened
-    accounts caused sinks done =
+    accounts sinks done =
     subst (λ (xs : List Refusal). HasObeyed m places n lines disk now before mid xs lines_end fine) (sym same)
     (obeyed_as m places n lines disk limit core now before mid refused_at lines_end fine page is begins opened accounts
-    caused sinks done)
+    sinks done)

@@ -10,12 +10,11 @@ use Rattle.mg_model.specs.declared.opening.Opening.{Opening}
 use Rattle.mg_model.specs.declared.refusal.Refusal.{Refusal}
 use Rattle.mg_model.specs.declared.refusal.Refusal.TheVariants.{Memory}
 use Rattle.mg_script.specs.declared.line.Line.{Line}
-use Rattle.mg_script_ends.specs.Ends.{AreCaused}
+use Rattle.mg_script_ends.specs.Ends.{told_of}
 use Rattle.mg_scripts.specs.declared.lines.LinesEnd.{LinesEnd}
 use Rattle.mg_scripts.specs.declared.lines.LinesEnd.TheVariants as lines_ends
-use Rattle.mg_scripts.specs.Ending.{ScriptDone}
+use Rattle.mg_scripts.specs.Ending.{ScriptDone, reason_at}
 use Rattle.mg_scripts.specs.Printing.{SinkSays}
-use Rattle.mg_scripts.specs.Steps.{reason}
 use Rattle.mg_sessions.specs.Accounts.{Accounts}
 use Rattle.mg_runs.specs.declared.ending.RunEnd.{RunEnd}
 use Rattle.mg_runs.specs.declared.ending.RunEnd.TheVariants.{InLine, Outside, ScriptTooLong, Stream, Whole}
@@ -44,16 +43,19 @@ pub record HasObeyed {D P K : Type 0} (m : Meaning D) (places : Places P) (n : S
     pub limit : ℕ
     pub core : Core D
     pub opened : IsOpenedOver m disk limit core
-    pub accounts : Accounts (means m places) core now (reason lines_end)
-    pub caused : AreCaused (means m places) core now refusals
+    pub accounts : Accounts (means m places) core now (reason_at lines_end refusals)
     pub sinks : SinkSays n before mid lines_end
     pub done : (size : ℕ) (image : Image) (o : Opening) → IsEntry m disk size image o
         → ScriptDone (means m places) n core now before mid o size lines refusals lines_end fine
 
+-- a run ends by what is told of the rollings back that were refused, if one was
+abbrev pub told_end : Option Refusal → Option RunEnd
+told_end None = None
+told_end (Some refusal) = Some (Outside refusal)
+
 -- how a run ends that doesn't close the database: its lines were cut short, or a rolling back was refused
 abbrev pub cut_end : LinesEnd → List Refusal → Option RunEnd
-cut_end lines_ends.Whole [] = None
-cut_end lines_ends.Whole (first ∷ more) = Some (Outside first)
+cut_end lines_ends.Whole refusals = told_end (told_of refusals)
 cut_end (lines_ends.Stopped refusal) refusals = Some (InLine refusal)
 cut_end lines_ends.NoMemory refusals = Some (Outside Memory)
 cut_end lines_ends.SinkFailed refusals = Some Stream

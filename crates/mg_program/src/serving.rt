@@ -21,6 +21,7 @@ use mg_runs::{
     runs_stop,
 };
 use mg_script::Line;
+use mg_script_ends::told;
 use mg_scripts::{LinesEnd, Ran, run_script};
 use std::alloc::Global;
 
@@ -104,19 +105,19 @@ fn cut_end(end: LinesEnd, refusals: &[Refusal]) -> Option<RunEnd>
     ensures { result ≡ cut_end_of end refusals.now }
 {
     match end {
-        LinesEnd::Whole => first_refused(refusals),
+        LinesEnd::Whole => told_end(refusals),
         LinesEnd::Stopped(refusal) => Some(RunEnd::InLine(refusal)),
         LinesEnd::NoMemory => Some(RunEnd::Outside(Refusal::Memory)),
         LinesEnd::SinkFailed => Some(RunEnd::Stream),
     }
 }
 
-// The same, where all lines were obeyed: by the first rolling back that was refused.
-fn first_refused(refusals: &[Refusal]) -> Option<RunEnd>
+// The same, where all lines were obeyed: by a rolling back that was refused.
+fn told_end(refusals: &[Refusal]) -> Option<RunEnd>
     ensures { result ≡ cut_end_of Whole refusals.now }
 {
-    match refusals.split_first() {
-        Some((first, _)) => Some(RunEnd::Outside(*first)),
+    match told(refusals) {
+        Some(refusal) => Some(RunEnd::Outside(refusal)),
         None => None,
     }
 }

@@ -23,10 +23,10 @@ use Rattle.mg_model.specs.declared.opening.Opening.{Opening}
 use Rattle.mg_model.specs.declared.refusal.Refusal.{Refusal}
 use Rattle.mg_model.specs.declared.refusal.Refusal.TheVariants as refusals
 use Rattle.mg_script.specs.declared.line.Line.{Line}
+use Rattle.mg_script_ends.specs.Ends.{told_first}
 use Rattle.mg_scripts.specs.declared.lines.LinesEnd.{LinesEnd}
 use Rattle.mg_scripts.specs.declared.lines.LinesEnd.TheVariants as lines_ends
-use Rattle.mg_scripts.specs.Ending.{IsUnbegun, ScriptDone, ScriptRan}
-use Rattle.mg_scripts.specs.Steps.{reason}
+use Rattle.mg_scripts.specs.Ending.{IsUnbegun, ScriptDone, ScriptRan, reason_at}
 use Rattle.mg_sessions.specs.Accounts.{Accounts}
 use Rattle.mg_space.specs.ViewLaws.{CountsNow}
 use Rattle.mg_runs.specs.declared.ending.RunEnd.{RunEnd}
@@ -107,7 +107,8 @@ module _ {D P K : Type 0} (m : Meaning D) (places : Places P) (n : SinkMeaning K
       end_is = subst (λ (e : LinesEnd). EndsBehind e lines_refusals fine end) none.short ends
 
   module _ (ran : ScriptRan (means m places) n core now before mid o size lines lines_refusals lines_end fine)
-      (now_is : IsCore m now) (accounts : Accounts (means m places) core now (reason lines_end)) where
+      (now_is : IsCore m now)
+      (accounts : Accounts (means m places) core now (reason_at lines_end lines_refusals)) where
     geometry_now : now.store.geometry.size ≡ size
     geometry_now = alike now.store.geometry.size core.store.geometry.size accounts.sizes ∙ size_is
 
@@ -219,7 +220,7 @@ cut_settled : {D : Type 0} (m : Meaning D) (new : D) (size : ℕ) (o : Opening) 
     → IsSettledAt m new size o entries end
 cut_settled m new size o entries lines_ends.Whole [] fine end cut ends = absurd cut
 cut_settled m new size o entries lines_ends.Whole (first ∷ more) fine end cut ends =
-    nothing_settled m new size o entries first end ends
+    nothing_settled m new size o entries (told_first first more) end ends
 cut_settled m new size o entries (lines_ends.Stopped refusal) lines_refusals fine end cut ends =
     subst (IsSettledAt m new size o entries) (sym ends) tt
 cut_settled m new size o entries lines_ends.NoMemory lines_refusals fine end cut ends =

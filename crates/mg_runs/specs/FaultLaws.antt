@@ -94,7 +94,7 @@ blamed m places disk core now (refusals.Damaged page field found wanted) fell on
 blamed m places disk core now refusals.Memory fell online cause = tt
 
 pub lines_fail : {D P : Type 0} (m : Meaning D) (places : Places P) → LinesFail m places
-lines_fail m places disk limit core now lines_end refusal opened accounts is =
+lines_fail m places disk limit core now told refusal opened accounts is =
     blamed m places disk core now refusal opened.never_falls opened.online
     (subst (Blames (means m places) core now) is accounts.cause)
 

@@ -14,6 +14,7 @@ use Rattle.mg_model.specs.declared.refusal.Refusal.TheVariants.{DiskWrite, Memor
 use Rattle.mg_model.specs.History.{Entries}
 use Rattle.mg_model.specs.Legal.{IsLegal, durable_count}
 use Rattle.mg_script.specs.declared.line.Line.{Line}
+use Rattle.mg_script_ends.specs.Ends.{told_first}
 use Rattle.mg_scripts.specs.declared.lines.LinesEnd.{LinesEnd}
 use Rattle.mg_scripts.specs.declared.lines.LinesEnd.TheVariants as lines_ends
 use Rattle.mg_scripts.specs.Ending.{EndsSo, fine_at}
@@ -35,14 +36,14 @@ IsClosingRefusal (Offline count) = Unit {0}
 IsClosingRefusal refusal = ⊥
 
 -- All lines were obeyed, and what was live was rolled back: the database was closed, or that was refused; or a
--- rolling back was refused.
+-- rolling back was refused, and the run ends by a fault of the disk, if one is among these refusals, or else by the first.
 abbrev pub EndsWhole : List Refusal → Bool → RunEnd → Type 0
 EndsWhole [] fine (Whole all) = all ≡ fine
 EndsWhole [] fine (Outside refusal) = IsClosingRefusal refusal
 EndsWhole [] fine (InLine refusal) = ⊥
 EndsWhole [] fine Stream = ⊥
 EndsWhole [] fine ScriptTooLong = ⊥
-EndsWhole (first ∷ more) fine end = IsOutside first end
+EndsWhole (first ∷ more) fine end = IsOutside (told_first first more) end
 
 -- the end of the run, by how the lines came to theirs
 abbrev pub EndsBehind : LinesEnd → List Refusal → Bool → RunEnd → Type 0

@@ -1,5 +1,5 @@
 -- What the steps of a run give of its promise.
-use Rattle.std.specs.Prelude.{◌≡◌, ℕ, Bool, false, List, [], ◌∷◌, Some, Result, Ok, Err}
+use Rattle.std.specs.Prelude.{◌≡◌, ℕ, Bool, false, List, [], ◌∷◌, Option, Some, Result, Ok, Err}
 use Rattle.mg_base.specs.Disk.{Meaning}
 use Rattle.mg_base.specs.Image.{Image}
 use Rattle.mg_base.specs.MemDisk.{acts_in, mem_meaning}
@@ -18,7 +18,7 @@ use Rattle.mg_model.specs.declared.refusal.Refusal.{Refusal}
 use Rattle.mg_script.specs.declared.line.Line.{Line}
 use Rattle.mg_scripts.specs.declared.lines.LinesEnd.{LinesEnd}
 use Rattle.mg_scripts.specs.declared.lines.LinesEnd.TheVariants as lines_ends
-use Rattle.mg_scripts.specs.Ending.{ScriptDone}
+use Rattle.mg_scripts.specs.Ending.{ScriptDone, reason_at}
 use Rattle.mg_scripts.specs.Steps.{reason}
 use Rattle.mg_sessions.specs.Accounts.{Accounts}
 use Rattle.mg_runs.specs.declared.ending.RunEnd.{RunEnd}
@@ -60,7 +60,7 @@ abbrev pub RunsStop : {D P K : Type 0} → Meaning D → Places P → SinkMeanin
 RunsStop {D} {P} {K} m places n = (disk : D) (limit : ℕ) (core now : Core D) (size : ℕ) (image : Image) (o : Opening)
     (lines : List Line) (refusals : List Refusal) (lines_end : LinesEnd) (fine : Bool) (end : RunEnd)
     (before mid after : K) → IsEntry m disk size image o → IsOpenedOver m disk limit core → IsCore m now
-    → Accounts (means m places) core now (reason lines_end)
+    → Accounts (means m places) core now (reason_at lines_end refusals)
     → ScriptDone (means m places) n core now before mid o size lines refusals lines_end fine
     → IsCutOff lines_end refusals → EndsBehind lines_end refusals fine end → IsPrinted n mid after (last_line end)
     → Headline m n size o lines disk now.store.disk before after end
@@ -87,11 +87,11 @@ abbrev pub OpeningsFail : {D : Type 0} → Meaning D → Type 0
 OpeningsFail {D} m = (disk new : D) (limit : ℕ) (refusal : Refusal) → RefusesOpening m disk new limit refusal
     → FailsWith m disk new refusal
 
--- within the lines,
+-- within the lines and as what is live is rolled back,
 abbrev pub LinesFail : {D P : Type 0} → Meaning D → Places P → Type 0
-LinesFail {D} {P} m places = (disk : D) (limit : ℕ) (core now : Core D) (lines_end : LinesEnd) (refusal : Refusal)
-    → IsOpenedOver m disk limit core → Accounts (means m places) core now (reason lines_end)
-    → reason lines_end ≡ Some refusal → FailsWith m disk now.store.disk refusal
+LinesFail {D} {P} m places = (disk : D) (limit : ℕ) (core now : Core D) (told : Option Refusal) (refusal : Refusal)
+    → IsOpenedOver m disk limit core → Accounts (means m places) core now told → told ≡ Some refusal
+    → FailsWith m disk now.store.disk refusal
 
 -- and as the database is closed
 abbrev pub ClosingsFail : {D P : Type 0} → Meaning D → Places P → Type 0

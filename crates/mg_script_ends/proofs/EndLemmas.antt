@@ -25,8 +25,6 @@ use Rattle.mg_pending.specs.declared.transactions.Transaction.{Transaction}
 use Rattle.mg_pending.specs.Standing.{AreReady, StandAt}
 use Rattle.mg_pending.specs.StandingLaws.{live_is_active, others_ready, others_stand}
 use Rattle.mg_pending.specs.Transactions.{number_at, number_in, transaction_at}
-use Rattle.mg_sessions.specs.AccountLaws.{account_then}
-use Rattle.mg_sessions.specs.Accounts.{Accounts}
 use Rattle.mg_script_ends.specs.Ends.{EndsSession, EndsSoFar, EndsWith, RestComes, StopsOrGoes, count_from, has_no, is_back, is_not}
 
 -- ---- one session
@@ -135,18 +133,6 @@ one_stops o h mid whole rest s before comes refusal stops (is_not t given its la
 pub counts_on : (n k : ℕ) → n < k → count_from n (k - n) ≡ n ∷ count_from (n + 1) (k - (n + 1))
 counts_on n k less = ap (count_from n) (let is : k - n ≡ suc (k - (n + 1)) = omega (arith, less) in is)
 
--- no refusal is told
-pub any_account : {R P : Type 0} (m : Means R P) (old new : R) (refusal : Option Refusal)
-    → Accounts m old new refusal → Accounts m old new None
-any_account m old new refusal accounts = record {
-  faults = accounts.faults;
-  damage = accounts.damage;
-  shortages = accounts.shortages;
-  cause = tt;
-  down = accounts.down;
-  sizes = accounts.sizes;
-}
-
 -- ---- all sessions
 
 module _ {R P Run : Type 0} (m : Means R P) (runs : RunMeans R Run) where
@@ -242,8 +228,3 @@ module _ {R P Run : Type 0} (m : Means R P) (runs : RunMeans R Run) where
   stops_as old new all all' whole rest refusals given b c same_given same_end so =
       subst (λ (xs : List Refusal). StopsOrGoes m runs old new all all' whole rest xs c) (sym same_given)
       (subst (λ (x : Bool). StopsOrGoes m runs old new all all' whole rest refusals x) (sym same_end) so)
-
-pub accounts_both : {R P : Type 0} (m : Means R P) (old mid new : R) (refusal : Option Refusal)
-    → Accounts m old mid None → Accounts m mid new refusal → Accounts m old new None
-accounts_both m old mid new refusal first second =
-    any_account m old new refusal (account_then m old mid new None refusal first second)

@@ -1,6 +1,8 @@
 -- The end of a script: what each session has begun is rolled back.
 use Rattle.std.specs.Prelude.{◌≡◌, ◌+◌, ℕ, zero, suc, Bool, true, false, List, [], ◌∷◌, ◌++◌, Option, None, Some}
 use Rattle.mg_base.specs.declared.numbers.TxNo.{TxNo}
+use Rattle.mg_calls.specs.Frames.{Blames}
+use Rattle.mg_faults.specs.Faults.{worse}
 use Rattle.mg_model.specs.declared.answer.Answer.TheVariants as answers
 use Rattle.mg_model.specs.declared.event.Event.TheVariants as events
 use Rattle.mg_model.specs.declared.opening.Opening.{Opening}
@@ -8,7 +10,6 @@ use Rattle.mg_model.specs.declared.refusal.Refusal.{Refusal}
 use Rattle.mg_model.specs.History.{Entries, entry}
 use Rattle.mg_model.specs.Legal.{IsLawful}
 use Rattle.mg_records.specs.Meaning.{Means}
-use Rattle.mg_calls.specs.Frames.{Blames}
 use Rattle.mg_transcript.specs.Scripts.{AreRolledBack}
 use Rattle.mg_transcript.specs.Sessions.{transaction_of}
 use Rattle.mg_courses.specs.Carrying.{Carries}
@@ -65,3 +66,16 @@ StopsOrGoes m runs old new all all' whole rest refusals false =
 abbrev pub AreCaused : {R P : Type 0} → Means R P → R → R → List Refusal → Type 0
 AreCaused m old new [] = Unit {0}
 AreCaused m old new (refusal ∷ more) = Blames m old new (Some refusal) × AreCaused m old new more
+
+-- the last of some refusals
+abbrev pub last_of : Refusal → List Refusal → Refusal
+last_of first [] = first
+last_of first (next ∷ more) = last_of next more
+
+-- the refusal that is told of a script's end: a fault of the disk, behind which nothing comes, or else the first
+abbrev pub told_first : Refusal → List Refusal → Refusal
+told_first first more = worse (last_of first more) first
+
+abbrev pub told_of : List Refusal → Option Refusal
+told_of [] = None
+told_of (first ∷ more) = Some (told_first first more)

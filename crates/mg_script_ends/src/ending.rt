@@ -1,6 +1,7 @@
 //! What the sessions have begun is rolled back.
 
-ghost use Rattle.std.specs.Prelude.{◌≡◌, ◌<◌, ◌≤◌, ◌+◌, ℕ, [], ◌∷◌, List, Option, None, Some, vec_len, vec_capacity};
+ghost use Rattle.std.specs.Prelude.{◌≡◌, ◌<◌, ◌≤◌, ◌+◌, ℕ, [], ◌∷◌, false, List, Option, None, Some, vec_len, vec_capacity};
+ghost use Rattle.mg_faults.specs.Faults.{tells_fault};
 ghost use Rattle.mg_model.specs.declared.opening.Opening.{Opening};
 ghost use Rattle.mg_model.specs.History.{Entries};
 ghost use Rattle.mg_transcript.specs.Scripts.{AreRolledBack, sessions};
@@ -10,10 +11,11 @@ ghost use Rattle.mg_pending.specs.declared.transactions.Transaction.{Transaction
 ghost use Rattle.mg_pending.specs.Standing.{AreReady, StandAt};
 ghost use Rattle.mg_pending.specs.Transactions.{number_at};
 ghost use Rattle.mg_sessions.specs.Accounts.{Accounts};
-ghost use Rattle.mg_script_ends.specs.Ends.{AreCaused, EndsSession, EndsSoFar, EndsWith, StopsOrGoes};
+ghost use Rattle.mg_script_ends.specs.Ends.{AreCaused, EndsSession, EndsSoFar, EndsWith, StopsOrGoes, last_of as last_of_them, told_of};
 
 use mg_base::TxNo;
 use mg_courses::Statements;
+use mg_faults::worse;
 use mg_model::Refusal;
 use mg_pending::Transactions;
 use mg_rows::StatementFault;
@@ -35,7 +37,7 @@ pub fn roll_back_all<R: Statements>(
     ensures ends { (o : Opening) (h : Entries) → StandAt R.meaning R.runs r.old o h transactions.old [] []
         → EndsWith R.meaning R.runs r.old r.new o h transactions.new
         (λ after. AreRolledBack o h sessions after refusals.new.items) }
-    ensures accounts { Accounts R.meaning r.old r.new None }
+    ensures accounts { Accounts R.meaning r.old r.new (told_of refusals.new.items) }
     ensures caused { AreCaused R.meaning r.old r.new refusals.new.items }
 {
     for s in 0..17u8 {
@@ -62,9 +64,14 @@ fn end_one<R: Statements>(
     ensures ready { AreReady R.meaning R.runs r.new transactions.new [] }
     ensures room { (left : ℕ) → vec_len refusals.old + (left + 1) ≤ vec_capacity refusals.old
         → vec_len refusals.new + left ≤ vec_capacity refusals.new }
-    ensures accounts { (start : R) → Accounts R.meaning start r.old None → Accounts R.meaning start r.new None }
-    ensures caused { (start : R) → Accounts R.meaning start r.old None → AreCaused R.meaning start r.old refusals.old.items
+    ensures accounts { (start : R) → Accounts R.meaning start r.old (told_of refusals.old.items)
+        → tells_fault (told_of refusals.old.items) ≡ false
+        → Accounts R.meaning start r.new (told_of refusals.new.items) }
+    ensures caused { (start : R) → Accounts R.meaning start r.old (told_of refusals.old.items)
+        → AreCaused R.meaning start r.old refusals.old.items
         → AreCaused R.meaning start r.new refusals.new.items }
+    ensures quiet { tells_fault (told_of refusals.old.items) ≡ false → result ≡ false
+        → tells_fault (told_of refusals.new.items) ≡ false }
 {
     match end_session(r, transactions, session) {
         Some(refusal) => {
@@ -128,4 +135,28 @@ fn stops(refusal: Refusal) -> bool
         Flow::Stops(_) => true,
         Flow::GoesOn => false,
     }
+}
+
+/// The refusal that is told of a script's end, of those that came there: a fault of the disk, behind which nothing came,
+/// or else the first. None where there was none.
+pub fn told(refusals: &[Refusal]) -> Option<Refusal>
+    ensures { result ≡ told_of refusals.now }
+{
+    match refusals.split_first() {
+        Some((first, more)) => Some(worse(last_of(*first, more), *first)),
+        None => None,
+    }
+}
+
+// The last of some refusals.
+fn last_of(first: Refusal, more: &[Refusal]) -> Refusal
+    ensures { result ≡ last_of_them first more.now }
+{
+    let mut last = first;
+    let mut rest = more;
+    while let Some((next, later)) = rest.split_first() {
+        last = *next;
+        rest = later;
+    }
+    last
 }

@@ -24,8 +24,9 @@ use Rattle.mg_pending.specs.Transactions.{no_transactions, number_in, transactio
 use Rattle.mg_script_ends.specs.Ends.{EndsWith}
 use Rattle.mg_scripts.specs.declared.lines.LinesEnd.{LinesEnd}
 use Rattle.mg_scripts.specs.declared.lines.LinesEnd.TheVariants.{Whole, Stopped, NoMemory, SinkFailed}
-use Rattle.mg_scripts.specs.Ending.{EndsLive, EndsSo, ScriptRan, fine_at, is_cut, is_none}
+use Rattle.mg_scripts.specs.Ending.{EndsLive, EndsSo, ScriptRan, fine_at, is_cut, is_none, reason_at}
 use Rattle.mg_scripts.specs.Runs.{LinesDone}
+use Rattle.mg_scripts.specs.Steps.{reason}
 
 -- ---- the beginning
 
@@ -156,6 +157,13 @@ cut_none Whole is = refl
 cut_none (Stopped refusal) is = absurd cc
 cut_none NoMemory is = absurd cc
 cut_none SinkFailed is = absurd cc
+
+-- and what was cut short has no refusal of an end
+pub cut_reason : (end : LinesEnd) (refusals : List Refusal) → is_cut end ≡ true → reason_at end refusals ≡ reason end
+cut_reason Whole refusals is = absurd cc
+cut_reason (Stopped refusal) refusals is = refl
+cut_reason NoMemory refusals is = refl
+cut_reason SinkFailed refusals is = refl
 
 pub ran_short : {R P Run K : Type 0} (m : Means R P) (runs : RunMeans R Run) (n : SinkMeaning K)
     (old new : R) (before after : K) (o : Opening) (size : ℕ) (lines : List Line)

@@ -1,5 +1,5 @@
 -- A script with its end.
-use Rattle.std.specs.Prelude.{◌≡◌, ◌⊎◌, ◌&&◌, ℕ, Bool, true, false, List, [], ◌∷◌}
+use Rattle.std.specs.Prelude.{◌≡◌, ◌⊎◌, ◌&&◌, ℕ, Bool, true, false, List, [], ◌∷◌, Option}
 use Rattle.std.specs.List.{list_all}
 use Rattle.mg_base.specs.Streams.{SinkMeaning}
 use Rattle.mg_model.specs.declared.opening.Opening.{Opening}
@@ -12,9 +12,11 @@ use Rattle.mg_transcript.specs.Scripts.{AreRolledBack, Obeyed, sessions}
 use Rattle.mg_transcript.specs.Sessions.{Unfinished}
 use Rattle.mg_transcript.specs.Transcript.{all_fine, turn_fine}
 use Rattle.mg_courses.specs.Carrying.{Carries}
+use Rattle.mg_script_ends.specs.Ends.{told_of}
 use Rattle.mg_scripts.specs.declared.lines.LinesEnd.{LinesEnd}
 use Rattle.mg_scripts.specs.declared.lines.LinesEnd.TheVariants.{Whole, Stopped, NoMemory, SinkFailed}
 use Rattle.mg_scripts.specs.Runs.{AreLinesOf, AreRun, PrintsSo}
+use Rattle.mg_scripts.specs.Steps.{reason}
 
 -- nothing is in a list
 abbrev pub is_none : {A : Type 0} → List A → Bool
@@ -38,6 +40,11 @@ is_cut Whole = false
 is_cut (Stopped refusal) = true
 is_cut NoMemory = true
 is_cut SinkFailed = true
+
+-- the refusal by which a script has ended: that of its last line, or that of its end
+abbrev pub reason_at : LinesEnd → List Refusal → Option Refusal
+reason_at Whole refusals = told_of refusals
+reason_at end refusals = reason end
 
 -- where all lines were obeyed, what was live was rolled back; else nothing came behind the last line
 abbrev pub EndsSo : Opening → LinesEnd → Entries → Entries → List Refusal → Type 0

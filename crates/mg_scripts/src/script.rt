@@ -10,12 +10,11 @@ ghost use Rattle.mg_pending.specs.Standing.{AreReady, StandAt};
 ghost use Rattle.mg_pending.specs.Transactions.{no_transactions};
 ghost use Rattle.mg_sessions.specs.Accounts.{Accounts};
 ghost use Rattle.mg_transcript.specs.Sessions.{Unfinished};
-ghost use Rattle.mg_script_ends.specs.Ends.{AreCaused};
-ghost use Rattle.mg_scripts.specs.Ending.{EndsLive, ScriptDone, is_cut as is_cut_of, is_none};
+ghost use Rattle.mg_script_ends.specs.Ends.{AreCaused, told_of};
+ghost use Rattle.mg_scripts.specs.Ending.{EndsLive, ScriptDone, is_cut as is_cut_of, is_none, reason_at};
 ghost use Rattle.mg_scripts.specs.Printing.{SinkSays};
 ghost use Rattle.mg_scripts.specs.ReadableLaws.{ScriptsCanBeObeyed};
 ghost use Rattle.mg_scripts.specs.Runs.{CanBeObeyed};
-ghost use Rattle.mg_scripts.specs.Steps.{reason};
 
 use crate::lines::{LinesEnd, Ran, run_lines};
 use mg_base::Sink;
@@ -56,9 +55,9 @@ where
         → ((t : ℕ) → is_active (state_of o [] t) ≡ false)
         → ScriptDone R.meaning K.meaning r.old r.new sink.old sink.new o size lines.now refusals.new.items
         result.end result.fine }
-    ensures accounts { Accounts R.meaning r.old r.new (reason result.end) }
-    ensures sinks { SinkSays K.meaning sink.old sink.new result.end }
+    ensures accounts { Accounts R.meaning r.old r.new (reason_at result.end refusals.new.items) }
     ensures caused { AreCaused R.meaning r.old r.new refusals.new.items }
+    ensures sinks { SinkSays K.meaning sink.old sink.new result.end }
 {
     match Sessions::new(alloc) {
         Ok(sessions) => run_from(r, alloc, sessions, size, lines, sink, refusals),
@@ -92,9 +91,9 @@ where
         → ((t : ℕ) → is_active (state_of o [] t) ≡ false)
         → ScriptDone R.meaning K.meaning r.old r.new sink.old sink.new o size lines.now refusals.new.items
         result.end result.fine }
-    ensures accounts { Accounts R.meaning r.old r.new (reason result.end) }
-    ensures sinks { SinkSays K.meaning sink.old sink.new result.end }
+    ensures accounts { Accounts R.meaning r.old r.new (reason_at result.end refusals.new.items) }
     ensures caused { AreCaused R.meaning r.old r.new refusals.new.items }
+    ensures sinks { SinkSays K.meaning sink.old sink.new result.end }
 {
     let mut sessions = sessions;
     let ran = run_lines(r, alloc, &mut sessions, size, lines, sink);
@@ -133,7 +132,7 @@ where
     ensures ends { (o : Opening) (h : Entries) (us : List Unfinished)
         → StandAt R.meaning R.runs r.old o h sessions.transactions sessions.pending.items us
         → EndsLive R.meaning r.old r.new o h us fine refusals.new.items result }
-    ensures accounts { Accounts R.meaning r.old r.new None }
+    ensures accounts { Accounts R.meaning r.old r.new (told_of refusals.new.items) }
     ensures caused { AreCaused R.meaning r.old r.new refusals.new.items }
 {
     let Sessions {

@@ -5,6 +5,7 @@ use Rattle.mg_base.specs.Disk.{Rose}
 use Rattle.mg_model.specs.declared.refusal.Refusal.{Refusal}
 use Rattle.mg_model.specs.declared.refusal.Refusal.TheVariants.{DatabaseFull, DiskRead, DiskWrite, Offline, Damaged}
 use Rattle.mg_records.specs.Meaning.{Means}
+use Rattle.mg_calls.specs.FrameLaws.{blames_first}
 use Rattle.mg_calls.specs.Frames.{Blames, Frames}
 use Rattle.mg_sessions.specs.Accounts.{Accounts}
 
@@ -88,6 +89,18 @@ account_then m old mid new a refusal first second = record {
   shortages = at_most (m.shortages old) (m.shortages mid) (m.shortages new) first.shortages second.shortages;
   cause = blamed_last m old mid new refusal first.faults first.damage first.shortages second.faults
       first.down second.cause;
+  down = down_then m old mid new first.faults second.faults first.down second.down;
+  sizes = λ size. second.sizes size ∙ first.sizes size;
+}
+
+-- the first of two does
+pub account_first : {R P : Type 0} (m : Means R P) (old mid new : R) (refusal b : Option Refusal)
+    → Accounts m old mid refusal → Accounts m mid new b → Accounts m old new refusal
+account_first m old mid new refusal b first second = record {
+  faults = at_most (m.faults old) (m.faults mid) (m.faults new) first.faults second.faults;
+  damage = at_most (m.damage old) (m.damage mid) (m.damage new) first.damage second.damage;
+  shortages = at_most (m.shortages old) (m.shortages mid) (m.shortages new) first.shortages second.shortages;
+  cause = blames_first m old mid new refusal second.faults second.damage second.shortages first.cause;
   down = down_then m old mid new first.faults second.faults first.down second.down;
   sizes = λ size. second.sizes size ∙ first.sizes size;
 }

@@ -22,6 +22,7 @@ use Rattle.mg_model.specs.History.{Entries, entry, transaction_of}
 use Rattle.mg_model.specs.Legal.{IsLawful, is_outer}
 use Rattle.mg_model.specs.Machine.{steps, has_point}
 use Rattle.mg_records.specs.Reading.{shape_seen}
+use Rattle.mg_faults.specs.Faults.{worse}
 use Rattle.mg_records.specs.TakingBack.{after_refusal}
 use Rattle.mg_rows.specs.declared.outcome.Outcome.{Outcome}
 use Rattle.mg_rows.specs.declared.outcome.Outcome.TheVariants as outcomes
@@ -65,9 +66,10 @@ pub data IsUndone (o : Opening) (h : Entries) (t : TxNo) (first : Refusal) : Ent
     -- all since the mark is taken back
     taken_back : IsLawful o h (entry (events.UndoMark t) answers.Fine)
         → IsUndone o h t first (entry (events.UndoMark t) answers.Fine ∷ h) first
-    -- that is refused too; the transaction is rolled back where the refusal is one that gives it up
+    -- that is refused too, and the worse of the two is answered; the transaction is rolled back where the later
+    -- refusal is one that gives it up
     given_up : (later : Refusal) → IsLawful o h (entry (events.UndoMark t) (answers.No later))
-        → IsUndone o h t first (after_refusal o h t (events.UndoMark t) later) later
+        → IsUndone o h t first (after_refusal o h t (events.UndoMark t) later) (worse first later)
 
 -- The next event of a statement of t comes: it takes effect; it waits, and is tried again later; or it is
 -- refused, and all since the statement's mark is taken back.

@@ -35,7 +35,7 @@ returns-in-Err-clause-undoes g c = λ o h stands.
     c.in-Err.later c.in-Err.ensures.undoes o h stands)
 
 pub returns-in-Err-clause-ends : goal.returns-in-Err-clause-ends
-returns-in-Err-clause-ends g c = ap goes_on c.not_undone.ensures ∙ ends_twice c.in-Err.later
+returns-in-Err-clause-ends g c = ap goes_on c.not_undone.ensures ∙ ends_twice c.args.refusal c.in-Err.later
 
 pub returns-in-Err-clause-frames : goal.returns-in-Err-clause-frames
 returns-in-Err-clause-frames g c = λ before first.
@@ -48,6 +48,6 @@ pub returns-in-Err-clause-quiet : goal.returns-in-Err-clause-quiet
 returns-in-Err-clause-quiet g c =
     subst (λ (w : Written). AreQuiet g.R.Records.meaning c.args.r.now c.undo_mark.new.self
     (ended_by c.args.t.0 w)) (sym c.not_undone.ensures)
-    (quiet_not_undone g.R.Records.meaning c.args.r.now c.undo_mark.new.self c.args.t c.in-Err.later
-    (Some c.args.t.0) (Some c.args.t.0) c.in-Err.ensures.undoes c.in-Err.ensures.leaves
+    (quiet_not_undone g.R.Records.meaning c.args.r.now c.undo_mark.new.self c.args.t c.args.refusal
+    c.in-Err.later (Some c.args.t.0) (Some c.args.t.0) c.in-Err.ensures.undoes c.in-Err.ensures.leaves
     c.in-Err.ensures.crash c.in-Err.ensures.sessions)

@@ -28,5 +28,5 @@ returns g c = λ disk limit opened. c.end_run-2.ensures disk c.args.sink.now c.a
     c.args.sink.now c.run_script-ran.new.sink c.as_slice.result.now c.run_script-ran.new.refusals.items
     c.run_script-ran.result.end c.run_script-ran.result.fine c.page_size-size.result c.as_slice.ensures.value
     c.page_size-size.ensures c.runs_begin.ensures opened
-    c.run_script-ran.ensures.accounts c.run_script-ran.ensures.caused c.run_script-ran.ensures.sinks
+    c.run_script-ran.ensures.accounts c.run_script-ran.ensures.sinks
     c.run_script-ran.ensures.done)

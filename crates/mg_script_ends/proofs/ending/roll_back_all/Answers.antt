@@ -1,10 +1,12 @@
-use Rattle.std.proofs.Common.{◌≡◌, ◌≤◌, ◌+◌, ◌-◌, arith, [], ◌∷◌, None, ap}
+use Rattle.std.proofs.Common.{◌≡◌, ◌≤◌, ◌+◌, ◌-◌, arith, [], ◌∷◌, false, None, refl, ap}
 use Rattle.std.specs.Prelude.{vec_capacity, vec_len}
 use Rattle.mg_sessions.specs.AccountLaws.{no_account}
 use Rattle.std.proofs.Common.{subst, sym}
 use Rattle.std.specs.Prelude.{List}
 use Rattle.mg_model.specs.declared.refusal.Refusal.{Refusal}
-use Rattle.mg_script_ends.specs.Ends.{AreCaused, count_from}
+use Rattle.mg_faults.specs.Faults.{tells_fault}
+use Rattle.mg_sessions.specs.Accounts.{Accounts}
+use Rattle.mg_script_ends.specs.Ends.{AreCaused, count_from, told_of}
 use Rattle.mg_script_ends.proofs.EndLemmas.{counts_on, ends_whole, so_far_as, so_far_none, so_far_to}
 use Rattle.mg_script_ends.proofs.ending.roll_back_all.Goals as goal
 
@@ -18,7 +20,9 @@ loop-s-init g c =
           (so_far_none m runs g.met.R.Records.crashes c.args.r.now c.args.transactions.now (count_from 0 17));
       ready = c.requires.ready;
       room = room;
-      accounts = no_account m c.args.r.now None tt;
+      accounts = subst (λ (xs : List Refusal). Accounts m c.args.r.now c.args.r.now (told_of xs)) (sym c.requires.none)
+          (no_account m c.args.r.now None tt);
+      quiet = subst (λ (xs : List Refusal). tells_fault (told_of xs) ≡ false) (sym c.requires.none) refl;
       caused = subst (λ (xs : List Refusal). AreCaused m c.args.r.now c.args.r.now xs) (sym c.requires.none) tt;
     }
 
@@ -33,7 +37,8 @@ loop-s-preserved g c = record {
   ready = c.end_one.ensures.ready;
   room = c.end_one.ensures.room (17 - (c.loop-s.s + 1))
       (let room = c.loop-s.invariant.room in let less = c.loop-s-test.true in omega (arith, room, less));
-  accounts = c.end_one.ensures.accounts c.args.r.now c.loop-s.invariant.accounts;
+  accounts = c.end_one.ensures.accounts c.args.r.now c.loop-s.invariant.accounts c.loop-s.invariant.quiet;
+  quiet = c.end_one.ensures.quiet c.loop-s.invariant.quiet c.if-end_one.false;
   caused = c.end_one.ensures.caused c.args.r.now c.loop-s.invariant.accounts c.loop-s.invariant.caused;
 }
 
@@ -46,7 +51,8 @@ returns-then-end_one-clause-ends g c = c.if-end_one.ensures.ends c.args.r.now c.
     (counts_on c.loop-s.s 17 c.loop-s-test.true) c.loop-s.invariant.ends)
 
 pub returns-then-end_one-clause-accounts : goal.returns-then-end_one-clause-accounts
-returns-then-end_one-clause-accounts g c = c.end_one.ensures.accounts c.args.r.now c.loop-s.invariant.accounts
+returns-then-end_one-clause-accounts g c =
+    c.end_one.ensures.accounts c.args.r.now c.loop-s.invariant.accounts c.loop-s.invariant.quiet
 
 pub returns-clause-ends : goal.returns-clause-ends
 returns-clause-ends g c = ends_whole g.R.Records.meaning g.R.Statements.runs c.args.r.now c.loop-s.r

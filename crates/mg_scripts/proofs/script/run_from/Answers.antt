@@ -1,4 +1,4 @@
-use Rattle.std.proofs.Common.{◌≡◌, None, inl, refl, sym, ap, ◌∙◌, subst}
+use Rattle.std.proofs.Common.{◌≡◌, inl, refl, sym, ap, ◌∙◌, subst}
 use Rattle.mg_model.specs.declared.refusal.Refusal.{Refusal}
 use Rattle.std.specs.Prelude.{List, Option}
 use Rattle.mg_sessions.specs.Accounts.{Accounts}
@@ -7,9 +7,9 @@ use Rattle.mg_scripts.specs.declared.lines.LinesEnd.{LinesEnd}
 use Rattle.mg_scripts.specs.declared.lines.LinesEnd.TheVariants.{Whole}
 use Rattle.mg_scripts.specs.Runs.{LinesDone}
 use Rattle.mg_scripts.specs.Steps.{reason}
-use Rattle.mg_scripts.proofs.EndLemmas.{cut_none, ran_short, ran_whole, start_ready, start_stand}
+use Rattle.mg_scripts.proofs.EndLemmas.{cut_none, cut_reason, ran_short, ran_whole, start_ready, start_stand}
 use Rattle.mg_script_ends.specs.CauseLaws.{caused_since}
-use Rattle.mg_script_ends.specs.Ends.{AreCaused}
+use Rattle.mg_script_ends.specs.Ends.{AreCaused, told_of}
 use Rattle.mg_scripts.proofs.SinkLemmas.{all_say}
 use Rattle.mg_scripts.proofs.script.run_from.Goals as goal
 
@@ -50,9 +50,14 @@ returns-clause-done g c = λ o stands none.
 pub returns-clause-accounts : goal.returns-clause-accounts
 returns-clause-accounts g c =
     let m = g.R.Records.meaning in
-    let whole = cut_none c.run_lines-ran.result.end (sym c.is_cut.ensures ∙ c.if-is_cut.false) in
-    account_then m c.args.r.now c.run_lines-ran.new.r c.end_script-fine.new.r (reason c.run_lines-ran.result.end) None
-    c.run_lines-ran.ensures.accounts c.end_script-fine.ensures.accounts
+    account_then m c.args.r.now c.run_lines-ran.new.r c.end_script-fine.new.r (reason c.run_lines-ran.result.end)
+    (told_of c.end_script-fine.new.refusals.items) c.run_lines-ran.ensures.accounts c.end_script-fine.ensures.accounts
+
+pub returns-then-is_cut-clause-accounts : goal.returns-then-is_cut-clause-accounts
+returns-then-is_cut-clause-accounts g c =
+    subst (λ (told : Option Refusal). Accounts g.R.Records.meaning c.args.r.now c.run_lines-ran.new.r told)
+    (sym (cut_reason c.run_lines-ran.result.end c.args.refusals.now.items (sym c.is_cut.ensures ∙ c.if-is_cut.true)))
+    c.run_lines-ran.ensures.accounts
 
 pub returns-clause-sinks : goal.returns-clause-sinks
 returns-clause-sinks g c =
@@ -66,5 +71,6 @@ returns-then-is_cut-clause-caused g c = subst (λ (xs : List Refusal).
 
 pub returns-clause-caused : goal.returns-clause-caused
 returns-clause-caused g c = caused_since g.R.Records.meaning c.args.r.now c.run_lines-ran.new.r
-    c.end_script-fine.new.r (reason c.run_lines-ran.result.end) None c.run_lines-ran.ensures.accounts
-    c.end_script-fine.ensures.accounts c.end_script-fine.new.refusals.items c.end_script-fine.ensures.caused
+    c.end_script-fine.new.r (reason c.run_lines-ran.result.end) (told_of c.end_script-fine.new.refusals.items)
+    c.run_lines-ran.ensures.accounts c.end_script-fine.ensures.accounts c.end_script-fine.new.refusals.items
+    c.end_script-fine.ensures.caused

@@ -1,0 +1,65 @@
+-- What is told of a script's end, where one refusal more comes.
+use Rattle.std.specs.Prelude.{◌≡◌, Bool, true, false, List, [], ◌∷◌, ◌++◌, Option, None, Some, if◌then◌else◌}
+use Rattle.std.proofs.Common.{refl, sym, ap, ◌∙◌, subst}
+use Rattle.std.proofs.lemmas.Bool.{false≢true}
+use Rattle.mg_faults.specs.Faults.{tells_fault, worse}
+use Rattle.mg_model.specs.declared.refusal.Refusal.{Refusal}
+use Rattle.mg_model.specs.declared.refusal.Refusal.TheVariants.{DiskRead, DiskWrite}
+use Rattle.mg_records.specs.Meaning.{Means}
+use Rattle.mg_transcript.specs.Shorthand.{stops_run}
+use Rattle.mg_sessions.specs.AccountLaws.{account_first, account_then}
+use Rattle.mg_sessions.specs.Accounts.{Accounts}
+use Rattle.mg_script_ends.specs.Ends.{last_of, told_of}
+
+-- a refusal by which a run does not stop tells no fault of the disk
+run_goes_on : (refusal : Refusal) → stops_run refusal ≡ false → tells_fault (Some refusal) ≡ false
+run_goes_on (DiskRead count) goes = absurd cc
+run_goes_on (DiskWrite count) goes = absurd cc
+run_goes_on refusal goes = refl
+
+last_is : (first : Refusal) (more : List Refusal) (last : Refusal) → last_of first (more ++ last ∷ []) ≡ last
+last_is first [] last = refl
+last_is first (next ∷ more) last = last_is next more last
+
+-- where no fault is told, it is the first that is
+quiet_first : (last first : Refusal) → tells_fault (Some (worse last first)) ≡ false → worse last first ≡ first
+quiet_first last first quiet = at (tells_fault (Some last)) refl quiet
+  where
+    at : (b : Bool) → tells_fault (Some last) ≡ b → tells_fault (Some (if b then last else first)) ≡ false
+        → (if b then last else first) ≡ first
+    at true told not = absurd (false≢true (sym not ∙ told))
+    at false told not = refl
+
+-- one refusal more is told, or not
+pub told_also : {R P : Type 0} (m : Means R P) (start old new : R) (before : List Refusal) (refusal : Refusal)
+    → Accounts m start old (told_of before) → tells_fault (told_of before) ≡ false
+    → Accounts m old new (Some refusal) → Accounts m start new (told_of (before ++ refusal ∷ []))
+told_also m start old new [] refusal first quiet second = at (tells_fault (Some refusal))
+  where
+    at : (b : Bool) → Accounts m start new (Some (if b then refusal else refusal))
+    at true = account_then m start old new None (Some refusal) first second
+    at false = account_then m start old new None (Some refusal) first second
+told_also m start old new (x ∷ more) refusal first quiet second =
+    subst (λ (last : Refusal). Accounts m start new (Some (worse last x))) (sym (last_is x more refusal))
+    (at (tells_fault (Some refusal)))
+  where
+    at : (b : Bool) → Accounts m start new (Some (if b then refusal else x))
+    at true = account_then m start old new (Some (worse (last_of x more) x)) (Some refusal) first second
+    at false = account_first m start old new (Some x) (Some refusal)
+        (subst (λ (r : Refusal). Accounts m start old (Some r)) (quiet_first (last_of x more) x quiet) first) second
+
+-- as long as the run goes on, no fault is told
+pub told_none : (before : List Refusal) (refusal : Refusal) → tells_fault (told_of before) ≡ false
+    → stops_run refusal ≡ false → tells_fault (told_of (before ++ refusal ∷ [])) ≡ false
+told_none [] refusal quiet goes = at (tells_fault (Some refusal))
+  where
+    at : (b : Bool) → tells_fault (Some (if b then refusal else refusal)) ≡ false
+    at true = run_goes_on refusal goes
+    at false = run_goes_on refusal goes
+told_none (x ∷ more) refusal quiet goes =
+    subst (λ (last : Refusal). tells_fault (Some (worse last x)) ≡ false) (sym (last_is x more refusal))
+    (at (tells_fault (Some refusal)) (run_goes_on refusal goes))
+  where
+    at : (b : Bool) → b ≡ false → tells_fault (Some (if b then refusal else x)) ≡ false
+    at true is = absurd cc
+    at false is = subst (λ (r : Refusal). tells_fault (Some r) ≡ false) (quiet_first (last_of x more) x quiet) quiet
