@@ -9,6 +9,7 @@ use Rattle.mg_base.specs.declared.numbers.PageNo.{PageNo}
 use Rattle.mg_base.specs.declared.numbers.RecId.{RecId}
 use Rattle.mg_base.specs.declared.numbers.TxNo.{TxNo}
 use Rattle.mg_careful.specs.Precedence.{Orders}
+use Rattle.mg_careful.specs.declared.graph.Order.{Order}
 use Rattle.mg_careful.specs.declared.links.Demand.{Demand}
 use Rattle.mg_careful.specs.CarefulWrite.{DemandSet, Has, IsIn, either, listed}
 use Rattle.mg_chain.specs.Orders.{before_page, first_orders, push_orders, slot_orders, unchanged_page, version_orders}
@@ -31,7 +32,7 @@ use Rattle.mg_slots.specs.declared.page.TheConstants.{DATA_KIND}
 use Rattle.mg_space.specs.Demands.{cell_demands, link_demand}
 use Rattle.mg_space.specs.Taking.{IsGeometry}
 use Rattle.mg_space.specs.View.{viewed}
-use Rattle.mg_space.specs.declared.links.TheConstants.{DATA, HEADER, NEXT, VERSION}
+use Rattle.mg_space.specs.declared.links.TheConstants.{DATA, HEADER, NEXT, POINTER, VERSION}
 use Rattle.mg_version.specs.CellLaws.{cell_again}
 use Rattle.mg_version.specs.Cells.{IsCell, IsSpelling, cell_bytes}
 use Rattle.mg_version.specs.declared.cell.Cell.{Cell}
@@ -40,13 +41,14 @@ use Rattle.mg_version.specs.declared.cell.Link.{Link}
 use Rattle.mg_version.specs.declared.cell.Version.{Version}
 use Rattle.mg_batch_demands.specs.CellLaws.{any_slot, past_none}
 use Rattle.mg_batch_demands.specs.KindLaws.{from_want, kind_of}
-use Rattle.mg_batch_demands.specs.Met.{is_demand}
+use Rattle.mg_batch_demands.specs.Met.{is_demand, of_listed}
 use Rattle.mg_batch_demands.specs.TakeLaws.{used_same}
 use Rattle.mg_batch_demands.specs.Wanting.{IsWanting, Pays, want_of}
 use Rattle.mg_batch_demands.specs.WantingLaws.{in_one, two_listed}
 use Rattle.mg_batch_ties.specs.GrowthTies.{room_data, room_else, room_pays, room_wants}
 use Rattle.mg_batch_ties.specs.Lists.{HaveOrders, before_in, have_added, have_same, have_sooner, lists_later, lists_sooner, viewed_same}
-use Rattle.mg_batch_ties.specs.Wants.{IsDataOf, IsTaken, WantsTable, data_passes, data_taken, still_data}
+use Rattle.mg_batch_ties.specs.OrderlyTies.{data_else, in_parts, orderly_else, orderly_less, room_orderly}
+use Rattle.mg_batch_ties.specs.Wants.{AreOrderly, IsDataOf, IsTaken, WantsTable, data_passes, data_taken, still_data}
 
 -- bytes that spell a cell are read as it
 pub spelled_is : (b : List ℕ) (cell : Cell) → IsSpelling b cell → cell_spelled b ≡ cell
@@ -58,7 +60,7 @@ spelled_is b cell spells = ap cell_spelled spells.spelled ∙ at cell spells.is_
     at (cells.Version v) lawful = cell_again (cells.Version v) lawful
 
 -- the least free slot of a page has no cell
-free_slot : (page : List ℕ) → cell_of page (least_free page) ≡ None
+pub free_slot : (page : List ℕ) → cell_of page (least_free page) ≡ None
 free_slot page = elim (cases_lt (least_free page) (slot_count page)) [
   | inl inside ↦ first_without_at (cell_of page) (slot_count page) inside
   | inr past ↦ past_none page (least_free page) past
@@ -84,20 +86,57 @@ write_wants store image old given owner need at tx gives =
     room_wants store image old given owner need at.page gives gives.found
     ++ (want_of at.page.0 VERSION at.slot tx.0 ∷ [])
 
+-- ---- what a slot leads to
+
+module _ {D L : Type 0} (store : Pool D L) (image : Image) (old : Changed) (rec : RecId) (owner : ℕ) (tx : TxNo) (orders : Orders) (settled : ℕ → Bool) (on_disk wanted : DemandSet) (knows : KnowsWrite store image old rec owner tx settled on_disk wanted) where
+  -- a version of a settled transaction that is wanted comes before a page, or the disk has it
+  pub settled_behind : (link : Link) (page : ℕ) → ((e : Demand) → Has (link_demand link) e → IsIn wanted e)
+      → settled link.tx.0 ≡ true
+      → (link.rec.page.0 ≡ page) ⊎ ((orders link.rec.page.0 page ≡ true) ⊎ Unit {0})
+      → BackIsBehind orders on_disk wanted page (Some link)
+  settled_behind link page is_wanted done first e h = record {
+    is_wanted = is_wanted e h;
+    is_first = elim first [
+      | inl same ↦ inl (ap (λ (x : Demand). x.target) one ∙ same)
+      | inr other ↦ elim other [
+        | inl order ↦ inr (inl (subst (λ (x : Demand). orders x.target page ≡ true) (sym one) order))
+        | inr none ↦ inr (inr (knows.lasting e (is_wanted e h) (ap (λ (x : Demand). x.what) one)
+            (subst (λ (x : Demand). settled x.b ≡ true) (sym one) done)))
+      ]
+    ];
+  }
+    where
+      one : e ≡ want_by link
+      one = is_demand link.rec.page.0 VERSION link.rec.slot link.tx.0 e h
+
+  -- the version that a record's slot leads to is wanted
+  pub led_wanted : (link : Link) → cells_of (viewed store image old) rec ≡ Some (cells.Anchor link)
+      → (e : Demand) → Has (link_demand link) e → IsIn wanted e
+  led_wanted link cell e h =
+      let of = knows.record_ in
+      knows.wants.keeps.in_turn (want_of rec.page.0 DATA of.owner of.place) e of.wants.page
+      (from_want store.geometry.size (viewed store image old) wanted knows.wants (viewed store image old rec.page.0)
+      (knows.wants.whole rec.page.0)
+      (want_of rec.page.0 DATA of.owner of.place) (want_of rec.page.0 DATA of.owner of.place) e refl
+      (any_slot (viewed store image old rec.page.0) rec.slot e
+      (subst (λ (c : Option Cell). Has (cell_demands c) e) (sym cell) h)))
+
+-- ---- a version is written
+
 module _ {D L : Type 0} (store : Pool D L) (image : Image) (old given put turned : Changed) (rec at : RecId) (owner need : ℕ) (bytes : List ℕ) (v : Version) (from : Option Link) (orders : Orders) (settled : ℕ → Bool) (on_disk wanted : DemandSet) (knows : KnowsWrite store image old rec owner v.tx settled on_disk wanted) (gives : GivesRoom store image old given owner need at.page) (have : HaveOrders orders given)
     -- the cell comes into a free slot of the given page, and then the record's slot is turned to it
     (sets : SetsCell (viewed store image given at.page.0) (viewed store image put at.page.0) at.slot (Some bytes))
     (others : (n : ℕ) → n ≢ at.page.0 → viewed store image put n ≡ viewed store image given n)
     (was_free : cell_of (viewed store image given at.page.0) at.slot ≡ None)
-    (spells : IsSpelling bytes (cells.Version v)) (back : v.back ≡ from)
+    (spells : IsSpelling bytes (cells.Version v))
     (turns : TurnsTo store image put turned rec (link_to at v.tx))
     (slot_is : cells_of (viewed store image old) rec ≡ anchor_to from)
     (apart : (at.page.0 ≡ rec.page.0 → at.slot ≢ rec.slot) ⊎ ((link : Link) × (from ≡ Some link)))
-    -- the orders
+    -- the orders; and what the slot led to, it may leave
     (header_first : (0 ≡ at.page.0) ⊎ (orders 0 at.page.0 ≡ true))
-    (back_first : (link : Link) → from ≡ Some link → (settled link.tx.0 ≡ true)
-    × ((link.rec.page.0 ≡ at.page.0) ⊎ ((orders link.rec.page.0 at.page.0 ≡ true) ⊎ Unit {0})))
-    (page_first : (at.page.0 ≡ rec.page.0) ⊎ (orders at.page.0 rec.page.0 ≡ true)) where
+    (back_first : BackIsBehind orders on_disk wanted at.page.0 v.back)
+    (page_first : (at.page.0 ≡ rec.page.0) ⊎ (orders at.page.0 rec.page.0 ≡ true))
+    (may_leave : MayLeave settled orders rec.page.0 from) where
   abbrev size : ℕ
   size = store.geometry.size
 
@@ -174,41 +213,14 @@ module _ {D L : Type 0} (store : Pool D L) (image : Image) (old given put turned
     | inr ne ↦ ap (λ (page : List ℕ). slot_cell (cell_of page rec.slot)) (others rec.page.0 ne ∙ rec_same) ∙ slot_is
   ]
 
-  -- the version behind is wanted, since the slot leads to it
-  behind_wanted : (link : Link) → from ≡ Some link → (e : Demand) → Has (link_demand link) e → IsIn wanted e
-  behind_wanted link is e h =
-      let of = knows.record_ in
-      let cell : slot_cell (cell_of (view rec.page.0) rec.slot) ≡ Some (cells.Anchor link) =
-      slot_is ∙ ap anchor_to is in
-      knows.wants.keeps.in_turn (want_of rec.page.0 DATA of.owner of.place) e of.wants.page
-      (from_want size view wanted knows.wants (view rec.page.0) (knows.wants.whole rec.page.0)
-      (want_of rec.page.0 DATA of.owner of.place) (want_of rec.page.0 DATA of.owner of.place) e refl
-      (any_slot (view rec.page.0) rec.slot e (subst (λ (c : Option Cell). Has (cell_demands c) e) (sym cell) h)))
-
-  behind_first : (link : Link) → from ≡ Some link → (e : Demand) → Has (link_demand link) e
-      → (e.target ≡ at.page.0) ⊎ ((orders e.target at.page.0 ≡ true) ⊎ IsIn on_disk e)
-  behind_first link is e h =
-      let one : e ≡ want_by link = is_demand link.rec.page.0 VERSION link.rec.slot link.tx.0 e h in
-      let facts = back_first link is in
-      elim facts.1 [
-        | inl same ↦ inl (ap (λ (x : Demand). x.target) one ∙ same)
-        | inr other ↦ elim other [
-          | inl order ↦ inr (inl (subst (λ (x : Demand). orders x.target at.page.0 ≡ true) (sym one) order))
-          | inr none ↦ inr (inr (knows.lasting e (behind_wanted link is e h) (ap (λ (x : Demand). x.what) one)
-              (subst (λ (x : Demand). settled x.b ≡ true) (sym one) facts.0)))
-        ]
-      ]
-
-  behind : (o : Option Link) → from ≡ o → BackIsBehind orders on_disk wanted_room at.page.0 o
-  behind None is = tt
-  behind (Some link) is = λ e h. record {
-    is_wanted = in_room e (behind_wanted link is e h);
-    is_first = behind_first link is e h;
+  -- what comes before the page, and was wanted before, is wanted still
+  behind : (o : Option Link) → BackIsBehind orders on_disk wanted at.page.0 o
+      → BackIsBehind orders on_disk wanted_room at.page.0 o
+  behind None first = tt
+  behind (Some link) first = λ e h. let it = first e h in record {
+    is_wanted = in_room e it.is_wanted;
+    is_first = it.is_first;
   }
-
-  leaves_it : (o : Option Link) → from ≡ o → MayLeave settled orders rec.page.0 o
-  leaves_it None is = tt
-  leaves_it (Some link) is = inl (back_first link is).0
 
   abbrev link : Link
   link = link_to at v.tx
@@ -249,8 +261,7 @@ module _ {D L : Type 0} (store : Pool D L) (image : Image) (old given put turned
           | inl same ↦ inl same
           | inr order ↦ inr (inl order)
         ];
-      }) (subst (BackIsBehind orders on_disk wanted_room at.page.0) (sym back) (behind from refl)) page_first
-      (leaves_it from refl)
+      }) (behind v.back back_first) page_first may_leave
     where
       rec_kind : byte (put_view rec.page.0) 0 ≡ DATA_KIND
       rec_kind = elim (cases_eq rec.page.0 at.page.0) [
@@ -263,6 +274,28 @@ module _ {D L : Type 0} (store : Pool D L) (image : Image) (old given put turned
       (listed (write_wants store image old given owner need at v.tx gives))
   write_pays = two_listed size view given_view turned_view orders settled on_disk wanted room
       (want_of at.page.0 VERSION at.slot v.tx.0 ∷ []) room_step written
+
+  -- pointer pages stay orderly: two data pages alone have changed since the room was given
+  pub write_orderly : AreOrderly size view wanted → AreOrderly size turned_view
+      (either wanted (listed (write_wants store image old given owner need at v.tx gives)))
+  write_orderly orderly = orderly_less size turned_view (either wanted_room (listed (want_of at.page.0 VERSION at.slot v.tx.0 ∷ [])))
+      (either wanted (listed (write_wants store image old given owner need at v.tx gives)))
+      (orderly_else size given_view turned_view wanted_room (listed (want_of at.page.0 VERSION at.slot v.tx.0 ∷ []))
+      (room_orderly store image old given owner need at.page gives orders settled on_disk wanted knows.lawful knows.wants
+      its orderly gives.found) same_then none_newly)
+      (in_parts wanted room (want_of at.page.0 VERSION at.slot v.tx.0 ∷ []))
+    where
+      same_then : (n who k : ℕ) → IsIn wanted_room (want_of n POINTER who k) → turned_view n ≡ given_view n
+      same_then n who k h =
+          turns.puts.puts.others n (data_else size given_view wanted_room room_step.wants rec.page.0
+          (data_kind_of rec.page.0 rec_data) n who k h)
+          ∙ others n (data_else size given_view wanted_room room_step.wants at.page.0 (data_kind_of at.page.0 at_data) n who k h)
+
+      none_newly : (d : Demand) → IsIn (listed (want_of at.page.0 VERSION at.slot v.tx.0 ∷ [])) d → d.what ≢ POINTER
+      none_newly d h is = elim (of_listed (want_of at.page.0 VERSION at.slot v.tx.0 ∷ []) d h) [
+        | inl same ↦ let six : d.what ≡ VERSION = ap (λ (x : Demand). x.what) same in absurd (omega (arith, six, is))
+        | inr none ↦ none
+      ]
 
 -- ---- what the orders of a push say
 
@@ -313,44 +346,65 @@ PushPays D L = (store : Pool D L) (image : Image) (old new : Changed) (rec : Rec
     (listed (write_wants store image old pushes.pushes.puts.adds.given pushes.owner
     (need_of pushes.bytes) pushes.pushes.at v.tx pushes.pushes.puts.adds.gives))
 
+module _ {D L : Type 0} (store : Pool D L) (image : Image) (old new : Changed) (rec : RecId) (v : Version) (pushes : Pushes store image old new rec v) (orders : Orders) (settled : ℕ → Bool) (on_disk wanted : DemandSet) (knows : KnowsWrite store image old rec pushes.owner v.tx settled on_disk wanted) (done : settled pushes.newest.tx.0 ≡ true) (have : HaveOrders orders new) where
+  abbrev pushed : Changed
+  pushed = pushes.pushes.turned
+
+  abbrev at : ℕ
+  at = pushes.pushes.at.page.0
+
+  abbrev pub push_wants : List Demand
+  push_wants = write_wants store image old pushes.pushes.puts.adds.given pushes.owner (need_of pushes.bytes) pushes.pushes.at
+      v.tx pushes.pushes.puts.adds.gives
+
+  push_added : (a c : ℕ) → lists (push_orders pushed.pages at rec.page.0 (Some pushes.newest) pushes.pushes.pointers) a c ≡ true
+      → orders a c ≡ true
+  push_added = have_added orders pushed new (push_orders pushed.pages at rec.page.0 (Some pushes.newest)
+      pushes.pushes.pointers) pushes.pushes.ordered have
+
+  push_given : HaveOrders orders pushes.pushes.puts.adds.given
+  push_given = have_same orders pushes.pushes.puts.adds.given pushes.pushes.put pushes.pushes.puts.adds.one.puts.same_orders
+      (have_same orders pushes.pushes.put pushed pushes.pushes.turns.puts.one.puts.same_orders
+      (have_sooner orders pushed new (push_orders pushed.pages at rec.page.0 (Some pushes.newest) pushes.pushes.pointers)
+      pushes.pushes.ordered have))
+
+  free : cell_of (viewed store image pushes.pushes.puts.adds.given at) pushes.pushes.at.slot ≡ None
+  free = ap (cell_of (viewed store image pushes.pushes.puts.adds.given at)) pushes.pushes.puts.adds.puts.least
+      ∙ free_slot (viewed store image pushes.pushes.puts.adds.given at)
+
+  behind_it : BackIsBehind orders on_disk wanted at (Some pushes.newest)
+  behind_it = settled_behind store image old rec pushes.owner v.tx orders settled on_disk wanted knows pushes.newest at
+      (led_wanted store image old rec pushes.owner v.tx orders settled on_disk wanted knows pushes.newest pushes.head.slot)
+      done (push_back orders pushed.pages at rec.page.0 (Some pushes.newest) pushes.pushes.pointers push_added pushes.newest refl)
+
+  pub push_pay : Pays store.geometry.size (viewed store image old) (viewed store image new) orders settled on_disk wanted
+      (listed push_wants)
+  push_pay = subst (λ (pages : Pages). Pays store.geometry.size (viewed store image old) pages orders settled on_disk wanted
+      (listed push_wants)) (sym (viewed_same store image pushed new pushes.pushes.ordered.same_pages))
+      (write_pays store image old pushes.pushes.puts.adds.given pushes.pushes.put pushed rec pushes.pushes.at
+      pushes.owner (need_of pushes.bytes) pushes.bytes (leading_to v (Some pushes.newest)) (Some pushes.newest) orders settled
+      on_disk wanted knows pushes.pushes.puts.adds.gives push_given pushes.pushes.puts.adds.puts.puts.puts.sets
+      pushes.pushes.puts.adds.puts.puts.others free pushes.spells pushes.pushes.turns pushes.head.slot
+      (inr (pushes.newest, refl))
+      (push_header orders pushed.pages at rec.page.0 (Some pushes.newest) pushes.pushes.pointers push_added) behind_it
+      (push_page orders pushed.pages at rec.page.0 (Some pushes.newest) pushes.pushes.pointers push_added) (inl done))
+
+  -- and the pointer pages stay orderly
+  pub push_orderly : AreOrderly store.geometry.size (viewed store image old) wanted
+      → AreOrderly store.geometry.size (viewed store image new) (either wanted (listed push_wants))
+  push_orderly orderly = subst (λ (pages : Pages). AreOrderly store.geometry.size pages (either wanted (listed push_wants)))
+      (sym (viewed_same store image pushed new pushes.pushes.ordered.same_pages))
+      (write_orderly store image old pushes.pushes.puts.adds.given pushes.pushes.put pushed rec pushes.pushes.at
+      pushes.owner (need_of pushes.bytes) pushes.bytes (leading_to v (Some pushes.newest)) (Some pushes.newest) orders settled
+      on_disk wanted knows pushes.pushes.puts.adds.gives push_given pushes.pushes.puts.adds.puts.puts.puts.sets
+      pushes.pushes.puts.adds.puts.puts.others free pushes.spells pushes.pushes.turns pushes.head.slot
+      (inr (pushes.newest, refl))
+      (push_header orders pushed.pages at rec.page.0 (Some pushes.newest) pushes.pushes.pointers push_added) behind_it
+      (push_page orders pushed.pages at rec.page.0 (Some pushes.newest) pushes.pushes.pointers push_added) (inl done) orderly)
+
 pub push_pays : (D L : Type 0) → PushPays D L
 push_pays D L store image old new rec v pushes orders settled on_disk wanted knows done have =
-    subst (λ (pages : Pages). Pays store.geometry.size (viewed store image old) pages orders settled on_disk wanted
-    (listed (write_wants store image old pushes.pushes.puts.adds.given pushes.owner (need_of pushes.bytes) pushes.pushes.at v.tx
-    pushes.pushes.puts.adds.gives)))
-    (sym (viewed_same store image pushes.pushes.turned new pushes.pushes.ordered.same_pages))
-    (write_pays store image old pushes.pushes.puts.adds.given pushes.pushes.put pushes.pushes.turned rec pushes.pushes.at
-    pushes.owner (need_of pushes.bytes) pushes.bytes (leading_to v (Some pushes.newest)) (Some pushes.newest) orders settled
-    on_disk wanted knows pushes.pushes.puts.adds.gives in_given pushes.pushes.puts.adds.puts.puts.puts.sets
-    pushes.pushes.puts.adds.puts.puts.others free pushes.spells refl pushes.pushes.turns pushes.head.slot
-    (inr (pushes.newest, refl))
-    (push_header orders pages at rec.page.0 (Some pushes.newest) pushes.pushes.pointers added)
-    (λ link is. (
-      let same : pushes.newest ≡ link = cc in subst (λ (l : Link). settled l.tx.0 ≡ true) same done,
-      push_back orders pages at rec.page.0 (Some pushes.newest) pushes.pushes.pointers added link is,
-    ))
-    (push_page orders pages at rec.page.0 (Some pushes.newest) pushes.pushes.pointers added))
-  where
-    pages : List BatchPage
-    pages = pushes.pushes.turned.pages
-
-    at : ℕ
-    at = pushes.pushes.at.page.0
-
-    added : (a c : ℕ) → lists (push_orders pushes.pushes.turned.pages pushes.pushes.at.page.0 rec.page.0 (Some pushes.newest)
-        pushes.pushes.pointers) a c ≡ true → orders a c ≡ true
-    added = have_added orders pushes.pushes.turned new (push_orders pushes.pushes.turned.pages pushes.pushes.at.page.0 rec.page.0
-        (Some pushes.newest) pushes.pushes.pointers) pushes.pushes.ordered have
-
-    in_given : HaveOrders orders pushes.pushes.puts.adds.given
-    in_given = have_same orders pushes.pushes.puts.adds.given pushes.pushes.put pushes.pushes.puts.adds.one.puts.same_orders
-        (have_same orders pushes.pushes.put pushes.pushes.turned pushes.pushes.turns.puts.one.puts.same_orders
-        (have_sooner orders pushes.pushes.turned new (push_orders pushes.pushes.turned.pages pushes.pushes.at.page.0 rec.page.0
-        (Some pushes.newest) pushes.pushes.pointers) pushes.pushes.ordered have))
-
-    free : cell_of (viewed store image pushes.pushes.puts.adds.given pushes.pushes.at.page.0) pushes.pushes.at.slot ≡ None
-    free = ap (cell_of (viewed store image pushes.pushes.puts.adds.given pushes.pushes.at.page.0)) pushes.pushes.puts.adds.puts.least
-        ∙ free_slot (viewed store image pushes.pushes.puts.adds.given pushes.pushes.at.page.0)
+    push_pay store image old new rec v pushes orders settled on_disk wanted knows done have
 
 -- a record is made in a free slot, with one version
 abbrev pub FirstPays : (D L : Type 0) → Type 0
@@ -362,33 +416,56 @@ FirstPays D L = (store : Pool D L) (image : Image) (old new : Changed) (owner : 
     (listed (write_wants store image old makes.makes.adds.given owner
     (need_with_anchor makes.bytes) makes.makes.at v.tx makes.makes.adds.gives))
 
+module _ {D L : Type 0} (store : Pool D L) (image : Image) (old new : Changed) (owner : ℕ) (rec : RecId) (v : Version) (makes : MakesRecord store image old new owner rec v) (orders : Orders) (settled : ℕ → Bool) (on_disk wanted : DemandSet) (knows : KnowsWrite store image old rec owner v.tx settled on_disk wanted) (none : cells_of (viewed store image old) rec ≡ None) (have : HaveOrders orders new) where
+  abbrev made : Changed
+  made = makes.makes.turned
+
+  abbrev place : RecId
+  place = makes.makes.at
+
+  abbrev wants : List Demand
+  wants = write_wants store image old makes.makes.adds.given owner (need_with_anchor makes.bytes) place v.tx
+      makes.makes.adds.gives
+
+  abbrev os : List Order
+  os = first_orders made.pages place.page.0 rec.page.0 makes.makes.pointers makes.makes.slot_pointers
+
+  first_added : (a c : ℕ) → lists (push_orders made.pages place.page.0 rec.page.0 None makes.makes.pointers) a c ≡ true
+      → orders a c ≡ true
+  first_added a c is = have_added orders made new os makes.makes.ordered have a c
+      (lists_sooner (push_orders made.pages place.page.0 rec.page.0 None makes.makes.pointers)
+      (before_page makes.makes.slot_pointers rec.page.0) a c is)
+
+  in_given : HaveOrders orders makes.makes.adds.given
+  in_given = have_same orders makes.makes.adds.given makes.makes.put makes.makes.adds.one.puts.same_orders
+      (have_same orders makes.makes.put made makes.makes.turns.puts.one.puts.same_orders
+      (have_sooner orders made new os makes.makes.ordered have))
+
+  pub first_pay : Pays store.geometry.size (viewed store image old) (viewed store image new) orders settled on_disk wanted
+      (listed wants)
+  first_pay = subst (λ (pages : Pages). Pays store.geometry.size (viewed store image old) pages orders settled on_disk wanted
+      (listed wants)) (sym (viewed_same store image made new makes.makes.ordered.same_pages))
+      (write_pays store image old makes.makes.adds.given makes.makes.put made rec place
+      owner (need_with_anchor makes.bytes) makes.bytes (leading_to v None) None orders settled
+      on_disk wanted knows makes.makes.adds.gives in_given makes.makes.adds.puts.sets
+      makes.makes.adds.puts.others makes.makes.adds.puts.was_free makes.spells makes.makes.turns none
+      (inl makes.makes.adds.puts.apart)
+      (push_header orders made.pages place.page.0 rec.page.0 None makes.makes.pointers first_added) tt
+      (push_page orders made.pages place.page.0 rec.page.0 None makes.makes.pointers first_added) tt)
+
+  -- and the pointer pages stay orderly
+  pub first_orderly : AreOrderly store.geometry.size (viewed store image old) wanted
+      → AreOrderly store.geometry.size (viewed store image new) (either wanted (listed wants))
+  first_orderly orderly = subst (λ (pages : Pages). AreOrderly store.geometry.size pages (either wanted (listed wants)))
+      (sym (viewed_same store image made new makes.makes.ordered.same_pages))
+      (write_orderly store image old makes.makes.adds.given makes.makes.put made rec place
+      owner (need_with_anchor makes.bytes) makes.bytes (leading_to v None) None orders settled
+      on_disk wanted knows makes.makes.adds.gives in_given makes.makes.adds.puts.sets
+      makes.makes.adds.puts.others makes.makes.adds.puts.was_free makes.spells makes.makes.turns none
+      (inl makes.makes.adds.puts.apart)
+      (push_header orders made.pages place.page.0 rec.page.0 None makes.makes.pointers first_added) tt
+      (push_page orders made.pages place.page.0 rec.page.0 None makes.makes.pointers first_added) tt orderly)
+
 pub first_pays : (D L : Type 0) → FirstPays D L
 first_pays D L store image old new owner rec v makes orders settled on_disk wanted knows none have =
-    subst (λ (pages : Pages). Pays store.geometry.size (viewed store image old) pages orders settled on_disk wanted
-    (listed (write_wants store image old makes.makes.adds.given owner (need_with_anchor makes.bytes) makes.makes.at v.tx
-    makes.makes.adds.gives)))
-    (sym (viewed_same store image makes.makes.turned new makes.makes.ordered.same_pages))
-    (write_pays store image old makes.makes.adds.given makes.makes.put makes.makes.turned rec makes.makes.at
-    owner (need_with_anchor makes.bytes) makes.bytes (leading_to v None) None orders settled
-    on_disk wanted knows makes.makes.adds.gives in_given makes.makes.adds.puts.sets
-    makes.makes.adds.puts.others makes.makes.adds.puts.was_free makes.spells refl makes.makes.turns none
-    (inl makes.makes.adds.puts.apart)
-    (push_header orders makes.makes.turned.pages makes.makes.at.page.0 rec.page.0 None makes.makes.pointers added)
-    (λ link is. absurd cc)
-    (push_page orders makes.makes.turned.pages makes.makes.at.page.0 rec.page.0 None makes.makes.pointers added))
-  where
-    all_added : (a c : ℕ) → lists (first_orders makes.makes.turned.pages makes.makes.at.page.0 rec.page.0
-        makes.makes.pointers makes.makes.slot_pointers) a c ≡ true → orders a c ≡ true
-    all_added = have_added orders makes.makes.turned new (first_orders makes.makes.turned.pages makes.makes.at.page.0 rec.page.0
-        makes.makes.pointers makes.makes.slot_pointers) makes.makes.ordered have
-
-    added : (a c : ℕ) → lists (push_orders makes.makes.turned.pages makes.makes.at.page.0 rec.page.0 None
-        makes.makes.pointers) a c ≡ true → orders a c ≡ true
-    added a c is = all_added a c (lists_sooner (push_orders makes.makes.turned.pages makes.makes.at.page.0 rec.page.0 None
-        makes.makes.pointers) (before_page makes.makes.slot_pointers rec.page.0) a c is)
-
-    in_given : HaveOrders orders makes.makes.adds.given
-    in_given = have_same orders makes.makes.adds.given makes.makes.put makes.makes.adds.one.puts.same_orders
-        (have_same orders makes.makes.put makes.makes.turned makes.makes.turns.puts.one.puts.same_orders
-        (have_sooner orders makes.makes.turned new (first_orders makes.makes.turned.pages makes.makes.at.page.0 rec.page.0
-        makes.makes.pointers makes.makes.slot_pointers) makes.makes.ordered have))
+    first_pay store image old new owner rec v makes orders settled on_disk wanted knows none have

@@ -1,5 +1,5 @@
 -- A table's page with room: what the batch pays that found it, or made it.
-use Rattle.std.specs.Prelude.{◌≡◌, ◌≢◌, ◌<◌, ◌≤◌, ◌+◌, ◌-◌, ◌*◌, ◌^◌, ◌++◌, ◌==◌, ℕ, zero, suc, Bool, true, false, slice_index, take, if◌then◌else◌, List, [], ◌∷◌, length}
+use Rattle.std.specs.Prelude.{◌≡◌, ◌≢◌, ◌<◌, ◌≤◌, ◌+◌, ◌-◌, ◌*◌, ◌^◌, ◌++◌, ◌==◌, ℕ, zero, suc, Bool, true, false, slice_index, take, if◌then◌else◌, List, [], ◌∷◌, length, None}
 use Rattle.std.proofs.Common.{inl, inr, refl, sym, subst, ap, ◌∙◌, arith}
 use Rattle.std.proofs.lemmas.Bool.{both_ways, cases_lt}
 use Rattle.mg_base.specs.CheckLaws.{front_checks, new_passes}
@@ -14,28 +14,31 @@ use Rattle.mg_careful.specs.declared.links.Demand.{Demand}
 use Rattle.mg_careful.specs.CarefulWrite.{DemandSet, Has, IsIn, either, listed}
 use Rattle.mg_demand_ties.specs.GrowDemands.{chain_pays, chain_wants, count_in_fits, entry_passes, grow_wants, growth_pays}
 use Rattle.mg_heap.specs.Room.{FindsOrGrows, GivesRoom, looked_at}
-use Rattle.mg_heap.specs.Growth.{HasEntryRoom, ListsInLast, ListsInNew, orders_to}
+use Rattle.mg_heap.specs.Growth.{GrowsTable, HasEntryRoom, ListsInLast, ListsInNew, orders_to}
 use Rattle.mg_image.specs.Form.{Pages}
 use Rattle.mg_image.specs.Inventory.{inventory_page, is_used}
+use Rattle.mg_image.specs.Records.{slot_cell}
 use Rattle.mg_image.specs.Tables.{Has as HasPage}
 use Rattle.mg_pointer.specs.PointerPage.{AddsEntry, SetsNext, capacity, count_in, entries_of, new_pointer_page, next_in, pointer_checks}
 use Rattle.mg_pointer.specs.PointerPageLaws.{length-new_pointer_page, new_page_empty, new_page_next, new_page_passes}
 use Rattle.mg_pool.specs.Batch.{Changed, lists}
 use Rattle.mg_pool.specs.declared.pool.Pool.{Pool}
-use Rattle.mg_slots.specs.DataPage.{IsNewPage}
+use Rattle.mg_slots.specs.DataPage.{IsNewPage, cell_of, slot_count}
 use Rattle.mg_slots.specs.declared.page.TheConstants.{DATA_KIND, LOW_AT}
 use Rattle.mg_space.specs.Taking.{IsGeometry, region_of}
-use Rattle.mg_space.specs.Demands.{bit_demand}
-use Rattle.mg_space.specs.TakingLaws.{page_sizes, takes_keeps}
+use Rattle.mg_space.specs.Demands.{bit_demand, cell_demands, demands_of, slot_demands}
+use Rattle.mg_space.specs.TakingLaws.{page_sizes, takes_bit, takes_keeps}
 use Rattle.mg_space.specs.View.{viewed}
 use Rattle.mg_space.specs.ViewLaws.{viewed_else, viewed_here}
-use Rattle.mg_space.specs.declared.links.TheConstants.{BIT, DATA, HEADER}
-use Rattle.mg_batch_demands.specs.KindLaws.{kind_of, pointer_kind}
-use Rattle.mg_batch_demands.specs.Met.{has_back, has_front, in_listed, of_listed}
+use Rattle.mg_space.specs.declared.links.TheConstants.{BIT, DATA, HEADER, POINTER, VERSION}
+use Rattle.mg_batch_demands.specs.KindLaws.{as_want, kind_of, pointer_kind}
+use Rattle.mg_batch_demands.specs.Met.{has_back, has_either, has_front, in_listed, is_demand, of_listed}
 use Rattle.mg_batch_demands.specs.PointerLaws.{length-first}
+use Rattle.mg_batch_demands.specs.TakeLaws.{bit_demands}
+use Rattle.mg_batch_demands.specs.VersionLaws.{NoVersion, leads_from_data, none_both, none_demand, none_empty}
 use Rattle.mg_batch_demands.specs.Wanting.{IsWanting, Pays, want_of}
 use Rattle.mg_batch_demands.specs.WantingLaws.{either_cases, in_one, in_other}
-use Rattle.mg_batch_ties.specs.Lists.{HaveOrders, bit_before, have_added, lists_later, lists_sooner, page_before, viewed_same}
+use Rattle.mg_batch_ties.specs.Lists.{HaveOrders, bit_before, have_added, have_same, have_sooner, lists_later, lists_sooner, page_before, viewed_same}
 use Rattle.mg_batch_ties.specs.Wants.{IsDataOf, IsTaken, WantsTable, bit_there, data_passes, data_taken, pointer_passes, pointer_taken, still_data}
 
 -- a new data page passes its tests
@@ -51,7 +54,7 @@ new_data_passes b size page owner place new long small_page small_owner small_pl
         ∙ take-with_u16 (new_page size page DATA_KIND owner place) LOW_AT size COMMON (omega arith)
 
 -- a page without room for an entry has as many as it can have
-full_count : (page : List ℕ) (n owner at : ℕ) → PassesAll (pointer_checks page n owner at)
+pub full_count : (page : List ℕ) (n owner at : ℕ) → PassesAll (pointer_checks page n owner at)
     → (HasEntryRoom page → ⊥) → count_in page ≡ capacity (length page)
 unfolding entries_of
 full_count page n owner at passes none =
@@ -263,6 +266,60 @@ room_wants store image old new owner need n gives (inr (none, inl (room, last)))
 room_wants store image old new owner need n gives (inr (none, inr (full, (p, made)))) =
     chain_wants store.geometry.size p gives.it.page.0 owner (length gives.pointers - 1 + 1)
 
+-- what has the orders of the batch behind it has those before it
+pub have_room : {D L : Type 0} (store : Pool D L) (image : Image) (old new : Changed) (owner need : ℕ) (n : PageNo)
+    (gives : GivesRoom store image old new owner need n) (orders : Orders)
+    → FindsOrGrows store image old new owner gives.pointers gives.data_pages need gives.it
+    → HaveOrders orders new → HaveOrders orders old
+have_room store image old new owner need n gives orders (inl (same, first)) have = subst (HaveOrders orders) same have
+have_room store image old new owner need n gives orders (inr (none, inl (room, last))) have =
+    have_same orders old last.taken last.bit.puts.same_orders
+    (have_same orders last.taken last.made last.makes.puts.same_orders
+    (have_same orders last.made last.listed last.puts.same_orders
+    (have_sooner orders last.listed new (orders_to store.geometry.size gives.it.page.0
+    (slice_index gives.pointers (length gives.pointers - 1))) last.orders have)))
+have_room store image old new owner need n gives orders (inr (none, inr (full, (p, made)))) have =
+    have_same orders old made.with_bit made.bit_pointer.puts.same_orders
+    (have_same orders made.with_bit made.taken made.bit.puts.same_orders
+    (have_same orders made.taken made.made made.makes.puts.same_orders
+    (have_same orders made.made made.begun made.puts.same_orders
+    (have_same orders made.begun made.linked made.puts_link.same_orders
+    (have_sooner orders made.linked new (orders_to store.geometry.size gives.it.page.0 p
+    ++ orders_to store.geometry.size p (slice_index gives.pointers (length gives.pointers - 1))) made.orders have)))))
+
+-- none of it is a version
+none_bit : (size n : ℕ) → NoVersion (bit_demand size n)
+none_bit size n = none_demand (inventory_page size (region_of size n)) BIT n 0 (λ is. omega (arith, is))
+
+none_then : (target what a b : ℕ) (ds : List Demand) → what ≢ VERSION → NoVersion ds
+    → NoVersion (want_of target what a b ∷ ds)
+none_then target what a b ds other rest e (inl same) is = other (sym (ap (λ (x : Demand). x.what) same) ∙ is)
+none_then target what a b ds other rest e (inr more) is = rest e more is
+
+pub room_versions : {D L : Type 0} (store : Pool D L) (image : Image) (old new : Changed) (owner need : ℕ)
+    (n : PageNo) (gives : GivesRoom store image old new owner need n)
+    (found : FindsOrGrows store image old new owner gives.pointers gives.data_pages need gives.it)
+    → NoVersion (room_wants store image old new owner need n gives found)
+room_versions store image old new owner need n gives (inl found) = none_empty
+room_versions store image old new owner need n gives (inr (none, inl (room, last))) =
+    none_both (bit_demand store.geometry.size gives.it.page.0) _ (none_bit store.geometry.size gives.it.page.0)
+    (none_then gives.it.page.0 DATA owner (length gives.data_pages) [] (λ is. omega (arith, is)) none_empty)
+room_versions store image old new owner need n gives (inr (none, inr (full, (p, made)))) =
+    none_both (bit_demand store.geometry.size p) _ (none_bit store.geometry.size p)
+    (none_both (bit_demand store.geometry.size gives.it.page.0) _ (none_bit store.geometry.size gives.it.page.0)
+    (none_then gives.it.page.0 DATA owner ((length gives.pointers - 1 + 1) * capacity store.geometry.size)
+    (want_of p POINTER owner (length gives.pointers - 1 + 1) ∷ []) (λ is. omega (arith, is))
+    (none_then p POINTER owner (length gives.pointers - 1 + 1) [] (λ is. omega (arith, is)) none_empty)))
+
+-- a page none of whose cells leads to a thing does not
+no_cells : (page : List ℕ) (e : Demand) → ((s : ℕ) → Has (cell_demands (slot_cell (cell_of page s))) e → ⊥)
+    → (k : ℕ) → Has (slot_demands page k) e → ⊥
+no_cells page e none zero h = h
+no_cells page e none (suc k) h = elim (has_either (slot_demands page k) _ e h) [
+  | inl there ↦ no_cells page e none k there
+  | inr here ↦ none k here
+]
+
 module _ {D L : Type 0} (store : Pool D L) (image : Image) (old new : Changed) (owner need : ℕ) (n : PageNo) (gives : GivesRoom store image old new owner need n) (orders : Orders) (settled : ℕ → Bool) (on_disk wanted : DemandSet) (lawful : IsGeometry store.geometry) (was : IsWanting store.geometry.size (viewed store image old) wanted) (head : IsIn wanted (want_of 0 HEADER 0 0)) (its : WantsTable store.geometry.size (viewed store image old) wanted owner gives.pointers gives.data_pages) (have : HaveOrders orders new) where
   abbrev width : ℕ
   width = store.geometry.size
@@ -365,3 +422,111 @@ module _ {D L : Type 0} (store : Pool D L) (image : Image) (old new : Changed) (
       (subst (λ (k : ℕ). is_used width (viewed store image made.with_bit) k ≡ true) same used))
       ∙ (made.takes.others m (λ same. mine.off_inventory (region_of width gives.it.page.0) (sym same))
       ∙ made.takes_pointer.others m (λ same. mine.off_inventory (region_of width p) (sym same))))))
+
+  -- ---- the page that a table has got
+
+  abbrev got : ℕ
+  got = gives.it.page.0
+
+  abbrev last_pointer : ℕ
+  last_pointer = slice_index gives.pointers (length gives.pointers - 1)
+
+  abbrev Grown : Type 0
+  Grown = GrowsTable store.geometry store image old new owner (length gives.data_pages) (length gives.pointers - 1)
+      last_pointer (before_view last_pointer) got gives.it.bytes.items
+
+  last_used : is_used width before_view last_pointer ≡ true
+  last_used = (pointer_taken width before_view wanted was last_pointer owner (length gives.pointers - 1) head its.last).used
+
+  -- it is as it was made
+  got_here : Grown → after_view got ≡ gives.it.bytes.items
+  got_here (inl (room, last)) = ap (λ (pages : Pages). pages got)
+      (viewed_same store image last.listed new last.orders.same_pages)
+      ∙ (viewed_else store image last.made last.listed last_pointer last.page last.puts got
+      (λ same. both_ways _ last.takes.free.unused (subst (λ (k : ℕ). is_used width before_view k ≡ true) (sym same) last_used))
+      ∙ viewed_here store image last.taken last.made got gives.it.bytes.items last.makes.puts)
+  got_here (inr (full, (p, made))) = ap (λ (pages : Pages). pages got)
+      (viewed_same store image made.linked new made.orders.same_pages)
+      ∙ (viewed_else store image made.begun made.linked last_pointer made.link made.puts_link got
+      (λ same. unused p made (subst (λ (k : ℕ). is_used width (viewed store image made.with_bit) k ≡ true) (sym same)
+      (takes_keeps store.geometry before_view (viewed store image made.with_bit) p lawful made.takes_pointer last_pointer last_used)))
+      ∙ (viewed_else store image made.made made.begun p made.page made.puts got
+      (λ same. unused p made (subst (λ (k : ℕ). is_used width (viewed store image made.with_bit) k ≡ true) (sym same)
+      (takes_bit store.geometry before_view (viewed store image made.with_bit) p lawful made.takes_pointer)))
+      ∙ viewed_here store image made.taken made.made got gives.it.bytes.items made.makes.puts))
+    where
+      unused : (p : ℕ) (made : ListsInNew store.geometry store image old new owner (length gives.data_pages)
+          (length gives.pointers - 1 + 1) last_pointer p got (before_view last_pointer) gives.it.bytes.items)
+          → is_used width (viewed store image made.with_bit) got ≡ true → ⊥
+      unused p made is = both_ways _ made.takes.free.unused is
+
+  got_none : (grown : Grown) (s : ℕ) → cell_of (after_view got) s ≡ None
+  got_none grown s = ap (λ (page : List ℕ). cell_of page s) (got_here grown) ∙ none grown
+    where
+      none : Grown → cell_of gives.it.bytes.items s ≡ None
+      none (inl (room, last)) = last.makes.made.none s
+      none (inr (full, (p, made))) = made.makes.made.none s
+
+  -- and it was no data page before
+  got_other : Grown → (m : ℕ) → IsDataOf width wanted m → got ≢ m
+  got_other (inl (room, last)) m of same = both_ways _ last.takes.free.unused
+      (subst (λ (k : ℕ). is_used width before_view k ≡ true) (sym same) (data_taken width before_view wanted was m head of).used)
+  got_other (inr (full, (p, made))) m of same = both_ways _ made.takes.free.unused
+      (subst (λ (k : ℕ). is_used width (viewed store image made.with_bit) k ≡ true) (sym same)
+      (takes_keeps store.geometry before_view (viewed store image made.with_bit) p lawful made.takes_pointer m
+      (data_taken width before_view wanted was m head of).used))
+
+  -- So what is newly wanted leads to no version, as long as no cell does that is put on the new page.
+  module _ (mid : Pages) (all : DemandSet) (wants : IsWanting width mid all) (other : ℕ) (of : IsDataOf width wanted other)
+      (cells : (s : ℕ) (e : Demand) → cell_of (after_view n.0) s ≡ None → (n.0 ≡ other → ⊥)
+      → Has (cell_demands (slot_cell (cell_of (mid n.0) s))) e → ⊥) where
+    bit_leads : (k : ℕ) (d e : Demand) → Has (bit_demand width k) d → Has (demands_of (mid d.target) d) e → ⊥
+    bit_leads k d e h made = bit_demands width mid all wants (mid d.target) (wants.whole d.target) d e
+        (subst (λ (x : Demand). x ≡ want_of x.target BIT x.a x.b)
+        (sym (is_demand (inventory_page width (region_of width k)) BIT k 0 d h)) refl) made
+
+    data_leads : Grown → (place : ℕ) (d e : Demand) → d ≡ want_of got DATA owner place
+        → Has (demands_of (mid d.target) d) e → ⊥
+    data_leads grown place d e is made = no_cells (mid n.0) e
+        (λ s there. cells s e (subst (λ (k : ℕ). cell_of (after_view k) s ≡ None) here (got_none grown s))
+        (λ same. got_other grown other of (here ∙ same)) there) (slot_count (mid n.0))
+        (subst (λ (k : ℕ). Has (slot_demands (mid k) (slot_count (mid k))) e) here
+        (as_want width mid all wants (mid got) (wants.whole got) (want_of got DATA owner place) d e is
+        (subst (λ (k : ℕ). Has (demands_of (mid k) d) e) (ap (λ (x : Demand). x.target) is) made)))
+      where
+        here : got ≡ n.0
+        here = ap (λ (p : PageNo). p.0) gives.page_is
+
+    pointer_leads : (p at : ℕ) (d e : Demand) → d ≡ want_of p POINTER owner at → IsIn all d
+        → Has (demands_of (mid d.target) d) e → e.what ≡ VERSION → ⊥
+    pointer_leads p at d e is h made what =
+        let five = leads_from_data width mid all wants d e h made what in
+        let four = pointer_kind (mid p) p owner at (pointer_passes width mid all wants p owner at
+        (subst (IsIn all) is h)) in
+        let there : byte (mid d.target) 0 ≡ byte (mid p) 0 = ap (λ (x : Demand). byte (mid x.target) 0) is in
+        absurd (omega (arith, five, four, there))
+
+    pub room_leads : (found : FindsOrGrows store image old new owner gives.pointers gives.data_pages need gives.it)
+        (d e : Demand) → Has (room_wants store image old new owner need n gives found) d → IsIn all d
+        → Has (demands_of (mid d.target) d) e → e.what ≡ VERSION → ⊥
+    room_leads (inl found) d e h among made what = absurd h
+    room_leads (inr (none, inl (room, last))) d e h among made what = elim (has_either (bit_demand width got) _ d h) [
+      | inl bit ↦ bit_leads got d e bit made
+      | inr one ↦ elim one [
+        | inl is ↦ data_leads (inl (room, last)) (length gives.data_pages) d e is made
+        | inr nothing ↦ nothing
+      ]
+    ]
+    room_leads (inr (none, inr (full, (p, made_)))) d e h among made what = elim (has_either (bit_demand width p) _ d h) [
+      | inl bit ↦ bit_leads p d e bit made
+      | inr further ↦ elim (has_either (bit_demand width got) _ d further) [
+        | inl bit ↦ bit_leads got d e bit made
+        | inr one ↦ elim one [
+          | inl is ↦ data_leads (inr (full, (p, made_))) ((length gives.pointers - 1 + 1) * capacity width) d e is made
+          | inr two ↦ elim two [
+            | inl is ↦ pointer_leads p (length gives.pointers - 1 + 1) d e is among made what
+            | inr nothing ↦ nothing
+          ]
+        ]
+      ]
+    ]

@@ -1,7 +1,15 @@
 pub mod Lists
 pub mod Wants
 pub mod GrowthTies
+pub mod TableTies
+pub mod OrderlyTies
 pub mod CellTies
+pub mod BatchSteps
 pub mod OwnTies
+pub mod Moving
+pub mod MoveTies
 pub mod EndTies
+pub mod SettleTies
+pub mod Alone
+pub mod StepTies
 pub mod PoolTies

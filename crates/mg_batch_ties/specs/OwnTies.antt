@@ -39,9 +39,11 @@ use Rattle.mg_batch_demands.specs.Steps.{version_at}
 use Rattle.mg_batch_demands.specs.TakeLaws.{used_same}
 use Rattle.mg_batch_demands.specs.Wanting.{Drops, IsWanting, Pays, may_go, want_of}
 use Rattle.mg_batch_demands.specs.WantingLaws.{either_cases}
+use Rattle.mg_batch_ties.specs.BatchSteps.{PaysStep}
 use Rattle.mg_batch_ties.specs.CellTies.{spelled_is}
 use Rattle.mg_batch_ties.specs.Lists.{HaveOrders, before_in, have_added, lists_later, lists_sooner, viewed_same}
-use Rattle.mg_batch_ties.specs.Wants.{IsDataOf, IsTaken, data_passes, data_taken}
+use Rattle.mg_batch_ties.specs.OrderlyTies.{data_else}
+use Rattle.mg_batch_ties.specs.Wants.{AreOrderly, IsDataOf, IsOrderly, IsTaken, data_passes, data_taken}
 
 -- a version is written over in its own cell: it costs nothing
 abbrev pub OverPays : (D L : Type 0) → Type 0
@@ -76,6 +78,19 @@ over_pays D L store image old new rec v replaces puts moved orders settled on_di
     taken : IsTaken store.geometry.size (viewed store image old) replaces.newest.rec.page.0
     taken = data_taken store.geometry.size (viewed store image old) wanted was replaces.newest.rec.page.0 head of
 
+-- and pointer pages stay orderly
+pub over_orderly : {D L : Type 0} (store : Pool D L) (image : Image) (old new : Changed) (rec : RecId) (v : Version)
+    (replaces : Replaces store image old new rec v) → PutsAt store image old new replaces.newest.rec replaces.bytes
+    → (wanted : DemandSet) → IsWanting store.geometry.size (viewed store image old) wanted
+    → IsDataOf store.geometry.size wanted replaces.newest.rec.page.0
+    → AreOrderly store.geometry.size (viewed store image old) wanted
+    → AreOrderly store.geometry.size (viewed store image new) wanted
+over_orderly store image old new rec v replaces puts wanted was of orderly n who k h =
+    subst (IsOrderly store.geometry.size) (sym (puts.puts.others n (data_else store.geometry.size (viewed store image old)
+    wanted was replaces.newest.rec.page.0 (kind_of (viewed store image old replaces.newest.rec.page.0)
+    replaces.newest.rec.page.0 DATA_KIND of.owner of.place (data_passes store.geometry.size (viewed store image old) wanted
+    was replaces.newest.rec.page.0 of.owner of.place of.wants.page)) n who k h))) (orderly n who k h)
+
 -- ---- taken out
 
 -- What is known where a version is taken out: it is wanted, and so are its page and its record's; its
@@ -103,7 +118,7 @@ OutPays D L = (store : Pool D L) (image : Image) (old new : Changed) (rec : RecI
     → PaysThenDrops store.geometry.size (viewed store image old) (viewed store image new) (content_in new.pages)
     orders it on_disk wanted
 
-some_cell : (o : Option (List ℕ)) (c : Cell) → slot_cell o ≡ Some c → IsSome o
+pub some_cell : (o : Option (List ℕ)) (c : Cell) → slot_cell o ≡ Some c → IsSome o
 some_cell None c is = absurd cc
 some_cell (Some bytes) c is = refl
 
@@ -326,18 +341,37 @@ module _ {D L : Type 0} (store : Pool D L) (image : Image) (old new : Changed) (
           ∙ ap slot_cell frees_cell.here in
           let both : Some (cells.Version takes.was) ≡ None = sym still ∙ none in absurd cc
 
-  pub out_pay : PaysThenDrops size view (viewed store image new) (content_in new.pages) orders it on_disk wanted
-  out_pay = subst (λ (pages : Pages). PaysThenDrops size view pages (content_in new.pages) orders it on_disk wanted)
+  -- as one step of a batch, of which nothing is newly wanted
+  pub out_step : PaysStep size view (viewed store image new) (content_in new.pages) orders it on_disk wanted (listed [])
+      (version_at newest.rec.page.0 newest.rec.slot newest.tx.0)
+  out_step = subst (λ (pages : Pages). PaysStep size view pages (content_in new.pages) orders it on_disk wanted (listed [])
+      (version_at x newest.rec.slot newest.tx.0))
       (sym (viewed_same store image freed new takes.taken.ordered.same_pages)) (record {
         mid = mid;
-        more = listed [];
-        dropped = version_at x newest.rec.slot newest.tx.0;
         pays = turn_step;
         fresh = λ d h is. absurd (of_listed [] d h);
         drops = free_step;
         own = in_batch;
       })
 
+  -- pointer pages stay orderly: two data pages alone change
+  pub out_orderly : AreOrderly size view wanted → AreOrderly size (viewed store image new) wanted
+  out_orderly orderly = subst (λ (pages : Pages). AreOrderly size pages wanted)
+      (sym (viewed_same store image freed new takes.taken.ordered.same_pages))
+      (λ n who k h. subst (IsOrderly size) (sym (takes.taken.swings.frees.frees.others n
+      (data_else size view wanted knows.wants x (kind_at x knows.page) n who k h)
+      ∙ turn_is.1.sets.others n (data_else size view wanted knows.wants b (kind_at b knows.record_) n who k h)))
+      (orderly n who k h))
+
 pub out_pays : (D L : Type 0) → OutPays D L
 out_pays D L store image old new rec takes orders it on_disk wanted knows have =
-    out_pay store image old new rec takes orders it on_disk wanted knows have
+    let step = out_step store image old new rec takes orders it on_disk wanted knows have in
+    record {
+      mid = step.mid;
+      more = listed [];
+      dropped = version_at takes.newest.rec.page.0 takes.newest.rec.slot takes.newest.tx.0;
+      pays = step.pays;
+      fresh = step.fresh;
+      drops = step.drops;
+      own = step.own;
+    }

@@ -17,6 +17,8 @@ use Rattle.mg_pool.specs.Dirty.{DirtyPages, is_dirty}
 use Rattle.mg_pool.specs.Pool.{cache_of, shown}
 use Rattle.mg_pool.specs.declared.pool.Pool.{Pool}
 use Rattle.mg_space.specs.View.{KeepsStore, Tells, viewed}
+use Rattle.mg_batch_ties.specs.BatchSteps.{BearsWith, PaysInSteps}
+use Rattle.mg_batch_ties.specs.StepTies.{StepsBear}
 
 -- the cache over an image of its disk
 abbrev pub cache_over : {D L : Type 0} → Pool D L → Image → Cache
@@ -41,8 +43,20 @@ ChangesBear D L m = (before ready after : Pool D L) (i j : Image) (batch : Chang
     → PaysAlways before i batch it of_disk of_pool
     → StillBears before.geometry.size (cache_over after j) it of_disk of_pool
 
+-- the law where the batch pays and drops several times
+abbrev pub StepChangesBear : (D L : Type 0) → Meaning D → Type 0
+StepChangesBear D L m = (before ready after : Pool D L) (i j : Image) (batch : Changed) (it : Lasting)
+    (of_disk of_pool last : DemandSet) → KeepsStore m before ready
+    → ChangesOverlays m (content_in batch.pages) batch.orders ready after
+    → Tells m before.disk i → m.held after.disk ≡ Some j
+    → IsLawful before.geometry.size batch.pages batch.orders
+    → BearsLinks before.geometry.size (cache_over before i) it of_disk of_pool
+    → PaysInSteps before.geometry.size (content_in batch.pages) (lists batch.orders) it (shown before.dirty i) of_pool
+    (viewed before i batch) last
+    → BearsWith before.geometry.size (cache_over after j) it of_disk of_pool last
+
 -- the frame of a change, in the terms of the law
-lays : (old new : DirtyPages) (graph more : PageGraph) (i j : Image) (gone : PageSet)
+pub lays : (old new : DirtyPages) (graph more : PageGraph) (i j : Image) (gone : PageSet)
     (batch : ℕ → Option (List ℕ)) (orders : List Order) → ChangesPages old new graph more i j gone batch orders
     → LaysBatch (cache_of old graph i) (cache_of new more j) gone batch (lists orders)
 lays old new graph more i j gone batch orders changes = record {
@@ -79,3 +93,24 @@ changes_bear D L m both law before ready after i j batch it of_disk of_pool keep
         (lists batch.orders) it (three_parts (cache_over before i) gone of_disk of_pool) of_pool) pool
         (pays (three_parts (cache_over before i) gone of_disk of_pool)
         (both (cache_over before i) gone of_disk of_pool)))
+
+pub step_changes_bear : (D L : Type 0) (m : Meaning D) → StepsBear → StepChangesBear D L m
+step_changes_bear D L m law before ready after i j batch it of_disk of_pool last keeps frame tells held lawful bears steps =
+    at (frame (keeps.disk.tells ∙ tells.told) i j (keeps.disk.held ∙ tells.held) held)
+  where
+    same : cache_over ready i ≡ cache_over before i
+    same = λ k. cache_of (keeps.dirty k) (keeps.graph k) i
+
+    at : (gone : PageSet) × ChangesPages ready.dirty after.dirty ready.graph after.graph i j gone
+        (content_in batch.pages) batch.orders
+        → BearsWith before.geometry.size (cache_over after j) it of_disk of_pool last
+    at (gone, changes) =
+        let pool : viewed before i batch ≡ shown after.dirty j = sym (fun_ext (λ p. changes.shown_new p
+        ∙ ap (λ (d : DirtyPages). unwrap_or (content_in batch.pages p) (shown d i p)) keeps.dirty)) in
+        law before.geometry.size (cache_over before i) (cache_over after j) it gone (content_in batch.pages)
+        (lists batch.orders) (subst (λ (c : Cache). IsClosed c gone) same changes.out)
+        (subst (λ (c : Cache). LaysBatch c (cache_over after j) gone (content_in batch.pages) (lists batch.orders)) same
+        (lays ready.dirty after.dirty ready.graph after.graph i j gone (content_in batch.pages) batch.orders changes))
+        lawful.later_in of_disk of_pool last
+        (subst (λ (pages : Pages). PaysInSteps before.geometry.size (content_in batch.pages) (lists batch.orders) it
+        (shown before.dirty i) of_pool pages last) pool steps) bears

@@ -6,6 +6,7 @@ use Rattle.std.proofs.lemmas.Nat.{div-mul-add}
 use Rattle.mg_base.specs.Checks.{PassesAll, common_checks}
 use Rattle.mg_base.specs.Fields.{byte}
 use Rattle.mg_base.specs.declared.geometry.Geometry.{Geometry}
+use Rattle.mg_base.specs.declared.geometry.TheConstants.{GREATEST_LIMIT}
 use Rattle.mg_careful.specs.declared.links.Demand.{Demand}
 use Rattle.mg_careful.specs.CarefulWrite.{DemandSet, Has, IsIn, either}
 use Rattle.mg_header.specs.declared.header.HeadFault.{HeadFault}
@@ -15,7 +16,7 @@ use Rattle.mg_image.specs.Form.{Pages}
 use Rattle.mg_image.specs.Inventory.{inventory_page, is_used}
 use Rattle.mg_image.specs.Tables.{Has as HasPage}
 use Rattle.mg_pip.specs.PipPage.{bits, pip_checks}
-use Rattle.mg_pointer.specs.PointerPage.{capacity, count_in, pointer_checks}
+use Rattle.mg_pointer.specs.PointerPage.{capacity, count_in, entries_of, next_in, pointer_checks}
 use Rattle.mg_slots.specs.declared.page.TheConstants.{DATA_KIND}
 use Rattle.mg_base.specs.Geometry.{is_page_size}
 use Rattle.mg_space.specs.Demands.{bit_demand, demand, is_header, meets_by, meets_of}
@@ -58,6 +59,18 @@ pub record WantsTable (size : ℕ) (view : Pages) (wanted : DemandSet) (owner : 
   pub placed : length data_pages ≡ (length pointers - 1) * capacity size
       + count_in (view (slice_index pointers (length pointers - 1)))
   pub small : (owner < 2 ^ 32) × (length data_pages < 2 ^ 32) × (length pointers < 2 ^ 32)
+
+-- A pointer page as it stands in a chain: the pages that it names are below the limit of every database, and
+-- where it names a next one it is full.
+pub record IsOrderly (size : ℕ) (page : List ℕ) : Type 0 where
+  pub next : next_in page < GREATEST_LIMIT
+  pub entries : (n : ℕ) → HasPage (entries_of page) n → n < GREATEST_LIMIT
+  pub full : next_in page ≢ 0 → count_in page ≡ capacity size
+
+-- each pointer page that is wanted is
+abbrev pub AreOrderly : ℕ → Pages → DemandSet → Type 0
+AreOrderly size pages wanted = (n owner at : ℕ) → IsIn wanted (want_of n POINTER owner at)
+    → IsOrderly size (pages n)
 
 -- A page that is marked as used, and is neither the header page nor one of the page inventory.
 pub record IsTaken (size : ℕ) (pages : Pages) (n : ℕ) : Type 0 where

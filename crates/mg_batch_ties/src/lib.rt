@@ -10,18 +10,27 @@
 //! | `add`, `add_apart` of mg_heap | `GivesRoom` | `room_pays` | `GrowthTies` |
 //! | `first`, `push` of mg_chain | `MakesRecord`, `Pushes` | `FirstPays`, `PushPays` | `CellTies` |
 //! | `replace_own` of mg_chain, in the version's cell | `Replaces` | `OverPays` | `OwnTies` |
+//! | the same, to another cell | `Moves` | `MovePays` | `MoveTies` |
 //! | `back_out` of mg_chain | `TakesOut` | `OutPays` | `OwnTies` |
 //! | `mark_committed` of mg_txlist | `CommitsBits` | `CommitPays` | `EndTies` |
+//! | its versions last, and it is settled | `Lasting` | `WritesLast`, `CommitSettles` | `SettleTies` |
 //! | a change by mg_pool | `ChangesOverlays` | `ChangesBear` | `PoolTies` |
+//! | a change that pays and drops several times | `PaysInSteps` | `StepsBear`, `StepChangesBear` | `StepTies`, `PoolTies` |
 //!
-//! `Lists` has the orders of a batch and its pages as viewed; `Wants` what is known of pages that are wanted.
+//! `Lists` has the orders of a batch and its pages as viewed; `Wants` what is known of pages that are wanted;
+//! `TableTies` that a table's pages are, since its first pointer page is (`TablesAreWanted`); `OrderlyTies` that
+//! pointer pages stay as that law wants them. `BatchSteps` has the steps of a batch.
 //! There is no program here: each function does nothing, and its contract is a law.
 //!
 //! Invariant: none, it keeps no state.
-//! Below: `mg_demand_ties`, the laws over views; `mg_heap`, `mg_chain`, `mg_txlist`, `mg_pool`. Above: nothing yet.
-//! Not here: own versions that are moved to another cell, the catalog's batch, and index pages.
+//! Below: `mg_demand_ties`, the laws over views; `mg_heap`, `mg_chain`, `mg_txlist`, `mg_pool`. Above:
+//! `mg_table_demands`, of new tables and of rows that are taken out together.
+//! Not here: index pages (`mg_tree_demands`).
 #![tactic(auto)]
 
 mod ties;
 
-pub use ties::{changes_bear, commits_pay, own_versions_pay, writes_pay};
+pub use ties::{
+    changes_bear, commits_pay, commits_settle, own_versions_pay, paying_batches_drop_nothing,
+    step_changes_bear, steps_bear, tables_are_wanted, writes_pay,
+};

@@ -1,5 +1,5 @@
 -- A run of page writes and batches keeps what is borne.
-use Rattle.std.specs.Prelude.{◌≡◌, ◌≢◌, ◌==◌, ◌⊎◌, ℕ, Bool, true, false, not, ◌&&◌, is_some}
+use Rattle.std.specs.Prelude.{◌≡◌, ◌≢◌, ◌==◌, ℕ, Bool, true, false, not, ◌&&◌, is_some}
 use Rattle.std.proofs.lemmas.Bool.{and_from, and_parts, not_from_false, or_left, or_right, both_ways, not-true}
 use Rattle.std.proofs.Common.{inl, inr, refl}
 use Rattle.mg_careful.specs.declared.links.Demand.{Demand}
@@ -13,7 +13,7 @@ use Rattle.mg_space.specs.declared.links.TheConstants.{VERSION}
 use Rattle.mg_batch_demands.specs.VersionLaws.{may_is_version}
 use Rattle.mg_batch_demands.specs.Wanting.{may_go}
 use Rattle.mg_batch_demands.specs.WantingLaws.{in_one}
-use Rattle.mg_demand_ties.specs.Runs.{BatchBearsLinks, BearsLinks, Lasting, PaysThenDrops, RunsBear, StillBears, ThreeHasBoth, changes, stays, writes}
+use Rattle.mg_demand_ties.specs.Runs.{BatchBearsExactly, BatchBearsLinks, BearsLinks, Lasting, PaysThenDrops, RunsBear, StillBears, ThreeHasBoth, changes, stays, writes}
 
 -- what both sets have, the set of three parts has
 pub in_three : ThreeHasBoth
@@ -122,6 +122,10 @@ module _ (by_writes : WritesBearAll demands_of meets_of) (by_batches : BatchesBe
             (not_from_false _ (kept_else it.settled paid.dropped paid.drops.may d other)),
       ),
     )
+
+  pub batch_exactly : BatchBearsExactly
+  batch_exactly size old new it gone batch orders closed lays own of_disk of_pool bears paid =
+      batch_then size old new it gone batch orders closed lays own of_disk of_pool bears paid
 
   pub batch_bears : BatchBearsLinks
   batch_bears size old new it gone batch orders closed lays own of_disk of_pool bears paid =

@@ -1,19 +1,15 @@
 -- A cache over a sound image begins with its demands borne.
-use Rattle.std.specs.Prelude.{◌≡◌, ◌≢◌, ◌++◌, ℕ, true, List, [], ◌∷◌, length}
-use Rattle.std.proofs.Common.{inl, inr, sym, subst, ap, ◌∙◌, arith}
+use Rattle.std.specs.Prelude.{◌≡◌, ◌++◌, ℕ, List, [], ◌∷◌}
+use Rattle.std.proofs.Common.{sym, subst, arith}
 use Rattle.std.proofs.Math.Path.{fun_ext}
-use Rattle.mg_base.specs.Fields.{byte}
-use Rattle.mg_careful.specs.declared.links.Demand.{Demand}
-use Rattle.mg_careful.specs.CarefulWrite.{Has, listed}
+use Rattle.mg_careful.specs.CarefulWrite.{listed}
 use Rattle.mg_demands.specs.Freeing.{AllStarts}
 use Rattle.mg_image.specs.Form.{Form, Pages}
-use Rattle.mg_image.specs.Inventory.{is_used}
 use Rattle.mg_image.specs.Tables.{Layout, Stand, stands_of}
 use Rattle.mg_model.specs.declared.table.Index.{Index}
-use Rattle.mg_slots.specs.declared.page.TheConstants.{DATA_KIND}
 use Rattle.mg_sound_links.specs.Roots.{SoundIsWanted, index_roots, roots_of, table_roots}
 use Rattle.mg_space.specs.Demands.{demand, demands_of, linked, meets_of}
-use Rattle.mg_space.specs.declared.links.TheConstants.{HEADER, POINTER, TREE, VERSION}
+use Rattle.mg_space.specs.declared.links.TheConstants.{HEADER, POINTER, TREE}
 use Rattle.mg_batch_demands.specs.Met.{of_listed}
 use Rattle.mg_batch_demands.specs.VersionLaws.{NoVersion, none_both, none_demand, none_empty, none_linked}
 use Rattle.mg_batch_demands.specs.Wanting.{IsWanting, may_go}

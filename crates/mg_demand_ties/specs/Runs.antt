@@ -4,7 +4,7 @@ use Rattle.mg_careful.specs.declared.links.Demand.{Demand}
 use Rattle.mg_careful.specs.Precedence.{Orders}
 use Rattle.mg_careful.specs.CarefulWrite.{Cache, DemandSet, IsClosed, IsIn, IsLinked, PageSet, either, overlay, three_parts}
 use Rattle.mg_careful.specs.CarefulSteps.{Contents, LaysBatch, written_out}
-use Rattle.mg_demands.specs.Freeing.{BearsAll, Which}
+use Rattle.mg_demands.specs.Freeing.{BearsAll, Which, without}
 use Rattle.mg_image.specs.Form.{Pages}
 use Rattle.mg_space.specs.Demands.{demands_of, meets_of}
 use Rattle.mg_space.specs.declared.links.TheConstants.{VERSION}
@@ -95,6 +95,15 @@ BatchBearsLinks = (size : ℕ) (old new : Cache) (it : Lasting) (gone : PageSet)
     → BearsLinks size old it of_disk of_pool
     → PaysThenDrops size old.pool new.pool batch orders it (three_parts old gone of_disk of_pool) of_pool
     → StillBears size new it of_disk of_pool
+
+-- The same, with what disk and pool want then.
+abbrev pub BatchBearsExactly : Type 0
+BatchBearsExactly = (size : ℕ) (old new : Cache) (it : Lasting) (gone : PageSet) (batch : Contents)
+    (orders : Orders) → IsClosed old gone → LaysBatch old new gone batch orders
+    → ((a b : ℕ) → orders a b ≡ true → is_some (batch b) ≡ true) → (of_disk of_pool : DemandSet)
+    → BearsLinks size old it of_disk of_pool
+    → (paid : PaysThenDrops size old.pool new.pool batch orders it (three_parts old gone of_disk of_pool) of_pool)
+    → BearsLinks size new it (three_parts old gone of_disk of_pool) (without paid.dropped (either of_pool paid.more))
 
 -- after page writes the disk has what it had and the pool has
 abbrev pub ThreeHasBoth : Type 0

@@ -5,7 +5,7 @@ ghost use Rattle.mg_demand_ties.specs.CellDemands.{OverwritesPay, PutsPay, Turns
 ghost use Rattle.mg_demand_ties.specs.CommitDemands.{EndsPay};
 ghost use Rattle.mg_demand_ties.specs.DrawDemands.{DrawsPay};
 ghost use Rattle.mg_demand_ties.specs.GrowDemands.{ChainPays, GrowthPays};
-ghost use Rattle.mg_demand_ties.specs.Runs.{BatchBearsLinks, RunsBear, ThreeHasBoth};
+ghost use Rattle.mg_demand_ties.specs.Runs.{BatchBearsExactly, BatchBearsLinks, RunsBear, ThreeHasBoth};
 ghost use Rattle.mg_demand_ties.specs.Starts.{CrashesAreLinked, OpenedBears};
 
 use mg_demands::{all_is_borne, demands_are_borne};
@@ -42,6 +42,7 @@ pub fn versions_pay()
 pub fn runs_bear()
     ensures runs { RunsBear }
     ensures batch { BatchBearsLinks }
+    ensures exactly { BatchBearsExactly }
     ensures both { ThreeHasBoth }
 {
     all_is_borne::<FireLinks>();

@@ -1,0 +1,10 @@
+pub mod Parts
+pub mod PartLaws
+pub mod FillTies
+pub mod NoPointers
+pub mod Keeping
+pub mod OpenedTables
+pub mod KeepingTies
+pub mod NumberTies
+pub mod Unmaking
+pub mod UnmakingTies

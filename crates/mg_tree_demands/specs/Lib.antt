@@ -1,0 +1,6 @@
+pub mod NodeSteps
+pub mod NodeLaws
+pub mod NodeLinks
+pub mod TreeTies
+pub mod Rows
+pub mod RowTies
