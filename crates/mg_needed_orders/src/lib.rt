@@ -4,12 +4,13 @@
 //! Owns: the law that each order is needed that pays for a link (`OrdersAreNeeded`). A page comes to lead to a thing that
 //! the disk does not have yet (`LeadsAhead`). Where the page of that thing does not precede it, there is a closed set with
 //! the one and without the other, so a crash may leave just its pages; and what is wanted of the first page then leads to
-//! nothing.
+//! nothing. So it is with the order of a page before one from which a thing goes, to which it led (`LeadsBehind`,
+//! `LeavingOrdersAreNeeded`).
 //!
 //! There is no program here: the function does nothing, and its contract is a law.
 //!
 //! Invariant: none, it keeps no state.
-//! Below: `mg_careful`, the law of careful write. Above: nothing yet.
+//! Below: `mg_careful`, the law of careful write. Above: `mg_order_rows`, of the rows of the file format's table of orders.
 //! Not here: which page leads to what in the file format (`FireLinks` of mg_space), and the orders that need no payment.
 #![tactic(auto)]
 
