@@ -1,0 +1,12 @@
+mod LaidLemmas
+mod StandingLemmas
+mod PageLemmas
+mod PlaceLemmas
+mod ChainLemmas
+mod RowLemmas
+mod TableLemmas
+mod OrderLemmas
+mod KeyedLemmas
+mod KeyLemmas
+mod InventoryLemmas
+mod SoundLemmas

@@ -1,0 +1,9 @@
+pub mod Sees
+pub mod Standing
+pub mod Records
+pub mod Tables
+pub mod Order
+pub mod Keyed
+pub mod Keys
+pub mod Inventory
+pub mod Sound

@@ -1,0 +1,6 @@
+mod ViewLemmas
+mod ReadLemmas
+mod RoomLemmas
+mod PushLemmas
+mod BackLemmas
+mod DrawLemmas

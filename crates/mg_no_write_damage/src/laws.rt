@@ -1,0 +1,48 @@
+//! The laws.
+
+ghost use Rattle.mg_no_write_damage.specs.Draws.{NumbersAreDrawn};
+ghost use Rattle.mg_no_write_damage.specs.Writes.{BackOutsAreFilled, PushesAreFilled, ReplacementsAreFilled, RoomIsFound, SpotsAreGiven};
+
+use mg_base::Disk;
+use mg_image::one_reading;
+use mg_no_damage::{
+    lawful_records_are_read, pages_are_taken, sound_images_are_lawful, stands_are_read,
+};
+
+/// A page with room is found in a table, or is made.
+pub fn rooms_are_found<D: Disk>()
+    ensures room { RoomIsFound D.meaning }
+    ensures spots { SpotsAreGiven D.meaning }
+{
+    stands_are_read::<D>();
+    pages_are_taken();
+    one_reading();
+}
+
+/// A version is pushed over the newest one of a record.
+pub fn versions_are_pushed<D: Disk>()
+    ensures { PushesAreFilled D.meaning }
+{
+    stands_are_read::<D>();
+    pages_are_taken();
+    one_reading();
+}
+
+/// The newest version of a record is taken out, or replaced by another one of its transaction.
+pub fn newest_versions_change<D: Disk>()
+    ensures outs { BackOutsAreFilled D.meaning }
+    ensures replaced { ReplacementsAreFilled D.meaning }
+{
+    stands_are_read::<D>();
+    pages_are_taken();
+    one_reading();
+    lawful_records_are_read::<D>();
+    sound_images_are_lawful();
+}
+
+/// The next number of the header is drawn.
+pub fn numbers_are_drawn<D: Disk>()
+    ensures { NumbersAreDrawn D.meaning }
+{
+    pages_are_taken();
+}
