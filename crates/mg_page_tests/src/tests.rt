@@ -1,6 +1,8 @@
 //! What no clause says of the pages: their bytes, and that calls succeed with ample memory.
 
+mod appended;
 mod base;
+mod broken;
 mod format;
 mod header;
 mod node;
@@ -12,4 +14,5 @@ mod slots;
 mod sortkey;
 mod tip;
 mod value;
+mod values;
 mod version;

@@ -10,6 +10,7 @@ use mg_format::format_database;
 use mg_pool::Pool;
 use mg_space::Store;
 use std::alloc::Global;
+use std::process::Abort;
 use std::test::Fail;
 
 /// A store over a disk with pages of 4096 bytes.
@@ -29,7 +30,14 @@ fn store_over<D: Disk + Drop>(alloc: Global, disk: D) -> Result<Store<D>, Memory
     }
 }
 
-/// Some bytes of a page of a disk.
+/// The disk of a new database.
+fn new_database(alloc: Global) -> Result<MemDisk, Fail> {
+    let mut store = store_over(alloc, MemDisk::new(alloc, 4096, 8, 16)?)?;
+    format_database(&mut store)?;
+    Ok(store.into_disk())
+}
+
+/// The bytes of a page of a disk.
 fn bytes_of<D: Disk>(disk: &mut D, page: u32) -> Option<[u8; 4096]> {
     let Ok(pages) = disk.pages() else {
         return None;
@@ -44,25 +52,40 @@ fn bytes_of<D: Disk>(disk: &mut D, page: u32) -> Option<[u8; 4096]> {
     Some(bytes)
 }
 
+/// Tells whether a page of a disk has these bytes from a place on.
+fn has_bytes<D: Disk>(disk: &mut D, page: u32, at: usize, wanted: &[u8]) -> bool {
+    match bytes_of(disk, page) {
+        Some(bytes) => at <= 4096 && bytes[at..].starts_with(wanted),
+        None => false,
+    }
+}
+
+/// A page, a place of it, and the bytes that stand there in a new database: on the header from the
+/// magic number on, on the page inventory page, and on the data page of the catalog.
+const FIRST_BYTES: &[(u32, usize, &[u8])] = &[
+    (
+        0,
+        16,
+        &[
+            0x4d, 0x47, 0x44, 0x42, 1, 0, 0, 0, 0, 0x10, 0, 0, 1, 0, 0, 0, 1, 0, 0, 0, 1, 0, 0, 0,
+            1, 0, 0, 0, 2, 0, 0, 0, 0x20, 0x4e, 0, 0, 3, 0, 0, 0,
+        ],
+    ),
+    (1, 16, &[0x7f, 0]),
+    (4, 16, &[6, 0, 0x82, 0x0f, 0xf5, 0x0f, 11, 0]),
+];
+
+/// Wants a disk to have the bytes of each row.
+fn has_each<D: Disk>(rt: &impl Abort, disk: &mut D, rows: &[(u32, usize, &[u8])]) {
+    for (page, at, wanted) in rows {
+        assert!(rt; has_bytes(disk, *page, *at, wanted), "page {page}");
+    }
+}
+
 #[test]
 fn a_new_database_has_its_header_last(rt: HostRuntime) -> Result<(), Fail> {
-    let alloc = rt.alloc();
-    let mut store = store_over(alloc, MemDisk::new(alloc, 4096, 8, 16)?)?;
-    assert_eq!(rt; format_database(&mut store), Ok(()));
-    let mut disk = store.into_disk();
+    let mut disk = new_database(rt.alloc())?;
     assert_eq!(rt; disk.writes(), 7);
-    let header = bytes_of(&mut disk, 0).unwrap_or([7; 4096]);
-    let wanted = [
-        0x4d, 0x47, 0x44, 0x42, 1, 0, 0, 0, 0, 0x10, 0, 0, 1, 0, 0, 0, 1, 0, 0, 0, 1, 0, 0, 0, 1,
-        0, 0, 0, 2, 0, 0, 0, 0x20, 0x4e, 0, 0, 3, 0, 0, 0,
-    ];
-    assert_eq!(rt; header.get(16..56), Some(wanted.as_slice()));
-    let inventory = bytes_of(&mut disk, 1).unwrap_or([7; 4096]);
-    assert_eq!(rt; inventory.get(16..18), Some([0x7f, 0].as_slice()));
-    let rows = bytes_of(&mut disk, 4).unwrap_or([7; 4096]);
-    assert_eq!(rt;
-        rows.get(16..24),
-        Some([6, 0, 0x82, 0x0f, 0xf5, 0x0f, 11, 0].as_slice())
-    );
+    has_each(&rt, &mut disk, FIRST_BYTES);
     Ok(())
 }

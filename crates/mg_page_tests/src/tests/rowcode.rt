@@ -1,46 +1,23 @@
 //! Rows and the bytes that they are stored as.
 
+use super::appended::{THERE, is_appended};
+use super::values::{Said, Told, row_of, shape_of};
 use mg_rowcode::{RowFault, decode_row, encode_row};
-use mg_value::{
-    Column, Columns, Kind, MOST_COLUMNS, Name, Row, Shape, Txt, Value, print, row_fits,
-};
+use mg_value::{Kind, MOST_COLUMNS, Row, Shape, print, row_fits};
 use std::alloc::Global;
 use std::process::Abort;
 use std::test::Fail;
 
-/// A column of the table, whose name the tests don't read.
-fn column(name: Name, kind: Kind, not_null: bool, since: u16) -> Column {
-    Column {
-        name,
-        kind,
-        not_null,
-        since,
-    }
-}
-
 /// Two numbers, the first one not NULL.
-fn kv(alloc: Global) -> Result<Shape, Fail> {
-    let name = Name::new(b"K").ok_or("K is a name")?;
-    Ok(Shape {
-        columns: Columns::new(vec![in alloc;
-            column(name, Kind::Int, true, 1),
-            column(name, Kind::Int, false, 1),
-        ]?),
-        key: 0,
-    })
-}
+const KV: &[Told] = &[(b"K", Kind::Int, true, 1), (b"K", Kind::Int, false, 1)];
 
 /// A text of at most 3 bytes that isn't NULL, and from format 2 on a number.
-fn text_table(alloc: Global) -> Result<Shape, Fail> {
-    let name = Name::new(b"T").ok_or("T is a name")?;
-    Ok(Shape {
-        columns: Columns::new(vec![in alloc;
-            column(name, Kind::Text(3), true, 1),
-            column(name, Kind::Int, false, 2),
-        ]?),
-        key: 0,
-    })
-}
+const TEXTS: &[Told] = &[(b"T", Kind::Text(3), true, 1), (b"T", Kind::Int, false, 2)];
+
+/// A number, and nine of them.
+const NUMBER: Told = (b"C", Kind::Int, false, 1);
+
+const NINE: &[Told] = &[NUMBER; 9];
 
 /// Prints the values of a row, each with a blank behind it.
 fn printed(alloc: Global, row: &Row) -> Result<Vec<u8>, Fail> {
@@ -52,7 +29,52 @@ fn printed(alloc: Global, row: &Row) -> Result<Vec<u8>, Fail> {
     Ok(out)
 }
 
-/// Wants the row to be stored so, and to be read again.
+/// Appends what a row is stored as.
+fn store(rt: &impl Abort, s: &Shape, row: &Row, out: &mut Vec<u8>) -> Result<(), Fail> {
+    assert!(rt; row_fits(s, row));
+    encode_row(s, row, out)?;
+    Ok(())
+}
+
+/// The row that these bytes are read as.
+fn read(
+    rt: &impl Abort,
+    alloc: Global,
+    s: &Shape,
+    format: u16,
+    packed: &[u8],
+) -> Result<Row, RowFault> {
+    assert!(rt; s.columns.as_slice().len() <= MOST_COLUMNS && packed.len() < 2_147_483_648);
+    decode_row(alloc, s, format, packed)
+}
+
+/// Wants a row to be stored so, behind a byte that is there.
+fn is_stored(
+    rt: &impl Abort,
+    alloc: Global,
+    s: &Shape,
+    row: &Row,
+    packed: &[u8],
+) -> Result<(), Fail> {
+    let mut out = [THERE].to_vec(alloc)?;
+    store(rt, s, row, &mut out)?;
+    is_appended(rt, &out, packed);
+    Ok(())
+}
+
+/// What the row that is read of these bytes prints.
+fn text_of(
+    rt: &impl Abort,
+    alloc: Global,
+    s: &Shape,
+    format: u16,
+    packed: &[u8],
+) -> Result<Vec<u8>, Fail> {
+    let row = read(rt, alloc, s, format, packed)?;
+    printed(alloc, &row)
+}
+
+/// Wants a row of these columns to be stored so, and to be read again.
 fn is_stored_as(
     rt: &impl Abort,
     alloc: Global,
@@ -61,138 +83,98 @@ fn is_stored_as(
     row: &Row,
     packed: &[u8],
 ) -> Result<(), Fail> {
-    let mut out = [7].to_vec(alloc)?;
-    assert!(rt; row_fits(s, row));
-    assert_eq!(rt; encode_row(s, row, &mut out), Ok(()));
-    let (first, text) = out.as_slice().split_at(1.min(out.len()));
-    assert_eq!(rt; first, [7].as_slice());
-    assert_eq!(rt; text, packed);
+    is_stored(rt, alloc, s, row, packed)?;
+    let again = text_of(rt, alloc, s, format, packed)?;
+    assert_eq!(rt; again.as_slice(), printed(alloc, row)?.as_slice());
+    Ok(())
+}
 
-    assert!(rt; s.columns.as_slice().len() <= MOST_COLUMNS && packed.len() < 2_147_483_648);
-    let again = decode_row(alloc, s, format, packed)?;
-    assert_eq!(rt;
-        printed(alloc, &again)?.as_slice(),
-        printed(alloc, row)?.as_slice()
-    );
+/// A row, and the bytes that it is stored as.
+type Stored = (&'static [Said], &'static [u8]);
+
+/// Wants the rows of a table to be stored so in a format, and to be read again.
+fn are_stored_as(
+    rt: &impl Abort,
+    alloc: Global,
+    s: &Shape,
+    format: u16,
+    rows: &[Stored],
+) -> Result<(), Fail> {
+    for (said, packed) in rows {
+        let row = row_of(alloc, said)?;
+        is_stored_as(rt, alloc, s, format, &row, packed)?;
+    }
     Ok(())
 }
 
 #[test]
 fn the_vector_of_the_format_is_a_row_of_kv(rt: HostRuntime) -> Result<(), Fail> {
-    let alloc = rt.alloc();
-    let s = kv(alloc)?;
-    let row = Row::new(vec![in alloc; Value::Int(1), Value::Int(10)]?);
-    is_stored_as(&rt, alloc, &s, 1, &row, &[2, 0, 1, 0xf9, 0, 1, 10, 0xf9, 0])?;
-    // NULL is bit 1 of the first byte, and eight zeros; -1 is eight bytes 255.
-    let row = Row::new(vec![in alloc; Value::Int(-1), Value::Null]?);
-    is_stored_as(&rt, alloc, &s, 1, &row, &[1, 2, 0xf8, 0xff, 0xf8, 0])
+    let rows: [Stored; 2] = [
+        (
+            &[Said::Int(1), Said::Int(10)],
+            &[2, 0, 1, 0xf9, 0, 1, 10, 0xf9, 0],
+        ),
+        // NULL is bit 1 of the first byte, and eight zeros; -1 is eight bytes 255.
+        (&[Said::Int(-1), Said::Null], &[1, 2, 0xf8, 0xff, 0xf8, 0]),
+    ];
+    are_stored_as(&rt, rt.alloc(), &shape_of(rt.alloc(), KV)?, 1, &rows)
 }
 
 #[test]
 fn a_text_has_its_length_before_it_and_zeros_behind_it(rt: HostRuntime) -> Result<(), Fail> {
-    let alloc = rt.alloc();
-    let s = text_table(alloc)?;
-    let row = Row::new(vec![in alloc; Value::Text(Txt::new(alloc, b"ab", 3)?), Value::Int(0)]?);
     // 00 | 02 00 61 62 00 | eight zeros
-    is_stored_as(&rt, alloc, &s, 2, &row, &[5, 0, 2, 0, 0x61, 0x62, 0xf7, 0])
+    let rows: [Stored; 1] = [(
+        &[Said::Text(b"ab"), Said::Int(0)],
+        &[5, 0, 2, 0, 0x61, 0x62, 0xf7, 0],
+    )];
+    are_stored_as(&rt, rt.alloc(), &shape_of(rt.alloc(), TEXTS)?, 2, &rows)
+}
+
+#[test]
+fn nine_columns_have_two_bytes_of_bits(rt: HostRuntime) -> Result<(), Fail> {
+    // ff 01 | 72 zeros
+    let rows: [Stored; 1] = [(&[Said::Null; 9], &[2, 0xff, 1, 0xb8, 0])];
+    are_stored_as(&rt, rt.alloc(), &shape_of(rt.alloc(), NINE)?, 1, &rows)
 }
 
 #[test]
 fn a_column_that_came_after_the_format_is_null(rt: HostRuntime) -> Result<(), Fail> {
-    let alloc = rt.alloc();
-    let s = text_table(alloc)?;
-    assert!(rt; s.columns.as_slice().len() <= MOST_COLUMNS);
+    let s = shape_of(rt.alloc(), TEXTS)?;
     // 00 | 01 00 61 00 00
-    let row = decode_row(alloc, &s, 1, &[6, 0, 1, 0, 0x61, 0, 0])?;
-    assert_eq!(rt; printed(alloc, &row)?.as_slice(), b"'a' NULL ".as_slice());
+    let text = text_of(&rt, rt.alloc(), &s, 1, &[6, 0, 1, 0, 0x61, 0, 0])?;
+    assert_eq!(rt; text.as_slice(), b"'a' NULL ".as_slice());
     Ok(())
 }
 
-/// Wants the unpacked bytes to be refused so.
-fn is_refused(
-    rt: &impl Abort,
-    alloc: Global,
-    s: &Shape,
-    format: u16,
-    packed: &[u8],
-    fault: RowFault,
-) {
-    assert!(rt; s.columns.as_slice().len() <= MOST_COLUMNS && packed.len() < 2_147_483_648);
-    match decode_row(alloc, s, format, packed) {
-        Ok(_) => assert!(rt; false, "{packed:?} is no row"),
-        Err(found) => assert_eq!(rt; found, fault, "{packed:?}"),
+/// Bytes that are no row of the table of texts in format 1, and their fault.
+const REFUSED: &[(&[u8], RowFault)] = &[
+    // NULL where none is allowed, and an unused bit.
+    (&[6, 1, 0, 0, 1, 0, 0], RowFault::BadRow { at: 0 }),
+    (&[6, 2, 1, 0, 1, 0, 0], RowFault::BadRow { at: 0 }),
+    // A length of 4, one of 258 of which the first byte is lawful, and a byte behind the text.
+    (&[6, 0, 4, 0, 1, 2, 3], RowFault::BadRow { at: 1 }),
+    (&[6, 0, 2, 1, 1, 2, 3], RowFault::BadRow { at: 2 }),
+    (&[6, 0, 1, 0, 1, 0, 3], RowFault::BadRow { at: 5 }),
+    (&[0xfd, 0, 3, 9, 0, 3], RowFault::BadRow { at: 3 }),
+    // Too short, too long, and no packed text.
+    (&[4, 0, 1, 0, 1], RowFault::BadRow { at: 4 }),
+    (&[7, 0, 1, 0, 1, 0, 0, 9], RowFault::BadRow { at: 6 }),
+    (&[2, 1, 2, 1, 3], RowFault::BadRun { at: 3 }),
+    (&[], RowFault::BadRow { at: 0 }),
+];
+
+/// Wants each text to be refused so, as a row in format 1.
+fn are_refused(rt: &impl Abort, alloc: Global, s: &Shape, rows: &[(&[u8], RowFault)]) {
+    for (packed, fault) in rows {
+        let found = read(rt, alloc, s, 1, packed).err();
+        assert_eq!(rt; found, Some(*fault), "{packed:?}");
     }
 }
 
 #[test]
 fn other_bytes_are_refused_where_no_row_goes_on_as_they_do(rt: HostRuntime) -> Result<(), Fail> {
-    let alloc = rt.alloc();
-    let s = text_table(alloc)?;
-    let cases: [([u8; 7], u32); 5] = [
-        // NULL where none is allowed, and an unused bit.
-        ([6, 1, 0, 0, 1, 0, 0], 0),
-        ([6, 2, 1, 0, 1, 0, 0], 0),
-        // A length of 4, one of 258 of which the first byte is lawful, and a byte behind the text.
-        ([6, 0, 4, 0, 1, 2, 3], 1),
-        ([6, 0, 2, 1, 1, 2, 3], 2),
-        ([6, 0, 1, 0, 1, 0, 3], 5),
-    ];
-    for (packed, at) in cases {
-        is_refused(&rt, alloc, &s, 1, &packed, RowFault::BadRow { at });
-    }
-    is_refused(
-        &rt,
-        alloc,
-        &s,
-        1,
-        &[0xfd, 0, 3, 9, 0, 3],
-        RowFault::BadRow { at: 3 },
-    );
-    // Too short, too long, and no packed text.
-    is_refused(
-        &rt,
-        alloc,
-        &s,
-        1,
-        &[4, 0, 1, 0, 1],
-        RowFault::BadRow { at: 4 },
-    );
-    is_refused(
-        &rt,
-        alloc,
-        &s,
-        1,
-        &[7, 0, 1, 0, 1, 0, 0, 9],
-        RowFault::BadRow { at: 6 },
-    );
-    is_refused(
-        &rt,
-        alloc,
-        &s,
-        1,
-        &[2, 1, 2, 1, 3],
-        RowFault::BadRun { at: 3 },
-    );
-    is_refused(&rt, alloc, &s, 1, &[], RowFault::BadRow { at: 0 });
+    are_refused(&rt, rt.alloc(), &shape_of(rt.alloc(), TEXTS)?, REFUSED);
     Ok(())
-}
-
-#[test]
-fn nine_columns_have_two_bytes_of_bits(rt: HostRuntime) -> Result<(), Fail> {
-    let alloc = rt.alloc();
-    let name = Name::new(b"C").ok_or("C is a name")?;
-    let mut columns = Vec::new(alloc);
-    let mut values = Vec::new(alloc);
-    for _ in 0..9 {
-        columns.push(column(name, Kind::Int, false, 1))?;
-        values.push(Value::Null)?;
-    }
-    let s = Shape {
-        columns: Columns::new(columns),
-        key: 0,
-    };
-    // ff 01 | 72 zeros
-    is_stored_as(&rt, alloc, &s, 1, &Row::new(values), &[2, 0xff, 1, 0xb8, 0])
 }
 
 #[test]

@@ -2,3 +2,4 @@
 
 mod change;
 mod check;
+mod deeds;

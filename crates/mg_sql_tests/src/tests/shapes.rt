@@ -1,27 +1,39 @@
-//! Names, columns and tables as the tests give them.
-
-ghost use Rattle.std.specs.Prelude.{◌≡◌, []};
+//! Columns and tables as the tests give them.
 
 use mg_base::PageNo;
 use mg_model::{Indexes, Table};
 use mg_value::{Column, Columns, Kind, Name, Shape};
 use std::alloc::Global;
 use std::process::Abort;
+use std::test::Fail;
 
-pub fn name(rt: &impl Abort, bytes: &[u8]) -> Name {
+/// A column as the tests write it: its name, its kind, and whether it is never NULL.
+pub type Told = (&'static [u8], Kind, bool);
+
+fn name(rt: &impl Abort, bytes: &[u8]) -> Name {
     match Name::new(bytes) {
         Some(name) => name,
         None => panic!(rt; "no name"),
     }
 }
 
-pub fn column(rt: &impl Abort, bytes: &[u8], kind: Kind, not_null: bool) -> Column {
+fn column(rt: &impl Abort, told: &Told) -> Column {
+    let (bytes, kind, not_null) = told;
     Column {
         name: name(rt, bytes),
-        kind,
-        not_null,
+        kind: *kind,
+        not_null: *not_null,
         since: 1,
     }
+}
+
+/// The columns that are told.
+fn columns(rt: &impl Abort, alloc: Global, told: &[Told]) -> Result<Columns, Fail> {
+    let mut columns = Vec::new(alloc);
+    for one in told {
+        columns.push(column(rt, one))?;
+    }
+    Ok(Columns::new(columns))
 }
 
 /// A table of these columns without indexes, whose key is the first.
@@ -29,19 +41,15 @@ pub fn table_of(
     rt: &impl Abort,
     alloc: Global,
     bytes: &[u8],
-    pointer: u32,
-    columns: Vec<Column>,
-) -> Table
-    ensures columns { result.shape.columns ≡ columns.items }
-    ensures indexes { result.indexes ≡ [] }
-{
-    Table {
+    told: &[Told],
+) -> Result<Table, Fail> {
+    Ok(Table {
         name: name(rt, bytes),
         shape: Shape {
-            columns: Columns::new(columns),
+            columns: columns(rt, alloc, told)?,
             key: 0,
         },
-        pointer: PageNo(pointer),
+        pointer: PageNo(5),
         indexes: Indexes::new(Vec::new(alloc)),
-    }
+    })
 }

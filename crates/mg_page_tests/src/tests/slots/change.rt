@@ -1,14 +1,56 @@
 //! Data pages: cells that come, change and go.
 
-ghost use Rattle.std.specs.Prelude.{◌≡◌, ◌<◌, ◌≤◌, ◌^◌, length};
+ghost use Rattle.std.specs.Prelude.{◌<◌, ◌^◌, length};
 ghost use Rattle.mg_slots.specs.DataPage.{IsDataPage};
 
+use super::deeds::{Deed, does_each};
 use mg_base::PageNo;
-use mg_slots::{NoRoom, cell, free, new_data, put_cell, replace, room, slots};
+use mg_slots::{new_data, put_cell};
+use std::alloc::Global;
+use std::process::Abort;
 use std::test::Fail;
 
 /// An anchor to page 6, slot 1, transaction 1.
 const ANCHOR: [u8; 11] = [1, 6, 0, 0, 0, 1, 0, 1, 0, 0, 0];
+
+/// An empty page of 1024 bytes that had other bytes.
+fn new_page() -> [u8; 1024]
+    ensures { IsDataPage result }
+{
+    let mut page = [9u8; 1024];
+    new_data(&mut page, PageNo(4), 3, 0);
+    page
+}
+
+/// Wants an empty page of 1024 bytes to do what each deed says.
+fn new_one_does(rt: &impl Abort, alloc: Global, deeds: &[Deed]) -> Result<(), Fail> {
+    does_each(rt, alloc, &mut new_page(), deeds)
+}
+
+/// Wants an empty page to have room for all but its fields and one slot.
+fn has_room(rt: &impl Abort, alloc: Global, size: u16) -> Result<(), Fail> {
+    assert!(rt; size >= 1024 && size <= 16384);
+    let mut page = vec![in alloc; 0u8; size as usize]?;
+    new_data(&mut page, PageNo(4), 3, 0);
+    let most = size - 24;
+    let deeds = [
+        Deed::Slots(0),
+        Deed::Room(u32::from(most)),
+        Deed::Refused(most + 1, u32::from(most) + 1, u32::from(most)),
+        Deed::Put(most, 7, 0),
+        Deed::Cell(0, most, 7),
+        Deed::Refused(0, 11, 0),
+    ];
+    does_each(rt, alloc, &mut page, &deeds)
+}
+
+#[test]
+fn an_empty_page_has_room_for_all_but_its_fields_and_one_slot(rt: HostRuntime) -> Result<(), Fail> {
+    for size in [1024, 2048, 4096, 8192, 16384] {
+        has_room(&rt, rt.alloc(), size)?;
+    }
+    Ok(())
+}
 
 /// Puts records of an anchor and a version into a page until one has no room, and answers how many
 /// went in whole.
@@ -25,124 +67,96 @@ fn put_records(b: &mut [u8], version: &[u8]) -> u32
     2000
 }
 
-/// Replaces the cell of a slot, and tells whether the slot had one and the new one had room.
-fn replace_used(b: &mut [u8], slot: u16, bytes: &[u8]) -> bool
-    requires lawful { IsDataPage b.old }
-    requires length { length bytes.now < 2 ^ 31 }
-    ensures { IsDataPage b.new }
-{
-    match cell(b, slot) {
-        Some(_) => replace(b, slot, bytes).is_ok(),
-        None => false,
-    }
-}
-
 #[test]
-fn an_empty_page_has_room_for_all_but_its_fields_and_one_slot(rt: HostRuntime) -> Result<(), Fail> {
-    for size in [1024, 2048, 4096, 8192, 16384] {
-        let mut page = vec![in rt.alloc(); 0u8; size]?;
-        let most = vec![in rt.alloc(); 7u8; size - 24]?;
-        let over = vec![in rt.alloc(); 7u8; size - 23]?;
-        new_data(&mut page, PageNo(4), 3, 0);
-        assert_eq!(rt; slots(&page), 0, "at {size}");
-        assert_eq!(rt; room(&page) as usize, size - 24, "at {size}");
-        let refused = put_cell(&mut page, &over).err();
-        assert_eq!(rt;
-            refused.map(|e| e.need),
-            Some(size as u32 - 23),
-            "at {size}"
-        );
-        assert_eq!(rt;
-            refused.map(|e| e.room),
-            Some(size as u32 - 24),
-            "at {size}"
-        );
-        assert_eq!(rt; put_cell(&mut page, &most), Ok(0), "at {size}");
-        assert_eq!(rt; cell(&page, 0), Some(most.as_slice()), "at {size}");
-        assert_eq!(rt;
-            put_cell(&mut page, &[]),
-            Err(NoRoom { need: 11, room: 0 }),
-            "at {size}"
-        );
-    }
-    Ok(())
-}
-
-#[test]
-fn a_page_of_4096_holds_92_records_of_an_anchor_and_a_version_of_25_bytes(rt: HostRuntime) {
+fn a_page_of_4096_holds_92_records_of_an_anchor_and_a_version_of_25_bytes(
+    rt: HostRuntime,
+) -> Result<(), Fail> {
     let mut page = [0u8; 4096];
     new_data(&mut page, PageNo(4), 3, 0);
     assert_eq!(rt; put_records(&mut page, &[2; 25]), 92);
     // 4076 - 92 * 44 = 28 bytes are left: an anchor with its slot, and 13 bytes.
-    assert_eq!(rt; slots(&page), 185);
-    assert_eq!(rt; room(&page), 9);
+    does_each(
+        &rt,
+        rt.alloc(),
+        &mut page,
+        &[Deed::Slots(185), Deed::Room(9)],
+    )
 }
 
 #[test]
-fn cells_lie_from_the_end_downward_in_the_order_of_their_slots(
-    rt: HostRuntime,
-) -> Result<(), Fail> {
-    let mut page = [9u8; 1024];
-    new_data(&mut page, PageNo(4), 3, 0);
+fn an_empty_page_has_its_common_part_no_slots_and_its_end_as_the_lowest_cell(rt: HostRuntime) {
+    let page = new_page();
     let front = [5u8, 0, 0, 0, 4, 0, 0, 0, 3, 0, 0, 0, 0, 0, 0, 0, 0, 0, 0, 4];
     assert_eq!(rt; &page[..20], front.as_slice());
-    put_cell(&mut page, &[8; 12])?;
-    put_cell(&mut page, &ANCHOR)?;
+}
+
+/// A page with twelve bytes 8 and the anchor.
+fn page_of_two() -> [u8; 1024] {
+    let mut page = new_page();
+    let _ = put_cell(&mut page, &[8; 12]);
+    let _ = put_cell(&mut page, &ANCHOR);
+    page
+}
+
+#[test]
+fn cells_lie_from_the_end_downward_in_the_order_of_their_slots(rt: HostRuntime) {
+    let page = page_of_two();
     // Offsets 1012 and 1001.
     let fields = [2u8, 0, 0xe9, 3, 0xf4, 3, 12, 0, 0xe9, 3, 11, 0];
     assert_eq!(rt; &page[16..28], fields.as_slice());
     assert_eq!(rt; &page[1001..1012], ANCHOR.as_slice());
     assert_eq!(rt; &page[1012..], [8; 12].as_slice());
-    Ok(())
 }
+
+const THREE_CELLS: &[Deed] = &[
+    Deed::Put(300, 1, 0),
+    Deed::Put(300, 2, 1),
+    Deed::Put(300, 3, 2),
+    Deed::Room(1004 - 3 * 304 - 4),
+    Deed::Free(1),
+    Deed::Slots(3),
+    Deed::NoCell(1),
+    Deed::Room(1004 - 3 * 304 + 300),
+    Deed::Replace(2, 310, 4),
+    Deed::Put(20, 5, 1),
+    Deed::Cell(0, 300, 1),
+    Deed::Cell(1, 20, 5),
+    Deed::Cell(2, 310, 4),
+];
 
 #[test]
 fn slot_numbers_survive_a_change_of_other_slots(rt: HostRuntime) -> Result<(), Fail> {
-    let mut page = [0u8; 1024];
-    new_data(&mut page, PageNo(4), 3, 0);
-    for fill in [1u8, 2, 3] {
-        put_cell(&mut page, &[fill; 300])?;
-    }
-    assert_eq!(rt; room(&page), 1004 - 3 * 304 - 4);
-    free(&mut page, 1);
-    assert_eq!(rt; slots(&page), 3);
-    assert_eq!(rt; cell(&page, 1), None);
-    assert_eq!(rt; room(&page), 1004 - 3 * 304 + 300);
-    assert!(rt; replace_used(&mut page, 2, &[4; 310]));
-    assert_eq!(rt; put_cell(&mut page, &[5; 20]), Ok(1));
-    for (slot, len, fill) in [(0, 300, 1), (1, 20, 5), (2, 310, 4)] {
-        let bytes = cell(&page, slot).unwrap_or(&[]);
-        assert_eq!(rt; bytes.len(), len, "slot {slot}");
-        assert!(rt; bytes.iter().all(|b| *b == fill), "slot {slot}");
-    }
-    Ok(())
+    new_one_does(&rt, rt.alloc(), THREE_CELLS)
 }
+
+const FOUR_CELLS: &[Deed] = &[
+    Deed::Put(11, 1, 0),
+    Deed::Put(11, 1, 1),
+    Deed::Put(11, 1, 2),
+    Deed::Put(11, 1, 3),
+    Deed::Free(1),
+    Deed::Free(2),
+    Deed::Slots(4),
+    Deed::Free(3),
+    Deed::Slots(1),
+    Deed::Free(3),
+    Deed::Slots(1),
+];
 
 #[test]
 fn free_slots_at_the_end_are_dropped(rt: HostRuntime) -> Result<(), Fail> {
-    let mut page = [0u8; 1024];
-    new_data(&mut page, PageNo(4), 3, 0);
-    for _ in 0..4 {
-        put_cell(&mut page, &ANCHOR)?;
-    }
-    free(&mut page, 1);
-    free(&mut page, 2);
-    assert_eq!(rt; slots(&page), 4);
-    free(&mut page, 3);
-    assert_eq!(rt; slots(&page), 1);
-    free(&mut page, 3);
-    assert_eq!(rt; slots(&page), 1);
-    Ok(())
+    new_one_does(&rt, rt.alloc(), FOUR_CELLS)
 }
+
+const NO_BYTES: &[Deed] = &[
+    Deed::Put(0, 0, 0),
+    Deed::Cell(0, 0, 0),
+    Deed::Room(1004 - 15 - 4),
+    Deed::Replace(0, 11, 1),
+    Deed::Cell(0, 11, 1),
+];
 
 #[test]
 fn a_cell_without_bytes_takes_eleven(rt: HostRuntime) -> Result<(), Fail> {
-    let mut page = [0u8; 1024];
-    new_data(&mut page, PageNo(4), 3, 0);
-    put_cell(&mut page, &[])?;
-    assert_eq!(rt; cell(&page, 0).map(|bytes| bytes.len()), Some(0));
-    assert_eq!(rt; room(&page), 1004 - 15 - 4);
-    assert!(rt; replace_used(&mut page, 0, &ANCHOR));
-    assert_eq!(rt; cell(&page, 0), Some(ANCHOR.as_slice()));
-    Ok(())
+    new_one_does(&rt, rt.alloc(), NO_BYTES)
 }

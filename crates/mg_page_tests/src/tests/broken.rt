@@ -1,0 +1,58 @@
+//! Pages that are broken byte by byte, and the field that is told then.
+
+use mg_base::{Damaged, Field, PageNo};
+use mg_pip::check_pip;
+use mg_pointer::check_pointer;
+use mg_tip::check_tip;
+use std::process::Abort;
+
+/// A kind of page, whose test is given the number, the owner and the place that its pages have here.
+#[derive(Clone, Copy)]
+pub enum Kind {
+    Inventory,
+    Transactions,
+    Pointers,
+}
+
+/// A byte that is put at a place; then the field that is told, and the numbers found and wanted.
+pub type Broken = (usize, u8, Field, u64, u64);
+
+/// The number of the page of a kind.
+pub fn number_of(kind: Kind) -> PageNo {
+    match kind {
+        Kind::Inventory => PageNo(1),
+        Kind::Transactions => PageNo(2),
+        Kind::Pointers => PageNo(4),
+    }
+}
+
+/// Tests a page of a kind.
+pub fn check(kind: Kind, page: &[u8; 1024]) -> Result<(), Damaged> {
+    match kind {
+        Kind::Inventory => check_pip(page, PageNo(1), 0),
+        Kind::Transactions => check_tip(page, PageNo(2), 0),
+        Kind::Pointers => check_pointer(page, PageNo(4), 3, 1),
+    }
+}
+
+/// Puts a byte at its place of a page.
+pub fn put_byte(page: &mut [u8; 1024], at: usize, byte: u8) {
+    if let Some(cell) = page.get_mut(at) {
+        *cell = byte;
+    }
+}
+
+/// Wants a page to be damaged as each row says, with the bytes of the rows before it in it. So the
+/// rows go from the last field to the first, and each stands before those that differ already.
+pub fn tells_each(rt: &impl Abort, kind: Kind, page: &mut [u8; 1024], rows: &[Broken]) {
+    for (at, byte, field, found, wanted) in rows {
+        put_byte(page, *at, *byte);
+        let damage = Damaged {
+            page: number_of(kind),
+            field: *field,
+            found: *found,
+            wanted: *wanted,
+        };
+        assert_eq!(rt; check(kind, page), Err(damage), "byte {at}");
+    }
+}
