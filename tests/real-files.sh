@@ -84,6 +84,18 @@ limits() {
 
 # ---- statuses
 
+# short_of_memory: what a run of the longest script prints that may have a few megabytes alone; what the program itself takes
+# of them differs between systems, so several limits are tried.
+short_of_memory() {
+    local told
+    head -c 1048576 long > longest
+    for kilobytes in 3400 3800 4200 4600 5000; do
+        told=$(ulimit -v $kilobytes; "$mgdb" run s6 < longest 2> told; echo "status $?")
+        [[ $told == *'status 6' ]] && break
+    done
+    echo "$told"
+}
+
 statuses() {
     check 'status 0' $'@put: OK TX 1\n@put: OK TX 2\n@get: 20\nstatus 0' "$(run s0 '@put 1 10\n@put 1 20\n@get 1\n')"
     check 'status 1, a bad line' $'line 2: BAD LINE\n@get: 20\nstatus 1' "$(run s0 '-- a comment\n@git 1\n@get 1\n')"
@@ -97,6 +109,7 @@ statuses() {
     check 'status 7' $'mgdb: SCRIPT TOO LONG\nstatus 7' "$("$mgdb" run s7 < long; echo "status $?")"
     check 'status 7 asks no disk' 'no' "$([ -e s7 ] && echo yes || echo no)"
     check 'a script of the greatest length' 'status 0' "$(head -c 1048576 long | "$mgdb" run s7; echo "status $?")"
+    check 'status 6, no memory for the script' $'mgdb: OUT OF MEMORY\nstatus 6' "$(short_of_memory)"
 }
 
 # Statuses 3 and 4: what is no regular file is neither read nor written, and what is none of the program's stays.
