@@ -57,18 +57,18 @@ module _ {D L : Type 0} (m : Meaning D) (store : Pool D L) (pages : List BatchPa
   head_owner (faults.Damaged it) refused = inr (inr refused)
   head_owner (faults.Pool fault) refused = tt
 
-  pub newest_head : (limit : ℕ) (fault : SpaceFault) → RefusesHead m store pages view rec fault
-      → RefusesNewest m store pages limit view rec fault
-  newest_head limit (faults.Full most) refused = refused
-  newest_head limit (faults.Damaged it) refused = inl refused
-  newest_head limit (faults.Pool fault) refused = tt
+  pub newest_head : (fault : SpaceFault) → RefusesHead m store pages view rec fault
+      → RefusesNewest m store pages view rec fault
+  newest_head (faults.Full most) refused = refused
+  newest_head (faults.Damaged it) refused = inl refused
+  newest_head (faults.Pool fault) refused = tt
 
-  pub newest_version : (limit : ℕ) (newest : Link) (owner : ℕ) (fault : SpaceFault)
-      → HasHead view rec newest owner → RefusesVersion m store pages limit view rec.page.0 newest fault
-      → RefusesNewest m store pages limit view rec fault
-  newest_version limit newest owner (faults.Full most) head refused = refused
-  newest_version limit newest owner (faults.Damaged it) head refused = inr (newest, head.slot, refused)
-  newest_version limit newest owner (faults.Pool fault) head refused = tt
+  pub newest_version : (newest : Link) (owner : ℕ) (fault : SpaceFault)
+      → HasHead view rec newest owner → RefusesVersion m store pages view rec.page.0 newest fault
+      → RefusesNewest m store pages view rec fault
+  newest_version newest owner (faults.Full most) head refused = refused
+  newest_version newest owner (faults.Damaged it) head refused = inr (newest, head.slot, refused)
+  newest_version newest owner (faults.Pool fault) head refused = tt
 
   pub turn_data : (fault : SpaceFault) → RefusesData m store pages rec.page (view rec.page.0) fault
       → RefusesTurn m store pages view rec fault

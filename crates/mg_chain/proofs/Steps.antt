@@ -5,7 +5,7 @@ use Rattle.mg_base.specs.Disk.{Meaning}
 use Rattle.mg_base.specs.Image.{Image}
 use Rattle.mg_base.specs.declared.damage.Damaged.{Damaged}
 use Rattle.mg_base.specs.declared.damage.Field.TheVariants as fields
-use Rattle.mg_base.specs.declared.geometry.Geometry.{Geometry}
+use Rattle.mg_base.specs.declared.geometry.TheConstants.{GREATEST_LIMIT}
 use Rattle.mg_image.specs.Form.{Pages}
 use Rattle.mg_image.specs.Records.{cells_of}
 use Rattle.mg_pool.specs.Batch.{Changed}
@@ -36,32 +36,25 @@ pub met_on : {D L : Type 0} (m : Meaning D) (a b c : Pool D L) (image : Image) (
     → Tells m a.disk image
     → ((image : Image) → Tells m b.disk image → MatchResult result
     (Meets (cells_of (viewed b image batch)) l)
-    (RefusesVersion m c batch.pages b.geometry.limit (viewed b image batch) holder l))
+    (RefusesVersion m c batch.pages (viewed b image batch) holder l))
     → MatchResult result (Meets (cells_of (viewed a image batch)) l)
-    (RefusesVersion m c batch.pages a.geometry.limit (viewed a image batch) holder l)
+    (RefusesVersion m c batch.pages (viewed a image batch) holder l)
 met_on m a b c image batch holder l result kept tells gives =
     let P : Pages → Type 0 = λ view. MatchResult result (Meets (cells_of view) l)
-    (RefusesVersion m c batch.pages b.geometry.limit view holder l) in
-    let Q : Geometry → Type 0 = λ g. MatchResult result
-    (Meets (cells_of (viewed a image batch)) l)
-    (RefusesVersion m c batch.pages g.limit (viewed a image batch) holder l) in
-    subst Q kept.geometry
-    (subst P (viewed_on m a b image batch kept) (gives image (tells_on m a b image kept tells)))
+    (RefusesVersion m c batch.pages view holder l) in
+    subst P (viewed_on m a b image batch kept) (gives image (tells_on m a b image kept tells))
 
 -- ---- why a version is not read
 
-module _ {D L : Type 0} (m : Meaning D) (store : Pool D L) (pages : List BatchPage) (limit : ℕ)
-    (view : Pages) (holder : ℕ) (l : Link) where
-  pub past_refuses : (it : Damaged) (most : ℕ) → it ≡ damage holder fields.Link l.rec.page.0 most
-      → most ≡ limit → most ≤ l.rec.page.0
-      → RefusesVersion m store pages limit view holder l (faults.Damaged it)
-  past_refuses it most is same long =
-      let P : Damaged → Type 0 = λ d. IsLinkDamage limit view holder l d in
-      let within : limit ≤ l.rec.page.0 = omega arith in
-      inr (subst P (sym (is ∙ ap (damage holder fields.Link l.rec.page.0) same)) (past within))
+module _ {D L : Type 0} (m : Meaning D) (store : Pool D L) (pages : List BatchPage) (view : Pages)
+    (holder : ℕ) (l : Link) where
+  pub past_refuses : (it : Damaged) → it ≡ damage holder fields.Link l.rec.page.0 GREATEST_LIMIT
+      → GREATEST_LIMIT ≤ l.rec.page.0 → RefusesVersion m store pages view holder l (faults.Damaged it)
+  past_refuses it is long =
+      let P : Damaged → Type 0 = λ d. IsLinkDamage view holder l d in inr (subst P (sym is) (past long))
 
   pub cell_refuses : (fault : SpaceFault) → RefusesCellAt m store pages view l.rec fault
-      → RefusesVersion m store pages limit view holder l fault
+      → RefusesVersion m store pages view holder l fault
   cell_refuses (faults.Full most) refuses = refuses
   cell_refuses (faults.Damaged it) refuses = inl refuses
   cell_refuses (faults.Pool fault) refuses = tt
@@ -69,9 +62,9 @@ module _ {D L : Type 0} (m : Meaning D) (store : Pool D L) (pages : List BatchPa
   pub target_refuses : (found : Option Cell) (it : Damaged) → found ≡ cells_of view l.rec
       → IsOfOther l.tx.0 found
       → it ≡ damage l.rec.page.0 fields.Target (writer_in found) l.tx.0
-      → RefusesVersion m store pages limit view holder l (faults.Damaged it)
+      → RefusesVersion m store pages view holder l (faults.Damaged it)
   target_refuses found it is other damage_is =
-      let P : Damaged → Type 0 = λ d. IsLinkDamage limit view holder l d in
+      let P : Damaged → Type 0 = λ d. IsLinkDamage view holder l d in
       let Q : Option Cell → Type 0 = λ cell. IsOfOther l.tx.0 cell in
       inr (subst P (sym (damage_is ∙ ap (λ (cell : Option Cell).
       damage l.rec.page.0 fields.Target (writer_in cell) l.tx.0) is)) (target (subst Q is other)))

@@ -4,6 +4,7 @@ use Rattle.mg_base.specs.Disk.{Meaning}
 use Rattle.mg_base.specs.declared.damage.Damaged.{Damaged}
 use Rattle.mg_base.specs.declared.damage.Field.{Field}
 use Rattle.mg_base.specs.declared.damage.Field.TheVariants as fields
+use Rattle.mg_base.specs.declared.geometry.TheConstants.{GREATEST_LIMIT}
 use Rattle.mg_base.specs.declared.numbers.RecId.{RecId}
 use Rattle.mg_heap.specs.Reading.{RefusesData}
 use Rattle.mg_image.specs.Form.{Pages}
@@ -65,23 +66,23 @@ IsOfOther t None = Unit {0}
 IsOfOther t (Some (cells.Anchor link)) = Unit {0}
 IsOfOther t (Some (cells.Version v)) = v.tx.0 ≢ t
 
--- The damage of a link that is followed, which stands on a page: it names a page past the limit of
--- the file, or meets no version of its transaction.
-pub data IsLinkDamage (limit : ℕ) (view : Pages) (holder : ℕ) (l : Link) : Damaged → Type 0 where
-  past : limit ≤ l.rec.page.0
-      → IsLinkDamage limit view holder l (damage holder fields.Link l.rec.page.0 limit)
+-- The damage of a link that is followed, which stands on a page: it names a page that no database
+-- has, or meets no version of its transaction.
+pub data IsLinkDamage (view : Pages) (holder : ℕ) (l : Link) : Damaged → Type 0 where
+  past : GREATEST_LIMIT ≤ l.rec.page.0
+      → IsLinkDamage view holder l (damage holder fields.Link l.rec.page.0 GREATEST_LIMIT)
   target : IsOfOther l.tx.0 (cells_of view l.rec)
-      → IsLinkDamage limit view holder l
+      → IsLinkDamage view holder l
       (damage l.rec.page.0 fields.Target (writer_in (cells_of view l.rec)) l.tx.0)
 
 -- why a version is not read by its link, but for faults of the cache
-abbrev pub RefusesVersion : {D L : Type 0} → Meaning D → Pool D L → List BatchPage → ℕ → Pages → ℕ
+abbrev pub RefusesVersion : {D L : Type 0} → Meaning D → Pool D L → List BatchPage → Pages → ℕ
     → Link → SpaceFault → Type 0
-RefusesVersion m store pages limit view holder l (faults.Full most) = ⊥
-RefusesVersion m store pages limit view holder l (faults.Damaged it) =
+RefusesVersion m store pages view holder l (faults.Full most) = ⊥
+RefusesVersion m store pages view holder l (faults.Damaged it) =
     RefusesCellAt m store pages view l.rec (faults.Damaged it)
-    ⊎ IsLinkDamage limit view holder l it
-RefusesVersion m store pages limit view holder l (faults.Pool fault) = Unit {0}
+    ⊎ IsLinkDamage view holder l it
+RefusesVersion m store pages view holder l (faults.Pool fault) = Unit {0}
 
 -- following the links of a record's versions comes to a link after so many steps
 abbrev pub Follows : Pages → RecId → ℕ → ℕ → Link → Type 0
@@ -91,22 +92,22 @@ Follows view rec n holder l =
 -- The damage of a record's versions: its primary slot is not read, or a version that its links lead
 -- to; or the links come back to a place where they were, or lead further than 2^32 - 2 steps.
 pub data IsChainDamage {D L : Type 0} (m : Meaning D) (store : Pool D L) (pages : List BatchPage)
-    (limit : ℕ) (view : Pages) (rec : RecId) : Damaged → Type 0 where
+    (view : Pages) (rec : RecId) : Damaged → Type 0 where
   primary : (it : Damaged) → RefusesCellAt m store pages view rec (faults.Damaged it)
-      → IsChainDamage m store pages limit view rec it
+      → IsChainDamage m store pages view rec it
   version : (n holder : ℕ) (l : Link) (it : Damaged) → Follows view rec n holder l
-      → RefusesVersion m store pages limit view holder l (faults.Damaged it)
-      → IsChainDamage m store pages limit view rec it
+      → RefusesVersion m store pages view holder l (faults.Damaged it)
+      → IsChainDamage m store pages view rec it
   comes_back : (n before holder earlier : ℕ) (l first : Link) → Follows view rec n holder l
       → Follows view rec earlier before first → earlier < n → l.rec ≡ first.rec
-      → IsChainDamage m store pages limit view rec (damage holder fields.Link l.rec.page.0 0)
+      → IsChainDamage m store pages view rec (damage holder fields.Link l.rec.page.0 0)
   too_long : (n holder : ℕ) (l : Link) → Follows view rec n holder l → 2 ^ 32 - 1 ≤ n
-      → IsChainDamage m store pages limit view rec (damage holder fields.Link l.rec.page.0 0)
+      → IsChainDamage m store pages view rec (damage holder fields.Link l.rec.page.0 0)
 
 -- why a record's versions are not followed, but for faults of the cache
-abbrev pub RefusesChain : {D L : Type 0} → Meaning D → Pool D L → List BatchPage → ℕ → Pages → RecId
+abbrev pub RefusesChain : {D L : Type 0} → Meaning D → Pool D L → List BatchPage → Pages → RecId
     → SpaceFault → Type 0
-RefusesChain m store pages limit view rec (faults.Full most) = ⊥
-RefusesChain m store pages limit view rec (faults.Damaged it) =
-    IsChainDamage m store pages limit view rec it
-RefusesChain m store pages limit view rec (faults.Pool fault) = Unit {0}
+RefusesChain m store pages view rec (faults.Full most) = ⊥
+RefusesChain m store pages view rec (faults.Damaged it) =
+    IsChainDamage m store pages view rec it
+RefusesChain m store pages view rec (faults.Pool fault) = Unit {0}

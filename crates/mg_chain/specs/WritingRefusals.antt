@@ -50,14 +50,14 @@ RefusesHead m store pages view rec (faults.Damaged it) =
 RefusesHead m store pages view rec (faults.Pool fault) = Unit {0}
 
 -- why the newest version of a record is not read, with its head, but for faults of the cache
-abbrev pub RefusesNewest : {D L : Type 0} → Meaning D → Pool D L → List BatchPage → ℕ → Pages → RecId
+abbrev pub RefusesNewest : {D L : Type 0} → Meaning D → Pool D L → List BatchPage → Pages → RecId
     → SpaceFault → Type 0
-RefusesNewest m store pages limit view rec (faults.Full most) = ⊥
-RefusesNewest m store pages limit view rec (faults.Damaged it) =
+RefusesNewest m store pages view rec (faults.Full most) = ⊥
+RefusesNewest m store pages view rec (faults.Damaged it) =
     RefusesHead m store pages view rec (faults.Damaged it)
     ⊎ ((link : Link) × (cells_of view rec ≡ Some (cells.Anchor link))
-    × RefusesVersion m store pages limit view rec.page.0 link (faults.Damaged it))
-RefusesNewest m store pages limit view rec (faults.Pool fault) = Unit {0}
+    × RefusesVersion m store pages view rec.page.0 link (faults.Damaged it))
+RefusesNewest m store pages view rec (faults.Pool fault) = Unit {0}
 
 -- No anchor may stand in a slot: found is its number, and one slot more than that is wanted.
 pub record HasNoPlace (view : Pages) (at : RecId) (it : Damaged) : Type 0 where
@@ -191,7 +191,7 @@ pub data RefusesOverwrite {D L : Type 0} (m : Meaning D) (old new : Pool D L) (i
 pub data RefusesReplace {D L : Type 0} (m : Meaning D) (old new : Pool D L) (image : Image)
     (batch : Changed) (rec : RecId) (v : Version) (fault : SpaceFault) : Type 0 where
   replace_memory : IsMemory fault → RefusesReplace m old new image batch rec v fault
-  replace_newest : RefusesNewest m new batch.pages old.geometry.limit (viewed old image batch) rec fault
+  replace_newest : RefusesNewest m new batch.pages (viewed old image batch) rec fault
       → RefusesReplace m old new image batch rec v fault
   replace_other : (newest : Link) (owner : ℕ) (was : Version)
       → HasNewest (viewed old image batch) rec newest owner was → was.tx ≢ v.tx
@@ -217,7 +217,7 @@ pub data RefusesTakeCellOut {D L : Type 0} (m : Meaning D) (old new : Pool D L) 
 -- Why a version is not taken out. Pages are read before the first is changed: then the cache is `ready`.
 pub data RefusesBackOut {D L : Type 0} (m : Meaning D) (old new : Pool D L) (image : Image)
     (batch : Changed) (rec : RecId) (fault : SpaceFault) : Type 0 where
-  back_newest : RefusesNewest m new batch.pages old.geometry.limit (viewed old image batch) rec fault
+  back_newest : RefusesNewest m new batch.pages (viewed old image batch) rec fault
       → RefusesBackOut m old new image batch rec fault
   back_takes : (newest : Link) (owner : ℕ) (was : Version) (ready : Pool D L)
       → HasNewest (viewed old image batch) rec newest owner was → KeepsStore m old ready

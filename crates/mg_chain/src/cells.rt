@@ -14,7 +14,7 @@ ghost use Rattle.mg_chain.specs.Chains.{Meets, newest_link as link_of};
 ghost use Rattle.mg_chain.specs.Refusals.{HasShortBody, IsOfOther, RefusesBytes, RefusesCellAt, RefusesVersion, damage, writer_in as writer_of};
 
 use crate::damage::{cell_damage, link_damage, target_damage};
-use mg_base::{Damaged, Disk, PageNo, RecId};
+use mg_base::{Damaged, Disk, GREATEST_LIMIT, PageNo, RecId};
 use mg_pool::{Batch, PoolFault};
 use mg_space::{SpaceFault, Store};
 use mg_version::{Cell, CellFault, Link, Version, read_cell};
@@ -114,17 +114,16 @@ pub fn version_at<D: Disk>(
     ensures keeps { KeepsStore D.meaning store.old store.new }
     ensures fault { TellsFault D.meaning store.old store.new (pool_answer result) }
     ensures own { ReadsData result }
-    ensures below { IfOk result (λ version. link.rec.page.0 < store.old.geometry.limit) }
+    ensures below { IfOk result (λ version. link.rec.page.0 < GREATEST_LIMIT) }
     ensures short { IfOk result (λ version. length version.body ≤ GREATEST_SIZE) }
     ensures gives { (image : Image) → Tells D.meaning store.old.disk image → MatchResult result
         (Meets (cells_of (viewed store.old image batch.now)) link)
-        (RefusesVersion D.meaning store.new batch.now.pages store.old.geometry.limit
-        (viewed store.old image batch.now) holder.0 link) }
+        (RefusesVersion D.meaning store.new batch.now.pages (viewed store.old image batch.now) holder.0
+        link) }
 {
     store.online()?;
-    let limit = store.geometry().limit;
-    if link.rec.page.0 >= limit {
-        return Err(SpaceFault::Damaged(link_damage(holder, link, limit)));
+    if link.rec.page.0 >= GREATEST_LIMIT {
+        return Err(SpaceFault::Damaged(link_damage(holder, link)));
     }
     Ok(version_of(link, cell_at(store, batch, link.rec)?)?)
 }

@@ -3,7 +3,7 @@
 ghost use Rattle.std.specs.Prelude.{◌≡◌};
 ghost use Rattle.mg_chain.specs.Refusals.{damage};
 
-use mg_base::{Damaged, Field, PageNo};
+use mg_base::{Damaged, Field, GREATEST_LIMIT, PageNo};
 use mg_version::Link;
 
 /// Bytes that spell no cell: they begin one up to a place.
@@ -18,15 +18,15 @@ pub(crate) fn cell_damage(page: PageNo, at: u32, len: usize) -> Damaged
     }
 }
 
-/// A link to a page that it may not name, at or above what is wanted.
-pub(crate) fn link_damage(holder: PageNo, link: Link, wanted: u32) -> Damaged
-    ensures { result ≡ damage holder.0 Field.Link link.rec.page.0 wanted }
+/// A link to a page that no database has.
+pub(crate) fn link_damage(holder: PageNo, link: Link) -> Damaged
+    ensures { result ≡ damage holder.0 Field.Link link.rec.page.0 GREATEST_LIMIT }
 {
     Damaged {
         page: holder,
         field: Field::Link,
         found: u64::from(link.rec.page.0),
-        wanted: u64::from(wanted),
+        wanted: u64::from(GREATEST_LIMIT),
     }
 }
 

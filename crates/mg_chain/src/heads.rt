@@ -108,8 +108,7 @@ pub(crate) fn newest_of<D: Disk>(
     ensures gives { (image : Image) → Tells D.meaning store.old.disk image → MatchResult result
         (λ it. HasNewest (viewed store.old image batch.now) rec it.head.newest it.head.owner.0
         it.version)
-        (RefusesNewest D.meaning store.new batch.now.pages store.old.geometry.limit
-        (viewed store.old image batch.now) rec) }
+        (RefusesNewest D.meaning store.new batch.now.pages (viewed store.old image batch.now) rec) }
 {
     let head = head_of(store, batch, rec)?;
     let version = version_at(store, batch, rec.page, head.newest)?;

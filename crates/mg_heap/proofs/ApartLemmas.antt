@@ -1,6 +1,6 @@
 -- Lemmas of a cell that is put beside a slot which stays free.
 use Rattle.std.proofs.Common.{◌≡◌, ◌≢◌, ◌<◌, ◌≤◌, ◌+◌, ◌⊎◌, ◌∙◌, inl, inr, ℕ, Bool, true, false, List, Option, None, Some, length, refl, sym, ap, subst, arith, Result, Ok, Err}
-use Rattle.std.proofs.lemmas.Bool.{cases_eq, eq-eqb, false≢true, ltb-false, ltb-true}
+use Rattle.std.proofs.lemmas.Bool.{cases_eq, cases_lt, cases_order, eq-eqb, false≢true, lt-ltb, ltb-false, ltb-true}
 use Rattle.std.specs.Prelude.{IfOk, IsSome, MatchResult, OnErr, OnOk, is_some, nat_lt}
 use Rattle.mg_base.specs.Disk.{Meaning}
 use Rattle.mg_base.specs.Image.{Image}
@@ -13,15 +13,16 @@ use Rattle.mg_pool.specs.Batch.{Changed, PutsPage}
 use Rattle.mg_pool.specs.declared.pool.Pool.{Pool}
 use Rattle.mg_slots.specs.Changes.{FreesCell, PutsCell, SetsCell}
 use Rattle.mg_slots.specs.DataPage.{all_taken, cell_of, slot_count, taken_by}
-use Rattle.mg_slots.specs.DataPageLaws.{cell_past}
-use Rattle.mg_slots.specs.Room.{least_free, need_of, room_of}
+use Rattle.mg_slots.specs.DataPageLaws.{cell_past, cells_fit}
+use Rattle.mg_slots.specs.Room.{least_free, need_of, rest_of, room_of}
 use Rattle.mg_slots.specs.declared.change.NoRoom.{NoRoom}
-use Rattle.mg_slots.specs.RoomLaws.{first_without_at, first_without_le}
+use Rattle.mg_slots.specs.RoomLaws.{first_without_all, first_without_at, first_without_found, first_without_le, last_end_le, rest_is, used_before_least_free}
+use Rattle.mg_slots.specs.declared.page.TheConstants.{LEAST_TAKEN}
 use Rattle.mg_space.specs.View.{KeepsStore, viewed}
 use Rattle.mg_space.specs.ViewLaws.{viewed_else, viewed_here, viewed_on}
 use Rattle.mg_space.specs.declared.fault.SpaceFault.{SpaceFault}
 use Rattle.mg_space.specs.declared.fault.SpaceFault.TheVariants as faults
-use Rattle.mg_heap.specs.Apart.{AddsApart, HasNoRoomBeside, HasNoRoomWith, PutsApart, PutsBeside, RefusesAddApart, RefusesPutApart, kept_on, need_with_anchor}
+use Rattle.mg_heap.specs.Apart.{AddsApart, HasNoRoomBeside, HasNoRoomWith, HasPlace, HoldsSlot, PutsApart, PutsBeside, RefusesAddApart, RefusesPutApart, kept_on, need_with_anchor}
 use Rattle.mg_heap.specs.Changing.{ChangesOne}
 use Rattle.mg_heap.specs.Reading.{IsSomeData}
 use Rattle.mg_heap.specs.Room.{GivesRoom}
@@ -41,6 +42,7 @@ pub put_else : (old new : List ℕ) (kept : Option ℕ) (least slot : ℕ) (cell
     → PutsCell old new (least_free old) cell → PutsBeside old new kept cell slot
 put_else old new kept least slot cell is other at puts = record {
   apart = λ same. other (same ∙ ap (λ (k : ℕ). Some k) (at ∙ sym is));
+  stays = λ place keeps lowest. absurd (other (keeps ∙ ap (λ (k : ℕ). Some k) (lowest ∙ sym is)));
   was_free = ap (cell_of old) at ∙ least_is_free old;
   sets = subst (λ (k : ℕ). SetsCell old new k (Some cell)) (sym at) puts.sets;
 }
@@ -67,6 +69,82 @@ module _ (b0 b1 b2 b3 anchor cell : List ℕ) (least slot : ℕ) (is : least ≡
   slot_free : cell_of b0 slot ≡ None
   slot_free = sym (holds.sets.others slot held_apart) ∙ (ap (cell_of b1) at ∙ least_is_free b1)
 
+  -- the slots before the held one have cells, and the new cell is put behind it
+  used_before : (s : ℕ) → s < least → is_some (cell_of b0 s) ≡ true
+  used_before s before = used_before_least_free b0 s (omega (arith, before, is))
+
+  seat : slot ≡ least_free b1
+  seat = at
+
+  behind : least < slot
+  behind = at_order (cases_order least slot)
+    where
+      early : slot < least → is_some (cell_of b1 slot) ≡ true
+      early before = ap (λ (o : Option (List ℕ)). is_some o) (holds.sets.others slot held_apart)
+          ∙ used_before slot before
+
+      at_order : (least ≡ slot) ⊎ ((least < slot) ⊎ (slot < least)) → least < slot
+      at_order (inl same) = absurd (held_apart (sym same))
+      at_order (inr (inl later)) = later
+      at_order (inr (inr before)) =
+          let some : is_some (cell_of b1 slot) ≡ true = early before in
+          let none : is_some (cell_of b1 slot) ≡ false =
+          ap (λ (o : Option (List ℕ)). is_some o) (ap (cell_of b1) seat ∙ least_is_free b1) in absurd cc
+
+  -- so it is the least free one again, and has the room of what held it
+  still_there : FreesCell b2 b3 least → HasPlace b3 least
+  still_there frees = record {
+    least = sym lowest;
+    room = room;
+  }
+    where
+      used_at : (s : ℕ) → s < least → (s ≡ slot) ⊎ (s ≢ slot) → is_some (cell_of b3 s) ≡ true
+      used_at s before (inl same) = absurd (omega (arith, before, same, behind))
+      used_at s before (inr other) = ap (λ (o : Option (List ℕ)). is_some o)
+          (frees.sets.others s (λ e. omega (arith, before, e))
+          ∙ (sets_there.others s other ∙ holds.sets.others s (λ e. omega (arith, before, e))))
+          ∙ used_before s before
+
+      used : (s : ℕ) → s < least → is_some (cell_of b3 s) ≡ true
+      used s before = used_at s before (cases_eq s slot)
+
+      put_there : is_some (cell_of b3 slot) ≡ true
+      put_there = ap (λ (o : Option (List ℕ)). is_some o) (frees.sets.others slot held_apart ∙ sets_there.here)
+
+      inside : slot < slot_count b3
+      inside = by (cases_lt slot (slot_count b3))
+        where
+          by : (slot < slot_count b3) ⊎ (slot_count b3 ≤ slot) → slot < slot_count b3
+          by (inl lt) = lt
+          by (inr past) =
+              let none : is_some (cell_of b3 slot) ≡ false =
+              ap (λ (o : Option (List ℕ)). is_some o) (cell_past b3 slot past) in
+              let some : is_some (cell_of b3 slot) ≡ true = put_there in absurd cc
+
+      lowest : least_free b3 ≡ least
+      lowest = first_without_found (cell_of b3) least (slot_count b3) (omega (arith, inside, behind))
+          (first_without_all (cell_of b3) least used) frees.sets.here
+
+      rest : LEAST_TAKEN ≤ rest_of b3
+      rest =
+          let whole = rest_is b3 frees.sets.lawful in
+          let fits = cells_fit b2 puts.sets.lawful in
+          let fewer : slot_count b3 ≤ slot_count b2 =
+          subst (λ (k : ℕ). k ≤ slot_count b2) (sym frees.count)
+          (last_end_le (λ (k : ℕ). is_some (cell_of b3 k)) (slot_count b2)) in
+          let freed : all_taken b3 + taken_by (cell_of b2 least) ≡ all_taken b2 + taken_by None = frees.sets.taken in
+          let some : taken_by (cell_of b2 least) ≡ taken_by (Some anchor) = ap taken_by held in
+          let least_ : LEAST_TAKEN ≤ taken_by (Some anchor) = omega arith in
+          let none : taken_by None ≡ 0 = refl in
+          let len : length b3 ≡ length b2 = frees.sets.len in
+          omega (arith, whole, fits, fewer, freed, some, least_, none, len)
+
+      room : LEAST_TAKEN ≤ room_of b3
+      room =
+          let there : nat_lt (least_free b3) (slot_count b3) ≡ true =
+          lt-ltb (least_free b3) (slot_count b3) (omega (arith, lowest, inside, behind)) in
+          rw there rest
+
   -- the held slot is freed again
   pub put_held : (kept : Option ℕ) → kept ≡ Some least → FreesCell b2 b3 least
       → PutsBeside b0 b3 kept cell slot
@@ -74,6 +152,8 @@ module _ (b0 b1 b2 b3 anchor cell : List ℕ) (least slot : ℕ) (is : least ≡
     apart = λ same. let both : Some slot ≡ Some least = sym same ∙ keeps in
         let e : slot ≡ least = cc in held_apart e;
     was_free = slot_free;
+    stays = λ place keeps_it lowest. let both : Some least ≡ Some place = sym keeps ∙ keeps_it in
+        let e : least ≡ place = cc in subst (HasPlace b3) e (still_there frees);
     sets = record {
       here = frees.sets.others slot held_apart ∙ sets_there.here;
       others = λ other ne. others other ne (cases_eq other least);
@@ -126,13 +206,13 @@ put_else_ok old new kept least cell kept_is (Ok slot) is no_ says at puts =
 put_else_ok old new kept least cell kept_is (Err fault) is no_ says at puts = tt
 
 -- the cell has no room beside the slot that is held
-pub no_room_with : (b0 b1 anchor cell : List ℕ) (kept : Option ℕ) (least : ℕ) (result : Result ℕ NoRoom)
-    → kept ≡ Some least → PutsCell b0 b1 least anchor
+pub no_room_with : (b0 b1 cell : List ℕ) (kept : Option ℕ) (least : ℕ) (result : Result ℕ NoRoom)
+    → kept ≡ Some least → HoldsSlot b0 b1 least
     → (need_of cell ≤ room_of b1 → false ≡ true) → OnErr result (HasNoRoomBeside b0 kept cell)
-no_room_with b0 b1 anchor cell kept least (Ok slot) keeps holds refused = tt
-no_room_with b0 b1 anchor cell kept least (Err fault) keeps holds refused = inr
+no_room_with b0 b1 cell kept least (Ok slot) keeps holds refused = tt
+no_room_with b0 b1 cell kept least (Err fault) keeps holds refused = inr
     (subst (λ (k : Option ℕ). HasNoRoomWith b0 k cell) (sym keeps)
-    (inr (b1, anchor, holds, above (need_of cell) (room_of b1) refused)))
+    (inr (record { held = b1; holds = holds; small = above (need_of cell) (room_of b1) refused })))
   where
     above : (need room : ℕ) → (need ≤ room → false ≡ true) → room < need
     above need room refused = at (nat_lt room need) refl
@@ -154,6 +234,9 @@ puts_apart store image old new page place slot kept cell read slice after put so
       data_page = subst (IsSomeData page) seen some;
       apart = λ on same. beside.apart (keeps ∙ (kept_is on ∙ ap (λ (k : ℕ). Some k) (sym same)));
       was_free = sym (ap (λ (b : List ℕ). cell_of b slot) (same_page)) ∙ beside.was_free;
+      stays = λ on lowest. subst (λ (b : List ℕ). HasPlace b place.slot)
+          (sym written ∙ sym (viewed_here store image old new page.0 put puts))
+          (beside.stays place.slot (keeps ∙ kept_is on) (lowest ∙ sym (ap least_free same_page)));
       sets = subst (λ (b : List ℕ). SetsCell (viewed store image old page.0) b slot (Some cell))
           (sym written ∙ sym (viewed_here store image old new page.0 put puts))
           (subst (λ (b : List ℕ). SetsCell b after slot (Some cell)) same_page beside.sets);

@@ -9,12 +9,12 @@ use Rattle.mg_base.specs.declared.geometry.Geometry.{Geometry}
 use Rattle.mg_base.specs.declared.numbers.PageNo.{PageNo}
 use Rattle.mg_careful.specs.declared.graph.Order.{Order}
 use Rattle.mg_image.specs.Form.{Pages}
-use Rattle.mg_pointer.specs.PointerPage.{AddsEntry, SetsNext, new_pointer_page}
+use Rattle.mg_pointer.specs.PointerPage.{SetsNext}
 use Rattle.mg_pointer.specs.PointerPage.{count_in}
 use Rattle.mg_pointer.specs.PointerPageLaws.{length-entries_of}
 use Rattle.mg_pool.specs.Batch.{Changed, PutsPage}
 use Rattle.mg_pool.specs.declared.pool.Pool.{Pool}
-use Rattle.mg_space.specs.Taking.{RefusesTake, TakesPage}
+use Rattle.mg_space.specs.Taking.{RefusesTake}
 use Rattle.mg_space.specs.View.{AreWhole, KeepsStore, viewed}
 use Rattle.mg_space.specs.ViewLaws.{viewed_on, whole_on}
 use Rattle.mg_heap.specs.GrowthLaws.{whole_begun, whole_made}

@@ -12,7 +12,7 @@ use Rattle.mg_pool.specs.declared.pool.Pool.{Pool}
 use Rattle.mg_space.specs.declared.fault.SpaceFault.{SpaceFault}
 use Rattle.mg_space.specs.declared.fault.SpaceFault.TheVariants as faults
 use Rattle.mg_heap.specs.Reach.{IsReached, RefusesReach}
-use Rattle.mg_heap.specs.Table.{FollowsPage, IsTable, LeadsTo, RefusesPointer, link_damage}
+use Rattle.mg_heap.specs.Table.{FollowsPage, LeadsTo, RefusesPointer, link_damage}
 use Rattle.mg_heap.specs.TableLaws.{entries_push, table_ends}
 use Rattle.mg_heap.proofs.TableLemmas.{broken}
 

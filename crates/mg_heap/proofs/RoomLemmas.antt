@@ -12,7 +12,7 @@ use Rattle.mg_slots.specs.Room.{room_of}
 use Rattle.mg_space.specs.View.{KeepsStore, viewed}
 use Rattle.mg_space.specs.ViewLaws.{viewed_on}
 use Rattle.mg_space.specs.declared.fault.SpaceFault.{SpaceFault}
-use Rattle.mg_heap.specs.Growth.{GrowsTable, HasEntryRoom, RefusesGrowth}
+use Rattle.mg_heap.specs.Growth.{GrowsTable, RefusesGrowth}
 use Rattle.mg_heap.specs.Table.{RefusesPointerPage}
 use Rattle.mg_heap.specs.Walk.{RefusesWalkOf}
 use Rattle.mg_heap.proofs.GrowthLemmas.{refuses_on, two_on}

@@ -1,6 +1,6 @@
 -- A cell is added to a table apart from a place that is to be filled after it: where both come to stand
 -- on one page, the place stays free, and has room for an anchor.
-use Rattle.std.specs.Prelude.{◌≡◌, ◌≢◌, ◌<◌, ◌⊎◌, ◌+◌, ◌==◌, ℕ, List, Option, None, Some, if◌then◌else◌}
+use Rattle.std.specs.Prelude.{◌≡◌, ◌≢◌, ◌<◌, ◌≤◌, ◌⊎◌, ◌+◌, ◌==◌, ℕ, List, length, Option, None, Some, if◌then◌else◌}
 use Rattle.mg_base.specs.Disk.{Meaning}
 use Rattle.mg_base.specs.Image.{Image}
 use Rattle.mg_base.specs.declared.numbers.PageNo.{PageNo}
@@ -10,11 +10,10 @@ use Rattle.mg_pool.specs.Batch.{Changed}
 use Rattle.mg_pool.specs.declared.pool.Pool.{Pool}
 use Rattle.mg_slots.specs.Changes.{PutsCell, SetsCell}
 use Rattle.mg_slots.specs.DataPage.{cell_of}
-use Rattle.mg_slots.specs.Room.{need_of, room_for, room_of}
+use Rattle.mg_slots.specs.Room.{least_free, need_of, room_for, room_of}
 use Rattle.mg_slots.specs.declared.page.TheConstants.{LEAST_TAKEN}
 use Rattle.mg_space.specs.View.{viewed}
 use Rattle.mg_space.specs.declared.fault.SpaceFault.{SpaceFault}
-use Rattle.mg_space.specs.declared.fault.SpaceFault.TheVariants as faults
 use Rattle.mg_heap.specs.Changing.{ChangesOne}
 use Rattle.mg_heap.specs.Reading.{IsSomeData, RefusesData}
 use Rattle.mg_heap.specs.Room.{GivesRoom, RefusesRoom}
@@ -27,19 +26,28 @@ need_with_anchor cell = need_of cell + 15
 abbrev pub kept_on : PageNo → RecId → Option ℕ
 kept_on page place = if page.0 == place.page.0 then Some place.slot else None
 
--- A cell is put into a free slot of a data page, another one than this.
+-- A slot of a page is the least free one, and has room for an anchor.
+pub record HasPlace (b : List ℕ) (slot : ℕ) : Type 0 where
+  pub least : slot ≡ least_free b
+  pub room : LEAST_TAKEN ≤ room_of b
+
+-- A cell is put into a free slot of a data page, another one than this; where this was the least free one, it is
+-- so still, and keeps room for an anchor.
 pub record PutsBeside (old new : List ℕ) (kept : Option ℕ) (cell : List ℕ) (slot : ℕ) : Type 0 where
   pub apart : kept ≢ Some slot
   pub was_free : cell_of old slot ≡ None
   pub sets : SetsCell old new slot (Some cell)
+  pub stays : (place : ℕ) → kept ≡ Some place → place ≡ least_free old → HasPlace new place
 
--- A cell is put into a free slot of a page, another one than this place. No other cell of the page has
--- changed, and no other page.
+-- A cell is put into a free slot of a page, another one than this place; where this was the least free slot of the
+-- page, it is so still, and keeps room for an anchor. No other cell of the page has changed, and no other page.
 pub record PutsApart (old new : Pages) (place at : RecId) (cell : List ℕ) : Type 0 where
   pub data_page : IsSomeData at.page (old at.page.0)
   pub apart : at.page.0 ≡ place.page.0 → at.slot ≢ place.slot
   pub was_free : cell_of (old at.page.0) at.slot ≡ None
   pub sets : SetsCell (old at.page.0) (new at.page.0) at.slot (Some cell)
+  pub stays : at.page.0 ≡ place.page.0 → place.slot ≡ least_free (old at.page.0)
+      → HasPlace (new at.page.0) place.slot
   pub others : (n : ℕ) → n ≢ at.page.0 → new n ≡ old n
 
 -- A cell is added: a page with room was given, between whose giving and the end the batch is `given`,
@@ -51,12 +59,23 @@ pub record AddsApart {D L : Type 0} (store : Pool D L) (image : Image) (old new 
   pub one : ChangesOne store.geometry.size given new at.page.0
   pub puts : PutsApart (viewed store image given) (viewed store image new) place at cell
 
+-- The least free slot of a page is held: bytes as long as an anchor are put there.
+pub record HoldsSlot (b held : List ℕ) (slot : ℕ) : Type 0 where
+  pub least : slot ≡ least_free b
+  pub anchor : List ℕ
+  pub len : length anchor ≡ LEAST_TAKEN
+  pub puts : PutsCell b held slot anchor
+
+-- the slot of a page is held, and beside it the cell has no room
+pub record HasNoRoomHeld (b : List ℕ) (slot : ℕ) (cell : List ℕ) : Type 0 where
+  pub held : List ℕ
+  pub holds : HoldsSlot b held slot
+  pub small : room_of held < need_of cell
+
 -- An anchor holds a slot that is kept: it has no room there, or the cell has none beside it.
 abbrev pub HasNoRoomWith : List ℕ → Option ℕ → List ℕ → Type 0
 HasNoRoomWith b None cell = ⊥
-HasNoRoomWith b (Some kept) cell = (room_for b kept < LEAST_TAKEN)
-    ⊎ ((held : List ℕ) × (anchor : List ℕ) × PutsCell b held kept anchor
-    × (room_of held < need_of cell))
+HasNoRoomWith b (Some kept) cell = (room_for b kept < LEAST_TAKEN) ⊎ HasNoRoomHeld b kept cell
 
 -- a cell has no room on a page, or none beside the slot that is kept
 abbrev pub HasNoRoomBeside : List ℕ → Option ℕ → List ℕ → Type 0

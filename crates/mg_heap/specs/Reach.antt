@@ -1,13 +1,13 @@
 -- The table that a data page belongs to, and the pointer pages by which it is reached.
-use Rattle.std.specs.Prelude.{◌≡◌, ◌≢◌, ◌<◌, ◌≤◌, ◌⊎◌, ◌++◌, ◌∷◌, ℕ, List, [], length}
+use Rattle.std.specs.Prelude.{◌≡◌, ◌≢◌, ◌<◌, ◌⊎◌, ◌++◌, ◌∷◌, ℕ, List, [], length}
 use Rattle.mg_base.specs.Disk.{Meaning}
 use Rattle.mg_base.specs.declared.damage.Damaged.{Damaged}
 use Rattle.mg_base.specs.declared.damage.Field.TheVariants.{Owner}
 use Rattle.mg_base.specs.declared.geometry.TheConstants.{GREATEST_LIMIT}
 use Rattle.mg_base.specs.declared.numbers.PageNo.{PageNo}
 use Rattle.mg_image.specs.Form.{Pages}
-use Rattle.mg_image.specs.Tables.{Has, entries_in}
-use Rattle.mg_pointer.specs.PointerPage.{entries_of, next_in}
+use Rattle.mg_image.specs.Tables.{Has}
+use Rattle.mg_pointer.specs.PointerPage.{entries_of}
 use Rattle.mg_pool.specs.declared.batch.BatchPage.{BatchPage}
 use Rattle.mg_pool.specs.declared.pool.Pool.{Pool}
 use Rattle.mg_space.specs.declared.fault.SpaceFault.{SpaceFault}

@@ -1,5 +1,5 @@
 -- What is told of a table's growth by one who has read before: it is the same to one who has not.
-use Rattle.std.specs.Prelude.{◌≡◌, ◌<◌, ◌⊎◌, ◌++◌, ◌+◌, ◌-◌, ℕ, List, length, slice_index}
+use Rattle.std.specs.Prelude.{◌≡◌, ◌++◌, ◌+◌, ◌-◌, ℕ, List, length, slice_index}
 use Rattle.std.proofs.Common.{inl, inr, subst, sym, ap}
 use Rattle.mg_base.specs.Disk.{Meaning}
 use Rattle.mg_base.specs.Image.{Image}

@@ -5,10 +5,10 @@ ghost use Rattle.mg_base.specs.Image.{Image};
 ghost use Rattle.mg_pool.specs.Fault.{TellsFault};
 ghost use Rattle.mg_pool.specs.Pool.{IsPool};
 ghost use Rattle.mg_slots.specs.DataPage.{IsDataPage};
-ghost use Rattle.mg_slots.specs.Room.{need_of};
+ghost use Rattle.mg_slots.specs.Room.{least_free as least_in, need_of, room_for};
 ghost use Rattle.mg_space.specs.Taking.{IsGeometry};
 ghost use Rattle.mg_space.specs.View.{AreWhole, KeepsStore, ReadsAlone, Tells, pool_answer, viewed};
-ghost use Rattle.mg_heap.specs.Apart.{AddsApart, HasNoRoomBeside, PutsApart, PutsBeside, RefusesAddApart, RefusesPutApart, kept_on as kept_slot, need_with_anchor};
+ghost use Rattle.mg_heap.specs.Apart.{AddsApart, HasNoRoomBeside, HoldsSlot, PutsApart, PutsBeside, RefusesAddApart, RefusesPutApart, kept_on as kept_slot, need_with_anchor};
 ghost use Rattle.mg_heap.specs.Changing.{ChangesOne};
 ghost use Rattle.mg_heap.specs.Reading.{ReadsData};
 
@@ -144,10 +144,25 @@ fn put_kept(b: &mut [u8], kept: Option<u16>, cell: &[u8]) -> Result<u16, NoRoom>
     if !is_kept(kept, least) {
         return put_cell(b, cell);
     }
-    replace(b, least, &[0; LEAST_TAKEN])?;
+    hold(b, least)?;
     let slot = put_cell(b, cell)?;
     free(b, least);
     Ok(slot)
+}
+
+/// Puts bytes as long as an anchor into the least free slot of a page.
+fn hold(b: &mut [u8], least: u16) -> Result<(), NoRoom>
+    requires lawful { IsDataPage b.old }
+    requires least { least ≡ least_in b.old }
+    ensures held { OnOk result (HoldsSlot b.old b.new least) }
+    ensures no_room { OnErr result (room_for b.old least < LEAST_TAKEN) }
+    ensures lawful { IsDataPage b.new }
+    ensures len { length b.new ≡ length b.old }
+{
+    match replace(b, least, &[0; LEAST_TAKEN]) {
+        Ok(()) => Ok(()),
+        Err(fault) => Err(fault),
+    }
 }
 
 /// Tells whether a slot is the one that is kept.

@@ -105,14 +105,14 @@ module _ {D : Type 0} (m : Meaning D) (walks : WalksMeetNoDamage m) (store : Poo
         (placed (r rec) its.each) (behind n l it)
 
     link_sound : (n holder : ℕ) (l : Link) → IsLed (cells_of view) (r rec) n l → (it : Damaged)
-        → IsLinkDamage store.geometry.limit view holder l it → ⊥
+        → IsLinkDamage view holder l it → ⊥
     link_sound n holder l is _ (past beyond) =
-        let below = sees.lawful.below l.rec.page.0 table (place_of n l is) in omega (arith, below, beyond)
+        let below = (data_page l.rec.page.0 table (place_of n l is)).1.wanted.below in omega (arith, below, beyond)
     link_sound n holder l is _ (target other) = subst (IsOfOther l.tx.0) (meets n l is).cell other
         (ap (λ (t : TxNo). t.0) (meets n l is).by)
 
     pub version_there : (n holder : ℕ) (l : Link) → Follows view rec n holder l → (it : Damaged)
-        → RefusesVersion m store batch.pages store.geometry.limit view holder l (faults.Damaged it) → ⊥
+        → RefusesVersion m store batch.pages view holder l (faults.Damaged it) → ⊥
     version_there n holder l leads it (inl refused) =
         cell_there l.rec table (place_of n l (follows n holder l leads)) it refused
     version_there n holder l leads it (inr damaged) =
@@ -122,8 +122,7 @@ module _ {D : Type 0} (m : Meaning D) (walks : WalksMeetNoDamage m) (store : Poo
     few = few_versions (r rec) its.once (all_small table (newest_link view rec) (r rec) chain
         (placed (r rec) its.each))
 
-    pub chain_whole : (it : Damaged)
-        → IsChainDamage m store batch.pages store.geometry.limit view rec it → ⊥
+    pub chain_whole : (it : Damaged) → IsChainDamage m store batch.pages view rec it → ⊥
     chain_whole _ (primary it refused) = cell_there rec table of it refused
     chain_whole _ (version n holder l it leads refused) = version_there n holder l leads it refused
     chain_whole _ (comes_back n before holder earlier l first leads sooner less same) =

@@ -27,7 +27,7 @@ WaysAreRead {D} m = (store : Pool D FireLinks) (image : Image) (f : Facts) (r : 
     (table : Table) → SeesTable m store image no_batch f r stand table → (state : ℕ → TxState)
     (live : State) (key : Value)
     (rec : Option RecId) → IsSpeaker state live (shown store.dirty image) table key rec → (it : Damaged)
-    → RefusesWay m store store.geometry.limit (shown store.dirty image) rec (faults.Damaged it) → ⊥
+    → RefusesWay m store (shown store.dirty image) rec (faults.Damaged it) → ⊥
 
 -- and so is the row of that record, whosever version it is
 abbrev pub SpeakersAreRead : {D : Type 0} → Meaning D → Type 0
@@ -36,7 +36,7 @@ SpeakersAreRead {D} m = (store : Pool D FireLinks) (image : Image) (f : Facts) (
     (live : State) (key : Value)
     (rec : Option RecId) → IsSpeaker state live (shown store.dirty image) table key rec
     → (takes : ℕ → Bool) (it : Damaged)
-    → RefusesSeen m store store.geometry.limit (shown store.dirty image) takes table rec (faults.Damaged it)
+    → RefusesSeen m store (shown store.dirty image) takes table rec (faults.Damaged it)
     → ⊥
 
 -- who is in the way of a write at a key is found
@@ -45,7 +45,7 @@ ObstaclesAreRead {D} m = (store : Pool D FireLinks) (image : Image) (f : Facts) 
     (table : Table) → SeesTable m store image no_batch f r stand table → (state : ℕ → TxState)
     (live : State) (key : Value)
     (it : Damaged)
-    → RefusesObstacleAt m store store.geometry.limit (shown store.dirty image) state live table key
+    → RefusesObstacleAt m store (shown store.dirty image) state live table key
     (faults.Damaged it) → ⊥
 
 -- the row that a transaction sees at a key is read, with the record that speaks for it
@@ -54,5 +54,5 @@ KeysAreRead {D} m = (store : Pool D FireLinks) (image : Image) (f : Facts) (r : 
     (table : Table) → SeesTable m store image no_batch f r stand table → (state : ℕ → TxState)
     (live : State) (t : TxNo)
     (key : Value) (it : Damaged)
-    → RefusesRowAt m store store.geometry.limit (shown store.dirty image) state live t table key
+    → RefusesRowAt m store (shown store.dirty image) state live t table key
     (faults.Damaged it) → ⊥

@@ -23,7 +23,7 @@ VersionsAreThere {D} m = (store : Pool D FireLinks) (image : Image) (batch : Cha
     (r : Reading) → SeesLawful m store image batch f r → (rec : RecId) (table : Table)
     → table_in f rec ≡ Some table → (n holder : ℕ) (l : Link)
     → Follows (viewed store image batch) rec n holder l → (it : Damaged)
-    → RefusesVersion m store batch.pages store.geometry.limit (viewed store image batch) holder l
+    → RefusesVersion m store batch.pages (viewed store image batch) holder l
     (faults.Damaged it) → ⊥
 
 -- a record's versions are followed to their end
@@ -31,12 +31,12 @@ abbrev pub ChainsAreWhole : {D : Type 0} → Meaning D → Type 0
 ChainsAreWhole {D} m = (store : Pool D FireLinks) (image : Image) (batch : Changed) (f : Facts)
     (r : Reading) → SeesLawful m store image batch f r → (rec : RecId) (table : Table)
     → table_in f rec ≡ Some table → (it : Damaged)
-    → IsChainDamage m store batch.pages store.geometry.limit (viewed store image batch) rec it → ⊥
+    → IsChainDamage m store batch.pages (viewed store image batch) rec it → ⊥
 
 -- the row of a record is read, whosever version it is; a table of the same shape may be given
 abbrev pub RowsAreRead : {D : Type 0} → Meaning D → Type 0
 RowsAreRead {D} m = (store : Pool D FireLinks) (image : Image) (batch : Changed) (f : Facts) (r : Reading)
     → SeesLawful m store image batch f r → (takes : ℕ → Bool) (rec : RecId) (table other : Table)
     → table_in f rec ≡ Some table → table.shape ≡ other.shape → (it : Damaged)
-    → IsRecordDamage m store batch.pages store.geometry.limit (viewed store image batch) takes other rec it
+    → IsRecordDamage m store batch.pages (viewed store image batch) takes other rec it
     → ⊥

@@ -1,5 +1,5 @@
 -- What it is to see lawful records, and that their pages are there.
-use Rattle.std.specs.Prelude.{◌≡◌, ◌<◌, ℕ, false, [], Some}
+use Rattle.std.specs.Prelude.{◌≡◌, ℕ, false, [], Some}
 use Rattle.mg_base.specs.Disk.{Meaning}
 use Rattle.mg_base.specs.Image.{Image}
 use Rattle.mg_base.specs.declared.damage.Damaged.{Damaged}
@@ -26,11 +26,10 @@ pub record IsPageOf (size : ℕ) (pages : Pages) (n : ℕ) (table : Table) : Typ
   pub listed : Has stand.data_pages n
 
 -- The records of pages are lawful by some facts, and each page that is a table's by these is one of its data
--- pages, and lies below a limit.
-pub record AreLawful (size limit : ℕ) (pages : Pages) (f : Facts) (r : Reading) : Type 0 where
+-- pages.
+pub record AreLawful (size : ℕ) (pages : Pages) (f : Facts) (r : Reading) : Type 0 where
   pub records : AreRecords packed_coding f (cells_of pages) r
   pub data_pages : (n : ℕ) (table : Table) → f.table_of n ≡ Some table → IsPageOf size pages n table
-  pub below : (n : ℕ) (table : Table) → f.table_of n ≡ Some table → n < limit
 
 -- a batch that has nothing: who fills it sees what the cache shows
 abbrev pub no_batch : Changed
@@ -40,7 +39,7 @@ no_batch = record { pages = []; orders = [] }
 pub record SeesLawful {D : Type 0} (m : Meaning D) (store : Pool D FireLinks) (image : Image)
     (batch : Changed) (f : Facts) (r : Reading) : Type 0 where
   pub tells : Tells m store.disk image
-  pub lawful : AreLawful store.geometry.size store.geometry.limit (viewed store image batch) f r
+  pub lawful : AreLawful store.geometry.size (viewed store image batch) f r
 
 -- A table stands here on pages: these are as soundness wants them, and its data pages are its own by the facts.
 pub record StandsOn (size : ℕ) (pages : Pages) (f : Facts) (stand : Stand) (table : Table) : Type 0 where

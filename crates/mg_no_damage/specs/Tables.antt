@@ -46,11 +46,11 @@ PlacesAreKnown {D} m = (store : Pool D FireLinks) (image : Image) (batch : Chang
 abbrev pub TablesAreRead : {D : Type 0} → Meaning D → Type 0
 TablesAreRead {D} m = (store : Pool D FireLinks) (image : Image) (batch : Changed) (f : Facts) (r : Reading)
     (stand : Stand) (table : Table) → SeesTable m store image batch f r stand table → (takes : ℕ → Bool)
-    (it : Damaged) → IsTableDamage m store batch.pages store.geometry.limit (viewed store image batch) takes table it → ⊥
+    (it : Damaged) → IsTableDamage m store batch.pages (viewed store image batch) takes table it → ⊥
 
 -- a walk over the table comes to its next record, with its row
 abbrev pub VisitsAreMade : {D : Type 0} → Meaning D → Type 0
 VisitsAreMade {D} m = (store : Pool D FireLinks) (image : Image) (f : Facts) (r : Reading) (stand : Stand)
     (table : Table) → SeesTable m store image no_batch f r stand table → (takes : ℕ → Bool) (after : Option RecId)
     → StandsIn stand.data_pages after → (damage : Damaged)
-    → IsVisitDamage m store store.geometry.limit (shown store.dirty image) takes table after damage → ⊥
+    → IsVisitDamage m store (shown store.dirty image) takes table after damage → ⊥

@@ -3,7 +3,6 @@ use Rattle.std.proofs.Common.{◌≡◌, ◌==◌, ℕ, Bool, true, false, List,
 use Rattle.std.specs.Prelude.{IsErr, IsErrAnd, MatchResult, unwrap_or}
 use Rattle.mg_base.specs.Disk.{Meaning}
 use Rattle.mg_base.specs.Image.{Image}
-use Rattle.mg_base.specs.declared.geometry.Geometry.{Geometry}
 use Rattle.mg_base.specs.declared.numbers.RecId.{RecId}
 use Rattle.mg_base.specs.declared.transaction.TxState.{TxState}
 use Rattle.mg_image.specs.Form.{Pages}
@@ -51,25 +50,22 @@ through_empty store image batch result P Q empty given =
     subst R empty given
 
 -- what is seen once pages were read was seen before
-pub as_before : {D L : Type 0} (m : Meaning D) (a b : Pool D L) (image : Image) (P : ℕ → Pages → Type 0)
-    → KeepsStore m a b → Tells m a.disk image
-    → (Tells m b.disk image → P b.geometry.limit (shown b.dirty image))
-    → P a.geometry.limit (shown a.dirty image)
-as_before m a b image P kept tells later =
-    subst (λ (g : Geometry). P g.limit (shown a.dirty image)) kept.geometry
-    (subst (λ (d : DirtyPages). P b.geometry.limit (shown d image)) kept.dirty
-    (later (tells_on m a b image kept tells)))
+pub as_before : {D L : Type 0} (m : Meaning D) (a b : Pool D L) (image : Image) (P : Pages → Type 0)
+    → KeepsStore m a b → Tells m a.disk image → (Tells m b.disk image → P (shown b.dirty image))
+    → P (shown a.dirty image)
+as_before m a b image P kept tells later = subst (λ (d : DirtyPages). P (shown d image)) kept.dirty
+    (later (tells_on m a b image kept tells))
 
 -- the obstacle of a key is that of the record that speaks for it
-pub obstacle_comes : {D L : Type 0} (m : Meaning D) (store : Pool D L) (limit : ℕ) (view : Pages)
+pub obstacle_comes : {D L : Type 0} (m : Meaning D) (store : Pool D L) (view : Pages)
     (state : ℕ → TxState) (live : State) (t : ℕ) (table : Table) (key : Value) (rec : Option RecId)
     (result : Result (Option Obstacle) SpaceFault) → IsSpeaker state live view table key rec
-    → MatchResult result (IsInWay state live t view rec) (RefusesWay m store limit view rec)
+    → MatchResult result (IsInWay state live t view rec) (RefusesWay m store view rec)
     → MatchResult result (IsObstacleAt state live t view table key)
-    (RefusesObstacleAt m store limit view state live table key)
-obstacle_comes m store limit view state live t table key rec (Ok found) spoken way =
+    (RefusesObstacleAt m store view state live table key)
+obstacle_comes m store view state live t table key rec (Ok found) spoken way =
     record { speaks = rec; spoken = spoken; in_way = way }
-obstacle_comes m store limit view state live t table key rec (Err fault) spoken way = way_unread rec spoken way
+obstacle_comes m store view state live t table key rec (Err fault) spoken way = way_unread rec spoken way
 
 -- what is seen over a fresh batch
 pub empty_seen : {D L : Type 0} (store : Pool D L) (image : Image) (batch : Changed)
@@ -79,21 +75,21 @@ empty_seen store image batch P empty given = subst (λ (pages : List BatchPage).
     P pages (λ n. unwrap_or (content_in pages n) (shown store.dirty image n))) empty given
 
 -- a chain that is not followed refuses its record
-pub chain_refuses : {D L : Type 0} (m : Meaning D) (store : Pool D L) (pages : List BatchPage) (limit : ℕ)
+pub chain_refuses : {D L : Type 0} (m : Meaning D) (store : Pool D L) (pages : List BatchPage)
     (view : Pages) (takes : ℕ → Bool) (table : Table) (rec : RecId) (fault : SpaceFault)
-    → RefusesChain m store pages limit view rec fault → RefusesRecord m store pages limit view takes table rec fault
-chain_refuses m store pages limit view takes table rec (faults.Full most) given = given
-chain_refuses m store pages limit view takes table rec (faults.Damaged it) given = bad_chain it given
-chain_refuses m store pages limit view takes table rec (faults.Pool fault) given = given
+    → RefusesChain m store pages view rec fault → RefusesRecord m store pages view takes table rec fault
+chain_refuses m store pages view takes table rec (faults.Full most) given = given
+chain_refuses m store pages view takes table rec (faults.Damaged it) given = bad_chain it given
+chain_refuses m store pages view takes table rec (faults.Pool fault) given = given
 
 -- a body that is not read refuses its record
-pub body_refuses : {D L : Type 0} (m : Meaning D) (store : Pool D L) (pages : List BatchPage) (limit : ℕ)
+pub body_refuses : {D L : Type 0} (m : Meaning D) (store : Pool D L) (pages : List BatchPage)
     (view : Pages) (takes : ℕ → Bool) (table : Table) (rec : RecId) (p : Placed) (fault : SpaceFault)
     → IsFirst view takes rec (Some p) → RefusesRowOf table p fault
-    → RefusesRecord m store pages limit view takes table rec fault
-body_refuses m store pages limit view takes table rec p (faults.Full most) first given = given
-body_refuses m store pages limit view takes table rec p (faults.Damaged it) first given = bad_body p it first given
-body_refuses m store pages limit view takes table rec p (faults.Pool fault) first given = tt
+    → RefusesRecord m store pages view takes table rec fault
+body_refuses m store pages view takes table rec p (faults.Full most) first given = given
+body_refuses m store pages view takes table rec p (faults.Damaged it) first given = bad_body p it first given
+body_refuses m store pages view takes table rec p (faults.Pool fault) first given = tt
 
 -- what stands in a record, by its newest version
 pub before_by : (state : ℕ → TxState) (live : State) (t : ℕ) (view : Pages) (table : Table) (rec : RecId)
@@ -115,15 +111,15 @@ pub other_by : (state : ℕ → TxState) (t : ℕ) (table : Table) (rec : RecId)
     → IsBeforeOf state t table rec (Some p) b
 other_by state t table rec p b other is = subst (λ (o : Bool). IsBeforeBy o state table rec p.version b) (sym other) is
 
-pub own_comes : {D L : Type 0} (m : Meaning D) (store : Pool D L) (limit : ℕ) (view : Pages) (state : ℕ → TxState)
+pub own_comes : {D L : Type 0} (m : Meaning D) (store : Pool D L) (view : Pages) (state : ℕ → TxState)
     (live : State) (t : ℕ) (table : Table) (rec : RecId) (found : Option Placed) (p : Placed)
     (result : Result Before SpaceFault) → IsFirst view (wants state live Any) rec found → found ≡ Some p
     → (p.version.tx.0 == t) ≡ true
     → MatchResult result (OwnBefore table rec p.version) (RefusesRowOf table p)
     → MatchResult result (IsBeforeIn state live t view table rec)
-    (RefusesRecord m store [] limit view (wants state live Any) table rec)
-own_comes m store limit view state live t table rec found p (Ok b) first same own given =
+    (RefusesRecord m store [] view (wants state live Any) table rec)
+own_comes m store view state live t table rec found p (Ok b) first same own given =
     before_by state live t view table rec found (Some p) b first same (own_by state t table rec p b own given)
-own_comes m store limit view state live t table rec found p (Err fault) first same own given =
-    body_refuses m store [] limit view (wants state live Any) table rec p fault
+own_comes m store view state live t table rec found p (Err fault) first same own given =
+    body_refuses m store [] view (wants state live Any) table rec p fault
     (subst (λ (o : Option Placed). IsFirst view (wants state live Any) rec o) same first) given

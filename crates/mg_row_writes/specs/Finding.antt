@@ -27,9 +27,9 @@ IsInWay state live t view None found = found ≡ None
 IsInWay state live t view (Some rec) found = IsObstacle state live t view rec found
 
 -- why the obstacle of a record is not found, but for faults of the cache
-abbrev pub RefusesWay : {D L : Type 0} → Meaning D → Pool D L → ℕ → Pages → Option RecId → SpaceFault → Type 0
-RefusesWay m store limit view None fault = ⊥
-RefusesWay m store limit view (Some rec) fault = RefusesChain m store [] limit view rec fault
+abbrev pub RefusesWay : {D L : Type 0} → Meaning D → Pool D L → Pages → Option RecId → SpaceFault → Type 0
+RefusesWay m store view None fault = ⊥
+RefusesWay m store view (Some rec) fault = RefusesChain m store [] view rec fault
 
 -- The obstacle of a key: that of the record that speaks for it.
 pub record IsObstacleAt (state : ℕ → TxState) (live : State) (t : ℕ) (view : Pages) (table : Table)
@@ -39,13 +39,13 @@ pub record IsObstacleAt (state : ℕ → TxState) (live : State) (t : ℕ) (view
   pub in_way : IsInWay state live t view speaks found
 
 -- Why the obstacle of a key is not found, but for faults of the cache.
-pub data RefusesObstacleAt {D L : Type 0} (m : Meaning D) (store : Pool D L) (limit : ℕ) (view : Pages)
+pub data RefusesObstacleAt {D L : Type 0} (m : Meaning D) (store : Pool D L) (view : Pages)
     (state : ℕ → TxState) (live : State) (table : Table) (key : Value) (fault : SpaceFault) : Type 0 where
-  way_unspoken : RefusesTableRows m store [] limit view (wants state live Living) table fault
-      → RefusesObstacleAt m store limit view state live table key fault
+  way_unspoken : RefusesTableRows m store [] view (wants state live Living) table fault
+      → RefusesObstacleAt m store view state live table key fault
   way_unread : (rec : Option RecId) → IsSpeaker state live view table key rec
-      → RefusesWay m store limit view rec fault
-      → RefusesObstacleAt m store limit view state live table key fault
+      → RefusesWay m store view rec fault
+      → RefusesObstacleAt m store view state live table key fault
 
 -- ---- rows
 
@@ -55,11 +55,11 @@ IsSeenIn state live t view table None row = row ≡ None
 IsSeenIn state live t view table (Some rec) row = IsRowSeen state live t view table rec row
 
 -- why the row of a record is not read, but for faults of the cache
-abbrev pub RefusesSeen : {D L : Type 0} → Meaning D → Pool D L → ℕ → Pages → (ℕ → Bool) → Table → Option RecId
+abbrev pub RefusesSeen : {D L : Type 0} → Meaning D → Pool D L → Pages → (ℕ → Bool) → Table → Option RecId
     → SpaceFault → Type 0
-RefusesSeen m store limit view takes table None fault = ⊥
-RefusesSeen m store limit view takes table (Some rec) fault =
-    RefusesRecord m store [] limit view takes table rec fault
+RefusesSeen m store view takes table None fault = ⊥
+RefusesSeen m store view takes table (Some rec) fault =
+    RefusesRecord m store [] view takes table rec fault
 
 -- The record that speaks for a key, with the row that a transaction sees there.
 pub record IsRowAt (state : ℕ → TxState) (live : State) (t : TxNo) (view : Pages) (table : Table)
@@ -68,11 +68,11 @@ pub record IsRowAt (state : ℕ → TxState) (live : State) (t : TxNo) (view : P
   pub seen : IsSeenIn state live t view table found.rec found.row
 
 -- Why that row is not read, but for faults of the cache.
-pub data RefusesRowAt {D L : Type 0} (m : Meaning D) (store : Pool D L) (limit : ℕ) (view : Pages)
+pub data RefusesRowAt {D L : Type 0} (m : Meaning D) (store : Pool D L) (view : Pages)
     (state : ℕ → TxState) (live : State) (t : TxNo) (table : Table) (key : Value) (fault : SpaceFault)
     : Type 0 where
-  row_unspoken : RefusesTableRows m store [] limit view (wants state live Living) table fault
-      → RefusesRowAt m store limit view state live t table key fault
+  row_unspoken : RefusesTableRows m store [] view (wants state live Living) table fault
+      → RefusesRowAt m store view state live t table key fault
   row_unread : (rec : Option RecId) → IsSpeaker state live view table key rec
-      → RefusesSeen m store limit view (wants state live (SeenBy t)) table rec fault
-      → RefusesRowAt m store limit view state live t table key fault
+      → RefusesSeen m store view (wants state live (SeenBy t)) table rec fault
+      → RefusesRowAt m store view state live t table key fault

@@ -70,7 +70,7 @@ pub fn before_at<D: Disk, S: States>(
     ensures own { ReadsData result }
     ensures gives { (image : Image) → Tells D.meaning store.old.disk image → MatchResult result
         (IsBefore (S.state_of states.now) live.now t.0 (shown store.old.dirty image) table.now rec)
-        (RefusesSeen D.meaning store.new store.old.geometry.limit (shown store.old.dirty image)
+        (RefusesSeen D.meaning store.new (shown store.old.dirty image)
         (wants (S.state_of states.now) live.now Wanted.Any) table.now rec) }
 {
     let Some(rec) = rec else {

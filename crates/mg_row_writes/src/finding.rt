@@ -47,7 +47,7 @@ fn speaker_at<D: Disk, S: States>(
     ensures own { ReadsData result }
     ensures gives { (image : Image) → Tells D.meaning store.old.disk image → MatchResult result
         (IsSpeaker (S.state_of states.now) live.now (shown store.old.dirty image) table.now key.now)
-        (RefusesTableRows D.meaning store.new [] store.old.geometry.limit (shown store.old.dirty image)
+        (RefusesTableRows D.meaning store.new [] (shown store.old.dirty image)
         (wants (S.state_of states.now) live.now Wanted.Living) table.now) }
 {
     let batch = Batch::new(store.alloc());
@@ -75,7 +75,7 @@ pub fn obstacle_of_record<D: Disk, S: States>(
     ensures own { ReadsData result }
     ensures gives { (image : Image) → Tells D.meaning store.old.disk image → MatchResult result
         (IsInWay (S.state_of states.now) live.now t.0 (shown store.old.dirty image) rec)
-        (RefusesWay D.meaning store.new store.old.geometry.limit (shown store.old.dirty image) rec) }
+        (RefusesWay D.meaning store.new (shown store.old.dirty image) rec) }
 {
     let Some(rec) = rec else {
         return Ok(None);
@@ -107,7 +107,7 @@ pub fn obstacle_at<D: Disk, S: States>(
     ensures own { ReadsData result }
     ensures gives { (image : Image) → Tells D.meaning store.old.disk image → MatchResult result
         (IsObstacleAt (S.state_of states.now) live.now t.0 (shown store.old.dirty image) table.now key.now)
-        (RefusesObstacleAt D.meaning store.new store.old.geometry.limit (shown store.old.dirty image)
+        (RefusesObstacleAt D.meaning store.new (shown store.old.dirty image)
         (S.state_of states.now) live.now table.now key.now) }
 {
     let rec = speaker_at(store, table, key, states, live)?;
@@ -133,7 +133,7 @@ fn row_seen<D: Disk, S: States>(
     ensures own { ReadsData result }
     ensures gives { (image : Image) → Tells D.meaning store.old.disk image → MatchResult result
         (IsSeenIn (S.state_of states.now) live.now t (shown store.old.dirty image) table.now rec)
-        (RefusesSeen D.meaning store.new store.old.geometry.limit (shown store.old.dirty image)
+        (RefusesSeen D.meaning store.new (shown store.old.dirty image)
         (wants (S.state_of states.now) live.now (Wanted.SeenBy t)) table.now rec) }
 {
     let Some(rec) = rec else {
@@ -166,7 +166,7 @@ pub fn row_at<D: Disk, S: States>(
     ensures own { ReadsData result }
     ensures gives { (image : Image) → Tells D.meaning store.old.disk image → MatchResult result
         (IsRowAt (S.state_of states.now) live.now t (shown store.old.dirty image) table.now key.now)
-        (RefusesRowAt D.meaning store.new store.old.geometry.limit (shown store.old.dirty image)
+        (RefusesRowAt D.meaning store.new (shown store.old.dirty image)
         (S.state_of states.now) live.now t table.now key.now) }
 {
     let rec = speaker_at(store, table, key, states, live)?;

@@ -77,18 +77,18 @@ module _ (state : ℕ → TxState) (live : State) (t : TxNo) (view : Pages) (tab
 
 -- ---- the table of a name
 
-module _ {D L : Type 0} (m : Meaning D) (store : Pool D L) (pages : List BatchPage) (limit : ℕ)
+module _ {D L : Type 0} (m : Meaning D) (store : Pool D L) (pages : List BatchPage)
     (state : ℕ → TxState) (live : State) (t : TxNo) (view : Pages) (catalog : Table) where
   pub rows_refuse : (fault : SpaceFault)
-      → RefusesTableRows m store pages limit view (wants state live (SeenBy t)) catalog fault
-      → RefusesTable m store pages limit state live t view catalog fault
+      → RefusesTableRows m store pages view (wants state live (SeenBy t)) catalog fault
+      → RefusesTable m store pages state live t view catalog fault
   rows_refuse (faults.Full most) refused = refused
   rows_refuse (faults.Damaged it) refused = inl refused
   rows_refuse (faults.Pool fault) refused = tt
 
   pub tables_refuse : (rows : List Row) (fault : SpaceFault) → AreRowsSeen state live t view catalog rows
       → RefusesTables catalog.pointer.0 rows fault
-      → RefusesTable m store pages limit state live t view catalog fault
+      → RefusesTable m store pages state live t view catalog fault
   tables_refuse rows (faults.Full most) seen refused = refused
   tables_refuse rows (faults.Damaged it) seen refused =
       inr (record { rows = rows; seen = seen; refused = refused })

@@ -5,7 +5,6 @@ use Rattle.mg_base.specs.Disk.{Meaning}
 use Rattle.mg_base.specs.Image.{Image}
 use Rattle.mg_base.specs.declared.damage.Damaged.{Damaged}
 use Rattle.mg_base.specs.declared.damage.Field.TheVariants as fields
-use Rattle.mg_base.specs.declared.geometry.Geometry.{Geometry}
 use Rattle.mg_base.specs.declared.numbers.RecId.{RecId}
 use Rattle.mg_image.specs.Form.{Pages}
 use Rattle.mg_image.specs.Records.{cells_of}
@@ -33,17 +32,17 @@ pub handed_on : {T : Type 0} (result : Result T SpaceFault) (fault : SpaceFault)
 handed_on (Ok x) fault P Q err is holds = absurd cc
 handed_on (Err e) fault P Q err is holds = subst Q (sym is) holds
 
-module _ {D L : Type 0} (m : Meaning D) (store : Pool D L) (pages : List BatchPage) (limit : ℕ)
+module _ {D L : Type 0} (m : Meaning D) (store : Pool D L) (pages : List BatchPage)
     (view : Pages) (rec : RecId) where
   pub primary_refuses : (fault : SpaceFault) → RefusesCellAt m store pages view rec fault
-      → RefusesChain m store pages limit view rec fault
+      → RefusesChain m store pages view rec fault
   primary_refuses (faults.Full most) refuses = refuses
   primary_refuses (faults.Damaged it) refuses = primary it refuses
   primary_refuses (faults.Pool fault) refuses = tt
 
   pub version_refuses : (n holder : ℕ) (l : Link) → Follows view rec n holder l
-      → (fault : SpaceFault) → RefusesVersion m store pages limit view holder l fault
-      → RefusesChain m store pages limit view rec fault
+      → (fault : SpaceFault) → RefusesVersion m store pages view holder l fault
+      → RefusesChain m store pages view rec fault
   version_refuses n holder l follows (faults.Full most) refuses = refuses
   version_refuses n holder l follows (faults.Damaged it) refuses =
       version n holder l it follows refuses
@@ -57,17 +56,13 @@ pub met_on : {D L : Type 0} (m : Meaning D) (a b c : Pool D L) (image : Image) (
     → Tells m a.disk image
     → ((image : Image) → Tells m b.disk image → MatchResult result
     (Meets (cells_of (viewed b image batch)) l)
-    (RefusesVersion m c batch.pages b.geometry.limit (viewed b image batch) holder l))
+    (RefusesVersion m c batch.pages (viewed b image batch) holder l))
     → MatchResult result (Meets (cells_of (viewed a image batch)) l)
-    (RefusesVersion m c batch.pages a.geometry.limit (viewed a image batch) holder l)
+    (RefusesVersion m c batch.pages (viewed a image batch) holder l)
 met_on m a b c image batch holder l result kept tells gives =
     let P : Pages → Type 0 = λ view. MatchResult result (Meets (cells_of view) l)
-    (RefusesVersion m c batch.pages b.geometry.limit view holder l) in
-    let Q : Geometry → Type 0 = λ g. MatchResult result
-    (Meets (cells_of (viewed a image batch)) l)
-    (RefusesVersion m c batch.pages g.limit (viewed a image batch) holder l) in
-    subst Q kept.geometry
-    (subst P (viewed_on m a b image batch kept) (gives image (tells_on m a b image kept tells)))
+    (RefusesVersion m c batch.pages view holder l) in
+    subst P (viewed_on m a b image batch kept) (gives image (tells_on m a b image kept tells))
 
 -- ---- the walk
 
@@ -145,23 +140,23 @@ module _ (view : Pages) (rec : RecId) (takes : ℕ → Bool) where
       let P : Option Link → Type 0 = λ link. FirstAt (cells_of view) takes link None in
       walk.onward None (is_older l v None meets other (subst P (sym back) stops))
 
-  module _ {D L : Type 0} (m : Meaning D) (store : Pool D L) (pages : List BatchPage) (limit : ℕ)
+  module _ {D L : Type 0} (m : Meaning D) (store : Pool D L) (pages : List BatchPage)
     where
       pub walk_comes_back : (n holder : ℕ) (l : Link) (mark : Option RecId)
           → WalkAt view rec takes n holder l mark → mark ≡ Some l.rec
-          → IsChainDamage m store pages limit view rec (damage holder fields.Link l.rec.page.0 0)
+          → IsChainDamage m store pages view rec (damage holder fields.Link l.rec.page.0 0)
       walk_comes_back n holder l mark walk is =
           let P : Option RecId → Type 0 = λ it. IsMark view rec n it in
           at (subst P is walk.marked)
         where
           at : IsMark view rec n (Some l.rec)
-              → IsChainDamage m store pages limit view rec (damage holder fields.Link l.rec.page.0 0)
+              → IsChainDamage m store pages view rec (damage holder fields.Link l.rec.page.0 0)
           at (earlier, before, first, less, same, follows) =
               comes_back n before holder earlier l first walk.follows follows less same
 
       pub walk_is_long : (n holder : ℕ) (l : Link) (mark : Option RecId)
           → WalkAt view rec takes n holder l mark → 2 ^ 32 - 1 ≤ n
-          → IsChainDamage m store pages limit view rec (damage holder fields.Link l.rec.page.0 0)
+          → IsChainDamage m store pages view rec (damage holder fields.Link l.rec.page.0 0)
       walk_is_long n holder l mark walk long = too_long n holder l walk.follows long
 
 -- ---- faults of a later call
@@ -185,10 +180,10 @@ fault_up {T = T} A m a b c (Err e) fault kept same err is tells =
     (subst Q (sym is) (subst P (same_answer A T fault) tells))
 
 -- the damage that is told is the one that is meant
-pub damage_at : {D L : Type 0} (m : Meaning D) (store : Pool D L) (pages : List BatchPage)
-    (limit : ℕ) (view : Pages) (rec : RecId) (told meant : Damaged) → told ≡ meant
-    → IsChainDamage m store pages limit view rec meant
-    → IsChainDamage m store pages limit view rec told
-damage_at m store pages limit view rec told meant is it =
-    let P : Damaged → Type 0 = λ d. IsChainDamage m store pages limit view rec d in
+pub damage_at : {D L : Type 0} (m : Meaning D) (store : Pool D L) (pages : List BatchPage) (view : Pages)
+    (rec : RecId) (told meant : Damaged) → told ≡ meant
+    → IsChainDamage m store pages view rec meant
+    → IsChainDamage m store pages view rec told
+damage_at m store pages view rec told meant is it =
+    let P : Damaged → Type 0 = λ d. IsChainDamage m store pages view rec d in
     subst P (sym is) it

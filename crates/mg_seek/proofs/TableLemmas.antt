@@ -112,17 +112,17 @@ none_left (x ∷ recs) is = absurd (omega (arith, is))
 
 -- ---- rows of a table
 
-module _ {D L : Type 0} (m : Meaning D) (store : Pool D L) (pages : List BatchPage) (limit : ℕ)
+module _ {D L : Type 0} (m : Meaning D) (store : Pool D L) (pages : List BatchPage)
     (view : Pages) (takes : ℕ → Bool) (table : Table) where
   pub walk_refuses : (fault : SpaceFault) → RefusesWalk m store pages view table.pointer.0 fault
-      → RefusesTableRows m store pages limit view takes table fault
+      → RefusesTableRows m store pages view takes table fault
   walk_refuses (faults.Full most) refused = refused
   walk_refuses (faults.Damaged it) refused = no_walk it refused
   walk_refuses (faults.Pool fault) refused = tt
 
   pub record_refuses : (records : List RecId) (rec : RecId) (fault : SpaceFault) → IsAmong records rec
-      → RefusesRecord m store pages limit view takes table rec fault
-      → RefusesRecords m store pages limit view takes table records fault
+      → RefusesRecord m store pages view takes table rec fault
+      → RefusesRecords m store pages view takes table records fault
   record_refuses records rec (faults.Full most) among refused = refused
   record_refuses records rec (faults.Damaged it) among refused =
       record { rec = rec; among = among; damaged = refused }
@@ -130,8 +130,8 @@ module _ {D L : Type 0} (m : Meaning D) (store : Pool D L) (pages : List BatchPa
 
   pub records_refuse : (records : List RecId) (fault : SpaceFault)
       → AreTableRecords view table.pointer.0 records
-      → RefusesRecords m store pages limit view takes table records fault
-      → RefusesTableRows m store pages limit view takes table fault
+      → RefusesRecords m store pages view takes table records fault
+      → RefusesTableRows m store pages view takes table fault
   records_refuse records (faults.Full most) are refused = refused
   records_refuse records (faults.Damaged it) are refused = bad_among records it are refused
   records_refuse records (faults.Pool fault) are refused = tt
@@ -139,8 +139,8 @@ module _ {D L : Type 0} (m : Meaning D) (store : Pool D L) (pages : List BatchPa
   -- what is found among the records of a table is found of the table
   pub of_table : {V : Type 0} (records : List RecId) (P Q : V → Type 0) (result : Result V SpaceFault)
       → AreTableRecords view table.pointer.0 records → ((x : V) → P x → Q x)
-      → MatchResult result P (RefusesRecords m store pages limit view takes table records)
-      → MatchResult result Q (RefusesTableRows m store pages limit view takes table)
+      → MatchResult result P (RefusesRecords m store pages view takes table records)
+      → MatchResult result Q (RefusesTableRows m store pages view takes table)
   of_table records P Q (Ok x) are gives found = gives x found
   of_table records P Q (Err fault) are gives refused = records_refuse records fault are refused
 

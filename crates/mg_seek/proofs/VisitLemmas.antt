@@ -19,7 +19,7 @@ use Rattle.mg_space.specs.declared.fault.SpaceFault.TheVariants as faults
 use Rattle.mg_seek.specs.Refusals.{RefusesRecord, RefusesVisit, bad_record, no_next}
 use Rattle.mg_seek.specs.Views.{IsRowSeen, IsVisit}
 
-module _ {D L : Type 0} (m : Meaning D) (store : Pool D L) (limit : ℕ) (view : Pages)
+module _ {D L : Type 0} (m : Meaning D) (store : Pool D L) (view : Pages)
     (takes : ℕ → Bool) (table : Table) (after : Option RecId) where
   next_full : (after : Option RecId) (most : ℕ)
       → RefusesNext m store [] view table.pointer.0 after (faults.Full most) → ⊥
@@ -28,15 +28,15 @@ module _ {D L : Type 0} (m : Meaning D) (store : Pool D L) (limit : ℕ) (view :
   next_full (Some x) most (inr refused) = refused
 
   pub next_refuses : (fault : SpaceFault) → RefusesNext m store [] view table.pointer.0 after fault
-      → RefusesVisit m store limit view takes table after fault
+      → RefusesVisit m store view takes table after fault
   next_refuses (faults.Full most) refused = next_full after most refused
   next_refuses (faults.Damaged it) refused = no_next it refused
   next_refuses (faults.Pool fault) refused = tt
 
   pub visit_refuses : (found : Option RecId) (rec : RecId) (fault : SpaceFault)
       → GivesNext view table.pointer.0 after found → found ≡ Some rec
-      → RefusesRecord m store [] limit view takes table rec fault
-      → RefusesVisit m store limit view takes table after fault
+      → RefusesRecord m store [] view takes table rec fault
+      → RefusesVisit m store view takes table after fault
   visit_refuses found rec (faults.Full most) next is refused = refused
   visit_refuses found rec (faults.Damaged it) next is refused =
       bad_record rec it (subst (GivesNext view table.pointer.0 after) is next) refused

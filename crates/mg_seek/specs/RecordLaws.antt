@@ -4,7 +4,6 @@ use Rattle.std.specs.Prelude.{IsErr, IsErrAnd, MatchResult, IsTrue, ◌↔◌}
 use Rattle.std.proofs.lemmas.Bool.{false≢true}
 use Rattle.mg_base.specs.Disk.{Meaning}
 use Rattle.mg_base.specs.Image.{Image}
-use Rattle.mg_base.specs.declared.geometry.Geometry.{Geometry}
 use Rattle.mg_base.specs.declared.numbers.RecId.{RecId}
 use Rattle.mg_base.specs.declared.numbers.TxNo.{TxNo}
 use Rattle.mg_base.specs.declared.transaction.TxState.{TxState}
@@ -41,16 +40,12 @@ use Rattle.mg_seek.specs.Views.{IsKeyOf, IsRowSeen}
 
 -- ---- what a later call tells
 
--- a clause on the pages and the limit as a later call saw them is one as they were at the start
+-- a clause on the pages as a later call saw them is one as they were at the start
 pub as_kept : {D L : Type 0} (m : Meaning D) (a b : Pool D L) (image : Image) (batch : Changed)
-    (P : ℕ → Pages → Type 0) → KeepsStore m a b → Tells m a.disk image
-    → (Tells m b.disk image → P b.geometry.limit (viewed b image batch))
-    → P a.geometry.limit (viewed a image batch)
+    (P : Pages → Type 0) → KeepsStore m a b → Tells m a.disk image
+    → (Tells m b.disk image → P (viewed b image batch)) → P (viewed a image batch)
 as_kept m a b image batch P kept tells later =
-    let Q : Geometry → Type 0 = λ g. P g.limit (viewed a image batch) in
-    let R : Pages → Type 0 = λ view. P b.geometry.limit view in
-    subst Q kept.geometry
-    (subst R (viewed_on m a b image batch kept) (later (tells_on m a b image kept tells)))
+    subst P (viewed_on m a b image batch kept) (later (tells_on m a b image kept tells))
 
 -- ---- the first version is one
 
@@ -99,17 +94,17 @@ row_once one table v a b first second = one (columns_for table v.deleted) v.form
 
 -- ---- refusals
 
-module _ {D L : Type 0} (m : Meaning D) (store : Pool D L) (pages : List BatchPage) (limit : ℕ)
+module _ {D L : Type 0} (m : Meaning D) (store : Pool D L) (pages : List BatchPage)
     (view : Pages) (takes : ℕ → Bool) (table : Table) (rec : RecId) where
-  pub chain_refuses : (fault : SpaceFault) → RefusesChain m store pages limit view rec fault
-      → RefusesRecord m store pages limit view takes table rec fault
+  pub chain_refuses : (fault : SpaceFault) → RefusesChain m store pages view rec fault
+      → RefusesRecord m store pages view takes table rec fault
   chain_refuses (faults.Full most) refuses = refuses
   chain_refuses (faults.Damaged it) refuses = bad_chain it refuses
   chain_refuses (faults.Pool fault) refuses = tt
 
   pub body_refuses : (found : Option Placed) (p : Placed) → IsFirst view takes rec found
       → found ≡ Some p → (fault : SpaceFault) → RefusesRowOf table p fault
-      → RefusesRecord m store pages limit view takes table rec fault
+      → RefusesRecord m store pages view takes table rec fault
   body_refuses found p first is (faults.Full most) refuses = refuses
   body_refuses found p first is (faults.Damaged it) refuses =
       bad_body p it (subst (IsFirst view takes rec) is first) refuses

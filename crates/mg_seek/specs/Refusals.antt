@@ -18,35 +18,34 @@ use Rattle.mg_seek.specs.Versions.{IsFirst}
 -- The damage of a record in whose versions a row is looked for: its versions are not followed, or
 -- the body of the first one whose writer passes a test is damaged.
 pub data IsRecordDamage {D L : Type 0} (m : Meaning D) (store : Pool D L) (pages : List BatchPage)
-    (limit : ℕ) (view : Pages) (takes : ℕ → Bool) (table : Table) (rec : RecId)
-    : Damaged → Type 0 where
-  bad_chain : (it : Damaged) → IsChainDamage m store pages limit view rec it
-      → IsRecordDamage m store pages limit view takes table rec it
+    (view : Pages) (takes : ℕ → Bool) (table : Table) (rec : RecId) : Damaged → Type 0 where
+  bad_chain : (it : Damaged) → IsChainDamage m store pages view rec it
+      → IsRecordDamage m store pages view takes table rec it
   bad_body : (p : Placed) (it : Damaged) → IsFirst view takes rec (Some p) → IsRowDamage table p it
-      → IsRecordDamage m store pages limit view takes table rec it
+      → IsRecordDamage m store pages view takes table rec it
 
 -- why the row of a record's first version of those is not read
-abbrev pub RefusesRecord : {D L : Type 0} → Meaning D → Pool D L → List BatchPage → ℕ → Pages
+abbrev pub RefusesRecord : {D L : Type 0} → Meaning D → Pool D L → List BatchPage → Pages
     → (ℕ → Bool) → Table → RecId → SpaceFault → Type 0
-RefusesRecord m store pages limit view takes table rec (faults.Full most) = ⊥
-RefusesRecord m store pages limit view takes table rec (faults.Damaged it) =
-    IsRecordDamage m store pages limit view takes table rec it
-RefusesRecord m store pages limit view takes table rec (faults.Pool fault) = Unit {0}
+RefusesRecord m store pages view takes table rec (faults.Full most) = ⊥
+RefusesRecord m store pages view takes table rec (faults.Damaged it) =
+    IsRecordDamage m store pages view takes table rec it
+RefusesRecord m store pages view takes table rec (faults.Pool fault) = Unit {0}
 
 -- The damage of a walk behind a record: the next record is not found, or its row is not read.
-pub data IsVisitDamage {D L : Type 0} (m : Meaning D) (store : Pool D L) (limit : ℕ) (view : Pages)
+pub data IsVisitDamage {D L : Type 0} (m : Meaning D) (store : Pool D L) (view : Pages)
     (takes : ℕ → Bool) (table : Table) (after : Option RecId) : Damaged → Type 0 where
   no_next : (it : Damaged)
       → RefusesNext m store [] view table.pointer.0 after (faults.Damaged it)
-      → IsVisitDamage m store limit view takes table after it
+      → IsVisitDamage m store view takes table after it
   bad_record : (rec : RecId) (it : Damaged) → GivesNext view table.pointer.0 after (Some rec)
-      → IsRecordDamage m store [] limit view takes table rec it
-      → IsVisitDamage m store limit view takes table after it
+      → IsRecordDamage m store [] view takes table rec it
+      → IsVisitDamage m store view takes table after it
 
 -- why a walk goes no further
-abbrev pub RefusesVisit : {D L : Type 0} → Meaning D → Pool D L → ℕ → Pages → (ℕ → Bool) → Table
+abbrev pub RefusesVisit : {D L : Type 0} → Meaning D → Pool D L → Pages → (ℕ → Bool) → Table
     → Option RecId → SpaceFault → Type 0
-RefusesVisit m store limit view takes table after (faults.Full most) = ⊥
-RefusesVisit m store limit view takes table after (faults.Damaged it) =
-    IsVisitDamage m store limit view takes table after it
-RefusesVisit m store limit view takes table after (faults.Pool fault) = Unit {0}
+RefusesVisit m store view takes table after (faults.Full most) = ⊥
+RefusesVisit m store view takes table after (faults.Damaged it) =
+    IsVisitDamage m store view takes table after it
+RefusesVisit m store view takes table after (faults.Pool fault) = Unit {0}

@@ -56,34 +56,33 @@ pub record IsSpeaker (state : ℕ → TxState) (live : State) (view : Pages) (ta
 
 -- One of these records is damaged, in which a row is looked for.
 pub record IsDamagedAmong {D L : Type 0} (m : Meaning D) (store : Pool D L) (pages : List BatchPage)
-    (limit : ℕ) (view : Pages) (takes : ℕ → Bool) (table : Table) (records : List RecId)
-    (it : Damaged) : Type 0 where
+    (view : Pages) (takes : ℕ → Bool) (table : Table) (records : List RecId) (it : Damaged) : Type 0 where
   pub rec : RecId
   pub among : IsAmong records rec
-  pub damaged : IsRecordDamage m store pages limit view takes table rec it
+  pub damaged : IsRecordDamage m store pages view takes table rec it
 
 -- why the rows of these records are not read
-abbrev pub RefusesRecords : {D L : Type 0} → Meaning D → Pool D L → List BatchPage → ℕ → Pages
+abbrev pub RefusesRecords : {D L : Type 0} → Meaning D → Pool D L → List BatchPage → Pages
     → (ℕ → Bool) → Table → List RecId → SpaceFault → Type 0
-RefusesRecords m store pages limit view takes table records (faults.Full most) = ⊥
-RefusesRecords m store pages limit view takes table records (faults.Damaged it) =
-    IsDamagedAmong m store pages limit view takes table records it
-RefusesRecords m store pages limit view takes table records (faults.Pool fault) = Unit {0}
+RefusesRecords m store pages view takes table records (faults.Full most) = ⊥
+RefusesRecords m store pages view takes table records (faults.Damaged it) =
+    IsDamagedAmong m store pages view takes table records it
+RefusesRecords m store pages view takes table records (faults.Pool fault) = Unit {0}
 
 -- the damage of a table whose rows are looked for: its records are not found, or one is damaged
 pub data IsTableDamage {D L : Type 0} (m : Meaning D) (store : Pool D L) (pages : List BatchPage)
-    (limit : ℕ) (view : Pages) (takes : ℕ → Bool) (table : Table) : Damaged → Type 0 where
+    (view : Pages) (takes : ℕ → Bool) (table : Table) : Damaged → Type 0 where
   no_walk : (it : Damaged) → RefusesWalk m store pages view table.pointer.0 (faults.Damaged it)
-      → IsTableDamage m store pages limit view takes table it
+      → IsTableDamage m store pages view takes table it
   bad_among : (records : List RecId) (it : Damaged)
       → AreTableRecords view table.pointer.0 records
-      → IsDamagedAmong m store pages limit view takes table records it
-      → IsTableDamage m store pages limit view takes table it
+      → IsDamagedAmong m store pages view takes table records it
+      → IsTableDamage m store pages view takes table it
 
 -- why the rows of a table are not read, but for faults of the cache
-abbrev pub RefusesTableRows : {D L : Type 0} → Meaning D → Pool D L → List BatchPage → ℕ → Pages
+abbrev pub RefusesTableRows : {D L : Type 0} → Meaning D → Pool D L → List BatchPage → Pages
     → (ℕ → Bool) → Table → SpaceFault → Type 0
-RefusesTableRows m store pages limit view takes table (faults.Full most) = ⊥
-RefusesTableRows m store pages limit view takes table (faults.Damaged it) =
-    IsTableDamage m store pages limit view takes table it
-RefusesTableRows m store pages limit view takes table (faults.Pool fault) = Unit {0}
+RefusesTableRows m store pages view takes table (faults.Full most) = ⊥
+RefusesTableRows m store pages view takes table (faults.Damaged it) =
+    IsTableDamage m store pages view takes table it
+RefusesTableRows m store pages view takes table (faults.Pool fault) = Unit {0}

@@ -86,10 +86,10 @@ pub record IsCatalogDamage (state : ℕ → TxState) (live : State) (t : TxNo) (
   pub refused : RefusesTables catalog.pointer.0 rows (faults.Damaged it)
 
 -- why the table of a name is not found, but for faults of the cache
-abbrev pub RefusesTable : {D L : Type 0} → Meaning D → Pool D L → List BatchPage → ℕ
+abbrev pub RefusesTable : {D L : Type 0} → Meaning D → Pool D L → List BatchPage
     → (ℕ → TxState) → State → TxNo → Pages → Table → SpaceFault → Type 0
-RefusesTable m store pages limit state live t view catalog (faults.Full most) = ⊥
-RefusesTable m store pages limit state live t view catalog (faults.Damaged it) =
-    IsTableDamage m store pages limit view (wants state live (SeenBy t)) catalog it
+RefusesTable m store pages state live t view catalog (faults.Full most) = ⊥
+RefusesTable m store pages state live t view catalog (faults.Damaged it) =
+    IsTableDamage m store pages view (wants state live (SeenBy t)) catalog it
     ⊎ IsCatalogDamage state live t view catalog it
-RefusesTable m store pages limit state live t view catalog (faults.Pool fault) = Unit {0}
+RefusesTable m store pages state live t view catalog (faults.Pool fault) = Unit {0}

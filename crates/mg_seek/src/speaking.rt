@@ -55,7 +55,7 @@ pub fn speaker<D: Disk, S: States>(
     ensures gives { (image : Image) → Tells D.meaning store.old.disk image → MatchResult result
         (IsSpeaker (S.state_of states.now) live.now (viewed store.old image batch.now) table.now
         key.now)
-        (RefusesTableRows D.meaning store.new batch.now.pages store.old.geometry.limit
+        (RefusesTableRows D.meaning store.new batch.now.pages
         (viewed store.old image batch.now) (wants (S.state_of states.now) live.now Wanted.Living)
         table.now) }
 {
@@ -85,7 +85,7 @@ fn speaker_among<D: Disk, S: States>(
     ensures gives { (image : Image) → Tells D.meaning store.old.disk image → MatchResult result
         (SpeaksAmong (S.state_of states.now) live.now (viewed store.old image batch.now) table.now
         key.now records.now)
-        (RefusesRecords D.meaning store.new batch.now.pages store.old.geometry.limit
+        (RefusesRecords D.meaning store.new batch.now.pages
         (viewed store.old image batch.now) (wants (S.state_of states.now) live.now Wanted.Living)
         table.now records.now) }
 {
@@ -121,7 +121,7 @@ fn speaks<D: Disk, S: States>(
     ensures gives { (image : Image) → Tells D.meaning store.old.disk image → MatchResult result
         (λ does. IsTrue does ↔ Speaks (S.state_of states.now) live.now
         (viewed store.old image batch.now) table.now key.now rec)
-        (RefusesRecord D.meaning store.new batch.now.pages store.old.geometry.limit
+        (RefusesRecord D.meaning store.new batch.now.pages
         (viewed store.old image batch.now) (wants (S.state_of states.now) live.now Wanted.Living)
         table.now rec) }
 {

@@ -52,7 +52,7 @@ pub fn rows_in_view<D: Disk, S: States>(
     ensures gives { (image : Image) → Tells D.meaning store.old.disk image → MatchResult result
         (λ rows. AreRowsSeen (S.state_of states.now) live.now t (viewed store.old image batch.now)
         table.now rows.items)
-        (RefusesTableRows D.meaning store.new batch.now.pages store.old.geometry.limit
+        (RefusesTableRows D.meaning store.new batch.now.pages
         (viewed store.old image batch.now) (wants (S.state_of states.now) live.now (Wanted.SeenBy t))
         table.now) }
 {
@@ -82,7 +82,7 @@ fn rows_among<D: Disk, S: States>(
     ensures gives { (image : Image) → Tells D.meaning store.old.disk image → MatchResult result
         (λ rows. AreSeen (S.state_of states.now) live.now t (viewed store.old image batch.now)
         table.now records.now rows.items)
-        (RefusesRecords D.meaning store.new batch.now.pages store.old.geometry.limit
+        (RefusesRecords D.meaning store.new batch.now.pages
         (viewed store.old image batch.now) (wants (S.state_of states.now) live.now (Wanted.SeenBy t))
         table.now records.now) }
 {
@@ -117,7 +117,7 @@ fn add_row<D: Disk, S: States>(
     ensures gives { (image : Image) → Tells D.meaning store.old.disk image → MatchResult result
         (λ done. AddsSeen (S.state_of states.now) live.now t (viewed store.old image batch.now)
         table.now rec rows.old.items rows.new.items)
-        (RefusesRecord D.meaning store.new batch.now.pages store.old.geometry.limit
+        (RefusesRecord D.meaning store.new batch.now.pages
         (viewed store.old image batch.now) (wants (S.state_of states.now) live.now (Wanted.SeenBy t))
         table.now rec) }
 {
@@ -157,7 +157,7 @@ pub fn table_named<D: Disk, S: States>(
     ensures gives { (image : Image) → Tells D.meaning store.old.disk image → MatchResult result
         (IsTableSeen (S.state_of states.now) live.now t (viewed store.old image batch.now) catalog.now
         name.now)
-        (RefusesTable D.meaning store.new batch.now.pages store.old.geometry.limit
+        (RefusesTable D.meaning store.new batch.now.pages
         (S.state_of states.now) live.now t (viewed store.old image batch.now) catalog.now) }
 {
     let rows = rows_in_view(store, batch, catalog, states, live, t)?;

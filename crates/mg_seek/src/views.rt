@@ -66,7 +66,7 @@ pub fn row_in_view<D: Disk, S: States>(
     ensures gives { (image : Image) → Tells D.meaning store.old.disk image → MatchResult result
         (IsRowSeen (S.state_of states.now) live.now t (viewed store.old image batch.now) table.now
         rec)
-        (RefusesRecord D.meaning store.new batch.now.pages store.old.geometry.limit
+        (RefusesRecord D.meaning store.new batch.now.pages
         (viewed store.old image batch.now) (wants (S.state_of states.now) live.now (Wanted.SeenBy t))
         table.now rec) }
 {
@@ -103,7 +103,7 @@ pub fn record_key<D: Disk, S: States>(
     ensures own { ReadsData result }
     ensures gives { (image : Image) → Tells D.meaning store.old.disk image → MatchResult result
         (IsKeyOf (S.state_of states.now) live.now (viewed store.old image batch.now) table.now rec)
-        (RefusesRecord D.meaning store.new batch.now.pages store.old.geometry.limit
+        (RefusesRecord D.meaning store.new batch.now.pages
         (viewed store.old image batch.now) (wants (S.state_of states.now) live.now Wanted.Any)
         table.now rec) }
 {
@@ -137,7 +137,7 @@ pub fn obstacle_for<D: Disk, S: States>(
     ensures own { ReadsData result }
     ensures gives { (image : Image) → Tells D.meaning store.old.disk image → MatchResult result
         (IsObstacle (S.state_of states.now) live.now t.0 (viewed store.old image batch.now) rec)
-        (RefusesChain D.meaning store.new batch.now.pages store.old.geometry.limit
+        (RefusesChain D.meaning store.new batch.now.pages
         (viewed store.old image batch.now) rec) }
 {
     let Some(newest) = first_version(store, batch, rec, states, live, Wanted::Living)? else {
@@ -202,7 +202,7 @@ pub fn view_step<D: Disk, S: States>(
     ensures own { ReadsData result }
     ensures gives { (image : Image) → Tells D.meaning store.old.disk image → MatchResult result
         (IsVisit (S.state_of states.now) live.now t (shown store.old.dirty image) table.now after)
-        (RefusesVisit D.meaning store.new store.old.geometry.limit (shown store.old.dirty image)
+        (RefusesVisit D.meaning store.new (shown store.old.dirty image)
         (wants (S.state_of states.now) live.now (Wanted.SeenBy t)) table.now after) }
 {
     let Some(rec) = next(store, table.pointer, after)? else {

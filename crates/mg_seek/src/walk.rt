@@ -32,7 +32,7 @@ pub struct Placed {
 /// # Errors
 ///
 /// `Damaged`: where the primary slot's page, or that of a version on the way, is missing or no data
-/// page; at `Cell` where bytes spell no cell; at `Link` where a page past the limit of the file is
+/// page; at `Cell` where bytes spell no cell; at `Link` where a page that no database has is
 /// named, or, with 0 wanted, where the links come back to a place where they were; at `Target` where
 /// a link meets no version of the transaction that it names. `Pool` with `DiskRead`, `Offline` or
 /// `Memory`.
@@ -56,7 +56,7 @@ pub fn first_version<D: Disk, S: States>(
     ensures gives { (image : Image) → Tells D.meaning store.old.disk image → MatchResult result
         (IsFirst (viewed store.old image batch.now)
         (wanted_of (S.state_of states.now) live.now wanted) rec)
-        (RefusesChain D.meaning store.new batch.now.pages store.old.geometry.limit
+        (RefusesChain D.meaning store.new batch.now.pages
         (viewed store.old image batch.now) rec) }
 {
     let Some(first) = newest_link(store, batch, rec)? else {

@@ -27,12 +27,11 @@ pub whole_as : (b a : Geometry) (pages : List BatchPage) → b ≡ a → AreWhol
 whole_as b a pages same whole = subst (λ (g : Geometry). AreWhole g.size pages) same whole
 
 -- what is seen once pages were read was seen before
-pub as_before : {D L : Type 0} (m : Meaning D) (a b : Pool D L) (image : Image) (batch : Changed) (P : ℕ → Pages → Type 0)
-    → KeepsStore m a b → Tells m a.disk image → (Tells m b.disk image → P b.geometry.limit (viewed b image batch))
-    → P a.geometry.limit (viewed a image batch)
+pub as_before : {D L : Type 0} (m : Meaning D) (a b : Pool D L) (image : Image) (batch : Changed)
+    (P : Pages → Type 0) → KeepsStore m a b → Tells m a.disk image
+    → (Tells m b.disk image → P (viewed b image batch)) → P (viewed a image batch)
 as_before m a b image batch P kept tells later =
-    subst (λ (g : Geometry). P g.limit (viewed a image batch)) kept.geometry
-    (subst (P b.geometry.limit) (viewed_on m a b image batch kept) (later (tells_on m a b image kept tells)))
+    subst P (viewed_on m a b image batch kept) (later (tells_on m a b image kept tells))
 
 module _ {D L : Type 0} (m : Meaning D) (a b : Pool D L) (kept : KeepsStore m a b) (image : Image) where
   seen_on : (batch : Changed) → viewed b image batch ≡ viewed a image batch

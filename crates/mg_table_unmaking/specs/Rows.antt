@@ -40,19 +40,19 @@ pub record IsAloneAt (state : ℕ → TxState) (live : State) (t : ℕ) (view : 
   pub alone : IsAlone t newest
 
 -- Why no such record is found. That none speaks for the key, or that it has another version, no lawful engine meets.
-pub data RefusesAloneAt {D L : Type 0} (m : Meaning D) (store : Pool D L) (pages : List BatchPage) (limit : ℕ)
+pub data RefusesAloneAt {D L : Type 0} (m : Meaning D) (store : Pool D L) (pages : List BatchPage)
     (view : Pages) (state : ℕ → TxState) (live : State) (t : ℕ) (table : Table) (key : Value) (fault : SpaceFault)
     : Type 0 where
-  alone_unspoken : RefusesTableRows m store pages limit view (wants state live Living) table fault
-      → RefusesAloneAt m store pages limit view state live t table key fault
+  alone_unspoken : RefusesTableRows m store pages view (wants state live Living) table fault
+      → RefusesAloneAt m store pages view state live t table key fault
   alone_nobody : IsSpeaker state live view table key None → fault ≡ faults.Damaged not_lawful
-      → RefusesAloneAt m store pages limit view state live t table key fault
+      → RefusesAloneAt m store pages view state live t table key fault
   alone_unread : (rec : RecId) → IsSpeaker state live view table key (Some rec)
-      → RefusesChain m store pages limit view rec fault
-      → RefusesAloneAt m store pages limit view state live t table key fault
+      → RefusesChain m store pages view rec fault
+      → RefusesAloneAt m store pages view state live t table key fault
   alone_other : (rec : RecId) (newest : Option Placed) → IsSpeaker state live view table key (Some rec)
       → IsFirst view (wants state live Any) rec newest → (IsAlone t newest → ⊥) → fault ≡ faults.Damaged not_lawful
-      → RefusesAloneAt m store pages limit view state live t table key fault
+      → RefusesAloneAt m store pages view state live t table key fault
 
 -- ---- a row
 
@@ -67,7 +67,7 @@ pub record TakesRow {D L : Type 0} (store : Pool D L) (image : Image) (state : �
 -- `ready`.
 pub data RefusesRow {D L : Type 0} (m : Meaning D) (old new : Pool D L) (image : Image) (state : ℕ → TxState)
     (live : State) (t : ℕ) (table : Table) (key : Value) (batch : Changed) (fault : SpaceFault) : Type 0 where
-  row_not_found : RefusesAloneAt m new batch.pages old.geometry.limit (viewed old image batch) state live t table key
+  row_not_found : RefusesAloneAt m new batch.pages (viewed old image batch) state live t table key
       fault → RefusesRow m old new image state live t table key batch fault
   row_not_out : (rec : RecId) (ready : Pool D L)
       → IsAloneAt state live t (viewed old image batch) table key rec → KeepsStore m old ready

@@ -55,7 +55,7 @@ fn alone_at<D: Disk, S: States>(
     ensures own { ReadsData result }
     ensures gives { (image : Image) → Tells D.meaning store.old.disk image → MatchResult result
         (IsAloneAt (S.state_of states.now) live.now t.0 (viewed store.old image batch.now) table.now key.now)
-        (RefusesAloneAt D.meaning store.new batch.now.pages store.old.geometry.limit
+        (RefusesAloneAt D.meaning store.new batch.now.pages
         (viewed store.old image batch.now) (S.state_of states.now) live.now t.0 table.now key.now) }
 {
     let found = speaker(store, batch, table, key, states, live)?;

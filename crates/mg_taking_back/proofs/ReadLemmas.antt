@@ -1,9 +1,8 @@
 -- What is read over a fresh batch, and after pages were only read.
-use Rattle.std.proofs.Common.{◌≡◌, ℕ, List, [], Result, Ok, Err, subst, sym}
+use Rattle.std.proofs.Common.{◌≡◌, List, [], Result, Ok, Err, subst, sym}
 use Rattle.std.specs.Prelude.{IsErr, IsErrAnd, MatchResult, unwrap_or}
 use Rattle.mg_base.specs.Disk.{Meaning}
 use Rattle.mg_base.specs.Image.{Image}
-use Rattle.mg_base.specs.declared.geometry.Geometry.{Geometry}
 use Rattle.mg_heap.specs.Reading.{ReadsData}
 use Rattle.mg_image.specs.Form.{Pages}
 use Rattle.mg_pool.specs.Batch.{Changed, content_in}
@@ -37,14 +36,11 @@ through_empty store image batch result P Q empty given =
     subst R empty given
 
 -- what is seen once pages were read was seen before
-pub as_before : {D L : Type 0} (m : Meaning D) (a b : Pool D L) (image : Image) (P : ℕ → Pages → Type 0)
-    → KeepsStore m a b → Tells m a.disk image
-    → (Tells m b.disk image → P b.geometry.limit (shown b.dirty image))
-    → P a.geometry.limit (shown a.dirty image)
-as_before m a b image P kept tells later =
-    subst (λ (g : Geometry). P g.limit (shown a.dirty image)) kept.geometry
-    (subst (λ (d : DirtyPages). P b.geometry.limit (shown d image)) kept.dirty
-    (later (tells_on m a b image kept tells)))
+pub as_before : {D L : Type 0} (m : Meaning D) (a b : Pool D L) (image : Image) (P : Pages → Type 0)
+    → KeepsStore m a b → Tells m a.disk image → (Tells m b.disk image → P (shown b.dirty image))
+    → P (shown a.dirty image)
+as_before m a b image P kept tells later = subst (λ (d : DirtyPages). P (shown d image)) kept.dirty
+    (later (tells_on m a b image kept tells))
 
 -- a fault is told whatever the call would have answered
 pub fault_told : {D L : Type 0} (T U : Type 0) (m : Meaning D) (a b : Pool D L) (fault : SpaceFault)

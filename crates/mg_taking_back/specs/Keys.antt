@@ -49,17 +49,17 @@ pub record IsOwnAt (state : ℕ → TxState) (live : State) (t : ℕ) (view : Pa
 
 -- Why no such record is found, but for faults of the cache. That none speaks for the key, or that its newest version is
 -- another one's, no lawful engine meets.
-pub data RefusesOwnAt {D : Type 0} (m : Meaning D) (store : Pool D FireLinks) (limit : ℕ) (view : Pages)
+pub data RefusesOwnAt {D : Type 0} (m : Meaning D) (store : Pool D FireLinks) (view : Pages)
     (state : ℕ → TxState) (live : State) (t : ℕ) (table : Table) (key : Value) (fault : SpaceFault) : Type 0 where
-  own_unspoken : RefusesTableRows m store [] limit view (wants state live Living) table fault
-      → RefusesOwnAt m store limit view state live t table key fault
+  own_unspoken : RefusesTableRows m store [] view (wants state live Living) table fault
+      → RefusesOwnAt m store view state live t table key fault
   own_nobody : IsSpeaker state live view table key None → fault ≡ faults.Damaged not_lawful
-      → RefusesOwnAt m store limit view state live t table key fault
+      → RefusesOwnAt m store view state live t table key fault
   own_unread : (rec : RecId) → IsSpeaker state live view table key (Some rec)
-      → RefusesChain m store [] limit view rec fault → RefusesOwnAt m store limit view state live t table key fault
+      → RefusesChain m store [] view rec fault → RefusesOwnAt m store view state live t table key fault
   own_other : (rec : RecId) (newest : Option Placed) → IsSpeaker state live view table key (Some rec)
       → IsFirst view (wants state live Any) rec newest → (IsOwn t newest → ⊥) → fault ≡ faults.Damaged not_lawful
-      → RefusesOwnAt m store limit view state live t table key fault
+      → RefusesOwnAt m store view state live t table key fault
 
 -- ---- what comes back
 
@@ -133,7 +133,7 @@ pub data FailsKey {D : Type 0} (m : Meaning D) (before after : Pool D FireLinks)
   key_unread : KeepsStore m before after → ReadsData {T = Unit {0}} (Err fault)
       → TellsFault m before after (pool_answer {T = Unit {0}} (Err fault))
       → ((image : Image) → Tells m before.disk image
-      → RefusesOwnAt m after before.geometry.limit (shown before.dirty image) state live t table key fault)
+      → RefusesOwnAt m after (shown before.dirty image) state live t table key fault)
       → FailsKey m before after state live t table key was fault
   key_not_put : (rec : RecId) (ready : Pool D FireLinks) → KeepsStore m before ready → StaysOnline m before ready
       → ((image : Image) → Tells m before.disk image

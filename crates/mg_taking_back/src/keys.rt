@@ -46,7 +46,7 @@ fn speaker_at<D: Disk, S: States>(
     ensures own { ReadsData result }
     ensures gives { (image : Image) → Tells D.meaning store.old.disk image → MatchResult result
         (IsSpeaker (S.state_of states.now) live.now (shown store.old.dirty image) table.now key.now)
-        (RefusesTableRows D.meaning store.new [] store.old.geometry.limit (shown store.old.dirty image)
+        (RefusesTableRows D.meaning store.new [] (shown store.old.dirty image)
         (wants (S.state_of states.now) live.now Wanted.Living) table.now) }
 {
     let batch = Batch::new(store.alloc());
@@ -68,7 +68,7 @@ fn newest_at<D: Disk, S: States>(
     ensures own { ReadsData result }
     ensures gives { (image : Image) → Tells D.meaning store.old.disk image → MatchResult result
         (IsFirst (shown store.old.dirty image) (wants (S.state_of states.now) live.now Wanted.Any) rec)
-        (RefusesChain D.meaning store.new [] store.old.geometry.limit (shown store.old.dirty image) rec) }
+        (RefusesChain D.meaning store.new [] (shown store.old.dirty image) rec) }
 {
     let batch = Batch::new(store.alloc());
     first_version(store, &batch, rec, states, live, Wanted::Any)
@@ -108,7 +108,7 @@ fn own_at<D: Disk, S: States>(
     ensures own { ReadsData result }
     ensures gives { (image : Image) → Tells D.meaning store.old.disk image → MatchResult result
         (IsOwnAt (S.state_of states.now) live.now t.0 (shown store.old.dirty image) table.now key.now)
-        (RefusesOwnAt D.meaning store.new store.old.geometry.limit (shown store.old.dirty image)
+        (RefusesOwnAt D.meaning store.new (shown store.old.dirty image)
         (S.state_of states.now) live.now t.0 table.now key.now) }
 {
     let found = speaker_at(store, table, key, states, live)?;

@@ -10,20 +10,20 @@ pub returns-in_err-head-clause-gives : goal.returns-in_err-head-clause-gives
 returns-in_err-head-clause-gives g c = λ image tells.
     handed_on c.from_residual.result c.in_err-head.field-0.0 _
     (RefusesNewest g.D.Disk.meaning c.head_of.new.store c.args.batch.now.pages
-    c.args.store.now.geometry.limit (viewed c.args.store.now image c.args.batch.now) c.args.rec)
+    (viewed c.args.store.now image c.args.batch.now) c.args.rec)
     c.from_residual.ensures.0 c.from_residual.ensures.1
     (newest_head g.D.Disk.meaning c.head_of.new.store c.args.batch.now.pages
-    (viewed c.args.store.now image c.args.batch.now) c.args.rec c.args.store.now.geometry.limit
+    (viewed c.args.store.now image c.args.batch.now) c.args.rec
     c.in_err-head.field-0.0 (c.in_err-head.ensures.gives image tells))
 
 pub returns-in_err-version-clause-gives : goal.returns-in_err-version-clause-gives
 returns-in_err-version-clause-gives g c = λ image tells.
     handed_on c.from_residual-in_err-version.result c.in_err-version.field-0.0 _
     (RefusesNewest g.D.Disk.meaning c.version_at.new.store c.args.batch.now.pages
-    c.args.store.now.geometry.limit (viewed c.args.store.now image c.args.batch.now) c.args.rec)
+    (viewed c.args.store.now image c.args.batch.now) c.args.rec)
     c.from_residual-in_err-version.ensures.0 c.from_residual-in_err-version.ensures.1
     (newest_version g.D.Disk.meaning c.version_at.new.store c.args.batch.now.pages
-    (viewed c.args.store.now image c.args.batch.now) c.args.rec c.args.store.now.geometry.limit
+    (viewed c.args.store.now image c.args.batch.now) c.args.rec
     c.in_ok-head.head.newest c.in_ok-head.head.owner.0 c.in_err-version.field-0.0
     (c.in_ok-head.ensures.gives image tells)
     (met_on g.D.Disk.meaning c.args.store.now c.head_of.new.store c.version_at.new.store image

@@ -1,10 +1,9 @@
-use Rattle.std.proofs.Common.{◌≤◌, ◌∙◌, ◌∷◌, [], ◌<◌, ℕ, List, length, length-append, ap, subst, sym, refl, arith}
+use Rattle.std.proofs.Common.{◌∙◌, ◌∷◌, [], ◌<◌, ℕ, List, length, length-append, ap, subst, sym, refl, arith}
 use Rattle.mg_base.specs.declared.geometry.TheConstants.{GREATEST_LIMIT}
 use Rattle.mg_image.specs.Form.{Pages}
 use Rattle.mg_image.specs.Tables.{Has, IsOnce, entries_in}
 use Rattle.mg_space.specs.View.{viewed}
 use Rattle.mg_space.specs.ViewLaws.{keeps_itself, keeps_on}
-use Rattle.mg_space.specs.declared.fault.SpaceFault.TheVariants as faults
 use Rattle.mg_heap.specs.Reach.{RefusesReach}
 use Rattle.mg_heap.specs.Table.{FollowsPage, LeadsTo, RefusesPointer, none}
 use Rattle.mg_heap.proofs.ReachLemmas.{breaks_off, is_not, is_unlisted, none_further, reaches}

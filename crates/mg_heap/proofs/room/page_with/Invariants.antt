@@ -1,4 +1,4 @@
-use Rattle.std.proofs.Common.{◌≡◌, ◌<◌, ℕ, get_or, length}
+use Rattle.std.proofs.Common.{◌<◌, ℕ, get_or, length}
 use Rattle.mg_base.specs.Image.{Image}
 use Rattle.mg_slots.specs.Room.{room_of}
 use Rattle.mg_pool.specs.Fault.{MeetsNoFault}

@@ -1,4 +1,4 @@
-use Rattle.std.proofs.Common.{◌≡◌, Option, drop}
+use Rattle.std.proofs.Common.{Option, drop}
 use Rattle.mg_base.specs.Image.{Image}
 use Rattle.mg_base.specs.declared.numbers.RecId.{RecId}
 use Rattle.mg_pool.specs.Fault.{MeetsNoFault}

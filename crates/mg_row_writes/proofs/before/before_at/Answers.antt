@@ -18,14 +18,14 @@ use Rattle.mg_row_writes.proofs.before.before_at.Goals as goal
 pub returns-in_err-newest-clause-gives : goal.returns-in_err-newest-clause-gives
 returns-in_err-newest-clause-gives g c = λ image tells. handed_on c.from_residual.result c.in_err-newest.field-0.0
     (IsBefore (g.S.States.state_of c.args.states.now) c.args.live.now c.args.t.0 (shown c.args.store.now.dirty image) c.args.table.now c.args.rec)
-    (RefusesSeen g.D.Disk.meaning c.first_version.new.store c.args.store.now.geometry.limit (shown c.args.store.now.dirty image) (wants (g.S.States.state_of c.args.states.now) c.args.live.now Any) c.args.table.now c.args.rec)
+    (RefusesSeen g.D.Disk.meaning c.first_version.new.store (shown c.args.store.now.dirty image) (wants (g.S.States.state_of c.args.states.now) c.args.live.now Any) c.args.table.now c.args.rec)
     c.from_residual.ensures.0 c.from_residual.ensures.1
-    (subst (λ (r : Option RecId). RefusesSeen g.D.Disk.meaning c.first_version.new.store c.args.store.now.geometry.limit (shown c.args.store.now.dirty image) (wants (g.S.States.state_of c.args.states.now) c.args.live.now Any) c.args.table.now r
+    (subst (λ (r : Option RecId). RefusesSeen g.D.Disk.meaning c.first_version.new.store (shown c.args.store.now.dirty image) (wants (g.S.States.state_of c.args.states.now) c.args.live.now Any) c.args.table.now r
     c.in_err-newest.field-0.0) (sym c.in-Some.is)
-    (chain_refuses g.D.Disk.meaning c.first_version.new.store [] c.args.store.now.geometry.limit (shown c.args.store.now.dirty image) (wants (g.S.States.state_of c.args.states.now) c.args.live.now Any) c.args.table.now c.in-Some.rec
+    (chain_refuses g.D.Disk.meaning c.first_version.new.store [] (shown c.args.store.now.dirty image) (wants (g.S.States.state_of c.args.states.now) c.args.live.now Any) c.args.table.now c.in-Some.rec
     c.in_err-newest.field-0.0
     (empty_seen c.args.store.now image c.new-batch.result (λ (pages : List BatchPage). λ (view : Pages).
-    RefusesChain g.D.Disk.meaning c.first_version.new.store pages c.args.store.now.geometry.limit view c.in-Some.rec c.in_err-newest.field-0.0)
+    RefusesChain g.D.Disk.meaning c.first_version.new.store pages view c.in-Some.rec c.in_err-newest.field-0.0)
     c.new-batch.ensures.pages (c.in_err-newest.ensures.gives image tells))))
 
 pub returns-in_default-2-clause-gives : goal.returns-in_default-2-clause-gives
@@ -41,8 +41,8 @@ returns-in_default-2-clause-gives g c = λ image tells. subst (λ (r : Option Re
 pub returns-then-newest-t-clause-gives : goal.returns-then-newest-t-clause-gives
 returns-then-newest-t-clause-gives g c = λ image tells. subst (λ (r : Option RecId). MatchResult c.own_before.result
     (IsBefore (g.S.States.state_of c.args.states.now) c.args.live.now c.args.t.0 (shown c.args.store.now.dirty image) c.args.table.now r)
-    (RefusesSeen g.D.Disk.meaning c.first_version.new.store c.args.store.now.geometry.limit (shown c.args.store.now.dirty image) (wants (g.S.States.state_of c.args.states.now) c.args.live.now Any) c.args.table.now r)) (sym c.in-Some.is)
-    (own_comes g.D.Disk.meaning c.first_version.new.store c.args.store.now.geometry.limit (shown c.args.store.now.dirty image) (g.S.States.state_of c.args.states.now) c.args.live.now c.args.t.0 c.args.table.now c.in-Some.rec
+    (RefusesSeen g.D.Disk.meaning c.first_version.new.store (shown c.args.store.now.dirty image) (wants (g.S.States.state_of c.args.states.now) c.args.live.now Any) c.args.table.now r)) (sym c.in-Some.is)
+    (own_comes g.D.Disk.meaning c.first_version.new.store (shown c.args.store.now.dirty image) (g.S.States.state_of c.args.states.now) c.args.live.now c.args.t.0 c.args.table.now c.in-Some.rec
     c.in_ok-newest.field-0 c.in-Some-2.newest c.own_before.result (empty_seen c.args.store.now image c.new-batch.result (λ (pages : List BatchPage). λ (view : Pages).
     IsFirst view (wants (g.S.States.state_of c.args.states.now) c.args.live.now Any) c.in-Some.rec c.in_ok-newest.field-0) c.new-batch.ensures.pages
     (c.in_ok-newest.ensures.gives image tells)) c.in-Some-2.is

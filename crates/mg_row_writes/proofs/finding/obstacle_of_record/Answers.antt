@@ -13,8 +13,8 @@ use Rattle.mg_row_writes.proofs.finding.obstacle_of_record.Goals as goal
 pub returns-clause-gives : goal.returns-clause-gives
 returns-clause-gives g c = λ image tells. subst (λ (r : Option RecId). MatchResult c.obstacle_for.result
     (IsInWay (g.S.States.state_of c.args.states.now) c.args.live.now c.args.t.0 (shown c.args.store.now.dirty image) r)
-    (RefusesWay g.D.Disk.meaning c.obstacle_for.new.store c.args.store.now.geometry.limit (shown c.args.store.now.dirty image) r)) (sym c.in-Some.is)
+    (RefusesWay g.D.Disk.meaning c.obstacle_for.new.store (shown c.args.store.now.dirty image) r)) (sym c.in-Some.is)
     (through_empty c.args.store.now image c.new-batch.result c.obstacle_for.result
     (λ (view : Pages). IsObstacle (g.S.States.state_of c.args.states.now) c.args.live.now c.args.t.0 view c.in-Some.rec)
-    (λ (pages : List BatchPage). λ (view : Pages). RefusesChain g.D.Disk.meaning c.obstacle_for.new.store pages c.args.store.now.geometry.limit view
+    (λ (pages : List BatchPage). λ (view : Pages). RefusesChain g.D.Disk.meaning c.obstacle_for.new.store pages view
     c.in-Some.rec) c.new-batch.ensures.pages (c.obstacle_for.ensures.gives image tells))

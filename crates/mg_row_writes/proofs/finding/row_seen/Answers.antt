@@ -15,10 +15,10 @@ use Rattle.mg_row_writes.proofs.finding.row_seen.Goals as goal
 pub returns-clause-gives : goal.returns-clause-gives
 returns-clause-gives g c = λ image tells. subst (λ (r : Option RecId). MatchResult c.row_in_view.result
     (IsSeenIn (g.S.States.state_of c.args.states.now) c.args.live.now c.args.t (shown c.args.store.now.dirty image) c.args.table.now r)
-    (RefusesSeen g.D.Disk.meaning c.row_in_view.new.store c.args.store.now.geometry.limit (shown c.args.store.now.dirty image) (wants (g.S.States.state_of c.args.states.now) c.args.live.now (SeenBy c.args.t))
+    (RefusesSeen g.D.Disk.meaning c.row_in_view.new.store (shown c.args.store.now.dirty image) (wants (g.S.States.state_of c.args.states.now) c.args.live.now (SeenBy c.args.t))
     c.args.table.now r)) (sym c.in-Some.is)
     (through_empty c.args.store.now image c.new-batch.result c.row_in_view.result
     (λ (view : Pages). IsRowSeen (g.S.States.state_of c.args.states.now) c.args.live.now c.args.t view c.args.table.now c.in-Some.rec)
-    (λ (pages : List BatchPage). λ (view : Pages). RefusesRecord g.D.Disk.meaning c.row_in_view.new.store pages c.args.store.now.geometry.limit view
+    (λ (pages : List BatchPage). λ (view : Pages). RefusesRecord g.D.Disk.meaning c.row_in_view.new.store pages view
     (wants (g.S.States.state_of c.args.states.now) c.args.live.now (SeenBy c.args.t)) c.args.table.now c.in-Some.rec)
     c.new-batch.ensures.pages (c.row_in_view.ensures.gives image tells))

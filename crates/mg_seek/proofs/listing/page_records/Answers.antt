@@ -21,7 +21,7 @@ returns-in_err-add_page-clause-gives g c = λ image tells. handed_on c.from_resi
     c.loop-place.place c.args.data_pages.now
     (record { 0 = get_or c.args.data_pages.now c.loop-place.place 0 }) c.in_err-add_page.field-0.0 (omega arith) refl refl
     (as_kept g.D.Disk.meaning c.args.store.now c.loop-place.store image c.args.batch.now
-    (λ (limit : ℕ). λ (pages : Pages). RefusesTableData g.D.Disk.meaning c.add_page.new.store c.args.batch.now.pages
+    (λ (pages : Pages). RefusesTableData g.D.Disk.meaning c.add_page.new.store c.args.batch.now.pages
     (pages (get_or c.args.data_pages.now c.loop-place.place 0)) c.args.owner.0 c.loop-place.place
     (record { 0 = get_or c.args.data_pages.now c.loop-place.place 0 }) c.in_err-add_page.field-0.0)
     c.loop-place.invariant.keeps tells (c.in_err-add_page.ensures.gives image)))
@@ -36,7 +36,7 @@ loop-place-preserved g c = record {
       (get_or c.args.data_pages.now c.loop-place.place 0) c.loop-place.records.items
       c.add_page.new.records.items (records_in (viewed c.args.store.now image c.args.batch.now) c.args.data_pages.now) (omega arith) refl
       (as_kept g.D.Disk.meaning c.args.store.now c.loop-place.store image c.args.batch.now
-      (λ (limit : ℕ). λ (pages : Pages). c.add_page.new.records.items ≡ c.loop-place.records.items
+      (λ (pages : Pages). c.add_page.new.records.items ≡ c.loop-place.records.items
       ++ records_on (pages (get_or c.args.data_pages.now c.loop-place.place 0))
       (get_or c.args.data_pages.now c.loop-place.place 0)) c.loop-place.invariant.keeps tells
       (c.in_ok-add_page.ensures.gives image)) (c.loop-place.invariant.rest image tells);

@@ -24,7 +24,7 @@ returns-clause-gives g c = λ image tells.
     c.in_ok-table.table.pointers.items c.in_ok-table.table.data_pages.items (λ records. records.items)
     c.page_records.result (c.in_ok-table.ensures.finds image tells)
     (as_kept g.D.Disk.meaning c.args.store.now c.table_pages.new.store image c.args.batch.now
-    (λ (limit : ℕ). λ (view : Pages). MatchResult c.page_records.result
+    (λ (view : Pages). MatchResult c.page_records.result
     (λ records. records.items ≡ records_in view c.in_ok-table.table.data_pages.items)
     (RefusesWalkOf g.D.Disk.meaning c.page_records.new.store c.args.batch.now.pages view c.args.owner.0
     c.in_ok-table.table.data_pages.items)) c.in_ok-table.ensures.keeps tells

@@ -14,14 +14,14 @@ pub returns-in_err-records-clause-gives : goal.returns-in_err-records-clause-giv
 returns-in_err-records-clause-gives g c = λ image tells.
     handed_on c.from_residual.result c.in_err-records.field-0.0
     (IsSpeaker (g.S.States.state_of c.args.states.now) c.args.live.now (viewed c.args.store.now image c.args.batch.now) c.args.table.now c.args.key.now)
-    (RefusesTableRows g.D.Disk.meaning c.table_records.new.store c.args.batch.now.pages c.args.store.now.geometry.limit (viewed c.args.store.now image c.args.batch.now) (wants (g.S.States.state_of c.args.states.now) c.args.live.now Living) c.args.table.now)
+    (RefusesTableRows g.D.Disk.meaning c.table_records.new.store c.args.batch.now.pages (viewed c.args.store.now image c.args.batch.now) (wants (g.S.States.state_of c.args.states.now) c.args.live.now Living) c.args.table.now)
     c.from_residual.ensures.0 c.from_residual.ensures.1
-    (walk_refuses g.D.Disk.meaning c.table_records.new.store c.args.batch.now.pages c.args.store.now.geometry.limit (viewed c.args.store.now image c.args.batch.now) (wants (g.S.States.state_of c.args.states.now) c.args.live.now Living) c.args.table.now
+    (walk_refuses g.D.Disk.meaning c.table_records.new.store c.args.batch.now.pages (viewed c.args.store.now image c.args.batch.now) (wants (g.S.States.state_of c.args.states.now) c.args.live.now Living) c.args.table.now
     c.in_err-records.field-0.0 (c.in_err-records.ensures.gives image tells))
 
 pub returns-clause-gives : goal.returns-clause-gives
 returns-clause-gives g c = λ image tells.
-    of_table g.D.Disk.meaning c.speaker_among.new.store c.args.batch.now.pages c.args.store.now.geometry.limit (viewed c.args.store.now image c.args.batch.now) (wants (g.S.States.state_of c.args.states.now) c.args.live.now Living) c.args.table.now
+    of_table g.D.Disk.meaning c.speaker_among.new.store c.args.batch.now.pages (viewed c.args.store.now image c.args.batch.now) (wants (g.S.States.state_of c.args.states.now) c.args.live.now Living) c.args.table.now
     c.in_ok-records.records.items
     (SpeaksAmong (g.S.States.state_of c.args.states.now) c.args.live.now (viewed c.args.store.now image c.args.batch.now) c.args.table.now c.args.key.now c.in_ok-records.records.items)
     (IsSpeaker (g.S.States.state_of c.args.states.now) c.args.live.now (viewed c.args.store.now image c.args.batch.now) c.args.table.now c.args.key.now) c.speaker_among.result
@@ -32,8 +32,8 @@ returns-clause-gives g c = λ image tells.
       speaks = speaks;
     })
     (as_kept g.D.Disk.meaning c.args.store.now c.table_records.new.store image c.args.batch.now
-    (λ (limit : ℕ). λ (view : Pages). MatchResult c.speaker_among.result
+    (λ (view : Pages). MatchResult c.speaker_among.result
     (SpeaksAmong (g.S.States.state_of c.args.states.now) c.args.live.now view c.args.table.now c.args.key.now c.in_ok-records.records.items)
-    (RefusesRecords g.D.Disk.meaning c.speaker_among.new.store c.args.batch.now.pages limit view (wants (g.S.States.state_of c.args.states.now) c.args.live.now Living) c.args.table.now
+    (RefusesRecords g.D.Disk.meaning c.speaker_among.new.store c.args.batch.now.pages view (wants (g.S.States.state_of c.args.states.now) c.args.live.now Living) c.args.table.now
     c.in_ok-records.records.items)) c.in_ok-records.ensures.keeps tells
     (rw c.deref.ensures.value at (c.speaker_among.ensures.gives image)))

@@ -19,14 +19,14 @@ pub returns-in_err-does-clause-gives : goal.returns-in_err-does-clause-gives
 returns-in_err-does-clause-gives g c = λ image tells.
     handed_on c.from_residual.result c.in_err-does.field-0.0
     (SpeaksAmong (g.S.States.state_of c.args.states.now) c.args.live.now (viewed c.args.store.now image c.args.batch.now) c.args.table.now c.args.key.now c.args.records.now)
-    (RefusesRecords g.D.Disk.meaning c.speaks.new.store c.args.batch.now.pages c.args.store.now.geometry.limit (viewed c.args.store.now image c.args.batch.now) (wants (g.S.States.state_of c.args.states.now) c.args.live.now Living) c.args.table.now c.args.records.now)
+    (RefusesRecords g.D.Disk.meaning c.speaks.new.store c.args.batch.now.pages (viewed c.args.store.now image c.args.batch.now) (wants (g.S.States.state_of c.args.states.now) c.args.live.now Living) c.args.table.now c.args.records.now)
     c.from_residual.ensures.0 c.from_residual.ensures.1
-    (record_refuses g.D.Disk.meaning c.speaks.new.store c.args.batch.now.pages c.args.store.now.geometry.limit (viewed c.args.store.now image c.args.batch.now) (wants (g.S.States.state_of c.args.states.now) c.args.live.now Living) c.args.table.now c.args.records.now
+    (record_refuses g.D.Disk.meaning c.speaks.new.store c.args.batch.now.pages (viewed c.args.store.now image c.args.batch.now) (wants (g.S.States.state_of c.args.states.now) c.args.live.now Living) c.args.table.now c.args.records.now
     c.in-Some.rec.now c.in_err-does.field-0.0
     (c.loop-rec.invariant.among c.in-Some.rec.now (subst (λ (recs : List RecId). IsAmong recs c.in-Some.rec.now)
     (sym c.in-Some.ensures.cases.0) (inl refl)))
     (as_kept g.D.Disk.meaning c.args.store.now c.loop-rec.store image c.args.batch.now
-    (λ (limit : ℕ). λ (view : Pages). RefusesRecord g.D.Disk.meaning c.speaks.new.store c.args.batch.now.pages limit view (wants (g.S.States.state_of c.args.states.now) c.args.live.now Living)
+    (λ (view : Pages). RefusesRecord g.D.Disk.meaning c.speaks.new.store c.args.batch.now.pages view (wants (g.S.States.state_of c.args.states.now) c.args.live.now Living)
     c.args.table.now c.in-Some.rec.now c.in_err-does.field-0.0) c.loop-rec.invariant.keeps tells
     (c.in_err-does.ensures.gives image)))
 
@@ -37,7 +37,7 @@ returns-then-does-clause-gives g c = λ image tells.
     (Some c.in-Some.rec.now)) (sym c.in-Some.ensures.cases.0) (
       inl refl,
       (as_kept g.D.Disk.meaning c.args.store.now c.loop-rec.store image c.args.batch.now
-          (λ (limit : ℕ). λ (view : Pages). IsTrue c.in_ok-does.does ↔ Speaks (g.S.States.state_of c.args.states.now) c.args.live.now view
+          (λ (view : Pages). IsTrue c.in_ok-does.does ↔ Speaks (g.S.States.state_of c.args.states.now) c.args.live.now view
           c.args.table.now c.args.key.now c.in-Some.rec.now) c.loop-rec.invariant.keeps tells
           (c.in_ok-does.ensures.gives image)).0 c.if-does.true,
     ))
@@ -56,7 +56,7 @@ loop-rec-preserved g c = record {
       c.in-Some.later.now found
       (λ speaks. false≢true (sym c.if-does.false ∙
       (as_kept g.D.Disk.meaning c.args.store.now c.loop-rec.store image c.args.batch.now
-      (λ (limit : ℕ). λ (view : Pages). IsTrue c.in_ok-does.does ↔ Speaks (g.S.States.state_of c.args.states.now) c.args.live.now view
+      (λ (view : Pages). IsTrue c.in_ok-does.does ↔ Speaks (g.S.States.state_of c.args.states.now) c.args.live.now view
       c.args.table.now c.args.key.now c.in-Some.rec.now) c.loop-rec.invariant.keeps tells
       (c.in_ok-does.ensures.gives image)).1 speaks)) later));
 }

@@ -13,9 +13,9 @@ pub returns-in_err-newest-clause-gives : goal.returns-in_err-newest-clause-gives
 returns-in_err-newest-clause-gives g c = λ image tells.
     handed_on c.from_residual.result c.in_err-newest.field-0.0
     (λ does. IsTrue does ↔ Speaks (g.S.States.state_of c.args.states.now) c.args.live.now (viewed c.args.store.now image c.args.batch.now) c.args.table.now c.args.key.now c.args.rec)
-    (RefusesRecord g.D.Disk.meaning c.first_version.new.store c.args.batch.now.pages c.args.store.now.geometry.limit (viewed c.args.store.now image c.args.batch.now) (wants (g.S.States.state_of c.args.states.now) c.args.live.now Living) c.args.table.now c.args.rec)
+    (RefusesRecord g.D.Disk.meaning c.first_version.new.store c.args.batch.now.pages (viewed c.args.store.now image c.args.batch.now) (wants (g.S.States.state_of c.args.states.now) c.args.live.now Living) c.args.table.now c.args.rec)
     c.from_residual.ensures.0 c.from_residual.ensures.1
-    (chain_refuses g.D.Disk.meaning c.first_version.new.store c.args.batch.now.pages c.args.store.now.geometry.limit (viewed c.args.store.now image c.args.batch.now) (wants (g.S.States.state_of c.args.states.now) c.args.live.now Living) c.args.table.now c.args.rec
+    (chain_refuses g.D.Disk.meaning c.first_version.new.store c.args.batch.now.pages (viewed c.args.store.now image c.args.batch.now) (wants (g.S.States.state_of c.args.states.now) c.args.live.now Living) c.args.table.now c.args.rec
     c.in_err-newest.field-0.0 (c.in_err-newest.ensures.gives image tells))
 
 pub returns-in_default-clause-gives : goal.returns-in_default-clause-gives
@@ -44,9 +44,9 @@ pub returns-in_err-row-clause-gives : goal.returns-in_err-row-clause-gives
 returns-in_err-row-clause-gives g c = λ image tells.
     handed_on c.from_residual-in_err-row.result c.in_err-row.field-0.0
     (λ does. IsTrue does ↔ Speaks (g.S.States.state_of c.args.states.now) c.args.live.now (viewed c.args.store.now image c.args.batch.now) c.args.table.now c.args.key.now c.args.rec)
-    (RefusesRecord g.D.Disk.meaning c.first_version.new.store c.args.batch.now.pages c.args.store.now.geometry.limit (viewed c.args.store.now image c.args.batch.now) (wants (g.S.States.state_of c.args.states.now) c.args.live.now Living) c.args.table.now c.args.rec)
+    (RefusesRecord g.D.Disk.meaning c.first_version.new.store c.args.batch.now.pages (viewed c.args.store.now image c.args.batch.now) (wants (g.S.States.state_of c.args.states.now) c.args.live.now Living) c.args.table.now c.args.rec)
     c.from_residual-in_err-row.ensures.0 c.from_residual-in_err-row.ensures.1
-    (body_refuses g.D.Disk.meaning c.first_version.new.store c.args.batch.now.pages c.args.store.now.geometry.limit (viewed c.args.store.now image c.args.batch.now) (wants (g.S.States.state_of c.args.states.now) c.args.live.now Living) c.args.table.now c.args.rec
+    (body_refuses g.D.Disk.meaning c.first_version.new.store c.args.batch.now.pages (viewed c.args.store.now image c.args.batch.now) (wants (g.S.States.state_of c.args.states.now) c.args.live.now Living) c.args.table.now c.args.rec
     c.in_ok-newest.field-0 c.in-Some.newest (c.in_ok-newest.ensures.gives image tells) c.in-Some.is
     c.in_err-row.field-0.0 c.in_err-row.ensures)
 

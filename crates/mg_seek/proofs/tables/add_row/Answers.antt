@@ -9,7 +9,7 @@ use Rattle.mg_seek.proofs.tables.add_row.Goals as goal
 pub returns-in_err-row-clause-gives : goal.returns-in_err-row-clause-gives
 returns-in_err-row-clause-gives g c = λ image tells.
     handed_on c.from_residual.result c.in_err-row.field-0.0 _
-    (RefusesRecord g.D.Disk.meaning c.row_in_view.new.store c.args.batch.now.pages c.args.store.now.geometry.limit (viewed c.args.store.now image c.args.batch.now) (wants (g.S.States.state_of c.args.states.now) c.args.live.now (SeenBy c.args.t)) c.args.table.now c.args.rec)
+    (RefusesRecord g.D.Disk.meaning c.row_in_view.new.store c.args.batch.now.pages (viewed c.args.store.now image c.args.batch.now) (wants (g.S.States.state_of c.args.states.now) c.args.live.now (SeenBy c.args.t)) c.args.table.now c.args.rec)
     c.from_residual.ensures.0 c.from_residual.ensures.1 (c.in_err-row.ensures.gives image tells)
 
 pub returns-in_default-clause-gives : goal.returns-in_default-clause-gives

@@ -27,14 +27,14 @@ loop-rec-init g c = record {
 pub returns-in_err-add_row-clause-gives : goal.returns-in_err-add_row-clause-gives
 returns-in_err-add_row-clause-gives g c = λ image tells.
     handed_on c.from_residual.result c.in_err-add_row.field-0.0 _
-    (RefusesRecords g.D.Disk.meaning c.add_row.new.store c.args.batch.now.pages c.args.store.now.geometry.limit (viewed c.args.store.now image c.args.batch.now) (wants (g.S.States.state_of c.args.states.now) c.args.live.now (SeenBy c.args.t)) c.args.table.now c.args.records.now)
+    (RefusesRecords g.D.Disk.meaning c.add_row.new.store c.args.batch.now.pages (viewed c.args.store.now image c.args.batch.now) (wants (g.S.States.state_of c.args.states.now) c.args.live.now (SeenBy c.args.t)) c.args.table.now c.args.records.now)
     c.from_residual.ensures.0 c.from_residual.ensures.1
-    (record_refuses g.D.Disk.meaning c.add_row.new.store c.args.batch.now.pages c.args.store.now.geometry.limit (viewed c.args.store.now image c.args.batch.now) (wants (g.S.States.state_of c.args.states.now) c.args.live.now (SeenBy c.args.t)) c.args.table.now c.args.records.now
+    (record_refuses g.D.Disk.meaning c.add_row.new.store c.args.batch.now.pages (viewed c.args.store.now image c.args.batch.now) (wants (g.S.States.state_of c.args.states.now) c.args.live.now (SeenBy c.args.t)) c.args.table.now c.args.records.now
     c.in-Some.rec.now c.in_err-add_row.field-0.0
     (c.loop-rec.invariant.among c.in-Some.rec.now (subst (λ (recs : List RecId). IsAmong recs c.in-Some.rec.now)
     (sym c.in-Some.ensures.cases.0) (inl refl)))
     (as_kept g.D.Disk.meaning c.args.store.now c.loop-rec.store image c.args.batch.now
-    (λ (limit : ℕ). λ (view : Pages). RefusesRecord g.D.Disk.meaning c.add_row.new.store c.args.batch.now.pages limit view (wants (g.S.States.state_of c.args.states.now) c.args.live.now (SeenBy c.args.t))
+    (λ (view : Pages). RefusesRecord g.D.Disk.meaning c.add_row.new.store c.args.batch.now.pages view (wants (g.S.States.state_of c.args.states.now) c.args.live.now (SeenBy c.args.t))
     c.args.table.now c.in-Some.rec.now c.in_err-add_row.field-0.0) c.loop-rec.invariant.keeps tells
     (c.in_err-add_row.ensures.gives image)))
 
@@ -49,7 +49,7 @@ loop-rec-preserved g c = record {
       c.in-Some.rec.now c.in-Some.later.now c.args.records.now c.loop-rec.rows.items
       c.add_row.new.rows.items later
       (as_kept g.D.Disk.meaning c.args.store.now c.loop-rec.store image c.args.batch.now
-      (λ (limit : ℕ). λ (view : Pages). AddsSeen (g.S.States.state_of c.args.states.now) c.args.live.now c.args.t view c.args.table.now
+      (λ (view : Pages). AddsSeen (g.S.States.state_of c.args.states.now) c.args.live.now c.args.t view c.args.table.now
       c.in-Some.rec.now c.loop-rec.rows.items c.add_row.new.rows.items) c.loop-rec.invariant.keeps tells
       (c.in_ok-add_row.ensures.gives image)) are
       (λ rows whole. c.loop-rec.invariant.further image tells rows

@@ -8,9 +8,9 @@ pub returns-in_err-rows-clause-gives : goal.returns-in_err-rows-clause-gives
 returns-in_err-rows-clause-gives g c = λ image tells.
     handed_on c.from_residual.result c.in_err-rows.field-0.0
     (IsTableSeen (g.S.States.state_of c.args.states.now) c.args.live.now c.args.t (viewed c.args.store.now image c.args.batch.now) c.args.catalog.now c.args.name.now)
-    (RefusesTable g.D.Disk.meaning c.rows_in_view.new.store c.args.batch.now.pages c.args.store.now.geometry.limit (g.S.States.state_of c.args.states.now) c.args.live.now c.args.t (viewed c.args.store.now image c.args.batch.now) c.args.catalog.now)
+    (RefusesTable g.D.Disk.meaning c.rows_in_view.new.store c.args.batch.now.pages (g.S.States.state_of c.args.states.now) c.args.live.now c.args.t (viewed c.args.store.now image c.args.batch.now) c.args.catalog.now)
     c.from_residual.ensures.0 c.from_residual.ensures.1
-    (rows_refuse g.D.Disk.meaning c.rows_in_view.new.store c.args.batch.now.pages c.args.store.now.geometry.limit (g.S.States.state_of c.args.states.now) c.args.live.now c.args.t (viewed c.args.store.now image c.args.batch.now) c.args.catalog.now
+    (rows_refuse g.D.Disk.meaning c.rows_in_view.new.store c.args.batch.now.pages (g.S.States.state_of c.args.states.now) c.args.live.now c.args.t (viewed c.args.store.now image c.args.batch.now) c.args.catalog.now
     c.in_err-rows.field-0.0 (c.in_err-rows.ensures.gives image tells))
 
 pub returns-in_err-table_in-clause-fault : goal.returns-in_err-table_in-clause-fault
@@ -30,9 +30,9 @@ pub returns-in_err-table_in-clause-gives : goal.returns-in_err-table_in-clause-g
 returns-in_err-table_in-clause-gives g c = λ image tells.
     handed_on c.from_residual-in_err-table_in.result c.in_err-table_in.field-0.0
     (IsTableSeen (g.S.States.state_of c.args.states.now) c.args.live.now c.args.t (viewed c.args.store.now image c.args.batch.now) c.args.catalog.now c.args.name.now)
-    (RefusesTable g.D.Disk.meaning c.rows_in_view.new.store c.args.batch.now.pages c.args.store.now.geometry.limit (g.S.States.state_of c.args.states.now) c.args.live.now c.args.t (viewed c.args.store.now image c.args.batch.now) c.args.catalog.now)
+    (RefusesTable g.D.Disk.meaning c.rows_in_view.new.store c.args.batch.now.pages (g.S.States.state_of c.args.states.now) c.args.live.now c.args.t (viewed c.args.store.now image c.args.batch.now) c.args.catalog.now)
     c.from_residual-in_err-table_in.ensures.0 c.from_residual-in_err-table_in.ensures.1
-    (tables_refuse g.D.Disk.meaning c.rows_in_view.new.store c.args.batch.now.pages c.args.store.now.geometry.limit (g.S.States.state_of c.args.states.now) c.args.live.now c.args.t (viewed c.args.store.now image c.args.batch.now) c.args.catalog.now
+    (tables_refuse g.D.Disk.meaning c.rows_in_view.new.store c.args.batch.now.pages (g.S.States.state_of c.args.states.now) c.args.live.now c.args.t (viewed c.args.store.now image c.args.batch.now) c.args.catalog.now
     c.in_ok-rows.rows.items c.in_err-table_in.field-0.0 (c.in_ok-rows.ensures.gives image tells)
     (rw c.deref.ensures.value at c.in_err-table_in.ensures))
 

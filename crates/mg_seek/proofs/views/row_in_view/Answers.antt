@@ -11,10 +11,10 @@ pub returns-in_err-found-clause-gives : goal.returns-in_err-found-clause-gives
 returns-in_err-found-clause-gives g c = λ image tells.
     handed_on c.from_residual.result c.in_err-found.field-0.0
     (IsRowSeen (g.S.States.state_of c.args.states.now) c.args.live.now c.args.t (viewed c.args.store.now image c.args.batch.now) c.args.table.now c.args.rec)
-    (RefusesRecord g.D.Disk.meaning c.first_version.new.store c.args.batch.now.pages c.args.store.now.geometry.limit (viewed c.args.store.now image c.args.batch.now)
+    (RefusesRecord g.D.Disk.meaning c.first_version.new.store c.args.batch.now.pages (viewed c.args.store.now image c.args.batch.now)
     (wants (g.S.States.state_of c.args.states.now) c.args.live.now (SeenBy c.args.t)) c.args.table.now c.args.rec)
     c.from_residual.ensures.0 c.from_residual.ensures.1
-    (chain_refuses g.D.Disk.meaning c.first_version.new.store c.args.batch.now.pages c.args.store.now.geometry.limit (viewed c.args.store.now image c.args.batch.now)
+    (chain_refuses g.D.Disk.meaning c.first_version.new.store c.args.batch.now.pages (viewed c.args.store.now image c.args.batch.now)
     (wants (g.S.States.state_of c.args.states.now) c.args.live.now (SeenBy c.args.t)) c.args.table.now c.args.rec
     c.in_err-found.field-0.0 (c.in_err-found.ensures.gives image tells))
 
@@ -43,9 +43,9 @@ pub returns-in_err-row_of-clause-gives : goal.returns-in_err-row_of-clause-gives
 returns-in_err-row_of-clause-gives g c = λ image tells.
     handed_on c.from_residual-in_err-row_of.result c.in_err-row_of.field-0.0
     (IsRowSeen (g.S.States.state_of c.args.states.now) c.args.live.now c.args.t (viewed c.args.store.now image c.args.batch.now) c.args.table.now c.args.rec)
-    (RefusesRecord g.D.Disk.meaning c.first_version.new.store c.args.batch.now.pages c.args.store.now.geometry.limit (viewed c.args.store.now image c.args.batch.now) (wants (g.S.States.state_of c.args.states.now) c.args.live.now (SeenBy c.args.t)) c.args.table.now c.args.rec)
+    (RefusesRecord g.D.Disk.meaning c.first_version.new.store c.args.batch.now.pages (viewed c.args.store.now image c.args.batch.now) (wants (g.S.States.state_of c.args.states.now) c.args.live.now (SeenBy c.args.t)) c.args.table.now c.args.rec)
     c.from_residual-in_err-row_of.ensures.0 c.from_residual-in_err-row_of.ensures.1
-    (body_refuses g.D.Disk.meaning c.first_version.new.store c.args.batch.now.pages c.args.store.now.geometry.limit (viewed c.args.store.now image c.args.batch.now) (wants (g.S.States.state_of c.args.states.now) c.args.live.now (SeenBy c.args.t)) c.args.table.now c.args.rec
+    (body_refuses g.D.Disk.meaning c.first_version.new.store c.args.batch.now.pages (viewed c.args.store.now image c.args.batch.now) (wants (g.S.States.state_of c.args.states.now) c.args.live.now (SeenBy c.args.t)) c.args.table.now c.args.rec
     c.in_ok-found.field-0 c.in-Some.found (c.in_ok-found.ensures.gives image tells) c.in-Some.is
     c.in_err-row_of.field-0.0 c.in_err-row_of.ensures)
 

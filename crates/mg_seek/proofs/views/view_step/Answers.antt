@@ -15,10 +15,10 @@ pub returns-in_err-rec-clause-gives : goal.returns-in_err-rec-clause-gives
 returns-in_err-rec-clause-gives g c = λ image tells.
     handed_on c.from_residual.result c.in_err-rec.field-0.0
     (IsVisit (g.S.States.state_of c.args.states.now) c.args.live.now c.args.t (shown c.args.store.now.dirty image) c.args.table.now c.args.after)
-    (RefusesVisit g.D.Disk.meaning c.next.new.store c.args.store.now.geometry.limit (shown c.args.store.now.dirty image) (wants (g.S.States.state_of c.args.states.now) c.args.live.now (SeenBy c.args.t)) c.args.table.now
+    (RefusesVisit g.D.Disk.meaning c.next.new.store (shown c.args.store.now.dirty image) (wants (g.S.States.state_of c.args.states.now) c.args.live.now (SeenBy c.args.t)) c.args.table.now
     c.args.after)
     c.from_residual.ensures.0 c.from_residual.ensures.1
-    (next_refuses g.D.Disk.meaning c.next.new.store c.args.store.now.geometry.limit (shown c.args.store.now.dirty image) (wants (g.S.States.state_of c.args.states.now) c.args.live.now (SeenBy c.args.t)) c.args.table.now
+    (next_refuses g.D.Disk.meaning c.next.new.store (shown c.args.store.now.dirty image) (wants (g.S.States.state_of c.args.states.now) c.args.live.now (SeenBy c.args.t)) c.args.table.now
     c.args.after c.in_err-rec.field-0.0 (c.in_err-rec.ensures.gives image tells))
 
 pub returns-in_default-clause-gives : goal.returns-in_default-clause-gives
@@ -30,15 +30,15 @@ pub returns-in_err-row-clause-gives : goal.returns-in_err-row-clause-gives
 returns-in_err-row-clause-gives g c = λ image tells.
     handed_on c.from_residual-in_err-row.result c.in_err-row.field-0.0
     (IsVisit (g.S.States.state_of c.args.states.now) c.args.live.now c.args.t (shown c.args.store.now.dirty image) c.args.table.now c.args.after)
-    (RefusesVisit g.D.Disk.meaning c.row_in_view.new.store c.args.store.now.geometry.limit (shown c.args.store.now.dirty image) (wants (g.S.States.state_of c.args.states.now) c.args.live.now (SeenBy c.args.t)) c.args.table.now c.args.after)
+    (RefusesVisit g.D.Disk.meaning c.row_in_view.new.store (shown c.args.store.now.dirty image) (wants (g.S.States.state_of c.args.states.now) c.args.live.now (SeenBy c.args.t)) c.args.table.now c.args.after)
     c.from_residual-in_err-row.ensures.0 c.from_residual-in_err-row.ensures.1
-    (visit_refuses g.D.Disk.meaning c.row_in_view.new.store c.args.store.now.geometry.limit (shown c.args.store.now.dirty image) (wants (g.S.States.state_of c.args.states.now) c.args.live.now (SeenBy c.args.t)) c.args.table.now c.args.after
+    (visit_refuses g.D.Disk.meaning c.row_in_view.new.store (shown c.args.store.now.dirty image) (wants (g.S.States.state_of c.args.states.now) c.args.live.now (SeenBy c.args.t)) c.args.table.now c.args.after
     c.in_ok-rec.field-0 c.in-Some.rec c.in_err-row.field-0.0 (c.in_ok-rec.ensures.gives image tells) c.in-Some.is
     (sees_shown c.args.store.now image c.new-batch.result
-    (λ (pages : List BatchPage). λ (view : Pages). RefusesRecord g.D.Disk.meaning c.row_in_view.new.store pages c.args.store.now.geometry.limit view
+    (λ (pages : List BatchPage). λ (view : Pages). RefusesRecord g.D.Disk.meaning c.row_in_view.new.store pages view
     (wants (g.S.States.state_of c.args.states.now) c.args.live.now (SeenBy c.args.t)) c.args.table.now c.in-Some.rec c.in_err-row.field-0.0) c.new-batch.ensures.pages
     (as_kept g.D.Disk.meaning c.args.store.now c.next.new.store image c.new-batch.result
-    (λ (limit : ℕ). λ (view : Pages). RefusesRecord g.D.Disk.meaning c.row_in_view.new.store c.new-batch.result.pages limit
+    (λ (view : Pages). RefusesRecord g.D.Disk.meaning c.row_in_view.new.store c.new-batch.result.pages
     view (wants (g.S.States.state_of c.args.states.now) c.args.live.now (SeenBy c.args.t)) c.args.table.now c.in-Some.rec c.in_err-row.field-0.0) c.in_ok-rec.ensures.keeps tells
     (c.in_err-row.ensures.gives image))))
 
@@ -50,5 +50,5 @@ returns-clause-gives g c = λ image tells.
     (λ (pages : List BatchPage). λ (view : Pages). IsRowSeen (g.S.States.state_of c.args.states.now) c.args.live.now c.args.t view
     c.args.table.now c.in-Some.rec c.in_ok-row.row) c.new-batch.ensures.pages
     (as_kept g.D.Disk.meaning c.args.store.now c.next.new.store image c.new-batch.result
-    (λ (limit : ℕ). λ (view : Pages). IsRowSeen (g.S.States.state_of c.args.states.now) c.args.live.now c.args.t view c.args.table.now
+    (λ (view : Pages). IsRowSeen (g.S.States.state_of c.args.states.now) c.args.live.now c.args.t view c.args.table.now
     c.in-Some.rec c.in_ok-row.row) c.in_ok-rec.ensures.keeps tells (c.in_ok-row.ensures.gives image)))

@@ -14,11 +14,9 @@ returns-in_err-first-clause-gives g c = λ image tells.
     handed_on c.from_residual.result c.in_err-first.field-0.0
     (IsFirst (viewed c.args.store.now image c.args.batch.now)
     (wants (g.S.States.state_of c.args.states.now) c.args.live.now c.args.wanted) c.args.rec)
-    (RefusesChain g.D.Disk.meaning c.newest_link.new.store c.args.batch.now.pages
-    c.args.store.now.geometry.limit (viewed c.args.store.now image c.args.batch.now) c.args.rec)
+    (RefusesChain g.D.Disk.meaning c.newest_link.new.store c.args.batch.now.pages (viewed c.args.store.now image c.args.batch.now) c.args.rec)
     c.from_residual.ensures.0 c.from_residual.ensures.1
-    (primary_refuses g.D.Disk.meaning c.newest_link.new.store c.args.batch.now.pages
-    c.args.store.now.geometry.limit (viewed c.args.store.now image c.args.batch.now) c.args.rec
+    (primary_refuses g.D.Disk.meaning c.newest_link.new.store c.args.batch.now.pages (viewed c.args.store.now image c.args.batch.now) c.args.rec
     c.in_err-first.field-0.0 (c.in_err-first.ensures.gives image tells))
 
 pub returns-in_default-clause-gives : goal.returns-in_default-clause-gives
@@ -45,12 +43,11 @@ returns-then-is_marked-clause-fault g c = (c.loop-step.invariant.online, c.loop-
 
 pub returns-then-is_marked-clause-gives : goal.returns-then-is_marked-clause-gives
 returns-then-is_marked-clause-gives g c = λ image tells.
-    damage_at g.D.Disk.meaning c.loop-step.store c.args.batch.now.pages
-    c.args.store.now.geometry.limit (viewed c.args.store.now image c.args.batch.now) c.args.rec
+    damage_at g.D.Disk.meaning c.loop-step.store c.args.batch.now.pages (viewed c.args.store.now image c.args.batch.now) c.args.rec
     c.back_damage.result _ c.back_damage.ensures
     (walk_comes_back (viewed c.args.store.now image c.args.batch.now) c.args.rec
     (wants (g.S.States.state_of c.args.states.now) c.args.live.now c.args.wanted)
-    g.D.Disk.meaning c.loop-step.store c.args.batch.now.pages c.args.store.now.geometry.limit
+    g.D.Disk.meaning c.loop-step.store c.args.batch.now.pages
     c.loop-step.step c.loop-step.holder.0 c.loop-step.link c.loop-step.mark
     (c.loop-step.invariant.walk image tells) (c.is_marked.ensures.0 c.if-is_marked.true))
 
@@ -81,11 +78,9 @@ returns-in_err-version-clause-gives g c = λ image tells.
     handed_on c.from_residual-in_err-version.result c.in_err-version.field-0.0
     (IsFirst (viewed c.args.store.now image c.args.batch.now)
     (wants (g.S.States.state_of c.args.states.now) c.args.live.now c.args.wanted) c.args.rec)
-    (RefusesChain g.D.Disk.meaning c.version_at.new.store c.args.batch.now.pages
-    c.args.store.now.geometry.limit (viewed c.args.store.now image c.args.batch.now) c.args.rec)
+    (RefusesChain g.D.Disk.meaning c.version_at.new.store c.args.batch.now.pages (viewed c.args.store.now image c.args.batch.now) c.args.rec)
     c.from_residual-in_err-version.ensures.0 c.from_residual-in_err-version.ensures.1
-    (version_refuses g.D.Disk.meaning c.version_at.new.store c.args.batch.now.pages
-    c.args.store.now.geometry.limit (viewed c.args.store.now image c.args.batch.now) c.args.rec
+    (version_refuses g.D.Disk.meaning c.version_at.new.store c.args.batch.now.pages (viewed c.args.store.now image c.args.batch.now) c.args.rec
     c.loop-step.step c.loop-step.holder.0 c.loop-step.link ((c.loop-step.invariant.walk image tells).follows)
     c.in_err-version.field-0.0
     (met_on g.D.Disk.meaning c.args.store.now c.loop-step.store c.version_at.new.store image
@@ -160,11 +155,10 @@ returns-clause-fault g c = (c.loop-step.invariant.online, c.loop-step.invariant.
 
 pub returns-clause-gives : goal.returns-clause-gives
 returns-clause-gives g c = λ image tells.
-    damage_at g.D.Disk.meaning c.loop-step.store c.args.batch.now.pages
-    c.args.store.now.geometry.limit (viewed c.args.store.now image c.args.batch.now) c.args.rec
+    damage_at g.D.Disk.meaning c.loop-step.store c.args.batch.now.pages (viewed c.args.store.now image c.args.batch.now) c.args.rec
     c.back_damage-2.result _ c.back_damage-2.ensures
     (walk_is_long (viewed c.args.store.now image c.args.batch.now) c.args.rec
     (wants (g.S.States.state_of c.args.states.now) c.args.live.now c.args.wanted)
-    g.D.Disk.meaning c.loop-step.store c.args.batch.now.pages c.args.store.now.geometry.limit
+    g.D.Disk.meaning c.loop-step.store c.args.batch.now.pages
     c.loop-step.step c.loop-step.holder.0 c.loop-step.link c.loop-step.mark
     (c.loop-step.invariant.walk image tells) c.loop-step-test.false)

@@ -29,10 +29,10 @@ pub returns-in-Err-clause-reads : goal.returns-in-Err-clause-reads
 returns-in-Err-clause-reads g c = fails_reading RowAt g.D.Disk.meaning c.args.core.now c.refuse.new.self c.row_at.new.store
     (WhyOfKey g.D.Disk.meaning c.args.core.now c.args.t c.args.core.now.catalog c.args.key.now) c.in-Err.fault c.refuse.result
     c.in-Err.ensures.keeps c.in-Err.ensures.fault c.in-Err.ensures.own
-    (λ image tells. subst (λ (k : Value). RefusesRowAt g.D.Disk.meaning c.row_at.new.store c.args.core.now.store.geometry.limit
+    (λ image tells. subst (λ (k : Value). RefusesRowAt g.D.Disk.meaning c.row_at.new.store
     (shown c.args.core.now.store.dirty image) (said c.args.core.now.list) c.args.core.now.live c.args.t
     c.args.core.now.catalog k c.in-Err.fault) c.value.ensures.value
-    (subst (λ (l : TxList). RefusesRowAt g.D.Disk.meaning c.row_at.new.store c.args.core.now.store.geometry.limit
+    (subst (λ (l : TxList). RefusesRowAt g.D.Disk.meaning c.row_at.new.store
     (shown c.args.core.now.store.dirty image) (said l) c.args.core.now.live c.args.t c.args.core.now.catalog
     c.value.result.now c.in-Err.fault) c.new-states.ensures (c.in-Err.ensures.gives image tells)))
     c.refuse.ensures.refusal c.refuse.ensures.counts c.refuse.ensures.same

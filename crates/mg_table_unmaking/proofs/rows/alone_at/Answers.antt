@@ -14,7 +14,7 @@ use Rattle.mg_table_unmaking.proofs.rows.alone_at.Goals as goal
 
 pub returns-in_err-found-clause-gives : goal.returns-in_err-found-clause-gives
 returns-in_err-found-clause-gives g c = λ image tells. handed_on c.from_residual.result c.in_err-found.field-0.0 _
-    (RefusesAloneAt g.D.Disk.meaning c.speaker.new.store c.args.batch.now.pages c.args.store.now.geometry.limit
+    (RefusesAloneAt g.D.Disk.meaning c.speaker.new.store c.args.batch.now.pages
     (viewed c.args.store.now image c.args.batch.now) (g.S.States.state_of c.args.states.now) c.args.live.now c.args.t.0
     c.args.table.now c.args.key.now) c.from_residual.ensures.0 c.from_residual.ensures.1
     (alone_unspoken (c.in_err-found.ensures.gives image tells))
@@ -28,7 +28,7 @@ returns-in_default-clause-gives g c = λ image tells. alone_nobody
 pub returns-in_err-newest-clause-gives : goal.returns-in_err-newest-clause-gives
 returns-in_err-newest-clause-gives g c = λ image tells.
     handed_on c.from_residual-in_err-newest.result c.in_err-newest.field-0.0 _
-    (RefusesAloneAt g.D.Disk.meaning c.first_version.new.store c.args.batch.now.pages c.args.store.now.geometry.limit
+    (RefusesAloneAt g.D.Disk.meaning c.first_version.new.store c.args.batch.now.pages
     (viewed c.args.store.now image c.args.batch.now) (g.S.States.state_of c.args.states.now) c.args.live.now c.args.t.0
     c.args.table.now c.args.key.now) c.from_residual-in_err-newest.ensures.0 c.from_residual-in_err-newest.ensures.1
     (alone_unread c.in-Some.rec
@@ -36,7 +36,7 @@ returns-in_err-newest-clause-gives g c = λ image tells.
     (viewed c.args.store.now image c.args.batch.now) c.args.table.now c.args.key.now o) c.in-Some.is
     (c.in_ok-found.ensures.gives image tells))
     (as_before g.D.Disk.meaning c.args.store.now c.speaker.new.store image c.args.batch.now
-    (λ (limit : ℕ). λ (view : Pages). RefusesChain g.D.Disk.meaning c.first_version.new.store c.args.batch.now.pages limit
+    (λ (view : Pages). RefusesChain g.D.Disk.meaning c.first_version.new.store c.args.batch.now.pages
     view c.in-Some.rec c.in_err-newest.field-0.0) c.in_ok-found.ensures.keeps tells
     (c.in_err-newest.ensures.gives image)))
 
@@ -47,7 +47,7 @@ returns-then-is_alone-clause-gives g c = λ image tells. record {
       (c.in_ok-found.ensures.gives image tells);
   newest = c.in_ok-newest.newest;
   first = as_before g.D.Disk.meaning c.args.store.now c.speaker.new.store image c.args.batch.now
-      (λ (limit : ℕ). λ (view : Pages). IsFirst view (wants (g.S.States.state_of c.args.states.now) c.args.live.now Any)
+      (λ (view : Pages). IsFirst view (wants (g.S.States.state_of c.args.states.now) c.args.live.now Any)
       c.in-Some.rec c.in_ok-newest.newest) c.in_ok-found.ensures.keeps tells (c.in_ok-newest.ensures.gives image);
   alone = c.is_alone.ensures.0 c.if-is_alone.true;
 }
@@ -58,7 +58,7 @@ returns-clause-gives g c = λ image tells. alone_other c.in-Some.rec c.in_ok-new
     (viewed c.args.store.now image c.args.batch.now) c.args.table.now c.args.key.now o) c.in-Some.is
     (c.in_ok-found.ensures.gives image tells))
     (as_before g.D.Disk.meaning c.args.store.now c.speaker.new.store image c.args.batch.now
-    (λ (limit : ℕ). λ (view : Pages). IsFirst view (wants (g.S.States.state_of c.args.states.now) c.args.live.now Any)
+    (λ (view : Pages). IsFirst view (wants (g.S.States.state_of c.args.states.now) c.args.live.now Any)
     c.in-Some.rec c.in_ok-newest.newest) c.in_ok-found.ensures.keeps tells (c.in_ok-newest.ensures.gives image))
     (λ alone. let h : true ≡ false = sym (c.is_alone.ensures.1 alone) ∙ c.if-is_alone.false in absurd cc)
     (ap (λ (it : Damaged). faults.Damaged it) c.unlawful-2.ensures)

@@ -11,4 +11,4 @@ pub returns-clause-gives : goal.returns-clause-gives
 returns-clause-gives g c = λ image tells. through_empty c.args.store.now image c.new-batch.result c.first_version.result
     (λ (view : Pages). IsFirst view (wants (g.S.States.state_of c.args.states.now) c.args.live.now Any) c.args.rec)
     (λ (pages : List BatchPage). λ (view : Pages). RefusesChain g.D.Disk.meaning c.first_version.new.store pages
-    c.args.store.now.geometry.limit view c.args.rec) c.new-batch.ensures.pages (c.first_version.ensures.gives image tells)
+    view c.args.rec) c.new-batch.ensures.pages (c.first_version.ensures.gives image tells)

@@ -11,5 +11,5 @@ pub returns-clause-gives : goal.returns-clause-gives
 returns-clause-gives g c = λ image tells. through_empty c.args.store.now image c.new-batch.result c.speaker.result
     (λ (view : Pages). IsSpeaker (g.S.States.state_of c.args.states.now) c.args.live.now view c.args.table.now c.args.key.now)
     (λ (pages : List BatchPage). λ (view : Pages). RefusesTableRows g.D.Disk.meaning c.speaker.new.store pages
-    c.args.store.now.geometry.limit view (wants (g.S.States.state_of c.args.states.now) c.args.live.now Living)
+    view (wants (g.S.States.state_of c.args.states.now) c.args.live.now Living)
     c.args.table.now) c.new-batch.ensures.pages (c.speaker.ensures.gives image tells)

@@ -26,7 +26,7 @@ returns-in_err-rec-clause-takes g c = handed_on c.from_residual.result c.in_err-
     (fault_told RecId (Unit {0}) g.D.Disk.meaning c.args.store.now c.own_at.new.store c.in_err-rec.field-0.0
     c.in_err-rec.ensures.fault)
     (λ image tells. subst (λ (k : Value). RefusesOwnAt g.D.Disk.meaning c.own_at.new.store
-    c.args.store.now.geometry.limit (shown c.args.store.now.dirty image) (g.S.States.state_of c.args.states.now)
+    (shown c.args.store.now.dirty image) (g.S.States.state_of c.args.states.now)
     c.args.live.now c.args.t.0 c.args.table.now k c.in_err-rec.field-0.0) c.value-2.ensures.value
     (c.in_err-rec.ensures.gives image tells)))
 
