@@ -12,7 +12,7 @@ use Rattle.mg_header.specs.declared.header.Header.{Header}
 use Rattle.mg_header.specs.declared.header.TheConstants.{HEADER_KIND, OPENED_MINOR}
 use Rattle.mg_image.specs.Form.{Pages}
 use Rattle.mg_image.specs.Inventory.{header_of, inventory_page}
-use Rattle.mg_pool.specs.Batch.{Changed, PutsPage, content_in}
+use Rattle.mg_pool.specs.Batch.{Changed, IsLawful, PutsPage, content_in}
 use Rattle.mg_pool.specs.Change.{Changes, ChangesOverlays}
 use Rattle.mg_pool.specs.Pool.{LeavesOverlays, shown}
 use Rattle.mg_pool.specs.Refusal.{LeavesRefused}
@@ -129,13 +129,16 @@ pub data DrawsOn (g : Geometry) (t : ℕ) (old new : Pages) : Option TipPage →
         → ((p : ℕ) → p ≢ 0 → p ≢ page.page → new p ≡ taken p)
         → DrawsOn g t old new (Some page) (tip_orders g.size page.page (header_of old).last_tip.0)
 
--- A number was drawn: pages were read, and then one batch was changed.
+-- A number was drawn: pages were read, and then one batch was changed, which is lawful; the number got a page exactly
+-- where it is the first of one.
 pub record DrawsIn {D L : Type 0} (m : Meaning D) (old new : TxList) (before after : Pool D L)
     : Type 0 where
   pub ready : Pool D L
   pub batch : Changed
   pub page : Option TipPage
   pub keeps : KeepsStore m before ready
+  pub lawful : IsLawful before.geometry.size batch.pages batch.orders
+  pub first : IsTipFor before.geometry.size (next_said old) page
   pub changes : Changes m ready after batch.pages batch.orders
   pub frame : ChangesOverlays m (content_in batch.pages) batch.orders ready after
   pub crash : LeavesOverlays m ready after

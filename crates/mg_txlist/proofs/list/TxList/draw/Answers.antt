@@ -1,7 +1,7 @@
 use Rattle.std.proofs.Common.{◌∙◌, subst, ℕ}
 use Rattle.mg_pool.specs.Pool.{shown}
 use Rattle.mg_space.specs.View.{viewed}
-use Rattle.mg_txlist.specs.Drawing.{DrawsOn, not_changed}
+use Rattle.mg_txlist.specs.Drawing.{DrawsOn, IsTipFor, not_changed}
 use Rattle.mg_txlist.proofs.AddLemmas.{adds_number, own_back, pages_back, same_list}
 use Rattle.mg_txlist.proofs.WritingLemmas.{reads_alone}
 use Rattle.mg_txlist.proofs.list.TxList.draw.Goals as goal
@@ -17,6 +17,9 @@ returns-in-Ok-clause-draws g c = record {
   batch = c.fill.new.batch;
   page = c.in_ok-page.page;
   keeps = c.in_ok-page.ensures.keeps;
+  lawful = c.in_ok-page.ensures.lawful;
+  first = subst (λ (t : ℕ). IsTipFor c.args.store.now.geometry.size t c.in_ok-page.page) c.next-t.ensures
+      c.in_ok-page.ensures.page;
   changes = c.in-Ok.ensures.changes;
   frame = c.in-Ok.ensures.frame;
   crash = c.in-Ok.ensures.crash;
