@@ -3,6 +3,7 @@ use Rattle.std.proofs.Common.{◌≡◌, ◌≢◌, ◌<◌, ◌≤◌, ◌+◌,
 use Rattle.std.specs.Prelude.{is_some}
 use Rattle.std.proofs.lemmas.Bool.{cases_eq, eqb-true, or_cases}
 use Rattle.mg_base.specs.Disk.{Meaning}
+use Rattle.mg_base.specs.Image.{Image}
 use Rattle.mg_base.specs.declared.geometry.Geometry.{Geometry}
 use Rattle.mg_base.specs.declared.transaction.TxState.TheVariants.{Active}
 use Rattle.mg_base.specs.declared.numbers.TxNo.{TxNo}
@@ -10,17 +11,18 @@ use Rattle.mg_header.specs.declared.header.TheConstants.{GREATEST_NEXT}
 use Rattle.mg_model.specs.declared.event.Mode.{Mode}
 use Rattle.mg_model.specs.declared.refusal.Refusal.{Refusal}
 use Rattle.mg_pool.specs.Fault.{TellsFault}
-use Rattle.mg_space.specs.View.{pool_answer}
+use Rattle.mg_space.specs.View.{Tells, pool_answer}
 use Rattle.mg_space.specs.declared.fault.SpaceFault.{SpaceFault}
-use Rattle.mg_core.specs.Beginning.{FailsBegin}
+use Rattle.mg_core.specs.Beginning.{FailsBegin, WhyNotDrawn}
 use Rattle.mg_core.specs.Refusing.{CountsFault, IsRefusal}
-use Rattle.mg_pool.specs.Pool.{IsPool}
+use Rattle.mg_pool.specs.Pool.{IsPool, shown}
 use Rattle.mg_pool.specs.declared.pool.Pool.{Pool}
 use Rattle.mg_snap.specs.Live.{AreDrawn, State as Bases, after_enter, after_retract, is_among, unended_in}
 use Rattle.mg_snap.specs.LiveLaws.{among_more, numbers_more, retracts_entering}
 use Rattle.mg_space.specs.Taking.{IsGeometry}
 use Rattle.mg_space.specs.declared.links.FireLinks.{FireLinks}
 use Rattle.mg_txlist.specs.Drawing.{AddsNumber, FailsDraw, SaysSame}
+use Rattle.mg_txlist.specs.Refusals.{RefusesDraw}
 use Rattle.mg_txlist.specs.TxList.{IsTxList, next_said, said}
 use Rattle.mg_txlist.specs.declared.list.TxList.{TxList}
 use Rattle.mg_works.specs.Works.{Working, begun, without_work, work_of}
@@ -228,12 +230,27 @@ module _ {D : Type 0} (m : Meaning D) (old entered : Core D) (t session : ℕ) (
     list_now : final.list ≡ list
     list_now = ap (λ (c : Core D). c.list) final_is
 
+    -- why no number is drawn over the engine that was entered is why over the one before
+    why_not : (fault : SpaceFault) → ((image : Image) → Tells m entered.store.disk image
+        → RefusesDraw m store entered.store.geometry (next_said entered.list) (shown entered.store.dirty image)
+        fault) → WhyNotDrawn m old final fault
+    why_not fault refused = subst (λ (s : Pool D FireLinks). (image : Image) → Tells m old.store.disk image
+        → RefusesDraw m s old.store.geometry (next_said old.list) (shown old.store.dirty image) fault)
+        (sym store_now) (subst (λ (s : Pool D FireLinks). (image : Image) → Tells m s.disk image
+        → RefusesDraw m store s.geometry (next_said old.list) (shown s.dirty image) fault) store_was
+        (subst (λ (l : TxList). (image : Image) → Tells m entered.store.disk image
+        → RefusesDraw m store entered.store.geometry (next_said l) (shown entered.store.dirty image) fault)
+        (ap (λ (c : Core D). c.list) ok) refused))
+
     pub fails_begin : (fault : SpaceFault) (refusal : Refusal) → old.store.offline ≡ None
         → t < GREATEST_NEXT → IsRefusal fault refusal → FailsDraw m entered.store store fault
         → TellsFault m entered.store store (pool_answer {T = TxNo} (Err fault))
+        → ((image : Image) → Tells m entered.store.disk image
+        → RefusesDraw m store entered.store.geometry (next_said entered.list) (shown entered.store.dirty image)
+        fault)
         → CountsFault fault entered.damage final.damage entered.shortages final.shortages
         → FailsBegin m old final refusal
-    fails_begin fault refusal online below refuses left told counts = record {
+    fails_begin fault refusal online below refuses left told refused counts = record {
       online = online;
       below = subst (λ (n : ℕ). n < GREATEST_NEXT) number below;
       fault = fault;
@@ -244,6 +261,7 @@ module _ {D : Type 0} (m : Meaning D) (old entered : Core D) (t session : ℕ) (
           (subst (λ (s : Pool D FireLinks). FailsDraw m s store fault) store_was left);
       told = subst (λ (s : Pool D FireLinks). TellsFault m old.store s (pool_answer {T = TxNo} (Err fault))) (sym store_now)
           (subst (λ (s : Pool D FireLinks). TellsFault m s store (pool_answer {T = TxNo} (Err fault))) store_was told);
+      why = why_not fault refused;
       counts = subst (λ (n : ℕ). CountsFault fault old.damage final.damage n final.shortages)
           (ap (λ (c : Core D). c.shortages) ok)
           (subst (λ (n : ℕ). CountsFault fault n final.damage entered.shortages final.shortages)

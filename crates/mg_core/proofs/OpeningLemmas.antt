@@ -44,6 +44,7 @@ module _ {D : Type 0} (m : Meaning D) (disk : D) (limit : ℕ) (before after : P
     (loaded : Loaded) (waits : List (ℕ × ℕ)) (works : List Working)
     (prepared : IsPrepared m disk limit before) (keeps : KeepsStore m before after)
     (is : IsLoaded before.geometry.size loaded)
+    (steady : m.faults after.disk ≡ m.faults before.disk)
     (loads : ReadsFront m before after loaded.list.pages.items loaded.catalog_pages.pointers.items
     loaded.catalog_pages.data_pages.items) (nobody : waits ≡ []) (none : works ≡ []) where
   abbrev core : Core D
@@ -98,6 +99,7 @@ module _ {D : Type 0} (m : Meaning D) (disk : D) (limit : ℕ) (before after : P
     before = before;
     prepared = prepared;
     keeps = keeps;
+    steady = steady;
     idle = record {
       core_is = idle_core;
       online = keeps.offline ∙ prepared.online;

@@ -5,6 +5,7 @@ use Rattle.mg_base.specs.Disk.{MayLeave, Meaning}
 use Rattle.mg_base.specs.Image.{Image}
 use Rattle.mg_base.specs.declared.numbers.RecId.{RecId}
 use Rattle.mg_base.specs.declared.numbers.TxNo.{TxNo}
+use Rattle.mg_heap.specs.Reading.{ReadsData}
 use Rattle.mg_image.specs.Form.{Pages, Row}
 use Rattle.mg_model.specs.declared.refusal.Refusal.{Refusal}
 use Rattle.mg_model.specs.declared.table.Table.{Table}
@@ -47,12 +48,12 @@ module _ {D : Type 0} (m : Meaning D) (old : Core D) (mid : Pool D FireLinks) (l
       same (subst (λ (f : Option RecId). IsVisit (said list) old.live t view table f found) from_is is)
 
   pub no_next : (fault : SpaceFault) → ((image : Image) → Tells m old.store.disk image
-      → RefusesVisit m mid old.store.geometry.limit (shown old.store.dirty image)
+      → RefusesVisit m mid (shown old.store.dirty image)
       (wants (said list) old.live (SeenBy t)) table from fault) → WhyNoStep m old mid t table after fault
   no_next fault refused image tells = no_visit fault
-      (subst (λ (l : TxList). RefusesVisit m mid old.store.geometry.limit (shown old.store.dirty image)
+      (subst (λ (l : TxList). RefusesVisit m mid (shown old.store.dirty image)
       (wants (said l) old.live (SeenBy t)) table (record_of after) fault) same
-      (subst (λ (f : Option RecId). RefusesVisit m mid old.store.geometry.limit (shown old.store.dirty image)
+      (subst (λ (f : Option RecId). RefusesVisit m mid (shown old.store.dirty image)
       (wants (said list) old.live (SeenBy t)) table f fault) from_is (refused image tells)))
 
   -- A record was found.
@@ -94,7 +95,7 @@ module _ {D : Type 0} (m : Meaning D) (old : Core D) (mid : Pool D FireLinks) (l
         (places image (tells_on m old.store mid image keeps tells)))
       where
         at : PlacesBehind m new (shown old.store.dirty image) visit.rec after (Err fault)
-            → IsStepDamage m new old.store.geometry.limit (said old.list) old.live t
+            → IsStepDamage m new (said old.list) old.live t
             (shown old.store.dirty image) table after fault
         at (inl missing) = no_page visit fault (its image tells) missing
         at (inr is) = early visit fault (its image tells) is
@@ -104,10 +105,10 @@ module _ {D : Type 0} (m : Meaning D) (old : Core D) (mid : Pool D FireLinks) (l
     no_row new fault keys image tells = at keys
       where
         at : KeysRow table visit.rec.page.0 visit.row (Err fault)
-            → IsStepDamage m new old.store.geometry.limit (said old.list) old.live t
+            → IsStepDamage m new (said old.list) old.live t
             (shown old.store.dirty image) table after fault
         at (inl lacks) = no_key visit fault (its image tells) lacks
-        at (inr memory) = subst (IsStepDamage m new old.store.geometry.limit (said old.list) old.live t
+        at (inr memory) = subst (IsStepDamage m new (said old.list) old.live t
             (shown old.store.dirty image) table after) (sym memory) (no_visit (space.Pool faults.Memory) tt)
 
 -- the next record was found, or it was not, and the fault is counted
@@ -135,6 +136,7 @@ scan_fails {D} m old mid new t table after fault refusal continues visits is cou
   keeps = subst (KeepsStore m old.store) (sym same_store) visits.0;
   told = subst (λ (s : Pool D FireLinks). TellsFault m old.store s (pool_answer {T = Unit {0}} (Err fault)))
       (sym same_store) visits.1;
+  own = visits.4;
   why = subst (λ (s : Pool D FireLinks). WhyNoStep m old s t table after fault) (sym same_store) visits.2;
   counts = subst (λ (d : ℕ). CountsFault fault d new.damage old.shortages new.shortages) same_damage
       (subst (λ (s : ℕ). CountsFault fault mid.damage new.damage s new.shortages) same_shortages counts);
@@ -154,6 +156,15 @@ scan_fails {D} m old mid new t table after fault refusal continues visits is cou
 
     same_shortages : mid.shortages ≡ old.shortages
     same_shortages = ap (λ (c : Core D). c.shortages) visits.3
+
+-- a row without a key, or want of memory, is what a reading is refused for
+pub keys_own : (table : Table) (page : ℕ) (row : Option Row) (fault : SpaceFault)
+    → KeysRow table page row (Err fault) → ReadsData {T = Unit {0}} (Err fault)
+keys_own table page row fault (inr memory) = subst (λ (f : SpaceFault). ReadsData {T = Unit {0}} (Err f))
+    (sym memory) tt
+keys_own table page None fault (inl lacks) = absurd lacks
+keys_own table page (Some row) fault (inl lacks) = subst (λ (f : SpaceFault). ReadsData {T = Unit {0}} (Err f))
+    (sym lacks.1) tt
 
 -- a row without a key, or want of memory, is no fault of the cache that is told of its disk
 pub keys_told : {D : Type 0} (m : Meaning D) (old new : Pool D FireLinks) (table : Table) (page : ℕ)

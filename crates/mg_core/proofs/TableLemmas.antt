@@ -6,6 +6,7 @@ use Rattle.mg_base.specs.Disk.{Meaning}
 use Rattle.mg_base.specs.Image.{Image}
 use Rattle.mg_base.specs.declared.geometry.Geometry.{Geometry}
 use Rattle.mg_base.specs.declared.numbers.TxNo.{TxNo}
+use Rattle.mg_heap.specs.Reading.{ReadsData}
 use Rattle.mg_image.specs.Form.{Pages}
 use Rattle.mg_model.specs.Catalog.{catalog_name}
 use Rattle.mg_model.specs.declared.refusal.Refusal.{Refusal}
@@ -87,13 +88,13 @@ seen_by m core list batch t bytes name answer found named is same empty gives im
 pub refused_by : {D : Type 0} (m : Meaning D) (core : Core D) (store : Pool D FireLinks) (list : TxList)
     (batch : Changed) (t : TxNo) (name : List ℕ) (fault : SpaceFault) → list ≡ core.list
     → batch.pages ≡ [] → ((image : Image) → Tells m core.store.disk image
-    → RefusesTable m store batch.pages core.store.geometry.limit (said list) core.live t
+    → RefusesTable m store batch.pages (said list) core.live t
     (λ n. unwrap_or (content_in batch.pages n) (shown core.store.dirty image n)) core.catalog fault)
     → WhyNoTable m core store t name fault
 refused_by m core store list batch t name fault same empty gives = inl (λ image tells.
     sees_shown core.store image batch (λ (pages : List BatchPage). λ (view : Pages).
-    RefusesTable m store pages core.store.geometry.limit (said core.list) core.live t view core.catalog fault) empty
-    (subst (λ (l : TxList). RefusesTable m store batch.pages core.store.geometry.limit (said l) core.live t
+    RefusesTable m store pages (said core.list) core.live t view core.catalog fault) empty
+    (subst (λ (l : TxList). RefusesTable m store batch.pages (said l) core.live t
     (λ n. unwrap_or (content_in batch.pages n) (shown core.store.dirty image n)) core.catalog fault)
     same (gives image tells)))
 
@@ -104,6 +105,13 @@ pub told_again : {D L : Type 0} (T : Type 0) (m : Meaning D) (old new : Pool D L
 told_again T m old new (space.Full limit) told = told
 told_again T m old new (space.Damaged it) told = told
 told_again T m old new (space.Pool fault) told = told
+
+-- a reading is refused for the same, whatever was to be answered
+pub own_again : (T : Type 0) (fault : SpaceFault) → ReadsData {T = T} (Err fault)
+    → ReadsData {T = Unit {0}} (Err fault)
+own_again T (space.Full limit) own = own
+own_again T (space.Damaged it) own = own
+own_again T (space.Pool fault) own = own
 
 -- ---- the whole call
 
@@ -169,6 +177,7 @@ table_failed {D} m old mid new t name fault refusal continues other fresh seen i
       keeps = subst (KeepsStore m old.store) (sym same_store) seen.0;
       told = subst (λ (s : Pool D FireLinks). TellsFault m old.store s (pool_answer {T = Unit {0}} (Err fault)))
           (sym same_store) seen.1;
+      own = seen.4;
       why = subst (λ (s : Pool D FireLinks). WhyNoTable m old s t name fault) (sym same_store) seen.2;
       counts = subst (λ (d : ℕ). CountsFault fault d new.damage old.shortages new.shortages) same_damage
           (subst (λ (s : ℕ). CountsFault fault mid.damage new.damage s new.shortages) same_shortages counts);
@@ -248,6 +257,7 @@ stray_found m old new t name table fault sees stray reads same = (
       (sym stray.1) reads.online,
   inr (record { table = table; sees = sees; stray = stray.0; is = stray.1 }),
   same,
+  subst (λ (f : SpaceFault). ReadsData {T = Unit {0}} (Err f)) (sym stray.1) tt,
 )
 
 -- a name that was tested is another one than the catalog's

@@ -3,7 +3,7 @@ use Rattle.std.specs.Prelude.{◌≡◌, ◌⊎◌, ℕ, None, Err}
 use Rattle.mg_base.specs.Disk.{Meaning}
 use Rattle.mg_base.specs.declared.transaction.TxState.TheVariants.{Committed}
 use Rattle.mg_model.specs.declared.refusal.Refusal.{Refusal}
-use Rattle.mg_pool.specs.Fault.{OnlyWrites, TellsFault}
+use Rattle.mg_pool.specs.Fault.{OnlyWrites, StaysOnline, TellsFault}
 use Rattle.mg_pool.specs.declared.fault.PoolFault.{PoolFault}
 use Rattle.mg_snap.specs.Live.{after_leave}
 use Rattle.mg_txlist.specs.Ending.{CommitsBits, FailsCommit}
@@ -21,8 +21,8 @@ pub record Commits {D : Type 0} (m : Meaning D) (old new : Core D) (t : ℕ) : T
   pub over : NowWaits (edges_in old.waits) (edges_in new.waits) t None
   pub ends : EndsIn old.list new.list t Committed
   pub bits : CommitsBits m old.list new.list old.store new.store t
-  -- no page write has failed
-  pub online : new.store.offline ≡ None
+  -- no page write has failed, nor any call of the disk in this one
+  pub online : StaysOnline m old.store new.store
   pub same : new ≡ record old {
     waits = new.waits;
     store = new.store;

@@ -87,7 +87,7 @@ IsOfTable core t name view found =
 
 abbrev pub WhyOfTable : {D : Type 0} → Meaning D → Core D → List ℕ → Pool D FireLinks → Pages → SpaceFault
     → Type 0
-WhyOfTable m core name store view fault = RefusesObstacleAt m store core.store.geometry.limit view
+WhyOfTable m core name store view fault = RefusesObstacleAt m store view
     (said core.list) core.live core.catalog (table_key name) fault
 
 abbrev pub PassesTable : {D : Type 0} → Meaning D → Core D → Core D → TxNo → Bool → List ℕ → Type 0
@@ -103,7 +103,7 @@ IsOfRecord core t rec view found = IsInWay (said core.list) core.live t.0 view r
 
 abbrev pub WhyOfRecord : {D : Type 0} → Meaning D → Core D → Option RecId → Pool D FireLinks → Pages → SpaceFault
     → Type 0
-WhyOfRecord m core rec store view fault = RefusesWay m store core.store.geometry.limit view rec fault
+WhyOfRecord m core rec store view fault = RefusesWay m store view rec fault
 
 abbrev pub PassesRecord : {D : Type 0} → Meaning D → Core D → Core D → TxNo → Bool → Option RecId → Type 0
 PassesRecord m old new t wait rec = Passes m old new t.0 wait (IsOfRecord old t rec)

@@ -40,6 +40,8 @@ pub record Opens {D : Type 0} (m : Meaning D) (disk : D) (limit : ℕ) (core : C
   pub before : Pool D FireLinks
   pub prepared : IsPrepared m disk limit before
   pub keeps : KeepsStore m before core.store
+  -- no call of the disk has failed
+  pub steady : m.faults core.store.disk ≡ m.faults before.disk
   pub idle : IsIdle m core
   -- the pages of the catalog
   pub pointers : List ℕ

@@ -88,7 +88,7 @@ StandsBefore core t table rec before view = IsBefore (said core.list) core.live 
 
 abbrev pub WhyNotBefore : {D : Type 0} → Meaning D → Core D → Table → Option RecId → Pool D FireLinks → Pages
     → SpaceFault → Type 0
-WhyNotBefore m core table rec store view fault = RefusesSeen m store core.store.geometry.limit view
+WhyNotBefore m core table rec store view fault = RefusesSeen m store view
     (wants (said core.list) core.live Any) table rec fault
 
 -- The version of a write was made, and what stands at its key was read.

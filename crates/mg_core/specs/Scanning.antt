@@ -10,6 +10,7 @@ use Rattle.mg_base.specs.declared.numbers.RecId.{RecId}
 use Rattle.mg_base.specs.declared.numbers.TxNo.{TxNo}
 use Rattle.mg_base.specs.declared.transaction.TxState.{TxState}
 use Rattle.mg_chain.specs.Refusals.{damage}
+use Rattle.mg_heap.specs.Reading.{ReadsData}
 use Rattle.mg_image.specs.Form.{Pages, Row}
 use Rattle.mg_image.specs.Records.{key_of}
 use Rattle.mg_model.specs.declared.refusal.Refusal.{Refusal}
@@ -103,24 +104,24 @@ GoesOn after (Some found) = IsBehind after found.place
 
 -- Why a walk goes no further, but for faults of the cache: the next record is not found, or its row is not
 -- read; its page is missing; it does not come behind the former place; or its row has no key.
-pub data IsStepDamage {D : Type 0} (m : Meaning D) (store : Pool D FireLinks) (limit : ℕ)
+pub data IsStepDamage {D : Type 0} (m : Meaning D) (store : Pool D FireLinks)
     (state : ℕ → TxState) (live : Bases) (t : TxNo) (view : Pages) (table : Table)
     (after : Option Place) : SpaceFault → Type 0 where
   no_visit : (fault : SpaceFault)
-      → RefusesVisit m store limit view (wants state live (SeenBy t)) table (record_of after) fault
-      → IsStepDamage m store limit state live t view table after fault
+      → RefusesVisit m store view (wants state live (SeenBy t)) table (record_of after) fault
+      → IsStepDamage m store state live t view table after fault
   no_page : (visit : Visit) (fault : SpaceFault)
       → IsVisit state live t view table (record_of after) (Some visit)
       → RefusesRead {T = Unit {0}} m store [] visit.rec.page (Err fault)
-      → IsStepDamage m store limit state live t view table after fault
+      → IsStepDamage m store state live t view table after fault
   early : (visit : Visit) (fault : SpaceFault)
       → IsVisit state live t view table (record_of after) (Some visit)
       → IsEarly after (record { rec = visit.rec; sequence = sequence_in view visit.rec }) fault
-      → IsStepDamage m store limit state live t view table after fault
+      → IsStepDamage m store state live t view table after fault
   no_key : (visit : Visit) (fault : SpaceFault)
       → IsVisit state live t view table (record_of after) (Some visit)
       → LacksKey table visit.rec.page.0 visit.row fault
-      → IsStepDamage m store limit state live t view table after fault
+      → IsStepDamage m store state live t view table after fault
 
 -- ---- the call
 
@@ -134,7 +135,7 @@ GivesFound m core t table after found = (image : Image) → Tells m core.store.d
 abbrev pub WhyNoStep : {D : Type 0} → Meaning D → Core D → Pool D FireLinks → TxNo → Table
     → Option Place → SpaceFault → Type 0
 WhyNoStep m core store t table after fault = (image : Image) → Tells m core.store.disk image
-    → IsStepDamage m store core.store.geometry.limit (said core.list) core.live t
+    → IsStepDamage m store (said core.list) core.live t
     (shown core.store.dirty image) table after fault
 
 -- Pages were read: the next record was found, which comes behind the former place, or there is none.
@@ -152,6 +153,7 @@ pub record FailsScan {D : Type 0} (m : Meaning D) (old new : Core D) (t : TxNo) 
   pub continues : Continues old t.0
   pub fault : SpaceFault
   pub is : IsRefusal fault refusal
+  pub own : ReadsData {T = Unit {0}} (Err fault)
   pub keeps : KeepsStore m old.store new.store
   pub told : TellsFault m old.store new.store (pool_answer {T = Unit {0}} (Err fault))
   pub why : WhyNoStep m old new.store t table after fault
@@ -179,6 +181,7 @@ VisitsNext m old new t table after (Ok found) = GivesFound m old t table after f
 VisitsNext m old new t table after (Err fault) = KeepsStore m old.store new.store
     × TellsFault m old.store new.store (pool_answer {T = Unit {0}} (Err fault))
     × WhyNoStep m old new.store t table after fault × (new ≡ record old { store = new.store })
+    × ReadsData {T = Unit {0}} (Err fault)
 
 -- the place of a record behind another one, or that it is none
 abbrev pub PlacesBehind : {D : Type 0} → Meaning D → Pool D FireLinks → Pages → RecId → Option Place

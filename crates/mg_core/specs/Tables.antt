@@ -7,6 +7,7 @@ use Rattle.mg_base.specs.declared.damage.Field.TheVariants.{Link}
 use Rattle.mg_base.specs.declared.geometry.TheConstants.{GREATEST_LIMIT}
 use Rattle.mg_base.specs.declared.numbers.TxNo.{TxNo}
 use Rattle.mg_chain.specs.Refusals.{damage}
+use Rattle.mg_heap.specs.Reading.{ReadsData}
 use Rattle.mg_model.specs.Catalog.{catalog_name}
 use Rattle.mg_model.specs.declared.refusal.Refusal.{Refusal}
 use Rattle.mg_model.specs.declared.refusal.Refusal.TheVariants.{Memory, NoTable}
@@ -83,7 +84,7 @@ pub record NamesStray {D : Type 0} (m : Meaning D) (old : Core D) (t : TxNo) (na
 abbrev pub WhyNoTable : {D : Type 0} → Meaning D → Core D → Pool D FireLinks → TxNo → List ℕ
     → SpaceFault → Type 0
 WhyNoTable m old store t name fault = ((image : Image) → Tells m old.store.disk image
-    → RefusesTable m store [] old.store.geometry.limit (said old.list) old.live t
+    → RefusesTable m store [] (said old.list) old.live t
     (shown old.store.dirty image) old.catalog fault)
     ⊎ NamesStray m old t name fault
 
@@ -95,6 +96,7 @@ pub record FailsTable {D : Type 0} (m : Meaning D) (old new : Core D) (t : TxNo)
   pub fresh : given_to old.works t.0 name ≡ None
   pub fault : SpaceFault
   pub is : IsRefusal fault refusal
+  pub own : ReadsData {T = Unit {0}} (Err fault)
   pub keeps : KeepsStore m old.store new.store
   pub told : TellsFault m old.store new.store (pool_answer {T = Unit {0}} (Err fault))
   pub why : WhyNoTable m old new.store t name fault
@@ -149,6 +151,7 @@ FindsSeen m old new t name (Ok found) = SeesTable m old t name found × MayBeFou
 FindsSeen m old new t name (Err fault) = KeepsStore m old.store new.store
     × TellsFault m old.store new.store (pool_answer {T = Unit {0}} (Err fault))
     × WhyNoTable m old new.store t name fault × (new ≡ record old { store = new.store })
+    × ReadsData {T = Unit {0}} (Err fault)
 
 -- the table is one of those that were given, or there was no memory
 abbrev pub KeepsTable : {D : Type 0} → Core D → Core D → ℕ → Table → Result Table Refusal → Type 0

@@ -49,10 +49,16 @@ pub record MayOnlyRead (works : List Working) (t : ℕ) (refusal : Refusal) : Ty
 
 -- ---- the key, and the row in the view
 
+-- the key that a write names is not NULL; an insertion names none, for its row has it
+abbrev pub NamesKey : Write → Type 0
+NamesKey (writes.Insert row) = Unit {0}
+NamesKey (writes.Change key row) = key ≢ Null
+NamesKey (writes.Erase key) = key ≢ Null
+
 -- why the key of a write is not had: memory is wanting, or it is NULL, which a lawful one never is
 abbrev pub IsNullKey : {D : Type 0} → Core D → Core D → Table → Write → Refusal → Type 0
-IsNullKey old new table write refusal =
-    (written_at table write ≡ Null) × CountsOne old new (faults.Damaged not_lawful) refusal
+IsNullKey old new table write refusal = (written_at table write ≡ Null)
+    × CountsOne old new (faults.Damaged not_lawful) refusal × NamesKey write
 
 pub data FailsKey {D : Type 0} (old new : Core D) (table : Table) (write : Write) (refusal : Refusal) : Type 0 where
   key_memory : IsTold old new Memory refusal → FailsKey old new table write refusal
@@ -76,7 +82,7 @@ IsOfKey core t table key found view = IsRowAt (said core.list) core.live t view 
 
 abbrev pub WhyOfKey : {D : Type 0} → Meaning D → Core D → TxNo → Table → Value → Pool D FireLinks → Pages
     → SpaceFault → Type 0
-WhyOfKey m core t table key store view fault = RefusesRowAt m store core.store.geometry.limit view
+WhyOfKey m core t table key store view fault = RefusesRowAt m store view
     (said core.list) core.live t table key fault
 
 -- It was read.

@@ -2,6 +2,7 @@
 
 ghost use Rattle.std.specs.Prelude.{◌≡◌, None, IfOk};
 ghost use Rattle.mg_base.specs.Image.{Image};
+ghost use Rattle.mg_heap.specs.Reading.{ReadsData};
 ghost use Rattle.mg_pool.specs.Fault.{TellsFault};
 ghost use Rattle.mg_pool.specs.Pool.{IsPool, shown};
 ghost use Rattle.mg_space.specs.Taking.{IsGeometry};
@@ -132,6 +133,7 @@ fn place_behind<D: Disk>(
 
     ensures keeps { KeepsStore D.meaning store.old store.new }
     ensures fault { TellsFault D.meaning store.old store.new (pool_answer result) }
+    ensures own { ReadsData result }
     ensures of { IfOk result (λ place. place.rec ≡ rec) }
     ensures behind { IfOk result (IsBehind after) }
     ensures places { (image : Image) → Tells D.meaning store.old.disk image

@@ -7,7 +7,7 @@ ghost use Rattle.mg_row_writes.specs.Storing.{written_at};
 ghost use Rattle.mg_txlist.specs.TxList.{said};
 ghost use Rattle.mg_works.specs.Works.{MayBeGiven};
 ghost use Rattle.mg_core.specs.Cores.{IsCore};
-ghost use Rattle.mg_core.specs.Writing.{Allows, FailsKey, FailsRow, FailsWrite, FindsRow, IsWrong, MayOnlyRead, MayWrite, Writes};
+ghost use Rattle.mg_core.specs.Writing.{Allows, FailsKey, FailsRow, FailsWrite, FindsRow, IsWrong, MayOnlyRead, MayWrite, NamesKey, Writes};
 
 use crate::parts::Core;
 use crate::states::StatesOf;
@@ -84,6 +84,7 @@ impl<D: Disk> Core<D> {
         ensures same { OnOk result (self.new ≡ self.old) }
         ensures fails { IfErr result (FailsKey self.old self.new table.now write.now) }
     {
+        names_key(write);
         match written_key(self.store.alloc(), table, write) {
             Ok(Some(key)) => Ok(key),
             Ok(None) => Err(self.refuse(SpaceFault::Damaged(unlawful()))),
@@ -119,6 +120,24 @@ impl<D: Disk> Core<D> {
             Some(refusal) => Err(refusal),
         }
     }
+}
+
+/// The key that a write names is not NULL.
+fn names_key(write: &Write)
+    ensures { NamesKey write.now }
+{
+    match write {
+        Write::Insert(_) => {}
+        Write::Change(key, _) => is_some_key(key),
+        Write::Erase(key) => is_some_key(key),
+    }
+}
+
+/// A key is not NULL.
+fn is_some_key(key: &Key)
+    ensures { key.now ≢ Value.Null }
+{
+    let _value = key.value();
 }
 
 /// What a write is refused for by whether the view has a row with its key.

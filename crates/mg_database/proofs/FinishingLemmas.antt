@@ -32,13 +32,13 @@ written_more m old mid new so_far online run = record {
   run = (so_far.run, run);
 }
 
--- over the whole run the disk's count of faults has not risen, and it tells as before
+-- over the whole run the disk's count of faults has not risen, it tells as before, and lets as many page writes pass
 steady : {D : Type 0} (m : Meaning D) (between : List (Pool D FireLinks)) (old now : Pool D FireLinks)
     → WritesOn m between old now → (m.faults now.disk ≡ m.faults old.disk) × (m.tells now.disk ≡ m.tells old.disk)
-    × (now.dirty.size ≡ old.dirty.size)
-steady m [] old now run = rw run (refl, refl, refl)
+    × (now.dirty.size ≡ old.dirty.size) × (m.most_writes now.disk ≡ m.most_writes old.disk)
+steady m [] old now run = rw run (refl, refl, refl, refl)
 steady m (mid ∷ earlier) old now run = let before = steady m earlier old mid run.0 in
-    (run.1.steady ∙ before.0, run.1.tells ∙ before.1, run.1.size ∙ before.2)
+    (run.1.steady ∙ before.0, run.1.tells ∙ before.1, run.1.size ∙ before.2, run.1.time.most_writes ∙ before.3)
 
 -- nor has its page size changed
 same_geometry : {D : Type 0} (m : Meaning D) (between : List (Pool D FireLinks)) (old now : Pool D FireLinks)
@@ -48,10 +48,12 @@ same_geometry m (mid ∷ earlier) old now run = run.1.geometry ∙ same_geometry
 
 -- two caches of one geometry have disks of one page size
 sized_alike : {D : Type 0} (m : Meaning D) (old new : Pool D FireLinks) → IsPool m old → IsPool m new
-    → new.geometry ≡ old.geometry → m.tells new.disk ≡ m.tells old.disk → IsSameDisk m old.disk new.disk
-sized_alike m old new before after same tells = record {
+    → new.geometry ≡ old.geometry → m.tells new.disk ≡ m.tells old.disk
+    → m.most_writes new.disk ≡ m.most_writes old.disk → IsSameDisk m old.disk new.disk
+sized_alike m old new before after same tells most = record {
   size = λ n known. after.size ∙ (ap (λ (g : Geometry). Some g.size) same ∙ (sym before.size ∙ known));
   tells = tells;
+  most_writes = most;
 }
 
 -- the disk is what it was, where a page write failed
@@ -62,6 +64,8 @@ writing_same {D} m old new count pool fails = sized_alike m old new pool fails.f
     ∙ (fails.fails.written.geometry ∙ same_geometry m fails.run.between old fails.mid fails.run.run))
     (fails.fails.fails.time.tells ∙ (fails.fails.written.tells
     ∙ (steady m fails.run.between old fails.mid fails.run.run).1))
+    (fails.fails.fails.time.most_writes ∙ (fails.fails.written.time.most_writes
+    ∙ (steady m fails.run.between old fails.mid fails.run.run).3))
 
 pub all_same : {D : Type 0} (m : Meaning D) (old new : Pool D FireLinks) (fault : PoolFault) → IsPool m old
     → WritesAll m old new (Err fault) → IsSameDisk m old.disk new.disk
@@ -73,6 +77,7 @@ pub settled_same : {D : Type 0} (m : Meaning D) (old mid new : Pool D FireLinks)
     → IsSameDisk m old.disk new.disk
 settled_same m old mid new before after run same keeps = sized_alike m old new before after
     (same ∙ same_geometry m run.between old mid run.run) (keeps.tells ∙ (steady m run.between old mid run.run).1)
+    (keeps.most_writes ∙ (steady m run.between old mid run.run).3)
 
 -- and each page is shown as before
 pub same_pages : {D : Type 0} (m : Meaning D) → Holds m → (between : List (Pool D FireLinks))
@@ -144,7 +149,7 @@ module _ {D : Type 0} (m : Meaning D) (holds : Holds m) (old written new : Pool 
     (online : old.offline ≡ None) (run : HasWrittenOn m old written) (clean : IsClean written)
     (settles : KeepsContent m written.disk new.disk) where
   parts : (m.faults written.disk ≡ m.faults old.disk) × (m.tells written.disk ≡ m.tells old.disk)
-      × (written.dirty.size ≡ old.dirty.size)
+      × (written.dirty.size ≡ old.dirty.size) × (m.most_writes written.disk ≡ m.most_writes old.disk)
   parts = steady m run.between old written run.run
 
   kept : (image now : Image) → Tells m old.disk image → m.held new.disk ≡ Some now
@@ -163,6 +168,7 @@ module _ {D : Type 0} (m : Meaning D) (holds : Holds m) (old written new : Pool 
     run = run;
     clean = clean;
     settles = settles;
+    steady = ap (λ (counts : ℕ × ℕ). counts.1) told.2 ∙ parts.0;
     holds = kept;
     durable = λ tells c may. durable (parts.1 ∙ tells) c may;
   }

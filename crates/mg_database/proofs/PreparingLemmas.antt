@@ -1,12 +1,12 @@
 -- A disk becomes one whose pages may be read.
-use Rattle.std.proofs.Common.{◌≡◌, ◌≤◌, arith, inl, inr, ℕ, Bool, true, false, None, Some, length, refl, sym, ap, ◌∙◌, subst}
+use Rattle.std.proofs.Common.{◌≡◌, inl, inr, ℕ, Bool, true, false, None, Some, length, refl, sym, ap, ◌∙◌, subst}
 use Rattle.std.specs.Prelude.{OnOk, Result, Ok, Err}
 use Rattle.std.proofs.lemmas.Bool.{false≢true}
 use Rattle.mg_base.specs.Disk.{Meaning, Rose}
 use Rattle.mg_base.specs.Image.{Image, blank, page_at}
 use Rattle.mg_base.specs.Moments.{goes_on, joined, leaves_as, started}
 use Rattle.mg_base.specs.declared.geometry.Geometry.{Geometry}
-use Rattle.mg_format.specs.Format.{FormatDone, IsClean, IsFresh, IsUnmadeImage, LeavesNew}
+use Rattle.mg_format.specs.Format.{FormatDone, IsClean, IsFresh, IsUnmadeImage, LeavesNew, SaysAlike}
 use Rattle.mg_pool.specs.Fault.{OnlyWrites, TellsFault}
 use Rattle.mg_pool.specs.Pool.{IsPool, KeepsContent}
 use Rattle.mg_pool.specs.declared.fault.PoolFault.{PoolFault}
@@ -26,26 +26,25 @@ use Rattle.mg_database.specs.Preparing.{BecomesReady, FailsToPrepare, IsPrepared
 pub made_by : {D : Type 0} (m : Meaning D) (old new : Pool D FireLinks)
     (result : Result (Unit {0}) PoolFault) → old.offline ≡ None → IsPool m new
     → new.geometry ≡ old.geometry → OnOk result (IsClean new) → OnlyWrites result
-    → TellsFault m old new result → OnOk result (m.faults old.disk ≤ m.faults new.disk)
-    → m.tells new.disk ≡ m.tells old.disk
+    → TellsFault m old new result → SaysAlike m old.disk new.disk
     → ((image : Image) → IsFresh m old image → FormatDone m old.disk new.disk old.geometry.size result)
     → MakesIf m true old new result
-made_by m old new (Ok x) online pool geometry clean own told fell tells done = record {
+made_by m old new (Ok x) online pool geometry clean own told says done = record {
   pool = pool;
   geometry = geometry;
   clean = clean;
   online = told.1;
-  never_falls = fell;
-  tells = tells;
+  steady = ap (λ (counts : ℕ × ℕ). counts.1) told.2;
+  says = says;
   done = done;
 }
-made_by m old new (Err (faults.DiskRead n)) online pool geometry clean own told fell tells done = absurd own
-made_by m old new (Err (faults.DiskWrite n)) online pool geometry clean own told fell tells done =
-    (n, refl, told.2.2, pool.size ∙ ap (λ (g : Geometry). Some g.size) geometry, tells, done)
-made_by m old new (Err (faults.Offline n)) online pool geometry clean own told fell tells done =
+made_by m old new (Err (faults.DiskRead n)) online pool geometry clean own told says done = absurd own
+made_by m old new (Err (faults.DiskWrite n)) online pool geometry clean own told says done =
+    (n, refl, told.2.2, pool.size ∙ ap (λ (g : Geometry). Some g.size) geometry, says, done)
+made_by m old new (Err (faults.Offline n)) online pool geometry clean own told says done =
     absurd (let no : None ≡ Some n = sym online ∙ told.0 in cc)
-made_by m old new (Err (faults.Absent n)) online pool geometry clean own told fell tells done = absurd own
-made_by m old new (Err faults.Memory) online pool geometry clean own told fell tells done = absurd own
+made_by m old new (Err (faults.Absent n)) online pool geometry clean own told says done = absurd own
+made_by m old new (Err faults.Memory) online pool geometry clean own told says done = absurd own
 
 -- what the writing of a new database leaves, since before the disk was asked
 format_since : {D : Type 0} (m : Meaning D) (disk asked new : D) (size : ℕ)
@@ -108,16 +107,17 @@ module _ {D : Type 0} (m : Meaning D) (disk asked : D) (limit : ℕ) (it : Surve
   since later size result image tells done = format_since m disk asked later size result asks tells.told
       (subst (λ (d : D). FormatDone m d later size result) disk_is done)
 
-  asked_of_old : m.faults disk ≤ m.faults old.disk
-  asked_of_old = subst (λ (d : D). m.faults disk ≤ m.faults d) (sym disk_is) asks.never_falls
+  steady_of_old : m.faults old.disk ≡ m.faults disk
+  steady_of_old = ap m.faults disk_is ∙ steady
 
   -- the disk then has the page size of the cache
-  same_then : (later : D) → m.size later ≡ Some old.geometry.size → m.tells later ≡ m.tells old.disk
+  same_then : (later : D) → m.size later ≡ Some old.geometry.size → SaysAlike m old.disk later
       → IsSameDisk m disk later
-  same_then later sized tells = record {
+  same_then later sized says = record {
     size = λ n known. let told : Some n ≡ Some it.geometry.size = sym (same.size n known) ∙ surveyed.sized in
         sized ∙ (ap Some (sym size_is) ∙ sym told);
-    tells = tells ∙ (ap m.tells disk_is ∙ same.tells);
+    tells = says.tells ∙ (ap m.tells disk_is ∙ same.tells);
+    most_writes = says.most_writes ∙ (ap m.most_writes disk_is ∙ same.most_writes);
   }
 
   pub prepared : (b : Bool) → it.unmade ≡ b → MakesIf m b old new (Ok tt) → IsPrepared m disk limit new
@@ -128,9 +128,9 @@ module _ {D : Type 0} (m : Meaning D) (disk asked : D) (limit : ℕ) (it : Surve
     online = online;
     disk_is = there (subst (KeepsContent m disk) (sym disk_is) asks) (told_other is);
     limit_is = limit_of_old;
-    never_falls = asked_of_old;
+    steady = steady_of_old;
     reads = reads_of_old;
-    same = same_then old.disk pool.size refl;
+    same = same_then old.disk pool.size (record { tells = refl; most_writes = refl });
   })
   prepared true is makes = record {
     pool = makes.pool;
@@ -141,11 +141,11 @@ module _ {D : Type 0} (m : Meaning D) (disk asked : D) (limit : ℕ) (it : Surve
         (made (told_unmade is) (λ image tells. since new.disk old.geometry.size (Ok tt) image tells
         (makes.done image (is_fresh is image tells))));
     limit_is = λ image held. ap (λ (g : Geometry). g.limit) makes.geometry ∙ limit_of_old image held;
-    never_falls = let first = asked_of_old in let then_ = makes.never_falls in omega (arith, first, then_);
+    steady = makes.steady ∙ steady_of_old;
     -- page 0 was zero
     reads = λ image held other. absurd (other (subst (λ (size : ℕ). page_at size image 0 ≡ blank size) same_size
         (told_unmade is image held).header));
-    same = same_then new.disk (makes.pool.size ∙ ap (λ (g : Geometry). Some g.size) makes.geometry) makes.tells;
+    same = same_then new.disk (makes.pool.size ∙ ap (λ (g : Geometry). Some g.size) makes.geometry) makes.says;
   }
     where
       same_size : old.geometry.size ≡ new.geometry.size
@@ -161,7 +161,7 @@ module _ {D : Type 0} (m : Meaning D) (disk asked : D) (limit : ℕ) (it : Surve
         unmade = told_unmade is;
         leaves = λ image tells. since new.disk old.geometry.size (Err (faults.DiskWrite makes.0)) image tells
             (makes.5 image (is_fresh is image tells));
-        rose = subst (λ (n : ℕ). Rose n (m.faults new.disk)) (ap m.faults disk_is ∙ steady) makes.2;
+        rose = subst (λ (n : ℕ). Rose n (m.faults new.disk)) steady_of_old makes.2;
         same = same_then new.disk makes.3 makes.4;
       }))
 
@@ -182,7 +182,7 @@ not_asked m disk asked error count told asks same is = subst (FailsToPrepare m d
 
 -- there was no memory for the cache
 pub not_held : {D : Type 0} (m : Meaning D) (disk asked back : D) (told : OpenFault)
-    → KeepsContent m disk asked → IsSameDisk m disk asked → back ≡ asked → told ≡ Space (space.Pool faults.Memory)
+    → KeepsContent m disk asked → IsSameDisk m disk asked → m.faults asked ≡ m.faults disk → back ≡ asked → told ≡ Space (space.Pool faults.Memory)
     → FailsToPrepare m disk back told
-not_held {D} m disk asked back told asks same back_is is = subst (λ (d : D). FailsToPrepare m disk d told) (sym back_is)
-    (subst (FailsToPrepare m disk asked) (sym is) (no_memory asks same))
+not_held {D} m disk asked back told asks same steady back_is is = subst (λ (d : D). FailsToPrepare m disk d told) (sym back_is)
+    (subst (FailsToPrepare m disk asked) (sym is) (no_memory asks same steady))

@@ -47,6 +47,8 @@ pub record Ends {D : Type 0} (m : Meaning D) (old new : Pool D FireLinks) : Type
   pub run : HasWrittenOn m old written
   pub clean : IsClean written
   pub settles : KeepsContent m written.disk new.disk
+  -- no call of the disk has failed
+  pub steady : m.faults new.disk ≡ m.faults old.disk
   pub holds : (image now : Image) → Tells m old.disk image → m.held new.disk ≡ Some now
       → (page : ℕ) → page_at old.dirty.size now page ≡ shown old.dirty image page
   pub durable : m.tells old.disk ≡ true → (c : Image) → MayLeave m new.disk c

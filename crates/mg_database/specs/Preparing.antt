@@ -2,7 +2,7 @@
 use Rattle.std.specs.Prelude.{◌≡◌, ◌≤◌, ℕ, Bool, true, false, length, None, Some, Result, Ok, Err}
 use Rattle.mg_base.specs.Disk.{Meaning, Rose}
 use Rattle.mg_base.specs.Image.{Image}
-use Rattle.mg_format.specs.Format.{FormatDone, IsClean, IsFresh, IsUnmadeImage}
+use Rattle.mg_format.specs.Format.{FormatDone, IsClean, IsFresh, IsUnmadeImage, SaysAlike}
 use Rattle.mg_pool.specs.Pool.{IsPool, KeepsContent}
 use Rattle.mg_pool.specs.declared.fault.PoolFault.{PoolFault}
 use Rattle.mg_pool.specs.declared.fault.PoolFault.TheVariants as faults
@@ -35,7 +35,8 @@ pub record IsPrepared {D : Type 0} (m : Meaning D) (disk : D) (limit : ℕ) (sto
   pub disk_is : BecomesReady m disk store.disk store.geometry.size
   pub limit_is : (image : Image) → m.held disk ≡ Some image
       → store.geometry.limit ≡ limit_of limit (length image)
-  pub never_falls : m.faults disk ≤ m.faults store.disk
+  -- no call of the disk has failed
+  pub steady : m.faults store.disk ≡ m.faults disk
   pub reads : ReadsHead m disk store.disk store.geometry.size
   pub same : IsSameDisk m disk store.disk
 
@@ -53,7 +54,7 @@ pub record FailsToMake {D : Type 0} (m : Meaning D) (old new : D) (count : ℕ) 
 pub data FailsToPrepare {D : Type 0} (m : Meaning D) (old new : D) : OpenFault → Type 0 where
   unasked : (count : ℕ) → KeepsContent m old new → IsSameDisk m old new → Rose (m.faults old) (m.faults new)
       → FailsToPrepare m old new (Space (space.Pool (faults.DiskRead count)))
-  no_memory : KeepsContent m old new → IsSameDisk m old new
+  no_memory : KeepsContent m old new → IsSameDisk m old new → m.faults new ≡ m.faults old
       → FailsToPrepare m old new (Space (space.Pool faults.Memory))
   unmade : (count : ℕ) → FailsToMake m old new count
       → FailsToPrepare m old new (Space (space.Pool (faults.DiskWrite count)))
@@ -69,8 +70,8 @@ pub record Makes {D : Type 0} (m : Meaning D) (old new : Pool D FireLinks) : Typ
   pub geometry : new.geometry ≡ old.geometry
   pub clean : IsClean new
   pub online : new.offline ≡ None
-  pub never_falls : m.faults old.disk ≤ m.faults new.disk
-  pub tells : m.tells new.disk ≡ m.tells old.disk
+  pub steady : m.faults new.disk ≡ m.faults old.disk
+  pub says : SaysAlike m old.disk new.disk
   pub done : (image : Image) → IsFresh m old image
       → FormatDone {E = PoolFault} m old.disk new.disk old.geometry.size (Ok tt)
 
@@ -83,6 +84,6 @@ MakesIf m false old new (Err fault) = ⊥
 MakesIf {D} m true old new (Err fault) = (count : ℕ) × (fault ≡ faults.DiskWrite count)
     × Rose (m.faults old.disk) (m.faults new.disk)
     × (m.size new.disk ≡ Some old.geometry.size)
-    × (m.tells new.disk ≡ m.tells old.disk)
+    × SaysAlike m old.disk new.disk
     × ((image : Image) → IsFresh m old image
     → FormatDone m old.disk new.disk old.geometry.size (Err (faults.DiskWrite count)))

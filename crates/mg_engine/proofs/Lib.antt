@@ -5,3 +5,4 @@ mod MakingLemmas
 mod ReadLemmas
 mod WriteLemmas
 mod BackLemmas
+mod ToldLemmas

@@ -4,7 +4,7 @@ ghost use Rattle.std.specs.Prelude.{◌≡◌, ◌<◌, None, IfOk};
 ghost use Rattle.mg_model.specs.declared.event.Event.{Event};
 ghost use Rattle.mg_records.specs.Adding.{Adds, drawn_in, number_or};
 ghost use Rattle.mg_records.specs.Crashing.{LeavesQuietly};
-ghost use Rattle.mg_records.specs.Keeping.{Leaves, Reads, refusal_in};
+ghost use Rattle.mg_records.specs.Keeping.{FaultsAreTold, Leaves, Reads, refusal_in};
 ghost use Rattle.mg_records.specs.Sessions.{SessionsStay, begun_in};
 ghost use Rattle.mg_txlist.specs.TxList.{next_said};
 ghost use Rattle.mg_core.specs.Committing.{WritesPage};
@@ -17,6 +17,7 @@ use crate::engine::Engine;
 use mg_base::{Disk, Markers, PageNo, TxNo};
 use mg_core::{Core, Place};
 use mg_engine_calls::{begins_give, next_pages_go_on};
+use mg_engine_faults::{begins_tell_faults, page_writes_tell_faults};
 use mg_model::{Mode, Refusal};
 
 impl<D: Disk> Engine<D> {
@@ -34,10 +35,12 @@ impl<D: Disk> Engine<D> {
         ensures adds { Adds (means D.meaning places) self.old self.new (Event.Begin session mode) (number_or result) }
         ensures leaves { Leaves (means D.meaning places) self.old self.new
             (refusal_in result) (drawn_in result) (drawn_in result) }
+        ensures told { FaultsAreTold (means D.meaning places) self.old self.new (refusal_in result) }
         ensures crash { LeavesQuietly (means D.meaning places) self.old self.new }
         ensures sessions { SessionsStay (means D.meaning places) self.old self.new (begun_in session result) None }
         ensures works { IfOk result (λ t. (means D.meaning places).works self.new t.0 session) }
     {
+        begins_tell_faults::<D>();
         begins_give::<D, Place>();
         tell_counts(&self.core);
         self.core.begin(session, mode)
@@ -54,9 +57,11 @@ impl<D: Disk> Engine<D> {
         ensures next { WritesNext (means D.meaning places) self.old self.new result }
         ensures writes { WritesPage D.meaning self.old self.new result }
         ensures reads { Reads (means D.meaning places) self.old self.new (refusal_in result) None }
+        ensures told { FaultsAreTold (means D.meaning places) self.old self.new (refusal_in result) }
         ensures crash { LeavesQuietly (means D.meaning places) self.old self.new }
         ensures sessions { SessionsStay (means D.meaning places) self.old self.new None None }
     {
+        page_writes_tell_faults::<D>();
         next_pages_go_on::<D, Place>();
         self.core.write_page()
     }

@@ -4,7 +4,7 @@ ghost use Rattle.std.specs.Prelude.{None, Some, OnOk};
 ghost use Rattle.mg_records.specs.Adding.{AnswersAll};
 ghost use Rattle.mg_records.specs.Committing.{WritesOne};
 ghost use Rattle.mg_records.specs.Crashing.{LeavesQuietly};
-ghost use Rattle.mg_records.specs.Keeping.{Reads, refusal_in};
+ghost use Rattle.mg_records.specs.Keeping.{FaultsAreTold, Reads, refusal_in};
 ghost use Rattle.mg_records.specs.Sessions.{SessionsStay};
 ghost use Rattle.mg_engine_meaning.specs.Meaning.{means};
 ghost use Rattle.mg_engine.specs.Places.{places};
@@ -12,6 +12,7 @@ ghost use Rattle.mg_engine.specs.Places.{places};
 use crate::engine::Engine;
 use mg_base::{Disk, TxNo};
 use mg_core::Place;
+use mg_engine_faults::page_writes_tell_faults;
 use mg_engine_meaning::steps_go_on;
 use mg_model::Refusal;
 
@@ -21,9 +22,11 @@ impl<D: Disk> Engine<D> {
         ensures answers { AnswersAll (means D.meaning places) self.old t.0 result }
         ensures asks { OnOk result ((means D.meaning places).is_asked self.new t.0) }
         ensures reads { Reads (means D.meaning places) self.old self.new (refusal_in result) (Some t.0) }
+        ensures told { FaultsAreTold (means D.meaning places) self.old self.new (refusal_in result) }
         ensures crash { LeavesQuietly (means D.meaning places) self.old self.new }
         ensures sessions { SessionsStay (means D.meaning places) self.old self.new None None }
     {
+        page_writes_tell_faults::<D>();
         steps_go_on::<D, Place>();
         self.core.commit_ask(t)
     }
@@ -35,9 +38,11 @@ impl<D: Disk> Engine<D> {
         ensures answers { AnswersAll (means D.meaning places) self.old t.0 result }
         ensures one { WritesOne (means D.meaning places) self.old self.new t.0 result }
         ensures reads { Reads (means D.meaning places) self.old self.new (refusal_in result) None }
+        ensures told { FaultsAreTold (means D.meaning places) self.old self.new (refusal_in result) }
         ensures crash { LeavesQuietly (means D.meaning places) self.old self.new }
         ensures sessions { SessionsStay (means D.meaning places) self.old self.new None None }
     {
+        page_writes_tell_faults::<D>();
         steps_go_on::<D, Place>();
         self.core.commit_step(t)
     }

@@ -4,7 +4,7 @@ ghost use Rattle.std.specs.Prelude.{◌≡◌, None, Some};
 ghost use Rattle.mg_model.specs.declared.event.Event.{Event};
 ghost use Rattle.mg_records.specs.Adding.{Adds, fine_or};
 ghost use Rattle.mg_records.specs.Crashing.{LeavesQuietly};
-ghost use Rattle.mg_records.specs.Keeping.{Leaves, refusal_in};
+ghost use Rattle.mg_records.specs.Keeping.{FaultsAreTold, Leaves, refusal_in};
 ghost use Rattle.mg_records.specs.Reading.{FindAdds};
 ghost use Rattle.mg_records.specs.Sessions.{SessionsStay};
 ghost use Rattle.mg_engine_meaning.specs.Meaning.{means};
@@ -14,6 +14,7 @@ use crate::engine::Engine;
 use mg_base::{Disk, TxNo};
 use mg_core::Place;
 use mg_engine_calls::looks_go_on;
+use mg_engine_faults::events_tell_faults;
 use mg_engine_meaning::points_go_on;
 use mg_expr::Expr;
 use mg_model::{Refusal, Rows};
@@ -24,9 +25,11 @@ impl<D: Disk> Engine<D> {
     pub fn look(&mut self, t: TxNo) -> Result<(), Refusal>
         ensures adds { Adds (means D.meaning places) self.old self.new (Event.Look t) (fine_or result) }
         ensures leaves { Leaves (means D.meaning places) self.old self.new (refusal_in result) (Some t.0) (Some t.0) }
+        ensures told { FaultsAreTold (means D.meaning places) self.old self.new (refusal_in result) }
         ensures crash { LeavesQuietly (means D.meaning places) self.old self.new }
         ensures sessions { SessionsStay (means D.meaning places) self.old self.new None None }
     {
+        events_tell_faults::<D>();
         looks_go_on::<D, Place>();
         self.core.look(t)
     }
@@ -41,9 +44,11 @@ impl<D: Disk> Engine<D> {
     ) -> Result<(), Refusal>
         ensures adds { FindAdds (means D.meaning places) self.old self.new t name.now filter.now rows.now result }
         ensures leaves { Leaves (means D.meaning places) self.old self.new (refusal_in result) None None }
+        ensures told { FaultsAreTold (means D.meaning places) self.old self.new (refusal_in result) }
         ensures crash { LeavesQuietly (means D.meaning places) self.old self.new }
         ensures sessions { SessionsStay (means D.meaning places) self.old self.new None None }
     {
+        events_tell_faults::<D>();
         points_go_on::<D, Place>();
         self.core.found(t)
     }
@@ -52,9 +57,11 @@ impl<D: Disk> Engine<D> {
     pub fn mark(&mut self, t: TxNo) -> Result<(), Refusal>
         ensures adds { Adds (means D.meaning places) self.old self.new (Event.Mark t) (fine_or result) }
         ensures leaves { Leaves (means D.meaning places) self.old self.new (refusal_in result) None None }
+        ensures told { FaultsAreTold (means D.meaning places) self.old self.new (refusal_in result) }
         ensures crash { LeavesQuietly (means D.meaning places) self.old self.new }
         ensures sessions { SessionsStay (means D.meaning places) self.old self.new None None }
     {
+        events_tell_faults::<D>();
         points_go_on::<D, Place>();
         self.core.mark(t)
     }
@@ -64,9 +71,11 @@ impl<D: Disk> Engine<D> {
         ensures adds { Adds (means D.meaning places) self.old self.new
             (Event.Savepoint t name.now) (fine_or result) }
         ensures leaves { Leaves (means D.meaning places) self.old self.new (refusal_in result) None None }
+        ensures told { FaultsAreTold (means D.meaning places) self.old self.new (refusal_in result) }
         ensures crash { LeavesQuietly (means D.meaning places) self.old self.new }
         ensures sessions { SessionsStay (means D.meaning places) self.old self.new None None }
     {
+        events_tell_faults::<D>();
         points_go_on::<D, Place>();
         self.core.savepoint(t, name)
     }

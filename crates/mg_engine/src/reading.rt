@@ -5,7 +5,7 @@ ghost use Rattle.std.specs.Option.{option_copied};
 ghost use Rattle.mg_model.specs.Changes.{KeyedRows};
 ghost use Rattle.mg_records.specs.Adding.{AnswersAll};
 ghost use Rattle.mg_records.specs.Crashing.{LeavesQuietly};
-ghost use Rattle.mg_records.specs.Keeping.{Reads, refusal_in};
+ghost use Rattle.mg_records.specs.Keeping.{FaultsAreTold, Reads, refusal_in};
 ghost use Rattle.mg_records.specs.Reading.{IsPlace, IsTableGiven, Nears, TellsTable, Visits};
 ghost use Rattle.mg_records.specs.Sessions.{SessionsStay};
 ghost use Rattle.mg_engine_meaning.specs.Meaning.{means};
@@ -17,6 +17,7 @@ use crate::engine::Engine;
 use mg_base::{Disk, Memory, TxNo};
 use mg_core::Place;
 use mg_engine_calls::{tables_go_on, visits_go_on};
+use mg_engine_faults::readings_tell_faults;
 use mg_model::{Refusal, Table};
 use mg_records::Found;
 use mg_value::Name;
@@ -32,9 +33,11 @@ impl<D: Disk> Engine<D> {
         ensures table { TellsTable (means D.meaning places) self.old t.0 name.now result }
         ensures given { IfOk result (IsTableGiven (means D.meaning places) self.new t.0 name.now) }
         ensures reads { Reads (means D.meaning places) self.old self.new (refusal_in result) None }
+        ensures told { FaultsAreTold (means D.meaning places) self.old self.new (refusal_in result) }
         ensures crash { LeavesQuietly (means D.meaning places) self.old self.new }
         ensures sessions { SessionsStay (means D.meaning places) self.old self.new None None }
     {
+        readings_tell_faults::<D>();
         tables_go_on::<D, Place>();
         counts_fit(self.core.damage, self.core.shortages);
         self.core.table(t, name)
@@ -61,9 +64,11 @@ impl<D: Disk> Engine<D> {
             → (means D.meaning places).to_come self.old t.0 table.now (option_copied after.entry) rows
             → Visits (means D.meaning places) self.new t.0 table.now result rows }
         ensures reads { Reads (means D.meaning places) self.old self.new (refusal_in result) (Some t.0) }
+        ensures told { FaultsAreTold (means D.meaning places) self.old self.new (refusal_in result) }
         ensures crash { LeavesQuietly (means D.meaning places) self.old self.new }
         ensures sessions { SessionsStay (means D.meaning places) self.old self.new None None }
     {
+        readings_tell_faults::<D>();
         visits_go_on::<D>();
         counts_fit(self.core.damage, self.core.shortages);
         let visited = self.core.scan_step(t, table, after.copied());

@@ -4,9 +4,10 @@ ghost use Rattle.std.specs.Prelude.{None, Some};
 ghost use Rattle.mg_core.specs.Cores.{IsCore};
 ghost use Rattle.mg_engine_changes.specs.Notes.{AreCounts};
 ghost use Rattle.mg_engine_changes.specs.Outcomes.{IsBack, IsRolledShort, IsUndone};
+ghost use Rattle.mg_engine_faults.specs.Told.{TellsFaults};
 ghost use Rattle.mg_engine_meaning.specs.Meaning.{means};
 ghost use Rattle.mg_records.specs.Crashing.{LeavesQuietly};
-ghost use Rattle.mg_records.specs.Keeping.{Leaves, refusal_in};
+ghost use Rattle.mg_records.specs.Keeping.{FaultsAreTold, Leaves, refusal_in};
 ghost use Rattle.mg_records.specs.Sessions.{SessionsStay, given_up_in};
 ghost use Rattle.mg_records.specs.TakingBack.{GoesBack, Undoes};
 ghost use Rattle.mg_engine.specs.Engines.{IsEngine};
@@ -17,6 +18,7 @@ use crate::reading::counts_fit;
 use mg_base::{Disk, TxNo};
 use mg_core::{Core, Place};
 use mg_engine_changes::{backs_give, backs_give_over};
+use mg_engine_faults::backs_tell_faults;
 use mg_model::Refusal;
 use mg_table_takings::{back_over_tables, undo_tables_to_mark};
 use mg_taking_back::{back_to, takes_tables_to_mark, takes_tables_to_savepoint, undo_mark};
@@ -32,6 +34,7 @@ impl<D: Disk> Engine<D> {
     pub fn undo_mark(&mut self, t: TxNo) -> Result<(), Refusal>
         ensures undoes { Undoes (means D.meaning places) self.old self.new t result }
         ensures leaves { Leaves (means D.meaning places) self.old self.new (refusal_in result) (Some t.0) (Some t.0) }
+        ensures told { FaultsAreTold (means D.meaning places) self.old self.new (refusal_in result) }
         ensures crash { LeavesQuietly (means D.meaning places) self.old self.new }
         ensures sessions { SessionsStay (means D.meaning places) self.old self.new None (given_up_in t.0 result) }
     {
@@ -48,6 +51,7 @@ impl<D: Disk> Engine<D> {
     pub fn back_to(&mut self, t: TxNo, name: &Name) -> Result<bool, Refusal>
         ensures goes { GoesBack (means D.meaning places) self.old self.new t name.now result }
         ensures leaves { Leaves (means D.meaning places) self.old self.new (refusal_in result) (Some t.0) (Some t.0) }
+        ensures told { FaultsAreTold (means D.meaning places) self.old self.new (refusal_in result) }
         ensures crash { LeavesQuietly (means D.meaning places) self.old self.new }
         ensures sessions { SessionsStay (means D.meaning places) self.old self.new None (given_up_in t.0 result) }
     {
@@ -67,9 +71,11 @@ fn take_to_mark<D: Disk>(core: &mut Core<D>, t: TxNo) -> Result<(), Refusal>
     requires counts { AreCounts core.old }
     ensures core { IsCore D.meaning core.new }
     ensures undone { IsUndone D.meaning places core.old core.new t result }
+    ensures told { TellsFaults D.meaning core.old core.new (refusal_in result) }
 {
     backs_give::<D, Place>();
     backs_give_over::<D, Place>();
+    backs_tell_faults::<D>();
     match takes_tables_to_mark(core, t) {
         Ok(true) => undo_tables_to_mark(core, t),
         Ok(false) => undo_mark(core, t),
@@ -87,9 +93,11 @@ fn take_to_savepoint<D: Disk>(core: &mut Core<D>, t: TxNo, name: &Name) -> Resul
     requires counts { AreCounts core.old }
     ensures core { IsCore D.meaning core.new }
     ensures back { IsBack D.meaning places core.old core.new t name.now result }
+    ensures told { TellsFaults D.meaning core.old core.new (refusal_in result) }
 {
     backs_give::<D, Place>();
     backs_give_over::<D, Place>();
+    backs_tell_faults::<D>();
     match takes_tables_to_savepoint(core, t, name) {
         Ok(true) => back_over_tables(core, t, name),
         Ok(false) => back_to(core, t, name),

@@ -88,9 +88,9 @@ module _ {D P : Type 0} (m : Meaning D) (places : Places P) (known : KnownOfDraw
   begin_gives new (Ok t) new_core counts low free begins =
       subst (λ (c : Core D). GivesEvent m places old c (Begin session mode) (Tx t) None (Some t.0) (Some t.0)
       (Some session) None × WorksFor c t.0 session) (sym begins.same) (
-        begun_gives m places known old new.store new.list session mode t core new_core.list low free begins.online
+        begun_gives m places known old new.store new.list session mode t core new_core.list low free begins.online.0
             begins.number begins.below begins.adds begins.draws,
-        begun_works m places known old new.store new.list session mode t core new_core.list low free begins.online
+        begun_works m places known old new.store new.list session mode t core new_core.list low free begins.online.0
             begins.number begins.below begins.adds begins.draws,
       )
   begin_gives new (Err (Offline faults)) new_core counts low free (offline, same) = (

@@ -316,6 +316,7 @@ module _ {D : Type 0} (m : Meaning D) (counts : CountsNow m) (holds_one : HoldsO
       → Finishes m old.store new ended → IsAnswer ended result → Ends m old new.disk result
   its_end new (Ok x) (Ok y) ends is = (
     ends.online,
+    ends.steady,
     λ o h stands. its_left m counts holds_one runs leaves begin old core_is o h stands
         (shows_of o h stands ends.online) new ends,
   )

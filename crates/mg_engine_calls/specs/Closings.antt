@@ -42,9 +42,9 @@ RefusesClose m old new (DiskWrite count) =
     (old.store.offline ≡ None) × Rose (m.faults old.store.disk) (m.faults new)
 RefusesClose m old new refusal = ⊥
 
--- an engine has left its disk, or the closing is refused
+-- an engine has left its disk, and no call of that has failed; or the closing is refused
 abbrev pub Ends : {D : Type 0} → Meaning D → Core D → D → Result (Unit {0}) Refusal → Type 0
-Ends m old new (Ok x) = (old.store.offline ≡ None)
+Ends m old new (Ok x) = (old.store.offline ≡ None) × (m.faults new ≡ m.faults old.store.disk)
     × ((o : Opening) (h : Entries) → StandsFor m old o h
     → HasLeft m new old.store.geometry.size o h (durable_count h))
 Ends m old new (Err refusal) = RefusesClose m old new refusal

@@ -147,7 +147,7 @@ left_taken_up D m counts begin own_new core disk limit size o h k opening legal 
 pub runs_compose : (D : Type 0) (m : Meaning D) → CountsNow m → OpeningsBegin → OwnRowsAreNew → RunsCompose D m
 runs_compose D m counts begin own_new old core disk limit o h ends opened stands =
     takes_up begin own_new m counts core disk limit old.store.geometry.size o h (durable_count h)
-    (begin o shows.stands.opening) shows.stands.legal stands.grows (ends.1 o h stands) opened
+    (begin o shows.stands.opening) shows.stands.legal stands.grows (ends.2 o h stands) opened
   where
     shows : ShowsIt m old o h (standing_of old stands.numbers stands.tables)
     shows = subst (StandsWhile m old o h (standing_of old stands.numbers stands.tables)) ends.0 stands.stands

@@ -257,7 +257,7 @@ module _ {D P : Type 0} (m : Meaning D) (places : Places P) (holds : HoldsOne D 
   commits_give (Ok x) gives = subst (λ (c : Core D). GivesDurable m places old c (Commit t) Fine None (Some t.0)
       (Some t.0) (Some t.0)) (sym gives.same) (commit_gives m places holds one_way kept_is begins commits finds
       take stay old core new.waits new.list new.store t written gives.continues gives.over gives.ends gives.bits
-      gives.online apart)
+      gives.online.1 apart)
   commits_give (Err refusal) (inl refused) = refused_durable m places old new t refusal refused
       (refused_gives m places idle_goes on quiet old new t.0 (Commit t) (λ o h. Fine) refusal (Some t.0) (Some t.0)
       refl (λ o h. refl) refused)

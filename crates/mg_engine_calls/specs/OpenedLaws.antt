@@ -104,6 +104,7 @@ ready_same m disk before after same pool keeps = record {
   size = λ n known. let told : Some n ≡ Some before.geometry.size = sym (same.size n known) ∙ pool.size in
       keeps.pool.size ∙ (ap (λ (g : Geometry). Some g.size) keeps.geometry ∙ sym told);
   tells = keeps.disk.tells ∙ same.tells;
+  most_writes = keeps.disk.most_writes ∙ same.most_writes;
 }
 
 -- ---- an engine
@@ -149,8 +150,7 @@ module _ {D : Type 0} (m : Meaning D) (counts : CountsNow m) (stands_first : Sta
       core_is = opens.idle.core_is;
       free = λ session. ap (λ (works : List Working). has_session works session) opens.idle.works;
       online = opens.idle.online;
-      never_falls = let first = opens.prepared.never_falls in let then_ = opens.keeps.disk.never_falls in
-          omega (arith, first, then_);
+      steady = opens.steady ∙ opens.prepared.steady;
       same = ready_same m disk opens.before core.store opens.prepared.same opens.prepared.pool opens.keeps;
       size_is = opens.idle.core_is.pool.size;
       limit_is = λ image held. ap (λ (g : Geometry). g.limit) opens.keeps.geometry

@@ -74,7 +74,8 @@ pub record IsOpenedOver {D : Type 0} (m : Meaning D) (disk : D) (limit : ℕ) (c
   pub free : (session : ℕ) → has_session core.works session ≡ false
   -- no page write has failed yet
   pub online : core.store.offline ≡ None
-  pub never_falls : m.faults disk ≤ m.faults core.store.disk
+  -- nor any other call of the disk
+  pub steady : m.faults core.store.disk ≡ m.faults disk
   pub same : IsSameDisk m disk core.store.disk
   -- the page size is the disk's
   pub size_is : m.size core.store.disk ≡ Some core.store.geometry.size

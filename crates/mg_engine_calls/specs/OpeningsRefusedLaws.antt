@@ -49,13 +49,13 @@ module _ {D : Type 0} (m : Meaning D) (counts : CountsNow m) (counted : AreCount
   unprepared_free : (fault : OpenFault) → FailsToPrepare m disk new fault → IsOpenRefusal fault refusal
       → IsNoJudgement refusal
   unprepared_free _ (unasked count keeps same rose) is = subst IsNoJudgement (sym is) tt
-  unprepared_free _ (no_memory keeps same) is = subst IsNoJudgement (sym is) tt
+  unprepared_free _ (no_memory keeps same steady) is = subst IsNoJudgement (sym is) tt
   unprepared_free _ (unmade count fails) is = subst IsNoJudgement (sym is) tt
 
   unprepared_kept : (image : Image) → m.held disk ≡ Some image
       → ((size : ℕ) → m.size new ≡ Some size → IsUnmadeImage size image → ⊥) → (fault : OpenFault) → FailsToPrepare m disk new fault → KeepsContent m disk new
   unprepared_kept image held not_ _ (unasked count keeps same rose) = keeps
-  unprepared_kept image held not_ _ (no_memory keeps same) = keeps
+  unprepared_kept image held not_ _ (no_memory keeps same steady) = keeps
   unprepared_kept image held not_ _ (unmade count fails) = absurd (not_ fails.size fails.sized
       (fails.unmade image held))
 
@@ -63,7 +63,7 @@ module _ {D : Type 0} (m : Meaning D) (counts : CountsNow m) (counted : AreCount
       → (fault : OpenFault) → FailsToPrepare m disk new fault → LeavesOnly m disk new (LeavesNew m disk size)
   unprepared_leaves size sized image tells _ (unasked count keeps same rose) =
       content_leaves m counts (LeavesNew m disk size) disk new tells.told keeps (λ c may. inl may)
-  unprepared_leaves size sized image tells _ (no_memory keeps same) =
+  unprepared_leaves size sized image tells _ (no_memory keeps same steady) =
       content_leaves m counts (LeavesNew m disk size) disk new tells.told keeps (λ c may. inl may)
   unprepared_leaves size sized image tells _ (unmade count fails) =
       let both : Some fails.size ≡ Some size = sym fails.sized ∙ sized in
@@ -72,7 +72,7 @@ module _ {D : Type 0} (m : Meaning D) (counts : CountsNow m) (counted : AreCount
 
   unprepared_same : (fault : OpenFault) → FailsToPrepare m disk new fault → IsSameDisk m disk new
   unprepared_same _ (unasked count keeps same rose) = same
-  unprepared_same _ (no_memory keeps same) = same
+  unprepared_same _ (no_memory keeps same steady) = same
   unprepared_same _ (unmade count fails) = fails.same
 
   -- ---- its pages were not read

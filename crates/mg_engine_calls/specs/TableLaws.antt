@@ -137,6 +137,7 @@ module _ {D P : Type 0} (m : Meaning D) (places : Places P) (reads : ReadsGoOn D
       offline = keeps.offline;
       down = keeps.down;
       tells = keeps.tells;
+      most_writes = keeps.most_writes;
       time = λ told. record { later = (keeps.time told).later; keeps = (keeps.time told).keeps };
       sizes = keeps.sizes;
       holds = keeps.holds;

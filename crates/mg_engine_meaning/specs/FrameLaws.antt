@@ -65,6 +65,7 @@ module _ {D P : Type 0} (m : Meaning D) (places : Places P) (old new : Core D) w
     offline = may.offline;
     down = may.down;
     tells = goes.time.tells;
+    most_writes = goes.time.most_writes;
     time = λ told. record { later = goes.time.later told; keeps = goes.time.keeps told };
     sizes = λ size. ap (λ (g : Geometry). g.size == size) goes.geometry;
     holds = λ o h least c holds. subst (λ (n : ℕ). HoldsFrom packed_form n o (asked h) least c)

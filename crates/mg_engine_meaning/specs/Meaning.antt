@@ -96,6 +96,7 @@ means m places = record {
   faults = λ core. m.faults core.store.disk;
   damage = λ core. core.damage;
   shortages = λ core. core.shortages;
+  most_writes = λ core. m.most_writes core.store.disk;
   down = λ core. core.store.offline;
   is_size = λ core size. core.store.geometry.size == size;
 }

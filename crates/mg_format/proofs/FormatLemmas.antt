@@ -14,12 +14,13 @@ use Rattle.mg_pool.specs.Change.{Changes}
 use Rattle.mg_pool.specs.Fault.{Counts, StaysOnline, TellsFault}
 use Rattle.mg_pool.specs.Pool.{KeepsContent}
 use Rattle.mg_pool.specs.Refusal.{LeavesRefused}
+use Rattle.mg_pool.specs.Run.{TimeGoesOn}
 use Rattle.mg_pool.specs.declared.fault.PoolFault.{PoolFault}
 use Rattle.mg_pool.specs.declared.fault.PoolFault.TheVariants.{DiskRead, DiskWrite, Offline, Absent, Memory}
 use Rattle.mg_pool.specs.declared.pool.Pool.{Pool}
 use Rattle.mg_space.specs.View.{Tells}
 use Rattle.mg_space.specs.ViewLaws.{CountsNow}
-use Rattle.mg_format.specs.Format.{FormatDone, HasNew, HasPages, HasWrittenUpTo, HoldsPages, IsMade, IsUnmadeImage, LeavesNew, WritesNew, with_page}
+use Rattle.mg_format.specs.Format.{FormatDone, HasNew, HasPages, HasWrittenUpTo, HoldsPages, IsMade, IsUnmadeImage, LeavesNew, SaysAlike, WritesNew, with_page}
 
 -- ---- faults of several calls
 
@@ -53,33 +54,55 @@ tells_after m a b c (Err (Offline n)) stays same tells =
 tells_after m a b c (Err (Absent n)) stays same tells = (stays.0, tells.1, tells.2 ∙ stays.2)
 tells_after m a b c (Err Memory) stays same tells = (stays.0, tells.1, tells.2 ∙ stays.2)
 
--- ---- what a disk tells of itself
+-- ---- what a disk says of itself
 
--- a change of one page leaves a disk that tells as before
-changed_tells : {D L : Type 0} (m : Meaning D) (old new : Pool D L) (pages : List BatchPage) (orders : List Order)
-    → Changes m old new pages orders → m.tells new.disk ≡ m.tells old.disk
-changed_tells m old new pages orders changes = ap m.tells changes.enters.disk
-    ∙ (ap m.tells changes.puts.disk ∙ changes.written.tells)
+-- it stays over two calls
+pub says_then : {D : Type 0} (m : Meaning D) (old mid new : D) → SaysAlike m old mid → SaysAlike m mid new
+    → SaysAlike m old new
+says_then m old mid new first next = record {
+  tells = next.tells ∙ first.tells;
+  most_writes = next.most_writes ∙ first.most_writes;
+}
+
+-- over none
+pub says_still : {D : Type 0} (m : Meaning D) (disk : D) → SaysAlike m disk disk
+says_still m disk = record { tells = refl; most_writes = refl }
+
+-- and as time goes on
+pub says_on : {D : Type 0} (m : Meaning D) (old new : D) → TimeGoesOn m old new → SaysAlike m old new
+says_on m old new time = record { tells = time.tells; most_writes = time.most_writes }
+
+-- a change of one page leaves a disk that says what it said
+changed_says : {D L : Type 0} (m : Meaning D) (old new : Pool D L) (pages : List BatchPage) (orders : List Order)
+    → Changes m old new pages orders → SaysAlike m old.disk new.disk
+changed_says {D} m old new pages orders changes = subst (λ (disk : D). SaysAlike m old.disk disk)
+    (sym (changes.enters.disk ∙ changes.puts.disk)) (says_on m old.disk changes.ready.disk changes.written.time)
 
 -- so does one that is refused, and a page write that fails
-refused_tells : {D L : Type 0} (T : Type 0) (m : Meaning D) (old new : Pool D L) (fault : PoolFault)
-    → LeavesRefused {T = T} m old new (Err fault) → m.tells new.disk ≡ m.tells old.disk
-refused_tells T m old new (DiskRead n) left = absurd left
-refused_tells T m old new (DiskWrite n) left = left.fails.time.tells ∙ left.written.tells
-refused_tells {D} {L} T m old new (Offline n) left = ap (λ (s : Pool D L). m.tells s.disk) left
-refused_tells T m old new (Absent n) left = absurd left
-refused_tells {D} {L} T m old new Memory left = ap (λ (s : Pool D L). m.tells s.disk) left
+refused_says : {D L : Type 0} (T : Type 0) (m : Meaning D) (old new : Pool D L) (fault : PoolFault)
+    → LeavesRefused {T = T} m old new (Err fault) → SaysAlike m old.disk new.disk
+refused_says T m old new (DiskRead n) left = absurd left
+refused_says T m old new (DiskWrite n) left = record {
+  tells = left.fails.time.tells ∙ left.written.tells;
+  most_writes = left.fails.time.most_writes ∙ left.written.time.most_writes;
+}
+refused_says {D} {L} T m old new (Offline n) left = subst (λ (s : Pool D L). SaysAlike m old.disk s.disk) (sym left)
+    (says_still m old.disk)
+refused_says T m old new (Absent n) left = absurd left
+refused_says {D} {L} T m old new Memory left = subst (λ (s : Pool D L). SaysAlike m old.disk s.disk) (sym left)
+    (says_still m old.disk)
 
-pub change_tells : {D L : Type 0} (m : Meaning D) (old new : Pool D L) (pages : List BatchPage)
+pub change_says : {D L : Type 0} (m : Meaning D) (old new : Pool D L) (pages : List BatchPage)
     (orders : List Order) (result : Result (Unit {0}) PoolFault) → OnOk result (Changes m old new pages orders)
-    → LeavesRefused m old new result → m.tells new.disk ≡ m.tells old.disk
-change_tells m old new pages orders (Ok x) changes left = changed_tells m old new pages orders changes
-change_tells m old new pages orders (Err fault) changes left = refused_tells (Unit {0}) m old new fault left
+    → LeavesRefused m old new result → SaysAlike m old.disk new.disk
+change_says m old new pages orders (Ok x) changes left = changed_says m old new pages orders changes
+change_says m old new pages orders (Err fault) changes left = refused_says (Unit {0}) m old new fault left
 
-pub fail_tells : {D L : Type 0} (T : Type 0) (m : Meaning D) (old mid new : Pool D L) (fault : PoolFault)
-    → m.tells mid.disk ≡ m.tells old.disk → LeavesRefused {T = T} m mid new (Err fault)
-    → m.tells new.disk ≡ m.tells old.disk
-fail_tells T m old mid new fault before left = refused_tells T m mid new fault left ∙ before
+pub fail_says : {D L : Type 0} (T : Type 0) (m : Meaning D) (old mid new : Pool D L) (fault : PoolFault)
+    → SaysAlike m old.disk mid.disk → LeavesRefused {T = T} m mid new (Err fault)
+    → SaysAlike m old.disk new.disk
+fail_says T m old mid new fault before left = says_then m old.disk mid.disk new.disk before
+    (refused_says T m mid new fault left)
 
 -- ---- the settling
 

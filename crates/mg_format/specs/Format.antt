@@ -15,6 +15,11 @@ use Rattle.mg_space.specs.View.{Tells}
 abbrev pub IsClean : {D L : Type 0} → Pool D L → Type 0
 IsClean store = (p : ℕ) → is_dirty store.dirty p ≡ false
 
+-- What a disk says of itself stays: whether it tells what a crash may leave, and how many page writes pass in all.
+pub record SaysAlike {D : Type 0} (m : Meaning D) (old new : D) : Type 0 where
+  pub tells : m.tells new ≡ m.tells old
+  pub most_writes : m.most_writes new ≡ m.most_writes old
+
 -- one page is dirty, and no other
 abbrev pub IsOnlyDirty : {D L : Type 0} → Pool D L → ℕ → Type 0
 IsOnlyDirty store n = (p : ℕ) → is_dirty store.dirty p ≡ (p == n)

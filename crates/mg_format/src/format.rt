@@ -9,7 +9,7 @@ ghost use Rattle.mg_pool.specs.Change.{ChangesOverlays};
 ghost use Rattle.mg_careful.specs.Graph.{is_ordered};
 ghost use Rattle.mg_pool.specs.Fault.{OnlyWrites, TellsFault};
 ghost use Rattle.mg_pool.specs.Pool.{IsPool, LeavesOverlays};
-ghost use Rattle.mg_format.specs.Format.{FormatDone, IsClean, IsFresh, IsOnlyDirty, WritesNew};
+ghost use Rattle.mg_format.specs.Format.{FormatDone, IsClean, IsFresh, IsOnlyDirty, SaysAlike, WritesNew};
 ghost use Rattle.mg_space.specs.Taking.{IsGeometry};
 ghost use Rattle.mg_space.specs.View.{Tells};
 
@@ -39,7 +39,7 @@ pub fn format_database<D: Disk>(store: &mut Store<D>) -> Result<(), PoolFault>
     ensures clean { OnOk result (IsClean store.new) }
     ensures own { OnlyWrites result }
     ensures fault { TellsFault D.meaning store.old store.new result }
-    ensures tells { D.meaning.tells store.new.disk ≡ D.meaning.tells store.old.disk }
+    ensures says { SaysAlike D.meaning store.old.disk store.new.disk }
     ensures never_falls { OnOk result
         (D.meaning.faults store.old.disk ≤ D.meaning.faults store.new.disk) }
     ensures done { (image : Image) → IsFresh D.meaning store.old image
@@ -65,7 +65,7 @@ fn write_new<D: Disk>(store: &mut Store<D>, n: u32) -> Result<(), PoolFault>
     ensures clean { OnOk result (IsClean store.new) }
     ensures own { OnlyWrites result }
     ensures fault { TellsFault D.meaning store.old store.new result }
-    ensures tells { D.meaning.tells store.new.disk ≡ D.meaning.tells store.old.disk }
+    ensures says { SaysAlike D.meaning store.old.disk store.new.disk }
     ensures steady { OnOk result
         (D.meaning.faults store.new.disk ≡ D.meaning.faults store.old.disk) }
     ensures writes { (image : Image) → Tells D.meaning store.old.disk image
@@ -90,7 +90,7 @@ fn write_page<D: Disk>(store: &mut Store<D>, n: u32, bytes: &[u8]) -> Result<(),
     ensures clean { OnOk result (IsClean store.new) }
     ensures own { OnlyWrites result }
     ensures fault { TellsFault D.meaning store.old store.new result }
-    ensures tells { D.meaning.tells store.new.disk ≡ D.meaning.tells store.old.disk }
+    ensures says { SaysAlike D.meaning store.old.disk store.new.disk }
     ensures steady { OnOk result
         (D.meaning.faults store.new.disk ≡ D.meaning.faults store.old.disk) }
     ensures writes { (image : Image) → Tells D.meaning store.old.disk image
@@ -112,7 +112,7 @@ fn put_page<D: Disk>(store: &mut Store<D>, n: u32, bytes: &[u8]) -> Result<(), P
     ensures only { OnOk result (IsOnlyDirty store.new n) }
     ensures own { OnlyWrites result }
     ensures fault { TellsFault D.meaning store.old store.new result }
-    ensures tells { D.meaning.tells store.new.disk ≡ D.meaning.tells store.old.disk }
+    ensures says { SaysAlike D.meaning store.old.disk store.new.disk }
     ensures steady { OnOk result
         (D.meaning.faults store.new.disk ≡ D.meaning.faults store.old.disk) }
     ensures unordered { OnOk result

@@ -2,6 +2,7 @@
 use Rattle.std.specs.Prelude.{◌≡◌, ℕ, ◌≤◌, List, true, false, Option, Some, None, Result, Ok, Err}
 use Rattle.mg_base.specs.Image.{Image}
 use Rattle.mg_base.specs.Disk.{Rose}
+use Rattle.mg_faults.specs.Faults.{tells_fault}
 use Rattle.mg_model.specs.declared.opening.Opening.{Opening}
 use Rattle.mg_model.specs.declared.refusal.Refusal.{Refusal}
 use Rattle.mg_model.specs.declared.refusal.Refusal.TheVariants.{DatabaseFull, DiskRead, DiskWrite, Offline, Damaged, Memory}
@@ -52,12 +53,17 @@ pub record Keeps {R P : Type 0} (m : Means R P) (old new : R) (refusal : Option 
   pub offline : IsOffline (m.down old) refusal
   pub down : m.down new ≡ down_after (m.down old) refusal
   pub tells : m.tells new ≡ m.tells old
+  pub most_writes : m.most_writes new ≡ m.most_writes old
   pub time : m.tells old ≡ true → Elapses m old new
   pub sizes : (size : ℕ) → m.is_size new size ≡ m.is_size old size
   pub holds : (o : Opening) (h : Entries) (least : ℕ) (c : Image) → m.holds old o h least c
       → m.holds new o h least c
   pub given : (table : Table) → m.was_given old table → m.was_given new table
   pub places : (table : Table) (place : P) → m.is_place old table place → m.is_place new table place
+
+-- a fault of the disk is told: where the refusal tells none, the disk's count of faults stands
+abbrev pub FaultsAreTold : {R P : Type 0} → Means R P → R → R → Option Refusal → Type 0
+FaultsAreTold m old new refusal = tells_fault refusal ≡ false → m.faults new ≡ m.faults old
 
 -- a table that was given to a transaction is given to it still, but for one transaction, if one is
 -- named

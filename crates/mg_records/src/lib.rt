@@ -9,7 +9,8 @@
 //! Each call takes a value that stands for a history, whatever that is, to one that stands for the
 //! same history with the call's entries (`specs/Adding`, `Writing`, `TakingBack`). Calls
 //! that only read add none (`specs/Reading`). What a crash leaves holds the history
-//! (`specs/Crashing`). A session has one active transaction at most (`specs/Sessions`). A refusal from outside the machine comes only by its cause, and once a page
+//! (`specs/Crashing`). A session has one active transaction at most (`specs/Sessions`). A refusal from
+//! outside the machine comes only by its cause, a fault of the disk is told by one, and once a page
 //! write has failed every call is refused (`specs/Keeping`).
 //!
 //! Not every clause of a call holds of every history: where the machine speaks of an active

@@ -6,7 +6,7 @@ ghost use Rattle.mg_model.specs.declared.event.Event.{Event};
 ghost use Rattle.mg_model.specs.Changes.{KeyedRows};
 ghost use Rattle.mg_model.specs.Catalog.{catalog_name};
 ghost use Rattle.mg_records.specs.Meaning.{Means};
-ghost use Rattle.mg_records.specs.Keeping.{Leaves, Reads, refusal_in};
+ghost use Rattle.mg_records.specs.Keeping.{FaultsAreTold, Leaves, Reads, refusal_in};
 ghost use Rattle.mg_records.specs.Crashing.{CrashesHold, HoldsOn, LeavesQuietly, LeavesWith};
 ghost use Rattle.mg_records.specs.Sessions.{SessionsAreOne, SessionsStay, begun_in, ended_in, given_up_in};
 ghost use Rattle.mg_records.specs.Adding.{Adds, AnswersAll, fine_or, number_or, drawn_in};
@@ -45,6 +45,7 @@ pub trait Records {
         requires free { meaning.is_free self.old session }
         ensures adds { Adds meaning self.old self.new (Event.Begin session mode) (number_or result) }
         ensures leaves { Leaves meaning self.old self.new (refusal_in result) (drawn_in result) (drawn_in result) }
+        ensures told { FaultsAreTold meaning self.old self.new (refusal_in result) }
         ensures crash { LeavesQuietly meaning self.old self.new }
         ensures sessions { SessionsStay meaning self.old self.new (begun_in session result) None }
         ensures works { IfOk result (λ t. meaning.works self.new t.0 session) };
@@ -53,6 +54,7 @@ pub trait Records {
     fn look(&mut self, t: TxNo) -> Result<(), Refusal>
         ensures adds { Adds meaning self.old self.new (Event.Look t) (fine_or result) }
         ensures leaves { Leaves meaning self.old self.new (refusal_in result) (Some t.0) (Some t.0) }
+        ensures told { FaultsAreTold meaning self.old self.new (refusal_in result) }
         ensures crash { LeavesQuietly meaning self.old self.new }
         ensures sessions { SessionsStay meaning self.old self.new None None };
 
@@ -66,6 +68,7 @@ pub trait Records {
         ensures table { TellsTable meaning self.old t.0 name.now result }
         ensures given { IfOk result (IsTableGiven meaning self.new t.0 name.now) }
         ensures reads { Reads meaning self.old self.new (refusal_in result) None }
+        ensures told { FaultsAreTold meaning self.old self.new (refusal_in result) }
         ensures crash { LeavesQuietly meaning self.old self.new }
         ensures sessions { SessionsStay meaning self.old self.new None None };
 
@@ -85,6 +88,7 @@ pub trait Records {
             → meaning.to_come self.old t.0 table.now (option_copied after.entry) rows
             → Visits meaning self.new t.0 table.now result rows }
         ensures reads { Reads meaning self.old self.new (refusal_in result) (Some t.0) }
+        ensures told { FaultsAreTold meaning self.old self.new (refusal_in result) }
         ensures crash { LeavesQuietly meaning self.old self.new }
         ensures sessions { SessionsStay meaning self.old self.new None None };
 
@@ -98,6 +102,7 @@ pub trait Records {
     ) -> Result<(), Refusal>
         ensures adds { FindAdds meaning self.old self.new t name.now filter.now rows.now result }
         ensures leaves { Leaves meaning self.old self.new (refusal_in result) None None }
+        ensures told { FaultsAreTold meaning self.old self.new (refusal_in result) }
         ensures crash { LeavesQuietly meaning self.old self.new }
         ensures sessions { SessionsStay meaning self.old self.new None None };
 
@@ -108,6 +113,7 @@ pub trait Records {
         ensures adds { Adds meaning self.old self.new
             (event_of t table.now.name write.now) (fine_or result) }
         ensures leaves { Leaves meaning self.old self.new (refusal_in result) None (Some t.0) }
+        ensures told { FaultsAreTold meaning self.old self.new (refusal_in result) }
         ensures crash { LeavesQuietly meaning self.old self.new }
         ensures sessions { SessionsStay meaning self.old self.new None None };
 
@@ -119,6 +125,7 @@ pub trait Records {
         requires pages { FitsPages meaning self.old shape.now }
         ensures adds { MakesTable meaning self.old self.new t name.now shape.now (refusal_in result) }
         ensures leaves { Leaves meaning self.old self.new (refusal_in result) (Some t.0) (Some t.0) }
+        ensures told { FaultsAreTold meaning self.old self.new (refusal_in result) }
         ensures crash { LeavesQuietly meaning self.old self.new }
         ensures sessions { SessionsStay meaning self.old self.new None None };
 
@@ -126,6 +133,7 @@ pub trait Records {
     fn mark(&mut self, t: TxNo) -> Result<(), Refusal>
         ensures adds { Adds meaning self.old self.new (Event.Mark t) (fine_or result) }
         ensures leaves { Leaves meaning self.old self.new (refusal_in result) None None }
+        ensures told { FaultsAreTold meaning self.old self.new (refusal_in result) }
         ensures crash { LeavesQuietly meaning self.old self.new }
         ensures sessions { SessionsStay meaning self.old self.new None None };
 
@@ -138,6 +146,7 @@ pub trait Records {
     fn undo_mark(&mut self, t: TxNo) -> Result<(), Refusal>
         ensures undoes { Undoes meaning self.old self.new t result }
         ensures leaves { Leaves meaning self.old self.new (refusal_in result) (Some t.0) (Some t.0) }
+        ensures told { FaultsAreTold meaning self.old self.new (refusal_in result) }
         ensures crash { LeavesQuietly meaning self.old self.new }
         ensures sessions { SessionsStay meaning self.old self.new None (given_up_in t.0 result) };
 
@@ -145,6 +154,7 @@ pub trait Records {
     fn savepoint(&mut self, t: TxNo, name: &Name) -> Result<(), Refusal>
         ensures adds { Adds meaning self.old self.new (Event.Savepoint t name.now) (fine_or result) }
         ensures leaves { Leaves meaning self.old self.new (refusal_in result) None None }
+        ensures told { FaultsAreTold meaning self.old self.new (refusal_in result) }
         ensures crash { LeavesQuietly meaning self.old self.new }
         ensures sessions { SessionsStay meaning self.old self.new None None };
 
@@ -157,6 +167,7 @@ pub trait Records {
     fn back_to(&mut self, t: TxNo, name: &Name) -> Result<bool, Refusal>
         ensures goes { GoesBack meaning self.old self.new t name.now result }
         ensures leaves { Leaves meaning self.old self.new (refusal_in result) (Some t.0) (Some t.0) }
+        ensures told { FaultsAreTold meaning self.old self.new (refusal_in result) }
         ensures crash { LeavesQuietly meaning self.old self.new }
         ensures sessions { SessionsStay meaning self.old self.new None (given_up_in t.0 result) };
 
@@ -165,6 +176,7 @@ pub trait Records {
         ensures answers { AnswersAll meaning self.old t.0 result }
         ensures asks { OnOk result (meaning.is_asked self.new t.0) }
         ensures reads { Reads meaning self.old self.new (refusal_in result) (Some t.0) }
+        ensures told { FaultsAreTold meaning self.old self.new (refusal_in result) }
         ensures crash { LeavesQuietly meaning self.old self.new }
         ensures sessions { SessionsStay meaning self.old self.new None None };
 
@@ -176,6 +188,7 @@ pub trait Records {
         ensures answers { AnswersAll meaning self.old t.0 result }
         ensures one { WritesOne meaning self.old self.new t.0 result }
         ensures reads { Reads meaning self.old self.new (refusal_in result) None }
+        ensures told { FaultsAreTold meaning self.old self.new (refusal_in result) }
         ensures crash { LeavesQuietly meaning self.old self.new }
         ensures sessions { SessionsStay meaning self.old self.new None None };
 
@@ -184,6 +197,7 @@ pub trait Records {
         requires written { meaning.is_written self.old t.0 }
         ensures adds { Adds meaning self.old self.new (Event.Commit t) (fine_or result) }
         ensures leaves { Leaves meaning self.old self.new (refusal_in result) (Some t.0) (Some t.0) }
+        ensures told { FaultsAreTold meaning self.old self.new (refusal_in result) }
         ensures crash { LeavesWith meaning self.old self.new (Event.Commit t) (fine_or result) }
         ensures sessions { SessionsStay meaning self.old self.new None (ended_in t.0 result) };
 
@@ -191,6 +205,7 @@ pub trait Records {
     fn rollback(&mut self, t: TxNo) -> Result<(), Refusal>
         ensures adds { Adds meaning self.old self.new (Event.Rollback t) (fine_or result) }
         ensures leaves { Leaves meaning self.old self.new (refusal_in result) (Some t.0) (Some t.0) }
+        ensures told { FaultsAreTold meaning self.old self.new (refusal_in result) }
         ensures crash { LeavesQuietly meaning self.old self.new }
         ensures sessions { SessionsStay meaning self.old self.new None (ended_in t.0 result) };
 

@@ -35,6 +35,7 @@ pub calm_same : {D T E : Type 0} {result : Result T E} (m : Meaning D) (old new 
 calm_same m old new calm = record {
   size = λ n known. stays_known (m.size old) (m.size new) n known calm.keeps.size;
   tells = calm.keeps.tells;
+  most_writes = calm.keeps.most_writes;
 }
 
 -- over two of them,
@@ -43,14 +44,16 @@ pub twice_same : {D : Type 0} (m : Meaning D) (old mid new : D) → IsSameDisk m
 twice_same m old mid new first then_ = record {
   size = λ n known. then_.size n (first.size n known);
   tells = then_.tells ∙ first.tells;
+  most_writes = then_.most_writes ∙ first.most_writes;
 }
 
 -- and where the page size is still the same
 pub sized_same : {D : Type 0} (m : Meaning D) (old mid new : D) (size : ℕ) → IsSameDisk m old mid
-    → m.size mid ≡ Some size → m.size new ≡ Some size → m.tells new ≡ m.tells mid → IsSameDisk m old new
-sized_same m old mid new size first told sized tells = record {
+    → m.size mid ≡ Some size → m.size new ≡ Some size → KeepsContent m mid new → IsSameDisk m old new
+sized_same m old mid new size first told sized keeps = record {
   size = λ n known. sized ∙ (sym told ∙ first.size n known);
-  tells = tells ∙ first.tells;
+  tells = keeps.tells ∙ first.tells;
+  most_writes = keeps.most_writes ∙ first.most_writes;
 }
 
 -- ---- the pages one after another

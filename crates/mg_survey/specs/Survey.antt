@@ -39,10 +39,12 @@ abbrev pub ReadsHead : {D : Type 0} → Meaning D → D → D → ℕ → Type 0
 ReadsHead m old new size = (image : Image) → m.held old ≡ Some image
     → page_at size image 0 ≢ blank size → AsksReads m old new 1 (λ n. n == 0)
 
--- What a disk has told of itself stays: its page size, and whether it tells what a crash may leave.
+-- What a disk has told of itself stays: its page size, whether it tells what a crash may leave, and how many page
+-- writes pass in all.
 pub record IsSameDisk {D : Type 0} (m : Meaning D) (old new : D) : Type 0 where
   pub size : (n : ℕ) → m.size old ≡ Some n → m.size new ≡ Some n
   pub tells : m.tells new ≡ m.tells old
+  pub most_writes : m.most_writes new ≡ m.most_writes old
 
 -- The pages of a disk from 1 up to one were read, a database may be made on each, and no call has failed.
 pub record HasTested {D : Type 0} (m : Meaning D) (old now : D) (size pages n : ℕ) : Type 0 where

@@ -9,7 +9,7 @@ returns-in-Err-clause-ends g c = offline_fails g.D.Disk.meaning c.args.store.now
     c.in-Err.ensures.refusal c.in-Err.ensures.fault
 
 pub returns-in-Err-clause-same : goal.returns-in-Err-clause-same
-returns-in-Err-clause-same g c = record { size = λ n known. known; tells = refl }
+returns-in-Err-clause-same g c = record { size = λ n known. known; tells = refl; most_writes = refl }
 
 pub returns-in-Err-write_all-clause-ends : goal.returns-in-Err-write_all-clause-ends
 returns-in-Err-write_all-clause-ends g c = writing_fails g.D.Disk.meaning c.args.store.now c.write_all.new.store

@@ -9,7 +9,8 @@ returns-in-Err g c = not_asked g.D.Disk.meaning c.args.disk c.ask.new.disk c.in-
 
 pub returns-in-Err-new : goal.returns-in-Err-new
 returns-in-Err-new g c = not_held g.D.Disk.meaning c.args.disk c.ask.new.disk c.in-Err-new.disk
-    c.of_pool-in-Err-new.result c.in-Ok.ensures.asks.content c.ask.ensures.same c.in-Err-new.ensures.err.0
+    c.of_pool-in-Err-new.result c.in-Ok.ensures.asks.content c.ask.ensures.same c.in-Ok.ensures.asks.steady
+    c.in-Err-new.ensures.err.0
     c.of_pool-in-Err-new.ensures
 
 pub make_if-requires-clause-clean : goal.make_if-requires-clause-clean

@@ -1,5 +1,6 @@
 use Rattle.mg_engine.specs.Places.{places}
 use Rattle.mg_engine.proofs.BackLemmas.{told_no}
+use Rattle.mg_engine.proofs.ToldLemmas.{rolled_told}
 use Rattle.mg_model.specs.declared.change.Point.TheVariants.{LastMark}
 use Rattle.mg_taking_back.specs.Tables.{TellsTables}
 use Rattle.mg_engine.proofs.taking.take_to_mark.Goals as goal
@@ -19,3 +20,15 @@ returns-in-Ok-false-clause-undone g c = c.backs_give.ensures.marks places c.args
 pub returns-in-Err-clause-undone : goal.returns-in-Err-clause-undone
 returns-in-Err-clause-undone g c = c.backs_give.ensures.short_marks places c.args.core.now c.roll_back.new.core c.args.t
     c.roll_back.result c.requires.engine.lawful c.requires.engine.apart c.roll_back.ensures.rolled
+
+pub returns-in-Ok-true-clause-told : goal.returns-in-Ok-true-clause-told
+returns-in-Ok-true-clause-told g c = c.backs_tell_faults.ensures.table_marks c.args.core.now
+    c.undo_tables_to_mark.new.core c.args.t.0 LastMark c.undo_tables_to_mark.result c.undo_tables_to_mark.ensures.takes
+
+pub returns-in-Ok-false-clause-told : goal.returns-in-Ok-false-clause-told
+returns-in-Ok-false-clause-told g c = c.backs_tell_faults.ensures.marks c.args.core.now c.undo_mark.new.core
+    c.args.t.0 LastMark c.undo_mark.result c.undo_mark.ensures.takes
+
+pub returns-in-Err-clause-told : goal.returns-in-Err-clause-told
+returns-in-Err-clause-told g c = rolled_told g.D.Disk.meaning c.args.core.now c.roll_back.new.core c.args.t.0
+    c.roll_back.result c.roll_back.ensures.rolled

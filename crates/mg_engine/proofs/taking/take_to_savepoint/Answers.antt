@@ -1,5 +1,6 @@
 use Rattle.mg_engine.specs.Places.{places}
 use Rattle.mg_engine.proofs.BackLemmas.{told_no}
+use Rattle.mg_engine.proofs.ToldLemmas.{rolled_told}
 use Rattle.mg_model.specs.declared.change.Point.TheVariants.{SavepointNamed}
 use Rattle.mg_taking_back.specs.Tables.{TellsTables}
 use Rattle.mg_engine.proofs.taking.take_to_savepoint.Goals as goal
@@ -19,3 +20,15 @@ returns-in-Ok-false-clause-back g c = c.backs_give.ensures.savepoints places c.a
 pub returns-in-Err-clause-back : goal.returns-in-Err-clause-back
 returns-in-Err-clause-back g c = c.backs_give.ensures.short_savepoints places c.args.core.now c.roll_back.new.core c.args.t
     c.args.name.now c.roll_back.result c.requires.engine.lawful c.requires.engine.apart c.roll_back.ensures.rolled
+
+pub returns-in-Ok-true-clause-told : goal.returns-in-Ok-true-clause-told
+returns-in-Ok-true-clause-told g c = c.backs_tell_faults.ensures.table_savepoints c.args.core.now
+    c.back_over_tables.new.core c.args.t.0 c.args.name.now c.back_over_tables.result c.back_over_tables.ensures.goes
+
+pub returns-in-Ok-false-clause-told : goal.returns-in-Ok-false-clause-told
+returns-in-Ok-false-clause-told g c = c.backs_tell_faults.ensures.savepoints c.args.core.now c.back_to.new.core
+    c.args.t.0 c.args.name.now c.back_to.result c.back_to.ensures.goes
+
+pub returns-in-Err-clause-told : goal.returns-in-Err-clause-told
+returns-in-Err-clause-told g c = rolled_told g.D.Disk.meaning c.args.core.now c.roll_back.new.core c.args.t.0
+    c.roll_back.result c.roll_back.ensures.rolled

@@ -1,8 +1,8 @@
-use Rattle.std.proofs.Common.{Err, Ok, Some, arith, subst, true, ℕ, ◌∙◌, ◌≡◌}
+use Rattle.std.proofs.Common.{Err, Ok, Some, arith, refl, subst, true, ℕ, ◌∙◌, ◌≡◌}
 use Rattle.mg_base.specs.Disk.{MayLeave}
 use Rattle.mg_base.specs.Image.{Image}
 use Rattle.mg_format.specs.Format.{HasWrittenUpTo}
-use Rattle.mg_format.proofs.FormatLemmas.{formatted, goes, last_leaves, leaves, never_fell, sized, told_so}
+use Rattle.mg_format.proofs.FormatLemmas.{begun, formatted, goes, last_leaves, leaves, never_fell, says_still, says_then, sized, told_so}
 use Rattle.mg_format.proofs.WriteLemmas.{off_ok}
 use Rattle.mg_format.proofs.format.format_database.Goals as goal
 
@@ -29,7 +29,8 @@ loop-n-preserved g c = record {
     c.in_ok-write_new.ensures.fault.1,
     c.in_ok-write_new.ensures.fault.2 ∙ c.loop-n.invariant.online.2,
   );
-  tells = c.write_new.ensures.tells ∙ c.loop-n.invariant.tells;
+  says = says_then g.D.Disk.meaning c.args.store.now.disk c.loop-n.store.disk c.write_new.new.store.disk
+      c.loop-n.invariant.says c.write_new.ensures.says;
   steady = c.in_ok-write_new.ensures.steady ∙ c.loop-n.invariant.steady;
   upto = λ image fresh.
       let upto = c.loop-n.invariant.upto image fresh in
@@ -78,11 +79,29 @@ pub returns-clause-never_falls : goal.returns-clause-never_falls
 returns-clause-never_falls g c = never_fell c.settle.result _ _ _ _ c.loop-n.invariant.steady
     c.in_ok-write_new-2.ensures.steady c.settle.ensures.disk.never_falls
 
-pub returns-in_err-write_new-clause-tells : goal.returns-in_err-write_new-clause-tells
-returns-in_err-write_new-clause-tells g c = c.write_new.ensures.tells ∙ c.loop-n.invariant.tells
+pub loop-n-init : goal.loop-n-init
+loop-n-init g c = record {
+  pool = c.requires.pool;
+  geometry = refl;
+  clean = c.requires.clean;
+  online = c.in_ok-online.ensures.fault;
+  says = says_still g.D.Disk.meaning c.args.store.now.disk;
+  steady = refl;
+  upto = λ image fresh. begun g.D.Disk.meaning g.met.D.Disk.counts_now c.args.store.now.disk c.args.store.now.geometry.size image fresh.tells
+      fresh.unmade;
+}
 
-pub returns-in_err-write_new-2-clause-tells : goal.returns-in_err-write_new-2-clause-tells
-returns-in_err-write_new-2-clause-tells g c = c.write_new-2.ensures.tells ∙ c.loop-n.invariant.tells
+pub returns-in_err-write_new-clause-says : goal.returns-in_err-write_new-clause-says
+returns-in_err-write_new-clause-says g c = says_then g.D.Disk.meaning c.args.store.now.disk c.loop-n.store.disk
+    c.write_new.new.store.disk c.loop-n.invariant.says c.write_new.ensures.says
 
-pub returns-clause-tells : goal.returns-clause-tells
-returns-clause-tells g c = c.settle.ensures.disk.tells ∙ (c.write_new-2.ensures.tells ∙ c.loop-n.invariant.tells)
+pub returns-in_err-write_new-2-clause-says : goal.returns-in_err-write_new-2-clause-says
+returns-in_err-write_new-2-clause-says g c = says_then g.D.Disk.meaning c.args.store.now.disk c.loop-n.store.disk
+    c.write_new-2.new.store.disk c.loop-n.invariant.says c.write_new-2.ensures.says
+
+pub returns-clause-says : goal.returns-clause-says
+returns-clause-says g c = says_then g.D.Disk.meaning c.args.store.now.disk c.write_new-2.new.store.disk
+    c.settle.new.self.disk
+    (says_then g.D.Disk.meaning c.args.store.now.disk c.loop-n.store.disk c.write_new-2.new.store.disk
+    c.loop-n.invariant.says c.write_new-2.ensures.says)
+    (record { tells = c.settle.ensures.disk.tells; most_writes = c.settle.ensures.disk.most_writes })

@@ -1,13 +1,13 @@
 use Rattle.std.proofs.Common.{true, ◌≡◌, ◌∙◌}
 use Rattle.mg_base.specs.declared.numbers.PageNo.{PageNo}
-use Rattle.mg_format.proofs.FormatLemmas.{fail_tells}
+use Rattle.mg_format.proofs.FormatLemmas.{fail_says, says_then, says_on}
 use Rattle.mg_format.proofs.WriteLemmas.{both_leave, holds_it, off_ok, written_is}
 use Rattle.mg_format.proofs.format.write_page.Goals as goal
 
 pub returns-in_err-write_one-clause-writes : goal.returns-in_err-write_one-clause-writes
 returns-in_err-write_one-clause-writes g c = λ image tells.
     let told : g.D.Disk.meaning.tells c.put_page.new.store.disk ≡ true =
-    c.put_page.ensures.tells ∙ tells.told in
+    c.put_page.ensures.says.tells ∙ tells.told in
     let held = g.met.D.Disk.holds c.put_page.new.store.disk told in
     record {
       bytes = c.args.bytes.now;
@@ -25,7 +25,7 @@ returns-in_err-write_one-clause-writes g c = λ image tells.
 pub returns-clause-writes : goal.returns-clause-writes
 returns-clause-writes g c = λ image tells.
     let told : g.D.Disk.meaning.tells c.put_page.new.store.disk ≡ true =
-    c.put_page.ensures.tells ∙ tells.told in
+    c.put_page.ensures.says.tells ∙ tells.told in
     let held = g.met.D.Disk.holds c.put_page.new.store.disk told in
     let told_new : g.D.Disk.meaning.tells c.write_one.new.self.disk ≡ true =
     c.in_ok-write_one.ensures.written.tells ∙ told in
@@ -50,9 +50,11 @@ returns-clause-writes g c = λ image tells.
           c.in_ok-write_one.ensures.written (record { told = told_new; held = held_new.1 });
     }
 
-pub returns-in_err-write_one-clause-tells : goal.returns-in_err-write_one-clause-tells
-returns-in_err-write_one-clause-tells g c = fail_tells PageNo g.D.Disk.meaning c.args.store.now c.put_page.new.store
-    c.write_one.new.self c.in_err-write_one.field-0.0 c.put_page.ensures.tells c.in_err-write_one.ensures.refused
+pub returns-in_err-write_one-clause-says : goal.returns-in_err-write_one-clause-says
+returns-in_err-write_one-clause-says g c = fail_says PageNo g.D.Disk.meaning c.args.store.now c.put_page.new.store
+    c.write_one.new.self c.in_err-write_one.field-0.0 c.put_page.ensures.says c.in_err-write_one.ensures.refused
 
-pub returns-clause-tells : goal.returns-clause-tells
-returns-clause-tells g c = c.in_ok-write_one.ensures.written.tells ∙ c.put_page.ensures.tells
+pub returns-clause-says : goal.returns-clause-says
+returns-clause-says g c = says_then g.D.Disk.meaning c.args.store.now.disk c.put_page.new.store.disk
+    c.write_one.new.self.disk c.put_page.ensures.says (says_on g.D.Disk.meaning c.put_page.new.store.disk
+    c.write_one.new.self.disk c.in_ok-write_one.ensures.written.time)

@@ -22,7 +22,7 @@ returns-in-Err-is_unmade-clause-same g c =
     (twice_same g.D.Disk.meaning c.args.disk.now c.page_size.new.self c.pages.new.self
     (calm_same g.D.Disk.meaning c.args.disk.now c.page_size.new.self c.in-Ok.ensures.calm) then_)
     (then_.size c.in-Ok.size c.in-Ok.ensures.size.0) c.is_unmade.ensures.has.sized
-    c.is_unmade.ensures.asks.content.tells
+    c.is_unmade.ensures.asks.content
 
 pub returns-clause-same : goal.returns-clause-same
 returns-clause-same g c =
@@ -31,4 +31,4 @@ returns-clause-same g c =
     (twice_same g.D.Disk.meaning c.args.disk.now c.page_size.new.self c.pages.new.self
     (calm_same g.D.Disk.meaning c.args.disk.now c.page_size.new.self c.in-Ok.ensures.calm) then_)
     (then_.size c.in-Ok.size c.in-Ok.ensures.size.0) c.is_unmade.ensures.has.sized
-    c.is_unmade.ensures.asks.content.tells
+    c.is_unmade.ensures.asks.content

@@ -13,9 +13,9 @@ pub returns-in-Err-clause-finds : goal.returns-in-Err-clause-finds
 returns-in-Err-clause-finds g c = row_unread (fails_reading RowAt g.D.Disk.meaning c.args.self.now c.refuse.new.self c.row_at.new.store
     (WhyOfKey g.D.Disk.meaning c.args.self.now c.args.t c.args.table.now c.args.key.now) c.in-Err.fault c.refuse.result
     c.in-Err.ensures.keeps c.in-Err.ensures.fault c.in-Err.ensures.own
-    (λ image tells. subst (λ (k : Value). RefusesRowAt g.D.Disk.meaning c.row_at.new.store c.args.self.now.store.geometry.limit (shown c.args.self.now.store.dirty image)
+    (λ image tells. subst (λ (k : Value). RefusesRowAt g.D.Disk.meaning c.row_at.new.store (shown c.args.self.now.store.dirty image)
     (said c.args.self.now.list) c.args.self.now.live c.args.t c.args.table.now k c.in-Err.fault) c.value.ensures.value
-    (subst (λ (l : TxList). RefusesRowAt g.D.Disk.meaning c.row_at.new.store c.args.self.now.store.geometry.limit (shown c.args.self.now.store.dirty image) (said l) c.args.self.now.live
+    (subst (λ (l : TxList). RefusesRowAt g.D.Disk.meaning c.row_at.new.store (shown c.args.self.now.store.dirty image) (said l) c.args.self.now.live
     c.args.t c.args.table.now c.value.result.now c.in-Err.fault) c.new-states.ensures
     (c.in-Err.ensures.gives image tells)))
     c.refuse.ensures.refusal c.refuse.ensures.counts c.refuse.ensures.same)

@@ -30,9 +30,9 @@ pub returns-clause-passes : goal.returns-clause-passes
 returns-clause-passes g c = inr (unread (fails_reading (Option Obstacle) g.D.Disk.meaning c.args.self.now c.refuse.new.self
     c.obstacle_at.new.store (WhyOfTable g.D.Disk.meaning c.args.self.now c.args.name.now) c.in-Err-obstacle_at.fault c.refuse.result
     c.in-Err-obstacle_at.ensures.keeps c.in-Err-obstacle_at.ensures.fault c.in-Err-obstacle_at.ensures.own
-    (λ image tells. subst (λ (k : Value). RefusesObstacleAt g.D.Disk.meaning c.obstacle_at.new.store c.args.self.now.store.geometry.limit (shown c.args.self.now.store.dirty image)
+    (λ image tells. subst (λ (k : Value). RefusesObstacleAt g.D.Disk.meaning c.obstacle_at.new.store (shown c.args.self.now.store.dirty image)
     (said c.args.self.now.list) c.args.self.now.live c.args.self.now.catalog k c.in-Err-obstacle_at.fault) c.in-Ok.ensures
-    (subst (λ (l : TxList). RefusesObstacleAt g.D.Disk.meaning c.obstacle_at.new.store c.args.self.now.store.geometry.limit (shown c.args.self.now.store.dirty image)
+    (subst (λ (l : TxList). RefusesObstacleAt g.D.Disk.meaning c.obstacle_at.new.store (shown c.args.self.now.store.dirty image)
     (said l) c.args.self.now.live c.args.self.now.catalog c.in-Ok.key c.in-Err-obstacle_at.fault) c.new-states.ensures
     (c.in-Err-obstacle_at.ensures.gives image tells)))
     c.refuse.ensures.refusal c.refuse.ensures.counts c.refuse.ensures.same))

@@ -24,7 +24,7 @@ pub returns-clause-puts : goal.returns-clause-puts
 returns-clause-puts g c = no_before (fails_reading Before g.D.Disk.meaning c.args.self.now c.refuse.new.self c.before_at.new.store
     (WhyNotBefore g.D.Disk.meaning c.args.self.now c.args.table.now c.args.rec) c.in-Err-before_at.fault c.refuse.result
     c.in-Err-before_at.ensures.keeps c.in-Err-before_at.ensures.fault c.in-Err-before_at.ensures.own
-    (λ image tells. subst (λ (l : TxList). RefusesSeen g.D.Disk.meaning c.before_at.new.store c.args.self.now.store.geometry.limit (shown c.args.self.now.store.dirty image)
+    (λ image tells. subst (λ (l : TxList). RefusesSeen g.D.Disk.meaning c.before_at.new.store (shown c.args.self.now.store.dirty image)
     (wants (said l) c.args.self.now.live Any) c.args.table.now c.args.rec c.in-Err-before_at.fault) c.new-states.ensures
     (c.in-Err-before_at.ensures.gives image tells))
     c.refuse.ensures.refusal c.refuse.ensures.counts c.refuse.ensures.same)

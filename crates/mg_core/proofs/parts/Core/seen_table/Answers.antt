@@ -1,6 +1,6 @@
 use Rattle.std.proofs.Common.{None, Option, Some, refl}
 use Rattle.mg_model.specs.declared.table.Table.{Table}
-use Rattle.mg_core.proofs.TableLemmas.{lawful_found, refused_by, seen_by, stray_found, told_again}
+use Rattle.mg_core.proofs.TableLemmas.{lawful_found, own_again, refused_by, seen_by, stray_found, told_again}
 use Rattle.mg_core.proofs.parts.Core.seen_table.Goals as goal
 
 pub returns-in-Ok : goal.returns-in-Ok
@@ -52,5 +52,6 @@ returns g c = record {
         c.new-batch.result c.args.t c.args.name.now c.in-Err.fault c.new-states.ensures
         c.new-batch.ensures.pages c.in-Err.ensures.gives,
     refl,
+    own_again (Option Table) c.in-Err.fault c.in-Err.ensures.own,
   );
 }

@@ -3,8 +3,8 @@ use Rattle.mg_seek.specs.declared.views.Visit.{Visit}
 use Rattle.mg_space.specs.View.{pool_answer}
 use Rattle.mg_space.specs.ViewLaws.{fault_on, keeps_on}
 use Rattle.mg_core.specs.declared.scanning.Place.{Place}
-use Rattle.mg_core.proofs.ScanLemmas.{found_some, keys_told, no_next, no_place, no_row}
-use Rattle.mg_core.proofs.TableLemmas.{told_again}
+use Rattle.mg_core.proofs.ScanLemmas.{found_some, keys_own, keys_told, no_next, no_place, no_row}
+use Rattle.mg_core.proofs.TableLemmas.{own_again, told_again}
 use Rattle.mg_core.proofs.parts.Core.visit.Goals as goal
 
 pub returns-in-Err : goal.returns-in-Err
@@ -17,6 +17,7 @@ returns-in-Err g c = record {
         c.args.table.now c.args.after c.record_of-from.result c.new-states.ensures c.record_of-from.ensures
         c.in-Err.fault c.in-Err.ensures.gives,
     refl,
+    own_again (Option Visit) c.in-Err.fault c.in-Err.ensures.own,
   );
 }
 
@@ -35,6 +36,7 @@ returns-in-Err-place_behind g c = record {
         c.in-Ok-Some.ensures.gives c.place_behind.new.store
         c.in-Err-place_behind.fault c.in-Err-place_behind.ensures.places,
     refl,
+    own_again Place c.in-Err-place_behind.fault c.in-Err-place_behind.ensures.own,
   );
 }
 
@@ -77,5 +79,7 @@ returns-in-Err-keyed g c = record {
         c.in-Ok-Some.ensures.gives c.place_behind.new.store
         c.in-Err-keyed.fault c.in-Err-keyed.ensures,
     refl,
+    keys_own c.args.table.now c.in-Ok-Some.visit.rec.page.0 c.in-Ok-Some.visit.row c.in-Err-keyed.fault
+        c.in-Err-keyed.ensures,
   );
 }

@@ -1,5 +1,7 @@
 use Rattle.mg_engine.specs.Places.{places}
 use Rattle.mg_engine.proofs.BackLemmas.{counted, back_as}
+use Rattle.mg_engine.proofs.ToldLemmas.{told_as}
+use Rattle.mg_records.specs.Keeping.{refusal_in}
 use Rattle.mg_engine.proofs.engine.Engine.back_to.Goals as goal
 
 pub take_to_savepoint-requires-clause-engine : goal.take_to_savepoint-requires-clause-engine
@@ -30,3 +32,7 @@ invariant_of-self g c = record {
   apart = (back_as g.D.Disk.meaning places c.self.inside.core c.args.self.now c.take_to_savepoint.new.core c.self.view_is
       c.args.t c.args.name.now c.take_to_savepoint.result c.take_to_savepoint.ensures.back).apart;
 }
+
+pub returns-clause-told : goal.returns-clause-told
+returns-clause-told g c = told_as g.D.Disk.meaning places c.self.inside.core c.args.self.now c.take_to_savepoint.new.core
+    c.self.view_is (refusal_in c.take_to_savepoint.result) c.take_to_savepoint.ensures.told

@@ -2,7 +2,9 @@ use Rattle.std.proofs.Common.{ap, false, subst, sym, ◌≡◌}
 use Rattle.mg_core.specs.declared.parts.Core.{Core}
 use Rattle.mg_works.specs.Works.{has_session}
 use Rattle.mg_engine.specs.Places.{places}
+use Rattle.mg_records.specs.Keeping.{refusal_in}
 use Rattle.mg_engine.proofs.BeginLemmas.{begins_apart, begins_as}
+use Rattle.mg_engine.proofs.ToldLemmas.{told_as}
 use Rattle.mg_engine.proofs.engine.Engine.begin.Goals as goal
 
 pub begin-requires-clause-free : goal.begin-requires-clause-free
@@ -42,3 +44,9 @@ pub returns-clause-works : goal.returns-clause-works
 returns-clause-works g c = (begins_as g.D.Disk.meaning places c.self.inside.core c.args.self.now c.begin.new.self
     c.self.view_is c.self.invariant c.begins_give.ensures c.args.session c.args.mode c.begin.result c.begin.ensures.core
     c.tell_counts.ensures c.requires.session c.requires.free c.begin.ensures.begins).1
+
+pub returns-clause-told : goal.returns-clause-told
+returns-clause-told g c = told_as g.D.Disk.meaning places c.self.inside.core c.args.self.now
+    c.begin.new.self c.self.view_is (refusal_in c.begin.result)
+    (c.begins_tell_faults.ensures c.self.inside.core c.begin.new.self c.args.session c.args.mode c.begin.result
+    c.begin.ensures.begins)

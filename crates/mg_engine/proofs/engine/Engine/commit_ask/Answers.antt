@@ -1,6 +1,8 @@
 use Rattle.mg_engine.specs.Places.{places}
+use Rattle.mg_records.specs.Keeping.{refusal_in}
 use Rattle.mg_engine.proofs.ApartLemmas.{asks_apart}
 use Rattle.mg_engine.proofs.EngineLemmas.{asks_as}
+use Rattle.mg_engine.proofs.ToldLemmas.{told_as}
 use Rattle.mg_engine.proofs.engine.Engine.commit_ask.Goals as goal
 
 pub invariant_of-self : goal.invariant_of-self
@@ -25,3 +27,9 @@ returns-clause-crash g c = (asks_as g.D.Disk.meaning places c.self.inside.core c
 pub returns-clause-sessions : goal.returns-clause-sessions
 returns-clause-sessions g c = (asks_as g.D.Disk.meaning places c.self.inside.core c.args.self.now c.commit_ask.new.self
     c.self.view_is c.self.invariant c.steps_go_on.ensures.asks c.args.t.0 c.commit_ask.result c.commit_ask.ensures.asks).0.sessions
+
+pub returns-clause-told : goal.returns-clause-told
+returns-clause-told g c = told_as g.D.Disk.meaning places c.self.inside.core c.args.self.now
+    c.commit_ask.new.self c.self.view_is (refusal_in c.commit_ask.result)
+    (c.page_writes_tell_faults.ensures.asks c.self.inside.core c.commit_ask.new.self c.args.t.0 c.commit_ask.result
+    c.commit_ask.ensures.asks)

@@ -1,6 +1,8 @@
 use Rattle.mg_engine.specs.Places.{places}
+use Rattle.mg_records.specs.Keeping.{refusal_in}
 use Rattle.mg_engine.proofs.ApartLemmas.{commits_apart}
 use Rattle.mg_engine.proofs.EngineLemmas.{commits_as}
+use Rattle.mg_engine.proofs.ToldLemmas.{told_as}
 use Rattle.mg_engine.proofs.engine.Engine.commit_end.Goals as goal
 
 pub invariant_of-self : goal.invariant_of-self
@@ -25,3 +27,9 @@ returns-clause-crash g c = (commits_as g.D.Disk.meaning places c.self.inside.cor
 pub returns-clause-sessions : goal.returns-clause-sessions
 returns-clause-sessions g c = (commits_as g.D.Disk.meaning places c.self.inside.core c.args.self.now c.commit_end.new.self
     c.self.view_is c.self.invariant c.commits_go.ensures c.args.t c.commit_end.result c.requires.written c.commit_end.ensures.commits).sessions
+
+pub returns-clause-told : goal.returns-clause-told
+returns-clause-told g c = told_as g.D.Disk.meaning places c.self.inside.core c.args.self.now
+    c.commit_end.new.self c.self.view_is (refusal_in c.commit_end.result)
+    (c.commits_tell_faults.ensures c.self.inside.core c.commit_end.new.self c.args.t.0 c.commit_end.result
+    c.commit_end.ensures.commits)

@@ -1,7 +1,9 @@
 use Rattle.std.proofs.Common.{Some}
 use Rattle.mg_engine.specs.Places.{places}
+use Rattle.mg_records.specs.Keeping.{refusal_in}
 use Rattle.mg_engine.proofs.ApartLemmas.{points_apart}
 use Rattle.mg_engine.proofs.EngineLemmas.{savepoints_as}
+use Rattle.mg_engine.proofs.ToldLemmas.{told_as}
 use Rattle.mg_engine.proofs.engine.Engine.savepoint.Goals as goal
 
 pub invariant_of-self : goal.invariant_of-self
@@ -25,3 +27,9 @@ returns-clause-crash g c = (savepoints_as g.D.Disk.meaning places c.self.inside.
 pub returns-clause-sessions : goal.returns-clause-sessions
 returns-clause-sessions g c = (savepoints_as g.D.Disk.meaning places c.self.inside.core c.args.self.now c.savepoint.new.self
     c.self.view_is c.self.invariant c.points_go_on.ensures.savepoints c.args.t c.args.name.now c.savepoint.result c.savepoint.ensures.sets).sessions
+
+pub returns-clause-told : goal.returns-clause-told
+returns-clause-told g c = told_as g.D.Disk.meaning places c.self.inside.core c.args.self.now
+    c.savepoint.new.self c.self.view_is (refusal_in c.savepoint.result)
+    (c.events_tell_faults.ensures.points c.self.inside.core c.savepoint.new.self c.args.t.0 (Some c.args.name.now)
+    c.savepoint.result c.savepoint.ensures.sets)

@@ -1,5 +1,8 @@
 use Rattle.std.specs.Option.{option_copied}
+use Rattle.mg_records.specs.Keeping.{refusal_in}
+use Rattle.mg_engine.specs.Places.{places}
 use Rattle.mg_engine.proofs.ReadLemmas.{may_scan, scans_apart, visits_as}
+use Rattle.mg_engine.proofs.ToldLemmas.{told_as}
 use Rattle.mg_engine.proofs.engine.Engine.scan_step.Goals as goal
 
 pub scan_step-visited-requires-clause-may : goal.scan_step-visited-requires-clause-may
@@ -48,3 +51,9 @@ returns-clause-sessions g c = (visits_as g.D.Disk.meaning c.self.inside.core c.a
     c.self.view_is c.self.invariant c.counts_fit.ensures.0 c.counts_fit.ensures.1 c.visits_go_on.ensures c.args.t
     c.args.table.now c.copied.result (option_copied c.args.after) c.scan_step-visited.result c.copied.ensures
     c.in_rank.ensures c.scan_step-visited.ensures.scans).sessions
+
+pub returns-clause-told : goal.returns-clause-told
+returns-clause-told g c = told_as g.D.Disk.meaning places c.self.inside.core c.args.self.now
+    c.scan_step-visited.new.self c.self.view_is (refusal_in c.scan_step-visited.result)
+    (c.readings_tell_faults.ensures.walks c.self.inside.core c.scan_step-visited.new.self c.args.t
+    c.args.table.now c.copied.result c.scan_step-visited.result c.scan_step-visited.ensures.scans)

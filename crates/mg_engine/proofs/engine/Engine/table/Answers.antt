@@ -1,4 +1,7 @@
+use Rattle.mg_records.specs.Keeping.{refusal_in}
+use Rattle.mg_engine.specs.Places.{places}
 use Rattle.mg_engine.proofs.ReadLemmas.{table_apart, tables_as}
+use Rattle.mg_engine.proofs.ToldLemmas.{told_as}
 use Rattle.mg_engine.proofs.engine.Engine.table.Goals as goal
 
 pub invariant_of-self : goal.invariant_of-self
@@ -32,3 +35,9 @@ pub returns-clause-sessions : goal.returns-clause-sessions
 returns-clause-sessions g c = (tables_as g.D.Disk.meaning c.self.inside.core c.args.self.now c.table.new.self
     c.self.view_is c.self.invariant c.counts_fit.ensures.0 c.counts_fit.ensures.1 c.tables_go_on.ensures c.args.t
     c.args.name.now c.table.result c.table.ensures.table).sessions
+
+pub returns-clause-told : goal.returns-clause-told
+returns-clause-told g c = told_as g.D.Disk.meaning places c.self.inside.core c.args.self.now
+    c.table.new.self c.self.view_is (refusal_in c.table.result)
+    (c.readings_tell_faults.ensures.tables c.self.inside.core c.table.new.self c.args.t c.args.name.now c.table.result
+    c.table.ensures.table)

@@ -1,5 +1,7 @@
 use Rattle.mg_engine.specs.Places.{places}
 use Rattle.mg_engine.proofs.BackLemmas.{counted, undone_as}
+use Rattle.mg_engine.proofs.ToldLemmas.{told_as}
+use Rattle.mg_records.specs.Keeping.{refusal_in}
 use Rattle.mg_engine.proofs.engine.Engine.undo_mark.Goals as goal
 
 pub take_to_mark-requires-clause-engine : goal.take_to_mark-requires-clause-engine
@@ -30,3 +32,7 @@ invariant_of-self g c = record {
   apart = (undone_as g.D.Disk.meaning places c.self.inside.core c.args.self.now c.take_to_mark.new.core c.self.view_is
       c.args.t c.take_to_mark.result c.take_to_mark.ensures.undone).apart;
 }
+
+pub returns-clause-told : goal.returns-clause-told
+returns-clause-told g c = told_as g.D.Disk.meaning places c.self.inside.core c.args.self.now c.take_to_mark.new.core
+    c.self.view_is (refusal_in c.take_to_mark.result) c.take_to_mark.ensures.told

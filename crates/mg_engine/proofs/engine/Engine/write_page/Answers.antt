@@ -2,7 +2,9 @@ use Rattle.std.proofs.Common.{subst}
 use Rattle.mg_core.specs.declared.parts.Core.{Core}
 use Rattle.mg_core.specs.Committing.{WritesPage}
 use Rattle.mg_engine.specs.Places.{places}
+use Rattle.mg_records.specs.Keeping.{refusal_in}
 use Rattle.mg_engine.proofs.BeginLemmas.{pages_apart, pages_as}
+use Rattle.mg_engine.proofs.ToldLemmas.{told_as}
 use Rattle.mg_engine.proofs.engine.Engine.write_page.Goals as goal
 
 pub invariant_of-self : goal.invariant_of-self
@@ -31,3 +33,9 @@ returns-clause-sessions g c = (pages_as g.D.Disk.meaning places c.self.inside.co
 pub returns-clause-writes : goal.returns-clause-writes
 returns-clause-writes g c = subst (λ (core : Core g.row.D.Denot). WritesPage g.D.Disk.meaning core
     c.write_page.new.self c.write_page.result) c.self.view_is c.write_page.ensures.writes
+
+pub returns-clause-told : goal.returns-clause-told
+returns-clause-told g c = told_as g.D.Disk.meaning places c.self.inside.core c.args.self.now
+    c.write_page.new.self c.self.view_is (refusal_in c.write_page.result)
+    (c.page_writes_tell_faults.ensures.pages c.self.inside.core c.write_page.new.self c.write_page.result
+    c.write_page.ensures.writes)

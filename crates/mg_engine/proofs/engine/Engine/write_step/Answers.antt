@@ -1,6 +1,8 @@
 use Rattle.mg_engine.specs.Places.{places}
+use Rattle.mg_records.specs.Keeping.{refusal_in}
 use Rattle.mg_engine.proofs.ReadLemmas.{may_scan}
 use Rattle.mg_engine.proofs.WriteLemmas.{writes_apart, writes_as}
+use Rattle.mg_engine.proofs.ToldLemmas.{told_as}
 use Rattle.mg_engine.proofs.engine.Engine.write_step.Goals as goal
 
 pub note_write-requires-clause-columns : goal.note_write-requires-clause-columns
@@ -45,3 +47,9 @@ returns-clause-sessions g c = (writes_as g.D.Disk.meaning places c.self.inside.c
     c.self.view_is c.self.invariant c.counts_fit.ensures.0 c.counts_fit.ensures.1 c.args.t c.args.table.now
     c.args.write.now c.requires.table c.requires.fits c.note_write.ensures c.noted_writes_give.ensures.writes
     c.noted_writes_give.ensures.fails c.write_noted.result c.write_noted.ensures.writes).sessions
+
+pub returns-clause-told : goal.returns-clause-told
+returns-clause-told g c = told_as g.D.Disk.meaning places c.self.inside.core c.args.self.now
+    c.write_noted.new.core c.self.view_is (refusal_in c.write_noted.result)
+    (c.changes_tell_faults.ensures.writes c.self.inside.core c.write_noted.new.core c.args.t c.args.table.now
+    c.args.write.now c.write_noted.result c.write_noted.ensures.writes)
