@@ -21,7 +21,7 @@ use Rattle.mg_records.specs.declared.write.Write.TheVariants as writes
 use Rattle.mg_records.specs.Meaning.{Means}
 use Rattle.mg_records.specs.Adding.{Adds}
 use Rattle.mg_records.specs.Crashing.{LeavesQuietly}
-use Rattle.mg_records.specs.Keeping.{Leaves}
+use Rattle.mg_records.specs.Keeping.{FaultsAreTold, Leaves}
 use Rattle.mg_records.specs.Sessions.{SessionsStay}
 use Rattle.mg_records.specs.TakingBack.{GivesUp, after_refusal, is_given_up}
 use Rattle.mg_records.specs.Writing.{FitsShape, event_of}
@@ -72,18 +72,20 @@ told_twice first later = by (is_given_up later)
 
 pub not_undone_frames : {R P : Type 0} (m : Means R P) (before old new : R) (t : ℕ)
     (refusal later : Refusal) → Frames m before old t (Some refusal)
-    → Leaves m old new (Some later) (Some t) (Some t)
+    → Leaves m old new (Some later) (Some t) (Some t) → FaultsAreTold m old new (Some later)
     → Frames m before new t (refusal_written (refused_twice refusal later))
-not_undone_frames m before old new t refusal later first second =
+not_undone_frames m before old new t refusal later first second told_on =
     subst (λ (told : Option Refusal). Frames m before new t told) (sym (told_twice refusal later))
-    (by (tells_fault (Some refusal)))
+    (by (tells_fault (Some refusal)) refl)
   where
     undoing : Frames m old new t (Some later)
-    undoing = frames_changes m old new t (Some later) second
+    undoing = frames_changes m old new t (Some later) second told_on
 
-    by : (b : Bool) → Frames m before new t (Some (if b then refusal else later))
-    by true = frames_first m before old new t (Some refusal) (Some later) first undoing
-    by false = frames_then m before old new t (Some refusal) (Some later) first undoing
+    by : (b : Bool) → tells_fault (Some refusal) ≡ b
+        → Frames m before new t (Some (if b then refusal else later))
+    by true told = frames_first m before old new t (Some refusal) (Some later)
+        (λ not. absurd (false≢true (sym not ∙ told))) first undoing
+    by false quiet = frames_then m before old new t (Some refusal) (Some later) (λ not. quiet) first undoing
 
 -- a write was refused, and its statement undone
 pub comes_to_nothing : {R P : Type 0} (m : Means R P) (old mid new : R) (t : TxNo) (event : Event)

@@ -1,11 +1,12 @@
 -- What one call leaves, and what several calls leave together.
-use Rattle.std.proofs.Common.{◌≡◌, ℕ, ◌-◌, ◌^◌, ◌≤◌, Option, Some, None, inl, inr, refl, sym, ◌∙◌, arith}
+use Rattle.std.proofs.Common.{◌≡◌, ℕ, ◌-◌, ◌^◌, ◌≤◌, false, Option, Some, None, inl, inr, refl, sym, ◌∙◌, arith}
 use Rattle.std.specs.Prelude.{◌⊎◌}
 use Rattle.mg_base.specs.Disk.{Rose}
 use Rattle.mg_model.specs.declared.refusal.Refusal.{Refusal}
 use Rattle.mg_model.specs.declared.refusal.Refusal.TheVariants.{DatabaseFull, DiskRead, DiskWrite, Offline, Damaged}
+use Rattle.mg_faults.specs.Faults.{tells_fault}
 use Rattle.mg_records.specs.Meaning.{Means}
-use Rattle.mg_records.specs.Keeping.{Causes, CommitsStay, Elapses, Keeps, Leaves, Reads, TablesStay, WalksStay, down_after}
+use Rattle.mg_records.specs.Keeping.{Causes, CommitsStay, Elapses, FaultsAreTold, Keeps, Leaves, Reads, TablesStay, WalksStay, down_after}
 use Rattle.mg_calls.specs.Frames.{Blames, Frames}
 
 -- ---- one call
@@ -28,15 +29,17 @@ fallen m old new (Some (DiskWrite count)) cause down = inr cause
 fallen m old new (Some refusal) cause down = inl down
 
 framed : {R P : Type 0} (m : Means R P) (old new : R) (t : ℕ) (refusal : Option Refusal)
-    → Keeps m old new refusal → TablesStay m old new (Some t) → WalksStay m old new (Some t)
-    → CommitsStay m old new (Some t) → Frames m old new t refusal
-framed m old new t refusal keeps tables walks commits = record {
+    → Keeps m old new refusal → FaultsAreTold m old new refusal → TablesStay m old new (Some t)
+    → WalksStay m old new (Some t) → CommitsStay m old new (Some t) → Frames m old new t refusal
+framed m old new t refusal keeps told tables walks commits = record {
   faults = keeps.faults;
+  steady = told;
   damage = keeps.damage;
   shortages = keeps.shortages;
   cause = blamed m old new refusal keeps.cause;
   down = fallen m old new refusal keeps.cause keeps.down;
   tells = keeps.tells;
+  most_writes = keeps.most_writes;
   time = keeps.time;
   sizes = keeps.sizes;
   given = keeps.given;
@@ -64,34 +67,34 @@ commits_for m old new t stay = record {
 
 -- a call that adds no entry
 pub frames_reads : {R P : Type 0} (m : Means R P) (old new : R) (t : ℕ) (refusal : Option Refusal)
-    → Reads m old new refusal (Some t) → Frames m old new t refusal
-frames_reads m old new t refusal reads =
-    framed m old new t refusal reads.keeps (tables_for m old new t reads.tables) reads.walks_stay
+    → Reads m old new refusal (Some t) → FaultsAreTold m old new refusal → Frames m old new t refusal
+frames_reads m old new t refusal reads told =
+    framed m old new t refusal reads.keeps told (tables_for m old new t reads.tables) reads.walks_stay
     reads.commits
 
 pub frames_reads_nothing : {R P : Type 0} (m : Means R P) (old new : R) (t : ℕ)
-    (refusal : Option Refusal) → Reads m old new refusal None → Frames m old new t refusal
-frames_reads_nothing m old new t refusal reads =
-    framed m old new t refusal reads.keeps (tables_for m old new t reads.tables)
+    (refusal : Option Refusal) → Reads m old new refusal None → FaultsAreTold m old new refusal → Frames m old new t refusal
+frames_reads_nothing m old new t refusal reads told =
+    framed m old new t refusal reads.keeps told (tables_for m old new t reads.tables)
     (walks_for m old new t reads.walks_stay) (commits_for m old new t reads.commits)
 
 -- a call that gives events, after which nothing, walks, or tables too of the transaction may be other
 pub frames_leaves : {R P : Type 0} (m : Means R P) (old new : R) (t : ℕ) (refusal : Option Refusal)
-    → Leaves m old new refusal None None → Frames m old new t refusal
-frames_leaves m old new t refusal leaves =
-    framed m old new t refusal leaves.keeps (tables_for m old new t leaves.tables_stay)
+    → Leaves m old new refusal None None → FaultsAreTold m old new refusal → Frames m old new t refusal
+frames_leaves m old new t refusal leaves told =
+    framed m old new t refusal leaves.keeps told (tables_for m old new t leaves.tables_stay)
     (walks_for m old new t leaves.walks_stay) (commits_for m old new t leaves.commits)
 
 pub frames_writes : {R P : Type 0} (m : Means R P) (old new : R) (t : ℕ) (refusal : Option Refusal)
-    → Leaves m old new refusal None (Some t) → Frames m old new t refusal
-frames_writes m old new t refusal leaves =
-    framed m old new t refusal leaves.keeps (tables_for m old new t leaves.tables_stay)
+    → Leaves m old new refusal None (Some t) → FaultsAreTold m old new refusal → Frames m old new t refusal
+frames_writes m old new t refusal leaves told =
+    framed m old new t refusal leaves.keeps told (tables_for m old new t leaves.tables_stay)
     leaves.walks_stay leaves.commits
 
 pub frames_changes : {R P : Type 0} (m : Means R P) (old new : R) (t : ℕ) (refusal : Option Refusal)
-    → Leaves m old new refusal (Some t) (Some t) → Frames m old new t refusal
-frames_changes m old new t refusal leaves =
-    framed m old new t refusal leaves.keeps leaves.tables_stay leaves.walks_stay leaves.commits
+    → Leaves m old new refusal (Some t) (Some t) → FaultsAreTold m old new refusal → Frames m old new t refusal
+frames_changes m old new t refusal leaves told =
+    framed m old new t refusal leaves.keeps told leaves.tables_stay leaves.walks_stay leaves.commits
 
 -- ---- two calls
 
@@ -165,18 +168,22 @@ elapses_then m old mid new first second = record {
       (at_most t (m.moment old) (m.moment mid) within first.later) (first.keeps t c within was);
 }
 
--- two in a row, where this is the cause of what is answered
+-- two in a row, where this is the cause of what is answered, and no fault of the two is lost
 joined : {R P : Type 0} (m : Means R P) (old mid new : R) (t : ℕ) (a b refusal : Option Refusal)
+    → (tells_fault refusal ≡ false → tells_fault a ≡ false)
+    → (tells_fault refusal ≡ false → tells_fault b ≡ false)
     → Frames m old mid t a → Frames m mid new t b → Blames m old new refusal
     → Frames m old new t refusal
-joined m old mid new t a b refusal first second cause = record {
+joined m old mid new t a b refusal not_first not_second first second cause = record {
   faults = at_most (m.faults old) (m.faults mid) (m.faults new) first.faults second.faults;
+  steady = λ quiet. second.steady (not_second quiet) ∙ first.steady (not_first quiet);
   damage = at_most (m.damage old) (m.damage mid) (m.damage new) first.damage second.damage;
   shortages = at_most (m.shortages old) (m.shortages mid) (m.shortages new) first.shortages second.shortages;
   cause = cause;
   down = goes_down (m.down old) (m.down mid) (m.down new) (m.faults old) (m.faults mid) (m.faults new)
       first.faults second.faults first.down second.down;
   tells = second.tells ∙ first.tells;
+  most_writes = second.most_writes ∙ first.most_writes;
   time = λ told. elapses_then m old mid new (first.time told) (second.time (first.tells ∙ told));
   sizes = λ size. second.sizes size ∙ first.sizes size;
   given = λ table was. second.given table (first.given table was);
@@ -191,16 +198,24 @@ joined m old mid new t a b refusal first second cause = record {
   };
 }
 
--- the second of two calls says what is answered
+-- the second of two calls says what is answered, and the first has told no fault that is lost
 pub frames_then : {R P : Type 0} (m : Means R P) (old mid new : R) (t : ℕ) (a refusal : Option Refusal)
+    → (tells_fault refusal ≡ false → tells_fault a ≡ false)
     → Frames m old mid t a → Frames m mid new t refusal → Frames m old new t refusal
-frames_then m old mid new t a refusal first second =
-    joined m old mid new t a refusal refusal first second
+frames_then m old mid new t a refusal not_first first second =
+    joined m old mid new t a refusal refusal not_first (λ quiet. quiet) first second
     (blames_last m old mid new refusal a t first second.faults second.cause)
 
--- the first of two calls says what is answered
+-- behind a call that was not refused
+pub frames_after : {R P : Type 0} (m : Means R P) (old mid new : R) (t : ℕ) (refusal : Option Refusal)
+    → Frames m old mid t None → Frames m mid new t refusal → Frames m old new t refusal
+frames_after m old mid new t refusal first second =
+    frames_then m old mid new t None refusal (λ quiet. refl) first second
+
+-- the first of two calls says what is answered, and the second has told no fault that is lost
 pub frames_first : {R P : Type 0} (m : Means R P) (old mid new : R) (t : ℕ) (refusal b : Option Refusal)
+    → (tells_fault refusal ≡ false → tells_fault b ≡ false)
     → Frames m old mid t refusal → Frames m mid new t b → Frames m old new t refusal
-frames_first m old mid new t refusal b first second =
-    joined m old mid new t refusal b refusal first second
+frames_first m old mid new t refusal b not_second first second =
+    joined m old mid new t refusal b refusal (λ quiet. quiet) not_second first second
     (blames_first m old mid new refusal second.faults second.damage second.shortages first.cause)

@@ -1,10 +1,11 @@
 -- What the calls for one transaction leave of all others and of the keeper as a whole, however many
 -- calls they are.
-use Rattle.std.specs.Prelude.{◌≡◌, ◌⊎◌, ℕ, ◌≤◌, true, Option, Some}
+use Rattle.std.specs.Prelude.{◌≡◌, ◌⊎◌, ℕ, ◌≤◌, true, false, Option, Some}
 use Rattle.mg_base.specs.Disk.{Rose}
 use Rattle.mg_model.specs.declared.refusal.Refusal.{Refusal}
 use Rattle.mg_model.specs.declared.refusal.Refusal.TheVariants.{DatabaseFull, DiskRead, DiskWrite, Offline, Damaged}
 use Rattle.mg_model.specs.declared.table.Table.{Table}
+use Rattle.mg_faults.specs.Faults.{tells_fault}
 use Rattle.mg_records.specs.Meaning.{Means}
 use Rattle.mg_records.specs.Keeping.{CommitsStay, Elapses, TablesStay, WalksStay}
 
@@ -23,11 +24,14 @@ Blames m old new refusal = Unit {0}
 pub record Frames {R P : Type 0} (m : Means R P) (old new : R) (t : ℕ) (refusal : Option Refusal)
     : Type 0 where
   pub faults : m.faults old ≤ m.faults new
+  -- a fault of the disk is told
+  pub steady : tells_fault refusal ≡ false → m.faults new ≡ m.faults old
   pub damage : m.damage old ≤ m.damage new
   pub shortages : m.shortages old ≤ m.shortages new
   pub cause : Blames m old new refusal
   pub down : (m.down new ≡ m.down old) ⊎ Rose (m.faults old) (m.faults new)
   pub tells : m.tells new ≡ m.tells old
+  pub most_writes : m.most_writes new ≡ m.most_writes old
   pub time : m.tells old ≡ true → Elapses m old new
   pub sizes : (size : ℕ) → m.is_size new size ≡ m.is_size old size
   pub given : (table : Table) → m.was_given old table → m.was_given new table

@@ -6,7 +6,7 @@ ghost use Rattle.mg_model.specs.declared.opening.Opening.{Opening};
 ghost use Rattle.mg_model.specs.Changes.{KeyedRows};
 ghost use Rattle.mg_model.specs.History.{Entries};
 ghost use Rattle.mg_model.specs.Machine.{state_of};
-ghost use Rattle.mg_records.specs.Keeping.{Reads, refusal_in};
+ghost use Rattle.mg_records.specs.Keeping.{FaultsAreTold, Reads, refusal_in};
 ghost use Rattle.mg_calls.specs.Quiet.{AreQuiet};
 ghost use Rattle.mg_calls.specs.Walks.{IsOnItsWay, HasCome, GoesOn, Progresses};
 
@@ -56,6 +56,7 @@ where
     ensures table { walk.new.table ≡ walk.old.table }
     ensures progress { Progresses R.meaning r.old r.new t.0 walk.old walk.new result }
     ensures reads { Reads R.meaning r.old r.new (refusal_in result) (Some t.0) }
+    ensures told { FaultsAreTold R.meaning r.old r.new (refusal_in result) }
     ensures quiet { AreQuiet R.meaning r.old r.new None }
     ensures comes { (o : Opening) (h : Entries) (visited : KeyedRows) → R.meaning.stands r.old o h
         → HasCome R.meaning r.old o h t.0 walk.old visited

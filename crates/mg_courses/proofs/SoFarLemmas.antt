@@ -11,7 +11,7 @@ use Rattle.mg_model.specs.Machine.{state_of}
 use Rattle.mg_records.specs.Crashing.{HoldsOn}
 use Rattle.mg_records.specs.Meaning.{Means}
 use Rattle.mg_records.specs.Sessions.{SessionsStay}
-use Rattle.mg_calls.specs.FrameLaws.{frames_then}
+use Rattle.mg_calls.specs.FrameLaws.{frames_after}
 use Rattle.mg_calls.specs.Frames.{Frames}
 use Rattle.mg_transcript.specs.Courses.{Course, Comes, Later, Parks, Ends}
 use Rattle.mg_transcript.specs.Steps.{Steps, Runs, waits_now, ends_now, one_step, Takes, enough_now, waits_then, ends_then, step_more}
@@ -77,7 +77,7 @@ module _ {R P Run : Type 0} (m : Means R P) (runs : RunMeans R Run) (lasts : Hol
       → SoFar m runs old new t work stepped
   so_far_more first ready frames sessions = record {
     ready = ready;
-    frames = frames_then m old mid new t.0 None (refusal_told stepped) first.frames frames;
+    frames = frames_after m old mid new t.0 (refusal_told stepped) first.frames frames;
     sessions = sessions_then m old mid new (over_in t.0 stepped) first.sessions sessions;
   }
 

@@ -3,6 +3,7 @@ pub mod Working
 pub mod Carrying
 pub mod CarryLaws
 pub mod QuietLaws
+pub mod StopLaws
 pub mod BesideLaws
 pub mod AnyRuns
 pub mod AnyLaws

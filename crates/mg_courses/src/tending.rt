@@ -2,7 +2,7 @@
 
 ghost use Rattle.std.specs.Prelude.{◌≡◌, true, None, IfErr};
 ghost use Rattle.mg_records.specs.Crashing.{LeavesQuietly};
-ghost use Rattle.mg_records.specs.Keeping.{Reads, refusal_in};
+ghost use Rattle.mg_records.specs.Keeping.{FaultsAreTold, Reads, refusal_in};
 ghost use Rattle.mg_records.specs.Sessions.{SessionsStay};
 ghost use Rattle.mg_tending.specs.Tending.{WritesAPage};
 ghost use Rattle.mg_transcript.specs.Steps.{is_outside};
@@ -18,6 +18,7 @@ pub trait Tends: Statements {
         ensures one { WritesAPage Self.meaning self.old self.new result }
         ensures outside { IfErr result (λ refusal. is_outside refusal ≡ true) }
         ensures reads { Reads Self.meaning self.old self.new (refusal_in result) None }
+        ensures told { FaultsAreTold Self.meaning self.old self.new (refusal_in result) }
         ensures crash { LeavesQuietly Self.meaning self.old self.new }
         ensures sessions { SessionsStay Self.meaning self.old self.new None None };
 }

@@ -1,20 +1,23 @@
 -- Frames of calls that are not made, and of answers that have no cause outside.
-use Rattle.std.proofs.Common.{ℕ, Option, inl, refl, arith}
+use Rattle.std.proofs.Common.{◌≡◌, ℕ, false, Option, inl, refl, arith}
 use Rattle.mg_model.specs.declared.refusal.Refusal.{Refusal}
+use Rattle.mg_faults.specs.Faults.{tells_fault}
 use Rattle.mg_records.specs.Meaning.{Means}
 use Rattle.mg_calls.specs.Frames.{Blames, Frames}
 
--- a refusal that has no cause outside may be answered in place of another
+-- a refusal that has no cause outside may be answered in place of another, but of a fault of the disk
 pub frames_quiet : {R P : Type 0} {first : Option Refusal} (m : Means R P) (old new : R) (t : ℕ)
     (refusal : Option Refusal) → Blames m old new refusal → Frames m old new t first
-    → Frames m old new t refusal
-frames_quiet m old new t refusal cause frames = record {
+    → (tells_fault refusal ≡ false → tells_fault first ≡ false) → Frames m old new t refusal
+frames_quiet m old new t refusal cause frames quiet = record {
   faults = frames.faults;
+  steady = λ told. frames.steady (quiet told);
   damage = frames.damage;
   shortages = frames.shortages;
   cause = cause;
   down = frames.down;
   tells = frames.tells;
+  most_writes = frames.most_writes;
   time = frames.time;
   sizes = frames.sizes;
   given = frames.given;
@@ -29,11 +32,13 @@ pub frames_none : {R P : Type 0} (m : Means R P) (r : R) (t : ℕ) (refusal : Op
     → Blames m r r refusal → Frames m r r t refusal
 frames_none m r t refusal cause = record {
   faults = omega arith;
+  steady = λ quiet. refl;
   damage = omega arith;
   shortages = omega arith;
   cause = cause;
   down = inl refl;
   tells = refl;
+  most_writes = refl;
   time = λ told. record { later = omega arith; keeps = λ t c within was. was };
   sizes = λ size. refl;
   given = λ table was. was;

@@ -36,7 +36,7 @@ use Rattle.mg_calls.specs.declared.walking.Walk.{Walk}
 use Rattle.mg_calls.specs.declared.walking.Visit.TheVariants as visits
 use Rattle.mg_calls.specs.FindLaws.{machine_finds}
 use Rattle.mg_calls.specs.Frames.{Frames}
-use Rattle.mg_calls.specs.FrameLaws.{frames_then}
+use Rattle.mg_calls.specs.FrameLaws.{frames_after}
 use Rattle.mg_calls.specs.Quiet.{AreCalm, AreQuiet, IsQuietAt, as_it_was, with_entry}
 use Rattle.mg_calls.specs.QuietLaws.{calm_nothing, calm_then}
 use Rattle.mg_calls.specs.Walks.{GoesOn, HasCome, IsOnItsWay, rows_seen}
@@ -287,12 +287,11 @@ pub ended_quiet : {R P : Type 0} (m : Means R P) (old new : R) (t : ℕ) (answer
 ended_quiet {P = P} m old new t answer turn is quiet =
     subst (λ (turn : Turn P). AreQuiet m old new (rolled_back_at t turn.phase)) (sym is) quiet
 
--- a call before others that say what is left
-pub then_leaves : {R P : Type 0} (m : Means R P) (old mid new : R) (t : ℕ) (first : Option Refusal)
-    (turn : Turn P) → Frames m old mid t first → AreCalm m old mid None → Leaves m mid new t turn
-    → Leaves m old new t turn
-then_leaves m old mid new t first turn frames calm leaves = record {
-  frames = frames_then m old mid new t first (refusal_of turn.answer) frames leaves.frames;
+-- a call that was not refused before others that say what is left
+pub then_leaves : {R P : Type 0} (m : Means R P) (old mid new : R) (t : ℕ) (turn : Turn P)
+    → Frames m old mid t None → AreCalm m old mid None → Leaves m mid new t turn → Leaves m old new t turn
+then_leaves m old mid new t turn frames calm leaves = record {
+  frames = frames_after m old mid new t (refusal_of turn.answer) frames leaves.frames;
   ready = leaves.ready;
   calm = calm_then m old mid new (rolled_back_at t turn.phase) calm leaves.calm;
 }
@@ -322,7 +321,11 @@ keeps_leaves {P = P} m old new t before row (phases.Reading after) (Ok More) fra
 keeps_leaves m old new t before row phases.Ended (Err Arithmetic) frames calm ready keeps =
     record { frames = frames; ready = tt; calm = calm }
 keeps_leaves m old new t before row phases.Ended (Err (Engine refusals.Memory)) frames calm ready keeps =
-    record { frames = frames_quiet m old new t (Some refusals.Memory) tt frames; ready = tt; calm = calm }
+    record {
+      frames = frames_quiet m old new t (Some refusals.Memory) tt frames (λ quiet. refl);
+      ready = tt;
+      calm = calm;
+    }
 keeps_leaves m old new t before row phase answer frames calm ready keeps = absurd keeps
 
 -- ---- the rows that are told

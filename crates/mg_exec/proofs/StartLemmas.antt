@@ -19,7 +19,7 @@ use Rattle.mg_model.specs.declared.table.Table.{Table as AnyTable}
 use Rattle.mg_base.specs.declared.transaction.TxState.TheVariants.{Active}
 use Rattle.mg_model.specs.History.{Entries}
 use Rattle.mg_model.specs.Machine.{state_of}
-use Rattle.mg_records.specs.Keeping.{Reads}
+use Rattle.mg_records.specs.Keeping.{FaultsAreTold, Reads}
 use Rattle.mg_records.specs.Meaning.{Means}
 use Rattle.mg_records.specs.Reading.{IsPlace, IsTableGiven, TellsTable, shape_seen}
 use Rattle.mg_rows.specs.declared.statement_fault.StatementFault.{StatementFault}
@@ -197,13 +197,14 @@ plan_frames m old new t plans.CountMismatch frames = frames
 plan_frames m old new t plans.KeyChange frames = frames
 plan_frames m old new t plans.TypeMismatch frames = frames
 plan_frames m old new t (plans.RowTooLong len limit) frames =
-    frames_quiet m old new t (Some (refusals.RowTooLong len limit)) tt frames
+    frames_quiet m old new t (Some (refusals.RowTooLong len limit)) tt frames (λ quiet. refl)
 plan_frames m old new t (plans.KeyTooLong len limit) frames = frames
-plan_frames m old new t plans.Memory frames = frames_quiet m old new t (Some refusals.Memory) tt frames
+plan_frames m old new t plans.Memory frames =
+    frames_quiet m old new t (Some refusals.Memory) tt frames (λ quiet. refl)
 
 pub unbound_frames : {R P : Type 0} (m : Means R P) (old new : R) (t : ℕ) (fault : PlanFault)
-    (given : StatementFault) → given ≡ of_plan fault → Reads m old new None None
+    (given : StatementFault) → given ≡ of_plan fault → Reads m old new None None → FaultsAreTold m old new None
     → Frames m old new t (refusal_at {T = Phase P} (Err given))
-unbound_frames {P = P} m old new t fault given is reads =
+unbound_frames {P = P} m old new t fault given is reads told =
     subst (λ (f : StatementFault). Frames m old new t (refusal_at {T = Phase P} (Err f))) (sym is)
-    (plan_frames {P = P} m old new t fault (frames_reads_nothing m old new t None reads))
+    (plan_frames {P = P} m old new t fault (frames_reads_nothing m old new t None reads told))

@@ -15,7 +15,7 @@ use Rattle.mg_model.specs.Catalog.{catalog_name}
 use Rattle.mg_model.specs.Changes.{same_name}
 use Rattle.mg_model.specs.History.{Entries}
 use Rattle.mg_records.specs.Adding.{IsRefused}
-use Rattle.mg_records.specs.Keeping.{Reads}
+use Rattle.mg_records.specs.Keeping.{FaultsAreTold, Reads}
 use Rattle.mg_records.specs.Meaning.{Means}
 use Rattle.mg_records.specs.Reading.{TellsTable, shape_seen}
 use Rattle.mg_rows.specs.declared.statement_fault.StatementFault.{StatementFault}
@@ -126,21 +126,22 @@ phase_ready m old new t s name size (Err fault) refusal creates other pages read
 
 pub phase_frames : {R P : Type 0} (m : Means R P) (old new : R) (t : ℕ) (s : Plain) (name : List ℕ)
     (size : ℕ) (refusal : Refusal) (result : Result (Phase P) StatementFault)
-    → is_missing refusal ≡ true → Reads m old new (Some refusal) None → PlansPhase s name size result
+    → is_missing refusal ≡ true → Reads m old new (Some refusal) None → FaultsAreTold m old new (Some refusal)
+    → PlansPhase s name size result
     → Frames m old new t (refusal_at result)
-phase_frames {P = P} m old new t s name size refusal result is reads plans_ = by result plans_
+phase_frames {P = P} m old new t s name size refusal result is reads told plans_ = by result plans_
   where
     frames : Frames m old new t None
     frames = frames_quiet m old new t None tt
         (subst (λ (refusal : Refusal). Frames m old new t (Some refusal)) (missing refusal is)
-        (frames_reads_nothing m old new t (Some refusal) reads))
+        (frames_reads_nothing m old new t (Some refusal) reads told)) (λ quiet. refl)
 
     by : (result : Result (Phase P) StatementFault) → PlansPhase s name size result
         → Frames m old new t (refusal_at result)
     by (Ok phase) planned = frames
     by (Err fault) (inl none) =
         subst (λ (f : StatementFault). Frames m old new t (refusal_at {T = Phase P} (Err f))) (sym none)
-        (frames_quiet m old new t (Some refusals.Memory) tt frames)
+        (frames_quiet m old new t (Some refusals.Memory) tt frames (λ quiet. refl))
     by (Err fault) (inr refused) =
         subst (λ (f : StatementFault). Frames m old new t (refusal_at {T = Phase P} (Err f))) (sym refused.2)
         (plan_frames {P = P} m old new t refused.0 frames)

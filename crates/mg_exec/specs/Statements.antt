@@ -20,11 +20,11 @@ use Rattle.mg_model.specs.Changes.{Cells}
 use Rattle.mg_model.specs.Effects.{is_its}
 use Rattle.mg_model.specs.History.{Entries, Entry, entry}
 use Rattle.mg_model.specs.Machine.{state_of, steps, has_point, is_of}
+use Rattle.mg_faults.specs.Faults.{worse}
 use Rattle.mg_records.specs.declared.write.Write.{Write}
 use Rattle.mg_records.specs.Adding.{IsRefused}
 use Rattle.mg_records.specs.Meaning.{Means}
 use Rattle.mg_records.specs.Reading.{shape_seen}
-use Rattle.mg_faults.specs.Faults.{worse}
 use Rattle.mg_records.specs.TakingBack.{is_given_up}
 use Rattle.mg_records.specs.Writing.{event_of, rows_made}
 use Rattle.mg_value.specs.declared.shape.Shape.{Shape}

@@ -209,7 +209,7 @@ module _ {D P K : Type 0} (m : Meaning D) (places : Places P) (n : SinkMeaning K
           (begin o (opening_of m now o ran.entries ran.stands)) ran.legal ran.stands.grows
           (closes.same.size size sized_now) entry.lawful entry.whole
           (subst (λ (s : ℕ). HasLeft m new s o ran.entries (durable_count ran.entries)) geometry_now
-          (closed_so.ended.1 o ran.entries ran.stands))
+          (closed_so.ended.2 o ran.entries ran.stands))
 
 -- ---- a run that is cut off
 

@@ -1,5 +1,5 @@
 -- How a run ends: its status, and what is printed of a fault outside the lines.
-use Rattle.std.specs.Prelude.{◌≡◌, ◌⊎◌, ℕ, Bool, true, false, List, [], ◌∷◌, ◌++◌, codes}
+use Rattle.std.specs.Prelude.{◌≡◌, ◌⊎◌, ℕ, Bool, true, false, List, [], ◌∷◌, ◌++◌, Option, None, Some, codes}
 use Rattle.mg_base.specs.Disk.{Meaning, Rose}
 use Rattle.mg_model.specs.declared.refusal.Refusal.{Refusal}
 use Rattle.mg_model.specs.declared.refusal.Refusal.TheVariants as refusals
@@ -50,15 +50,20 @@ abbrev pub IsOutside : Refusal → RunEnd → Type 0
 IsOutside refusal end =
     (end ≡ Outside refusal) ⊎ ((has_fixed_line refusal ≡ false) × (end ≡ Outside refusals.Memory))
 
--- a refusal by the disk comes only where its count of faults rose
+-- a refusal by the disk comes only where its count of faults rose, and any other only where it stands
 abbrev pub FailsWith : {D : Type 0} → Meaning D → D → D → Refusal → Type 0
 FailsWith m old new (refusals.DiskRead faults) = Rose (m.faults old) (m.faults new)
 FailsWith m old new (refusals.DiskWrite faults) = Rose (m.faults old) (m.faults new)
 FailsWith m old new (refusals.Offline faults) = Rose (m.faults old) (m.faults new)
-FailsWith m old new refusal = Unit {0}
+FailsWith m old new refusal = m.faults new ≡ m.faults old
 
--- so does an end by it
+-- where nothing was refused, it stands
+abbrev pub FailsBy : {D : Type 0} → Meaning D → D → D → Option Refusal → Type 0
+FailsBy m old new None = m.faults new ≡ m.faults old
+FailsBy m old new (Some refusal) = FailsWith m old new refusal
+
+-- so an end by a refusal comes, and any other end
 abbrev pub EndsWith : {D : Type 0} → Meaning D → D → D → RunEnd → Type 0
 EndsWith m old new (InLine refusal) = FailsWith m old new refusal
 EndsWith m old new (Outside refusal) = FailsWith m old new refusal
-EndsWith m old new end = Unit {0}
+EndsWith m old new end = m.faults new ≡ m.faults old

@@ -1,7 +1,6 @@
--- What the disk refuses comes only where its count of faults rose.
-use Rattle.std.proofs.Common.{◌≡◌, ◌⊎◌, inl, inr, ◌≤◌, ℕ, Option, None, Some, sym, ◌∙◌, subst, arith}
+-- What the disk refuses comes only where its count of faults rose, and what is refused otherwise only where it stands.
+use Rattle.std.proofs.Common.{◌≡◌, ◌⊎◌, inl, inr, ◌≤◌, ℕ, Option, None, Some, Ok, Err, refl, sym, ap, ◌∙◌, subst, arith}
 use Rattle.mg_base.specs.Disk.{Meaning, Rose}
-use Rattle.mg_calls.specs.Frames.{Blames}
 use Rattle.mg_core.specs.Opening.{FailsToRead, IsOpenRefusal, RefusesOpen, unprepared, unread}
 use Rattle.mg_core.specs.declared.parts.Core.{Core}
 use Rattle.mg_database.specs.Preparing.{FailsToPrepare, no_memory, unasked, unmade}
@@ -11,8 +10,10 @@ use Rattle.mg_engine_calls.specs.Closings.{RefusesClose}
 use Rattle.mg_engine_meaning.specs.Meaning.{Places, means}
 use Rattle.mg_model.specs.declared.refusal.Refusal.{Refusal}
 use Rattle.mg_model.specs.declared.refusal.Refusal.TheVariants as refusals
+use Rattle.mg_pool.specs.Fault.{StaysOnline}
 use Rattle.mg_pool.specs.declared.fault.PoolFault.TheVariants as faults
 use Rattle.mg_space.specs.declared.fault.SpaceFault.TheVariants as space
+use Rattle.mg_sessions.specs.Accounts.{Accounts}
 use Rattle.mg_runs.specs.Ends.{FailsWith}
 use Rattle.mg_runs.specs.Laws.{ClosingsFail, LinesFail, OpeningsFail}
 
@@ -30,28 +31,38 @@ module _ {D : Type 0} (m : Meaning D) (disk new : D) (limit : ℕ) (refusal : Re
   unprepared_fails : (fault : OpenFault) → FailsToPrepare m disk new fault → IsOpenRefusal fault refusal
       → FailsWith m disk new refusal
   unprepared_fails _ (unasked count keeps same rose) is = subst (FailsWith m disk new) (sym is) rose
-  unprepared_fails _ (no_memory keeps same) is = subst (FailsWith m disk new) (sym is) tt
+  unprepared_fails _ (no_memory keeps same steady) is = subst (FailsWith m disk new) (sym is) steady
   unprepared_fails _ (unmade count fails) is = subst (FailsWith m disk new) (sym is) fails.rose
 
   -- a read failed, after the disk was prepared
   read_rose : (count : ℕ) → FailsToRead m disk new limit (Space (space.Pool (faults.DiskRead count)))
       → Rose (m.faults disk) (m.faults new)
   read_rose count fails = subst (λ (d : D). Rose (m.faults disk) (m.faults d)) (sym fails.is_disk)
-      (rose_since (m.faults disk) (m.faults fails.before.disk) (m.faults fails.after.disk)
-      fails.prepared.never_falls fails.told.2.2)
+      (subst (λ (n : ℕ). Rose n (m.faults fails.after.disk)) fails.prepared.steady fails.told.2.2)
+
+  -- no call of the disk failed
+  read_steady : (fault : OpenFault) (fails : FailsToRead m disk new limit fault)
+      → StaysOnline m fails.before fails.after → m.faults new ≡ m.faults disk
+  read_steady fault fails online = ap m.faults fails.is_disk ∙ (ap (λ (counts : ℕ × ℕ). counts.1) online.2
+      ∙ fails.prepared.steady)
 
   unread_fails : (fault : OpenFault) → FailsToRead m disk new limit fault → IsOpenRefusal fault refusal
       → FailsWith m disk new refusal
-  unread_fails (NotADatabase field found) fails is = subst (FailsWith m disk new) (sym is) tt
-  unread_fails (Space (space.Full most)) fails is = subst (FailsWith m disk new) (sym is) tt
-  unread_fails (Space (space.Damaged damage)) fails is = subst (FailsWith m disk new) (sym is) tt
+  unread_fails (NotADatabase field found) fails is = subst (FailsWith m disk new) (sym is)
+      (read_steady (NotADatabase field found) fails fails.told)
+  unread_fails (Space (space.Full most)) fails is = subst (FailsWith m disk new) (sym is)
+      (read_steady (Space (space.Full most)) fails fails.told)
+  unread_fails (Space (space.Damaged damage)) fails is = subst (FailsWith m disk new) (sym is)
+      (read_steady (Space (space.Damaged damage)) fails fails.told)
   unread_fails (Space (space.Pool (faults.DiskRead count))) fails is = subst (FailsWith m disk new) (sym is)
       (read_rose count fails)
   unread_fails (Space (space.Pool (faults.DiskWrite count))) fails is = absurd fails.own
   unread_fails (Space (space.Pool (faults.Offline count))) fails is =
       absurd (no_count fails.before.offline count fails.prepared.online fails.told.0)
-  unread_fails (Space (space.Pool (faults.Absent pages))) fails is = subst (FailsWith m disk new) (sym is) tt
-  unread_fails (Space (space.Pool faults.Memory)) fails is = subst (FailsWith m disk new) (sym is) tt
+  unread_fails (Space (space.Pool (faults.Absent pages))) fails is = subst (FailsWith m disk new) (sym is)
+      (read_steady (Space (space.Pool (faults.Absent pages))) fails fails.told)
+  unread_fails (Space (space.Pool faults.Memory)) fails is = subst (FailsWith m disk new) (sym is)
+      (read_steady (Space (space.Pool faults.Memory)) fails fails.told)
 
   opening_fails : RefusesOpen m disk new limit refusal → FailsWith m disk new refusal
   opening_fails (unprepared fault is fails) = unprepared_fails fault fails is
@@ -62,45 +73,30 @@ openings_fail m disk new limit refusal refused = opening_fails m disk new limit 
 
 -- ---- the lines
 
--- what is blamed on the disk has risen since the start
+-- what is blamed on the disk has risen since the start; else the count stands
 blamed : {D P : Type 0} (m : Meaning D) (places : Places P) (disk : D) (core now : Core D) (refusal : Refusal)
-    → m.faults disk ≤ m.faults core.store.disk → core.store.offline ≡ None
-    → Blames (means m places) core now (Some refusal) → FailsWith m disk now.store.disk refusal
-blamed m places disk core now (refusals.DiskRead count) fell online cause =
-    rose_since (m.faults disk) (m.faults core.store.disk) (m.faults now.store.disk) fell cause
-blamed m places disk core now (refusals.DiskWrite count) fell online cause =
-    rose_since (m.faults disk) (m.faults core.store.disk) (m.faults now.store.disk) fell cause
-blamed m places disk core now (refusals.Offline count) fell online (inl down) =
-    absurd (no_count core.store.offline count online down)
-blamed m places disk core now (refusals.Offline count) fell online (inr rose) =
-    rose_since (m.faults disk) (m.faults core.store.disk) (m.faults now.store.disk) fell rose
-blamed m places disk core now (refusals.UpdateConflict by) fell online cause = tt
-blamed m places disk core now (refusals.LockConflict by) fell online cause = tt
-blamed m places disk core now (refusals.Waits on) fell online cause = tt
-blamed m places disk core now (refusals.Deadlock by) fell online cause = tt
-blamed m places disk core now (refusals.InLimbo by) fell online cause = tt
-blamed m places disk core now refusals.DuplicateKey fell online cause = tt
-blamed m places disk core now refusals.NoRow fell online cause = tt
-blamed m places disk core now refusals.ReadOnly fell online cause = tt
-blamed m places disk core now refusals.NoTransaction fell online cause = tt
-blamed m places disk core now (refusals.NotActive state) fell online cause = tt
-blamed m places disk core now refusals.NoTable fell online cause = tt
-blamed m places disk core now refusals.TableExists fell online cause = tt
-blamed m places disk core now (refusals.RowTooLong len limit) fell online cause = tt
-blamed m places disk core now (refusals.DatabaseFull limit) fell online cause = tt
-blamed m places disk core now refusals.TransactionLimit fell online cause = tt
-blamed m places disk core now (refusals.NotADatabase field found) fell online cause = tt
-blamed m places disk core now (refusals.Damaged page field found wanted) fell online cause = tt
-blamed m places disk core now refusals.Memory fell online cause = tt
+    → m.faults core.store.disk ≡ m.faults disk → core.store.offline ≡ None
+    → Accounts (means m places) core now (Some refusal) → FailsWith m disk now.store.disk refusal
+blamed m places disk core now (refusals.DiskRead count) steady online accounts =
+    subst (λ (n : ℕ). Rose n (m.faults now.store.disk)) steady accounts.cause
+blamed m places disk core now (refusals.DiskWrite count) steady online accounts =
+    subst (λ (n : ℕ). Rose n (m.faults now.store.disk)) steady accounts.cause
+blamed m places disk core now (refusals.Offline count) steady online accounts = at accounts.cause
+  where
+    at : (core.store.offline ≡ Some count) ⊎ Rose (m.faults core.store.disk) (m.faults now.store.disk)
+        → Rose (m.faults disk) (m.faults now.store.disk)
+    at (inl down) = absurd (no_count core.store.offline count online down)
+    at (inr rose) = subst (λ (n : ℕ). Rose n (m.faults now.store.disk)) steady rose
+blamed m places disk core now refusal steady online accounts = accounts.steady refl ∙ steady
 
 pub lines_fail : {D P : Type 0} (m : Meaning D) (places : Places P) → LinesFail m places
-lines_fail m places disk limit core now told refusal opened accounts is =
-    blamed m places disk core now refusal opened.never_falls opened.online
-    (subst (Blames (means m places) core now) is accounts.cause)
+lines_fail m places disk limit core now None opened accounts = accounts.steady refl ∙ opened.steady
+lines_fail m places disk limit core now (Some refusal) opened accounts =
+    blamed m places disk core now refusal opened.steady opened.online accounts
 
 -- ---- the end
 
-module _ {D : Type 0} (m : Meaning D) (disk new : D) (core now : Core D) (fell : m.faults disk ≤ m.faults core.store.disk)
+module _ {D : Type 0} (m : Meaning D) (disk new : D) (core now : Core D) (steady : m.faults core.store.disk ≡ m.faults disk)
     (online : core.store.offline ≡ None) (later : m.faults core.store.disk ≤ m.faults now.store.disk)
     (down : (now.store.offline ≡ core.store.offline) ⊎ Rose (m.faults core.store.disk) (m.faults now.store.disk)) where
   went_down : (count : ℕ) → now.store.offline ≡ Some count → Rose (m.faults disk) (m.faults now.store.disk)
@@ -109,13 +105,13 @@ module _ {D : Type 0} (m : Meaning D) (disk new : D) (core now : Core D) (fell :
       at : (now.store.offline ≡ core.store.offline) ⊎ Rose (m.faults core.store.disk) (m.faults now.store.disk)
           → Rose (m.faults disk) (m.faults now.store.disk)
       at (inl same) = absurd (no_count core.store.offline count online (sym same ∙ is))
-      at (inr rose) = rose_since (m.faults disk) (m.faults core.store.disk) (m.faults now.store.disk) fell rose
+      at (inr rose) = subst (λ (n : ℕ). Rose n (m.faults now.store.disk)) steady rose
 
   closing_fails : (refusal : Refusal) → RefusesClose m now new refusal → FailsWith m disk new refusal
   closing_fails (refusals.Offline count) why = subst (λ (d : D). Rose (m.faults disk) (m.faults d)) (sym why.1)
       (went_down count why.0)
   closing_fails (refusals.DiskWrite count) why = rose_since (m.faults disk) (m.faults now.store.disk) (m.faults new)
-      (omega (arith, fell, later)) why.1
+      (omega (arith, steady, later)) why.1
   closing_fails (refusals.DiskRead count) why = absurd why
   closing_fails (refusals.UpdateConflict by) why = absurd why
   closing_fails (refusals.LockConflict by) why = absurd why
@@ -137,6 +133,7 @@ module _ {D : Type 0} (m : Meaning D) (disk new : D) (core now : Core D) (fell :
   closing_fails refusals.Memory why = absurd why
 
 pub closings_fail : {D P : Type 0} (m : Meaning D) (places : Places P) → ClosingsFail m places
-closings_fail m places disk new limit core now lines_end refusal opened accounts closes =
-    closing_fails m disk new core now opened.never_falls opened.online accounts.faults accounts.down refusal
-    closes.ended
+closings_fail m places disk new limit core now (Ok x) opened accounts closes =
+    closes.ended.1 ∙ (accounts.steady refl ∙ opened.steady)
+closings_fail m places disk new limit core now (Err refusal) opened accounts closes =
+    closing_fails m disk new core now opened.steady opened.online accounts.faults accounts.down refusal closes.ended

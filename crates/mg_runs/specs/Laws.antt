@@ -15,6 +15,7 @@ use Rattle.mg_model.specs.Answers.{is_active}
 use Rattle.mg_model.specs.Machine.{state_of}
 use Rattle.mg_model.specs.declared.opening.Opening.{Opening}
 use Rattle.mg_model.specs.declared.refusal.Refusal.{Refusal}
+use Rattle.mg_records.specs.Keeping.{refusal_in}
 use Rattle.mg_script.specs.declared.line.Line.{Line}
 use Rattle.mg_scripts.specs.declared.lines.LinesEnd.{LinesEnd}
 use Rattle.mg_scripts.specs.declared.lines.LinesEnd.TheVariants as lines_ends
@@ -23,7 +24,7 @@ use Rattle.mg_scripts.specs.Steps.{reason}
 use Rattle.mg_sessions.specs.Accounts.{Accounts}
 use Rattle.mg_runs.specs.declared.ending.RunEnd.{RunEnd}
 use Rattle.mg_runs.specs.declared.ending.RunEnd.TheVariants.{Whole, Outside}
-use Rattle.mg_runs.specs.Ends.{FailsWith, IsOutside, last_line}
+use Rattle.mg_runs.specs.Ends.{FailsBy, FailsWith, IsOutside, last_line}
 use Rattle.mg_runs.specs.Entry.{IsEntry}
 use Rattle.mg_runs.specs.Headline.{EndsBehind, Headline}
 use Rattle.mg_runs.specs.Printing.{IsPrinted}
@@ -82,22 +83,23 @@ RunsClose {D} {P} {K} m places n = (disk new : D) (limit : ℕ) (core now : Core
 
 -- ---- faults of the disk
 
--- what the disk refuses comes only where its count of faults rose since the start: at the opening,
+-- what the disk refuses comes only where its count of faults rose since the start, and where it does not refuse, that
+-- stands: at the opening,
 abbrev pub OpeningsFail : {D : Type 0} → Meaning D → Type 0
 OpeningsFail {D} m = (disk new : D) (limit : ℕ) (refusal : Refusal) → RefusesOpening m disk new limit refusal
     → FailsWith m disk new refusal
 
 -- within the lines and as what is live is rolled back,
 abbrev pub LinesFail : {D P : Type 0} → Meaning D → Places P → Type 0
-LinesFail {D} {P} m places = (disk : D) (limit : ℕ) (core now : Core D) (told : Option Refusal) (refusal : Refusal)
-    → IsOpenedOver m disk limit core → Accounts (means m places) core now told → told ≡ Some refusal
-    → FailsWith m disk now.store.disk refusal
+LinesFail {D} {P} m places = (disk : D) (limit : ℕ) (core now : Core D) (told : Option Refusal)
+    → IsOpenedOver m disk limit core → Accounts (means m places) core now told
+    → FailsBy m disk now.store.disk told
 
--- and as the database is closed
+-- and as the database is closed, behind lines that were all obeyed
 abbrev pub ClosingsFail : {D P : Type 0} → Meaning D → Places P → Type 0
-ClosingsFail {D} {P} m places = (disk new : D) (limit : ℕ) (core now : Core D) (lines_end : LinesEnd) (refusal : Refusal)
-    → IsOpenedOver m disk limit core → Accounts (means m places) core now (reason lines_end)
-    → ClosesEngine m now new (Err refusal) → FailsWith m disk new refusal
+ClosingsFail {D} {P} m places = (disk new : D) (limit : ℕ) (core now : Core D) (result : Result (Unit {0}) Refusal)
+    → IsOpenedOver m disk limit core → Accounts (means m places) core now (reason lines_ends.Whole)
+    → ClosesEngine m now new result → FailsBy m disk new (refusal_in result)
 
 -- ---- the premise
 

@@ -37,17 +37,18 @@ pub fn runs_close<D: Disk, P, K: Sink>()
     catalogs_grow();
 }
 
-/// What the disk refuses at the opening comes only where its count of faults rose.
+/// What the disk refuses at the opening comes only where its count of faults rose, and any other refusal only where that
+/// stands.
 pub fn openings_fail<D: Disk>()
     ensures { OpeningsFail D.meaning }
 {}
 
-/// So does what it refuses within the lines.
+/// So it is with what ends the lines,
 pub fn lines_fail<D: Disk, P>()
     ensures { (places : Places P) → LinesFail D.meaning places }
 {}
 
-/// And what it refuses as the database is closed.
+/// and with the closing of the database.
 pub fn closings_fail<D: Disk, P>()
     ensures { (places : Places P) → ClosingsFail D.meaning places }
 {}

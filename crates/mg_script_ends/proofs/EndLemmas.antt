@@ -11,7 +11,7 @@ use Rattle.mg_model.specs.Answers.{is_active}
 use Rattle.mg_model.specs.History.{Entries, entry}
 use Rattle.mg_records.specs.Adding.{Adds}
 use Rattle.mg_records.specs.Crashing.{CrashesHold, HoldsOn, LeavesQuietly}
-use Rattle.mg_records.specs.Keeping.{Leaves}
+use Rattle.mg_records.specs.Keeping.{FaultsAreTold, Leaves}
 use Rattle.mg_records.specs.Meaning.{Means}
 use Rattle.mg_records.specs.Sessions.{SessionsAreOne, SessionsStay}
 use Rattle.mg_calls.specs.FrameLaws.{frames_changes}
@@ -33,10 +33,11 @@ module _ {R P Run : Type 0} (m : Means R P) (runs : RunMeans R Run) (one : Sessi
     (old new : R) (s : ℕ) (t : TxNo) (all all' : List (Option Transaction))
     (ready : AreReady m runs old all []) (its : number_at all s ≡ Some t) where
   -- it is rolled back
-  module _ (is : all' ≡ set all s None) (leaves : Leaves m old new None (Some t.0) (Some t.0)) where
+  module _ (is : all' ≡ set all s None) (leaves : Leaves m old new None (Some t.0) (Some t.0))
+      (told : FaultsAreTold m old new None) where
     pub back_ready : WorksStayReady m runs → SessionsStay m old new None (Some t.0) → AreReady m runs new all' []
     back_ready still stay = subst (λ (a : List (Option Transaction)). AreReady m runs new a []) (sym is)
-        (others_ready m runs old new s t true all [] one ready its None (frames_changes m old new t.0 None leaves)
+        (others_ready m runs old new s t true all [] one ready its None (frames_changes m old new t.0 None leaves told)
         still stay refl)
 
     pub back_ends : WorksStayAt m runs → Adds m old new (Rollback t) Fine → LeavesQuietly m old new
@@ -49,35 +50,35 @@ module _ {R P Run : Type 0} (m : Means R P) (runs : RunMeans R Run) (one : Sessi
           stand = subst (λ (a : List (Option Transaction)). StandAt m runs new o (entry (Rollback t) Fine ∷ h) a [] [])
               (sym is) (others_stand m runs old new s t true all [] one ready its o h (entry (Rollback t) Fine ∷ h) []
               stand (by_one (entry (Rollback t) Fine) refl as_it_was) (rw (eq-eqb t.0 t.0 refl) refl) None
-              (frames_changes m old new t.0 None leaves) still made.1 (made.0, stand.legal) refl);
+              (frames_changes m old new t.0 None leaves told) still made.1 (made.0, stand.legal) refl);
           carries = carries_event m lasts old new o h (entry (Rollback t) Fine) None refl stand.stands leaves.keeps
               crash;
         }
 
   -- that is refused
   module _ (refusal : Refusal) (same : all' ≡ all) (leaves : Leaves m old new (Some refusal) (Some t.0) (Some t.0))
-    where
-      pub not_ready : WorksStayReady m runs → SessionsStay m old new None None → AreReady m runs new all' []
-      not_ready still stay = subst (λ (a : List (Option Transaction)). AreReady m runs new a []) (sym same)
-          (others_ready m runs old new s t false all [] one ready its (Some refusal)
-          (frames_changes m old new t.0 (Some refusal) leaves) still stay refl)
+      (told : FaultsAreTold m old new (Some refusal)) where
+    pub not_ready : WorksStayReady m runs → SessionsStay m old new None None → AreReady m runs new all' []
+    not_ready still stay = subst (λ (a : List (Option Transaction)). AreReady m runs new a []) (sym same)
+        (others_ready m runs old new s t false all [] one ready its (Some refusal)
+        (frames_changes m old new t.0 (Some refusal) leaves told) still stay refl)
 
-      pub not_ends : WorksStayAt m runs → Adds m old new (Rollback t) (No refusal) → LeavesQuietly m old new
-          → (o : Opening) (h : Entries) → StandAt m runs old o h all [] []
-          → EndsWith m runs old new o h all' (λ after. EndsSession o h s after (Some refusal))
-      not_ends still adds crash o h stand =
-          let made = adds o h stand.stands in record {
-            after = entry (Rollback t) (No refusal) ∷ h;
-            does = is_not t refusal (stand.its s ∙ its) made.0;
-            stand = subst (λ (a : List (Option Transaction)). StandAt m runs new o
-                (entry (Rollback t) (No refusal) ∷ h) a [] []) (sym same)
-                (others_stand m runs old new s t false all [] one ready its o h (entry (Rollback t) (No refusal) ∷ h) []
-                stand (by_one (entry (Rollback t) (No refusal)) refl as_it_was)
-                (ap is_active (live_is_active m runs old o h all [] [] s t stand its)) (Some refusal)
-                (frames_changes m old new t.0 (Some refusal) leaves) still made.1 (made.0, stand.legal) refl);
-            carries = carries_event m lasts old new o h (entry (Rollback t) (No refusal)) (Some refusal) refl
-                stand.stands leaves.keeps crash;
-          }
+    pub not_ends : WorksStayAt m runs → Adds m old new (Rollback t) (No refusal) → LeavesQuietly m old new
+        → (o : Opening) (h : Entries) → StandAt m runs old o h all [] []
+        → EndsWith m runs old new o h all' (λ after. EndsSession o h s after (Some refusal))
+    not_ends still adds crash o h stand =
+        let made = adds o h stand.stands in record {
+          after = entry (Rollback t) (No refusal) ∷ h;
+          does = is_not t refusal (stand.its s ∙ its) made.0;
+          stand = subst (λ (a : List (Option Transaction)). StandAt m runs new o
+              (entry (Rollback t) (No refusal) ∷ h) a [] []) (sym same)
+              (others_stand m runs old new s t false all [] one ready its o h (entry (Rollback t) (No refusal) ∷ h) []
+              stand (by_one (entry (Rollback t) (No refusal)) refl as_it_was)
+              (ap is_active (live_is_active m runs old o h all [] [] s t stand its)) (Some refusal)
+              (frames_changes m old new t.0 (Some refusal) leaves told) still made.1 (made.0, stand.legal) refl);
+          carries = carries_event m lasts old new o h (entry (Rollback t) (No refusal)) (Some refusal) refl
+              stand.stands leaves.keeps crash;
+        }
 
 -- it has none
 pub none_ends : {R P Run : Type 0} (m : Means R P) (runs : RunMeans R Run) → CrashesHold m → (r : R) (s : ℕ)

@@ -6,7 +6,7 @@ use Rattle.mg_model.specs.declared.refusal.Refusal.{Refusal}
 use Rattle.mg_model.specs.declared.refusal.Refusal.TheVariants.{DatabaseFull, DiskRead, DiskWrite, Offline, Damaged}
 use Rattle.mg_records.specs.Meaning.{Means}
 use Rattle.mg_calls.specs.Frames.{Blames}
-use Rattle.mg_sessions.specs.AccountLaws.{account_then}
+use Rattle.mg_sessions.specs.AccountLaws.{account_blames}
 use Rattle.mg_sessions.specs.Accounts.{Accounts}
 use Rattle.mg_script_ends.specs.Ends.{AreCaused}
 
@@ -46,14 +46,7 @@ module _ {R P : Type 0} (m : Means R P) (old mid new : R) where
       → AreCaused m mid new refusals → AreCaused m old new refusals
   caused_since x y first later [] are = tt
   caused_since x y first later (refusal ∷ more) are = (
-    (account_then m old mid new x (Some refusal) first (record {
-      faults = later.faults;
-      damage = later.damage;
-      shortages = later.shortages;
-      cause = are.0;
-      down = later.down;
-      sizes = later.sizes;
-    })).cause,
+    account_blames m old mid new x (Some refusal) first later.faults are.0,
     caused_since x y first later more are.1,
   )
 

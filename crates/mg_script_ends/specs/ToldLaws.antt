@@ -4,18 +4,12 @@ use Rattle.std.proofs.Common.{refl, sym, ap, ◌∙◌, subst}
 use Rattle.std.proofs.lemmas.Bool.{false≢true}
 use Rattle.mg_faults.specs.Faults.{tells_fault, worse}
 use Rattle.mg_model.specs.declared.refusal.Refusal.{Refusal}
-use Rattle.mg_model.specs.declared.refusal.Refusal.TheVariants.{DiskRead, DiskWrite}
 use Rattle.mg_records.specs.Meaning.{Means}
 use Rattle.mg_transcript.specs.Shorthand.{stops_run}
-use Rattle.mg_sessions.specs.AccountLaws.{account_first, account_then}
+use Rattle.mg_courses.specs.StopLaws.{run_goes_on}
+use Rattle.mg_sessions.specs.AccountLaws.{account_after, account_first, account_then}
 use Rattle.mg_sessions.specs.Accounts.{Accounts}
 use Rattle.mg_script_ends.specs.Ends.{last_of, told_of}
-
--- a refusal by which a run does not stop tells no fault of the disk
-run_goes_on : (refusal : Refusal) → stops_run refusal ≡ false → tells_fault (Some refusal) ≡ false
-run_goes_on (DiskRead count) goes = absurd cc
-run_goes_on (DiskWrite count) goes = absurd cc
-run_goes_on refusal goes = refl
 
 last_is : (first : Refusal) (more : List Refusal) (last : Refusal) → last_of first (more ++ last ∷ []) ≡ last
 last_is first [] last = refl
@@ -37,15 +31,15 @@ pub told_also : {R P : Type 0} (m : Means R P) (start old new : R) (before : Lis
 told_also m start old new [] refusal first quiet second = at (tells_fault (Some refusal))
   where
     at : (b : Bool) → Accounts m start new (Some (if b then refusal else refusal))
-    at true = account_then m start old new None (Some refusal) first second
-    at false = account_then m start old new None (Some refusal) first second
+    at true = account_after m start old new (Some refusal) first second
+    at false = account_after m start old new (Some refusal) first second
 told_also m start old new (x ∷ more) refusal first quiet second =
     subst (λ (last : Refusal). Accounts m start new (Some (worse last x))) (sym (last_is x more refusal))
-    (at (tells_fault (Some refusal)))
+    (at (tells_fault (Some refusal)) refl)
   where
-    at : (b : Bool) → Accounts m start new (Some (if b then refusal else x))
-    at true = account_then m start old new (Some (worse (last_of x more) x)) (Some refusal) first second
-    at false = account_first m start old new (Some x) (Some refusal)
+    at : (b : Bool) → tells_fault (Some refusal) ≡ b → Accounts m start new (Some (if b then refusal else x))
+    at true told = account_then m start old new (Some (worse (last_of x more) x)) (Some refusal) quiet first second
+    at false told = account_first m start old new (Some x) (Some refusal) told
         (subst (λ (r : Refusal). Accounts m start old (Some r)) (quiet_first (last_of x more) x quiet) first) second
 
 -- as long as the run goes on, no fault is told

@@ -20,12 +20,14 @@ use Rattle.mg_transcript.specs.Shorthand.{stops_run}
 use Rattle.mg_transcript.specs.Sessions.{Unfinished}
 use Rattle.mg_transcript.specs.Transcript.{flow, turn_of}
 use Rattle.mg_courses.specs.Running.{RunMeans, refusal_answered}
+use Rattle.mg_courses.specs.StopLaws.{flow_goes, goes_on_behind}
 use Rattle.mg_pending.specs.declared.pending.Pending.{Pending}
 use Rattle.mg_pending.specs.declared.transactions.Transaction.{Transaction}
+use Rattle.mg_sessions.specs.AccountLaws.{untold_account}
 use Rattle.mg_sessions.specs.Accounts.{Accounts}
 use Rattle.mg_sessions.specs.Coming.{ComesTo}
 use Rattle.mg_sessions.specs.Lines.{IsObeyable}
-use Rattle.mg_turns.specs.Turns.{EndsAs, Turned}
+use Rattle.mg_turns.specs.Turns.{EndsAs, StopsSo, Turned}
 use Rattle.mg_turns.specs.declared.turn.TurnEnd.{TurnEnd}
 use Rattle.mg_turns.specs.declared.turn.TurnEnd.TheVariants as turn_ends
 use Rattle.mg_scripts.specs.Printing.{PrintsLine}
@@ -72,40 +74,33 @@ goes_by n mid now bytes o after then_ reply released turn_ends.Stopped failed (S
 goes_by n mid now bytes o after then_ reply released turn_ends.Stopped failed GoesOn is ends prints =
     absurd (stops_or (last_reply reply released) ends (sym is))
 
--- no refusal is told
-pub any_account : {R P : Type 0} (m : Means R P) (old new : R) (refusal : Option Refusal)
-    → Accounts m old new refusal → Accounts m old new None
-any_account m old new refusal accounts = record {
-  faults = accounts.faults;
-  damage = accounts.damage;
-  shortages = accounts.shortages;
-  cause = tt;
-  down = accounts.down;
-  sizes = accounts.sizes;
-}
-
+-- The answer that came last at a line is told on as the reason of the run's end, if it ends by it; else it is none by
+-- which a run stops, and tells no fault.
 account_by : {R P K : Type 0} (m : Means R P) (n : SinkMeaning K) (mid now : K) (bytes : List ℕ) (old new : R)
-    (reply : Reply) (e : TurnEnd) (failed : Option LinesEnd) (f : Flow) → f ≡ flow reply
+    (reply : Reply) (e : TurnEnd) (failed : Option LinesEnd) (f : Flow) → f ≡ flow reply → StopsSo reply (Some e)
     → PrintsLine n mid now bytes failed → Accounts m old new (refusal_answered reply)
     → Accounts m old new (reason_in (end_or (end_of_turn e f) failed))
-account_by m n mid now bytes old new reply turn_ends.Whole None f is prints a = any_account m old new (refusal_answered reply) a
-account_by m n mid now bytes old new reply turn_ends.Whole (Some Whole) f is prints a = absurd prints
-account_by m n mid now bytes old new reply turn_ends.Whole (Some (Stopped r)) f is prints a = absurd prints
-account_by m n mid now bytes old new reply turn_ends.Whole (Some NoMemory) f is prints a = any_account m old new (refusal_answered reply) a
-account_by m n mid now bytes old new reply turn_ends.Whole (Some SinkFailed) f is prints a = any_account m old new (refusal_answered reply) a
-account_by m n mid now bytes old new reply turn_ends.InVain None f is prints a = any_account m old new (refusal_answered reply) a
-account_by m n mid now bytes old new reply turn_ends.InVain (Some Whole) f is prints a = absurd prints
-account_by m n mid now bytes old new reply turn_ends.InVain (Some (Stopped r)) f is prints a = absurd prints
-account_by m n mid now bytes old new reply turn_ends.InVain (Some NoMemory) f is prints a = any_account m old new (refusal_answered reply) a
-account_by m n mid now bytes old new reply turn_ends.InVain (Some SinkFailed) f is prints a = any_account m old new (refusal_answered reply) a
-account_by m n mid now bytes old new reply turn_ends.NoRoom failed f is prints a = any_account m old new (refusal_answered reply) a
-account_by m n mid now bytes old new reply turn_ends.Stopped failed (Stops r) is prints a =
-    subst (Accounts m old new) (stopped_tells reply r (sym is)) a
-account_by m n mid now bytes old new reply turn_ends.Stopped None GoesOn is prints a = any_account m old new (refusal_answered reply) a
-account_by m n mid now bytes old new reply turn_ends.Stopped (Some Whole) GoesOn is prints a = absurd prints
-account_by m n mid now bytes old new reply turn_ends.Stopped (Some (Stopped r)) GoesOn is prints a = absurd prints
-account_by m n mid now bytes old new reply turn_ends.Stopped (Some NoMemory) GoesOn is prints a = any_account m old new (refusal_answered reply) a
-account_by m n mid now bytes old new reply turn_ends.Stopped (Some SinkFailed) GoesOn is prints a = any_account m old new (refusal_answered reply) a
+account_by m n mid now bytes old new reply e failed f is so prints a = by e f is so
+  where
+    -- no refusal is told
+    untold : stops reply ≡ false → Accounts m old new None
+    untold goes = untold_account m old new (refusal_answered reply) (goes_on_behind reply goes) a
+
+    printed : stops reply ≡ false → (failed : Option LinesEnd) → PrintsLine n mid now bytes failed
+        → Accounts m old new (reason_in failed)
+    printed goes None prints_ = untold goes
+    printed goes (Some Whole) prints_ = absurd prints_
+    printed goes (Some (Stopped r)) prints_ = absurd prints_
+    printed goes (Some NoMemory) prints_ = untold goes
+    printed goes (Some SinkFailed) prints_ = untold goes
+
+    by : (e : TurnEnd) (f : Flow) → f ≡ flow reply → StopsSo reply (Some e)
+        → Accounts m old new (reason_in (end_or (end_of_turn e f) failed))
+    by turn_ends.Whole f is_ goes = printed goes failed prints
+    by turn_ends.InVain f is_ goes = printed goes failed prints
+    by turn_ends.NoRoom f is_ goes = untold goes
+    by turn_ends.Stopped (Stops r) is_ so_ = subst (Accounts m old new) (stopped_tells reply r (sym is_)) a
+    by turn_ends.Stopped GoesOn is_ so_ = printed (flow_goes reply (sym is_)) failed prints
 
 -- ---- a line
 
@@ -133,11 +128,11 @@ module _ {R P Run K : Type 0} (m : Means R P) (runs : RunMeans R Run) (n : SinkM
     carries = comes.carries;
   }
 
-  pub taken_account : Accounts m old new (refusal_answered (last_reply reply released))
-      → Accounts m old new (reason_in end)
-  taken_account a = subst (λ (x : Option LinesEnd). Accounts m old new (reason_in x)) (sym is)
+  pub taken_account : StopsSo (last_reply reply released) (Some e)
+      → Accounts m old new (refusal_answered (last_reply reply released)) → Accounts m old new (reason_in end)
+  taken_account so a = subst (λ (x : Option LinesEnd). Accounts m old new (reason_in x)) (sym is)
       (account_by m n mid now (turn_of line reply released) old new (last_reply reply released) e failed
-      (flow (last_reply reply released)) refl prints a)
+      (flow (last_reply reply released)) refl so prints a)
 
 -- a line that is obeyed has a letter where it needs one
 pub obeyable_lettered : (kind : LineKind) → IsObeyable kind → HasLetter kind

@@ -35,7 +35,7 @@ use Rattle.mg_pending.specs.Statements.{has_statement, is_its, transactions_afte
 use Rattle.mg_pending.specs.Transactions.{number_at}
 use Rattle.mg_shorthand.specs.Going.{GoesAt, Spares, Went}
 use Rattle.mg_sessions.specs.Accounts.{Accounts}
-use Rattle.mg_sessions.specs.AccountLaws.{account_of, account_then}
+use Rattle.mg_sessions.specs.AccountLaws.{account_after, account_of}
 use Rattle.mg_sessions.specs.Coming.{ComesTo}
 use Rattle.mg_sessions.specs.Own.{BeginsNone, BeginsOne, OWN, is_refused, one_still}
 use Rattle.mg_sessions.proofs.GoLemmas.{step_others_ready, step_others_stand}
@@ -61,7 +61,7 @@ module _ {R P Run : Type 0} (m : Means R P) (runs : RunMeans R Run) (one : Sessi
       (own_idle m runs mid all ps ready.ready) spares.frames still spares.sessions
 
   pub own_account : Accounts m old mid None → Accounts m old new (refusal_answered ending.reply)
-  own_account first = account_then m old mid new None (refusal_answered ending.reply) first
+  own_account first = account_after m old mid new (refusal_answered ending.reply) first
       (account_of m mid new t.0 (refusal_answered ending.reply) spares.frames)
 
   -- what it does comes behind its beginning

@@ -4,22 +4,24 @@ use Rattle.mg_model.specs.declared.opening.Opening.{Opening}
 use Rattle.mg_model.specs.declared.refusal.Refusal.{Refusal}
 use Rattle.mg_model.specs.History.{Entries}
 use Rattle.mg_records.specs.Crashing.{HoldsOn, LeavesQuietly}
-use Rattle.mg_records.specs.Keeping.{Reads}
+use Rattle.mg_records.specs.Keeping.{FaultsAreTold, Reads}
 use Rattle.mg_records.specs.Meaning.{Means}
 use Rattle.mg_records.specs.Sessions.{SessionsStay}
 use Rattle.mg_calls.specs.Frames.{Frames}
-use Rattle.mg_calls.specs.FrameLaws.{frames_reads_nothing, frames_then}
+use Rattle.mg_calls.specs.FrameLaws.{frames_after, frames_reads_nothing}
 use Rattle.mg_courses.specs.Carrying.{Carries}
 use Rattle.mg_courses.specs.CarryLaws.{carries_read, carries_then}
 
 pub no_frames : {R P : Type 0} (m : Means R P) (r : R) (n : ℕ) → Frames m r r n None
 no_frames m r n = record {
   faults = omega arith;
+  steady = λ quiet. refl;
   damage = omega arith;
   shortages = omega arith;
   cause = tt;
   down = inl refl;
   tells = refl;
+  most_writes = refl;
   time = λ told. record { later = omega arith; keeps = λ t c within was. was };
   sizes = λ size. refl;
   given = λ table was. was;
@@ -38,9 +40,10 @@ no_sessions m r = record {
 
 module _ {R P : Type 0} (m : Means R P) (lasts : HoldsOn m) (old mid new : R) (refusal : Option Refusal)
     (reads : Reads m mid new refusal None) where
-  pub more_frames : (n : ℕ) → Frames m old mid n None → Frames m old new n refusal
-  more_frames n first =
-      frames_then m old mid new n None refusal first (frames_reads_nothing m mid new n refusal reads)
+  pub more_frames : FaultsAreTold m mid new refusal → (n : ℕ) → Frames m old mid n None
+      → Frames m old new n refusal
+  more_frames told n first =
+      frames_after m old mid new n refusal first (frames_reads_nothing m mid new n refusal reads told)
 
   pub more_sessions : SessionsStay m old mid None None → SessionsStay m mid new None None
       → SessionsStay m old new None None

@@ -1,9 +1,10 @@
 -- One call, several calls, and none.
-use Rattle.std.specs.Prelude.{◌≡◌, ◌⊎◌, ◌-◌, ◌^◌, ℕ, ◌≤◌, Option, Some, None, refl}
+use Rattle.std.specs.Prelude.{◌≡◌, ◌⊎◌, ◌-◌, ◌^◌, ℕ, ◌≤◌, false, Option, Some, None, refl}
 use Rattle.std.proofs.Common.{inl, inr, sym, ◌∙◌, arith}
 use Rattle.mg_base.specs.Disk.{Rose}
 use Rattle.mg_model.specs.declared.refusal.Refusal.{Refusal}
 use Rattle.mg_model.specs.declared.refusal.Refusal.TheVariants.{DatabaseFull, DiskRead, DiskWrite, Offline, Damaged}
+use Rattle.mg_faults.specs.Faults.{tells_fault}
 use Rattle.mg_records.specs.Meaning.{Means}
 use Rattle.mg_calls.specs.FrameLaws.{blames_first}
 use Rattle.mg_calls.specs.Frames.{Blames, Frames}
@@ -13,10 +14,12 @@ pub account_of : {R P : Type 0} (m : Means R P) (old new : R) (t : ℕ) (refusal
     → Frames m old new t refusal → Accounts m old new refusal
 account_of m old new t refusal frames = record {
   faults = frames.faults;
+  steady = frames.steady;
   damage = frames.damage;
   shortages = frames.shortages;
   cause = frames.cause;
   down = frames.down;
+  most_writes = frames.most_writes;
   sizes = frames.sizes;
 }
 
@@ -25,10 +28,12 @@ pub no_account : {R P : Type 0} (m : Means R P) (r : R) (refusal : Option Refusa
     → Blames m r r refusal → Accounts m r r refusal
 no_account m r refusal cause = record {
   faults = omega arith;
+  steady = λ quiet. refl;
   damage = omega arith;
   shortages = omega arith;
   cause = cause;
   down = inl refl;
+  most_writes = refl;
   sizes = λ size. refl;
 }
 
@@ -80,27 +85,55 @@ blamed_last m old mid new (Some (Offline count)) f d s g down cause = by down ca
     by (inl same) (inr rose) = inr (then_rose (m.faults old) (m.faults mid) (m.faults new) f rose)
 blamed_last m old mid new (Some refusal) f d s g down cause = tt
 
--- the second of two says what is answered
+-- the cause of what the second of two answers
+pub account_blames : {R P : Type 0} (m : Means R P) (old mid new : R) (a refusal : Option Refusal)
+    → Accounts m old mid a → m.faults mid ≤ m.faults new → Blames m mid new refusal → Blames m old new refusal
+account_blames m old mid new a refusal first later cause =
+    blamed_last m old mid new refusal first.faults first.damage first.shortages later first.down cause
+
+-- the second of two says what is answered, and the first has told no fault
 pub account_then : {R P : Type 0} (m : Means R P) (old mid new : R) (a refusal : Option Refusal)
-    → Accounts m old mid a → Accounts m mid new refusal → Accounts m old new refusal
-account_then m old mid new a refusal first second = record {
+    → tells_fault a ≡ false → Accounts m old mid a → Accounts m mid new refusal → Accounts m old new refusal
+account_then m old mid new a refusal quiet first second = record {
   faults = at_most (m.faults old) (m.faults mid) (m.faults new) first.faults second.faults;
+  steady = λ told. second.steady told ∙ first.steady quiet;
   damage = at_most (m.damage old) (m.damage mid) (m.damage new) first.damage second.damage;
   shortages = at_most (m.shortages old) (m.shortages mid) (m.shortages new) first.shortages second.shortages;
-  cause = blamed_last m old mid new refusal first.faults first.damage first.shortages second.faults
-      first.down second.cause;
+  cause = account_blames m old mid new a refusal first second.faults second.cause;
   down = down_then m old mid new first.faults second.faults first.down second.down;
+  most_writes = second.most_writes ∙ first.most_writes;
   sizes = λ size. second.sizes size ∙ first.sizes size;
 }
 
--- the first of two does
+-- behind lines that were not refused
+pub account_after : {R P : Type 0} (m : Means R P) (old mid new : R) (refusal : Option Refusal)
+    → Accounts m old mid None → Accounts m mid new refusal → Accounts m old new refusal
+account_after m old mid new refusal first second = account_then m old mid new None refusal refl first second
+
+-- the first of two says what is answered, and the second has told no fault
 pub account_first : {R P : Type 0} (m : Means R P) (old mid new : R) (refusal b : Option Refusal)
-    → Accounts m old mid refusal → Accounts m mid new b → Accounts m old new refusal
-account_first m old mid new refusal b first second = record {
+    → tells_fault b ≡ false → Accounts m old mid refusal → Accounts m mid new b → Accounts m old new refusal
+account_first m old mid new refusal b quiet first second = record {
   faults = at_most (m.faults old) (m.faults mid) (m.faults new) first.faults second.faults;
+  steady = λ told. second.steady quiet ∙ first.steady told;
   damage = at_most (m.damage old) (m.damage mid) (m.damage new) first.damage second.damage;
   shortages = at_most (m.shortages old) (m.shortages mid) (m.shortages new) first.shortages second.shortages;
   cause = blames_first m old mid new refusal second.faults second.damage second.shortages first.cause;
   down = down_then m old mid new first.faults second.faults first.down second.down;
+  most_writes = second.most_writes ∙ first.most_writes;
   sizes = λ size. second.sizes size ∙ first.sizes size;
+}
+
+-- a refusal that tells no fault is not told on
+pub untold_account : {R P : Type 0} (m : Means R P) (old new : R) (refusal : Option Refusal)
+    → tells_fault refusal ≡ false → Accounts m old new refusal → Accounts m old new None
+untold_account m old new refusal quiet accounts = record {
+  faults = accounts.faults;
+  steady = λ told. accounts.steady quiet;
+  damage = accounts.damage;
+  shortages = accounts.shortages;
+  cause = tt;
+  down = accounts.down;
+  most_writes = accounts.most_writes;
+  sizes = accounts.sizes;
 }

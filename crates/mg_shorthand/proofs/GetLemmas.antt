@@ -106,7 +106,7 @@ pub spares_run : {R P : Type 0} (m : Means R P) (before old new : R) (t : TxNo) 
     → SessionsStay m old new None (over_in t.0 stepped)
     → Spares m before new t (refusal_answered (at_end stepped).reply) (at_end stepped).over
 spares_run m before old new t stepped spares frames sessions =
-    spares_then m before old new t None (refusal_answered (at_end stepped).reply) (at_end stepped).over spares
+    spares_then m before old new t (refusal_answered (at_end stepped).reply) (at_end stepped).over spares
     (record {
       frames = subst (λ (r : Option Refusal). Frames m old new t.0 r) (refusal_at_end stepped) frames;
       sessions = subst (λ (ends : Option ℕ). SessionsStay m old new None ends) (over_at_end t.0 stepped) sessions;
@@ -183,6 +183,10 @@ refusal_fault (replies.Ok outcome) fault is = absurd cc
 refusal_fault (replies.Tx n) fault is = absurd cc
 refusal_fault replies.Held fault is = absurd cc
 refusal_fault replies.Bad fault is = absurd cc
+
+pub refusal_none : (given : Reply) → fault_in given ≡ None → refusal_answered given ≡ None
+refusal_none (replies.No own) is = absurd cc
+refusal_none given is = refl
 
 -- the test told a fault, or was refused from outside
 pub test_failed : (o : Opening) (h : Entries) (t : TxNo) (key : ℤ) (size : ℕ) (fault : StatementFault)

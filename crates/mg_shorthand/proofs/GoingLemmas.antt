@@ -19,15 +19,19 @@ use Rattle.mg_model.specs.Machine.{state_of}
 use Rattle.mg_records.specs.Adding.{IsRefused}
 use Rattle.mg_records.specs.Committing.{WritesOne}
 use Rattle.mg_records.specs.Crashing.{CrashesHold, HoldsOn, LeavesQuietly, LeavesWith}
-use Rattle.mg_records.specs.Keeping.{Keeps, Leaves, Reads}
+use Rattle.mg_records.specs.Keeping.{FaultsAreTold, Keeps, Leaves, Reads}
 use Rattle.mg_records.specs.Meaning.{Means}
 use Rattle.mg_records.specs.Sessions.{SessionsStay}
 use Rattle.mg_calls.specs.Frames.{Blames, Frames}
-use Rattle.mg_calls.specs.FrameLaws.{frames_changes, frames_first, frames_then, frames_reads, frames_reads_nothing, frames_writes}
+use Rattle.mg_calls.specs.FrameLaws.{frames_after, frames_changes, frames_first, frames_then, frames_reads, frames_reads_nothing, frames_writes}
+use Rattle.mg_rows.specs.declared.statement_fault.StatementFault.{StatementFault}
 use Rattle.mg_transcript.specs.Growing.{GrowsBy, as_it_was, by_one, grown_then}
+use Rattle.mg_transcript.specs.Shorthand.{stops_by}
 use Rattle.mg_transcript.specs.Steps.{is_outside}
 use Rattle.mg_courses.specs.Carrying.{Carries}
 use Rattle.mg_courses.specs.CarryLaws.{carries_none, carries_event, carries_lasting, carries_read, carries_then}
+use Rattle.mg_courses.specs.Running.{refusal_of}
+use Rattle.mg_courses.specs.StopLaws.{goes_on_by}
 use Rattle.mg_shorthand.specs.Going.{Went, ReadsOn, Spares, over_if}
 
 -- ---- states
@@ -64,27 +68,41 @@ sessions_then m old mid new ends first second = record {
   ended = λ t session is was. second.ended t session is (first.works t session refl was);
 }
 
--- the second of two says what is answered; the first does
-pub spares_then : {R P : Type 0} (m : Means R P) (old mid new : R) (t : TxNo) (first refusal : Option Refusal)
-    (over : Bool) → Spares m old mid t first false → Spares m mid new t refusal over
+-- calls behind some that were not refused
+pub spares_then : {R P : Type 0} (m : Means R P) (old mid new : R) (t : TxNo) (refusal : Option Refusal)
+    (over : Bool) → Spares m old mid t None false → Spares m mid new t refusal over
     → Spares m old new t refusal over
-spares_then m old mid new t first refusal over one two = record {
-  frames = frames_then m old mid new t.0 first refusal one.frames two.frames;
+spares_then m old mid new t refusal over one two = record {
+  frames = frames_after m old mid new t.0 refusal one.frames two.frames;
   sessions = sessions_then m old mid new (over_if t.0 over) one.sessions two.sessions;
 }
 
-pub spares_first : {R P : Type 0} (m : Means R P) (old mid new : R) (t : TxNo) (refusal second : Option Refusal)
-    (over : Bool) → Spares m old mid t refusal false → Spares m mid new t second over
-    → Spares m old new t refusal over
-spares_first m old mid new t refusal second over one two = record {
-  frames = frames_first m old mid new t.0 refusal second one.frames two.frames;
-  sessions = sessions_then m old mid new (over_if t.0 over) one.sessions two.sessions;
+-- a line was refused, and its transaction is rolled back; or that is refused, and answered
+pub spares_back : {R P : Type 0} (m : Means R P) (old mid new : R) (t : TxNo) (refusal : Option Refusal)
+    → Spares m old mid t refusal false → Leaves m mid new None (Some t.0) (Some t.0)
+    → FaultsAreTold m mid new None → SessionsStay m mid new None (Some t.0) → Spares m old new t refusal true
+spares_back m old mid new t refusal one leaves told sessions = record {
+  frames = frames_first m old mid new t.0 refusal None (λ quiet. refl) one.frames
+      (frames_changes m mid new t.0 None leaves told);
+  sessions = sessions_then m old mid new (Some t.0) one.sessions sessions;
+}
+
+pub spares_not_back : {R P : Type 0} (m : Means R P) (old mid new : R) (t : TxNo) (fault : StatementFault)
+    (later : Refusal) → stops_by fault ≡ false → Spares m old mid t (refusal_of fault) false
+    → Leaves m mid new (Some later) (Some t.0) (Some t.0) → FaultsAreTold m mid new (Some later)
+    → SessionsStay m mid new None None
+    → Spares m old new t (Some later) false
+spares_not_back m old mid new t fault later goes one leaves told sessions = record {
+  frames = frames_then m old mid new t.0 (refusal_of fault) (Some later) (λ quiet. goes_on_by fault goes)
+      one.frames (frames_changes m mid new t.0 (Some later) leaves told);
+  sessions = sessions_then m old mid new None one.sessions sessions;
 }
 
 pub spares_read : {R P : Type 0} (m : Means R P) (old new : R) (t : TxNo) (refusal : Option Refusal)
-    → Reads m old new refusal None → SessionsStay m old new None None → Spares m old new t refusal false
-spares_read m old new t refusal reads sessions =
-    record { frames = frames_reads_nothing m old new t.0 refusal reads; sessions = sessions }
+    → Reads m old new refusal None → FaultsAreTold m old new refusal → SessionsStay m old new None None
+    → Spares m old new t refusal false
+spares_read m old new t refusal reads told sessions =
+    record { frames = frames_reads_nothing m old new t.0 refusal reads told; sessions = sessions }
 
 -- ---- readings
 
@@ -193,11 +211,13 @@ pub spares_none : {R P : Type 0} (m : Means R P) (r : R) (t : TxNo) → Spares m
 spares_none m r t = record {
   frames = record {
     faults = omega arith;
+    steady = λ quiet. refl;
     damage = omega arith;
     shortages = omega arith;
     cause = tt;
     down = inl refl;
     tells = refl;
+    most_writes = refl;
     time = λ told. record { later = omega arith; keeps = λ t c within was. was };
     sizes = λ size. refl;
     given = λ table was. was;
@@ -214,17 +234,19 @@ spares_none m r t = record {
 }
 
 pub spares_ask : {R P : Type 0} (m : Means R P) (old new : R) (t : TxNo) (refusal : Option Refusal)
-    → Reads m old new refusal (Some t.0) → SessionsStay m old new None None → Spares m old new t refusal false
-spares_ask m old new t refusal reads sessions =
-    record { frames = frames_reads m old new t.0 refusal reads; sessions = sessions }
+    → Reads m old new refusal (Some t.0) → FaultsAreTold m old new refusal → SessionsStay m old new None None
+    → Spares m old new t refusal false
+spares_ask m old new t refusal reads told sessions =
+    record { frames = frames_reads m old new t.0 refusal reads told; sessions = sessions }
 
 -- ---- the end of a commit
 
 pub spares_end : {R P : Type 0} (m : Means R P) (old new : R) (t : TxNo) (refusal : Option Refusal)
-    (over : Bool) → Leaves m old new refusal (Some t.0) (Some t.0) → SessionsStay m old new None (over_if t.0 over)
+    (over : Bool) → Leaves m old new refusal (Some t.0) (Some t.0) → FaultsAreTold m old new refusal
+    → SessionsStay m old new None (over_if t.0 over)
     → Spares m old new t refusal over
-spares_end m old new t refusal over leaves sessions =
-    record { frames = frames_changes m old new t.0 refusal leaves; sessions = sessions }
+spares_end m old new t refusal over leaves told sessions =
+    record { frames = frames_changes m old new t.0 refusal leaves told; sessions = sessions }
 
 pub committed_so : {R P : Type 0} (m : Means R P) → HoldsOn m → (old new : R) (o : Opening) (h : Entries)
     (t : TxNo) (By : Entries → Type 0) → m.stands old o h → Keeps m old new None
@@ -255,16 +277,18 @@ went_as m old new o h t over By Whole turn went = record {
 }
 
 -- a refusal that has no cause outside may be answered in place of none
-pub spares_quiet : {R P : Type 0} (m : Means R P) (old new : R) (t : TxNo) (first refusal : Option Refusal)
-    (over : Bool) → Blames m old new refusal → Spares m old new t first over → Spares m old new t refusal over
-spares_quiet m old new t first refusal over cause spares = record {
+pub spares_quiet : {R P : Type 0} (m : Means R P) (old new : R) (t : TxNo) (refusal : Option Refusal)
+    (over : Bool) → Blames m old new refusal → Spares m old new t None over → Spares m old new t refusal over
+spares_quiet m old new t refusal over cause spares = record {
   frames = record {
     faults = spares.frames.faults;
+    steady = λ quiet. spares.frames.steady refl;
     damage = spares.frames.damage;
     shortages = spares.frames.shortages;
     cause = cause;
     down = spares.frames.down;
     tells = spares.frames.tells;
+    most_writes = spares.frames.most_writes;
     time = spares.frames.time;
     sizes = spares.frames.sizes;
     given = spares.frames.given;
@@ -277,7 +301,7 @@ spares_quiet m old new t first refusal over cause spares = record {
 }
 
 pub spares_write : {R P : Type 0} (m : Means R P) (old new : R) (t : TxNo) (refusal : Option Refusal)
-    → Leaves m old new refusal None (Some t.0) → SessionsStay m old new None None
-    → Spares m old new t refusal false
-spares_write m old new t refusal leaves sessions =
-    record { frames = frames_writes m old new t.0 refusal leaves; sessions = sessions }
+    → Leaves m old new refusal None (Some t.0) → FaultsAreTold m old new refusal
+    → SessionsStay m old new None None → Spares m old new t refusal false
+spares_write m old new t refusal leaves told sessions =
+    record { frames = frames_writes m old new t.0 refusal leaves told; sessions = sessions }

@@ -1,6 +1,6 @@
 //! The commit of a line's transaction.
 
-ghost use Rattle.std.specs.Prelude.{◌≡◌, OnOk, false};
+ghost use Rattle.std.specs.Prelude.{◌≡◌, None, OnOk, false};
 ghost use Rattle.mg_base.specs.declared.transaction.TxState.TheVariants.{Active};
 ghost use Rattle.mg_model.specs.declared.opening.Opening.{Opening};
 ghost use Rattle.mg_model.specs.History.{Entries};
@@ -20,8 +20,9 @@ use mg_script::Reply;
 /// A line has done what it is for: its transaction commits, and the line answers so. Where that is refused, the
 /// transaction is rolled back.
 pub(crate) fn settle<R: Records>(r: &mut R, t: TxNo, reply: Reply) -> Ending
+    requires fine { refusal_answered reply ≡ None }
     ensures goes { Goes R.meaning r.old r.new t result.over (λ o h after. Settles o h t reply after result.reply) }
-    ensures spares { SparesOn R.meaning r.old r.new t (refusal_answered reply) (refusal_answered result.reply) result.over }
+    ensures spares { SparesOn R.meaning r.old r.new t None (refusal_answered result.reply) result.over }
 {
     match ready_to_commit(r, t) {
         Ok(()) => commit(r, t, reply),
@@ -32,8 +33,9 @@ pub(crate) fn settle<R: Records>(r: &mut R, t: TxNo, reply: Reply) -> Ending
 // Commits a transaction, once all that it has to write first is written.
 fn commit<R: Records>(r: &mut R, t: TxNo, reply: Reply) -> Ending
     requires written { R.meaning.is_written r.old t.0 }
+    requires fine { refusal_answered reply ≡ None }
     ensures goes { Goes R.meaning r.old r.new t result.over (λ o h after. Settles o h t reply after result.reply) }
-    ensures spares { SparesOn R.meaning r.old r.new t (refusal_answered reply) (refusal_answered result.reply) result.over }
+    ensures spares { SparesOn R.meaning r.old r.new t None (refusal_answered result.reply) result.over }
 {
     match r.commit_end(t) {
         Ok(()) => Ending { reply, over: true },

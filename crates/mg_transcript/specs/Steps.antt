@@ -21,8 +21,8 @@ use Rattle.mg_model.specs.Changes.{Cells}
 use Rattle.mg_model.specs.History.{Entries, entry, transaction_of}
 use Rattle.mg_model.specs.Legal.{IsLawful, is_outer}
 use Rattle.mg_model.specs.Machine.{steps, has_point}
-use Rattle.mg_records.specs.Reading.{shape_seen}
 use Rattle.mg_faults.specs.Faults.{worse}
+use Rattle.mg_records.specs.Reading.{shape_seen}
 use Rattle.mg_records.specs.TakingBack.{after_refusal}
 use Rattle.mg_rows.specs.declared.outcome.Outcome.{Outcome}
 use Rattle.mg_rows.specs.declared.outcome.Outcome.TheVariants as outcomes

@@ -25,6 +25,7 @@ use Rattle.mg_transcript.specs.Shorthand.{stops_run}
 use Rattle.mg_transcript.specs.Steps.{Runs}
 use Rattle.mg_transcript.specs.Transcript.{flow}
 use Rattle.mg_courses.specs.Running.{RunMeans, refusal_answered}
+use Rattle.mg_courses.specs.StopLaws.{flow_goes, goes_on_behind}
 use Rattle.mg_pending.specs.declared.pending.Pending.{Pending}
 use Rattle.mg_pending.specs.declared.transactions.Transaction.{Transaction}
 use Rattle.mg_pending.specs.AgreeLaws.{SplitAt, first_is, split_at}
@@ -35,7 +36,7 @@ use Rattle.mg_sessions.specs.Accounts.{Accounts}
 use Rattle.mg_sessions.specs.Coming.{ComesTo, IsKept}
 use Rattle.mg_sessions.specs.Moves.{Moves, WaitsAgain}
 use Rattle.mg_turns.specs.declared.turn.TurnEnd.{TurnEnd}
-use Rattle.mg_turns.specs.Turns.{AccountsOn, EndsAs, LetsGo, end_behind, turns_left}
+use Rattle.mg_turns.specs.Turns.{AccountsOn, EndsAs, LetsGo, StopsSo, end_behind, turns_left}
 use Rattle.mg_turns.proofs.CountLemmas.{again_nearer, ended_nearer, length_behind, length_without}
 use Rattle.mg_turns.proofs.ParkLemmas.{WaitsOnActive, runs_wait}
 
@@ -54,15 +55,6 @@ flow_stops (replies.No (Engine given)) refusal is = at (stops_run given) refl is
     at true same is_ = same
     at false same is_ = absurd cc
 flow_stops reply refusal is = absurd cc
-
-flow_goes : (reply : Reply) → flow reply ≡ GoesOn → stops reply ≡ false
-flow_goes (replies.No (Engine given)) is = at (stops_run given) refl is
-  where
-    at : (b : Bool) → stops_run given ≡ b → (if b then Stops given else GoesOn) ≡ GoesOn
-        → stops_run given ≡ false
-    at true same is_ = absurd cc
-    at false same is_ = same
-flow_goes reply is = refl
 
 pub stops_is : (reply : Reply) (refusal : Refusal) → flow reply ≡ Stops refusal → stops reply ≡ true
 stops_is reply refusal is = flow_stops reply refusal is
@@ -236,12 +228,43 @@ goes_on_none (Stops refusal) vain is = absurd cc
 goes_on_none GoesOn true is = absurd cc
 goes_on_none GoesOn false is = refl
 
-pub accounts_on : {R P : Type 0} (m : Means R P) (old new : R) (before : List Spoken) (spoken : Spoken)
-    → Accounts m old new (refusal_answered spoken.reply) → AccountsOn m old new before (before ++ spoken ∷ [])
-accounts_on m old new before spoken accounts start reply first =
-    subst (λ (x : Reply). Accounts m start new (refusal_answered x)) (sym (last_is reply before spoken))
-    (account_then m start old new (refusal_answered (last_reply reply before)) (refusal_answered spoken.reply) first
-    accounts)
+-- what does not end a turn by the answer is no answer by which a run stops
+stops_by_flow : (reply : Reply) (f : Flow) (vain : Bool) → flow reply ≡ f → StopsSo reply (end_behind f vain)
+stops_by_flow reply (Stops refusal) vain is = tt
+stops_by_flow reply GoesOn true is = flow_goes reply is
+stops_by_flow reply GoesOn false is = flow_goes reply is
+
+pub accounts_on : {R P : Type 0} (m : Means R P) (old new : R) (before : List Spoken) (spoken : Spoken) (f : Flow)
+    (vain : Bool) → flow spoken.reply ≡ f → Accounts m old new (refusal_answered spoken.reply)
+    → AccountsOn m old new before (before ++ spoken ∷ []) (end_behind f vain)
+accounts_on m old new before spoken f vain is accounts start reply goes first =
+    subst (λ (x : Reply). Accounts m start new (refusal_answered x) × StopsSo x (end_behind f vain))
+    (sym (last_is reply before spoken)) (
+      account_then m start old new (refusal_answered (last_reply reply before)) (refusal_answered spoken.reply)
+          (goes_on_behind (last_reply reply before) goes) first accounts,
+      stops_by_flow spoken.reply f vain is,
+    )
+
+-- the same by equations
+pub accounts_as : {R P : Type 0} (m : Means R P) (old new : R) (before released given : List Spoken)
+    (end end' : Option TurnEnd) → given ≡ released → end' ≡ end → AccountsOn m old new before released end
+    → AccountsOn m old new before given end'
+accounts_as m old new before released given end end' same_given same_end accounts =
+    subst (λ (x : List Spoken). AccountsOn m old new before x end') (sym same_given)
+    (subst (λ (x : Option TurnEnd). AccountsOn m old new before released x) (sym same_end) accounts)
+
+-- no statement went on
+pub accounts_none : {R P : Type 0} (m : Means R P) (r : R) (before given : List Spoken) → given ≡ before
+    → AccountsOn m r r before given None
+accounts_none m r before given same =
+    subst (λ (x : List Spoken). AccountsOn m r r before x None) (sym same) (λ start reply goes first. (first, goes))
+
+-- nothing is left, or there is no room for an answer
+pub accounts_end : {R P : Type 0} (m : Means R P) (old new : R) (before released : List Spoken) (end : TurnEnd)
+    → ((last : Reply) → stops last ≡ false → StopsSo last (Some end)) → AccountsOn m old new before released None
+    → AccountsOn m old new before released (Some end)
+accounts_end m old new before released end turn accounts start reply goes first =
+    let both = accounts start reply goes first in (both.0, turn (last_reply reply released) both.1)
 
 -- the same by equations
 pub lets_as : {R P Run : Type 0} (m : Means R P) (runs : RunMeans R Run) (old new : R)
@@ -270,12 +293,13 @@ lets_to m runs old new all all' ps ps' before released given end same lets =
     subst (λ (x : List Spoken). LetsGo m runs old new all ps all' ps' before x end) (sym same) lets
 
 pub accounts_from : {R P : Type 0} (m : Means R P) (old new : R) (before given released : List Spoken)
-    → given ≡ before → AccountsOn m old new given released → AccountsOn m old new before released
-accounts_from m old new before given released same accounts =
-    subst (λ (x : List Spoken). AccountsOn m old new x released) same accounts
+    (end : Option TurnEnd) → given ≡ before → AccountsOn m old new given released end
+    → AccountsOn m old new before released end
+accounts_from m old new before given released end same accounts =
+    subst (λ (x : List Spoken). AccountsOn m old new x released end) same accounts
 
 pub accounts_then : {R P : Type 0} (m : Means R P) (old mid new : R) (before between released : List Spoken)
-    → AccountsOn m old mid before between → AccountsOn m mid new between released
-    → AccountsOn m old new before released
-accounts_then m old mid new before between released one two start reply first =
-    two start reply (one start reply first)
+    (end : Option TurnEnd) → AccountsOn m old mid before between None → AccountsOn m mid new between released end
+    → AccountsOn m old new before released end
+accounts_then m old mid new before between released end one two start reply goes first =
+    let both = one start reply goes first in two start reply both.1 both.0

@@ -57,11 +57,17 @@ LetsGo m runs old new all ps all' ps' before released end = (o : Opening) (h : E
     → stops (last_reply reply before) ≡ false
     → ComesTo m runs old new o h all' ps' (Turned o first size pending kind reply released end)
 
--- what is answered last has its cause in the keeper's counts, since any start
-abbrev pub AccountsOn : {R P : Type 0} → Means R P → R → R → List Spoken → List Spoken → Type 0
-AccountsOn {R = R} m old new before released = (start : R) (reply : Reply)
+-- whatever history the keeper stood for, a turn that has not stopped by the answer that came last has none by which a
+-- run stops
+abbrev pub StopsSo : Reply → Option TurnEnd → Type 0
+StopsSo last (Some Stopped) = Unit {0}
+StopsSo last end = stops last ≡ false
+
+-- Behind answers by which no run stops, what is answered last has its cause in the keeper's counts, since any start.
+abbrev pub AccountsOn : {R P : Type 0} → Means R P → R → R → List Spoken → List Spoken → Option TurnEnd → Type 0
+AccountsOn {R = R} m old new before released end = (start : R) (reply : Reply) → stops (last_reply reply before) ≡ false
     → Accounts m start old (refusal_answered (last_reply reply before))
-    → Accounts m start new (refusal_answered (last_reply reply released))
+    → Accounts m start new (refusal_answered (last_reply reply released)) × StopsSo (last_reply reply released) end
 
 -- ---- how many may go on
 

@@ -13,7 +13,7 @@ ghost use Rattle.mg_pending.specs.Statements.{IsFirstAt, is_released};
 ghost use Rattle.mg_sessions.specs.Accounts.{Accounts};
 ghost use Rattle.mg_sessions.specs.Coming.{ComesTo};
 ghost use Rattle.mg_sessions.specs.Lines.{IsObeyable};
-ghost use Rattle.mg_turns.specs.Turns.{AccountsOn, LetsGo, Turned, end_behind as end_behind_of, turns_left};
+ghost use Rattle.mg_turns.specs.Turns.{AccountsOn, LetsGo, StopsSo, Turned, end_behind as end_behind_of, turns_left};
 
 use mg_courses::Tends;
 use mg_pending::{Sessions, first_released, is_last_released};
@@ -63,6 +63,7 @@ where
     ensures ready { AreReady R.meaning R.runs r.new sessions.new.transactions sessions.new.pending.items }
     ensures accounts { Accounts R.meaning r.old r.new
         (refusal_answered (last_reply result.turn.reply result.turn.released.items)) }
+    ensures stopped { StopsSo (last_reply result.turn.reply result.turn.released.items) (Some result.end) }
     ensures lettered { All HasItsLetter result.turn.released.items }
 {
     let reply = obey(r, alloc, sessions, size, kind);
@@ -98,7 +99,7 @@ where
     ensures lets { LetsGo R.meaning R.runs r.old r.new sessions.old.transactions sessions.old.pending.items
         sessions.new.transactions sessions.new.pending.items released.old.items released.new.items (Some result) }
     ensures ready { AreReady R.meaning R.runs r.new sessions.new.transactions sessions.new.pending.items }
-    ensures accounts { AccountsOn R.meaning r.old r.new released.old.items released.new.items }
+    ensures accounts { AccountsOn R.meaning r.old r.new released.old.items released.new.items (Some result) }
     ensures lettered { All HasItsLetter released.old.items → All HasItsLetter released.new.items }
 {
     while let Some(place) = first_released(&sessions.pending, &sessions.transactions) {
@@ -127,7 +128,7 @@ where
     ensures nearer { result ≡ None → turns_left sessions.new.transactions sessions.new.pending.items
         < turns_left sessions.old.transactions sessions.old.pending.items }
     ensures ready { AreReady R.meaning R.runs r.new sessions.new.transactions sessions.new.pending.items }
-    ensures accounts { AccountsOn R.meaning r.old r.new released.old.items released.new.items }
+    ensures accounts { AccountsOn R.meaning r.old r.new released.old.items released.new.items result }
     ensures lettered { All HasItsLetter released.old.items → All HasItsLetter released.new.items }
 {
     match released.reserve(1) {
@@ -154,7 +155,7 @@ where
     ensures nearer { result ≡ None → turns_left sessions.new.transactions sessions.new.pending.items
         < turns_left sessions.old.transactions sessions.old.pending.items }
     ensures ready { AreReady R.meaning R.runs r.new sessions.new.transactions sessions.new.pending.items }
-    ensures accounts { AccountsOn R.meaning r.old r.new released.old.items released.new.items }
+    ensures accounts { AccountsOn R.meaning r.old r.new released.old.items released.new.items result }
     ensures lettered { All HasItsLetter released.old.items → All HasItsLetter released.new.items }
 {
     let before = sessions.pending.len();

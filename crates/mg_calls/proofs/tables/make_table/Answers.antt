@@ -16,7 +16,7 @@ returns-in-Ok g c = record {
   makes = table_comes g.R.Records.meaning c.args.r.now c.create_table.new.self c.args.t c.args.name.now
       c.args.shape.now None c.in-Ok.ensures.adds;
   frames = frames_changes g.R.Records.meaning c.args.r.now c.create_table.new.self c.args.t.0 None
-      c.in-Ok.ensures.leaves;
+      c.in-Ok.ensures.leaves c.in-Ok.ensures.told;
   quiet = quiet_table g.R.Records.meaning c.args.r.now c.create_table.new.self c.args.t c.args.name.now
       c.args.shape.now None (Some c.args.t.0) (Some c.args.t.0) c.in-Ok.ensures.adds
       c.in-Ok.ensures.leaves c.in-Ok.ensures.crash c.in-Ok.ensures.sessions;
@@ -33,7 +33,7 @@ returns-in-Some g c = record {
   frames = subst (λ (refusal : Refusal). Frames g.R.Records.meaning c.args.r.now c.create_table.new.self
       c.args.t.0 (Some refusal)) c.in-Some.ensures
       (frames_changes g.R.Records.meaning c.args.r.now c.create_table.new.self c.args.t.0
-      (Some c.in-Err.refusal) c.in-Err.ensures.leaves);
+      (Some c.in-Err.refusal) c.in-Err.ensures.leaves c.in-Err.ensures.told);
   quiet = quiet_table g.R.Records.meaning c.args.r.now c.create_table.new.self c.args.t c.args.name.now
       c.args.shape.now (Some c.in-Err.refusal) (Some c.args.t.0) (Some c.args.t.0)
       c.in-Err.ensures.adds c.in-Err.ensures.leaves c.in-Err.ensures.crash
@@ -47,7 +47,7 @@ returns-in-None g c = record {
       c.undo.ensures.undoes;
   frames = c.undo.ensures.frames c.args.r.now
       (frames_changes g.R.Records.meaning c.args.r.now c.create_table.new.self c.args.t.0
-      (Some c.in-Err.refusal) c.in-Err.ensures.leaves);
+      (Some c.in-Err.refusal) c.in-Err.ensures.leaves c.in-Err.ensures.told);
   quiet = quiet_then g.R.Records.meaning g.met.R.Records.lasts c.args.r.now c.create_table.new.self
       c.undo.new.r (ended_by c.args.t.0 c.undo.result)
       (quiet_table g.R.Records.meaning c.args.r.now c.create_table.new.self c.args.t c.args.name.now

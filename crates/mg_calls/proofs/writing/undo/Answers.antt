@@ -18,9 +18,9 @@ returns-in-Ok-clause-undoes g c = λ o h stands.
 pub returns-in-Ok-clause-frames : goal.returns-in-Ok-clause-frames
 returns-in-Ok-clause-frames g c = λ before first.
     frames_first g.R.Records.meaning before c.args.r.now c.undo_mark.new.self c.args.t.0
-    (Some c.args.refusal) None first
+    (Some c.args.refusal) None (λ quiet. refl) first
     (frames_changes g.R.Records.meaning c.args.r.now c.undo_mark.new.self c.args.t.0 None
-    c.in-Ok.ensures.leaves)
+    c.in-Ok.ensures.leaves c.in-Ok.ensures.told)
 
 pub returns-in-Ok-clause-quiet : goal.returns-in-Ok-clause-quiet
 returns-in-Ok-clause-quiet g c = quiet_event g.R.Records.meaning c.args.r.now c.undo_mark.new.self
@@ -42,7 +42,7 @@ returns-in-Err-clause-frames g c = λ before first.
     subst (λ (w : Written). Frames g.R.Records.meaning before c.undo_mark.new.self c.args.t.0
     (refusal_written w)) (sym c.not_undone.ensures)
     (not_undone_frames g.R.Records.meaning before c.args.r.now c.undo_mark.new.self c.args.t.0
-    c.args.refusal c.in-Err.later first c.in-Err.ensures.leaves)
+    c.args.refusal c.in-Err.later first c.in-Err.ensures.leaves c.in-Err.ensures.told)
 
 pub returns-in-Err-clause-quiet : goal.returns-in-Err-clause-quiet
 returns-in-Err-clause-quiet g c =

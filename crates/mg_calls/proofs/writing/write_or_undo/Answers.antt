@@ -29,7 +29,7 @@ returns-in-None-clause-leaves g c =
     ended_leaves g.R.Records.meaning c.args.r.now c.undo.new.r c.args.t.0 c.undo.result c.undo.ensures.ends
     (c.undo.ensures.frames c.args.r.now
     (frames_writes g.R.Records.meaning c.args.r.now c.write_step.new.self c.args.t.0
-    (Some c.in-Err.refusal) c.in-Err.ensures.leaves))
+    (Some c.in-Err.refusal) c.in-Err.ensures.leaves c.in-Err.ensures.told))
 
 pub returns-in-None-clause-quiet : goal.returns-in-None-clause-quiet
 returns-in-None-clause-quiet g c =

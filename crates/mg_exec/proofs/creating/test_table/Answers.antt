@@ -56,7 +56,8 @@ pub returns-then-is_missing-clause-frames : goal.returns-then-is_missing-clause-
 returns-then-is_missing-clause-frames g c =
     phase_frames g.R.Records.meaning c.args.r.now c.table.new.self c.args.t.0 (plain_of c.args.s.now)
     c.args.name.now c.args.size c.in-Err.refusal c.plan.result
-    (sym c.is_missing.ensures ∙ c.if-is_missing.true) c.in-Err.ensures.reads c.plan.ensures
+    (sym c.is_missing.ensures ∙ c.if-is_missing.true) c.in-Err.ensures.reads c.in-Err.ensures.told
+    c.plan.ensures
 
 pub returns-then-is_missing-clause-quiet : goal.returns-then-is_missing-clause-quiet
 returns-then-is_missing-clause-quiet g c =

@@ -27,7 +27,7 @@ returns-in-Ok-true g c =
       leaves = ended_leaves g.R.Records.meaning c.args.r.now c.back_to.new.self c.args.t.0
           (Ok (Done outcomes.Fine)) c.ended.result c.ended.ensures
           (frames_changes g.R.Records.meaning c.args.r.now c.back_to.new.self c.args.t.0 None
-          c.in-Ok-true.ensures.leaves) quiet;
+          c.in-Ok-true.ensures.leaves c.in-Ok-true.ensures.told) quiet;
       quiet = ended_quiet g.R.Records.meaning c.args.r.now c.back_to.new.self c.args.t.0
           (Ok (Done outcomes.Fine)) c.ended.result c.ended.ensures quiet;
     }
@@ -51,7 +51,7 @@ returns-in-Ok-false g c =
       leaves = ended_leaves g.R.Records.meaning c.args.r.now c.back_to.new.self c.args.t.0
           (Err NoSavepoint) c.ended-in-Ok-false.result c.ended-in-Ok-false.ensures
           (frames_changes g.R.Records.meaning c.args.r.now c.back_to.new.self c.args.t.0 None
-          c.in-Ok-false.ensures.leaves) quiet;
+          c.in-Ok-false.ensures.leaves c.in-Ok-false.ensures.told) quiet;
       quiet = ended_quiet g.R.Records.meaning c.args.r.now c.back_to.new.self c.args.t.0
           (Err NoSavepoint) c.ended-in-Ok-false.result c.ended-in-Ok-false.ensures quiet;
     }
@@ -68,7 +68,7 @@ returns-in-Err g c =
       leaves = not_back_leaves g.R.Records.meaning c.args.r.now c.back_to.new.self c.args.t.0
           c.in-Err.refusal c.not_back.result c.not_back.ensures
           (frames_changes g.R.Records.meaning c.args.r.now c.back_to.new.self c.args.t.0
-          (Some c.in-Err.refusal) c.in-Err.ensures.leaves) quiet;
+          (Some c.in-Err.refusal) c.in-Err.ensures.leaves c.in-Err.ensures.told) quiet;
       quiet = not_back_quiet g.R.Records.meaning c.args.r.now c.back_to.new.self c.args.t.0
           c.in-Err.refusal c.not_back.result c.not_back.ensures quiet;
     }

@@ -23,7 +23,7 @@ returns-in-Ok g c =
       leaves = ended_leaves g.R.Records.meaning c.args.r.now c.savepoint.new.self c.args.t.0
           (Ok (Done outcomes.Fine)) c.ended.result c.ended.ensures
           (frames_leaves g.R.Records.meaning c.args.r.now c.savepoint.new.self c.args.t.0 None
-          c.in-Ok.ensures.leaves) quiet;
+          c.in-Ok.ensures.leaves c.in-Ok.ensures.told) quiet;
       quiet = ended_quiet g.R.Records.meaning c.args.r.now c.savepoint.new.self c.args.t.0
           (Ok (Done outcomes.Fine)) c.ended.result c.ended.ensures quiet;
     }
@@ -40,7 +40,7 @@ returns-in-Err g c =
       leaves = ended_leaves g.R.Records.meaning c.args.r.now c.savepoint.new.self c.args.t.0
           (Err (Engine c.in-Err.refusal)) c.refused.result c.refused.ensures
           (frames_leaves g.R.Records.meaning c.args.r.now c.savepoint.new.self c.args.t.0
-          (Some c.in-Err.refusal) c.in-Err.ensures.leaves) quiet;
+          (Some c.in-Err.refusal) c.in-Err.ensures.leaves c.in-Err.ensures.told) quiet;
       quiet = ended_quiet g.R.Records.meaning c.args.r.now c.savepoint.new.self c.args.t.0
           (Err (Engine c.in-Err.refusal)) c.refused.result c.refused.ensures quiet;
     }

@@ -20,7 +20,7 @@ returns-in-Ok-tell-clause-behind g c =
 
 pub returns-in-Ok-tell-clause-leaves : goal.returns-in-Ok-tell-clause-leaves
 returns-in-Ok-tell-clause-leaves g c =
-    then_leaves g.R.Records.meaning c.args.r.now c.tell.new.r c.go_on.new.r c.args.t.0 _ c.go_on.result
+    then_leaves g.R.Records.meaning c.args.r.now c.tell.new.r c.go_on.new.r c.args.t.0 c.go_on.result
     c.in-Ok-tell.ensures.frames c.in-Ok-tell.ensures.calm c.go_on.ensures.leaves
 
 pub returns-in-Ok-tell-clause-quiet : goal.returns-in-Ok-tell-clause-quiet

@@ -95,7 +95,7 @@ returns-in-Err-clause-leaves g c =
     refused_leaves g.R.Records.meaning c.args.r.now c.visit_next.new.r c.args.t.0 c.in-Err.refusal
     c.stop.result
     (frames_reads g.R.Records.meaning c.args.r.now c.visit_next.new.r c.args.t.0 (Some c.in-Err.refusal)
-    c.in-Err.ensures.reads)
+    c.in-Err.ensures.reads c.in-Err.ensures.told)
     (calm_by g.R.Records.meaning c.args.r.now c.visit_next.new.r None c.visit_next.ensures.quiet) c.stop.ensures
 
 pub returns-in-Ok-Record-Some-clause-leaves : goal.returns-in-Ok-Record-Some-clause-leaves
@@ -104,7 +104,7 @@ returns-in-Ok-Record-Some-clause-leaves g c =
     (record { walk = c.visit_next.new.walk; bound = c.args.reading.bound; kept = c.args.reading.kept })
     _ c.keep_row.result.phase c.keep_row.result.answer
     (frames_reads g.R.Records.meaning c.args.r.now c.visit_next.new.r c.args.t.0 None
-    c.in-Ok-Record-Some.ensures.reads)
+    c.in-Ok-Record-Some.ensures.reads c.in-Ok-Record-Some.ensures.told)
     (calm_by g.R.Records.meaning c.args.r.now c.visit_next.new.r None c.visit_next.ensures.quiet)
     (reads_on g.R.Records.meaning c.args.r.now c.visit_next.new.r c.args.t.0 c.args.reading
     c.visit_next.new.walk c.requires.ready c.visit_next.ensures.table c.visit_next.ensures.ready)
@@ -113,7 +113,7 @@ returns-in-Ok-Record-Some-clause-leaves g c =
 pub returns-in-Ok-Record-None-clause-leaves : goal.returns-in-Ok-Record-None-clause-leaves
 returns-in-Ok-Record-None-clause-leaves g c = record {
   frames = frames_reads g.R.Records.meaning c.args.r.now c.visit_next.new.r c.args.t.0 None
-      c.in-Ok-Record-None.ensures.reads;
+      c.in-Ok-Record-None.ensures.reads c.in-Ok-Record-None.ensures.told;
   ready = reads_on g.R.Records.meaning c.args.r.now c.visit_next.new.r c.args.t.0 c.args.reading
       c.visit_next.new.walk c.requires.ready c.visit_next.ensures.table c.visit_next.ensures.ready;
   calm = calm_by g.R.Records.meaning c.args.r.now c.visit_next.new.r None c.visit_next.ensures.quiet;
@@ -121,10 +121,10 @@ returns-in-Ok-Record-None-clause-leaves g c = record {
 
 pub returns-in-Ok-End-clause-leaves : goal.returns-in-Ok-End-clause-leaves
 returns-in-Ok-End-clause-leaves g c =
-    then_leaves g.R.Records.meaning c.args.r.now c.visit_next.new.r c.finish.new.r c.args.t.0 None
+    then_leaves g.R.Records.meaning c.args.r.now c.visit_next.new.r c.finish.new.r c.args.t.0
     c.finish.result
     (frames_reads g.R.Records.meaning c.args.r.now c.visit_next.new.r c.args.t.0 None
-    c.in-Ok-End.ensures.reads)
+    c.in-Ok-End.ensures.reads c.in-Ok-End.ensures.told)
     (calm_by g.R.Records.meaning c.args.r.now c.visit_next.new.r None c.visit_next.ensures.quiet)
     c.finish.ensures.leaves
 

@@ -39,7 +39,7 @@ returns-then-is_barred-clause-tests g c = λ o h stands.
 pub returns-in-Err-bind-clause-frames : goal.returns-in-Err-bind-clause-frames
 returns-in-Err-bind-clause-frames g c =
     unbound_frames g.R.Records.meaning c.args.r.now c.table.new.self c.args.t.0 c.in-Err-bind.fault
-    c.from.result c.from.ensures c.in-Ok.ensures.reads
+    c.from.result c.from.ensures c.in-Ok.ensures.reads c.in-Ok.ensures.told
 
 -- ---- quiet
 

@@ -2,7 +2,7 @@ use Rattle.std.proofs.Common.{◌≡◌, [], ◌∷◌, ◌++◌, false, None, S
 use Rattle.std.specs.Prelude.{List}
 use Rattle.mg_model.specs.declared.refusal.Refusal.{Refusal}
 use Rattle.mg_faults.specs.Faults.{tells_fault}
-use Rattle.mg_sessions.specs.AccountLaws.{account_first, account_then}
+use Rattle.mg_sessions.specs.AccountLaws.{account_blames, account_first}
 use Rattle.mg_sessions.specs.Accounts.{Accounts}
 use Rattle.mg_script_ends.specs.CauseLaws.{caused_also, caused_then}
 use Rattle.mg_script_ends.specs.Ends.{AreCaused, told_of}
@@ -35,7 +35,7 @@ returns-in-Some-clause-accounts g c = λ start first quiet.
 
 pub returns-in-None-clause-accounts : goal.returns-in-None-clause-accounts
 returns-in-None-clause-accounts g c = λ start first quiet. account_first g.R.Records.meaning start c.args.r.now
-    c.end_session.new.r (told_of c.args.refusals.now.items) None first c.in-None.ensures.accounts
+    c.end_session.new.r (told_of c.args.refusals.now.items) None refl first c.in-None.ensures.accounts
 
 pub returns-in-Some-clause-quiet : goal.returns-in-Some-clause-quiet
 returns-in-Some-clause-quiet g c = λ quiet goes.
@@ -49,8 +49,8 @@ returns-in-Some-clause-caused g c = λ start first are.
     (caused_also m start c.end_session.new.r c.args.refusals.now.items c.in-Some.refusal
     (caused_then m start c.args.r.now c.end_session.new.r (Some c.in-Some.refusal) c.in-Some.ensures.accounts
     c.args.refusals.now.items are)
-    (account_then m start c.args.r.now c.end_session.new.r (told_of c.args.refusals.now.items) (Some c.in-Some.refusal)
-    first c.in-Some.ensures.accounts).cause)
+    (account_blames m start c.args.r.now c.end_session.new.r (told_of c.args.refusals.now.items)
+    (Some c.in-Some.refusal) first c.in-Some.ensures.accounts.faults c.in-Some.ensures.accounts.cause))
 
 pub returns-in-None-clause-caused : goal.returns-in-None-clause-caused
 returns-in-None-clause-caused g c = λ start first are. caused_then g.R.Records.meaning start c.args.r.now

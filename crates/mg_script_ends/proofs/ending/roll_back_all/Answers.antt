@@ -3,8 +3,8 @@ use Rattle.std.specs.Prelude.{vec_capacity, vec_len}
 use Rattle.mg_sessions.specs.AccountLaws.{no_account}
 use Rattle.std.proofs.Common.{subst, sym}
 use Rattle.std.specs.Prelude.{List}
-use Rattle.mg_model.specs.declared.refusal.Refusal.{Refusal}
 use Rattle.mg_faults.specs.Faults.{tells_fault}
+use Rattle.mg_model.specs.declared.refusal.Refusal.{Refusal}
 use Rattle.mg_sessions.specs.Accounts.{Accounts}
 use Rattle.mg_script_ends.specs.Ends.{AreCaused, count_from, told_of}
 use Rattle.mg_script_ends.proofs.EndLemmas.{counts_on, ends_whole, so_far_as, so_far_none, so_far_to}

@@ -1,9 +1,10 @@
-use Rattle.std.proofs.Common.{◌∙◌, None, refl}
-use Rattle.mg_sessions.specs.AccountLaws.{account_then, no_account}
+use Rattle.std.proofs.Common.{◌∙◌, Option, None, Some, refl, subst}
+use Rattle.mg_sessions.specs.AccountLaws.{account_after, no_account}
+use Rattle.mg_sessions.specs.Accounts.{Accounts}
 use Rattle.mg_scripts.specs.Steps.{reason_in}
 use Rattle.mg_scripts.proofs.RunLemmas.{last_line, next_line, obeyable_rest, so_far_none}
 use Rattle.mg_scripts.proofs.SinkLemmas.{all_say, last_says, next_says}
-use Rattle.mg_scripts.proofs.TurnLemmas.{any_account}
+use Rattle.mg_scripts.specs.declared.lines.LinesEnd.{LinesEnd}
 use Rattle.mg_scripts.specs.declared.lines.LinesEnd.TheVariants.{Whole}
 use Rattle.mg_scripts.proofs.lines.run_lines.Goals as goal
 
@@ -33,6 +34,12 @@ returns-in-Some-end-clause-sinks g c = last_says g.K.Sink.meaning c.args.sink.no
     c.obey_line-said.new.sink c.obey_line-said.result.end c.in-Some-end.end c.loop-line.invariant.steady
     c.in-Some-end.is c.obey_line-said.ensures.sinks
 
+pub returns-in-Some-end-clause-accounts : goal.returns-in-Some-end-clause-accounts
+returns-in-Some-end-clause-accounts g c = account_after g.R.Records.meaning c.args.r.now c.loop-line.r
+    c.obey_line-said.new.r (reason_in (Some c.in-Some-end.end)) c.loop-line.invariant.accounts
+    (subst (λ (end : Option LinesEnd). Accounts g.R.Records.meaning c.loop-line.r c.obey_line-said.new.r (reason_in end))
+    c.in-Some-end.is c.obey_line-said.ensures.accounts)
+
 pub returns-clause-sinks : goal.returns-clause-sinks
 returns-clause-sinks g c = all_say g.K.Sink.meaning c.args.sink.now c.loop-line.sink Whole refl
     c.loop-line.invariant.steady
@@ -43,10 +50,10 @@ loop-line-preserved g c = record {
   size = c.obey_line-said.ensures.accounts.sizes c.args.size ∙ c.loop-line.invariant.size;
   obeyable = obeyable_rest c.loop-line.rest.now c.in-Some.line.now c.in-Some.later.now c.in-Some.ensures.cases.0
       c.loop-line.invariant.obeyable;
-  accounts = any_account g.R.Records.meaning c.args.r.now c.obey_line-said.new.r
-      (reason_in c.obey_line-said.result.end) (account_then g.R.Records.meaning c.args.r.now c.loop-line.r
-      c.obey_line-said.new.r None (reason_in c.obey_line-said.result.end) c.loop-line.invariant.accounts
-      c.obey_line-said.ensures.accounts);
+  accounts = account_after g.R.Records.meaning c.args.r.now c.loop-line.r c.obey_line-said.new.r None
+      c.loop-line.invariant.accounts
+      (subst (λ (end : Option LinesEnd). Accounts g.R.Records.meaning c.loop-line.r c.obey_line-said.new.r (reason_in end))
+      c.in_default-end.is c.obey_line-said.ensures.accounts);
   steady = next_says g.K.Sink.meaning c.args.sink.now c.loop-line.sink c.obey_line-said.new.sink
       c.obey_line-said.result.end c.loop-line.invariant.steady c.in_default-end.is c.obey_line-said.ensures.sinks;
   so_far = λ o stand. next_line g.R.Records.meaning g.R.Statements.runs g.K.Sink.meaning o c.args.size

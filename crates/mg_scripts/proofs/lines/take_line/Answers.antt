@@ -20,7 +20,7 @@ returns-clause-accounts g c = taken_account g.R.Records.meaning g.R.Statements.r
     c.args.r.now c.take_turn-taken.new.r c.args.sink.now c.print_turn-failed.new.sink c.args.line.now
     c.take_turn-taken.result.turn.reply c.take_turn-taken.result.turn.released.items c.take_turn-taken.result.end
     c.print_turn-failed.result c.print_turn-failed.ensures c.end_with.result c.end_with.ensures
-    c.take_turn-taken.ensures.accounts
+    c.take_turn-taken.ensures.stopped c.take_turn-taken.ensures.accounts
 
 pub returns-clause-sinks : goal.returns-clause-sinks
 returns-clause-sinks g c = line_says g.K.Sink.meaning c.args.sink.now c.print_turn-failed.new.sink

@@ -2,7 +2,7 @@ use Rattle.std.proofs.Common.{◌≡◌, inl, refl, sym, ap, ◌∙◌, subst}
 use Rattle.mg_model.specs.declared.refusal.Refusal.{Refusal}
 use Rattle.std.specs.Prelude.{List, Option}
 use Rattle.mg_sessions.specs.Accounts.{Accounts}
-use Rattle.mg_sessions.specs.AccountLaws.{account_then}
+use Rattle.mg_sessions.specs.AccountLaws.{account_after}
 use Rattle.mg_scripts.specs.declared.lines.LinesEnd.{LinesEnd}
 use Rattle.mg_scripts.specs.declared.lines.LinesEnd.TheVariants.{Whole}
 use Rattle.mg_scripts.specs.Runs.{LinesDone}
@@ -50,8 +50,11 @@ returns-clause-done g c = λ o stands none.
 pub returns-clause-accounts : goal.returns-clause-accounts
 returns-clause-accounts g c =
     let m = g.R.Records.meaning in
-    account_then m c.args.r.now c.run_lines-ran.new.r c.end_script-fine.new.r (reason c.run_lines-ran.result.end)
-    (told_of c.end_script-fine.new.refusals.items) c.run_lines-ran.ensures.accounts c.end_script-fine.ensures.accounts
+    let whole = cut_none c.run_lines-ran.result.end (sym c.is_cut.ensures ∙ c.if-is_cut.false) in
+    account_after m c.args.r.now c.run_lines-ran.new.r c.end_script-fine.new.r
+    (told_of c.end_script-fine.new.refusals.items)
+    (subst (λ (e : LinesEnd). Accounts m c.args.r.now c.run_lines-ran.new.r (reason e)) whole
+    c.run_lines-ran.ensures.accounts) c.end_script-fine.ensures.accounts
 
 pub returns-then-is_cut-clause-accounts : goal.returns-then-is_cut-clause-accounts
 returns-then-is_cut-clause-accounts g c =

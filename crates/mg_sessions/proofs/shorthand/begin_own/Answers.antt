@@ -40,7 +40,7 @@ returns-in-Ok-clause-begins g c = λ o h us stand.
     subst (λ (a : List (Option Transaction)). ComesTo m runs c.args.r.now c.begin.new.self o h a ps
     (λ after then_. BeginsOne o h mode t after × (then_ ≡ us))) (sym c.begin-in-Ok.ensures)
     (begun_comes m runs g.met.R.Records.one g.met.R.Records.lasts c.args.r.now c.begin.new.self OWN mode all ps
-    c.requires.ready (lit< tt) none t c.in-Ok.ensures.leaves (works_stay_at m runs g.met.R.Statements.courses)
+    c.requires.ready (lit< tt) none t c.in-Ok.ensures.leaves c.in-Ok.ensures.told (works_stay_at m runs g.met.R.Statements.courses)
     c.in-Ok.ensures.works c.in-Ok.ensures.sessions c.in-Ok.ensures.adds c.in-Ok.ensures.crash o h us
     (λ after then_. BeginsOne o h mode t after × (then_ ≡ us)) stand
     (record { none = stand.its OWN ∙ none; lawful = (c.in-Ok.ensures.adds o h stand.stands).0; is = refl }, refl))
@@ -61,7 +61,7 @@ returns-in-Ok-clause-ready g c =
     let none = ap number_in (sym c.of.ensures ∙ c.in-None.is) in
     subst (λ (a : List (Option Transaction)). AreReady m runs c.begin.new.self a ps) (sym c.begin-in-Ok.ensures)
     (begun_all_ready m runs g.met.R.Records.one g.met.R.Records.lasts c.args.r.now c.begin.new.self OWN c.args.mode
-    all ps c.requires.ready (lit< tt) none c.in-Ok.number c.in-Ok.ensures.leaves
+    all ps c.requires.ready (lit< tt) none c.in-Ok.number c.in-Ok.ensures.leaves c.in-Ok.ensures.told
     (works_stay_ready m runs g.met.R.Statements.stay) c.in-Ok.ensures.works c.in-Ok.ensures.sessions)
 
 pub returns-in-Ok-clause-accounts : goal.returns-in-Ok-clause-accounts
@@ -70,7 +70,7 @@ returns-in-Ok-clause-accounts g c =
     let none = ap number_in (sym c.of.ensures ∙ c.in-None.is) in
     begun_account m g.R.Statements.runs g.met.R.Records.one g.met.R.Records.lasts c.args.r.now c.begin.new.self OWN
     c.args.mode c.args.sessions.now.transactions c.args.sessions.now.pending.items c.requires.ready (lit< tt) none
-    c.in-Ok.number c.in-Ok.ensures.leaves
+    c.in-Ok.number c.in-Ok.ensures.leaves c.in-Ok.ensures.told
 
 pub returns-in-Err-clause-begins : goal.returns-in-Err-clause-begins
 returns-in-Err-clause-begins g c = λ o h us stand.
@@ -81,7 +81,7 @@ returns-in-Err-clause-begins g c = λ o h us stand.
     let mode = c.args.mode in
     refused_comes m runs g.met.R.Records.one g.met.R.Records.lasts c.args.r.now c.begin.new.self OWN mode
     c.args.sessions.now.transactions c.args.sessions.now.pending.items c.requires.ready (lit< tt) none refusal
-    c.in-Err.ensures.leaves (works_stay_at m runs g.met.R.Statements.courses) c.in-Err.ensures.adds
+    c.in-Err.ensures.leaves c.in-Err.ensures.told (works_stay_at m runs g.met.R.Statements.courses) c.in-Err.ensures.adds
     c.in-Err.ensures.crash o h us
     (λ after then_. BeginsNone o h mode (Engine refusal) after × (then_ ≡ us)) stand
     (is_refused refusal (stand.its OWN ∙ none) (c.in-Err.ensures.adds o h stand.stands).0, refl)
@@ -93,7 +93,7 @@ returns-in-Err-clause-ready g c =
     let none = ap number_in (sym c.of.ensures ∙ c.in-None.is) in
     refused_ready m runs g.met.R.Records.one g.met.R.Records.lasts c.args.r.now c.begin.new.self OWN c.args.mode
     c.args.sessions.now.transactions c.args.sessions.now.pending.items c.requires.ready (lit< tt) none
-    c.in-Err.refusal c.in-Err.ensures.leaves (works_stay_ready m runs g.met.R.Statements.stay)
+    c.in-Err.refusal c.in-Err.ensures.leaves c.in-Err.ensures.told (works_stay_ready m runs g.met.R.Statements.stay)
     c.in-Err.ensures.sessions
 
 pub returns-in-Err-clause-accounts : goal.returns-in-Err-clause-accounts
@@ -101,4 +101,4 @@ returns-in-Err-clause-accounts g c =
     let none = ap number_in (sym c.of.ensures ∙ c.in-None.is) in
     refused_account g.R.Records.meaning g.R.Statements.runs g.met.R.Records.one g.met.R.Records.lasts c.args.r.now
     c.begin.new.self OWN c.args.mode c.args.sessions.now.transactions c.args.sessions.now.pending.items
-    c.requires.ready (lit< tt) none c.in-Err.refusal c.in-Err.ensures.leaves
+    c.requires.ready (lit< tt) none c.in-Err.refusal c.in-Err.ensures.leaves c.in-Err.ensures.told

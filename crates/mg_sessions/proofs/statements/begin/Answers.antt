@@ -41,7 +41,7 @@ returns-in-Ok-clause-does g c = λ text size parses o h us stand.
     (λ (reply : Reply). Does o h size us (kinds.Sql c.args.session text) reply) (replies.Tx t) (replies.Tx t)
     c.begin-in-Ok.ensures refl refl
     (begun_comes m runs g.met.R.Records.one g.met.R.Records.lasts c.args.r.now c.begin.new.self
-    c.args.session.0 c.args.mode all ps c.requires.ready (within c.args.session.0 c.requires.lettered) none t c.in-Ok.ensures.leaves
+    c.args.session.0 c.args.mode all ps c.requires.ready (within c.args.session.0 c.requires.lettered) none t c.in-Ok.ensures.leaves c.in-Ok.ensures.told
     (works_stay_at m runs g.met.R.Statements.courses) c.in-Ok.ensures.works c.in-Ok.ensures.sessions
     c.in-Ok.ensures.adds c.in-Ok.ensures.crash o h us
     (Does o h size us (kinds.Sql c.args.session text) (replies.Tx t)) stand
@@ -60,7 +60,7 @@ returns-in-Ok-clause-ready g c =
     c.begin-in-Ok.new.self ps ps c.begin-in-Ok.ensures refl
     (begun_all_ready m runs g.met.R.Records.one g.met.R.Records.lasts c.args.r.now c.begin.new.self
     c.args.session.0 c.args.mode all ps c.requires.ready (within c.args.session.0 c.requires.lettered) none t
-    c.in-Ok.ensures.leaves (works_stay_ready m runs g.met.R.Statements.stay) c.in-Ok.ensures.works
+    c.in-Ok.ensures.leaves c.in-Ok.ensures.told (works_stay_ready m runs g.met.R.Statements.stay) c.in-Ok.ensures.works
     c.in-Ok.ensures.sessions)
 
 pub returns-in-Err-clause-does : goal.returns-in-Err-clause-does
@@ -74,7 +74,7 @@ returns-in-Err-clause-does g c = λ text size parses o h us stand.
     let refusal = c.in-Err.refusal in
     refused_comes m runs g.met.R.Records.one g.met.R.Records.lasts c.args.r.now c.begin.new.self
     c.args.session.0 c.args.mode all ps c.requires.ready (within c.args.session.0 c.requires.lettered) none refusal
-    c.in-Err.ensures.leaves (works_stay_at m runs g.met.R.Statements.courses) c.in-Err.ensures.adds
+    c.in-Err.ensures.leaves c.in-Err.ensures.told (works_stay_at m runs g.met.R.Statements.courses) c.in-Err.ensures.adds
     c.in-Err.ensures.crash o h us
     (Does o h size us (kinds.Sql c.args.session text) (replies.No (Engine refusal))) stand
     (begins_one c.args.session text c.args.mode.read_only c.args.mode.wait c.args.mode.snapshot
@@ -89,5 +89,5 @@ returns-in-Err-clause-ready g c =
     let none = ap number_in (sym c.of.ensures ∙ c.in-None.is) in
     refused_ready m runs g.met.R.Records.one g.met.R.Records.lasts c.args.r.now c.begin.new.self
     c.args.session.0 c.args.mode all ps c.requires.ready (within c.args.session.0 c.requires.lettered) none
-    c.in-Err.refusal c.in-Err.ensures.leaves (works_stay_ready m runs g.met.R.Statements.stay)
+    c.in-Err.refusal c.in-Err.ensures.leaves c.in-Err.ensures.told (works_stay_ready m runs g.met.R.Statements.stay)
     c.in-Err.ensures.sessions

@@ -31,7 +31,7 @@ loop-left-preserved g c =
           i.within;
       stays = more_stands m lasts c.args.r.now c.loop-left.r c.write_page.new.self None step.reads step.crash
           i.stays;
-      frames = λ n. more_frames m lasts c.args.r.now c.loop-left.r c.write_page.new.self None step.reads n
+      frames = λ n. more_frames m lasts c.args.r.now c.loop-left.r c.write_page.new.self None step.reads step.told n
           (i.frames n);
       sessions = more_sessions m lasts c.args.r.now c.loop-left.r c.write_page.new.self None step.reads i.sessions
           step.sessions;
@@ -40,12 +40,12 @@ loop-left-preserved g c =
 pub returns-in-Ok-false-clause-frames : goal.returns-in-Ok-false-clause-frames
 returns-in-Ok-false-clause-frames g c = λ n.
     more_frames g.R.Records.meaning g.met.R.Records.lasts c.args.r.now c.loop-left.r c.write_page.new.self None
-    c.in-Ok-false.ensures.reads n (c.loop-left.invariant.frames n)
+    c.in-Ok-false.ensures.reads c.in-Ok-false.ensures.told n (c.loop-left.invariant.frames n)
 
 pub returns-in-Err-clause-frames : goal.returns-in-Err-clause-frames
 returns-in-Err-clause-frames g c = λ n.
     more_frames g.R.Records.meaning g.met.R.Records.lasts c.args.r.now c.loop-left.r c.write_page.new.self
-    (Some c.in-Err.refusal) c.in-Err.ensures.reads n (c.loop-left.invariant.frames n)
+    (Some c.in-Err.refusal) c.in-Err.ensures.reads c.in-Err.ensures.told n (c.loop-left.invariant.frames n)
 
 pub returns-in-Ok-false-clause-stands : goal.returns-in-Ok-false-clause-stands
 returns-in-Ok-false-clause-stands g c =

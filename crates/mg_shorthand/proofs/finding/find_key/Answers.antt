@@ -27,7 +27,7 @@ loop-seen-preserved g c =
           (i.saw o h stands active come));
       reads = λ o h stands. reads_then m g.met.R.Records.lasts c.args.r.now c.loop-seen.r c.look_once.new.r o h
           (i.reads o h stands) (c.in-Ok.ensures.reads o h (i.reads o h stands).stands);
-      spares = spares_then m c.args.r.now c.loop-seen.r c.look_once.new.r c.args.t None None false i.spares
+      spares = spares_then m c.args.r.now c.loop-seen.r c.look_once.new.r c.args.t None false i.spares
           c.in-Ok.ensures.spares;
     }
 
@@ -51,7 +51,7 @@ returns-in-Err-clause-reads g c = λ o h stands.
 
 pub returns-in-Err-clause-spares : goal.returns-in-Err-clause-spares
 returns-in-Err-clause-spares g c =
-    spares_then g.R.Records.meaning c.args.r.now c.loop-seen.r c.look_once.new.r c.args.t None
+    spares_then g.R.Records.meaning c.args.r.now c.loop-seen.r c.look_once.new.r c.args.t
     (Some c.in-Err.refusal) false c.loop-seen.invariant.spares c.in-Err.ensures.spares
 
 pub returns-clause-sees : goal.returns-clause-sees

@@ -1,9 +1,9 @@
 use Rattle.std.proofs.Common.{Bool, Option, Some, None, false, sym, ◌∙◌, subst}
 use Rattle.mg_model.specs.declared.refusal.Refusal.{Refusal}
 use Rattle.mg_transcript.specs.Shorthand.{GivesUp, IsGot, Settles}
-use Rattle.mg_courses.specs.Running.{refusal_answered, refusal_of}
+use Rattle.mg_courses.specs.Running.{refusal_of}
 use Rattle.mg_shorthand.specs.Going.{Spares}
-use Rattle.mg_shorthand.proofs.GetLemmas.{got_fault, got_fine, refusal_fault}
+use Rattle.mg_shorthand.proofs.GetLemmas.{got_fault, got_fine, refusal_fault, refusal_none}
 use Rattle.mg_shorthand.proofs.GoingLemmas.{went_as}
 use Rattle.mg_shorthand.proofs.getting.end_reading.Goals as goal
 
@@ -37,5 +37,11 @@ pub returns-in-None-clause-spares : goal.returns-in-None-clause-spares
 returns-in-None-clause-spares g c = λ before spares.
     let m = g.R.Records.meaning in
     c.settle.ensures.spares before
-    (subst (λ (b : Bool). Spares m before c.args.r.now c.args.t (refusal_answered c.args.ending.reply) b)
-    c.if-ending.false spares)
+    (subst (λ (b : Bool). Spares m before c.args.r.now c.args.t None b) c.if-ending.false
+    (subst (λ (r : Option Refusal). Spares m before c.args.r.now c.args.t r c.args.ending.over)
+    (refusal_none c.args.ending.reply (sym c.fault_in.ensures ∙ c.in-None.is)) spares))
+
+pub settle-requires : goal.settle-requires
+settle-requires g c = record {
+  fine = refusal_none c.args.ending.reply (sym c.fault_in.ensures ∙ c.in-None.is);
+}

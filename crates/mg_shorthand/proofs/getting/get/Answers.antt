@@ -17,4 +17,4 @@ pub returns-in-Err-clause-spares : goal.returns-in-Err-clause-spares
 returns-in-Err-clause-spares g c =
     let m = g.R.Records.meaning in
     c.give_up_for.ensures.spares c.args.r.now
-    (spares_quiet m c.args.r.now c.args.r.now c.args.t None (Some Memory) false tt (spares_none m c.args.r.now c.args.t))
+    (spares_quiet m c.args.r.now c.args.r.now c.args.t (Some Memory) false tt (spares_none m c.args.r.now c.args.t))

@@ -6,8 +6,9 @@ use Rattle.mg_model.specs.Answers.{is_active}
 use Rattle.mg_model.specs.Machine.{state_of}
 use Rattle.mg_rows.specs.declared.statement_fault.StatementFault.TheVariants.{Engine}
 use Rattle.mg_script.specs.declared.reply.Reply.TheVariants.{No}
+use Rattle.mg_courses.specs.Running.{refusal_of}
 use Rattle.mg_transcript.specs.Shorthand.{GivesUp, at_once, rolled_back, not_even}
-use Rattle.mg_shorthand.proofs.GoingLemmas.{ended_over, went_by, went_nowhere}
+use Rattle.mg_shorthand.proofs.GoingLemmas.{ended_over, spares_back, spares_not_back, went_by, went_nowhere}
 use Rattle.mg_shorthand.proofs.giving_up.give_up.Goals as goal
 
 pub returns-then-stops-clause-goes : goal.returns-then-stops-clause-goes
@@ -33,3 +34,13 @@ returns-in-Err-clause-goes g c = λ o h stands active.
     (λ after. GivesUp o h c.args.t c.args.fault after (No (Engine c.in-Err.later))) refl refl stands
     c.in-Err.ensures.leaves.keeps c.in-Err.ensures.crash made.1 (ap is_active active)
     (not_even c.in-Err.later (sym c.stops.ensures ∙ c.if-stops.false) made.0)
+
+pub returns-in-Ok-clause-spares : goal.returns-in-Ok-clause-spares
+returns-in-Ok-clause-spares g c = λ before first.
+    spares_back g.R.Records.meaning before c.args.r.now c.rollback.new.self c.args.t (refusal_of c.args.fault) first
+    c.in-Ok.ensures.leaves c.in-Ok.ensures.told c.in-Ok.ensures.sessions
+
+pub returns-in-Err-clause-spares : goal.returns-in-Err-clause-spares
+returns-in-Err-clause-spares g c = λ before first.
+    spares_not_back g.R.Records.meaning before c.args.r.now c.rollback.new.self c.args.t c.args.fault c.in-Err.later
+    (sym c.stops.ensures ∙ c.if-stops.false) first c.in-Err.ensures.leaves c.in-Err.ensures.told c.in-Err.ensures.sessions

@@ -36,7 +36,7 @@ returns-in-Ok-clause-goes g c = λ o h stands active.
 pub returns-in-Ok-clause-spares : goal.returns-in-Ok-clause-spares
 returns-in-Ok-clause-spares g c =
     c.put_in.ensures.spares c.args.r.now
-    (spares_read g.R.Records.meaning c.args.r.now c.table.new.self c.args.t None c.in-Ok.ensures.reads
+    (spares_read g.R.Records.meaning c.args.r.now c.table.new.self c.args.t None c.in-Ok.ensures.reads c.in-Ok.ensures.told
     c.in-Ok.ensures.sessions)
 
 pub returns-in-Err-clause-goes : goal.returns-in-Err-clause-goes
@@ -59,4 +59,4 @@ pub returns-in-Err-clause-spares : goal.returns-in-Err-clause-spares
 returns-in-Err-clause-spares g c =
     c.give_up_for.ensures.spares c.args.r.now
     (spares_read g.R.Records.meaning c.args.r.now c.table.new.self c.args.t (Some c.in-Err.refusal)
-    c.in-Err.ensures.reads c.in-Err.ensures.sessions)
+    c.in-Err.ensures.reads c.in-Err.ensures.told c.in-Err.ensures.sessions)

@@ -22,7 +22,7 @@ returns-then-not-is_of_numbers-clause-goes g c = λ o h seen stands active.
 pub returns-then-not-is_of_numbers-clause-spares : goal.returns-then-not-is_of_numbers-clause-spares
 returns-then-not-is_of_numbers-clause-spares g c = λ before spares.
     c.give_up_for.ensures.spares before
-    (spares_quiet g.R.Records.meaning before c.args.r.now c.args.t None (Some NoTable) false tt spares)
+    (spares_quiet g.R.Records.meaning before c.args.r.now c.args.t (Some NoTable) false tt spares)
 
 pub returns-in-Ok-clause-goes : goal.returns-in-Ok-clause-goes
 returns-in-Ok-clause-goes g c = λ o h seen stands active.
@@ -52,7 +52,7 @@ pub returns-in-Ok-clause-spares : goal.returns-in-Ok-clause-spares
 returns-in-Ok-clause-spares g c = λ before spares.
     let m = g.R.Records.meaning in
     c.write.ensures.spares before
-    (spares_then m before c.args.r.now c.find_key.new.r c.args.t None None false spares c.in-Ok.ensures.spares)
+    (spares_then m before c.args.r.now c.find_key.new.r c.args.t None false spares c.in-Ok.ensures.spares)
 
 pub returns-clause-goes : goal.returns-clause-goes
 returns-clause-goes g c = λ o h seen stands active.
@@ -72,5 +72,5 @@ pub returns-clause-spares : goal.returns-clause-spares
 returns-clause-spares g c = λ before spares.
     let m = g.R.Records.meaning in
     c.give_up_for-in-Err.ensures.spares before
-    (spares_then m before c.args.r.now c.find_key.new.r c.args.t None (Some c.in-Err.refusal) false spares
+    (spares_then m before c.args.r.now c.find_key.new.r c.args.t (Some c.in-Err.refusal) false spares
     c.in-Err.ensures.spares)

@@ -40,4 +40,4 @@ returns-in-Err-clause-goes g c = λ o h seen sees stands active.
 pub returns-in-Err-clause-spares : goal.returns-in-Err-clause-spares
 returns-in-Err-clause-spares g c = λ before spares.
     c.give_up_for.ensures.spares before
-    (spares_quiet g.R.Records.meaning before c.args.r.now c.args.t None (Some Memory) false tt spares)
+    (spares_quiet g.R.Records.meaning before c.args.r.now c.args.t (Some Memory) false tt spares)

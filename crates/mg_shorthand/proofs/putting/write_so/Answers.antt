@@ -32,8 +32,8 @@ returns-in-Ok-clause-goes g c = λ o h key value numbers event stands active.
 pub returns-in-Ok-clause-spares : goal.returns-in-Ok-clause-spares
 returns-in-Ok-clause-spares g c = λ before spares.
     let m = g.R.Records.meaning in
-    c.settle.ensures.spares before (spares_then m before c.args.r.now c.write_step.new.self c.args.t None None false spares
-    (spares_write m c.args.r.now c.write_step.new.self c.args.t None c.in-Ok.ensures.leaves c.in-Ok.ensures.sessions))
+    c.settle.ensures.spares before (spares_then m before c.args.r.now c.write_step.new.self c.args.t None false spares
+    (spares_write m c.args.r.now c.write_step.new.self c.args.t None c.in-Ok.ensures.leaves c.in-Ok.ensures.told c.in-Ok.ensures.sessions))
 
 pub returns-in-Err-clause-goes : goal.returns-in-Err-clause-goes
 returns-in-Err-clause-goes g c = λ o h key value numbers event stands active.
@@ -57,7 +57,7 @@ returns-in-Err-clause-goes g c = λ o h key value numbers event stands active.
 pub returns-in-Err-clause-spares : goal.returns-in-Err-clause-spares
 returns-in-Err-clause-spares g c = λ before spares.
     let m = g.R.Records.meaning in
-    c.give_up_for.ensures.spares before (spares_then m before c.args.r.now c.write_step.new.self c.args.t None
+    c.give_up_for.ensures.spares before (spares_then m before c.args.r.now c.write_step.new.self c.args.t
     (Some c.in-Err.refusal) false spares
-    (spares_write m c.args.r.now c.write_step.new.self c.args.t (Some c.in-Err.refusal) c.in-Err.ensures.leaves
+    (spares_write m c.args.r.now c.write_step.new.self c.args.t (Some c.in-Err.refusal) c.in-Err.ensures.leaves c.in-Err.ensures.told
     c.in-Err.ensures.sessions))

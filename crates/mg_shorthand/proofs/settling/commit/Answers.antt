@@ -1,13 +1,14 @@
-use Rattle.std.proofs.Common.{◌∷◌, Err, None, Some, false, true, refl}
+use Rattle.std.proofs.Common.{◌∷◌, Err, Option, None, Some, false, true, refl, subst, sym}
 use Rattle.mg_model.specs.declared.answer.Answer.TheVariants as answers
 use Rattle.mg_model.specs.declared.event.Event.TheVariants as events
+use Rattle.mg_model.specs.declared.refusal.Refusal.{Refusal}
 use Rattle.mg_model.specs.History.{entry}
 use Rattle.mg_rows.specs.declared.statement_fault.StatementFault.TheVariants.{Engine}
 use Rattle.mg_transcript.specs.Growing.{as_it_was, by_one}
 use Rattle.mg_transcript.specs.Shorthand.{GivesUp, Settles, committed, commit_refused}
 use Rattle.mg_courses.specs.CarryLaws.{carries_lasting}
-use Rattle.mg_courses.specs.Running.{refusal_answered}
-use Rattle.mg_shorthand.proofs.GoingLemmas.{committed_so, spares_end, spares_first, spares_then, went_on}
+use Rattle.mg_shorthand.specs.Going.{Spares}
+use Rattle.mg_shorthand.proofs.GoingLemmas.{committed_so, spares_end, spares_then, went_on}
 use Rattle.mg_shorthand.proofs.settling.commit.Goals as goal
 
 pub returns-in-Ok-clause-goes : goal.returns-in-Ok-clause-goes
@@ -20,9 +21,10 @@ returns-in-Ok-clause-goes g c = λ o h stands active.
 pub returns-in-Ok-clause-spares : goal.returns-in-Ok-clause-spares
 returns-in-Ok-clause-spares g c = λ before spares.
     let m = g.R.Records.meaning in
-    spares_first m before c.args.r.now c.commit_end.new.self c.args.t (refusal_answered c.args.reply) None true spares
-    (spares_end m c.args.r.now c.commit_end.new.self c.args.t None true c.in-Ok.ensures.leaves
-    c.in-Ok.ensures.sessions)
+    subst (λ (told : Option Refusal). Spares m before c.commit_end.new.self c.args.t told true) (sym c.requires.fine)
+    (spares_then m before c.args.r.now c.commit_end.new.self c.args.t None true spares
+    (spares_end m c.args.r.now c.commit_end.new.self c.args.t None true c.in-Ok.ensures.leaves c.in-Ok.ensures.told
+    c.in-Ok.ensures.sessions))
 
 pub returns-in-Err-clause-goes : goal.returns-in-Err-clause-goes
 returns-in-Err-clause-goes g c = λ o h stands active.
@@ -45,7 +47,6 @@ returns-in-Err-clause-spares g c = λ before spares.
     let m = g.R.Records.meaning in
     let refusal = c.in-Err.refusal in
     c.give_up_for.ensures.spares before
-    (spares_then m before c.args.r.now c.commit_end.new.self c.args.t (refusal_answered c.args.reply) (Some refusal)
-    false spares
-    (spares_end m c.args.r.now c.commit_end.new.self c.args.t (Some refusal) false c.in-Err.ensures.leaves
+    (spares_then m before c.args.r.now c.commit_end.new.self c.args.t (Some refusal) false spares
+    (spares_end m c.args.r.now c.commit_end.new.self c.args.t (Some refusal) false c.in-Err.ensures.leaves c.in-Err.ensures.told
     c.in-Err.ensures.sessions))

@@ -18,9 +18,9 @@ returns-in-Ok-clause-reads g c = λ o h stands.
 pub returns-in-Ok-clause-spares : goal.returns-in-Ok-clause-spares
 returns-in-Ok-clause-spares g c =
     let m = g.R.Records.meaning in
-    spares_then m c.args.r.now c.commit_ask.new.self c.write_noted.new.r c.args.t None
+    spares_then m c.args.r.now c.commit_ask.new.self c.write_noted.new.r c.args.t
     (refusal_in c.write_noted.result) false
-    (spares_ask m c.args.r.now c.commit_ask.new.self c.args.t None c.in-Ok.ensures.reads c.in-Ok.ensures.sessions)
+    (spares_ask m c.args.r.now c.commit_ask.new.self c.args.t None c.in-Ok.ensures.reads c.in-Ok.ensures.told c.in-Ok.ensures.sessions)
     c.write_noted.ensures.spares
 
 pub returns-in-Err-clause-outside : goal.returns-in-Err-clause-outside
@@ -35,4 +35,4 @@ returns-in-Err-clause-reads g c = λ o h stands.
 pub returns-in-Err-clause-spares : goal.returns-in-Err-clause-spares
 returns-in-Err-clause-spares g c =
     spares_ask g.R.Records.meaning c.args.r.now c.commit_ask.new.self c.args.t (Some c.in-Err.refusal)
-    c.in-Err.ensures.reads c.in-Err.ensures.sessions
+    c.in-Err.ensures.reads c.in-Err.ensures.told c.in-Err.ensures.sessions

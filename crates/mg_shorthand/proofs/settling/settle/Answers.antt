@@ -1,8 +1,7 @@
 use Rattle.std.proofs.Common.{None, Some, false}
 use Rattle.mg_rows.specs.declared.statement_fault.StatementFault.TheVariants.{Engine}
 use Rattle.mg_transcript.specs.Shorthand.{GivesUp, Settles, pages_refused}
-use Rattle.mg_courses.specs.Running.{refusal_answered}
-use Rattle.mg_shorthand.proofs.GoingLemmas.{spares_first, spares_then, went_behind}
+use Rattle.mg_shorthand.proofs.GoingLemmas.{spares_then, went_behind}
 use Rattle.mg_shorthand.proofs.settling.settle.Goals as goal
 
 pub returns-in-Ok-clause-goes : goal.returns-in-Ok-clause-goes
@@ -16,8 +15,8 @@ returns-in-Ok-clause-goes g c = λ o h stands active.
 pub returns-in-Ok-clause-spares : goal.returns-in-Ok-clause-spares
 returns-in-Ok-clause-spares g c = λ before spares.
     c.commit.ensures.spares before
-    (spares_first g.R.Records.meaning before c.args.r.now c.ready_to_commit.new.r c.args.t
-    (refusal_answered c.args.reply) None false spares c.in-Ok.ensures.spares)
+    (spares_then g.R.Records.meaning before c.args.r.now c.ready_to_commit.new.r c.args.t None false spares
+    c.in-Ok.ensures.spares)
 
 pub returns-in-Err-clause-goes : goal.returns-in-Err-clause-goes
 returns-in-Err-clause-goes g c = λ o h stands active.
@@ -34,4 +33,4 @@ pub returns-in-Err-clause-spares : goal.returns-in-Err-clause-spares
 returns-in-Err-clause-spares g c = λ before spares.
     c.give_up_for.ensures.spares before
     (spares_then g.R.Records.meaning before c.args.r.now c.ready_to_commit.new.r c.args.t
-    (refusal_answered c.args.reply) (Some c.in-Err.refusal) false spares c.in-Err.ensures.spares)
+    (Some c.in-Err.refusal) false spares c.in-Err.ensures.spares)

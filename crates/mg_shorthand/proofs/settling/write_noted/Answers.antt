@@ -25,8 +25,8 @@ loop-all-preserved g c =
           (i.reads o h stands)
           (reads_one m g.met.R.Records.lasts c.loop-all.r c.commit_step.new.self None None c.in-Ok.ensures.reads
           c.in-Ok.ensures.crash o h (i.reads o h stands).stands);
-      spares = spares_then m c.args.r.now c.loop-all.r c.commit_step.new.self c.args.t None None false i.spares
-          (spares_read m c.loop-all.r c.commit_step.new.self c.args.t None c.in-Ok.ensures.reads
+      spares = spares_then m c.args.r.now c.loop-all.r c.commit_step.new.self c.args.t None false i.spares
+          (spares_read m c.loop-all.r c.commit_step.new.self c.args.t None c.in-Ok.ensures.reads c.in-Ok.ensures.told
           c.in-Ok.ensures.sessions);
     }
 
@@ -52,9 +52,9 @@ returns-in-Err-clause-reads g c = λ o h stands.
 pub returns-in-Err-clause-spares : goal.returns-in-Err-clause-spares
 returns-in-Err-clause-spares g c =
     let m = g.R.Records.meaning in
-    spares_then m c.args.r.now c.loop-all.r c.commit_step.new.self c.args.t None (Some c.in-Err.refusal) false
+    spares_then m c.args.r.now c.loop-all.r c.commit_step.new.self c.args.t (Some c.in-Err.refusal) false
     c.loop-all.invariant.spares
-    (spares_read m c.loop-all.r c.commit_step.new.self c.args.t (Some c.in-Err.refusal) c.in-Err.ensures.reads
+    (spares_read m c.loop-all.r c.commit_step.new.self c.args.t (Some c.in-Err.refusal) c.in-Err.ensures.reads c.in-Err.ensures.told
     c.in-Err.ensures.sessions)
 
 pub returns-clause-written : goal.returns-clause-written

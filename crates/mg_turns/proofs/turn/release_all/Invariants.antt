@@ -12,7 +12,7 @@ invariant-loop-place g l = record {
       l.fn.sessions.pending.items l.sessions.transactions l.sessions.pending.items l.fn.released.items
       l.released.items None;
   ready : AreReady g.R.Records.meaning g.R.Statements.runs l.r l.sessions.transactions l.sessions.pending.items;
-  accounts : AccountsOn g.R.Records.meaning l.fn.r l.r l.fn.released.items l.released.items;
+  accounts : AccountsOn g.R.Records.meaning l.fn.r l.r l.fn.released.items l.released.items None;
   lettered : All HasItsLetter l.fn.released.items → All HasItsLetter l.released.items;
 }
 

@@ -44,6 +44,13 @@ returns-in-GoesOn-clause-does g c = λ o h us stand.
     c.release_all-end.ensures.lets)
 
 pub returns-in-GoesOn-clause-accounts : goal.returns-in-GoesOn-clause-accounts
-returns-in-GoesOn-clause-accounts g c = accounts_from g.R.Records.meaning c.obey-reply.new.r c.release_all-end.new.r
-    [] c.new-released.result.items c.release_all-end.new.released.items c.new-released.ensures.items
-    c.release_all-end.ensures.accounts c.args.r.now c.obey-reply.result c.obey-reply.ensures.accounts
+returns-in-GoesOn-clause-accounts g c = (accounts_from g.R.Records.meaning c.obey-reply.new.r c.release_all-end.new.r
+    [] c.new-released.result.items c.release_all-end.new.released.items (Some c.release_all-end.result)
+    c.new-released.ensures.items c.release_all-end.ensures.accounts c.args.r.now c.obey-reply.result
+    (goes_is c.obey-reply.result (sym c.flow_of.ensures ∙ c.in-GoesOn.is)) c.obey-reply.ensures.accounts).0
+
+pub returns-in-GoesOn-clause-stopped : goal.returns-in-GoesOn-clause-stopped
+returns-in-GoesOn-clause-stopped g c = (accounts_from g.R.Records.meaning c.obey-reply.new.r c.release_all-end.new.r
+    [] c.new-released.result.items c.release_all-end.new.released.items (Some c.release_all-end.result)
+    c.new-released.ensures.items c.release_all-end.ensures.accounts c.args.r.now c.obey-reply.result
+    (goes_is c.obey-reply.result (sym c.flow_of.ensures ∙ c.in-GoesOn.is)) c.obey-reply.ensures.accounts).1
