@@ -80,23 +80,23 @@ module _ {D K : Type 0} (m : Meaning D) (n : SinkMeaning K) (size : ℕ) (o : Op
           absurd (not_judged refusal (subst IsNoJudgement same unserved.judged) four)
 
 pub complete : {D S K : Type 0} (m : Meaning D) (s : SourceMeaning S) (n : SinkMeaning K) → RunsAreComplete m s n
-complete m s n source source' old new sink sink' (Whole true) size image o script runs entry left short disk_ok source_ok
+complete m s n counts_to source source' old new sink sink' (Whole true) size image o script runs entry left short disk_ok source_ok
     sink_ok = inl (inl refl)
-complete m s n source source' old new sink sink' (Whole false) size image o script runs entry left short disk_ok source_ok
+complete m s n counts_to source source' old new sink sink' (Whole false) size image o script runs entry left short disk_ok source_ok
     sink_ok = inl (inr refl)
-complete m s n source source' old new sink sink' (InLine refusal) size image o script runs entry left short disk_ok
+complete m s n counts_to source source' old new sink sink' (InLine refusal) size image o script runs entry left short disk_ok
     source_ok sink_ok = by_refusal m old new (HasServed n sink sink' size o (InLine refusal)) refusal runs.disk disk_ok
     (λ four. served_in_line m n size o script old new sink sink' refusal (runs.headline size image o script entry left))
-complete m s n source source' old new sink sink' (Outside refusal) size image o script runs entry left short disk_ok
+complete m s n counts_to source source' old new sink sink' (Outside refusal) size image o script runs entry left short disk_ok
     source_ok sink_ok = by_refusal m old new (HasServed n sink sink' size o (Outside refusal)) refusal runs.disk disk_ok
     (λ four. served_outside m n size o script old new sink sink' refusal four
     (runs.headline size image o script entry left))
-complete m s n source source' old new sink sink' Stream size image o script runs entry left short disk_ok source_ok
+complete m s n counts_to source source' old new sink sink' Stream size image o script runs entry left short disk_ok source_ok
     sink_ok = at (runs.streams.failed refl)
   where
     at : Rose (s.faults source) (s.faults source') ⊎ Rose (n.faults sink) (n.faults sink')
         → IsComplete n sink sink' size o Stream
     at (inl rose) = absurd (source_ok rose)
     at (inr rose) = absurd (sink_ok rose)
-complete m s n source source' old new sink sink' ScriptTooLong size image o script runs entry left short disk_ok source_ok
+complete m s n counts_to source source' old new sink sink' ScriptTooLong size image o script runs entry left short disk_ok source_ok
     sink_ok = let long = runs.script.too_long refl script left in absurd (omega (arith, long, short))

@@ -92,9 +92,9 @@ still_unread s source source' end fails = absurd fails
 -- the disk has no part in it
 unread_fails : {D S : Type 0} (m : Meaning D) (disk : D) (s : SourceMeaning S) (source source' : S) (end : RunEnd)
     → FailsToRead s source source' end → EndsWith m disk disk end
-unread_fails m disk s source source' Stream fails = tt
-unread_fails m disk s source source' ScriptTooLong fails = tt
-unread_fails m disk s source source' (Outside Memory) fails = tt
+unread_fails m disk s source source' Stream fails = refl
+unread_fails m disk s source source' ScriptTooLong fails = refl
+unread_fails m disk s source source' (Outside Memory) fails = refl
 unread_fails m disk s source source' end fails = absurd fails
 
 module _ {D S K : Type 0} (m : Meaning D) (s : SourceMeaning S) (n : SinkMeaning K) (source source' : S) (disk : D)

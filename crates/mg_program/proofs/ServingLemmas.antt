@@ -23,7 +23,7 @@ use Rattle.mg_scripts.specs.Ending.{ScriptDone, reason_at}
 use Rattle.mg_scripts.specs.Printing.{SinkSays}
 use Rattle.mg_runs.specs.declared.ending.RunEnd.{RunEnd}
 use Rattle.mg_runs.specs.declared.ending.RunEnd.TheVariants.{InLine, Outside, ScriptTooLong, Stream, Whole}
-use Rattle.mg_runs.specs.Ends.{EndsWith, FailsWith, IsOutside, last_line}
+use Rattle.mg_runs.specs.Ends.{EndsWith, FailsWith, IsOutside, has_fixed_line, last_line}
 use Rattle.mg_runs.specs.Headline.{EndsBehind, Headline}
 use Rattle.mg_runs.specs.Laws.{ClosingsFail, IsCutOff, LinesFail, OpeningsAreJudged, OpeningsFail, RunsBegin, RunsClose, RunsStop, closed_end}
 use Rattle.mg_runs.specs.Printing.{IsPrinted}
@@ -44,10 +44,19 @@ outside_whole : (refusal : Refusal) (told : RunEnd) → IsOutside refusal told �
 outside_whole refusal told (inl is) fine same = absurd cc
 outside_whole refusal told (inr both) fine same = let is : told ≡ Outside refusals.Memory = both.1 in absurd cc
 
+-- a refusal whose line is not fixed is none by the disk
+unfixed : {D : Type 0} (m : Meaning D) (old new : D) (refusal : Refusal) → has_fixed_line refusal ≡ false
+    → FailsWith m old new refusal → m.faults new ≡ m.faults old
+unfixed m old new (refusals.DiskRead count) fixed fails = absurd cc
+unfixed m old new (refusals.DiskWrite count) fixed fails = absurd cc
+unfixed m old new (refusals.Offline count) fixed fails = absurd cc
+unfixed m old new refusal fixed fails = fails
+
 outside_fails : {D : Type 0} (m : Meaning D) (old new : D) (refusal : Refusal) (told : RunEnd)
     → IsOutside refusal told → FailsWith m old new refusal → EndsWith m old new told
 outside_fails m old new refusal told (inl is) fails = subst (EndsWith m old new) (sym is) fails
-outside_fails m old new refusal told (inr both) fails = subst (EndsWith m old new) (sym both.1) tt
+outside_fails m old new refusal told (inr both) fails = subst (EndsWith m old new) (sym both.1)
+    (unfixed m old new refusal both.0 fails)
 
 -- ---- a disk that was not opened
 
@@ -58,6 +67,7 @@ pub refused : {D K : Type 0} (m : Meaning D) (n : SinkMeaning K) (lines : List L
 refused m n lines disk new limit refusal told before after judged fails refuses says = record {
   read = λ is. outside_read refusal told says.is_told is;
   disk = outside_fails m disk new refusal told says.is_told (fails disk new limit refusal refuses);
+  limit = refuses.same.most_writes;
   stream = λ is. absurd (outside_stream refusal told says.is_told is);
   sink_steady = λ fine is. absurd (outside_whole refusal told says.is_told fine is);
   headline = λ size image o entry. judged disk new limit refusal size image o lines told before after entry refuses
@@ -85,8 +95,7 @@ module _ {D P K : Type 0} (m : Meaning D) (places : Places P) (n : SinkMeaning K
     behind = is;
     read = outside_read (told_first first more) told is;
     disk_fails = outside_fails m disk now.store.disk (told_first first more) told is
-        (fails disk did.limit did.core now (Some (told_first first more)) (told_first first more) did.opened
-        did.accounts refl);
+        (fails disk did.limit did.core now (Some (told_first first more)) did.opened did.accounts);
     stream = λ same. absurd (outside_stream (told_first first more) told is same);
     whole = outside_whole (told_first first more) told is;
   }
@@ -99,7 +108,7 @@ module _ {D P K : Type 0} (m : Meaning D) (places : Places P) (n : SinkMeaning K
     behind = is;
     read = λ same. absurd cc;
     disk_fails = subst (EndsWith m disk now.store.disk) (sym is)
-        (fails disk did.limit did.core now (Some refusal) refusal did.opened did.accounts refl);
+        (fails disk did.limit did.core now (Some refusal) did.opened did.accounts);
     stream = λ same. absurd cc;
     whole = λ f same. absurd cc;
   }
@@ -108,25 +117,28 @@ module _ {D P K : Type 0} (m : Meaning D) (places : Places P) (n : SinkMeaning K
   memory_told told (inl is) = is
   memory_told told (inr both) = both.1
 
-  cut_for_memory : (refused_at : List Refusal) (fine : Bool) (told : RunEnd) → told ≡ Outside refusals.Memory
-      → IsCut refused_at lines_ends.NoMemory fine told
-  cut_for_memory refused_at fine told is = record {
+  cut_for_memory : (refused_at : List Refusal) (fine : Bool) (told : RunEnd)
+      → HasObeyed m places n lines disk now before mid refused_at lines_ends.NoMemory fine → LinesFail m places
+      → told ≡ Outside refusals.Memory → IsCut refused_at lines_ends.NoMemory fine told
+  cut_for_memory refused_at fine told did fails is = record {
     cut = tt;
     behind = is;
     read = λ same. absurd cc;
-    disk_fails = subst (EndsWith m disk now.store.disk) (sym is) tt;
+    disk_fails = subst (EndsWith m disk now.store.disk) (sym is)
+        (fails disk did.limit did.core now None did.opened did.accounts);
     stream = λ same. absurd cc;
     whole = λ f same. absurd cc;
   }
 
   cut_by_sink : (refused_at : List Refusal) (fine : Bool) (told : RunEnd)
-      → HasObeyed m places n lines disk now before mid refused_at lines_ends.SinkFailed fine → after ≡ mid
-      → told ≡ Stream → IsCut refused_at lines_ends.SinkFailed fine told
-  cut_by_sink refused_at fine told did same is = record {
+      → HasObeyed m places n lines disk now before mid refused_at lines_ends.SinkFailed fine → LinesFail m places
+      → after ≡ mid → told ≡ Stream → IsCut refused_at lines_ends.SinkFailed fine told
+  cut_by_sink refused_at fine told did fails same is = record {
     cut = tt;
     behind = is;
     read = λ long. absurd cc;
-    disk_fails = subst (EndsWith m disk now.store.disk) (sym is) tt;
+    disk_fails = subst (EndsWith m disk now.store.disk) (sym is)
+        (fails disk did.limit did.core now None did.opened did.accounts);
     stream = λ stream. subst (λ (k : K). Rose (n.faults before) (n.faults k)) (sym same) (did.sinks.failed refl);
     whole = λ f whole. absurd cc;
   }
@@ -143,11 +155,11 @@ module _ {D P K : Type 0} (m : Meaning D) (places : Places P) (n : SinkMeaning K
       cut_in_line refusal refused_at fine told did fails (subst (λ (e : RunEnd). IsTold e told) (sym same) says.is_told)
   is_cut refused_at lines_ends.NoMemory fine end told did fails is says =
       let same : Outside refusals.Memory ≡ end = cc in
-      cut_for_memory refused_at fine told
+      cut_for_memory refused_at fine told did fails
       (memory_told told (subst (λ (e : RunEnd). IsTold e told) (sym same) says.is_told))
   is_cut refused_at lines_ends.SinkFailed fine end told did fails is says =
       let same : Stream ≡ end = cc in
-      cut_by_sink refused_at fine told did (says.silent (ap last_line (sym same)))
+      cut_by_sink refused_at fine told did fails (says.silent (ap last_line (sym same)))
       (subst (λ (e : RunEnd). IsTold e told) (sym same) says.is_told)
 
   left_there : (refused_at : List Refusal) (lines_end : LinesEnd) (fine : Bool) (end told : RunEnd)
@@ -158,6 +170,7 @@ module _ {D P K : Type 0} (m : Meaning D) (places : Places P) (n : SinkMeaning K
       let cut = is_cut refused_at lines_end fine end told did fails is says in record {
         read = cut.read;
         disk = cut.disk_fails;
+        limit = did.accounts.most_writes ∙ did.opened.same.most_writes;
         stream = cut.stream;
         sink_steady = λ f whole. absurd (cut.whole f whole);
         headline = λ size image o entry. stops disk did.limit did.core now size image o lines refused_at lines_end fine
@@ -198,7 +211,9 @@ module _ {D P K : Type 0} (m : Meaning D) (places : Places P) (n : SinkMeaning K
       let is : told ≡ Whole fine = says.is_told in
       let same : after ≡ mid = says.silent refl in record {
         read = λ long. absurd cc;
-        disk = subst (EndsWith m disk new) (sym is) tt;
+        disk = subst (EndsWith m disk new) (sym is)
+            (fails disk new did.limit did.core now (Ok x) did.opened did.accounts closing);
+        limit = closing.same.most_writes ∙ (did.accounts.most_writes ∙ did.opened.same.most_writes);
         stream = λ stream. absurd cc;
         sink_steady = λ f whole. ap n.faults same ∙ did.sinks.steady refl;
         headline = λ size image o entry. subst (Headline m n size o lines disk new before after) (sym is)
@@ -210,7 +225,8 @@ module _ {D P K : Type 0} (m : Meaning D) (places : Places P) (n : SinkMeaning K
       let is : told ≡ Outside refusal = closing_told new refusal told closing.ended says.is_told in record {
         read = λ long. absurd cc;
         disk = subst (EndsWith m disk new) (sym is)
-            (fails disk new did.limit did.core now lines_ends.Whole refusal did.opened did.accounts closing);
+            (fails disk new did.limit did.core now (Err refusal) did.opened did.accounts closing);
+        limit = closing.same.most_writes ∙ (did.accounts.most_writes ∙ did.opened.same.most_writes);
         stream = λ stream. absurd cc;
         sink_steady = λ f whole. absurd cc;
         headline = λ size image o entry. subst (Headline m n size o lines disk new before after) (sym is)

@@ -1,12 +1,15 @@
--- A run on a disk behind a fuse is one on the disk itself.
-use Rattle.std.proofs.Common.{◌≡◌, ◌≢◌, ◌<◌, ◌∙◌, inl, inr, ℕ, Bool, true, false, List, Some, refl, sym, ap, subst, arith}
-use Rattle.mg_base.specs.Disk.{Meaning}
-use Rattle.mg_base.specs.Fused.{blown_of, fused_meaning, inner_of, most_of, passed_of}
-use Rattle.mg_base.specs.declared.fused.Fused.{Fused}
+-- A run on a disk of which a number of page writes pass is one on the disk itself.
+use Rattle.std.proofs.Common.{◌≡◌, ◌≢◌, ◌<◌, ◌≤◌, ◌+◌, ◌∙◌, inl, inr, ℕ, Bool, true, false, List, Some, refl, sym, ap, subst, arith}
+use Rattle.std.specs.Prelude.{◌⊎◌}
+use Rattle.std.proofs.lemmas.Bool.{cases_eq}
+use Rattle.mg_base.specs.Disk.{Meaning, Rose}
 use Rattle.mg_base.specs.Image.{Image}
 use Rattle.mg_base.specs.Moments.{LeavesOnly}
 use Rattle.mg_base.specs.Streams.{SinkMeaning, SourceMeaning}
 use Rattle.mg_engine_calls.specs.Openings.{IsSettledOn}
+use Rattle.mg_fuse.specs.Counting.{AsksExactly}
+use Rattle.mg_fuse.specs.Stopped.{IsNewlyStopped, StoppedDisksAreAskedForNoMore, StopsWithin, blown_of, inner_of, stopped_meaning}
+use Rattle.mg_fuse.specs.declared.stopped.Stopped.{Stopped}
 use Rattle.mg_image.specs.Form.{packed_form}
 use Rattle.mg_lasting.specs.Crashes.{HoldsFrom, asked}
 use Rattle.mg_model.specs.declared.opening.Opening.{Opening}
@@ -17,11 +20,11 @@ use Rattle.mg_script.specs.declared.line.Line.{Line}
 use Rattle.mg_runs.specs.declared.ending.RunEnd.{RunEnd}
 use Rattle.mg_runs.specs.declared.ending.RunEnd.TheVariants.{InLine, Outside, ScriptTooLong, Stream, Whole}
 use Rattle.mg_runs.specs.declared.status.Status.{Status}
-use Rattle.mg_runs.specs.Ends.{EndsWith, refused_status, status_of}
+use Rattle.mg_runs.specs.Ends.{EndsWith, FailsWith, refused_status, status_of}
 use Rattle.mg_runs.specs.Entry.{IsEntry, TellsWholePages}
 use Rattle.mg_runs.specs.Headline.{Headline, IsSettledAt}
 use Rattle.mg_runs.specs.Promise.{Promise, ScriptCauses, StreamCauses}
-use Rattle.mg_program.specs.Top.{Runs}
+use Rattle.mg_program.specs.Top.{EndsOrStops, FailsOrStops, Runs}
 
 -- ---- statuses
 
@@ -54,9 +57,9 @@ never_usage end status is two = (status_below end).1 (ap (λ (s : Status). s.0) 
 
 -- ---- a fuse
 
-module _ {D : Type 0} (m : Meaning D) where
-  entered : (old : Fused D) (size : ℕ) (image : Image) (o : Opening) → IsEntry m (inner_of old) size image o
-      → IsEntry (fused_meaning m) old size image o
+module _ {D : Type 0} (m : Meaning D) (counts_to : ℕ) where
+  entered : (old : Stopped D) (size : ℕ) (image : Image) (o : Opening) → IsEntry m (inner_of old) size image o
+      → IsEntry (stopped_meaning m counts_to) old size image o
   entered old size image o entry = record {
     sized = entry.sized;
     lawful = entry.lawful;
@@ -72,11 +75,11 @@ module _ {D : Type 0} (m : Meaning D) where
     opening = entry.opening;
   }
 
-  leaves : (old new : Fused D) (P : Image → Type 0) → LeavesOnly (fused_meaning m) old new P
+  leaves : (old new : Stopped D) (P : Image → Type 0) → LeavesOnly (stopped_meaning m counts_to) old new P
       → LeavesOnly m (inner_of old) (inner_of new) P
   leaves old new P run = record { later = run.later; each = run.each; before = run.before }
 
-  settled_on : (disk : Fused D) (image : Image) → IsSettledOn (fused_meaning m) disk image
+  settled_on : (disk : Stopped D) (image : Image) → IsSettledOn (stopped_meaning m counts_to) disk image
       → IsSettledOn m (inner_of disk) image
   settled_on disk image on = record {
     tells = record { told = on.tells.told; held = on.tells.held };
@@ -84,8 +87,8 @@ module _ {D : Type 0} (m : Meaning D) where
   }
 
   -- that each page has the page size is known of the disk itself
-  settled_at : (new : Fused D) (size : ℕ) (o : Opening) (h : Entries) (end : RunEnd) → TellsWholePages m size
-      → IsSettledAt (fused_meaning m) new size o h end → IsSettledAt m (inner_of new) size o h end
+  settled_at : (new : Stopped D) (size : ℕ) (o : Opening) (h : Entries) (end : RunEnd) → TellsWholePages m size
+      → IsSettledAt (stopped_meaning m counts_to) new size o h end → IsSettledAt m (inner_of new) size o h end
   settled_at new size o h (Whole fine) whole ended = record {
     left = record {
       image = ended.left.image;
@@ -109,9 +112,45 @@ module _ {D : Type 0} (m : Meaning D) where
   settled_at new size o h Stream whole ended = tt
   settled_at new size o h ScriptTooLong whole ended = tt
 
+  -- ---- faults
+
+  module _ (most : ℕ) (old new : Stopped D) (none : blown_of old ≡ 0) (within : StopsWithin m counts_to most (inner_of old) new)
+    where
+      -- where the fuse refused no page write, it was the disk that failed
+      by_disk : Rose (m.faults (inner_of old) + blown_of old) (m.faults (inner_of new) + blown_of new)
+          → Rose (m.faults (inner_of old)) (m.faults (inner_of new)) ⊎ AsksExactly m counts_to most (inner_of old) (inner_of new)
+      by_disk rose = at (cases_eq (blown_of new) 0) rose
+        where
+          at : (blown_of new ≡ 0) ⊎ (blown_of new ≢ 0)
+              → Rose (m.faults (inner_of old) + blown_of old) (m.faults (inner_of new) + blown_of new)
+              → Rose (m.faults (inner_of old)) (m.faults (inner_of new))
+              ⊎ AsksExactly m counts_to most (inner_of old) (inner_of new)
+          at (inl zero) (inl rises) = inl (inl (omega (arith, none, zero, rises)))
+          at (inl zero) (inr end) = inl (inr (omega (arith, zero, end)))
+          at (inr some) rises = inr (within.all (omega (arith, some)))
+
+      not_risen : m.faults (inner_of new) + blown_of new ≡ m.faults (inner_of old) + blown_of old
+          → m.faults (inner_of new) ≤ m.faults (inner_of old)
+      not_risen same = omega (arith, none, same)
+
+      fails_or_stops : (refusal : Refusal) → FailsWith (stopped_meaning m counts_to) old new refusal
+          → FailsOrStops m (AsksExactly m counts_to most (inner_of old) (inner_of new)) (inner_of old) (inner_of new) refusal
+      fails_or_stops (refusals.DiskRead faults) fails = by_disk fails
+      fails_or_stops (refusals.DiskWrite faults) fails = by_disk fails
+      fails_or_stops (refusals.Offline faults) fails = by_disk fails
+      fails_or_stops refusal fails = not_risen fails
+
+      ends_or_stops : (end : RunEnd) → EndsWith (stopped_meaning m counts_to) old new end
+          → EndsOrStops m (AsksExactly m counts_to most (inner_of old) (inner_of new)) (inner_of old) (inner_of new) end
+      ends_or_stops (Whole fine) ends = not_risen ends
+      ends_or_stops (InLine refusal) ends = fails_or_stops refusal ends
+      ends_or_stops (Outside refusal) ends = fails_or_stops refusal ends
+      ends_or_stops Stream ends = not_risen ends
+      ends_or_stops ScriptTooLong ends = not_risen ends
+
   module _ {K : Type 0} (n : SinkMeaning K) where
-    headline_of : (size : ℕ) (o : Opening) (lines : List Line) (old new : Fused D) (before after : K) (end : RunEnd)
-        → TellsWholePages m size → Headline (fused_meaning m) n size o lines old new before after end
+    headline_of : (size : ℕ) (o : Opening) (lines : List Line) (old new : Stopped D) (before after : K) (end : RunEnd)
+        → TellsWholePages m size → Headline (stopped_meaning m counts_to) n size o lines old new before after end
         → Headline m n size o lines (inner_of old) (inner_of new) before after end
     headline_of size o lines old new before after end whole line = record {
       entries = line.entries;
@@ -124,8 +163,8 @@ module _ {D : Type 0} (m : Meaning D) where
       sized = line.sized;
     }
 
-    promise_of : (size : ℕ) (o : Opening) (script : List ℕ) (old new : Fused D) (before after : K) (end : RunEnd)
-        → TellsWholePages m size → Promise (fused_meaning m) n size o script old new before after end
+    promise_of : (size : ℕ) (o : Opening) (script : List ℕ) (old new : Stopped D) (before after : K) (end : RunEnd)
+        → TellsWholePages m size → Promise (stopped_meaning m counts_to) n size o script old new before after end
         → Promise m n size o script (inner_of old) (inner_of new) before after end
     promise_of size o script old new before after end whole (inl unread) = inl (record {
       ends = unread.ends;
@@ -136,42 +175,37 @@ module _ {D : Type 0} (m : Meaning D) where
         inr (lines, is, headline_of size o lines old new before after end whole line)
 
     module _ {S : Type 0} (s : SourceMeaning S) where
-      -- with `--stop`, of a disk behind a fuse
-      runs_of_inner : (most : ℕ) (source source' : S) (old new : Fused D) (sink sink' : K) (end : RunEnd)
-          → most_of old ≡ most → passed_of old ≡ 0 → blown_of old ≡ 0 → EndsWith (fused_meaning m) old new end
+      -- with `--stop`, of a disk of which so many page writes pass
+      pub runs_of_stopped : (most : ℕ) (source source' : S) (first result : D) (old new : Stopped D) (sink sink' : K)
+          (end : RunEnd) → IsNewlyStopped first most old → result ≡ inner_of new
+          → StoppedDisksAreAskedForNoMore m counts_to
+          → (stopped_meaning m counts_to).most_writes new ≡ (stopped_meaning m counts_to).most_writes old
+          → EndsWith (stopped_meaning m counts_to) old new end
           → StreamCauses s n source source' sink sink' end → ScriptCauses s source old new end
-          → ((size : ℕ) (image : Image) (o : Opening) (script : List ℕ) → IsEntry (fused_meaning m) old size image o
-          → s.left source ≡ Some script → Promise (fused_meaning m) n size o script old new sink sink' end)
-          → Runs m s n (Some most) source source' (inner_of old) (inner_of new) sink sink' end
-      runs_of_inner most source source' old new sink sink' end lets passed blown ends streams script headline = record {
-        disk = record {
-          before = old;
-          after = new;
-          inner_before = refl;
-          lets = lets;
-          passed = passed;
-          blown = blown;
-          inner_after = refl;
-          ends = ends;
-        };
-        streams = streams;
-        script = record {
-          too_long = script.too_long;
-          not_asked = λ is. ap inner_of (script.not_asked is);
-          short = script.short;
-        };
-        headline = λ size image o bytes entry left. promise_of size o bytes old new sink sink' end entry.whole
-            (headline size image o bytes (entered old size image o entry) left);
-      }
+          → ((size : ℕ) (image : Image) (o : Opening) (script : List ℕ) → IsEntry (stopped_meaning m counts_to) old size image o
+          → s.left source ≡ Some script → Promise (stopped_meaning m counts_to) n size o script old new sink sink' end)
+          → Runs m counts_to s n (Some most) source source' first result sink sink' end
+      runs_of_stopped most source source' first result old new sink sink' end newly is law limit ends streams script
+          headline = subst (λ (d : D). Runs m counts_to s n (Some most) source source' first d sink sink' end) (sym is)
+          (subst (λ (d : D). Runs m counts_to s n (Some most) source source' d (inner_of new) sink sink' end)
+          newly.its_inner its_run)
+        where
+          within : StopsWithin m counts_to most (inner_of old) new
+          within = subst (λ (d : D). StopsWithin m counts_to most d new) (sym newly.its_inner)
+              (law first most old new newly limit)
 
-      pub runs_of_fused : (most : ℕ) (source source' : S) (first result : D) (old new : Fused D) (sink sink' : K)
-          (end : RunEnd) → inner_of old ≡ first → result ≡ inner_of new → most_of old ≡ most → passed_of old ≡ 0
-          → blown_of old ≡ 0 → EndsWith (fused_meaning m) old new end
-          → StreamCauses s n source source' sink sink' end → ScriptCauses s source old new end
-          → ((size : ℕ) (image : Image) (o : Opening) (script : List ℕ) → IsEntry (fused_meaning m) old size image o
-          → s.left source ≡ Some script → Promise (fused_meaning m) n size o script old new sink sink' end)
-          → Runs m s n (Some most) source source' first result sink sink' end
-      runs_of_fused most source source' first result old new sink sink' end was is lets passed blown ends streams script
-          headline = subst (λ (d : D). Runs m s n (Some most) source source' d result sink sink' end) was
-          (subst (λ (d : D). Runs m s n (Some most) source source' (inner_of old) d sink sink' end) (sym is)
-          (runs_of_inner most source source' old new sink sink' end lets passed blown ends streams script headline))
+          its_run : Runs m counts_to s n (Some most) source source' (inner_of old) (inner_of new) sink sink' end
+          its_run = record {
+            disk = record {
+              at_most = within.at_most;
+              ends = ends_or_stops most old new newly.none_blown within end ends;
+            };
+            streams = streams;
+            script = record {
+              too_long = script.too_long;
+              not_asked = λ asked_none. ap inner_of (script.not_asked asked_none);
+              short = script.short;
+            };
+            headline = λ size image o bytes entry left. promise_of size o bytes old new sink sink' end entry.whole
+                (headline size image o bytes (entered old size image o entry) left);
+          }

@@ -26,8 +26,8 @@ IsComplete n before after size o end = ((status_of end ≡ status 0) ⊎ (status
 -- So ends a run without `--stop` on a disk on which a history can begin, where the script has at most 1,048,576 bytes, and
 -- no count of faults rose, of the disk, of the source or of the sink.
 abbrev pub RunsAreComplete : {D S K : Type 0} → Meaning D → SourceMeaning S → SinkMeaning K → Type 0
-RunsAreComplete {D} {S} {K} m s n = (source source' : S) (old new : D) (sink sink' : K) (end : RunEnd) (size : ℕ)
-    (image : Image) (o : Opening) (script : List ℕ) → Runs m s n None source source' old new sink sink' end
+RunsAreComplete {D} {S} {K} m s n = (counts_to : ℕ) (source source' : S) (old new : D) (sink sink' : K) (end : RunEnd) (size : ℕ)
+    (image : Image) (o : Opening) (script : List ℕ) → Runs m counts_to s n None source source' old new sink sink' end
     → IsEntry m old size image o → s.left source ≡ Some script → length script ≤ SCRIPT_MOST
     → (Rose (m.faults old) (m.faults new) → ⊥) → (Rose (s.faults source) (s.faults source') → ⊥)
     → (Rose (n.faults sink) (n.faults sink') → ⊥) → IsComplete n sink sink' size o end

@@ -22,12 +22,13 @@ use Rattle.mg_runs.specs.Ends.{EndsWith}
 use Rattle.mg_runs.specs.Entry.{IsEntry}
 use Rattle.mg_runs.specs.Headline.{Headline}
 
--- A run whose script was read has ended: where the disk's count of faults has risen, where the sink's has, and the
--- history of the lines.
+-- A run whose script was read has ended: where the disk's count of faults has risen, where the sink's has, that as many
+-- page writes pass in all as did, and the history of the lines.
 pub record Serves {D K : Type 0} (m : Meaning D) (n : SinkMeaning K) (lines : List Line) (old new : D) (before after : K)
     (end : RunEnd) : Type 0 where
   pub read : end ≢ ScriptTooLong
   pub disk : EndsWith m old new end
+  pub limit : m.most_writes new ≡ m.most_writes old
   pub stream : end ≡ Stream → Rose (n.faults before) (n.faults after)
   pub sink_steady : (fine : Bool) → end ≡ Whole fine → n.faults after ≡ n.faults before
   pub headline : (size : ℕ) (image : Image) (o : Opening) → IsEntry m old size image o

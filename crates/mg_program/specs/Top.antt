@@ -1,14 +1,16 @@
 -- What the program promises of a command line.
-use Rattle.std.specs.Prelude.{◌≡◌, ℕ, List, [], ◌∷◌, ◌++◌, Option, None, Some, codes}
-use Rattle.mg_base.specs.Disk.{Meaning}
-use Rattle.mg_base.specs.Fused.{blown_of, fused_meaning, inner_of, most_of, passed_of}
-use Rattle.mg_base.specs.declared.fused.Fused.{Fused}
+use Rattle.std.specs.Prelude.{◌≡◌, ◌≤◌, ◌⊎◌, ℕ, List, [], ◌∷◌, ◌++◌, Option, None, Some, codes}
+use Rattle.mg_base.specs.Disk.{Meaning, Rose}
 use Rattle.mg_base.specs.Image.{Image}
 use Rattle.mg_base.specs.Streams.{SinkMeaning, SourceMeaning}
+use Rattle.mg_fuse.specs.Counting.{AsksAtMost, AsksExactly}
 use Rattle.mg_model.specs.declared.opening.Opening.{Opening}
+use Rattle.mg_model.specs.declared.refusal.Refusal.{Refusal}
+use Rattle.mg_model.specs.declared.refusal.Refusal.TheVariants as refusals
 use Rattle.mg_words.specs.declared.asked.Asked.{Asked}
 use Rattle.mg_words.specs.Words.{IsRun}
 use Rattle.mg_runs.specs.declared.ending.RunEnd.{RunEnd}
+use Rattle.mg_runs.specs.declared.ending.RunEnd.TheVariants.{InLine, Outside}
 use Rattle.mg_runs.specs.declared.status.Status.{Status}
 use Rattle.mg_runs.specs.Ends.{EndsWith, status_of}
 use Rattle.mg_runs.specs.Entry.{IsEntry}
@@ -26,37 +28,46 @@ pub record IsUsage {D S K : Type 0} (n : SinkMeaning K) (shelf shelf' : D) (sour
 
 -- ---- a run
 
--- A run has ended so on a disk behind a fuse that lets so many page writes through: by the disk only where a count of
--- faults rose, that of the disk itself or that of the page writes which the fuse refused.
-pub record EndsBehindFuse {D : Type 0} (m : Meaning D) (most : ℕ) (old new : D) (end : RunEnd) : Type 0 where
-  pub before : Fused D
-  pub after : Fused D
-  pub inner_before : inner_of before ≡ old
-  pub lets : most_of before ≡ most
-  pub passed : passed_of before ≡ 0
-  pub blown : blown_of before ≡ 0
-  pub inner_after : inner_of after ≡ new
-  pub ends : EndsWith (fused_meaning m) before after end
+-- With `--stop` a refusal by the disk comes only where its count of faults rose, or where all page writes had passed that
+-- may; any other only where that count has not risen.
+abbrev pub FailsOrStops : {D : Type 0} → Meaning D → Type 0 → D → D → Refusal → Type 0
+FailsOrStops m All old new (refusals.DiskRead faults) = Rose (m.faults old) (m.faults new) ⊎ All
+FailsOrStops m All old new (refusals.DiskWrite faults) = Rose (m.faults old) (m.faults new) ⊎ All
+FailsOrStops m All old new (refusals.Offline faults) = Rose (m.faults old) (m.faults new) ⊎ All
+FailsOrStops m All old new refusal = m.faults new ≤ m.faults old
 
--- with `--stop` a run ends so behind a fuse, without it on the disk itself
-abbrev pub EndsOn : {D : Type 0} → Meaning D → Option ℕ → D → D → RunEnd → Type 0
-EndsOn m None old new end = EndsWith m old new end
-EndsOn m (Some most) old new end = EndsBehindFuse m most old new end
+-- so an end by a refusal comes, and any other end
+abbrev pub EndsOrStops : {D : Type 0} → Meaning D → Type 0 → D → D → RunEnd → Type 0
+EndsOrStops m All old new (InLine refusal) = FailsOrStops m All old new refusal
+EndsOrStops m All old new (Outside refusal) = FailsOrStops m All old new refusal
+EndsOrStops m All old new end = m.faults new ≤ m.faults old
 
--- A run has ended so on a disk, of which `--stop` lets so many page writes through, if it is given.
-pub record Runs {D S K : Type 0} (m : Meaning D) (s : SourceMeaning S) (n : SinkMeaning K) (stop : Option ℕ)
-    (source source' : S) (old new : D) (sink sink' : K) (end : RunEnd) : Type 0 where
-  pub disk : EndsOn m stop old new end
+-- A run has ended so on a disk of which so many page writes may pass: it was asked for no more, as far as it counts page
+-- writes, and the run has not ended by the disk where that did not fail and not all of them were asked for.
+pub record EndsStopped {D : Type 0} (m : Meaning D) (counts_to most : ℕ) (old new : D) (end : RunEnd) : Type 0 where
+  pub at_most : AsksAtMost m counts_to most old new
+  pub ends : EndsOrStops m (AsksExactly m counts_to most old new) old new end
+
+-- with `--stop` a run ends so, without it as on the disk alone
+abbrev pub EndsOn : {D : Type 0} → Meaning D → ℕ → Option ℕ → D → D → RunEnd → Type 0
+EndsOn m counts_to None old new end = EndsWith m old new end
+EndsOn m counts_to (Some most) old new end = EndsStopped m counts_to most old new end
+
+-- A run has ended so on a disk, of which `--stop` lets so many page writes through, if it is given. The disk counts page
+-- writes up to an end.
+pub record Runs {D S K : Type 0} (m : Meaning D) (counts_to : ℕ) (s : SourceMeaning S) (n : SinkMeaning K)
+    (stop : Option ℕ) (source source' : S) (old new : D) (sink sink' : K) (end : RunEnd) : Type 0 where
+  pub disk : EndsOn m counts_to stop old new end
   pub streams : StreamCauses s n source source' sink sink' end
   pub script : ScriptCauses s source old new end
   pub headline : (size : ℕ) (image : Image) (o : Opening) (script : List ℕ) → IsEntry m old size image o
       → s.left source ≡ Some script → Promise m n size o script old new sink sink' end
 
 -- The words are a command line; its run has ended, and the status tells how.
-pub record HasRun {D S K : Type 0} (m : Meaning D) (s : SourceMeaning S) (n : SinkMeaning K) (words : List (List ℕ))
-    (source source' : S) (old new : D) (sink sink' : K) (status : Status) : Type 0 where
+pub record HasRun {D S K : Type 0} (m : Meaning D) (counts_to : ℕ) (s : SourceMeaning S) (n : SinkMeaning K)
+    (words : List (List ℕ)) (source source' : S) (old new : D) (sink sink' : K) (status : Status) : Type 0 where
   pub asked : Asked
   pub is_run : IsRun words asked
   pub end : RunEnd
   pub status_is : status ≡ status_of end
-  pub runs : Runs m s n asked.stop source source' old new sink sink' end
+  pub runs : Runs m counts_to s n asked.stop source source' old new sink sink' end

@@ -10,8 +10,8 @@
 //!
 //! Invariant: none, it keeps no state between two calls.
 //! Below: `mg_runs`, which says what a run promises; `mg_words`, the words; `mg_script`, the lines and texts; `mg_scripts`,
-//! the run of a script over any keeper of records; `mg_engine`, the keeper. Above: a program's `main`, which makes the disk
-//! and the streams.
+//! the run of a script over any keeper of records; `mg_engine`, the keeper; `mg_fuse`, a disk of which a number of page
+//! writes pass. Above: a program's `main`, which makes the disk and the streams.
 //! Not here: what a line does.
 #![tactic(auto)]
 

@@ -31,6 +31,7 @@ pub fn run<D: Disk, S: Source, K: Sink>(
     sink: &mut K,
 ) -> (RunEnd, D)
     ensures disk { EndsWith D.meaning disk result.1 result.0 }
+    ensures limit { D.meaning.most_writes result.1 ≡ D.meaning.most_writes disk }
     ensures streams { StreamCauses S.meaning K.meaning source.old source.new sink.old sink.new result.0 }
     ensures script { ScriptCauses S.meaning source.old disk result.1 result.0 }
     ensures headline { (size : ℕ) (image : Image) (o : Opening) (script : List ℕ)

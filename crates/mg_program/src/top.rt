@@ -7,7 +7,8 @@ ghost use Rattle.mg_program.specs.Top.{HasRun, IsUsage, Runs};
 
 use crate::printing::put_line;
 use crate::running::run;
-use mg_base::{Disk, Fused, GREATEST_LIMIT, Sink, Source};
+use mg_base::{GREATEST_LIMIT, Sink, Source};
+use mg_fuse::{CountsWrites, Stopped, stopped_disks_are_asked_for_no_more};
 use mg_runs::{RunEnd, Status};
 use mg_words::{Asked, read_words};
 use std::alloc::Global;
@@ -25,7 +26,7 @@ pub struct Shelf<D> {
 /// `words` begin with the program's name. Where they are no command line it prints USAGE, and neither reads nor writes
 /// anything else. `--stop N` lets the first N page writes through and fails each later one; `--limit N` is the greatest
 /// number of pages, and 131,072 without it. `--page` is for who makes the disk (`wanted_page`).
-pub fn mgdb<R: AllocGlobal + Drop, D: Disk + Send + 'static, S: Source, K: Sink>(
+pub fn mgdb<R: AllocGlobal + Drop, D: CountsWrites + Send + 'static, S: Source, K: Sink>(
     rt: R,
     words: &[String],
     shelf: Shelf<D>,
@@ -36,7 +37,7 @@ pub fn mgdb<R: AllocGlobal + Drop, D: Disk + Send + 'static, S: Source, K: Sink>
     ensures untouched { result.0.0 ≡ 2
         → IsUsage K.meaning shelf result.1 source.old source.new sink.old sink.new }
     ensures runs { result.0.0 ≢ 2
-        → HasRun D.meaning S.meaning K.meaning (texts words.now) source.old source.new shelf.first
+        → HasRun D.meaning D.counts_to S.meaning K.meaning (texts words.now) source.old source.new shelf.first
         result.1.first sink.old sink.new result.0 }
     ensures second { result.1.second ≡ shelf.second }
     ensures range { result.0.0 < 8 }
@@ -51,14 +52,14 @@ pub fn mgdb<R: AllocGlobal + Drop, D: Disk + Send + 'static, S: Source, K: Sink>
 }
 
 // Obeys a command line that was read.
-fn run_asked<D: Disk + Send + 'static, S: Source, K: Sink>(
+fn run_asked<D: CountsWrites + Send + 'static, S: Source, K: Sink>(
     alloc: Global,
     asked: Asked,
     disk: D,
     source: &mut S,
     sink: &mut K,
 ) -> (RunEnd, D)
-    ensures { Runs D.meaning S.meaning K.meaning asked.stop source.old source.new disk result.1
+    ensures { Runs D.meaning D.counts_to S.meaning K.meaning asked.stop source.old source.new disk result.1
         sink.old sink.new result.0 }
 {
     let limit = asked.limit.unwrap_or(GREATEST_LIMIT);
@@ -69,7 +70,7 @@ fn run_asked<D: Disk + Send + 'static, S: Source, K: Sink>(
 }
 
 // The same on a disk that lets only the first page writes through.
-fn run_stopped<D: Disk + Send + 'static, S: Source, K: Sink>(
+fn run_stopped<D: CountsWrites + Send + 'static, S: Source, K: Sink>(
     alloc: Global,
     disk: D,
     limit: u32,
@@ -77,9 +78,10 @@ fn run_stopped<D: Disk + Send + 'static, S: Source, K: Sink>(
     source: &mut S,
     sink: &mut K,
 ) -> (RunEnd, D)
-    ensures { Runs D.meaning S.meaning K.meaning (Some most) source.old source.new disk result.1
+    ensures { Runs D.meaning D.counts_to S.meaning K.meaning (Some most) source.old source.new disk result.1
         sink.old sink.new result.0 }
 {
-    let (end, fused) = run(alloc, Fused::new(disk, most), limit, source, sink);
-    (end, fused.into_inner())
+    stopped_disks_are_asked_for_no_more::<D>();
+    let (end, stopped) = run(alloc, Stopped::new(disk, most), limit, source, sink);
+    (end, stopped.into_inner())
 }

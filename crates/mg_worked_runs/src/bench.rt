@@ -2,6 +2,7 @@
 
 use crate::reading::words_of;
 use mg_base::{Disk, FaultyDisk, MemDisk, MemSink, MemSource, Memory, PageNo, is_page_size};
+use mg_fuse::CountsWrites;
 use mg_program::{Shelf, mgdb};
 use std::alloc::Global;
 
@@ -276,7 +277,7 @@ fn bad_calls(alloc: Global, call: u32) -> Result<Vec<u32>, Memory> {
 }
 
 // Calls the program over streams in memory.
-fn call_program<D: Disk + Drop + Send + 'static>(
+fn call_program<D: CountsWrites + Drop + Send + 'static>(
     rt: &HostRuntime,
     words: &[String],
     disk: D,

@@ -19,6 +19,9 @@ serve-requires g c =
 pub returns-in-Ok-clause-disk : goal.returns-in-Ok-clause-disk
 returns-in-Ok-clause-disk g c = c.serve.ensures.disk
 
+pub returns-in-Ok-clause-limit : goal.returns-in-Ok-clause-limit
+returns-in-Ok-clause-limit g c = c.serve.ensures.limit
+
 pub returns-in-Ok-clause-streams : goal.returns-in-Ok-clause-streams
 returns-in-Ok-clause-streams g c =
     let whole = lines_read g.S.Source.meaning c.args.source.now c.as_slice.result.now c.in-Ok.script c.as_slice.ensures

@@ -4,7 +4,7 @@ use Rattle.mg_program.specs.Top.{Runs}
 use Rattle.mg_program.proofs.top.run_asked.Goals as goal
 
 pub returns-in-None : goal.returns-in-None
-returns-in-None g c = subst (λ (stop : Option ℕ). Runs g.D.Disk.meaning g.S.Source.meaning g.K.Sink.meaning stop
+returns-in-None g c = subst (λ (stop : Option ℕ). Runs g.D.Disk.meaning g.D.CountsWrites.counts_to g.S.Source.meaning g.K.Sink.meaning stop
     c.args.source.now c.run.new.source c.args.disk c.run.result.1 c.args.sink.now c.run.new.sink c.run.result.0)
     (sym c.in-None.is) (record {
       disk = c.run.ensures.disk;
