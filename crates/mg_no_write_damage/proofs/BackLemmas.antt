@@ -20,7 +20,7 @@ use Rattle.mg_image.specs.declared.entry.Entry.{Entry}
 use Rattle.mg_model.specs.declared.table.Table.{Table}
 use Rattle.mg_no_damage.specs.Records.{VersionsAreThere}
 use Rattle.mg_no_damage.specs.Sees.{AreLawful, SeesLawful, no_batch}
-use Rattle.mg_no_damage.specs.Sound.{AreBlankFrom, SoundRecordsAreLawful}
+use Rattle.mg_no_damage.specs.Sound.{SoundRecordsAreLawful}
 use Rattle.mg_pool.specs.Batch.{Changed}
 use Rattle.mg_pool.specs.Dirty.{DirtyPages}
 use Rattle.mg_pool.specs.Pool.{shown}
@@ -55,7 +55,6 @@ module _ {D : Type 0} (m : Meaning D) (laws : Reads m) (versions : VersionsAreTh
       geometry : IsGeometry a.geometry
       same : n.geometry ≡ a.geometry
       sound : IsSoundBy packed_form a.geometry.size state (shown a.dirty image) layout r
-      blank : AreBlankFrom a.geometry.size a.geometry.limit (shown a.dirty image)
 
     over_on : (a n ready : Pool D FireLinks) → IsOver a n → KeepsStore m a ready → IsOver ready n
     over_on a n ready it keeps = record {
@@ -67,10 +66,6 @@ module _ {D : Type 0} (m : Meaning D) (laws : Reads m) (versions : VersionsAreTh
           (sym keeps.geometry)
           (subst (λ (d : DirtyPages). IsSoundBy packed_form a.geometry.size state (shown d image) layout r)
           (sym keeps.dirty) it.sound);
-      blank = subst (λ (g : Geometry). AreBlankFrom g.size g.limit (shown ready.dirty image))
-          (sym keeps.geometry)
-          (subst (λ (d : DirtyPages). AreBlankFrom a.geometry.size a.geometry.limit (shown d image))
-          (sym keeps.dirty) it.blank);
     }
 
     -- ---- a slot is turned, and a cell freed
@@ -103,24 +98,22 @@ module _ {D : Type 0} (m : Meaning D) (laws : Reads m) (versions : VersionsAreTh
         sees : SeesLawful m n image no_batch (facts_by state view layout) r
         sees = record {
           tells = o.tells;
-          lawful = subst (λ (d : DirtyPages). AreLawful n.geometry.size n.geometry.limit (shown d image)
+          lawful = subst (λ (d : DirtyPages). AreLawful n.geometry.size (shown d image)
               (facts_by state view layout) r) (sym o.like)
-              (subst (λ (g : Geometry). AreLawful g.size g.limit view (facts_by state view layout) r) (sym o.same)
-              (lawful_of a.geometry.size a.geometry.limit state view layout r o.sound o.blank));
+              (subst (λ (g : Geometry). AreLawful g.size view (facts_by state view layout) r) (sym o.same)
+              (lawful_of a.geometry.size state view layout r o.sound));
         }
 
         newest_read : (it : Damaged)
-            → RefusesNewest m n [] a.geometry.limit view rec (faults.Damaged it) → ⊥
+            → RefusesNewest m n [] view rec (faults.Damaged it) → ⊥
         newest_read it (inl refused) =
             head_read m laws image state layout r a n o.like o.tells o.sound rec table its it refused
         newest_read it (inr (link, slot, refused)) = versions n image no_batch (facts_by state view layout) r sees
             rec table its.of 0 rec.page.0 link
             (subst (λ (d : DirtyPages). Follows (shown d image) rec 0 rec.page.0 link) (sym o.like)
             (starts link (ap (newest_of rec) slot))) it
-            (subst (λ (d : DirtyPages). RefusesVersion m n [] n.geometry.limit (shown d image) rec.page.0 link
-            (faults.Damaged it)) (sym o.like)
-            (subst (λ (g : Geometry). RefusesVersion m n [] g.limit view rec.page.0 link (faults.Damaged it))
-            (sym o.same) refused))
+            (subst (λ (d : DirtyPages). RefusesVersion m n [] (shown d image) rec.page.0 link
+            (faults.Damaged it)) (sym o.like) refused)
 
         abbrev its_stand : Stand
         its_stand = (of_table m laws image state layout r a n o.like o.tells o.sound rec table its).stand
@@ -272,38 +265,35 @@ module _ {D : Type 0} (m : Meaning D) (laws : Reads m) (versions : VersionsAreTh
 
     -- ---- the laws
 
-    over : (a n : Pool D FireLinks) → SeesSound m a n image state layout r
-        → AreBlankFrom a.geometry.size a.geometry.limit (shown a.dirty image) → IsOver a n
-    over a n sees_ blank = record {
+    over : (a n : Pool D FireLinks) → SeesSound m a n image state layout r → IsOver a n
+    over a n sees_ = record {
       like = sees_.keeps.dirty;
       tells = tells_on m a n image sees_.keeps sees_.tells;
       geometry = sees_.geometry;
       same = sees_.keeps.geometry;
       sound = sees_.sound;
-      blank = blank;
     }
 
-    pub outs : (a n : Pool D FireLinks) → SeesSound m a n image state layout r
-        → AreBlankFrom a.geometry.size a.geometry.limit (shown a.dirty image) → (rec : RecId) (table : Table)
+    pub outs : (a n : Pool D FireLinks) → SeesSound m a n image state layout r → (rec : RecId) (table : Table)
         → IsRecordOf layout r rec table → (it : Damaged)
         → RefusesBackOut m a n image no_batch rec (faults.Damaged it) → ⊥
-    outs a n sees_ blank rec table its it refused = taken_out rec table its a n (over a n sees_ blank) it refused
+    outs a n sees_ rec table its it refused = taken_out rec table its a n (over a n sees_) it refused
 
     pub replacements : (a n : Pool D FireLinks) → SeesSound m a n image state layout r
-        → AreBlankFrom a.geometry.size a.geometry.limit (shown a.dirty image) → (rec : RecId) (table : Table)
+        → (rec : RecId) (table : Table)
         (its : IsRecordOf layout r rec table) (v : Version) → its.newest.version.tx ≡ v.tx
         → length v.body + 42 ≤ a.geometry.size → (it : Damaged)
         → RefusesReplace m a n image no_batch rec v (faults.Damaged it) → ⊥
-    replacements a n sees_ blank rec table its v own short it refused =
-        replaced rec table its a n (over a n sees_ blank) v own short it refused
+    replacements a n sees_ rec table its v own short it refused =
+        replaced rec table its a n (over a n sees_) v own short it refused
 
 pub back_outs : {D : Type 0} (m : Meaning D) → Reads m → VersionsAreThere m → SoundRecordsAreLawful
     → BackOutsAreFilled m
-back_outs m laws versions lawful_of old new image state layout r sees blank rec table its it refused =
-    outs m laws versions lawful_of image state layout r old new sees blank rec table its it refused
+back_outs m laws versions lawful_of old new image state layout r sees rec table its it refused =
+    outs m laws versions lawful_of image state layout r old new sees rec table its it refused
 
 pub replacements_are : {D : Type 0} (m : Meaning D) → Reads m → VersionsAreThere m → SoundRecordsAreLawful
     → ReplacementsAreFilled m
-replacements_are m laws versions lawful_of old new image state layout r sees blank rec table its v own short it
-    refused = replacements m laws versions lawful_of image state layout r old new sees blank rec table its v own
+replacements_are m laws versions lawful_of old new image state layout r sees rec table its v own short it
+    refused = replacements m laws versions lawful_of image state layout r old new sees rec table its v own
     short it refused

@@ -1,11 +1,10 @@
 -- A number is drawn.
-use Rattle.std.proofs.Common.{◌≡◌, ◌∙◌, ◌⊎◌, inl, inr, ◌≤◌, ℕ, Bool, true, false, List, [], Option, None, Some, Ok, Err, Result, length, refl, sym, ap, subst, arith, is_some, unwrap_or}
+use Rattle.std.proofs.Common.{◌≡◌, ◌∙◌, inl, inr, ℕ, false, List, [], Option, None, Some, Ok, Err, Result, length, refl, sym, ap, arith, is_some, unwrap_or}
 use Rattle.std.proofs.lemmas.List.{get_or_past}
 use Rattle.mg_base.specs.Disk.{Meaning}
 use Rattle.mg_base.specs.Fields.{byte}
 use Rattle.mg_base.specs.Image.{Image, blank, page_at}
 use Rattle.mg_base.specs.declared.damage.Damaged.{Damaged}
-use Rattle.mg_header.specs.HeaderPage.{reading}
 use Rattle.mg_header.specs.HeaderPageLaws.{reads}
 use Rattle.mg_header.specs.declared.header.HeadFault.{HeadFault}
 use Rattle.mg_header.specs.declared.header.Header.{Header}

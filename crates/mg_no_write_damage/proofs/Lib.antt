@@ -4,3 +4,10 @@ mod RoomLemmas
 mod PushLemmas
 mod BackLemmas
 mod DrawLemmas
+mod LawfulLemmas
+mod RankLemmas
+mod GivenLemmas
+mod BatchLemmas
+mod LaidBatchLemmas
+mod FirstLemmas
+mod CallLemmas

@@ -53,6 +53,14 @@ version_length : (v : Version) → length (cell_bytes (cells.Version v)) ≤ len
 unfolding cell_bytes
 version_length v = let more = back_length v.back v.body in omega (arith, more)
 
+-- a version that fits a page has room on a new one
+pub version_fits : (size : ℕ) (w : Version) → length w.body + 42 ≤ size → 35 ≤ size → (bytes : List ℕ)
+    → IsSpelling bytes (cells.Version w) → need_of bytes + 24 ≤ size
+version_fits size w short least bytes spells =
+    let len : length bytes ≤ length w.body + 18 =
+    subst (λ (b : List ℕ). length b ≤ length w.body + 18) (sym spells.spelled) (version_length w) in
+    omega (arith, len, least, short)
+
 -- ---- the slot of a record with versions has an anchor
 
 anchored : (in_slot : Option (List ℕ)) (p : RecId) (l : Link)
@@ -146,10 +154,8 @@ module _ {D : Type 0} (m : Meaning D) (laws : Reads m) (image : Image) (state : 
     its_table = table_of_page layout rec.page.0 table its.of
 
     pub fits : need_of bytes + 24 ≤ a.geometry.size
-    fits =
-        let len : length bytes ≤ length w.body + 18 =
-        subst (λ (b : List ℕ). length b ≤ length w.body + 18) (sym spells.spelled) (version_length w) in
-        let least = (page_sizes a.geometry.size geometry.size).0 in omega (arith, len, least, short)
+    fits = version_fits a.geometry.size w short
+        (let least = (page_sizes a.geometry.size geometry.size).0 in omega (arith, least)) bytes spells
 
     pub cell_pushed : (it : Damaged)
         → RefusesPushCell m a n image no_batch rec table.pointer.0 bytes (faults.Damaged it) → ⊥

@@ -222,6 +222,34 @@ module _ {D : Type 0} (m : Meaning D) (laws : Reads m) (a n : Pool D FireLinks) 
         by (inr (none, inr (full, (p, it)))) = new_room gives.it.bytes.items table.pointer.0
             (length gives.data_pages) (in_new (view old q) p (length gives.pointers - 1 + 1) it) it.makes.made fits
 
+    -- a page that was found has the room, and a new one is none that was used, and has all the room of its kind
+    pub given_or_new : (k : ℕ) → is_used size (view old) k ≡ true
+        → (need ≤ room_of (view given page.0)) ⊎ ((page.0 ≢ k) × (size ≤ room_of (view given page.0) + 24))
+    given_or_new k used = subst (λ (j : PageNo). (need ≤ room_of (view given j.0))
+        ⊎ ((j.0 ≢ k) × (size ≤ room_of (view given j.0) + 24))) gives.page_is (by gives.found)
+      where
+        whole : (b : List ℕ) (owner place : ℕ) → view given fresh ≡ b → IsNewPage b size fresh owner place
+            → size ≤ room_of (view given fresh) + 24
+        whole b owner place is made =
+            let room : room_of (view given fresh) ≡ size - 20 - 4 =
+            ap room_of is ∙ new_page_room b size fresh owner place made in omega (arith, room)
+
+        by : FindsOrGrows a image old given table.pointer.0 gives.pointers gives.data_pages need gives.it
+            → (need ≤ room_of (view given fresh)) ⊎ ((fresh ≢ k) × (size ≤ room_of (view given fresh) + 24))
+        by (inl (same, first)) = inl (subst (λ (b : Changed). need ≤ room_of (view b fresh)) (sym same) first.room)
+        by (inr (none, inl (room, it))) = inr (
+          off (view old) k fresh used it.takes.free.unused,
+          whole gives.it.bytes.items table.pointer.0 (length gives.data_pages) (in_last (view old q) it)
+              it.makes.made,
+        )
+        by (inr (none, inr (full, (p, it)))) = inr (
+          off (view it.with_bit) k fresh
+              (takes_keeps a.geometry (view old) (view it.with_bit) p geometry it.takes_pointer k used)
+              it.takes.free.unused,
+          whole gives.it.bytes.items table.pointer.0 (length gives.data_pages)
+              (in_new (view old q) p (length gives.pointers - 1 + 1) it) it.makes.made,
+        )
+
   -- ---- a place, and a cell
 
   pub spot_given : (it : Damaged) → RefusesSpot m a n image old table.pointer.0 (faults.Damaged it) → ⊥

@@ -14,7 +14,6 @@ use Rattle.mg_image.specs.Tables.{Layout, stands_of, table_at}
 use Rattle.mg_image.specs.declared.entry.Entry.{Entry}
 use Rattle.mg_model.specs.declared.table.Table.{Table}
 use Rattle.mg_no_damage.specs.Sees.{no_batch}
-use Rattle.mg_no_damage.specs.Sound.{AreBlankFrom}
 use Rattle.mg_pool.specs.Pool.{shown}
 use Rattle.mg_pool.specs.declared.pool.Pool.{Pool}
 use Rattle.mg_space.specs.Taking.{IsGeometry}
@@ -58,11 +57,11 @@ PushesAreFilled {D} m = (old new : Pool D FireLinks) (image : Image) (state : �
     → IsRecordOf layout r rec table → (v : Version) → length v.body + 42 ≤ old.geometry.size
     → (it : Damaged) → RefusesPush m old new image no_batch rec v (faults.Damaged it) → ⊥
 
--- the newest version is taken out, where no page past the limit has anything
+-- the newest version is taken out
 abbrev pub BackOutsAreFilled : {D : Type 0} → Meaning D → Type 0
 BackOutsAreFilled {D} m = (old new : Pool D FireLinks) (image : Image) (state : ℕ → TxState) (layout : Layout)
     (r : Reading) → SeesSound m old new image state layout r
-    → AreBlankFrom old.geometry.size old.geometry.limit (shown old.dirty image) → (rec : RecId) (table : Table)
+    → (rec : RecId) (table : Table)
     → IsRecordOf layout r rec table → (it : Damaged)
     → RefusesBackOut m old new image no_batch rec (faults.Damaged it) → ⊥
 
@@ -70,7 +69,7 @@ BackOutsAreFilled {D} m = (old new : Pool D FireLinks) (image : Image) (state : 
 abbrev pub ReplacementsAreFilled : {D : Type 0} → Meaning D → Type 0
 ReplacementsAreFilled {D} m = (old new : Pool D FireLinks) (image : Image) (state : ℕ → TxState)
     (layout : Layout) (r : Reading) → SeesSound m old new image state layout r
-    → AreBlankFrom old.geometry.size old.geometry.limit (shown old.dirty image) → (rec : RecId) (table : Table)
+    → (rec : RecId) (table : Table)
     (its : IsRecordOf layout r rec table) (v : Version) → its.newest.version.tx ≡ v.tx
     → length v.body + 42 ≤ old.geometry.size → (it : Damaged)
     → RefusesReplace m old new image no_batch rec v (faults.Damaged it) → ⊥

@@ -1,5 +1,6 @@
 //! The laws.
 
+ghost use Rattle.mg_no_write_damage.specs.Batches.{PlacesAreTaken, PlacesHaveRoom, RecordsAreMade, VersionsArePushed, VersionsAreReplaced, VersionsAreTakenOut};
 ghost use Rattle.mg_no_write_damage.specs.Draws.{NumbersAreDrawn};
 ghost use Rattle.mg_no_write_damage.specs.Writes.{BackOutsAreFilled, PushesAreFilled, ReplacementsAreFilled, RoomIsFound, SpotsAreGiven};
 
@@ -32,6 +33,30 @@ pub fn versions_are_pushed<D: Disk>()
 pub fn newest_versions_change<D: Disk>()
     ensures outs { BackOutsAreFilled D.meaning }
     ensures replaced { ReplacementsAreFilled D.meaning }
+{
+    stands_are_read::<D>();
+    pages_are_taken();
+    one_reading();
+    lawful_records_are_read::<D>();
+    sound_images_are_lawful();
+}
+
+/// A record is made: a place is taken, and then the version is put and the slot turned to it.
+pub fn records_are_made<D: Disk>()
+    ensures places { PlacesAreTaken D.meaning }
+    ensures room { PlacesHaveRoom D.meaning }
+    ensures made { RecordsAreMade D.meaning }
+{
+    stands_are_read::<D>();
+    pages_are_taken();
+    one_reading();
+}
+
+/// The newest version of a record changes: another one is pushed over it, it is replaced, or it is taken out.
+pub fn records_change<D: Disk>()
+    ensures pushed { VersionsArePushed D.meaning }
+    ensures replaced { VersionsAreReplaced D.meaning }
+    ensures out { VersionsAreTakenOut D.meaning }
 {
     stands_are_read::<D>();
     pages_are_taken();
