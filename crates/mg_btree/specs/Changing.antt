@@ -1,5 +1,5 @@
 -- What a call that changes a tree does to the pages as viewed.
-use Rattle.std.specs.Prelude.{◌≡◌, ◌↔◌, ℕ, Bool, true, false, IsTrue, List, length, Result, Ok, Err}
+use Rattle.std.specs.Prelude.{◌≡◌, ◌⊎◌, ◌↔◌, ℕ, Bool, true, false, IsTrue, List, length, Result, Ok, Err}
 use Rattle.mg_node.specs.declared.entry.Entry.{Entry}
 use Rattle.mg_node.specs.NodePage.{IsNodePage, level_in}
 use Rattle.mg_image.specs.Form.{Pages}
@@ -11,6 +11,7 @@ use Rattle.mg_space.specs.declared.fault.SpaceFault.TheVariants.{Full, Pool as O
 use Rattle.mg_tree_overlays.specs.TreeSteps.{InTree}
 use Rattle.mg_tree_overlays.specs.TreeBatches.{ChangesTree, IsNoInventory, Remove}
 use Rattle.mg_btree.specs.declared.node.ReadNode.{ReadNode}
+use Rattle.mg_btree.specs.RowTakings.{RewritesLeaf}
 use Rattle.mg_btree.specs.Searching.{IsReached}
 
 -- a leaf that was read
@@ -52,8 +53,9 @@ pub record TakesOut (size : ℕ) (old new : Pages) (batch : Changed) (owner root
   pub row : ChangesTree size owner root (content_in batch.pages) (lists batch.orders) (Remove e) old
       levels new levels
   pub gone : Finds new e root → ⊥
-  -- no page changes but the tree's
+  -- no page changes but the tree's, of which one leaf does at most
   pub others : (n : ℕ) → (InTree levels n → ⊥) → new n ≡ old n
+  pub alone : (new ≡ old) ⊎ RewritesLeaf size old new owner levels
 
 -- in a tree the entry is taken out, or the cache refuses
 abbrev pub Removes : ℕ → Pages → Pages → Changed → ℕ → ℕ → List (List ℕ) → Entry

@@ -53,7 +53,7 @@ top_is_root size pages owner root levels e n tree placed level covers =
     placed (root_in size pages owner root levels tree.rooted tree) level covers
     (root_covers size pages owner root levels e tree)
 
-grown_back : (root a b : ℕ) (levels : List (List ℕ)) (n : ℕ) → InTree (grow_levels root a b levels) n
+pub grown_back : (root a b : ℕ) (levels : List (List ℕ)) (n : ℕ) → InTree (grow_levels root a b levels) n
     → (n ≡ root) ⊎ ((n ≡ a) ⊎ ((n ≡ b) ⊎ InTree levels n))
 grown_back root a b [] n has = absurd has
 grown_back root a b (top ∷ below) n (inl (inl same)) = inl same
@@ -63,7 +63,7 @@ grown_back root a b (top ∷ below) n (inr (inl (inl same))) = inr (inl same)
 grown_back root a b (top ∷ below) n (inr (inl (inr (inl same)))) = inr (inr (inl same))
 grown_back root a b (top ∷ below) n (inr (inr later)) = inr (inr (inr (inr later)))
 
-grown_there : (root a b : ℕ) (levels : List (List ℕ)) (n : ℕ) → InTree levels n
+pub grown_there : (root a b : ℕ) (levels : List (List ℕ)) (n : ℕ) → InTree levels n
     → InTree (grow_levels root a b levels) a × InTree (grow_levels root a b levels) b
 grown_there root a b [] n has = absurd has
 grown_there root a b (top ∷ below) n has = (inr (inl (inl refl)), inr (inl (inr (inl refl))))
@@ -72,7 +72,7 @@ module _ (g : Geometry) (lawful : IsGeometry g) (owner root level a b : ℕ) (le
     (old mid late : Pages) (full : PageBytes) (e : Entry) (growth : Growth)
     (stands : StandsIn g.size old owner root levels full)
     (place : IsPlaceFor g.size owner level e full)
-    (top : level ≡ level_in (old root))
+    (top : level ≡ level_in (old root)) (below_highest : level < 65535)
     (takes_a : TakesPage g old mid a) (takes_b : TakesPage g mid late b)
     (is : IsGrowth owner full.page.0 level a b full.bytes growth)
   where
@@ -159,6 +159,12 @@ module _ (g : Geometry) (lawful : IsGeometry g) (owner root level a b : ℕ) (le
       halves = is.halves.pair.splits;
       lawful = (is.halves.pair.left_lawful, is.halves.pair.right_lawful);
       two = (is.halves.pair.left_two, is.halves.pair.right_two);
+      len = (
+        is.halves.pair.splits.left_size ∙ (is.copies.size ∙ place.len),
+        is.halves.pair.splits.right_size ∙ (is.copies.size ∙ place.len),
+        is.len ∙ place.len,
+      );
+      below_highest = subst (λ (k : ℕ). k < 65535) (top ∙ ap level_in (sym (late_same root placed))) below_highest;
       new_root = grown_is;
     }
 
@@ -179,17 +185,20 @@ module _ (g : Geometry) (lawful : IsGeometry g) (owner root level a b : ℕ) (le
       own_orders = root_orders g.size (names_in growth.halves.left.bytes)
           (names_in growth.halves.right.bytes) root a b
 
-      steps : RoomRow g.size owner root (content_in batch.pages) (lists batch.orders) Stay old levels
-          new ends e e own_orders
+      placed_two : InTree ends a × InTree ends b
+      placed_two = grown_there root a b levels root placed
+
+      steps : RoomRow g owner root (content_in batch.pages) (lists batch.orders) Stay old levels
+          new ends e e own_orders [] ends
       steps = taken_room g lawful owner root levels stands.no_inventory old mid a takes_a stands.tree
-          (content_in batch.pages) (lists batch.orders) Stay new ends e e own_orders bit_a
+          (content_in batch.pages) (lists batch.orders) Stay new ends e e own_orders [] ends bit_a placed_two.0
           (taken_room g lawful owner root levels stands.no_inventory mid late b takes_b mid_tree
-          (content_in batch.pages) (lists batch.orders) Stay new ends e e own_orders bit_b
-          (subst (λ (pages : Pages). RoomRow g.size owner root (content_in batch.pages)
-          (lists batch.orders) Stay late levels pages ends e e own_orders) (sym laid)
-          (grows_row g.size owner root (content_in batch.pages) (lists batch.orders) Stay late levels a b
-          is.copy growth.halves.left.bytes growth.halves.right.bytes growth.root.bytes e grows_under order
-          put_a put_b (λ room. no_room (subst (λ (p : List ℕ). HasRoom p e) late_root room)))))
+          (content_in batch.pages) (lists batch.orders) Stay new ends e e own_orders (a ∷ []) ends bit_b
+          placed_two.1 (subst (λ (pages : Pages). RoomRow g owner root (content_in batch.pages)
+          (lists batch.orders) Stay late levels pages ends e e own_orders (b ∷ a ∷ []) ends) (sym laid)
+          (grows_row g owner root (content_in batch.pages) (lists batch.orders) Stay late levels a b
+          is.copy growth.halves.left.bytes growth.halves.right.bytes growth.root.bytes e (b ∷ a ∷ []) ends
+          grows_under order put_a put_b (inr (inl refl)) (inl refl) (λ room. no_room (subst (λ (p : List ℕ). HasRoom p e) late_root room)))))
 
       abbrev row : ChangesTree g.size owner root (content_in batch.pages) (lists batch.orders) Stay old
           levels new ends
@@ -284,13 +293,14 @@ module _ (g : Geometry) (lawful : IsGeometry g) (owner root level a b : ℕ) (le
           )
 
       pub grow_makes : (half : PageBytes) → (half ≡ growth.halves.left) ⊎ (half ≡ growth.halves.right)
-          → MakesRoom g.size old new before batch owner root levels level e half
+          → MakesRoom g old new before batch owner root levels level e half
       grow_makes half which = record {
         ends = ends;
         row = row;
         adds = all_orders;
         held = held;
         full = steps.full;
+        takes = steps.takes;
         stands = record {
           tree = (pool_changed g.size owner root (content_in batch.pages) (lists batch.orders) Stay old new
               levels ends row stands.tree).tree;

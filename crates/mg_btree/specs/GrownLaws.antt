@@ -1,5 +1,5 @@
 -- The exits of the call that splits a root.
-use Rattle.std.proofs.Common.{◌≡◌, ◌≢◌, inr, ◌∙◌, ◌++◌, refl, sym, subst, ℕ, List, None, Result, Ok, Err, arith}
+use Rattle.std.proofs.Common.{◌≡◌, ◌≢◌, inr, ◌∙◌, ◌++◌, ◌<◌, refl, sym, subst, ℕ, List, None, Result, Ok, Err, arith}
 use Rattle.std.specs.Prelude.{IsErrAnd}
 use Rattle.mg_base.specs.Image.{Image}
 use Rattle.mg_base.specs.declared.damage.Damaged.{Damaged}
@@ -58,16 +58,17 @@ pub root_put : {D L : Type 0} (old : Pool D L) (image : Image) → IsGeometry ol
     (two : TwoPages) (e : Entry) (half : PageBytes)
     → StandsIn old.geometry.size (viewed old image start) owner root levels full
     → IsPlaceFor old.geometry.size owner level e full → level ≡ level_in (viewed old image start root)
+    → level < 65535
     → TakesTwo old.geometry (viewed old image start) (viewed old image first) first (Ok two)
     → TakesAlone 2 start first → (HasRoom full.bytes e → ⊥) → Widens old.geometry.size first last
     → SplitsRoot old.geometry.size first last owner level full two e half
-    → MakesRoom old.geometry.size (viewed old image start) (viewed old image last) start last owner root
+    → MakesRoom old.geometry (viewed old image start) (viewed old image last) start last owner root
     levels level e half
-root_put old image lawful start first last owner root level levels full two e half stands place top takes
-    kept no_room widens is =
+root_put old image lawful start first last owner root level levels full two e half stands place top
+    below_highest takes kept no_room widens is =
     grow_makes old.geometry lawful owner root level two.first.0 two.second.0 levels (viewed old image start)
-    takes.0 (viewed old image first) full e is.growth stands place top takes.1.takes takes.2.takes is.is
-    (viewed old image last)
+    takes.0 (viewed old image first) full e is.growth stands place top below_highest takes.1.takes
+    takes.2.takes is.is (viewed old image last)
     (viewed_same_pages old image is.puts.put last is.puts.orders.same_pages
     ∙ (three_laid first is.puts.put is.growth.halves.left.page.0 is.growth.halves.right.page.0
     is.growth.root.page.0 is.growth.halves.left.bytes is.growth.halves.right.bytes is.growth.root.bytes
@@ -120,7 +121,7 @@ root_put old image lawful start first last owner root level levels full two e ha
     own : is.growth.root.page.0 ≡ root
     own = is.is.own ∙ root_is old.geometry lawful owner root level two.first.0 two.second.0 levels
         (viewed old image start) takes.0 (viewed old image first) full e is.growth stands place top
-        takes.1.takes takes.2.takes is.is
+        below_highest takes.1.takes takes.2.takes is.is
 
     there : (n m : ℕ) → m ≡ n → content_in is.puts.put.pages m ≢ None → content_in last.pages n ≢ None
     there n m same some = subst (λ (k : ℕ). content_in last.pages k ≢ None) same

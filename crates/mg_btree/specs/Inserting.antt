@@ -1,5 +1,5 @@
 -- An entry is put into a tree.
-use Rattle.std.specs.Prelude.{◌≡◌, ◌≢◌, ◌⊎◌, ◌++◌, ◌+◌, ◌*◌, ◌≤◌, ℕ, false, List, length, None, Result, Ok, Err}
+use Rattle.std.specs.Prelude.{◌≡◌, ◌≢◌, ◌⊎◌, ◌++◌, ◌+◌, ◌*◌, ◌≤◌, ℕ, false, List, [], length, None, Result, Ok, Err}
 use Rattle.mg_base.specs.declared.geometry.Geometry.{Geometry}
 use Rattle.mg_node.specs.declared.entry.Entry.{Entry}
 use Rattle.mg_node.specs.NodePage.{IsNodePage, level_in}
@@ -20,6 +20,7 @@ use Rattle.mg_btree.specs.Halves.{HasRoom}
 use Rattle.mg_btree.specs.Rooms.{RefusesRoom}
 use Rattle.mg_btree.specs.Ordering.{EachOrder}
 use Rattle.mg_btree.specs.RowOrders.{SplitsFull, row_orders}
+use Rattle.mg_btree.specs.RowTakings.{TakesItsPages}
 
 -- in a tree the leaf that covers an entry was read, with what the root says of its tree
 abbrev pub FindsLeaf : Pages → ℕ → ℕ → List (List ℕ) → Result Leaf SpaceFault → Type 0
@@ -70,6 +71,14 @@ pub record PutsIn (size : ℕ) (old new : Pages) (before batch : Changed) (owner
   pub in_place : (n : ℕ) → InTree levels n → level_in (old n) ≡ 0 → Covers old n e
       → HasRoom (old n) e → ((m : ℕ) → m ≢ n → new m ≡ old m) × (batch.orders ≡ before.orders)
 
+-- So an entry is in a tree, and each page that the tree has more was taken by a step of that row, before it got
+-- its content, which the tree came to name last.
+pub record PutsAndTakes (g : Geometry) (old new : Pages) (before batch : Changed) (owner root : ℕ)
+    (levels : List (List ℕ)) (e : Entry) : Type 0 where
+  pub puts : PutsIn g.size old new before batch owner root levels e
+  pub takes : TakesItsPages g owner root (content_in batch.pages) (lists batch.orders) (Add e) old new levels
+      puts.ends puts.row [] puts.ends
+
 -- why an entry is not put into a tree: a page that is needed is not taken, which comes only where the
 -- entry is not there and its leaf has no room; or the cache refuses
 pub record RefusesInsert (g : Geometry) (old : Pages) (root : ℕ) (levels : List (List ℕ)) (e : Entry)
@@ -82,7 +91,7 @@ pub record RefusesInsert (g : Geometry) (old : Pages) (root : ℕ) (levels : Lis
 abbrev pub Inserts : Geometry → Pages → Pages → Changed → Changed → ℕ → ℕ → List (List ℕ) → Entry
     → Result (Unit {0}) SpaceFault → Type 0
 Inserts g old new before batch owner root levels e (Ok done_) =
-    PutsIn g.size old new before batch owner root levels e
+    PutsAndTakes g old new before batch owner root levels e
 Inserts g old new before batch owner root levels e (Err (Full limit)) =
     RefusesInsert g old root levels e (Full limit)
 Inserts g old new before batch owner root levels e (Err (OfPage damage)) =

@@ -28,7 +28,7 @@ use Rattle.mg_tree_overlays.specs.SearchLaws.{leaf_has_found}
 use Rattle.mg_btree.specs.declared.halves.PageBytes.{PageBytes}
 use Rattle.mg_btree.specs.ChangeLaws.{either_parts, entry_has, is_entry, leaf_rewrites, viewed_other, viewed_put}
 use Rattle.mg_btree.specs.Halves.{HasPlace, HasRoom, IsPlaceFor, IsRoomy}
-use Rattle.mg_btree.specs.Inserting.{Inserts, PutsIn, PutsWith, RefusesInsert}
+use Rattle.mg_btree.specs.Inserting.{Inserts, PutsAndTakes, PutsWith, RefusesInsert}
 use Rattle.mg_btree.specs.OrderLaws.{put_few, widens_put, widens_sized}
 use Rattle.mg_btree.specs.EachOrderLaws.{each_more, each_none}
 use Rattle.mg_btree.specs.Ordering.{EachOrder, Widens}
@@ -128,23 +128,26 @@ module _ (g : Geometry) (owner root : ℕ) (levels : List (List ℕ)) (was : Pag
         (level ∙ sym low) covers_n covers
 
     pub inserts_nothing : (batch : Changed) → HasPlace (entries_of full.bytes) e
-        → PutsIn g.size was was batch batch owner root levels e
+        → PutsAndTakes g was was batch batch owner root levels e
     inserts_nothing batch has = record {
-      ends = levels;
-      row = done was levels;
-      adds = sym (ended batch.orders);
-      held = each_none (λ a b. content_in batch.pages b ≢ None);
-      full = tt;
-      tree = stands.tree;
-      no_inventory = stands.no_inventory;
-      fresh = λ n placed. inl placed;
-      others = λ n out none_. refl;
-      few = omega arith;
-      has = found_there has;
-      keeps = λ f found. found;
-      only = λ f found. inl found;
-      once = λ found. refl;
-      in_place = λ n placed level covers_n room. ((λ m other. refl), refl);
+      puts = record {
+        ends = levels;
+        row = done was levels;
+        adds = sym (ended batch.orders);
+        held = each_none (λ a b. content_in batch.pages b ≢ None);
+        full = tt;
+        tree = stands.tree;
+        no_inventory = stands.no_inventory;
+        fresh = λ n placed. inl placed;
+        others = λ n out none_. refl;
+        few = omega arith;
+        has = found_there has;
+        keeps = λ f found. found;
+        only = λ f found. inl found;
+        once = λ found. refl;
+        in_place = λ n placed level covers_n room. ((λ m other. refl), refl);
+      };
+      takes = tt;
     }
 
     -- ---- room was made, or not
@@ -178,7 +181,7 @@ module _ (g : Geometry) (owner root : ℕ) (levels : List (List ℕ)) (was : Pag
         (page : PageBytes) (viewed_was : was ≡ viewed store image start)
         (no_place : HasPlace (entries_of full.bytes) e → ⊥)
         (roomy : IsRoomy g.size owner 0 e page)
-        (made : MakesRoom g.size was (viewed store image second) start second owner root levels 0 e page)
+        (made : MakesRoom g was (viewed store image second) start second owner root levels 0 e page)
         (in_place : HasRoom full.bytes e → (page ≡ full) × (second ≡ start))
         (puts : PutsWith second last page e)
       where
@@ -232,8 +235,8 @@ module _ (g : Geometry) (owner root : ℕ) (levels : List (List ℕ)) (was : Pag
         made_orders = row_orders g.size owner root (content_in second.pages) (lists second.orders) Stay was
             late levels made.ends made.row
 
-        leaf_row : RoomRow g.size owner root (content_in last.pages) (lists last.orders) (Add e) late
-            made.ends new made.ends e e []
+        leaf_row : RoomRow g owner root (content_in last.pages) (lists last.orders) (Add e) late
+            made.ends new made.ends e e [] [] made.ends
         leaf_row = record {
           row = leaf late new new made.ends made.ends page.page.0 rewrites late_low
               (subst (λ (b : List ℕ). ChangesEntries (Add e) (entries_of (late page.page.0)) (entries_of b))
@@ -244,14 +247,15 @@ module _ (g : Geometry) (owner root : ℕ) (levels : List (List ℕ)) (was : Pag
           adds = refl;
           full = tt;
           next = refl;
+          takes = (made.stands.placed, ap length new_n ∙ (puts.len ∙ roomy.place.len), tt);
         }
 
-        steps : RoomRow g.size owner root (content_in last.pages) (lists last.orders) (Add e) was levels
+        steps : RoomRow g owner root (content_in last.pages) (lists last.orders) (Add e) was levels
             new made.ends e (row_next g.size owner root (content_in second.pages) (lists second.orders) Stay
-            was late levels made.ends made.row e) (made_orders ++ [])
-        steps = append_room g.size owner root (content_in second.pages) (content_in last.pages)
+            was late levels made.ends made.row e) (made_orders ++ []) [] made.ends
+        steps = append_room g owner root (content_in second.pages) (content_in last.pages)
             (lists second.orders) (lists last.orders) (Add e) was late new levels made.ends made.ends e e []
-            (record { has = widens.has; ordered = widens.ordered }) made.row made.full leaf_row
+            [] made.ends (record { has = widens.has; ordered = widens.ordered }) made.row made.full made.takes leaf_row
 
         abbrev row : ChangesTree g.size owner root (content_in last.pages) (lists last.orders) (Add e) was
             levels new made.ends
@@ -291,25 +295,28 @@ module _ (g : Geometry) (owner root : ℕ) (levels : List (List ℕ)) (was : Pag
               puts.puts.same_orders ∙ ap (λ (b : Changed). b.orders) kept.1,
             )
 
-        pub inserts_it : PutsIn g.size was new start last owner root levels e
+        pub inserts_it : PutsAndTakes g was new start last owner root levels e
         inserts_it = record {
-          ends = made.ends;
-          row = row;
-          adds = all_orders;
-          held = held;
-          full = steps.full;
-          tree = changed.tree;
-          no_inventory = made.stands.no_inventory;
-          fresh = made.fresh;
-          others = λ m out none_. others m (λ same. out (subst (InTree made.ends) (sym same)
-              made.stands.placed)) ∙ made.others m out none_;
-          few =
-              let room = made.few in
-              let one = put_few second last page.page.0 puts.bytes puts.puts in
-              omega (arith, room, one);
-          has = has_it;
-          keeps = λ f found. changed.keeps f tt found;
-          only = λ f found. changed.only f found;
-          once = λ found. absurd (absent_there no_place found);
-          in_place = alone;
+          puts = record {
+            ends = made.ends;
+            row = row;
+            adds = all_orders;
+            held = held;
+            full = steps.full;
+            tree = changed.tree;
+            no_inventory = made.stands.no_inventory;
+            fresh = made.fresh;
+            others = λ m out none_. others m (λ same. out (subst (InTree made.ends) (sym same)
+                made.stands.placed)) ∙ made.others m out none_;
+            few =
+                let room = made.few in
+                let one = put_few second last page.page.0 puts.bytes puts.puts in
+                omega (arith, room, one);
+            has = has_it;
+            keeps = λ f found. changed.keeps f tt found;
+            only = λ f found. changed.only f found;
+            once = λ found. absurd (absent_there no_place found);
+            in_place = alone;
+          };
+          takes = steps.takes;
         }

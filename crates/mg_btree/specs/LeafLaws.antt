@@ -180,6 +180,7 @@ module _ {D L : Type 0} (m : Meaning D) (old a : Pool D L) (before batch : Chang
               (lists batch.orders) (Remove e) was levels p levels) (sym pages) (done was levels);
           gone = λ found. none (has_it (subst (λ (p : Pages). Finds p e root) pages found));
           others = λ k out. ap (λ (p : Pages). p k) pages;
+          alone = inl pages;
         }
 
     pub goes_out : PutsWithout before batch read e → TakesOut size was now batch owner root levels e true
@@ -190,6 +191,13 @@ module _ {D L : Type 0} (m : Meaning D) (old a : Pool D L) (before batch : Chang
       gone = removed_gone size owner root was now levels n is.bytes e tree leaf.2 rewrites low put
           (subst IsNodePage leaf.1 leaf.0.is.lawful) removes;
       others = λ k out. others k (λ same. out (subst (InTree levels) (sym same) leaf.2));
+      alone = inr (record {
+        leaf = n;
+        placed = leaf.2;
+        rewrites = rewrites;
+        low = low;
+        len = ap length put ∙ (is.len ∙ leaf.0.len);
+      });
     }
       where
         put : now n ≡ is.bytes

@@ -19,6 +19,7 @@ pub mod Halves
 pub mod Ordering
 pub mod EachOrderLaws
 pub mod RowOrders
+pub mod RowTakings
 pub mod Rooms
 pub mod Growing
 pub mod Making

@@ -167,7 +167,7 @@ module _ {D L : Type 0} (old : Pool D L) (image : Image) (lawful : IsGeometry ol
     (takes : TakesAbove old.geometry (viewed old image start) (viewed old image first) first levels
     (Ok split))
     (roomy : IsRoomy old.geometry.size owner (suc level) split.halves.fence above)
-    (made : MakesRoom old.geometry.size (viewed old image first) (viewed old image second) first second
+    (made : MakesRoom old.geometry (viewed old image first) (viewed old image second) first second
     owner root levels (suc level) split.halves.fence above)
     (taken_alone : TakesAlone 1 start first) (no_room : HasRoom full.bytes e → ⊥)
     (between : Widens old.geometry.size first second) (widens : Widens old.geometry.size second last)
@@ -184,7 +184,7 @@ module _ {D L : Type 0} (old : Pool D L) (image : Image) (lawful : IsGeometry ol
 
     done_ : (half : PageBytes)
         → SplitsPage old.geometry.size second last split.halves above e half
-        → MakesRoom old.geometry.size (viewed old image start) (viewed old image last) start last owner root
+        → MakesRoom old.geometry (viewed old image start) (viewed old image last) start last owner root
         levels level e half
     done_ half is = split_makes old.geometry lawful owner root level levels (viewed old image start)
         (viewed old image first) late first second full e

@@ -1,5 +1,5 @@
 -- Room is made on a page by a split under the page above: the tree goes through a row of steps.
-use Rattle.std.proofs.Common.{◌≡◌, ◌≢◌, ◌⊎◌, inl, inr, ◌∙◌, ap, refl, sym, subst, ◌<◌, ◌≤◌, ◌+◌, ◌*◌, ◌-◌, length, ℕ, suc, true, false, List, ◌∷◌, ◌++◌, Some, None, arith}
+use Rattle.std.proofs.Common.{◌≡◌, ◌≢◌, ◌⊎◌, inl, inr, ◌∙◌, ap, refl, sym, subst, ◌<◌, ◌≤◌, ◌+◌, ◌*◌, ◌-◌, length, ℕ, suc, true, false, List, [], ◌∷◌, ◌++◌, Some, None, arith}
 use Rattle.std.specs.Prelude.{IfSome}
 use Rattle.mg_base.specs.Checks.{PassesAll}
 use Rattle.mg_base.specs.declared.geometry.Geometry.{Geometry}
@@ -31,22 +31,24 @@ use Rattle.mg_btree.specs.Ordering.{EachOrder, Widens, split_orders}
 use Rattle.mg_btree.specs.ParentLaws.{none_of_place}
 use Rattle.mg_btree.specs.Rooms.{MakesRoom, StandsIn, TakesAlone}
 use Rattle.mg_btree.specs.RowOrders.{row_next, row_orders}
-use Rattle.mg_btree.specs.RowOrderLaws.{RoomRow, append_room, ended, joined}
+use Rattle.mg_btree.specs.RowOrderLaws.{RoomRow, append_room, ended, joined, takes_more}
+use Rattle.mg_btree.specs.RowTakings.{TakesItsPages}
 use Rattle.mg_btree.specs.SearchLaws.{in_node}
 use Rattle.mg_btree.specs.SplitRows.{SplitsUnder, splits_row, with_here, with_other, with_page}
 use Rattle.mg_btree.specs.TakeLaws.{no_true, row_used, taken_below, taken_fresh, taken_here, taken_none, taken_room, taken_same, taken_used, unused_before}
 
 -- a page that has room already
-pub makes_nothing : (size : ℕ) (old : Pages) (batch : Changed) (owner root : ℕ)
+pub makes_nothing : (g : Geometry) (old : Pages) (batch : Changed) (owner root : ℕ)
     (levels : List (List ℕ)) (level : ℕ) (e : Entry) (page : PageBytes)
-    → StandsIn size old owner root levels page
-    → MakesRoom size old old batch batch owner root levels level e page
-makes_nothing size old batch owner root levels level e page stands = record {
+    → StandsIn g.size old owner root levels page
+    → MakesRoom g old old batch batch owner root levels level e page
+makes_nothing g old batch owner root levels level e page stands = record {
   ends = levels;
   row = done old levels;
   adds = sym (ended batch.orders);
   held = each_none (λ a b. content_in batch.pages b ≢ None);
   full = tt;
+  takes = tt;
   stands = stands;
   wider = λ n placed. placed;
   used = λ m is. is;
@@ -76,7 +78,7 @@ module _ (g : Geometry) (lawful : IsGeometry g) (owner root level : ℕ) (levels
     (takes : TakesPage g old mid halves.right.page.0)
     (is : AreHalves full.bytes full.page.0 halves.right.page.0 halves)
     (roomy : IsRoomy g.size owner (suc level) halves.fence above)
-    (made : MakesRoom g.size mid late first_batch mid_batch owner root levels (suc level) halves.fence above)
+    (made : MakesRoom g mid late first_batch mid_batch owner root levels (suc level) halves.fence above)
   where
     abbrev l : ℕ
     l = full.page.0
@@ -205,6 +207,11 @@ module _ (g : Geometry) (lawful : IsGeometry g) (owner root level : ℕ) (levels
       halves = halves_late;
       lawful = (is.pair.left_lawful, is.pair.right_lawful, names.lawful);
       two = (is.pair.left_two, is.pair.right_two);
+      len = (
+        is.pair.splits.left_size ∙ place.len,
+        is.pair.splits.right_size ∙ place.len,
+        names.keeps.size ∙ roomy.place.len,
+      );
       keeps = subst (λ (b : List ℕ). KeepsNode b named) (sym late_p) names.keeps;
       inserts = subst (λ (b : List ℕ). InsertsBehindFirst b named halves.fence) (sym late_p) names.inserts;
       child = is.child;
@@ -236,26 +243,35 @@ module _ (g : Geometry) (lawful : IsGeometry g) (owner root level : ℕ) (levels
       made_orders = row_orders g.size owner root (content_in mid_batch.pages) (lists mid_batch.orders)
           Stay mid late levels made.ends made.row
 
-      row_late : RoomRow g.size owner root (content_in batch.pages) (lists batch.orders) Stay late
-          made.ends new ends e halves.fence own_orders
-      row_late = subst (λ (pages : Pages). RoomRow g.size owner root (content_in batch.pages)
-          (lists batch.orders) Stay late made.ends pages ends e halves.fence own_orders) (sym laid)
-          (splits_row g.size owner root (content_in batch.pages) (lists batch.orders) Stay late made.ends
+      row_late : RoomRow g owner root (content_in batch.pages) (lists batch.orders) Stay late
+          made.ends new ends e halves.fence own_orders (halves.right.page.0 ∷ []) ends
+      row_late = subst (λ (pages : Pages). RoomRow g owner root (content_in batch.pages)
+          (lists batch.orders) Stay late made.ends pages ends e halves.fence own_orders
+          (halves.right.page.0 ∷ []) ends) (sym laid)
+          (splits_row g owner root (content_in batch.pages) (lists batch.orders) Stay late made.ends
           full.page.0 halves.right.page.0 above.page.0 halves.left.bytes halves.right.bytes named
-          halves.fence halves.fence e (splits_under named names) order right_put
-          (λ room. no_room (subst (λ (b : List ℕ). HasRoom b e) late_l room)))
+          halves.fence halves.fence e (halves.right.page.0 ∷ []) ends (splits_under named names) order
+          right_put (inl refl) (λ room. no_room (subst (λ (b : List ℕ). HasRoom b e) late_l room)))
 
-      steps : RoomRow g.size owner root (content_in batch.pages) (lists batch.orders) Stay old levels
+      -- what the levels above took, as the whole row tells it
+      taken_above : TakesItsPages g owner root (content_in mid_batch.pages) (lists mid_batch.orders) Stay mid
+          late levels made.ends made.row (halves.right.page.0 ∷ []) ends
+      taken_above = takes_more g owner root (content_in mid_batch.pages) (lists mid_batch.orders) Stay mid late
+          levels made.ends made.row [] (halves.right.page.0 ∷ []) made.ends ends (λ n none. absurd none)
+          (λ n has. tree_wider full.page.0 halves.right.page.0 made.ends n has) made.takes
+
+      steps : RoomRow g owner root (content_in batch.pages) (lists batch.orders) Stay old levels
           new ends e (row_next g.size owner root (content_in mid_batch.pages) (lists mid_batch.orders) Stay
-          mid late levels made.ends made.row halves.fence) (made_orders ++ own_orders)
+          mid late levels made.ends made.row halves.fence) (made_orders ++ own_orders) [] ends
       steps = taken_room g lawful owner root levels stands.no_inventory old mid halves.right.page.0 takes
           stands.tree (content_in batch.pages) (lists batch.orders) Stay new ends e
           (row_next g.size owner root (content_in mid_batch.pages) (lists mid_batch.orders) Stay mid late
-          levels made.ends made.row halves.fence) (made_orders ++ own_orders) bit
-          (append_room g.size owner root (content_in mid_batch.pages) (content_in batch.pages)
+          levels made.ends made.row halves.fence) (made_orders ++ own_orders) [] ends bit
+          (tree_right full.page.0 halves.right.page.0 made.ends placed_l)
+          (append_room g owner root (content_in mid_batch.pages) (content_in batch.pages)
           (lists mid_batch.orders) (lists batch.orders) Stay mid late new levels made.ends ends e
-          halves.fence own_orders (record { has = widens.has; ordered = widens.ordered }) made.row
-          made.full row_late)
+          halves.fence own_orders (halves.right.page.0 ∷ []) ends
+          (record { has = widens.has; ordered = widens.ordered }) made.row made.full taken_above row_late)
 
       abbrev row : ChangesTree g.size owner root (content_in batch.pages) (lists batch.orders) Stay old
           levels new ends
@@ -403,13 +419,14 @@ module _ (g : Geometry) (lawful : IsGeometry g) (owner root level : ℕ) (levels
               (sym same) (sym new_r, tree_right full.page.0 halves.right.page.0 made.ends placed_l)
 
       pub split_makes : (half : PageBytes) → (half ≡ halves.left) ⊎ (half ≡ halves.right)
-          → MakesRoom g.size old new before batch owner root levels level e half
+          → MakesRoom g old new before batch owner root levels level e half
       split_makes half which = record {
         ends = ends;
         row = row;
         adds = all_orders;
         held = held;
         full = steps.full;
+        takes = steps.takes;
         stands = half_stands half which;
         wider = λ n placed. tree_wider full.page.0 halves.right.page.0 made.ends n (made.wider n placed);
         used = row_used g.size owner root (content_in batch.pages) (lists batch.orders) Stay old new levels

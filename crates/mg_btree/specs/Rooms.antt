@@ -18,6 +18,7 @@ use Rattle.mg_btree.specs.declared.halves.PageBytes.{PageBytes}
 use Rattle.mg_btree.specs.Changing.{HasNoInventory}
 use Rattle.mg_btree.specs.Ordering.{EachOrder}
 use Rattle.mg_btree.specs.RowOrders.{SplitsFull, row_orders}
+use Rattle.mg_btree.specs.RowTakings.{TakesItsPages}
 
 -- pages are taken, one after another
 abbrev pub TakesEach : Geometry → Pages → List ℕ → Pages → Type 0
@@ -52,26 +53,28 @@ pub record StandsIn (size : ℕ) (pages : Pages) (owner root : ℕ) (levels : Li
 
 -- A tree is changed by a row of steps that leave its entries, so that an entry has room, after which a
 -- page of it has these bytes. Its pages below a level stay as they were; it has new pages, which were
--- not used. The batch has the orders of the row more, one by one, and a page splits only where the
--- entry that it is to have does not fit.
-pub record MakesRoom (size : ℕ) (old new : Pages) (before batch : Changed) (owner root : ℕ)
+-- not used: each was taken by the row. The batch has the orders of the row more, one by one, and a page
+-- splits only where the entry that it is to have does not fit.
+pub record MakesRoom (g : Geometry) (old new : Pages) (before batch : Changed) (owner root : ℕ)
     (levels : List (List ℕ)) (level : ℕ) (e : Entry) (page : PageBytes) : Type 0 where
   pub ends : List (List ℕ)
-  pub row : ChangesTree size owner root (content_in batch.pages) (lists batch.orders) Stay old levels
+  pub row : ChangesTree g.size owner root (content_in batch.pages) (lists batch.orders) Stay old levels
       new ends
-  pub adds : batch.orders ≡ before.orders ++ row_orders size owner root (content_in batch.pages)
+  pub adds : batch.orders ≡ before.orders ++ row_orders g.size owner root (content_in batch.pages)
       (lists batch.orders) Stay old new levels ends row
   -- the later page of each is in the batch
-  pub held : EachOrder (λ a b. content_in batch.pages b ≢ None) (row_orders size owner root
+  pub held : EachOrder (λ a b. content_in batch.pages b ≢ None) (row_orders g.size owner root
       (content_in batch.pages) (lists batch.orders) Stay old new levels ends row)
-  pub full : SplitsFull size owner root (content_in batch.pages) (lists batch.orders) Stay old new levels
+  pub full : SplitsFull g.size owner root (content_in batch.pages) (lists batch.orders) Stay old new levels
       ends row e
-  pub stands : StandsIn size new owner root ends page
+  pub takes : TakesItsPages g owner root (content_in batch.pages) (lists batch.orders) Stay old new levels
+      ends row [] ends
+  pub stands : StandsIn g.size new owner root ends page
   pub wider : (n : ℕ) → InTree levels n → InTree ends n
-  pub used : StaysUsed size old new
-  pub fresh : (n : ℕ) → InTree ends n → InTree levels n ⊎ (is_used size old n ≡ false)
+  pub used : StaysUsed g.size old new
+  pub fresh : (n : ℕ) → InTree ends n → InTree levels n ⊎ (is_used g.size old n ≡ false)
   -- no page changes but the tree's and those of the page inventory
-  pub others : (n : ℕ) → (InTree ends n → ⊥) → IsNoInventory size n → new n ≡ old n
+  pub others : (n : ℕ) → (InTree ends n → ⊥) → IsNoInventory g.size n → new n ≡ old n
   -- the batch has at most four pages more for each level above, and five for the root
   pub few : length batch.pages ≤ length before.pages + (4 * (level_in (old root) - level) + 5)
   pub stays : (n : ℕ) → InTree levels n → level_in (old n) < level → new n ≡ old n
@@ -93,6 +96,6 @@ RefusesRoom g old root level (OfPool fault) = Unit {0}
 abbrev pub MakesRoomIn : Geometry → Pages → Pages → Changed → Changed → ℕ → ℕ → List (List ℕ) → ℕ
     → Entry → Result PageBytes SpaceFault → Type 0
 MakesRoomIn g old new before batch owner root levels level e (Ok page) =
-    MakesRoom g.size old new before batch owner root levels level e page
+    MakesRoom g old new before batch owner root levels level e page
 MakesRoomIn g old new before batch owner root levels level e (Err fault) =
     RefusesRoom g old root level fault

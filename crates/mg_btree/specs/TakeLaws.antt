@@ -1,5 +1,5 @@
 -- Laws of pages that are taken for a tree: the tree stays, and the page is none of it.
-use Rattle.std.proofs.Common.{◌≡◌, ◌≢◌, refl, sym, ◌<◌, ◌/◌, ℕ, Bool, true, false, List, Option, None, arith}
+use Rattle.std.proofs.Common.{◌≡◌, ◌≢◌, refl, sym, ◌<◌, ◌/◌, ℕ, Bool, true, false, List, ◌∷◌, Option, None, arith}
 use Rattle.mg_base.specs.declared.geometry.Geometry.{Geometry}
 use Rattle.mg_base.specs.declared.geometry.TheConstants.{GREATEST_LIMIT}
 use Rattle.mg_careful.specs.Precedence.{Orders}
@@ -16,7 +16,7 @@ use Rattle.mg_tree_overlays.specs.TreeBatches.{ChangesTree, EntryChange, IsNoInv
 use Rattle.mg_tree_overlays.specs.GrowParts.{unused_fresh}
 use Rattle.mg_tree_overlays.specs.PoolLaws.{beside_tree}
 use Rattle.mg_btree.specs.Changing.{HasNoInventory}
-use Rattle.mg_btree.specs.RowOrderLaws.{RoomRow, beside_room}
+use Rattle.mg_btree.specs.RowOrderLaws.{RoomRow, takes_room}
 
 -- what a row of steps used is used still
 pub row_used : (size owner root : ℕ) (batch : ℕ → Option (List ℕ)) (orders : Orders)
@@ -82,10 +82,11 @@ module _ (g : Geometry) (lawful : IsGeometry g) (owner root : ℕ) (levels : Lis
 
   -- the step of its inventory page
   pub taken_room : (batch : ℕ → Option (List ℕ)) (orders : Orders) (change : EntryChange) (last : Pages)
-      (ends : List (List ℕ)) (e first : Entry) (added : List Order)
-      → batch (inventory_of g.size n) ≢ None
-      → RoomRow g.size owner root batch orders change new levels last ends e first added
-      → RoomRow g.size owner root batch orders change old levels last ends e first added
-  taken_room batch orders change last ends e first added some more = beside_room g.size owner root batch
-      orders change old new last levels ends (inventory_of g.size n) e first added takes.others taken_used
-      some taken_beside more
+      (ends : List (List ℕ)) (e first : Entry) (added : List Order) (taken : List ℕ) (at_end : List (List ℕ))
+      → batch (inventory_of g.size n) ≢ None → InTree at_end n
+      → RoomRow g owner root batch orders change new levels last ends e first added (n ∷ taken) at_end
+      → RoomRow g owner root batch orders change old levels last ends e first added taken at_end
+  taken_room batch orders change last ends e first added taken at_end some placed more = takes_room g owner root
+      batch orders change old new last levels ends (inventory_of g.size n) e first added taken at_end
+      takes.others taken_used some taken_beside
+      (record { page = n; takes = takes; marks = refl; placed = placed }) more

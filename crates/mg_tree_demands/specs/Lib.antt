@@ -4,3 +4,15 @@ pub mod NodeLinks
 pub mod TreeTies
 pub mod Rows
 pub mod RowTies
+pub mod Taken
+pub mod TakenLaws
+pub mod NamedFirst
+pub mod TakenSteps
+pub mod SplitPays
+pub mod GrowPays
+pub mod TakenTies
+pub mod Calls
+pub mod CallTies
+pub mod CallRows
+pub mod TreeRuns
+pub mod WholeTrees

@@ -40,7 +40,7 @@ RowsPay = (size owner root : ℕ) (batch : ℕ → Option (List ℕ)) (orders : 
 -- ---- orders
 
 -- these orders have those of a page that comes to name another one
-to_first : (size : ℕ) (orders : Orders) (n later : ℕ)
+pub to_first : (size : ℕ) (orders : Orders) (n later : ℕ)
     → ((a b : ℕ) → lists (orders_to size n later) a b ≡ true → orders a b ≡ true) → IsNodeFirst size orders n later
 to_first size orders n later have = record {
   page = have n later (page_before size n later);
@@ -48,37 +48,51 @@ to_first size orders n later have = record {
 }
 
 module _ (size : ℕ) (orders : Orders) (names : List PageNo) (l r p : ℕ) (rest : List Order) (have : (a b : ℕ) → lists (split_orders size names l r p ++ rest) a b ≡ true → orders a b ≡ true) where
-  of_split : (a b : ℕ) → lists (orders_to size r l ++ (orders_to size r p ++ (before l p ∷ []))) a b ≡ true
+  pub of_split : (a b : ℕ) → lists (orders_to size r l ++ (orders_to size r p ++ (before l p ∷ []))) a b ≡ true
       → orders a b ≡ true
   of_split a b is = have a b (lists_sooner (split_orders size names l r p) rest a b
       (lists_later (orders_for size names r) (orders_to size r l ++ (orders_to size r p ++ (before l p ∷ []))) a b is))
 
-  right_left : IsNodeFirst size orders r l
+  pub of_names : (a b : ℕ) → lists (orders_for size names r) a b ≡ true → orders a b ≡ true
+  of_names a b is = have a b (lists_sooner (split_orders size names l r p) rest a b
+      (lists_sooner (orders_for size names r) (orders_to size r l ++ (orders_to size r p ++ (before l p ∷ []))) a b is))
+
+  pub right_left : IsNodeFirst size orders r l
   right_left = to_first size orders r l (λ a b is. of_split a b
       (lists_sooner (orders_to size r l) (orders_to size r p ++ (before l p ∷ [])) a b is))
 
-  right_parent : IsNodeFirst size orders r p
+  pub right_parent : IsNodeFirst size orders r p
   right_parent = to_first size orders r p (λ a b is. of_split a b
       (lists_later (orders_to size r l) (orders_to size r p ++ (before l p ∷ [])) a b
       (lists_sooner (orders_to size r p) (before l p ∷ []) a b is)))
 
 module _ (size : ℕ) (orders : Orders) (left right : List PageNo) (root a b : ℕ) (rest : List Order) (have : (x y : ℕ) → lists (root_orders size left right root a b ++ rest) x y ≡ true → orders x y ≡ true) where
-  of_root : (x y : ℕ) → lists (orders_to size a root ++ orders_to size b root) x y ≡ true → orders x y ≡ true
+  pub of_root : (x y : ℕ) → lists (orders_to size a root ++ orders_to size b root) x y ≡ true → orders x y ≡ true
   of_root x y is = have x y (lists_sooner (root_orders size left right root a b) rest x y
       (lists_later (orders_for size right b) (orders_for size left a ++ (orders_to size a root ++ orders_to size b root)) x y
       (lists_later (orders_for size left a) (orders_to size a root ++ orders_to size b root) x y is)))
 
-  first_root : IsNodeFirst size orders a root
+  pub of_left : (x y : ℕ) → lists (orders_for size left a) x y ≡ true → orders x y ≡ true
+  of_left x y is = have x y (lists_sooner (root_orders size left right root a b) rest x y
+      (lists_later (orders_for size right b) (orders_for size left a ++ (orders_to size a root ++ orders_to size b root)) x y
+      (lists_sooner (orders_for size left a) (orders_to size a root ++ orders_to size b root) x y is)))
+
+  pub of_right : (x y : ℕ) → lists (orders_for size right b) x y ≡ true → orders x y ≡ true
+  of_right x y is = have x y (lists_sooner (root_orders size left right root a b) rest x y
+      (lists_sooner (orders_for size right b) (orders_for size left a ++ (orders_to size a root ++ orders_to size b root))
+      x y is))
+
+  pub first_root : IsNodeFirst size orders a root
   first_root = to_first size orders a root (λ x y is. of_root x y
       (lists_sooner (orders_to size a root) (orders_to size b root) x y is))
 
-  second_root : IsNodeFirst size orders b root
+  pub second_root : IsNodeFirst size orders b root
   second_root = to_first size orders b root (λ x y is. of_root x y
       (lists_later (orders_to size a root) (orders_to size b root) x y is))
 
 -- ---- what is wanted is wanted still
 
-node_on : (size : ℕ) (wanted more : DemandSet) (n owner level : ℕ) → WantsNode size wanted n owner level
+pub node_on : (size : ℕ) (wanted more : DemandSet) (n owner level : ℕ) → WantsNode size wanted n owner level
     → WantsNode size (either wanted more) n owner level
 node_on size wanted more n owner level wants = record {
   page = in_one wanted more (want_of n NODE owner level) wants.page;

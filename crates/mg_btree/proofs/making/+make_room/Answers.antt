@@ -20,7 +20,7 @@ use Rattle.mg_btree.proofs.making.+make_room.Goals as goal
 
 pub returns-then-has_room-clause-makes : goal.returns-then-has_room-clause-makes
 returns-then-has_room-clause-makes g t c = λ image levels tells top stands. makes_nothing
-    c.args.store.now.geometry.size (viewed c.args.store.now image c.args.batch.now) c.args.batch.now
+    c.args.store.now.geometry (viewed c.args.store.now image c.args.batch.now) c.args.batch.now
     c.args.top.owner c.args.top.page.0 levels c.args.level c.args.e.now c.args.full stands
 
 pub returns-in_err-split-clause-makes : goal.returns-in_err-split-clause-makes

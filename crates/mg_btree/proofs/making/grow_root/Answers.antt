@@ -1,4 +1,4 @@
-use Rattle.std.proofs.Common.{refl, subst, Ok, Err, arith}
+use Rattle.std.proofs.Common.{rules, ◌<◌, refl, subst, Ok, Err, arith}
 use Rattle.mg_base.specs.declared.geometry.Geometry.{Geometry}
 use Rattle.mg_space.specs.View.{viewed}
 use Rattle.mg_space.specs.declared.fault.SpaceFault.TheVariants.{Damaged as OfPage}
@@ -61,11 +61,12 @@ returns-clause-roomy g c = root_roomy c.args.store.now.geometry.size c.args.top.
     c.in_ok-put_growth.ensures.splits)
 
 pub returns-clause-makes : goal.returns-clause-makes
-returns-clause-makes g c = λ image levels tells top stands. root_put c.args.store.now image
+returns-clause-makes g c = λ image levels tells top stands.
+    let below_highest : c.args.top.level < 65535 = (search rules) in root_put c.args.store.now image
     c.requires.geometry c.args.batch.now c.take_two.new.batch c.put_growth.new.batch c.args.top.owner
     c.args.top.page.0 c.args.top.level levels c.args.full c.in_ok-two.two c.args.e.now
-    c.in_ok-put_growth.field-0 stands c.requires.place top (c.in_ok-two.ensures.takes image tells)
-    c.in_ok-two.ensures.alone c.requires.no_room
+    c.in_ok-put_growth.field-0 stands c.requires.place top below_highest
+    (c.in_ok-two.ensures.takes image tells) c.in_ok-two.ensures.alone c.requires.no_room
     (subst (λ (k : Geometry). Widens k.size c.take_two.new.batch c.put_growth.new.batch)
     c.in_ok-two.ensures.reads.keeps.geometry c.in_ok-put_growth.ensures.widens)
     (subst (λ (k : Geometry). SplitsRoot k.size c.take_two.new.batch c.put_growth.new.batch
