@@ -27,7 +27,7 @@ use Rattle.mg_space.specs.Taking.{region_of}
 use Rattle.mg_space.specs.TakingLaws.{page_sizes, takes_bit}
 use Rattle.mg_space.specs.View.{viewed}
 use Rattle.mg_space.specs.ViewLaws.{viewed_else, viewed_here}
-use Rattle.mg_space.specs.declared.links.TheConstants.{BIT, POINTER}
+use Rattle.mg_space.specs.declared.links.TheConstants.{BIT, DATA, POINTER}
 use Rattle.mg_table_batch.specs.Filling.{FillsTable, PutsRow, PutsRows, PutsTable, TakesFirst, page_of_version, puts_more, puts_none, rows_at}
 use Rattle.mg_value.specs.declared.shape.Shape.{Shape}
 use Rattle.mg_version.specs.declared.cell.TheConstants.{ANCHOR_LEN}
@@ -42,7 +42,10 @@ use Rattle.mg_batch_ties.specs.GrowthTies.{have_room}
 use Rattle.mg_batch_ties.specs.Lists.{HaveOrders, have_same, have_sooner}
 use Rattle.mg_batch_ties.specs.OrderlyTies.{in_parts, orderly_else, orderly_less, taking_else}
 use Rattle.mg_batch_ties.specs.TableTies.{bit_wanted, count_is}
-use Rattle.mg_batch_ties.specs.Wants.{AreOrderly, IsOrderly}
+use Rattle.mg_batch_ties.specs.Wants.{AreOrderly, IsOrderly, data_taken}
+use Rattle.mg_chain_demands.specs.Chained.{IsChained}
+use Rattle.mg_chain_demands.specs.ChainedLaws.{chained_else}
+use Rattle.mg_chain_demands.specs.WriteChains.{chained_both}
 use Rattle.mg_table_demands.specs.Parts.{KnowsTable, PaysPart, PaysRoom, PaysTable}
 use Rattle.mg_table_demands.specs.PartLaws.{knows_on, no_part, part_ordered, place_part, record_part, two_parts}
 
@@ -167,6 +170,24 @@ module _ {D L : Type 0} (store : Pool D L) (image : Image) (t : ℕ) (orders : O
           (subst (IsOrderly size) (sym here) root_page)
     ]
 
+    -- no data page changes, and what is newly wanted is of other kinds
+    bit_chained : IsChained size (viewed store image takes.taken) (either wanted (listed bit))
+    bit_chained = chained_else size (viewed store image old) (viewed store image takes.taken) wanted (listed bit)
+        knows.chained
+        (λ n of. takes.takes.others n (λ same. (data_taken size (viewed store image old) wanted knows.wants n knows.header
+        of).off_inventory (region_of size page) (sym same)))
+        (λ d h. let nine : d.what ≡ 9 = ap (λ (x : Demand). x.what)
+        (is_demand (inventory_page size (region_of size page)) BIT page 0 d (of_listed bit d h)) in
+        (λ is. omega (arith, nine, is), λ is. omega (arith, nine, is)))
+
+    root_chained : IsChained size (viewed store image new) (either (either wanted (listed bit)) (listed root))
+    root_chained = chained_else size (viewed store image takes.taken) (viewed store image new) (either wanted (listed bit))
+        (listed root) bit_chained
+        (λ n of. viewed_else store image takes.taken new page bytes takes.puts n
+        (unwanted (want_of n DATA of.owner of.place) of.wants.page))
+        (λ d h. let four : d.what ≡ 4 = ap (λ (x : Demand). x.what) (one_of (want_of page POINTER page 0) d h) in
+        (λ is. omega (arith, four, is), λ is. omega (arith, four, is)))
+
     pub first_part : PaysTable store image old new t page orders settled on_disk wanted
     first_part = record {
       part = record {
@@ -175,6 +196,7 @@ module _ {D L : Type 0} (store : Pool D L) (image : Image) (t : ℕ) (orders : O
             settled on_disk wanted bit root bit_step root_step;
         orderly = orderly_less size (viewed store image new) (either (either wanted (listed bit)) (listed root))
             (either wanted (listed (bit ++ root))) with_root (in_parts wanted bit root);
+        chained = chained_both size (viewed store image new) wanted bit root root_chained;
         own = λ d h is. elim (has_either bit root d h) [
           | inl x ↦ let nine : d.what ≡ 9 = ap (λ (e : Demand). e.what)
               (is_demand (inventory_page size (region_of size page)) BIT page 0 d x) in absurd (omega (arith, nine, is))

@@ -1,9 +1,10 @@
 pub mod Parts
 pub mod PartLaws
 pub mod FillTies
-pub mod NoPointers
+pub mod NoTablePages
 pub mod Keeping
 pub mod OpenedTables
+pub mod OpenedChains
 pub mod KeepingTies
 pub mod NumberTies
 pub mod Unmaking

@@ -1,16 +1,13 @@
 -- Pointer pages are orderly where a sound image is opened, and stay so where none of them changes.
 use Rattle.std.specs.Prelude.{◌≡◌, ◌≢◌, ◌<◌, ◌++◌, ◌==◌, ◌+◌, ◌-◌, ◌/◌, ℕ, zero, suc, Bool, true, false, List, [], ◌∷◌, if◌then◌else◌}
 use Rattle.std.proofs.Common.{inl, inr, refl, sym, subst, ap, ◌∙◌, arith}
-use Rattle.std.proofs.Math.Path.{fun_ext}
 use Rattle.std.proofs.lemmas.Bool.{both_ways, cases_eq, eq-eqb}
 use Rattle.mg_base.specs.Fields.{byte}
 use Rattle.mg_base.specs.declared.geometry.TheConstants.{GREATEST_LIMIT}
 use Rattle.mg_base.specs.declared.transaction.TxState.{TxState}
 use Rattle.mg_careful.specs.declared.links.Demand.{Demand}
-use Rattle.mg_careful.specs.CarefulWrite.{Cache, DemandSet, Has, IsIn, ListsAreSets, either}
+use Rattle.mg_careful.specs.CarefulWrite.{DemandSet, Has, IsIn, ListsAreSets, either}
 use Rattle.mg_demands.specs.Wanted.{roots_wanted, wanted, wanted_have}
-use Rattle.mg_demand_ties.specs.Runs.{IsLasting, Lasting}
-use Rattle.mg_demand_ties.specs.Starts.{IsOpened, OpenedBears, wanted_in}
 use Rattle.mg_header.specs.HeaderPage.{header_in}
 use Rattle.mg_image.specs.Form.{Form, Pages}
 use Rattle.mg_image.specs.Records.{Reading, slot_cell}
@@ -30,20 +27,13 @@ use Rattle.mg_batch_demands.specs.Wanting.{IsWanting, want_of}
 use Rattle.mg_batch_ties.specs.OrderlyTies.{orderly_else}
 use Rattle.mg_batch_ties.specs.TableTies.{later_place}
 use Rattle.mg_batch_ties.specs.Wants.{AreOrderly, IsOrderly, pointer_passes}
-use Rattle.mg_table_demands.specs.Keeping.{BearsTables}
-use Rattle.mg_table_demands.specs.NoPointers.{NoPointer, no_bit, no_both, no_data, no_demand, no_empty, no_linked, no_node, no_tip, no_tree, no_wanted}
+use Rattle.mg_table_demands.specs.NoTablePages.{NoneOf, no_bit, no_both, no_data, no_demand, no_empty, no_linked, no_node, no_tip, no_tree, no_wanted}
 
 -- the law of openings: of what is wanted of a sound image from its roots on, the pointer pages are orderly
 abbrev pub OpenedIsOrderly : Form → Type 0
 OpenedIsOrderly form = (size : ℕ) (state : ℕ → TxState) (pages : Pages) (layout : Layout) (r : Reading)
     → IsSoundBy form size state pages layout r → EachStand (IsFilled size pages) (stands_of layout)
     → AreOrderly size pages (wanted demands_of pages (roots_of size layout))
-
--- the law of openings, as a caller has it who keeps one invariant over the cache
-abbrev pub OpenedTablesBear : Form → Type 0
-OpenedTablesBear form = (size : ℕ) (state : ℕ → TxState) (cache : Cache) (it : Lasting) (layout : Layout) (r : Reading)
-    → IsOpened form size state cache layout r → IsLasting it
-    → BearsTables size cache it (wanted_in size cache layout) (wanted_in size cache layout)
 
 -- the law of changes: where no pointer page changes, and none is wanted newly
 abbrev pub OrderStays : Type 0
@@ -55,12 +45,12 @@ pub order_stays : OrderStays
 order_stays size old new wanted more was orderly same none = orderly_else size old new wanted more orderly
     (λ n owner at h. same n (pointer_kind (old n) n owner at (pointer_passes size old wanted was n owner at h))) none
 
-sets : ListsAreSets
+pub sets : ListsAreSets
 sets list d = (λ h. in_listed list d h, λ h. of_listed list d h)
 
 -- ---- chains
 
-head_in : (next : ℕ → ℕ) (n : ℕ) (ns : List ℕ) → LinkChain next n ns → n ≢ 0 → HasPage ns n
+pub head_in : (next : ℕ → ℕ) (n : ℕ) (ns : List ℕ) → LinkChain next n ns → n ≢ 0 → HasPage ns n
 head_in next n ns ended some = absurd (some refl)
 head_in next n ns (goes k ks other more) some = inl refl
 
@@ -71,13 +61,13 @@ next_in_chain next n ns (goes m ms other more) k (inl same) some = inr (subst (�
     (head_in next (next m) ms more (λ none. some (ap next same ∙ none))))
 next_in_chain next n ns (goes m ms other more) k (inr h) some = inr (next_in_chain next (next m) ms more k h some)
 
-each_stand : (P : Stand → Type 0) (stands : List Stand) (stand : Stand) → EachStand P stands → HasStand stands stand
+pub each_stand : (P : Stand → Type 0) (stands : List Stand) (stand : Stand) → EachStand P stands → HasStand stands stand
     → P stand
 each_stand P [] stand each h = absurd h
 each_stand P (s ∷ ss) stand each (inl same) = subst P (sym same) each.0
 each_stand P (s ∷ ss) stand each (inr h) = each_stand P ss stand each.1 h
 
-entries_there : (pages : Pages) (ns : List ℕ) (n m : ℕ) → HasPage ns n → HasPage (entries_of (pages n)) m
+pub entries_there : (pages : Pages) (ns : List ℕ) (n m : ℕ) → HasPage ns n → HasPage (entries_of (pages n)) m
     → HasPage (entries_in pages ns) m
 entries_there pages [] n m h there = absurd h
 entries_there pages (k ∷ ks) n m (inl same) there = front (entries_of (pages k)) (entries_in pages ks)
@@ -94,6 +84,12 @@ entries_there pages (k ∷ ks) n m (inr h) there = back (entries_of (pages k)) (
     back (x ∷ xs) h = inr (back xs h)
 
 module _ (form : Form) (size : ℕ) (state : ℕ → TxState) (pages : Pages) (layout : Layout) (r : Reading) (sound : IsSoundBy form size state pages layout r) (filled : EachStand (IsFilled size pages) (stands_of layout)) (from : WantsFrom size pages (roots_of size layout)) where
+  low : 3 < POINTER
+  low = omega arith
+
+  high : POINTER < 6
+  high = omega arith
+
   abbrev all : DemandSet
   all = wanted demands_of pages (roots_of size layout)
 
@@ -101,14 +97,14 @@ module _ (form : Form) (size : ℕ) (state : ℕ → TxState) (pages : Pages) (l
   was = from.wants
 
   -- a page is a pointer page of one of the tables
-  abbrev InStand : ℕ → Type 0
+  abbrev pub InStand : ℕ → Type 0
   InStand n = (stand : Stand) × HasStand (stands_of layout) stand × HasPage stand.pointers n
 
   -- what is wanted as a pointer page is one
   abbrev IsPlaced : Demand → Type 0
   IsPlaced d = IsIn all d × (d.what ≡ POINTER → InStand d.target)
 
-  stand_pages : (stand : Stand) → HasStand (stands_of layout) stand → HasTablePages form.in_primary size pages stand
+  pub stand_pages : (stand : Stand) → HasStand (stands_of layout) stand → HasTablePages form.in_primary size pages stand
   stand_pages stand h = each_stand (HasTablePages form.in_primary size pages) (stands_of layout) stand sound.tables h
 
   -- a table's first pointer page is
@@ -125,7 +121,7 @@ module _ (form : Form) (size : ℕ) (state : ℕ → TxState) (pages : Pages) (l
               (head_in (λ n. next_in (pages n)) stand.table.pointer.0 stand.pointers (stand_pages stand h).chain
               (stand_pages stand h).first),
         )
-        | inr y ↦ absurd (no_bit size stand.table.pointer.0 e y what)
+        | inr y ↦ absurd (no_bit POINTER low high size stand.table.pointer.0 e y what)
       ]
 
   -- and so is the next one of a pointer page
@@ -137,10 +133,10 @@ module _ (form : Form) (size : ℕ) (state : ℕ → TxState) (pages : Pages) (l
         | inr y ↦ behind (next_in (pages n) == 0) refl y
       ]
     where
-      no_entries : (k : ℕ) → NoPointer (entry_demands size (pages n) owner at k)
-      no_entries zero = no_empty
-      no_entries (suc k) = no_both (entry_demands size (pages n) owner at k) (entry_demand size (pages n) owner at k)
-          (no_entries k) (no_linked size _ DATA owner _ (λ is. omega (arith, is)))
+      no_entries : (k : ℕ) → NoneOf POINTER (entry_demands size (pages n) owner at k)
+      no_entries zero = no_empty POINTER low high
+      no_entries (suc k) = no_both POINTER low high (entry_demands size (pages n) owner at k) (entry_demand size (pages n) owner at k)
+          (no_entries k) (no_linked POINTER low high size _ DATA owner _ (λ is. omega (arith, is)))
 
       behind : (b : Bool) → (next_in (pages n) == 0) ≡ b
           → Has (if b then [] else linked size (next_in (pages n)) POINTER owner (at + 1)) e → InStand e.target
@@ -155,7 +151,7 @@ module _ (form : Form) (size : ℕ) (state : ℕ → TxState) (pages : Pages) (l
                   (next_in_chain (λ k. next_in (pages k)) its.0.table.pointer.0 its.0.pointers (stand_pages its.0 its.1).chain n
                   its.2 (λ none. both_ways _ is (eq-eqb (next_in (pages n)) 0 none))),
             )
-            | inr z ↦ absurd (no_bit size (next_in (pages n)) e z what)
+            | inr z ↦ absurd (no_bit POINTER low high size (next_in (pages n)) e z what)
           ]
 
   -- ---- along links
@@ -163,7 +159,7 @@ module _ (form : Form) (size : ℕ) (state : ℕ → TxState) (pages : Pages) (l
   header_placed : (e : Demand) → Has (header_demands size (pages 0)) e → e.what ≡ POINTER → InStand e.target
   header_placed e made what = elim (has_either (linked size (header_in (pages 0)).last_tip.0 TRANSACTIONS
       (((header_in (pages 0)).next.0 - 1) / places size) 0) _ e made) [
-        | inl x ↦ absurd (no_linked size (header_in (pages 0)).last_tip.0 TRANSACTIONS
+        | inl x ↦ absurd (no_linked POINTER low high size (header_in (pages 0)).last_tip.0 TRANSACTIONS
             (((header_in (pages 0)).next.0 - 1) / places size) 0 (λ is. omega (arith, is)) e x what)
         | inr y ↦ first_placed layout.catalog (inl refl) e
             (subst (λ (k : ℕ). Has (linked size k POINTER k 0) e) (sym (ap (λ (t : Table). t.pointer.0) sound.catalog)) y) what
@@ -182,25 +178,25 @@ module _ (form : Form) (size : ℕ) (state : ℕ → TxState) (pages : Pages) (l
       so what (of_header is head) = header_placed e
           (subst (λ (n : ℕ). Has (header_demands size (pages n)) e) (ap (λ (x : Demand). x.target) is)
           (by (want_of 0 HEADER d.a d.b) is)) what
-      so what (of_next is head below) = absurd (no_empty e (by (want_of 0 NEXT d.a d.b) is) what)
+      so what (of_next is head below) = absurd (no_empty POINTER low high e (by (want_of 0 NEXT d.a d.b) is) what)
       so what (of_tip is passes) =
-          absurd (no_tip size (pages d.target) d.a e (by (want_of d.target TRANSACTIONS d.a d.b) is) what)
+          absurd (no_tip POINTER low high size (pages d.target) d.a e (by (want_of d.target TRANSACTIONS d.a d.b) is) what)
       so what (of_pointer is passes) = next_placed d.target d.a d.b (placed.1 (ap (λ (x : Demand). x.what) is)) e
           (by (want_of d.target POINTER d.a d.b) is) what
-      so what (of_data is passes) = absurd (no_data (pages d.target) e (by (want_of d.target DATA d.a d.b) is) what)
-      so what (of_version is there) = absurd (no_wanted (slot_cell (cell_of (pages d.target) d.a)) e
+      so what (of_data is passes) = absurd (no_data POINTER low high (pages d.target) e (by (want_of d.target DATA d.a d.b) is) what)
+      so what (of_version is there) = absurd (no_wanted POINTER low high (slot_cell (cell_of (pages d.target) d.a)) e
           (by (want_of d.target VERSION d.a d.b) is) what)
-      so what (of_tree is passes) = absurd (no_tree size (pages d.target) d.a e (by (want_of d.target TREE d.a d.b) is) what)
+      so what (of_tree is passes) = absurd (no_tree POINTER low high size (pages d.target) d.a e (by (want_of d.target TREE d.a d.b) is) what)
       so what (of_node is passes level) =
-          absurd (no_node size (pages d.target) d.a e (by (want_of d.target NODE d.a d.b) is) what)
-      so what (of_bit is passes used) = absurd (no_empty e (by (want_of d.target BIT d.a d.b) is) what)
+          absurd (no_node POINTER low high size (pages d.target) d.a e (by (want_of d.target NODE d.a d.b) is) what)
+      so what (of_bit is passes used) = absurd (no_empty POINTER low high e (by (want_of d.target BIT d.a d.b) is) what)
 
   -- ---- from the roots
 
-  no_index : (owner : ℕ) (indexes : List Index) → NoPointer (index_roots size owner indexes)
-  no_index owner [] = no_empty
-  no_index owner (index ∷ indexes) = no_both (linked size index.root.0 TREE owner 0) (index_roots size owner indexes)
-      (no_linked size index.root.0 TREE owner 0 (λ is. omega (arith, is))) (no_index owner indexes)
+  no_index : (owner : ℕ) (indexes : List Index) → NoneOf POINTER (index_roots size owner indexes)
+  no_index owner [] = no_empty POINTER low high
+  no_index owner (index ∷ indexes) = no_both POINTER low high (linked size index.root.0 TREE owner 0) (index_roots size owner indexes)
+      (no_linked POINTER low high size index.root.0 TREE owner 0 (λ is. omega (arith, is))) (no_index owner indexes)
 
   table_placed : (stands : List Stand) → ((s : Stand) → HasStand stands s → HasStand (stands_of layout) s) → (e : Demand)
       → Has (table_roots size stands) e → e.what ≡ POINTER → InStand e.target
@@ -220,7 +216,7 @@ module _ (form : Form) (size : ℕ) (state : ℕ → TxState) (pages : Pages) (l
   of_roots e h = (
     roots_wanted demands_of meets_of pages (roots_of size layout) sets e h,
     λ what. elim (has_either (demand 0 HEADER 0 0) (table_roots size (stands_of layout)) e h) [
-      | inl x ↦ absurd (no_demand 0 HEADER 0 0 (λ is. omega (arith, is)) e x what)
+      | inl x ↦ absurd (no_demand POINTER low high 0 HEADER 0 0 (λ is. omega (arith, is)) e x what)
       | inr y ↦ table_placed (stands_of layout) (λ s there. there) e y what
     ],
   )
@@ -247,17 +243,14 @@ module _ (form : Form) (size : ℕ) (state : ℕ → TxState) (pages : Pages) (l
     full = each_stand (IsFilled size pages) (stands_of layout) stand filled h n there;
   }
 
+  -- a pointer page that is wanted is one of a table
+  pub pointer_in : (n owner at : ℕ) → IsIn all (want_of n POINTER owner at) → InStand n
+  pointer_in n owner at h = (wanted_have demands_of meets_of pages (roots_of size layout) sets IsPlaced of_roots along
+      (want_of n POINTER owner at) h).1 refl
+
   pub opened_orderly : AreOrderly size pages all
-  opened_orderly n owner at h = orderly_in n ((wanted_have demands_of meets_of pages (roots_of size layout) sets IsPlaced
-      of_roots along (want_of n POINTER owner at) h).1 refl)
+  opened_orderly n owner at h = orderly_in n (pointer_in n owner at h)
 
 pub opened_is_orderly : (form : Form) → SoundIsWanted form → OpenedIsOrderly form
 opened_is_orderly form law = λ size state pages layout r sound filled.
     opened_orderly form size state pages layout r sound filled (law size state pages layout r sound filled)
-
-pub opened_tables_bear : (form : Form) → SoundIsWanted form → OpenedBears form → OpenedTablesBear form
-opened_tables_bear form law opens = λ size state cache it layout r opened lasting. record {
-  bears = opens size state cache it layout r opened lasting;
-  orderly = subst (λ (pages : Pages). AreOrderly size pages (wanted_in size cache layout)) (sym (fun_ext opened.same))
-      (opened_is_orderly form law size state cache.disk layout r opened.sound opened.filled);
-}

@@ -32,6 +32,10 @@ use Rattle.mg_batch_ties.specs.Lists.{HaveOrders, viewed_same}
 use Rattle.mg_batch_ties.specs.OrderlyTies.{in_parts, orderly_less, room_orderly}
 use Rattle.mg_batch_ties.specs.TableTies.{tables_are_wanted}
 use Rattle.mg_batch_ties.specs.Wants.{AreOrderly, IsDataOf, WantsTable}
+use Rattle.mg_chain_demands.specs.Chained.{IsChained}
+use Rattle.mg_chain_demands.specs.ChainedLaws.{chained_within}
+use Rattle.mg_chain_demands.specs.RoomChains.{room_chained}
+use Rattle.mg_chain_demands.specs.WriteChains.{chained_both, first_chained, push_chained}
 use Rattle.mg_table_demands.specs.Parts.{KnowsTable, PaysPart, PaysRoom}
 
 -- a table's page with room is found, or the table grows
@@ -77,6 +81,7 @@ module _ {D L : Type 0} (store : Pool D L) (image : Image) (t : ℕ) (orders : O
     lawful = knows.lawful;
     wants = part.pays.wants;
     orderly = part.orderly;
+    chained = part.chained;
     header = in_one wanted (listed part.more) (want_of 0 HEADER 0 0) knows.header;
     number = in_one wanted (listed part.more) (want_of 0 NEXT t 0) knows.number;
     owns = knows.owns;
@@ -106,6 +111,7 @@ module _ {D L : Type 0} (store : Pool D L) (image : Image) (t : ℕ) (orders : O
       orderly = orderly_less store.geometry.size (viewed store image new)
           (either (either wanted (listed first.more)) (listed second.more)) (either wanted (listed (first.more ++ second.more)))
           second.orderly (in_parts wanted first.more second.more);
+      chained = chained_both store.geometry.size (viewed store image new) wanted first.more second.more second.chained;
       own = λ d h is. elim (has_either first.more second.more d h) [
         | inl x ↦ first.own d x is
         | inr y ↦ second.own d y is
@@ -124,6 +130,8 @@ module _ {D L : Type 0} (store : Pool D L) (image : Image) (t : ℕ) (orders : O
         (listed part.more)) (sym (viewed_same store image mid new adds.same_pages)) part.pays;
     orderly = subst (λ (pages : Pages). AreOrderly store.geometry.size pages (either wanted (listed part.more)))
         (sym (viewed_same store image mid new adds.same_pages)) part.orderly;
+    chained = subst (λ (pages : Pages). IsChained store.geometry.size pages (either wanted (listed part.more)))
+        (sym (viewed_same store image mid new adds.same_pages)) part.chained;
     own = part.own;
   }
 
@@ -134,12 +142,17 @@ module _ {D L : Type 0} (store : Pool D L) (image : Image) (t : ℕ) (orders : O
     more = [];
     pays = same_pays store.geometry.size (viewed store image old) orders settled on_disk wanted knows.wants;
     orderly = orderly_less store.geometry.size (viewed store image old) wanted (either wanted (listed [])) knows.orderly
-        (λ d h. elim (either_cases wanted (listed []) d h) [
-          | inl x ↦ x
-          | inr none ↦ absurd (of_listed [] d none)
-        ]);
+        (within wanted);
+    chained = chained_within store.geometry.size (viewed store image old) wanted (either wanted (listed [])) (within wanted)
+        (λ d other h. in_one wanted (listed []) d h) knows.chained;
     own = λ d h is. absurd h;
   }
+    where
+      within : (wanted : DemandSet) (d : Demand) → IsIn (either wanted (listed [])) d → IsIn wanted d
+      within wanted d h = elim (either_cases wanted (listed []) d h) [
+        | inl x ↦ x
+        | inr none ↦ absurd (of_listed [] d none)
+      ]
 
   -- the pages of the table are wanted
   pub its_table : (old : Changed) (owner : ℕ) (wanted : DemandSet) → KnowsTable store image old owner t settled on_disk wanted
@@ -173,6 +186,8 @@ room_part D L store image old new owner t need n orders settled on_disk wanted k
         knows.header its have gives.found;
     orderly = room_orderly store image old new owner need n gives orders settled on_disk wanted knows.lawful knows.wants
         its knows.orderly gives.found;
+    chained = room_chained store image old new owner need n gives orders settled on_disk wanted knows.lawful knows.wants
+        knows.header its have knows.chained gives.found;
     own = λ d h is. absurd (room_versions store image old new owner need n gives gives.found d h is);
   };
   given = subst (λ (k : ℕ). IsDataOf store.geometry.size
@@ -196,6 +211,8 @@ record_part D L store image old new owner t at v orders settled on_disk wanted k
   pays = first_pays D L store image old new owner at v makes orders settled on_disk wanted writes none have;
   orderly = first_orderly store image old new owner at v makes orders settled on_disk wanted writes none have
       knows.orderly;
+  chained = first_chained D L store image old new owner at v makes orders settled on_disk wanted writes none have
+      knows.chained;
   own = λ d h is. elim (has_either (room_wants store image old makes.makes.adds.given owner
       (need_with_anchor makes.bytes) makes.makes.at.page makes.makes.adds.gives makes.makes.adds.gives.found)
       (want_of makes.makes.at.page.0 VERSION makes.makes.at.slot v.tx.0 ∷ []) d h) [
@@ -216,6 +233,7 @@ version_part D L store image old new t rec v pushes orders settled on_disk wante
   more = push_wants store image old new rec v pushes orders settled on_disk wanted writes done have;
   pays = push_pay store image old new rec v pushes orders settled on_disk wanted writes done have;
   orderly = push_orderly store image old new rec v pushes orders settled on_disk wanted writes done have knows.orderly;
+  chained = push_chained D L store image old new rec v pushes orders settled on_disk wanted writes have knows.chained;
   own = λ d h is. elim (has_either (room_wants store image old pushes.pushes.puts.adds.given pushes.owner
       (need_of pushes.bytes) pushes.pushes.at.page pushes.pushes.puts.adds.gives pushes.pushes.puts.adds.gives.found)
       (want_of pushes.pushes.at.page.0 VERSION pushes.pushes.at.slot v.tx.0 ∷ []) d h) [

@@ -13,14 +13,16 @@ use Rattle.mg_space.specs.View.{viewed}
 use Rattle.mg_space.specs.declared.links.TheConstants.{BIT, HEADER, NEXT, POINTER, VERSION}
 use Rattle.mg_batch_demands.specs.Wanting.{IsWanting, Pays, want_of}
 use Rattle.mg_batch_ties.specs.Wants.{AreOrderly, IsDataOf, WantsPointer}
+use Rattle.mg_chain_demands.specs.Chained.{IsChained}
 
--- A table is wanted by its first pointer page, and all pointer pages are orderly; the transaction that writes has
--- drawn its number, and is not settled; and the disk has the versions of those that are.
+-- A table is wanted by its first pointer page, all pointer pages are orderly, and versions chained; the transaction
+-- that writes has drawn its number, and is not settled; and the disk has the versions of those that are.
 pub record KnowsTable {D L : Type 0} (store : Pool D L) (image : Image) (old : Changed) (owner t : ℕ)
     (settled : ℕ → Bool) (on_disk wanted : DemandSet) : Type 0 where
   pub lawful : IsGeometry store.geometry
   pub wants : IsWanting store.geometry.size (viewed store image old) wanted
   pub orderly : AreOrderly store.geometry.size (viewed store image old) wanted
+  pub chained : IsChained store.geometry.size (viewed store image old) wanted
   pub header : IsIn wanted (want_of 0 HEADER 0 0)
   pub number : IsIn wanted (want_of 0 NEXT t 0)
   pub owns : MayOwn owner
@@ -29,13 +31,14 @@ pub record KnowsTable {D L : Type 0} (store : Pool D L) (image : Image) (old : C
   pub lasting : (d : Demand) → IsIn wanted d → d.what ≡ VERSION → settled d.b ≡ true → IsIn on_disk d
 
 -- What a part of a batch pays: it newly wants a list of things, of versions those of the transaction alone; and the
--- pointer pages are orderly behind it.
+-- pointer pages are orderly behind it, and the versions chained.
 pub record PaysPart {D L : Type 0} (store : Pool D L) (image : Image) (old new : Changed) (t : ℕ) (orders : Orders)
     (settled : ℕ → Bool) (on_disk wanted : DemandSet) : Type 0 where
   pub more : List Demand
   pub pays : Pays store.geometry.size (viewed store image old) (viewed store image new) orders settled on_disk wanted
       (listed more)
   pub orderly : AreOrderly store.geometry.size (viewed store image new) (either wanted (listed more))
+  pub chained : IsChained store.geometry.size (viewed store image new) (either wanted (listed more))
   pub own : (d : Demand) → Has more d → d.what ≡ VERSION → d.b ≡ t
 
 -- The same where a page of the table is given: it is wanted then as a data page.

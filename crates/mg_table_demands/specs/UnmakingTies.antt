@@ -14,7 +14,6 @@ use Rattle.mg_careful.specs.CarefulSteps.{Contents}
 use Rattle.mg_chain.specs.Orders.{out_orders}
 use Rattle.mg_chain.specs.Writing.{TakesOut, TurnsBack}
 use Rattle.mg_demands.specs.Freeing.{without}
-use Rattle.mg_demand_ties.specs.CellDemands.{want_by}
 use Rattle.mg_demand_ties.specs.Runs.{IsLasting, Lasting}
 use Rattle.mg_heap.specs.Changing.{ChangesOne}
 use Rattle.mg_image.specs.Form.{Pages}
@@ -27,17 +26,13 @@ use Rattle.mg_pool.specs.Pool.{shown}
 use Rattle.mg_pool.specs.declared.batch.BatchPage.{BatchPage}
 use Rattle.mg_pool.specs.declared.pool.Pool.{Pool}
 use Rattle.mg_snap.specs.Live.{State}
-use Rattle.mg_space.specs.Demands.{cell_demands}
 use Rattle.mg_space.specs.Taking.{region_of}
 use Rattle.mg_space.specs.View.{KeepsStore, Tells, viewed}
 use Rattle.mg_space.specs.declared.links.TheConstants.{BIT, DATA, HEADER, VERSION}
 use Rattle.mg_table_unmaking.specs.Rows.{TakesRows, takes_more, takes_none}
 use Rattle.mg_value.specs.declared.value.Value.{Value}
-use Rattle.mg_version.specs.declared.cell.Cell.{Cell}
 use Rattle.mg_version.specs.declared.cell.Link.{Link}
-use Rattle.mg_batch_demands.specs.CellLaws.{any_slot}
 use Rattle.mg_batch_demands.specs.FreeLaws.{version_is}
-use Rattle.mg_batch_demands.specs.KindLaws.{from_want}
 use Rattle.mg_batch_demands.specs.Met.{of_listed}
 use Rattle.mg_batch_demands.specs.Steps.{version_at}
 use Rattle.mg_batch_demands.specs.Wanting.{IsWanting, nothing, want_of}
@@ -47,11 +42,14 @@ use Rattle.mg_batch_ties.specs.Lists.{have_same, have_sooner}
 use Rattle.mg_batch_ties.specs.OrderlyTies.{orderly_less}
 use Rattle.mg_batch_ties.specs.OwnTies.{KnowsOut, out_orderly, out_step}
 use Rattle.mg_batch_ties.specs.PoolTies.{StepChangesBear, cache_over}
-use Rattle.mg_batch_ties.specs.TableTies.{demand_there}
 use Rattle.mg_batch_ties.specs.Wants.{AreOrderly, IsDataOf}
+use Rattle.mg_chain_demands.specs.Chained.{IsChained}
+use Rattle.mg_chain_demands.specs.ChainedLaws.{chained_within}
+use Rattle.mg_chain_demands.specs.May.{MayTakeOut}
+use Rattle.mg_chain_demands.specs.OwnChains.{out_is_known, out_stays}
 use Rattle.mg_table_demands.specs.Keeping.{BearsTables, KeepsTables}
 use Rattle.mg_table_demands.specs.KeepingTies.{in_alone, still_wanted}
-use Rattle.mg_table_demands.specs.Unmaking.{IsPartOf, KnowsRow, KnowsRows, PaysRows}
+use Rattle.mg_table_demands.specs.Unmaking.{IsPartOf, MayTakeRow, MayTakeRows, PaysRows}
 
 -- the law: a batch that takes rows out pays row by row, and drops their versions
 abbrev pub RowsPay : (D L : Type 0) → Type 0
@@ -60,7 +58,8 @@ RowsPay D L = (store : Pool D L) (image : Image) (state : ℕ → TxState) (live
     (batch : Contents) (orders : Orders) (it : Lasting) (wanted : DemandSet)
     → IsLasting it → IsWanting store.geometry.size (viewed store image old) wanted → IsIn wanted (want_of 0 HEADER 0 0)
     → AreOrderly store.geometry.size (viewed store image old) wanted
-    → KnowsRows store image state live t table it wanted keys old new takes → IsPartOf batch orders new
+    → IsChained store.geometry.size (viewed store image old) wanted
+    → MayTakeRows store image state live t table it wanted keys old new takes → IsPartOf batch orders new
     → PaysRows store image old new batch orders it wanted
 
 -- ---- what a batch had before one record was taken out
@@ -114,11 +113,10 @@ module _ {D L : Type 0} (store : Pool D L) (image : Image) (batch : Contents) (o
 
 -- ---- one row
 
-module _ {D L : Type 0} (store : Pool D L) (image : Image) (old new : Changed) (rec : RecId) (out : TakesOut store image old new rec) (batch : Contents) (orders : Orders) (it : Lasting) (before wanted : DemandSet) (lasting : IsLasting it) (was : IsWanting store.geometry.size (viewed store image old) wanted) (head : IsIn before (want_of 0 HEADER 0 0)) (row : KnowsRow store image old new rec out it before)
-    -- of what was wanted before the batch all but versions is wanted, and nothing else is
-    (within : (d : Demand) → IsIn wanted d → IsIn before d)
+module _ {D L : Type 0} (store : Pool D L) (image : Image) (old new : Changed) (rec : RecId) (out : TakesOut store image old new rec) (batch : Contents) (orders : Orders) (it : Lasting) (before wanted : DemandSet) (lasting : IsLasting it) (was : IsWanting store.geometry.size (viewed store image old) wanted) (head : IsIn before (want_of 0 HEADER 0 0)) (row : MayTakeRow store image old new rec out it before)
+    -- of what was wanted before the batch all but versions is wanted
     (still : (d : Demand) → d.what ≢ VERSION → IsIn before d → IsIn wanted d)
-    (part : IsPartOf batch orders new) where
+    (part : IsPartOf batch orders new) (chained : IsChained store.geometry.size (viewed store image old) wanted) where
   abbrev size : ℕ
   size = store.geometry.size
 
@@ -132,31 +130,20 @@ module _ {D L : Type 0} (store : Pool D L) (image : Image) (old new : Changed) (
     };
   }
 
-  -- the slot leads to the version, so that is wanted
-  version_wanted : IsIn wanted (want_by out.newest)
-  version_wanted =
-      let of = data_still rec.page.0 row.record_ in
-      was.keeps.in_turn (want_of rec.page.0 DATA of.owner of.place) (want_by out.newest) of.wants.page
-      (from_want size (viewed store image old) wanted was (viewed store image old rec.page.0) (was.whole rec.page.0)
-      (want_of rec.page.0 DATA of.owner of.place) (want_of rec.page.0 DATA of.owner of.place) (want_by out.newest) refl
-      (any_slot (viewed store image old rec.page.0) rec.slot (want_by out.newest)
-      (subst (λ (c : Option Cell). Has (cell_demands c) (want_by out.newest)) (sym out.its.head.slot)
-      (demand_there out.newest.rec.page.0 VERSION out.newest.rec.slot out.newest.tx.0 row.fits.0 row.fits.1 row.fits.2))))
-
-  knows : (on_disk : DemandSet) → HasLasting it on_disk wanted
-      → KnowsOut store image old new rec out it.settled on_disk wanted
-  knows on_disk lasts = record {
+  may : (on_disk : DemandSet) → HasLasting it on_disk wanted
+      → MayTakeOut store image old new rec out it.settled on_disk wanted
+  may on_disk lasts = record {
     wants = was;
     header = still (want_of 0 HEADER 0 0) (λ is. omega (arith, is)) head;
     record_ = data_still rec.page.0 row.record_;
-    page = data_still out.newest.rec.page.0 row.page;
-    version = version_wanted;
-    moved = row.moved;
     unsettled = row.unsettled;
     behind = λ link is. absurd (let none : Some link ≡ None = sym is ∙ row.alone in cc);
     lasting = λ d h is done. lasts d h (lasting.of_settled d is done);
-    unled = λ d h made. row.unled d (within d h) made;
   }
+
+  knows : (on_disk : DemandSet) → HasLasting it on_disk wanted
+      → KnowsOut store image old new rec out it.settled on_disk wanted
+  knows on_disk lasts = out_is_known D L store image old new rec out it.settled on_disk wanted (may on_disk lasts) chained
 
   step : (on_disk : DemandSet) → HasLasting it on_disk wanted
       → PaysStep size (viewed store image old) (viewed store image new) batch orders it on_disk wanted (listed [])
@@ -185,11 +172,8 @@ module _ {D L : Type 0} (store : Pool D L) (image : Image) (old new : Changed) (
         | inr none ↦ absurd (of_listed [] d none)
       ])
 
-  left_within : (d : Demand) → IsIn left d → IsIn before d
-  left_within d h = elim (either_cases wanted (listed []) d (h.0, (and_parts (either wanted (listed []) d h.0) _ h.1).0)) [
-    | inl x ↦ within d x
-    | inr none ↦ absurd (of_listed [] d none)
-  ]
+  left_chained : IsChained size (viewed store image new) left
+  left_chained = out_stays D L store image old new rec out it.settled wanted wanted (may wanted (λ d h is. h)) chained
 
   left_still : (d : Demand) → d.what ≢ VERSION → IsIn before d → IsIn left d
   left_still d other h =
@@ -206,27 +190,32 @@ module _ {D L : Type 0} (store : Pool D L) (image : Image) (old new : Changed) (
 
 module _ {D L : Type 0} (store : Pool D L) (image : Image) (state : ℕ → TxState) (live : State) (t : ℕ) (table : Table) (batch : Contents) (orders : Orders) (it : Lasting) (before : DemandSet) (lasting : IsLasting it) (head : IsIn before (want_of 0 HEADER 0 0)) where
   steps_on : (keys : List Value) (old new : Changed) (takes : TakesRows store image state live t table keys old new)
-      → KnowsRows store image state live t table it before keys old new takes → IsPartOf batch orders new
+      → MayTakeRows store image state live t table it before keys old new takes → IsPartOf batch orders new
       → (wanted : DemandSet) → IsWanting store.geometry.size (viewed store image old) wanted
-      → ((d : Demand) → IsIn wanted d → IsIn before d)
       → ((d : Demand) → d.what ≢ VERSION → IsIn before d → IsIn wanted d)
       → AreOrderly store.geometry.size (viewed store image old) wanted
+      → IsChained store.geometry.size (viewed store image old) wanted
       → PaysRows store image old new batch orders it wanted
-  steps_on keys old new (takes_none b) rows part wanted was within still orderly = record {
+  steps_on keys old new (takes_none b) rows part wanted was still orderly chained = record {
     last = without nothing (either wanted (listed []));
     steps = no_more_steps (viewed store image b) wanted;
     kept = λ d other h. let there = in_one wanted (listed []) d h in (there.0, and_from _ _ there.1 refl);
+    fewer = in_alone nothing wanted;
     orderly = orderly_less store.geometry.size (viewed store image b) wanted (without nothing (either wanted (listed [])))
         orderly (in_alone nothing wanted);
+    chained = chained_within store.geometry.size (viewed store image b) wanted (without nothing (either wanted (listed [])))
+        (in_alone nothing wanted) (λ d other h. let there = in_one wanted (listed []) d h in
+        (there.0, and_from _ _ there.1 refl)) chained;
   }
-  steps_on keys old new (takes_more key more first mid last row rest) rows part wanted was within still orderly =
+  steps_on keys old new (takes_more key more first mid last row rest) rows part wanted was still orderly chained =
       join (steps_on more mid last rest rows.1 part (without (version_at row.out.newest.rec.page.0 row.out.newest.rec.slot
       row.out.newest.tx.0) (either wanted (listed [])))
-      (left_wants store image first mid row.rec row.out batch orders it before wanted lasting was head rows.0 within still of_mid)
-      (left_within store image first mid row.rec row.out batch orders it before wanted lasting was head rows.0 within still of_mid)
-      (left_still store image first mid row.rec row.out batch orders it before wanted lasting was head rows.0 within still of_mid)
-      (left_orderly store image first mid row.rec row.out batch orders it before wanted lasting was head rows.0 within still of_mid
-      orderly))
+      (left_wants store image first mid row.rec row.out batch orders it before wanted lasting was head rows.0 still of_mid chained)
+      (left_still store image first mid row.rec row.out batch orders it before wanted lasting was head rows.0 still of_mid chained)
+      (left_orderly store image first mid row.rec row.out batch orders it before wanted lasting was head rows.0 still of_mid chained
+      orderly)
+      (left_chained store image first mid row.rec row.out batch orders it before wanted lasting was head rows.0 still
+      of_mid chained))
     where
       of_mid : IsPartOf batch orders mid
       of_mid = rows_part store image batch orders state live t table more mid last rest part
@@ -235,7 +224,7 @@ module _ {D L : Type 0} (store : Pool D L) (image : Image) (state : ℕ → TxSt
           row.out.newest.rec.slot row.out.newest.tx.0) (either wanted (listed []))) d
       kept_on d other h = still_wanted it.settled (version_at row.out.newest.rec.page.0 row.out.newest.rec.slot
           row.out.newest.tx.0) wanted (listed []) (step store image first mid row.rec row.out batch orders it before wanted
-          lasting was head rows.0 within still of_mid wanted (λ e there is. there)).drops.may d other h
+          lasting was head rows.0 still of_mid chained wanted (λ e there is. there)).drops.may d other h
 
       join : PaysRows store image mid last batch orders it (without (version_at row.out.newest.rec.page.0
           row.out.newest.rec.slot row.out.newest.tx.0) (either wanted (listed [])))
@@ -247,16 +236,19 @@ module _ {D L : Type 0} (store : Pool D L) (image : Image) (state : ℕ → TxSt
             (λ p none. viewed_out store image batch orders mid of_mid p none
             ∙ sym (viewed_out store image batch orders first
             (out_part store image batch orders first mid row.rec row.out of_mid) p none))
-            (step store image first mid row.rec row.out batch orders it before wanted lasting was head rows.0 within still of_mid)
+            (step store image first mid row.rec row.out batch orders it before wanted lasting was head rows.0 still of_mid chained)
             later.steps;
         kept = λ d other h. later.kept d other (kept_on d other h);
+        fewer = λ d h. in_alone (version_at row.out.newest.rec.page.0 row.out.newest.rec.slot row.out.newest.tx.0) wanted d
+            (later.fewer d h);
         orderly = later.orderly;
+        chained = later.chained;
       }
 
 pub rows_pay : (D L : Type 0) → RowsPay D L
-rows_pay D L store image state live t table keys old new takes batch orders it wanted lasting was head orderly rows part =
+rows_pay D L store image state live t table keys old new takes batch orders it wanted lasting was head orderly chained rows part =
     steps_on store image state live t table batch orders it wanted lasting head keys old new takes rows part wanted was
-    (λ d h. h) (λ d other h. h) orderly
+    (λ d other h. h) orderly chained
 
 -- ---- the cache's change
 
@@ -283,6 +275,7 @@ rows_bear D L m law before ready after i j batch it of_disk of_pool keeps frame 
       its = record {
         bears = with_.bears;
         orderly = subst (λ (pages : Pages). AreOrderly before.geometry.size pages rows.last) pool rows.orderly;
+        chained = subst (λ (pages : Pages). IsChained before.geometry.size pages rows.last) pool rows.chained;
       };
       rooted = with_.rooted;
       kept = rows.kept;

@@ -2,9 +2,10 @@
 
 ghost use Rattle.mg_image.specs.Form.{packed_form};
 ghost use Rattle.mg_table_demands.specs.FillTies.{FillPays};
-ghost use Rattle.mg_table_demands.specs.KeepingTies.{MoveKeeps, OutKeeps, OverKeeps, PartKeeps, TablesBear};
+ghost use Rattle.mg_table_demands.specs.KeepingTies.{MoveKeeps, NewsBear, OutKeeps, OverKeeps, PartKeeps, TablesBear};
 ghost use Rattle.mg_table_demands.specs.NumberTies.{CommitKeeps, DrawKeeps};
-ghost use Rattle.mg_table_demands.specs.OpenedTables.{OpenedIsOrderly, OpenedTablesBear, OrderStays};
+ghost use Rattle.mg_table_demands.specs.OpenedChains.{OpenedTablesBear};
+ghost use Rattle.mg_table_demands.specs.OpenedTables.{OpenedIsOrderly, OrderStays};
 ghost use Rattle.mg_table_demands.specs.PartLaws.{PlacePays, RecordPays, RoomPays, VersionPays};
 ghost use Rattle.mg_table_demands.specs.UnmakingTies.{RowsBear, RowsPay};
 
@@ -46,14 +47,15 @@ pub fn pointer_pages_stay_orderly()
     opened_images_bear()
 }
 
-/// What a caller keeps from batch to batch: where the links are borne and pointer pages are orderly, they are so
-/// behind each batch that pays, as those of tables and of versions do.
+/// What a caller keeps from batch to batch: where the links are borne, pointer pages orderly and versions chained, they
+/// are so behind each batch that pays, as those of tables and of versions do.
 pub fn tables_bear<D: Disk>()
     ensures part { PartKeeps D FireLinks }
     ensures moved { MoveKeeps D FireLinks }
     ensures over { OverKeeps D FireLinks }
     ensures out { OutKeeps D FireLinks }
     ensures changed { TablesBear D FireLinks D.meaning }
+    ensures news { NewsBear D FireLinks D.meaning }
 {
     runs_bear()
 }

@@ -9,7 +9,7 @@
 //! There is no program here: the function does nothing, and its contract is the law.
 //!
 //! Invariant: none, it keeps no state.
-//! Below: `mg_demand_ties`, the law of runs; `mg_pool`. Above: nothing yet.
+//! Below: `mg_demand_ties`, the law of runs; `mg_pool`. Above: `mg_table_runs`, with the batches of tables.
 //! Not here: the change of a batch (`ChangesBear` of mg_batch_ties).
 #![tactic(auto)]
 

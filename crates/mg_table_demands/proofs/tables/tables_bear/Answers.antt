@@ -1,5 +1,5 @@
 use Rattle.mg_space.specs.declared.links.FireLinks.{FireLinks}
-use Rattle.mg_table_demands.specs.KeepingTies.{move_keeps, out_keeps, over_keeps, part_keeps, tables_bear}
+use Rattle.mg_table_demands.specs.KeepingTies.{move_keeps, news_bear, out_keeps, over_keeps, part_keeps, tables_bear}
 use Rattle.mg_table_demands.proofs.tables.tables_bear.Goals as goal
 
 pub returns-clause-part : goal.returns-clause-part
@@ -16,4 +16,8 @@ returns-clause-out g c = out_keeps g.row.D.Denot FireLinks
 
 pub returns-clause-changed : goal.returns-clause-changed
 returns-clause-changed g c = tables_bear g.row.D.Denot FireLinks g.D.Disk.meaning c.runs_bear.ensures.both
+    c.runs_bear.ensures.exactly
+
+pub returns-clause-news : goal.returns-clause-news
+returns-clause-news g c = news_bear g.row.D.Denot FireLinks g.D.Disk.meaning c.runs_bear.ensures.both
     c.runs_bear.ensures.exactly

@@ -1,5 +1,5 @@
 use Rattle.mg_space.specs.declared.links.FireLinks.{FireLinks}
-use Rattle.mg_write_ties.proofs.WriteLemmas.{lasts_as_before, writes_bear, writes_go}
+use Rattle.mg_write_ties.specs.WriteLaws.{lasts_as_before, writes_bear, writes_go}
 use Rattle.mg_write_ties.proofs.writes.page_writes_bear.Goals as goal
 
 pub returns-clause-go : goal.returns-clause-go
