@@ -1,0 +1,12 @@
+use Rattle.mg_engine_demands.specs.RunLaws.{runs_stay_linked}
+use Rattle.mg_engine_demands.proofs.runs.runs_stay_linked.Goals as goal
+
+pub returns : goal.returns
+returns g c = runs_stay_linked g.row.D.Denot g.D.Disk.meaning (record {
+  writes = c.stores_keep.ensures.writes;
+  changes = c.stores_keep.ensures.changes;
+  rows = c.takings_keep.ensures.rows;
+  drawn = c.numbers_keep.ensures.drawn;
+  committed = c.numbers_keep.ensures.committed;
+  asked = c.fates_keep.ensures.asked;
+}) c.openings_bear.ensures c.caches_keep.ensures.linked
