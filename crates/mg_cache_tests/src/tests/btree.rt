@@ -14,6 +14,7 @@ use mg_node::{Entry, NODE_KIND};
 use mg_pool::Batch;
 use mg_space::{SpaceFault, Store};
 use std::alloc::Global;
+use std::process::Abort;
 use std::test::Fail;
 
 /// The root, page 5 on level 1: the children 6 from the least entry on, and 7 from the key `m` on.
@@ -32,16 +33,23 @@ const RIGHT: &[u8] = &[
     0, 0, 1, 0, 0, 0, 0, 0, 46, 0, 1, 0, 1, 0, 109, 0, 0, 0, 0, 0, 0, 1, 0, 120, 9, 0, 0, 0, 2, 0,
 ];
 
+/// An index page of the table 4 with these bytes behind its common part.
+fn node_page(page: PageNo, content: &[u8]) -> [u8; 1024]
+    requires { length content.now ≤ 1000 }
+{
+    let mut bytes = [0; 1024];
+    new_common(&mut bytes, page, NODE_KIND, 4, 0);
+    bytes[16..16 + content.len()].copy_from_slice(content);
+    bytes
+}
+
 /// Writes an index page of the table 4 with these bytes behind its common part.
 fn write_node(disk: &mut MemDisk, page: PageNo, content: &[u8]) -> Result<(), Fail>
     requires size { ⟦<MemDisk as Disk>⟧.meaning.size disk.old ≡ Some 1024 }
     requires content { length content.now ≤ 1000 }
     ensures size { ⟦<MemDisk as Disk>⟧.meaning.size disk.new ≡ Some 1024 }
 {
-    let mut bytes = [0; 1024];
-    new_common(&mut bytes, page, NODE_KIND, 4, 0);
-    bytes[16..16 + content.len()].copy_from_slice(content);
-    match disk.write(page, &bytes) {
+    match disk.write(page, &node_page(page, content)) {
         Ok(()) => Ok(()),
         Err(_) => Err(Fail::from(Memory)),
     }
@@ -87,50 +95,84 @@ fn next_slot<D: Disk>(
     }
 }
 
+/// An entry by the byte that is its key, and its slot of page 9.
+type Key = (u8, u16);
+
+/// Where a range begins, the entry that it goes on behind, and the slot of its next entry.
+type Range = (&'static [u8], Option<Key>, u16);
+
+/// The next entry of a range by its slot, behind an entry that is told.
+fn slot_behind<D: Disk>(
+    store: &mut Store<D>,
+    low: &[u8],
+    after: Option<Key>,
+) -> Result<u16, SpaceFault>
+    requires pool { IsPool D.meaning store.old }
+    requires geometry { IsGeometry store.old.geometry }
+    ensures pool { IsPool D.meaning store.new }
+    ensures geometry { store.new.geometry ≡ store.old.geometry }
+{
+    let Some((byte, slot)) = after else {
+        return next_slot(store, low, None);
+    };
+    let entry = entry_of(store.alloc(), byte, 1, 9, slot)?;
+    next_slot(store, low, Some(&entry))
+}
+
+const RANGES: &[Range] = &[
+    (b"", None, 0),
+    (b"b", None, 1),
+    (b"d", None, 2),
+    (b"y", None, 99),
+    (b"b", Some((b'c', 1)), 2),
+];
+
 #[test]
 fn a_range_goes_along_the_leaves(rt: HostRuntime) -> Result<(), Fail> {
-    let alloc = rt.alloc();
-    let mut store = store_with(alloc, ROOT)?;
-    assert_eq!(rt; next_slot(&mut store, b"", None), Ok(0));
-    assert_eq!(rt; next_slot(&mut store, b"b", None), Ok(1));
-    assert_eq!(rt; next_slot(&mut store, b"d", None), Ok(2));
-    assert_eq!(rt; next_slot(&mut store, b"y", None), Ok(99));
-    let last = entry_of(alloc, 99, 1, 9, 1)?;
-    assert_eq!(rt; next_slot(&mut store, b"b", Some(&last)), Ok(2));
+    let mut store = store_with(rt.alloc(), ROOT)?;
+    for (low, after, slot) in RANGES {
+        assert_eq!(rt; slot_behind(&mut store, low, *after), Ok(*slot));
+    }
     Ok(())
 }
 
+/// The tree of three pages on a disk of which every call fails behind the first so many.
+fn failing_disk(alloc: Global, calls: u32) -> Result<FaultyDisk, Fail>
+    requires few { calls ≤ 100 }
+    ensures size { IfOk result (λ disk. ⟦<FaultyDisk as Disk>⟧.meaning.size disk ≡ Some 1024) }
+{
+    let mut bad = Vec::new(alloc);
+    for call in 1..7 {
+        bad.push(calls + call)?;
+    }
+    Ok(FaultyDisk::new(disk_with(alloc, ROOT)?, bad))
+}
+
 /// The first entry of a range by its slot, where every call of the disk fails behind the first so
-/// many.
-fn slot_within(alloc: Global, calls: u32, low: &[u8]) -> Result<u16, Fail>
+/// many; none where a page can't be read.
+fn slot_within(alloc: Global, calls: u32, low: &[u8]) -> Result<Option<u16>, Fail>
     requires few { calls ≤ 100 }
 {
-    let disk = disk_with(alloc, ROOT)?;
-    let bad = vec![in alloc;
-        calls + 1,
-        calls + 2,
-        calls + 3,
-        calls + 4,
-        calls + 5,
-        calls + 6,
-    ]?;
-    let mut store = store_over(alloc, FaultyDisk::new(disk, bad), 16)?;
-    match next_slot(&mut store, low, None) {
-        Ok(slot) => Ok(slot),
-        Err(_) => Ok(77),
-    }
+    let mut store = store_over(alloc, failing_disk(alloc, calls)?, 16)?;
+    Ok(next_slot(&mut store, low, None).ok())
 }
+
+/// How many calls of the disk are obeyed, where a range begins, and the slot of its first entry. A
+/// page that is read takes two calls: how many pages the disk has, and the page. The root and a
+/// leaf are read; where the leaf has no such entry, its right neighbour comes besides.
+const READS: &[(u32, &[u8], Option<u16>)] = &[
+    (4, b"b", Some(1)),
+    (3, b"b", None),
+    (6, b"d", Some(2)),
+    (5, b"d", None),
+];
 
 #[test]
 fn a_step_reads_a_page_a_level(rt: HostRuntime) -> Result<(), Fail> {
-    let alloc = rt.alloc();
-    // A page that is read takes two calls of the disk: how many pages it has, and the page. These
-    // are the root and a leaf.
-    assert_eq!(rt; slot_within(alloc, 4, b"b")?, 1);
-    assert_eq!(rt; slot_within(alloc, 3, b"b")?, 77);
-    // Where the leaf has no such entry, its right neighbour comes besides.
-    assert_eq!(rt; slot_within(alloc, 6, b"d")?, 2);
-    assert_eq!(rt; slot_within(alloc, 5, b"d")?, 77);
+    for (calls, low, slot) in READS {
+        let found = slot_within(rt.alloc(), (*calls).min(100), low)?;
+        assert_eq!(rt; found, *slot, "{calls} calls");
+    }
     Ok(())
 }
 
@@ -160,63 +202,58 @@ fn a_walk_keeps_its_leaf(rt: HostRuntime) -> Result<(), Fail> {
     Ok(())
 }
 
+/// The tree whose root leads to itself.
+const CIRCLE: &[u8] = &[
+    1, 0, 2, 0, 0, 0, 0, 0, 53, 0, 0, 0, 0, 0, 0, 0, 0, 0, 0, 0, 5, 0, 0, 0, 1, 0, 109, 0, 0, 0, 0,
+    0, 0, 7, 0, 0, 0,
+];
+
 #[test]
 fn a_child_that_comes_back_is_refused(rt: HostRuntime) -> Result<(), Fail> {
-    let alloc = rt.alloc();
-    let circle: &[u8] = &[
-        1, 0, 2, 0, 0, 0, 0, 0, 53, 0, 0, 0, 0, 0, 0, 0, 0, 0, 0, 0, 5, 0, 0, 0, 1, 0, 109, 0, 0,
-        0, 0, 0, 0, 7, 0, 0, 0,
-    ];
-    let mut store = store_with(alloc, circle)?;
+    let mut store = store_with(rt.alloc(), CIRCLE)?;
+    let damage = Damaged {
+        page: PageNo(5),
+        field: Field::Level,
+        found: 1,
+        wanted: 0,
+    };
     assert_eq!(rt;
         next_slot(&mut store, b"", None),
-        Err(SpaceFault::Damaged(Damaged {
-            page: PageNo(5),
-            field: Field::Level,
-            found: 1,
-            wanted: 0,
-        }))
+        Err(SpaceFault::Damaged(damage))
     );
     Ok(())
 }
 
-/// Takes an entry out, and keeps what the next call needs.
-fn take(store: &mut Store<MemDisk>, batch: &mut Batch, e: &Entry) -> Result<bool, SpaceFault>
+/// A call on a tree in a batch, and what it answers.
+#[derive(Clone, Copy)]
+enum Call {
+    /// The entry of a key of 120 such bytes is put in, of the slot of that number.
+    Put(u8),
+    /// The entry of the key `x` and this slot is taken out, where it is there.
+    Take(u16, bool),
+    /// The batch has no such page.
+    Absent(u32),
+    /// A page of the batch has these bytes behind its common part.
+    Has(u32, &'static [u8]),
+}
+
+/// Puts an entry into the tree, and keeps what the next call needs.
+fn put_entry(store: &mut Store<MemDisk>, batch: &mut Batch, e: &Entry) -> Result<(), SpaceFault>
     requires pool { IsPool ⟦<MemDisk as Disk>⟧.meaning store.old }
     requires geometry { IsGeometry store.old.geometry }
-    requires whole { AreWhole store.old.geometry.size batch.old.pages }
+    requires size { store.old.geometry.size ≡ 1024 }
+    requires whole { AreWhole 1024 batch.old.pages }
+    requires short { length e.now.key ≤ 120 }
+    requires child { e.now.child.0 ≡ 0 }
     ensures pool { IsPool ⟦<MemDisk as Disk>⟧.meaning store.new }
     ensures geometry { store.new.geometry ≡ store.old.geometry }
-    ensures whole { AreWhole store.old.geometry.size batch.new.pages }
+    ensures whole { AreWhole 1024 batch.new.pages }
 {
-    remove(store, batch, PageNo(5), e)
+    insert(store, batch, PageNo(5), e)
 }
 
-/// A batch without pages.
-fn no_batch(alloc: Global) -> Batch
-    ensures { AreWhole 1024 result.pages }
-{
-    Batch::new(alloc)
-}
-
-#[test]
-fn an_entry_is_taken_out_once(rt: HostRuntime) -> Result<(), Fail> {
-    let alloc = rt.alloc();
-    let mut store = store_with(alloc, ROOT)?;
-    let mut batch = no_batch(alloc);
-    let entry = entry_of(alloc, 120, 1, 9, 2)?;
-    let other = entry_of(alloc, 120, 1, 9, 3)?;
-    assert_eq!(rt; take(&mut store, &mut batch, &other), Ok(false));
-    assert_eq!(rt; take(&mut store, &mut batch, &entry), Ok(true));
-    assert_eq!(rt; take(&mut store, &mut batch, &entry), Ok(false));
-    Ok(())
-}
-
-/// A leaf without entries, as the only page of a tree.
-const EMPTY: &[u8] = &[0, 0, 0, 0, 0, 0, 0, 0, 28, 0, 0, 0];
-
-/// Puts the entry of a key of 120 equal bytes into the tree, and keeps what the next call needs.
-fn put(store: &mut Store<MemDisk>, batch: &mut Batch, key: u8) -> Result<(), Fail>
+/// Puts the entry of a key of 120 equal bytes into the tree.
+fn put(store: &mut Store<MemDisk>, batch: &mut Batch, key: u8) -> Result<(), SpaceFault>
     requires pool { IsPool ⟦<MemDisk as Disk>⟧.meaning store.old }
     requires geometry { IsGeometry store.old.geometry }
     requires size { store.old.geometry.size ≡ 1024 }
@@ -226,14 +263,11 @@ fn put(store: &mut Store<MemDisk>, batch: &mut Batch, key: u8) -> Result<(), Fai
     ensures whole { AreWhole 1024 batch.new.pages }
 {
     let e = entry_of(store.alloc(), key, 120, 9, u16::from(key))?;
-    match insert(store, batch, PageNo(5), &e) {
-        Ok(()) => Ok(()),
-        Err(_) => Err(Fail::from(Memory)),
-    }
+    put_entry(store, batch, &e)
 }
 
-/// Puts seven such entries into the tree: 28 + 7 * 128 bytes of its root are taken then.
-fn fill(store: &mut Store<MemDisk>, batch: &mut Batch) -> Result<(), Fail>
+/// Takes an entry out, and keeps what the next call needs.
+fn take_entry(store: &mut Store<MemDisk>, batch: &mut Batch, e: &Entry) -> Result<bool, SpaceFault>
     requires pool { IsPool ⟦<MemDisk as Disk>⟧.meaning store.old }
     requires geometry { IsGeometry store.old.geometry }
     requires size { store.old.geometry.size ≡ 1024 }
@@ -242,60 +276,99 @@ fn fill(store: &mut Store<MemDisk>, batch: &mut Batch) -> Result<(), Fail>
     ensures geometry { store.new.geometry ≡ store.old.geometry }
     ensures whole { AreWhole 1024 batch.new.pages }
 {
-    put(store, batch, 1)?;
-    put(store, batch, 2)?;
-    put(store, batch, 3)?;
-    put(store, batch, 4)?;
-    put(store, batch, 5)?;
-    put(store, batch, 6)?;
-    put(store, batch, 7)
+    remove(store, batch, PageNo(5), e)
 }
+
+/// Takes the entry of the key `x` and a slot out, and tells whether it was there.
+fn take(store: &mut Store<MemDisk>, batch: &mut Batch, slot: u16) -> Result<bool, SpaceFault>
+    requires pool { IsPool ⟦<MemDisk as Disk>⟧.meaning store.old }
+    requires geometry { IsGeometry store.old.geometry }
+    requires size { store.old.geometry.size ≡ 1024 }
+    requires whole { AreWhole 1024 batch.old.pages }
+    ensures pool { IsPool ⟦<MemDisk as Disk>⟧.meaning store.new }
+    ensures geometry { store.new.geometry ≡ store.old.geometry }
+    ensures whole { AreWhole 1024 batch.new.pages }
+{
+    let e = entry_of(store.alloc(), b'x', 1, 9, slot)?;
+    take_entry(store, batch, &e)
+}
+
+/// Does what a call says, and tells whether it answers so.
+fn does(store: &mut Store<MemDisk>, batch: &mut Batch, call: Call) -> bool
+    requires pool { IsPool ⟦<MemDisk as Disk>⟧.meaning store.old }
+    requires geometry { IsGeometry store.old.geometry }
+    requires size { store.old.geometry.size ≡ 1024 }
+    requires whole { AreWhole 1024 batch.old.pages }
+    ensures pool { IsPool ⟦<MemDisk as Disk>⟧.meaning store.new }
+    ensures geometry { store.new.geometry ≡ store.old.geometry }
+    ensures whole { AreWhole 1024 batch.new.pages }
+{
+    match call {
+        Call::Put(key) => put(store, batch, key) == Ok(()),
+        Call::Take(slot, there) => take(store, batch, slot) == Ok(there),
+        Call::Absent(page) => batch.bytes(PageNo(page)).is_none(),
+        Call::Has(page, bytes) => has_bytes(batch, PageNo(page), 16, bytes),
+    }
+}
+
+/// A batch without pages.
+fn no_batch(alloc: Global) -> Batch
+    ensures { AreWhole 1024 result.pages }
+{
+    Batch::new(alloc)
+}
+
+/// Wants each call on the tree with this root to answer as it says, one after another.
+fn does_each(rt: &impl Abort, alloc: Global, root: &[u8], calls: &[Call]) -> Result<(), Fail>
+    requires root { length root.now ≤ 1000 }
+{
+    let mut store = store_with(alloc, root)?;
+    let mut batch = no_batch(alloc);
+    for (place, call) in calls.iter().enumerate() {
+        assert!(rt; does(&mut store, &mut batch, *call), "call {place}");
+    }
+    Ok(())
+}
+
+const TAKEN: &[Call] = &[
+    Call::Take(3, false),
+    Call::Take(2, true),
+    Call::Take(2, false),
+];
+
+#[test]
+fn an_entry_is_taken_out_once(rt: HostRuntime) -> Result<(), Fail> {
+    does_each(&rt, rt.alloc(), ROOT, TAKEN)
+}
+
+/// A leaf without entries, as the only page of a tree.
+const EMPTY: &[u8] = &[0, 0, 0, 0, 0, 0, 0, 0, 28, 0, 0, 0];
+
+const SPLIT: &[Call] = &[
+    Call::Put(1),
+    Call::Put(2),
+    Call::Put(3),
+    Call::Put(4),
+    Call::Put(5),
+    Call::Put(6),
+    Call::Put(7),
+    // A leaf with seven entries, which take 28 + 7 * 128 bytes, and no page was taken.
+    Call::Has(5, &[0, 0, 7, 0, 0, 0, 0, 0, 156, 3, 0, 0]),
+    Call::Absent(2),
+    Call::Put(8),
+    // The root names page 2 by the least entry, and page 3 by the key of the fifth one.
+    Call::Has(
+        5,
+        &[
+            1, 0, 2, 0, 0, 0, 0, 0, 172, 0, 0, 0, 0, 0, 0, 0, 0, 0, 0, 0, 2, 0, 0, 0, 120, 0, 5, 5,
+        ],
+    ),
+    // Page 2 has the first four entries and a high fence, and page 3 to its right the other four.
+    Call::Has(2, &[0, 0, 4, 0, 3, 0, 0, 0, 156, 2, 2, 0, 120, 0, 5, 5]),
+    Call::Has(3, &[0, 0, 4, 0, 0, 0, 0, 0, 156, 2, 1, 0, 120, 0, 5, 5]),
+];
 
 #[test]
 fn a_root_splits_at_the_entry_that_does_not_fit(rt: HostRuntime) -> Result<(), Fail> {
-    let alloc = rt.alloc();
-    let mut store = store_with(alloc, EMPTY)?;
-    let mut batch = no_batch(alloc);
-    fill(&mut store, &mut batch)?;
-    // A leaf with seven entries, and no page was taken.
-    assert!(rt;
-        has_bytes(
-            &batch,
-            PageNo(5),
-            16,
-            &[0, 0, 7, 0, 0, 0, 0, 0, 156, 3, 0, 0]
-        )
-    );
-    assert!(rt; batch.bytes(PageNo(2)).is_none());
-    put(&mut store, &mut batch, 8)?;
-    // The root names page 2 by the least entry, and page 3 by the key of the fifth one.
-    assert!(rt;
-        has_bytes(
-            &batch,
-            PageNo(5),
-            16,
-            &[
-                1, 0, 2, 0, 0, 0, 0, 0, 172, 0, 0, 0, 0, 0, 0, 0, 0, 0, 0, 0, 2, 0, 0, 0, 120, 0,
-                5, 5,
-            ]
-        )
-    );
-    // Page 2 has the first four entries and a high fence, and page 3 to its right the other four.
-    assert!(rt;
-        has_bytes(
-            &batch,
-            PageNo(2),
-            16,
-            &[0, 0, 4, 0, 3, 0, 0, 0, 156, 2, 2, 0, 120, 0, 5, 5,]
-        )
-    );
-    assert!(rt;
-        has_bytes(
-            &batch,
-            PageNo(3),
-            16,
-            &[0, 0, 4, 0, 0, 0, 0, 0, 156, 2, 1, 0, 120, 0, 5, 5,]
-        )
-    );
-    Ok(())
+    does_each(&rt, rt.alloc(), EMPTY, SPLIT)
 }

@@ -1,100 +1,37 @@
 //! What no clause says: that calls succeed with ample memory, and worked rows of a small table.
 
-ghost use Rattle.std.specs.Prelude.{◌≡◌, ◌≤◌, OnOk, length};
+ghost use Rattle.std.specs.Bool.{OnTrue};
+ghost use Rattle.std.specs.Prelude.{◌≡◌, ◌≤◌, length};
+ghost use Rattle.mg_base.specs.MemDisk.{mem_meaning};
 ghost use Rattle.mg_pool.specs.Pool.{IsPool};
 ghost use Rattle.mg_space.specs.Taking.{IsGeometry};
 ghost use Rattle.mg_space.specs.View.{AreWhole};
 
 use super::stores::{OWNER, empty_store, empty_table, has_bytes};
-use mg_base::{Disk, PageNo, RecId};
+use mg_base::{MemDisk, PageNo, RecId};
 use mg_heap::{add, free, next};
 use mg_image::PRIMARY_VERSION;
 use mg_pool::{Batch, PoolFault};
 use mg_space::{SpaceFault, Store};
 use mg_version::{ANCHOR, VERSION};
+use std::process::Abort;
 use std::test::*;
 
-/// Adds a cell, and keeps what the next call needs.
-fn put<D: Disk>(store: &mut Store<D>, batch: &mut Batch, cell: &[u8]) -> Result<RecId, SpaceFault>
-    requires pool { IsPool D.meaning store.old }
-    requires geometry { IsGeometry store.old.geometry }
-    requires size { store.old.geometry.size ≡ 1024 }
-    requires whole { AreWhole 1024 batch.old.pages }
-    requires length { length cell.now ≤ 1000 }
-    ensures pool { IsPool D.meaning store.new }
-    ensures geometry { store.new.geometry ≡ store.old.geometry }
-    ensures whole { AreWhole 1024 batch.new.pages }
-{
-    add(store, batch, OWNER, cell)
-}
-
-#[test]
-fn the_251st_data_page_is_listed_by_a_second_pointer_page(rt: HostRuntime) -> Result<(), Fail> {
-    let alloc = rt.alloc();
-    let mut store = empty_store(alloc, 1000)?;
-    let mut batch = empty_table(alloc)?;
-    let cell = [1; 1000];
-    for n in 7..257u32 {
-        let at = RecId {
-            page: PageNo(n),
-            slot: 0,
-        };
-        assert_eq!(rt; put(&mut store, &mut batch, &cell), Ok(at));
-    }
-    // Page 257 is the new pointer page.
-    let last = RecId {
-        page: PageNo(258),
-        slot: 0,
-    };
-    assert_eq!(rt; put(&mut store, &mut batch, &cell), Ok(last));
-    assert!(rt; has_bytes(&batch, OWNER, 16, &[1, 1, 0, 0, 250, 0]));
-    let second = [5, 0, 0, 0, 1, 0, 0, 0, 0, 0, 0, 0, 1, 0, 0, 0, 2, 1, 0, 0];
-    assert!(rt; has_bytes(&batch, PageNo(257), 8, &second));
-    Ok(())
-}
-
-/// Frees a slot, and keeps what the next call needs.
-fn drop_slot<D: Disk>(store: &mut Store<D>, batch: &mut Batch, at: RecId) -> Result<(), SpaceFault>
-    requires pool { IsPool D.meaning store.old }
-    requires geometry { IsGeometry store.old.geometry }
-    requires size { store.old.geometry.size ≡ 1024 }
-    requires whole { AreWhole 1024 batch.old.pages }
-    ensures pool { IsPool D.meaning store.new }
-    ensures geometry { store.new.geometry ≡ store.old.geometry }
-    ensures whole { OnOk result (AreWhole 1024 batch.new.pages) }
-{
-    free(store, batch, at)
-}
-
-/// Changes a page of a batch in the cache.
-fn change_page<D: Disk>(store: &mut Store<D>, batch: &Batch, page: u32) -> Result<(), PoolFault>
-    requires pool { IsPool D.meaning store.old }
-    requires size { store.old.geometry.size ≡ 1024 }
-    requires whole { AreWhole 1024 batch.now.pages }
-    ensures pool { IsPool D.meaning store.new }
-    ensures geometry { store.new.geometry ≡ store.old.geometry }
-{
-    let Some(bytes) = batch.bytes(PageNo(page)) else {
-        return Ok(());
-    };
-    store.change_one(PageNo(page), bytes, None)
-}
-
-/// The records of the table in the order of the walk, at most a hundred.
-fn walked<D: Disk>(store: &mut Store<D>) -> Result<Vec<RecId>, SpaceFault>
-    requires pool { IsPool D.meaning store.old }
-    requires geometry { IsGeometry store.old.geometry }
-{
-    let mut seen = Vec::new(store.alloc());
-    let mut after = None;
-    for _ in 0..100 {
-        let Some(at) = next(store, OWNER, after)? else {
-            return Ok(seen);
-        };
-        seen.push(at)?;
-        after = Some(at);
-    }
-    Ok(seen)
+/// A call on a table in a batch, and what it answers.
+#[derive(Clone, Copy)]
+enum Call {
+    /// A cell of 1000 bytes goes into the first slot of this page.
+    Large(u32),
+    /// Such a cell goes into the first slot of each page from one to the one before another.
+    Fill(u32, u32),
+    /// A cell of 100 bytes of this value goes into a slot of this page.
+    Small(u8, u32, u16),
+    /// A slot is freed.
+    Free(u32, u16),
+    /// A page of the batch is changed in the cache.
+    Change(u32),
+    /// A page of the batch has these bytes from a place on.
+    Has(u32, usize, &'static [u8]),
 }
 
 /// The name of a slot.
@@ -105,47 +42,178 @@ fn slot_of(page: u32, slot: u16) -> RecId {
     }
 }
 
+/// Adds a cell, and keeps what the next call needs.
+fn put(store: &mut Store<MemDisk>, batch: &mut Batch, cell: &[u8]) -> Result<RecId, SpaceFault>
+    requires pool { IsPool mem_meaning store.old }
+    requires geometry { IsGeometry store.old.geometry }
+    requires size { store.old.geometry.size ≡ 1024 }
+    requires whole { AreWhole 1024 batch.old.pages }
+    requires length { length cell.now ≤ 1000 }
+    ensures pool { IsPool mem_meaning store.new }
+    ensures geometry { store.new.geometry ≡ store.old.geometry }
+    ensures whole { AreWhole 1024 batch.new.pages }
+{
+    add(store, batch, OWNER, cell)
+}
+
+/// Adds a large cell for each page from one to the one before another, and tells whether each went
+/// into the first slot of its page.
+fn fill(store: &mut Store<MemDisk>, batch: &mut Batch, from: u32, end: u32) -> bool
+    requires pool { IsPool mem_meaning store.old }
+    requires geometry { IsGeometry store.old.geometry }
+    requires size { store.old.geometry.size ≡ 1024 }
+    requires whole { AreWhole 1024 batch.old.pages }
+    ensures pool { IsPool mem_meaning store.new }
+    ensures geometry { store.new.geometry ≡ store.old.geometry }
+    ensures whole { AreWhole 1024 batch.new.pages }
+{
+    for page in from..end {
+        if put(store, batch, &[1; 1000]) != Ok(slot_of(page, 0)) {
+            return false;
+        }
+    }
+    true
+}
+
+/// Frees a slot, and keeps what the next call needs.
+fn drop_slot(store: &mut Store<MemDisk>, batch: &mut Batch, at: RecId) -> bool
+    requires pool { IsPool mem_meaning store.old }
+    requires geometry { IsGeometry store.old.geometry }
+    requires size { store.old.geometry.size ≡ 1024 }
+    requires whole { AreWhole 1024 batch.old.pages }
+    ensures pool { IsPool mem_meaning store.new }
+    ensures geometry { store.new.geometry ≡ store.old.geometry }
+    ensures whole { OnTrue result (AreWhole 1024 batch.new.pages) }
+{
+    match free(store, batch, at) {
+        Ok(()) => true,
+        Err(_) => false,
+    }
+}
+
+/// Changes a page of a batch in the cache.
+fn change_page(store: &mut Store<MemDisk>, batch: &Batch, page: u32) -> Result<(), PoolFault>
+    requires pool { IsPool mem_meaning store.old }
+    requires size { store.old.geometry.size ≡ 1024 }
+    requires whole { AreWhole 1024 batch.now.pages }
+    ensures pool { IsPool mem_meaning store.new }
+    ensures geometry { store.new.geometry ≡ store.old.geometry }
+{
+    let Some(bytes) = batch.bytes(PageNo(page)) else {
+        return Ok(());
+    };
+    store.change_one(PageNo(page), bytes, None)
+}
+
+/// Does what a call says, and tells whether it answers so.
+fn does(store: &mut Store<MemDisk>, batch: &mut Batch, call: Call) -> bool
+    requires pool { IsPool mem_meaning store.old }
+    requires geometry { IsGeometry store.old.geometry }
+    requires size { store.old.geometry.size ≡ 1024 }
+    requires whole { AreWhole 1024 batch.old.pages }
+    ensures pool { IsPool mem_meaning store.new }
+    ensures geometry { store.new.geometry ≡ store.old.geometry }
+    ensures whole { OnTrue result (AreWhole 1024 batch.new.pages) }
+{
+    match call {
+        Call::Large(page) => put(store, batch, &[1; 1000]) == Ok(slot_of(page, 0)),
+        Call::Fill(from, end) => fill(store, batch, from, end),
+        Call::Small(byte, page, slot) => put(store, batch, &[byte; 100]) == Ok(slot_of(page, slot)),
+        Call::Free(page, slot) => drop_slot(store, batch, slot_of(page, slot)),
+        Call::Change(page) => change_page(store, batch, page) == Ok(()),
+        Call::Has(page, at, bytes) => has_bytes(batch, PageNo(page), at, bytes),
+    }
+}
+
+/// Wants each call on a new table to answer as it says, one after another.
+fn does_each(rt: &impl Abort, store: &mut Store<MemDisk>, calls: &[Call]) -> Result<(), Fail>
+    requires pool { IsPool mem_meaning store.old }
+    requires geometry { IsGeometry store.old.geometry }
+    requires size { store.old.geometry.size ≡ 1024 }
+    ensures pool { IsPool mem_meaning store.new }
+    ensures geometry { store.new.geometry ≡ store.old.geometry }
+{
+    let mut batch = empty_table(store.alloc())?;
+    for (place, call) in calls.iter().enumerate() {
+        assert!(rt; does(store, &mut batch, *call), "call {place}");
+    }
+    Ok(())
+}
+
+/// Page 257 is the new pointer page.
+const SECOND_POINTERS: &[Call] = &[
+    Call::Fill(7, 257),
+    Call::Large(258),
+    Call::Has(5, 16, &[1, 1, 0, 0, 250, 0]),
+    Call::Has(
+        257,
+        8,
+        &[5, 0, 0, 0, 1, 0, 0, 0, 0, 0, 0, 0, 1, 0, 0, 0, 2, 1, 0, 0],
+    ),
+];
+
+#[test]
+fn the_251st_data_page_is_listed_by_a_second_pointer_page(rt: HostRuntime) -> Result<(), Fail> {
+    does_each(&rt, &mut empty_store(rt.alloc(), 1000)?, SECOND_POINTERS)
+}
+
+/// The record of a table behind another one.
+fn next_of(store: &mut Store<MemDisk>, after: Option<RecId>) -> Result<Option<RecId>, SpaceFault>
+    requires pool { IsPool mem_meaning store.old }
+    requires geometry { IsGeometry store.old.geometry }
+    ensures pool { IsPool mem_meaning store.new }
+    ensures geometry { store.new.geometry ≡ store.old.geometry }
+{
+    next(store, OWNER, after)
+}
+
+/// Tells whether the walk gives these slots, one after another, and no more.
+fn walks(store: &mut Store<MemDisk>, slots: &[(u32, u16)]) -> Result<bool, SpaceFault>
+    requires pool { IsPool mem_meaning store.old }
+    requires geometry { IsGeometry store.old.geometry }
+{
+    let mut after = None;
+    for (page, slot) in slots {
+        let wanted = Some(slot_of(*page, *slot));
+        if next_of(store, after)? != wanted {
+            return Ok(false);
+        }
+        after = wanted;
+    }
+    Ok(next_of(store, after)?.is_none())
+}
+
+/// Nine cells of 100 bytes fill page 7; the others stand on page 8.
+const TWO_PAGES: &[Call] = &[
+    Call::Small(ANCHOR, 7, 0),
+    Call::Small(VERSION, 7, 1),
+    Call::Small(ANCHOR, 7, 2),
+    Call::Small(PRIMARY_VERSION, 7, 3),
+    Call::Small(VERSION, 7, 4),
+    Call::Small(ANCHOR, 7, 5),
+    Call::Small(ANCHOR, 7, 6),
+    Call::Small(VERSION, 7, 7),
+    Call::Small(VERSION, 7, 8),
+    Call::Small(VERSION, 8, 0),
+    Call::Small(ANCHOR, 8, 1),
+    Call::Small(PRIMARY_VERSION, 8, 2),
+    Call::Small(VERSION, 8, 3),
+    Call::Small(ANCHOR, 8, 4),
+    Call::Free(7, 0),
+    Call::Free(7, 5),
+    Call::Free(8, 2),
+    Call::Change(5),
+    Call::Change(7),
+    Call::Change(8),
+];
+
 #[test]
 fn the_walk_gives_each_primary_slot_once_in_the_order_of_pages_and_slots(
     rt: HostRuntime,
 ) -> Result<(), Fail> {
-    let alloc = rt.alloc();
-    let mut store = empty_store(alloc, 1000)?;
-    let mut batch = empty_table(alloc)?;
-    // Nine cells of 100 bytes fill page 7; the others stand on page 8.
-    let kinds = [
-        ANCHOR,
-        VERSION,
-        ANCHOR,
-        PRIMARY_VERSION,
-        VERSION,
-        ANCHOR,
-        ANCHOR,
-        VERSION,
-        VERSION,
-        VERSION,
-        ANCHOR,
-        PRIMARY_VERSION,
-        VERSION,
-        ANCHOR,
-    ];
-    for kind in kinds {
-        let _ = put(&mut store, &mut batch, &[kind; 100]);
-    }
-    drop_slot(&mut store, &mut batch, slot_of(7, 0))?;
-    drop_slot(&mut store, &mut batch, slot_of(7, 5))?;
-    drop_slot(&mut store, &mut batch, slot_of(8, 2))?;
-    assert_eq!(rt; change_page(&mut store, &batch, 5), Ok(()));
-    assert_eq!(rt; change_page(&mut store, &batch, 7), Ok(()));
-    assert_eq!(rt; change_page(&mut store, &batch, 8), Ok(()));
-    let wanted = [
-        slot_of(7, 2),
-        slot_of(7, 3),
-        slot_of(7, 6),
-        slot_of(8, 1),
-        slot_of(8, 4),
-    ];
-    let seen = walked(&mut store)?;
-    assert_eq!(rt; seen.as_slice(), wanted.as_slice());
+    let mut store = empty_store(rt.alloc(), 1000)?;
+    does_each(&rt, &mut store, TWO_PAGES)?;
+    let slots = [(7, 2), (7, 3), (7, 6), (8, 1), (8, 4)];
+    assert_eq!(rt; walks(&mut store, &slots), Ok(true));
     Ok(())
 }

@@ -8,6 +8,7 @@ use mg_base::{Disk, FaultyDisk, Geometry, MemDisk, Memory, PageNo};
 use mg_careful::{Demand, Links, Order};
 use mg_pool::{BATCH_PAGES, Batch, DIRTY_PAGES, MARKERS, Pool, PoolFault};
 use std::alloc::Global;
+use std::process::Abort;
 use std::test::Fail;
 
 /// Pages that demand nothing of each other.
@@ -64,17 +65,64 @@ fn put_in_order<D: Disk>(
     Ok(())
 }
 
-/// Changes the first pages one by one, of which page 300 has to be written before page 0.
-fn put_each<D: Disk>(pool: &mut Pool<D, Unlinked>, count: u32) -> Result<(), PoolFault>
+/// Changes two pages at once to equal bytes, the first ordered before the second, and tells whether
+/// they are two.
+fn order_two<D: Disk>(
+    alloc: Global,
+    pool: &mut Pool<D, Unlinked>,
+    first: u32,
+    later: u32,
+    byte: u8,
+) -> Result<bool, Fail>
     requires pool { IsPool D.meaning pool.old }
     requires size { pool.old.geometry.size ≡ 1024 }
     ensures pool { IsPool D.meaning pool.new }
     ensures geometry { pool.new.geometry ≡ pool.old.geometry }
 {
-    pool.change_one(PageNo(300), &[1; 1024], None)?;
-    pool.change_one(PageNo(0), &[1; 1024], Some(PageNo(300)))?;
-    for page in 1..count {
-        pool.change_one(PageNo(page), &[1; 1024], None)?;
+    if first == later {
+        return Ok(false);
+    }
+    put_in_order(alloc, pool, Order { first, later }, &[byte; 1024])?;
+    Ok(true)
+}
+
+/// Changes a page to equal bytes, after another one where there is one to be written first.
+fn change<D: Disk>(
+    pool: &mut Pool<D, Unlinked>,
+    page: u32,
+    byte: u8,
+    first: Option<u32>,
+) -> Result<(), PoolFault>
+    requires pool { IsPool D.meaning pool.old }
+    requires size { pool.old.geometry.size ≡ 1024 }
+    ensures pool { IsPool D.meaning pool.new }
+    ensures geometry { pool.new.geometry ≡ pool.old.geometry }
+{
+    pool.change_one(PageNo(page), &[byte; 1024], before(page, first))
+}
+
+/// The page that has to be written before another one: none where it is that one.
+fn before(page: u32, first: Option<u32>) -> Option<PageNo>
+    ensures { result ≢ Some (record { 0 = page }) }
+{
+    let Some(first) = first else {
+        return None;
+    };
+    if first == page {
+        return None;
+    }
+    Some(PageNo(first))
+}
+
+/// Changes each page from 1 to the one before this to bytes 1.
+fn change_each<D: Disk>(pool: &mut Pool<D, Unlinked>, end: u32) -> Result<(), PoolFault>
+    requires pool { IsPool D.meaning pool.old }
+    requires size { pool.old.geometry.size ≡ 1024 }
+    ensures pool { IsPool D.meaning pool.new }
+    ensures geometry { pool.new.geometry ≡ pool.old.geometry }
+{
+    for page in 1..end {
+        change(pool, page, 1, None)?;
     }
     Ok(())
 }
@@ -94,20 +142,42 @@ fn write_each<D: Disk>(pool: &mut Pool<D, Unlinked>) -> Result<(), PoolFault>
     Ok(())
 }
 
-/// A byte of a page of a disk.
-fn byte_of<D: Disk>(disk: &mut D, page: u32, at: usize) -> Option<u8> {
-    read_page(disk, page)?.get(at).copied()
+/// Writes a page, or what precedes it, and answers which one it was: 0 where the page is not dirty.
+fn write<D: Disk>(pool: &mut Pool<D, Unlinked>, goal: u32) -> Result<u32, PoolFault>
+    requires pool { IsPool D.meaning pool.old }
+    ensures pool { IsPool D.meaning pool.new }
+    ensures geometry { pool.new.geometry ≡ pool.old.geometry }
+{
+    if !pool.is_dirty(PageNo(goal)) {
+        return Ok(0);
+    }
+    Ok(pool.write_one(PageNo(goal))?.0)
 }
 
-/// The page that has to be written before one that points to `next`, which is 0 for none.
-fn pointed(page: u32, next: u8) -> Option<PageNo>
-    ensures { result ≢ Some (record { 0 = page }) }
+/// Reads a page, and answers how many bytes it has then.
+fn fetch<D: Disk>(pool: &mut Pool<D, Unlinked>, page: u32) -> Result<usize, PoolFault>
+    requires pool { IsPool D.meaning pool.old }
+    ensures pool { IsPool D.meaning pool.new }
+    ensures geometry { pool.new.geometry ≡ pool.old.geometry }
 {
-    let next = u32::from(next);
-    if next == 0 || next == page {
+    pool.fetch(PageNo(page))?;
+    Ok(pool.bytes(PageNo(page)).unwrap_or(&[]).len())
+}
+
+fn settle<D: Disk>(pool: &mut Pool<D, Unlinked>) -> Result<(), PoolFault>
+    requires pool { IsPool D.meaning pool.old }
+    ensures pool { IsPool D.meaning pool.new }
+    ensures geometry { pool.new.geometry ≡ pool.old.geometry }
+{
+    pool.settle()
+}
+
+/// The page that a record points to: 0 stands for none.
+fn pointed(next: u8) -> Option<u32> {
+    if next == 0 {
         return None;
     }
-    Some(PageNo(next))
+    Some(u32::from(next))
 }
 
 /// Changes a page to a record that points to another page: its own number, and that page's.
@@ -121,7 +191,77 @@ fn put_record<D: Disk>(pool: &mut Pool<D, Unlinked>, own: u8, next: u8) -> Resul
     let mut bytes = [0; 1024];
     bytes[0] = own;
     bytes[1] = next;
-    pool.change_one(PageNo(page), &bytes, pointed(page, next))
+    pool.change_one(PageNo(page), &bytes, before(page, pointed(next)))
+}
+
+/// A call of a pool, and what it answers.
+#[derive(Clone, Copy)]
+enum Call {
+    /// Two pages are changed at once to equal bytes, the first ordered before the second.
+    Ordered(u32, u32, u8),
+    /// A page is changed to equal bytes, after another one where there is one to be written first.
+    Change(u32, u8, Option<u32>),
+    /// Each page from 1 to the one before this is changed.
+    ChangeEach(u32),
+    /// The record of a page is changed to one that points to another page.
+    Record(u8, u8),
+    /// A page is dirty or not.
+    Dirty(u32, bool),
+    /// A page is written, or what precedes it: the page that it was.
+    Write(u32, u32),
+    /// All dirty pages are written.
+    WriteEach(Result<(), PoolFault>),
+    /// A page is read, and has so many bytes.
+    Fetch(u32, Result<usize, PoolFault>),
+    Settle(Result<(), PoolFault>),
+}
+
+/// Does what a call says, and tells whether it answers so.
+fn does<D: Disk>(alloc: Global, pool: &mut Pool<D, Unlinked>, call: Call) -> Result<bool, Fail>
+    requires pool { IsPool D.meaning pool.old }
+    requires size { pool.old.geometry.size ≡ 1024 }
+    ensures pool { IsPool D.meaning pool.new }
+    ensures geometry { pool.new.geometry ≡ pool.old.geometry }
+{
+    Ok(match call {
+        Call::Ordered(first, later, byte) => order_two(alloc, pool, first, later, byte)?,
+        Call::Change(page, byte, first) => change(pool, page, byte, first).is_ok(),
+        Call::ChangeEach(end) => change_each(pool, end).is_ok(),
+        Call::Record(own, next) => put_record(pool, own, next).is_ok(),
+        Call::Dirty(page, is) => pool.is_dirty(PageNo(page)) == is,
+        Call::Write(goal, page) => write(pool, goal) == Ok(page),
+        Call::WriteEach(wanted) => write_each(pool) == wanted,
+        Call::Fetch(page, wanted) => fetch(pool, page) == wanted,
+        Call::Settle(wanted) => settle(pool) == wanted,
+    })
+}
+
+/// Wants each call to answer as it says, one after another.
+fn does_each<D: Disk>(
+    rt: &impl Abort,
+    alloc: Global,
+    pool: &mut Pool<D, Unlinked>,
+    calls: &[Call],
+) -> Result<(), Fail>
+    requires pool { IsPool D.meaning pool.old }
+    requires size { pool.old.geometry.size ≡ 1024 }
+{
+    for (place, call) in calls.iter().enumerate() {
+        assert!(rt; does(alloc, pool, *call)?, "call {place}");
+    }
+    Ok(())
+}
+
+/// The disk of so many pages, below a pool that has done these calls.
+fn disk_after(rt: &impl Abort, alloc: Global, pages: u32, calls: &[Call]) -> Result<MemDisk, Fail> {
+    let mut pool = pool_over(alloc, MemDisk::new(alloc, 1024, pages, 16)?)?;
+    does_each(rt, alloc, &mut pool, calls)?;
+    Ok(pool.into_disk())
+}
+
+/// A byte of a page of a disk.
+fn byte_of<D: Disk>(disk: &mut D, page: u32, at: usize) -> Option<u8> {
+    read_page(disk, page)?.get(at).copied()
 }
 
 /// Tells whether each record of a disk points to a record or to nothing.
@@ -138,100 +278,110 @@ fn resolves<D: Disk>(disk: &mut D) -> bool {
 }
 
 #[test]
-fn a_pool_has_512_dirty_pages_256_in_a_batch_and_32_marks(rt: HostRuntime) -> Result<(), Fail> {
-    assert_eq!(rt; DIRTY_PAGES, 512);
-    assert_eq!(rt; BATCH_PAGES, 256);
-    assert_eq!(rt; MARKERS, 32);
-    Ok(())
+fn a_pool_has_512_dirty_pages_256_in_a_batch_and_32_marks(rt: HostRuntime) {
+    assert!(rt; DIRTY_PAGES == 512 && BATCH_PAGES == 256 && MARKERS == 32);
 }
+
+/// Page 7 is written with its first content, and then page 8 has to go before it.
+const CYCLE: &[Call] = &[
+    Call::Ordered(7, 8, 1),
+    Call::Dirty(7, true),
+    Call::Dirty(8, true),
+    Call::Ordered(8, 7, 2),
+    Call::Dirty(7, true),
+    Call::Write(7, 8),
+];
 
 #[test]
 fn an_order_that_would_close_a_cycle_writes_the_page_before(rt: HostRuntime) -> Result<(), Fail> {
-    let alloc = rt.alloc();
-    let mut pool = pool_over(alloc, MemDisk::new(alloc, 1024, 16, 16)?)?;
-    put_in_order(alloc, &mut pool, Order { first: 7, later: 8 }, &[1; 1024])?;
-    assert!(rt; pool.is_dirty(PageNo(7)) && pool.is_dirty(PageNo(8)));
-    put_in_order(alloc, &mut pool, Order { first: 8, later: 7 }, &[2; 1024])?;
-    // Page 7 was written with its first content, and now page 8 has to go before it.
-    assert!(rt; pool.is_dirty(PageNo(7)));
-    assert_eq!(rt; pool.write_one(PageNo(7)), Ok(PageNo(8)));
-    let mut disk = pool.into_disk();
+    let mut disk = disk_after(&rt, rt.alloc(), 16, CYCLE)?;
     assert_eq!(rt; disk.writes(), 2);
-    assert_eq!(rt; byte_of(&mut disk, 7, 0), Some(1), "its first content");
+    assert_eq!(rt; byte_of(&mut disk, 7, 0), Some(1));
     assert_eq!(rt; byte_of(&mut disk, 8, 0), Some(2));
     Ok(())
 }
 
+const PAST_THE_END: &[Call] = &[
+    Call::Change(6, 1, None),
+    Call::WriteEach(Ok(())),
+    Call::Fetch(9, Err(PoolFault::Absent { pages: 7 })),
+    Call::Fetch(6, Ok(1024)),
+];
+
 #[test]
 fn a_page_past_the_end_is_absent(rt: HostRuntime) -> Result<(), Fail> {
-    let alloc = rt.alloc();
-    let mut pool = pool_over(alloc, MemDisk::new(alloc, 1024, 16, 16)?)?;
-    pool.change_one(PageNo(6), &[1; 1024], None)?;
-    write_each(&mut pool)?;
-    assert_eq!(rt; pool.fetch(PageNo(9)), Err(PoolFault::Absent { pages: 7 }));
-    pool.fetch(PageNo(6))?;
-    let bytes = pool.bytes(PageNo(6)).unwrap_or(&[]);
-    assert_eq!(rt; bytes.len(), 1024);
+    disk_after(&rt, rt.alloc(), 16, PAST_THE_END)?;
     Ok(())
 }
+
+const FAILED: &[Call] = &[
+    Call::Change(6, 1, None),
+    Call::WriteEach(Err(PoolFault::DiskWrite { faults: 1 })),
+    Call::Settle(Err(PoolFault::Offline { faults: 1 })),
+    Call::Dirty(6, true),
+];
 
 #[test]
 fn a_page_write_that_fails_refuses_every_later_call(rt: HostRuntime) -> Result<(), Fail> {
-    let alloc = rt.alloc();
-    let mut bad = Vec::new(alloc);
-    bad.push(1)?;
-    let disk = FaultyDisk::new(MemDisk::new(alloc, 1024, 16, 16)?, bad);
-    let mut pool = pool_over(alloc, disk)?;
-    pool.change_one(PageNo(6), &[1; 1024], None)?;
-    let failed = write_each(&mut pool);
-    assert_eq!(rt; failed, Err(PoolFault::DiskWrite { faults: 1 }));
-    assert_eq!(rt; pool.settle(), Err(PoolFault::Offline { faults: 1 }));
-    assert!(rt; pool.is_dirty(PageNo(6)));
-    Ok(())
+    let bad = vec![in rt.alloc(); 1]?;
+    let disk = FaultyDisk::new(MemDisk::new(rt.alloc(), 1024, 16, 16)?, bad);
+    let mut pool = pool_over(rt.alloc(), disk)?;
+    does_each(&rt, rt.alloc(), &mut pool, FAILED)
 }
+
+/// Page 300 has to be written before page 0.
+const TOO_MANY: &[Call] = &[
+    Call::Change(300, 1, None),
+    Call::Change(0, 1, Some(300)),
+    Call::ChangeEach(512),
+    Call::Dirty(0, true),
+    Call::Dirty(300, true),
+    Call::Change(512, 1, None),
+    Call::Dirty(0, false),
+    Call::Dirty(1, true),
+    Call::Dirty(300, false),
+    Call::Dirty(301, true),
+    Call::Dirty(512, true),
+];
 
 #[test]
 fn the_513th_page_writes_the_least_one_with_what_precedes_it(rt: HostRuntime) -> Result<(), Fail> {
-    let alloc = rt.alloc();
-    let mut pool = pool_over(alloc, MemDisk::new(alloc, 1024, 600, 16)?)?;
-    put_each(&mut pool, 512)?;
-    assert!(rt; pool.is_dirty(PageNo(0)) && pool.is_dirty(PageNo(300)));
-    pool.change_one(PageNo(512), &[1; 1024], None)?;
-    for (page, dirty) in [
-        (0, false),
-        (1, true),
-        (300, false),
-        (301, true),
-        (512, true),
-    ] {
-        assert_eq!(rt; pool.is_dirty(PageNo(page)), dirty, "page {page}");
-    }
-    assert_eq!(rt; pool.into_disk().writes(), 2);
+    let disk = disk_after(&rt, rt.alloc(), 600, TOO_MANY)?;
+    assert_eq!(rt; disk.writes(), 2);
     Ok(())
+}
+
+/// A new record comes between 3 and 4, and goes again: its content goes out first, since it must
+/// reach the disk before record 3 does, and its end after record 3 does.
+const RECORDS: &[Call] = &[
+    Call::Record(4, 0),
+    Call::Record(3, 4),
+    Call::Record(2, 3),
+    Call::WriteEach(Ok(())),
+    Call::Record(5, 4),
+    Call::Record(3, 5),
+    Call::Record(3, 4),
+    Call::Change(5, 0, Some(3)),
+    Call::WriteEach(Ok(())),
+];
+
+/// Tells whether each record points to a record after so many page writes of a disk.
+fn resolves_after(alloc: Global, disk: &MemDisk, writes: u32) -> Result<bool, Fail> {
+    if writes >= 1000 {
+        return Ok(false);
+    }
+    if writes as usize <= disk.writes() {
+        return Ok(resolves(&mut disk.after(alloc, writes, 1)?));
+    }
+    Ok(false)
 }
 
 #[test]
 fn after_every_page_write_each_record_points_to_a_record(rt: HostRuntime) -> Result<(), Fail> {
-    let alloc = rt.alloc();
-    let mut pool = pool_over(alloc, MemDisk::new(alloc, 1024, 16, 16)?)?;
-    put_record(&mut pool, 4, 0)?;
-    put_record(&mut pool, 3, 4)?;
-    put_record(&mut pool, 2, 3)?;
-    write_each(&mut pool)?;
-    // A new record between 3 and 4, and then it goes again: its content goes out first, since it
-    // must reach the disk before record 3 did, and its end after record 3 does.
-    put_record(&mut pool, 5, 4)?;
-    put_record(&mut pool, 3, 5)?;
-    put_record(&mut pool, 3, 4)?;
-    pool.change_one(PageNo(5), &[0; 1024], Some(PageNo(3)))?;
-    write_each(&mut pool)?;
-    let disk = pool.into_disk();
+    let disk = disk_after(&rt, rt.alloc(), 16, RECORDS)?;
     assert_eq!(rt; disk.writes(), 6);
     for count in 0..7 {
-        if count as usize <= disk.writes() {
-            let mut image = disk.after(alloc, count, 1)?;
-            assert!(rt; resolves(&mut image), "after {count} page writes");
-        }
+        assert!(rt; resolves_after(rt.alloc(), &disk, count)?, "after {count}");
     }
     Ok(())
 }

@@ -50,19 +50,33 @@ pub fn has_bytes(batch: &Batch, page: PageNo, at: usize, wanted: &[u8]) -> bool 
     }
 }
 
-/// A batch with the first inventory page, on which the first pages are used.
-pub fn batch_with(alloc: Global, used: u32) -> Result<Batch, Memory>
+/// The first inventory page, on which the first so many pages are used.
+pub fn inventory_page(used: u32) -> [u8; 1024]
     requires { used ≤ 8064 }
-    ensures whole { IfOk result (λ batch. AreWhole 1024 batch.pages) }
 {
     let mut page = [0; 1024];
     new_pip(&mut page, PageNo(1), 0);
     for bit in 0..used {
         set_used(&mut page, bit, true);
     }
+    page
+}
+
+/// A batch with the first inventory page, on which the first pages are used.
+pub fn batch_with(alloc: Global, used: u32) -> Result<Batch, Memory>
+    requires { used ≤ 8064 }
+    ensures whole { IfOk result (λ batch. AreWhole 1024 batch.pages) }
+{
     let mut batch = Batch::new(alloc);
-    batch.put(PageNo(1), &page)?;
+    batch.put(PageNo(1), &inventory_page(used))?;
     Ok(batch)
+}
+
+/// The first pointer page of the empty table.
+fn pointer_page() -> [u8; 1024] {
+    let mut first = [0; 1024];
+    new_pointer(&mut first, OWNER, OWNER.0, 0);
+    first
 }
 
 /// A batch with the first inventory page, on which pages 0 to 6 are used, and an empty table.
@@ -70,8 +84,6 @@ pub fn empty_table(alloc: Global) -> Result<Batch, Memory>
     ensures whole { IfOk result (λ batch. AreWhole 1024 batch.pages) }
 {
     let mut batch = batch_with(alloc, 7)?;
-    let mut first = [0; 1024];
-    new_pointer(&mut first, OWNER, OWNER.0, 0);
-    batch.put(OWNER, &first)?;
+    batch.put(OWNER, &pointer_page())?;
     Ok(batch)
 }

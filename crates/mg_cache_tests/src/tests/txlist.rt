@@ -2,80 +2,90 @@
 //! inventory page comes with transaction 4016 where pages have 1024 bytes.
 
 ghost use Rattle.std.specs.Prelude.{◌≡◌, Some, IfOk};
+ghost use Rattle.mg_base.specs.MemDisk.{mem_meaning};
 ghost use Rattle.mg_pool.specs.Pool.{IsPool};
 ghost use Rattle.mg_space.specs.Taking.{IsGeometry};
 ghost use Rattle.mg_txlist.specs.TxList.{IsTxList};
 
-use super::stores::store_over;
+use super::stores::{inventory_page, store_over};
 use mg_base::{Disk, MemDisk, Memory, PageNo, TxNo, TxState, new_common};
 use mg_header::{GREATEST_NEXT, HEADER_KIND, Header, read_header, write_header};
-use mg_pip::{new_pip, set_used};
 use mg_pool::{Batch, PoolFault};
 use mg_space::{SpaceFault, Store, page_of};
 use mg_tip::{new_tip, set_state};
 use mg_txlist::TxList;
 use std::alloc::Global;
+use std::process::Abort;
 use std::test::Fail;
 
-/// A page of the database of the tests, of which 4014 transactions were drawn.
-fn page_of_test(n: u32) -> [u8; 1024] {
+/// The header, where the number 4015 is drawn next.
+const HEADER: Header = Header {
+    minor: 0,
+    next: TxNo(4015),
+    oit: TxNo(1),
+    oat: TxNo(1),
+    ost: TxNo(1),
+    last_tip: PageNo(2),
+    interval: 20_000,
+    catalog: PageNo(3),
+};
+
+fn header_page() -> [u8; 1024] {
     let mut page = [0; 1024];
-    match n {
-        0 => {
-            new_common(&mut page, PageNo(0), HEADER_KIND, 0, 0);
-            let header = Header {
-                minor: 0,
-                next: TxNo(4015),
-                oit: TxNo(1),
-                oat: TxNo(1),
-                ost: TxNo(1),
-                last_tip: PageNo(2),
-                interval: 20_000,
-                catalog: PageNo(3),
-            };
-            write_header(&mut page, &header);
-        }
-        1 => {
-            new_pip(&mut page, PageNo(1), 0);
-            for bit in 0..7 {
-                set_used(&mut page, bit, true);
-            }
-        }
-        _ => {
-            new_tip(&mut page, PageNo(2), 0, PageNo(0));
-            set_state(&mut page, 0, TxState::Committed);
-            set_state(&mut page, 4014, TxState::Committed);
-        }
-    }
+    new_common(&mut page, PageNo(0), HEADER_KIND, 0, 0);
+    write_header(&mut page, &HEADER);
     page
 }
 
+/// The transaction inventory page: 0 and 4014 are committed.
+fn states_page() -> [u8; 1024] {
+    let mut page = [0; 1024];
+    new_tip(&mut page, PageNo(2), 0, PageNo(0));
+    set_state(&mut page, 0, TxState::Committed);
+    set_state(&mut page, 4014, TxState::Committed);
+    page
+}
+
+/// A page of the database of the tests, of which 4014 transactions were drawn.
+fn page_of_test(n: u32) -> [u8; 1024] {
+    match n {
+        0 => header_page(),
+        1 => inventory_page(7),
+        _ => states_page(),
+    }
+}
+
+/// Writes a page of the database, and tells whether it did.
+fn write_page<D: Disk>(disk: &mut D, n: u32) -> bool {
+    match disk.page_size() {
+        Ok(1024) => disk.write(PageNo(n), &page_of_test(n)).is_ok(),
+        _ => false,
+    }
+}
+
 /// A store over a disk with the database.
-fn database_on<D: Disk + Drop>(alloc: Global, disk: D) -> Result<Store<D>, Memory>
-    ensures pool { IfOk result (λ store. IsPool D.meaning store) }
+fn new_database(alloc: Global) -> Result<Store<MemDisk>, Memory>
+    ensures pool { IfOk result (λ store. IsPool mem_meaning store) }
     ensures geometry { IfOk result (λ store. IsGeometry store.geometry) }
     ensures size { IfOk result (λ store. store.geometry.size ≡ 1024) }
 {
-    let mut disk = disk;
+    let mut disk = MemDisk::new(alloc, 1024, 8, 16)?;
     for n in 0..3 {
-        let Ok(1024) = disk.page_size() else {
-            return Err(Memory);
-        };
-        if disk.write(PageNo(n), &page_of_test(n)).is_err() {
+        if !write_page(&mut disk, n) {
             return Err(Memory);
         }
     }
-    let Ok(1024) = disk.page_size() else {
-        return Err(Memory);
-    };
-    store_over(alloc, disk, 16)
+    match disk.page_size() {
+        Ok(1024) => store_over(alloc, disk, 16),
+        _ => Err(Memory),
+    }
 }
 
 /// The last transaction inventory page that the header names, 0 where no header is read.
-fn last_tip<D: Disk>(store: &mut Store<D>) -> Result<u32, SpaceFault>
-    requires pool { IsPool D.meaning store.old }
+fn last_tip(store: &mut Store<MemDisk>) -> Result<u32, SpaceFault>
+    requires pool { IsPool mem_meaning store.old }
     requires size { store.old.geometry.size ≡ 1024 }
-    ensures pool { IsPool D.meaning store.new }
+    ensures pool { IsPool mem_meaning store.new }
     ensures geometry { store.new.geometry ≡ store.old.geometry }
 {
     let batch = Batch::new(store.alloc());
@@ -87,34 +97,32 @@ fn last_tip<D: Disk>(store: &mut Store<D>) -> Result<u32, SpaceFault>
 }
 
 /// Draws a number, and keeps what the next call needs.
-fn draw<D: Disk>(list: &mut TxList, store: &mut Store<D>) -> Result<TxNo, SpaceFault>
+fn draw(list: &mut TxList, store: &mut Store<MemDisk>) -> Result<TxNo, SpaceFault>
     requires list { IsTxList list.old }
-    requires pool { IsPool D.meaning store.old }
+    requires pool { IsPool mem_meaning store.old }
     requires geometry { IsGeometry store.old.geometry }
     requires size { list.old.size ≡ store.old.geometry.size }
     ensures list { IsTxList list.new }
-    ensures pool { IsPool D.meaning store.new }
+    ensures pool { IsPool mem_meaning store.new }
     ensures geometry { store.new.geometry ≡ store.old.geometry }
-    ensures size { list.new.size ≡ store.new.geometry.size }
+    ensures size { list.new.size ≡ list.old.size }
 {
     if list.next().0 >= GREATEST_NEXT {
         return Err(SpaceFault::Pool(PoolFault::Memory));
     }
-    match list.draw(store) {
-        Ok(t) => Ok(t),
-        Err(fault) => Err(fault),
-    }
+    list.draw(store)
 }
 
 /// Commits a number that was drawn, and keeps what the next call needs.
-fn commit<D: Disk>(list: &mut TxList, store: &mut Store<D>, t: TxNo) -> Result<(), SpaceFault>
+fn commit(list: &mut TxList, store: &mut Store<MemDisk>, t: TxNo) -> Result<(), SpaceFault>
     requires list { IsTxList list.old }
-    requires pool { IsPool D.meaning store.old }
+    requires pool { IsPool mem_meaning store.old }
     requires geometry { IsGeometry store.old.geometry }
     requires size { list.old.size ≡ store.old.geometry.size }
     ensures list { IsTxList list.new }
-    ensures pool { IsPool D.meaning store.new }
-    ensures geometry { IsGeometry store.new.geometry }
+    ensures pool { IsPool mem_meaning store.new }
+    ensures geometry { store.new.geometry ≡ store.old.geometry }
+    ensures size { list.new.size ≡ list.old.size }
 {
     if t.0 == 0 || t.0 >= list.next().0 {
         return Err(SpaceFault::Pool(PoolFault::Memory));
@@ -122,27 +130,105 @@ fn commit<D: Disk>(list: &mut TxList, store: &mut Store<D>, t: TxNo) -> Result<(
     list.mark_committed(store, t)
 }
 
+/// A call of a list over its store, and what it answers.
+#[derive(Clone, Copy)]
+enum Call {
+    /// This number is drawn.
+    Draw(u32),
+    /// A number that was drawn is committed.
+    Commit(u32),
+    /// The header names this page as the last transaction inventory page.
+    LastTip(u32),
+    /// The number that is drawn next.
+    Next(u32),
+    State(u32, TxState),
+    /// The first number from one on that is open, below another one.
+    FirstOpen(u32, u32, u32),
+}
+
+/// Tells whether a list answers so.
+fn says(list: &TxList, call: Call) -> bool
+    requires { IsTxList list.now }
+{
+    match call {
+        Call::Next(next) => list.next() == TxNo(next),
+        Call::State(t, state) => list.state(TxNo(t)) == state,
+        Call::FirstOpen(from, below, t) => list.first_open(TxNo(from), TxNo(below)) == TxNo(t),
+        _ => false,
+    }
+}
+
+/// Does what a call says, and tells whether it answers so.
+fn does(list: &mut TxList, store: &mut Store<MemDisk>, call: Call) -> bool
+    requires list { IsTxList list.old }
+    requires pool { IsPool mem_meaning store.old }
+    requires geometry { IsGeometry store.old.geometry }
+    requires page_size { store.old.geometry.size ≡ 1024 }
+    requires size { list.old.size ≡ 1024 }
+    ensures list { IsTxList list.new }
+    ensures pool { IsPool mem_meaning store.new }
+    ensures geometry { store.new.geometry ≡ store.old.geometry }
+    ensures size { list.new.size ≡ list.old.size }
+{
+    match call {
+        Call::Draw(t) => draw(list, store) == Ok(TxNo(t)),
+        Call::Commit(t) => commit(list, store, TxNo(t)) == Ok(()),
+        Call::LastTip(page) => last_tip(store) == Ok(page),
+        _ => says(list, call),
+    }
+}
+
+/// Wants each call of a list to answer as it says, one after another.
+fn does_each(rt: &impl Abort, list: &mut TxList, store: &mut Store<MemDisk>, calls: &[Call])
+    requires list { IsTxList list.old }
+    requires pool { IsPool mem_meaning store.old }
+    requires geometry { IsGeometry store.old.geometry }
+    requires page_size { store.old.geometry.size ≡ 1024 }
+    requires size { list.old.size ≡ 1024 }
+    ensures pool { IsPool mem_meaning store.new }
+    ensures geometry { store.new.geometry ≡ store.old.geometry }
+{
+    for (place, call) in calls.iter().enumerate() {
+        assert!(rt; does(list, store, *call), "call {place}");
+    }
+}
+
+/// Wants each call of a list that is loaded to answer as it says, one after another.
+fn loaded_does(rt: &impl Abort, store: &mut Store<MemDisk>, calls: &[Call]) -> Result<(), Fail>
+    requires pool { IsPool mem_meaning store.old }
+    requires geometry { IsGeometry store.old.geometry }
+    requires page_size { store.old.geometry.size ≡ 1024 }
+    ensures pool { IsPool mem_meaning store.new }
+    ensures geometry { store.new.geometry ≡ store.old.geometry }
+{
+    let Ok(mut list) = TxList::load(store) else {
+        return Err(Memory.into());
+    };
+    does_each(rt, &mut list, store, calls);
+    Ok(())
+}
+
+const DRAWN: &[Call] = &[
+    Call::State(4014, TxState::Committed),
+    Call::Draw(4015),
+    Call::LastTip(2),
+    Call::Draw(4016),
+    Call::LastTip(7),
+    Call::State(4016, TxState::Active),
+    Call::Commit(4016),
+    Call::FirstOpen(4014, 4017, 4015),
+];
+
+const AGAIN: &[Call] = &[
+    Call::Next(4017),
+    Call::State(4014, TxState::Committed),
+    Call::State(4015, TxState::Dead),
+    Call::State(4016, TxState::Committed),
+];
+
 #[test]
 fn transaction_4016_takes_the_second_page(rt: HostRuntime) -> Result<(), Fail> {
-    let alloc = rt.alloc();
-    let mut store = database_on(alloc, MemDisk::new(alloc, 1024, 8, 16)?)?;
-    let Ok(mut list) = TxList::load(&mut store) else {
-        return Err(Memory.into());
-    };
-    assert_eq!(rt; list.state(TxNo(4014)), TxState::Committed);
-    assert_eq!(rt; draw(&mut list, &mut store), Ok(TxNo(4015)));
-    assert_eq!(rt; last_tip(&mut store), Ok(2));
-    assert_eq!(rt; draw(&mut list, &mut store), Ok(TxNo(4016)));
-    assert_eq!(rt; last_tip(&mut store), Ok(7));
-    assert_eq!(rt; list.state(TxNo(4016)), TxState::Active);
-    assert_eq!(rt; commit(&mut list, &mut store, TxNo(4016)), Ok(()));
-    assert_eq!(rt; list.first_open(TxNo(4014), TxNo(4017)), TxNo(4015));
-    let Ok(again) = TxList::load(&mut store) else {
-        return Err(Memory.into());
-    };
-    assert_eq!(rt; again.next(), TxNo(4017));
-    assert_eq!(rt; again.state(TxNo(4014)), TxState::Committed);
-    assert_eq!(rt; again.state(TxNo(4015)), TxState::Dead);
-    assert_eq!(rt; again.state(TxNo(4016)), TxState::Committed);
-    Ok(())
+    let mut store = new_database(rt.alloc())?;
+    loaded_does(&rt, &mut store, DRAWN)?;
+    loaded_does(&rt, &mut store, AGAIN)
 }

@@ -2,45 +2,86 @@
 
 use mg_base::{TxNo, TxState};
 use mg_waits::{Verdict, Waits};
+use std::alloc::Global;
+use std::process::Abort;
 use std::test::Fail;
+
+/// A call, and what it answers.
+#[derive(Clone, Copy)]
+enum Call {
+    /// A transaction waits for another one.
+    Note(u32, u32),
+    /// A transaction waits no longer.
+    Over(u32),
+    /// What transaction 3, which is ready to wait or not, is told of another one in this state.
+    Asks(bool, u32, TxState, Option<Verdict>),
+}
+
+fn note(waits: &mut Waits, t: u32, on: u32) -> Result<bool, Fail> {
+    waits.note(TxNo(t), TxNo(on))?;
+    Ok(true)
+}
+
+fn verdict(waits: &Waits, wait: bool, by: u32, state: TxState) -> Option<Verdict> {
+    waits.verdict(TxNo(3), wait, TxNo(by), state)
+}
+
+/// Does what a call says, and tells whether it answers so.
+fn does(waits: &mut Waits, call: Call) -> Result<bool, Fail> {
+    Ok(match call {
+        Call::Note(t, on) => note(waits, t, on)?,
+        Call::Over(t) => {
+            waits.over(TxNo(t));
+            true
+        }
+        Call::Asks(wait, by, state, wanted) => verdict(waits, wait, by, state) == wanted,
+    })
+}
+
+/// Wants each call to answer as it says, one after another, where nobody waits at first.
+fn does_each(rt: &impl Abort, alloc: Global, calls: &[Call]) -> Result<(), Fail> {
+    let mut waits = Waits::new(alloc);
+    for (place, call) in calls.iter().enumerate() {
+        assert!(rt; does(&mut waits, *call)?, "call {place}");
+    }
+    Ok(())
+}
+
+const STATES: &[Call] = &[
+    Call::Asks(true, 4, TxState::Committed, Some(Verdict::Update)),
+    Call::Asks(true, 5, TxState::Active, Some(Verdict::Wait)),
+    Call::Asks(false, 5, TxState::Active, Some(Verdict::Lock)),
+    Call::Asks(true, 6, TxState::Limbo, Some(Verdict::Limbo)),
+    Call::Asks(true, 7, TxState::Dead, None),
+];
 
 #[test]
 fn the_verdict_goes_by_the_state_of_the_other_one(rt: HostRuntime) -> Result<(), Fail> {
-    let waits = Waits::new(rt.alloc());
-    let committed = waits.verdict(TxNo(3), true, TxNo(4), TxState::Committed);
-    assert_eq!(rt; committed, Some(Verdict::Update));
-    let active = waits.verdict(TxNo(3), true, TxNo(5), TxState::Active);
-    assert_eq!(rt; active, Some(Verdict::Wait));
-    let refused = waits.verdict(TxNo(3), false, TxNo(5), TxState::Active);
-    assert_eq!(rt; refused, Some(Verdict::Lock));
-    let limbo = waits.verdict(TxNo(3), true, TxNo(6), TxState::Limbo);
-    assert_eq!(rt; limbo, Some(Verdict::Limbo));
-    assert_eq!(rt; waits.verdict(TxNo(3), true, TxNo(7), TxState::Dead), None);
-    Ok(())
+    does_each(&rt, rt.alloc(), STATES)
 }
+
+const EACH_OTHER: &[Call] = &[
+    Call::Note(5, 3),
+    Call::Asks(true, 5, TxState::Active, Some(Verdict::Deadlock)),
+    Call::Over(5),
+    Call::Asks(true, 5, TxState::Active, Some(Verdict::Wait)),
+];
 
 #[test]
 fn to_wait_for_one_that_waits_for_this_one_is_a_deadlock(rt: HostRuntime) -> Result<(), Fail> {
-    let mut waits = Waits::new(rt.alloc());
-    waits.note(TxNo(5), TxNo(3))?;
-    let closed = waits.verdict(TxNo(3), true, TxNo(5), TxState::Active);
-    assert_eq!(rt; closed, Some(Verdict::Deadlock));
-    waits.over(TxNo(5));
-    let open = waits.verdict(TxNo(3), true, TxNo(5), TxState::Active);
-    assert_eq!(rt; open, Some(Verdict::Wait));
-    Ok(())
+    does_each(&rt, rt.alloc(), EACH_OTHER)
 }
+
+const OVER_OTHERS: &[Call] = &[
+    Call::Note(5, 8),
+    Call::Note(9, 3),
+    Call::Note(8, 9),
+    Call::Asks(true, 5, TxState::Active, Some(Verdict::Deadlock)),
+    Call::Note(8, 5),
+    Call::Asks(true, 5, TxState::Active, Some(Verdict::Wait)),
+];
 
 #[test]
 fn a_deadlock_is_found_over_several_others(rt: HostRuntime) -> Result<(), Fail> {
-    let mut waits = Waits::new(rt.alloc());
-    waits.note(TxNo(5), TxNo(8))?;
-    waits.note(TxNo(9), TxNo(3))?;
-    waits.note(TxNo(8), TxNo(9))?;
-    let closed = waits.verdict(TxNo(3), true, TxNo(5), TxState::Active);
-    assert_eq!(rt; closed, Some(Verdict::Deadlock));
-    waits.note(TxNo(8), TxNo(5))?;
-    let round = waits.verdict(TxNo(3), true, TxNo(5), TxState::Active);
-    assert_eq!(rt; round, Some(Verdict::Wait));
-    Ok(())
+    does_each(&rt, rt.alloc(), OVER_OTHERS)
 }

@@ -6,6 +6,7 @@ use mg_base::Bytes;
 use mg_reading::{Image, ReadFault, RowCoding, Rule};
 use mg_soundness::check_soundness;
 use std::alloc::Global;
+use std::process::Abort;
 use std::test::Fail;
 
 // A database whose table KV has the data pages 6 and 7: the next number, how many pages are used,
@@ -75,17 +76,6 @@ const GROWTH: Batch = Batch {
 // A set of the pages of a batch.
 type Set = [bool; 3];
 
-const SETS: [Set; 8] = [
-    [false, false, false],
-    [true, false, false],
-    [false, true, false],
-    [true, true, false],
-    [false, false, true],
-    [true, false, true],
-    [false, true, true],
-    [true, true, true],
-];
-
 // Whether a page is in a set.
 fn is_in(batch: &Batch, set: Set, page: u32) -> bool {
     batch.pages[0] == page && set[0]
@@ -136,54 +126,70 @@ fn overlay(alloc: Global, batch: &Batch, set: Set) -> Result<Image, Fail> {
     image_with(alloc, pages)
 }
 
-// Looks that every set that the orders allow is sound, and says how many there are.
-fn expect_allowed(alloc: Global, batch: &Batch) -> Result<usize, Fail> {
-    let mut count = 0;
-    for set in SETS {
-        if is_allowed(batch, set) {
-            if check_soundness(alloc, &overlay(alloc, batch, set)?, RowCoding::Plain).is_err() {
-                return Err("a set that is allowed is not sound")?;
-            }
-            if count > 8 {
-                return Err("more sets than there are")?;
-            }
-            count += 1;
-        }
+// Tells whether this rule is the first that an image breaks, or whether it is sound where none is
+// told.
+fn breaks(alloc: Global, image: &Image, rule: Option<Rule>) -> bool {
+    match (check_soundness(alloc, image, RowCoding::Plain), rule) {
+        (Ok(()), None) => true,
+        (Err(ReadFault::Broken(found)), Some(rule)) => found == rule,
+        _ => false,
     }
-    Ok(count)
 }
 
-// Looks that a set is not allowed, and breaks this rule first.
-fn expect_broken(alloc: Global, batch: &Batch, set: Set, rule: Rule) -> Result<(), Fail> {
-    if is_allowed(batch, set) {
-        return Err("a set that is allowed")?;
+// A set of the pages of a batch, whether the orders allow it, and where that is told the rule that
+// it breaks first: every set that is allowed is sound.
+type Told = (Set, bool, Option<Rule>);
+
+// Tells whether a batch is so laid over the database.
+fn is_told(alloc: Global, batch: &Batch, told: &Told) -> Result<bool, Fail> {
+    let (set, allowed, rule) = *told;
+    if is_allowed(batch, set) != allowed {
+        return Ok(false);
     }
-    match check_soundness(alloc, &overlay(alloc, batch, set)?, RowCoding::Plain) {
-        Err(ReadFault::Broken(found)) if found == rule => Ok(()),
-        _ => Err("a set that is not allowed is sound")?,
+    if !allowed && rule.is_none() {
+        return Ok(true);
     }
+    Ok(breaks(alloc, &overlay(alloc, batch, set)?, rule))
 }
+
+// Wants a batch to be laid over the database in each set as is told.
+fn are_told(rt: &impl Abort, alloc: Global, batch: &Batch, rows: &[Told]) -> Result<(), Fail> {
+    for (place, told) in rows.iter().enumerate() {
+        assert!(rt; is_told(alloc, batch, told)?, "set {place}");
+    }
+    Ok(())
+}
+
+// The slot without the version; the version and the slot, whose transaction was not drawn.
+const PUSHES: &[Told] = &[
+    ([false, false, false], true, None),
+    ([true, false, false], true, None),
+    ([false, true, false], false, Some(Rule::Links)),
+    ([true, true, false], false, Some(Rule::Links)),
+    ([false, false, true], false, None),
+    ([true, false, true], true, None),
+    ([false, true, true], false, Some(Rule::Drawn)),
+    ([true, true, true], true, None),
+];
 
 #[test]
 fn a_draw_and_a_push_keep_every_overlay(rt: HostRuntime) -> Result<(), Fail> {
-    let alloc = rt.alloc();
-    if expect_allowed(alloc, &PUSH)? != 4 {
-        return Err("other sets are allowed")?;
-    }
-    // the slot without the version; the version and the slot, whose transaction was not drawn
-    expect_broken(alloc, &PUSH, [true, true, false], Rule::Links)?;
-    expect_broken(alloc, &PUSH, [false, true, false], Rule::Links)?;
-    expect_broken(alloc, &PUSH, [false, true, true], Rule::Drawn)
+    are_told(&rt, rt.alloc(), &PUSH, PUSHES)
 }
+
+// The entry without the page, without the bit, and without both.
+const GROWTHS: &[Told] = &[
+    ([false, false, false], true, None),
+    ([true, false, false], true, None),
+    ([false, true, false], false, Some(Rule::Pages)),
+    ([true, true, false], false, Some(Rule::Pages)),
+    ([false, false, true], true, None),
+    ([true, false, true], true, None),
+    ([false, true, true], false, Some(Rule::Pages)),
+    ([true, true, true], true, None),
+];
 
 #[test]
 fn growth_keeps_every_overlay(rt: HostRuntime) -> Result<(), Fail> {
-    let alloc = rt.alloc();
-    if expect_allowed(alloc, &GROWTH)? != 5 {
-        return Err("other sets are allowed")?;
-    }
-    // the entry without the page, without the bit, and without both
-    expect_broken(alloc, &GROWTH, [true, true, false], Rule::Pages)?;
-    expect_broken(alloc, &GROWTH, [false, true, true], Rule::Pages)?;
-    expect_broken(alloc, &GROWTH, [false, true, false], Rule::Pages)
+    are_told(&rt, rt.alloc(), &GROWTH, GROWTHS)
 }

@@ -6,9 +6,11 @@ use super::pages::{
 };
 use super::tables::{catalog, kv};
 use mg_base::{Bytes, TxState};
+use mg_model::Table;
 use mg_reading::{Image, ReadFault, RowCoding, Rule, holds};
-use mg_value::Value;
+use mg_value::{Row, Value};
 use std::alloc::Global;
+use std::process::Abort;
 use std::test::Fail;
 
 // A database with the table KV alone: its header, what became of transactions 1 to 3, how many
@@ -26,38 +28,47 @@ struct Made {
     cells: &'static [Laid],
 }
 
+// A database without cells, in which transactions 1 to 3 are committed.
+const EMPTY: Made = Made {
+    next: 4,
+    oit: 1,
+    oat: 1,
+    states: [DONE, DONE, DONE],
+    used: 7,
+    entries: &[6],
+    catalog: &[],
+    cells: &[],
+};
+
+// The same with two versions of a row.
+const SOUND: Made = Made {
+    cells: &TWO,
+    ..EMPTY
+};
+
+// A page of a database.
+fn page_of(alloc: Global, made: &Made, n: u32) -> Result<[u8; SIZE], Fail> {
+    let mut page = [0u8; SIZE];
+    match n {
+        0 => header(&mut page, made.next, made.oit, made.oat, 3),
+        1 => inventory(&mut page, made.used),
+        2 => transactions(&mut page, &made.states),
+        3 => pointers(&mut page, 3, &[4]),
+        4 => data(&mut page, 4, 3, 0, &said_cells(alloc, made.catalog)?)?,
+        5 => pointers(&mut page, 5, made.entries),
+        6 => data(&mut page, 6, 5, 0, &cells_of(alloc, 6, made.cells)?)?,
+        _ => {}
+    }
+    Ok(page)
+}
+
 // The image of a database.
 fn image_of(alloc: Global, made: &Made) -> Result<Image, Fail> {
     let mut pages = Vec::new(alloc);
     for n in 0..7 {
-        let mut page = [0u8; SIZE];
-        match n {
-            0 => header(&mut page, made.next, made.oit, made.oat, 3),
-            1 => inventory(&mut page, made.used),
-            2 => transactions(&mut page, &made.states),
-            3 => pointers(&mut page, 3, &[4]),
-            4 => data(&mut page, 4, 3, 0, &said_cells(alloc, made.catalog)?)?,
-            5 => pointers(&mut page, 5, made.entries),
-            6 => data(&mut page, 6, 5, 0, &cells_of(alloc, 6, made.cells)?)?,
-            _ => {}
-        }
-        pages.push(Bytes::new(page.to_vec(alloc)?))?;
+        pages.push(Bytes::new(page_of(alloc, made, n)?.to_vec(alloc)?))?;
     }
     image_with(alloc, pages)
-}
-
-// A database with these cells, in which transactions 1 to 3 are committed.
-fn database(cells: &'static [Laid]) -> Made {
-    Made {
-        next: 4,
-        oit: 1,
-        oat: 1,
-        states: [DONE, DONE, DONE],
-        used: 7,
-        entries: &[6],
-        catalog: &[],
-        cells,
-    }
 }
 
 // The number in a column of a row.
@@ -68,249 +79,342 @@ fn number(values: &[Value], at: usize) -> i64 {
     }
 }
 
-// Compares the rows that an image holds with these keys and values.
-fn expect_rows(
-    alloc: Global,
-    made: &Made,
-    wanted: &[(i64, i64)],
-    what: &'static str,
-) -> Result<(), Fail> {
-    let mut tables = Vec::new(alloc);
-    tables.push(kv(alloc)?)?;
-    let held = match holds(alloc, &image_of(alloc, made)?, &tables, RowCoding::Plain) {
-        Ok(held) => held,
-        Err(_) => return Err(what)?,
-    };
-    let Some(first) = held.first() else {
-        return Err(what)?;
-    };
-    if first.rows.len() != wanted.len() {
-        return Err(what)?;
-    }
-    for (row, pair) in first.rows.iter().zip(wanted) {
-        if number(row.as_slice(), 0) != pair.0 || number(row.as_slice(), 1) != pair.1 {
-            return Err(what)?;
-        }
-    }
-    Ok(())
+// What an image is read as: the keys and values of its rows, or the rule that it breaks.
+#[derive(Clone, Copy)]
+enum Told {
+    Rows(&'static [(i64, i64)]),
+    Broken(Rule),
 }
 
-// Looks that an image breaks this rule.
-fn expect_broken(alloc: Global, made: &Made, rule: Rule, what: &'static str) -> Result<(), Fail> {
-    let mut tables = Vec::new(alloc);
-    tables.push(kv(alloc)?)?;
-    match holds(alloc, &image_of(alloc, made)?, &tables, RowCoding::Plain) {
-        Err(ReadFault::Broken(found)) if found == rule => Ok(()),
-        _ => Err(what)?,
+// Tells whether rows have these keys and values.
+fn are_rows(rows: &[Row], wanted: &[(i64, i64)]) -> bool {
+    if rows.len() != wanted.len() {
+        return false;
     }
+    for (row, pair) in rows.iter().zip(wanted) {
+        if number(row.as_slice(), 0) != pair.0 || number(row.as_slice(), 1) != pair.1 {
+            return false;
+        }
+    }
+    true
+}
+
+// Tells whether an image is read so, where it has these tables.
+fn is_read(alloc: Global, image: &Image, tables: &[Table], told: Told) -> bool {
+    match (holds(alloc, image, tables, RowCoding::Plain), told) {
+        (Ok(held), Told::Rows(wanted)) => match held.first() {
+            Some(first) => are_rows(&first.rows, wanted),
+            None => false,
+        },
+        (Err(ReadFault::Broken(found)), Told::Broken(rule)) => found == rule,
+        _ => false,
+    }
+}
+
+// Tells whether the image of a database is read so.
+fn is_told(alloc: Global, made: &Made, told: Told) -> Result<bool, Fail> {
+    let image = image_of(alloc, made)?;
+    let tables = vec![in alloc; kv(alloc)?]?;
+    Ok(is_read(alloc, &image, &tables, told))
+}
+
+// Wants the image of each database to be read as is told.
+fn are_told(
+    rt: &impl Abort,
+    alloc: Global,
+    rows: &[(&'static str, Made, Told)],
+) -> Result<(), Fail> {
+    for (what, made, told) in rows {
+        assert!(rt; is_told(alloc, made, *told)?, "{what}");
+    }
+    Ok(())
 }
 
 #[test]
 fn an_empty_table_holds_no_rows(rt: HostRuntime) -> Result<(), Fail> {
-    let alloc = rt.alloc();
-    expect_rows(alloc, &database(&[]), &[], "rows of an empty table")
+    assert!(rt; is_told(rt.alloc(), &EMPTY, Told::Rows(&[]))?);
+    Ok(())
 }
+
+const SHOWN: &[(&str, Made, Told)] = &[
+    ("both committed", SOUND, Told::Rows(&[(1, 20)])),
+    (
+        "the newest is active",
+        Made {
+            states: [DONE, LIVE, DONE],
+            ..SOUND
+        },
+        Told::Rows(&[(1, 10)]),
+    ),
+    (
+        "the newest is dead",
+        Made {
+            states: [DONE, GONE, DONE],
+            ..SOUND
+        },
+        Told::Rows(&[(1, 10)]),
+    ),
+    (
+        "the newest is in limbo",
+        Made {
+            states: [DONE, HELD, DONE],
+            ..SOUND
+        },
+        Told::Rows(&[(1, 10)]),
+    ),
+    (
+        "cells that no anchor leads to",
+        Made {
+            states: [DONE, HELD, DONE],
+            cells: &[
+                Laid::Anchor(2, 2),
+                Laid::First(1, 1, 10),
+                Laid::Over(2, (1, 1), 1, 20),
+                Laid::Erased(3, (2, 2), 1),
+                Laid::First(3, 9, 90),
+            ],
+            ..SOUND
+        },
+        Told::Rows(&[(1, 10)]),
+    ),
+];
 
 #[test]
 fn the_first_committed_version_is_shown(rt: HostRuntime) -> Result<(), Fail> {
-    let alloc = rt.alloc();
-    let mut image = database(&TWO);
-    expect_rows(alloc, &image, &[(1, 20)], "both committed")?;
-    for state in [LIVE, GONE, HELD] {
-        image.states = [DONE, state, DONE];
-        expect_rows(alloc, &image, &[(1, 10)], "the newest is not committed")?;
-    }
-    image.cells = &[
-        Laid::Anchor(2, 2),
-        Laid::First(1, 1, 10),
-        Laid::Over(2, (1, 1), 1, 20),
-        Laid::Erased(3, (2, 2), 1),
-        Laid::First(3, 9, 90),
-    ];
-    expect_rows(alloc, &image, &[(1, 10)], "cells that no anchor leads to")?;
-    Ok(())
+    are_told(&rt, rt.alloc(), SHOWN)
 }
 
-#[test]
-fn a_committed_deletion_shows_no_row(rt: HostRuntime) -> Result<(), Fail> {
-    let alloc = rt.alloc();
-    let made = database(&[
+const ERASED: Made = Made {
+    cells: &[
         Laid::Anchor(2, 2),
         Laid::First(1, 1, 10),
         Laid::Erased(2, (1, 1), 1),
-    ]);
-    expect_rows(alloc, &made, &[], "a deletion")
+    ],
+    ..EMPTY
+};
+
+#[test]
+fn a_committed_deletion_shows_no_row(rt: HostRuntime) -> Result<(), Fail> {
+    assert!(rt; is_told(rt.alloc(), &ERASED, Told::Rows(&[]))?);
+    Ok(())
 }
+
+const RULES: &[(&str, Made, Told)] = &[
+    (
+        "OIT past Next",
+        Made {
+            oit: 5,
+            oat: 5,
+            ..SOUND
+        },
+        Told::Broken(Rule::Header),
+    ),
+    (
+        "bits of a transaction from Next on",
+        Made { next: 3, ..SOUND },
+        Told::Broken(Rule::Transactions),
+    ),
+    (
+        "no bits from Next on",
+        Made {
+            next: 3,
+            states: [DONE, DONE, LIVE],
+            ..SOUND
+        },
+        Told::Rows(&[(1, 20)]),
+    ),
+    (
+        "a version of a transaction past Next",
+        Made {
+            next: 2,
+            states: [DONE, LIVE, LIVE],
+            ..SOUND
+        },
+        Told::Broken(Rule::Drawn),
+    ),
+    (
+        "a dead version below OIT",
+        Made {
+            oit: 3,
+            oat: 3,
+            states: [DONE, GONE, DONE],
+            ..SOUND
+        },
+        Told::Broken(Rule::Drawn),
+    ),
+    (
+        "a transaction in limbo below the oldest active one",
+        Made {
+            oat: 3,
+            states: [DONE, HELD, DONE],
+            ..SOUND
+        },
+        Told::Broken(Rule::Drawn),
+    ),
+    (
+        "it is the oldest active one",
+        Made {
+            oat: 2,
+            states: [DONE, HELD, DONE],
+            ..SOUND
+        },
+        Told::Rows(&[(1, 10)]),
+    ),
+    (
+        "a back version that is not committed",
+        Made {
+            states: [GONE, DONE, DONE],
+            ..SOUND
+        },
+        Told::Broken(Rule::Backs),
+    ),
+    (
+        "a reached page that is not used",
+        Made { used: 6, ..SOUND },
+        Told::Broken(Rule::Pages),
+    ),
+    (
+        "a page in two entries",
+        Made {
+            entries: &[6, 6],
+            ..SOUND
+        },
+        Told::Broken(Rule::Pages),
+    ),
+    (
+        "a page that no entry leads to",
+        Made {
+            entries: &[],
+            ..SOUND
+        },
+        Told::Rows(&[]),
+    ),
+];
 
 #[test]
 fn each_broken_rule_is_named(rt: HostRuntime) -> Result<(), Fail> {
-    let alloc = rt.alloc();
-    let mut image = database(&TWO);
-    image.oit = 5;
-    image.oat = 5;
-    expect_broken(alloc, &image, Rule::Header, "OIT past Next")?;
-    image.oit = 1;
-    image.oat = 1;
-    image.next = 3;
-    expect_broken(
-        alloc,
-        &image,
-        Rule::Transactions,
-        "bits of a transaction from Next on",
-    )?;
-    image.states = [DONE, DONE, LIVE];
-    expect_rows(alloc, &image, &[(1, 20)], "no bits from Next on")?;
-    image.next = 2;
-    image.states = [DONE, LIVE, LIVE];
-    expect_broken(
-        alloc,
-        &image,
-        Rule::Drawn,
-        "a version of a transaction past Next",
-    )?;
-    image.next = 4;
-    image.states = [DONE, GONE, DONE];
-    image.oit = 3;
-    image.oat = 3;
-    expect_broken(alloc, &image, Rule::Drawn, "a dead version below OIT")?;
-    image.oit = 1;
-    image.states = [DONE, HELD, DONE];
-    expect_broken(
-        alloc,
-        &image,
-        Rule::Drawn,
-        "a transaction in limbo below the oldest active one",
-    )?;
-    image.oat = 2;
-    expect_rows(alloc, &image, &[(1, 10)], "it is the oldest active one")?;
-    image.oat = 1;
-    image.states = [GONE, DONE, DONE];
-    expect_broken(
-        alloc,
-        &image,
-        Rule::Backs,
-        "a back version that is not committed",
-    )?;
-    image.states = [DONE, DONE, DONE];
-    image.used = 6;
-    expect_broken(
-        alloc,
-        &image,
-        Rule::Pages,
-        "a reached page that is not used",
-    )?;
-    image.used = 7;
-    image.entries = &[6, 6];
-    expect_broken(alloc, &image, Rule::Pages, "a page in two entries")?;
-    image.entries = &[];
-    expect_rows(alloc, &image, &[], "a page that no entry leads to")?;
-    Ok(())
+    are_told(&rt, rt.alloc(), RULES)
 }
+
+// Cells that break a rule.
+const RECORDS: &[(&str, Rule, &[Laid])] = &[
+    (
+        "two records with one key",
+        Rule::Keys,
+        &[
+            Laid::Anchor(2, 2),
+            Laid::First(1, 1, 10),
+            Laid::Over(2, (1, 1), 1, 20),
+            Laid::Anchor(4, 3),
+            Laid::First(3, 1, 30),
+        ],
+    ),
+    (
+        "a cell of two records",
+        Rule::Links,
+        &[
+            Laid::Anchor(2, 2),
+            Laid::First(1, 1, 10),
+            Laid::Over(2, (1, 1), 1, 20),
+            Laid::Anchor(1, 1),
+        ],
+    ),
+    (
+        "an anchor to a free slot",
+        Rule::Links,
+        &[
+            Laid::Anchor(2, 2),
+            Laid::First(1, 1, 10),
+            Laid::Over(2, (1, 1), 1, 20),
+            Laid::Anchor(5, 3),
+        ],
+    ),
+    (
+        "a back pointer to an anchor",
+        Rule::Links,
+        &[
+            Laid::Anchor(2, 2),
+            Laid::First(1, 1, 10),
+            Laid::Over(2, (1, 1), 1, 20),
+            Laid::Anchor(4, 3),
+            Laid::Over(3, (0, 2), 2, 30),
+        ],
+    ),
+    (
+        "two keys in one record",
+        Rule::Keys,
+        &[
+            Laid::Anchor(2, 2),
+            Laid::First(1, 1, 10),
+            Laid::Over(2, (1, 1), 2, 20),
+        ],
+    ),
+    (
+        "a chain that comes back",
+        Rule::Links,
+        &[Laid::Anchor(1, 1), Laid::Over(1, (1, 1), 1, 10)],
+    ),
+];
 
 #[test]
 fn each_broken_record_is_told_by_its_rule(rt: HostRuntime) -> Result<(), Fail> {
-    let cases: [(Rule, &'static str, &'static [Laid]); 6] = [
-        (
-            Rule::Keys,
-            "two records with one key",
-            &[
-                Laid::Anchor(2, 2),
-                Laid::First(1, 1, 10),
-                Laid::Over(2, (1, 1), 1, 20),
-                Laid::Anchor(4, 3),
-                Laid::First(3, 1, 30),
-            ],
-        ),
-        (
-            Rule::Links,
-            "a cell of two records",
-            &[
-                Laid::Anchor(2, 2),
-                Laid::First(1, 1, 10),
-                Laid::Over(2, (1, 1), 1, 20),
-                Laid::Anchor(1, 1),
-            ],
-        ),
-        (
-            Rule::Links,
-            "an anchor to a free slot",
-            &[
-                Laid::Anchor(2, 2),
-                Laid::First(1, 1, 10),
-                Laid::Over(2, (1, 1), 1, 20),
-                Laid::Anchor(5, 3),
-            ],
-        ),
-        (
-            Rule::Links,
-            "a back pointer to an anchor",
-            &[
-                Laid::Anchor(2, 2),
-                Laid::First(1, 1, 10),
-                Laid::Over(2, (1, 1), 1, 20),
-                Laid::Anchor(4, 3),
-                Laid::Over(3, (0, 2), 2, 30),
-            ],
-        ),
-        (
-            Rule::Keys,
-            "two keys in one record",
-            &[
-                Laid::Anchor(2, 2),
-                Laid::First(1, 1, 10),
-                Laid::Over(2, (1, 1), 2, 20),
-            ],
-        ),
-        (
-            Rule::Links,
-            "a chain that comes back",
-            &[Laid::Anchor(1, 1), Laid::Over(1, (1, 1), 1, 10)],
-        ),
-    ];
-    for (rule, what, cells) in cases {
-        expect_broken(rt.alloc(), &database(cells), rule, what)?;
+    for (what, rule, cells) in RECORDS {
+        let made = Made { cells, ..EMPTY };
+        assert!(rt; is_told(rt.alloc(), &made, Told::Broken(*rule))?, "{what}");
     }
     Ok(())
+}
+
+// The image of a file without pages.
+fn empty_file(alloc: Global) -> Result<Image, Fail> {
+    image_with(alloc, Vec::new(alloc))
 }
 
 #[test]
 fn a_file_that_was_not_made_yet_is_blank(rt: HostRuntime) -> Result<(), Fail> {
-    let alloc = rt.alloc();
-    let Some(blank) = Image::new(alloc, 1024, Vec::new(alloc))? else {
-        return Err("no image")?;
-    };
-    if !blank.is_blank() {
-        return Err("an empty file")?;
-    }
-    if image_of(alloc, &database(&[]))?.is_blank() {
-        return Err("a database")?;
-    }
+    assert!(rt; empty_file(rt.alloc())?.is_blank());
+    assert!(rt; !image_of(rt.alloc(), &EMPTY)?.is_blank());
     Ok(())
+}
+
+const NEW: Made = Made {
+    next: 1,
+    states: [LIVE, LIVE, LIVE],
+    catalog: &KV,
+    ..EMPTY
+};
+
+// The numbers in a column of rows.
+fn are_numbers(rows: &[Row], at: usize, wanted: &[i64]) -> bool {
+    if rows.len() != wanted.len() {
+        return false;
+    }
+    for (row, one) in rows.iter().zip(wanted) {
+        if number(row.as_slice(), at) != *one {
+            return false;
+        }
+    }
+    true
+}
+
+// Tells whether an image holds the catalog's rows, with these numbers in its column B, and no row of
+// KV.
+fn holds_catalog(alloc: Global, image: &Image, tables: &[Table], wanted: &[i64]) -> bool {
+    let Ok(held) = holds(alloc, image, tables, RowCoding::Plain) else {
+        return false;
+    };
+    match (held.first(), held.get(1)) {
+        (Some(first), Some(second)) => {
+            are_numbers(&first.rows, 3, wanted) && second.rows.is_empty()
+        }
+        _ => false,
+    }
 }
 
 #[test]
 fn a_new_database_has_its_catalog_and_an_empty_table(rt: HostRuntime) -> Result<(), Fail> {
-    let alloc = rt.alloc();
-    let mut made = database(&[]);
-    made.next = 1;
-    made.states = [LIVE, LIVE, LIVE];
-    made.catalog = &KV;
-    let mut tables = Vec::new(alloc);
-    tables.push(catalog(alloc)?)?;
-    tables.push(kv(alloc)?)?;
-    let Ok(held) = holds(alloc, &image_of(alloc, &made)?, &tables, RowCoding::Plain) else {
-        return Err("a new database is refused")?;
-    };
-    let (Some(first), Some(second)) = (held.first(), held.get(1)) else {
-        return Err("two tables")?;
-    };
-    if first.rows.len() != 3 || !second.rows.is_empty() {
-        return Err("the numbers of rows")?;
-    }
-    for (row, wanted) in first.rows.iter().zip(&[3, 0, 2]) {
-        if number(row.as_slice(), 3) != *wanted {
-            return Err("a row of the catalog")?;
-        }
-    }
+    let tables = vec![in rt.alloc(); catalog(rt.alloc())?, kv(rt.alloc())?]?;
+    let image = image_of(rt.alloc(), &NEW)?;
+    assert!(rt; holds_catalog(rt.alloc(), &image, &tables, &[3, 0, 2]));
     Ok(())
 }

@@ -1,5 +1,7 @@
 //! Images of a small database made by hand: sound ones, and for each rule some that break it first.
 
+ghost use Rattle.std.specs.Prelude.{◌≤◌};
+
 use super::cells::{Laid, Said, TWO, cells_of, put_said, said_version};
 use super::pages::{
     DONE, GONE, HELD, LIVE, SIZE, data, header, image_with, inventory, pointers, transactions,
@@ -8,6 +10,7 @@ use mg_base::{Bytes, TxState};
 use mg_reading::{Image, ReadFault, RowCoding, Rule};
 use mg_soundness::{check_soundness, is_unmade};
 use std::alloc::Global;
+use std::process::Abort;
 use std::test::Fail;
 
 // The table KV from page 5 on, whose primary index has its root on page 7.
@@ -85,48 +88,117 @@ struct Made {
 }
 
 // A sound database.
-fn sound() -> Made {
-    Made {
-        next: 4,
-        oit: 1,
-        oat: 1,
-        states: [DONE, DONE, DONE],
-        used: 8,
-        catalog: &INDEXED,
-        by: 0,
-        changed: None,
-        cells: &TWO,
-        keys: &[(1, 0)],
+const SOUND: Made = Made {
+    next: 4,
+    oit: 1,
+    oat: 1,
+    states: [DONE, DONE, DONE],
+    used: 8,
+    catalog: &INDEXED,
+    by: 0,
+    changed: None,
+    cells: &TWO,
+    keys: &[(1, 0)],
+};
+
+// Where the anchor of a row of the catalog leads, which stands in a slot: the slot and the
+// transaction of the newest version.
+fn newest_of(made: &Made, own: u8) -> (u8, u8) {
+    let last = 2 * (made.catalog.len() % 100) as u8;
+    match made.changed {
+        Some((place, _)) if u32::from(own) == 2 * u32::from(place) => (last, 2),
+        _ => (own.saturating_add(1), made.by),
     }
 }
 
-// The cells of the catalog: for each row an anchor, and its version behind it; then the version
-// that changes one.
+// Appends the cells of a row of the catalog: an anchor, and its version behind it.
+fn put_catalog_row(
+    alloc: Global,
+    cells: &mut Vec<Vec<u8>>,
+    made: &Made,
+    said: &Said,
+) -> Result<(), Fail> {
+    let (slot, by) = newest_of(made, (cells.len() % 256) as u8);
+    cells.push([1, 4, 0, 0, 0, slot, 0, by, 0, 0, 0].to_vec(alloc)?)?;
+    cells.push(said_version(alloc, said, made.by)?)?;
+    Ok(())
+}
+
+// Appends the version that transaction 2 wrote over that of the row at a place, which is of another
+// transaction.
+fn put_changed(
+    alloc: Global,
+    cells: &mut Vec<Vec<u8>>,
+    changed: &Changed,
+    by: u8,
+) -> Result<(), Fail> {
+    let back = (changed.0 % 100) * 2 + 1;
+    let mut version = [2, 2, 1, 0, 2, 0, 0, 0, 4, 0, 0, 0, back, 0, by, 0, 0, 0].to_vec(alloc)?;
+    put_said(&mut version, &changed.1)?;
+    cells.push(version)?;
+    Ok(())
+}
+
+// The cells of the catalog, and then the version that changes a row.
 fn catalog_cells(alloc: Global, made: &Made) -> Result<Vec<Vec<u8>>, Fail> {
     let mut cells = Vec::new(alloc);
-    let last = 2 * (made.catalog.len() % 100) as u8;
     for said in made.catalog {
-        if cells.len() > 100 {
-            return Err("many cells")?;
-        }
-        let own = cells.len() as u8;
-        let (slot, by) = match made.changed {
-            Some((place, _)) if u32::from(own) == 2 * u32::from(place) => (last, 2),
-            _ => (own + 1, made.by),
-        };
-        cells.push([1, 4, 0, 0, 0, slot, 0, by, 0, 0, 0].to_vec(alloc)?)?;
-        cells.push(said_version(alloc, said, made.by)?)?;
+        put_catalog_row(alloc, &mut cells, made, said)?;
     }
-    if let Some((place, said)) = made.changed {
-        let back = (place % 100) * 2 + 1;
-        let mut version = [
-            2, 2, 1, 0, 2, 0, 0, 0, 4, 0, 0, 0, back, 0, made.by, 0, 0, 0,
-        ]
-        .to_vec(alloc)?;
-        put_said(&mut version, &said)?;
-        cells.push(version)?;
+    if let Some(changed) = made.changed {
+        put_changed(alloc, &mut cells, &changed, made.by)?;
     }
     Ok(cells)
+}
+
+// Appends zeros up to the size of a page.
+fn pad(bytes: &mut Vec<u8>) -> Result<(), Fail> {
+    for _ in bytes.len()..SIZE {
+        bytes.push(0)?;
+    }
+    Ok(())
+}
+
+// Appends the entry of a key and of the record of a slot of page 6.
+fn put_key(bytes: &mut Vec<u8>, key: u8, slot: u8) -> Result<(), Fail> {
+    bytes.extend_from_slice(&[9, 0, 1, 128, 0, 0, 0, 0, 0, 0, key, 6, 0, 0, 0, slot, 0])?;
+    Ok(())
+}
+
+// The front of the root of KV's index, a leaf with so many keys.
+fn index_front(count: u8) -> [u8; 28]
+    requires { count ≤ 10 }
+{
+    [
+        7,
+        0,
+        0,
+        0,
+        7,
+        0,
+        0,
+        0,
+        5,
+        0,
+        0,
+        0,
+        0,
+        0,
+        0,
+        0,
+        0,
+        0,
+        count,
+        0,
+        0,
+        0,
+        0,
+        0,
+        28 + 17 * count,
+        0,
+        0,
+        0,
+    ]
 }
 
 // The root of KV's index, a leaf with these keys, each of the record of a slot of page 6.
@@ -134,15 +206,11 @@ fn index(alloc: Global, keys: &[(u8, u8)]) -> Result<Vec<u8>, Fail> {
     if keys.len() > 10 {
         return Err("many keys")?;
     }
-    let count = keys.len() as u8;
-    let mut bytes = [7, 0, 0, 0, 7, 0, 0, 0, 5, 0, 0, 0, 0, 0, 0, 0].to_vec(alloc)?;
-    bytes.extend_from_slice(&[0, 0, count, 0, 0, 0, 0, 0, 28 + 17 * count, 0, 0, 0])?;
+    let mut bytes = index_front(keys.len() as u8).to_vec(alloc)?;
     for (key, slot) in keys {
-        bytes.extend_from_slice(&[9, 0, 1, 128, 0, 0, 0, 0, 0, 0, *key, 6, 0, 0, 0, *slot, 0])?;
+        put_key(&mut bytes, *key, *slot)?;
     }
-    for _ in bytes.len()..SIZE {
-        bytes.push(0)?;
-    }
+    pad(&mut bytes)?;
     Ok(bytes)
 }
 
@@ -172,248 +240,476 @@ fn image_of(alloc: Global, made: &Made) -> Result<Image, Fail> {
     image_with(alloc, pages)
 }
 
-// Looks that an image is sound.
-fn expect_sound(alloc: Global, made: &Made, what: &'static str) -> Result<(), Fail> {
-    match check_soundness(alloc, &image_of(alloc, made)?, RowCoding::Plain) {
-        Ok(()) => Ok(()),
-        Err(_) => Err(what)?,
+// Tells whether this rule is the first that an image breaks, or whether it is sound where none is
+// told.
+fn breaks(alloc: Global, image: &Image, rule: Option<Rule>) -> bool {
+    match (check_soundness(alloc, image, RowCoding::Plain), rule) {
+        (Ok(()), None) => true,
+        (Err(ReadFault::Broken(found)), Some(rule)) => found == rule,
+        _ => false,
     }
 }
 
-// Looks that this rule is the first that an image breaks.
-fn expect_broken(alloc: Global, made: &Made, rule: Rule, what: &'static str) -> Result<(), Fail> {
-    match check_soundness(alloc, &image_of(alloc, made)?, RowCoding::Plain) {
-        Err(ReadFault::Broken(found)) if found == rule => Ok(()),
-        _ => Err(what)?,
-    }
+fn is_told(alloc: Global, made: &Made, rule: Option<Rule>) -> Result<bool, Fail> {
+    Ok(breaks(alloc, &image_of(alloc, made)?, rule))
 }
 
-// A page of a new database, but for its header.
-fn new_page(alloc: Global, n: u32) -> Result<Vec<u8>, Fail> {
-    let made = Made {
-        next: 1,
-        oit: 1,
-        oat: 1,
-        states: [LIVE, LIVE, LIVE],
-        used: 7,
-        catalog: &NEW,
-        by: 0,
-        changed: None,
-        cells: &[],
-        keys: &[],
-    };
-    page_of(alloc, &made, n)
-}
+// A database, and the rule that it breaks first, none where it is sound.
+type Told = (&'static str, Made, Option<Rule>);
 
-// Looks whether an image of these pages is blank.
-fn expect_blank(alloc: Global, pages: Vec<Bytes>, wanted: bool) -> Result<(), Fail> {
-    let Ok(Some(image)) = Image::new(alloc, 1024, pages) else {
-        return Err("no image")?;
-    };
-    if is_unmade(alloc, &image, RowCoding::Plain)? != wanted {
-        return Err("blank")?;
+// Wants each database to break the rule that is told first.
+fn are_told(rt: &impl Abort, alloc: Global, rows: &[Told]) -> Result<(), Fail> {
+    for (what, made, rule) in rows {
+        assert!(rt; is_told(alloc, made, *rule)?, "{what}");
     }
     Ok(())
 }
 
+// A deletion, and a cell that nothing leads to.
+const ERASED: &[Laid] = &[
+    Laid::Anchor(2, 2),
+    Laid::First(1, 1, 10),
+    Laid::Erased(2, (1, 1), 1),
+    Laid::First(3, 9, 90),
+];
+
+const PASS: &[Told] = &[
+    ("two versions", SOUND, None),
+    (
+        "a limbo version",
+        Made {
+            states: [DONE, HELD, DONE],
+            ..SOUND
+        },
+        None,
+    ),
+    (
+        "a dead version",
+        Made {
+            states: [DONE, GONE, DONE],
+            ..SOUND
+        },
+        None,
+    ),
+    (
+        "an active version",
+        Made {
+            states: [DONE, LIVE, DONE],
+            ..SOUND
+        },
+        None,
+    ),
+    (
+        "a deletion, and a cell that nothing leads to",
+        Made {
+            cells: ERASED,
+            keys: &[],
+            ..SOUND
+        },
+        None,
+    ),
+    (
+        "an entry too many",
+        Made {
+            cells: ERASED,
+            keys: &[(5, 0)],
+            ..SOUND
+        },
+        None,
+    ),
+];
+
 #[test]
 fn sound_images_pass(rt: HostRuntime) -> Result<(), Fail> {
-    let alloc = rt.alloc();
-    let mut made = sound();
-    expect_sound(alloc, &made, "two versions")?;
-    made.states = [DONE, HELD, DONE];
-    expect_sound(alloc, &made, "a limbo version")?;
-    made.states = [DONE, GONE, DONE];
-    expect_sound(alloc, &made, "a dead version")?;
-    made.states = [DONE, LIVE, DONE];
-    expect_sound(alloc, &made, "an active version")?;
-    made.states = [DONE, DONE, DONE];
-    made.cells = &[
-        Laid::Anchor(2, 2),
-        Laid::First(1, 1, 10),
-        Laid::Erased(2, (1, 1), 1),
-        Laid::First(3, 9, 90),
-    ];
-    made.keys = &[];
-    expect_sound(alloc, &made, "a deletion, and a cell that nothing leads to")?;
-    made.keys = &[(5, 0)];
-    expect_sound(alloc, &made, "an entry too many")
+    are_told(&rt, rt.alloc(), PASS)
 }
+
+const PAGES: &[Told] = &[
+    (
+        "OIT past Next",
+        Made { oit: 5, ..SOUND },
+        Some(Rule::Header),
+    ),
+    (
+        "bits from Next on",
+        Made { next: 3, ..SOUND },
+        Some(Rule::Transactions),
+    ),
+    (
+        "a root that is not used",
+        Made { used: 7, ..SOUND },
+        Some(Rule::Pages),
+    ),
+    (
+        "an empty catalog",
+        Made {
+            catalog: &[],
+            ..SOUND
+        },
+        None,
+    ),
+    (
+        "a table without columns",
+        Made {
+            catalog: &[(b"TT", b"", [5, 1, 0, 0])],
+            ..SOUND
+        },
+        Some(Rule::Pages),
+    ),
+    (
+        "a page of two tables",
+        Made {
+            catalog: &SHARED,
+            ..SOUND
+        },
+        Some(Rule::Once),
+    ),
+];
 
 #[test]
 fn the_rules_of_pages_are_named(rt: HostRuntime) -> Result<(), Fail> {
-    let alloc = rt.alloc();
-    let mut made = sound();
-    made.oit = 5;
-    expect_broken(alloc, &made, Rule::Header, "OIT past Next")?;
-    made = sound();
-    made.next = 3;
-    expect_broken(alloc, &made, Rule::Transactions, "bits from Next on")?;
-    made = sound();
-    made.used = 7;
-    expect_broken(alloc, &made, Rule::Pages, "a root that is not used")?;
-    made = sound();
-    made.catalog = &[];
-    expect_sound(alloc, &made, "an empty catalog")?;
-    made.catalog = &[(b"TT", b"", [5, 1, 0, 0])];
-    expect_broken(alloc, &made, Rule::Pages, "a table without columns")?;
-    made.catalog = &SHARED;
-    expect_broken(alloc, &made, Rule::Once, "a page of two tables")
+    are_told(&rt, rt.alloc(), PAGES)
 }
+
+const SIZES: &[Told] = &[
+    (
+        "a row of more than half a page",
+        Made {
+            cells: &[],
+            keys: &[],
+            catalog: &WIDE,
+            ..SOUND
+        },
+        Some(Rule::Pages),
+    ),
+    (
+        "a row of half a page",
+        Made {
+            cells: &[],
+            keys: &[],
+            catalog: &HALF,
+            ..SOUND
+        },
+        None,
+    ),
+    (
+        "a key of more than an eighth of a page",
+        Made {
+            cells: &[],
+            keys: &[],
+            catalog: &LONG_KEY,
+            ..SOUND
+        },
+        Some(Rule::Pages),
+    ),
+    (
+        "a key of nearly an eighth of a page",
+        Made {
+            cells: &[],
+            keys: &[],
+            catalog: &SHORT_KEY,
+            ..SOUND
+        },
+        None,
+    ),
+];
 
 #[test]
 fn tables_fit_their_pages(rt: HostRuntime) -> Result<(), Fail> {
-    let alloc = rt.alloc();
-    let mut made = sound();
-    made.cells = &[];
-    made.keys = &[];
-    made.catalog = &WIDE;
-    expect_broken(alloc, &made, Rule::Pages, "a row of more than half a page")?;
-    made.catalog = &HALF;
-    expect_sound(alloc, &made, "a row of half a page")?;
-    made.catalog = &LONG_KEY;
-    expect_broken(
-        alloc,
-        &made,
-        Rule::Pages,
-        "a key of more than an eighth of a page",
-    )?;
-    made.catalog = &SHORT_KEY;
-    expect_sound(alloc, &made, "a key of nearly an eighth of a page")
+    are_told(&rt, rt.alloc(), SIZES)
 }
+
+// Transaction 2 gives KV another shape: V comes to be NOT NULL.
+const RESHAPED: Option<Changed> = Some((1, (b"CKV.01", b"V", [0, 1, 1, 1])));
+
+// A row of transaction 1.
+const ONE: &[Laid] = &[Laid::Anchor(1, 1), Laid::First(1, 1, 10)];
+
+// In the last three, transaction 2 has made KV.
+const MAKERS: &[Told] = &[
+    (
+        "a table that a limbo transaction changes",
+        Made {
+            cells: ONE,
+            changed: RESHAPED,
+            states: [DONE, HELD, DONE],
+            ..SOUND
+        },
+        Some(Rule::Pages),
+    ),
+    (
+        "a dead transaction changes nothing",
+        Made {
+            cells: ONE,
+            changed: RESHAPED,
+            states: [DONE, GONE, DONE],
+            ..SOUND
+        },
+        None,
+    ),
+    (
+        "a row of another in a table of limbo",
+        Made {
+            cells: ONE,
+            by: 2,
+            states: [DONE, HELD, DONE],
+            ..SOUND
+        },
+        Some(Rule::Drawn),
+    ),
+    (
+        "a dead row in a table of limbo",
+        Made {
+            cells: ONE,
+            by: 2,
+            states: [GONE, HELD, DONE],
+            ..SOUND
+        },
+        None,
+    ),
+    (
+        "the maker's own row",
+        Made {
+            cells: &[Laid::Anchor(1, 2), Laid::First(2, 1, 10)],
+            by: 2,
+            states: [DONE, HELD, DONE],
+            ..SOUND
+        },
+        None,
+    ),
+];
 
 #[test]
 fn tables_are_those_of_their_makers(rt: HostRuntime) -> Result<(), Fail> {
-    let alloc = rt.alloc();
-    let mut made = sound();
-    made.cells = &[Laid::Anchor(1, 1), Laid::First(1, 1, 10)];
-    // Transaction 2 gives KV another shape: V comes to be NOT NULL.
-    made.changed = Some((1, (b"CKV.01", b"V", [0, 1, 1, 1])));
-    made.states = [DONE, HELD, DONE];
-    expect_broken(
-        alloc,
-        &made,
-        Rule::Pages,
-        "a table that a limbo transaction changes",
-    )?;
-    made.states = [DONE, GONE, DONE];
-    expect_sound(alloc, &made, "a dead transaction changes nothing")?;
-    // Transaction 2 has made KV, and transaction 1 has a row in it.
-    made.changed = None;
-    made.by = 2;
-    made.states = [DONE, HELD, DONE];
-    expect_broken(
-        alloc,
-        &made,
-        Rule::Drawn,
-        "a row of another in a table of limbo",
-    )?;
-    made.states = [GONE, HELD, DONE];
-    expect_sound(alloc, &made, "a dead row in a table of limbo")?;
-    made.cells = &[Laid::Anchor(1, 2), Laid::First(2, 1, 10)];
-    made.states = [DONE, HELD, DONE];
-    expect_sound(alloc, &made, "the maker's own row")
+    are_told(&rt, rt.alloc(), MAKERS)
 }
+
+const LINKS: &[Told] = &[
+    (
+        "an anchor to a free slot",
+        Made {
+            cells: &[Laid::Anchor(5, 3)],
+            ..SOUND
+        },
+        Some(Rule::Links),
+    ),
+    (
+        "an anchor to another transaction",
+        Made {
+            cells: &[Laid::Anchor(1, 2), Laid::First(1, 1, 10)],
+            ..SOUND
+        },
+        Some(Rule::Links),
+    ),
+    (
+        "a back pointer to an anchor",
+        Made {
+            cells: &[Laid::Anchor(1, 2), Laid::Over(2, (0, 2), 1, 10)],
+            ..SOUND
+        },
+        Some(Rule::Links),
+    ),
+    (
+        "a chain that comes back",
+        Made {
+            cells: &[Laid::Anchor(1, 1), Laid::Over(1, (1, 1), 1, 10)],
+            ..SOUND
+        },
+        Some(Rule::Links),
+    ),
+    (
+        "a cell of two records",
+        Made {
+            cells: &[
+                Laid::Anchor(1, 1),
+                Laid::First(1, 1, 10),
+                Laid::Anchor(1, 1),
+            ],
+            ..SOUND
+        },
+        Some(Rule::Links),
+    ),
+];
 
 #[test]
 fn the_rule_of_links_is_named(rt: HostRuntime) -> Result<(), Fail> {
-    let alloc = rt.alloc();
-    let mut made = sound();
-    made.cells = &[Laid::Anchor(5, 3)];
-    expect_broken(alloc, &made, Rule::Links, "an anchor to a free slot")?;
-    made.cells = &[Laid::Anchor(1, 2), Laid::First(1, 1, 10)];
-    expect_broken(
-        alloc,
-        &made,
-        Rule::Links,
-        "an anchor to another transaction",
-    )?;
-    made.cells = &[Laid::Anchor(1, 2), Laid::Over(2, (0, 2), 1, 10)];
-    expect_broken(alloc, &made, Rule::Links, "a back pointer to an anchor")?;
-    made.cells = &[Laid::Anchor(1, 1), Laid::Over(1, (1, 1), 1, 10)];
-    expect_broken(alloc, &made, Rule::Links, "a chain that comes back")?;
-    made.cells = &[
-        Laid::Anchor(1, 1),
-        Laid::First(1, 1, 10),
-        Laid::Anchor(1, 1),
-    ];
-    expect_broken(alloc, &made, Rule::Links, "a cell of two records")
+    are_told(&rt, rt.alloc(), LINKS)
 }
+
+const TRANSACTIONS: &[Told] = &[
+    (
+        "a version from Next on",
+        Made {
+            next: 2,
+            states: [DONE, LIVE, LIVE],
+            ..SOUND
+        },
+        Some(Rule::Drawn),
+    ),
+    (
+        "a dead version below OIT",
+        Made {
+            oit: 3,
+            oat: 3,
+            states: [DONE, GONE, DONE],
+            ..SOUND
+        },
+        Some(Rule::Drawn),
+    ),
+    (
+        "limbo below OAT",
+        Made {
+            oat: 3,
+            states: [DONE, HELD, DONE],
+            ..SOUND
+        },
+        Some(Rule::Drawn),
+    ),
+    (
+        "limbo at OAT",
+        Made {
+            oat: 2,
+            states: [DONE, HELD, DONE],
+            ..SOUND
+        },
+        None,
+    ),
+    (
+        "a dead back version",
+        Made {
+            states: [GONE, DONE, DONE],
+            ..SOUND
+        },
+        Some(Rule::Backs),
+    ),
+];
 
 #[test]
 fn the_rules_of_transactions_are_named(rt: HostRuntime) -> Result<(), Fail> {
-    let alloc = rt.alloc();
-    let mut made = sound();
-    made.next = 2;
-    made.states = [DONE, LIVE, LIVE];
-    expect_broken(alloc, &made, Rule::Drawn, "a version from Next on")?;
-    made = sound();
-    made.oit = 3;
-    made.oat = 3;
-    made.states = [DONE, GONE, DONE];
-    expect_broken(alloc, &made, Rule::Drawn, "a dead version below OIT")?;
-    made.oit = 1;
-    made.states = [DONE, HELD, DONE];
-    expect_broken(alloc, &made, Rule::Drawn, "limbo below OAT")?;
-    made.oat = 2;
-    expect_sound(alloc, &made, "limbo at OAT")?;
-    made = sound();
-    made.states = [GONE, DONE, DONE];
-    expect_broken(alloc, &made, Rule::Backs, "a dead back version")
+    are_told(&rt, rt.alloc(), TRANSACTIONS)
 }
+
+// Two records of one key.
+const TWICE: &[Laid] = &[
+    Laid::Anchor(1, 1),
+    Laid::First(1, 1, 10),
+    Laid::Anchor(3, 2),
+    Laid::First(2, 1, 20),
+];
+
+// Two keys in one record.
+const OTHER_KEY: &[Laid] = &[
+    Laid::Anchor(2, 2),
+    Laid::First(1, 1, 10),
+    Laid::Over(2, (1, 1), 2, 20),
+];
+
+const KEYS: &[Told] = &[
+    (
+        "two records of one key",
+        Made {
+            cells: TWICE,
+            ..SOUND
+        },
+        Some(Rule::Keys),
+    ),
+    (
+        "a row and a limbo version",
+        Made {
+            cells: TWICE,
+            states: [DONE, HELD, DONE],
+            ..SOUND
+        },
+        Some(Rule::Keys),
+    ),
+    (
+        "a row and a dead version",
+        Made {
+            cells: TWICE,
+            states: [DONE, GONE, DONE],
+            ..SOUND
+        },
+        None,
+    ),
+    (
+        "two keys in one record",
+        Made {
+            cells: OTHER_KEY,
+            ..SOUND
+        },
+        Some(Rule::Keys),
+    ),
+    (
+        "the entry of another record",
+        Made {
+            keys: &[(1, 4)],
+            ..SOUND
+        },
+        Some(Rule::Indexed),
+    ),
+    (
+        "the entry of another key",
+        Made {
+            keys: &[(2, 0)],
+            ..SOUND
+        },
+        Some(Rule::Indexed),
+    ),
+    (
+        "a row without entry",
+        Made { keys: &[], ..SOUND },
+        Some(Rule::Indexed),
+    ),
+    (
+        "a dead back version comes first",
+        Made {
+            keys: &[],
+            states: [GONE, DONE, DONE],
+            ..SOUND
+        },
+        Some(Rule::Backs),
+    ),
+];
 
 #[test]
 fn the_rules_of_keys_are_named(rt: HostRuntime) -> Result<(), Fail> {
-    let alloc = rt.alloc();
-    let mut made = sound();
-    made.cells = &[
-        Laid::Anchor(1, 1),
-        Laid::First(1, 1, 10),
-        Laid::Anchor(3, 2),
-        Laid::First(2, 1, 20),
-    ];
-    expect_broken(alloc, &made, Rule::Keys, "two records of one key")?;
-    made.states = [DONE, HELD, DONE];
-    expect_broken(alloc, &made, Rule::Keys, "a row and a limbo version")?;
-    made.states = [DONE, GONE, DONE];
-    expect_sound(alloc, &made, "a row and a dead version")?;
-    made = sound();
-    made.cells = &[
-        Laid::Anchor(2, 2),
-        Laid::First(1, 1, 10),
-        Laid::Over(2, (1, 1), 2, 20),
-    ];
-    expect_broken(alloc, &made, Rule::Keys, "two keys in one record")?;
-    made = sound();
-    made.keys = &[(1, 4)];
-    expect_broken(alloc, &made, Rule::Indexed, "the entry of another record")?;
-    made.keys = &[(2, 0)];
-    expect_broken(alloc, &made, Rule::Indexed, "the entry of another key")?;
-    made.keys = &[];
-    expect_broken(alloc, &made, Rule::Indexed, "a row without entry")?;
-    made.states = [GONE, DONE, DONE];
-    expect_broken(alloc, &made, Rule::Backs, "a dead back version comes first")
+    are_told(&rt, rt.alloc(), KEYS)
+}
+
+// The image of a database whose header is zero, without the root of its index.
+fn headless(alloc: Global, made: &Made) -> Result<Image, Fail> {
+    let mut pages = Vec::new(alloc);
+    pages.push(Bytes::zeroed(alloc, SIZE)?)?;
+    for n in 1..7 {
+        pages.push(Bytes::new(page_of(alloc, made, n)?))?;
+    }
+    image_with(alloc, pages)
 }
 
 #[test]
 fn a_damaged_header_makes_no_disk_blank(rt: HostRuntime) -> Result<(), Fail> {
-    let alloc = rt.alloc();
-    let made = sound();
-    let mut pages = Vec::new(alloc);
-    pages.push(Bytes::zeroed(alloc, SIZE)?)?;
-    for n in 1..7 {
-        pages.push(Bytes::new(page_of(alloc, &made, n)?))?;
-    }
-    expect_blank(alloc, pages, false)
+    let image = headless(rt.alloc(), &SOUND)?;
+    assert!(rt; !is_unmade(rt.alloc(), &image, RowCoding::Plain)?);
+    Ok(())
 }
+
+// A new database.
+const UNUSED: Made = Made {
+    next: 1,
+    oit: 1,
+    oat: 1,
+    states: [LIVE, LIVE, LIVE],
+    used: 7,
+    catalog: &NEW,
+    by: 0,
+    changed: None,
+    cells: &[],
+    keys: &[],
+};
 
 #[test]
 fn the_pages_of_a_new_database_are_known(rt: HostRuntime) -> Result<(), Fail> {
-    let alloc = rt.alloc();
-    let mut pages = Vec::new(alloc);
-    pages.push(Bytes::zeroed(alloc, SIZE)?)?;
-    for n in 1..7 {
-        pages.push(Bytes::new(new_page(alloc, n)?))?;
-    }
-    expect_blank(alloc, pages, true)
+    let image = headless(rt.alloc(), &UNUSED)?;
+    assert!(rt; is_unmade(rt.alloc(), &image, RowCoding::Plain)?);
+    Ok(())
 }

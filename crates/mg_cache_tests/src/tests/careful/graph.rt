@@ -1,103 +1,179 @@
 //! Tests of the graph: orders, cycles, and the page that is written first.
 
-use mg_base::Memory;
 use mg_careful::Graph;
 use std::alloc::Global;
 use std::process::Abort;
 use std::test::Fail;
 
-/// A graph of ten places with these pages and orders.
-fn graph_of(
-    rt: &impl Abort,
-    alloc: Global,
-    pages: &[u32],
-    orders: &[(u32, u32)],
-) -> Result<Graph, Memory> {
-    let mut graph = Graph::new(alloc, 10)?;
-    for page in pages {
-        assert!(rt; graph.has_room());
-        graph.enter(*page);
-    }
-    for (first, later) in orders {
-        assert!(rt; graph.is_entered(*first) && graph.is_entered(*later));
-        assert!(rt; !graph.would_cycle(*first, *later));
-        graph.add(*first, *later);
-    }
-    Ok(graph)
+/// A call of a graph, and what it answers.
+#[derive(Clone, Copy)]
+enum Call {
+    /// A page is entered, for which there is room.
+    Enter(u32),
+    /// A page is ordered before another one, which closes no cycle.
+    Add(u32, u32),
+    Clear(u32),
+    /// Whether the order of a page before another one would close a cycle.
+    Cycle(u32, u32, bool),
+    /// The page that is written first towards this one.
+    Ready(u32, Option<u32>),
+    Entered(u32, bool),
+    /// Whether there is room for one more page.
+    Room(bool),
+    /// There are so many pages.
+    Len(usize),
+    Empty(bool),
 }
+
+/// Enters a page, and tells whether there was room.
+fn enter(graph: &mut Graph, page: u32) -> bool {
+    if !graph.has_room() {
+        return false;
+    }
+    graph.enter(page);
+    true
+}
+
+/// Adds an order between entered pages, and tells whether it closed no cycle.
+fn add(graph: &mut Graph, first: u32, later: u32) -> bool {
+    if !graph.is_entered(first) {
+        return false;
+    }
+    if !graph.is_entered(later) {
+        return false;
+    }
+    if graph.would_cycle(first, later) {
+        return false;
+    }
+    graph.add(first, later);
+    true
+}
+
+fn clear(graph: &mut Graph, page: u32) -> bool {
+    graph.clear(page);
+    true
+}
+
+/// Does what a call says, and tells whether it answers so.
+fn does(graph: &mut Graph, call: Call) -> bool {
+    match call {
+        Call::Enter(page) => enter(graph, page),
+        Call::Add(first, later) => add(graph, first, later),
+        Call::Clear(page) => clear(graph, page),
+        Call::Cycle(first, later, would) => graph.would_cycle(first, later) == would,
+        Call::Ready(goal, page) => graph.first_ready(goal) == page,
+        Call::Entered(page, is) => graph.is_entered(page) == is,
+        Call::Room(has) => graph.has_room() == has,
+        Call::Len(count) => graph.len() == count,
+        Call::Empty(is) => graph.is_empty() == is,
+    }
+}
+
+/// Wants each call to answer as it says, one after another, in a graph with room for so many pages.
+fn does_each(rt: &impl Abort, alloc: Global, room: u32, calls: &[Call]) -> Result<(), Fail> {
+    let mut graph = Graph::new(alloc, room)?;
+    for (place, call) in calls.iter().enumerate() {
+        assert!(rt; does(&mut graph, *call), "call {place}");
+    }
+    Ok(())
+}
+
+const CHAIN: &[Call] = &[
+    Call::Enter(1),
+    Call::Enter(2),
+    Call::Enter(3),
+    Call::Add(1, 2),
+    Call::Add(2, 3),
+    Call::Cycle(3, 1, true),
+    Call::Cycle(2, 2, true),
+    Call::Cycle(3, 2, true),
+    Call::Cycle(1, 3, false),
+    Call::Cycle(1, 4, false),
+    Call::Cycle(4, 4, true),
+    Call::Ready(3, Some(1)),
+    Call::Clear(1),
+    Call::Ready(3, Some(2)),
+    Call::Ready(1, None),
+];
 
 #[test]
 fn a_page_that_precedes_through_another_one_is_written_first(rt: HostRuntime) -> Result<(), Fail> {
-    let mut graph = graph_of(&rt, rt.alloc(), &[1, 2, 3], &[(1, 2), (2, 3)])?;
-    for (first, later, cycle) in [
-        (3, 1, true),
-        (2, 2, true),
-        (3, 2, true),
-        (1, 3, false),
-        (1, 4, false),
-        (4, 4, true),
-    ] {
-        assert_eq!(rt;
-            graph.would_cycle(first, later),
-            cycle,
-            "{first} before {later}"
-        );
-    }
-    assert_eq!(rt; graph.first_ready(3), Some(1));
-    graph.clear(1);
-    assert_eq!(rt; graph.first_ready(3), Some(2));
-    assert_eq!(rt; graph.first_ready(1), None);
-    Ok(())
+    does_each(&rt, rt.alloc(), 10, CHAIN)
 }
+
+const LEAST: &[Call] = &[
+    Call::Enter(900),
+    Call::Enter(70),
+    Call::Enter(5),
+    Call::Enter(4_294_967_295),
+    Call::Enter(6),
+    Call::Add(900, 5),
+    Call::Add(70, 5),
+    Call::Add(5, 4_294_967_295),
+    Call::Ready(4_294_967_295, Some(70)),
+    Call::Clear(70),
+    Call::Ready(4_294_967_295, Some(900)),
+    Call::Clear(900),
+    Call::Ready(4_294_967_295, Some(5)),
+    Call::Clear(5),
+    Call::Ready(4_294_967_295, Some(4_294_967_295)),
+    Call::Clear(4_294_967_295),
+    Call::Ready(6, Some(6)),
+    Call::Len(1),
+];
 
 #[test]
 fn the_page_of_least_number_is_ready_first(rt: HostRuntime) -> Result<(), Fail> {
-    let pages = [900, 70, 5, 4_294_967_295, 6];
-    let mut graph = graph_of(
-        &rt,
-        rt.alloc(),
-        &pages,
-        &[(900, 5), (70, 5), (5, 4_294_967_295)],
-    )?;
-    for page in [70, 900, 5, 4_294_967_295] {
-        assert_eq!(rt; graph.first_ready(4_294_967_295), Some(page));
-        graph.clear(page);
-    }
-    assert_eq!(rt; graph.first_ready(6), Some(6));
-    assert_eq!(rt; graph.len(), 1);
-    Ok(())
+    does_each(&rt, rt.alloc(), 10, LEAST)
 }
+
+/// Page 1 precedes 3 through 2 alone, and 5 through 4 too.
+const CLEARED: &[Call] = &[
+    Call::Enter(1),
+    Call::Enter(2),
+    Call::Enter(3),
+    Call::Enter(4),
+    Call::Enter(5),
+    Call::Add(1, 2),
+    Call::Add(2, 3),
+    Call::Add(1, 4),
+    Call::Add(4, 5),
+    Call::Add(2, 5),
+    Call::Clear(2),
+    Call::Cycle(3, 1, false),
+    Call::Cycle(5, 1, true),
+    Call::Ready(3, Some(3)),
+];
 
 #[test]
 fn what_preceded_through_a_cleared_page_alone_precedes_no_longer(
     rt: HostRuntime,
 ) -> Result<(), Fail> {
-    let orders = [(1, 2), (2, 3), (1, 4), (4, 5), (2, 5)];
-    let mut graph = graph_of(&rt, rt.alloc(), &[1, 2, 3, 4, 5], &orders)?;
-    graph.clear(2);
-    assert_eq!(rt;
-        graph.would_cycle(3, 1),
-        false,
-        "1 preceded 3 through 2 alone"
-    );
-    assert_eq!(rt; graph.would_cycle(5, 1), true, "1 precedes 5 through 4 too");
-    assert_eq!(rt; graph.first_ready(3), Some(3));
-    Ok(())
+    does_each(&rt, rt.alloc(), 10, CLEARED)
 }
+
+/// There is room for two pages.
+const ROOM: &[Call] = &[
+    Call::Empty(true),
+    Call::Room(true),
+    Call::Enter(7),
+    Call::Len(1),
+    Call::Room(true),
+    Call::Enter(7),
+    Call::Len(1),
+    Call::Room(true),
+    Call::Enter(9),
+    Call::Len(2),
+    Call::Room(false),
+    Call::Clear(7),
+    Call::Room(true),
+    Call::Entered(7, false),
+    Call::Entered(9, true),
+];
 
 #[test]
 fn a_page_is_entered_once_and_room_ends_at_the_number_that_was_given(
     rt: HostRuntime,
 ) -> Result<(), Fail> {
-    let mut graph = Graph::new(rt.alloc(), 2)?;
-    assert!(rt; graph.is_empty());
-    for (page, len) in [(7, 1), (7, 1), (9, 2)] {
-        assert!(rt; graph.has_room());
-        graph.enter(page);
-        assert_eq!(rt; graph.len(), len);
-    }
-    assert!(rt; !graph.has_room());
-    graph.clear(7);
-    assert!(rt; graph.has_room() && !graph.is_entered(7) && graph.is_entered(9));
-    Ok(())
+    does_each(&rt, rt.alloc(), 2, ROOM)
 }

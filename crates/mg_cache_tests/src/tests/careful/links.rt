@@ -6,6 +6,7 @@ ghost use Rattle.mg_base.specs.Fields.{byte};
 use mg_base::Memory;
 use mg_careful::{Demand, Links, careful_write};
 use std::alloc::Global;
+use std::process::Abort;
 use std::test::Fail;
 
 /// A chain of pages: byte 0 is the page's own number, byte 1 that of the next page, 0 for none.
@@ -41,6 +42,15 @@ fn demand_on(target: u32) -> Demand
     }
 }
 
+/// Puts what a page of the chain wants in its turn, and tells whether it is what was wanted.
+fn goes_on(page: &[u8; 2], want: &Demand, wanted: &mut Vec<Demand>) -> Result<bool, Memory> {
+    if !Chain::meets(page, want) {
+        return Ok(false);
+    }
+    Chain::demands(page, want, wanted)?;
+    Ok(true)
+}
+
 /// Tells whether each page of the chain from page 1 is what the one before it wants.
 fn is_linked(alloc: Global, pages: &[[u8; 2]; 4]) -> Result<bool, Memory> {
     let mut wanted = Vec::new(alloc);
@@ -50,35 +60,51 @@ fn is_linked(alloc: Global, pages: &[[u8; 2]; 4]) -> Result<bool, Memory> {
             return Ok(true);
         };
         let page = pages.get(want.target as usize).copied().unwrap_or([0, 0]);
-        if !Chain::meets(&page, &want) {
+        if !goes_on(&page, &want, &mut wanted)? {
             return Ok(false);
         }
-        Chain::demands(&page, &want, &mut wanted)?;
     }
     Ok(false)
 }
 
+/// On the disk 1 leads to 2.
+const DISK: [[u8; 2]; 4] = [[0, 0], [1, 2], [2, 0], [0, 0]];
+
+/// In the pool 1 leads to the new page 3, and that to 2.
+const POOL: [[u8; 2]; 4] = [[0, 0], [1, 3], [2, 0], [3, 2]];
+
+/// The disk's pages, with page 1 and page 3 of the pool or without.
+fn overlay(one: bool, three: bool) -> [[u8; 2]; 4] {
+    let mut pages = DISK;
+    if one {
+        pages[1] = POOL[1];
+    }
+    if three {
+        pages[3] = POOL[3];
+    }
+    pages
+}
+
+/// Whether page 1 and page 3 are in a set, and whether the chain is linked then. Page 3 is ordered
+/// before page 1, so the set of page 1 alone isn't closed.
+const SETS: &[(bool, bool, bool)] = &[
+    (false, false, true),
+    (false, true, true),
+    (true, true, true),
+    (true, false, false),
+];
+
+/// The law of careful write, of the chain.
+fn law() {
+    careful_write::<Chain>();
+}
+
 #[test]
 fn a_new_page_is_linked_in_every_overlay_of_a_closed_set(rt: HostRuntime) -> Result<(), Fail> {
-    careful_write::<Chain>();
-    // On the disk 1 leads to 2. In the pool 1 leads to the new page 3, and that to 2.
-    let disk = [[0, 0], [1, 2], [2, 0], [0, 0]];
-    let pool = [[0, 0], [1, 3], [2, 0], [3, 2]];
-    // Page 3 is ordered before page 1, so the set of page 1 alone isn't closed.
-    for (one, three, linked) in [
-        (false, false, true),
-        (false, true, true),
-        (true, true, true),
-        (true, false, false),
-    ] {
-        let first = if one { pool[1] } else { disk[1] };
-        let last = if three { pool[3] } else { disk[3] };
-        let overlay = [disk[0], first, disk[2], last];
-        assert_eq!(rt;
-            is_linked(rt.alloc(), &overlay)?,
-            linked,
-            "page 1 {one}, page 3 {three}"
-        );
+    law();
+    for (one, three, linked) in SETS {
+        let found = is_linked(rt.alloc(), &overlay(*one, *three))?;
+        assert_eq!(rt; found, *linked, "page 1 {one}, page 3 {three}");
     }
     Ok(())
 }

@@ -1,20 +1,22 @@
 //! Records of one page, with their versions as bytes of the file format.
 
-ghost use Rattle.std.specs.Prelude.{◌≡◌, length, if◌then◌else◌, ◌==◌, ◌||◌};
+ghost use Rattle.std.specs.Prelude.{◌≡◌, IfOk, length, if◌then◌else◌, ◌==◌, ◌||◌};
 ghost use Rattle.mg_base.specs.MemDisk.{mem_meaning};
 ghost use Rattle.mg_base.specs.declared.transaction.TxState.TheVariants.{Active, Committed};
 ghost use Rattle.mg_pool.specs.Pool.{IsPool};
+ghost use Rattle.mg_slots.specs.DataPage.{IsDataPage};
 ghost use Rattle.mg_space.specs.Taking.{IsGeometry};
 
 use crate::tests::stores::empty_store;
 use mg_base::{Damaged, Field, MemDisk, Memory, PageNo, RecId, TxNo, TxState};
 use mg_chain::States;
-use mg_pool::{Batch, PoolFault};
+use mg_pool::Batch;
 use mg_seek::{Placed, Wanted, first_version};
 use mg_slots::{new_data, put_cell};
 use mg_snap::Live;
 use mg_space::{SpaceFault, Store};
 use std::alloc::Global;
+use std::process::Abort;
 use std::test::Fail;
 
 /// The page of the records, and the record of its first slot.
@@ -40,42 +42,37 @@ impl States for TwoAndFour {
     }
 }
 
-/// Makes a data page with these cells in its first slots.
-fn fill(page: &mut [u8], anchor: &[u8; 11], newest: &[u8; 18], middle: &[u8; 18], oldest: &[u8; 8])
-    requires { length page.old ≡ 1024 }
-    ensures { length page.new ≡ 1024 }
-{
-    new_data(page, PAGE, 5, 0);
-    let _ = put_cell(page, anchor);
-    let _ = put_cell(page, newest);
-    let _ = put_cell(page, middle);
-    let _ = put_cell(page, oldest);
-}
+/// The cells of a record with three versions: an anchor, and the versions in slots 1 to 3.
+type Record = [&'static [u8]; 4];
 
-/// Puts a record with three versions: an anchor and the versions in slots 1 to 3.
-fn put_record(
-    store: &mut Store<MemDisk>,
-    anchor: &[u8; 11],
-    newest: &[u8; 18],
-    middle: &[u8; 18],
-    oldest: &[u8; 8],
-) -> Result<(), PoolFault>
-    requires pool { IsPool mem_meaning store.old }
-    requires size { store.old.geometry.size ≡ 1024 }
-    ensures pool { IsPool mem_meaning store.new }
-    ensures geometry { store.new.geometry ≡ store.old.geometry }
+/// Puts these cells into the next slots of a data page.
+fn put_each(page: &mut [u8], cells: &[&'static [u8]])
+    requires { IsDataPage page.old }
+    ensures { length page.new ≡ length page.old }
 {
-    let mut page = [0u8; 1024];
-    fill(&mut page, anchor, newest, middle, oldest);
-    store.change_one(PAGE, &page, None)
-}
-
-/// The transaction of a version that was found, 0 where there is none.
-fn writer_of(found: &Option<Placed>) -> u32 {
-    match found {
-        Some(found) => found.version.tx.0,
-        None => 0,
+    for cell in cells {
+        if cell.len() < 100 {
+            let _ = put_cell(page, cell);
+        }
     }
+}
+
+/// The data page of a record.
+fn page_of(record: &Record) -> [u8; 1024] {
+    let mut page = [0u8; 1024];
+    new_data(&mut page, PAGE, 5, 0);
+    put_each(&mut page, record);
+    page
+}
+
+/// A store with a record.
+fn store_with(alloc: Global, record: &Record) -> Result<Store<MemDisk>, Fail>
+    ensures pool { IfOk result (λ store. IsPool mem_meaning store) }
+    ensures geometry { IfOk result (λ store. IsGeometry store.geometry) }
+{
+    let mut store = empty_store(alloc, 16)?;
+    store.change_one(PAGE, &page_of(record), None)?;
+    Ok(store)
 }
 
 /// 3 began after 2 had ended and before 4 was drawn, 5 is active, and 6 began after 4 had ended.
@@ -104,88 +101,117 @@ fn find(
     first_version(store, &batch, REC, &TwoAndFour, live, wanted)
 }
 
-/// Whose version a transaction sees, 0 where it sees none.
-fn seen(store: &mut Store<MemDisk>, live: &Live, t: u32) -> Result<u32, SpaceFault>
+/// The version that a reader sees: the newest one where there is no reader.
+fn wanted_by(reader: Option<u32>) -> Wanted {
+    match reader {
+        Some(t) => Wanted::SeenBy(TxNo(t)),
+        None => Wanted::Any,
+    }
+}
+
+/// Whose version a reader finds, 0 where it finds none.
+fn found(store: &mut Store<MemDisk>, live: &Live, reader: Option<u32>) -> Result<u32, SpaceFault>
     requires pool { IsPool mem_meaning store.old }
     requires geometry { IsGeometry store.old.geometry }
     ensures pool { IsPool mem_meaning store.new }
     ensures geometry { store.new.geometry ≡ store.old.geometry }
 {
-    let found = find(store, live, Wanted::SeenBy(TxNo(t)))?;
-    Ok(writer_of(&found))
+    match find(store, live, wanted_by(reader))? {
+        Some(found) => Ok(found.version.tx.0),
+        None => Ok(0),
+    }
 }
+
+/// A reader, and whose version it finds, or the damage of the page that it meets.
+type Read = (Option<u32>, Result<u32, (Field, u64, u64)>);
+
+fn answer_of(wanted: Result<u32, (Field, u64, u64)>) -> Result<u32, SpaceFault> {
+    match wanted {
+        Ok(t) => Ok(t),
+        Err((field, found, wanted)) => Err(SpaceFault::Damaged(Damaged {
+            page: PAGE,
+            field,
+            found,
+            wanted,
+        })),
+    }
+}
+
+/// Tells whether a reader finds what is told.
+fn finds(store: &mut Store<MemDisk>, live: &Live, read: &Read) -> bool
+    requires pool { IsPool mem_meaning store.old }
+    requires geometry { IsGeometry store.old.geometry }
+    ensures pool { IsPool mem_meaning store.new }
+    ensures geometry { store.new.geometry ≡ store.old.geometry }
+{
+    found(store, live, read.0) == answer_of(read.1)
+}
+
+/// Wants each reader to find what is told.
+fn reads_each(rt: &impl Abort, store: &mut Store<MemDisk>, live: &Live, rows: &[Read])
+    requires pool { IsPool mem_meaning store.old }
+    requires geometry { IsGeometry store.old.geometry }
+{
+    for (place, read) in rows.iter().enumerate() {
+        assert!(rt; finds(store, live, read), "row {place}");
+    }
+}
+
+/// Wants each reader of a record to find what is told.
+fn is_read(rt: &impl Abort, alloc: Global, record: &Record, rows: &[Read]) -> Result<(), Fail> {
+    let live = bases(alloc)?;
+    reads_each(rt, &mut store_with(alloc, record)?, &live, rows);
+    Ok(())
+}
+
+/// An anchor to slot 1, whose version is of transaction 5.
+const ANCHOR: &[u8] = &[1, 6, 0, 0, 0, 1, 0, 5, 0, 0, 0];
+
+/// A version of transaction 2 without a row.
+const OLDEST: &[u8] = &[2, 0, 1, 0, 2, 0, 0, 0];
+
+const SEEN: Record = [
+    ANCHOR,
+    &[2, 2, 1, 0, 5, 0, 0, 0, 6, 0, 0, 0, 2, 0, 4, 0, 0, 0],
+    &[2, 2, 1, 0, 4, 0, 0, 0, 6, 0, 0, 0, 3, 0, 2, 0, 0, 0],
+    OLDEST,
+];
 
 #[test]
 fn a_transaction_sees_its_own_version_and_what_was_committed_before_its_base(
     rt: HostRuntime,
 ) -> Result<(), Fail> {
-    let mut store = empty_store(rt.alloc(), 16)?;
-    let anchor = [1, 6, 0, 0, 0, 1, 0, 5, 0, 0, 0];
-    let newest = [2, 2, 1, 0, 5, 0, 0, 0, 6, 0, 0, 0, 2, 0, 4, 0, 0, 0];
-    let middle = [2, 2, 1, 0, 4, 0, 0, 0, 6, 0, 0, 0, 3, 0, 2, 0, 0, 0];
-    let oldest = [2, 0, 1, 0, 2, 0, 0, 0];
-    put_record(&mut store, &anchor, &newest, &middle, &oldest)?;
-    let live = bases(rt.alloc())?;
-    assert_eq!(rt; seen(&mut store, &live, 3)?, 2);
-    assert_eq!(rt; seen(&mut store, &live, 5)?, 5);
-    assert_eq!(rt; seen(&mut store, &live, 6)?, 4);
-    let newest = find(&mut store, &live, Wanted::Any)?;
-    assert_eq!(rt; writer_of(&newest), 5);
-    Ok(())
+    let rows = [
+        (Some(3), Ok(2)),
+        (Some(5), Ok(5)),
+        (Some(6), Ok(4)),
+        (None, Ok(5)),
+    ];
+    is_read(&rt, rt.alloc(), &SEEN, &rows)
 }
 
-/// The damage that a reader of this number meets, if it meets any.
-fn damage_for(store: &mut Store<MemDisk>, live: &Live, t: u32) -> Option<Damaged>
-    requires pool { IsPool mem_meaning store.old }
-    requires geometry { IsGeometry store.old.geometry }
-    ensures pool { IsPool mem_meaning store.new }
-    ensures geometry { store.new.geometry ≡ store.old.geometry }
-{
-    match find(store, live, Wanted::SeenBy(TxNo(t))) {
-        Err(SpaceFault::Damaged(damage)) => Some(damage),
-        _ => None,
-    }
-}
-
-/// Damage of the page of the records.
-fn damaged(field: Field, found: u64, wanted: u64) -> Option<Damaged> {
-    Some(Damaged {
-        page: PAGE,
-        field,
-        found,
-        wanted,
-    })
-}
+const COMES_BACK: Record = [
+    ANCHOR,
+    &[2, 2, 1, 0, 5, 0, 0, 0, 6, 0, 0, 0, 2, 0, 7, 0, 0, 0],
+    &[2, 2, 1, 0, 7, 0, 0, 0, 6, 0, 0, 0, 1, 0, 5, 0, 0, 0],
+    OLDEST,
+];
 
 #[test]
 fn links_that_come_back_are_refused(rt: HostRuntime) -> Result<(), Fail> {
-    let mut store = empty_store(rt.alloc(), 16)?;
-    let anchor = [1, 6, 0, 0, 0, 1, 0, 5, 0, 0, 0];
-    let newest = [2, 2, 1, 0, 5, 0, 0, 0, 6, 0, 0, 0, 2, 0, 7, 0, 0, 0];
-    let middle = [2, 2, 1, 0, 7, 0, 0, 0, 6, 0, 0, 0, 1, 0, 5, 0, 0, 0];
-    let oldest = [2, 0, 1, 0, 2, 0, 0, 0];
-    put_record(&mut store, &anchor, &newest, &middle, &oldest)?;
-    let live = bases(rt.alloc())?;
-    assert_eq!(rt;
-        damage_for(&mut store, &live, 3),
-        damaged(Field::Link, 6, 0)
-    );
-    assert_eq!(rt; damage_for(&mut store, &live, 5), None);
-    Ok(())
+    let rows = [(Some(3), Err((Field::Link, 6, 0))), (Some(5), Ok(5))];
+    is_read(&rt, rt.alloc(), &COMES_BACK, &rows)
 }
+
+const OF_ANOTHER: Record = [
+    ANCHOR,
+    &[2, 2, 1, 0, 5, 0, 0, 0, 6, 0, 0, 0, 2, 0, 8, 0, 0, 0],
+    &[2, 2, 1, 0, 7, 0, 0, 0, 6, 0, 0, 0, 9, 0, 5, 0, 0, 0],
+    OLDEST,
+];
 
 #[test]
 fn a_version_of_another_transaction_is_refused(rt: HostRuntime) -> Result<(), Fail> {
-    let mut store = empty_store(rt.alloc(), 16)?;
-    let anchor = [1, 6, 0, 0, 0, 1, 0, 5, 0, 0, 0];
-    let newest = [2, 2, 1, 0, 5, 0, 0, 0, 6, 0, 0, 0, 2, 0, 8, 0, 0, 0];
-    let middle = [2, 2, 1, 0, 7, 0, 0, 0, 6, 0, 0, 0, 9, 0, 5, 0, 0, 0];
-    let oldest = [2, 0, 1, 0, 2, 0, 0, 0];
-    put_record(&mut store, &anchor, &newest, &middle, &oldest)?;
-    let live = bases(rt.alloc())?;
-    assert_eq!(rt;
-        damage_for(&mut store, &live, 3),
-        damaged(Field::Target, 7, 8)
-    );
-    Ok(())
+    let rows = [(Some(3), Err((Field::Target, 7, 8)))];
+    is_read(&rt, rt.alloc(), &OF_ANOTHER, &rows)
 }

@@ -11,7 +11,7 @@ use mg_base::{Bytes, MemDisk, Memory, RecId, TxNo};
 use mg_chain::{back_out, first, newest_link, push, replace_own, spot, version_at};
 use mg_pool::Batch;
 use mg_space::{SpaceFault, Store};
-use mg_version::Version;
+use mg_version::{Link, Version};
 use std::alloc::Global;
 use std::test::*;
 
@@ -64,24 +64,7 @@ enum Deed {
 
 /// A deed of a transaction with a body of so many bytes, and then the transaction of the newest
 /// version and how many bytes its body has: 0 and 0 where there is no record.
-#[derive(Clone, Copy)]
-struct Step {
-    deed: Deed,
-    by: u32,
-    len: usize,
-    then_by: u32,
-    then_len: usize,
-}
-
-fn step_of(deed: Deed, by: u32, len: usize, then_by: u32, then_len: usize) -> Step {
-    Step {
-        deed,
-        by,
-        len,
-        then_by,
-        then_len,
-    }
-}
+type Step = (Deed, u32, usize, u32, usize);
 
 /// Does something to a record.
 fn act(
@@ -124,17 +107,31 @@ fn do_step(
     ensures geometry { store.new.geometry ≡ store.old.geometry }
     ensures whole { AreWhole 1024 batch.new.pages }
 {
-    let v = version(store.alloc(), step.by, step.len.min(900))?;
-    act(store, batch, rec, step.deed, &v)
+    let (deed, by, len, _, _) = step;
+    let v = version(store.alloc(), by, len.min(900))?;
+    act(store, batch, rec, deed, &v)
 }
 
-/// Tells whether the newest version is as a step says.
-fn is_so(
+/// The transaction of the version that a link leads to, and how many bytes its body has.
+fn told_of(
     store: &mut Store<MemDisk>,
     batch: &Batch,
     rec: RecId,
-    step: Step,
-) -> Result<bool, SpaceFault>
+    link: Link,
+) -> Result<(u32, usize), SpaceFault>
+    requires pool { IsPool mem_meaning store.old }
+    requires geometry { IsGeometry store.old.geometry }
+    requires whole { AreWhole store.old.geometry.size batch.now.pages }
+    ensures pool { IsPool mem_meaning store.new }
+    ensures geometry { store.new.geometry ≡ store.old.geometry }
+{
+    let version = version_at(store, batch, rec.page, link)?;
+    Ok((version.tx.0, version.body.as_slice().len()))
+}
+
+/// The transaction of the newest version of a record, and how many bytes its body has: 0 and 0
+/// where there is no record.
+fn newest(store: &mut Store<MemDisk>, batch: &Batch, rec: RecId) -> Result<(u32, usize), SpaceFault>
     requires pool { IsPool mem_meaning store.old }
     requires geometry { IsGeometry store.old.geometry }
     requires size { store.old.geometry.size ≡ 1024 }
@@ -143,10 +140,9 @@ fn is_so(
     ensures geometry { store.new.geometry ≡ store.old.geometry }
 {
     let Some(link) = newest_link(store, batch, rec)? else {
-        return Ok(step.then_by == 0);
+        return Ok((0, 0));
     };
-    let version = version_at(store, batch, rec.page, link)?;
-    Ok(version.tx.0 == step.then_by && version.body.as_slice().len() == step.then_len)
+    told_of(store, batch, rec, link)
 }
 
 /// Tells whether all steps go as they say, one after another.
@@ -163,7 +159,7 @@ fn all_go(
 {
     for step in steps {
         do_step(store, batch, rec, *step)?;
-        if !is_so(store, batch, rec, *step)? {
+        if newest(store, batch, rec)? != (step.3, step.4) {
             return Ok(false);
         }
     }
@@ -180,38 +176,40 @@ fn record_goes(alloc: Global, len: usize, steps: &[Step]) -> Result<bool, SpaceF
     all_go(&mut store, &mut batch, rec, steps)
 }
 
+/// The version is replaced in its cell, and then in another one, on another page.
+const TAKEN_BACK: &[Step] = &[
+    (Deed::Push, 3, 30, 3, 30),
+    (Deed::Push, 4, 40, 4, 40),
+    (Deed::Replace, 4, 50, 4, 50),
+    (Deed::Replace, 4, 900, 4, 900),
+    (Deed::Push, 5, 10, 5, 10),
+    (Deed::BackOut, 9, 0, 4, 900),
+    (Deed::BackOut, 9, 0, 3, 30),
+    (Deed::BackOut, 9, 0, 2, 20),
+    (Deed::BackOut, 9, 0, 0, 0),
+];
+
 #[test]
 fn a_record_is_made_and_taken_back_to_nothing(rt: HostRuntime) -> Result<(), Fail> {
-    let steps = [
-        step_of(Deed::Push, 3, 30, 3, 30),
-        step_of(Deed::Push, 4, 40, 4, 40),
-        // In its cell, and then in another one, on another page.
-        step_of(Deed::Replace, 4, 50, 4, 50),
-        step_of(Deed::Replace, 4, 900, 4, 900),
-        step_of(Deed::Push, 5, 10, 5, 10),
-        step_of(Deed::BackOut, 9, 0, 4, 900),
-        step_of(Deed::BackOut, 9, 0, 3, 30),
-        step_of(Deed::BackOut, 9, 0, 2, 20),
-        step_of(Deed::BackOut, 9, 0, 0, 0),
-    ];
-    assert_eq!(rt; record_goes(rt.alloc(), 20, &steps), Ok(true));
+    assert_eq!(rt; record_goes(rt.alloc(), 20, TAKEN_BACK), Ok(true));
     Ok(())
 }
 
+const ON_ANOTHER: &[Step] = &[
+    (Deed::Push, 3, 800, 3, 800),
+    (Deed::Replace, 3, 10, 3, 10),
+    (Deed::BackOut, 9, 0, 2, 900),
+];
+
 #[test]
 fn a_version_stands_on_another_page_than_its_slot(rt: HostRuntime) -> Result<(), Fail> {
-    let steps = [
-        step_of(Deed::Push, 3, 800, 3, 800),
-        step_of(Deed::Replace, 3, 10, 3, 10),
-        step_of(Deed::BackOut, 9, 0, 2, 900),
-    ];
-    assert_eq!(rt; record_goes(rt.alloc(), 900, &steps), Ok(true));
+    assert_eq!(rt; record_goes(rt.alloc(), 900, ON_ANOTHER), Ok(true));
     Ok(())
 }
 
 #[test]
 fn a_version_of_another_transaction_is_not_replaced(rt: HostRuntime) -> Result<(), Fail> {
-    let steps = [step_of(Deed::Replace, 3, 20, 3, 20)];
+    let steps = [(Deed::Replace, 3, 20, 3, 20)];
     assert!(rt; record_goes(rt.alloc(), 20, &steps).is_err());
     Ok(())
 }

@@ -7,9 +7,23 @@ use mg_node::{COUNT_AT, LEVEL_AT, NODE_KIND, RIGHT_AT};
 use mg_pointer::{add_entry, new_pointer};
 use mg_space::{BIT, DATA, FireLinks, HEADER, NEXT, NODE, POINTER, TRANSACTIONS, TREE};
 use std::alloc::Global;
+use std::process::Abort;
 use std::test::Fail;
 
-fn demand(target: u32, what: u8, a: u32, b: u32) -> Demand {
+/// A demand: its page, its kind, and its two numbers.
+type Told = (u32, u8, u32, u32);
+
+/// What is asked of a page, and what it answers.
+#[derive(Clone, Copy)]
+enum Asked {
+    /// The page meets a demand, or it does not.
+    Meets(Told, bool),
+    /// What the page demands of which this is wanted.
+    Leads(Told, &'static [Told]),
+}
+
+fn demand(told: Told) -> Demand {
+    let (target, what, a, b) = told;
     Demand { target, what, a, b }
 }
 
@@ -20,48 +34,100 @@ fn demands(alloc: Global, page: &[u8], want: Demand) -> Result<Vec<Demand>, Memo
     Ok(out)
 }
 
-#[test]
-fn a_header_leads_to_transactions_and_catalog(rt: HostRuntime) -> Result<(), Fail> {
-    let header = Header {
-        minor: 0,
-        next: TxNo(4017),
-        oit: TxNo(1),
-        oat: TxNo(1),
-        ost: TxNo(1),
-        last_tip: PageNo(7),
-        interval: 20_000,
-        catalog: PageNo(3),
-    };
-    let mut page = [0; 1024];
-    new_common(&mut page, PageNo(0), HEADER_KIND, 0, 0);
-    write_header(&mut page, &header);
-    let want = demand(0, HEADER, 0, 0);
-    assert!(rt; FireLinks::meets(&page, &want));
-    assert!(rt; FireLinks::meets(&page, &demand(0, NEXT, 4016, 0)));
-    assert!(rt; !FireLinks::meets(&page, &demand(0, NEXT, 4017, 0)));
-    let wanted = [
-        demand(7, TRANSACTIONS, 1, 0),
-        demand(1, BIT, 7, 0),
-        demand(3, POINTER, 3, 0),
-        demand(1, BIT, 3, 0),
-    ];
-    let found = demands(rt.alloc(), &page, want)?;
-    assert_eq!(rt; found.as_slice(), wanted.as_slice());
+fn meets(page: &[u8], want: Demand) -> bool {
+    FireLinks::meets(page, &want)
+}
+
+/// Tells whether these are the demands that are told, in their order.
+fn are_told(found: &[Demand], told: &[Told]) -> bool {
+    if found.len() != told.len() {
+        return false;
+    }
+    for (demanded, one) in found.iter().zip(told) {
+        if *demanded != demand(*one) {
+            return false;
+        }
+    }
+    true
+}
+
+/// Tells whether a page answers so.
+fn answers(alloc: Global, page: &[u8], asked: Asked) -> Result<bool, Memory> {
+    Ok(match asked {
+        Asked::Meets(want, does) => meets(page, demand(want)) == does,
+        Asked::Leads(want, told) => {
+            let found = demands(alloc, page, demand(want))?;
+            are_told(&found, told)
+        }
+    })
+}
+
+/// Wants a page to answer all that is asked.
+fn answers_each(rt: &impl Abort, alloc: Global, page: &[u8], rows: &[Asked]) -> Result<(), Fail> {
+    for (place, asked) in rows.iter().enumerate() {
+        assert!(rt; answers(alloc, page, *asked)?, "row {place}");
+    }
     Ok(())
 }
 
+const HEADER_SAID: Header = Header {
+    minor: 0,
+    next: TxNo(4017),
+    oit: TxNo(1),
+    oat: TxNo(1),
+    ost: TxNo(1),
+    last_tip: PageNo(7),
+    interval: 20_000,
+    catalog: PageNo(3),
+};
+
+fn header_page() -> [u8; 1024] {
+    let mut page = [0; 1024];
+    new_common(&mut page, PageNo(0), HEADER_KIND, 0, 0);
+    write_header(&mut page, &HEADER_SAID);
+    page
+}
+
+const OF_HEADER: &[Asked] = &[
+    Asked::Meets((0, HEADER, 0, 0), true),
+    Asked::Meets((0, NEXT, 4016, 0), true),
+    Asked::Meets((0, NEXT, 4017, 0), false),
+    Asked::Leads(
+        (0, HEADER, 0, 0),
+        &[
+            (7, TRANSACTIONS, 1, 0),
+            (1, BIT, 7, 0),
+            (3, POINTER, 3, 0),
+            (1, BIT, 3, 0),
+        ],
+    ),
+];
+
 #[test]
-fn a_pointer_page_leads_to_its_data_pages_and_the_next_one(rt: HostRuntime) -> Result<(), Fail> {
+fn a_header_leads_to_transactions_and_catalog(rt: HostRuntime) -> Result<(), Fail> {
+    answers_each(&rt, rt.alloc(), &header_page(), OF_HEADER)
+}
+
+/// The second pointer page of the owner 5.
+fn pointer_page() -> [u8; 1024] {
     let mut page = [0; 1024];
     new_pointer(&mut page, PageNo(9), 5, 1);
     add_entry(&mut page, PageNo(8066));
-    let want = demand(9, POINTER, 5, 1);
-    assert!(rt; FireLinks::meets(&page, &want));
-    assert!(rt; !FireLinks::meets(&page, &demand(9, POINTER, 5, 0)));
-    let wanted = [demand(8066, DATA, 5, 250), demand(8065, BIT, 8066, 0)];
-    let found = demands(rt.alloc(), &page, want)?;
-    assert_eq!(rt; found.as_slice(), wanted.as_slice());
-    Ok(())
+    page
+}
+
+const OF_POINTERS: &[Asked] = &[
+    Asked::Meets((9, POINTER, 5, 1), true),
+    Asked::Meets((9, POINTER, 5, 0), false),
+    Asked::Leads(
+        (9, POINTER, 5, 1),
+        &[(8066, DATA, 5, 250), (8065, BIT, 8066, 0)],
+    ),
+];
+
+#[test]
+fn a_pointer_page_leads_to_its_data_pages_and_the_next_one(rt: HostRuntime) -> Result<(), Fail> {
+    answers_each(&rt, rt.alloc(), &pointer_page(), OF_POINTERS)
 }
 
 /// The inner page 20 of the tree of the owner 5, on the level 2: a neighbour to its right, no
@@ -80,61 +146,73 @@ fn inner_page() -> [u8; 1024] {
     page
 }
 
+const OF_INNER: &[Asked] = &[
+    Asked::Meets((20, NODE, 5, 2), true),
+    Asked::Meets((20, NODE, 5, 1), false),
+    Asked::Meets((20, NODE, 6, 2), false),
+    Asked::Meets((21, NODE, 5, 2), false),
+    Asked::Leads(
+        (20, NODE, 5, 2),
+        &[
+            (8066, NODE, 5, 2),
+            (8065, BIT, 8066, 0),
+            (21, NODE, 5, 1),
+            (1, BIT, 21, 0),
+            (22, NODE, 5, 1),
+            (1, BIT, 22, 0),
+            (23, NODE, 5, 1),
+            (1, BIT, 23, 0),
+        ],
+    ),
+];
+
 #[test]
 fn an_inner_page_leads_to_its_neighbour_and_its_children(rt: HostRuntime) -> Result<(), Fail> {
-    let page = inner_page();
-    let want = demand(20, NODE, 5, 2);
-    assert!(rt; FireLinks::meets(&page, &want));
-    assert!(rt; !FireLinks::meets(&page, &demand(20, NODE, 5, 1)));
-    assert!(rt; !FireLinks::meets(&page, &demand(20, NODE, 6, 2)));
-    assert!(rt; !FireLinks::meets(&page, &demand(21, NODE, 5, 2)));
-    let wanted = [
-        demand(8066, NODE, 5, 2),
-        demand(8065, BIT, 8066, 0),
-        demand(21, NODE, 5, 1),
-        demand(1, BIT, 21, 0),
-        demand(22, NODE, 5, 1),
-        demand(1, BIT, 22, 0),
-        demand(23, NODE, 5, 1),
-        demand(1, BIT, 23, 0),
-    ];
-    let found = demands(rt.alloc(), &page, want)?;
-    assert_eq!(rt; found.as_slice(), wanted.as_slice());
-    Ok(())
+    answers_each(&rt, rt.alloc(), &inner_page(), OF_INNER)
 }
+
+const OF_TOP: &[Asked] = &[
+    Asked::Meets((20, TREE, 5, 0), true),
+    Asked::Meets((20, TREE, 6, 0), false),
+    Asked::Leads(
+        (20, TREE, 5, 0),
+        &[
+            (21, NODE, 5, 1),
+            (1, BIT, 21, 0),
+            (22, NODE, 5, 1),
+            (1, BIT, 22, 0),
+            (23, NODE, 5, 1),
+            (1, BIT, 23, 0),
+        ],
+    ),
+];
 
 #[test]
 fn the_top_of_a_tree_leads_to_its_children(rt: HostRuntime) -> Result<(), Fail> {
-    let page = inner_page();
-    let want = demand(20, TREE, 5, 0);
-    assert!(rt; FireLinks::meets(&page, &want));
-    assert!(rt; !FireLinks::meets(&page, &demand(20, TREE, 6, 0)));
-    let wanted = [
-        demand(21, NODE, 5, 1),
-        demand(1, BIT, 21, 0),
-        demand(22, NODE, 5, 1),
-        demand(1, BIT, 22, 0),
-        demand(23, NODE, 5, 1),
-        demand(1, BIT, 23, 0),
-    ];
-    let found = demands(rt.alloc(), &page, want)?;
-    assert_eq!(rt; found.as_slice(), wanted.as_slice());
-    Ok(())
+    answers_each(&rt, rt.alloc(), &inner_page(), OF_TOP)
 }
+
+/// The same page as a leaf, with this neighbour to its right.
+fn leaf_page(right: u32) -> [u8; 1024] {
+    let mut page = inner_page();
+    put_u16(&mut page, LEVEL_AT, 0);
+    put_u32(&mut page, RIGHT_AT, right);
+    page
+}
+
+const OF_LEAF: &[Asked] = &[
+    Asked::Meets((20, NODE, 5, 0), true),
+    Asked::Leads(
+        (20, NODE, 5, 0),
+        &[(8066, NODE, 5, 0), (8065, BIT, 8066, 0)],
+    ),
+    Asked::Leads((20, TREE, 5, 0), &[]),
+];
+
+const OF_LAST_LEAF: &[Asked] = &[Asked::Leads((20, NODE, 5, 0), &[])];
 
 #[test]
 fn a_leaf_leads_to_its_neighbour_alone(rt: HostRuntime) -> Result<(), Fail> {
-    let mut page = inner_page();
-    put_u16(&mut page, LEVEL_AT, 0);
-    let want = demand(20, NODE, 5, 0);
-    assert!(rt; FireLinks::meets(&page, &want));
-    let wanted = [demand(8066, NODE, 5, 0), demand(8065, BIT, 8066, 0)];
-    let found = demands(rt.alloc(), &page, want)?;
-    assert_eq!(rt; found.as_slice(), wanted.as_slice());
-    let top = demands(rt.alloc(), &page, demand(20, TREE, 5, 0))?;
-    assert_eq!(rt; top.len(), 0);
-    put_u32(&mut page, RIGHT_AT, 0);
-    let alone = demands(rt.alloc(), &page, want)?;
-    assert_eq!(rt; alone.len(), 0);
-    Ok(())
+    answers_each(&rt, rt.alloc(), &leaf_page(8066), OF_LEAF)?;
+    answers_each(&rt, rt.alloc(), &leaf_page(0), OF_LAST_LEAF)
 }

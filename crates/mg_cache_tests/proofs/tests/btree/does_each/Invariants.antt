@@ -3,8 +3,8 @@ use Rattle.mg_base.specs.MemDisk.{mem_meaning}
 use Rattle.mg_pool.specs.Pool.{IsPool}
 use Rattle.mg_space.specs.Taking.{IsGeometry}
 use Rattle.mg_space.specs.View.{AreWhole}
-use Rattle.mg_cache_tests.proofs.tests.heap.the_251st_data_page_is_listed_by_a_second_pointer_page.Given as goal
+use Rattle.mg_cache_tests.proofs.tests.btree.does_each.Given as goal
 
-abbrev pub invariant-loop-n : goal.invariant-loop-n
-invariant-loop-n g l = IsPool mem_meaning l.store × IsGeometry l.store.geometry
+abbrev pub invariant-loop-place : goal.invariant-loop-place
+invariant-loop-place g l = IsPool mem_meaning l.store × IsGeometry l.store.geometry
     × (l.store.geometry.size ≡ 1024) × AreWhole 1024 l.batch.pages
