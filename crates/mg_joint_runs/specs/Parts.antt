@@ -1,5 +1,5 @@
 -- The parts of one batch, for tables and for their index trees, one after another; and a batch that they make up.
-use Rattle.std.specs.Prelude.{◌≡◌, ◌≢◌, ◌++◌, ◌||◌, ℕ, Bool, true, false, List, []}
+use Rattle.std.specs.Prelude.{◌≡◌, ◌≢◌, ◌++◌, ◌||◌, ℕ, Bool, true, false, List, [], ◌∷◌}
 use Rattle.std.proofs.Common.{inl, inr, refl, subst}
 use Rattle.std.proofs.Math.Path.{fun_ext}
 use Rattle.mg_base.specs.Image.{Image}
@@ -24,8 +24,9 @@ use Rattle.mg_chain_demands.specs.ChainedLaws.{chained_within}
 use Rattle.mg_table_demands.specs.Keeping.{PaysNewly}
 use Rattle.mg_table_demands.specs.KeepingTies.{chained_all, drops_none, in_wanted}
 use Rattle.mg_table_demands.specs.Parts.{PaysPart}
-use Rattle.mg_tree_demands.specs.Calls.{EachStands, PaysTrees, TreeAt}
-use Rattle.mg_tree_demands.specs.CallTies.{each_as}
+use Rattle.mg_tree_demands.specs.Calls.{EachStands, EachStays, PaysTrees, TreeAt, grown_to}
+use Rattle.mg_tree_demands.specs.CallTies.{each_as, new_free, one_among}
+use Rattle.mg_tree_demands.specs.Taken.{PaysTree}
 use Rattle.mg_tree_demands.specs.TakenLaws.{from_lists, to_lists}
 use Rattle.mg_joint_runs.specs.Joint.{LeavesTables, LeavesTrees, PaysBatch, PaysJointly}
 use Rattle.mg_joint_runs.specs.Leaving.{tables_stay, trees_stay, trees_stay_without}
@@ -47,6 +48,16 @@ TreePartPays = (size : ℕ) (old new : Pages) (t : ℕ) (ends : List TreeAt) (or
     → (part : PaysTrees size old new ends orders settled on_disk wanted)
     → LeavesTables size old new (listed part.more)
     → PaysJointly size old new t ends orders settled on_disk wanted part.more
+
+-- the law: a call on one of several trees, which changes no page of the others, and leaves tables alone
+abbrev pub OneOfTreesPaysJointly : Type 0
+OneOfTreesPaysJointly = (size : ℕ) (old new : Pages) (t : ℕ) (front : List TreeAt) (tree : TreeAt) (back : List TreeAt)
+    (ends : List (List ℕ)) (orders : Orders) (settled : ℕ → Bool) (on_disk wanted : DemandSet)
+    → IsWanting size old wanted → AreOrderly size old wanted → IsChained size old wanted
+    → EachStands size old wanted (front ++ tree ∷ back) → EachStays old new front → EachStays old new back
+    → (paid : PaysTree size old new tree.owner tree.root [] ends orders settled on_disk wanted)
+    → LeavesTables size old new (listed paid.more)
+    → PaysJointly size old new t (front ++ grown_to tree ends ∷ back) orders settled on_disk wanted paid.more
 
 -- the law: two parts, one after the other, are one
 abbrev pub JointPartsAreOne : Type 0
@@ -110,6 +121,19 @@ tree_part_pays size old new t ends orders settled on_disk wanted was orderly cha
       chained = both.1;
       stand = part.stand;
       own = λ d h version. absurd ((leaves.none d (in_listed part.more d h)).2 version);
+    }
+
+pub one_of_trees_pays_jointly : OneOfTreesPaysJointly
+one_of_trees_pays_jointly size old new t front tree back ends orders settled on_disk wanted was orderly chained stand
+    before behind paid leaves =
+    let both = tables_stay size old new wanted (listed paid.more) was orderly chained leaves in
+    record {
+      pays = paid.pays;
+      orderly = both.0;
+      chained = both.1;
+      stand = one_among size old new front tree back ends wanted paid.more stand before behind paid.used
+          (λ d h node. new_free size old d (paid.own d h) node) paid.stands;
+      own = λ d h version. absurd ((leaves.none d (in_listed paid.more d h)).2 version);
     }
 
 pub joint_parts_are_one : JointPartsAreOne

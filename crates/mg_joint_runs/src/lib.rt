@@ -12,6 +12,7 @@
 //! | a batch that takes rows out | `RowsKeepJointly` | `Steps` |
 //! | a part for a table, which leaves the trees alone | `TablePartPays` | `Parts` |
 //! | a part for trees, which leaves tables alone | `TreePartPays` | `Parts` |
+//! | a call on one of several trees | `OneOfTreesPaysJointly` | `Parts` |
 //! | two parts of one batch, as a row and its index entries | `JointPartsAreOne` | `Parts` |
 //! | a part that is a whole batch | `JointPartKeeps` | `Parts` |
 //! | a part, and then a batch that may drop versions | `PartThenBatchPays` | `Parts` |
@@ -27,7 +28,8 @@
 //!
 //! Invariant: none, it keeps no state.
 //! Below: `mg_table_runs`, runs over tables; `mg_tree_demands`, what trees pay. Above: nothing yet.
-//! Not here: that the engine's calls are such runs, and that the trees are those of the indexes that a catalog names.
+//! Not here: that a batch for tables leaves the trees alone; that the engine's calls are such runs; and that the trees
+//! are those of the indexes that a catalog names.
 #![tactic(auto)]
 
 mod runs;

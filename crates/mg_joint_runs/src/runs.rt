@@ -2,7 +2,7 @@
 
 ghost use Rattle.mg_joint_runs.specs.Inserting.{InsertionsLeaveTables, RemovalsLeaveTables};
 ghost use Rattle.mg_joint_runs.specs.Leaving.{TablesStay, TreesStay, TreesStayWithout};
-ghost use Rattle.mg_joint_runs.specs.Parts.{JointPartKeeps, JointPartsAreOne, PartThenBatchPays, TableBatchKeeps, TablePartPays, TreeBatchKeeps, TreePartPays};
+ghost use Rattle.mg_joint_runs.specs.Parts.{JointPartKeeps, JointPartsAreOne, OneOfTreesPaysJointly, PartThenBatchPays, TableBatchKeeps, TablePartPays, TreeBatchKeeps, TreePartPays};
 ghost use Rattle.mg_joint_runs.specs.Runs.{JointRunsStayLinked, TableStepsAreJoint, TreeStepsAreJoint};
 ghost use Rattle.mg_joint_runs.specs.Steps.{BatchesKeepJointly, RowsKeepJointly, WritesKeepJointly};
 
@@ -30,6 +30,7 @@ pub fn calls_leave_tables()
 pub fn joint_parts_pay<D: Disk>()
     ensures table { TablePartPays D FireLinks }
     ensures tree { TreePartPays }
+    ensures one { OneOfTreesPaysJointly }
     ensures both { JointPartsAreOne }
     ensures whole { JointPartKeeps }
     ensures then_batch { PartThenBatchPays }

@@ -1,5 +1,5 @@
 use Rattle.mg_space.specs.declared.links.FireLinks.{FireLinks}
-use Rattle.mg_joint_runs.specs.Parts.{joint_part_keeps, joint_parts_are_one, part_then_batch_pays, table_batch_keeps, table_part_pays, tree_batch_keeps, tree_part_pays}
+use Rattle.mg_joint_runs.specs.Parts.{joint_part_keeps, joint_parts_are_one, one_of_trees_pays_jointly, part_then_batch_pays, table_batch_keeps, table_part_pays, tree_batch_keeps, tree_part_pays}
 use Rattle.mg_joint_runs.specs.Runs.{table_steps_are_joint, tree_steps_are_joint}
 use Rattle.mg_joint_runs.proofs.runs.joint_parts_pay.Goals as goal
 
@@ -8,6 +8,9 @@ returns-clause-table g c = table_part_pays g.row.D.Denot FireLinks
 
 pub returns-clause-tree : goal.returns-clause-tree
 returns-clause-tree g c = tree_part_pays
+
+pub returns-clause-one : goal.returns-clause-one
+returns-clause-one g c = one_of_trees_pays_jointly
 
 pub returns-clause-both : goal.returns-clause-both
 returns-clause-both g c = joint_parts_are_one
