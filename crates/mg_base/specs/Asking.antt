@@ -1,10 +1,7 @@
 -- What was asked of a disk over a run of calls.
-use Rattle.std.specs.Prelude.{◌≡◌, ◌⊎◌, ℕ, ◌+◌, ◌<◌, ◌≤◌, Bool, true, List, Result}
-use Rattle.std.proofs.Common.{arith, refl, inl, inr, ◌∙◌, ◌≢◌}
-use Rattle.std.proofs.lemmas.Bool.{cases_eq}
+use Rattle.std.specs.Prelude.{◌≡◌, ◌⊎◌, ℕ, ◌+◌, ◌≤◌, Bool, true, List, Result}
+use Rattle.std.proofs.Common.{arith, refl, inl, inr, ◌∙◌}
 use Rattle.mg_base.specs.Disk.{Meaning, Calm, KeepsReads, ReadsPage, Rose, Writes}
-use Rattle.mg_base.specs.Fused.{fused_meaning, inner_of, most_of}
-use Rattle.mg_base.specs.declared.fused.Fused.{Fused}
 
 -- at most so many page writes were asked for, and as many pass in all as did
 pub record AsksWrites {D : Type 0} (m : Meaning D) (old new : D) (most : ℕ) : Type 0 where
@@ -15,12 +12,6 @@ pub record AsksWrites {D : Type 0} (m : Meaning D) (old new : D) (most : ℕ) : 
 pub record AsksReads {D : Type 0} (m : Meaning D) (old new : D) (most : ℕ) (pages : ℕ → Bool) : Type 0 where
   pub reads : m.reads new ≤ m.reads old + most
   pub alone : (n : ℕ) → m.was_read new n ≡ true → (m.was_read old n ≡ true) ⊎ (pages n ≡ true)
-
--- a disk behind a fuse fails only where the disk itself does, or where more page writes were asked for than pass
-abbrev pub FuseFailsPast : {D : Type 0} → Meaning D → Type 0
-FuseFailsPast {D} m = (old new : Fused D) (most : ℕ) → AsksWrites (fused_meaning m) old new most
-    → Rose ((fused_meaning m).faults old) ((fused_meaning m).faults new)
-    → Rose (m.faults (inner_of old)) (m.faults (inner_of new)) ⊎ (most_of old < (fused_meaning m).asked old + most)
 
 -- Laws of runs.
 
@@ -79,16 +70,3 @@ more_reads m old mid new first then_ pages run next = record {
     at : (n : ℕ) → (m.was_read mid n ≡ true) ⊎ (pages n ≡ true) → (m.was_read old n ≡ true) ⊎ (pages n ≡ true)
     at n (inl before) = run.alone n before
     at n (inr is) = inr is
-
-pub fuse_fails_past : {D : Type 0} (m : Meaning D) → FuseFailsPast m
-fuse_fails_past {D} m old new most run rose = at (cases_eq new.blown 0) rose
-  where
-    at : (new.blown ≡ 0) ⊎ (new.blown ≢ 0) → Rose (m.faults old.inner + old.blown) (m.faults new.inner + new.blown)
-        → Rose (m.faults old.inner) (m.faults new.inner) ⊎ (old.most < old.passed + old.blown + most)
-    at (inl none) (inl rises) = inl (inl (omega (arith, none, rises)))
-    at (inl none) (inr end) = inl (inr (omega (arith, none, end)))
-    at (inr some) rises =
-        let spent = new.fuse.spent (omega (arith, some)) in
-        let limit : new.most ≡ old.most = let s = run.limit in cc in
-        let asked = run.asked in
-        inr (omega (arith, some, spent, limit, asked))

@@ -6,8 +6,6 @@ pub mod CheckLaws
 pub mod Disk
 pub mod FaultyDisk
 pub mod Fields
-pub mod Fuse
-pub mod Fused
 pub mod Geometry
 pub mod Image
 pub mod Kept

@@ -1,17 +1,8 @@
 //! What holds of all disks and of all pages, each law as the contract of a call that does nothing.
 
 ghost use Rattle.std.specs.Prelude.{◌≡◌};
-ghost use Rattle.mg_base.specs.Asking.{FuseFailsPast};
 ghost use Rattle.mg_base.specs.declared.fields.TheConstants.{COMMON, FLAGS_AT, KIND_AT, OWNER_AT, OWN_AT, SEQUENCE_AT, ZERO_AT};
 ghost use Rattle.mg_base.specs.declared.geometry.TheConstants.{GREATEST_LIMIT, LEAST_LIMIT};
-
-use crate::Disk;
-
-/// A disk behind a fuse fails only where the disk itself does, or where more page writes are asked
-/// for than pass: known from the meanings before and after alone.
-pub fn a_fuse_fails_past_its_limit<D: Disk>()
-    ensures { FuseFailsPast D.meaning }
-{}
 
 /// The numbers of the common part of a page and of a database's size, as every file has them.
 pub fn numbers_of_every_file()

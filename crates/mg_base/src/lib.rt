@@ -29,7 +29,6 @@ mod damage;
 mod disk;
 mod faulty_disk;
 mod fields;
-mod fused;
 mod geometry;
 mod laws;
 mod mem_disk;
@@ -51,9 +50,8 @@ pub use fields::{
     COMMON, FLAGS_AT, KIND_AT, OWN_AT, OWNER_AT, SEQUENCE_AT, ZERO_AT, get_u16, get_u32,
     new_common, put_u16, put_u32,
 };
-pub use fused::Fused;
 pub use geometry::{GREATEST_LIMIT, Geometry, LEAST_LIMIT, is_page_size};
-pub use laws::{a_fuse_fails_past_its_limit, numbers_of_every_file};
+pub use laws::numbers_of_every_file;
 pub use mem_disk::MemDisk;
 pub use mem_sink::MemSink;
 pub use mem_source::MemSource;

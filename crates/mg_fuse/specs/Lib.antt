@@ -1,3 +1,4 @@
 pub mod Counting
+pub mod Fuse
 pub mod Stopped
 pub mod StoppedLaws

@@ -1,6 +1,6 @@
 //! A disk that lets a number of page writes through and fails each later one.
 
-ghost use Rattle.mg_base.specs.Fuse.{IsFuse};
+ghost use Rattle.mg_fuse.specs.Fuse.{IsFuse};
 
 use crate::CountsWrites;
 use mg_base::{Disk, DiskFault, PageNo};

@@ -10,7 +10,7 @@ use std::alloc::{AllocError, AllocFailed, Global};
 pub const ANCHOR: u8 = 1;
 /// The first byte of a version that stands outside its primary slot.
 pub const VERSION: u8 = 2;
-/// The flag of a version that deletes its record (Firebird: a deleted stub).
+/// The flag of a version that deletes its record (Firebird: a record that is deleted).
 pub const DELETED: u8 = 1;
 /// The flag of a version that has a back version.
 pub const HAS_BACK: u8 = 2;
