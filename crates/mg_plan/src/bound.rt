@@ -26,6 +26,15 @@ pub struct Bound {
     pub places: Vec<u16>,
 }
 
+/// Lets a bound statement go; see `mg_statements::let_go`.
+pub fn let_go(bound: Bound) {
+    let Bound {
+        statement,
+        places: _places,
+    } = bound;
+    mg_statements::let_go(statement);
+}
+
 /// Binds a statement to its table, for pages of `size` bytes. `t` is None for a statement that has
 /// no table, as CREATE TABLE; one that has a table finds no column then.
 ///

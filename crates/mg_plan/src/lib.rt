@@ -27,7 +27,7 @@ mod shapes;
 mod statements;
 mod typing;
 
-pub use bound::{Bound, bind};
+pub use bound::{Bound, bind, let_go};
 pub use fault::PlanFault;
 pub use planning::path;
 pub use plans::Path;

@@ -1,9 +1,11 @@
 pub mod Lexemes
+pub mod KindNumbers
 pub mod Unique
 pub mod Refusing
 pub mod ExprParts
 pub mod TreeSteps
 pub mod Steps
+pub mod Parting
 pub mod Scanned
 pub mod Symbols
 pub mod Quotes

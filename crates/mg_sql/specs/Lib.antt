@@ -4,6 +4,7 @@ pub mod Lexing
 pub mod Grammar
 pub mod Ends
 pub mod Reading
+pub mod Parting
 pub mod Statements
 pub mod Going
 pub mod Answers

@@ -1,10 +1,13 @@
 //! Expressions, a function for each rule of the grammar.
 
-ghost use Rattle.std.specs.Prelude.{◌≡◌, ◌<◌, ℕ, pos, map, IfOk};
-ghost use Rattle.mg_expr.specs.Trees.{tree_of, part_tree, Or as OrTree, And as AndTree, Sum as SumTree, Product as ProductTree, Integer as IntegerTree};
+ghost use Rattle.std.specs.Prelude.{◌≡◌, ◌<◌, ℕ, pos, map, IfOk, Some};
+ghost use Rattle.mg_expr.specs.Trees.{Tree, tree_of, part_tree, Or as OrTree, And as AndTree, Compare as CompareTree, Sum as SumTree, Product as ProductTree, Integer as IntegerTree};
 ghost use Rattle.mg_sql.specs.Grammar.{Factor, Term, Sums, Test, Neg, Conj, Expr as ExprRule, one_or, one_or_parts, sign_of, adds as adds_by, multiplies as multiplies_by};
 ghost use Rattle.mg_sql.specs.Ends.{binds as binds_by};
-ghost use Rattle.mg_sql.specs.Reading.{IsReady, Keeps, Told, EndsTest};
+ghost use Rattle.mg_sql.specs.Reading.{IsReady, Keeps, Reads, Told, EndsTest};
+ghost use Rattle.mg_sql.specs.Parting.{IsBare, asked_tree};
+ghost use Rattle.mg_expr.specs.declared.expr.Sign.{Sign as AnySign};
+ghost use Rattle.mg_sql.specs.declared.parser.Parser.{Parser as AnyParser};
 ghost use Rattle.mg_sql.specs.declared.token.Kind.TheVariants as kinds;
 
 use crate::parser::Parser;
@@ -109,31 +112,14 @@ fn summed(alloc: Global, first: Expr, parts: Vec<Part>) -> Result<Expr, Memory>
     Ok(Expr::Sum(Box::new(alloc, first)?, parts))
 }
 
-/// factor = "-" factor | "(" expr ")" | integer | text | NULL | name
-#[cycle(expression)]
-fn factor(p: &mut Parser, levels: u32) -> Result<Expr, SqlFault>
+/// integer | text | NULL | name
+fn leaf(p: &mut Parser, levels: u32) -> Result<Expr, SqlFault>
     requires ready { IsReady p.old }
+    requires bare { IsBare p.old.kind }
     ensures keeps { Keeps p.old p.new }
     ensures told { Told tree_of Factor 6 levels p.old p.new result }
 {
     match p.kind {
-        Kind::Minus => {
-            if levels == 0 {
-                return Err(p.too_deep());
-            }
-            p.advance();
-            let value = factor(p, levels - 1)?;
-            Ok(Expr::Minus(Box::new(p.alloc, value)?))
-        }
-        Kind::Open => {
-            if levels == 0 {
-                return Err(p.too_deep());
-            }
-            p.advance();
-            let inner = expr(p, levels - 1)?;
-            p.expect(Kind::Close)?;
-            Ok(inner)
-        }
         Kind::Integer => Ok(integer(p.integer()?)),
         Kind::Text => Ok(Expr::Text(p.text()?)),
         Kind::Name => Ok(Expr::Name(p.name()?)),
@@ -143,6 +129,88 @@ fn factor(p: &mut Parser, levels: u32) -> Result<Expr, SqlFault>
         }
         _ => Err(p.syntax()),
     }
+}
+
+/// A comparison.
+fn compared(alloc: Global, first: Expr, sign: Sign, second: Expr) -> Result<Expr, Memory>
+    ensures { IfOk result (λ e. tree_of e ≡ CompareTree (tree_of first) sign (tree_of second)) }
+{
+    let first = Box::new(alloc, first)?;
+    Ok(Expr::Compare(first, sign, Box::new(alloc, second)?))
+}
+
+/// The test whether an expression is NULL, or is not.
+fn asked(alloc: Global, first: Expr, not: bool) -> Result<Expr, Memory>
+    ensures { IfOk result (λ e. tree_of e ≡ asked_tree (tree_of first) not) }
+{
+    let first = Box::new(alloc, first)?;
+    if not {
+        return Ok(Expr::IsNotNull(first));
+    }
+    Ok(Expr::IsNull(first))
+}
+
+/// Reads IS [NOT] NULL, behind which a test ends: whether NOT stands there.
+fn asks(p: &mut Parser) -> Result<bool, SqlFault>
+    requires ready { IsReady p.old }
+    requires is { p.old.kind ≡ kinds.Is }
+    ensures keeps { Keeps p.old p.new }
+    ensures told { (start : AnyParser) (levels : ℕ) (first : Tree) → Keeps start p.old
+        → Reads Sums levels first start.text.now start.at p.old.at
+        → Told (asked_tree first) Test 3 levels start p.new result }
+{
+    p.advance();
+    let not = p.takes(Kind::Not);
+    p.expect(Kind::Null)?;
+    ends_test(p)?;
+    Ok(not)
+}
+
+/// factor = "-" factor | "(" expr ")" | integer | text | NULL | name
+#[cycle(expression)]
+fn factor(p: &mut Parser, levels: u32) -> Result<Expr, SqlFault>
+    requires ready { IsReady p.old }
+    ensures keeps { Keeps p.old p.new }
+    ensures told { Told tree_of Factor 6 levels p.old p.new result }
+{
+    match p.kind {
+        Kind::Minus => negated(p, levels),
+        Kind::Open => enclosed(p, levels),
+        _ => leaf(p, levels),
+    }
+}
+
+/// "-" factor
+#[cycle(expression)]
+fn negated(p: &mut Parser, levels: u32) -> Result<Expr, SqlFault>
+    requires ready { IsReady p.old }
+    requires minus { p.old.kind ≡ kinds.Minus }
+    ensures keeps { Keeps p.old p.new }
+    ensures told { Told tree_of Factor 6 levels p.old p.new result }
+{
+    if levels == 0 {
+        return Err(p.too_deep());
+    }
+    p.advance();
+    let value = factor(p, levels - 1)?;
+    Ok(Expr::Minus(Box::new(p.alloc, value)?))
+}
+
+/// "(" expr ")"
+#[cycle(expression)]
+fn enclosed(p: &mut Parser, levels: u32) -> Result<Expr, SqlFault>
+    requires ready { IsReady p.old }
+    requires open { p.old.kind ≡ kinds.Open }
+    ensures keeps { Keeps p.old p.new }
+    ensures told { Told tree_of Factor 6 levels p.old p.new result }
+{
+    if levels == 0 {
+        return Err(p.too_deep());
+    }
+    p.advance();
+    let inner = expr(p, levels - 1)?;
+    p.expect(Kind::Close)?;
+    Ok(inner)
 }
 
 /// term = factor {("*" | "/") factor}
@@ -179,6 +247,21 @@ fn sum(p: &mut Parser, levels: u32) -> Result<Expr, SqlFault>
     Ok(summed(p.alloc, first, parts)?)
 }
 
+/// Reads a sign of a comparison, and the sum behind it, with which a test ends.
+#[cycle(expression)]
+fn second_sum(p: &mut Parser, levels: u32) -> Result<Expr, SqlFault>
+    requires ready { IsReady p.old }
+    ensures keeps { Keeps p.old p.new }
+    ensures told { (start : AnyParser) (first : Tree) (sign : AnySign) → sign_of p.old.kind ≡ Some sign
+        → Keeps start p.old → Reads Sums levels first start.text.now start.at p.old.at
+        → Told (λ e. CompareTree first sign (tree_of e)) Test 3 levels start p.new result }
+{
+    p.advance();
+    let second = sum(p, levels)?;
+    ends_test(p)?;
+    Ok(second)
+}
+
 /// test = sum [("=" | "<>" | "<" | "<=" | ">" | ">=") sum | IS [NOT] NULL]
 #[cycle(expression)]
 fn test(p: &mut Parser, levels: u32) -> Result<Expr, SqlFault>
@@ -188,25 +271,14 @@ fn test(p: &mut Parser, levels: u32) -> Result<Expr, SqlFault>
 {
     let first = sum(p, levels)?;
     if let Some(sign) = sign(p.kind) {
-        p.advance();
-        let second = sum(p, levels)?;
-        ends_test(p)?;
-        let first = Box::new(p.alloc, first)?;
-        return Ok(Expr::Compare(first, sign, Box::new(p.alloc, second)?));
+        let second = second_sum(p, levels)?;
+        return Ok(compared(p.alloc, first, sign, second)?);
     }
     if !p.is(Kind::Is) {
         return Ok(first);
     }
-    p.advance();
-    if p.is(Kind::Not) {
-        p.advance();
-        p.expect(Kind::Null)?;
-        ends_test(p)?;
-        return Ok(Expr::IsNotNull(Box::new(p.alloc, first)?));
-    }
-    p.expect(Kind::Null)?;
-    ends_test(p)?;
-    Ok(Expr::IsNull(Box::new(p.alloc, first)?))
+    let not = asks(p)?;
+    Ok(asked(p.alloc, first, not)?)
 }
 
 /// neg = NOT neg | test

@@ -13,4 +13,4 @@ mod fault;
 mod statement;
 
 pub use fault::SqlFault;
-pub use statement::{Agg, Assign, Def, MOST_SIZE, Sorted, Statement};
+pub use statement::{Agg, Assign, Def, MOST_SIZE, Sorted, Statement, let_go};

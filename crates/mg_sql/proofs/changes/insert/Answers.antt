@@ -14,51 +14,79 @@ use Rattle.mg_sql.specs.Statements as g
 use Rattle.mg_sql.specs.Statements.{Rest, item, behind}
 use Rattle.mg_sql.specs.Reading.{IsReady, Keeps, Told, Fails, Takes_, Expects, TellsName, TellsSize}
 use Rattle.mg_sql.specs.Going.{Spelled, Derives, Goes, Never, begins_in, behind_item, behind_list}
+use Rattle.mg_sql.proofs.KindNumbers.{apart}
 use Rattle.mg_sql.proofs.Moves as moves
 use Rattle.mg_sql.proofs.Moves.{derives_on, fails_on, goes_on, turned, turn_left, turn_right, turn_on, never_word, never_either, never_name, never_finish, never_by, expected, word_wrong, took_left, taken_word, passed, optional_read, wrong}
 use Rattle.mg_sql.proofs.Steps.{kept_on, kept}
 use Rattle.mg_sql.proofs.changes.insert.Goals as goal
+
+pub returns-in_err-expect-clause-keeps : goal.returns-in_err-expect-clause-keeps
+returns-in_err-expect-clause-keeps c = c.in_err-expect.ensures.keeps
 
 pub returns-in_err-expect-clause-told : goal.returns-in_err-expect-clause-told
 returns-in_err-expect-clause-told c =
     let p = err_from_is_err_and c.from_residual.result c.from_residual.ensures.1 in rw (p.1, p.2)
     (word_wrong _ c.args.p.now c.expect.new.self _ c.in_err-expect.ensures.told)
 
+pub returns-in_err-expect-2-clause-keeps : goal.returns-in_err-expect-2-clause-keeps
+returns-in_err-expect-2-clause-keeps c = kept_on _ _ _ c.in_ok-expect.ensures.keeps c.in_err-expect-2.ensures.keeps
+
 pub returns-in_err-expect-2-clause-told : goal.returns-in_err-expect-2-clause-told
 returns-in_err-expect-2-clause-told c =
     let p = err_from_is_err_and c.from_residual-in_err-expect-2.result c.from_residual-in_err-expect-2.ensures.1 in rw (p.1, p.2)
     (fails_on (expected c.args.p.now c.expect.new.self c.in_ok-expect.ensures.keeps c.in_ok-expect.ensures.told) c.in_err-expect-2.ensures.keeps _ (word_wrong _ c.expect.new.self c.expect-2.new.self _ c.in_err-expect-2.ensures.told))
+
+pub returns-in_err-table-clause-keeps : goal.returns-in_err-table-clause-keeps
+returns-in_err-table-clause-keeps c = kept_on _ _ _ (kept_on _ _ _ c.in_ok-expect.ensures.keeps c.in_ok-expect-2.ensures.keeps) c.in_err-table.ensures.keeps
 
 pub returns-in_err-table-clause-told : goal.returns-in_err-table-clause-told
 returns-in_err-table-clause-told c =
     let p = err_from_is_err_and c.from_residual-in_err-table.result c.from_residual-in_err-table.ensures.1 in rw (p.1, p.2)
     (fails_on (derives_on (expected c.args.p.now c.expect.new.self c.in_ok-expect.ensures.keeps c.in_ok-expect.ensures.told) (expected c.expect.new.self c.expect-2.new.self c.in_ok-expect-2.ensures.keeps c.in_ok-expect-2.ensures.told)) c.in_err-table.ensures.keeps _ (c.in_err-table.ensures.told _))
 
+pub returns-in_err-columns-clause-keeps : goal.returns-in_err-columns-clause-keeps
+returns-in_err-columns-clause-keeps c = kept_on _ _ _ (kept_on _ _ _ (kept_on _ _ _ c.in_ok-expect.ensures.keeps c.in_ok-expect-2.ensures.keeps) c.in_ok-table.ensures.keeps) c.in_err-columns.ensures.keeps
+
 pub returns-in_err-columns-clause-told : goal.returns-in_err-columns-clause-told
 returns-in_err-columns-clause-told c =
     let p = err_from_is_err_and c.from_residual-in_err-columns.result c.from_residual-in_err-columns.ensures.1 in rw (p.1, p.2)
-    (fails_on (derives_on (derives_on (expected c.args.p.now c.expect.new.self c.in_ok-expect.ensures.keeps c.in_ok-expect.ensures.told) (expected c.expect.new.self c.expect-2.new.self c.in_ok-expect-2.ensures.keeps c.in_ok-expect-2.ensures.told)) (c.in_ok-table.ensures.told _)) c.in_err-columns.ensures.keeps _ (c.in_err-columns.ensures.told (λ columns. g.inserted (λ values. g.finish (plain.Insert c.in_ok-table.table columns values))) (never_word (λ e. absurd cc))))
+    (fails_on (derives_on (derives_on (expected c.args.p.now c.expect.new.self c.in_ok-expect.ensures.keeps c.in_ok-expect.ensures.told) (expected c.expect.new.self c.expect-2.new.self c.in_ok-expect-2.ensures.keeps c.in_ok-expect-2.ensures.told)) (c.in_ok-table.ensures.told _)) c.in_err-columns.ensures.keeps _ (c.in_err-columns.ensures.told (λ columns. g.inserted (λ values. g.finish (plain.Insert c.in_ok-table.table columns values))) (never_word (apart refl))))
+
+pub returns-in_err-expect-3-clause-keeps : goal.returns-in_err-expect-3-clause-keeps
+returns-in_err-expect-3-clause-keeps c = kept_on _ _ _ (kept_on _ _ _ (kept_on _ _ _ (kept_on _ _ _ c.in_ok-expect.ensures.keeps c.in_ok-expect-2.ensures.keeps) c.in_ok-table.ensures.keeps) c.in_ok-columns.ensures.keeps) c.in_err-expect-3.ensures.keeps
 
 pub returns-in_err-expect-3-clause-told : goal.returns-in_err-expect-3-clause-told
 returns-in_err-expect-3-clause-told c =
     let p = err_from_is_err_and c.from_residual-in_err-expect-3.result c.from_residual-in_err-expect-3.ensures.1 in rw (p.1, p.2)
-    (fails_on (derives_on (derives_on (derives_on (expected c.args.p.now c.expect.new.self c.in_ok-expect.ensures.keeps c.in_ok-expect.ensures.told) (expected c.expect.new.self c.expect-2.new.self c.in_ok-expect-2.ensures.keeps c.in_ok-expect-2.ensures.told)) (c.in_ok-table.ensures.told _)) (c.in_ok-columns.ensures.told (λ columns. g.inserted (λ values. g.finish (plain.Insert c.in_ok-table.table columns values))) (never_word (λ e. absurd cc)))) c.in_err-expect-3.ensures.keeps _ (word_wrong _ c.targets.new.p c.expect-3.new.self _ c.in_err-expect-3.ensures.told))
+    (fails_on (derives_on (derives_on (derives_on (expected c.args.p.now c.expect.new.self c.in_ok-expect.ensures.keeps c.in_ok-expect.ensures.told) (expected c.expect.new.self c.expect-2.new.self c.in_ok-expect-2.ensures.keeps c.in_ok-expect-2.ensures.told)) (c.in_ok-table.ensures.told _)) (c.in_ok-columns.ensures.told (λ columns. g.inserted (λ values. g.finish (plain.Insert c.in_ok-table.table columns values))) (never_word (apart refl)))) c.in_err-expect-3.ensures.keeps _ (word_wrong _ c.targets.new.p c.expect-3.new.self _ c.in_err-expect-3.ensures.told))
+
+pub returns-in_err-expect-4-clause-keeps : goal.returns-in_err-expect-4-clause-keeps
+returns-in_err-expect-4-clause-keeps c = kept_on _ _ _ (kept_on _ _ _ (kept_on _ _ _ (kept_on _ _ _ (kept_on _ _ _ c.in_ok-expect.ensures.keeps c.in_ok-expect-2.ensures.keeps) c.in_ok-table.ensures.keeps) c.in_ok-columns.ensures.keeps) c.in_ok-expect-3.ensures.keeps) c.in_err-expect-4.ensures.keeps
 
 pub returns-in_err-expect-4-clause-told : goal.returns-in_err-expect-4-clause-told
 returns-in_err-expect-4-clause-told c =
     let p = err_from_is_err_and c.from_residual-in_err-expect-4.result c.from_residual-in_err-expect-4.ensures.1 in rw (p.1, p.2)
-    (fails_on (derives_on (derives_on (derives_on (derives_on (expected c.args.p.now c.expect.new.self c.in_ok-expect.ensures.keeps c.in_ok-expect.ensures.told) (expected c.expect.new.self c.expect-2.new.self c.in_ok-expect-2.ensures.keeps c.in_ok-expect-2.ensures.told)) (c.in_ok-table.ensures.told _)) (c.in_ok-columns.ensures.told (λ columns. g.inserted (λ values. g.finish (plain.Insert c.in_ok-table.table columns values))) (never_word (λ e. absurd cc)))) (expected c.targets.new.p c.expect-3.new.self c.in_ok-expect-3.ensures.keeps c.in_ok-expect-3.ensures.told)) c.in_err-expect-4.ensures.keeps _ (word_wrong _ c.expect-3.new.self c.expect-4.new.self _ c.in_err-expect-4.ensures.told))
+    (fails_on (derives_on (derives_on (derives_on (derives_on (expected c.args.p.now c.expect.new.self c.in_ok-expect.ensures.keeps c.in_ok-expect.ensures.told) (expected c.expect.new.self c.expect-2.new.self c.in_ok-expect-2.ensures.keeps c.in_ok-expect-2.ensures.told)) (c.in_ok-table.ensures.told _)) (c.in_ok-columns.ensures.told (λ columns. g.inserted (λ values. g.finish (plain.Insert c.in_ok-table.table columns values))) (never_word (apart refl)))) (expected c.targets.new.p c.expect-3.new.self c.in_ok-expect-3.ensures.keeps c.in_ok-expect-3.ensures.told)) c.in_err-expect-4.ensures.keeps _ (word_wrong _ c.expect-3.new.self c.expect-4.new.self _ c.in_err-expect-4.ensures.told))
+
+pub returns-in_err-values-clause-keeps : goal.returns-in_err-values-clause-keeps
+returns-in_err-values-clause-keeps c = kept_on _ _ _ (kept_on _ _ _ (kept_on _ _ _ (kept_on _ _ _ (kept_on _ _ _ (kept_on _ _ _ c.in_ok-expect.ensures.keeps c.in_ok-expect-2.ensures.keeps) c.in_ok-table.ensures.keeps) c.in_ok-columns.ensures.keeps) c.in_ok-expect-3.ensures.keeps) c.in_ok-expect-4.ensures.keeps) c.in_err-values.ensures.keeps
 
 pub returns-in_err-values-clause-told : goal.returns-in_err-values-clause-told
 returns-in_err-values-clause-told c =
     let p = err_from_is_err_and c.from_residual-in_err-values.result c.from_residual-in_err-values.ensures.1 in rw (p.1, p.2)
-    (fails_on (derives_on (derives_on (derives_on (derives_on (derives_on (expected c.args.p.now c.expect.new.self c.in_ok-expect.ensures.keeps c.in_ok-expect.ensures.told) (expected c.expect.new.self c.expect-2.new.self c.in_ok-expect-2.ensures.keeps c.in_ok-expect-2.ensures.told)) (c.in_ok-table.ensures.told _)) (c.in_ok-columns.ensures.told (λ columns. g.inserted (λ values. g.finish (plain.Insert c.in_ok-table.table columns values))) (never_word (λ e. absurd cc)))) (expected c.targets.new.p c.expect-3.new.self c.in_ok-expect-3.ensures.keeps c.in_ok-expect-3.ensures.told)) (expected c.expect-3.new.self c.expect-4.new.self c.in_ok-expect-4.ensures.keeps c.in_ok-expect-4.ensures.told)) c.in_err-values.ensures.keeps _ (c.in_err-values.ensures.told (λ values. g.word kinds.Close (g.finish (plain.Insert c.in_ok-table.table (names_in c.in_ok-columns.columns) values))) (λ values. refl)))
+    (fails_on (derives_on (derives_on (derives_on (derives_on (derives_on (expected c.args.p.now c.expect.new.self c.in_ok-expect.ensures.keeps c.in_ok-expect.ensures.told) (expected c.expect.new.self c.expect-2.new.self c.in_ok-expect-2.ensures.keeps c.in_ok-expect-2.ensures.told)) (c.in_ok-table.ensures.told _)) (c.in_ok-columns.ensures.told (λ columns. g.inserted (λ values. g.finish (plain.Insert c.in_ok-table.table columns values))) (never_word (apart refl)))) (expected c.targets.new.p c.expect-3.new.self c.in_ok-expect-3.ensures.keeps c.in_ok-expect-3.ensures.told)) (expected c.expect-3.new.self c.expect-4.new.self c.in_ok-expect-4.ensures.keeps c.in_ok-expect-4.ensures.told)) c.in_err-values.ensures.keeps _ (c.in_err-values.ensures.told (λ values. g.word kinds.Close (g.finish (plain.Insert c.in_ok-table.table (names_in c.in_ok-columns.columns) values))) (λ values. refl)))
+
+pub returns-in_err-expect-5-clause-keeps : goal.returns-in_err-expect-5-clause-keeps
+returns-in_err-expect-5-clause-keeps c = kept_on _ _ _ (kept_on _ _ _ (kept_on _ _ _ (kept_on _ _ _ (kept_on _ _ _ (kept_on _ _ _ (kept_on _ _ _ c.in_ok-expect.ensures.keeps c.in_ok-expect-2.ensures.keeps) c.in_ok-table.ensures.keeps) c.in_ok-columns.ensures.keeps) c.in_ok-expect-3.ensures.keeps) c.in_ok-expect-4.ensures.keeps) c.in_ok-values.ensures.keeps) c.in_err-expect-5.ensures.keeps
 
 pub returns-in_err-expect-5-clause-told : goal.returns-in_err-expect-5-clause-told
 returns-in_err-expect-5-clause-told c =
     let p = err_from_is_err_and c.from_residual-in_err-expect-5.result c.from_residual-in_err-expect-5.ensures.1 in rw (p.1, p.2)
-    (fails_on (derives_on (derives_on (derives_on (derives_on (derives_on (derives_on (expected c.args.p.now c.expect.new.self c.in_ok-expect.ensures.keeps c.in_ok-expect.ensures.told) (expected c.expect.new.self c.expect-2.new.self c.in_ok-expect-2.ensures.keeps c.in_ok-expect-2.ensures.told)) (c.in_ok-table.ensures.told _)) (c.in_ok-columns.ensures.told (λ columns. g.inserted (λ values. g.finish (plain.Insert c.in_ok-table.table columns values))) (never_word (λ e. absurd cc)))) (expected c.targets.new.p c.expect-3.new.self c.in_ok-expect-3.ensures.keeps c.in_ok-expect-3.ensures.told)) (expected c.expect-3.new.self c.expect-4.new.self c.in_ok-expect-4.ensures.keeps c.in_ok-expect-4.ensures.told)) (c.in_ok-values.ensures.told (λ values. g.word kinds.Close (g.finish (plain.Insert c.in_ok-table.table (names_in c.in_ok-columns.columns) values))) (λ values. refl))) c.in_err-expect-5.ensures.keeps _ (word_wrong _ c.expressions.new.p c.expect-5.new.self _ c.in_err-expect-5.ensures.told))
+    (fails_on (derives_on (derives_on (derives_on (derives_on (derives_on (derives_on (expected c.args.p.now c.expect.new.self c.in_ok-expect.ensures.keeps c.in_ok-expect.ensures.told) (expected c.expect.new.self c.expect-2.new.self c.in_ok-expect-2.ensures.keeps c.in_ok-expect-2.ensures.told)) (c.in_ok-table.ensures.told _)) (c.in_ok-columns.ensures.told (λ columns. g.inserted (λ values. g.finish (plain.Insert c.in_ok-table.table columns values))) (never_word (apart refl)))) (expected c.targets.new.p c.expect-3.new.self c.in_ok-expect-3.ensures.keeps c.in_ok-expect-3.ensures.told)) (expected c.expect-3.new.self c.expect-4.new.self c.in_ok-expect-4.ensures.keeps c.in_ok-expect-4.ensures.told)) (c.in_ok-values.ensures.told (λ values. g.word kinds.Close (g.finish (plain.Insert c.in_ok-table.table (names_in c.in_ok-columns.columns) values))) (λ values. refl))) c.in_err-expect-5.ensures.keeps _ (word_wrong _ c.expressions.new.p c.expect-5.new.self _ c.in_err-expect-5.ensures.told))
+
+pub returns-clause-keeps : goal.returns-clause-keeps
+returns-clause-keeps c = kept_on _ _ _ (kept_on _ _ _ (kept_on _ _ _ (kept_on _ _ _ (kept_on _ _ _ (kept_on _ _ _ (kept_on _ _ _ c.in_ok-expect.ensures.keeps c.in_ok-expect-2.ensures.keeps) c.in_ok-table.ensures.keeps) c.in_ok-columns.ensures.keeps) c.in_ok-expect-3.ensures.keeps) c.in_ok-expect-4.ensures.keeps) c.in_ok-values.ensures.keeps) c.in_ok-expect-5.ensures.keeps
 
 pub returns-clause-told : goal.returns-clause-told
 returns-clause-told c =
-    derives_on (derives_on (derives_on (derives_on (derives_on (derives_on (derives_on (expected c.args.p.now c.expect.new.self c.in_ok-expect.ensures.keeps c.in_ok-expect.ensures.told) (expected c.expect.new.self c.expect-2.new.self c.in_ok-expect-2.ensures.keeps c.in_ok-expect-2.ensures.told)) (c.in_ok-table.ensures.told _)) (c.in_ok-columns.ensures.told (λ columns. g.inserted (λ values. g.finish (plain.Insert c.in_ok-table.table columns values))) (never_word (λ e. absurd cc)))) (expected c.targets.new.p c.expect-3.new.self c.in_ok-expect-3.ensures.keeps c.in_ok-expect-3.ensures.told)) (expected c.expect-3.new.self c.expect-4.new.self c.in_ok-expect-4.ensures.keeps c.in_ok-expect-4.ensures.told)) (c.in_ok-values.ensures.told (λ values. g.word kinds.Close (g.finish (plain.Insert c.in_ok-table.table (names_in c.in_ok-columns.columns) values))) (λ values. refl))) (expected c.expressions.new.p c.expect-5.new.self c.in_ok-expect-5.ensures.keeps c.in_ok-expect-5.ensures.told)
+    derives_on (derives_on (derives_on (derives_on (derives_on (derives_on (derives_on (expected c.args.p.now c.expect.new.self c.in_ok-expect.ensures.keeps c.in_ok-expect.ensures.told) (expected c.expect.new.self c.expect-2.new.self c.in_ok-expect-2.ensures.keeps c.in_ok-expect-2.ensures.told)) (c.in_ok-table.ensures.told _)) (c.in_ok-columns.ensures.told (λ columns. g.inserted (λ values. g.finish (plain.Insert c.in_ok-table.table columns values))) (never_word (apart refl)))) (expected c.targets.new.p c.expect-3.new.self c.in_ok-expect-3.ensures.keeps c.in_ok-expect-3.ensures.told)) (expected c.expect-3.new.self c.expect-4.new.self c.in_ok-expect-4.ensures.keeps c.in_ok-expect-4.ensures.told)) (c.in_ok-values.ensures.told (λ values. g.word kinds.Close (g.finish (plain.Insert c.in_ok-table.table (names_in c.in_ok-columns.columns) values))) (λ values. refl))) (expected c.expressions.new.p c.expect-5.new.self c.in_ok-expect-5.ensures.keeps c.in_ok-expect-5.ensures.told)

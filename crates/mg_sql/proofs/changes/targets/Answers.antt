@@ -19,19 +19,31 @@ use Rattle.mg_sql.proofs.Moves.{derives_on, fails_on, goes_on, turned, turn_left
 use Rattle.mg_sql.proofs.Steps.{kept_on, kept}
 use Rattle.mg_sql.proofs.changes.targets.Goals as goal
 
+pub returns-then-not-takes-clause-keeps : goal.returns-then-not-takes-clause-keeps
+returns-then-not-takes-clause-keeps c = c.if-not-takes.ensures.keeps
+
 pub returns-then-not-takes-clause-told : goal.returns-then-not-takes-clause-told
 returns-then-not-takes-clause-told c then_ never =
     passed c.args.p.now c.takes.new.self c.requires.ready c.if-not-takes.ensures.told
+
+pub returns-in_err-columns-clause-keeps : goal.returns-in_err-columns-clause-keeps
+returns-in_err-columns-clause-keeps c = kept_on _ _ _ c.if-not-takes.ensures.keeps c.in_err-columns.ensures.keeps
 
 pub returns-in_err-columns-clause-told : goal.returns-in_err-columns-clause-told
 returns-in_err-columns-clause-told c then_ never =
     let p = err_from_is_err_and c.from_residual.result c.from_residual.ensures.1 in rw (p.1, p.2)
     (fails_on (took_left c.args.p.now c.takes.new.self c.requires.ready c.if-not-takes.ensures.keeps c.if-not-takes.ensures.told never) c.in_err-columns.ensures.keeps _ (c.in_err-columns.ensures.told (λ columns. g.word kinds.Close (then_ (Some columns))) (λ columns. refl)))
 
+pub returns-in_err-expect-clause-keeps : goal.returns-in_err-expect-clause-keeps
+returns-in_err-expect-clause-keeps c = kept_on _ _ _ (kept_on _ _ _ c.if-not-takes.ensures.keeps c.in_ok-columns.ensures.keeps) c.in_err-expect.ensures.keeps
+
 pub returns-in_err-expect-clause-told : goal.returns-in_err-expect-clause-told
 returns-in_err-expect-clause-told c then_ never =
     let p = err_from_is_err_and c.from_residual-in_err-expect.result c.from_residual-in_err-expect.ensures.1 in rw (p.1, p.2)
     (fails_on (derives_on (took_left c.args.p.now c.takes.new.self c.requires.ready c.if-not-takes.ensures.keeps c.if-not-takes.ensures.told never) (c.in_ok-columns.ensures.told (λ columns. g.word kinds.Close (then_ (Some columns))) (λ columns. refl))) c.in_err-expect.ensures.keeps _ (word_wrong _ c.names.new.p c.expect.new.self _ c.in_err-expect.ensures.told))
+
+pub returns-clause-keeps : goal.returns-clause-keeps
+returns-clause-keeps c = kept_on _ _ _ (kept_on _ _ _ c.if-not-takes.ensures.keeps c.in_ok-columns.ensures.keeps) c.in_ok-expect.ensures.keeps
 
 pub returns-clause-told : goal.returns-clause-told
 returns-clause-told c then_ never =

@@ -19,35 +19,56 @@ use Rattle.mg_sql.proofs.Moves.{derives_on, fails_on, goes_on, turned, turn_left
 use Rattle.mg_sql.proofs.Steps.{kept_on, kept}
 use Rattle.mg_sql.proofs.columns.create_table.Goals as goal
 
+pub returns-in_err-expect-clause-keeps : goal.returns-in_err-expect-clause-keeps
+returns-in_err-expect-clause-keeps c = c.in_err-expect.ensures.keeps
+
 pub returns-in_err-expect-clause-told : goal.returns-in_err-expect-clause-told
 returns-in_err-expect-clause-told c =
     let p = err_from_is_err_and c.from_residual.result c.from_residual.ensures.1 in rw (p.1, p.2)
     (word_wrong _ c.args.p.now c.expect.new.self _ c.in_err-expect.ensures.told)
+
+pub returns-in_err-expect-2-clause-keeps : goal.returns-in_err-expect-2-clause-keeps
+returns-in_err-expect-2-clause-keeps c = kept_on _ _ _ c.in_ok-expect.ensures.keeps c.in_err-expect-2.ensures.keeps
 
 pub returns-in_err-expect-2-clause-told : goal.returns-in_err-expect-2-clause-told
 returns-in_err-expect-2-clause-told c =
     let p = err_from_is_err_and c.from_residual-in_err-expect-2.result c.from_residual-in_err-expect-2.ensures.1 in rw (p.1, p.2)
     (fails_on (expected c.args.p.now c.expect.new.self c.in_ok-expect.ensures.keeps c.in_ok-expect.ensures.told) c.in_err-expect-2.ensures.keeps _ (word_wrong _ c.expect.new.self c.expect-2.new.self _ c.in_err-expect-2.ensures.told))
 
+pub returns-in_err-name-clause-keeps : goal.returns-in_err-name-clause-keeps
+returns-in_err-name-clause-keeps c = kept_on _ _ _ (kept_on _ _ _ c.in_ok-expect.ensures.keeps c.in_ok-expect-2.ensures.keeps) c.in_err-name.ensures.keeps
+
 pub returns-in_err-name-clause-told : goal.returns-in_err-name-clause-told
 returns-in_err-name-clause-told c =
     let p = err_from_is_err_and c.from_residual-in_err-name.result c.from_residual-in_err-name.ensures.1 in rw (p.1, p.2)
     (fails_on (derives_on (expected c.args.p.now c.expect.new.self c.in_ok-expect.ensures.keeps c.in_ok-expect.ensures.told) (expected c.expect.new.self c.expect-2.new.self c.in_ok-expect-2.ensures.keeps c.in_ok-expect-2.ensures.told)) c.in_err-name.ensures.keeps _ (c.in_err-name.ensures.told _))
+
+pub returns-in_err-expect-3-clause-keeps : goal.returns-in_err-expect-3-clause-keeps
+returns-in_err-expect-3-clause-keeps c = kept_on _ _ _ (kept_on _ _ _ (kept_on _ _ _ c.in_ok-expect.ensures.keeps c.in_ok-expect-2.ensures.keeps) c.in_ok-name.ensures.keeps) c.in_err-expect-3.ensures.keeps
 
 pub returns-in_err-expect-3-clause-told : goal.returns-in_err-expect-3-clause-told
 returns-in_err-expect-3-clause-told c =
     let p = err_from_is_err_and c.from_residual-in_err-expect-3.result c.from_residual-in_err-expect-3.ensures.1 in rw (p.1, p.2)
     (fails_on (derives_on (derives_on (expected c.args.p.now c.expect.new.self c.in_ok-expect.ensures.keeps c.in_ok-expect.ensures.told) (expected c.expect.new.self c.expect-2.new.self c.in_ok-expect-2.ensures.keeps c.in_ok-expect-2.ensures.told)) (c.in_ok-name.ensures.told _)) c.in_err-expect-3.ensures.keeps _ (word_wrong _ c.name.new.p c.expect-3.new.self _ c.in_err-expect-3.ensures.told))
 
+pub returns-in_err-columns-clause-keeps : goal.returns-in_err-columns-clause-keeps
+returns-in_err-columns-clause-keeps c = kept_on _ _ _ (kept_on _ _ _ (kept_on _ _ _ (kept_on _ _ _ c.in_ok-expect.ensures.keeps c.in_ok-expect-2.ensures.keeps) c.in_ok-name.ensures.keeps) c.in_ok-expect-3.ensures.keeps) c.in_err-columns.ensures.keeps
+
 pub returns-in_err-columns-clause-told : goal.returns-in_err-columns-clause-told
 returns-in_err-columns-clause-told c =
     let p = err_from_is_err_and c.from_residual-in_err-columns.result c.from_residual-in_err-columns.ensures.1 in rw (p.1, p.2)
     (fails_on (derives_on (derives_on (derives_on (expected c.args.p.now c.expect.new.self c.in_ok-expect.ensures.keeps c.in_ok-expect.ensures.told) (expected c.expect.new.self c.expect-2.new.self c.in_ok-expect-2.ensures.keeps c.in_ok-expect-2.ensures.told)) (c.in_ok-name.ensures.told _)) (expected c.name.new.p c.expect-3.new.self c.in_ok-expect-3.ensures.keeps c.in_ok-expect-3.ensures.told)) c.in_err-columns.ensures.keeps _ (c.in_err-columns.ensures.told (λ columns. g.word kinds.Close (g.finish (plain.Table c.in_ok-name.name columns))) (λ columns. refl)))
 
+pub returns-in_err-expect-4-clause-keeps : goal.returns-in_err-expect-4-clause-keeps
+returns-in_err-expect-4-clause-keeps c = kept_on _ _ _ (kept_on _ _ _ (kept_on _ _ _ (kept_on _ _ _ (kept_on _ _ _ c.in_ok-expect.ensures.keeps c.in_ok-expect-2.ensures.keeps) c.in_ok-name.ensures.keeps) c.in_ok-expect-3.ensures.keeps) c.in_ok-columns.ensures.keeps) c.in_err-expect-4.ensures.keeps
+
 pub returns-in_err-expect-4-clause-told : goal.returns-in_err-expect-4-clause-told
 returns-in_err-expect-4-clause-told c =
     let p = err_from_is_err_and c.from_residual-in_err-expect-4.result c.from_residual-in_err-expect-4.ensures.1 in rw (p.1, p.2)
     (fails_on (derives_on (derives_on (derives_on (derives_on (expected c.args.p.now c.expect.new.self c.in_ok-expect.ensures.keeps c.in_ok-expect.ensures.told) (expected c.expect.new.self c.expect-2.new.self c.in_ok-expect-2.ensures.keeps c.in_ok-expect-2.ensures.told)) (c.in_ok-name.ensures.told _)) (expected c.name.new.p c.expect-3.new.self c.in_ok-expect-3.ensures.keeps c.in_ok-expect-3.ensures.told)) (c.in_ok-columns.ensures.told (λ columns. g.word kinds.Close (g.finish (plain.Table c.in_ok-name.name columns))) (λ columns. refl))) c.in_err-expect-4.ensures.keeps _ (word_wrong _ c.definitions.new.p c.expect-4.new.self _ c.in_err-expect-4.ensures.told))
+
+pub returns-clause-keeps : goal.returns-clause-keeps
+returns-clause-keeps c = kept_on _ _ _ (kept_on _ _ _ (kept_on _ _ _ (kept_on _ _ _ (kept_on _ _ _ c.in_ok-expect.ensures.keeps c.in_ok-expect-2.ensures.keeps) c.in_ok-name.ensures.keeps) c.in_ok-expect-3.ensures.keeps) c.in_ok-columns.ensures.keeps) c.in_ok-expect-4.ensures.keeps
 
 pub returns-clause-told : goal.returns-clause-told
 returns-clause-told c =

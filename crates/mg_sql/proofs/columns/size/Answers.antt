@@ -27,5 +27,8 @@ told_size : (then_ : ℕ → Rest) (old new : Parser) → Keeps old new → old.
 told_size then_ old new keeps same (Ok n) told = moves.size_read old new n keeps same told.0 told.1 told.2
 told_size then_ old new keeps same (Err e) told = moves.size_wrong then_ old new e told
 
+pub returns-clause-keeps : goal.returns-clause-keeps
+returns-clause-keeps c = c.size.ensures.keeps
+
 pub returns-clause-told : goal.returns-clause-told
 returns-clause-told c then_ = told_size then_ c.args.p.now c.size.new.self c.size.ensures.keeps c.if-not-is.ensures c.size.result c.size.ensures.told

@@ -9,15 +9,22 @@ use Rattle.mg_sql.specs.Ends.{Ends}
 use Rattle.mg_sql.proofs.ExprParts as parts
 use Rattle.mg_sql.specs.Ends.{binds}
 use Rattle.mg_sql.proofs.Refusing.{fails, reads_one}
-use Rattle.mg_sql.proofs.Steps.{kept_on, one_read, moved_reads, moved_refuses, nearer, syntax_told, deep_told, large_told, long_told, ahead_is, binds_six, not_times, not_adds, not_tested, not_and, not_or, not_opening, level_of, none_of, number_again, lexes_kind, neg_told}
+use Rattle.mg_sql.proofs.Parting.{is_bare, second_fails, second_on, second_read}
+use Rattle.mg_sql.proofs.Steps.{kept_on, one_read, moved_reads, moved_refuses, nearer, syntax_told, deep_told, ahead_is, binds_six, not_times, not_adds, not_tested, not_and, not_or, level_of, none_of, neg_told}
 use Rattle.mg_sql.proofs.TreeSteps.{tree_of_minus, tree_of_not, tree_of_is_null, tree_of_is_not_null, tree_of_compare, tree_of_null, tree_of_integer, tree_of_text, tree_of_name, first_part, more_parts, more_signed, not_nil, and_tree, or_tree}
 use Rattle.std.proofs.lemmas.Result.{err_from_is_err_and}
 use Rattle.mg_sql.proofs.expr.+expression.Goals as goal
+
+pub conj-returns-in_err-first-clause-keeps : goal.conj-returns-in_err-first-clause-keeps
+conj-returns-in_err-first-clause-keeps t c = c.in_err-first.ensures.keeps
 
 pub conj-returns-in_err-first-clause-told : goal.conj-returns-in_err-first-clause-told
 conj-returns-in_err-first-clause-told t c =
     let p = err_from_is_err_and c.from_residual.result c.from_residual.ensures.1 in rw (p.1, p.2)
     (fails tree_of tree_of Neg Conj 3 2 c.args.levels c.args.levels c.args.p.now c.args.p.now c.neg.new.p (λ always r. parts.conj_refuses r) _ c.in_err-first.ensures.told)
+
+pub conj-returns-then-not-is-clause-keeps : goal.conj-returns-then-not-is-clause-keeps
+conj-returns-then-not-is-clause-keeps t c = c.in_ok-first.ensures.keeps
 
 pub conj-returns-then-not-is-clause-told : goal.conj-returns-then-not-is-clause-told
 conj-returns-then-not-is-clause-told t c =
@@ -34,6 +41,9 @@ conj-loop-p-init t c =
       some = λ h. c.if-not-is.ensures;
       ends = c.in_ok-first.ensures.told.1;
     }
+
+pub conj-returns-in_err-part-clause-keeps : goal.conj-returns-in_err-part-clause-keeps
+conj-returns-in_err-part-clause-keeps t c = kept_on _ _ _ (kept_on _ _ _ c.loop-p.invariant.keeps c.advance.ensures.keeps) c.in_err-part.ensures.keeps
 
 pub conj-returns-in_err-part-clause-told : goal.conj-returns-in_err-part-clause-told
 conj-returns-in_err-part-clause-told t c =
@@ -57,6 +67,9 @@ conj-loop-p-preserved t c =
       ends = c.in_ok-part.ensures.told.1;
     }
 
+pub conj-returns-clause-keeps : goal.conj-returns-clause-keeps
+conj-returns-clause-keeps t c = c.loop-p.invariant.keeps
+
 pub conj-returns-clause-told : goal.conj-returns-clause-told
 conj-returns-clause-told t c = (
   subst (λ u. Reads Conj c.args.levels u c.args.p.now.text.now c.args.p.now.at c.loop-p.p.at)
@@ -65,10 +78,16 @@ conj-returns-clause-told t c = (
   not_and c.loop-p.p.kind c.loop-p-test.ensures c.loop-p.invariant.ends,
 )
 
+pub expr-returns-in_err-first-clause-keeps : goal.expr-returns-in_err-first-clause-keeps
+expr-returns-in_err-first-clause-keeps t c = c.in_err-first.ensures.keeps
+
 pub expr-returns-in_err-first-clause-told : goal.expr-returns-in_err-first-clause-told
 expr-returns-in_err-first-clause-told t c =
     let p = err_from_is_err_and c.from_residual.result c.from_residual.ensures.1 in rw (p.1, p.2)
     (fails tree_of tree_of Conj Expr 2 1 c.args.levels c.args.levels c.args.p.now c.args.p.now c.conj.new.p (λ always r. parts.expr_refuses r) _ c.in_err-first.ensures.told)
+
+pub expr-returns-then-not-is-clause-keeps : goal.expr-returns-then-not-is-clause-keeps
+expr-returns-then-not-is-clause-keeps t c = c.in_ok-first.ensures.keeps
 
 pub expr-returns-then-not-is-clause-told : goal.expr-returns-then-not-is-clause-told
 expr-returns-then-not-is-clause-told t c =
@@ -85,6 +104,9 @@ expr-loop-p-init t c =
       some = λ h. c.if-not-is.ensures;
       ends = c.in_ok-first.ensures.told.1;
     }
+
+pub expr-returns-in_err-part-clause-keeps : goal.expr-returns-in_err-part-clause-keeps
+expr-returns-in_err-part-clause-keeps t c = kept_on _ _ _ (kept_on _ _ _ c.loop-p.invariant.keeps c.advance.ensures.keeps) c.in_err-part.ensures.keeps
 
 pub expr-returns-in_err-part-clause-told : goal.expr-returns-in_err-part-clause-told
 expr-returns-in_err-part-clause-told t c =
@@ -108,6 +130,9 @@ expr-loop-p-preserved t c =
       ends = c.in_ok-part.ensures.told.1;
     }
 
+pub expr-returns-clause-keeps : goal.expr-returns-clause-keeps
+expr-returns-clause-keeps t c = c.loop-p.invariant.keeps
+
 pub expr-returns-clause-told : goal.expr-returns-clause-told
 expr-returns-clause-told t c = (
   subst (λ u. Reads Expr c.args.levels u c.args.p.now.text.now c.args.p.now.at c.loop-p.p.at)
@@ -116,89 +141,72 @@ expr-returns-clause-told t c = (
   not_or c.loop-p.p.kind c.loop-p-test.ensures c.loop-p.invariant.ends,
 )
 
-pub factor-returns-then-levels-eq0-clause-told : goal.factor-returns-then-levels-eq0-clause-told
-factor-returns-then-levels-eq0-clause-told t c =
-    deep_told tree_of Factor 6 c.args.levels c.args.p.now _ c.too_deep.ensures (subst (λ k. IsOpening k) (sym c.in-Minus.is) tt)
-    (ahead_is (λ x. Refuses Factor 6 c.args.levels false x c.args.p.now.text.now c.args.p.now.at c.args.p.now.at) c.args.p.now c.in-Minus.is (rw c.if-levels-eq0.true parts.minus_deep))
+pub factor-leaf-requires-clause-bare : goal.factor-leaf-requires-clause-bare
+factor-leaf-requires-clause-bare t c = is_bare c.args.p.now.kind c.in_default.not-Minus c.in_default.not-Open
 
-pub factor-returns-in_err-value-in-Minus-clause-told : goal.factor-returns-in_err-value-in-Minus-clause-told
-factor-returns-in_err-value-in-Minus-clause-told t c =
+pub negated-returns-then-levels-eq0-clause-told : goal.negated-returns-then-levels-eq0-clause-told
+negated-returns-then-levels-eq0-clause-told t c =
+    deep_told tree_of Factor 6 c.args.levels c.args.p.now _ c.too_deep.ensures (subst (λ k. IsOpening k) (sym c.requires.minus) tt)
+    (ahead_is (λ x. Refuses Factor 6 c.args.levels false x c.args.p.now.text.now c.args.p.now.at c.args.p.now.at) c.args.p.now c.requires.minus (rw c.if-levels-eq0.true parts.minus_deep))
+
+pub negated-returns-in_err-value-clause-keeps : goal.negated-returns-in_err-value-clause-keeps
+negated-returns-in_err-value-clause-keeps t c = kept_on _ _ _ c.advance.ensures.keeps c.in_err-value.ensures.keeps
+
+pub negated-returns-in_err-value-clause-told : goal.negated-returns-in_err-value-clause-told
+negated-returns-in_err-value-clause-told t c =
     let p = err_from_is_err_and c.from_residual.result c.from_residual.ensures.1 in rw (p.1, p.2)
     (fails tree_of tree_of Factor Factor 6 6 (c.args.levels - 1) c.args.levels c.args.p.now c.advance.new.self c.factor.new.p (λ always r. subst (λ n. Refuses Factor 6 n always (ahead c.factor.new.p) c.args.p.now.text.now c.args.p.now.at c.factor.new.p.at) (level_of c.args.levels c.if-levels-eq0.false)
-    (parts.minus_refuses (one_read c.args.p.now c.advance.new.self (c.args.levels - 1) c.in-Minus.is c.advance.ensures.token) (moved_refuses c.args.p.now c.advance.new.self c.advance.ensures.keeps r))) _ c.in_err-value-in-Minus.ensures.told)
+    (parts.minus_refuses (one_read c.args.p.now c.advance.new.self (c.args.levels - 1) c.requires.minus c.advance.ensures.token) (moved_refuses c.args.p.now c.advance.new.self c.advance.ensures.keeps r))) _ c.in_err-value.ensures.told)
 
-pub factor-returns-then-levels-eq0-2-clause-told : goal.factor-returns-then-levels-eq0-2-clause-told
-factor-returns-then-levels-eq0-2-clause-told t c =
-    deep_told tree_of Factor 6 c.args.levels c.args.p.now _ c.too_deep-then-levels-eq0-2.ensures (subst (λ k. IsOpening k) (sym c.in-Open.is) tt)
-    (ahead_is (λ x. Refuses Factor 6 c.args.levels false x c.args.p.now.text.now c.args.p.now.at c.args.p.now.at) c.args.p.now c.in-Open.is (rw c.if-levels-eq0-2.true parts.parens_deep))
+pub negated-returns-clause-keeps : goal.negated-returns-clause-keeps
+negated-returns-clause-keeps t c = kept_on _ _ _ c.advance.ensures.keeps c.in_ok-value.ensures.keeps
 
-pub factor-returns-in_err-inner-in-Open-clause-told : goal.factor-returns-in_err-inner-in-Open-clause-told
-factor-returns-in_err-inner-in-Open-clause-told t c =
-    let p = err_from_is_err_and c.from_residual-in_err-inner-in-Open.result c.from_residual-in_err-inner-in-Open.ensures.1 in rw (p.1, p.2)
-    (fails tree_of tree_of Expr Factor 1 6 (c.args.levels - 1) c.args.levels c.args.p.now c.advance-in-Open.new.self c.expr.new.p (λ always r. subst (λ n. Refuses Factor 6 n always (ahead c.expr.new.p) c.args.p.now.text.now c.args.p.now.at c.expr.new.p.at) (level_of c.args.levels c.if-levels-eq0-2.false)
-    (parts.parens_inner_refuses (one_read c.args.p.now c.advance-in-Open.new.self (c.args.levels - 1) c.in-Open.is c.advance-in-Open.ensures.token) (moved_refuses c.args.p.now c.advance-in-Open.new.self c.advance-in-Open.ensures.keeps r))) _ c.in_err-inner-in-Open.ensures.told)
-
-pub factor-returns-in_err-expect-in-Open-clause-told : goal.factor-returns-in_err-expect-in-Open-clause-told
-factor-returns-in_err-expect-in-Open-clause-told t c =
-    let p = err_from_is_err_and c.from_residual-in_err-expect-in-Open.result c.from_residual-in_err-expect-in-Open.ensures.1 in rw (p.1, p.2)
-    (let h = c.in_err-expect-in-Open.ensures.told in subst (λ q. Told tree_of Factor 6 c.args.levels c.args.p.now q (Err c.in_err-expect-in-Open.field-0.0)) (sym h.2)
-    (syntax_told tree_of Factor 6 c.args.levels c.args.p.now c.expr.new.p _ h.0 (subst (λ n. Refuses Factor 6 n true (ahead c.expr.new.p) c.args.p.now.text.now c.args.p.now.at c.expr.new.p.at) (level_of c.args.levels c.if-levels-eq0-2.false)
-    (parts.parens_unclosed (parts.opened_read (one_read c.args.p.now c.advance-in-Open.new.self (c.args.levels - 1) c.in-Open.is c.advance-in-Open.ensures.token) (moved_reads c.args.p.now c.advance-in-Open.new.self c.advance-in-Open.ensures.keeps c.in_ok-inner-in-Open.ensures.told.0)) h.1 c.in_ok-inner-in-Open.ensures.told.1))))
-
-pub factor-returns-in_ok-new-in-Minus-clause-told : goal.factor-returns-in_ok-new-in-Minus-clause-told
-factor-returns-in_ok-new-in-Minus-clause-told t c = (
-  rw (tree_of_minus c.in_ok-new-in-Minus.field-0, c.in_ok-new-in-Minus.ensures.ok)
-      (subst (λ n. Reads Factor n (Minus (tree_of c.in_ok-value-in-Minus.value)) c.args.p.now.text.now c.args.p.now.at c.factor.new.p.at) (level_of c.args.levels c.if-levels-eq0.false)
-      (parts.minus_read (one_read c.args.p.now c.advance.new.self (c.args.levels - 1) c.in-Minus.is c.advance.ensures.token) (moved_reads c.args.p.now c.advance.new.self c.advance.ensures.keeps c.in_ok-value-in-Minus.ensures.told.0))),
+pub negated-returns-clause-told : goal.negated-returns-clause-told
+negated-returns-clause-told t c = (
+  rw (tree_of_minus c.in_ok-new.field-0, c.in_ok-new.ensures.ok)
+      (subst (λ n. Reads Factor n (Minus (tree_of c.in_ok-value.value)) c.args.p.now.text.now c.args.p.now.at c.factor.new.p.at) (level_of c.args.levels c.if-levels-eq0.false)
+      (parts.minus_read (one_read c.args.p.now c.advance.new.self (c.args.levels - 1) c.requires.minus c.advance.ensures.token) (moved_reads c.args.p.now c.advance.new.self c.advance.ensures.keeps c.in_ok-value.ensures.told.0))),
   binds_six c.factor.new.p.kind,
 )
 
-pub factor-returns-in_ok-expect-in-Open-clause-told : goal.factor-returns-in_ok-expect-in-Open-clause-told
-factor-returns-in_ok-expect-in-Open-clause-told t c =
-    let h = c.in_ok-expect-in-Open.ensures.told in (
-      subst (λ n. Reads Factor n (tree_of c.in_ok-inner-in-Open.inner) c.args.p.now.text.now c.args.p.now.at c.expect.new.self.at) (level_of c.args.levels c.if-levels-eq0-2.false)
-          (parts.parens_read (parts.opened_read (one_read c.args.p.now c.advance-in-Open.new.self (c.args.levels - 1) c.in-Open.is c.advance-in-Open.ensures.token) (moved_reads c.args.p.now c.advance-in-Open.new.self c.advance-in-Open.ensures.keeps c.in_ok-inner-in-Open.ensures.told.0)) (moved_reads c.args.p.now c.expr.new.p (kept_on c.args.p.now c.advance-in-Open.new.self c.expr.new.p c.advance-in-Open.ensures.keeps c.in_ok-inner-in-Open.ensures.keeps)
+pub enclosed-returns-then-levels-eq0-clause-told : goal.enclosed-returns-then-levels-eq0-clause-told
+enclosed-returns-then-levels-eq0-clause-told t c =
+    deep_told tree_of Factor 6 c.args.levels c.args.p.now _ c.too_deep.ensures (subst (λ k. IsOpening k) (sym c.requires.open) tt)
+    (ahead_is (λ x. Refuses Factor 6 c.args.levels false x c.args.p.now.text.now c.args.p.now.at c.args.p.now.at) c.args.p.now c.requires.open (rw c.if-levels-eq0.true parts.parens_deep))
+
+pub enclosed-returns-in_err-inner-clause-keeps : goal.enclosed-returns-in_err-inner-clause-keeps
+enclosed-returns-in_err-inner-clause-keeps t c = kept_on _ _ _ c.advance.ensures.keeps c.in_err-inner.ensures.keeps
+
+pub enclosed-returns-in_err-inner-clause-told : goal.enclosed-returns-in_err-inner-clause-told
+enclosed-returns-in_err-inner-clause-told t c =
+    let p = err_from_is_err_and c.from_residual.result c.from_residual.ensures.1 in rw (p.1, p.2)
+    (fails tree_of tree_of Expr Factor 1 6 (c.args.levels - 1) c.args.levels c.args.p.now c.advance.new.self c.expr.new.p (λ always r. subst (λ n. Refuses Factor 6 n always (ahead c.expr.new.p) c.args.p.now.text.now c.args.p.now.at c.expr.new.p.at) (level_of c.args.levels c.if-levels-eq0.false)
+    (parts.parens_inner_refuses (one_read c.args.p.now c.advance.new.self (c.args.levels - 1) c.requires.open c.advance.ensures.token) (moved_refuses c.args.p.now c.advance.new.self c.advance.ensures.keeps r))) _ c.in_err-inner.ensures.told)
+
+pub enclosed-returns-in_err-expect-clause-keeps : goal.enclosed-returns-in_err-expect-clause-keeps
+enclosed-returns-in_err-expect-clause-keeps t c = kept_on _ _ _ (kept_on _ _ _ c.advance.ensures.keeps c.in_ok-inner.ensures.keeps) c.in_err-expect.ensures.keeps
+
+pub enclosed-returns-in_err-expect-clause-told : goal.enclosed-returns-in_err-expect-clause-told
+enclosed-returns-in_err-expect-clause-told t c =
+    let p = err_from_is_err_and c.from_residual-in_err-expect.result c.from_residual-in_err-expect.ensures.1 in rw (p.1, p.2)
+    (let h = c.in_err-expect.ensures.told in subst (λ q. Told tree_of Factor 6 c.args.levels c.args.p.now q (Err c.in_err-expect.field-0.0)) (sym h.2)
+    (syntax_told tree_of Factor 6 c.args.levels c.args.p.now c.expr.new.p _ h.0 (subst (λ n. Refuses Factor 6 n true (ahead c.expr.new.p) c.args.p.now.text.now c.args.p.now.at c.expr.new.p.at) (level_of c.args.levels c.if-levels-eq0.false)
+    (parts.parens_unclosed (parts.opened_read (one_read c.args.p.now c.advance.new.self (c.args.levels - 1) c.requires.open c.advance.ensures.token) (moved_reads c.args.p.now c.advance.new.self c.advance.ensures.keeps c.in_ok-inner.ensures.told.0)) h.1 c.in_ok-inner.ensures.told.1))))
+
+pub enclosed-returns-clause-keeps : goal.enclosed-returns-clause-keeps
+enclosed-returns-clause-keeps t c = kept_on _ _ _ (kept_on _ _ _ c.advance.ensures.keeps c.in_ok-inner.ensures.keeps) c.in_ok-expect.ensures.keeps
+
+pub enclosed-returns-clause-told : goal.enclosed-returns-clause-told
+enclosed-returns-clause-told t c =
+    let h = c.in_ok-expect.ensures.told in (
+      subst (λ n. Reads Factor n (tree_of c.in_ok-inner.inner) c.args.p.now.text.now c.args.p.now.at c.expect.new.self.at) (level_of c.args.levels c.if-levels-eq0.false)
+          (parts.parens_read (parts.opened_read (one_read c.args.p.now c.advance.new.self (c.args.levels - 1) c.requires.open c.advance.ensures.token) (moved_reads c.args.p.now c.advance.new.self c.advance.ensures.keeps c.in_ok-inner.ensures.told.0)) (moved_reads c.args.p.now c.expr.new.p (kept_on c.args.p.now c.advance.new.self c.expr.new.p c.advance.ensures.keeps c.in_ok-inner.ensures.keeps)
           (one_read c.expr.new.p c.expect.new.self (c.args.levels - 1) h.0 h.1))),
       binds_six c.expect.new.self.kind,
     )
 
-pub factor-returns-in_err-integer-in-Integer-clause-told : goal.factor-returns-in_err-integer-in-Integer-clause-told
-factor-returns-in_err-integer-in-Integer-clause-told t c =
-    let p = err_from_is_err_and c.from_residual-in_err-integer-in-Integer.result c.from_residual-in_err-integer-in-Integer.ensures.1 in rw (p.1, p.2)
-    (let h = c.in_err-integer-in-Integer.ensures.told in subst (λ q. Told tree_of Factor 6 c.args.levels c.args.p.now q (Err c.in_err-integer-in-Integer.field-0.0)) (sym h.2)
-    (large_told tree_of Factor 6 c.args.levels c.args.p.now _ h.0 c.in-Integer.is (ahead_is (λ x. Refuses Factor 6 c.args.levels false x c.args.p.now.text.now c.args.p.now.at c.args.p.now.at) c.args.p.now c.in-Integer.is (parts.integer_large c.args.levels h.1))))
-
-pub factor-returns-in_err-name-in-Name-clause-told : goal.factor-returns-in_err-name-in-Name-clause-told
-factor-returns-in_err-name-in-Name-clause-told t c =
-    let p = err_from_is_err_and c.from_residual-in_err-name-in-Name.result c.from_residual-in_err-name-in-Name.ensures.1 in rw (p.1, p.2)
-    (let h = c.in_err-name-in-Name.ensures.told in subst (λ q. Told tree_of Factor 6 c.args.levels c.args.p.now q (Err c.in_err-name-in-Name.field-0.0)) (sym h.2)
-    (long_told tree_of Factor 6 c.args.levels c.args.p.now _ h.0 c.in-Name.is (ahead_is (λ x. Refuses Factor 6 c.args.levels false x c.args.p.now.text.now c.args.p.now.at c.args.p.now.at) c.args.p.now c.in-Name.is (parts.name_long c.args.levels h.1))))
-
-pub factor-returns-in_ok-integer-in-Integer-clause-told : goal.factor-returns-in_ok-integer-in-Integer-clause-told
-factor-returns-in_ok-integer-in-Integer-clause-told t c =
-    let h = c.in_ok-integer-in-Integer.ensures.told in (
-      subst (λ u. Reads Factor c.args.levels u c.args.p.now.text.now c.args.p.now.at c.integer.new.self.at) (sym (c.integer-in-Integer.ensures ∙ ap Integer (number_again c.in_ok-integer-in-Integer.field-0 _ h.0 h.1)))
-          (parts.integer_read c.args.levels (lexes_kind c.args.p.now c.integer.new.self c.in-Integer.is h.2) h.1),
-      binds_six _,
-    )
-
-pub factor-returns-in_ok-text-in-Text-clause-told : goal.factor-returns-in_ok-text-in-Text-clause-told
-factor-returns-in_ok-text-in-Text-clause-told t c =
-    let h = c.in_ok-text-in-Text.ensures.told in
-    (rw (tree_of_text c.in_ok-text-in-Text.field-0) (parts.text_read c.args.levels _ (subst (λ b. Lexes c.args.p.now.text.now c.args.p.now.at (token kinds.Text b ∷ []) c.text.new.self.at) h.0 (lexes_kind c.args.p.now c.text.new.self c.in-Text.is h.1))), binds_six _)
-
-pub factor-returns-in_ok-name-in-Name-clause-told : goal.factor-returns-in_ok-name-in-Name-clause-told
-factor-returns-in_ok-name-in-Name-clause-told t c =
-    let h = c.in_ok-name-in-Name.ensures.told in
-    (rw (tree_of_name c.in_ok-name-in-Name.field-0, h.0) (parts.name_read c.args.levels (lexes_kind c.args.p.now c.name.new.self c.in-Name.is h.2) h.1), binds_six _)
-
-pub factor-returns-in-Null-clause-told : goal.factor-returns-in-Null-clause-told
-factor-returns-in-Null-clause-told t c =
-    (rw tree_of_null (parts.null_read (one_read c.args.p.now c.advance-in-Null.new.self c.args.levels c.in-Null.is c.advance-in-Null.ensures.token)), binds_six _)
-
-pub factor-returns-in_default : goal.factor-returns-in_default
-factor-returns-in_default t c =
-    record { keeps = record { text = refl; ready = c.requires.ready; forward = omega arith }; told = syntax_told tree_of Factor 6 c.args.levels c.args.p.now c.args.p.now _ c.syntax.ensures (parts.factor_wrong c.args.levels (not_opening c.args.p.now.kind c.in_default.not-Minus c.in_default.not-Open c.in_default.not-Integer c.in_default.not-Text c.in_default.not-Name c.in_default.not-Null)) }
+pub neg-returns-then-not-is-clause-keeps : goal.neg-returns-then-not-is-clause-keeps
+neg-returns-then-not-is-clause-keeps t c = c.test.ensures.keeps
 
 pub neg-returns-then-not-is-clause-told : goal.neg-returns-then-not-is-clause-told
 neg-returns-then-not-is-clause-told t c =
@@ -209,11 +217,17 @@ neg-returns-then-levels-eq0-clause-told t c =
     deep_told tree_of Neg 3 c.args.levels c.args.p.now _ c.too_deep.ensures (subst (λ k. IsOpening k) (sym c.if-not-is.ensures) tt)
     (ahead_is (λ x. Refuses Neg 3 c.args.levels false x c.args.p.now.text.now c.args.p.now.at c.args.p.now.at) c.args.p.now c.if-not-is.ensures (rw c.if-levels-eq0.true parts.not_deep))
 
+pub neg-returns-in_err-part-clause-keeps : goal.neg-returns-in_err-part-clause-keeps
+neg-returns-in_err-part-clause-keeps t c = kept_on _ _ _ c.advance.ensures.keeps c.in_err-part.ensures.keeps
+
 pub neg-returns-in_err-part-clause-told : goal.neg-returns-in_err-part-clause-told
 neg-returns-in_err-part-clause-told t c =
     let p = err_from_is_err_and c.from_residual.result c.from_residual.ensures.1 in rw (p.1, p.2)
     (fails tree_of tree_of Neg Neg 3 3 (c.args.levels - 1) c.args.levels c.args.p.now c.advance.new.self c.neg.new.p (λ always r. subst (λ n. Refuses Neg 3 n always (ahead c.neg.new.p) c.args.p.now.text.now c.args.p.now.at c.neg.new.p.at) (level_of c.args.levels c.if-levels-eq0.false)
     (parts.not_refuses (one_read c.args.p.now c.advance.new.self (c.args.levels - 1) c.if-not-is.ensures c.advance.ensures.token) (moved_refuses c.args.p.now c.advance.new.self c.advance.ensures.keeps r))) _ c.in_err-part.ensures.told)
+
+pub neg-returns-clause-keeps : goal.neg-returns-clause-keeps
+neg-returns-clause-keeps t c = kept_on _ _ _ c.advance.ensures.keeps c.in_ok-part.ensures.keeps
 
 pub neg-returns-clause-told : goal.neg-returns-clause-told
 neg-returns-clause-told t c = (
@@ -222,6 +236,9 @@ neg-returns-clause-told t c = (
       (parts.not_read (one_read c.args.p.now c.advance.new.self (c.args.levels - 1) c.if-not-is.ensures c.advance.ensures.token) (moved_reads c.args.p.now c.advance.new.self c.advance.ensures.keeps c.in_ok-part.ensures.told.0))),
   c.in_ok-part.ensures.told.1,
 )
+
+pub sum-returns-in_err-first-clause-keeps : goal.sum-returns-in_err-first-clause-keeps
+sum-returns-in_err-first-clause-keeps t c = c.in_err-first.ensures.keeps
 
 pub sum-returns-in_err-first-clause-told : goal.sum-returns-in_err-first-clause-told
 sum-returns-in_err-first-clause-told t c =
@@ -236,6 +253,9 @@ sum-loop-inverse-init t c =
           (parts.sums_first c.in_ok-first.ensures.told.0);
       ends = c.in_ok-first.ensures.told.1;
     }
+
+pub sum-returns-in_err-value-clause-keeps : goal.sum-returns-in_err-value-clause-keeps
+sum-returns-in_err-value-clause-keeps t c = kept_on _ _ _ (kept_on _ _ _ c.loop-inverse.invariant.keeps c.advance.ensures.keeps) c.in_err-value.ensures.keeps
 
 pub sum-returns-in_err-value-clause-told : goal.sum-returns-in_err-value-clause-told
 sum-returns-in_err-value-clause-told t c =
@@ -257,12 +277,18 @@ sum-loop-inverse-preserved t c =
       ends = c.in_ok-value.ensures.told.1;
     }
 
+pub sum-returns-clause-keeps : goal.sum-returns-clause-keeps
+sum-returns-clause-keeps t c = c.loop-inverse.invariant.keeps
+
 pub sum-returns-clause-told : goal.sum-returns-clause-told
 sum-returns-clause-told t c = (
   subst (λ u. Reads Sums c.args.levels u c.args.p.now.text.now c.args.p.now.at c.loop-inverse.p.at) (sym c.in_ok-summed.ensures)
       (parts.sums_done c.loop-inverse.invariant.read),
   not_adds c.loop-inverse.p.kind (sym c.adds.ensures ∙ none_of c.adds.result c.in_default.not-Some) c.loop-inverse.invariant.ends,
 )
+
+pub term-returns-in_err-first-clause-keeps : goal.term-returns-in_err-first-clause-keeps
+term-returns-in_err-first-clause-keeps t c = c.in_err-first.ensures.keeps
 
 pub term-returns-in_err-first-clause-told : goal.term-returns-in_err-first-clause-told
 term-returns-in_err-first-clause-told t c =
@@ -277,6 +303,9 @@ term-loop-inverse-init t c =
           (parts.term_first c.in_ok-first.ensures.told.0);
       ends = c.in_ok-first.ensures.told.1;
     }
+
+pub term-returns-in_err-value-clause-keeps : goal.term-returns-in_err-value-clause-keeps
+term-returns-in_err-value-clause-keeps t c = kept_on _ _ _ (kept_on _ _ _ c.loop-inverse.invariant.keeps c.advance.ensures.keeps) c.in_err-value.ensures.keeps
 
 pub term-returns-in_err-value-clause-told : goal.term-returns-in_err-value-clause-told
 term-returns-in_err-value-clause-told t c =
@@ -298,6 +327,9 @@ term-loop-inverse-preserved t c =
       ends = c.in_ok-value.ensures.told.1;
     }
 
+pub term-returns-clause-keeps : goal.term-returns-clause-keeps
+term-returns-clause-keeps t c = c.loop-inverse.invariant.keeps
+
 pub term-returns-clause-told : goal.term-returns-clause-told
 term-returns-clause-told t c = (
   subst (λ u. Reads Term c.args.levels u c.args.p.now.text.now c.args.p.now.at c.loop-inverse.p.at) (sym c.in_ok-product.ensures)
@@ -305,69 +337,74 @@ term-returns-clause-told t c = (
   not_times c.loop-inverse.p.kind (sym c.multiplies.ensures ∙ none_of c.multiplies.result c.in_default.not-Some),
 )
 
+pub second_sum-returns-in_err-second-clause-keeps : goal.second_sum-returns-in_err-second-clause-keeps
+second_sum-returns-in_err-second-clause-keeps t c = kept_on _ _ _ c.advance.ensures.keeps c.in_err-second.ensures.keeps
+
+pub second_sum-returns-in_err-second-clause-told : goal.second_sum-returns-in_err-second-clause-told
+second_sum-returns-in_err-second-clause-told t c start first sign is kept_first read =
+    let p = err_from_is_err_and c.from_residual.result c.from_residual.ensures.1 in rw (p.1, p.2)
+    (second_fails c.args.levels first sign start c.args.p.now c.advance.new.self c.sum.new.p is kept_first read c.advance.ensures.keeps c.advance.ensures.token _ c.in_err-second.ensures.told)
+
+pub second_sum-returns-in_err-ends_test-clause-keeps : goal.second_sum-returns-in_err-ends_test-clause-keeps
+second_sum-returns-in_err-ends_test-clause-keeps t c = kept_on _ _ _ c.advance.ensures.keeps c.in_ok-second.ensures.keeps
+
+pub second_sum-returns-in_err-ends_test-clause-told : goal.second_sum-returns-in_err-ends_test-clause-told
+second_sum-returns-in_err-ends_test-clause-told t c start first sign is kept_first read =
+    let p = err_from_is_err_and c.from_residual-in_err-ends_test.result c.from_residual-in_err-ends_test.ensures.1 in rw (p.1, p.2)
+    (second_on c.args.levels first sign start c.args.p.now c.advance.new.self c.sum.new.p is kept_first read c.advance.ensures.keeps c.advance.ensures.token (tree_of c.in_ok-second.second) c.in_ok-second.ensures.told.0 c.in_ok-second.ensures.told.1 _ c.in_err-ends_test.ensures)
+
+pub second_sum-returns-clause-keeps : goal.second_sum-returns-clause-keeps
+second_sum-returns-clause-keeps t c = kept_on _ _ _ c.advance.ensures.keeps c.in_ok-second.ensures.keeps
+
+pub second_sum-returns-clause-told : goal.second_sum-returns-clause-told
+second_sum-returns-clause-told t c start first sign is kept_first read = (
+  second_read c.args.levels first sign start c.args.p.now c.advance.new.self c.sum.new.p is kept_first read c.advance.ensures.keeps c.advance.ensures.token (tree_of c.in_ok-second.second) c.in_ok-second.ensures.told.0,
+  c.in_ok-ends_test.ensures,
+)
+
+pub test-returns-in_err-first-clause-keeps : goal.test-returns-in_err-first-clause-keeps
+test-returns-in_err-first-clause-keeps t c = c.in_err-first.ensures.keeps
+
 pub test-returns-in_err-first-clause-told : goal.test-returns-in_err-first-clause-told
 test-returns-in_err-first-clause-told t c =
     let p = err_from_is_err_and c.from_residual.result c.from_residual.ensures.1 in rw (p.1, p.2)
     (fails tree_of tree_of Sums Test 4 3 c.args.levels c.args.levels c.args.p.now c.args.p.now c.sum.new.p (λ always r. parts.test_refuses r) _ c.in_err-first.ensures.told)
 
+pub test-returns-in_err-second-clause-keeps : goal.test-returns-in_err-second-clause-keeps
+test-returns-in_err-second-clause-keeps t c = kept_on _ _ _ c.in_ok-first.ensures.keeps c.in_err-second.ensures.keeps
+
 pub test-returns-in_err-second-clause-told : goal.test-returns-in_err-second-clause-told
 test-returns-in_err-second-clause-told t c =
     let p = err_from_is_err_and c.from_residual-in_err-second.result c.from_residual-in_err-second.ensures.1 in rw (p.1, p.2)
-    (fails tree_of tree_of Sums Test 4 3 c.args.levels c.args.levels c.args.p.now c.advance.new.self c.sum-in-Some.new.p (λ always r. parts.compare_refuses (parts.compare_sign (sym c.in-Some.ensures) c.in_ok-first.ensures.told.0 (moved_reads c.args.p.now c.sum.new.p c.in_ok-first.ensures.keeps (one_read c.sum.new.p c.advance.new.self c.args.levels refl c.advance.ensures.token)))
-    (moved_refuses c.args.p.now c.advance.new.self (kept_on c.args.p.now c.sum.new.p c.advance.new.self c.in_ok-first.ensures.keeps c.advance.ensures.keeps) r)) _ c.in_err-second.ensures.told)
+    (c.in_err-second.ensures.told c.args.p.now (tree_of c.in_ok-first.first) c.in-Some.sign (sym c.in-Some.ensures) c.in_ok-first.ensures.keeps c.in_ok-first.ensures.told.0)
+
+pub test-returns-in-Some-clause-keeps : goal.test-returns-in-Some-clause-keeps
+test-returns-in-Some-clause-keeps t c = kept_on _ _ _ c.in_ok-first.ensures.keeps c.in_ok-second.ensures.keeps
 
 pub test-returns-in-Some-clause-told : goal.test-returns-in-Some-clause-told
-test-returns-in-Some-clause-told t c = (
-  rw (tree_of_compare c.in_ok-first-2.first c.in-Some.sign c.in_ok-new.field-0, c.in_ok-first-2.ensures.ok, c.in_ok-new.ensures.ok)
-      (parts.compare_read (parts.compare_sign (sym c.in-Some.ensures) c.in_ok-first.ensures.told.0 (moved_reads c.args.p.now c.sum.new.p c.in_ok-first.ensures.keeps (one_read c.sum.new.p c.advance.new.self c.args.levels refl c.advance.ensures.token))) (moved_reads c.args.p.now c.advance.new.self (kept_on c.args.p.now c.sum.new.p c.advance.new.self c.in_ok-first.ensures.keeps c.advance.ensures.keeps) c.in_ok-second.ensures.told.0)),
-  c.in_ok-ends_test.ensures,
-)
+test-returns-in-Some-clause-told t c =
+    let h = c.in_ok-second.ensures.told c.args.p.now (tree_of c.in_ok-first.first) c.in-Some.sign (sym c.in-Some.ensures) c.in_ok-first.ensures.keeps c.in_ok-first.ensures.told.0 in
+    (subst (λ u. Reads Test c.args.levels u c.args.p.now.text.now c.args.p.now.at c.second_sum.new.p.at) (sym c.in_ok-compared.ensures) h.0, h.1)
+
+pub test-returns-then-not-is-clause-keeps : goal.test-returns-then-not-is-clause-keeps
+test-returns-then-not-is-clause-keeps t c = c.in_ok-first.ensures.keeps
 
 pub test-returns-then-not-is-clause-told : goal.test-returns-then-not-is-clause-told
 test-returns-then-not-is-clause-told t c =
     (parts.alone_read c.in_ok-first.ensures.told.0, not_tested c.sum.new.p.kind (sym c.sign.ensures ∙ none_of c.sign.result c.in_default.not-Some) c.if-not-is.ensures c.in_ok-first.ensures.told.1)
 
-pub test-returns-in_err-expect-clause-told : goal.test-returns-in_err-expect-clause-told
-test-returns-in_err-expect-clause-told t c =
-    let p = err_from_is_err_and c.from_residual-in_err-expect.result c.from_residual-in_err-expect.ensures.1 in rw (p.1, p.2)
-    (let h = c.in_err-expect.ensures.told in subst (λ q. Told tree_of Test 3 c.args.levels c.args.p.now q (Err c.in_err-expect.field-0.0)) (sym h.2)
-    (syntax_told tree_of Test 3 c.args.levels c.args.p.now c.advance-then-is.new.self _ h.0 (parts.is_not_refuses (parts.asking_not_read (parts.asking_read c.in_ok-first.ensures.told.0 (moved_reads c.args.p.now c.sum.new.p c.in_ok-first.ensures.keeps (one_read c.sum.new.p c.advance-2.new.self c.args.levels c.if-not-is.ensures c.advance-2.ensures.token))) (moved_reads c.args.p.now c.advance-2.new.self (kept_on c.args.p.now c.sum.new.p c.advance-2.new.self c.in_ok-first.ensures.keeps c.advance-2.ensures.keeps) (one_read c.advance-2.new.self c.advance-then-is.new.self c.args.levels c.if-is.ensures c.advance-then-is.ensures.token))) h.1)))
+pub test-returns-in_err-not-clause-keeps : goal.test-returns-in_err-not-clause-keeps
+test-returns-in_err-not-clause-keeps t c = kept_on _ _ _ c.in_ok-first.ensures.keeps c.in_err-not.ensures.keeps
 
-pub test-returns-then-is-clause-told : goal.test-returns-then-is-clause-told
-test-returns-then-is-clause-told t c =
-    let h = c.in_ok-expect.ensures.told in (
-      rw (tree_of_is_not_null c.in_ok-new-2.field-0, c.in_ok-new-2.ensures.ok)
-          (parts.is_not_null_read (parts.asking_not_read (parts.asking_read c.in_ok-first.ensures.told.0 (moved_reads c.args.p.now c.sum.new.p c.in_ok-first.ensures.keeps (one_read c.sum.new.p c.advance-2.new.self c.args.levels c.if-not-is.ensures c.advance-2.ensures.token))) (moved_reads c.args.p.now c.advance-2.new.self (kept_on c.args.p.now c.sum.new.p c.advance-2.new.self c.in_ok-first.ensures.keeps c.advance-2.ensures.keeps) (one_read c.advance-2.new.self c.advance-then-is.new.self c.args.levels c.if-is.ensures c.advance-then-is.ensures.token))) (moved_reads c.args.p.now c.advance-then-is.new.self (kept_on c.args.p.now c.advance-2.new.self c.advance-then-is.new.self (kept_on c.args.p.now c.sum.new.p c.advance-2.new.self c.in_ok-first.ensures.keeps c.advance-2.ensures.keeps) c.advance-then-is.ensures.keeps) (one_read c.advance-then-is.new.self c.expect.new.self c.args.levels h.0 h.1))),
-      c.in_ok-ends_test-2.ensures,
-    )
+pub test-returns-in_err-not-clause-told : goal.test-returns-in_err-not-clause-told
+test-returns-in_err-not-clause-told t c =
+    let p = err_from_is_err_and c.from_residual-in_err-not.result c.from_residual-in_err-not.ensures.1 in rw (p.1, p.2)
+    (c.in_err-not.ensures.told c.args.p.now c.args.levels (tree_of c.in_ok-first.first) c.in_ok-first.ensures.keeps c.in_ok-first.ensures.told.0)
 
-pub test-returns-in_err-expect-2-clause-told : goal.test-returns-in_err-expect-2-clause-told
-test-returns-in_err-expect-2-clause-told t c =
-    let p = err_from_is_err_and c.from_residual-in_err-expect-2.result c.from_residual-in_err-expect-2.ensures.1 in rw (p.1, p.2)
-    (let h = c.in_err-expect-2.ensures.told in subst (λ q. Told tree_of Test 3 c.args.levels c.args.p.now q (Err c.in_err-expect-2.field-0.0)) (sym h.2)
-    (syntax_told tree_of Test 3 c.args.levels c.args.p.now c.advance-2.new.self _ h.0 (parts.is_refuses (parts.asking_read c.in_ok-first.ensures.told.0 (moved_reads c.args.p.now c.sum.new.p c.in_ok-first.ensures.keeps (one_read c.sum.new.p c.advance-2.new.self c.args.levels c.if-not-is.ensures c.advance-2.ensures.token))) h.1 c.if-is.ensures)))
+pub test-returns-clause-keeps : goal.test-returns-clause-keeps
+test-returns-clause-keeps t c = kept_on _ _ _ c.in_ok-first.ensures.keeps c.in_ok-not.ensures.keeps
 
 pub test-returns-clause-told : goal.test-returns-clause-told
 test-returns-clause-told t c =
-    let h = c.in_ok-expect-2.ensures.told in (
-      rw (tree_of_is_null c.in_ok-new-3.field-0, c.in_ok-new-3.ensures.ok)
-          (parts.is_null_read (parts.asking_read c.in_ok-first.ensures.told.0 (moved_reads c.args.p.now c.sum.new.p c.in_ok-first.ensures.keeps (one_read c.sum.new.p c.advance-2.new.self c.args.levels c.if-not-is.ensures c.advance-2.ensures.token))) (moved_reads c.args.p.now c.advance-2.new.self (kept_on c.args.p.now c.sum.new.p c.advance-2.new.self c.in_ok-first.ensures.keeps c.advance-2.ensures.keeps) (one_read c.advance-2.new.self c.expect-2.new.self c.args.levels h.0 h.1))),
-      c.in_ok-ends_test-3.ensures,
-    )
-
-pub test-returns-in_err-ends_test-clause-told : goal.test-returns-in_err-ends_test-clause-told
-test-returns-in_err-ends_test-clause-told t c =
-    let p = err_from_is_err_and c.from_residual-in_err-ends_test.result c.from_residual-in_err-ends_test.ensures.1 in rw (p.1, p.2)
-    (let h = c.in_err-ends_test.ensures in syntax_told tree_of Test 3 c.args.levels c.args.p.now c.sum-in-Some.new.p _ h.0 (parts.compared_refuses (parts.compared_read (parts.compare_sign (sym c.in-Some.ensures) c.in_ok-first.ensures.told.0 (moved_reads c.args.p.now c.sum.new.p c.in_ok-first.ensures.keeps (one_read c.sum.new.p c.advance.new.self c.args.levels refl c.advance.ensures.token))) (moved_reads c.args.p.now c.advance.new.self (kept_on c.args.p.now c.sum.new.p c.advance.new.self c.in_ok-first.ensures.keeps c.advance.ensures.keeps) c.in_ok-second.ensures.told.0)) c.in_ok-second.ensures.told.1 h.1))
-
-pub test-returns-in_err-ends_test-2-clause-told : goal.test-returns-in_err-ends_test-2-clause-told
-test-returns-in_err-ends_test-2-clause-told t c =
-    let p = err_from_is_err_and c.from_residual-in_err-ends_test-2.result c.from_residual-in_err-ends_test-2.ensures.1 in rw (p.1, p.2)
-    (let h = c.in_err-ends_test-2.ensures in let k = c.in_ok-expect.ensures.told in syntax_told tree_of Test 3 c.args.levels c.args.p.now c.expect.new.self _ h.0
-    (parts.asked_not_refuses (parts.asked_not_read (parts.asking_not_read (parts.asking_read c.in_ok-first.ensures.told.0 (moved_reads c.args.p.now c.sum.new.p c.in_ok-first.ensures.keeps (one_read c.sum.new.p c.advance-2.new.self c.args.levels c.if-not-is.ensures c.advance-2.ensures.token))) (moved_reads c.args.p.now c.advance-2.new.self (kept_on c.args.p.now c.sum.new.p c.advance-2.new.self c.in_ok-first.ensures.keeps c.advance-2.ensures.keeps) (one_read c.advance-2.new.self c.advance-then-is.new.self c.args.levels c.if-is.ensures c.advance-then-is.ensures.token))) (moved_reads c.args.p.now c.advance-then-is.new.self (kept_on c.args.p.now c.advance-2.new.self c.advance-then-is.new.self (kept_on c.args.p.now c.sum.new.p c.advance-2.new.self c.in_ok-first.ensures.keeps c.advance-2.ensures.keeps) c.advance-then-is.ensures.keeps) (one_read c.advance-then-is.new.self c.expect.new.self c.args.levels k.0 k.1))) h.1))
-
-pub test-returns-in_err-ends_test-3-clause-told : goal.test-returns-in_err-ends_test-3-clause-told
-test-returns-in_err-ends_test-3-clause-told t c =
-    let p = err_from_is_err_and c.from_residual-in_err-ends_test-3.result c.from_residual-in_err-ends_test-3.ensures.1 in rw (p.1, p.2)
-    (let h = c.in_err-ends_test-3.ensures in let k = c.in_ok-expect-2.ensures.told in syntax_told tree_of Test 3 c.args.levels c.args.p.now c.expect-2.new.self _ h.0
-    (parts.asked_refuses (parts.asked_read (parts.asking_read c.in_ok-first.ensures.told.0 (moved_reads c.args.p.now c.sum.new.p c.in_ok-first.ensures.keeps (one_read c.sum.new.p c.advance-2.new.self c.args.levels c.if-not-is.ensures c.advance-2.ensures.token))) (moved_reads c.args.p.now c.advance-2.new.self (kept_on c.args.p.now c.sum.new.p c.advance-2.new.self c.in_ok-first.ensures.keeps c.advance-2.ensures.keeps) (one_read c.advance-2.new.self c.expect-2.new.self c.args.levels k.0 k.1))) h.1))
+    let h = c.in_ok-not.ensures.told c.args.p.now c.args.levels (tree_of c.in_ok-first.first) c.in_ok-first.ensures.keeps c.in_ok-first.ensures.told.0 in
+    (subst (λ u. Reads Test c.args.levels u c.args.p.now.text.now c.args.p.now.at c.asks.new.p.at) (sym c.in_ok-asked.ensures) h.0, h.1)

@@ -6,27 +6,36 @@ use Rattle.mg_sql.specs.Ends.{Ends}
 use Rattle.mg_sql.proofs.ExprParts.{TermSoFar, SumsSoFar, ConjSoFar, ExprSoFar}
 use Rattle.mg_sql.proofs.expr.+expression.Given as goal
 
--- a level has eight rules: each calls the next, and the last opens a level
+-- a level has nine rules: each calls the next, and the last opens a level
+abbrev pub decreases-negated : goal.decreases-negated
+decreases-negated l = 16 * l.levels + 0
+
+abbrev pub decreases-enclosed : goal.decreases-enclosed
+decreases-enclosed l = 16 * l.levels + 0
+
 abbrev pub decreases-factor : goal.decreases-factor
-decreases-factor l = 8 * l.levels + 0
+decreases-factor l = 16 * l.levels + 1
 
 abbrev pub decreases-term : goal.decreases-term
-decreases-term l = 8 * l.levels + 1
+decreases-term l = 16 * l.levels + 2
 
 abbrev pub decreases-sum : goal.decreases-sum
-decreases-sum l = 8 * l.levels + 2
+decreases-sum l = 16 * l.levels + 3
+
+abbrev pub decreases-second_sum : goal.decreases-second_sum
+decreases-second_sum l = 16 * l.levels + 4
 
 abbrev pub decreases-test : goal.decreases-test
-decreases-test l = 8 * l.levels + 3
+decreases-test l = 16 * l.levels + 5
 
 abbrev pub decreases-neg : goal.decreases-neg
-decreases-neg l = 8 * l.levels + 4
+decreases-neg l = 16 * l.levels + 6
 
 abbrev pub decreases-conj : goal.decreases-conj
-decreases-conj l = 8 * l.levels + 5
+decreases-conj l = 16 * l.levels + 7
 
 abbrev pub decreases-expr : goal.decreases-expr
-decreases-expr l = 8 * l.levels + 6
+decreases-expr l = 16 * l.levels + 8
 
 -- the parts so far were read, and a part ends here
 abbrev pub invariant-term-loop-inverse : goal.invariant-term-loop-inverse

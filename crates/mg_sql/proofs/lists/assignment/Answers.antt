@@ -19,20 +19,32 @@ use Rattle.mg_sql.proofs.Moves.{derives_on, fails_on, goes_on, turned, turn_left
 use Rattle.mg_sql.proofs.Steps.{kept_on, kept}
 use Rattle.mg_sql.proofs.lists.assignment.Goals as goal
 
+pub returns-in_err-column-clause-keeps : goal.returns-in_err-column-clause-keeps
+returns-in_err-column-clause-keeps c = c.in_err-column.ensures.keeps
+
 pub returns-in_err-column-clause-told : goal.returns-in_err-column-clause-told
 returns-in_err-column-clause-told c then_ closes =
     let p = err_from_is_err_and c.from_residual.result c.from_residual.ensures.1 in rw (p.1, p.2)
     (c.in_err-column.ensures.told _)
+
+pub returns-in_err-expect-clause-keeps : goal.returns-in_err-expect-clause-keeps
+returns-in_err-expect-clause-keeps c = kept_on _ _ _ c.in_ok-column.ensures.keeps c.in_err-expect.ensures.keeps
 
 pub returns-in_err-expect-clause-told : goal.returns-in_err-expect-clause-told
 returns-in_err-expect-clause-told c then_ closes =
     let p = err_from_is_err_and c.from_residual-in_err-expect.result c.from_residual-in_err-expect.ensures.1 in rw (p.1, p.2)
     (fails_on (c.in_ok-column.ensures.told _) c.in_err-expect.ensures.keeps _ (word_wrong _ c.name.new.p c.expect.new.self _ c.in_err-expect.ensures.told))
 
+pub returns-in_err-value-clause-keeps : goal.returns-in_err-value-clause-keeps
+returns-in_err-value-clause-keeps c = kept_on _ _ _ (kept_on _ _ _ c.in_ok-column.ensures.keeps c.in_ok-expect.ensures.keeps) c.in_err-value.ensures.keeps
+
 pub returns-in_err-value-clause-told : goal.returns-in_err-value-clause-told
 returns-in_err-value-clause-told c then_ closes =
     let p = err_from_is_err_and c.from_residual-in_err-value.result c.from_residual-in_err-value.ensures.1 in rw (p.1, p.2)
     (fails_on (derives_on (c.in_ok-column.ensures.told _) (expected c.name.new.p c.expect.new.self c.in_ok-expect.ensures.keeps c.in_ok-expect.ensures.told)) c.in_err-value.ensures.keeps _ (c.in_err-value.ensures.told (λ value. then_ (c.in_ok-column.column, value)) (λ value. closes (c.in_ok-column.column, value))))
+
+pub returns-clause-keeps : goal.returns-clause-keeps
+returns-clause-keeps c = kept_on _ _ _ (kept_on _ _ _ c.in_ok-column.ensures.keeps c.in_ok-expect.ensures.keeps) c.in_ok-value.ensures.keeps
 
 pub returns-clause-told : goal.returns-clause-told
 returns-clause-told c then_ closes =

@@ -19,6 +19,9 @@ use Rattle.mg_sql.proofs.Moves.{derives_on, fails_on, goes_on, turned, turn_left
 use Rattle.mg_sql.proofs.Steps.{kept_on, kept}
 use Rattle.mg_sql.proofs.lists.names.Goals as goal
 
+pub returns-in_err-first-clause-keeps : goal.returns-in_err-first-clause-keeps
+returns-in_err-first-clause-keeps c = c.in_err-first.ensures.keeps
+
 pub returns-in_err-first-clause-told : goal.returns-in_err-first-clause-told
 returns-in_err-first-clause-told c then_ closes =
     let p = err_from_is_err_and c.from_residual.result c.from_residual.ensures.1 in rw (p.1, p.2)
@@ -45,10 +48,16 @@ loop-p-preserved c = record {
 pub loop-p-smaller : goal.loop-p-smaller
 loop-p-smaller c = moves.behind_comma c.loop-p.p c.takes.new.self c.name-in-loop-p.new.p c.loop-p.invariant.keeps.ready c.loop-p-test.ensures.keeps c.loop-p-test.ensures.told c.in_ok-next.ensures.keeps
 
+pub returns-in_err-next-clause-keeps : goal.returns-in_err-next-clause-keeps
+returns-in_err-next-clause-keeps c = kept_on _ _ _ (kept_on _ _ _ c.loop-p.invariant.keeps c.loop-p-test.ensures.keeps) c.in_err-next.ensures.keeps
+
 pub returns-in_err-next-clause-told : goal.returns-in_err-next-clause-told
 returns-in_err-next-clause-told c then_ closes =
     let p = err_from_is_err_and c.from_residual-in_err-next.result c.from_residual-in_err-next.ensures.1 in rw (p.1, p.2)
     (fails_on (moves.list_comma (g.names) then_ (c.loop-p.names.items) c.args.p.now c.loop-p.p c.takes.new.self c.loop-p-test.ensures.keeps c.loop-p-test.ensures.told (closes (c.loop-p.names.items)) (c.loop-p.invariant.read then_ closes)) c.in_err-next.ensures.keeps _ (c.in_err-next.ensures.told (λ x. behind (g.names) (λ ys. then_ (c.loop-p.names.items ++ ys)) (x ∷ []))))
+
+pub returns-clause-keeps : goal.returns-clause-keeps
+returns-clause-keeps c = kept_on _ _ _ c.loop-p.invariant.keeps c.loop-p-test.ensures.keeps
 
 pub returns-clause-told : goal.returns-clause-told
 returns-clause-told c then_ closes =

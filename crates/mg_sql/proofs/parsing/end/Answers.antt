@@ -21,8 +21,14 @@ use Rattle.mg_sql.proofs.Whole.{end_read, end_wrong}
 use Rattle.mg_sql.proofs.Steps.{binds_six}
 use Rattle.mg_sql.proofs.parsing.end.Goals as goal
 
+pub returns-then-not-is-clause-keeps : goal.returns-then-not-is-clause-keeps
+returns-then-not-is-clause-keeps c = c.takes.ensures.keeps
+
 pub returns-then-not-is-clause-told : goal.returns-then-not-is-clause-told
 returns-then-not-is-clause-told c s = end_wrong s c.args.p.now c.takes.new.self c.requires.ready c.takes.ensures.keeps c.takes.result c.takes.ensures.told c.if-not-is.ensures _ c.syntax.ensures
+
+pub returns-clause-keeps : goal.returns-clause-keeps
+returns-clause-keeps c = c.takes.ensures.keeps
 
 pub returns-clause-told : goal.returns-clause-told
 returns-clause-told c s = (end_read s c.args.p.now c.takes.new.self c.requires.ready c.takes.ensures.keeps c.takes.result c.takes.ensures.told c.if-not-is.ensures, binds_six _)

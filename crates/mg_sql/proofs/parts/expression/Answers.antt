@@ -27,5 +27,8 @@ told_expression : (within : Bool) (levels : ℕ) (old new : Parser) → g.shift 
 told_expression within levels old new enough keeps (Ok e) told then_ closes = moves.expression_read then_ levels old new (tree_of e) closes enough keeps told.0 told.1
 told_expression within levels old new enough keeps (Err e) told then_ closes = moves.expression_fails within then_ levels old new closes enough e told
 
+pub returns-clause-keeps : goal.returns-clause-keeps
+returns-clause-keeps c = c.expr.ensures.keeps
+
 pub returns-clause-told : goal.returns-clause-told
 returns-clause-told c then_ closes = told_expression c.args.within c.levels.result c.args.p.now c.expr.new.p c.levels.ensures c.expr.ensures.keeps c.expr.result c.expr.ensures.told then_ closes

@@ -17,5 +17,8 @@ told_name : (then_ : List ℕ → Rest) (old new : Parser) → Keeps old new →
 told_name then_ old new keeps same (Ok w) told = name_read old new w keeps same told.0 told.1 told.2
 told_name then_ old new keeps same (Err e) told = name_long then_ old new e same told
 
+pub returns-clause-keeps : goal.returns-clause-keeps
+returns-clause-keeps c = c.name.ensures.keeps
+
 pub returns-clause-told : goal.returns-clause-told
 returns-clause-told c then_ = told_name then_ c.args.p.now c.name.new.self c.name.ensures.keeps c.if-not-is.ensures c.name.result c.name.ensures.told

@@ -19,14 +19,23 @@ use Rattle.mg_sql.proofs.Moves.{derives_on, fails_on, goes_on, turned, turn_left
 use Rattle.mg_sql.proofs.Steps.{kept_on, kept}
 use Rattle.mg_sql.proofs.selecting.results.Goals as goal
 
+pub returns-then-takes-clause-keeps : goal.returns-then-takes-clause-keeps
+returns-then-takes-clause-keeps c = c.if-takes.ensures.keeps
+
 pub returns-then-takes-clause-told : goal.returns-then-takes-clause-told
 returns-then-takes-clause-told c then_ closes =
     took_left c.args.p.now c.takes.new.self c.requires.ready c.if-takes.ensures.keeps c.if-takes.ensures.told (never_by moves.no_star (g.list (g.expressions false) (λ values. then_ (Some values))) refl refl)
+
+pub returns-in_err-values-clause-keeps : goal.returns-in_err-values-clause-keeps
+returns-in_err-values-clause-keeps c = kept_on _ _ _ c.if-takes.ensures.keeps c.in_err-values.ensures.keeps
 
 pub returns-in_err-values-clause-told : goal.returns-in_err-values-clause-told
 returns-in_err-values-clause-told c then_ closes =
     let p = err_from_is_err_and c.from_residual.result c.from_residual.ensures.1 in rw (p.1, p.2)
     (fails_on (passed c.args.p.now c.takes.new.self c.requires.ready c.if-takes.ensures.told) c.in_err-values.ensures.keeps _ (c.in_err-values.ensures.told (λ values. then_ (Some values)) (λ values. closes (Some values))))
+
+pub returns-clause-keeps : goal.returns-clause-keeps
+returns-clause-keeps c = kept_on _ _ _ c.if-takes.ensures.keeps c.in_ok-values.ensures.keeps
 
 pub returns-clause-told : goal.returns-clause-told
 returns-clause-told c then_ closes =

@@ -14,36 +14,55 @@ use Rattle.mg_sql.specs.Statements as g
 use Rattle.mg_sql.specs.Statements.{Rest, item, behind}
 use Rattle.mg_sql.specs.Reading.{IsReady, Keeps, Told, Fails, Takes_, Expects, TellsName, TellsSize}
 use Rattle.mg_sql.specs.Going.{Spelled, Derives, Goes, Never, begins_in, behind_item, behind_list}
+use Rattle.mg_sql.proofs.KindNumbers.{apart}
 use Rattle.mg_sql.proofs.Moves as moves
 use Rattle.mg_sql.proofs.Moves.{derives_on, fails_on, goes_on, turned, turn_left, turn_right, turn_on, never_word, never_either, never_name, never_finish, never_by, expected, word_wrong, took_left, taken_word, passed, optional_read, wrong}
 use Rattle.mg_sql.proofs.Steps.{kept_on, kept}
 use Rattle.mg_sql.proofs.selecting.rows.Goals as goal
+
+pub returns-in_err-values-clause-keeps : goal.returns-in_err-values-clause-keeps
+returns-in_err-values-clause-keeps c = c.in_err-values.ensures.keeps
 
 pub returns-in_err-values-clause-told : goal.returns-in_err-values-clause-told
 returns-in_err-values-clause-told c =
     let p = err_from_is_err_and c.from_residual.result c.from_residual.ensures.1 in rw (p.1, p.2)
     (c.in_err-values.ensures.told g.selected (λ values. refl))
 
+pub returns-in_err-expect-clause-keeps : goal.returns-in_err-expect-clause-keeps
+returns-in_err-expect-clause-keeps c = kept_on _ _ _ c.in_ok-values.ensures.keeps c.in_err-expect.ensures.keeps
+
 pub returns-in_err-expect-clause-told : goal.returns-in_err-expect-clause-told
 returns-in_err-expect-clause-told c =
     let p = err_from_is_err_and c.from_residual-in_err-expect.result c.from_residual-in_err-expect.ensures.1 in rw (p.1, p.2)
     (fails_on (c.in_ok-values.ensures.told g.selected (λ values. refl)) c.in_err-expect.ensures.keeps _ (word_wrong _ c.results.new.p c.expect.new.self _ c.in_err-expect.ensures.told))
+
+pub returns-in_err-table-clause-keeps : goal.returns-in_err-table-clause-keeps
+returns-in_err-table-clause-keeps c = kept_on _ _ _ (kept_on _ _ _ c.in_ok-values.ensures.keeps c.in_ok-expect.ensures.keeps) c.in_err-table.ensures.keeps
 
 pub returns-in_err-table-clause-told : goal.returns-in_err-table-clause-told
 returns-in_err-table-clause-told c =
     let p = err_from_is_err_and c.from_residual-in_err-table.result c.from_residual-in_err-table.ensures.1 in rw (p.1, p.2)
     (fails_on (derives_on (c.in_ok-values.ensures.told g.selected (λ values. refl)) (expected c.results.new.p c.expect.new.self c.in_ok-expect.ensures.keeps c.in_ok-expect.ensures.told)) c.in_err-table.ensures.keeps _ (c.in_err-table.ensures.told _))
 
+pub returns-in_err-filter-clause-keeps : goal.returns-in_err-filter-clause-keeps
+returns-in_err-filter-clause-keeps c = kept_on _ _ _ (kept_on _ _ _ (kept_on _ _ _ c.in_ok-values.ensures.keeps c.in_ok-expect.ensures.keeps) c.in_ok-table.ensures.keeps) c.in_err-filter.ensures.keeps
+
 pub returns-in_err-filter-clause-told : goal.returns-in_err-filter-clause-told
 returns-in_err-filter-clause-told c =
     let p = err_from_is_err_and c.from_residual-in_err-filter.result c.from_residual-in_err-filter.ensures.1 in rw (p.1, p.2)
-    (fails_on (derives_on (derives_on (c.in_ok-values.ensures.told g.selected (λ values. refl)) (expected c.results.new.p c.expect.new.self c.in_ok-expect.ensures.keeps c.in_ok-expect.ensures.told)) (c.in_ok-table.ensures.told _)) c.in_err-filter.ensures.keeps _ (c.in_err-filter.ensures.told (λ e. g.order (λ sorted. g.finish (plain.Select c.in_ok-table.table (trees_in c.in_ok-values.values) e sorted))) (λ e. refl) (never_either (never_word (λ e. absurd cc)) (never_finish (λ e. absurd cc) (λ e. absurd cc)))))
+    (fails_on (derives_on (derives_on (c.in_ok-values.ensures.told g.selected (λ values. refl)) (expected c.results.new.p c.expect.new.self c.in_ok-expect.ensures.keeps c.in_ok-expect.ensures.told)) (c.in_ok-table.ensures.told _)) c.in_err-filter.ensures.keeps _ (c.in_err-filter.ensures.told (λ e. g.order (λ sorted. g.finish (plain.Select c.in_ok-table.table (trees_in c.in_ok-values.values) e sorted))) (λ e. refl) (never_either (never_word (apart refl)) (never_finish (apart refl) (apart refl)))))
+
+pub returns-in_err-sorted-clause-keeps : goal.returns-in_err-sorted-clause-keeps
+returns-in_err-sorted-clause-keeps c = kept_on _ _ _ (kept_on _ _ _ (kept_on _ _ _ (kept_on _ _ _ c.in_ok-values.ensures.keeps c.in_ok-expect.ensures.keeps) c.in_ok-table.ensures.keeps) c.in_ok-filter.ensures.keeps) c.in_err-sorted.ensures.keeps
 
 pub returns-in_err-sorted-clause-told : goal.returns-in_err-sorted-clause-told
 returns-in_err-sorted-clause-told c =
     let p = err_from_is_err_and c.from_residual-in_err-sorted.result c.from_residual-in_err-sorted.ensures.1 in rw (p.1, p.2)
-    (fails_on (derives_on (derives_on (derives_on (c.in_ok-values.ensures.told g.selected (λ values. refl)) (expected c.results.new.p c.expect.new.self c.in_ok-expect.ensures.keeps c.in_ok-expect.ensures.told)) (c.in_ok-table.ensures.told _)) (c.in_ok-filter.ensures.told (λ e. g.order (λ sorted. g.finish (plain.Select c.in_ok-table.table (trees_in c.in_ok-values.values) e sorted))) (λ e. refl) (never_either (never_word (λ e. absurd cc)) (never_finish (λ e. absurd cc) (λ e. absurd cc))))) c.in_err-sorted.ensures.keeps _ (c.in_err-sorted.ensures.told (λ sorted. g.finish (plain.Select c.in_ok-table.table (trees_in c.in_ok-values.values) (tree_in c.in_ok-filter.filter) sorted)) (never_finish (λ e. absurd cc) (λ e. absurd cc)) (λ sorted. (never_finish (λ e. absurd cc) (λ e. absurd cc))) (λ sorted. (never_finish (λ e. absurd cc) (λ e. absurd cc)))))
+    (fails_on (derives_on (derives_on (derives_on (c.in_ok-values.ensures.told g.selected (λ values. refl)) (expected c.results.new.p c.expect.new.self c.in_ok-expect.ensures.keeps c.in_ok-expect.ensures.told)) (c.in_ok-table.ensures.told _)) (c.in_ok-filter.ensures.told (λ e. g.order (λ sorted. g.finish (plain.Select c.in_ok-table.table (trees_in c.in_ok-values.values) e sorted))) (λ e. refl) (never_either (never_word (apart refl)) (never_finish (apart refl) (apart refl))))) c.in_err-sorted.ensures.keeps _ (c.in_err-sorted.ensures.told (λ sorted. g.finish (plain.Select c.in_ok-table.table (trees_in c.in_ok-values.values) (tree_in c.in_ok-filter.filter) sorted)) (never_finish (apart refl) (apart refl)) (λ sorted. (never_finish (apart refl) (apart refl))) (λ sorted. (never_finish (apart refl) (apart refl)))))
+
+pub returns-clause-keeps : goal.returns-clause-keeps
+returns-clause-keeps c = kept_on _ _ _ (kept_on _ _ _ (kept_on _ _ _ (kept_on _ _ _ c.in_ok-values.ensures.keeps c.in_ok-expect.ensures.keeps) c.in_ok-table.ensures.keeps) c.in_ok-filter.ensures.keeps) c.in_ok-sorted.ensures.keeps
 
 pub returns-clause-told : goal.returns-clause-told
 returns-clause-told c =
-    derives_on (derives_on (derives_on (derives_on (c.in_ok-values.ensures.told g.selected (λ values. refl)) (expected c.results.new.p c.expect.new.self c.in_ok-expect.ensures.keeps c.in_ok-expect.ensures.told)) (c.in_ok-table.ensures.told _)) (c.in_ok-filter.ensures.told (λ e. g.order (λ sorted. g.finish (plain.Select c.in_ok-table.table (trees_in c.in_ok-values.values) e sorted))) (λ e. refl) (never_either (never_word (λ e. absurd cc)) (never_finish (λ e. absurd cc) (λ e. absurd cc))))) (c.in_ok-sorted.ensures.told (λ sorted. g.finish (plain.Select c.in_ok-table.table (trees_in c.in_ok-values.values) (tree_in c.in_ok-filter.filter) sorted)) (never_finish (λ e. absurd cc) (λ e. absurd cc)) (λ sorted. (never_finish (λ e. absurd cc) (λ e. absurd cc))) (λ sorted. (never_finish (λ e. absurd cc) (λ e. absurd cc))))
+    derives_on (derives_on (derives_on (derives_on (c.in_ok-values.ensures.told g.selected (λ values. refl)) (expected c.results.new.p c.expect.new.self c.in_ok-expect.ensures.keeps c.in_ok-expect.ensures.told)) (c.in_ok-table.ensures.told _)) (c.in_ok-filter.ensures.told (λ e. g.order (λ sorted. g.finish (plain.Select c.in_ok-table.table (trees_in c.in_ok-values.values) e sorted))) (λ e. refl) (never_either (never_word (apart refl)) (never_finish (apart refl) (apart refl))))) (c.in_ok-sorted.ensures.told (λ sorted. g.finish (plain.Select c.in_ok-table.table (trees_in c.in_ok-values.values) (tree_in c.in_ok-filter.filter) sorted)) (never_finish (apart refl) (apart refl)) (λ sorted. (never_finish (apart refl) (apart refl))) (λ sorted. (never_finish (apart refl) (apart refl))))

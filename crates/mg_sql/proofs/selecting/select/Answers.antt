@@ -19,18 +19,30 @@ use Rattle.mg_sql.proofs.Moves.{derives_on, fails_on, goes_on, turned, turn_left
 use Rattle.mg_sql.proofs.Steps.{kept_on, kept}
 use Rattle.mg_sql.proofs.selecting.select.Goals as goal
 
+pub returns-in_err-expect-clause-keeps : goal.returns-in_err-expect-clause-keeps
+returns-in_err-expect-clause-keeps c = c.in_err-expect.ensures.keeps
+
 pub returns-in_err-expect-clause-told : goal.returns-in_err-expect-clause-told
 returns-in_err-expect-clause-told c =
     let p = err_from_is_err_and c.from_residual.result c.from_residual.ensures.1 in rw (p.1, p.2)
     (word_wrong _ c.args.p.now c.expect.new.self _ c.in_err-expect.ensures.told)
 
+pub returns-then-is-clause-keeps : goal.returns-then-is-clause-keeps
+returns-then-is-clause-keeps c = kept_on _ _ _ c.in_ok-expect.ensures.keeps c.totalled.ensures.keeps
+
 pub returns-then-is-clause-told : goal.returns-then-is-clause-told
 returns-then-is-clause-told c =
     goes_on plain_of g.finish (derives_on (expected c.args.p.now c.expect.new.self c.in_ok-expect.ensures.keeps c.in_ok-expect.ensures.told) (turned c.in_ok-expect.ensures.keeps.ready (turn_left (subst (λ k. Never (g.results g.selected) k) (sym c.if-is.ensures) (never_by moves.no_totals (g.results g.selected) refl refl))))) c.totalled.ensures.keeps c.totalled.result c.totalled.ensures.told
 
+pub returns-then-is-2-clause-keeps : goal.returns-then-is-2-clause-keeps
+returns-then-is-2-clause-keeps c = kept_on _ _ _ c.in_ok-expect.ensures.keeps c.totalled-then-is-2.ensures.keeps
+
 pub returns-then-is-2-clause-told : goal.returns-then-is-2-clause-told
 returns-then-is-2-clause-told c =
     goes_on plain_of g.finish (derives_on (expected c.args.p.now c.expect.new.self c.in_ok-expect.ensures.keeps c.in_ok-expect.ensures.told) (turned c.in_ok-expect.ensures.keeps.ready (turn_left (subst (λ k. Never (g.results g.selected) k) (sym c.if-is-2.ensures) (never_by moves.no_totals (g.results g.selected) refl refl))))) c.totalled-then-is-2.ensures.keeps c.totalled-then-is-2.result c.totalled-then-is-2.ensures.told
+
+pub returns-clause-keeps : goal.returns-clause-keeps
+returns-clause-keeps c = kept_on _ _ _ c.in_ok-expect.ensures.keeps c.rows.ensures.keeps
 
 pub returns-clause-told : goal.returns-clause-told
 returns-clause-told c =

@@ -14,27 +14,43 @@ use Rattle.mg_sql.specs.Statements as g
 use Rattle.mg_sql.specs.Statements.{Rest, item, behind}
 use Rattle.mg_sql.specs.Reading.{IsReady, Keeps, Told, Fails, Takes_, Expects, TellsName, TellsSize}
 use Rattle.mg_sql.specs.Going.{Spelled, Derives, Goes, Never, begins_in, behind_item, behind_list}
+use Rattle.mg_sql.proofs.KindNumbers.{apart}
 use Rattle.mg_sql.proofs.Moves as moves
 use Rattle.mg_sql.proofs.Moves.{derives_on, fails_on, goes_on, turned, turn_left, turn_right, turn_on, never_word, never_either, never_name, never_finish, never_by, expected, word_wrong, took_left, taken_word, passed, optional_read, wrong}
 use Rattle.mg_sql.proofs.Steps.{kept_on, kept}
 use Rattle.mg_sql.proofs.transactions.isolation.Goals as goal
 
+pub returns-in_err-expect-clause-keeps : goal.returns-in_err-expect-clause-keeps
+returns-in_err-expect-clause-keeps c = kept_on _ _ _ c.if-takes.ensures.keeps c.in_err-expect.ensures.keeps
+
 pub returns-in_err-expect-clause-told : goal.returns-in_err-expect-clause-told
 returns-in_err-expect-clause-told c then_ no_isolation no_snapshot no_read =
     let p = err_from_is_err_and c.from_residual.result c.from_residual.ensures.1 in rw (p.1, p.2)
-    (fails_on (took_left c.args.p.now c.takes.new.self c.requires.ready c.if-takes.ensures.keeps c.if-takes.ensures.told (never_either (never_either (never_word (λ e. absurd cc)) (never_word (λ e. absurd cc))) no_isolation)) c.in_err-expect.ensures.keeps _ (word_wrong _ c.takes.new.self c.expect.new.self _ c.in_err-expect.ensures.told))
+    (fails_on (took_left c.args.p.now c.takes.new.self c.requires.ready c.if-takes.ensures.keeps c.if-takes.ensures.told (never_either (never_either (never_word (apart refl)) (never_word (apart refl))) no_isolation)) c.in_err-expect.ensures.keeps _ (word_wrong _ c.takes.new.self c.expect.new.self _ c.in_err-expect.ensures.told))
+
+pub returns-then-takes-clause-keeps : goal.returns-then-takes-clause-keeps
+returns-then-takes-clause-keeps c = kept_on _ _ _ (kept_on _ _ _ c.if-takes.ensures.keeps c.in_ok-expect.ensures.keeps) c.level.ensures.keeps
 
 pub returns-then-takes-clause-told : goal.returns-then-takes-clause-told
 returns-then-takes-clause-told c then_ no_isolation no_snapshot no_read =
-    goes_on (λ snapshot. snapshot) then_ (derives_on (took_left c.args.p.now c.takes.new.self c.requires.ready c.if-takes.ensures.keeps c.if-takes.ensures.told (never_either (never_either (never_word (λ e. absurd cc)) (never_word (λ e. absurd cc))) no_isolation)) (expected c.takes.new.self c.expect.new.self c.in_ok-expect.ensures.keeps c.in_ok-expect.ensures.told)) c.level.ensures.keeps c.level.result (c.level.ensures.told then_)
+    goes_on (λ snapshot. snapshot) then_ (derives_on (took_left c.args.p.now c.takes.new.self c.requires.ready c.if-takes.ensures.keeps c.if-takes.ensures.told (never_either (never_either (never_word (apart refl)) (never_word (apart refl))) no_isolation)) (expected c.takes.new.self c.expect.new.self c.in_ok-expect.ensures.keeps c.in_ok-expect.ensures.told)) c.level.ensures.keeps c.level.result (c.level.ensures.told then_)
+
+pub returns-then-is-clause-keeps : goal.returns-then-is-clause-keeps
+returns-then-is-clause-keeps c = kept_on _ _ _ c.if-takes.ensures.keeps c.level-then-is.ensures.keeps
 
 pub returns-then-is-clause-told : goal.returns-then-is-clause-told
 returns-then-is-clause-told c then_ no_isolation no_snapshot no_read =
     goes_on (λ snapshot. snapshot) then_ (derives_on (passed c.args.p.now c.takes.new.self c.requires.ready c.if-takes.ensures.told) (turned (moves.passed_ready c.args.p.now c.takes.new.self c.requires.ready c.if-takes.ensures.told) (turn_left (subst (λ k. Never (then_ true) k) (sym c.if-is.ensures) no_snapshot)))) c.level-then-is.ensures.keeps c.level-then-is.result (c.level-then-is.ensures.told then_)
 
+pub returns-then-is-2-clause-keeps : goal.returns-then-is-2-clause-keeps
+returns-then-is-2-clause-keeps c = kept_on _ _ _ c.if-takes.ensures.keeps c.level-then-is-2.ensures.keeps
+
 pub returns-then-is-2-clause-told : goal.returns-then-is-2-clause-told
 returns-then-is-2-clause-told c then_ no_isolation no_snapshot no_read =
     goes_on (λ snapshot. snapshot) then_ (derives_on (passed c.args.p.now c.takes.new.self c.requires.ready c.if-takes.ensures.told) (turned (moves.passed_ready c.args.p.now c.takes.new.self c.requires.ready c.if-takes.ensures.told) (turn_left (subst (λ k. Never (then_ true) k) (sym c.if-is-2.ensures) no_read)))) c.level-then-is-2.ensures.keeps c.level-then-is-2.result (c.level-then-is-2.ensures.told then_)
+
+pub returns-clause-keeps : goal.returns-clause-keeps
+returns-clause-keeps c = c.if-takes.ensures.keeps
 
 pub returns-clause-told : goal.returns-clause-told
 returns-clause-told c then_ no_isolation no_snapshot no_read =

@@ -14,21 +14,31 @@ use Rattle.mg_sql.specs.Statements as g
 use Rattle.mg_sql.specs.Statements.{Rest, item, behind}
 use Rattle.mg_sql.specs.Reading.{IsReady, Keeps, Told, Fails, Takes_, Expects, TellsName, TellsSize}
 use Rattle.mg_sql.specs.Going.{Spelled, Derives, Goes, Never, begins_in, behind_item, behind_list}
+use Rattle.mg_sql.proofs.KindNumbers.{apart}
 use Rattle.mg_sql.proofs.Moves as moves
 use Rattle.mg_sql.proofs.Moves.{derives_on, fails_on, goes_on, turned, turn_left, turn_right, turn_on, never_word, never_either, never_name, never_finish, never_by, expected, word_wrong, took_left, taken_word, passed, optional_read, wrong}
 use Rattle.mg_sql.proofs.Steps.{kept_on, kept}
 use Rattle.mg_sql.proofs.transactions.modes.Goals as goal
 
+pub returns-in_err-wait-clause-keeps : goal.returns-in_err-wait-clause-keeps
+returns-in_err-wait-clause-keeps c = c.in_err-wait.ensures.keeps
+
 pub returns-in_err-wait-clause-told : goal.returns-in_err-wait-clause-told
 returns-in_err-wait-clause-told c =
     let p = err_from_is_err_and c.from_residual.result c.from_residual.ensures.1 in rw (p.1, p.2)
-    (c.in_err-wait.ensures.told (λ wait. g.isolation (λ snapshot. g.finish (plain.SetTransaction c.args.read_only wait snapshot))) (never_either (never_word (λ e. absurd cc)) (never_either (never_either (never_word (λ e. absurd cc)) (never_word (λ e. absurd cc))) (never_finish (λ e. absurd cc) (λ e. absurd cc)))) (never_either (never_word (λ e. absurd cc)) (never_either (never_either (never_word (λ e. absurd cc)) (never_word (λ e. absurd cc))) (never_finish (λ e. absurd cc) (λ e. absurd cc)))))
+    (c.in_err-wait.ensures.told (λ wait. g.isolation (λ snapshot. g.finish (plain.SetTransaction c.args.read_only wait snapshot))) (never_either (never_word (apart refl)) (never_either (never_either (never_word (apart refl)) (never_word (apart refl))) (never_finish (apart refl) (apart refl)))) (never_either (never_word (apart refl)) (never_either (never_either (never_word (apart refl)) (never_word (apart refl))) (never_finish (apart refl) (apart refl)))))
+
+pub returns-in_err-snapshot-clause-keeps : goal.returns-in_err-snapshot-clause-keeps
+returns-in_err-snapshot-clause-keeps c = kept_on _ _ _ c.in_ok-wait.ensures.keeps c.in_err-snapshot.ensures.keeps
 
 pub returns-in_err-snapshot-clause-told : goal.returns-in_err-snapshot-clause-told
 returns-in_err-snapshot-clause-told c =
     let p = err_from_is_err_and c.from_residual-in_err-snapshot.result c.from_residual-in_err-snapshot.ensures.1 in rw (p.1, p.2)
-    (fails_on (c.in_ok-wait.ensures.told (λ wait. g.isolation (λ snapshot. g.finish (plain.SetTransaction c.args.read_only wait snapshot))) (never_either (never_word (λ e. absurd cc)) (never_either (never_either (never_word (λ e. absurd cc)) (never_word (λ e. absurd cc))) (never_finish (λ e. absurd cc) (λ e. absurd cc)))) (never_either (never_word (λ e. absurd cc)) (never_either (never_either (never_word (λ e. absurd cc)) (never_word (λ e. absurd cc))) (never_finish (λ e. absurd cc) (λ e. absurd cc))))) c.in_err-snapshot.ensures.keeps _ (c.in_err-snapshot.ensures.told (λ snapshot. g.finish (plain.SetTransaction c.args.read_only c.in_ok-wait.wait snapshot)) (never_finish (λ e. absurd cc) (λ e. absurd cc)) (never_finish (λ e. absurd cc) (λ e. absurd cc)) (never_finish (λ e. absurd cc) (λ e. absurd cc))))
+    (fails_on (c.in_ok-wait.ensures.told (λ wait. g.isolation (λ snapshot. g.finish (plain.SetTransaction c.args.read_only wait snapshot))) (never_either (never_word (apart refl)) (never_either (never_either (never_word (apart refl)) (never_word (apart refl))) (never_finish (apart refl) (apart refl)))) (never_either (never_word (apart refl)) (never_either (never_either (never_word (apart refl)) (never_word (apart refl))) (never_finish (apart refl) (apart refl))))) c.in_err-snapshot.ensures.keeps _ (c.in_err-snapshot.ensures.told (λ snapshot. g.finish (plain.SetTransaction c.args.read_only c.in_ok-wait.wait snapshot)) (never_finish (apart refl) (apart refl)) (never_finish (apart refl) (apart refl)) (never_finish (apart refl) (apart refl))))
+
+pub returns-clause-keeps : goal.returns-clause-keeps
+returns-clause-keeps c = kept_on _ _ _ c.in_ok-wait.ensures.keeps c.in_ok-snapshot.ensures.keeps
 
 pub returns-clause-told : goal.returns-clause-told
 returns-clause-told c =
-    derives_on (c.in_ok-wait.ensures.told (λ wait. g.isolation (λ snapshot. g.finish (plain.SetTransaction c.args.read_only wait snapshot))) (never_either (never_word (λ e. absurd cc)) (never_either (never_either (never_word (λ e. absurd cc)) (never_word (λ e. absurd cc))) (never_finish (λ e. absurd cc) (λ e. absurd cc)))) (never_either (never_word (λ e. absurd cc)) (never_either (never_either (never_word (λ e. absurd cc)) (never_word (λ e. absurd cc))) (never_finish (λ e. absurd cc) (λ e. absurd cc))))) (c.in_ok-snapshot.ensures.told (λ snapshot. g.finish (plain.SetTransaction c.args.read_only c.in_ok-wait.wait snapshot)) (never_finish (λ e. absurd cc) (λ e. absurd cc)) (never_finish (λ e. absurd cc) (λ e. absurd cc)) (never_finish (λ e. absurd cc) (λ e. absurd cc)))
+    derives_on (c.in_ok-wait.ensures.told (λ wait. g.isolation (λ snapshot. g.finish (plain.SetTransaction c.args.read_only wait snapshot))) (never_either (never_word (apart refl)) (never_either (never_either (never_word (apart refl)) (never_word (apart refl))) (never_finish (apart refl) (apart refl)))) (never_either (never_word (apart refl)) (never_either (never_either (never_word (apart refl)) (never_word (apart refl))) (never_finish (apart refl) (apart refl))))) (c.in_ok-snapshot.ensures.told (λ snapshot. g.finish (plain.SetTransaction c.args.read_only c.in_ok-wait.wait snapshot)) (never_finish (apart refl) (apart refl)) (never_finish (apart refl) (apart refl)) (never_finish (apart refl) (apart refl)))

@@ -14,25 +14,38 @@ use Rattle.mg_sql.specs.Statements as g
 use Rattle.mg_sql.specs.Statements.{Rest, item, behind}
 use Rattle.mg_sql.specs.Reading.{IsReady, Keeps, Told, Fails, Takes_, Expects, TellsName, TellsSize}
 use Rattle.mg_sql.specs.Going.{Spelled, Derives, Goes, Never, begins_in, behind_item, behind_list}
+use Rattle.mg_sql.proofs.KindNumbers.{apart}
 use Rattle.mg_sql.proofs.Moves as moves
 use Rattle.mg_sql.proofs.Moves.{derives_on, fails_on, goes_on, turned, turn_left, turn_right, turn_on, never_word, never_either, never_name, never_finish, never_by, expected, word_wrong, took_left, taken_word, passed, optional_read, wrong}
 use Rattle.mg_sql.proofs.Steps.{kept_on, kept}
 use Rattle.mg_sql.proofs.transactions.rollback.Goals as goal
+
+pub returns-in_err-expect-clause-keeps : goal.returns-in_err-expect-clause-keeps
+returns-in_err-expect-clause-keeps c = c.in_err-expect.ensures.keeps
 
 pub returns-in_err-expect-clause-told : goal.returns-in_err-expect-clause-told
 returns-in_err-expect-clause-told c =
     let p = err_from_is_err_and c.from_residual.result c.from_residual.ensures.1 in rw (p.1, p.2)
     (word_wrong _ c.args.p.now c.expect.new.self _ c.in_err-expect.ensures.told)
 
+pub returns-then-not-takes-clause-keeps : goal.returns-then-not-takes-clause-keeps
+returns-then-not-takes-clause-keeps c = kept_on _ _ _ (kept_on _ _ _ c.in_ok-expect.ensures.keeps c.takes.ensures.keeps) c.if-not-takes.ensures.keeps
+
 pub returns-then-not-takes-clause-told : goal.returns-then-not-takes-clause-told
 returns-then-not-takes-clause-told c =
-    derives_on (derives_on (expected c.args.p.now c.expect.new.self c.in_ok-expect.ensures.keeps c.in_ok-expect.ensures.told) (optional_read c.expect.new.self c.takes.new.self (c.in_ok-expect.ensures.keeps.ready) c.takes.ensures.keeps (never_either (never_word (λ e. absurd cc)) (never_finish (λ e. absurd cc) (λ e. absurd cc))) c.takes.result c.takes.ensures.told)) (passed c.takes.new.self c.takes-2.new.self c.takes.ensures.keeps.ready c.if-not-takes.ensures.told)
+    derives_on (derives_on (expected c.args.p.now c.expect.new.self c.in_ok-expect.ensures.keeps c.in_ok-expect.ensures.told) (optional_read c.expect.new.self c.takes.new.self (c.in_ok-expect.ensures.keeps.ready) c.takes.ensures.keeps (never_either (never_word (apart refl)) (never_finish (apart refl) (apart refl))) c.takes.result c.takes.ensures.told)) (passed c.takes.new.self c.takes-2.new.self c.takes.ensures.keeps.ready c.if-not-takes.ensures.told)
+
+pub returns-in_err-name-clause-keeps : goal.returns-in_err-name-clause-keeps
+returns-in_err-name-clause-keeps c = kept_on _ _ _ (kept_on _ _ _ (kept_on _ _ _ (kept_on _ _ _ c.in_ok-expect.ensures.keeps c.takes.ensures.keeps) c.if-not-takes.ensures.keeps) c.takes-3.ensures.keeps) c.in_err-name.ensures.keeps
 
 pub returns-in_err-name-clause-told : goal.returns-in_err-name-clause-told
 returns-in_err-name-clause-told c =
     let p = err_from_is_err_and c.from_residual-in_err-name.result c.from_residual-in_err-name.ensures.1 in rw (p.1, p.2)
-    (fails_on (derives_on (derives_on (derives_on (expected c.args.p.now c.expect.new.self c.in_ok-expect.ensures.keeps c.in_ok-expect.ensures.told) (optional_read c.expect.new.self c.takes.new.self (c.in_ok-expect.ensures.keeps.ready) c.takes.ensures.keeps (never_either (never_word (λ e. absurd cc)) (never_finish (λ e. absurd cc) (λ e. absurd cc))) c.takes.result c.takes.ensures.told)) (took_left c.takes.new.self c.takes-2.new.self c.takes.ensures.keeps.ready c.if-not-takes.ensures.keeps c.if-not-takes.ensures.told (never_finish (λ e. absurd cc) (λ e. absurd cc)))) (optional_read c.takes-2.new.self c.takes-3.new.self (c.if-not-takes.ensures.keeps.ready) c.takes-3.ensures.keeps (never_name (λ e. absurd cc)) c.takes-3.result c.takes-3.ensures.told)) c.in_err-name.ensures.keeps _ (c.in_err-name.ensures.told _))
+    (fails_on (derives_on (derives_on (derives_on (expected c.args.p.now c.expect.new.self c.in_ok-expect.ensures.keeps c.in_ok-expect.ensures.told) (optional_read c.expect.new.self c.takes.new.self (c.in_ok-expect.ensures.keeps.ready) c.takes.ensures.keeps (never_either (never_word (apart refl)) (never_finish (apart refl) (apart refl))) c.takes.result c.takes.ensures.told)) (took_left c.takes.new.self c.takes-2.new.self c.takes.ensures.keeps.ready c.if-not-takes.ensures.keeps c.if-not-takes.ensures.told (never_finish (apart refl) (apart refl)))) (optional_read c.takes-2.new.self c.takes-3.new.self (c.if-not-takes.ensures.keeps.ready) c.takes-3.ensures.keeps (never_name (apart refl)) c.takes-3.result c.takes-3.ensures.told)) c.in_err-name.ensures.keeps _ (c.in_err-name.ensures.told _))
+
+pub returns-clause-keeps : goal.returns-clause-keeps
+returns-clause-keeps c = kept_on _ _ _ (kept_on _ _ _ (kept_on _ _ _ (kept_on _ _ _ c.in_ok-expect.ensures.keeps c.takes.ensures.keeps) c.if-not-takes.ensures.keeps) c.takes-3.ensures.keeps) c.in_ok-name.ensures.keeps
 
 pub returns-clause-told : goal.returns-clause-told
 returns-clause-told c =
-    derives_on (derives_on (derives_on (derives_on (expected c.args.p.now c.expect.new.self c.in_ok-expect.ensures.keeps c.in_ok-expect.ensures.told) (optional_read c.expect.new.self c.takes.new.self (c.in_ok-expect.ensures.keeps.ready) c.takes.ensures.keeps (never_either (never_word (λ e. absurd cc)) (never_finish (λ e. absurd cc) (λ e. absurd cc))) c.takes.result c.takes.ensures.told)) (took_left c.takes.new.self c.takes-2.new.self c.takes.ensures.keeps.ready c.if-not-takes.ensures.keeps c.if-not-takes.ensures.told (never_finish (λ e. absurd cc) (λ e. absurd cc)))) (optional_read c.takes-2.new.self c.takes-3.new.self (c.if-not-takes.ensures.keeps.ready) c.takes-3.ensures.keeps (never_name (λ e. absurd cc)) c.takes-3.result c.takes-3.ensures.told)) (c.in_ok-name.ensures.told _)
+    derives_on (derives_on (derives_on (derives_on (expected c.args.p.now c.expect.new.self c.in_ok-expect.ensures.keeps c.in_ok-expect.ensures.told) (optional_read c.expect.new.self c.takes.new.self (c.in_ok-expect.ensures.keeps.ready) c.takes.ensures.keeps (never_either (never_word (apart refl)) (never_finish (apart refl) (apart refl))) c.takes.result c.takes.ensures.told)) (took_left c.takes.new.self c.takes-2.new.self c.takes.ensures.keeps.ready c.if-not-takes.ensures.keeps c.if-not-takes.ensures.told (never_finish (apart refl) (apart refl)))) (optional_read c.takes-2.new.self c.takes-3.new.self (c.if-not-takes.ensures.keeps.ready) c.takes-3.ensures.keeps (never_name (apart refl)) c.takes-3.result c.takes-3.ensures.told)) (c.in_ok-name.ensures.told _)

@@ -19,19 +19,31 @@ use Rattle.mg_sql.proofs.Moves.{derives_on, fails_on, goes_on, turned, turn_left
 use Rattle.mg_sql.proofs.Steps.{kept_on, kept}
 use Rattle.mg_sql.proofs.transactions.set_transaction.Goals as goal
 
+pub returns-in_err-expect-clause-keeps : goal.returns-in_err-expect-clause-keeps
+returns-in_err-expect-clause-keeps c = c.in_err-expect.ensures.keeps
+
 pub returns-in_err-expect-clause-told : goal.returns-in_err-expect-clause-told
 returns-in_err-expect-clause-told c =
     let p = err_from_is_err_and c.from_residual.result c.from_residual.ensures.1 in rw (p.1, p.2)
     (word_wrong _ c.args.p.now c.expect.new.self _ c.in_err-expect.ensures.told)
+
+pub returns-in_err-expect-2-clause-keeps : goal.returns-in_err-expect-2-clause-keeps
+returns-in_err-expect-2-clause-keeps c = kept_on _ _ _ c.in_ok-expect.ensures.keeps c.in_err-expect-2.ensures.keeps
 
 pub returns-in_err-expect-2-clause-told : goal.returns-in_err-expect-2-clause-told
 returns-in_err-expect-2-clause-told c =
     let p = err_from_is_err_and c.from_residual-in_err-expect-2.result c.from_residual-in_err-expect-2.ensures.1 in rw (p.1, p.2)
     (fails_on (expected c.args.p.now c.expect.new.self c.in_ok-expect.ensures.keeps c.in_ok-expect.ensures.told) c.in_err-expect-2.ensures.keeps _ (word_wrong _ c.expect.new.self c.expect-2.new.self _ c.in_err-expect-2.ensures.told))
 
+pub returns-then-takes-clause-keeps : goal.returns-then-takes-clause-keeps
+returns-then-takes-clause-keeps c = kept_on _ _ _ (kept_on _ _ _ (kept_on _ _ _ c.in_ok-expect.ensures.keeps c.in_ok-expect-2.ensures.keeps) c.if-takes.ensures.keeps) c.behind_read.ensures.keeps
+
 pub returns-then-takes-clause-told : goal.returns-then-takes-clause-told
 returns-then-takes-clause-told c =
     goes_on plain_of g.finish (derives_on (derives_on (expected c.args.p.now c.expect.new.self c.in_ok-expect.ensures.keeps c.in_ok-expect.ensures.told) (expected c.expect.new.self c.expect-2.new.self c.in_ok-expect-2.ensures.keeps c.in_ok-expect-2.ensures.told)) (moves.read_taken c.expect-2.new.self c.takes.new.self c.in_ok-expect-2.ensures.keeps.ready c.if-takes.ensures.keeps c.if-takes.ensures.told)) c.behind_read.ensures.keeps c.behind_read.result c.behind_read.ensures.told
+
+pub returns-clause-keeps : goal.returns-clause-keeps
+returns-clause-keeps c = kept_on _ _ _ (kept_on _ _ _ (kept_on _ _ _ c.in_ok-expect.ensures.keeps c.in_ok-expect-2.ensures.keeps) c.if-takes.ensures.keeps) c.modes.ensures.keeps
 
 pub returns-clause-told : goal.returns-clause-told
 returns-clause-told c =

@@ -14,23 +14,36 @@ use Rattle.mg_sql.specs.Statements as g
 use Rattle.mg_sql.specs.Statements.{Rest, item, behind}
 use Rattle.mg_sql.specs.Reading.{IsReady, Keeps, Told, Fails, Takes_, Expects, TellsName, TellsSize}
 use Rattle.mg_sql.specs.Going.{Spelled, Derives, Goes, Never, begins_in, behind_item, behind_list}
+use Rattle.mg_sql.proofs.KindNumbers.{apart}
 use Rattle.mg_sql.proofs.Moves as moves
 use Rattle.mg_sql.proofs.Moves.{derives_on, fails_on, goes_on, turned, turn_left, turn_right, turn_on, never_word, never_either, never_name, never_finish, never_by, expected, word_wrong, took_left, taken_word, passed, optional_read, wrong}
 use Rattle.mg_sql.proofs.Steps.{kept_on, kept}
 use Rattle.mg_sql.proofs.transactions.waiting.Goals as goal
 
+pub returns-then-takes-clause-keeps : goal.returns-then-takes-clause-keeps
+returns-then-takes-clause-keeps c = c.if-takes.ensures.keeps
+
 pub returns-then-takes-clause-told : goal.returns-then-takes-clause-told
 returns-then-takes-clause-told c then_ no_wait no_no =
-    took_left c.args.p.now c.takes.new.self c.requires.ready c.if-takes.ensures.keeps c.if-takes.ensures.told (never_either (never_word (λ e. absurd cc)) no_wait)
+    took_left c.args.p.now c.takes.new.self c.requires.ready c.if-takes.ensures.keeps c.if-takes.ensures.told (never_either (never_word (apart refl)) no_wait)
+
+pub returns-then-not-takes-clause-keeps : goal.returns-then-not-takes-clause-keeps
+returns-then-not-takes-clause-keeps c = kept_on _ _ _ c.if-takes.ensures.keeps c.if-not-takes.ensures.keeps
 
 pub returns-then-not-takes-clause-told : goal.returns-then-not-takes-clause-told
 returns-then-not-takes-clause-told c then_ no_wait no_no =
     derives_on (passed c.args.p.now c.takes.new.self c.requires.ready c.if-takes.ensures.told) (passed c.takes.new.self c.takes-2.new.self (moves.passed_ready c.args.p.now c.takes.new.self c.requires.ready c.if-takes.ensures.told) c.if-not-takes.ensures.told)
 
+pub returns-in_err-expect-clause-keeps : goal.returns-in_err-expect-clause-keeps
+returns-in_err-expect-clause-keeps c = kept_on _ _ _ (kept_on _ _ _ c.if-takes.ensures.keeps c.if-not-takes.ensures.keeps) c.in_err-expect.ensures.keeps
+
 pub returns-in_err-expect-clause-told : goal.returns-in_err-expect-clause-told
 returns-in_err-expect-clause-told c then_ no_wait no_no =
     let p = err_from_is_err_and c.from_residual.result c.from_residual.ensures.1 in rw (p.1, p.2)
     (fails_on (derives_on (passed c.args.p.now c.takes.new.self c.requires.ready c.if-takes.ensures.told) (took_left c.takes.new.self c.takes-2.new.self (moves.passed_ready c.args.p.now c.takes.new.self c.requires.ready c.if-takes.ensures.told) c.if-not-takes.ensures.keeps c.if-not-takes.ensures.told no_no)) c.in_err-expect.ensures.keeps _ (word_wrong _ c.takes-2.new.self c.expect.new.self _ c.in_err-expect.ensures.told))
+
+pub returns-clause-keeps : goal.returns-clause-keeps
+returns-clause-keeps c = kept_on _ _ _ (kept_on _ _ _ c.if-takes.ensures.keeps c.if-not-takes.ensures.keeps) c.in_ok-expect.ensures.keeps
 
 pub returns-clause-told : goal.returns-clause-told
 returns-clause-told c then_ no_wait no_no =
