@@ -9,7 +9,7 @@ use Rattle.mg_space.specs.declared.fault.SpaceFault.{SpaceFault}
 use Rattle.mg_space.specs.declared.fault.SpaceFault.TheVariants as faults
 use Rattle.mg_tip.specs.TipPage.{SetsState, places}
 use Rattle.mg_txlist.specs.declared.list.TxList.{TxList}
-use Rattle.mg_space.specs.View.{KeepsStore}
+use Rattle.mg_space.specs.View.{KeepsStore, ReadsAlone}
 use Rattle.mg_txlist.specs.Drawing.{FailsDraw, only_read}
 use Rattle.mg_txlist.specs.Ending.{ChangesBits, FailsCommit, FailsToSettle, SettlesPage, not_settled}
 use Rattle.mg_txlist.specs.TxList.{tip_in}
@@ -86,6 +86,8 @@ fails_commit m list before after t fault given page bytes is number sets fails =
 
 -- a drawing that fails has only read
 pub reads_alone : {D L T : Type 0} (m : Meaning D) (old new : Pool D L) (result : Result T SpaceFault)
-    → KeepsStore m old new → IfErr result (FailsDraw m old new)
-reads_alone m old new (Ok x) keeps = tt
-reads_alone m old new (Err fault) keeps = only_read fault keeps
+    → KeepsStore m old new → ReadsAlone result → IfErr result (FailsDraw m old new)
+reads_alone m old new (Ok x) keeps own = tt
+reads_alone m old new (Err (faults.Full limit)) keeps own = only_read (faults.Full limit) tt keeps
+reads_alone m old new (Err (faults.Damaged damage)) keeps own = only_read (faults.Damaged damage) tt keeps
+reads_alone m old new (Err (faults.Pool fault)) keeps own = only_read (faults.Pool fault) own keeps

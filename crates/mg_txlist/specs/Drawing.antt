@@ -21,7 +21,7 @@ use Rattle.mg_pool.specs.declared.pool.Pool.{Pool}
 use Rattle.mg_space.specs.declared.fault.SpaceFault.{SpaceFault}
 use Rattle.mg_space.specs.declared.fault.SpaceFault.TheVariants as faults
 use Rattle.mg_space.specs.Taking.{PutsInventory, TakesPage, region_of}
-use Rattle.mg_space.specs.View.{KeepsStore, Tells, viewed}
+use Rattle.mg_space.specs.View.{KeepsStore, ReadsAlone, Tells, viewed}
 use Rattle.mg_tip.specs.TipPage.{new_tip_page, places}
 use Rattle.mg_txlist.specs.declared.list.TipPage.{TipPage}
 use Rattle.mg_txlist.specs.declared.list.TxList.{TxList}
@@ -146,10 +146,11 @@ pub record DrawsIn {D L : Type 0} (m : Meaning D) (old new : TxList) (before aft
       (next_said old) (shown before.dirty image) (viewed before image batch) page batch.orders
   pub adds : AddsPage old new page
 
--- What a drawing leaves that is refused: it has only read, or it had read and then its batch was not
--- changed.
+-- What a drawing leaves that is refused: it has only read, and is refused as a reading is; or it had read and
+-- then its batch was not changed.
 pub data FailsDraw {D L : Type 0} (m : Meaning D) (old new : Pool D L) : SpaceFault → Type 0 where
-  only_read : (fault : SpaceFault) → KeepsStore m old new → FailsDraw m old new fault
+  only_read : (fault : SpaceFault) → ReadsAlone {T = Unit {0}} (Err fault) → KeepsStore m old new
+      → FailsDraw m old new fault
   not_changed : (ready : Pool D L) (fault : PoolFault) → KeepsStore m old ready
       → LeavesRefused {T = Unit {0}} m ready new (Err fault)
       → FailsDraw m old new (faults.Pool fault)

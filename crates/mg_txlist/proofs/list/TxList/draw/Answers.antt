@@ -1,4 +1,4 @@
-use Rattle.std.proofs.Common.{◌∙◌, subst, ℕ}
+use Rattle.std.proofs.Common.{rules, ◌∙◌, subst, ℕ}
 use Rattle.mg_pool.specs.Pool.{shown}
 use Rattle.mg_space.specs.View.{viewed}
 use Rattle.mg_txlist.specs.Drawing.{DrawsOn, IsTipFor, not_changed}
@@ -49,7 +49,8 @@ returns-in-Err-clause-left g c =
 pub returns-in_err-page-clause-left : goal.returns-in_err-page-clause-left
 returns-in_err-page-clause-left g c =
     reads_alone g.D.Disk.meaning c.args.store.now c.fill.new.store c.from_residual.result c.fill.ensures.keeps
+    (search rules)
 
 pub returns-in_err-add-clause-left : goal.returns-in_err-add-clause-left
 returns-in_err-add-clause-left g c = reads_alone g.D.Disk.meaning c.args.store.now c.fill.new.store
-    c.from_residual-in_err-add.result c.in_ok-page.ensures.keeps
+    c.from_residual-in_err-add.result c.in_ok-page.ensures.keeps (search rules)
