@@ -65,6 +65,15 @@ pub record Keeps {R P : Type 0} (m : Means R P) (old new : R) (refusal : Option 
 abbrev pub FaultsAreTold : {R P : Type 0} → Means R P → R → R → Option Refusal → Type 0
 FaultsAreTold m old new refusal = tells_fault refusal ≡ false → m.faults new ≡ m.faults old
 
+-- where it is told what a crash may leave, no page is found damaged
+abbrev pub FindsNoDamage : {R P : Type 0} → Means R P → R → R → Type 0
+FindsNoDamage m old new = m.tells old ≡ true → m.damage new ≡ m.damage old
+
+-- no page is found damaged in the call, where the keeper stood for a history and tells what a crash may
+-- leave
+abbrev pub MeetsNoDamage : {R P : Type 0} → Means R P → R → R → Type 0
+MeetsNoDamage m old new = (o : Opening) (h : Entries) → m.stands old o h → FindsNoDamage m old new
+
 -- a table that was given to a transaction is given to it still, but for one transaction, if one is
 -- named
 abbrev pub TablesStay : {R P : Type 0} → Means R P → R → R → Option ℕ → Type 0

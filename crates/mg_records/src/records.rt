@@ -6,7 +6,7 @@ ghost use Rattle.mg_model.specs.declared.event.Event.{Event};
 ghost use Rattle.mg_model.specs.Changes.{KeyedRows};
 ghost use Rattle.mg_model.specs.Catalog.{catalog_name};
 ghost use Rattle.mg_records.specs.Meaning.{Means};
-ghost use Rattle.mg_records.specs.Keeping.{FaultsAreTold, Leaves, Reads, refusal_in};
+ghost use Rattle.mg_records.specs.Keeping.{FaultsAreTold, Leaves, MeetsNoDamage, Reads, refusal_in};
 ghost use Rattle.mg_records.specs.Crashing.{CrashesHold, HoldsOn, LeavesQuietly, LeavesWith};
 ghost use Rattle.mg_records.specs.Sessions.{SessionsAreOne, SessionsStay, begun_in, ended_in, given_up_in};
 ghost use Rattle.mg_records.specs.Adding.{Adds, AnswersAll, fine_or, number_or, drawn_in};
@@ -46,6 +46,7 @@ pub trait Records {
         ensures adds { Adds meaning self.old self.new (Event.Begin session mode) (number_or result) }
         ensures leaves { Leaves meaning self.old self.new (refusal_in result) (drawn_in result) (drawn_in result) }
         ensures told { FaultsAreTold meaning self.old self.new (refusal_in result) }
+        ensures undamaged { MeetsNoDamage meaning self.old self.new }
         ensures crash { LeavesQuietly meaning self.old self.new }
         ensures sessions { SessionsStay meaning self.old self.new (begun_in session result) None }
         ensures works { IfOk result (λ t. meaning.works self.new t.0 session) };
@@ -55,6 +56,7 @@ pub trait Records {
         ensures adds { Adds meaning self.old self.new (Event.Look t) (fine_or result) }
         ensures leaves { Leaves meaning self.old self.new (refusal_in result) (Some t.0) (Some t.0) }
         ensures told { FaultsAreTold meaning self.old self.new (refusal_in result) }
+        ensures undamaged { MeetsNoDamage meaning self.old self.new }
         ensures crash { LeavesQuietly meaning self.old self.new }
         ensures sessions { SessionsStay meaning self.old self.new None None };
 
@@ -69,6 +71,7 @@ pub trait Records {
         ensures given { IfOk result (IsTableGiven meaning self.new t.0 name.now) }
         ensures reads { Reads meaning self.old self.new (refusal_in result) None }
         ensures told { FaultsAreTold meaning self.old self.new (refusal_in result) }
+        ensures undamaged { MeetsNoDamage meaning self.old self.new }
         ensures crash { LeavesQuietly meaning self.old self.new }
         ensures sessions { SessionsStay meaning self.old self.new None None };
 
@@ -89,6 +92,9 @@ pub trait Records {
             → Visits meaning self.new t.0 table.now result rows }
         ensures reads { Reads meaning self.old self.new (refusal_in result) (Some t.0) }
         ensures told { FaultsAreTold meaning self.old self.new (refusal_in result) }
+        ensures undamaged { (rows : KeyedRows)
+            → meaning.to_come self.old t.0 table.now (option_copied after.entry) rows
+            → MeetsNoDamage meaning self.old self.new }
         ensures crash { LeavesQuietly meaning self.old self.new }
         ensures sessions { SessionsStay meaning self.old self.new None None };
 
@@ -103,6 +109,7 @@ pub trait Records {
         ensures adds { FindAdds meaning self.old self.new t name.now filter.now rows.now result }
         ensures leaves { Leaves meaning self.old self.new (refusal_in result) None None }
         ensures told { FaultsAreTold meaning self.old self.new (refusal_in result) }
+        ensures undamaged { MeetsNoDamage meaning self.old self.new }
         ensures crash { LeavesQuietly meaning self.old self.new }
         ensures sessions { SessionsStay meaning self.old self.new None None };
 
@@ -114,6 +121,7 @@ pub trait Records {
             (event_of t table.now.name write.now) (fine_or result) }
         ensures leaves { Leaves meaning self.old self.new (refusal_in result) None (Some t.0) }
         ensures told { FaultsAreTold meaning self.old self.new (refusal_in result) }
+        ensures undamaged { MeetsNoDamage meaning self.old self.new }
         ensures crash { LeavesQuietly meaning self.old self.new }
         ensures sessions { SessionsStay meaning self.old self.new None None };
 
@@ -126,6 +134,7 @@ pub trait Records {
         ensures adds { MakesTable meaning self.old self.new t name.now shape.now (refusal_in result) }
         ensures leaves { Leaves meaning self.old self.new (refusal_in result) (Some t.0) (Some t.0) }
         ensures told { FaultsAreTold meaning self.old self.new (refusal_in result) }
+        ensures undamaged { MeetsNoDamage meaning self.old self.new }
         ensures crash { LeavesQuietly meaning self.old self.new }
         ensures sessions { SessionsStay meaning self.old self.new None None };
 
@@ -134,6 +143,7 @@ pub trait Records {
         ensures adds { Adds meaning self.old self.new (Event.Mark t) (fine_or result) }
         ensures leaves { Leaves meaning self.old self.new (refusal_in result) None None }
         ensures told { FaultsAreTold meaning self.old self.new (refusal_in result) }
+        ensures undamaged { MeetsNoDamage meaning self.old self.new }
         ensures crash { LeavesQuietly meaning self.old self.new }
         ensures sessions { SessionsStay meaning self.old self.new None None };
 
@@ -147,6 +157,7 @@ pub trait Records {
         ensures undoes { Undoes meaning self.old self.new t result }
         ensures leaves { Leaves meaning self.old self.new (refusal_in result) (Some t.0) (Some t.0) }
         ensures told { FaultsAreTold meaning self.old self.new (refusal_in result) }
+        ensures undamaged { MeetsNoDamage meaning self.old self.new }
         ensures crash { LeavesQuietly meaning self.old self.new }
         ensures sessions { SessionsStay meaning self.old self.new None (given_up_in t.0 result) };
 
@@ -155,6 +166,7 @@ pub trait Records {
         ensures adds { Adds meaning self.old self.new (Event.Savepoint t name.now) (fine_or result) }
         ensures leaves { Leaves meaning self.old self.new (refusal_in result) None None }
         ensures told { FaultsAreTold meaning self.old self.new (refusal_in result) }
+        ensures undamaged { MeetsNoDamage meaning self.old self.new }
         ensures crash { LeavesQuietly meaning self.old self.new }
         ensures sessions { SessionsStay meaning self.old self.new None None };
 
@@ -168,6 +180,7 @@ pub trait Records {
         ensures goes { GoesBack meaning self.old self.new t name.now result }
         ensures leaves { Leaves meaning self.old self.new (refusal_in result) (Some t.0) (Some t.0) }
         ensures told { FaultsAreTold meaning self.old self.new (refusal_in result) }
+        ensures undamaged { MeetsNoDamage meaning self.old self.new }
         ensures crash { LeavesQuietly meaning self.old self.new }
         ensures sessions { SessionsStay meaning self.old self.new None (given_up_in t.0 result) };
 
@@ -177,6 +190,7 @@ pub trait Records {
         ensures asks { OnOk result (meaning.is_asked self.new t.0) }
         ensures reads { Reads meaning self.old self.new (refusal_in result) (Some t.0) }
         ensures told { FaultsAreTold meaning self.old self.new (refusal_in result) }
+        ensures undamaged { MeetsNoDamage meaning self.old self.new }
         ensures crash { LeavesQuietly meaning self.old self.new }
         ensures sessions { SessionsStay meaning self.old self.new None None };
 
@@ -189,6 +203,7 @@ pub trait Records {
         ensures one { WritesOne meaning self.old self.new t.0 result }
         ensures reads { Reads meaning self.old self.new (refusal_in result) None }
         ensures told { FaultsAreTold meaning self.old self.new (refusal_in result) }
+        ensures undamaged { MeetsNoDamage meaning self.old self.new }
         ensures crash { LeavesQuietly meaning self.old self.new }
         ensures sessions { SessionsStay meaning self.old self.new None None };
 
@@ -198,6 +213,7 @@ pub trait Records {
         ensures adds { Adds meaning self.old self.new (Event.Commit t) (fine_or result) }
         ensures leaves { Leaves meaning self.old self.new (refusal_in result) (Some t.0) (Some t.0) }
         ensures told { FaultsAreTold meaning self.old self.new (refusal_in result) }
+        ensures undamaged { MeetsNoDamage meaning self.old self.new }
         ensures crash { LeavesWith meaning self.old self.new (Event.Commit t) (fine_or result) }
         ensures sessions { SessionsStay meaning self.old self.new None (ended_in t.0 result) };
 
@@ -206,6 +222,7 @@ pub trait Records {
         ensures adds { Adds meaning self.old self.new (Event.Rollback t) (fine_or result) }
         ensures leaves { Leaves meaning self.old self.new (refusal_in result) (Some t.0) (Some t.0) }
         ensures told { FaultsAreTold meaning self.old self.new (refusal_in result) }
+        ensures undamaged { MeetsNoDamage meaning self.old self.new }
         ensures crash { LeavesQuietly meaning self.old self.new }
         ensures sessions { SessionsStay meaning self.old self.new None (ended_in t.0 result) };
 

@@ -4,7 +4,7 @@ ghost use Rattle.std.specs.Prelude.{◌≡◌, true, None, IfErr};
 ghost use Rattle.mg_model.specs.declared.answer.Answer.TheVariants.{No};
 ghost use Rattle.mg_model.specs.Legal.{is_outer};
 ghost use Rattle.mg_records.specs.Crashing.{LeavesQuietly};
-ghost use Rattle.mg_records.specs.Keeping.{FaultsAreTold, Reads, refusal_in};
+ghost use Rattle.mg_records.specs.Keeping.{FaultsAreTold, MeetsNoDamage, Reads, refusal_in};
 ghost use Rattle.mg_records.specs.Sessions.{SessionsStay};
 ghost use Rattle.mg_tending.specs.Tending.{WritesAPage};
 
@@ -19,6 +19,7 @@ pub trait PageWrites: Records {
         ensures outside { IfErr result (λ refusal. is_outer (No refusal) ≡ true) }
         ensures reads { Reads Self.meaning self.old self.new (refusal_in result) None }
         ensures told { FaultsAreTold Self.meaning self.old self.new (refusal_in result) }
+        ensures undamaged { MeetsNoDamage Self.meaning self.old self.new }
         ensures crash { LeavesQuietly Self.meaning self.old self.new }
         ensures sessions { SessionsStay Self.meaning self.old self.new None None };
 }
