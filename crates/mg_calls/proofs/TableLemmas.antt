@@ -7,7 +7,7 @@ use Rattle.mg_model.specs.declared.refusal.Refusal.{Refusal}
 use Rattle.mg_model.specs.History.{Entries}
 use Rattle.mg_records.specs.Meaning.{Means}
 use Rattle.mg_records.specs.Crashing.{LeavesQuietly}
-use Rattle.mg_records.specs.Keeping.{Leaves}
+use Rattle.mg_records.specs.Keeping.{Leaves, MeetsNoDamage}
 use Rattle.mg_records.specs.Sessions.{SessionsStay}
 use Rattle.mg_records.specs.Writing.{MakesTable, rows_made}
 use Rattle.mg_calls.specs.declared.writing.Written.{Written}
@@ -63,10 +63,10 @@ table_undone m old mid new t name shape refusal result final makes undoes o h st
 -- the call alone is quiet
 pub quiet_table : {R P : Type 0} (m : Means R P) (old new : R) (t : TxNo) (name : List ℕ)
     (shape : Shape) (refusal tables walks : _) → MakesTable m old new t name shape refusal
-    → Leaves m old new refusal tables walks → LeavesQuietly m old new
+    → Leaves m old new refusal tables walks → MeetsNoDamage m old new → LeavesQuietly m old new
     → SessionsStay m old new None None → AreQuiet m old new None
-quiet_table m old new t name shape refusal tables walks makes leaves crash sessions =
-    quiet_one m old new refusal None leaves.keeps crash sessions goes
+quiet_table m old new t name shape refusal tables walks makes leaves undamaged crash sessions =
+    quiet_one m old new refusal None leaves.keeps undamaged crash sessions goes
   where
     goes : GoesOnQuietly m old new
     goes o h stands =

@@ -21,7 +21,7 @@ use Rattle.mg_records.specs.declared.write.Write.TheVariants as writes
 use Rattle.mg_records.specs.Meaning.{Means}
 use Rattle.mg_records.specs.Adding.{Adds}
 use Rattle.mg_records.specs.Crashing.{LeavesQuietly}
-use Rattle.mg_records.specs.Keeping.{FaultsAreTold, Leaves}
+use Rattle.mg_records.specs.Keeping.{FaultsAreTold, Leaves, MeetsNoDamage}
 use Rattle.mg_records.specs.Sessions.{SessionsStay}
 use Rattle.mg_records.specs.TakingBack.{GivesUp, after_refusal, is_given_up}
 use Rattle.mg_records.specs.Writing.{FitsShape, event_of}
@@ -124,21 +124,21 @@ writes_quietly t name (writes.Erase key) = refl
 
 pub quiet_write : {R P : Type 0} (m : Means R P) (old new : R) (t : TxNo) (name : List ℕ) (w : Write)
     (answer : Answer) (refusal : Option Refusal) → Adds m old new (event_of t name w) answer
-    → Leaves m old new refusal None (Some t.0) → LeavesQuietly m old new
+    → Leaves m old new refusal None (Some t.0) → MeetsNoDamage m old new → LeavesQuietly m old new
     → SessionsStay m old new None None → AreQuiet m old new None
-quiet_write m old new t name w answer refusal adds leaves crash sessions =
+quiet_write m old new t name w answer refusal adds leaves undamaged crash sessions =
     quiet_event m old new (event_of t name w) answer refusal None (Some t.0) (writes_quietly t name w)
-    adds leaves crash sessions
+    adds leaves undamaged crash sessions
 
 -- the undoing of a refused statement was refused
 pub quiet_not_undone : {R P : Type 0} (m : Means R P) (old new : R) (t : TxNo) (first refusal : Refusal)
     (tables walks : Option ℕ) → GivesUp m old new t (UndoMark t) refusal
-    → Leaves m old new (Some refusal) tables walks → LeavesQuietly m old new
+    → Leaves m old new (Some refusal) tables walks → MeetsNoDamage m old new → LeavesQuietly m old new
     → SessionsStay m old new None (if is_given_up refusal then Some t.0 else None)
     → AreQuiet m old new (ended_by t.0 (refused_twice first refusal))
-quiet_not_undone m old new t first refusal tables walks gives leaves crash sessions =
+quiet_not_undone m old new t first refusal tables walks gives leaves undamaged crash sessions =
     subst (λ (ends : Option ℕ). AreQuiet m old new ends) (by (is_given_up refusal))
-    (quiet_given_up m old new t (UndoMark t) refusal tables walks refl gives leaves crash sessions)
+    (quiet_given_up m old new t (UndoMark t) refusal tables walks refl gives leaves undamaged crash sessions)
   where
     by : (b : Bool) → (if b then Some t.0 else None)
         ≡ ended_by t.0 (if b then written.RolledBack (worse first refusal)

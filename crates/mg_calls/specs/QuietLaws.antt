@@ -15,7 +15,7 @@ use Rattle.mg_model.specs.Legal.{durable_count, is_fine, is_lasting}
 use Rattle.mg_model.specs.Machine.{state_of}
 use Rattle.mg_records.specs.Adding.{Adds}
 use Rattle.mg_records.specs.Crashing.{CrashesHold, HoldsOn, LeavesOnly, LeavesQuietly}
-use Rattle.mg_records.specs.Keeping.{Keeps, Leaves, Reads}
+use Rattle.mg_records.specs.Keeping.{FindsNoDamage, Keeps, Leaves, MeetsNoDamage, Reads}
 use Rattle.mg_records.specs.Meaning.{Means}
 use Rattle.mg_records.specs.Sessions.{SessionsStay}
 use Rattle.mg_records.specs.TakingBack.{GivesUp, is_given_up}
@@ -77,13 +77,14 @@ goes_by_giving_up m old new t event refusal quiet gives o h stands =
     by false is = (entry event (No refusal) ∷ h, is, refused)
 
 pub quiet_one : {R P : Type 0} (m : Means R P) (old new : R) (refusal : Option Refusal)
-    (ends : Option ℕ) → Keeps m old new refusal → LeavesQuietly m old new
+    (ends : Option ℕ) → Keeps m old new refusal → MeetsNoDamage m old new → LeavesQuietly m old new
     → SessionsStay m old new None ends → GoesOnQuietly m old new → AreQuiet m old new ends
-quiet_one m old new refusal ends keeps crash sessions goes = record {
+quiet_one m old new refusal ends keeps undamaged crash sessions goes = record {
   goes_on = goes;
   tells = keeps.tells;
   time = keeps.time;
   holds = keeps.holds;
+  undamaged = undamaged;
   crash = crash;
   sessions = sessions;
 }
@@ -143,6 +144,8 @@ quiet_then {R = R} m on old mid new ends first second = record {
   tells = second.tells ∙ first.tells;
   time = λ told. elapses_then m old mid new (first.time told) (second.time (first.tells ∙ told));
   holds = λ o h least c was. second.holds o h least c (first.holds o h least c was);
+  undamaged = λ o h stands told. let one = first.goes_on o h stands in
+      second.undamaged o one.0 one.1 (first.tells ∙ told) ∙ first.undamaged o h stands told;
   crash = crash;
   sessions = sessions_then m old mid new ends first.sessions second.sessions;
 }
@@ -162,17 +165,17 @@ quiet_then {R = R} m on old mid new ends first second = record {
 
 pub quiet_event : {R P : Type 0} (m : Means R P) (old new : R) (event : Event) (answer : Answer)
     (refusal : Option Refusal) (tables walks : Option ℕ) → is_lasting event ≡ false
-    → Adds m old new event answer → Leaves m old new refusal tables walks → LeavesQuietly m old new
-    → SessionsStay m old new None None → AreQuiet m old new None
-quiet_event m old new event answer refusal tables walks quiet adds leaves crash sessions =
-    quiet_one m old new refusal None leaves.keeps crash sessions
+    → Adds m old new event answer → Leaves m old new refusal tables walks → MeetsNoDamage m old new
+    → LeavesQuietly m old new → SessionsStay m old new None None → AreQuiet m old new None
+quiet_event m old new event answer refusal tables walks quiet adds leaves undamaged crash sessions =
+    quiet_one m old new refusal None leaves.keeps undamaged crash sessions
     (goes_by_event m old new event answer quiet adds)
 
 pub quiet_reading : {R P : Type 0} (m : Means R P) (old new : R) (refusal : Option Refusal)
-    (walks : Option ℕ) → Reads m old new refusal walks → LeavesQuietly m old new
+    (walks : Option ℕ) → Reads m old new refusal walks → MeetsNoDamage m old new → LeavesQuietly m old new
     → SessionsStay m old new None None → AreQuiet m old new None
-quiet_reading m old new refusal walks reads crash sessions =
-    quiet_one m old new refusal None reads.keeps crash sessions
+quiet_reading m old new refusal walks reads undamaged crash sessions =
+    quiet_one m old new refusal None reads.keeps undamaged crash sessions
     (goes_by_reading m old new refusal walks reads)
 
 -- nothing is called
@@ -182,6 +185,7 @@ quiet_nothing m crashes r = record {
   tells = refl;
   time = λ told. record { later = omega arith; keeps = λ t c within was. was };
   holds = λ o h least c was. was;
+  undamaged = λ o h stands told. refl;
   crash = λ o h stands told.
       record { each = λ c left. crashes r o h stands told c left; before = λ t c within left. inl left };
   sessions = record {
@@ -195,20 +199,38 @@ quiet_nothing m crashes r = record {
 pub quiet_given_up : {R P : Type 0} (m : Means R P) (old new : R) (t : TxNo) (event : Event)
     (refusal : Refusal) (tables walks : Option ℕ) → is_lasting event ≡ false
     → GivesUp m old new t event refusal
-    → Leaves m old new (Some refusal) tables walks → LeavesQuietly m old new
+    → Leaves m old new (Some refusal) tables walks → MeetsNoDamage m old new → LeavesQuietly m old new
     → SessionsStay m old new None (if is_given_up refusal then Some t.0 else None)
     → AreQuiet m old new (if is_given_up refusal then Some t.0 else None)
-quiet_given_up m old new t event refusal tables walks quiet gives leaves crash sessions =
-    quiet_one m old new (Some refusal) (if is_given_up refusal then Some t.0 else None) leaves.keeps crash
+quiet_given_up m old new t event refusal tables walks quiet gives leaves undamaged crash sessions =
+    quiet_one m old new (Some refusal) (if is_given_up refusal then Some t.0 else None) leaves.keeps undamaged crash
     sessions (goes_by_giving_up m old new t event refusal quiet gives)
 
 -- ---- one history
+
+-- one call that gives no event
+pub quiet_reading_at : {R P : Type 0} (m : Means R P) (old new : R) (refusal : Option Refusal)
+    (walks : Option ℕ) (o : Opening) (h : Entries) → Reads m old new refusal walks → m.stands old o h
+    → FindsNoDamage m old new → LeavesQuietly m old new → IsQuietAt m old new o h
+quiet_reading_at m old new refusal walks o h reads stands undamaged crash = record {
+  longer = h;
+  stands = reads.stays o h stands;
+  quietly = as_it_was;
+  undamaged = undamaged;
+  crash = crash o h stands;
+}
 
 pub quiet_at : {R P : Type 0} (m : Means R P) (old new : R) (ends : Option ℕ) → AreQuiet m old new ends
     → (o : Opening) (h : Entries) → m.stands old o h → IsQuietAt m old new o h
 quiet_at m old new ends quiet o h stands =
     let goes = quiet.goes_on o h stands in
-    record { longer = goes.0; stands = goes.1; quietly = goes.2; crash = quiet.crash o h stands }
+    record {
+      longer = goes.0;
+      stands = goes.1;
+      quietly = goes.2;
+      undamaged = quiet.undamaged o h stands;
+      crash = quiet.crash o h stands;
+    }
 
 pub quiet_at_then : {R P : Type 0} (m : Means R P) → HoldsOn m → (old mid new : R) (ends : Option ℕ)
     (o : Opening) (h : Entries) → AreCalm m old mid None → IsQuietAt m old mid o h
@@ -219,6 +241,8 @@ quiet_at_then {R = R} m on old mid new ends o h calm first second =
       longer = goes.0;
       stands = goes.1;
       quietly = quietly_then h first.longer goes.0 first.quietly goes.2;
+      undamaged = λ told. second.undamaged o first.longer first.stands (calm.tells ∙ told)
+          ∙ first.undamaged told;
       crash = crash;
     }
   where
@@ -257,15 +281,16 @@ calm_then m old mid new ends first second = record {
 
 -- a call that gave no event, and others behind it
 pub quiet_then_at : {R P : Type 0} (m : Means R P) (old mid new : R) (ends : Option ℕ) (o : Opening)
-    (h : Entries) → AreQuiet m old mid None → AreCalm m mid new ends → m.stands old o h
+    (h : Entries) → AreCalm m old mid None → IsQuietAt m old mid o h → AreCalm m mid new ends
     → IsQuietAt m mid new o h → IsQuietAt m old new o h
-quiet_then_at m old mid new ends o h first calm stands second = record {
+quiet_then_at m old mid new ends o h calm first later second = record {
   longer = second.longer;
   stands = second.stands;
   quietly = second.quietly;
+  undamaged = λ told. second.undamaged (calm.tells ∙ told) ∙ first.undamaged told;
   crash = λ told. leaves_then m old mid new (m.holds mid o h (durable_count h))
-      (m.holds new o h (durable_count h)) (first.time told).later (calm.holds o h (durable_count h))
-      (first.crash o h stands told) (second.crash (first.tells ∙ told));
+      (m.holds new o h (durable_count h)) (calm.time told).later (later.holds o h (durable_count h))
+      (first.crash told) (second.crash (calm.tells ∙ told));
 }
 
 -- no call at all

@@ -7,7 +7,7 @@ ghost use Rattle.mg_model.specs.Changes.{KeyedRows};
 ghost use Rattle.mg_model.specs.History.{Entries};
 ghost use Rattle.mg_model.specs.Machine.{state_of};
 ghost use Rattle.mg_records.specs.Keeping.{FaultsAreTold, Reads, refusal_in};
-ghost use Rattle.mg_calls.specs.Quiet.{AreQuiet};
+ghost use Rattle.mg_calls.specs.Quiet.{AreCalm, IsQuietAt};
 ghost use Rattle.mg_calls.specs.Walks.{IsOnItsWay, HasCome, GoesOn, Progresses};
 
 use mg_base::TxNo;
@@ -57,7 +57,9 @@ where
     ensures progress { Progresses R.meaning r.old r.new t.0 walk.old walk.new result }
     ensures reads { Reads R.meaning r.old r.new (refusal_in result) (Some t.0) }
     ensures told { FaultsAreTold R.meaning r.old r.new (refusal_in result) }
-    ensures quiet { AreQuiet R.meaning r.old r.new None }
+    ensures calm { AreCalm R.meaning r.old r.new None }
+    ensures quiet { (o : Opening) (h : Entries) (visited : KeyedRows) → R.meaning.stands r.old o h
+        → HasCome R.meaning r.old o h t.0 walk.old visited → IsQuietAt R.meaning r.old r.new o h }
     ensures comes { (o : Opening) (h : Entries) (visited : KeyedRows) → R.meaning.stands r.old o h
         → HasCome R.meaning r.old o h t.0 walk.old visited
         → GoesOn R.meaning r.new o h t.0 walk.new visited result }

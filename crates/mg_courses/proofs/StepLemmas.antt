@@ -5,6 +5,7 @@ use Rattle.mg_model.specs.declared.opening.Opening.{Opening}
 use Rattle.mg_model.specs.declared.refusal.Refusal.{Refusal}
 use Rattle.mg_model.specs.History.{Entries}
 use Rattle.mg_records.specs.Crashing.{HoldsOn}
+use Rattle.mg_records.specs.Keeping.{FindsNoDamage}
 use Rattle.mg_records.specs.Meaning.{Means}
 use Rattle.mg_calls.specs.Frames.{Frames}
 use Rattle.mg_transcript.specs.Courses.{Course}
@@ -35,10 +36,11 @@ told_so runs new o after t run (Ended ending) (Ends reply) told = told
 pub statement_done : {R P Run : Type 0} (m : Means R P) (runs : RunMeans R Run) → HoldsOn m
     → (old new : R) (o : Opening) (h : Entries) (t : TxNo) (course : Course) (run : Run)
     (stepped : Stepped) (refusal : Option Refusal) → is_quiet course ≡ true
-    → Frames m old new t.0 refusal → HoldsStill m old new → LeavesHolding m old new o h
+    → Frames m old new t.0 refusal → HoldsStill m old new → FindsNoDamage m old new
+    → LeavesHolding m old new o h
     → StepDone m runs new o h t course run stepped
     → WorkDone m runs old new o h t (works.Statement run) stepped (Steps o h t course)
-statement_done m runs lasts old new o h t course run stepped refusal quiet frames still leaves done = record {
+statement_done m runs lasts old new o h t course run stepped refusal quiet frames still undamaged leaves done = record {
   after = done.after;
   comes = done.comes;
   does = done.steps;
@@ -46,5 +48,5 @@ statement_done m runs lasts old new o h t course run stepped refusal quiet frame
   told = told_so runs new o done.after t run stepped done.comes done.told;
   active = done.active;
   carries = carries_by m lasts old new o h done.after (steps_quiet quiet done.steps) frames.tells frames.time
-      (still o h) leaves;
+      (still o h) undamaged leaves;
 }

@@ -11,9 +11,9 @@ use Rattle.mg_model.specs.History.{Entries, Entry, entry}
 use Rattle.mg_model.specs.Legal.{durable_count, is_fine, is_lasting}
 use Rattle.mg_records.specs.Adding.{fine_or}
 use Rattle.mg_records.specs.Crashing.{CrashesHold, HoldsOn, LeavesOnly, LeavesQuietly, LeavesWith}
-use Rattle.mg_records.specs.Keeping.{Elapses, Keeps, Reads, IsOffline, refusal_in}
+use Rattle.mg_records.specs.Keeping.{Elapses, FindsNoDamage, Keeps, MeetsNoDamage, Reads, IsOffline, refusal_in}
 use Rattle.mg_records.specs.Meaning.{Means}
-use Rattle.mg_calls.specs.Quiet.{AreQuiet, IsQuietly, as_it_was, with_entry}
+use Rattle.mg_calls.specs.Quiet.{AreQuiet, IsQuietAt, IsQuietly, as_it_was, with_entry}
 use Rattle.mg_courses.specs.Carrying.{Carries}
 
 -- ---- histories
@@ -90,6 +90,7 @@ carries_then m on old mid new o h between after first second = record {
   tells = second.tells ∙ first.tells;
   later = λ told. within_both (m.moment old) (m.moment mid) (m.moment new) (first.later told)
       (second.later (first.tells ∙ told));
+  undamaged = λ told. second.undamaged (first.tells ∙ told) ∙ first.undamaged told;
   leaves = λ told. leaves_then m old mid new (m.holds mid o between (durable_count h))
       (m.holds new o after (durable_count h)) (first.later told)
       (λ c is. second.holds (durable_count h) c is) (first.leaves told)
@@ -108,6 +109,7 @@ carries_none m crashes r o h stands = record {
   count = omega arith;
   tells = refl;
   later = λ told. omega arith;
+  undamaged = λ told. refl;
   leaves = λ told. record {
     each = λ c left. crashes r o h stands told c left;
     before = λ t c within left. inl left;
@@ -120,13 +122,14 @@ pub carries_by : {R P : Type 0} (m : Means R P) → HoldsOn m → (old new : R) 
     (h after : Entries) → IsQuietly h after → m.tells new ≡ m.tells old
     → (m.tells old ≡ true → Elapses m old new)
     → ((least : ℕ) (c : Image) → m.holds old o h least c → m.holds new o h least c)
-    → (m.tells old ≡ true → LeavesOnly m old new (m.holds new o h (durable_count h)))
+    → FindsNoDamage m old new → (m.tells old ≡ true → LeavesOnly m old new (m.holds new o h (durable_count h)))
     → Carries m old new o h after
-carries_by m on old new o h after quiet tells time holds leaves = record {
+carries_by m on old new o h after quiet tells time holds undamaged leaves = record {
   holds = λ least c was. holds_after m on new o h after least c quiet (holds least c was);
   count = same_or_less (durable_count h) (durable_count after) (same_count h after quiet);
   tells = tells;
   later = λ told. (time told).later;
+  undamaged = undamaged;
   leaves = λ told. leaves_as m old new (m.holds new o h (durable_count h)) (m.holds new o after (durable_count h))
       (λ c is. holds_after m on new o h after (durable_count h) c quiet is) (leaves told);
 }
@@ -135,36 +138,48 @@ pub carries_quietly : {R P : Type 0} (m : Means R P) → HoldsOn m → (old new 
     (o : Opening) (h after : Entries) → AreQuiet m old new ends → m.stands old o h → IsQuietly h after
     → Carries m old new o h after
 carries_quietly m on old new ends o h after quiet stands goes =
-    carries_by m on old new o h after goes quiet.tells quiet.time (quiet.holds o h) (quiet.crash o h stands)
+    carries_by m on old new o h after goes quiet.tells quiet.time (quiet.holds o h)
+    (quiet.undamaged o h stands) (quiet.crash o h stands)
 
 -- one call of the keeper that gives no event
 pub carries_read : {R P : Type 0} (m : Means R P) → HoldsOn m → (old new : R) (o : Opening) (h : Entries)
     (refusal : Option Refusal) (walks : Option ℕ) → m.stands old o h → Reads m old new refusal walks
-    → LeavesQuietly m old new → Carries m old new o h h
-carries_read m on old new o h refusal walks stands reads crash =
+    → MeetsNoDamage m old new → LeavesQuietly m old new → Carries m old new o h h
+carries_read m on old new o h refusal walks stands reads undamaged crash =
     carries_by m on old new o h h as_it_was reads.keeps.tells reads.keeps.time (reads.keeps.holds o h)
-    (crash o h stands)
+    (undamaged o h stands) (crash o h stands)
+
+-- the same of a call whose promise holds of this history
+pub carries_read_at : {R P : Type 0} (m : Means R P) → HoldsOn m → (old new : R) (o : Opening) (h : Entries)
+    (refusal : Option Refusal) (walks : Option ℕ) → Reads m old new refusal walks → IsQuietAt m old new o h
+    → Carries m old new o h h
+carries_read_at m on old new o h refusal walks reads quiet =
+    carries_by m on old new o h h as_it_was reads.keeps.tells reads.keeps.time (reads.keeps.holds o h)
+    quiet.undamaged quiet.crash
 
 -- one call that gives an event which no crash could lose
 pub carries_event : {R P : Type 0} (m : Means R P) → HoldsOn m → (old new : R) (o : Opening) (h : Entries)
     (e : Entry) (refusal : Option Refusal) → is_lasting e.event ≡ false → m.stands old o h
-    → Keeps m old new refusal → LeavesQuietly m old new → Carries m old new o h (e ∷ h)
-carries_event m on old new o h e refusal quiet stands keeps crash =
+    → Keeps m old new refusal → MeetsNoDamage m old new → LeavesQuietly m old new
+    → Carries m old new o h (e ∷ h)
+carries_event m on old new o h e refusal quiet stands keeps undamaged crash =
     carries_by m on old new o h (e ∷ h) (with_entry e quiet as_it_was) keeps.tells keeps.time
-    (keeps.holds o h) (crash o h stands)
+    (keeps.holds o h) (undamaged o h stands) (crash o h stands)
 
 -- one call that gives an event which outlasts a crash
 pub carries_lasting : {R P : Type 0} (m : Means R P) → HoldsOn m → (old new : R) (o : Opening)
     (h : Entries) (event : Event) (result : Result (Unit {0}) Refusal) → m.stands old o h
-    → Keeps m old new (refusal_in result) → LeavesWith m old new event (fine_or result)
+    → Keeps m old new (refusal_in result) → MeetsNoDamage m old new
+    → LeavesWith m old new event (fine_or result)
     → Carries m old new o h (entry event (fine_or result) ∷ h)
-carries_lasting m on old new o h event result stands keeps crash = record {
+carries_lasting m on old new o h event result stands keeps undamaged crash = record {
   holds = λ least c was. keeps.holds o (entry event (fine_or result) ∷ h) least c
       (on.longer old o h (entry event (fine_or result)) least c stands
       (no_second (m.down old) result keeps.offline) was);
   count = counts_more (is_lasting event && is_fine (fine_or result)) (durable_count h);
   tells = keeps.tells;
   later = λ told. (keeps.time told).later;
+  undamaged = undamaged o h stands;
   leaves = λ told. crash o h stands told;
 }
   where

@@ -1,4 +1,4 @@
--- What calls leave of crashes, by which a history goes on to a longer one.
+-- What calls leave of crashes and of damage, by which a history goes on to a longer one.
 use Rattle.std.specs.Prelude.{◌≡◌, ℕ, ◌≤◌, true, Bool, false, List, [], ◌∷◌, if◌then◌else◌}
 use Rattle.mg_base.specs.Image.{Image}
 use Rattle.mg_base.specs.declared.numbers.TxNo.{TxNo}
@@ -8,10 +8,11 @@ use Rattle.mg_model.specs.History.{Entries}
 use Rattle.mg_model.specs.Legal.{durable_count, is_lasting}
 use Rattle.mg_records.specs.Meaning.{Means}
 use Rattle.mg_records.specs.Crashing.{LeavesOnly}
+use Rattle.mg_records.specs.Keeping.{FindsNoDamage}
 use Rattle.mg_transcript.specs.Courses.{Course, Begun, Writing, Making, Committing}
 use Rattle.mg_courses.specs.Running.{RunMeans}
 
--- A history has gone on to a longer one, and no crash loses what was durable.
+-- A history has gone on to a longer one, no page was found damaged, and no crash loses what was durable.
 pub record Carries {R P : Type 0} (m : Means R P) (old new : R) (o : Opening) (h after : Entries)
     : Type 0 where
   -- what held the history holds the longer one
@@ -19,6 +20,7 @@ pub record Carries {R P : Type 0} (m : Means R P) (old new : R) (o : Opening) (h
   pub count : durable_count h ≤ durable_count after
   pub tells : m.tells new ≡ m.tells old
   pub later : m.tells old ≡ true → m.moment old ≤ m.moment new
+  pub undamaged : FindsNoDamage m old new
   -- each image that a crash since then might have left holds the longer one, with all events that
   -- were durable before
   pub leaves : m.tells old ≡ true → LeavesOnly m old new (m.holds new o after (durable_count h))

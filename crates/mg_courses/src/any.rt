@@ -14,7 +14,7 @@ use mg_model::Refusal;
 use mg_records::Records;
 use mg_rows::StatementFault;
 use mg_script::Reply;
-use mg_statements::Statement;
+use mg_statements::{Statement, let_go};
 use std::alloc::Global;
 
 /// Tells whether a statement is at its end.
@@ -75,7 +75,9 @@ where
         s: Statement,
         size: u32,
     ) -> Result<Run<R>, StatementFault> {
-        Run::test(self, alloc, t, read_only, &s, size)
+        let run = Run::test(self, alloc, t, read_only, &s, size);
+        let_go(s);
+        run
     }
 
     fn step(&mut self, _alloc: Global, _t: TxNo, run: &mut Run<R>) -> Stepped {

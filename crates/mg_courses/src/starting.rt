@@ -19,7 +19,7 @@ use crate::statements::{Ending, Statements};
 use crate::work::{Work, over, refused};
 use mg_base::TxNo;
 use mg_script::Reply;
-use mg_statements::Statement;
+use mg_statements::{Statement, let_go};
 use std::alloc::Global;
 
 /// What the beginning of a statement came to.
@@ -149,6 +149,9 @@ where
 {
     match r.look(t) {
         Ok(()) => begin(r, alloc, t, read_only, s, size),
-        Err(refusal) => Started::Ended(refused(refusal)),
+        Err(refusal) => {
+            let_go(s);
+            Started::Ended(refused(refusal))
+        }
     }
 }

@@ -5,6 +5,7 @@ ghost use Rattle.mg_base.specs.declared.transaction.TxState.TheVariants.{Active}
 ghost use Rattle.mg_model.specs.declared.opening.Opening.{Opening};
 ghost use Rattle.mg_model.specs.History.{Entries};
 ghost use Rattle.mg_model.specs.Machine.{state_of};
+ghost use Rattle.mg_records.specs.Keeping.{FindsNoDamage};
 ghost use Rattle.mg_records.specs.Sessions.{SessionsStay};
 ghost use Rattle.mg_sql.specs.Lengths.{HasLengths};
 ghost use Rattle.mg_statements.specs.Plain.{plain_of};
@@ -91,6 +92,9 @@ pub trait Statements: Records {
         ensures crash { (o : Opening) (h : Entries) (course : Course) → Self.meaning.stands self.old o h
             → state_of o h t.0 ≡ Active → runs.is_at self.old o h t run.old course
             → LeavesHolding Self.meaning self.old self.new o h }
+        ensures undamaged { (o : Opening) (h : Entries) (course : Course) → Self.meaning.stands self.old o h
+            → state_of o h t.0 ≡ Active → runs.is_at self.old o h t run.old course
+            → FindsNoDamage Self.meaning self.old self.new }
         ensures holds { HoldsStill Self.meaning self.old self.new }
         ensures sessions { SessionsStay Self.meaning self.old self.new None (over_in t.0 result) };
 

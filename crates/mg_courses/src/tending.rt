@@ -2,7 +2,7 @@
 
 ghost use Rattle.std.specs.Prelude.{◌≡◌, true, None, IfErr};
 ghost use Rattle.mg_records.specs.Crashing.{LeavesQuietly};
-ghost use Rattle.mg_records.specs.Keeping.{FaultsAreTold, Reads, refusal_in};
+ghost use Rattle.mg_records.specs.Keeping.{FaultsAreTold, MeetsNoDamage, Reads, refusal_in};
 ghost use Rattle.mg_records.specs.Sessions.{SessionsStay};
 ghost use Rattle.mg_tending.specs.Tending.{WritesAPage};
 ghost use Rattle.mg_transcript.specs.Steps.{is_outside};
@@ -19,6 +19,7 @@ pub trait Tends: Statements {
         ensures outside { IfErr result (λ refusal. is_outside refusal ≡ true) }
         ensures reads { Reads Self.meaning self.old self.new (refusal_in result) None }
         ensures told { FaultsAreTold Self.meaning self.old self.new (refusal_in result) }
+        ensures undamaged { MeetsNoDamage Self.meaning self.old self.new }
         ensures crash { LeavesQuietly Self.meaning self.old self.new }
         ensures sessions { SessionsStay Self.meaning self.old self.new None None };
 }

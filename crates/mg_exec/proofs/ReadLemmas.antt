@@ -25,6 +25,7 @@ use Rattle.mg_model.specs.Machine.{state_of, view}
 use Rattle.mg_model.specs.RowLaws.{rows_of_ascend}
 use Rattle.mg_records.specs.Adding.{IsRefused}
 use Rattle.mg_records.specs.Crashing.{LeavesQuietly}
+use Rattle.mg_records.specs.Keeping.{MeetsNoDamage}
 use Rattle.mg_records.specs.Meaning.{Means}
 use Rattle.mg_records.specs.Reading.{FindAdds, shape_seen}
 use Rattle.mg_rows.specs.declared.statement_fault.StatementFault.{StatementFault}
@@ -241,19 +242,21 @@ told_on m old mid new o h t table bound rows turn adds goes stands is =
 -- what was found is told
 pub find_quiet : {R P : Type 0} (m : Means R P) (old new : R) (t : TxNo) (name : List ℕ)
     (filter : Option Expr) (rows : List Cells) (result : Result (Unit {0}) Refusal)
-    → FindAdds m old new t name filter rows result → LeavesQuietly m old new
+    → FindAdds m old new t name filter rows result → MeetsNoDamage m old new → LeavesQuietly m old new
     → (o : Opening) (h : Entries) → m.stands old o h → answer o h (Find t name filter) ≡ Rows rows
     → IsQuietAt m old new o h
-find_quiet m old new t name filter rows (Ok x) adds crash o h stands is = record {
+find_quiet m old new t name filter rows (Ok x) adds undamaged crash o h stands is = record {
   longer = entry (Find t name filter) (Rows rows) ∷ h;
   stands = adds o h stands is;
   quietly = with_entry (entry (Find t name filter) (Rows rows)) refl as_it_was;
+  undamaged = undamaged o h stands;
   crash = crash o h stands;
 }
-find_quiet m old new t name filter rows (Err refusal) adds crash o h stands is = record {
+find_quiet m old new t name filter rows (Err refusal) adds undamaged crash o h stands is = record {
   longer = entry (Find t name filter) (No refusal) ∷ h;
   stands = (adds o h stands).1;
   quietly = with_entry (entry (Find t name filter) (No refusal)) refl as_it_was;
+  undamaged = undamaged o h stands;
   crash = crash o h stands;
 }
 

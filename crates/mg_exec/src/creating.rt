@@ -23,7 +23,7 @@ use crate::starting::is_barred;
 use mg_base::{Memory, TxNo};
 use mg_calls::{Written, make_table, mark_and_make};
 use mg_model::{CATALOG, Refusal};
-use mg_plan::{PlanFault, bind, shape_of};
+use mg_plan::{PlanFault, bind, let_go, shape_of};
 use mg_records::Records;
 use mg_rows::{Outcome, StatementFault};
 use mg_statements::Statement;
@@ -53,10 +53,13 @@ fn plan_table(alloc: Global, s: &Statement, name: &Name, size: u32) -> Result<Ne
     ensures { Plans (plain_of s.now) name.now size result }
 {
     match bind(alloc, s, None, size) {
-        Ok(_) => match shape_defined(alloc, s) {
-            Ok(shape) => Ok(NewTable { name: *name, shape }),
-            Err(_) => Err(PlanFault::Memory),
-        },
+        Ok(bound) => {
+            let_go(bound);
+            match shape_defined(alloc, s) {
+                Ok(shape) => Ok(NewTable { name: *name, shape }),
+                Err(_) => Err(PlanFault::Memory),
+            }
+        }
         Err(fault) => Err(fault),
     }
 }

@@ -26,7 +26,7 @@ use mg_base::{Memory, TxNo};
 use mg_calls::{Visit, Walk, visit_next};
 use mg_expr::EvalFault;
 use mg_model::{Refusal, Rows, Table};
-use mg_plan::Bound;
+use mg_plan::{Bound, let_go};
 use mg_records::Records;
 use mg_rows::{StatementFault, keep, sort_by_key};
 use mg_statements::Statement;
@@ -48,9 +48,15 @@ fn keep_passed(
 }
 
 /// A reading that comes to nothing, for this fault.
-fn stop<P: Drop>(_reading: Reading<P>, fault: StatementFault) -> Turn<P>
+fn stop<P: Drop>(reading: Reading<P>, fault: StatementFault) -> Turn<P>
     ensures { result ≡ ended_by (Err fault) }
 {
+    let Reading {
+        walk: _walk,
+        bound,
+        kept: _kept,
+    } = reading;
+    let_go(bound);
     ended(Err(fault))
 }
 
@@ -178,7 +184,9 @@ where
 {
     let Reading { walk, bound, kept } = reading;
     let Walk { table, place: _ } = walk;
-    end_reading(r, alloc, t, table, &bound, kept)
+    let turn = end_reading(r, alloc, t, table, &bound, kept);
+    let_go(bound);
+    turn
 }
 
 /// A step of a statement that finds rows: it visits one further record, or it is at its end.

@@ -23,6 +23,7 @@ use crate::reading::read;
 use crate::starting::{look_and_test, test};
 use mg_base::TxNo;
 use mg_model::Table;
+use mg_plan::let_go;
 use mg_records::Records;
 use mg_rows::StatementFault;
 use mg_statements::Statement;
@@ -115,7 +116,9 @@ where
     ensures quiet { AreQuiet R.meaning r.old r.new (rolled_back_at t.0 result.phase) }
 {
     let Inserting { table, bound } = i;
-    start_to_write(r, alloc, t, table, &bound, &[])
+    let turn = start_to_write(r, alloc, t, table, &bound, &[]);
+    let_go(bound);
+    turn
 }
 
 /// A step of a statement, from where it stands.

@@ -14,7 +14,7 @@ use crate::splitting::{behind, two_numbers};
 use mg_base::{Bytes, Memory};
 use mg_decimal::{signed, unsigned};
 use mg_sql::{parse, statements_have_no_fault, texts_are_one_statement};
-use mg_statements::{SqlFault, Statement};
+use mg_statements::{SqlFault, Statement, let_go};
 use std::alloc::Global;
 
 /// Reads one line, without its end.
@@ -103,7 +103,11 @@ fn may_be_held(alloc: Global, text: &[u8]) -> Result<bool, Memory>
     texts_are_one_statement();
     statements_have_no_fault();
     match parse(alloc, text) {
-        Ok(statement) => Ok(is_in_steps(&statement)),
+        Ok(statement) => {
+            let is = is_in_steps(&statement);
+            let_go(statement);
+            Ok(is)
+        }
         Err(SqlFault::Memory) => Err(Memory),
         Err(SqlFault::Syntax { .. }) => Ok(true),
         Err(SqlFault::NameTooLong { .. }) => Ok(true),

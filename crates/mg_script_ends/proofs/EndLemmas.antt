@@ -11,7 +11,7 @@ use Rattle.mg_model.specs.Answers.{is_active}
 use Rattle.mg_model.specs.History.{Entries, entry}
 use Rattle.mg_records.specs.Adding.{Adds}
 use Rattle.mg_records.specs.Crashing.{CrashesHold, HoldsOn, LeavesQuietly}
-use Rattle.mg_records.specs.Keeping.{FaultsAreTold, Leaves}
+use Rattle.mg_records.specs.Keeping.{FaultsAreTold, Leaves, MeetsNoDamage}
 use Rattle.mg_records.specs.Meaning.{Means}
 use Rattle.mg_records.specs.Sessions.{SessionsAreOne, SessionsStay}
 use Rattle.mg_calls.specs.FrameLaws.{frames_changes}
@@ -40,10 +40,11 @@ module _ {R P Run : Type 0} (m : Means R P) (runs : RunMeans R Run) (one : Sessi
         (others_ready m runs old new s t true all [] one ready its None (frames_changes m old new t.0 None leaves told)
         still stay refl)
 
-    pub back_ends : WorksStayAt m runs → Adds m old new (Rollback t) Fine → LeavesQuietly m old new
+    pub back_ends : WorksStayAt m runs → Adds m old new (Rollback t) Fine
+        → MeetsNoDamage m old new → LeavesQuietly m old new
         → (o : Opening) (h : Entries) → StandAt m runs old o h all [] []
         → EndsWith m runs old new o h all' (λ after. EndsSession o h s after None)
-    back_ends still adds crash o h stand =
+    back_ends still adds undamaged crash o h stand =
         let made = adds o h stand.stands in record {
           after = entry (Rollback t) Fine ∷ h;
           does = is_back t (stand.its s ∙ its) made.0;
@@ -52,7 +53,7 @@ module _ {R P Run : Type 0} (m : Means R P) (runs : RunMeans R Run) (one : Sessi
               stand (by_one (entry (Rollback t) Fine) refl as_it_was) (rw (eq-eqb t.0 t.0 refl) refl) None
               (frames_changes m old new t.0 None leaves told) still made.1 (made.0, stand.legal) refl);
           carries = carries_event m lasts old new o h (entry (Rollback t) Fine) None refl stand.stands leaves.keeps
-              crash;
+              undamaged crash;
         }
 
   -- that is refused
@@ -63,10 +64,11 @@ module _ {R P Run : Type 0} (m : Means R P) (runs : RunMeans R Run) (one : Sessi
         (others_ready m runs old new s t false all [] one ready its (Some refusal)
         (frames_changes m old new t.0 (Some refusal) leaves told) still stay refl)
 
-    pub not_ends : WorksStayAt m runs → Adds m old new (Rollback t) (No refusal) → LeavesQuietly m old new
+    pub not_ends : WorksStayAt m runs → Adds m old new (Rollback t) (No refusal)
+        → MeetsNoDamage m old new → LeavesQuietly m old new
         → (o : Opening) (h : Entries) → StandAt m runs old o h all [] []
         → EndsWith m runs old new o h all' (λ after. EndsSession o h s after (Some refusal))
-    not_ends still adds crash o h stand =
+    not_ends still adds undamaged crash o h stand =
         let made = adds o h stand.stands in record {
           after = entry (Rollback t) (No refusal) ∷ h;
           does = is_not t refusal (stand.its s ∙ its) made.0;
@@ -77,7 +79,7 @@ module _ {R P Run : Type 0} (m : Means R P) (runs : RunMeans R Run) (one : Sessi
               (ap is_active (live_is_active m runs old o h all [] [] s t stand its)) (Some refusal)
               (frames_changes m old new t.0 (Some refusal) leaves told) still made.1 (made.0, stand.legal) refl);
           carries = carries_event m lasts old new o h (entry (Rollback t) (No refusal)) (Some refusal) refl
-              stand.stands leaves.keeps crash;
+              stand.stands leaves.keeps undamaged crash;
         }
 
 -- it has none

@@ -10,7 +10,7 @@ use Rattle.mg_model.specs.declared.refusal.Refusal.{Refusal}
 use Rattle.mg_model.specs.History.{Entries, entry}
 use Rattle.mg_records.specs.Adding.{Adds}
 use Rattle.mg_records.specs.Crashing.{HoldsOn, LeavesQuietly}
-use Rattle.mg_records.specs.Keeping.{FaultsAreTold, Leaves}
+use Rattle.mg_records.specs.Keeping.{FaultsAreTold, Leaves, MeetsNoDamage}
 use Rattle.mg_records.specs.Meaning.{Means}
 use Rattle.mg_records.specs.Sessions.{SessionsAreOne, SessionsStay}
 use Rattle.mg_calls.specs.Frames.{Frames}
@@ -47,11 +47,12 @@ module _ {R P Run : Type 0} (m : Means R P) (runs : RunMeans R Run) (one : Sessi
           begun_ready m runs old new s t mode all inside none one works stay begun_frames ps still ready
 
       pub begun_comes : WorksStayAt m runs → m.works new t.0 s → SessionsStay m old new (Some s) None
-          → Adds m old new (events.Begin s mode) (answers.Tx t) → LeavesQuietly m old new → (o : Opening)
+          → Adds m old new (events.Begin s mode) (answers.Tx t)
+          → MeetsNoDamage m old new → LeavesQuietly m old new → (o : Opening)
           (h : Entries) (us : List Unfinished) (By : Entries → List Unfinished → Type 0)
           → StandAt m runs old o h all ps us → By (entry (events.Begin s mode) (answers.Tx t) ∷ h) us
           → ComesTo m runs old new o h (set all s (Some (begun_one t mode.read_only))) ps By
-      begun_comes still works stay adds crash o h us By stand does =
+      begun_comes still works stay adds undamaged crash o h us By stand does =
           let made = adds o h stand.stands in
           record {
             after = entry (events.Begin s mode) (answers.Tx t) ∷ h;
@@ -60,7 +61,7 @@ module _ {R P Run : Type 0} (m : Means R P) (runs : RunMeans R Run) (one : Sessi
             stand = begun_stands m runs old new s t mode all inside none one works stay begun_frames o h ps us ready
                 stand made.0 still made.1;
             carries = carries_event m lasts old new o h (entry (events.Begin s mode) (answers.Tx t)) None refl
-                stand.stands leaves.keeps crash;
+                stand.stands leaves.keeps undamaged crash;
           }
 
   module _ (refusal : Refusal) (leaves : Leaves m old new (Some refusal) None None)
@@ -76,11 +77,11 @@ module _ {R P Run : Type 0} (m : Means R P) (runs : RunMeans R Run) (one : Sessi
     refused_ready still stay = stays_ready m runs old new all (Some refusal) refused_frames ps still stay ready
 
     pub refused_comes : WorksStayAt m runs → Adds m old new (events.Begin s mode) (answers.No refusal)
-        → LeavesQuietly m old new → (o : Opening) (h : Entries) (us : List Unfinished)
+        → MeetsNoDamage m old new → LeavesQuietly m old new → (o : Opening) (h : Entries) (us : List Unfinished)
         (By : Entries → List Unfinished → Type 0) → StandAt m runs old o h all ps us
         → By (entry (events.Begin s mode) (answers.No refusal) ∷ h) us
         → ComesTo m runs old new o h all ps By
-    refused_comes still adds crash o h us By stand does =
+    refused_comes still adds undamaged crash o h us By stand does =
         let made = adds o h stand.stands in
         record {
           after = entry (events.Begin s mode) (answers.No refusal) ∷ h;
@@ -90,5 +91,5 @@ module _ {R P Run : Type 0} (m : Means R P) (runs : RunMeans R Run) (one : Sessi
               (entry (events.Begin s mode) (answers.No refusal) ∷ h) ps us still
               (alone_refused h s mode refusal) made.1 (made.0, stand.legal) stand;
           carries = carries_event m lasts old new o h (entry (events.Begin s mode) (answers.No refusal))
-              (Some refusal) refl stand.stands leaves.keeps crash;
+              (Some refusal) refl stand.stands leaves.keeps undamaged crash;
         }

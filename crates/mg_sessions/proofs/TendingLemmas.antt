@@ -4,7 +4,7 @@ use Rattle.mg_model.specs.declared.opening.Opening.{Opening}
 use Rattle.mg_model.specs.declared.refusal.Refusal.{Refusal}
 use Rattle.mg_model.specs.History.{Entries}
 use Rattle.mg_records.specs.Crashing.{HoldsOn, LeavesQuietly}
-use Rattle.mg_records.specs.Keeping.{FaultsAreTold, Reads}
+use Rattle.mg_records.specs.Keeping.{FaultsAreTold, MeetsNoDamage, Reads}
 use Rattle.mg_records.specs.Meaning.{Means}
 use Rattle.mg_records.specs.Sessions.{SessionsStay}
 use Rattle.mg_calls.specs.Frames.{Frames}
@@ -56,14 +56,14 @@ module _ {R P : Type 0} (m : Means R P) (lasts : HoldsOn m) (old mid new : R) (r
       none : false ≡ true → ⊥
       none is = cc
 
-  pub more_stands : LeavesQuietly m mid new
+  pub more_stands : MeetsNoDamage m mid new → LeavesQuietly m mid new
       → ((o : Opening) (h : Entries) → m.stands old o h → m.stands mid o h × Carries m old mid o h h)
       → (o : Opening) (h : Entries) → m.stands old o h → m.stands new o h × Carries m old new o h h
-  more_stands crash first o h stands =
+  more_stands undamaged crash first o h stands =
       let before = first o h stands in (
         reads.stays o h before.0,
         carries_then m lasts old mid new o h h h before.1
-            (carries_read m lasts mid new o h refusal None before.0 reads crash),
+            (carries_read m lasts mid new o h refusal None before.0 reads undamaged crash),
       )
 
 pub one_more : (a b c most left : ℕ) → a ≡ b + (most - left) → b ≡ c + 1 → 0 < left → left ≤ most

@@ -30,7 +30,7 @@ use mg_pending::{Pending, Sessions, Transaction, is_busy};
 use mg_rows::StatementFault;
 use mg_script::{Reply, Session};
 use mg_sql::{parse, statements_have_lengths};
-use mg_statements::Statement;
+use mg_statements::{Statement, let_go};
 use std::alloc::Global;
 
 /// Obeys `A: sql`: a statement of a session runs until it waits or is at its end.
@@ -192,11 +192,17 @@ where
 {
     let own = match sessions.transactions.of(session) {
         Some(own) => own,
-        None => return Reply::No(StatementFault::Engine(Refusal::NoTransaction)),
+        None => {
+            let_go(statement);
+            return Reply::No(StatementFault::Engine(Refusal::NoTransaction));
+        }
     };
     match sessions.reserve() {
         Ok(()) => {}
-        Err(_) => return Reply::No(StatementFault::Engine(Refusal::Memory)),
+        Err(_) => {
+            let_go(statement);
+            return Reply::No(StatementFault::Engine(Refusal::Memory));
+        }
     }
     match start(r, alloc, own.number, own.read_only, statement, size) {
         Started::Begun(work) => go_on(r, alloc, sessions, session, own.number, work),
@@ -231,11 +237,17 @@ where
 {
     let own = match sessions.transactions.of(session) {
         Some(own) => own,
-        None => return Reply::No(StatementFault::Engine(Refusal::NoTransaction)),
+        None => {
+            let_go(statement);
+            return Reply::No(StatementFault::Engine(Refusal::NoTransaction));
+        }
     };
     match sessions.reserve() {
         Ok(()) => {}
-        Err(_) => return Reply::No(StatementFault::Engine(Refusal::Memory)),
+        Err(_) => {
+            let_go(statement);
+            return Reply::No(StatementFault::Engine(Refusal::Memory));
+        }
     }
     match start(r, alloc, own.number, own.read_only, statement, size) {
         Started::Begun(work) => sessions.keep(session, own.number, work, Stepped::More),

@@ -19,17 +19,18 @@ use Rattle.mg_model.specs.Machine.{state_of}
 use Rattle.mg_records.specs.Adding.{IsRefused}
 use Rattle.mg_records.specs.Committing.{WritesOne}
 use Rattle.mg_records.specs.Crashing.{CrashesHold, HoldsOn, LeavesQuietly, LeavesWith}
-use Rattle.mg_records.specs.Keeping.{FaultsAreTold, Keeps, Leaves, Reads}
+use Rattle.mg_records.specs.Keeping.{FaultsAreTold, Keeps, Leaves, MeetsNoDamage, Reads}
 use Rattle.mg_records.specs.Meaning.{Means}
 use Rattle.mg_records.specs.Sessions.{SessionsStay}
 use Rattle.mg_calls.specs.Frames.{Blames, Frames}
+use Rattle.mg_calls.specs.Quiet.{IsQuietAt}
 use Rattle.mg_calls.specs.FrameLaws.{frames_after, frames_changes, frames_first, frames_then, frames_reads, frames_reads_nothing, frames_writes}
 use Rattle.mg_rows.specs.declared.statement_fault.StatementFault.{StatementFault}
 use Rattle.mg_transcript.specs.Growing.{GrowsBy, as_it_was, by_one, grown_then}
 use Rattle.mg_transcript.specs.Shorthand.{stops_by}
 use Rattle.mg_transcript.specs.Steps.{is_outside}
 use Rattle.mg_courses.specs.Carrying.{Carries}
-use Rattle.mg_courses.specs.CarryLaws.{carries_none, carries_event, carries_lasting, carries_read, carries_then}
+use Rattle.mg_courses.specs.CarryLaws.{carries_none, carries_event, carries_lasting, carries_read, carries_read_at, carries_then}
 use Rattle.mg_courses.specs.Running.{refusal_of}
 use Rattle.mg_courses.specs.StopLaws.{goes_on_by}
 use Rattle.mg_shorthand.specs.Going.{Went, ReadsOn, Spares, over_if}
@@ -107,11 +108,21 @@ spares_read m old new t refusal reads told sessions =
 -- ---- readings
 
 pub reads_one : {R P : Type 0} (m : Means R P) → HoldsOn m → (old new : R) (refusal : Option Refusal)
-    (walks : Option ℕ) → Reads m old new refusal walks → LeavesQuietly m old new → (o : Opening) (h : Entries)
+    (walks : Option ℕ) → Reads m old new refusal walks
+    → MeetsNoDamage m old new → LeavesQuietly m old new → (o : Opening) (h : Entries)
     → m.stands old o h → ReadsOn m old new o h
-reads_one m lasts old new refusal walks reads crash o h stands = record {
+reads_one m lasts old new refusal walks reads undamaged crash o h stands = record {
   stands = reads.stays o h stands;
-  carries = carries_read m lasts old new o h refusal walks stands reads crash;
+  carries = carries_read m lasts old new o h refusal walks stands reads undamaged crash;
+}
+
+-- a step of a walk
+pub reads_at : {R P : Type 0} (m : Means R P) → HoldsOn m → (old new : R) (refusal : Option Refusal)
+    (walks : Option ℕ) (o : Opening) (h : Entries) → Reads m old new refusal walks → m.stands old o h
+    → IsQuietAt m old new o h → ReadsOn m old new o h
+reads_at m lasts old new refusal walks o h reads stands quiet = record {
+  stands = reads.stays o h stands;
+  carries = carries_read_at m lasts old new o h refusal walks reads quiet;
 }
 
 pub reads_then : {R P : Type 0} (m : Means R P) → HoldsOn m → (old mid new : R) (o : Opening) (h : Entries)
@@ -173,16 +184,17 @@ went_nowhere m crashes r o h t By stands active does = record {
 pub went_by : {R P : Type 0} (m : Means R P) → HoldsOn m → (old new : R) (o : Opening) (h : Entries)
     (t : TxNo) (event : Event) (answer : Answer) (over : Bool) (refusal : Option Refusal)
     (By : Entries → Type 0) → is_lasting event ≡ false → transaction_of event ≡ Some t.0 → m.stands old o h
-    → Keeps m old new refusal → LeavesQuietly m old new → m.stands new o (entry event answer ∷ h)
+    → Keeps m old new refusal
+    → MeetsNoDamage m old new → LeavesQuietly m old new → m.stands new o (entry event answer ∷ h)
     → is_active (state_of o (entry event answer ∷ h) t.0) ≡ not over → By (entry event answer ∷ h)
     → Went m old new o h t over By
-went_by m lasts old new o h t event answer over refusal By quiet its stands keeps crash after active does = record {
+went_by m lasts old new o h t event answer over refusal By quiet its stands keeps undamaged crash after active does = record {
   after = entry event answer ∷ h;
   does = does;
   stands = after;
   own = by_one (entry event answer) its as_it_was;
   active = active;
-  carries = carries_event m lasts old new o h (entry event answer) refusal quiet stands keeps crash;
+  carries = carries_event m lasts old new o h (entry event answer) refusal quiet stands keeps undamaged crash;
 }
 
 -- behind other calls
@@ -250,16 +262,16 @@ spares_end m old new t refusal over leaves told sessions =
 
 pub committed_so : {R P : Type 0} (m : Means R P) → HoldsOn m → (old new : R) (o : Opening) (h : Entries)
     (t : TxNo) (By : Entries → Type 0) → m.stands old o h → Keeps m old new None
-    → LeavesWith m old new (events.Commit t) answers.Fine
+    → MeetsNoDamage m old new → LeavesWith m old new (events.Commit t) answers.Fine
     → m.stands new o (entry (events.Commit t) answers.Fine ∷ h) → By (entry (events.Commit t) answers.Fine ∷ h)
     → Went m old new o h t true By
-committed_so m lasts old new o h t By stands keeps crash after does = record {
+committed_so m lasts old new o h t By stands keeps undamaged crash after does = record {
   after = entry (events.Commit t) answers.Fine ∷ h;
   does = does;
   stands = after;
   own = by_one (entry (events.Commit t) answers.Fine) refl as_it_was;
   active = ended_over t.0 (state_of o h t.0) Committed refl;
-  carries = carries_lasting m lasts old new o h (events.Commit t) (Ok tt) stands keeps crash;
+  carries = carries_lasting m lasts old new o h (events.Commit t) (Ok tt) stands keeps undamaged crash;
 }
 
 -- ---- the same by another relation, or another refusal

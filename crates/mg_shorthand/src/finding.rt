@@ -56,8 +56,8 @@ where
         → IfOk result (λ sees. sees ≡ sees_key o h t.0 walk.old.table.name key.now) }
     ensures outside { (o : Opening) (h : Entries) → R.meaning.stands r.old o h → state_of o h t.0 ≡ Active
         → HasCome R.meaning r.old o h t.0 walk.old [] → IsFromOutside result }
-    ensures reads { (o : Opening) (h : Entries) → R.meaning.stands r.old o h
-        → ReadsOn R.meaning r.old r.new o h }
+    ensures reads { (o : Opening) (h : Entries) → R.meaning.stands r.old o h → state_of o h t.0 ≡ Active
+        → HasCome R.meaning r.old o h t.0 walk.old [] → ReadsOn R.meaning r.old r.new o h }
     ensures spares { Spares R.meaning r.old r.new t (refusal_in result) false }
 {
     let mut seen = Seen::Further;
@@ -107,8 +107,8 @@ where
         → IfOk result (λ seen. HasSeen R.meaning r.new o h t.0 key.now walk.new seen) }
     ensures outside { (o : Opening) (h : Entries) → R.meaning.stands r.old o h → state_of o h t.0 ≡ Active
         → HasSeen R.meaning r.old o h t.0 key.now walk.old Seen.Further → IsFromOutside result }
-    ensures reads { (o : Opening) (h : Entries) → R.meaning.stands r.old o h
-        → ReadsOn R.meaning r.old r.new o h }
+    ensures reads { (o : Opening) (h : Entries) → R.meaning.stands r.old o h → state_of o h t.0 ≡ Active
+        → HasSeen R.meaning r.old o h t.0 key.now walk.old Seen.Further → ReadsOn R.meaning r.old r.new o h }
     ensures spares { Spares R.meaning r.old r.new t (refusal_in result) false }
 {
     match visit_next(r, t, walk) {

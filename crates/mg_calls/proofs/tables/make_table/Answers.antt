@@ -19,7 +19,7 @@ returns-in-Ok g c = record {
       c.in-Ok.ensures.leaves c.in-Ok.ensures.told;
   quiet = quiet_table g.R.Records.meaning c.args.r.now c.create_table.new.self c.args.t c.args.name.now
       c.args.shape.now None (Some c.args.t.0) (Some c.args.t.0) c.in-Ok.ensures.adds
-      c.in-Ok.ensures.leaves c.in-Ok.ensures.crash c.in-Ok.ensures.sessions;
+      c.in-Ok.ensures.leaves c.in-Ok.ensures.undamaged c.in-Ok.ensures.crash c.in-Ok.ensures.sessions;
 }
 
 pub returns-in-Some : goal.returns-in-Some
@@ -36,7 +36,7 @@ returns-in-Some g c = record {
       (Some c.in-Err.refusal) c.in-Err.ensures.leaves c.in-Err.ensures.told);
   quiet = quiet_table g.R.Records.meaning c.args.r.now c.create_table.new.self c.args.t c.args.name.now
       c.args.shape.now (Some c.in-Err.refusal) (Some c.args.t.0) (Some c.args.t.0)
-      c.in-Err.ensures.adds c.in-Err.ensures.leaves c.in-Err.ensures.crash
+      c.in-Err.ensures.adds c.in-Err.ensures.leaves c.in-Err.ensures.undamaged c.in-Err.ensures.crash
       c.in-Err.ensures.sessions;
 }
 
@@ -52,6 +52,7 @@ returns-in-None g c = record {
       c.undo.new.r (ended_by c.args.t.0 c.undo.result)
       (quiet_table g.R.Records.meaning c.args.r.now c.create_table.new.self c.args.t c.args.name.now
       c.args.shape.now (Some c.in-Err.refusal) (Some c.args.t.0) (Some c.args.t.0)
-      c.in-Err.ensures.adds c.in-Err.ensures.leaves c.in-Err.ensures.crash c.in-Err.ensures.sessions)
+      c.in-Err.ensures.adds c.in-Err.ensures.leaves
+      c.in-Err.ensures.undamaged c.in-Err.ensures.crash c.in-Err.ensures.sessions)
       c.undo.ensures.quiet;
 }

@@ -25,7 +25,7 @@ returns-in-Ok-clause-frames g c = λ before first.
 pub returns-in-Ok-clause-quiet : goal.returns-in-Ok-clause-quiet
 returns-in-Ok-clause-quiet g c = quiet_event g.R.Records.meaning c.args.r.now c.undo_mark.new.self
     (UndoMark c.args.t) Fine None (Some c.args.t.0) (Some c.args.t.0) refl c.in-Ok.ensures.undoes
-    c.in-Ok.ensures.leaves c.in-Ok.ensures.crash c.in-Ok.ensures.sessions
+    c.in-Ok.ensures.leaves c.in-Ok.ensures.undamaged c.in-Ok.ensures.crash c.in-Ok.ensures.sessions
 
 pub returns-in-Err-clause-undoes : goal.returns-in-Err-clause-undoes
 returns-in-Err-clause-undoes g c = λ o h stands.
@@ -50,4 +50,4 @@ returns-in-Err-clause-quiet g c =
     (ended_by c.args.t.0 w)) (sym c.not_undone.ensures)
     (quiet_not_undone g.R.Records.meaning c.args.r.now c.undo_mark.new.self c.args.t c.args.refusal
     c.in-Err.later (Some c.args.t.0) (Some c.args.t.0) c.in-Err.ensures.undoes c.in-Err.ensures.leaves
-    c.in-Err.ensures.crash c.in-Err.ensures.sessions)
+    c.in-Err.ensures.undamaged c.in-Err.ensures.crash c.in-Err.ensures.sessions)

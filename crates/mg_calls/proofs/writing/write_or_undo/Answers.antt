@@ -10,13 +10,13 @@ use Rattle.mg_calls.proofs.writing.write_or_undo.Goals as goal
 pub returns-in-Ok-clause-quiet : goal.returns-in-Ok-clause-quiet
 returns-in-Ok-clause-quiet g c = quiet_write g.R.Records.meaning c.args.r.now c.write_step.new.self
     c.args.t c.args.table.now.name c.args.write.now Fine None c.in-Ok.ensures.adds c.in-Ok.ensures.leaves
-    c.in-Ok.ensures.crash c.in-Ok.ensures.sessions
+    c.in-Ok.ensures.undamaged c.in-Ok.ensures.crash c.in-Ok.ensures.sessions
 
 pub returns-in-Some-clause-quiet : goal.returns-in-Some-clause-quiet
 returns-in-Some-clause-quiet g c = quiet_write g.R.Records.meaning c.args.r.now
     c.write_step.new.self c.args.t c.args.table.now.name c.args.write.now
     (No c.in-Err.refusal) (Some c.in-Err.refusal) c.in-Err.ensures.adds
-    c.in-Err.ensures.leaves c.in-Err.ensures.crash c.in-Err.ensures.sessions
+    c.in-Err.ensures.leaves c.in-Err.ensures.undamaged c.in-Err.ensures.crash c.in-Err.ensures.sessions
 
 pub returns-in-None-clause-writes : goal.returns-in-None-clause-writes
 returns-in-None-clause-writes g c =
@@ -37,5 +37,6 @@ returns-in-None-clause-quiet g c =
     c.undo.new.r (ended_by c.args.t.0 c.undo.result)
     (quiet_write g.R.Records.meaning c.args.r.now c.write_step.new.self c.args.t
     c.args.table.now.name c.args.write.now (No c.in-Err.refusal) (Some c.in-Err.refusal)
-    c.in-Err.ensures.adds c.in-Err.ensures.leaves c.in-Err.ensures.crash c.in-Err.ensures.sessions)
+    c.in-Err.ensures.adds c.in-Err.ensures.leaves
+    c.in-Err.ensures.undamaged c.in-Err.ensures.crash c.in-Err.ensures.sessions)
     c.undo.ensures.quiet

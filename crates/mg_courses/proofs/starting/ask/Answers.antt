@@ -16,7 +16,7 @@ returns-in-Ok-clause-starts g c = λ o h stands active size. record {
   told = refl;
   active = ap is_active active;
   carries = carries_read g.R.Records.meaning g.met.R.Records.lasts c.args.r.now c.commit_ask.new.self o h None
-      (Some c.args.t.0) stands c.in-Ok.ensures.reads c.in-Ok.ensures.crash;
+      (Some c.args.t.0) stands c.in-Ok.ensures.reads c.in-Ok.ensures.undamaged c.in-Ok.ensures.crash;
 }
 
 pub returns-in-Err-clause-starts : goal.returns-in-Err-clause-starts
@@ -29,5 +29,6 @@ returns-in-Err-clause-starts g c = λ o h stands active size. record {
   told = c.refused.ensures.reply;
   active = still_active (state_of o h c.args.t.0) c.refused.result.over active c.refused.ensures.over;
   carries = carries_read g.R.Records.meaning g.met.R.Records.lasts c.args.r.now c.commit_ask.new.self o h
-      (Some c.in-Err.refusal) (Some c.args.t.0) stands c.in-Err.ensures.reads c.in-Err.ensures.crash;
+      (Some c.in-Err.refusal) (Some c.args.t.0) stands c.in-Err.ensures.reads
+      c.in-Err.ensures.undamaged c.in-Err.ensures.crash;
 }

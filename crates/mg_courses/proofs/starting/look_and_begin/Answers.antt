@@ -17,7 +17,8 @@ returns-in-Ok-clause-starts g c = λ o h stands active mode.
     c.args.t c.args.read_only c.args.size (plain_of c.args.s) c.begin.result c.requires.looks mode active
     made.0 g.met.R.Records.lasts
     (carries_event g.R.Records.meaning g.met.R.Records.lasts c.args.r.now c.look.new.self o h
-    (entry (Look c.args.t) Fine) None refl stands c.in-Ok.ensures.leaves.keeps c.in-Ok.ensures.crash)
+    (entry (Look c.args.t) Fine) None refl stands c.in-Ok.ensures.leaves.keeps
+    c.in-Ok.ensures.undamaged c.in-Ok.ensures.crash)
     (c.begin.ensures.begins o (entry (Look c.args.t) Fine ∷ h) made.1 active)
 
 pub returns-in-Err-clause-starts : goal.returns-in-Err-clause-starts
@@ -32,5 +33,5 @@ returns-in-Err-clause-starts g c = λ o h stands active mode.
       active = still_active (state_of o h c.args.t.0) c.refused.result.over active c.refused.ensures.over;
       carries = carries_event g.R.Records.meaning g.met.R.Records.lasts c.args.r.now c.look.new.self o h
           (entry (Look c.args.t) (No c.in-Err.refusal)) (Some c.in-Err.refusal) refl stands
-          c.in-Err.ensures.leaves.keeps c.in-Err.ensures.crash;
+          c.in-Err.ensures.leaves.keeps c.in-Err.ensures.undamaged c.in-Err.ensures.crash;
     }

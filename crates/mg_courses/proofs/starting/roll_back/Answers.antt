@@ -22,7 +22,7 @@ returns-in-Ok-clause-starts g c = λ o h stands active size.
       active = ended_over c.args.t.0 (state_of o h c.args.t.0) Dead c.over.result.over refl c.over.ensures.over;
       carries = carries_event g.R.Records.meaning g.met.R.Records.lasts c.args.r.now c.rollback.new.self o h
           (entry (Rollback c.args.t) Fine) None refl stands c.in-Ok.ensures.leaves.keeps
-          c.in-Ok.ensures.crash;
+          c.in-Ok.ensures.undamaged c.in-Ok.ensures.crash;
     }
 
 pub returns-in-Err-clause-starts : goal.returns-in-Err-clause-starts
@@ -37,5 +37,5 @@ returns-in-Err-clause-starts g c = λ o h stands active size.
       active = still_active (state_of o h c.args.t.0) c.refused.result.over active c.refused.ensures.over;
       carries = carries_event g.R.Records.meaning g.met.R.Records.lasts c.args.r.now c.rollback.new.self o h
           (entry (Rollback c.args.t) (No c.in-Err.refusal)) (Some c.in-Err.refusal) refl stands
-          c.in-Err.ensures.leaves.keeps c.in-Err.ensures.crash;
+          c.in-Err.ensures.leaves.keeps c.in-Err.ensures.undamaged c.in-Err.ensures.crash;
     }

@@ -23,7 +23,8 @@ returns-in-Ok-clause-steps g c = λ o h stands active.
       active = ended_over c.args.t.0 (state_of o h c.args.t.0) Committed c.over.result.over refl
           c.over.ensures.over;
       carries = carries_lasting g.R.Records.meaning g.met.R.Records.lasts c.args.r.now c.commit_end.new.self o h
-          (Commit c.args.t) (Ok tt) stands c.in-Ok.ensures.leaves.keeps c.in-Ok.ensures.crash;
+          (Commit c.args.t) (Ok tt) stands c.in-Ok.ensures.leaves.keeps
+          c.in-Ok.ensures.undamaged c.in-Ok.ensures.crash;
     }
 
 pub returns-in-Err-clause-steps : goal.returns-in-Err-clause-steps
@@ -38,7 +39,7 @@ returns-in-Err-clause-steps g c = λ o h stands active.
       active = still_active (state_of o h c.args.t.0) c.refused.result.over active c.refused.ensures.over;
       carries = carries_lasting g.R.Records.meaning g.met.R.Records.lasts c.args.r.now c.commit_end.new.self o h
           (Commit c.args.t) (Err c.in-Err.refusal) stands c.in-Err.ensures.leaves.keeps
-          c.in-Err.ensures.crash;
+          c.in-Err.ensures.undamaged c.in-Err.ensures.crash;
     }
 
 pub returns-in-Ok-commit_step-clause-steps : goal.returns-in-Ok-commit_step-clause-steps
@@ -50,7 +51,8 @@ returns-in-Ok-commit_step-clause-steps g c = λ o h stands active. record {
   told = refl;
   active = ap is_active active;
   carries = carries_read g.R.Records.meaning g.met.R.Records.lasts c.args.r.now c.commit_step.new.self o h None
-      None stands c.in-Ok-commit_step.ensures.reads c.in-Ok-commit_step.ensures.crash;
+      None stands c.in-Ok-commit_step.ensures.reads
+      c.in-Ok-commit_step.ensures.undamaged c.in-Ok-commit_step.ensures.crash;
 }
 
 pub returns-in-Err-commit_step-clause-steps : goal.returns-in-Err-commit_step-clause-steps
@@ -66,5 +68,5 @@ returns-in-Err-commit_step-clause-steps g c = λ o h stands active. record {
       c.refused-in-Err-commit_step.ensures.over;
   carries = carries_read g.R.Records.meaning g.met.R.Records.lasts c.args.r.now c.commit_step.new.self o h
       (Some c.in-Err-commit_step.refusal) None stands c.in-Err-commit_step.ensures.reads
-      c.in-Err-commit_step.ensures.crash;
+      c.in-Err-commit_step.ensures.undamaged c.in-Err-commit_step.ensures.crash;
 }

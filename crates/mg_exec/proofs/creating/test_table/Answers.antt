@@ -35,7 +35,7 @@ returns-in-Ok-clause-tests g c = λ o h stands. (
 pub returns-in-Ok-clause-quiet : goal.returns-in-Ok-clause-quiet
 returns-in-Ok-clause-quiet g c =
     quiet_reading g.R.Records.meaning c.args.r.now c.table.new.self None None
-    c.in-Ok.ensures.reads c.in-Ok.ensures.crash c.in-Ok.ensures.sessions
+    c.in-Ok.ensures.reads c.in-Ok.ensures.undamaged c.in-Ok.ensures.crash c.in-Ok.ensures.sessions
 
 pub returns-then-is_missing-clause-tests : goal.returns-then-is_missing-clause-tests
 returns-then-is_missing-clause-tests g c = λ o h stands.
@@ -62,7 +62,7 @@ returns-then-is_missing-clause-frames g c =
 pub returns-then-is_missing-clause-quiet : goal.returns-then-is_missing-clause-quiet
 returns-then-is_missing-clause-quiet g c =
     quiet_reading g.R.Records.meaning c.args.r.now c.table.new.self (Some c.in-Err.refusal) None
-    c.in-Err.ensures.reads c.in-Err.ensures.crash c.in-Err.ensures.sessions
+    c.in-Err.ensures.reads c.in-Err.ensures.undamaged c.in-Err.ensures.crash c.in-Err.ensures.sessions
 
 pub returns-clause-tests : goal.returns-clause-tests
 returns-clause-tests g c = λ o h stands. (
@@ -76,4 +76,4 @@ returns-clause-tests g c = λ o h stands. (
 pub returns-clause-quiet : goal.returns-clause-quiet
 returns-clause-quiet g c =
     quiet_reading g.R.Records.meaning c.args.r.now c.table.new.self (Some c.in-Err.refusal) None
-    c.in-Err.ensures.reads c.in-Err.ensures.crash c.in-Err.ensures.sessions
+    c.in-Err.ensures.reads c.in-Err.ensures.undamaged c.in-Err.ensures.crash c.in-Err.ensures.sessions

@@ -15,7 +15,8 @@ use Rattle.mg_exec.proofs.points.go_back.Goals as goal
 pub returns-in-Ok-true : goal.returns-in-Ok-true
 returns-in-Ok-true g c =
     let quiet = quiet_one g.R.Records.meaning c.args.r.now c.back_to.new.self None None
-    c.in-Ok-true.ensures.leaves.keeps c.in-Ok-true.ensures.crash c.in-Ok-true.ensures.sessions
+    c.in-Ok-true.ensures.leaves.keeps
+    c.in-Ok-true.ensures.undamaged c.in-Ok-true.ensures.crash c.in-Ok-true.ensures.sessions
     (goes_back_quietly g.R.Records.meaning c.args.r.now c.back_to.new.self c.args.t c.args.name.now
     (subst (λ (found : Bool). GoesBack g.R.Records.meaning c.args.r.now
     c.back_to.new.self c.args.t c.args.name.now (Ok found)) c.in-Ok-true.field-0-test c.in-Ok-true.ensures.goes)) in
@@ -35,7 +36,8 @@ returns-in-Ok-true g c =
 pub returns-in-Ok-false : goal.returns-in-Ok-false
 returns-in-Ok-false g c =
     let quiet = quiet_one g.R.Records.meaning c.args.r.now c.back_to.new.self None None
-    c.in-Ok-false.ensures.leaves.keeps c.in-Ok-false.ensures.crash c.in-Ok-false.ensures.sessions
+    c.in-Ok-false.ensures.leaves.keeps
+    c.in-Ok-false.ensures.undamaged c.in-Ok-false.ensures.crash c.in-Ok-false.ensures.sessions
     (λ o h stands. (
       h,
       quiet_nowhere g.R.Records.meaning c.args.r.now c.back_to.new.self c.args.t
@@ -60,7 +62,8 @@ pub returns-in-Err : goal.returns-in-Err
 returns-in-Err g c =
     let quiet = quiet_given_up g.R.Records.meaning c.args.r.now c.back_to.new.self c.args.t
     (BackTo c.args.t c.args.name.now) c.in-Err.refusal (Some c.args.t.0) (Some c.args.t.0) refl
-    c.in-Err.ensures.goes c.in-Err.ensures.leaves c.in-Err.ensures.crash c.in-Err.ensures.sessions in
+    c.in-Err.ensures.goes c.in-Err.ensures.leaves
+    c.in-Err.ensures.undamaged c.in-Err.ensures.crash c.in-Err.ensures.sessions in
     record {
       returns = not_back g.R.Records.meaning c.args.r.now c.back_to.new.self c.args.t c.args.name.now
           c.in-Err.refusal c.not_back.result c.not_back.ensures c.in-Err.ensures.goes;

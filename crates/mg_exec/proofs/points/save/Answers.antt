@@ -15,7 +15,7 @@ pub returns-in-Ok : goal.returns-in-Ok
 returns-in-Ok g c =
     let quiet = quiet_event g.R.Records.meaning c.args.r.now c.savepoint.new.self
     (Savepoint c.args.t c.args.name.now) Fine None None None refl c.in-Ok.ensures.adds
-    c.in-Ok.ensures.leaves c.in-Ok.ensures.crash c.in-Ok.ensures.sessions in
+    c.in-Ok.ensures.leaves c.in-Ok.ensures.undamaged c.in-Ok.ensures.crash c.in-Ok.ensures.sessions in
     record {
       saves = saved g.R.Records.meaning c.args.r.now c.savepoint.new.self c.args.t c.args.name.now
           c.ended.result c.ended.ensures c.in-Ok.ensures.adds;
@@ -32,7 +32,8 @@ pub returns-in-Err : goal.returns-in-Err
 returns-in-Err g c =
     let quiet = quiet_event g.R.Records.meaning c.args.r.now c.savepoint.new.self
     (Savepoint c.args.t c.args.name.now) (No c.in-Err.refusal) (Some c.in-Err.refusal) None None refl
-    c.in-Err.ensures.adds c.in-Err.ensures.leaves c.in-Err.ensures.crash c.in-Err.ensures.sessions in
+    c.in-Err.ensures.adds c.in-Err.ensures.leaves
+    c.in-Err.ensures.undamaged c.in-Err.ensures.crash c.in-Err.ensures.sessions in
     record {
       saves = not_saved g.R.Records.meaning c.args.r.now c.savepoint.new.self c.args.t c.args.name.now
           c.in-Err.refusal c.refused.result c.refused.ensures c.in-Err.ensures.adds;

@@ -6,7 +6,7 @@ use Rattle.mg_calls.specs.FrameLaws.{frames_reads}
 use Rattle.mg_value.specs.declared.value.Value.{Value}
 use Rattle.mg_model.specs.Changes.{Cells}
 use Rattle.mg_exec.specs.Reading.{KeepsRow, comes_on}
-use Rattle.mg_calls.specs.QuietLaws.{calm_by, quiet_at, quiet_then_at}
+use Rattle.mg_calls.specs.QuietLaws.{quiet_then_at}
 use Rattle.mg_rows.specs.declared.statement_fault.StatementFault.TheVariants.{Engine}
 use Rattle.mg_exec.specs.Phases.{rolled_back_at}
 use Rattle.mg_exec.proofs.ProgressLemmas.{end_nears, keeps_nears, no_row_nears, reading_behind, refused_at_end}
@@ -96,7 +96,7 @@ returns-in-Err-clause-leaves g c =
     c.stop.result
     (frames_reads g.R.Records.meaning c.args.r.now c.visit_next.new.r c.args.t.0 (Some c.in-Err.refusal)
     c.in-Err.ensures.reads c.in-Err.ensures.told)
-    (calm_by g.R.Records.meaning c.args.r.now c.visit_next.new.r None c.visit_next.ensures.quiet) c.stop.ensures
+    c.visit_next.ensures.calm c.stop.ensures
 
 pub returns-in-Ok-Record-Some-clause-leaves : goal.returns-in-Ok-Record-Some-clause-leaves
 returns-in-Ok-Record-Some-clause-leaves g c =
@@ -105,7 +105,7 @@ returns-in-Ok-Record-Some-clause-leaves g c =
     _ c.keep_row.result.phase c.keep_row.result.answer
     (frames_reads g.R.Records.meaning c.args.r.now c.visit_next.new.r c.args.t.0 None
     c.in-Ok-Record-Some.ensures.reads c.in-Ok-Record-Some.ensures.told)
-    (calm_by g.R.Records.meaning c.args.r.now c.visit_next.new.r None c.visit_next.ensures.quiet)
+    c.visit_next.ensures.calm
     (reads_on g.R.Records.meaning c.args.r.now c.visit_next.new.r c.args.t.0 c.args.reading
     c.visit_next.new.walk c.requires.ready c.visit_next.ensures.table c.visit_next.ensures.ready)
     c.keep_row.ensures
@@ -116,7 +116,7 @@ returns-in-Ok-Record-None-clause-leaves g c = record {
       c.in-Ok-Record-None.ensures.reads c.in-Ok-Record-None.ensures.told;
   ready = reads_on g.R.Records.meaning c.args.r.now c.visit_next.new.r c.args.t.0 c.args.reading
       c.visit_next.new.walk c.requires.ready c.visit_next.ensures.table c.visit_next.ensures.ready;
-  calm = calm_by g.R.Records.meaning c.args.r.now c.visit_next.new.r None c.visit_next.ensures.quiet;
+  calm = c.visit_next.ensures.calm;
 }
 
 pub returns-in-Ok-End-clause-leaves : goal.returns-in-Ok-End-clause-leaves
@@ -125,22 +125,22 @@ returns-in-Ok-End-clause-leaves g c =
     c.finish.result
     (frames_reads g.R.Records.meaning c.args.r.now c.visit_next.new.r c.args.t.0 None
     c.in-Ok-End.ensures.reads c.in-Ok-End.ensures.told)
-    (calm_by g.R.Records.meaning c.args.r.now c.visit_next.new.r None c.visit_next.ensures.quiet)
+    c.visit_next.ensures.calm
     c.finish.ensures.leaves
 
 -- ---- quiet
 
 pub returns-in-Ok-Record-Some-clause-quiet : goal.returns-in-Ok-Record-Some-clause-quiet
 returns-in-Ok-Record-Some-clause-quiet g c = λ o h stands read.
-    quiet_at g.R.Records.meaning c.args.r.now c.visit_next.new.r None c.visit_next.ensures.quiet o h stands
+    c.visit_next.ensures.quiet o h read.visited stands read.come
 
 pub returns-in-Ok-Record-None-clause-quiet : goal.returns-in-Ok-Record-None-clause-quiet
 returns-in-Ok-Record-None-clause-quiet g c = λ o h stands read.
-    quiet_at g.R.Records.meaning c.args.r.now c.visit_next.new.r None c.visit_next.ensures.quiet o h stands
+    c.visit_next.ensures.quiet o h read.visited stands read.come
 
 pub returns-in-Err-clause-quiet : goal.returns-in-Err-clause-quiet
 returns-in-Err-clause-quiet g c = λ o h stands read.
-    quiet_at g.R.Records.meaning c.args.r.now c.visit_next.new.r None c.visit_next.ensures.quiet o h stands
+    c.visit_next.ensures.quiet o h read.visited stands read.come
 
 pub returns-in-Ok-End-clause-quiet : goal.returns-in-Ok-End-clause-quiet
 returns-in-Ok-End-clause-quiet g c = λ o h stands read.
@@ -148,8 +148,8 @@ returns-in-Ok-End-clause-quiet g c = λ o h stands read.
     c.visit_next.new.walk read.visited (Ok visit)) c.in-Ok-End.field-0-is
     (c.in-Ok-End.ensures.comes o h read.visited stands read.come) in
     quiet_then_at g.R.Records.meaning c.args.r.now c.visit_next.new.r c.finish.new.r
-    (rolled_back_at c.args.t.0 c.finish.result.phase) o h c.visit_next.ensures.quiet
-    c.finish.ensures.leaves.calm stands
+    (rolled_back_at c.args.t.0 c.finish.result.phase) o h c.visit_next.ensures.calm
+    (c.visit_next.ensures.quiet o h read.visited stands read.come) c.finish.ensures.leaves.calm
     (c.finish.ensures.quiet o h (c.visit_next.ensures.reads.stays o h stands)
     (read_all g.R.Records.meaning c.args.r.now c.visit_next.new.r o h c.args.t c.args.reading
     c.visit_next.new.walk c.visit_next.ensures.table read goes

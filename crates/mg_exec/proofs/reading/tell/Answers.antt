@@ -11,4 +11,4 @@ returns-clause-quiet g c =
     (filter_in c.args.s.now) c.args.rows.now c.found.result
     (subst (λ (filter : Option Expr). FindAdds g.R.Records.meaning c.args.r.now c.found.new.self c.args.t
     c.args.table.now.name filter c.args.rows.now c.found.result) c.filter_of.ensures c.found.ensures.adds)
-    c.found.ensures.crash
+    c.found.ensures.undamaged c.found.ensures.crash

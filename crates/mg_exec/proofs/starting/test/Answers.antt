@@ -50,14 +50,14 @@ returns-then-is_barred-clause-quiet g c =
 pub returns-in-Err-clause-quiet : goal.returns-in-Err-clause-quiet
 returns-in-Err-clause-quiet g c =
     quiet_reading g.R.Records.meaning c.args.r.now c.table.new.self (Some c.in-Err.refusal) None
-    c.in-Err.ensures.reads c.in-Err.ensures.crash c.in-Err.ensures.sessions
+    c.in-Err.ensures.reads c.in-Err.ensures.undamaged c.in-Err.ensures.crash c.in-Err.ensures.sessions
 
 pub returns-in-Ok-bind-clause-quiet : goal.returns-in-Ok-bind-clause-quiet
 returns-in-Ok-bind-clause-quiet g c =
     quiet_reading g.R.Records.meaning c.args.r.now c.table.new.self None None
-    c.in-Ok.ensures.reads c.in-Ok.ensures.crash c.in-Ok.ensures.sessions
+    c.in-Ok.ensures.reads c.in-Ok.ensures.undamaged c.in-Ok.ensures.crash c.in-Ok.ensures.sessions
 
 pub returns-in-Err-bind-clause-quiet : goal.returns-in-Err-bind-clause-quiet
 returns-in-Err-bind-clause-quiet g c =
     quiet_reading g.R.Records.meaning c.args.r.now c.table.new.self None None
-    c.in-Ok.ensures.reads c.in-Ok.ensures.crash c.in-Ok.ensures.sessions
+    c.in-Ok.ensures.reads c.in-Ok.ensures.undamaged c.in-Ok.ensures.crash c.in-Ok.ensures.sessions

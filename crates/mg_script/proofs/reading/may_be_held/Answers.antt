@@ -9,8 +9,8 @@ pub returns-in-Ok : goal.returns-in-Ok
 returns-in-Ok c = (
   λ takes s parses.
       ap takes_steps (c.texts_are_one_statement.ensures c.args.text.now s (plain_of c.in-Ok.statement) parses c.in-Ok.ensures)
-      ∙ (sym c.is_in_steps.ensures ∙ takes),
-  λ held. c.is_in_steps.ensures ∙ held (plain_of c.in-Ok.statement) c.in-Ok.ensures,
+      ∙ (sym c.is_in_steps-is.ensures ∙ takes),
+  λ held. c.is_in_steps-is.ensures ∙ held (plain_of c.in-Ok.statement) c.in-Ok.ensures,
 )
 
 pub returns-in-Err-Syntax : goal.returns-in-Err-Syntax

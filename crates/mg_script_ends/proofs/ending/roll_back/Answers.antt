@@ -10,7 +10,7 @@ returns-in-Ok-clause-ends g c = back_ends g.R.Records.meaning g.R.Statements.run
     g.met.R.Records.lasts c.args.r.now c.rollback.new.self c.args.session.0 c.args.t c.args.transactions.now
     c.end.new.self c.requires.ready c.requires.its c.end.ensures c.in-Ok.ensures.leaves c.in-Ok.ensures.told
     (works_stay_at g.R.Records.meaning g.R.Statements.runs g.met.R.Statements.courses) c.in-Ok.ensures.adds
-    c.in-Ok.ensures.crash
+    c.in-Ok.ensures.undamaged c.in-Ok.ensures.crash
 
 pub returns-in-Ok-clause-ready : goal.returns-in-Ok-clause-ready
 returns-in-Ok-clause-ready g c = back_ready g.R.Records.meaning g.R.Statements.runs g.met.R.Records.one
@@ -27,7 +27,7 @@ returns-in-Err-clause-ends g c = not_ends g.R.Records.meaning g.R.Statements.run
     g.met.R.Records.lasts c.args.r.now c.rollback.new.self c.args.session.0 c.args.t c.args.transactions.now
     c.args.transactions.now c.requires.ready c.requires.its c.in-Err.refusal refl c.in-Err.ensures.leaves c.in-Err.ensures.told
     (works_stay_at g.R.Records.meaning g.R.Statements.runs g.met.R.Statements.courses) c.in-Err.ensures.adds
-    c.in-Err.ensures.crash
+    c.in-Err.ensures.undamaged c.in-Err.ensures.crash
 
 pub returns-in-Err-clause-ready : goal.returns-in-Err-clause-ready
 returns-in-Err-clause-ready g c = not_ready g.R.Records.meaning g.R.Statements.runs g.met.R.Records.one

@@ -41,7 +41,8 @@ returns-in-Ok-clause-begins g c = λ o h us stand.
     (λ after then_. BeginsOne o h mode t after × (then_ ≡ us))) (sym c.begin-in-Ok.ensures)
     (begun_comes m runs g.met.R.Records.one g.met.R.Records.lasts c.args.r.now c.begin.new.self OWN mode all ps
     c.requires.ready (lit< tt) none t c.in-Ok.ensures.leaves c.in-Ok.ensures.told (works_stay_at m runs g.met.R.Statements.courses)
-    c.in-Ok.ensures.works c.in-Ok.ensures.sessions c.in-Ok.ensures.adds c.in-Ok.ensures.crash o h us
+    c.in-Ok.ensures.works c.in-Ok.ensures.sessions c.in-Ok.ensures.adds
+    c.in-Ok.ensures.undamaged c.in-Ok.ensures.crash o h us
     (λ after then_. BeginsOne o h mode t after × (then_ ≡ us)) stand
     (record { none = stand.its OWN ∙ none; lawful = (c.in-Ok.ensures.adds o h stand.stands).0; is = refl }, refl))
 
@@ -82,7 +83,7 @@ returns-in-Err-clause-begins g c = λ o h us stand.
     refused_comes m runs g.met.R.Records.one g.met.R.Records.lasts c.args.r.now c.begin.new.self OWN mode
     c.args.sessions.now.transactions c.args.sessions.now.pending.items c.requires.ready (lit< tt) none refusal
     c.in-Err.ensures.leaves c.in-Err.ensures.told (works_stay_at m runs g.met.R.Statements.courses) c.in-Err.ensures.adds
-    c.in-Err.ensures.crash o h us
+    c.in-Err.ensures.undamaged c.in-Err.ensures.crash o h us
     (λ after then_. BeginsNone o h mode (Engine refusal) after × (then_ ≡ us)) stand
     (is_refused refusal (stand.its OWN ∙ none) (c.in-Err.ensures.adds o h stand.stands).0, refl)
 

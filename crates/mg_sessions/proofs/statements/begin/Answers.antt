@@ -43,7 +43,7 @@ returns-in-Ok-clause-does g c = λ text size parses o h us stand.
     (begun_comes m runs g.met.R.Records.one g.met.R.Records.lasts c.args.r.now c.begin.new.self
     c.args.session.0 c.args.mode all ps c.requires.ready (within c.args.session.0 c.requires.lettered) none t c.in-Ok.ensures.leaves c.in-Ok.ensures.told
     (works_stay_at m runs g.met.R.Statements.courses) c.in-Ok.ensures.works c.in-Ok.ensures.sessions
-    c.in-Ok.ensures.adds c.in-Ok.ensures.crash o h us
+    c.in-Ok.ensures.adds c.in-Ok.ensures.undamaged c.in-Ok.ensures.crash o h us
     (Does o h size us (kinds.Sql c.args.session text) (replies.Tx t)) stand
     (begins_one c.args.session text c.args.mode.read_only c.args.mode.wait c.args.mode.snapshot (answers.Tx t)
     free parses (stand.its c.args.session.0 ∙ none) (c.in-Ok.ensures.adds o h stand.stands).0))
@@ -75,7 +75,7 @@ returns-in-Err-clause-does g c = λ text size parses o h us stand.
     refused_comes m runs g.met.R.Records.one g.met.R.Records.lasts c.args.r.now c.begin.new.self
     c.args.session.0 c.args.mode all ps c.requires.ready (within c.args.session.0 c.requires.lettered) none refusal
     c.in-Err.ensures.leaves c.in-Err.ensures.told (works_stay_at m runs g.met.R.Statements.courses) c.in-Err.ensures.adds
-    c.in-Err.ensures.crash o h us
+    c.in-Err.ensures.undamaged c.in-Err.ensures.crash o h us
     (Does o h size us (kinds.Sql c.args.session text) (replies.No (Engine refusal))) stand
     (begins_one c.args.session text c.args.mode.read_only c.args.mode.wait c.args.mode.snapshot
     (answers.No refusal) free parses (stand.its c.args.session.0 ∙ none) (c.in-Err.ensures.adds o h stand.stands).0)

@@ -29,7 +29,7 @@ loop-left-preserved g c =
       written = one_more (m.unwritten c.args.r.now) (m.unwritten c.loop-left.r) (m.unwritten c.write_page.new.self)
           c.args.most c.loop-left.left i.written wrote c.loop-left-test.true
           i.within;
-      stays = more_stands m lasts c.args.r.now c.loop-left.r c.write_page.new.self None step.reads step.crash
+      stays = more_stands m lasts c.args.r.now c.loop-left.r c.write_page.new.self None step.reads step.undamaged step.crash
           i.stays;
       frames = λ n. more_frames m lasts c.args.r.now c.loop-left.r c.write_page.new.self None step.reads step.told n
           (i.frames n);
@@ -50,9 +50,11 @@ returns-in-Err-clause-frames g c = λ n.
 pub returns-in-Ok-false-clause-stands : goal.returns-in-Ok-false-clause-stands
 returns-in-Ok-false-clause-stands g c =
     more_stands g.R.Records.meaning g.met.R.Records.lasts c.args.r.now c.loop-left.r c.write_page.new.self None
-    c.in-Ok-false.ensures.reads c.in-Ok-false.ensures.crash c.loop-left.invariant.stays
+    c.in-Ok-false.ensures.reads
+    c.in-Ok-false.ensures.undamaged c.in-Ok-false.ensures.crash c.loop-left.invariant.stays
 
 pub returns-in-Err-clause-stands : goal.returns-in-Err-clause-stands
 returns-in-Err-clause-stands g c =
     more_stands g.R.Records.meaning g.met.R.Records.lasts c.args.r.now c.loop-left.r c.write_page.new.self
-    (Some c.in-Err.refusal) c.in-Err.ensures.reads c.in-Err.ensures.crash c.loop-left.invariant.stays
+    (Some c.in-Err.refusal) c.in-Err.ensures.reads
+    c.in-Err.ensures.undamaged c.in-Err.ensures.crash c.loop-left.invariant.stays

@@ -10,7 +10,7 @@ loop-seen-init g c = record {
   ready = c.requires.ready;
   table = refl;
   saw = λ o h stands active come. ([], come, refl);
-  reads = λ o h stands. reads_none g.R.Records.meaning g.met.R.Records.crashes c.args.r.now o h stands;
+  reads = λ o h stands active come. reads_none g.R.Records.meaning g.met.R.Records.crashes c.args.r.now o h stands;
   spares = spares_none g.R.Records.meaning c.args.r.now c.args.t;
 }
 
@@ -22,11 +22,14 @@ loop-seen-preserved g c =
     record {
       ready = c.in-Ok.ensures.ready;
       table = c.in-Ok.ensures.table ∙ i.table;
-      saw = λ o h stands active come. c.in-Ok.ensures.sees o h (i.reads o h stands).stands active
+      saw = λ o h stands active come. c.in-Ok.ensures.sees o h (i.reads o h stands active come).stands active
           (saw_further m c.loop-seen.r o h c.args.t.0 c.args.key.now c.loop-seen.walk c.loop-seen.seen is
           (i.saw o h stands active come));
-      reads = λ o h stands. reads_then m g.met.R.Records.lasts c.args.r.now c.loop-seen.r c.look_once.new.r o h
-          (i.reads o h stands) (c.in-Ok.ensures.reads o h (i.reads o h stands).stands);
+      reads = λ o h stands active come. reads_then m g.met.R.Records.lasts c.args.r.now c.loop-seen.r
+          c.look_once.new.r o h (i.reads o h stands active come)
+          (c.in-Ok.ensures.reads o h (i.reads o h stands active come).stands active
+          (saw_further m c.loop-seen.r o h c.args.t.0 c.args.key.now c.loop-seen.walk c.loop-seen.seen is
+          (i.saw o h stands active come)));
       spares = spares_then m c.args.r.now c.loop-seen.r c.look_once.new.r c.args.t None false i.spares
           c.in-Ok.ensures.spares;
     }
@@ -39,15 +42,17 @@ loop-seen-smaller g c =
 pub returns-in-Err-clause-outside : goal.returns-in-Err-clause-outside
 returns-in-Err-clause-outside g c = λ o h stands active come.
     let i = c.loop-seen.invariant in
-    c.in-Err.ensures.outside o h (i.reads o h stands).stands active
+    c.in-Err.ensures.outside o h (i.reads o h stands active come).stands active
     (saw_further g.R.Records.meaning c.loop-seen.r o h c.args.t.0 c.args.key.now c.loop-seen.walk c.loop-seen.seen
     (sym c.goes_further.ensures ∙ c.loop-seen-test.true) (i.saw o h stands active come))
 
 pub returns-in-Err-clause-reads : goal.returns-in-Err-clause-reads
-returns-in-Err-clause-reads g c = λ o h stands.
+returns-in-Err-clause-reads g c = λ o h stands active come.
     let i = c.loop-seen.invariant in
     reads_then g.R.Records.meaning g.met.R.Records.lasts c.args.r.now c.loop-seen.r c.look_once.new.r o h
-    (i.reads o h stands) (c.in-Err.ensures.reads o h (i.reads o h stands).stands)
+    (i.reads o h stands active come) (c.in-Err.ensures.reads o h (i.reads o h stands active come).stands active
+    (saw_further g.R.Records.meaning c.loop-seen.r o h c.args.t.0 c.args.key.now c.loop-seen.walk c.loop-seen.seen
+    (sym c.goes_further.ensures ∙ c.loop-seen-test.true) (i.saw o h stands active come)))
 
 pub returns-in-Err-clause-spares : goal.returns-in-Err-clause-spares
 returns-in-Err-clause-spares g c =

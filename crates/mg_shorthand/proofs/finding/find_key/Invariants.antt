@@ -16,7 +16,8 @@ invariant-loop-seen g l = record {
   saw : (o : Opening) (h : Entries) → g.R.Records.meaning.stands l.fn.r o h → state_of o h l.t.0 ≡ Active
       → HasCome g.R.Records.meaning l.fn.r o h l.t.0 l.fn.walk []
       → HasSeen g.R.Records.meaning l.r o h l.t.0 l.key l.walk l.seen;
-  reads : (o : Opening) (h : Entries) → g.R.Records.meaning.stands l.fn.r o h
+  reads : (o : Opening) (h : Entries) → g.R.Records.meaning.stands l.fn.r o h → state_of o h l.t.0 ≡ Active
+      → HasCome g.R.Records.meaning l.fn.r o h l.t.0 l.fn.walk []
       → ReadsOn g.R.Records.meaning l.fn.r l.r o h;
   spares : Spares g.R.Records.meaning l.fn.r l.r l.t None false;
 }

@@ -1,8 +1,8 @@
-use Rattle.std.proofs.Common.{Ok, Some, ap, ◌∙◌, subst}
+use Rattle.std.proofs.Common.{None, Ok, Some, ap, ◌∙◌, subst}
 use Rattle.mg_calls.specs.declared.walking.Visit.{Visit}
 use Rattle.mg_calls.specs.declared.walking.Visit.TheVariants as visits
 use Rattle.mg_calls.specs.Walks.{GoesOn}
-use Rattle.mg_shorthand.proofs.GoingLemmas.{refused_outside}
+use Rattle.mg_shorthand.proofs.GoingLemmas.{reads_at, refused_outside}
 use Rattle.mg_shorthand.proofs.KeyLemmas.{none_seen, row_seen}
 use Rattle.mg_shorthand.proofs.finding.look_once.Goals as goal
 
@@ -29,3 +29,23 @@ returns-in-Ok-End-clause-sees g c = λ o h stands active saw.
 pub returns-clause-outside : goal.returns-clause-outside
 returns-clause-outside g c = λ o h stands active saw.
     refused_outside o h c.args.t.0 c.in-Err.refusal active (c.in-Err.ensures.comes o h saw.0 stands saw.1)
+
+pub returns-in-Ok-Record-Some-clause-reads : goal.returns-in-Ok-Record-Some-clause-reads
+returns-in-Ok-Record-Some-clause-reads g c = λ o h stands active saw.
+    reads_at g.R.Records.meaning g.met.R.Records.lasts c.args.r.now c.visit_next.new.r None (Some c.args.t.0) o h
+    c.in-Ok-Record-Some.ensures.reads stands (c.in-Ok-Record-Some.ensures.quiet o h saw.0 stands saw.1)
+
+pub returns-in-Ok-Record-None-clause-reads : goal.returns-in-Ok-Record-None-clause-reads
+returns-in-Ok-Record-None-clause-reads g c = λ o h stands active saw.
+    reads_at g.R.Records.meaning g.met.R.Records.lasts c.args.r.now c.visit_next.new.r None (Some c.args.t.0) o h
+    c.in-Ok-Record-None.ensures.reads stands (c.in-Ok-Record-None.ensures.quiet o h saw.0 stands saw.1)
+
+pub returns-in-Ok-End-clause-reads : goal.returns-in-Ok-End-clause-reads
+returns-in-Ok-End-clause-reads g c = λ o h stands active saw.
+    reads_at g.R.Records.meaning g.met.R.Records.lasts c.args.r.now c.visit_next.new.r None (Some c.args.t.0) o h
+    c.in-Ok-End.ensures.reads stands (c.in-Ok-End.ensures.quiet o h saw.0 stands saw.1)
+
+pub returns-clause-reads : goal.returns-clause-reads
+returns-clause-reads g c = λ o h stands active saw.
+    reads_at g.R.Records.meaning g.met.R.Records.lasts c.args.r.now c.visit_next.new.r (Some c.in-Err.refusal) (Some c.args.t.0) o h
+    c.in-Err.ensures.reads stands (c.in-Err.ensures.quiet o h saw.0 stands saw.1)

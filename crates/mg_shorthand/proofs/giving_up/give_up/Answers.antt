@@ -23,7 +23,7 @@ returns-in-Ok-clause-goes g c = λ o h stands active.
     went_by g.R.Records.meaning g.met.R.Records.lasts c.args.r.now c.rollback.new.self o h c.args.t
     (events.Rollback c.args.t) answers.Fine true None
     (λ after. GivesUp o h c.args.t c.args.fault after (No c.args.fault)) refl refl stands c.in-Ok.ensures.leaves.keeps
-    c.in-Ok.ensures.crash made.1 (ended_over c.args.t.0 (state_of o h c.args.t.0) Dead refl)
+    c.in-Ok.ensures.undamaged c.in-Ok.ensures.crash made.1 (ended_over c.args.t.0 (state_of o h c.args.t.0) Dead refl)
     (rolled_back (sym c.stops.ensures ∙ c.if-stops.false) made.0)
 
 pub returns-in-Err-clause-goes : goal.returns-in-Err-clause-goes
@@ -32,7 +32,8 @@ returns-in-Err-clause-goes g c = λ o h stands active.
     went_by g.R.Records.meaning g.met.R.Records.lasts c.args.r.now c.rollback.new.self o h c.args.t
     (events.Rollback c.args.t) (answers.No c.in-Err.later) false (Some c.in-Err.later)
     (λ after. GivesUp o h c.args.t c.args.fault after (No (Engine c.in-Err.later))) refl refl stands
-    c.in-Err.ensures.leaves.keeps c.in-Err.ensures.crash made.1 (ap is_active active)
+    c.in-Err.ensures.leaves.keeps
+    c.in-Err.ensures.undamaged c.in-Err.ensures.crash made.1 (ap is_active active)
     (not_even c.in-Err.later (sym c.stops.ensures ∙ c.if-stops.false) made.0)
 
 pub returns-in-Ok-clause-spares : goal.returns-in-Ok-clause-spares

@@ -22,7 +22,7 @@ returns-in-Ok-clause-goes g c = λ o h stands active.
     let m = g.R.Records.meaning in
     let t = c.args.t in
     let reads = reads_one m g.met.R.Records.lasts c.args.r.now c.table.new.self None None c.in-Ok.ensures.reads
-    c.in-Ok.ensures.crash o h stands in
+    c.in-Ok.ensures.undamaged c.in-Ok.ensures.crash o h stands in
     let seen = ap (λ (n : List ℕ). shape_seen o h t.0 n) (sym c.kv.ensures) ∙ (c.in-Ok.ensures.table o h stands).1 in
     let rest : Went m c.table.new.self c.put_in.new.r o h t c.put_in.result.over
     (λ after. Puts o c.args.key c.args.value h t after c.put_in.result.reply) = rw (
@@ -45,7 +45,7 @@ returns-in-Err-clause-goes g c = λ o h stands active.
     let t = c.args.t in
     let refusal = c.in-Err.refusal in
     let reads = reads_one m g.met.R.Records.lasts c.args.r.now c.table.new.self (Some refusal) None c.in-Err.ensures.reads
-    c.in-Err.ensures.crash o h stands in
+    c.in-Err.ensures.undamaged c.in-Err.ensures.crash o h stands in
     let tells : TellsTable m c.args.r.now t.0 kv_name (Err refusal) =
     subst (λ (n : List ℕ). TellsTable m c.args.r.now t.0 n (Err refusal)) c.kv.ensures c.in-Err.ensures.table in
     went_behind m g.met.R.Records.lasts c.args.r.now c.table.new.self c.give_up_for.new.r o h t c.give_up_for.result.over

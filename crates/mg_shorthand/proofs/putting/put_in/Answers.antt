@@ -29,10 +29,10 @@ returns-in-Ok-clause-goes g c = λ o h seen stands active.
     let m = g.R.Records.meaning in
     let t = c.args.t in
     let table = c.args.table in
-    let reads = c.in-Ok.ensures.reads o h stands in
     let given = c.requires.given in
     let come : HasCome m c.args.r.now o h t.0 c.start_walk-walk.result [] =
     c.start_walk-walk.ensures.begins o h t.0 stands active given in
+    let reads = c.in-Ok.ensures.reads o h stands active come in
     let same : c.find_key.new.walk.table ≡ table = c.in-Ok.ensures.table ∙ c.start_walk-walk.ensures.table in
     let saw : c.in-Ok.sees ≡ sees_key o h t.0 c.start_walk-walk.result.table.name (values.Int c.args.key) =
     rw (to_z-of_z w64 c.args.key c.ranges.key) at (c.in-Ok.ensures.sees o h stands active come) in
@@ -57,9 +57,9 @@ returns-in-Ok-clause-spares g c = λ before spares.
 pub returns-clause-goes : goal.returns-clause-goes
 returns-clause-goes g c = λ o h seen stands active.
     let m = g.R.Records.meaning in
-    let reads = c.in-Err.ensures.reads o h stands in
     let come : HasCome m c.args.r.now o h c.args.t.0 c.start_walk-walk.result [] =
     c.start_walk-walk.ensures.begins o h c.args.t.0 stands active c.requires.given in
+    let reads = c.in-Err.ensures.reads o h stands active come in
     went_behind m g.met.R.Records.lasts c.args.r.now c.find_key.new.r c.give_up_for-in-Err.new.r o h c.args.t
     c.give_up_for-in-Err.result.over
     (λ after. GivesUp o h c.args.t (Engine c.in-Err.refusal) after c.give_up_for-in-Err.result.reply)

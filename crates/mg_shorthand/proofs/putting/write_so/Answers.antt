@@ -24,7 +24,7 @@ returns-in-Ok-clause-goes g c = λ o h key value numbers event stands active.
     (λ after. Puts o key value h t after c.settle.result.reply)
     (by_one did (event_its t name w) as_it_was)
     (carries_event m g.met.R.Records.lasts c.args.r.now c.write_step.new.self o h did None (event_quiet t name w) stands
-    c.in-Ok.ensures.leaves.keeps c.in-Ok.ensures.crash)
+    c.in-Ok.ensures.leaves.keeps c.in-Ok.ensures.undamaged c.in-Ok.ensures.crash)
     (λ after settles. puts_row (event_of t name w) after c.settle.result.reply numbers
     (ap (λ (n : List ℕ). event_of t n w) c.requires.named ∙ event) made.0 settles)
     (c.settle.ensures.goes o (did ∷ h) made.1 (event_active o h t name w active))
@@ -49,7 +49,8 @@ returns-in-Err-clause-goes g c = λ o h key value numbers event stands active.
     (λ after. Puts o key value h t after c.give_up_for.result.reply)
     (by_one did (event_its t name w) as_it_was)
     (carries_event m g.met.R.Records.lasts c.args.r.now c.write_step.new.self o h did (Some refusal)
-    (event_quiet t name w) stands c.in-Err.ensures.leaves.keeps c.in-Err.ensures.crash)
+    (event_quiet t name w) stands c.in-Err.ensures.leaves.keeps
+    c.in-Err.ensures.undamaged c.in-Err.ensures.crash)
     (λ after up. puts_not (event_of t name w) refusal after c.give_up_for.result.reply numbers
     (ap (λ (n : List ℕ). event_of t n w) c.requires.named ∙ event) made.0 up)
     (c.give_up_for.ensures.goes o (did ∷ h) made.1 active)

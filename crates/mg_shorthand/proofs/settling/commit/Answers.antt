@@ -16,7 +16,7 @@ returns-in-Ok-clause-goes g c = λ o h stands active.
     let made = c.in-Ok.ensures.adds o h stands in
     committed_so g.R.Records.meaning g.met.R.Records.lasts c.args.r.now c.commit_end.new.self o h c.args.t
     (λ after. Settles o h c.args.t c.args.reply after c.args.reply) stands c.in-Ok.ensures.leaves.keeps
-    c.in-Ok.ensures.crash made.1 (committed made.0)
+    c.in-Ok.ensures.undamaged c.in-Ok.ensures.crash made.1 (committed made.0)
 
 pub returns-in-Ok-clause-spares : goal.returns-in-Ok-clause-spares
 returns-in-Ok-clause-spares g c = λ before spares.
@@ -38,7 +38,7 @@ returns-in-Err-clause-goes g c = λ o h stands active.
     (λ after. Settles o h c.args.t c.args.reply after c.give_up_for.result.reply)
     (by_one tried refl as_it_was)
     (carries_lasting m g.met.R.Records.lasts c.args.r.now c.commit_end.new.self o h (events.Commit c.args.t)
-    (Err refusal) stands c.in-Err.ensures.leaves.keeps c.in-Err.ensures.crash)
+    (Err refusal) stands c.in-Err.ensures.leaves.keeps c.in-Err.ensures.undamaged c.in-Err.ensures.crash)
     (λ after up. commit_refused refusal after c.give_up_for.result.reply made.0 up)
     (c.give_up_for.ensures.goes o (tried ∷ h) made.1 active)
 

@@ -11,7 +11,7 @@ pub returns-in-Ok-clause-reads : goal.returns-in-Ok-clause-reads
 returns-in-Ok-clause-reads g c = λ o h stands.
     let m = g.R.Records.meaning in
     let first = reads_one m g.met.R.Records.lasts c.args.r.now c.commit_ask.new.self None (Some c.args.t.0)
-    c.in-Ok.ensures.reads c.in-Ok.ensures.crash o h stands in
+    c.in-Ok.ensures.reads c.in-Ok.ensures.undamaged c.in-Ok.ensures.crash o h stands in
     reads_then m g.met.R.Records.lasts c.args.r.now c.commit_ask.new.self c.write_noted.new.r o h first
     (c.write_noted.ensures.reads o h first.stands)
 
@@ -30,7 +30,7 @@ returns-in-Err-clause-outside g c = λ o h stands active.
 pub returns-in-Err-clause-reads : goal.returns-in-Err-clause-reads
 returns-in-Err-clause-reads g c = λ o h stands.
     reads_one g.R.Records.meaning g.met.R.Records.lasts c.args.r.now c.commit_ask.new.self (Some c.in-Err.refusal)
-    (Some c.args.t.0) c.in-Err.ensures.reads c.in-Err.ensures.crash o h stands
+    (Some c.args.t.0) c.in-Err.ensures.reads c.in-Err.ensures.undamaged c.in-Err.ensures.crash o h stands
 
 pub returns-in-Err-clause-spares : goal.returns-in-Err-clause-spares
 returns-in-Err-clause-spares g c =

@@ -24,7 +24,7 @@ loop-all-preserved g c =
       reads = λ o h stands. reads_then m g.met.R.Records.lasts c.args.r.now c.loop-all.r c.commit_step.new.self o h
           (i.reads o h stands)
           (reads_one m g.met.R.Records.lasts c.loop-all.r c.commit_step.new.self None None c.in-Ok.ensures.reads
-          c.in-Ok.ensures.crash o h (i.reads o h stands).stands);
+          c.in-Ok.ensures.undamaged c.in-Ok.ensures.crash o h (i.reads o h stands).stands);
       spares = spares_then m c.args.r.now c.loop-all.r c.commit_step.new.self c.args.t None false i.spares
           (spares_read m c.loop-all.r c.commit_step.new.self c.args.t None c.in-Ok.ensures.reads c.in-Ok.ensures.told
           c.in-Ok.ensures.sessions);
@@ -47,7 +47,7 @@ returns-in-Err-clause-reads g c = λ o h stands.
     let i = c.loop-all.invariant in
     reads_then m g.met.R.Records.lasts c.args.r.now c.loop-all.r c.commit_step.new.self o h (i.reads o h stands)
     (reads_one m g.met.R.Records.lasts c.loop-all.r c.commit_step.new.self (Some c.in-Err.refusal) None
-    c.in-Err.ensures.reads c.in-Err.ensures.crash o h (i.reads o h stands).stands)
+    c.in-Err.ensures.reads c.in-Err.ensures.undamaged c.in-Err.ensures.crash o h (i.reads o h stands).stands)
 
 pub returns-in-Err-clause-spares : goal.returns-in-Err-clause-spares
 returns-in-Err-clause-spares g c =

@@ -46,6 +46,12 @@ returns-clause-crash g c = λ o h course stands active at.
     (subst (λ (u : TxNo). StandsAt g.R.Records.meaning c.args.self.now o h u.0 c.args.run.now.phase)
     (sym c.requires.ready.its) at.stands)).crash
 
+pub returns-clause-undamaged : goal.returns-clause-undamaged
+returns-clause-undamaged g c = λ o h course stands active at.
+    (c.step-answer.ensures.crash o h stands
+    (subst (λ (u : TxNo). StandsAt g.R.Records.meaning c.args.self.now o h u.0 c.args.run.now.phase)
+    (sym c.requires.ready.its) at.stands)).undamaged
+
 pub returns-clause-holds : goal.returns-clause-holds
 returns-clause-holds g c = c.step-answer.ensures.leaves.calm.holds
 
