@@ -112,8 +112,7 @@ module _ {D : Type 0} (m : Meaning D) where
       ∙ made_free old creates.free t name shape creates.may
 
   no_keys_stand : (old new : Core D) (refusal : Refusal) → FailsKeys old new refusal → Stands m old.store new.store
-  no_keys_stand old new refusal (inl tells) = ap (count m) tells.1
-  no_keys_stand old new refusal (inr counts) = counted m old new (space.Damaged not_lawful) refusal counts
+  no_keys_stand old new refusal tells = ap (count m) tells.1
 
   put_told : (old new : Core D) (t : TxNo) (name : List ℕ) (shape : Shape) (keys : List Value) (refusal : Refusal)
       → FailsPut m old new t name shape keys refusal → TellsFaults m old new (Some refusal)

@@ -38,7 +38,7 @@ module _ {D : Type 0} (m : Meaning D) where
   rows_told : (old new : Core D) (t : ℕ) (keys : List Value) (refusal : Refusal)
       → FailsTheRows m old new t keys refusal → TellsFaults m old new (Some refusal)
   rows_told old new t keys refusal fails quiet =
-      own_told m old.store new.store fails.fault fails.fails (is_none fails.fault refusal fails.is quiet)
+      own_told m old.store new.store fails.fault fails.fails.own (is_none fails.fault refusal fails.is quiet)
 
   -- ---- both
 

@@ -90,9 +90,14 @@ module _ {D : Type 0} (m : Meaning D) (catalog : Table) (t : ℕ) (name : List �
     changed = changed;
   }
 
-  pub not_changed_once : (after : Pool D FireLinks) (fault : SpaceFault) → FailsBatch m ready after batch fault
-      → FailsTry m catalog t name shape before after fault
-  not_changed_once after fault failed = not_at_once (not_changed batch ready keeps online filled failed)
+  pub not_changed_once : (size : ℕ) (answer : Bool) → size ≡ before.geometry.size → answer ≡ true
+      → (IsTrue answer → IsLawful size batch.pages batch.orders) → (after : Pool D FireLinks) (fault : SpaceFault)
+      → FailsBatch m ready after batch fault → FailsTry m catalog t name shape before after fault
+  not_changed_once size answer same told gives after fault failed = not_at_once (not_changed batch ready keeps online
+      (λ image tells. (
+        filled image tells,
+        subst (λ (s : ℕ). IsLawful s batch.pages batch.orders) same (gives told),
+      )) failed)
 
   -- it is not lawful
   pub page_wanted : (size : ℕ) (answer : Bool) → size ≡ before.geometry.size → answer ≡ false

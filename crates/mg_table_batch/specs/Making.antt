@@ -61,9 +61,11 @@ module _ {D : Type 0} (m : Meaning D) (catalog : Table) (t : ℕ) (name : List �
   MakesAtOnce before after = ChangesOwn m before after
       (λ image batch. FillsTable before image catalog t name shape nothing_yet batch)
 
+  -- it does not come into one batch; or into a lawful one, which the cache has not changed
   abbrev pub FailsAtOnce : Pool D FireLinks → Pool D FireLinks → SpaceFault → Type 0
   FailsAtOnce before after fault = FailsOwn m before after
-      (λ image batch. FillsTable before image catalog t name shape nothing_yet batch)
+      (λ image batch. FillsTable before image catalog t name shape nothing_yet batch
+      × IsLawful before.geometry.size batch.pages batch.orders)
       (λ image f. RefusesTable m before after image catalog t name shape nothing_yet f) fault
 
   -- one try: the table is made, or the catalog gets a page

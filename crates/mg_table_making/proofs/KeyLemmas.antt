@@ -1,14 +1,19 @@
 -- Keys of rows, and records that speak for them, one after another.
 use Rattle.std.proofs.Common.{◌≡◌, ◌≢◌, ◌∙◌, ℕ, Bool, true, false, Option, None, Some, is_some, not, arith, List, [], ◌∷◌, ◌++◌, ◌+◌, Result, Ok, Err, ap, refl, subst, sym}
-use Rattle.std.specs.Prelude.{MatchOption, MatchResult, length, map}
+use Rattle.std.specs.Prelude.{MatchResult, length, map}
 use Rattle.mg_base.specs.Disk.{Meaning}
 use Rattle.mg_base.specs.declared.numbers.RecId.{RecId}
 use Rattle.mg_base.specs.declared.numbers.TxNo.{TxNo}
 use Rattle.mg_core.specs.declared.parts.Core.{Core}
+use Rattle.mg_catalog.specs.RowsSaid.{column_rows}
 use Rattle.mg_image.specs.Form.{Row}
+use Rattle.mg_model.specs.Catalog.{catalog_shape}
 use Rattle.mg_model.specs.declared.refusal.Refusal.{Refusal}
+use Rattle.mg_table_batch.specs.Filling.{rows_at}
+use Rattle.mg_value.specs.declared.shape.Column.{Column}
+use Rattle.mg_value.specs.declared.shape.Shape.{Shape}
 use Rattle.mg_value.specs.declared.value.Value.{Value}
-use Rattle.mg_table_making.specs.Keys.{AreFree, AreFreeKeys, FailsColumnKey, FailsColumnKeys, FailsFree, FailsOwnKey, IsFreeKey, column_taken, first_taken, free_more, free_none, later_taken, own_taken}
+use Rattle.mg_table_making.specs.Keys.{AreFree, AreFreeKeys, FailsColumnKey, FailsColumnKeys, FailsFree, FailsOwnKey, HaveKeys, IsFreeKey, column_taken, first_taken, free_more, free_none, later_taken, own_taken}
 use Rattle.mg_table_making.proofs.KeepLemmas.{append_none, append_one}
 
 -- ---- the keys of rows
@@ -29,6 +34,20 @@ keys_all f rows rest had further none =
 pub no_rows_left : (rows : List Row) → length rows ≡ 0 → rows ≡ []
 no_rows_left [] none = refl
 no_rows_left (row ∷ rows) none = absurd (omega (arith, none))
+
+-- each row that says a table has its key
+columns_have : (name : List ℕ) (key place : ℕ) (columns : List Column)
+    → HaveKeys catalog_shape (column_rows name key place columns)
+columns_have name key place [] = tt
+columns_have name key place (column ∷ columns) =
+    ((λ same. absurd cc), columns_have name key (place + 1) columns)
+
+pub rows_have : (name : List ℕ) (shape : Shape) (page : ℕ) → HaveKeys catalog_shape (rows_at name shape page)
+rows_have name shape page = ((λ same. absurd cc), columns_have name shape.key 0 shape.columns)
+
+pub first_has : (shape : Shape) (rest later : List Row) (row : Row) → rest ≡ row ∷ later → HaveKeys shape rest
+    → HaveKeys shape (row ∷ later)
+first_has shape rest later row is have = subst (HaveKeys shape) is have
 
 -- ---- keys, one after another
 
@@ -97,8 +116,3 @@ pub none_free : {D : Type 0} (m : Meaning D) (t : TxNo) (keys : List Value) (cor
     → AreFree m t keys core core
 none_free m t [] core none = free_none core
 none_free m t (key ∷ keys) core none = absurd (omega (arith, none))
-
--- a key that was found is that of the row
-pub key_is : (found : Option Value) (key value : Value) → MatchOption found (Unit {0}) (λ k. k ≡ value)
-    → found ≡ Some key → key ≡ value
-key_is found key value told is = subst (λ (o : Option Value). MatchOption o (Unit {0}) (λ k. k ≡ value)) is told

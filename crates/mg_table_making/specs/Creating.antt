@@ -1,5 +1,5 @@
 -- A table is made.
-use Rattle.std.specs.Prelude.{◌≡◌, ◌⊎◌, ℕ, Bool, List, ◌++◌, length}
+use Rattle.std.specs.Prelude.{◌≡◌, ℕ, Bool, List, ◌++◌, length}
 use Rattle.mg_base.specs.Disk.{Meaning}
 use Rattle.mg_base.specs.declared.numbers.TxNo.{TxNo}
 use Rattle.mg_core.specs.Cores.{Continues}
@@ -83,10 +83,9 @@ pub record CreatesTable {D : Type 0} (m : Meaning D) (old new : Core D) (t : TxN
   pub may : MayBeMade m old free t name shape
   pub puts : PutsTable m free new t name shape (keys_made old.catalog.shape name shape)
 
--- why the keys of a table are not had: memory is wanting, or one is NULL, which is so of no row that says a table
+-- why the keys of a table are not had: memory is wanting
 abbrev pub FailsKeys : {D : Type 0} → Core D → Core D → Refusal → Type 0
-FailsKeys old new refusal =
-    IsTold old new Memory refusal ⊎ CountsOne old new (faults.Damaged not_lawful) refusal
+FailsKeys old new refusal = IsTold old new Memory refusal
 
 -- Why a table is not made: each stage's own refusals, after the stages before it.
 pub data FailsCreation {D : Type 0} (m : Meaning D) (old new : Core D) (t : TxNo) (name : List ℕ) (shape : Shape)

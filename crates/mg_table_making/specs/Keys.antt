@@ -9,6 +9,7 @@ use Rattle.mg_core.specs.Putting.{CountsOne}
 use Rattle.mg_core.specs.Reading.{FailsReading}
 use Rattle.mg_core.specs.Writing.{ReadsRow, WhyOfKey}
 use Rattle.mg_core.specs.declared.parts.Core.{Core}
+use Rattle.mg_image.specs.Form.{Row}
 use Rattle.mg_model.specs.Catalog.{key_of}
 use Rattle.mg_model.specs.declared.refusal.Refusal.{Refusal}
 use Rattle.mg_model.specs.declared.refusal.Refusal.TheVariants.{DuplicateKey}
@@ -17,10 +18,16 @@ use Rattle.mg_space.specs.declared.fault.SpaceFault.TheVariants as faults
 use Rattle.mg_table_batch.specs.Filling.{rows_at}
 use Rattle.mg_value.specs.declared.shape.Shape.{Shape}
 use Rattle.mg_value.specs.declared.value.Value.{Value}
+use Rattle.mg_value.specs.declared.value.Value.TheVariants.{Null}
 
 -- the keys of the rows that say a new table, that of its own row first; none depends on the page where it begins
 abbrev pub keys_made : Shape → List ℕ → Shape → List Value
 keys_made catalog name shape = map (key_of catalog) (rows_at name shape 0)
+
+-- each of these rows of a table has a key
+abbrev pub HaveKeys : Shape → List Row → Type 0
+HaveKeys shape [] = Unit {0}
+HaveKeys shape (row ∷ rows) = (key_of shape row ≢ Null) × HaveKeys shape rows
 
 -- the damage of a catalog in which a record speaks for a key without the table's own row: found is the place of the
 -- key among those of the table, wanted how many there are

@@ -1,28 +1,28 @@
 //! The keys under which the rows of a new table come, and whether they are free.
 
-ghost use Rattle.std.specs.Prelude.{◌≡◌, ◌≤◌, IfErr, IfOk, MatchOption, MatchResult, None, OnOk, length, map};
-ghost use Rattle.mg_model.specs.Catalog.{key_of};
+ghost use Rattle.std.specs.Prelude.{◌≡◌, ◌≢◌, ◌≤◌, IfErr, IfOk, MatchResult, None, OnOk, length, map};
+ghost use Rattle.mg_model.specs.Catalog.{catalog_shape, key_of};
 ghost use Rattle.mg_core.specs.Cores.{IsCore};
 ghost use Rattle.mg_core.specs.Reading.{FailsReading};
 ghost use Rattle.mg_core.specs.Writing.{ReadsRow, WhyOfKey};
 ghost use Rattle.mg_table_making.specs.Creating.{FailsKeys};
-ghost use Rattle.mg_table_making.specs.Keys.{AreFree, AreFreeKeys, FailsColumnKey, FailsColumnKeys, FailsFree, FailsOwnKey, IsFreeKey, TellsOutOfPlace, keys_made};
+ghost use Rattle.mg_table_making.specs.Keys.{AreFree, AreFreeKeys, FailsColumnKey, FailsColumnKeys, FailsFree, FailsOwnKey, HaveKeys, IsFreeKey, TellsOutOfPlace, keys_made};
 
 use mg_base::{Damaged, Disk, Field, Memory, PageNo, TxNo};
 use mg_core::{Core, StatesOf};
 use mg_model::{Refusal, Table};
 use mg_records::Write;
-use mg_row_writes::{RowAt, row_at, unlawful, written_key};
+use mg_row_writes::{RowAt, row_at, written_key};
 use mg_space::SpaceFault;
 use mg_table_batch::new_rows;
-use mg_value::{Key, MOST_COLUMNS, Name, Row, Shape};
+use mg_value::{Key, MOST_COLUMNS, Name, Row, Shape, Value};
 use std::alloc::Global;
 
 /// The keys of the rows that say a new table, that of its own row first.
 ///
 /// # Errors
 ///
-/// `Memory`; `Damaged` where a key is NULL, which is so of no row that says a table.
+/// `Memory` only.
 pub(crate) fn keys_for<D: Disk>(
     core: &mut Core<D>,
     name: &Name,
@@ -37,51 +37,47 @@ pub(crate) fn keys_for<D: Disk>(
     ensures fails { IfErr result (FailsKeys core.old core.new) }
 {
     match keys_said(core.store.alloc(), &core.catalog, name, shape) {
-        Ok(Some(keys)) => Ok(keys),
-        Ok(None) => Err(core.refuse(SpaceFault::Damaged(unlawful()))),
+        Ok(keys) => Ok(keys),
         Err(_) => Err(Refusal::Memory),
     }
 }
 
-/// The same. None where one is NULL.
-fn keys_said(
-    alloc: Global,
-    catalog: &Table,
-    name: &Name,
-    shape: &Shape,
-) -> Result<Option<Vec<Key>>, Memory>
-    requires { length shape.now.columns ≤ MOST_COLUMNS }
-    ensures { IfOk result (λ found. MatchOption found (Unit {0})
-        (λ keys. keys.items ≡ keys_made catalog.now.shape name.now shape.now)) }
+/// The same.
+fn keys_said(alloc: Global, catalog: &Table, name: &Name, shape: &Shape) -> Result<Vec<Key>, Memory>
+    requires catalog { catalog.now.shape ≡ catalog_shape }
+    requires columns { length shape.now.columns ≤ MOST_COLUMNS }
+    ensures { IfOk result (λ keys. keys.items ≡ keys_made catalog.now.shape name.now shape.now) }
 {
     let rows = new_rows(alloc, name, shape, PageNo(0))?;
     keys_of(alloc, catalog, &rows)
 }
 
-/// The keys of rows of a table. None where one is NULL.
-fn keys_of(alloc: Global, table: &Table, rows: &[Row]) -> Result<Option<Vec<Key>>, Memory>
-    ensures { IfOk result (λ found. MatchOption found (Unit {0})
-        (λ keys. keys.items ≡ map (key_of table.now.shape) rows.now)) }
+/// The keys of rows of a table, none of which is NULL.
+fn keys_of(alloc: Global, table: &Table, rows: &[Row]) -> Result<Vec<Key>, Memory>
+    requires { HaveKeys table.now.shape rows.now }
+    ensures { IfOk result (λ keys. keys.items ≡ map (key_of table.now.shape) rows.now) }
 {
     let mut keys = Vec::new(alloc);
     let mut rest = rows;
     while let Some((row, later)) = rest.split_first() {
-        let Some(key) = key_of_row(alloc, table, row)? else {
-            return Ok(None);
-        };
+        let key = key_of_row(alloc, table, row)?;
         keys.push(key)?;
         rest = later;
     }
-    Ok(Some(keys))
+    Ok(keys)
 }
 
-/// The key of a row of a table. None where it is NULL.
-fn key_of_row(alloc: Global, table: &Table, row: &Row) -> Result<Option<Key>, Memory>
-    ensures { IfOk result (λ found. MatchOption found (Unit {0})
-        (λ key. key ≡ key_of table.now.shape row.now)) }
+/// The key of a row of a table, which is not NULL.
+fn key_of_row(alloc: Global, table: &Table, row: &Row) -> Result<Key, Memory>
+    requires { key_of table.now.shape row.now ≢ Value.Null }
+    ensures { IfOk result (λ key. key ≡ key_of table.now.shape row.now) }
 {
     let write = Write::Insert(row.copy(alloc)?);
-    written_key(alloc, table, &write)
+    match written_key(alloc, table, &write)? {
+        Some(key) => Ok(key),
+        // Each row that says a table has its key.
+        None => unreachable!(),
+    }
 }
 
 /// Goes on where the keys of a new table are free, its own key first.

@@ -2,6 +2,7 @@
 use Rattle.std.specs.Prelude.{◌≡◌, ℕ, List, [], ◌∷◌, Option, None, Some}
 use Rattle.mg_base.specs.Disk.{Meaning}
 use Rattle.mg_base.specs.Image.{Image}
+use Rattle.mg_base.specs.declared.damage.Damaged.{Damaged}
 use Rattle.mg_base.specs.declared.numbers.RecId.{RecId}
 use Rattle.mg_base.specs.declared.transaction.TxState.{TxState}
 use Rattle.mg_chain.specs.Refusals.{RefusesChain}
@@ -9,16 +10,17 @@ use Rattle.mg_chain.specs.Writing.{TakesOut}
 use Rattle.mg_chain.specs.WritingRefusals.{RefusesBackOut}
 use Rattle.mg_image.specs.Form.{Pages}
 use Rattle.mg_model.specs.declared.table.Table.{Table}
-use Rattle.mg_pool.specs.Batch.{Changed}
+use Rattle.mg_pool.specs.Batch.{Changed, IsLawful}
 use Rattle.mg_pool.specs.declared.batch.BatchPage.{BatchPage}
+use Rattle.mg_pool.specs.declared.fault.PoolFault.TheVariants as pool_faults
 use Rattle.mg_pool.specs.declared.pool.Pool.{Pool}
-use Rattle.mg_row_writes.specs.Changing.{ChangesOwn, FailsOwn, not_lawful, nothing_yet}
+use Rattle.mg_row_writes.specs.Changing.{ChangesOwn, FailsOwn, nothing_yet}
 use Rattle.mg_seek.specs.Speaking.{IsSpeaker, RefusesTableRows}
 use Rattle.mg_seek.specs.Versions.{IsFirst, wants}
 use Rattle.mg_seek.specs.declared.walk.Placed.{Placed}
 use Rattle.mg_seek.specs.declared.whose.Wanted.TheVariants.{Any, Living}
 use Rattle.mg_snap.specs.Live.{State}
-use Rattle.mg_space.specs.View.{KeepsStore, viewed}
+use Rattle.mg_space.specs.View.{KeepsStore, Tells, viewed}
 use Rattle.mg_space.specs.declared.fault.SpaceFault.{SpaceFault}
 use Rattle.mg_space.specs.declared.fault.SpaceFault.TheVariants as faults
 use Rattle.mg_space.specs.declared.links.FireLinks.{FireLinks}
@@ -39,19 +41,20 @@ pub record IsAloneAt (state : ℕ → TxState) (live : State) (t : ℕ) (view : 
   pub first : IsFirst view (wants state live Any) rec newest
   pub alone : IsAlone t newest
 
--- Why no such record is found. That none speaks for the key, or that it has another version, no lawful engine meets.
+-- Why no such record is found. That none speaks for the key, or that it has another version, no lawful engine meets, and it is
+-- no damage of a page: it is told as want of memory.
 pub data RefusesAloneAt {D L : Type 0} (m : Meaning D) (store : Pool D L) (pages : List BatchPage)
     (view : Pages) (state : ℕ → TxState) (live : State) (t : ℕ) (table : Table) (key : Value) (fault : SpaceFault)
     : Type 0 where
   alone_unspoken : RefusesTableRows m store pages view (wants state live Living) table fault
       → RefusesAloneAt m store pages view state live t table key fault
-  alone_nobody : IsSpeaker state live view table key None → fault ≡ faults.Damaged not_lawful
+  alone_nobody : IsSpeaker state live view table key None → fault ≡ faults.Pool pool_faults.Memory
       → RefusesAloneAt m store pages view state live t table key fault
   alone_unread : (rec : RecId) → IsSpeaker state live view table key (Some rec)
       → RefusesChain m store pages view rec fault
       → RefusesAloneAt m store pages view state live t table key fault
   alone_other : (rec : RecId) (newest : Option Placed) → IsSpeaker state live view table key (Some rec)
-      → IsFirst view (wants state live Any) rec newest → (IsAlone t newest → ⊥) → fault ≡ faults.Damaged not_lawful
+      → IsFirst view (wants state live Any) rec newest → (IsAlone t newest → ⊥) → fault ≡ faults.Pool pool_faults.Memory
       → RefusesAloneAt m store pages view state live t table key fault
 
 -- ---- a row
@@ -103,8 +106,20 @@ abbrev pub TakesRowsOut : {D : Type 0} → Meaning D → Pool D FireLinks → Po
 TakesRowsOut m before after state live t table keys =
     ChangesOwn m before after (λ image batch. TakesRows before image state live t table keys nothing_yet batch)
 
-abbrev pub FailsRowsOut : {D : Type 0} → Meaning D → Pool D FireLinks → Pool D FireLinks → (ℕ → TxState) → State → ℕ
-    → Table → List Value → SpaceFault → Type 0
-FailsRowsOut m before after state live t table keys fault =
-    FailsOwn m before after (λ image batch. TakesRows before image state live t table keys nothing_yet batch)
-    (λ image f. RefusesRows m after image state live t table f keys before nothing_yet) fault
+-- why no row is taken out: one is not, or the batch of them all is not lawful, which has too many pages for a batch, or
+-- orders that close a cycle; that is told as want of memory, since no page is damaged
+pub data RefusesOut {D : Type 0} (m : Meaning D) (before after : Pool D FireLinks) (image : Image) (state : ℕ → TxState)
+    (live : State) (t : ℕ) (table : Table) (keys : List Value) (fault : SpaceFault) : Type 0 where
+  out_not_filled : RefusesRows m after image state live t table fault keys before nothing_yet
+      → RefusesOut m before after image state live t table keys fault
+  out_not_lawful : (batch : Changed) → TakesRows before image state live t table keys nothing_yet batch
+      → (IsLawful before.geometry.size batch.pages batch.orders → ⊥) → fault ≡ faults.Pool pool_faults.Memory
+      → RefusesOut m before after image state live t table keys fault
+
+-- They are not taken out in a batch of their own. Damage is met as a row is read or taken out, and nowhere else.
+pub record FailsRowsOut {D : Type 0} (m : Meaning D) (before after : Pool D FireLinks) (state : ℕ → TxState)
+    (live : State) (t : ℕ) (table : Table) (keys : List Value) (fault : SpaceFault) : Type 0 where
+  pub own : FailsOwn m before after (λ image batch. TakesRows before image state live t table keys nothing_yet batch)
+      (λ image f. RefusesOut m before after image state live t table keys f) fault
+  pub damage : (it : Damaged) → fault ≡ faults.Damaged it → (image : Image) → Tells m before.disk image
+      → RefusesRows m after image state live t table fault keys before nothing_yet

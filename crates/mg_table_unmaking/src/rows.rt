@@ -12,8 +12,8 @@ ghost use Rattle.mg_table_unmaking.specs.Rows.{FailsRowsOut, IsAlone, IsAloneAt,
 use mg_base::{Disk, GREATEST_LIMIT, RecId, TxNo};
 use mg_chain::{States, back_out};
 use mg_model::Table;
-use mg_pool::Batch;
-use mg_row_writes::{change_batch, unlawful};
+use mg_pool::{Batch, PoolFault};
+use mg_row_writes::change_batch;
 use mg_seek::{Placed, Wanted, first_version, speaker};
 use mg_snap::Live;
 use mg_space::{SpaceFault, Store};
@@ -33,8 +33,8 @@ fn is_alone(newest: &Option<Placed>, t: TxNo) -> bool
 ///
 /// # Errors
 ///
-/// As `speaker` and `first_version` of mg_seek; `Damaged` by `unlawful` where no record speaks for the key, or its versions
-/// are others.
+/// As `speaker` and `first_version` of mg_seek; `Memory` where no record speaks for the key, or its versions are others, which
+/// no engine meets that has made the row: no page is damaged then.
 fn alone_at<D: Disk, S: States>(
     store: &mut Store<D>,
     batch: &Batch,
@@ -60,13 +60,13 @@ fn alone_at<D: Disk, S: States>(
 {
     let found = speaker(store, batch, table, key, states, live)?;
     let Some(rec) = found else {
-        return Err(SpaceFault::Damaged(unlawful()));
+        return Err(SpaceFault::Pool(PoolFault::Memory));
     };
     let newest = first_version(store, batch, rec, states, live, Wanted::Any)?;
     if is_alone(&newest, t) {
         return Ok(rec);
     }
-    Err(SpaceFault::Damaged(unlawful()))
+    Err(SpaceFault::Pool(PoolFault::Memory))
 }
 
 /// Takes the row of a key out of a table, in a batch.
@@ -146,7 +146,8 @@ fn take_rows<D: Disk, S: States>(
 ///
 /// # Errors
 ///
-/// As `take_rows`, and as the change of a batch.
+/// As `take_rows`, and as the change of a batch. `Memory` also where the rows stand on more pages than a batch may change, or
+/// its orders would close a cycle: no page is damaged then.
 pub fn take_rows_out<D: Disk, S: States>(
     store: &mut Store<D>,
     table: &Table,
@@ -169,5 +170,8 @@ pub fn take_rows_out<D: Disk, S: States>(
 {
     let mut batch = Batch::new(store.alloc());
     take_rows(store, &mut batch, table, keys, states, live, t)?;
+    if !batch.is_lawful(store.geometry().size) {
+        return Err(SpaceFault::Pool(PoolFault::Memory));
+    }
     change_batch(store, batch)
 }

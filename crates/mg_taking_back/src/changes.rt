@@ -59,8 +59,8 @@ fn take_pages<D: Disk>(
 ///
 /// # Errors
 ///
-/// `Damaged` where no such table is known, no record speaks for the key, its newest version is another transaction's,
-/// or the row does not fit, none of which a lawful engine meets; or what the pages are refused for, or `Memory`.
+/// `Damaged` where no such table is known, no record speaks for the key, or its newest version is another transaction's,
+/// none of which a lawful engine meets; or what the pages are refused for, or `Memory`.
 pub fn take_key<D: Disk>(
     core: &mut Core<D>,
     t: TxNo,

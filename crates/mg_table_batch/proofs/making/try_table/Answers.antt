@@ -1,7 +1,7 @@
 use Rattle.std.proofs.Common.{◌∙◌, ap}
 use Rattle.mg_base.specs.Image.{Image}
 use Rattle.mg_base.specs.declared.geometry.Geometry.{Geometry}
-use Rattle.mg_pool.specs.Batch.{Changed}
+use Rattle.mg_pool.specs.Batch.{Changed, IsLawful}
 use Rattle.mg_row_writes.specs.Changing.{nothing_yet}
 use Rattle.mg_space.specs.declared.fault.SpaceFault.{SpaceFault}
 use Rattle.mg_table_batch.specs.Filling.{FillsTable}
@@ -16,7 +16,8 @@ returns-in_err-fill-clause-tries g c = handed_on c.from_residual.result c.in_err
     (FailsTry g.D.Disk.meaning c.args.catalog.now c.args.t.0 c.args.name.now c.args.shape.now c.args.store.now c.fill.new.store)
     c.from_residual.ensures.0 c.from_residual.ensures.1
     (not_at_once (not_filled_by (Unit {0}) g.D.Disk.meaning c.args.store.now c.fill.new.store
-    (λ (image : Image). λ (batch : Changed). FillsTable c.args.store.now image c.args.catalog.now c.args.t.0 c.args.name.now c.args.shape.now nothing_yet batch)
+    (λ (image : Image). λ (batch : Changed). FillsTable c.args.store.now image c.args.catalog.now c.args.t.0 c.args.name.now c.args.shape.now nothing_yet batch
+    × IsLawful c.args.store.now.geometry.size batch.pages batch.orders)
     (λ (empty : Changed). λ (image : Image). λ (f : SpaceFault). RefusesTable g.D.Disk.meaning c.args.store.now c.fill.new.store image c.args.catalog.now c.args.t.0 c.args.name.now
     c.args.shape.now empty f) c.new-batch.result c.in_err-fill.field-0.0 c.new-batch.ensures.pages c.new-batch.ensures.orders
     c.in_err-fill.ensures.keeps c.in_err-fill.ensures.own c.in_err-fill.ensures.fault c.in_err-fill.ensures.fills))
@@ -28,8 +29,10 @@ returns-in_err-change_lawful-clause-tries g c = handed_on c.from_residual-in_err
     c.from_residual-in_err-change_lawful.ensures.0 c.from_residual-in_err-change_lawful.ensures.1
     (not_changed_once g.D.Disk.meaning c.args.catalog.now c.args.t.0 c.args.name.now c.args.shape.now c.args.store.now
     c.fill.new.store c.new-batch.result c.fill.new.batch c.new-batch.ensures.pages c.new-batch.ensures.orders
-    c.in_ok-fill.ensures.keeps c.in_ok-fill.ensures.fault c.in_ok-fill.ensures.fills c.change_lawful.new.store
-    c.in_err-change_lawful.field-0.0 c.in_err-change_lawful.ensures.changes)
+    c.in_ok-fill.ensures.keeps c.in_ok-fill.ensures.fault c.in_ok-fill.ensures.fills c.geometry.result.size
+    c.is_lawful.result (ap (λ (g : Geometry). g.size) (c.geometry.ensures ∙ c.in_ok-fill.ensures.keeps.geometry))
+    c.if-is_lawful.true c.is_lawful.ensures.0 c.change_lawful.new.store c.in_err-change_lawful.field-0.0
+    c.in_err-change_lawful.ensures.changes)
 
 pub returns-then-is_lawful-clause-tries : goal.returns-then-is_lawful-clause-tries
 returns-then-is_lawful-clause-tries g c = made_at_once g.D.Disk.meaning c.args.catalog.now c.args.t.0 c.args.name.now

@@ -1,9 +1,9 @@
-use Rattle.mg_base.specs.Image.{Image}
-use Rattle.mg_pool.specs.Batch.{Changed}
-use Rattle.mg_row_writes.specs.Changing.{nothing_yet}
-use Rattle.mg_space.specs.declared.fault.SpaceFault.{SpaceFault}
-use Rattle.mg_table_unmaking.specs.Rows.{FailsRowsOut, RefusesRows, TakesRows}
-use Rattle.mg_table_unmaking.proofs.BatchLemmas.{data_alone, not_filled_by, own_batch}
+use Rattle.std.proofs.Common.{refl, subst, sym, ◌∙◌}
+use Rattle.std.proofs.lemmas.Bool.{false≢true}
+use Rattle.mg_base.specs.declared.geometry.Geometry.{Geometry}
+use Rattle.mg_pool.specs.Batch.{IsLawful}
+use Rattle.mg_table_unmaking.specs.Rows.{FailsRowsOut}
+use Rattle.mg_table_unmaking.proofs.BatchLemmas.{rows_changed, rows_not_filled, rows_not_lawful}
 use Rattle.mg_table_unmaking.proofs.ReadLemmas.{handed_on}
 use Rattle.mg_table_unmaking.proofs.rows.take_rows_out.Goals as goal
 
@@ -11,25 +11,23 @@ pub returns-in_err-take_rows-clause-takes : goal.returns-in_err-take_rows-clause
 returns-in_err-take_rows-clause-takes g c = handed_on c.from_residual.result c.in_err-take_rows.field-0.0 _
     (FailsRowsOut g.D.Disk.meaning c.args.store.now c.take_rows.new.store (g.S.States.state_of c.args.states.now)
     c.args.live.now c.args.t.0 c.args.table.now c.args.keys.now) c.from_residual.ensures.0 c.from_residual.ensures.1
-    (not_filled_by (Unit {0}) g.D.Disk.meaning c.args.store.now c.take_rows.new.store
-    (λ (image : Image). λ (batch : Changed). TakesRows c.args.store.now image (g.S.States.state_of c.args.states.now)
-    c.args.live.now c.args.t.0 c.args.table.now c.args.keys.now nothing_yet batch)
-    (λ (empty : Changed). λ (image : Image). λ (f : SpaceFault). RefusesRows g.D.Disk.meaning c.take_rows.new.store image
-    (g.S.States.state_of c.args.states.now) c.args.live.now c.args.t.0 c.args.table.now f c.args.keys.now
-    c.args.store.now empty) c.new-batch.result c.in_err-take_rows.field-0.0 c.new-batch.ensures.pages
-    c.new-batch.ensures.orders c.in_err-take_rows.ensures.keeps
-    (data_alone (Unit {0}) c.in_err-take_rows.field-0.0 c.in_err-take_rows.ensures.own) c.in_err-take_rows.ensures.fault
-    c.in_err-take_rows.ensures.takes)
+    (rows_not_filled g.D.Disk.meaning c.args.store.now (g.S.States.state_of c.args.states.now) c.args.live.now c.args.t.0
+    c.args.table.now c.args.keys.now c.take_rows.new.store c.new-batch.result c.in_err-take_rows.field-0.0
+    c.new-batch.ensures.pages c.new-batch.ensures.orders c.in_err-take_rows.ensures.keeps
+    c.in_err-take_rows.ensures.own c.in_err-take_rows.ensures.fault c.in_err-take_rows.ensures.takes)
+
+pub returns-then-not-is_lawful-clause-takes : goal.returns-then-not-is_lawful-clause-takes
+returns-then-not-is_lawful-clause-takes g c = rows_not_lawful g.D.Disk.meaning c.args.store.now
+    (g.S.States.state_of c.args.states.now) c.args.live.now c.args.t.0 c.args.table.now c.args.keys.now
+    c.take_rows.new.store c.new-batch.result c.take_rows.new.batch c.new-batch.ensures.pages c.new-batch.ensures.orders
+    c.in_ok-take_rows.ensures.keeps c.in_ok-take_rows.ensures.fault c.in_ok-take_rows.ensures.takes
+    (λ lawful. false≢true (sym c.if-not-is_lawful.true ∙ c.is_lawful.ensures.1 (subst (λ (g : Geometry). IsLawful g.size
+    c.take_rows.new.batch.pages c.take_rows.new.batch.orders) (sym c.geometry.ensures) lawful)))
 
 pub returns-clause-takes : goal.returns-clause-takes
-returns-clause-takes g c = own_batch g.D.Disk.meaning c.args.store.now c.take_rows.new.store c.change_batch.new.store
-    (λ (image : Image). λ (batch : Changed). TakesRows c.args.store.now image (g.S.States.state_of c.args.states.now)
-    c.args.live.now c.args.t.0 c.args.table.now c.args.keys.now nothing_yet batch)
-    (λ (image : Image). λ (f : SpaceFault). RefusesRows g.D.Disk.meaning c.change_batch.new.store image
-    (g.S.States.state_of c.args.states.now) c.args.live.now c.args.t.0 c.args.table.now f c.args.keys.now
-    c.args.store.now nothing_yet) c.new-batch.result c.take_rows.new.batch
-    (λ (empty : Changed). λ (image : Image). λ (batch : Changed). TakesRows c.args.store.now image
-    (g.S.States.state_of c.args.states.now) c.args.live.now c.args.t.0 c.args.table.now c.args.keys.now empty batch)
-    c.change_batch.result c.new-batch.ensures.pages c.new-batch.ensures.orders (λ image batch given. given)
-    c.in_ok-take_rows.ensures.keeps c.in_ok-take_rows.ensures.fault c.in_ok-take_rows.ensures.takes
-    c.change_batch.ensures.changes
+returns-clause-takes g c = rows_changed g.D.Disk.meaning c.args.store.now (g.S.States.state_of c.args.states.now)
+    c.args.live.now c.args.t.0 c.args.table.now c.args.keys.now c.take_rows.new.store c.new-batch.result
+    c.take_rows.new.batch c.new-batch.ensures.pages c.new-batch.ensures.orders c.in_ok-take_rows.ensures.keeps
+    c.in_ok-take_rows.ensures.fault c.in_ok-take_rows.ensures.takes c.change_batch.new.store c.change_batch.result
+    (subst (λ (g : Geometry). IsLawful g.size c.take_rows.new.batch.pages c.take_rows.new.batch.orders)
+    c.geometry.ensures (c.is_lawful.ensures.0 c.if-not-is_lawful.false)) c.change_batch.ensures.changes
