@@ -6,7 +6,6 @@ use Rattle.std.proofs.lemmas.Bool.{cases_eq, eq-eqb, eqb-true, false≢true, ne_
 use Rattle.mg_base.specs.Disk.{Meaning}
 use Rattle.mg_base.specs.Image.{Image}
 use Rattle.mg_base.specs.declared.geometry.Geometry.{Geometry}
-use Rattle.mg_base.specs.declared.numbers.RecId.{RecId}
 use Rattle.mg_base.specs.declared.numbers.TxNo.{TxNo}
 use Rattle.mg_base.specs.declared.transaction.TxState.{TxState}
 use Rattle.mg_base.specs.declared.transaction.TxState.TheVariants.{Active, Dead}
@@ -25,12 +24,13 @@ use Rattle.mg_model.specs.Legal.{IsLawful, IsLegal, MayBegin}
 use Rattle.mg_model.specs.Machine.{deeds_by, is_of, mode_of, next_number, state_of, steps}
 use Rattle.mg_model.specs.NumberLaws.{undrawn_has_no_deeds, undrawn_is_dead}
 use Rattle.mg_model.specs.Openings.{everyone}
-use Rattle.mg_engine_steps.specs.Walking.{AreToCome}
+use Rattle.mg_engine_steps.specs.Walking.{AreToCome, WalkPlace}
 use Rattle.mg_engine_steps.specs.ListShows.{DrawsKeepList}
 use Rattle.mg_engine_steps.specs.Begins.{BeginsGoOn, DrawsStaySound}
 use Rattle.mg_engine_steps.specs.GoesOn.{HasGoneOn}
 use Rattle.mg_engine_tables.specs.Finding.{BeginFinds, BeginHasTables, TablesFor}
 use Rattle.mg_engine_tables.specs.Alike.{OthersTakeAlike, WalksStayOver}
+use Rattle.mg_engine_tables.specs.Lawful.{DatabasesAreLawful}
 use Rattle.mg_table_overlays.specs.Growing.{IsTableOf}
 use Rattle.mg_image.specs.Form.{Pages, packed_coding, packed_form}
 use Rattle.mg_image.specs.Inventory.{next_of}
@@ -70,9 +70,10 @@ use Rattle.mg_engine_meaning.specs.PlainLaws.{plain_tables_by}
 use Rattle.mg_engine_meaning.specs.PlainTables.{HasPlainTables}
 use Rattle.mg_engine_meaning.specs.KeptLaws.{IsBare, StaysKept, kept_each}
 use Rattle.mg_engine_meaning.specs.LawfulLaws.{legal_of, memory_of, opening_of}
-use Rattle.mg_engine_meaning.specs.Meaning.{AreNext, Places, WorksFor, means, rec_at}
+use Rattle.mg_engine_meaning.specs.Meaning.{AreNext, Places, WorksFor, means, place_at}
 use Rattle.mg_engine_meaning.specs.Standings.{AreSeen, HasTips, KeepsWritten, SeesAlike, ShowsIt, StandsFor, StandsWhile, Tables, asked_in, mode_kept, session_kept, sessions_in, standing_of, undo_kept, written_kept}
 use Rattle.mg_engine_meaning.specs.StepLaws.{as_standing, shows_of}
+use Rattle.mg_engine_meaning.specs.BasesLaws.{bases_after}
 use Rattle.mg_engine_calls.specs.DrawnStores.{drawn_catalog, drawn_data, drawn_goes, drawn_offline, drawn_unmarked}
 use Rattle.mg_engine_calls.specs.NewWorks.{begun_apart, begun_asked, begun_given, begun_its, begun_others, begun_sessions, next_none, none_asked}
 
@@ -85,6 +86,7 @@ pub record KnownOfDraws {D : Type 0} (m : Meaning D) : Type 0 where
   pub sound : DrawsStaySound D FireLinks m packed_form
   pub list : DrawsKeepList D FireLinks m packed_form
   pub has_tables : BeginHasTables
+  pub databases : DatabasesAreLawful
   pub finds : BeginFinds
   pub one_way : StandsOneWay packed_form
   pub takes : OthersTakeAlike
@@ -431,6 +433,8 @@ module _ {D P : Type 0} (m : Meaning D) (places : Places P) (known : KnownOfDraw
     stands_by = record {
       tells = goes.time.tells ∙ stands.tells;
       grows = record { limbo = stands.grows.limbo; entries = (refl, stands.grows.entries) };
+      bases = bases_after o h e stands.bases (λ u is. known.databases size o h s pages
+          (record { memory = shows.stands.memory; shows = shows.stands.shows }));
       numbers = stands.numbers;
       tables = tables_now stands.tables tables_for.table;
       given = seen_now stands.tables tables_for.table stands.given;
@@ -442,7 +446,7 @@ module _ {D P : Type 0} (m : Meaning D) (places : Places P) (known : KnownOfDraw
     leaves_by = gone.leaves
 
     -- the rows to which a walk of another one comes
-    comes_by : (u : ℕ) (table : Table) (after : Option RecId) (rows : KeyedRows) → is_of u (Some tx.0) ≡ false
+    comes_by : (u : ℕ) (table : Table) (after : Option WalkPlace) (rows : KeyedRows) → is_of u (Some tx.0) ≡ false
         → AreToCome size s pages u table after rows → AreToCome size new later u table after rows
     comes_by u table after rows not_ come = known.walks size s new pages later u table after rows
         (known.takes o h e s new u (may_begin o h stands) (legal o h stands) (memory_of m old o h stands) follows not_)
@@ -458,7 +462,7 @@ module _ {D P : Type 0} (m : Meaning D) (places : Places P) (known : KnownOfDraw
 
   -- walks of the others
   next_on : (o : Opening) (h : Entries) (stands : StandsFor m old o h) (j : Image) (held : m.held store.disk ≡ Some j)
-      (u : ℕ) (table : Table) (after : Option RecId) (rows : KeyedRows) (s_now : Standing)
+      (u : ℕ) (table : Table) (after : Option WalkPlace) (rows : KeyedRows) (s_now : Standing)
       → is_of u (Some tx.0) ≡ false → said list ≡ s_now.state → after_enter old.live tx.0 ≡ s_now.live
       → AreNext m old (standing_of old stands.numbers stands.tables) u table after rows None
       → AreNext m now s_now u table after rows None
@@ -492,11 +496,11 @@ module _ {D P : Type 0} (m : Meaning D) (places : Places P) (known : KnownOfDraw
             ≡ state_of comes.opening comes.entries u = rw not_ refl in same ∙ comes.active);
         seen = given_others u table.name (apart_from u tx.0 not_) ∙ comes.seen;
         next = subst (λ (off : Option ℕ). AreNext m now (standing_of now stands_now.numbers stands_now.tables) u table
-            (rec_at places after) rows off) (sym (offline ∙ online))
-            (next_on comes.opening comes.entries comes.stands held.0 held.1 u table (rec_at places after) rows
+            (place_at places after) rows off) (sym (offline ∙ online))
+            (next_on comes.opening comes.entries comes.stands held.0 held.1 u table (place_at places after) rows
             (standing_of now stands_now.numbers stands_now.tables) not_ refl refl
             (subst (λ (off : Option ℕ). AreNext m old
-            (standing_of old comes.stands.numbers comes.stands.tables) u table (rec_at places after) rows off)
+            (standing_of old comes.stands.numbers comes.stands.tables) u table (place_at places after) rows off)
             online comes.next));
       }
 

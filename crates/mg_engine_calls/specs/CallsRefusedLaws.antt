@@ -32,7 +32,7 @@ use Rattle.mg_txlist_ties.specs.CommitTies.{ShowsTip}
 use Rattle.mg_core.specs.declared.parts.Core.{Core}
 use Rattle.mg_engine_meaning.specs.Frames.{GivesEvent}
 use Rattle.mg_engine_meaning.specs.PlainTables.{HasPlainTables}
-use Rattle.mg_engine_meaning.specs.Meaning.{AreNext, ComesTo, Places, means, rec_at}
+use Rattle.mg_engine_meaning.specs.Meaning.{AreNext, ComesTo, Places, means, place_at}
 use Rattle.mg_engine_meaning.specs.MemoryCallLaws.{idle_finds, memory_stands}
 use Rattle.mg_engine_meaning.specs.Standings.{HasTips, Numbers, StandsFor, StandsWhile, Tables, standing_of}
 use Rattle.mg_engine_meaning.specs.StepLaws.{as_standing}
@@ -72,7 +72,7 @@ module _ {D P : Type 0} (m : Meaning D) (places : Places P) (idle_goes : IdleGoe
       → StandsFor m core o (refused session mode refusal ∷ h)
   refused_stands core o h session mode refusal lawful stands =
       memory_stands m places core core.waits core.works core.live idle_goes on quiet refl refl o h
-      (refused session mode refusal) stands stands.tables stands.given stands.kept lawful refl refl
+      (refused session mode refusal) stands stands.tables stands.given stands.kept stands.bases lawful refl refl
       refl
       (nothing_follows core o h session mode refusal stands.numbers stands.tables)
       (λ shows. idle_finds core.store.geometry.size o h (refused session mode refusal)
@@ -141,6 +141,7 @@ module _ {D P : Type 0} (m : Meaning D) (places : Places P) (core : Core D) (lis
   list_stands o h stands = record {
     tells = stands.tells;
     grows = stands.grows;
+    bases = stands.bases;
     numbers = stands.numbers;
     tables = stands.tables;
     given = stands.given;
@@ -170,8 +171,8 @@ module _ {D P : Type 0} (m : Meaning D) (places : Places P) (core : Core D) (lis
       }
 
   pub list_walks : (u : ℕ) (table : Table) (after : Option P) (rows : KeyedRows)
-      → ComesTo m core u table (rec_at places after) rows
-      → ComesTo m (record core { list = list }) u table (rec_at places after) rows
+      → ComesTo m core u table (place_at places after) rows
+      → ComesTo m (record core { list = list }) u table (place_at places after) rows
   list_walks u table after rows comes =
       let stands_now : StandsFor m (record core { list = list }) comes.opening comes.entries =
       list_stands comes.opening comes.entries comes.stands in record {
@@ -186,12 +187,12 @@ module _ {D P : Type 0} (m : Meaning D) (places : Places P) (core : Core D) (lis
       }
     where
       by : (s s_now : Standing) → s.state ≡ s_now.state → s.live ≡ s_now.live → (off : Option ℕ)
-          → AreNext m core s u table (rec_at places after) rows off
-          → AreNext m (record core { list = list }) s_now u table (rec_at places after) rows off
+          → AreNext m core s u table (place_at places after) rows off
+          → AreNext m (record core { list = list }) s_now u table (place_at places after) rows off
       by s s_now state bases None (image, held, next) = (
         image,
         held,
-        as_standing core.store.geometry.size s s_now (shown core.store.dirty image) u table (rec_at places after) rows
+        as_standing core.store.geometry.size s s_now (shown core.store.dirty image) u table (place_at places after) rows
             state bases next,
       )
       by s s_now state bases (Some faults) next = tt

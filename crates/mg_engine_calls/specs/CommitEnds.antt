@@ -7,11 +7,10 @@ use Rattle.mg_base.specs.Disk.{MayLeave, Meaning}
 use Rattle.mg_base.specs.Fields.{byte}
 use Rattle.mg_base.specs.Image.{Image}
 use Rattle.mg_base.specs.declared.geometry.Geometry.{Geometry}
-use Rattle.mg_base.specs.declared.numbers.RecId.{RecId}
 use Rattle.mg_base.specs.declared.numbers.TxNo.{TxNo}
 use Rattle.mg_base.specs.declared.transaction.TxState.{TxState}
 use Rattle.mg_base.specs.declared.transaction.TxState.TheVariants.{Active, Committed, Limbo}
-use Rattle.mg_engine_steps.specs.Walking.{AreToCome}
+use Rattle.mg_engine_steps.specs.Walking.{AreToCome, WalkPlace}
 use Rattle.mg_engine_steps.specs.Commits.{CommitsGoOn, CommitsOver, HasEnded, HasNoneLeft}
 use Rattle.mg_engine_steps.specs.TipPages.{SetsBits, bits_stay_sound, no_header, page_is, within_last}
 use Rattle.mg_engine_steps.specs.GoesOn.{PoolIsKept}
@@ -66,7 +65,7 @@ use Rattle.mg_engine_meaning.specs.PlainTables.{HasPlainTables}
 use Rattle.mg_engine_meaning.specs.PlainLaws.{plain_tables_by}
 use Rattle.mg_engine_meaning.specs.KeptLaws.{kept_without_work}
 use Rattle.mg_engine_meaning.specs.LawfulLaws.{memory_of}
-use Rattle.mg_engine_meaning.specs.Meaning.{AreNext, HasWrittenAll, Places, means, rec_at}
+use Rattle.mg_engine_meaning.specs.Meaning.{AreNext, HasWrittenAll, Places, means, place_at}
 use Rattle.mg_engine_meaning.specs.MemoryCallLaws.{active_answer}
 use Rattle.mg_engine_meaning.specs.Standings.{HasTips, ShowsIt, StandsFor, StandsWhile, asked_in, sessions_in, standing_of}
 use Rattle.mg_engine_calls.specs.Ends.{GivesDurable}
@@ -408,7 +407,7 @@ module _ {D P : Type 0} (m : Meaning D) (places : Places P) (holds : HoldsOne D 
 
     -- ---- walks
 
-    pub next_on : (u : ℕ) → is_of u (Some t.0) ≡ false → (table : Table) (after : Option RecId) (rows : KeyedRows)
+    pub next_on : (u : ℕ) → is_of u (Some t.0) ≡ false → (table : Table) (after : Option WalkPlace) (rows : KeyedRows)
         → AreToCome old.store.geometry.size (standing_of old stands.numbers stands.tables)
         (shown old.store.dirty shows.image) u table after rows
         → AreToCome store.geometry.size
@@ -435,6 +434,7 @@ module _ {D P : Type 0} (m : Meaning D) (places : Places P) (holds : HoldsOne D 
   stands_now o h stands = record {
     tells = goes.goes.time.tells ∙ stands.tells;
     grows = record { limbo = stands.grows.limbo; entries = (refl, stands.grows.entries) };
+    bases = stands.bases;
     numbers = stands.numbers;
     tables = stands.tables;
     given = seen_still m places old waits list store t.0 stands.tables stands.given;
@@ -446,7 +446,7 @@ module _ {D P : Type 0} (m : Meaning D) (places : Places P) (holds : HoldsOne D 
   }
 
   next_by : (o : Opening) (h : Entries) (stands : StandsFor m old o h) (u : ℕ) → is_of u (Some t.0) ≡ false
-      → (table : Table) (after : Option RecId) (rows : KeyedRows)
+      → (table : Table) (after : Option WalkPlace) (rows : KeyedRows)
       → (shows : ShowsIt m old o h (standing_of old stands.numbers stands.tables))
       → (now : (j : Image) × (m.held store.disk ≡ Some j) × MayLeave m store.disk j)
       → AreNext m old (standing_of old stands.numbers stands.tables) u table after rows None
@@ -473,11 +473,11 @@ module _ {D P : Type 0} (m : Meaning D) (places : Places P) (holds : HoldsOne D 
     seen = given_same m places old waits list store t.0 u table.name not_ ∙ comes.seen;
     next = subst (λ (off : Option ℕ). AreNext m (left_by old waits list store t.0)
         (standing_of (left_by old waits list store t.0) comes.stands.numbers comes.stands.tables) u table
-        (rec_at places after) rows off) (sym online)
-        (next_by comes.opening comes.entries comes.stands u not_ table (rec_at places after) rows
+        (place_at places after) rows off) (sym online)
+        (next_by comes.opening comes.entries comes.stands u not_ table (place_at places after) rows
         (shows_of comes.opening comes.entries comes.stands) (held_now comes.stands.tells)
         (subst (λ (off : Option ℕ). AreNext m old
-        (standing_of old comes.stands.numbers comes.stands.tables) u table (rec_at places after) rows off)
+        (standing_of old comes.stands.numbers comes.stands.tables) u table (place_at places after) rows off)
         continues.0 comes.next));
   }
 

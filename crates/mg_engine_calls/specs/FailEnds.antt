@@ -54,7 +54,7 @@ use Rattle.mg_engine_meaning.specs.EventLaws.{refused_gives}
 use Rattle.mg_engine_meaning.specs.FrameLaws.{commits_of, keeps_of, sessions_of, tables_of, works_same}
 use Rattle.mg_engine_meaning.specs.Frames.{GivesEvent}
 use Rattle.mg_engine_meaning.specs.LawfulLaws.{holds_on}
-use Rattle.mg_engine_meaning.specs.Meaning.{AreNext, HasWrittenAll, Places, means, rec_at}
+use Rattle.mg_engine_meaning.specs.Meaning.{AreNext, HasWrittenAll, Places, means, place_at}
 use Rattle.mg_engine_meaning.specs.MemoryCallLaws.{nothing_follows}
 use Rattle.mg_engine_meaning.specs.Standings.{ShowsIt, StandsFor, StandsWhile, asked_in, sessions_in, standing_of}
 use Rattle.mg_engine_calls.specs.CommitEnds.{commit_gives}
@@ -172,6 +172,7 @@ module _ {D P : Type 0} (m : Meaning D) (places : Places P) (begins : OpeningsBe
   stands_now o h stands = record {
     tells = goes.goes.time.tells ∙ stands.tells;
     grows = record { limbo = stands.grows.limbo; entries = (refl, stands.grows.entries) };
+    bases = stands.bases;
     numbers = stands.numbers;
     tables = stands.tables;
     given = stands.given;
@@ -196,7 +197,7 @@ module _ {D P : Type 0} (m : Meaning D) (places : Places P) (begins : OpeningsBe
     seen = comes.seen;
     next = subst (λ (off : Option ℕ). AreNext m (record old { waits = waits; store = store })
         (standing_of (record old { waits = waits; store = store }) comes.stands.numbers comes.stands.tables) u
-        table (rec_at places after) rows off) (sym told.1) tt;
+        table (place_at places after) rows off) (sym told.1) tt;
   }
 
   crash_left : LeavesWith (means m places) old (record old { waits = waits; store = store }) (Commit t)

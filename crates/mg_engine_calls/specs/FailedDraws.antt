@@ -69,7 +69,7 @@ change_left m old ready new faults.Memory keeps left = inl (subst (KeepsStore m 
 
 drawing_left : {D L : Type 0} (m : Meaning D) (old new : Pool D L) (fault : SpaceFault)
     → FailsDraw m old new fault → KeepsStore m old new ⊎ FailsReady m old new fault
-drawing_left m old new fault (only_read f keeps) = inl keeps
+drawing_left m old new fault (only_read f own keeps) = inl keeps
 drawing_left m old new fault (not_changed ready f keeps left) = change_left m old ready new f keeps left
 
 -- ---- counts

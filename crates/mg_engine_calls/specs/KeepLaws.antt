@@ -5,7 +5,6 @@ use Rattle.std.specs.Cmp.Lexicographic.{same_text}
 use Rattle.std.proofs.Math.Path.{fun_ext}
 use Rattle.std.proofs.lemmas.Bool.{cases_eq, eq-eqb, eqb-true, false≢true}
 use Rattle.mg_base.specs.Disk.{Meaning}
-use Rattle.mg_base.specs.declared.numbers.RecId.{RecId}
 use Rattle.mg_base.specs.declared.numbers.TxNo.{TxNo}
 use Rattle.mg_base.specs.declared.transaction.TxState.TheVariants.{Active}
 use Rattle.mg_model.specs.declared.event.Mode.{Mode}
@@ -38,11 +37,12 @@ use Rattle.mg_core.specs.Cores.{Continues, IsCatalog, IsCore}
 use Rattle.mg_core.specs.Tables.{SeesTable}
 use Rattle.mg_engine_steps.specs.Known.{KnowsPages}
 use Rattle.mg_engine_steps.specs.Tables.{TablesAreTold}
+use Rattle.mg_engine_steps.specs.Walking.{WalkPlace}
 use Rattle.mg_engine_meaning.specs.Falling.{same_through}
 use Rattle.mg_engine_meaning.specs.KeptLaws.{alike_some, alike_there, kept_each, made_kept}
 use Rattle.mg_engine_meaning.specs.FrameLaws.{commits_of, kept_all, kept_with, others_given, same_sessions, works_with}
 use Rattle.mg_engine_meaning.specs.Frames.{WorksStay}
-use Rattle.mg_engine_meaning.specs.Meaning.{AreNext, Places, means, rec_at}
+use Rattle.mg_engine_meaning.specs.Meaning.{AreNext, Places, means, place_at}
 use Rattle.mg_engine_meaning.specs.Standings.{AreSeen, KeepsWritten, Numbers, SeesAlike, ShowsIt, StandsFor, StandsWhile, Tables, asked_in, asked_kept, mode_kept, sessions_in, standing_of, undo_kept}
 use Rattle.mg_engine_meaning.specs.StepLaws.{as_standing, shows_of}
 use Rattle.mg_engine_tables.specs.Found.{FoundTablesStand}
@@ -333,6 +333,7 @@ module _ {D P : Type 0} (m : Meaning D) (places : Places P) (begin : OpeningsBeg
   keep_stands o h stands = record {
     tells = stands.tells;
     grows = stands.grows;
+    bases = stands.bases;
     numbers = stands.numbers;
     tables = tables_with stands.tables;
     given = given_seen stands.tables stands.given;
@@ -346,7 +347,7 @@ module _ {D P : Type 0} (m : Meaning D) (places : Places P) (begin : OpeningsBeg
 
   -- ---- walks and commits
 
-  next_on : (s s_now : Standing) (u : ℕ) (given : Table) (after : Option RecId) (rows : KeyedRows)
+  next_on : (s s_now : Standing) (u : ℕ) (given : Table) (after : Option WalkPlace) (rows : KeyedRows)
       (off : Option ℕ) → s.state ≡ s_now.state → s.live ≡ s_now.live → AreNext m old s u given after rows off
       → AreNext m (record old { works = with_work t.0 (with_table table) old.works }) s_now u given after rows off
   next_on s s_now u given after rows None state bases (i, held, next) = (
@@ -368,7 +369,7 @@ module _ {D P : Type 0} (m : Meaning D) (places : Places P) (begin : OpeningsBeg
         seen = tables_stay u given.name given refl comes.seen;
         next = next_on (standing_of old comes.stands.numbers comes.stands.tables)
             (standing_of (record old { works = with_work t.0 (with_table table) old.works })
-            stands_now.numbers stands_now.tables) u given (rec_at places after) rows old.store.offline refl refl
+            stands_now.numbers stands_now.tables) u given (place_at places after) rows old.store.offline refl refl
             comes.next;
       }
 

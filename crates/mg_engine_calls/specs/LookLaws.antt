@@ -27,6 +27,7 @@ use Rattle.mg_chain.specs.Bases.{live_after}
 use Rattle.mg_engine_steps.specs.Known.{KnowsPages}
 use Rattle.mg_engine_steps.specs.Idle.{IdleGoesOn}
 use Rattle.mg_engine_tables.specs.Finding.{LookFinds, LookHasTables, TablesFor}
+use Rattle.mg_engine_tables.specs.Lawful.{DatabasesAreLawful}
 use Rattle.mg_grown_catalogs.specs.Grown.{BasesAreWithin}
 use Rattle.mg_image.specs.Form.{packed_form}
 use Rattle.mg_lasting.specs.Changing.{QuietHolds}
@@ -58,6 +59,8 @@ use Rattle.mg_engine_meaning.specs.LawfulLaws.{legal_of, memory_of, opening_of}
 use Rattle.mg_engine_meaning.specs.Meaning.{Places, means}
 use Rattle.mg_engine_meaning.specs.MemoryCallLaws.{active_answer, idle_finds, memory_keeps, memory_quiet, memory_stands, memory_walks}
 use Rattle.mg_engine_meaning.specs.Standings.{AreSeen, KeepsWritten, Numbers, SeesAlike, ShowsIt, StandsFor, StandsWhile, Tables, asked_in, asked_kept, mode_kept, session_kept, sessions_in, standing_of, undo_kept}
+use Rattle.mg_engine_meaning.specs.BasesLaws.{bases_after}
+use Rattle.mg_engine_meaning.specs.LawfulBases.{BasesAreLawful}
 
 -- who keeps a base is whose mode says so
 keeps_is : (work : Option Working) → keeps_base_of work ≡ (mode_kept work).snapshot
@@ -66,7 +69,8 @@ keeps_is (Some w) = refl
 
 module _ {D P : Type 0} (m : Meaning D) (places : Places P) (idle_goes : IdleGoesOn D FireLinks m packed_form)
     (on : StandsOn packed_form) (quiet : QuietHolds packed_form) (begin : OpeningsBegin)
-    (has_tables : LookHasTables) (look_finds : LookFinds) (within : BasesAreWithin) (old : Core D) (waits : List (ℕ × ℕ)) (tx : TxNo)
+    (has_tables : LookHasTables) (look_finds : LookFinds) (within : BasesAreWithin)
+    (databases : DatabasesAreLawful) (old : Core D) (waits : List (ℕ × ℕ)) (tx : TxNo)
     (over : NowWaits (edges_in old.waits) (edges_in waits) tx.0 None) (continues : Continues old tx.0) where
   abbrev t : ℕ
   t = tx.0
@@ -88,6 +92,23 @@ module _ {D P : Type 0} (m : Meaning D) (places : Places P) (idle_goes : IdleGoe
   one_of : (o : Opening) (h : Entries) (stands : StandsFor m old o h)
       → RemembersOne o h (standing_of old stands.numbers stands.tables) tx.0
   one_of o h stands = (memory_of m old o h stands).active tx.0 (active_told o h stands)
+
+  shows_of : (o : Opening) (h : Entries) (stands : StandsFor m old o h)
+      → ShowsIt m old o h (standing_of old stands.numbers stands.tables)
+  shows_of o h stands = subst (λ (off : Option ℕ). StandsWhile m old o h
+      (standing_of old stands.numbers stands.tables) off) continues.0 stands.stands
+
+  abbrev knows_of : (o : Opening) (h : Entries) (stands : StandsFor m old o h)
+      (shows : ShowsIt m old o h (standing_of old stands.numbers stands.tables))
+      → KnowsPages old.store.geometry.size o h (standing_of old stands.numbers stands.tables)
+      (shown old.store.dirty shows.image)
+  knows_of o h stands shows = record { memory = shows.stands.memory; shows = shows.stands.shows }
+
+  -- a new base is the database, whose catalog is lawful
+  bases_now : (o : Opening) (h : Entries) → StandsFor m old o h → BasesAreLawful o (entry (Look tx) Fine ∷ h)
+  bases_now o h stands = bases_after o h (entry (Look tx) Fine) stands.bases (λ u is.
+      databases old.store.geometry.size o h (standing_of old stands.numbers stands.tables)
+      (shown old.store.dirty (shows_of o h stands).image) (knows_of o h stands (shows_of o h stands)))
 
   -- ---- one that keeps its base
 
@@ -149,7 +170,8 @@ module _ {D P : Type 0} (m : Meaning D) (places : Places P) (idle_goes : IdleGoe
         → StandsFor m (record old { waits = waits; works = old.works; live = old.live }) o
         (entry (Look tx) Fine ∷ h)
     keep_stands o h stands = memory_stands m places old waits old.works old.live idle_goes on quiet refl refl o h
-        (entry (Look tx) Fine) stands stands.tables stands.given stands.kept (lawful o h stands) refl refl refl
+        (entry (Look tx) Fine) stands stands.tables stands.given stands.kept (bases_now o h stands)
+        (lawful o h stands) refl refl refl
         (keep_follows o h stands)
         (λ shows. idle_finds old.store.geometry.size o h (entry (Look tx) Fine)
         (standing_of old stands.numbers stands.tables)
@@ -198,17 +220,6 @@ module _ {D P : Type 0} (m : Meaning D) (places : Places P) (idle_goes : IdleGoe
 
     session_same : sessions_in (with_work tx.0 without_tables old.works) ≡ sessions_in old.works
     session_same = same_sessions old.works (with_work tx.0 without_tables old.works) tx.0 stay
-
-    shows_of : (o : Opening) (h : Entries) (stands : StandsFor m old o h)
-        → ShowsIt m old o h (standing_of old stands.numbers stands.tables)
-    shows_of o h stands = subst (λ (off : Option ℕ). StandsWhile m old o h
-        (standing_of old stands.numbers stands.tables) off) continues.0 stands.stands
-
-    abbrev knows_of : (o : Opening) (h : Entries) (stands : StandsFor m old o h)
-        (shows : ShowsIt m old o h (standing_of old stands.numbers stands.tables))
-        → KnowsPages old.store.geometry.size o h (standing_of old stands.numbers stands.tables)
-        (shown old.store.dirty shows.image)
-    knows_of o h stands shows = record { memory = shows.stands.memory; shows = shows.stands.shows }
 
     tables_for : (o : Opening) (h : Entries) (stands : StandsFor m old o h)
         (shows : ShowsIt m old o h (standing_of old stands.numbers stands.tables))
@@ -350,8 +361,8 @@ module _ {D P : Type 0} (m : Meaning D) (places : Places P) (idle_goes : IdleGoe
       }) o (entry (Look tx) Fine ∷ h)
       renew_stands = memory_stands m places old waits (with_work tx.0 without_tables old.works)
           (after_rebase old.live tx.0) idle_goes on quiet asks session_same o h (entry (Look tx) Fine) stands
-          (tables_now stands.tables (tables_for o h stands shows).table) seen_now kept_now (lawful o h stands) refl refl
-          refl renew_follows (λ again. finds again)
+          (tables_now stands.tables (tables_for o h stands shows).table) seen_now kept_now
+          (bases_now o h stands) (lawful o h stands) refl refl refl renew_follows (λ again. finds again)
         where
           finds : (again : ShowsIt m old o h (standing_of old stands.numbers stands.tables))
               → FindsAfter packed_form old.store.geometry.size o h (entry (Look tx) Fine)
@@ -429,13 +440,13 @@ module _ {D P : Type 0} (m : Meaning D) (places : Places P) (idle_goes : IdleGoe
 
 pub looks_give : {D P : Type 0} (m : Meaning D) (places : Places P) → IdleGoesOn D FireLinks m packed_form
     → StandsOn packed_form → QuietHolds packed_form → OpeningsBegin → LookHasTables → LookFinds → BasesAreWithin
-    → (old new : Core D) (t : TxNo) (result : Result (Unit {0}) Refusal)
+    → DatabasesAreLawful → (old new : Core D) (t : TxNo) (result : Result (Unit {0}) Refusal)
     → MatchResult result (λ _. CoreLooks old new t.0) (IsRefused old new t.0)
     → GivesEvent m places old new (Look t) (fine_or result) (refusal_in result) (Some t.0) (Some t.0) None None
-looks_give m places idle_goes on quiet begin has_tables look_finds within old new t (Err refusal) refused =
+looks_give m places idle_goes on quiet begin has_tables look_finds within databases old new t (Err refusal) refused =
     refused_gives m places idle_goes on quiet old new t.0 (Look t) (λ o h. Fine) refusal (Some t.0) (Some t.0) refl
     (λ o h. refl) refused
-looks_give {D} m places idle_goes on quiet begin has_tables look_finds within old new t (Ok x) looks =
+looks_give {D} m places idle_goes on quiet begin has_tables look_finds within databases old new t (Ok x) looks =
     at (keeps_base old.works t.0) refl
   where
     new_is : new ≡ with_base_if (keeps_base old.works t.0) t.0
@@ -447,10 +458,10 @@ looks_give {D} m places idle_goes on quiet begin has_tables look_finds within ol
     at true is = subst (λ (c : Core D). GivesEvent m places old c (Look t) Fine None (Some t.0) (Some t.0) None None)
         (sym (new_is ∙ ap (λ (b : Bool). with_base_if b t.0
         (record old { waits = looks.ended.waits; works = old.works; live = old.live })) is))
-        (keep_gives m places idle_goes on quiet begin has_tables look_finds within old looks.ended.waits t looks.wait.over
-        looks.continues (sym (keeps_is (work_of old.works t.0)) ∙ is))
+        (keep_gives m places idle_goes on quiet begin has_tables look_finds within databases old looks.ended.waits t
+        looks.wait.over looks.continues (sym (keeps_is (work_of old.works t.0)) ∙ is))
     at false is = subst (λ (c : Core D). GivesEvent m places old c (Look t) Fine None (Some t.0) (Some t.0) None None)
         (sym (new_is ∙ ap (λ (b : Bool). with_base_if b t.0
         (record old { waits = looks.ended.waits; works = old.works; live = old.live })) is))
-        (renew_gives m places idle_goes on quiet begin has_tables look_finds within old looks.ended.waits t
+        (renew_gives m places idle_goes on quiet begin has_tables look_finds within databases old looks.ended.waits t
         looks.wait.over looks.continues (sym (keeps_is (work_of old.works t.0)) ∙ is))

@@ -36,6 +36,7 @@ use Rattle.mg_txlist.specs.TxList.{next_said, said}
 use Rattle.mg_waits.specs.Waits.{edges_in}
 use Rattle.mg_works.specs.Works.{Working, given_to}
 use Rattle.mg_engine_meaning.specs.Standings.{asked_in, sessions_in}
+use Rattle.mg_engine_meaning.specs.BasesLaws.{first_bases}
 use Rattle.mg_engine_calls.specs.Openings.{BeginsWith, IsSettledOn}
 use Rattle.mg_engine_calls.specs.TipLaws.{tips_shown}
 
@@ -162,6 +163,7 @@ module _ {D : Type 0} (m : Meaning D) (disk : D) (limit : ℕ) (core : Core D) (
   begins_standing = record {
     tells = on.tells.told;
     grows = it.grows;
+    bases = first_bases o it.whole;
     numbers = λ t name. 0;
     tables = λ t name. None;
     given = given;

@@ -76,6 +76,8 @@ pub record IsOpenedOver {D : Type 0} (m : Meaning D) (disk : D) (limit : ℕ) (c
   pub online : core.store.offline ≡ None
   -- nor any other call of the disk
   pub steady : m.faults core.store.disk ≡ m.faults disk
+  -- no damage was counted yet
+  pub undamaged : core.damage ≡ 0
   pub same : IsSameDisk m disk core.store.disk
   -- the page size is the disk's
   pub size_is : m.size core.store.disk ≡ Some core.store.geometry.size

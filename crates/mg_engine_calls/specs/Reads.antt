@@ -42,9 +42,10 @@ TablesGoOn D P m = (places : Places P) (old new : Core D) (t : TxNo) (name : Lis
 
 -- ---- walks
 
--- These places have the record and the rank of the core's.
+-- These places have the record, the sequence and the rank of the core's.
 pub record AreRanked (places : Places Place) : Type 0 where
   pub rec : (place : Place) → places.rec place ≡ place.rec
+  pub sequence : (place : Place) → places.sequence place ≡ place.sequence
   pub rank : (place : Place) → places.rank place ≡ rank place
 
 -- a place that was found has a rank of six bytes, since its sequence has four and its slot has two

@@ -46,6 +46,7 @@ use Rattle.mg_records.specs.Sessions.{ended_in}
 use Rattle.mg_space.specs.declared.links.FireLinks.{FireLinks}
 use Rattle.mg_engine_steps.specs.Following.{FollowsEntry, StandsOn}
 use Rattle.mg_engine_steps.specs.Standing.{Standing}
+use Rattle.mg_engine_steps.specs.Walking.{WalkPlace}
 use Rattle.mg_table_overlays.specs.OneTable.{its_data}
 use Rattle.mg_txlist.specs.TxList.{EndsIn, said}
 use Rattle.mg_txlist.specs.declared.list.TxList.{TxList}
@@ -61,7 +62,7 @@ use Rattle.mg_engine_meaning.specs.PlainTables.{HasPlainTables}
 use Rattle.mg_engine_meaning.specs.PlainLaws.{plain_tables_by}
 use Rattle.mg_engine_meaning.specs.KeptLaws.{kept_without_work}
 use Rattle.mg_engine_meaning.specs.LawfulLaws.{left_of, legal_of, memory_of, opening_of}
-use Rattle.mg_engine_meaning.specs.Meaning.{AreNext, Places, means, rec_at}
+use Rattle.mg_engine_meaning.specs.Meaning.{AreNext, Places, means, place_at}
 use Rattle.mg_engine_meaning.specs.MemoryCallLaws.{active_answer}
 use Rattle.mg_engine_meaning.specs.Standings.{ShowsIt, StandsFor, StandsWhile, asked_in, sessions_in, standing_of}
 use Rattle.mg_engine_calls.specs.Freeing.{sessions_end}
@@ -211,6 +212,7 @@ module _ {D P : Type 0} (m : Meaning D) (places : Places P) (one : RowsAreOne pa
   stands_now o h stands = record {
     tells = stands.tells;
     grows = record { limbo = stands.grows.limbo; entries = (refl, stands.grows.entries) };
+    bases = stands.bases;
     numbers = stands.numbers;
     tables = stands.tables;
     given = seen_still m places old waits list old.store t.0 stands.tables stands.given;
@@ -241,7 +243,7 @@ module _ {D P : Type 0} (m : Meaning D) (places : Places P) (one : RowsAreOne pa
             let its : (t.0 == u) ≡ true = eq-eqb t.0 u (sym same) in
             let both : true ≡ false = sym its ∙ not_ in absurd cc
 
-    next_on : (after : Option RecId) (rows : KeyedRows) → (shows : ShowsIt m old o h
+    next_on : (after : Option WalkPlace) (rows : KeyedRows) → (shows : ShowsIt m old o h
         (standing_of old stands.numbers stands.tables))
         → ShowsIt m (left_by old waits list old.store t.0) o (entry (Rollback t) Fine ∷ h)
         (standing_of (left_by old waits list old.store t.0) stands.numbers stands.tables)
@@ -285,13 +287,13 @@ module _ {D P : Type 0} (m : Meaning D) (places : Places P) (one : RowsAreOne pa
     seen = given_same m places old waits list old.store t.0 u table.name not_ ∙ comes.seen;
     next = subst (λ (off : Option ℕ). AreNext m (left_by old waits list old.store t.0)
         (standing_of (left_by old waits list old.store t.0) comes.stands.numbers comes.stands.tables) u table
-        (rec_at places after) rows off) (sym continues.0)
+        (place_at places after) rows off) (sym continues.0)
         (next_on comes.opening comes.entries comes.stands u not_ comes.active table
-        (comes.stands.given u table.name table comes.seen) (rec_at places after) rows
+        (comes.stands.given u table.name table comes.seen) (place_at places after) rows
         (shows_of comes.opening comes.entries comes.stands)
         (shows_now comes.opening comes.entries comes.stands (shows_of comes.opening comes.entries comes.stands))
         (subst (λ (off : Option ℕ). AreNext m old
-        (standing_of old comes.stands.numbers comes.stands.tables) u table (rec_at places after) rows off)
+        (standing_of old comes.stands.numbers comes.stands.tables) u table (place_at places after) rows off)
         continues.0 comes.next));
   }
 

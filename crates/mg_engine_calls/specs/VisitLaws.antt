@@ -1,6 +1,7 @@
 -- A walk visits the next record.
 use Rattle.std.proofs.Common.{◌≡◌, inl, inr, ◌<◌, ◌-◌, cond, ℕ, Bool, true, false, [], ◌∷◌, Option, None, Some, Result, Ok, Err, refl, sym, ap, ◌∙◌, subst, arith}
 use Rattle.mg_base.specs.Disk.{Meaning}
+use Rattle.mg_base.specs.Image.{Image}
 use Rattle.mg_base.specs.declared.numbers.RecId.{RecId}
 use Rattle.mg_base.specs.declared.numbers.TxNo.{TxNo}
 use Rattle.mg_value.specs.declared.value.Value.{Value}
@@ -13,20 +14,23 @@ use Rattle.mg_records.specs.declared.found.Found.{Found}
 use Rattle.mg_records.specs.Crashing.{LeavesQuietly}
 use Rattle.mg_records.specs.Keeping.{Reads}
 use Rattle.mg_records.specs.Reading.{Nears, Visits, with_found}
-use Rattle.mg_image.specs.Form.{Row}
+use Rattle.mg_image.specs.Form.{Pages, Row}
 use Rattle.mg_image.specs.Held.{told_row}
 use Rattle.mg_image.specs.Records.{key_of}
 use Rattle.mg_pool.specs.Pool.{shown}
+use Rattle.mg_seek.specs.Views.{IsVisit}
 use Rattle.mg_seek.specs.Walks.{keyed}
+use Rattle.mg_seek.specs.declared.views.Visit.{Visit}
+use Rattle.mg_txlist.specs.TxList.{said}
 use Rattle.mg_core.specs.declared.parts.Core.{Core}
 use Rattle.mg_core.specs.declared.scanning.Place.{Place}
 use Rattle.mg_core.specs.Cores.{Continues, RefusesCall}
-use Rattle.mg_core.specs.Scanning.{FailsScan, GivesFound, GoesOn, HasKey, IsBehind, IsFound, Scans, ScansOn, rank, record_of}
-use Rattle.mg_engine_steps.specs.Walking.{AreToCome, WalksGoOn}
+use Rattle.mg_core.specs.Scanning.{FailsScan, GivesFound, GoesOn, HasKey, IsBehind, IsFound, Scans, ScansOn, rank, record_of, sequence_in}
+use Rattle.mg_engine_steps.specs.Walking.{AreToCome, WalkPlace, WalksGoOn, place_in, rec_of}
 use Rattle.mg_engine_meaning.specs.FrameLaws.{sessions_of, works_same}
 use Rattle.mg_engine_meaning.specs.LawfulLaws.{memory_of}
 use Rattle.mg_engine_meaning.specs.Laws.{IsKeeper}
-use Rattle.mg_engine_meaning.specs.Meaning.{AreNext, ComesTo, Places, means, rank_left, rec_at}
+use Rattle.mg_engine_meaning.specs.Meaning.{AreNext, ComesTo, Places, means, place_at, rank_left}
 use Rattle.mg_engine_meaning.specs.Standings.{standing_of}
 use Rattle.mg_engine_meaning.specs.StepLaws.{refused_none}
 use Rattle.mg_engine_meaning.specs.Steps.{AddsNone, ReadsGoOn}
@@ -49,12 +53,20 @@ found_row table (Some row) key rows apart is =
 module _ {D : Type 0} (m : Meaning D) (places : Places Place) (ranked : AreRanked places)
     (reads : ReadsGoOn D Place m) (keeper : IsKeeper m places) (go_on : WalksGoOn) (old : Core D) (t : TxNo) (table : Table)
     (after : Option Place) (counts : AreCounts old) where
-  record_same : (place : Option Place) → rec_at places place ≡ record_of place
+  record_same : (place : Option Place) → rec_of (place_at places place) ≡ record_of place
   record_same None = refl
   record_same (Some place) = ap Some (ranked.rec place)
 
+  -- a place with the sequence that its page names
+  place_same : (pages : Pages) (place : Place) → place.sequence ≡ sequence_in pages place.rec
+      → place_in pages place.rec ≡ record { rec = places.rec place; sequence = places.sequence place }
+  place_same pages place sequence =
+      ap (λ (r : RecId). record { rec = r; sequence = sequence_in pages place.rec }) (sym (ranked.rec place))
+      ∙ ap (λ (n : ℕ). record { rec = places.rec place; sequence = n })
+      (sym (ranked.sequence place ∙ sequence))
+
   -- a table that was given is not the catalog: the history tells it under its name
-  not_catalog : (rows : KeyedRows) → ComesTo m old t.0 table (rec_at places after) rows
+  not_catalog : (rows : KeyedRows) → ComesTo m old t.0 table (place_at places after) rows
       → same_name table.name catalog_name ≡ false
   not_catalog rows comes = at (same_name table.name catalog_name) refl
       (keeper.seen old comes.opening comes.entries t.0 table.name table comes.stands comes.active comes.seen).1
@@ -87,17 +99,22 @@ module _ {D : Type 0} (m : Meaning D) (places : Places Place) (ranked : AreRanke
       (stay : (given : Table) (place : Option Place) (rows : KeyedRows)
       → (means m places).to_come old t.0 given place rows → (means m places).to_come new t.0 given place rows)
     where
+      -- a visit behind the record of a place of the core
+      as_walked : (i : Image) (visit : Option Visit)
+          → IsVisit (said old.list) old.live t (shown old.store.dirty i) table (record_of after) visit
+          → IsVisit (said old.list) old.live t (shown old.store.dirty i) table (rec_of (place_at places after)) visit
+      as_walked i visit is = subst (λ (r : Option RecId). IsVisit (said old.list) old.live t
+          (shown old.store.dirty i) table r visit) (sym (record_same after)) is
+
       next_rows : (found : Option (Found Place)) → GivesFound m old t table after found
-          → (rows : KeyedRows) → (comes : ComesTo m old t.0 table (rec_at places after) rows)
+          → (rows : KeyedRows) → (comes : ComesTo m old t.0 table (place_at places after) rows)
           → AreNext m old (standing_of old comes.stands.numbers comes.stands.tables) t.0 table
-          (rec_at places after) rows None
+          (place_at places after) rows None
           → Visits (means m places) new t.0 table (Ok found) rows
       next_rows None gives rows comes (i, held, next) = go_on old.store.geometry.size
           (standing_of old comes.stands.numbers comes.stands.tables) (shown old.store.dirty i) table t
-          (record_of after) None rows
-          (subst (λ (r : Option RecId). AreToCome old.store.geometry.size
-          (standing_of old comes.stands.numbers comes.stands.tables) (shown old.store.dirty i) t.0 table r rows)
-          (record_same after) next) (gives i (record { told = comes.stands.tells; held = held }))
+          (place_at places after) None rows next (as_walked i None
+          (gives i (record { told = comes.stands.tells; held = held })))
       next_rows (Some found) gives rows comes (i, held, next) =
           by (gives i (record { told = comes.stands.tells; held = held }))
         where
@@ -107,10 +124,8 @@ module _ {D : Type 0} (m : Meaning D) (places : Places Place) (ranked : AreRanke
           by (row, visit, key, sequence) =
               let there = go_on old.store.geometry.size
               (standing_of old comes.stands.numbers comes.stands.tables) (shown old.store.dirty i) table t
-              (record_of after) (Some (record { rec = found.place.rec; row = row })) rows
-              (subst (λ (r : Option RecId). AreToCome old.store.geometry.size
-              (standing_of old comes.stands.numbers comes.stands.tables) (shown old.store.dirty i) t.0 table r rows)
-              (record_same after) next) visit in (
+              (place_at places after) (Some (record { rec = found.place.rec; row = row })) rows next
+              (as_walked i (Some (record { rec = found.place.rec; row = row })) visit) in (
                 there.0,
                 there.1 ∙ found_row table row found.row there.0 (not_catalog rows comes) key,
                 stay table (Some found.place) there.0 (record {
@@ -121,12 +136,13 @@ module _ {D : Type 0} (m : Meaning D) (places : Places Place) (ranked : AreRanke
                   seen = comes.seen;
                   next = subst (λ (off : Option ℕ). AreNext m old
                       (standing_of old comes.stands.numbers comes.stands.tables) t.0 table
-                      (rec_at places (Some found.place)) there.0 off) (sym continues.0) (
+                      (place_at places (Some found.place)) there.0 off) (sym continues.0) (
                         i,
                         held,
-                        subst (λ (r : Option RecId). AreToCome old.store.geometry.size
+                        subst (λ (place : WalkPlace). AreToCome old.store.geometry.size
                             (standing_of old comes.stands.numbers comes.stands.tables) (shown old.store.dirty i)
-                            t.0 table r there.0) (sym (record_same (Some found.place))) there.2,
+                            t.0 table (Some place) there.0)
+                            (place_same (shown old.store.dirty i) found.place sequence) there.2,
                       );
                 }),
               )
@@ -136,7 +152,7 @@ module _ {D : Type 0} (m : Meaning D) (places : Places Place) (ranked : AreRanke
           → Visits (means m places) new t.0 table (Ok found) rows
       visits_next found gives rows comes = next_rows found gives rows comes
           (subst (λ (off : Option ℕ). AreNext m old (standing_of old comes.stands.numbers comes.stands.tables) t.0
-          table (rec_at places after) rows off) continues.0 comes.next)
+          table (place_at places after) rows off) continues.0 comes.next)
 
   -- ---- the call
 

@@ -32,7 +32,8 @@ use mg_engine_steps::{
     lists_go_on, page_writes_go_on, standings_go_on, tables_are_answered, walks_are_answered,
 };
 use mg_engine_tables::{
-    bases_have_tables, found_tables_stand, others_take_alike, tables_are_found, walks_go_alike,
+    bases_have_tables, databases_are_lawful, found_tables_stand, others_take_alike,
+    tables_are_found, walks_go_alike,
 };
 use mg_grown_catalogs::catalogs_grow;
 use mg_image::one_reading;
@@ -55,6 +56,7 @@ pub fn begins_give<D: Disk, P>()
     crashes_hold();
     histories_go_on();
     bases_have_tables();
+    databases_are_lawful();
     tables_are_found();
     sound_images_stand_one_way();
     one_reading();
@@ -109,6 +111,7 @@ pub fn looks_go_on<D: Disk, P>()
     crashes_hold();
     histories_go_on();
     bases_have_tables();
+    databases_are_lawful();
     tables_are_found();
     catalogs_grow();
 }

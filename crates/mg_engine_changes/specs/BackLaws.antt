@@ -5,7 +5,6 @@ use Rattle.std.proofs.Math.Path.{fun_ext}
 use Rattle.std.proofs.lemmas.Bool.{cases_eq}
 use Rattle.mg_base.specs.Disk.{Meaning}
 use Rattle.mg_base.specs.Image.{Image}
-use Rattle.mg_base.specs.declared.numbers.RecId.{RecId}
 use Rattle.mg_base.specs.declared.transaction.TxState.TheVariants.{Active}
 use Rattle.mg_core.specs.Cores.{Continues, IsCore}
 use Rattle.mg_core.specs.declared.parts.Core.{Core}
@@ -13,10 +12,11 @@ use Rattle.mg_engine_meaning.specs.KeptLaws.{kept_with_work}
 use Rattle.mg_engine_meaning.specs.PlainTables.{HasPlainTables}
 use Rattle.mg_engine_meaning.specs.Standings.{AreOfKept, AreSeen, AreTold, HasTips, KeepsWritten, ShowsIt, StandsFor, StandsWhile, asked_in, asked_kept, mode_kept, session_kept, sessions_in, standing_of, undo_kept, written_kept}
 use Rattle.mg_engine_meaning.specs.StepLaws.{shows_of}
+use Rattle.mg_engine_meaning.specs.BasesLaws.{bases_stay}
 use Rattle.mg_engine_steps.specs.GoesOn.{HasGoneOn}
 use Rattle.mg_engine_steps.specs.ListShows.{ListsStay}
 use Rattle.mg_engine_steps.specs.Standing.{Standing, Stands}
-use Rattle.mg_engine_steps.specs.Walking.{AreToCome}
+use Rattle.mg_engine_steps.specs.Walking.{AreToCome, WalkPlace}
 use Rattle.mg_engine_changes.specs.EngineBacks.{EnginesGoBackTo, IsBackEntry, OthersWalkOnBack}
 use Rattle.mg_engine_changes.specs.Given.{AreGiven, UndoListsGiveKeys}
 use Rattle.mg_engine_changes.specs.Keys.{CoresTakeAll, HasTakenKeys}
@@ -36,10 +36,10 @@ use Rattle.mg_image.specs.Tables.{Stand, stands_of}
 use Rattle.mg_lasting.specs.Crashes.{HoldsAcknowledged, LeavesSince}
 use Rattle.mg_lasting.specs.Lasting.{LastsOn}
 use Rattle.mg_model.specs.Changes.{KeyedRows}
-use Rattle.mg_model.specs.History.{Entries, Entry}
+use Rattle.mg_model.specs.History.{Effect, Entries, Entry}
 use Rattle.mg_model.specs.Laws.{OpeningsBegin}
 use Rattle.mg_model.specs.Legal.{MayBegin}
-use Rattle.mg_model.specs.Machine.{deeds_by, steps}
+use Rattle.mg_model.specs.Machine.{deeds_by, steps, takes_base}
 use Rattle.mg_model.specs.Openings.{everyone}
 use Rattle.mg_model.specs.declared.change.Change.{Change}
 use Rattle.mg_model.specs.declared.change.Point.{Point}
@@ -378,6 +378,7 @@ module _ {D : Type 0} (m : Meaning D) (openings : OpeningsBegin) (unask : Unaski
   stands_now = record {
     tells = taken.knows.tells.told;
     grows = record { limbo = stands.grows.limbo; entries = (ap makes_alone is.back, stands.grows.entries) };
+    bases = bases_stay o h e (λ u snapshot. ap (λ (f : Effect). takes_base f u snapshot) is.back) stands.bases;
     numbers = stands.numbers;
     tables = stands.tables;
     given = given_now;
@@ -405,7 +406,7 @@ module _ {D : Type 0} (m : Meaning D) (openings : OpeningsBegin) (unask : Unaski
         taken.image (asked_in (with_work t unasked old.works)) (sessions_in old.works) t whole whole taken.rest
         (first_of whole) opening shows.stands.legal shows.stands.memory goes taken.steps midway taken.midway)
 
-    walk_on : (u : ℕ) → u ≢ t → said old.list u ≡ Active → (table : Table) (after : Option RecId) (rows : KeyedRows)
+    walk_on : (u : ℕ) → u ≢ t → said old.list u ≡ Active → (table : Table) (after : Option WalkPlace) (rows : KeyedRows)
         → AreToCome size s pages u table after rows
         → AreToCome size s_now (shown takes.takes.taken.store.dirty taken.image) u table after rows
     walk_on u ne active table after rows next = walks size o h e t u whole taken.rest s s_now pages
@@ -417,7 +418,7 @@ module _ {D : Type 0} (m : Meaning D) (openings : OpeningsBegin) (unask : Unaski
         }) fronts (λ v. refl) table after rows next
 
     pub walks_back : (i : Image) → m.held old.store.disk ≡ Some i → (u : ℕ) → u ≢ t → said old.list u ≡ Active
-        → (table : Table) (after : Option RecId) (rows : KeyedRows)
+        → (table : Table) (after : Option WalkPlace) (rows : KeyedRows)
         → AreToCome size s (shown old.store.dirty i) u table after rows
         → (k : Image) × (m.held new.store.disk ≡ Some k)
         × AreToCome new.store.geometry.size (standing_of new stands.numbers stands.tables) (shown new.store.dirty k) u

@@ -1,10 +1,9 @@
 -- The walks of all others go on while a transaction is taken back, and where it is given up.
 use Rattle.std.specs.Prelude.{◌≡◌, ◌≢◌, ℕ, List, Option}
-use Rattle.mg_base.specs.declared.numbers.RecId.{RecId}
 use Rattle.mg_base.specs.declared.transaction.TxState.TheVariants.{Active}
 use Rattle.mg_chain.specs.Chains.{takes_version}
 use Rattle.mg_engine_steps.specs.Known.{IsShown}
-use Rattle.mg_engine_steps.specs.Walking.{AreToCome}
+use Rattle.mg_engine_steps.specs.Walking.{AreToCome, WalkPlace}
 use Rattle.mg_engine_writes.specs.Shown.{ShowsMidway}
 use Rattle.mg_engine_meaning.specs.Falling.{Falls}
 use Rattle.mg_image.specs.Form.{Pages, packed_form}
@@ -35,7 +34,7 @@ BackWalksGoOn = (size : ℕ) (o : Opening) (h : Entries) (e : Entry) (t u : ℕ)
     (midway : ShowsMidway packed_form size o h e t whole left s begun first pages) → WalksBeside s new t u
     → AreFrontStands (stands_of first.layout) (stands_of midway.layout)
     → ((v : ℕ) → new.state v ≡ s.state v)
-    → (table : Table) (after : Option RecId) (rows : KeyedRows)
+    → (table : Table) (after : Option WalkPlace) (rows : KeyedRows)
     → AreToCome size s begun u table after rows → AreToCome size new pages u table after rows
 
 -- and where it then counts as dead, over a table that stands still
@@ -47,5 +46,5 @@ GivenUpWalksGoOn = (size : ℕ) (o : Opening) (h : Entries) (e : Entry) (t u : �
     → Falls (left_state everyone s.state) (left_state everyone new.state) t
     → (layout : Layout) (reading : Reading)
     → IsSoundBy packed_form size (left_state everyone new.state) pages layout reading
-    → (table : Table) → IsShown layout table → (after : Option RecId) (rows : KeyedRows)
+    → (table : Table) → IsShown layout table → (after : Option WalkPlace) (rows : KeyedRows)
     → AreToCome size s begun u table after rows → AreToCome size new pages u table after rows

@@ -2,12 +2,11 @@
 use Rattle.std.specs.Prelude.{◌≡◌, ◌≢◌, ◌∷◌, ℕ, false, Option, Some, None}
 use Rattle.mg_base.specs.Disk.{Meaning}
 use Rattle.mg_base.specs.Image.{Image}
-use Rattle.mg_base.specs.declared.numbers.RecId.{RecId}
 use Rattle.mg_base.specs.declared.transaction.TxState.TheVariants.{Active}
 use Rattle.mg_core.specs.Cores.{IsCore}
 use Rattle.mg_core.specs.declared.parts.Core.{Core}
 use Rattle.mg_engine_meaning.specs.Standings.{StandsFor, standing_of}
-use Rattle.mg_engine_steps.specs.Walking.{AreToCome}
+use Rattle.mg_engine_steps.specs.Walking.{AreToCome, WalkPlace}
 use Rattle.mg_engine_changes.specs.Memory.{LeavesCatalog, MayGoTo}
 use Rattle.mg_engine_writes.specs.Again.{rolling}
 use Rattle.mg_image.specs.Form.{packed_form}
@@ -42,7 +41,7 @@ abbrev pub OthersWalkOnBack : (D : Type 0) → Meaning D → Type 0
 OthersWalkOnBack D m = (old new : Core D) (t : ℕ) (point : Point) (o : Opening) (h : Entries) (e : Entry)
     → IsCore m old → TakesBackTo m old new t point → (stands : StandsFor m old o h) → IsBackEntry o h e t point
     → (i : Image) → m.held old.store.disk ≡ Some i → (u : ℕ) → u ≢ t → said old.list u ≡ Active → (table : Table)
-    (after : Option RecId) (rows : KeyedRows)
+    (after : Option WalkPlace) (rows : KeyedRows)
     → AreToCome old.store.geometry.size (standing_of old stands.numbers stands.tables) (shown old.store.dirty i) u table
     after rows
     → (k : Image) × (m.held new.store.disk ≡ Some k)

@@ -20,11 +20,12 @@ use Rattle.mg_engine_meaning.specs.KeptLaws.{kept_with_work}
 use Rattle.mg_engine_meaning.specs.PlainTables.{HasPlainTables}
 use Rattle.mg_engine_meaning.specs.Standings.{AreOfKept, AreSeen, AreTold, HasTips, KeepsWritten, ShowsIt, StandsFor, StandsWhile, asked_in, asked_kept, mode_kept, session_kept, sessions_in, standing_of, undo_kept, written_kept, SeesAlike}
 use Rattle.mg_engine_meaning.specs.StepLaws.{shows_of}
+use Rattle.mg_engine_meaning.specs.BasesLaws.{bases_stay}
 use Rattle.mg_engine_steps.specs.Following.{FollowsEntry}
 use Rattle.mg_engine_steps.specs.GoesOn.{HasGoneOn}
 use Rattle.mg_engine_steps.specs.ListShows.{ListsStay}
 use Rattle.mg_engine_steps.specs.Standing.{Standing, Stands, IsSeenAs, RemembersOne}
-use Rattle.mg_engine_steps.specs.Walking.{AreToCome}
+use Rattle.mg_engine_steps.specs.Walking.{AreToCome, WalkPlace}
 use Rattle.mg_engine_unmakings.specs.ChangedTables.{NoneOfGone}
 use Rattle.mg_engine_unmakings.specs.EngineTables.{EnginesTakeTables}
 use Rattle.mg_engine_unmakings.specs.LeftFinds.{SeesRow, sees_row}
@@ -51,10 +52,10 @@ use Rattle.mg_model.specs.Answers.{is_open}
 use Rattle.mg_model.specs.Catalog.{catalog_name, table_key}
 use Rattle.mg_model.specs.Changes.{KeyedRows, has_change, is_at, row_at}
 use Rattle.mg_model.specs.Effects.{doer, is_its}
-use Rattle.mg_model.specs.History.{Entries, Entry, Effect}
+use Rattle.mg_model.specs.History.{Effect, Entries, Entry}
 use Rattle.mg_model.specs.Laws.{OpeningsBegin}
 use Rattle.mg_model.specs.Legal.{MayBegin}
-use Rattle.mg_model.specs.Machine.{deeds_by, steps, own, state_of, view, is_of}
+use Rattle.mg_model.specs.Machine.{deeds_by, is_of, own, state_of, steps, takes_base, view}
 use Rattle.mg_model.specs.Openings.{everyone}
 use Rattle.mg_model.specs.declared.change.Change.{Change}
 use Rattle.mg_model.specs.declared.change.Point.{Point}
@@ -589,6 +590,7 @@ module _ {D : Type 0} (m : Meaning D) (openings : OpeningsBegin) (unask : Unaski
   stands_now = record {
     tells = rows.tells.told;
     grows = record { limbo = stands.grows.limbo; entries = (ap makes_alone is.back, stands.grows.entries) };
+    bases = bases_stay o h e (λ u snapshot. ap (λ (f : Effect). takes_base f u snapshot) is.back) stands.bases;
     numbers = stands.numbers;
     tables = tables_now;
     given = given_now;
@@ -638,7 +640,7 @@ module _ {D : Type 0} (m : Meaning D) (openings : OpeningsBegin) (unask : Unaski
               shows.stands.legal stands.grows (ap is_open (sym (shows.stands.memory.state t) ∙ continues.1)) active_u
               (λ same. ne (sym same)) sees.there) ∙ rows_left.made (table_key table.name) on))
 
-      walk_on : (after : Option RecId) (rows_ : KeyedRows) → AreToCome size s pages u table after rows_
+      walk_on : (after : Option WalkPlace) (rows_ : KeyedRows) → AreToCome size s pages u table after rows_
           → AreToCome size (standing_of now stands.numbers stands.tables)
           (shown takes.takes.taken.store.dirty rows.image) u table after rows_
       walk_on after rows_ next = tables_walk size o h e t u taken.rest s
@@ -651,7 +653,7 @@ module _ {D : Type 0} (m : Meaning D) (openings : OpeningsBegin) (unask : Unaski
           taken.midway.pages (record { back = continues.1; active = active; apart = ne; takes = λ by. refl }) fronts
           (λ v. refl) table after rows_ next)
 
-      pub walks_over : (i : Image) → m.held old.store.disk ≡ Some i → (after : Option RecId) (rows_ : KeyedRows)
+      pub walks_over : (i : Image) → m.held old.store.disk ≡ Some i → (after : Option WalkPlace) (rows_ : KeyedRows)
           → AreToCome size s (shown old.store.dirty i) u table after rows_
           → (k : Image) × (m.held new.store.disk ≡ Some k)
           × AreToCome new.store.geometry.size (standing_of new stands.numbers stands.tables) (shown new.store.dirty k) u

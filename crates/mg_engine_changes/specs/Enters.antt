@@ -22,7 +22,7 @@ use Rattle.mg_model.specs.Catalog.{catalog_name}
 use Rattle.mg_model.specs.Changes.{has_change, same_name}
 use Rattle.mg_model.specs.History.{Entries, effect_of}
 use Rattle.mg_model.specs.Legal.{is_durable}
-use Rattle.mg_model.specs.Machine.{own, state_of}
+use Rattle.mg_model.specs.Machine.{own, state_of, takes_base}
 use Rattle.mg_model.specs.Openings.{everyone}
 use Rattle.mg_model.specs.ReadLaws.{same_name_itself}
 use Rattle.mg_records.specs.Reading.{shape_seen}
@@ -82,6 +82,7 @@ use Rattle.mg_image.specs.Records.{cells_of}
 use Rattle.mg_undo.specs.Machine.{was_in}
 use Rattle.mg_engine_steps.specs.Walking.{AreToCome}
 use Rattle.mg_engine_meaning.specs.StepLaws.{as_standing}
+use Rattle.mg_engine_meaning.specs.BasesLaws.{bases_stay}
 use Rattle.mg_engine_changes.specs.Answered.{no_catalog}
 use Rattle.mg_engine_changes.specs.Befores.{BeforesAreTold}
 use Rattle.mg_engine_changes.specs.Clearing.{HasCleared}
@@ -132,6 +133,12 @@ makes : (t : TxNo) (table : Table) (write : Write) → same_name table.name cata
 makes t table (writes.Insert row) other = refl
 makes t table (writes.Change key row) other = rw other refl
 makes t table (writes.Erase key) other = rw other refl
+
+takes_none : (t : TxNo) (table : Table) (write : Write) (u : ℕ) (snapshot : Bool)
+    → takes_base (effect_of (made_by t table write)) u snapshot ≡ false
+takes_none t table (writes.Insert row) u snapshot = refl
+takes_none t table (writes.Change key row) u snapshot = refl
+takes_none t table (writes.Erase key) u snapshot = refl
 
 -- ---- the write
 
@@ -376,6 +383,7 @@ module _ (speakers : SpeakersAreTold) (befores : BeforesAreTold) (follow : MadeW
   stood noted after j held told online_after geometry goes leaves = record {
     tells = told;
     grows = record { limbo = stands.grows.limbo; entries = (makes t table write other, stands.grows.entries) };
+    bases = bases_stay o h (made_by t table write) (takes_none t table write) stands.bases;
     numbers = numbers_now;
     tables = stands.tables;
     given = λ u n x is. stands.given u n x (sym (all_work (λ (w : Option Working). given_by w n) refl u) ∙ is);

@@ -19,7 +19,7 @@ use Rattle.mg_engine_meaning.specs.FrameLaws.{apart_from, commits_of, keeps_of, 
 use Rattle.mg_engine_meaning.specs.Frames.{StoreGoesOn, WorksStay}
 use Rattle.mg_engine_meaning.specs.KeptLaws.{kept_with_work}
 use Rattle.mg_engine_meaning.specs.LawfulLaws.{quiet_count, quiet_event}
-use Rattle.mg_engine_meaning.specs.Meaning.{AreNext, Places, means, rec_at}
+use Rattle.mg_engine_meaning.specs.Meaning.{AreNext, Places, means, place_at}
 use Rattle.mg_engine_meaning.specs.MemoryCallLaws.{nothing_follows}
 use Rattle.mg_engine_meaning.specs.Standings.{KeepsIt, Numbers, ShowsIt, StandsFor, StandsWhile, Tables, asked_in, asked_kept, mode_kept, session_kept, sessions_in, standing_of, undo_kept}
 use Rattle.mg_engine_meaning.specs.StepLaws.{fails_goes, shows_of, time_then, unmarked_run}
@@ -196,6 +196,7 @@ module _ {D P : Type 0} (m : Meaning D) (places : Places P) (known : KnownOfBack
     stands_now = record {
       tells = failed_goes.time.tells ∙ told_ready;
       grows = record { limbo = stands.grows.limbo; entries = (refl, stands.grows.entries) };
+      bases = stands.bases;
       numbers = stands.numbers;
       tables = stands.tables;
       given = λ u name table is. stands.given u name table (sym (given_same u name) ∙ is);
@@ -218,7 +219,7 @@ module _ {D P : Type 0} (m : Meaning D) (places : Places P) (known : KnownOfBack
     active = idle_state comes.opening comes.entries (entry (back_event t point) (No refusal)) refl u ∙ comes.active;
     seen = given_same u table.name ∙ comes.seen;
     next = subst (λ (off : Option ℕ). AreNext m now (standing_of now comes.stands.numbers comes.stands.tables) u table
-        (rec_at places after) rows off) (sym offline_is) tt;
+        (place_at places after) rows off) (sym offline_is) tt;
   }
 
   risen_counts : (old.damage ≤ stopped.damage) × (old.shortages ≤ stopped.shortages)

@@ -377,6 +377,7 @@ module _ (one : RowsAreOne packed_coding) (begins : OpeningsBegin) (on : TipsSta
     stands = record {
       tells = told_after;
       grows = stands.grows;
+      bases = stands.bases;
       numbers = stands.numbers;
       tables = stands.tables;
       given = stands.given;

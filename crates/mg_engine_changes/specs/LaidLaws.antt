@@ -70,7 +70,7 @@ use Rattle.mg_overlays.specs.Overlays.{left_state}
 use Rattle.mg_table_overlays.specs.OneTable.{one_table}
 use Rattle.mg_undo.specs.Machine.{was_in}
 use Rattle.mg_base.specs.declared.geometry.Geometry.{Geometry}
-use Rattle.mg_engine_steps.specs.Walking.{AreToCome}
+use Rattle.mg_engine_steps.specs.Walking.{AreToCome, WalkPlace}
 use Rattle.mg_model.specs.Changes.{KeyedRows, same_name}
 use Rattle.mg_engine_steps.specs.Standing.{Standing}
 use Rattle.mg_engine_changes.specs.Walks.{WalkInto}
@@ -242,7 +242,7 @@ module _ (speakers : SpeakersAreTold) (obstacles : ObstaclesAtKeys) (rows : Rows
   work_is = sym (ap (λ (c : Core D). work_of c.works t.0) begun_since.same) ∙ begun.may.its
 
   -- walks are as they were where pages were only read
-  walk_mid : (i : Image) → m.held old.store.disk ≡ Some i → (u : ℕ) (x : Table) (from : Option RecId)
+  walk_mid : (i : Image) → m.held old.store.disk ≡ Some i → (u : ℕ) (x : Table) (from : Option WalkPlace)
       (rows_ : KeyedRows)
       → AreToCome old.store.geometry.size (bare_standing old) (shown old.store.dirty i) u x from rows_
       → AreToCome read.store.geometry.size (bare_standing old)
@@ -305,6 +305,7 @@ module _ (speakers : SpeakersAreTold) (obstacles : ObstaclesAtKeys) (rows : Rows
     place_stands = record {
       tells = told;
       grows = mid_stands.grows;
+      bases = mid_stands.bases;
       numbers = mid_stands.numbers;
       tables = mid_stands.tables;
       given = mid_stands.given;

@@ -33,11 +33,11 @@ use Rattle.mg_core.specs.Putting.{works_kept}
 use Rattle.mg_core.specs.Writing.{Writes}
 use Rattle.mg_engine_meaning.specs.FrameLaws.{apart_from, commits_of, keeps_of, kept_all, kept_with, quiet_of, sessions_of, store_stands, tables_of, works_with}
 use Rattle.mg_engine_meaning.specs.Frames.{GivesEvent, StoreGoesOn, WorksStay}
-use Rattle.mg_engine_meaning.specs.Meaning.{Places, means, AreNext, rec_at}
+use Rattle.mg_engine_meaning.specs.Meaning.{Places, means, AreNext, place_at}
 use Rattle.mg_engine_meaning.specs.Standings.{StandsFor, asked_kept, session_kept, sessions_in, Numbers, Tables, standing_of}
 use Rattle.mg_engine_meaning.specs.ReadLaws.{reads_go}
 use Rattle.mg_engine_meaning.specs.StepLaws.{as_standing, run_goes, time_then, unmarked_run}
-use Rattle.mg_engine_steps.specs.Walking.{AreToCome}
+use Rattle.mg_engine_steps.specs.Walking.{AreToCome, WalkPlace}
 use Rattle.mg_model.specs.Changes.{KeyedRows}
 use Rattle.mg_pool.specs.Pool.{shown}
 use Rattle.mg_txlist.specs.TxList.{said}
@@ -179,7 +179,7 @@ module _ {D P : Type 0} (m : Meaning D) (places : Places P) (old new : Core D) (
 
   next_on : (i : Image) → m.held old.store.disk ≡ Some i → (o : Opening) (h : Entries)
       (its : GoesOnWith m old new o h (made_by t table write) t.0) (n : Numbers) (x : Tables) (u : ℕ) → u ≢ t.0
-      → said old.list u ≡ Active → (its_table : Table) (from : Option RecId) (rows : KeyedRows)
+      → said old.list u ≡ Active → (its_table : Table) (from : Option WalkPlace) (rows : KeyedRows)
       → AreToCome old.store.geometry.size (standing_of old n x) (shown old.store.dirty i) u its_table from rows
       → AreNext m new (standing_of new its.stands.numbers its.stands.tables) u its_table from rows None
   next_on i held o h its n x u ne also its_table from rows next =
@@ -197,8 +197,8 @@ module _ {D P : Type 0} (m : Meaning D) (places : Places P) (old new : Core D) (
       let its : GoesOnWith m old new comes.opening comes.entries (made_by t table write) t.0 =
       goes_on comes.opening comes.entries comes.stands in
       let next : AreNext m old (standing_of old comes.stands.numbers comes.stands.tables) u its_table
-      (rec_at places from) rows None = subst (λ (off : Option ℕ). AreNext m old
-      (standing_of old comes.stands.numbers comes.stands.tables) u its_table (rec_at places from) rows off) online
+      (place_at places from) rows None = subst (λ (off : Option ℕ). AreNext m old
+      (standing_of old comes.stands.numbers comes.stands.tables) u its_table (place_at places from) rows off) online
       comes.next in record {
         opening = comes.opening;
         entries = made_by t table write ∷ comes.entries;
@@ -208,10 +208,10 @@ module _ {D P : Type 0} (m : Meaning D) (places : Places P) (old new : Core D) (
             ∙ ((memory_of m old comes.opening comes.entries comes.stands).state u ∙ comes.active));
         seen = given_same u its_table.name ∙ comes.seen;
         next = subst (λ (off : Option ℕ). AreNext m new (standing_of new its.stands.numbers its.stands.tables) u
-            its_table (rec_at places from) rows off) (sym store_on.online)
+            its_table (place_at places from) rows off) (sym store_on.online)
             (next_on next.0 next.1 comes.opening comes.entries its comes.stands.numbers comes.stands.tables u
             (apart_from u t.0 not_)
-            ((memory_of m old comes.opening comes.entries comes.stands).state u ∙ comes.active) its_table (rec_at places from) rows next.2);
+            ((memory_of m old comes.opening comes.entries comes.stands).state u ∙ comes.active) its_table (place_at places from) rows next.2);
       }
 
   pub made_gives : GivesEvent m places old new (event_of t table.name write) Fine None None (Some t.0) None None

@@ -66,6 +66,7 @@ use Rattle.mg_engine_meaning.specs.FrameLaws.{kept_all}
 use Rattle.mg_engine_meaning.specs.Frames.{WorksStay}
 use Rattle.mg_engine_meaning.specs.PlainTables.{HasPlainTables}
 use Rattle.mg_engine_meaning.specs.Standings.{AreOfKept, AreTold, HasTips, Numbers, SeesAlike, ShowsIt, StandsFor, StandsWhile, Tables, asked_in, mode_kept, session_kept, sessions_in, standing_of, undo_kept, written_kept}
+use Rattle.mg_engine_meaning.specs.LawfulBases.{BasesAreLawful}
 use Rattle.mg_engine_changes.specs.MadePages.{MadePages}
 use Rattle.mg_engine_changes.specs.MadeShown.{rows_legal}
 use Rattle.mg_engine_changes.specs.StandMade.{stand_at}
@@ -124,6 +125,11 @@ first_named (s ∷ ss) name page (inr more) =
 rows_grow : (t : TxNo) (rows : List Cells) (h : Entries) → EachMakes h → EachMakes (with_rows t rows h)
 rows_grow t [] h each = each
 rows_grow t (row ∷ rows) h each = rows_grow t rows (row_entry t row ∷ h) (refl, each)
+
+rows_bases : (o : Opening) (t : TxNo) (rows : List Cells) (h : Entries) → BasesAreLawful o h
+    → BasesAreLawful o (with_rows t rows h)
+rows_bases o t [] h bases = bases
+rows_bases o t (row ∷ rows) h bases = rows_bases o t rows (row_entry t row ∷ h) bases
 
 -- at keys of other tables than the catalog nothing is changed
 changes_else : (o : Opening) (t : TxNo) (name : List ℕ) (key : Value) → same_name catalog_name name ≡ false
@@ -529,6 +535,7 @@ module _ (begins : OpeningsBegin) (seen_law : MadeAreSeen) (remembered : RowsAre
   made_stands tells held online geometry = record {
     tells = tells;
     grows = record { limbo = stands.grows.limbo; entries = rows_grow t (rows_made name shape) h stands.grows.entries };
+    bases = rows_bases o t (rows_made name shape) h stands.bases;
     numbers = numbers_now;
     tables = tables_now;
     given = given_now;

@@ -6,7 +6,6 @@ use Rattle.std.proofs.lemmas.Bool.{eqb-true}
 use Rattle.mg_base.specs.Disk.{Meaning}
 use Rattle.mg_base.specs.Image.{Image}
 use Rattle.mg_base.specs.declared.geometry.Geometry.{Geometry}
-use Rattle.mg_base.specs.declared.numbers.RecId.{RecId}
 use Rattle.mg_base.specs.declared.numbers.TxNo.{TxNo}
 use Rattle.mg_base.specs.declared.transaction.TxState.TheVariants.{Active}
 use Rattle.mg_value.specs.Names.{IsName}
@@ -60,14 +59,14 @@ use Rattle.mg_engine_steps.specs.AnswersLaws.{SpeakersAreTold}
 use Rattle.mg_engine_steps.specs.Batches.{BatchesLast, ReadsLast}
 use Rattle.mg_engine_steps.specs.ListShows.{BehindKeepsTips, ListsStay}
 use Rattle.mg_engine_steps.specs.Standing.{Standing}
-use Rattle.mg_engine_steps.specs.Walking.{AreToCome}
+use Rattle.mg_engine_steps.specs.Walking.{AreToCome, WalkPlace}
 use Rattle.mg_engine_steps.specs.Writes.{IsSilentAt}
 use Rattle.mg_engine_writes.specs.Knowing.{WasChanged}
 use Rattle.mg_engine_writes.specs.Unasked.{UnaskingLasts}
 use Rattle.mg_engine_meaning.specs.FrameLaws.{apart_from, commits_of, kept_all, keeps_of, sessions_of, tables_of}
 use Rattle.mg_engine_meaning.specs.Frames.{WorksStay}
 use Rattle.mg_engine_meaning.specs.LawfulLaws.{memory_of}
-use Rattle.mg_engine_meaning.specs.Meaning.{AreNext, Places, means, rec_at}
+use Rattle.mg_engine_meaning.specs.Meaning.{AreNext, Places, means, place_at}
 use Rattle.mg_engine_meaning.specs.Standings.{Numbers, ShowsIt, StandsFor, Tables, asked_in, asked_kept, mode_kept, session_kept, sessions_in, standing_of}
 use Rattle.mg_engine_meaning.specs.StepLaws.{as_standing, shows_of}
 use Rattle.mg_engine_changes.specs.Laid.{bare_standing}
@@ -349,7 +348,7 @@ module _ {D P : Type 0} (m : Meaning D) (known : KnownOfTables D m) (places : Pl
 
   next_on : (i : Image) → m.held table_made.grown.disk ≡ Some i → (o : Opening) (h : Entries)
       (its : GoesOnRows m mid now o h t name shape) (n : Numbers) (x : Tables) (u : ℕ) → u ≢ t.0
-      → said old.list u ≡ Active → (its_table : Table) (from : Option RecId) (rows : KeyedRows)
+      → said old.list u ≡ Active → (its_table : Table) (from : Option WalkPlace) (rows : KeyedRows)
       → AreToCome table_made.grown.geometry.size (standing_of mid n x) (shown table_made.grown.dirty i) u its_table from
       rows → AreNext m now (standing_of now its.stands.numbers its.stands.tables) u its_table from rows None
   next_on i held o h its n x u ne also its_table from rows next =
@@ -368,8 +367,8 @@ module _ {D P : Type 0} (m : Meaning D) (known : KnownOfTables D m) (places : Pl
       let its : GoesOnRows m mid now comes.opening comes.entries t name shape =
       all_goes comes.opening comes.entries comes.stands in
       let next : AreNext m mid (standing_of mid passed.stands.numbers passed.stands.tables) u its_table
-      (rec_at places from) rows None = subst (λ (off : Option ℕ). AreNext m mid
-      (standing_of mid passed.stands.numbers passed.stands.tables) u its_table (rec_at places from) rows off) come.up
+      (place_at places from) rows None = subst (λ (off : Option ℕ). AreNext m mid
+      (standing_of mid passed.stands.numbers passed.stands.tables) u its_table (place_at places from) rows off) come.up
       passed.next in record {
         opening = comes.opening;
         entries = with_rows t (rows_made name shape) comes.entries;
@@ -378,10 +377,10 @@ module _ {D P : Type 0} (m : Meaning D) (known : KnownOfTables D m) (places : Pl
             u) ∙ ((memory_of m old comes.opening comes.entries comes.stands).state u ∙ comes.active);
         seen = given_same u its_table.name (apart_from u t.0 not_) ∙ comes.seen;
         next = subst (λ (off : Option ℕ). AreNext m now (standing_of now its.stands.numbers its.stands.tables) u
-            its_table (rec_at places from) rows off) (sym store_on.online)
+            its_table (place_at places from) rows off) (sym store_on.online)
             (next_on next.0 next.1 comes.opening comes.entries its passed.stands.numbers passed.stands.tables u
             (apart_from u t.0 not_) ((memory_of m old comes.opening comes.entries comes.stands).state u ∙ comes.active)
-            its_table (rec_at places from) rows next.2);
+            its_table (place_at places from) rows next.2);
       }
 
   -- ---- the whole

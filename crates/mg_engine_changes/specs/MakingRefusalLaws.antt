@@ -343,10 +343,7 @@ module _ (speakers : SpeakersAreTold) (obstacles : ObstaclesAtKeys) (rows : Rows
       (ap (λ (r : Refusal). waited_on (No r)) only.is))
       (λ o h stands. only_read speakers obstacles rows nothing begin verdicts nobody m old core t name shape continues
       o h stands new (ended_read m old new t.0 core.pool ends) refusal only.work only.its only.reads only.is))
-  creations_refused (no_keys begun wait has (inl told)) = inl (wants has.continues.0 begun
-      (begun_read begun wait has) told)
-  creations_refused (no_keys begun wait has (inr one)) = inl (counts has.continues.0 begun
-      (begun_read begun wait has) not_lawful one)
+  creations_refused (no_keys begun wait has told) = inl (wants has.continues.0 begun (begun_read begun wait has) told)
   creations_refused (not_free begun wait has failed) = inl (keys_refused has.continues.0 begun wait has
       (length (keys_made old.catalog.shape name shape)) (keys_made old.catalog.shape name shape) refl failed)
   creations_refused (not_put free may failed) = put_refused free may failed

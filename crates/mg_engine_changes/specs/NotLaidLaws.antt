@@ -3,7 +3,6 @@
 use Rattle.std.proofs.Common.{◌≡◌, ◌⊎◌, inl, inr, ℕ, List, ◌∷◌, Option, None, Some, refl, sym, ap, ◌∙◌, subst}
 use Rattle.mg_base.specs.Disk.{Meaning}
 use Rattle.mg_base.specs.Image.{Image}
-use Rattle.mg_base.specs.declared.numbers.RecId.{RecId}
 use Rattle.mg_base.specs.declared.numbers.TxNo.{TxNo}
 use Rattle.mg_model.specs.declared.answer.Answer.TheVariants.{No}
 use Rattle.mg_model.specs.declared.opening.Opening.{Opening}
@@ -18,6 +17,7 @@ use Rattle.mg_engine_steps.specs.Following.{StandsOn}
 use Rattle.mg_engine_steps.specs.Idle.{IdleGoesOn}
 use Rattle.mg_engine_steps.specs.PageWrites.{PageWritesFail}
 use Rattle.mg_engine_steps.specs.Standing.{Standing}
+use Rattle.mg_engine_steps.specs.Walking.{WalkPlace}
 use Rattle.mg_engine_writes.specs.Unasked.{UnaskingLasts}
 use Rattle.mg_image.specs.Form.{packed_form}
 use Rattle.mg_lasting.specs.Changing.{QuietHolds}
@@ -48,7 +48,7 @@ use Rattle.mg_core.specs.Writing.{HasBegun}
 use Rattle.mg_engine_meaning.specs.FrameLaws.{apart_from, commits_of, keeps_of, sessions_of, tables_of}
 use Rattle.mg_engine_meaning.specs.Frames.{GivesEvent, MayAnswer}
 use Rattle.mg_engine_meaning.specs.LawfulLaws.{quiet_count, quiet_event}
-use Rattle.mg_engine_meaning.specs.Meaning.{AreNext, Places, means, rec_at}
+use Rattle.mg_engine_meaning.specs.Meaning.{AreNext, Places, means, place_at}
 use Rattle.mg_engine_meaning.specs.MemoryCallLaws.{idle_finds, memory_stands, nothing_follows}
 use Rattle.mg_engine_meaning.specs.Standings.{StandsFor, asked_kept, sessions_in, standing_of}
 use Rattle.mg_engine_meaning.specs.FrameLaws.{same_sessions}
@@ -253,7 +253,7 @@ module _ (retract : RetractTakesKeepBack) {D P : Type 0} (m : Meaning D) (places
       shortages = new.shortages;
     }) o (entry (event_of t table.name write) (No refusal) ∷ h)
     waited_stands = memory_stands m places mid failed.read.waits old.works old.live idle_goes on quiet refl refl o h e
-        mid_stands mid_stands.tables mid_stands.given mid_stands.kept
+        mid_stands mid_stands.tables mid_stands.given mid_stands.kept mid_stands.bases
         (inr (fault_outer failed.fails.fault refusal failed.fails.is))
         (quiet_count e (passing_event t table.name write)) (quiet_event e (passing_event t table.name write)) refl
         (nothing_follows mid failed.read.waits o h e t.0 refl (whose_event t table.name write) noted
@@ -281,7 +281,7 @@ module _ (retract : RetractTakesKeepBack) {D P : Type 0} (m : Meaning D) (places
     shortages = new.shortages;
   }
 
-  next_on : (s s_now : Standing) (u : ℕ) (its : Table) (after : Option RecId) (rows : KeyedRows) (off : Option ℕ)
+  next_on : (s s_now : Standing) (u : ℕ) (its : Table) (after : Option WalkPlace) (rows : KeyedRows) (off : Option ℕ)
       → s.state ≡ s_now.state → s.live ≡ s_now.live → AreNext m mid s u its after rows off
       → AreNext m now s_now u its after rows off
   next_on s s_now u its after rows None state bases (i, held, next) =
@@ -300,7 +300,7 @@ module _ (retract : RetractTakesKeepBack) {D P : Type 0} (m : Meaning D) (places
         seen = retracted_given t.0 table.pointer.0 (written_at table write) failed.before.was old.works u its.name
             ∙ was.seen;
         next = next_on (standing_of mid comes.stands.numbers comes.stands.tables)
-            (standing_of now stands_now.numbers stands_now.tables) u its (rec_at places after) rows new.store.offline
+            (standing_of now stands_now.numbers stands_now.tables) u its (place_at places after) rows new.store.offline
             refl refl comes.next;
       }
 

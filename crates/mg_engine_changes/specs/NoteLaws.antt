@@ -2,8 +2,7 @@
 use Rattle.std.proofs.Common.{◌≡◌, ◌≤◌, ℕ, false, List, ◌∷◌, Option, None, Some, refl, sym, ap, ◌∙◌, subst}
 use Rattle.mg_base.specs.Disk.{Meaning}
 use Rattle.mg_base.specs.declared.geometry.Geometry.{Geometry}
-use Rattle.mg_base.specs.declared.numbers.RecId.{RecId}
-use Rattle.mg_engine_steps.specs.Walking.{AreToCome}
+use Rattle.mg_engine_steps.specs.Walking.{AreToCome, WalkPlace}
 use Rattle.mg_model.specs.declared.table.Table.{Table}
 use Rattle.mg_model.specs.Changes.{KeyedRows}
 use Rattle.mg_engine_steps.specs.Standing.{Standing}
@@ -33,7 +32,7 @@ use Rattle.mg_core.specs.declared.parts.Core.{Core}
 use Rattle.mg_engine_meaning.specs.FrameLaws.{commits_of, keeps_of, sessions_of, tables_of, works_same}
 use Rattle.mg_engine_meaning.specs.Frames.{GivesEvent, MayAnswer}
 use Rattle.mg_engine_meaning.specs.LawfulLaws.{quiet_count, quiet_event}
-use Rattle.mg_engine_meaning.specs.Meaning.{AreNext, Places, means, rec_at}
+use Rattle.mg_engine_meaning.specs.Meaning.{AreNext, Places, means, place_at}
 use Rattle.mg_engine_meaning.specs.MemoryCallLaws.{idle_finds, memory_stands, nothing_follows}
 use Rattle.mg_engine_meaning.specs.Standings.{StandsFor, sessions_in, standing_of}
 use Rattle.mg_engine_meaning.specs.ReadLaws.{reads_go, reads_quiet, reads_stand}
@@ -67,7 +66,7 @@ module _ {D P : Type 0} (m : Meaning D) (places : Places P) (idle_goes : IdleGoe
       → StandsFor m (record old { store = store; waits = waits; damage = damage; shortages = shortages }) o
       (entry event (No refusal) ∷ h)
   now_stands o h lawful stands = memory_stands m places mid waits old.works old.live idle_goes on quiet refl refl
-      o h (entry event (No refusal)) stands stands.tables stands.given stands.kept lawful
+      o h (entry event (No refusal)) stands stands.tables stands.given stands.kept stands.bases lawful
       (quiet_count (entry event (No refusal)) passing) (quiet_event (entry event (No refusal)) passing) refl
       (nothing_follows mid waits o h (entry event (No refusal)) t refl whose noted stands.numbers stands.tables)
       (λ shows. idle_finds store.geometry.size o h (entry event (No refusal))
@@ -75,7 +74,7 @@ module _ {D P : Type 0} (m : Meaning D) (places : Places P) (idle_goes : IdleGoe
       (standing_of (record mid { waits = waits; works = old.works; live = old.live }) stands.numbers
       stands.tables) (shown store.dirty shows.image) refl (λ u. refl) (λ u. refl) (λ u name. refl))
 
-  next_on : (s s_now : Standing) (u : ℕ) (table : Table) (after : Option RecId) (rows : KeyedRows)
+  next_on : (s s_now : Standing) (u : ℕ) (table : Table) (after : Option WalkPlace) (rows : KeyedRows)
       (off : Option ℕ) → s.state ≡ s_now.state → s.live ≡ s_now.live
       → AreNext m old s u table after rows off
       → AreNext m (record old { store = store; waits = waits; damage = damage; shortages = shortages }) s_now u table
@@ -110,10 +109,10 @@ module _ {D P : Type 0} (m : Meaning D) (places : Places P) (idle_goes : IdleGoe
           next = subst (λ (off : Option ℕ). AreNext m
               (record old { store = store; waits = waits; damage = damage; shortages = shortages })
               (standing_of (record old { store = store; waits = waits; damage = damage; shortages = shortages })
-              stands_now.numbers stands_now.tables) u table (rec_at places after) rows off) (sym keeps.offline)
+              stands_now.numbers stands_now.tables) u table (place_at places after) rows off) (sym keeps.offline)
               (next_on (standing_of old comes.stands.numbers comes.stands.tables)
               (standing_of (record old { store = store; waits = waits; damage = damage; shortages = shortages })
-              stands_now.numbers stands_now.tables) u table (rec_at places after) rows old.store.offline refl refl
+              stands_now.numbers stands_now.tables) u table (place_at places after) rows old.store.offline refl refl
               comes.next);
         }
 

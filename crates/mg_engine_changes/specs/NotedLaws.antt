@@ -3,7 +3,6 @@
 use Rattle.std.proofs.Common.{◌≡◌, ◌⊎◌, inl, inr, ℕ, Bool, true, false, List, Option, None, Some, refl, sym, ap, ◌∙◌, subst}
 use Rattle.std.specs.Prelude.{is_some}
 use Rattle.mg_base.specs.Disk.{Meaning}
-use Rattle.mg_base.specs.declared.numbers.RecId.{RecId}
 use Rattle.mg_base.specs.declared.numbers.TxNo.{TxNo}
 use Rattle.mg_model.specs.declared.answer.Answer.{Answer}
 use Rattle.mg_model.specs.declared.answer.Answer.TheVariants.{Fine, No}
@@ -16,6 +15,7 @@ use Rattle.mg_model.specs.Changes.{KeyedRows}
 use Rattle.mg_engine_steps.specs.Following.{StandsOn}
 use Rattle.mg_engine_steps.specs.Idle.{IdleGoesOn}
 use Rattle.mg_engine_steps.specs.Standing.{Standing}
+use Rattle.mg_engine_steps.specs.Walking.{WalkPlace}
 use Rattle.mg_image.specs.Form.{packed_form}
 use Rattle.mg_lasting.specs.Changing.{QuietHolds}
 use Rattle.mg_pool.specs.Dirty.{is_marked}
@@ -30,7 +30,7 @@ use Rattle.mg_core.specs.Cores.{IsCore}
 use Rattle.mg_engine_meaning.specs.EventLaws.{refused_gives, short_gives}
 use Rattle.mg_engine_meaning.specs.FrameLaws.{kept_all, sessions_of, works_same, works_with}
 use Rattle.mg_engine_meaning.specs.Frames.{GivesEvent, WorksStay}
-use Rattle.mg_engine_meaning.specs.Meaning.{AreNext, ComesTo, Places, means, rec_at}
+use Rattle.mg_engine_meaning.specs.Meaning.{AreNext, ComesTo, Places, means, place_at}
 use Rattle.mg_engine_meaning.specs.Standings.{StandsFor, standing_of}
 use Rattle.mg_engine_meaning.specs.StepLaws.{as_standing}
 use Rattle.mg_engine_changes.specs.KeptTables.{NotedTablesAreKept, NotedWorksStay, NotesStay}
@@ -84,14 +84,14 @@ module _ (works_stay : NotedWorksStay) {D : Type 0} (m : Meaning D) (notes_stay 
 
   -- ---- what it goes on with
 
-  next_on : (s s_now : Standing) (u : ℕ) (its : Table) (after : Option RecId) (rows : KeyedRows) (off : Option ℕ)
+  next_on : (s s_now : Standing) (u : ℕ) (its : Table) (after : Option WalkPlace) (rows : KeyedRows) (off : Option ℕ)
       → s.state ≡ s_now.state → s.live ≡ s_now.live → AreNext m old s u its after rows off
       → AreNext m mid s_now u its after rows off
   next_on s s_now u its after rows None state bases (i, held, next) =
       (i, held, as_standing old.store.geometry.size s s_now (shown old.store.dirty i) u its after rows state bases next)
   next_on s s_now u its after rows (Some count) state bases next = tt
 
-  comes_on : (u : ℕ) (its : Table) (after : Option RecId) (rows : KeyedRows) → ComesTo m old u its after rows
+  comes_on : (u : ℕ) (its : Table) (after : Option WalkPlace) (rows : KeyedRows) → ComesTo m old u its after rows
       → ComesTo m mid u its after rows
   comes_on u its after rows comes =
       let stands_now : StandsFor m mid comes.opening comes.entries =
@@ -130,7 +130,7 @@ module _ (works_stay : NotedWorksStay) {D : Type 0} (m : Meaning D) (notes_stay 
       };
       tables_stay = λ u name its not_ is. gives.leaves.tables_stay u name its not_ (noted_given u name ∙ is);
       walks_stay = λ u its after rows not_ comes. gives.leaves.walks_stay u its after rows not_
-          (comes_on u its (rec_at places after) rows comes);
+          (comes_on u its (place_at places after) rows comes);
       commits = record {
         asked = λ u not_ is. gives.leaves.commits.asked u not_ ((works_stay t.0 table old.works).asked u ∙ is);
         written = λ u not_ is. gives.leaves.commits.written u not_ (record {

@@ -185,6 +185,7 @@ module _ {D : Type 0} (m : Meaning D) (core : Core D) (now : List Working) (stay
   stands_later o h stands keeps = record {
     tells = stands.tells;
     grows = stands.grows;
+    bases = stands.bases;
     numbers = stands.numbers;
     tables = stands.tables;
     given = λ u name table is. stands.given u name table (sym (stay.given u name) ∙ is);

@@ -161,8 +161,8 @@ module _ {D P : Type 0} (m : Meaning D) (known : KnownOfBacks D P m) (apart : Gi
   rows_as : (mid : Core D) (keys : List Value) → FailsTheRows m mid stopped t.0 keys refusal → StopsAs m mid stopped refusal
   rows_as mid keys fails = record {
     fault = fails.fault;
-    left = own_left m mid.store stopped.store _ _ fails.fault fails.fails;
-    told = own_tells m mid.store stopped.store _ _ fails.fault fails.fails;
+    left = own_left m mid.store stopped.store _ _ fails.fault fails.fails.own;
+    told = own_tells m mid.store stopped.store _ _ fails.fault fails.fails.own;
     is = fails.is;
     counts = fails.counts;
     same = fails.same;

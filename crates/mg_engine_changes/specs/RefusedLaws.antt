@@ -2,7 +2,6 @@
 -- refusal. The catalog may have got pages, which add nothing.
 use Rattle.std.proofs.Common.{◌≡◌, ◌⊎◌, inl, inr, refl, sym, ap, ◌∙◌, subst, ◌≤◌, arith, ℕ, true, false, List, ◌∷◌, length, Option, None, Some}
 use Rattle.mg_base.specs.Disk.{Meaning}
-use Rattle.mg_base.specs.declared.numbers.RecId.{RecId}
 use Rattle.mg_base.specs.declared.numbers.TxNo.{TxNo}
 use Rattle.mg_base.specs.declared.transaction.TxState.TheVariants.{Active}
 use Rattle.mg_value.specs.declared.shape.Shape.{Shape}
@@ -42,11 +41,12 @@ use Rattle.mg_engine_steps.specs.Following.{StandsOn}
 use Rattle.mg_engine_steps.specs.Idle.{IdleGoesOn}
 use Rattle.mg_engine_steps.specs.PageWrites.{PageWritesFail}
 use Rattle.mg_engine_steps.specs.Standing.{Standing}
+use Rattle.mg_engine_steps.specs.Walking.{WalkPlace}
 use Rattle.mg_engine_writes.specs.Unasked.{UnaskingLasts}
 use Rattle.mg_engine_meaning.specs.FrameLaws.{apart_from, commits_of, kept_all, keeps_of, kept_with, same_sessions, sessions_of, tables_of, works_with}
 use Rattle.mg_engine_meaning.specs.Frames.{GivesEvent, MayAnswer}
 use Rattle.mg_engine_meaning.specs.LawfulLaws.{quiet_count, quiet_event}
-use Rattle.mg_engine_meaning.specs.Meaning.{AreNext, Places, means, rec_at}
+use Rattle.mg_engine_meaning.specs.Meaning.{AreNext, Places, means, place_at}
 use Rattle.mg_engine_meaning.specs.MemoryCallLaws.{idle_finds, memory_stands, nothing_follows}
 use Rattle.mg_engine_meaning.specs.Standings.{StandsFor, asked_kept, sessions_in, standing_of, written_kept}
 use Rattle.mg_engine_meaning.specs.StepLaws.{as_standing}
@@ -178,7 +178,7 @@ module _ (retract : RetractTakesKeepBack) {D P : Type 0} (m : Meaning D) (places
       shortages = refused.shortages;
     }) o (entry (own_event t name shape) (No refusal) ∷ h)
     waited_stands = memory_stands m places mid refused.waits old.works old.live idle_goes on quiet refl refl o h e
-        mid_stands mid_stands.tables mid_stands.given mid_stands.kept (inr refused.outer)
+        mid_stands mid_stands.tables mid_stands.given mid_stands.kept mid_stands.bases (inr refused.outer)
         (quiet_count e refl) (quiet_event e refl) refl
         (nothing_follows mid refused.waits o h e t.0 refl refl refused.noted mid_stands.numbers mid_stands.tables)
         (λ shows. idle_finds refused.store.geometry.size o h e
@@ -200,7 +200,7 @@ module _ (retract : RetractTakesKeepBack) {D P : Type 0} (m : Meaning D) (places
   given_same u n = kept_all old.works refused.works t.0 refused.takes.stay (λ (w : Option Working). given_by w n)
       (refused.takes.given n) u
 
-  next_on : (s s_now : Standing) (u : ℕ) (its : Table) (after : Option RecId) (rows : KeyedRows) (off : Option ℕ)
+  next_on : (s s_now : Standing) (u : ℕ) (its : Table) (after : Option WalkPlace) (rows : KeyedRows) (off : Option ℕ)
       → s.state ≡ s_now.state → s.live ≡ s_now.live → AreNext m mid s u its after rows off
       → AreNext m now s_now u its after rows off
   next_on s s_now u its after rows None state bases (i, held, next) = (
@@ -222,7 +222,7 @@ module _ (retract : RetractTakesKeepBack) {D P : Type 0} (m : Meaning D) (places
         active = idle_state was.opening was.entries e refl u ∙ was.active;
         seen = given_same u its.name ∙ was.seen;
         next = next_on (standing_of mid comes.stands.numbers comes.stands.tables)
-            (standing_of now stands_now.numbers stands_now.tables) u its (rec_at places after) rows refused.store.offline
+            (standing_of now stands_now.numbers stands_now.tables) u its (place_at places after) rows refused.store.offline
             refl refl comes.next;
       }
 

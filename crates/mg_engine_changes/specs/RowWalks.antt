@@ -3,7 +3,7 @@ use Rattle.std.specs.Prelude.{◌≡◌, ℕ, Bool, List, [], ◌++◌, Option}
 use Rattle.mg_base.specs.declared.numbers.RecId.{RecId}
 use Rattle.mg_chain.specs.Chains.{takes_version}
 use Rattle.mg_engine_steps.specs.Known.{IsShown}
-use Rattle.mg_engine_steps.specs.Walking.{AreToCome}
+use Rattle.mg_engine_steps.specs.Walking.{AreToCome, WalkPlace}
 use Rattle.mg_image.specs.Form.{Pages, packed_form}
 use Rattle.mg_image.specs.Records.{Reading, shown}
 use Rattle.mg_image.specs.Sound.{IsSoundBy}
@@ -42,7 +42,7 @@ pub record ShowsOn (size : ℕ) (s new : Standing) (later : Pages) (u : ℕ) (ta
 -- its walk over the table goes on
 abbrev pub RowWalksGoOn : Type 0
 RowWalksGoOn = (size : ℕ) (s new : Standing) (pages later : Pages) (u : ℕ) (table : Table)
-    (after : Option RecId) (rows : KeyedRows)
+    (after : Option WalkPlace) (rows : KeyedRows)
     → ((layout : Layout) (r : Reading) → IsSoundBy packed_form size (left_state everyone s.state) pages layout r
     → (was : IsShown layout table) → ShowsOn size s new later u table layout r was)
     → AreToCome size s pages u table after rows → AreToCome size new later u table after rows

@@ -6,6 +6,8 @@ use Rattle.mg_base.specs.declared.numbers.RecId.{RecId}
 use Rattle.mg_base.specs.declared.transaction.TxState.{TxState}
 use Rattle.mg_chain.specs.Chains.{newest_link, takes_version}
 use Rattle.mg_engine_steps.specs.Known.{IsShown}
+use Rattle.mg_engine_steps.specs.WalkPlaces.{stands_at, stands_more}
+use Rattle.mg_engine_steps.specs.Walking.{StandsInTurn, rec_of}
 use Rattle.mg_engine_changes.specs.RowWalks.{RowWalksGoOn, ShowsOn, row_at_record}
 use Rattle.mg_engine_changes.specs.RowsLaws.{AreSilent, IsSilent, behind_more, has_behind, if_passes, page_same, pages_none, pages_same, records_both, rows_are, rows_both, rows_by, rows_filtered}
 use Rattle.mg_heap.specs.Walk.{behind, is_primary}
@@ -131,15 +133,6 @@ module _ (counted counts : ℕ → Bool) (table : Table) (r q : Reading) (pages 
 
 -- ---- the whole
 
-stands_more : (ns more : List ℕ) (after : Option RecId) → StandsAt ns after → StandsAt (ns ++ more) after
-stands_more ns more None stands = tt
-stands_more ns more (Some x) stands = has_more ns x.page.0 stands
-  where
-    has_more : (xs : List ℕ) (n : ℕ) → Has xs n → Has (xs ++ more) n
-    has_more [] n has = absurd has
-    has_more (k ∷ ks) n (inl is) = inl is
-    has_more (k ∷ ks) n (inr later) = inr (has_more ks n later)
-
 has_first : (ns more : List ℕ) (n : ℕ) → Has ns n → Has (ns ++ more) n
 has_first [] more n has = absurd has
 has_first (k ∷ ks) more n (inl is) = inl is
@@ -151,10 +144,10 @@ row_walks_go_on size s new pages later u table after rows shows_on come = record
   reading = to.reading;
   sound = to.sound;
   shown = to.is_;
-  stands = subst (λ (ms : List ℕ). StandsAt ms after) (sym to.same.data_pages)
+  stands = subst (λ (ms : List ℕ). StandsInTurn ms after) (sym to.same.data_pages)
       (stands_more come.shown.stands.stand.data_pages to.same.more after come.stands);
   are = come.are ∙ (rows_are (takes_version s.state s.live u) table come.reading
-      (records_behind pages come.shown.stands.stand.data_pages after)
+      (records_behind pages come.shown.stands.stand.data_pages (rec_of after))
       ∙ (sym (walk_same (takes_version s.state s.live u) (takes_version new.state new.live u) table come.reading
       to.reading pages later come.shown.stands.stand.data_pages to.same.more
       (silent_at size (left_state everyone s.state) pages come.layout come.reading come.sound table come.shown
@@ -162,11 +155,12 @@ row_walks_go_on size s new pages later u table after rows shows_on come = record
       (λ n has. silent_at size (left_state everyone new.state) later to.layout to.reading to.sound table to.is_
       (takes_version new.state new.live u) n (subst (λ (ms : List ℕ). Has ms n) (sym to.same.data_pages)
       (has_first come.shown.stands.stand.data_pages to.same.more n has)))
-      to.same.rows to.same.none after come.stands)
+      to.same.rows to.same.none (rec_of after)
+      (stands_at come.shown.stands.stand.data_pages after come.stands))
       ∙ (ap (λ (ms : List ℕ). rows_by (row_at_record (takes_version new.state new.live u) table to.reading)
-      (records_behind later ms after)) (sym to.same.data_pages)
+      (records_behind later ms (rec_of after))) (sym to.same.data_pages)
       ∙ sym (rows_are (takes_version new.state new.live u) table to.reading
-      (records_behind later to.is_.stands.stand.data_pages after)))));
+      (records_behind later to.is_.stands.stand.data_pages (rec_of after))))));
 }
   where
     to : ShowsOn size s new later u table come.layout come.reading come.shown

@@ -28,7 +28,7 @@ use Rattle.mg_core.specs.Refusing.{CountsFault, IsRefusal}
 use Rattle.mg_engine_meaning.specs.FrameLaws.{apart_from, quiet_of}
 use Rattle.mg_engine_meaning.specs.Frames.{MayAnswer}
 use Rattle.mg_engine_meaning.specs.LawfulLaws.{memory_of}
-use Rattle.mg_engine_meaning.specs.Meaning.{AreNext, Places, rec_at}
+use Rattle.mg_engine_meaning.specs.Meaning.{AreNext, Places, place_at}
 use Rattle.mg_engine_meaning.specs.ReadLaws.{reads_go, reads_quiet, reads_stand, reads_walks}
 use Rattle.mg_engine_meaning.specs.Standings.{StandsFor, standing_of}
 use Rattle.mg_engine_meaning.specs.StepLaws.{as_standing, fail_quiet, fail_stands, fail_walks, fails_goes, time_then, unmarked_run}
@@ -96,13 +96,13 @@ module _ {D P : Type 0} (m : Meaning D) (places : Places P) where
         let now : StaysOver m old store comes.opening comes.entries t =
         over comes.opening comes.entries comes.stands in
         let next : AreNext m old (standing_of old comes.stands.numbers comes.stands.tables) u its
-        (rec_at places from) rows None = subst (λ (off : Option ℕ). AreNext m old
-        (standing_of old comes.stands.numbers comes.stands.tables) u its (rec_at places from) rows off) online
+        (place_at places from) rows None = subst (λ (off : Option ℕ). AreNext m old
+        (standing_of old comes.stands.numbers comes.stands.tables) u its (place_at places from) rows off) online
         comes.next in
         let (k, held, then_) = now.walks next.0 next.1 u (apart_from u t not_)
-        ((memory_of m old comes.opening comes.entries comes.stands).state u ∙ comes.active) its (rec_at places from)
+        ((memory_of m old comes.opening comes.entries comes.stands).state u ∙ comes.active) its (place_at places from)
         rows (as_standing old.store.geometry.size (standing_of old comes.stands.numbers comes.stands.tables)
-        (bare_standing old) (shown old.store.dirty next.0) u its (rec_at places from) rows refl refl next.2) in
+        (bare_standing old) (shown old.store.dirty next.0) u its (place_at places from) rows refl refl next.2) in
         record {
           opening = comes.opening;
           entries = comes.entries;
@@ -111,12 +111,12 @@ module _ {D P : Type 0} (m : Meaning D) (places : Places P) where
           seen = comes.seen;
           next = subst (λ (off : Option ℕ). AreNext m (record old { store = store })
               (standing_of (record old { store = store }) now.stands.numbers now.stands.tables) u its
-              (rec_at places from) rows off) (sym on.online) (
+              (place_at places from) rows off) (sym on.online) (
                 k,
                 held,
                 as_standing store.geometry.size (bare_standing old)
                     (standing_of (record old { store = store }) now.stands.numbers now.stands.tables)
-                    (shown store.dirty k) u its (rec_at places from) rows refl refl then_,
+                    (shown store.dirty k) u its (place_at places from) rows refl refl then_,
               );
         };
     unmarked = on.unmarked;

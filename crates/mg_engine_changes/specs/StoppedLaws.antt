@@ -5,7 +5,6 @@ use Rattle.std.proofs.lemmas.Bool.{cases_eq, eq-eqb}
 use Rattle.std.specs.Prelude.{if◌then◌else◌}
 use Rattle.mg_base.specs.Disk.{Meaning}
 use Rattle.mg_base.specs.Image.{Image}
-use Rattle.mg_base.specs.declared.numbers.RecId.{RecId}
 use Rattle.mg_base.specs.declared.numbers.TxNo.{TxNo}
 use Rattle.mg_base.specs.declared.transaction.TxState.TheVariants.{Active, Dead}
 use Rattle.mg_core.specs.Cores.{IsCore}
@@ -25,7 +24,7 @@ use Rattle.mg_engine_meaning.specs.Falling.{Falls}
 use Rattle.mg_engine_meaning.specs.FrameLaws.{apart_from, commits_of, keeps_of, quiet_of, tables_of}
 use Rattle.mg_engine_meaning.specs.KeptLaws.{kept_without_work}
 use Rattle.mg_engine_meaning.specs.LawfulLaws.{memory_of, quiet_count, quiet_event}
-use Rattle.mg_engine_meaning.specs.Meaning.{AreNext, Places, means, rec_at}
+use Rattle.mg_engine_meaning.specs.Meaning.{AreNext, Places, means, place_at}
 use Rattle.mg_engine_meaning.specs.MemoryCallLaws.{active_answer, nothing_follows}
 use Rattle.mg_engine_meaning.specs.PlainTables.{HasPlainTables}
 use Rattle.mg_engine_meaning.specs.Standings.{HasTips, ShowsIt, StandsFor, StandsWhile, asked_in, asked_kept, session_kept, sessions_in, standing_of}
@@ -36,7 +35,7 @@ use Rattle.mg_engine_steps.specs.Following.{FollowsEntry}
 use Rattle.mg_engine_steps.specs.Known.{IsShown, seen_is_shown}
 use Rattle.mg_engine_steps.specs.PageWrites.{KeepAsking}
 use Rattle.mg_engine_steps.specs.Standing.{Standing, Stands}
-use Rattle.mg_engine_steps.specs.Walking.{AreToCome}
+use Rattle.mg_engine_steps.specs.Walking.{AreToCome, WalkPlace}
 use Rattle.mg_engine_changes.specs.BackLists.{KeepsLists}
 use Rattle.mg_engine_changes.specs.BackWalks.{WalksBeside}
 use Rattle.mg_engine_changes.specs.GivenUp.{GivesUp}
@@ -307,6 +306,7 @@ module _ {D P : Type 0} (m : Meaning D) (places : Places P) (known : KnownOfBack
     stands_now = record {
       tells = (tells_on m stops.at.store stopped.store image keeps some.taken.knows.tells).told;
       grows = record { limbo = stands.grows.limbo; entries = (refl, (refl, stands.grows.entries)) };
+      bases = stands.bases;
       numbers = stands.numbers;
       tables = stands.tables;
       given = seen_still m places old begun.waits new.list stopped.store t.0 stands.tables stands.given;
@@ -359,7 +359,7 @@ module _ {D P : Type 0} (m : Meaning D) (places : Places P) (known : KnownOfBack
       is_shown = seen_is_shown all.0.shows.layout table
           ((all.0.shows.tables u (ends_now.others u ne ∙ said_so)).seen table.name table seen)
 
-      walk_on : (after : Option RecId) (rows : KeyedRows)
+      walk_on : (after : Option WalkPlace) (rows : KeyedRows)
           → AreToCome size s (shown old.store.dirty shows.image) u table after rows
           → AreToCome size s_now (shown stopped.store.dirty image) u table after rows
       walk_on after rows next = subst (λ (x : Pages). AreToCome size s_now x u table after rows) (sym same_shown)
@@ -369,7 +369,7 @@ module _ {D P : Type 0} (m : Meaning D) (places : Places P) (known : KnownOfBack
           (subst (λ (x : Pages). IsSoundBy packed_form size (left_state everyone (said new.list)) x all.0.shows.layout
           all.0.shows.reading) same_shown all.0.shows.sound) table is_shown after rows next)
 
-      next_on : (after : Option RecId) (rows : KeyedRows)
+      next_on : (after : Option WalkPlace) (rows : KeyedRows)
           → AreNext m old (standing_of old stands.numbers stands.tables) u table after rows None
           → AreNext m now (standing_of now stands.numbers stands.tables) u table after rows None
       next_on after rows (i, held, next) =
@@ -400,11 +400,11 @@ module _ {D P : Type 0} (m : Meaning D) (places : Places P) (known : KnownOfBack
         (idle_state comes.opening comes.entries (entry (back_event t point) (No refusal)) refl u ∙ comes.active);
     seen = given_same m places old begun.waits new.list stopped.store t.0 u table.name not_ ∙ comes.seen;
     next = subst (λ (off : Option ℕ). AreNext m now (standing_of now comes.stands.numbers comes.stands.tables) u table
-        (rec_at places after) rows off) (sym store_on.online)
+        (place_at places after) rows off) (sym store_on.online)
         (next_on comes.opening comes.entries comes.stands u not_ comes.active table
-        (comes.stands.given u table.name table comes.seen) (rec_at places after) rows
+        (comes.stands.given u table.name table comes.seen) (place_at places after) rows
         (subst (λ (off : Option ℕ). AreNext m old (standing_of old comes.stands.numbers comes.stands.tables) u table
-        (rec_at places after) rows off) has_begun.continues.0 comes.next));
+        (place_at places after) rows off) has_begun.continues.0 comes.next));
   }
 
   -- ---- the whole

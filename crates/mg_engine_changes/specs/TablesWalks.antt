@@ -1,6 +1,5 @@
 -- The walks of all others go on where the rows of tables are taken out of the catalog.
 use Rattle.std.specs.Prelude.{◌≡◌, ◌≢◌, ℕ, Bool, false, List, Option}
-use Rattle.mg_base.specs.declared.numbers.RecId.{RecId}
 use Rattle.mg_value.specs.declared.value.Value.{Value}
 use Rattle.mg_model.specs.declared.change.Change.{Change}
 use Rattle.mg_model.specs.declared.opening.Opening.{Opening}
@@ -15,7 +14,7 @@ use Rattle.mg_image.specs.Sound.{IsSoundBy}
 use Rattle.mg_image.specs.Tables.{Layout}
 use Rattle.mg_overlays.specs.Overlays.{left_state}
 use Rattle.mg_engine_steps.specs.Standing.{Standing}
-use Rattle.mg_engine_steps.specs.Walking.{AreToCome}
+use Rattle.mg_engine_steps.specs.Walking.{AreToCome, WalkPlace}
 use Rattle.mg_engine_unmakings.specs.LeftShown.{TakesTables}
 use Rattle.mg_engine_changes.specs.BackWalks.{WalksBeside}
 
@@ -26,5 +25,5 @@ TablesWalksGoOn = (size : ℕ) (o : Opening) (h : Entries) (e : Entry) (t u : �
     → IsSoundBy packed_form size (left_state everyone s.state) pages a r
     → TakesTables packed_form size o h e t left s a r pages later gone → WalksBeside s new t u
     → ((v : ℕ) → new.state v ≡ s.state v) → (table : Table)
-    → (table.name ≢ catalog_name → gone (table_key table.name) ≡ false) → (after : Option RecId) (rows : KeyedRows)
+    → (table.name ≢ catalog_name → gone (table_key table.name) ≡ false) → (after : Option WalkPlace) (rows : KeyedRows)
     → AreToCome size s pages u table after rows → AreToCome size new later u table after rows

@@ -28,7 +28,7 @@ use Rattle.mg_table_overlays.specs.OneLayout.{StandsOneWay}
 use Rattle.mg_table_overlays.specs.OneTable.{its_data}
 use Rattle.mg_engine_steps.specs.Known.{IsShown}
 use Rattle.mg_engine_steps.specs.Standing.{Standing}
-use Rattle.mg_engine_steps.specs.Walking.{AreToCome}
+use Rattle.mg_engine_steps.specs.Walking.{AreToCome, WalkPlace}
 use Rattle.mg_engine_unmakings.specs.LeftShown.{TakesTables}
 use Rattle.mg_engine_unmakings.specs.Taken.{HasGone, IsLeft, layout_left, read_of, reading_left, stands_left}
 use Rattle.mg_engine_unmakings.specs.TakenNames.{others_named}
@@ -199,7 +199,7 @@ module _ (one_way : StandsOneWay packed_form) (go : RowWalksGoOn) (size : ℕ) (
       subst (λ (y : Reading). (was : IsShown layout table) → ShowsOn size s new later u table layout y was) once.1
       (subst (λ (l : Layout). (was : IsShown l table) → ShowsOn size s new later u table l r was) once.0 shows_on)
 
-  pub walks_on : (after : Option RecId) (rows : KeyedRows) → AreToCome size s pages u table after rows
+  pub walks_on : (after : Option WalkPlace) (rows : KeyedRows) → AreToCome size s pages u table after rows
       → AreToCome size new later u table after rows
   walks_on after rows = go size s new pages later u table after rows everywhere
 

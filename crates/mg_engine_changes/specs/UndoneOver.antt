@@ -2,7 +2,6 @@
 use Rattle.std.proofs.Common.{◌≡◌, ◌∙◌, ◌∷◌, ℕ, List, None, Option, Some, ap, arith, false, refl, subst, sym}
 use Rattle.mg_base.specs.Disk.{Meaning}
 use Rattle.mg_base.specs.Image.{Image}
-use Rattle.mg_base.specs.declared.numbers.RecId.{RecId}
 use Rattle.mg_base.specs.declared.numbers.TxNo.{TxNo}
 use Rattle.mg_base.specs.declared.transaction.TxState.TheVariants.{Active}
 use Rattle.mg_core.specs.Cores.{IsCore}
@@ -16,11 +15,11 @@ use Rattle.mg_engine_changes.specs.Outcomes.{back_event}
 use Rattle.mg_engine_meaning.specs.FrameLaws.{apart_from, commits_of, keeps_of, kept_all, quiet_of, sessions_of, tables_of, works_with}
 use Rattle.mg_engine_meaning.specs.Frames.{GivesEvent, WorksStay}
 use Rattle.mg_engine_meaning.specs.LawfulLaws.{memory_of}
-use Rattle.mg_engine_meaning.specs.Meaning.{AreNext, Places, means, rec_at}
+use Rattle.mg_engine_meaning.specs.Meaning.{AreNext, Places, means, place_at}
 use Rattle.mg_engine_meaning.specs.Standings.{StandsFor, asked_kept, session_kept, sessions_in, standing_of}
 use Rattle.mg_engine_meaning.specs.StepLaws.{as_standing}
 use Rattle.mg_engine_changes.specs.MadeLaws.{on_then, own_on, stays_then}
-use Rattle.mg_engine_steps.specs.Walking.{AreToCome}
+use Rattle.mg_engine_steps.specs.Walking.{AreToCome, WalkPlace}
 use Rattle.mg_image.specs.Form.{packed_form}
 use Rattle.mg_lasting.specs.Crashes.{HoldsAcknowledged, LeavesSince}
 use Rattle.mg_model.specs.Changes.{KeyedRows}
@@ -118,7 +117,7 @@ module _ {D P : Type 0} (m : Meaning D) (places : Places P) (notes : NotesDeeds)
 
     walk_on : (i : Image) → m.held old.store.disk ≡ Some i → (u : ℕ) → is_of u (Some t.0) ≡ false
         → said old.list u ≡ Active → (table : Table) → given_to old.works u table.name ≡ Some table
-        → (after : Option RecId) (rows : KeyedRows)
+        → (after : Option WalkPlace) (rows : KeyedRows)
         → AreToCome old.store.geometry.size (standing_of old stands.numbers stands.tables) (shown old.store.dirty i) u
         table after rows
         → (k : Image) × (m.held now.store.disk ≡ Some k)
@@ -131,7 +130,7 @@ module _ {D P : Type 0} (m : Meaning D) (places : Places P) (notes : NotesDeeds)
         (apart_from u t.0 not_) active table given after rows next)
 
     next_on : (later : StandsFor m now o (entry (back_event t point) Fine ∷ h)) (u : ℕ) → is_of u (Some t.0) ≡ false → said old.list u ≡ Active
-        → (table : Table) → given_to old.works u table.name ≡ Some table → (after : Option RecId) (rows : KeyedRows)
+        → (table : Table) → given_to old.works u table.name ≡ Some table → (after : Option WalkPlace) (rows : KeyedRows)
         → AreNext m old (standing_of old stands.numbers stands.tables) u table after rows None
         → AreNext m now (standing_of now later.numbers later.tables) u table after rows None
     next_on later u not_ active table given after rows (i, held, next) =
@@ -155,10 +154,10 @@ module _ {D P : Type 0} (m : Meaning D) (places : Places P) (notes : NotesDeeds)
         active = sym ((memory_of m now comes.opening (entry (back_event t point) Fine ∷ comes.entries) later).state u) ∙ active;
         seen = others_given u table.name not_ ∙ comes.seen;
         next = subst (λ (off : Option ℕ). AreNext m now (standing_of now later.numbers later.tables) u table
-            (rec_at places after) rows off) (sym taken.on.online)
-            (next_on comes.opening comes.entries comes.stands later u not_ active table comes.seen (rec_at places after) rows
+            (place_at places after) rows off) (sym taken.on.online)
+            (next_on comes.opening comes.entries comes.stands later u not_ active table comes.seen (place_at places after) rows
             (subst (λ (off : Option ℕ). AreNext m old (standing_of old comes.stands.numbers comes.stands.tables) u table
-            (rec_at places after) rows off) takes.has_begun.continues.0 comes.next));
+            (place_at places after) rows off) takes.has_begun.continues.0 comes.next));
       }
 
   now_gives : GivesEvent m places old now (back_event t point) Fine None (Some t.0) (Some t.0) None None

@@ -187,6 +187,7 @@ module _ (retract : RetractTakesKeepBack) {D : Type 0} (m : Meaning D)
   back_stands = record {
     tells = stands.tells;
     grows = stands.grows;
+    bases = stands.bases;
     numbers = stands.numbers;
     tables = stands.tables;
     given = λ u name table is. stands.given u name table (sym (givens u name) ∙ is);

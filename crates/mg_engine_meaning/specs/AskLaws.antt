@@ -7,7 +7,6 @@ use Rattle.mg_base.specs.Disk.{Meaning}
 use Rattle.mg_base.specs.Image.{Image, page_at}
 use Rattle.mg_base.specs.Moments.{started}
 use Rattle.mg_base.specs.declared.geometry.Geometry.{Geometry}
-use Rattle.mg_base.specs.declared.numbers.RecId.{RecId}
 use Rattle.mg_base.specs.declared.transaction.TxState.TheVariants.{Active}
 use Rattle.mg_model.specs.declared.event.Mode.{Mode}
 use Rattle.mg_model.specs.declared.opening.Opening.{Opening}
@@ -16,7 +15,7 @@ use Rattle.mg_model.specs.declared.table.Table.{Table}
 use Rattle.mg_model.specs.Changes.{KeyedRows}
 use Rattle.mg_model.specs.History.{Entries}
 use Rattle.mg_model.specs.Machine.{is_of, state_of}
-use Rattle.mg_engine_steps.specs.Walking.{AreToCome}
+use Rattle.mg_engine_steps.specs.Walking.{AreToCome, WalkPlace}
 use Rattle.mg_engine_steps.specs.PageWrites.{AskingGoesOn}
 use Rattle.mg_image.specs.Form.{Pages, packed_form}
 use Rattle.mg_image.specs.Inventory.{header_of}
@@ -42,7 +41,7 @@ use Rattle.mg_engine_meaning.specs.Frames.{MayAnswer, StoreGoesOn, WorksStay}
 use Rattle.mg_engine_meaning.specs.PlainTables.{HasPlainTables}
 use Rattle.mg_engine_meaning.specs.LawfulLaws.{left_of, memory_of}
 use Rattle.mg_engine_meaning.specs.KeptLaws.{kept_with_work}
-use Rattle.mg_engine_meaning.specs.Meaning.{AreNext, ComesTo, Places, means, rec_at}
+use Rattle.mg_engine_meaning.specs.Meaning.{AreNext, ComesTo, Places, means, place_at}
 use Rattle.mg_engine_meaning.specs.Standings.{HasTips, Numbers, ShowsIt, StandsFor, StandsWhile, Tables, asked_in, asked_kept, mode_kept, session_kept, sessions_in, standing_of, undo_kept}
 use Rattle.mg_engine_meaning.specs.StepLaws.{as_standing, refused_none, session_of, shows_of}
 use Rattle.mg_engine_meaning.specs.Steps.{AddsNone}
@@ -154,6 +153,7 @@ module _ {D P : Type 0} (m : Meaning D) (places : Places P)
   asking_stands o h stands = record {
     tells = stands.tells;
     grows = stands.grows;
+    bases = stands.bases;
     numbers = stands.numbers;
     tables = stands.tables;
     given = λ u name table given. stands.given u name table (sym (given_same u name) ∙ given);
@@ -169,7 +169,7 @@ module _ {D P : Type 0} (m : Meaning D) (places : Places P)
         (asking_shows o h stands (shows_of m old o h stands has.continues.0));
   }
 
-  next_on : (u : ℕ) (table : Table) (after : Option RecId) (rows : KeyedRows) (s s_now : Standing)
+  next_on : (u : ℕ) (table : Table) (after : Option WalkPlace) (rows : KeyedRows) (s s_now : Standing)
       → s.state ≡ s_now.state → s.live ≡ s_now.live → AreNext m old s u table after rows None
       → AreNext m (record old {
         store = record old.store { dirty = dirty };
@@ -203,14 +203,14 @@ module _ {D P : Type 0} (m : Meaning D) (places : Places P)
         }) (standing_of (record old {
           store = record old.store { dirty = dirty };
           works = with_work t has_asked old.works;
-        }) stands_now.numbers stands_now.tables) u table (rec_at places after) rows off) (sym has.continues.0)
-            (next_on u table (rec_at places after) rows
+        }) stands_now.numbers stands_now.tables) u table (place_at places after) rows off) (sym has.continues.0)
+            (next_on u table (place_at places after) rows
             (standing_of old comes.stands.numbers comes.stands.tables) (standing_of (record old {
               store = record old.store { dirty = dirty };
               works = with_work t has_asked old.works;
             }) stands_now.numbers stands_now.tables) refl refl
             (subst (λ (off : Option ℕ). AreNext m old
-            (standing_of old comes.stands.numbers comes.stands.tables) u table (rec_at places after) rows off)
+            (standing_of old comes.stands.numbers comes.stands.tables) u table (place_at places after) rows off)
             has.continues.0 comes.next));
       }
 

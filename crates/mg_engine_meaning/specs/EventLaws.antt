@@ -1,5 +1,5 @@
 -- The calls of events without pages: refused ones, what was found, a mark and a savepoint.
-use Rattle.std.proofs.Common.{◌≡◌, ◌≢◌, ◌⊎◌, inl, inr, ◌==◌, ◌&&◌, ◌++◌, ◌<◌, ℕ, Bool, true, false, List, ◌∷◌, Option, None, Some, Result, Ok, Err, refl, sym, ap, ◌∙◌, subst}
+use Rattle.std.proofs.Common.{◌≡◌, ◌≢◌, ◌⊎◌, inl, inr, ◌==◌, ◌&&◌, ◌++◌, ◌<◌, ℕ, Bool, true, false, List, ◌∷◌, Option, None, Some, Result, Ok, Err, refl, sym, ap, ◌∙◌, subst, cond}
 use Rattle.std.specs.Prelude.{is_some}
 use Rattle.std.proofs.lemmas.Bool.{cases_eq, eq-eqb, eqb-true, false≢true}
 use Rattle.mg_base.specs.Disk.{Meaning}
@@ -24,7 +24,7 @@ use Rattle.mg_model.specs.Effects.{is_its}
 use Rattle.mg_model.specs.History.{Entries, Entry, Nothing, effect_of, entry, transaction_of}
 use Rattle.mg_model.specs.Legal.{IsLawful, is_durable, is_lasting}
 use Rattle.mg_model.specs.declared.change.Step.{Step}
-use Rattle.mg_model.specs.Machine.{base, deeds_by, is_of, mode_of, next_after, own, state_after, state_of, step, steps, view, waited_on}
+use Rattle.mg_model.specs.Machine.{base, database, deeds_by, is_of, mode_of, next_after, own, state_after, state_of, step, steps, takes_base, view, waited_on}
 use Rattle.mg_chain.specs.Bases.{live_after}
 use Rattle.mg_engine_steps.specs.Idle.{IdleGoesOn}
 use Rattle.mg_image.specs.Form.{packed_form}
@@ -58,6 +58,7 @@ use Rattle.mg_engine_meaning.specs.KeptLaws.{kept_with_work}
 use Rattle.mg_engine_meaning.specs.Meaning.{Places, means}
 use Rattle.mg_engine_meaning.specs.MemoryCallLaws.{active_answer, idle_finds, memory_keeps, memory_quiet, memory_stands, memory_walks, nothing_follows, refused_lawful, refused_may}
 use Rattle.mg_engine_meaning.specs.Standings.{StandsFor, asked_in, asked_kept, mode_kept, session_kept, standing_of, undo_kept}
+use Rattle.mg_engine_meaning.specs.BasesLaws.{bases_over_nothing, bases_stay}
 
 and_false : (b : Bool) → (b && false) ≡ false
 and_false true = refl
@@ -99,7 +100,7 @@ module _ {D P : Type 0} (m : Meaning D) (places : Places P) (idle_goes : IdleGoe
         → StandsFor m (record old { waits = waits; works = old.works; live = old.live }) o (e ∷ h)
     ended_stands o h e nothing whose none passing no_failure lawful stands =
         memory_stands m places old waits old.works old.live idle_goes on quiet refl refl o h e stands
-        stands.tables stands.given stands.kept lawful passing no_failure (ap is_idle nothing)
+        stands.tables stands.given stands.kept (bases_over_nothing o h e nothing stands.bases) lawful passing no_failure (ap is_idle nothing)
         (nothing_follows old waits o h e t nothing whose
         (subst (λ (who : Option ℕ). NowWaits (edges_in old.waits) (edges_in waits) t who) (sym none) over)
         stands.numbers stands.tables)
@@ -238,10 +239,13 @@ module _ {D P : Type 0} (m : Meaning D) (places : Places P) (idle_goes : IdleGoe
 
     module _ (o : Opening) (h : Entries) (e : Entry) (stands : StandsFor m old o h) (deed : Deed)
         (idle : is_idle (effect_of e) ≡ true) (mode : mode_of (e ∷ h) t ≡ mode_of h t)
-        (same_base : base o (e ∷ h) t ≡ base o h t)
+        (none : (u : ℕ) (snapshot : Bool) → takes_base (effect_of e) u snapshot ≡ false)
         (deeds : deeds_by t (steps o (e ∷ h)) ≡ deed ∷ deeds_by t (steps o h))
         (keeps : (number : List ℕ → ℕ) (all : List Deed)
         → undo_of number (deed ∷ all) ≡ after_point (undo_of number all) name) where
+      same_base : base o (e ∷ h) t ≡ base o h t
+      same_base = ap (λ (b : Bool). cond b (database o h) (base o h t)) (none t (mode_of h t).snapshot)
+
       view_same : view o (e ∷ h) t ≡ view o h t
       view_same = ap (λ (cs : List Change). cs ++ base o (e ∷ h) t) (idle_own o h e idle t)
           ∙ ap (λ (cs : List Change). own o h t ++ cs) same_base
@@ -285,13 +289,13 @@ module _ {D P : Type 0} (m : Meaning D) (places : Places P) (idle_goes : IdleGoe
           → FollowsEntry o h e (standing_of old stands.numbers stands.tables)
           (standing_of (record old { waits = waits; works = with_work t (with_point name) old.works; live = old.live })
           stands.numbers stands.tables)
-      pointed_follows next state bases whose none its some one = record {
+      pointed_follows next state bases whose none_on its some one = record {
         limit = refl;
         next = next;
         state = state;
         live = bases;
         waits = subst (λ (who : Option ℕ). Notes who e.answer (edges_in old.waits) (edges_in waits)) (sym whose)
-            (subst (λ (who : Option ℕ). NowWaits (edges_in old.waits) (edges_in waits) t who) (sym none) over);
+            (subst (λ (who : Option ℕ). NowWaits (edges_in old.waits) (edges_in waits) t who) (sym none_on) over);
         others = λ u not_ active.
             let ne : u ≢ t = apart_from u t (sym (its u) ∙ not_) in record {
               mode = ap mode_kept (stay.others u ne);
@@ -321,13 +325,14 @@ module _ {D P : Type 0} (m : Meaning D) (places : Places P) (idle_goes : IdleGoe
           → said old.list t ≡ Active → IsLawful o h e → is_durable e ≡ false → may_last e ≡ false
           → StandsFor m
           (record old { waits = waits; works = with_work t (with_point name) old.works; live = old.live }) o (e ∷ h)
-      pointed_stands next state bases whose none its some active lawful passing no_failure =
+      pointed_stands next state bases whose none_on its some active lawful passing no_failure =
           memory_stands m places old waits (with_work t (with_point name) old.works) old.live idle_goes on quiet
           asks
           (same_sessions old.works (with_work t (with_point name) old.works) t stay) o h e stands stands.tables
           (λ u table shape given. stands.given u table shape (sym (given_same u table) ∙ given))
           (kept_with_work t (with_point name) (λ w. refl) (λ w. refl) (λ w. refl) (λ w. refl) old.works
-          old.catalog.pointer.0 stands.tables stands.kept) lawful passing no_failure idle (pointed_follows next state bases whose none its some
+          old.catalog.pointer.0 stands.tables stands.kept) (bases_stay o h e none stands.bases) lawful passing
+          no_failure idle (pointed_follows next state bases whose none_on its some
           ((memory_of m old o h stands).active t (sym ((memory_of m old o h stands).state t) ∙ active)))
           (λ shows. idle_finds old.store.geometry.size o h e (standing_of old stands.numbers stands.tables)
           (standing_of (record old { waits = waits; works = with_work t (with_point name) old.works; live = old.live })
@@ -387,7 +392,8 @@ module _ {D P : Type 0} (m : Meaning D) (places : Places P) (idle_goes : IdleGoe
       let lawful : IsLawful o h (entry (Mark t) Fine) = inl (sym (active_answer (state_of o h t.0) Fine
       (sym ((memory_of m old o h stands).state t.0) ∙ continues.1))) in (
         lawful,
-        pointed_stands old new.waits t.0 becomes.over None o h (entry (Mark t) Fine) stands Marked refl refl refl
+        pointed_stands old new.waits t.0 becomes.over None o h (entry (Mark t) Fine) stands Marked refl refl
+            (λ u snapshot. refl)
             (deeds_more o h t.0 Marked (steps o h)) notes.marked refl (λ u. refl) refl refl refl (λ u. refl)
             (has_some old t.0 core continues.1) continues.1 lawful refl refl,
       )))
@@ -405,7 +411,7 @@ module _ {D P : Type 0} (m : Meaning D) (places : Places P) (idle_goes : IdleGoe
       (sym ((memory_of m old o h stands).state t.0) ∙ continues.1))) in (
         lawful,
         pointed_stands old new.waits t.0 becomes.over (Some name) o h (entry (Savepoint t name) Fine) stands
-            (Saved name) refl refl refl (deeds_more o h t.0 (Saved name) (steps o h))
+            (Saved name) refl refl (λ u snapshot. refl) (deeds_more o h t.0 (Saved name) (steps o h))
             (λ number all. notes.saved number name all) refl (λ u. refl) refl refl refl (λ u. refl)
             (has_some old t.0 core continues.1) continues.1 lawful refl refl,
       )))

@@ -1,5 +1,7 @@
 pub mod PlainTables
 pub mod PlainLaws
+pub mod LawfulBases
+pub mod BasesLaws
 pub mod Standings
 pub mod Meaning
 pub mod Laws

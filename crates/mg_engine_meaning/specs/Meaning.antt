@@ -4,7 +4,7 @@ use Rattle.mg_base.specs.Disk.{Meaning}
 use Rattle.mg_base.specs.Image.{Image}
 use Rattle.mg_base.specs.declared.numbers.RecId.{RecId}
 use Rattle.mg_base.specs.declared.transaction.TxState.TheVariants.{Active}
-use Rattle.mg_engine_steps.specs.Walking.{AreToCome}
+use Rattle.mg_engine_steps.specs.Walking.{AreToCome, WalkPlace}
 use Rattle.mg_image.specs.Form.{packed_form}
 use Rattle.mg_lasting.specs.Crashes.{HoldsFrom, asked}
 use Rattle.mg_model.specs.declared.opening.Opening.{Opening}
@@ -22,14 +22,16 @@ use Rattle.mg_engine_meaning.specs.Standings.{StandsFor, asked_in, sessions_in, 
 
 -- ---- walks
 
--- what a place is: its record, and its rank among the places of a walk, which ascends with each visit
+-- what a place is: its record, the sequence of its data page, and its rank among the places of a walk, which
+-- ascends with each visit
 pub record Places (P : Type 0) : Type 0 where
   pub rec : P → RecId
+  pub sequence : P → ℕ
   pub rank : P → ℕ
 
-abbrev pub rec_at : {P : Type 0} → Places P → Option P → Option RecId
-rec_at places None = None
-rec_at places (Some place) = Some (places.rec place)
+abbrev pub place_at : {P : Type 0} → Places P → Option P → Option WalkPlace
+place_at places None = None
+place_at places (Some place) = Some (record { rec = places.rec place; sequence = places.sequence place })
 
 -- no place has a greater rank
 abbrev pub MOST_RANK : ℕ
@@ -41,7 +43,7 @@ rank_left places (Some place) = MOST_RANK - 1 - places.rank place
 
 -- the rows that are to come are known by the pages, as long as no page write has failed; after that no walk
 -- goes on
-abbrev pub AreNext : {D : Type 0} → Meaning D → Core D → Standing → ℕ → Table → Option RecId → KeyedRows
+abbrev pub AreNext : {D : Type 0} → Meaning D → Core D → Standing → ℕ → Table → Option WalkPlace → KeyedRows
     → Option ℕ → Type 0
 AreNext m core s t table after rows None = (image : Image)
     × (m.held core.store.disk ≡ Some image)
@@ -51,7 +53,7 @@ AreNext m core s t table after rows (Some faults) = Unit {0}
 -- An active transaction of an engine that stands for a history still comes to these rows of a table, which was
 -- given to it. (A table that others have made, and that it does not see, may go while it walks.)
 pub record ComesTo {D : Type 0} (m : Meaning D) (core : Core D) (t : ℕ) (table : Table)
-    (after : Option RecId) (rows : KeyedRows) : Type 0 where
+    (after : Option WalkPlace) (rows : KeyedRows) : Type 0 where
   pub opening : Opening
   pub entries : Entries
   pub stands : StandsFor m core opening entries
@@ -83,7 +85,7 @@ means m places = record {
   works = λ core t session. WorksFor core t session;
   was_given = λ core table. MayBeGiven table;
   is_place = λ core table place. Unit {0};
-  to_come = λ core t table after rows. ComesTo m core t table (rec_at places after) rows;
+  to_come = λ core t table after rows. ComesTo m core t table (place_at places after) rows;
   still = λ core t table after. rank_left places after;
   unwritten = λ core. min 512 (length core.store.dirty.pages);
   is_asked = λ core t. asked_in core.works t ≡ true;

@@ -4,7 +4,6 @@ use Rattle.std.proofs.Math.Path.{fun_ext}
 use Rattle.std.proofs.lemmas.Bool.{false≢true}
 use Rattle.mg_base.specs.Disk.{Meaning}
 use Rattle.mg_base.specs.Moments.{started}
-use Rattle.mg_base.specs.declared.numbers.RecId.{RecId}
 use Rattle.mg_base.specs.declared.transaction.TxState.{TxState}
 use Rattle.mg_base.specs.declared.transaction.TxState.TheVariants.{Active, Committed, Dead, Limbo}
 use Rattle.mg_model.specs.declared.answer.Answer.{Answer}
@@ -23,7 +22,7 @@ use Rattle.mg_model.specs.Legal.{IsLawful, is_durable}
 use Rattle.mg_model.specs.Machine.{is_of, next_after, state_after, state_of, waited_on}
 use Rattle.mg_chain.specs.Bases.{live_after}
 use Rattle.mg_chain.specs.Chains.{takes_version}
-use Rattle.mg_engine_steps.specs.Walking.{AreToCome}
+use Rattle.mg_engine_steps.specs.Walking.{AreToCome, WalkPlace, rec_of}
 use Rattle.mg_engine_steps.specs.Idle.{IdleGoesOn}
 use Rattle.mg_image.specs.Form.{Pages, packed_form}
 use Rattle.mg_image.specs.Sound.{IsSoundBy}
@@ -51,8 +50,9 @@ use Rattle.mg_core.specs.Cores.{RefusesCall}
 use Rattle.mg_engine_meaning.specs.FrameLaws.{keeps_of, quiet_of, store_stands}
 use Rattle.mg_engine_meaning.specs.Frames.{MayAnswer}
 use Rattle.mg_engine_meaning.specs.LawfulLaws.{left_of}
-use Rattle.mg_engine_meaning.specs.Meaning.{AreNext, Places, means, rec_at}
+use Rattle.mg_engine_meaning.specs.Meaning.{AreNext, Places, means, place_at}
 use Rattle.mg_engine_meaning.specs.Standings.{AreSeen, KeepsWritten, Numbers, ShowsIt, StandsFor, StandsWhile, Tables, asked_in, mode_kept, sessions_in, standing_of}
+use Rattle.mg_engine_meaning.specs.LawfulBases.{BasesAreLawful}
 
 -- ---- answers
 
@@ -129,8 +129,8 @@ module _ {D P : Type 0} (m : Meaning D) (places : Places P) (old : Core D) (wait
       (quiet : QuietHolds packed_form) (same_asked : asked_in works ≡ asked_in old.works)
       (same_sessions : sessions_in works ≡ sessions_in old.works) (o : Opening) (h : Entries) (e : Entry)
       (stands : StandsFor m old o h) (tables : Tables) where
-    pub memory_stands : AreSeen works tables → KeepsWritten old.catalog.pointer.0 works tables → IsLawful o h e
-        → is_durable e ≡ false
+    pub memory_stands : AreSeen works tables → KeepsWritten old.catalog.pointer.0 works tables
+        → BasesAreLawful o (e ∷ h) → IsLawful o h e → is_durable e ≡ false
         → may_last e ≡ false → is_idle (effect_of e) ≡ true
         → FollowsEntry o h e (standing_of old stands.numbers stands.tables)
         (standing_of now stands.numbers tables)
@@ -139,12 +139,13 @@ module _ {D P : Type 0} (m : Meaning D) (places : Places P) (old : Core D) (wait
         (standing_of old stands.numbers stands.tables) (standing_of now stands.numbers tables)
         (shown old.store.dirty shows.image))
         → StandsFor m now o (e ∷ h)
-    memory_stands seen kept lawful passing no_failure idle follows finds = record {
+    memory_stands seen kept bases lawful passing no_failure idle follows finds = record {
       tells = stands.tells;
       grows = record {
         limbo = stands.grows.limbo;
         entries = (idle_makes (effect_of e) idle, stands.grows.entries);
       };
+      bases = bases;
       numbers = stands.numbers;
       tables = tables;
       given = seen;
@@ -187,7 +188,7 @@ module _ {D P : Type 0} (m : Meaning D) (places : Places P) (old : Core D) (wait
     takes_same u not_ = fun_ext (λ by. ap (λ (b : Bool). by == u || (is_committed (said old.list by) && b))
         (sym (same_sees u by not_)))
 
-    next_on : (s s_now : Standing) (u : ℕ) (table : Table) (after : Option RecId) (rows : KeyedRows)
+    next_on : (s s_now : Standing) (u : ℕ) (table : Table) (after : Option WalkPlace) (rows : KeyedRows)
         → s.state ≡ said old.list → s.live ≡ old.live → s_now.state ≡ said old.list
         → s_now.live ≡ live → is_of u who ≡ false → (pages : Pages)
         → AreToCome old.store.geometry.size s pages u table after rows
@@ -200,7 +201,7 @@ module _ {D P : Type 0} (m : Meaning D) (places : Places P) (old : Core D) (wait
       shown = next.shown;
       stands = next.stands;
       are = next.are ∙ ap (λ (counts : ℕ → Bool). rows_shown counts table next.reading
-          (records_behind pages next.shown.stands.stand.data_pages after)) counts_same;
+          (records_behind pages next.shown.stands.stand.data_pages (rec_of after))) counts_same;
     }
       where
         counts_same : takes_version s.state s.live u ≡ takes_version s_now.state s_now.live u
@@ -225,14 +226,14 @@ module _ {D P : Type 0} (m : Meaning D) (places : Places P) (old : Core D) (wait
       where
         by : (stands_now : StandsFor m now comes.opening (e ∷ comes.entries)) (off : Option ℕ)
             → AreNext m old (standing_of old comes.stands.numbers comes.stands.tables) u table
-            (rec_at places after) rows off
+            (place_at places after) rows off
             → AreNext m now (standing_of now stands_now.numbers stands_now.tables) u table
-            (rec_at places after) rows off
+            (place_at places after) rows off
         by stands_now None (image, held, next) = (
           image,
           held,
           next_on (standing_of old comes.stands.numbers comes.stands.tables)
-              (standing_of now stands_now.numbers stands_now.tables) u table (rec_at places after) rows
+              (standing_of now stands_now.numbers stands_now.tables) u table (place_at places after) rows
               refl refl refl refl not_ (shown old.store.dirty image) next,
         )
         by stands_now (Some faults) next = tt

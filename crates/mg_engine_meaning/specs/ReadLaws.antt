@@ -5,14 +5,13 @@ use Rattle.mg_base.specs.Disk.{MayLeave, Meaning}
 use Rattle.mg_base.specs.Image.{Image}
 use Rattle.mg_base.specs.Moments.{goes_on, started}
 use Rattle.mg_base.specs.declared.geometry.Geometry.{Geometry}
-use Rattle.mg_base.specs.declared.numbers.RecId.{RecId}
 use Rattle.mg_model.specs.declared.opening.Opening.{Opening}
 use Rattle.mg_model.specs.declared.refusal.Refusal.{Refusal}
 use Rattle.mg_model.specs.declared.table.Table.{Table}
 use Rattle.mg_model.specs.Changes.{KeyedRows}
 use Rattle.mg_model.specs.History.{Entries}
 use Rattle.mg_model.specs.Laws.{OpeningsBegin}
-use Rattle.mg_engine_steps.specs.Walking.{AreToCome}
+use Rattle.mg_engine_steps.specs.Walking.{AreToCome, WalkPlace}
 use Rattle.mg_engine_steps.specs.Batches.{ReadsLast}
 use Rattle.mg_image.specs.Form.{packed_form}
 use Rattle.mg_image.specs.Inventory.{header_of}
@@ -31,7 +30,7 @@ use Rattle.mg_engine_meaning.specs.FrameLaws.{commits_of, keeps_of, quiet_of, ta
 use Rattle.mg_engine_meaning.specs.Frames.{MayAnswer, StoreGoesOn}
 use Rattle.mg_engine_meaning.specs.PlainTables.{HasPlainTables}
 use Rattle.mg_engine_meaning.specs.LawfulLaws.{legal_of, left_of, opening_of}
-use Rattle.mg_engine_meaning.specs.Meaning.{AreNext, ComesTo, Places, means, rec_at}
+use Rattle.mg_engine_meaning.specs.Meaning.{AreNext, ComesTo, Places, means, place_at}
 use Rattle.mg_engine_meaning.specs.Standings.{HasTips, KeepsIt, ShowsIt, StandsFor, StandsWhile, asked_in, sessions_in, standing_of}
 use Rattle.mg_engine_meaning.specs.StepLaws.{as_standing}
 
@@ -92,6 +91,7 @@ module _ {D P : Type 0} (m : Meaning D) (places : Places P) (begin : OpeningsBeg
   reads_stand o h stands = record {
     tells = keeps.disk.tells ∙ stands.tells;
     grows = stands.grows;
+    bases = stands.bases;
     numbers = stands.numbers;
     tables = stands.tables;
     given = stands.given;
@@ -126,7 +126,7 @@ module _ {D P : Type 0} (m : Meaning D) (places : Places P) (begin : OpeningsBeg
         left = reads_left o h (left_of m old o h stands) told;
       }) (ap (λ (d : DirtyPages). d.size) keeps.dirty)
 
-  next_on : (s s_now : Standing) (u : ℕ) (table : Table) (after : Option RecId) (rows : KeyedRows)
+  next_on : (s s_now : Standing) (u : ℕ) (table : Table) (after : Option WalkPlace) (rows : KeyedRows)
       (off : Option ℕ) → s.state ≡ s_now.state → s.live ≡ s_now.live
       → AreNext m old s u table after rows off
       → AreNext m (record old { store = store; damage = damage; shortages = shortages }) s_now u table after rows off
@@ -153,10 +153,10 @@ module _ {D P : Type 0} (m : Meaning D) (places : Places P) (begin : OpeningsBeg
         next = subst (λ (off : Option ℕ). AreNext m
             (record old { store = store; damage = damage; shortages = shortages })
             (standing_of (record old { store = store; damage = damage; shortages = shortages })
-            stands_now.numbers stands_now.tables) u table (rec_at places after) rows off) (sym keeps.offline)
+            stands_now.numbers stands_now.tables) u table (place_at places after) rows off) (sym keeps.offline)
             (next_on (standing_of old comes.stands.numbers comes.stands.tables)
             (standing_of (record old { store = store; damage = damage; shortages = shortages })
-            stands_now.numbers stands_now.tables) u table (rec_at places after) rows old.store.offline refl refl
+            stands_now.numbers stands_now.tables) u table (place_at places after) rows old.store.offline refl refl
             comes.next);
       }
 

@@ -24,6 +24,7 @@ use Rattle.mg_undo.specs.declared.changes.Change.{Change}
 use Rattle.mg_waits.specs.Waits.{edges_in}
 use Rattle.mg_works.specs.Works.{Working, given_to, work_of, written_in}
 use Rattle.mg_core.specs.declared.parts.Core.{Core}
+use Rattle.mg_engine_meaning.specs.LawfulBases.{BasesAreLawful}
 use Rattle.mg_engine_meaning.specs.PlainTables.{HasPlainTables}
 
 -- ---- memory
@@ -146,8 +147,9 @@ StandsWhile m core o h s (Some faults) = KeepsIt m core o h s
 pub record StandsFor {D : Type 0} (m : Meaning D) (core : Core D) (o : Opening) (h : Entries)
     : Type 0 where
   pub tells : m.tells core.store.disk ≡ true
-  -- rows of the catalog are only made
+  -- rows of the catalog are only made, and each base has whole tables
   pub grows : CatalogGrows o h
+  pub bases : BasesAreLawful o h
   pub numbers : Numbers
   pub tables : Tables
   pub given : AreSeen core.works tables

@@ -8,7 +8,6 @@ use Rattle.mg_base.specs.Disk.{MayLeave, Meaning}
 use Rattle.mg_base.specs.Image.{Image}
 use Rattle.mg_base.specs.Moments.{started}
 use Rattle.mg_base.specs.declared.geometry.Geometry.{Geometry}
-use Rattle.mg_base.specs.declared.numbers.RecId.{RecId}
 use Rattle.mg_base.specs.declared.transaction.TxState.{TxState}
 use Rattle.mg_base.specs.declared.transaction.TxState.TheVariants.{Active, Committed, Dead, Limbo}
 use Rattle.mg_model.specs.declared.opening.Opening.{Opening}
@@ -19,7 +18,7 @@ use Rattle.mg_model.specs.Answers.{is_active}
 use Rattle.mg_model.specs.Changes.{KeyedRows}
 use Rattle.mg_model.specs.History.{Entries}
 use Rattle.mg_model.specs.Machine.{is_of, state_of}
-use Rattle.mg_engine_steps.specs.Walking.{AreToCome}
+use Rattle.mg_engine_steps.specs.Walking.{AreToCome, WalkPlace, rec_of}
 use Rattle.mg_engine_steps.specs.PageWrites.{PageWritesFail, PageWritesGoOn}
 use Rattle.mg_image.specs.Form.{Pages, packed_form}
 use Rattle.mg_image.specs.Inventory.{header_of}
@@ -57,7 +56,7 @@ use Rattle.mg_engine_meaning.specs.FrameLaws.{commits_of, keeps_of, quiet_of, se
 use Rattle.mg_engine_meaning.specs.Frames.{MayAnswer, StoreGoesOn}
 use Rattle.mg_engine_meaning.specs.PlainTables.{HasPlainTables}
 use Rattle.mg_engine_meaning.specs.LawfulLaws.{left_of, memory_of}
-use Rattle.mg_engine_meaning.specs.Meaning.{AreNext, ComesTo, HasWrittenAll, Places, means, rec_at}
+use Rattle.mg_engine_meaning.specs.Meaning.{AreNext, ComesTo, HasWrittenAll, Places, means, place_at}
 use Rattle.mg_engine_meaning.specs.MemoryCallLaws.{refused_may}
 use Rattle.mg_engine_meaning.specs.Standings.{HasTips, KeepsIt, ShowsIt, StandsFor, StandsWhile, asked_in, session_kept, sessions_in, standing_of}
 use Rattle.mg_engine_meaning.specs.Steps.{AddsNone}
@@ -125,7 +124,7 @@ refused_as core o h t refusal same refuses = absurd refuses
 
 -- ---- the rows to come, by states and bases alone
 
-pub as_standing : (size : ℕ) (s s_now : Standing) (pages : Pages) (u : ℕ) (table : Table) (after : Option RecId)
+pub as_standing : (size : ℕ) (s s_now : Standing) (pages : Pages) (u : ℕ) (table : Table) (after : Option WalkPlace)
     (rows : KeyedRows) → s.state ≡ s_now.state → s.live ≡ s_now.live
     → AreToCome size s pages u table after rows → AreToCome size s_now pages u table after rows
 as_standing size s s_now pages u table after rows state bases next = record {
@@ -136,9 +135,9 @@ as_standing size s s_now pages u table after rows state bases next = record {
   shown = next.shown;
   stands = next.stands;
   are = next.are ∙ (ap (λ (state : ℕ → TxState). rows_shown (takes_version state s.live u) table next.reading
-      (records_behind pages next.shown.stands.stand.data_pages after)) state
+      (records_behind pages next.shown.stands.stand.data_pages (rec_of after))) state
       ∙ ap (λ (live : Bases). rows_shown (takes_version s_now.state live u) table next.reading
-      (records_behind pages next.shown.stands.stand.data_pages after)) bases);
+      (records_behind pages next.shown.stands.stand.data_pages (rec_of after))) bases);
 }
 
 -- ---- the pages of an engine over which no page write has failed
@@ -198,6 +197,7 @@ module _ {D P : Type 0} (m : Meaning D) (places : Places P) (holds : HoldsOne D 
   run_stands o h stands = record {
     tells = run.tells ∙ stands.tells;
     grows = stands.grows;
+    bases = stands.bases;
     numbers = stands.numbers;
     tables = stands.tables;
     given = stands.given;
@@ -211,7 +211,7 @@ module _ {D P : Type 0} (m : Meaning D) (places : Places P) (holds : HoldsOne D 
   run_quiet = quiet_of m places old (record old { store = store })
       (λ o h stands told. (run_both o h stands (held_now told) (shows_of m old o h stands online)).1) run.size
 
-  next_on : (u : ℕ) (table : Table) (after : Option RecId) (rows : KeyedRows) (s s_now : Standing)
+  next_on : (u : ℕ) (table : Table) (after : Option WalkPlace) (rows : KeyedRows) (s s_now : Standing)
       → s.state ≡ s_now.state → s.live ≡ s_now.live → m.tells old.store.disk ≡ true
       → (now : (j : Image) × (m.held store.disk ≡ Some j))
       → AreNext m old s u table after rows None
@@ -241,13 +241,13 @@ module _ {D P : Type 0} (m : Meaning D) (places : Places P) (holds : HoldsOne D 
         seen = comes.seen;
         next = subst (λ (off : Option ℕ). AreNext m (record old { store = store })
             (standing_of (record old { store = store }) stands_now.numbers stands_now.tables) u table
-            (rec_at places after) rows off) (sym (run.offline ∙ online))
-            (next_on u table (rec_at places after) rows
+            (place_at places after) rows off) (sym (run.offline ∙ online))
+            (next_on u table (place_at places after) rows
             (standing_of old comes.stands.numbers comes.stands.tables)
             (standing_of (record old { store = store }) stands_now.numbers stands_now.tables) refl refl
             comes.stands.tells (held_now comes.stands.tells)
             (subst (λ (off : Option ℕ). AreNext m old
-            (standing_of old comes.stands.numbers comes.stands.tables) u table (rec_at places after) rows off)
+            (standing_of old comes.stands.numbers comes.stands.tables) u table (place_at places after) rows off)
             online comes.next));
       }
 
@@ -300,6 +300,7 @@ module _ {D P : Type 0} (m : Meaning D) (places : Places P)
   fail_stands o h stands = record {
     tells = goes.time.tells ∙ stands.tells;
     grows = stands.grows;
+    bases = stands.bases;
     numbers = stands.numbers;
     tables = stands.tables;
     given = stands.given;
@@ -324,7 +325,7 @@ module _ {D P : Type 0} (m : Meaning D) (places : Places P)
         seen = comes.seen;
         next = subst (λ (off : Option ℕ). AreNext m (record old { store = store })
             (standing_of (record old { store = store }) stands_now.numbers stands_now.tables) u table
-            (rec_at places after) rows off) (sym offline) tt;
+            (place_at places after) rows off) (sym offline) tt;
       }
 
   unmarked : (page who : ℕ) → is_marked old.store.dirty page who ≡ false

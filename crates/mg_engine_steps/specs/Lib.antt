@@ -39,6 +39,7 @@ pub mod Listed
 pub mod TablePages
 pub mod KeyAnswers
 pub mod Walking
+pub mod WalkPlaces
 pub mod WalkAnswers
 pub mod Tables
 pub mod TableAnswers

@@ -26,7 +26,8 @@ use Rattle.mg_engine_steps.specs.KeyAnswers.{has_speaker}
 use Rattle.mg_engine_steps.specs.Known.{base_is_told, die_alike, is_at_work, lawful_shown, speaker_of, states_are}
 use Rattle.mg_engine_steps.specs.OtherIndexes.{as_first, as_other, row_seen_on}
 use Rattle.mg_engine_steps.specs.TablePages.{data_once, data_there, table_there}
-use Rattle.mg_engine_steps.specs.Walking.{VisitsNext, WalksBegin, WalksGoOn}
+use Rattle.mg_engine_steps.specs.WalkPlaces.{in_turn, stands_at}
+use Rattle.mg_engine_steps.specs.Walking.{VisitsNext, WalksBegin, WalksGoOn, rec_of}
 
 -- ---- rows
 
@@ -89,16 +90,16 @@ walks_go_on order rows_are size s pages table t after found rows come is = at fo
     counts : ℕ → Bool
     counts = takes_version s.state s.live t.0
 
-    next : (x : Option RecId) → GivesNext pages table.pointer.0 after x
-        → ComesTo pages data_pages x (records_behind pages data_pages after)
-    next x gives = order pages its.pointer.0 come.shown.stands.stand.pointers data_pages after x
+    next : (x : Option RecId) → GivesNext pages table.pointer.0 (rec_of after) x
+        → ComesTo pages data_pages x (records_behind pages data_pages (rec_of after))
+    next x gives = order pages its.pointer.0 come.shown.stands.stand.pointers data_pages (rec_of after) x
         (table_there size (left_state everyone s.state) pages come.layout come.reading come.sound its
         come.shown.stands) (data_once size (left_state everyone s.state) pages come.layout come.reading
-        come.sound its come.shown.stands) come.stands
-        (subst (λ (n : ℕ). GivesNext pages n after x)
+        come.sound its come.shown.stands) (stands_at data_pages after come.stands)
+        (subst (λ (n : ℕ). GivesNext pages n (rec_of after) x)
         (ap (λ (k : PageNo). k.0) (sym come.shown.same.pointer)) gives)
 
-    at : (x : Option Visit) → IsVisit s.state s.live t pages table after x
+    at : (x : Option Visit) → IsVisit s.state s.live t pages table (rec_of after) x
         → VisitsNext size s pages t.0 table x rows
     at None gives = come.are ∙ ap (rows_shown counts table come.reading) (next None gives)
     at (Some visit) (gives, seen) =
@@ -112,7 +113,8 @@ walks_go_on order rows_are size s pages table t after found rows come is = at fo
             reading = come.reading;
             sound = come.sound;
             shown = come.shown;
-            stands = there.1;
+            stands = in_turn size (left_state everyone s.state) pages come.layout come.reading come.sound its
+                come.shown.stands visit.rec.page.0 there.1;
             are = refl;
           },
         )

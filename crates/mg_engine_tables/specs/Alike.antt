@@ -5,7 +5,7 @@ use Rattle.mg_base.specs.Fields.{byte}
 use Rattle.mg_base.specs.declared.numbers.RecId.{RecId}
 use Rattle.mg_chain.specs.Chains.{takes_version}
 use Rattle.mg_engine_steps.specs.Known.{IsShown}
-use Rattle.mg_engine_steps.specs.Walking.{AreToCome}
+use Rattle.mg_engine_steps.specs.Walking.{AreToCome, WalkPlace}
 use Rattle.mg_image.specs.Form.{Pages, packed_form}
 use Rattle.mg_image.specs.Inventory.{is_used}
 use Rattle.mg_image.specs.Records.{Reading, shown}
@@ -67,7 +67,7 @@ pub record GoesAlike (size : ℕ) (s new : Standing) (pages later : Pages) (u : 
 -- a walk goes on over a table that stands as it did
 abbrev pub WalksGoAlike : Type 0
 WalksGoAlike = (size : ℕ) (s new : Standing) (pages later : Pages) (u : ℕ) (table : Table)
-    (after : Option RecId) (rows : KeyedRows)
+    (after : Option WalkPlace) (rows : KeyedRows)
     → ((layout : Layout) (r : Reading) → IsSoundBy packed_form size (left_state everyone s.state) pages layout r
     → (was : IsShown layout table) → GoesAlike size s new pages later u table layout r was)
     → AreToCome size s pages u table after rows → AreToCome size new later u table after rows
@@ -75,7 +75,7 @@ WalksGoAlike = (size : ℕ) (s new : Standing) (pages later : Pages) (u : ℕ) (
 -- so it does where all data pages are as they were, and layout and reading stay
 abbrev pub WalksStayOver : Type 0
 WalksStayOver = (size : ℕ) (s new : Standing) (pages later : Pages) (u : ℕ) (table : Table)
-    (after : Option RecId) (rows : KeyedRows) → TakesAlike s new u → DataPagesStay size pages later
+    (after : Option WalkPlace) (rows : KeyedRows) → TakesAlike s new u → DataPagesStay size pages later
     → ((layout : Layout) (r : Reading) → IsSoundBy packed_form size (left_state everyone s.state) pages layout r
     → IsSoundBy packed_form size (left_state everyone new.state) later layout r)
     → AreToCome size s pages u table after rows → AreToCome size new later u table after rows

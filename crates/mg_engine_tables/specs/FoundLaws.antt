@@ -1,6 +1,7 @@
 -- The table that is found under a name stands on the pages.
 use Rattle.std.proofs.Common.{◌≡◌, inl, inr, refl, sym, ap, ◌∙◌, subst, ℕ, Bool, true, false, ◌&&◌, ◌==◌, ◌||◌, List, [], ◌∷◌, Option, None, Some, cond}
-use Rattle.std.specs.Prelude.{map}
+use Rattle.std.specs.Prelude.{if◌then◌else◌, map}
+use Rattle.std.specs.Str.{bytes_eq}
 use Rattle.std.proofs.lemmas.Bool.{eqb-true, false≢true, ne_eqb}
 use Rattle.mg_base.specs.declared.numbers.RecId.{RecId}
 use Rattle.mg_base.specs.declared.numbers.TxNo.{TxNo}
@@ -11,7 +12,7 @@ use Rattle.mg_value.specs.declared.value.Value.{Value}
 use Rattle.mg_model.specs.declared.opening.Opening.{Opening}
 use Rattle.mg_model.specs.declared.table.Table.{Table}
 use Rattle.mg_model.specs.Answers.{is_committed, told}
-use Rattle.mg_model.specs.Catalog.{catalog_name, said_a, table_key}
+use Rattle.mg_model.specs.Catalog.{catalog_name, said_a, table_key, told_cells}
 use Rattle.mg_model.specs.CatalogRules.{EachTable, IsTable}
 use Rattle.mg_model.specs.Changes.{row_at}
 use Rattle.mg_model.specs.History.{Entries}
@@ -37,8 +38,9 @@ use Rattle.mg_table_overlays.specs.Growing.{IsTableOf}
 use Rattle.mg_table_overlays.specs.OneTable.{stands_in}
 use Rattle.mg_seek.specs.Histories.{told_all, told_versions}
 use Rattle.mg_seek.specs.Readings.{RowsOfReadings}
-use Rattle.mg_seek.specs.TableRecords.{IsAmong, records_in}
+use Rattle.mg_seek.specs.TableRecords.{AreTableRecords, IsAmong, records_in}
 use Rattle.mg_seek.specs.TableRows.{IsTableSeen}
+use Rattle.mg_seek.specs.Views.{IsRowSeen}
 use Rattle.mg_engine_steps.specs.Standing.{IsSeenAs, Standing}
 use Rattle.mg_engine_steps.specs.Known.{KnowsPages, base_is_told, catalog_is_shown, facts_shown, speaker_of}
 use Rattle.mg_engine_steps.specs.KeyAnswers.{has_speaker, read_at}
@@ -90,7 +92,7 @@ module _ (rows_law : RowsOfReadings) (rows_at : RowsAtKeys) (nothing : NothingAt
   named : cat.name ≡ catalog_name
   named = ap (λ (x : Table). x.name) knows.shows.sound.catalog
 
-  cat_stands : IsTableOf knows.shows.layout cat
+  abbrev cat_stands : IsTableOf knows.shows.layout cat
   cat_stands = stands_in knows.shows.layout cat (inl refl)
 
   -- the catalog's key stands first in its rows
@@ -166,6 +168,47 @@ module _ (rows_law : RowsOfReadings) (rows_at : RowsAtKeys) (nothing : NothingAt
     in_all keyed = ap knows.shows.sound.names.all.rows (sym keyed)
         ∙ knows.shows.sound.names.all.are_rows.there rec row (record { of_table = of; row_shown = shown_all })
 
+  -- ---- each row of the catalog that it sees
+
+  module _ (rec : RecId) (row : Row) (of : table_in f rec ≡ Some cat)
+      (seen : IsRowSeen s.state s.live t pages cat rec (Some row)) where
+    abbrev shows_it : shown counts (r rec) ≡ Some row
+    shows_it = sym (rows_law s.state s.live t pages cat rec (Some row) f r
+        (read_at size o h s pages knows cat rec of) seen)
+
+    speaks_it : speaker_of size o h s pages knows cat.name (row_key row) ≡ Some rec
+    speaks_it = subst (λ (k : Value). speaker_of size o h s pages knows cat.name k ≡ Some rec) (key_is row)
+        (shows_speaks rows_law rows_at nothing size o h s pages knows t opening legal active rec row of shows_it)
+
+    viewed_it : row_at (view o h t.0) cat.name (row_key row) ≡ Some (told_row cat row)
+    viewed_it = rows_at size o h s pages knows cat (row_key row) rec t (Some row)
+        (catalog_is_shown knows.shows.layout) speaks_it active seen
+
+    -- is that of the catalog once all are committed
+    pub seen_in_all : knows.shows.sound.names.all.rows (row_key row) ≡ Some row
+    seen_in_all = in_all (row_key row) row rec of shows_it
+        ((has_speaker size o h s pages knows cat cat_stands (row_key row)).some rec speaks_it).2 viewed_it (key_is row)
+
+    -- and the history tells it
+    pub seen_is_told : row_at (view o h t.0) catalog_name (row_key row) ≡ Some (told_cells row)
+    seen_is_told = ap (λ (n : List ℕ). row_at (view o h t.0) n (row_key row)) (sym named)
+        ∙ (viewed_it ∙ ap Some
+        (ap (λ (n : List ℕ). if bytes_eq n catalog_name then told_cells row else row) named))
+
+  -- the records of the catalog are those of its pages
+  pub records_are : (records : List RecId) → AreTableRecords pages cat.pointer.0 records
+      → records ≡ records_in pages cat_stands.stand.data_pages
+  records_are records of = of.are ∙ ap (records_in pages) (table_once pages cat.pointer.0 of.pointers of.data_pages
+      cat_stands.stand.pointers cat_stands.stand.data_pages of.table
+      (table_there size (left_state everyone s.state) pages knows.shows.layout r knows.shows.sound cat
+      cat_stands))
+
+  pub of_catalog : (records : List RecId) → AreTableRecords pages cat.pointer.0 records → (rec : RecId)
+      → IsAmong records rec → table_in f rec ≡ Some cat
+  of_catalog records of rec among = (data_there size (left_state everyone s.state) pages knows.shows.layout r
+      knows.shows.sound cat cat_stands rec.page.0).1 (page_listed pages cat_stands.stand.data_pages rec
+      (subst (λ (xs : List RecId). IsAmong xs rec) (records_are records of) among))
+
   -- ---- the table of a name
 
   module _ (tables_told : TablesAreTold) (name : List ℕ) (table : Table)
@@ -173,39 +216,14 @@ module _ (rows_law : RowsOfReadings) (rows_at : RowsAtKeys) (nothing : NothingAt
     abbrev its : (table.name ≡ name) × IsTable (by_key seen.rows) table
     its = named_is (by_key seen.rows) seen.names.0 name table seen.names.1.each seen.names.2
 
-    pages_are : seen.seen.records ≡ records_in pages cat_stands.stand.data_pages
-    pages_are = seen.seen.of_table.are ∙ ap (records_in pages) (table_once pages cat.pointer.0
-        seen.seen.of_table.pointers seen.seen.of_table.data_pages cat_stands.stand.pointers
-        cat_stands.stand.data_pages seen.seen.of_table.table
-        (table_there size (left_state everyone s.state) pages knows.shows.layout r knows.shows.sound cat
-        cat_stands))
-
-    of_all : (rec : RecId) → IsAmong seen.seen.records rec → table_in f rec ≡ Some cat
-    of_all rec among = (data_there size (left_state everyone s.state) pages knows.shows.layout r
-        knows.shows.sound cat cat_stands rec.page.0).1
-        (page_listed pages cat_stands.stand.data_pages rec
-        (subst (λ (xs : List RecId). IsAmong xs rec) pages_are among))
-
     its_row : knows.shows.sound.names.all.rows (table_key table.name) ≡ Some its.1.row
     its_row = by (row_found s.state s.live t pages cat seen.seen.records seen.rows (table_key table.name) its.1.row
         seen.seen.seen its.1.there)
       where
         by : IsRowOf s.state s.live t pages cat seen.seen.records (table_key table.name) its.1.row
             → knows.shows.sound.names.all.rows (table_key table.name) ≡ Some its.1.row
-        by it =
-            let of : table_in f it.rec ≡ Some cat = of_all it.rec it.among in
-            let shows : shown counts (r it.rec) ≡ Some its.1.row =
-            sym (rows_law s.state s.live t pages cat it.rec (Some its.1.row) f r
-            (read_at size o h s pages knows cat it.rec of) it.seen) in
-            let keyed : key_of cat its.1.row ≡ table_key table.name = key_is its.1.row ∙ it.keyed in
-            let speaks : speaker_of size o h s pages knows cat.name (table_key table.name) ≡ Some it.rec =
-            subst (λ (k : Value). speaker_of size o h s pages knows cat.name k ≡ Some it.rec) keyed
-            (shows_speaks rows_law rows_at nothing size o h s pages knows t opening legal active it.rec
-            its.1.row of shows) in
-            in_all (table_key table.name) its.1.row it.rec of shows
-            ((has_speaker size o h s pages knows cat cat_stands (table_key table.name)).some it.rec speaks).2
-            (rows_at size o h s pages knows cat (table_key table.name) it.rec t (Some its.1.row)
-            (catalog_is_shown knows.shows.layout) speaks active it.seen) keyed
+        by it = subst (λ (k : Value). knows.shows.sound.names.all.rows k ≡ Some its.1.row) it.keyed
+            (seen_in_all it.rec its.1.row (of_catalog seen.seen.records seen.seen.of_table it.rec it.among) it.seen)
 
     -- a table of the layout with the name has the page
     one_stays : (given : Table) → given.name ≡ name → given.shape ≡ table.shape → (ts : List Table)

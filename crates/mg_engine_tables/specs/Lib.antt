@@ -11,3 +11,6 @@ pub mod SeenLaws
 pub mod Found
 pub mod FoundLaws
 pub mod SeenRows
+pub mod CatalogParts
+pub mod Lawful
+pub mod LawfulLaws

@@ -17,6 +17,7 @@ use Rattle.mg_model.specs.CatalogRules.{AreTables, EachTable, IsTable}
 use Rattle.mg_model.specs.Changes.{row_at, same_name, same_row}
 use Rattle.mg_model.specs.History.{Entries}
 use Rattle.mg_model.specs.Machine.{state_of}
+use Rattle.mg_model.specs.Openings.{IsToldCatalog}
 use Rattle.mg_catalog.specs.TableLaws.{tables_once}
 use Rattle.mg_records.specs.Reading.{shape_named as shape_told_by}
 use Rattle.mg_generations.specs.Generations.{Generation, shown_by}
@@ -205,6 +206,10 @@ module _ (size : ℕ) (o : Opening) (h : Entries) (s : Standing) (pages : Pages)
               (committed_speaks p row shows.of_table shows.row_shown) in
               told_row_at key p speaks ∙ (ap (told_if cat) shows.row_shown ∙ (ap Some (told_is row)
               ∙ ap told_if_there (sym is)))
+
+  -- so they are those of a lawful catalog, without its page numbers
+  pub told_lawful : IsToldCatalog (row_at cs catalog_name)
+  told_lawful = record { stored = stored.rows; lawful = stored.are_tables.lawful; told = rows_told }
 
   -- ---- the tables that they name
 

@@ -16,7 +16,9 @@ use Rattle.mg_base.specs.Checks.{common_checks}
 use Rattle.mg_model.specs.declared.table.Table.{Table}
 use Rattle.mg_model.specs.Openings.{everyone}
 use Rattle.mg_overlays.specs.Overlays.{left_state}
-use Rattle.mg_seek.specs.Walks.{StandsAt, records_behind, rows_shown}
+use Rattle.mg_engine_steps.specs.WalkPlaces.{stands_at}
+use Rattle.mg_engine_steps.specs.Walking.{StandsInTurn, rec_of}
+use Rattle.mg_seek.specs.Walks.{records_behind, rows_shown}
 use Rattle.mg_slots.specs.declared.page.TheConstants.{DATA_KIND}
 use Rattle.mg_engine_tables.specs.Alike.{GoesAlike, WalksGoAlike, WalksStayOver}
 use Rattle.mg_engine_tables.specs.RowsLaws.{behind_same, each_behind, rows_same}
@@ -55,13 +57,13 @@ walks_go_alike size s new pages later u table after rows goes come = record {
   reading = to.reading;
   sound = to.sound;
   shown = to.is_;
-  stands = subst (λ (ns : List ℕ). StandsAt ns after) (sym to.alike.data_pages) come.stands;
-  are = come.are ∙ (sym (rows_same counted counts table come.reading to.reading (records_behind pages ns after)
-      (each_behind (λ p. shown counts (to.reading p) ≡ shown counted (come.reading p)) pages ns after come.stands
-      to.alike.rows))
-      ∙ (sym (ap (rows_shown counts table to.reading) (behind_same pages later ns after come.stands
-      to.alike.contents))
-      ∙ ap (λ (ms : List ℕ). rows_shown counts table to.reading (records_behind later ms after))
+  stands = subst (λ (ns : List ℕ). StandsInTurn ns after) (sym to.alike.data_pages) come.stands;
+  are = come.are ∙ (sym (rows_same counted counts table come.reading to.reading (records_behind pages ns (rec_of after))
+      (each_behind (λ p. shown counts (to.reading p) ≡ shown counted (come.reading p)) pages ns (rec_of after)
+      (stands_at ns after come.stands) to.alike.rows))
+      ∙ (sym (ap (rows_shown counts table to.reading) (behind_same pages later ns (rec_of after)
+      (stands_at ns after come.stands) to.alike.contents))
+      ∙ ap (λ (ms : List ℕ). rows_shown counts table to.reading (records_behind later ms (rec_of after)))
       (sym to.alike.data_pages)));
 }
   where

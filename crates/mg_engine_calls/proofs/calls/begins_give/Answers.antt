@@ -11,6 +11,7 @@ returns g c = λ places old new session mode result core new_core counts low fre
       sound = c.draws_stay_sound.ensures;
       list = c.lists_go_on.ensures.drawn;
       has_tables = c.bases_have_tables.ensures.begin;
+      databases = c.databases_are_lawful.ensures;
       finds = c.tables_are_found.ensures.begin;
       one_way = c.sound_images_stand_one_way.ensures;
       takes = c.others_take_alike.ensures;
