@@ -40,10 +40,10 @@ use Rattle.mg_version.specs.declared.cell.Cell.TheVariants as cells
 use Rattle.mg_version.specs.declared.cell.Link.{Link}
 use Rattle.mg_version.specs.declared.cell.Version.{Version}
 use Rattle.mg_no_write_damage.specs.Writes.{BackOutsAreFilled, IsRecordOf, ReplacementsAreFilled, SeesSound}
-use Rattle.mg_no_write_damage.proofs.PushLemmas.{anchor, fits, head_read, its_owner, listed, of_table, standing}
-use Rattle.mg_no_write_damage.proofs.ReadLemmas.{Reads, page_there, place_known, slot_turned}
-use Rattle.mg_no_write_damage.proofs.RoomLemmas.{given_begins, other_cell, put_stands, still_listed, then_, version_put}
-use Rattle.mg_no_write_damage.proofs.ViewLemmas.{IsStanding, free_standing, put_standing}
+use Rattle.mg_no_write_damage.specs.PushLaws.{anchor, fits, head_read, its_owner, listed, of_table, standing}
+use Rattle.mg_no_write_damage.specs.Reading.{Reads, page_there, place_known, slot_turned}
+use Rattle.mg_no_write_damage.specs.RoomLaws.{given_begins, other_cell, put_stands, still_listed, then_, version_put}
+use Rattle.mg_no_write_damage.specs.Standing.{IsStanding, free_standing, put_standing}
 
 module _ {D : Type 0} (m : Meaning D) (laws : Reads m) (versions : VersionsAreThere m)
     (lawful_of : SoundRecordsAreLawful) (image : Image) (state : ℕ → TxState) (layout : Layout) (r : Reading)

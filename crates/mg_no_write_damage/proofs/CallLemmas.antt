@@ -1,9 +1,7 @@
 -- Rows are changed without damage: a batch is filled, and it is lawful.
-use Rattle.std.proofs.Common.{ℕ, refl, sym, subst}
+use Rattle.std.proofs.Common.{ℕ, refl}
 use Rattle.mg_base.specs.Disk.{Meaning}
 use Rattle.mg_base.specs.Image.{Image}
-use Rattle.mg_base.specs.declared.damage.Damaged.{Damaged}
-use Rattle.mg_base.specs.declared.geometry.Geometry.{Geometry}
 use Rattle.mg_base.specs.declared.transaction.TxState.{TxState}
 use Rattle.mg_chain_ties.specs.Rows.{table_of_page}
 use Rattle.mg_image.specs.Records.{Reading}
@@ -11,34 +9,19 @@ use Rattle.mg_image.specs.Tables.{Layout}
 use Rattle.mg_no_damage.specs.Records.{VersionsAreThere}
 use Rattle.mg_no_damage.specs.Sees.{no_batch}
 use Rattle.mg_no_damage.specs.Sound.{SoundRecordsAreLawful}
-use Rattle.mg_pool.specs.Batch.{Changed, IsLawful}
 use Rattle.mg_pool.specs.declared.pool.Pool.{Pool}
-use Rattle.mg_row_writes.specs.Changing.{FailsOwn, not_changed, not_filled}
-use Rattle.mg_space.specs.View.{KeepsStore, Tells}
+use Rattle.mg_space.specs.View.{KeepsStore}
 use Rattle.mg_space.specs.ViewLaws.{tells_on}
-use Rattle.mg_space.specs.declared.fault.SpaceFault.{SpaceFault}
-use Rattle.mg_space.specs.declared.fault.SpaceFault.TheVariants as faults
 use Rattle.mg_space.specs.declared.links.FireLinks.{FireLinks}
 use Rattle.mg_no_write_damage.specs.Batches.{PlacesAreTaken, PlacesHaveRoom, RecordsAreMade, ShowsSound, VersionsArePushed, VersionsAreReplaced, VersionsAreTakenOut}
 use Rattle.mg_no_write_damage.specs.Writes.{SeesSound}
+use Rattle.mg_no_write_damage.specs.OwnLaws.{own}
 use Rattle.mg_no_write_damage.proofs.BackLemmas.{outs, replacements}
-use Rattle.mg_no_write_damage.proofs.FirstLemmas.{record_made, spot_room}
-use Rattle.mg_no_write_damage.proofs.LaidBatchLemmas.{push_lawful, record_lawful, replace_lawful, spot_lawful, takes_out_lawful}
-use Rattle.mg_no_write_damage.proofs.PushLemmas.{pushed}
-use Rattle.mg_no_write_damage.proofs.ReadLemmas.{Reads}
-use Rattle.mg_no_write_damage.proofs.RoomLemmas.{spot_given}
-
--- no damage is met where no cause of it holds while the batch is filled, and each batch that is filled is lawful
-own : {D : Type 0} (m : Meaning D) (before after : Pool D FireLinks) (fills : Image → Changed → Type 0)
-    (refuses : Image → SpaceFault → Type 0) (it : Damaged) (image : Image) → Tells m before.disk image
-    → (KeepsStore m before after → refuses image (faults.Damaged it) → ⊥)
-    → ((batch : Changed) → fills image batch → IsLawful before.geometry.size batch.pages batch.orders)
-    → FailsOwn m before after fills refuses (faults.Damaged it) → ⊥
-own m before after fills refuses it image tells none lawful (not_filled keeps alone told refused) =
-    none keeps (refused image tells)
-own m before after fills refuses it image tells none lawful (not_changed batch ready keeps online filled failed) =
-    failed.unlawful (subst (λ (g : Geometry). IsLawful g.size batch.pages batch.orders) (sym keeps.geometry)
-    (lawful batch (filled image tells)))
+use Rattle.mg_no_write_damage.specs.FirstLaws.{record_made, spot_room}
+use Rattle.mg_no_write_damage.specs.LaidLaws.{push_lawful, record_lawful, replace_lawful, spot_lawful, takes_out_lawful}
+use Rattle.mg_no_write_damage.specs.PushLaws.{pushed}
+use Rattle.mg_no_write_damage.specs.Reading.{Reads}
+use Rattle.mg_no_write_damage.specs.RoomLaws.{spot_given}
 
 module _ {D : Type 0} (m : Meaning D) (laws : Reads m) where
   -- a call that was refused, and has only read, began over what the cache shows
@@ -61,12 +44,12 @@ module _ {D : Type 0} (m : Meaning D) (laws : Reads m) where
 
   pub places_have_room : PlacesHaveRoom m
   places_have_room store image state layout r shows table its batch at spot = spot_room m laws store store image refl
-      shows.tells shows.tells shows.geometry state layout r shows.sound table its batch at spot
+      shows.tells shows.geometry no_batch state layout r shows.sound table its batch at spot
 
   pub records_are_made : RecordsAreMade m
   records_are_made before after image state layout r shows table its rec of place v short it fails =
       own m before after _ _ it image shows.tells (λ keeps refused. record_made m laws before after image keeps.dirty
-      shows.tells (tells_on m before after image keeps shows.tells) shows.geometry state layout r shows.sound table its
+      (tells_on m before after image keeps shows.tells) shows.geometry no_batch state layout r shows.sound table its
       rec of place v short it refused) (λ batch filled. record_lawful m laws before image shows.tells shows.geometry
       state layout r shows.sound table its batch rec v of filled) fails
 

@@ -1,13 +1,4 @@
-mod ViewLemmas
-mod ReadLemmas
-mod RoomLemmas
-mod PushLemmas
 mod BackLemmas
-mod DrawLemmas
-mod LawfulLemmas
-mod RankLemmas
-mod GivenLemmas
-mod BatchLemmas
-mod LaidBatchLemmas
-mod FirstLemmas
 mod CallLemmas
+mod DrawLemmas
+mod OutLemmas

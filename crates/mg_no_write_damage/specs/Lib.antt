@@ -1,3 +1,14 @@
-pub mod Writes
-pub mod Draws
+pub mod BatchOrders
 pub mod Batches
+pub mod Draws
+pub mod FirstLaws
+pub mod Given
+pub mod LaidLaws
+pub mod Lawful
+pub mod OwnLaws
+pub mod PushLaws
+pub mod RankLaws
+pub mod Reading
+pub mod RoomLaws
+pub mod Standing
+pub mod Writes

@@ -14,10 +14,11 @@ use Rattle.mg_image.specs.Tables.{Layout, stands_of, table_at}
 use Rattle.mg_image.specs.declared.entry.Entry.{Entry}
 use Rattle.mg_model.specs.declared.table.Table.{Table}
 use Rattle.mg_no_damage.specs.Sees.{no_batch}
+use Rattle.mg_pool.specs.Batch.{Changed}
 use Rattle.mg_pool.specs.Pool.{shown}
 use Rattle.mg_pool.specs.declared.pool.Pool.{Pool}
 use Rattle.mg_space.specs.Taking.{IsGeometry}
-use Rattle.mg_space.specs.View.{KeepsStore, Tells}
+use Rattle.mg_space.specs.View.{KeepsStore, Tells, viewed}
 use Rattle.mg_space.specs.declared.fault.SpaceFault.TheVariants as faults
 use Rattle.mg_space.specs.declared.links.FireLinks.{FireLinks}
 use Rattle.mg_table_overlays.specs.Growing.{IsTableOf}
@@ -73,3 +74,20 @@ ReplacementsAreFilled {D} m = (old new : Pool D FireLinks) (image : Image) (stat
     (its : IsRecordOf layout r rec table) (v : Version) → its.newest.version.tx ≡ v.tx
     → length v.body + 42 ≤ old.geometry.size → (it : Damaged)
     → RefusesReplace m old new image no_batch rec v (faults.Damaged it) → ⊥
+
+-- ---- in a batch that has something
+
+-- The cache at the end of a call that was refused shows what it showed before, and the pages are sound as a batch has them.
+pub record SeesSoundSo {D : Type 0} (m : Meaning D) (old new : Pool D FireLinks) (image : Image) (batch : Changed)
+    (state : ℕ → TxState) (layout : Layout) (r : Reading) : Type 0 where
+  pub like : new.dirty ≡ old.dirty
+  pub same : new.geometry ≡ old.geometry
+  pub tells : Tells m new.disk image
+  pub sound : IsSoundBy packed_form old.geometry.size state (viewed old image batch) layout r
+
+-- the newest version of a record is taken out in it
+abbrev pub BackOutsGoOn : {D : Type 0} → Meaning D → Type 0
+BackOutsGoOn {D} m = (old new : Pool D FireLinks) (image : Image) (batch : Changed) (state : ℕ → TxState)
+    (layout : Layout) (r : Reading) → SeesSoundSo m old new image batch state layout r → (rec : RecId)
+    (table : Table) → IsRecordOf layout r rec table → (it : Damaged)
+    → RefusesBackOut m old new image batch rec (faults.Damaged it) → ⊥

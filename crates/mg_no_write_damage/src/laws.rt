@@ -2,7 +2,7 @@
 
 ghost use Rattle.mg_no_write_damage.specs.Batches.{PlacesAreTaken, PlacesHaveRoom, RecordsAreMade, VersionsArePushed, VersionsAreReplaced, VersionsAreTakenOut};
 ghost use Rattle.mg_no_write_damage.specs.Draws.{NumbersAreDrawn};
-ghost use Rattle.mg_no_write_damage.specs.Writes.{BackOutsAreFilled, PushesAreFilled, ReplacementsAreFilled, RoomIsFound, SpotsAreGiven};
+ghost use Rattle.mg_no_write_damage.specs.Writes.{BackOutsAreFilled, BackOutsGoOn, PushesAreFilled, ReplacementsAreFilled, RoomIsFound, SpotsAreGiven};
 
 use mg_base::Disk;
 use mg_image::one_reading;
@@ -33,6 +33,17 @@ pub fn versions_are_pushed<D: Disk>()
 pub fn newest_versions_change<D: Disk>()
     ensures outs { BackOutsAreFilled D.meaning }
     ensures replaced { ReplacementsAreFilled D.meaning }
+{
+    stands_are_read::<D>();
+    pages_are_taken();
+    one_reading();
+    lawful_records_are_read::<D>();
+    sound_images_are_lawful();
+}
+
+/// The newest version of a record is taken out in a batch that has something, as long as the pages are sound with it.
+pub fn versions_go_out<D: Disk>()
+    ensures { BackOutsGoOn D.meaning }
 {
     stands_are_read::<D>();
     pages_are_taken();

@@ -1,4 +1,4 @@
-use Rattle.mg_no_write_damage.proofs.PushLemmas.{room_is_found, spots_are_given}
+use Rattle.mg_no_write_damage.specs.PushLaws.{room_is_found, spots_are_given}
 use Rattle.mg_no_write_damage.proofs.laws.rooms_are_found.Goals as goal
 
 pub returns-clause-room : goal.returns-clause-room

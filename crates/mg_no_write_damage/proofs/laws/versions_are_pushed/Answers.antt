@@ -1,4 +1,4 @@
-use Rattle.mg_no_write_damage.proofs.PushLemmas.{pushes_are_filled}
+use Rattle.mg_no_write_damage.specs.PushLaws.{pushes_are_filled}
 use Rattle.mg_no_write_damage.proofs.laws.versions_are_pushed.Goals as goal
 
 pub returns : goal.returns

@@ -44,8 +44,8 @@ use Rattle.mg_table_overlays.specs.GrowingLaws.{StandsTo, grows_pool, table_of_e
 use Rattle.mg_table_overlays.specs.Knowing.{entered_of}
 use Rattle.mg_table_overlays.specs.OneLayout.{sound_once}
 use Rattle.mg_table_overlays.specs.OneTable.{its_data}
-use Rattle.mg_no_write_damage.proofs.ReadLemmas.{Reads, page_there, place_known, sees, views, walk_whole}
-use Rattle.mg_no_write_damage.proofs.ViewLemmas.{IsStanding, bare, put_standing, sound_standing}
+use Rattle.mg_no_write_damage.specs.Reading.{Reads, page_there, place_known, sees, views, walk_whole}
+use Rattle.mg_no_write_damage.specs.Standing.{IsStanding, bare, put_standing, sound_standing}
 
 module _ {D : Type 0} (m : Meaning D) (laws : Reads m) (a n : Pool D FireLinks) (image : Image)
     (like : n.dirty ≡ a.dirty) (tells : Tells m n.disk image) (geometry : IsGeometry a.geometry)

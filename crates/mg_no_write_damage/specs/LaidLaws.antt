@@ -40,14 +40,14 @@ use Rattle.mg_version.specs.declared.cell.Cell.TheVariants as cells
 use Rattle.mg_version.specs.declared.cell.Link.{Link}
 use Rattle.mg_version.specs.declared.cell.Version.{Version}
 use Rattle.mg_no_write_damage.specs.Writes.{IsRecordOf}
-use Rattle.mg_no_write_damage.proofs.BatchLemmas.{IsBatch, first_lawful, moved_lawful, out_lawful, pushed_lawful}
-use Rattle.mg_no_write_damage.proofs.GivenLemmas.{IsApart, IsGiven, data_apart, data_kind, data_some, found_or_new, header_apart, is_given}
-use Rattle.mg_no_write_damage.proofs.LawfulLemmas.{IsGood, good_lawful, good_more, good_none, good_puts, in_here, in_still}
-use Rattle.mg_no_write_damage.proofs.PushLemmas.{its_owner}
-use Rattle.mg_no_write_damage.proofs.RankLemmas.{rank_of}
-use Rattle.mg_no_write_damage.proofs.ReadLemmas.{Reads}
-use Rattle.mg_no_write_damage.proofs.RoomLemmas.{given_listed, other_cell, put_stands, still_listed, then_, to}
-use Rattle.mg_no_write_damage.proofs.ViewLemmas.{cells_there}
+use Rattle.mg_no_write_damage.specs.BatchOrders.{IsBatch, first_lawful, moved_lawful, out_lawful, pushed_lawful}
+use Rattle.mg_no_write_damage.specs.Given.{IsApart, IsGiven, data_apart, data_kind, data_some, found_or_new, header_apart, is_given}
+use Rattle.mg_no_write_damage.specs.Lawful.{IsGood, good_lawful, good_more, good_none, good_puts, in_here, in_still}
+use Rattle.mg_no_write_damage.specs.PushLaws.{its_owner}
+use Rattle.mg_no_write_damage.specs.RankLaws.{rank_of}
+use Rattle.mg_no_write_damage.specs.Reading.{Reads}
+use Rattle.mg_no_write_damage.specs.RoomLaws.{given_listed, other_cell, put_stands, still_listed, then_, to}
+use Rattle.mg_no_write_damage.specs.Standing.{cells_there}
 
 -- ---- kinds of pages
 
@@ -69,7 +69,7 @@ has_parts [] last x (inr none) = absurd none
 has_parts (n ∷ ns) last x (inl same) = inl (inl same)
 has_parts (n ∷ ns) last x (inr more) = elim (has_parts ns last x more) [ inl there ↦ inl (inr there) | inr same ↦ inr same ]
 
-reached_kind : (pages : Pages) (owner n : ℕ) (pointers : List ℕ) → IsReached pages owner n pointers → (x : ℕ)
+pub reached_kind : (pages : Pages) (owner n : ℕ) (pointers : List ℕ) → IsReached pages owner n pointers → (x : ℕ)
     → Has pointers x → byte (pages x) 0 ≡ 4
 reached_kind pages owner n pointers it x there = elim (has_parts it.before it.last x
     (subst (λ (ns : List ℕ). Has ns x) it.are there)) [
@@ -230,15 +230,19 @@ module _ {D : Type 0} (m : Meaning D) (laws : Reads m) (a : Pool D FireLinks) (i
           some k (inl same) = λ e. given_some (sym same ∙ e)
           some k (inr there) = there.1
 
-  -- ---- a place is taken
+  -- ---- a page is given, or a place taken
+
+  pub room_lawful : (batch : Changed) (need : ℕ) (page : PageNo)
+      → GivesRoom a image no_batch batch table.pointer.0 need page → IsLawful size batch.pages batch.orders
+  room_lawful batch need page gives = good_lawful size (rank_of 0 0 it.q it.p page.0) 5 batch it.good (omega arith)
+    where
+      it : IsGiven size 0 0 page.0 batch
+      it = given_is batch need page gives 0 0 (header_apart size state (view no_batch) layout r sound)
+          (header_apart size state (view no_batch) layout r sound)
 
   pub spot_lawful : (batch : Changed) (at : RecId) → GivesSpot a image no_batch batch table.pointer.0 at
       → IsLawful size batch.pages batch.orders
-  spot_lawful batch at spot = good_lawful size (rank_of 0 0 it.q it.p at.page.0) 5 batch it.good (omega arith)
-    where
-      it : IsGiven size 0 0 at.page.0 batch
-      it = given_is batch _ at.page spot.gives 0 0 (header_apart size state (view no_batch) layout r sound)
-          (header_apart size state (view no_batch) layout r sound)
+  spot_lawful batch at spot = room_lawful batch _ at.page spot.gives
 
   -- ---- a slot is turned after a cell was put
 

@@ -30,9 +30,9 @@ use Rattle.mg_space.specs.TakingLaws.{takes_bit, takes_keeps}
 use Rattle.mg_space.specs.View.{viewed}
 use Rattle.mg_space.specs.declared.links.FireLinks.{FireLinks}
 use Rattle.mg_table_overlays.specs.Growing.{IsTableOf}
-use Rattle.mg_no_write_damage.proofs.LawfulLemmas.{IsGood, good_both, good_more, good_none, good_orders, good_puts, good_to, in_here, in_still}
-use Rattle.mg_no_write_damage.proofs.RankLemmas.{rank_a, rank_none, rank_of, rank_p, rank_q}
-use Rattle.mg_no_write_damage.proofs.ViewLemmas.{IsStanding, cells_there, data_there, sound_standing}
+use Rattle.mg_no_write_damage.specs.Lawful.{IsGood, good_both, good_more, good_none, good_orders, good_puts, good_to, in_here, in_still}
+use Rattle.mg_no_write_damage.specs.RankLaws.{rank_a, rank_none, rank_of, rank_p, rank_q}
+use Rattle.mg_no_write_damage.specs.Standing.{IsStanding, cells_there, data_there, sound_standing}
 
 -- A page of pages: it is used, no inventory page, and no pointer page by its kind.
 pub record IsApart (size : ℕ) (view : Pages) (k : ℕ) : Type 0 where

@@ -26,7 +26,7 @@ use Rattle.mg_space.specs.View.{Tells, viewed}
 use Rattle.mg_space.specs.declared.fault.SpaceFault.TheVariants as faults
 use Rattle.mg_space.specs.declared.links.FireLinks.{FireLinks}
 use Rattle.mg_version.specs.declared.cell.TheConstants.{ANCHOR_LEN}
-use Rattle.mg_no_write_damage.proofs.ViewLemmas.{IsStanding, bare}
+use Rattle.mg_no_write_damage.specs.Standing.{IsStanding, bare}
 
 -- The laws on reading and taking.
 pub record Reads {D : Type 0} (m : Meaning D) : Type 0 where

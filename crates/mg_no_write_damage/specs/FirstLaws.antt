@@ -17,7 +17,6 @@ use Rattle.mg_image.specs.Records.{Reading}
 use Rattle.mg_image.specs.Sound.{IsCellOf, IsSoundBy}
 use Rattle.mg_image.specs.Tables.{Has, Layout, stands_of, table_at}
 use Rattle.mg_model.specs.declared.table.Table.{Table}
-use Rattle.mg_no_damage.specs.Sees.{no_batch}
 use Rattle.mg_pool.specs.Batch.{Changed}
 use Rattle.mg_pool.specs.declared.pool.Pool.{Pool}
 use Rattle.mg_slots.specs.DataPage.{IsDataPage, all_taken, cell_of, slot_count, taken_by}
@@ -29,15 +28,15 @@ use Rattle.mg_space.specs.View.{Tells, viewed}
 use Rattle.mg_space.specs.declared.fault.SpaceFault.TheVariants as faults
 use Rattle.mg_space.specs.declared.links.FireLinks.{FireLinks}
 use Rattle.mg_table_overlays.specs.Growing.{IsTableOf}
+use Rattle.mg_table_overlays.specs.OneTable.{its_data}
 use Rattle.mg_version.specs.declared.cell.Cell.TheVariants as cells
 use Rattle.mg_version.specs.declared.cell.TheConstants.{ANCHOR_LEN}
 use Rattle.mg_version.specs.declared.cell.Version.{Version}
-use Rattle.mg_no_write_damage.proofs.GivenLemmas.{data_apart}
-use Rattle.mg_no_write_damage.proofs.LaidBatchLemmas.{listed}
-use Rattle.mg_no_write_damage.proofs.PushLemmas.{version_fits}
-use Rattle.mg_no_write_damage.proofs.ReadLemmas.{Reads, page_there, place_known}
-use Rattle.mg_no_write_damage.proofs.RoomLemmas.{given_begins, given_listed, given_or_new, given_room, given_standing, given_there, room_found, still_listed, then_, to}
-use Rattle.mg_no_write_damage.proofs.ViewLemmas.{IsStanding, set_standing}
+use Rattle.mg_no_write_damage.specs.Given.{data_apart}
+use Rattle.mg_no_write_damage.specs.PushLaws.{version_fits}
+use Rattle.mg_no_write_damage.specs.Reading.{Reads, page_there, place_known}
+use Rattle.mg_no_write_damage.specs.RoomLaws.{given_begins, given_listed, given_or_new, given_room, given_standing, given_there, room_found, still_listed, then_, to}
+use Rattle.mg_no_write_damage.specs.Standing.{IsStanding, set_standing}
 
 -- ---- rooms of a page
 
@@ -124,9 +123,9 @@ room_beside b slot cell lawful room (inr held) =
     let small = held.small in omega (arith, room, less, small)
 
 module _ {D : Type 0} (m : Meaning D) (laws : Reads m) (a n : Pool D FireLinks) (image : Image)
-    (like : n.dirty ≡ a.dirty) (tells_a : Tells m a.disk image) (tells : Tells m n.disk image)
-    (geometry : IsGeometry a.geometry) (state : ℕ → TxState) (layout : Layout) (r : Reading)
-    (sound : IsSoundBy packed_form a.geometry.size state (viewed a image no_batch) layout r) (table : Table)
+    (like : n.dirty ≡ a.dirty) (tells : Tells m n.disk image)
+    (geometry : IsGeometry a.geometry) (old : Changed) (state : ℕ → TxState) (layout : Layout) (r : Reading)
+    (sound : IsSoundBy packed_form a.geometry.size state (viewed a image old) layout r) (table : Table)
     (its : IsTableOf layout table) where
   abbrev size : ℕ
   size = a.geometry.size
@@ -136,32 +135,32 @@ module _ {D : Type 0} (m : Meaning D) (laws : Reads m) (a n : Pool D FireLinks) 
 
   -- ---- a place that was given
 
-  pub spot_room : (batch : Changed) (at : RecId) → GivesSpot a image no_batch batch table.pointer.0 at
+  pub spot_room : (batch : Changed) (at : RecId) → GivesSpot a image old batch table.pointer.0 at
       → HasPlace (view batch at.page.0) at.slot
   spot_room batch at spot = record {
     least = spot.least.is_least;
-    room = given_room m laws a n image like tells geometry no_batch state layout r sound table its batch ANCHOR_LEN
+    room = given_room m laws a n image like tells geometry old state layout r sound table its batch ANCHOR_LEN
         at.page spot.gives (let least = (page_sizes size geometry.size).0 in omega (arith, least));
   }
 
   module _ (rec : RecId) (of : table_at (stands_of layout) rec.page.0 ≡ Some table)
-      (place : HasPlace (view no_batch rec.page.0) rec.slot) (bytes : List ℕ) (fits : need_of bytes + 24 ≤ size)
+      (place : HasPlace (view old rec.page.0) rec.slot) (bytes : List ℕ) (fits : need_of bytes + 24 ≤ size)
       (may : IsCellOf false bytes) where
     abbrev need : ℕ
     need = need_with_anchor bytes
 
     -- ---- the cell is put
 
-    cell_there : (it : Damaged) → RefusesApartThere m a n image no_batch table.pointer.0 rec bytes (faults.Damaged it)
+    cell_there : (it : Damaged) → RefusesApartThere m a n image old table.pointer.0 rec bytes (faults.Damaged it)
         → ⊥
     cell_there it there = by there.refused
       where
         given_listed_so : IsDataPage (view there.given there.page.0) → HasNoRoomBeside (view there.given there.page.0)
             (kept_on there.page rec) bytes → ⊥
-        given_listed_so lawful none = at (given_or_new m laws a n image like tells geometry no_batch state layout r sound
+        given_listed_so lawful none = at (given_or_new m laws a n image like tells geometry old state layout r sound
             table its there.given need there.page there.gives rec.page.0
-            (data_apart size state (view no_batch) layout r sound table its rec.page.0
-            (listed m laws a image tells_a geometry state layout r sound table its rec.page.0 of)).used)
+            (data_apart size state (view old) layout r sound table its rec.page.0
+            ((its_data packed_form size state (view old) layout r sound table its rec.page.0).0 of)).used)
           where
             found : need ≤ room_of (view there.given there.page.0)
                 → HasNoRoomBeside (view there.given there.page.0) (kept_on there.page rec) bytes → ⊥
@@ -190,55 +189,55 @@ module _ {D : Type 0} (m : Meaning D) (laws : Reads m) (a n : Pool D FireLinks) 
 
         by : RefusesPutApart m n there.given (view there.given there.page.0) there.page rec bytes (faults.Damaged it)
             → ⊥
-        by (inl refused) = given_there m laws a n image like tells geometry no_batch state layout r sound table its
+        by (inl refused) = given_there m laws a n image like tells geometry old state layout r sound table its
             there.given need there.page there.gives it refused
         by (inr (data_page, none)) = given_listed_so data_page.lawful none
 
-    added : (it : Damaged) → RefusesAddApart m a n image no_batch table.pointer.0 rec bytes (faults.Damaged it) → ⊥
-    added it (inl refused) = room_found m laws a n image like tells geometry no_batch state layout r sound table its it
+    added : (it : Damaged) → RefusesAddApart m a n image old table.pointer.0 rec bytes (faults.Damaged it) → ⊥
+    added it (inl refused) = room_found m laws a n image like tells geometry old state layout r sound table its it
         refused
     added it (inr there) = cell_there it there
 
     -- ---- it was put
 
-    module _ (at : RecId) (put : Changed) (adds : AddsApart a image no_batch put table.pointer.0 rec bytes at) where
+    module _ (at : RecId) (put : Changed) (adds : AddsApart a image old put table.pointer.0 rec bytes at) where
       abbrev then_so : IsTableOf
-          (to m laws a n image like tells geometry no_batch state layout r sound table its adds.given need at.page
+          (to m laws a n image like tells geometry old state layout r sound table its adds.given need at.page
           adds.gives).layout table
-      then_so = then_ m laws a n image like tells geometry no_batch state layout r sound table its adds.given need at.page
+      then_so = then_ m laws a n image like tells geometry old state layout r sound table its adds.given need at.page
           adds.gives
 
       put_standing_so : IsStanding size (view put) then_so.stand
       put_standing_so = set_standing size (view adds.given) then_so.stand
-          (given_standing m laws a n image like tells geometry no_batch state layout r sound table its adds.given need
+          (given_standing m laws a n image like tells geometry old state layout r sound table its adds.given need
           at.page adds.gives) (view put) at (Some bytes)
-          (given_listed m laws a n image like tells geometry no_batch state layout r sound table its adds.given need
+          (given_listed m laws a n image like tells geometry old state layout r sound table its adds.given need
           at.page adds.gives) adds.puts.sets adds.puts.others (λ other is. by other is)
         where
           by : (other : List ℕ) → Some bytes ≡ Some other → IsCellOf false other
           by other is = let same : bytes ≡ other = cc in subst (IsCellOf false) same may
 
       begins : then_so.stand.table.pointer.0 ≡ table.pointer.0
-      begins = given_begins m laws a n image like tells geometry no_batch state layout r sound table its adds.given need
+      begins = given_begins m laws a n image like tells geometry old state layout r sound table its adds.given need
           at.page adds.gives
 
       reached : (it : Damaged) → RefusesReach m n put.pages (view put) table.pointer.0 at.page (faults.Damaged it)
           ⊎ RefusesReach m n put.pages (view put) table.pointer.0 rec.page (faults.Damaged it) → ⊥
       reached it (inl refused) = place_known m laws a n image like tells size put then_so.stand put_standing_so
           table.pointer.0 begins at.page
-          (given_listed m laws a n image like tells geometry no_batch state layout r sound table its adds.given need
+          (given_listed m laws a n image like tells geometry old state layout r sound table its adds.given need
           at.page adds.gives) it refused
       reached it (inr refused) = place_known m laws a n image like tells size put then_so.stand put_standing_so
           table.pointer.0 begins rec.page rec_listed it refused
         where
           rec_listed : Has then_so.stand.data_pages rec.page.0
-          rec_listed = still_listed m laws a n image like tells geometry no_batch state layout r sound table its
+          rec_listed = still_listed m laws a n image like tells geometry old state layout r sound table its
               adds.given need at.page adds.gives rec.page.0 of
 
       -- the place is as it was
       given_place : HasPlace (view adds.given rec.page.0) rec.slot
       given_place = subst (λ (b : List ℕ). HasPlace b rec.slot)
-          (sym ((to m laws a n image like tells geometry no_batch state layout r sound table its adds.given need at.page
+          (sym ((to m laws a n image like tells geometry old state layout r sound table its adds.given need at.page
           adds.gives).data_same rec.page.0 table of)) place
 
       place_still : HasPlace (view put rec.page.0) rec.slot
@@ -252,22 +251,22 @@ module _ {D : Type 0} (m : Meaning D) (laws : Reads m) (a n : Pool D FireLinks) 
 
       turned : (it : Damaged) → RefusesTurn m n put.pages (view put) rec (faults.Damaged it) → ⊥
       turned it (inl refused) = page_there m laws a n image like tells size put then_so.stand put_standing_so rec.page
-          (still_listed m laws a n image like tells geometry no_batch state layout r sound table its adds.given need
+          (still_listed m laws a n image like tells geometry old state layout r sound table its adds.given need
           at.page adds.gives rec.page.0 of) it refused
       turned it (inr none) = none.none (anchor_may (view put rec.page.0) rec.slot none.bytes none.len place_still)
 
-    put_first : (it : Damaged) → RefusesPutFirst m a n image no_batch table.pointer.0 rec bytes (faults.Damaged it) → ⊥
+    put_first : (it : Damaged) → RefusesPutFirst m a n image old table.pointer.0 rec bytes (faults.Damaged it) → ⊥
     put_first it (first_adds refused) = added it refused
     put_first it (first_reaches at put adds refused) = reached at put adds it refused
 
-    cell_made : (it : Damaged) → RefusesFirstCell m a n image no_batch table.pointer.0 rec bytes (faults.Damaged it) → ⊥
+    cell_made : (it : Damaged) → RefusesFirstCell m a n image old table.pointer.0 rec bytes (faults.Damaged it) → ⊥
     cell_made it (first_memory is) = absurd cc
     cell_made it (first_puts refused) = put_first it refused
     cell_made it (first_turns at put adds refused) = turned at put adds it refused
 
   pub record_made : (rec : RecId) → table_at (stands_of layout) rec.page.0 ≡ Some table
-      → HasPlace (view no_batch rec.page.0) rec.slot → (v : Version) → length v.body + 42 ≤ size → (it : Damaged)
-      → RefusesFirst m a n image no_batch table.pointer.0 rec v (faults.Damaged it) → ⊥
+      → HasPlace (view old rec.page.0) rec.slot → (v : Version) → length v.body + 42 ≤ size → (it : Damaged)
+      → RefusesFirst m a n image old table.pointer.0 rec v (faults.Damaged it) → ⊥
   record_made rec of place v short it (made_offline k is) = absurd cc
   record_made rec of place v short it (made_memory is) = absurd cc
   record_made rec of place v short it (made_cell bytes spells refused) = cell_made rec of place bytes

@@ -8,8 +8,8 @@ use Rattle.mg_image.specs.Tables.{Has}
 use Rattle.mg_pool.specs.Batch.{Changed, IsLawful, is_in}
 use Rattle.mg_pool.specs.declared.batch.BatchPage.{BatchPage}
 use Rattle.mg_version.specs.declared.cell.Link.{Link}
-use Rattle.mg_no_write_damage.proofs.LawfulLemmas.{AreGood, IsGood, good_before, good_both, good_lawful, good_orders}
-use Rattle.mg_no_write_damage.proofs.RankLemmas.{rank_f, rank_low, rank_none, rank_of, rank_s, rank_s_most, rank_some}
+use Rattle.mg_no_write_damage.specs.Lawful.{AreGood, IsGood, good_before, good_both, good_lawful, good_orders}
+use Rattle.mg_no_write_damage.specs.RankLaws.{rank_f, rank_low, rank_none, rank_of, rank_s, rank_s_most, rank_some}
 
 -- A batch before its last orders: its pages, none of which is the header, have their ranks.
 pub record IsBatch (size f s a : ℕ) (b : Changed) : Type 0 where

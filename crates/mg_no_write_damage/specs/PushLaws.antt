@@ -39,9 +39,9 @@ use Rattle.mg_version.specs.declared.cell.Cell.TheVariants as cells
 use Rattle.mg_version.specs.declared.cell.Link.{Link}
 use Rattle.mg_version.specs.declared.cell.Version.{Version}
 use Rattle.mg_no_write_damage.specs.Writes.{IsRecordOf, PushesAreFilled, RoomIsFound, SeesSound, SpotsAreGiven}
-use Rattle.mg_no_write_damage.proofs.ReadLemmas.{Reads, page_there, slot_turned}
-use Rattle.mg_no_write_damage.proofs.RoomLemmas.{other_cell, put_stands, room_found, spot_given, still_listed, version_put}
-use Rattle.mg_no_write_damage.proofs.ViewLemmas.{IsStanding, cells_there, owner_below, owner_there, sound_standing}
+use Rattle.mg_no_write_damage.specs.Reading.{Reads, page_there, slot_turned}
+use Rattle.mg_no_write_damage.specs.RoomLaws.{other_cell, put_stands, room_found, spot_given, still_listed, version_put}
+use Rattle.mg_no_write_damage.specs.Standing.{IsStanding, cells_there, owner_below, owner_there, sound_standing}
 
 -- ---- how long a version's cell is
 
@@ -63,7 +63,7 @@ version_fits size w short least bytes spells =
 
 -- ---- the slot of a record with versions has an anchor
 
-anchored : (in_slot : Option (List ℕ)) (p : RecId) (l : Link)
+pub anchored : (in_slot : Option (List ℕ)) (p : RecId) (l : Link)
     → ((bytes : List ℕ) → in_slot ≡ Some bytes → IsCellOf false bytes)
     → newest_of p (slot_cell in_slot) ≡ Some l
     → (is_some in_slot ≡ true) × ((link : Link) × (slot_cell in_slot ≡ Some (cells.Anchor link)))
@@ -78,7 +78,7 @@ anchored (Some bytes) p l may is = (refl, by (cell_spelled bytes) refl is)
         let none : None ≡ Some l = subst (λ (b : Bool).
         cond b (Some (record { rec = p; tx = v.tx })) None ≡ Some l) apart newest in absurd cc
 
-opened : (h : RecId → Option Cell) (link : Option Link) (e : Entry) (es : List Entry) → Chain h link (e ∷ es)
+pub opened : (h : RecId → Option Cell) (link : Option Link) (e : Entry) (es : List Entry) → Chain h link (e ∷ es)
     → (l : Link) × (link ≡ Some l)
 opened h None e es chain = absurd (chain_opens h None (e ∷ es) chain)
 opened h (Some l) e es chain = (l, refl)
