@@ -1,0 +1,5 @@
+mod KeyLemmas
+mod NextLemmas
+mod BackLemmas
+mod RowLemmas
+mod TableLemmas

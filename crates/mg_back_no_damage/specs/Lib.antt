@@ -1,0 +1,4 @@
+pub mod Keys
+pub mod Backs
+pub mod Rows
+pub mod Tables

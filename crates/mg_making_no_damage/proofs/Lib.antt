@@ -1,0 +1,4 @@
+mod GrownLemmas
+mod LivingLemmas
+mod KeyLemmas
+mod CreationLemmas
