@@ -6,7 +6,7 @@ use Rattle.mg_base.specs.declared.numbers.TxNo.{TxNo}
 use Rattle.mg_core.specs.declared.parts.Core.{Core}
 use Rattle.mg_model.specs.Catalog.{catalog_name}
 use Rattle.mg_model.specs.declared.refusal.Refusal.{Refusal}
-use Rattle.mg_records.specs.Keeping.{refusal_in}
+use Rattle.mg_records.specs.Keeping.{MeetsNoDamage, refusal_in}
 use Rattle.mg_records.specs.Writing.{FitsPages, IsNewShape}
 use Rattle.mg_table_making.specs.Creating.{CreatesTable, FailsCreation}
 use Rattle.mg_value.specs.Names.{IsName}
@@ -16,6 +16,8 @@ use Rattle.mg_engine.specs.Engines.{IsEngine}
 use Rattle.mg_engine_changes.specs.MakingSteps.{AreNamed, CreationsKeepApart, GivesTable, MayHave, RefusalsKeepApart, TablesAreMade, TablesAreRefused}
 use Rattle.mg_engine_meaning.specs.Meaning.{Places, means}
 use Rattle.mg_engine_changes.specs.Notes.{AreCounts}
+use Rattle.mg_making_no_damage.specs.Creations.{CreationsMeetNone}
+use Rattle.mg_engine.proofs.ToldLemmas.{undamaged_as}
 
 module _ {D P : Type 0} (m : Meaning D) (places : Places P) (inside old new : Core D) (same : inside ≡ old)
     (is : IsEngine m inside) (damage : inside.damage < 2 ^ 64) (shortages : inside.shortages < 2 ^ 64) (t : TxNo)
@@ -48,3 +50,9 @@ module _ {D P : Type 0} (m : Meaning D) (places : Places P) (inside old new : Co
   makes_apart made refused (Ok x) created = made places inside new t name shape is.lawful may is.apart created
   makes_apart made refused (Err refusal) failed =
       refused places inside new t name shape refusal is.lawful counted is.apart failed
+
+  pub makes_undamaged : CreationsMeetNone D P m → (result : Result (Unit {0}) Refusal)
+      → MatchResult result (λ _. CreatesTable m inside new t name shape) (FailsCreation m inside new t name shape)
+      → MeetsNoDamage (means m places) old new
+  makes_undamaged law result creates = undamaged_as m places inside old new same
+      (law places inside new t name shape result is.lawful may creates)

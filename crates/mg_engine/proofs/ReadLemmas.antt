@@ -4,7 +4,8 @@ use Rattle.mg_base.specs.Disk.{Meaning}
 use Rattle.mg_base.specs.declared.numbers.TxNo.{TxNo}
 use Rattle.mg_model.specs.declared.refusal.Refusal.{Refusal}
 use Rattle.mg_model.specs.declared.table.Table.{Table}
-use Rattle.mg_model.specs.Changes.{same_name}
+use Rattle.mg_model.specs.Changes.{KeyedRows, same_name}
+use Rattle.mg_records.specs.Keeping.{MeetsNoDamage}
 use Rattle.mg_records.specs.declared.found.Found.{Found}
 use Rattle.mg_works.specs.Works.{AllMayBeGiven, AreApart, IsWork, MayBeGiven, Working, given_by, given_in, given_to, with_table, with_work, work_of}
 use Rattle.mg_works.specs.WorksLaws.{with_apart}
@@ -12,8 +13,9 @@ use Rattle.mg_core.specs.declared.parts.Core.{Core}
 use Rattle.mg_core.specs.declared.scanning.Place.{Place}
 use Rattle.mg_core.specs.Scanning.{Scans}
 use Rattle.mg_core.specs.Tables.{AnswersTable, RefusesName, by_call, by_fault, by_lack, by_memory}
-use Rattle.mg_engine_meaning.specs.Meaning.{Places}
+use Rattle.mg_engine_meaning.specs.Meaning.{Places, means}
 use Rattle.mg_engine_calls.specs.Reads.{AreCounts, AreRanked, GivesTable, IsInRank, TablesGoOn, VisitsGoOn, VisitsRecord}
+use Rattle.mg_engine_no_damage.specs.Walks.{IsShortPlace, VisitsMeetNone}
 use Rattle.mg_engine.specs.Engines.{IsEngine}
 use Rattle.mg_engine.specs.Places.{places as core_places}
 
@@ -82,7 +84,7 @@ may_scan {D} m inside old same is t name table given = given_lawful inside.works
 -- ---- the laws
 
 pub places_ranked : AreRanked core_places
-places_ranked = record { rec = λ place. refl; rank = λ place. refl }
+places_ranked = record { rec = λ place. refl; sequence = λ place. refl; rank = λ place. refl }
 
 module _ {D : Type 0} (m : Meaning D) (inside old new : Core D) (same : inside ≡ old)
     (is : IsEngine m inside) (damage : inside.damage < 2 ^ 64) (shortages : inside.shortages < 2 ^ 64) where
@@ -100,3 +102,14 @@ module _ {D : Type 0} (m : Meaning D) (inside old new : Core D) (same : inside �
       (subst (λ (place : Option Place). VisitsRecord m core_places inside new t.0 table place result) is_it
       (law core_places inside new t table passed result places_ranked
       (record { damage = damage; shortages = shortages }) in_rank scans))
+
+-- a visit of a walk to which rows are to come finds no page damaged
+pub visits_undamaged : {D : Type 0} (m : Meaning D) (inside old new : Core D) → inside ≡ old → VisitsMeetNone D m
+    → (t : TxNo) (table : Table) (passed after : Option Place) (result : Result (Option (Found Place)) Refusal)
+    → passed ≡ after → IsShortPlace after → Scans m inside new t table passed result
+    → (rows : KeyedRows) → (means m core_places).to_come old t.0 table after rows
+    → MeetsNoDamage (means m core_places) old new
+visits_undamaged {D} m inside old new same law t table passed after result is_it short scans rows comes =
+    law core_places old new t table after rows result places_ranked short comes
+    (subst (λ (place : Option Place). Scans m old new t table place result) is_it
+    (subst (λ (c : Core D). Scans m c new t table passed result) same scans))

@@ -7,7 +7,7 @@ use Rattle.mg_core.specs.declared.parts.Core.{Core}
 use Rattle.mg_model.specs.declared.refusal.Refusal.{Refusal}
 use Rattle.mg_model.specs.declared.table.Table.{Table}
 use Rattle.mg_records.specs.Adding.{fine_or}
-use Rattle.mg_records.specs.Keeping.{refusal_in}
+use Rattle.mg_records.specs.Keeping.{MeetsNoDamage, refusal_in}
 use Rattle.mg_records.specs.Writing.{FitsShape, IsOfColumn, event_of}
 use Rattle.mg_records.specs.declared.write.Write.{Write}
 use Rattle.mg_records.specs.declared.write.Write.TheVariants as writes
@@ -25,7 +25,9 @@ use Rattle.mg_value.specs.declared.value.Value.TheVariants.{Int, Null, Text}
 use Rattle.mg_works.specs.Works.{AreApart, MayBeGiven, given_to}
 use Rattle.mg_engine.specs.Engines.{IsEngine}
 use Rattle.mg_engine_meaning.specs.Frames.{GivesEvent}
-use Rattle.mg_engine_meaning.specs.Meaning.{Places}
+use Rattle.mg_engine_meaning.specs.Meaning.{Places, means}
+use Rattle.mg_engine_no_damage.specs.Calls.{WritesMeetNone}
+use Rattle.mg_engine.proofs.ToldLemmas.{undamaged_as}
 use Rattle.mg_engine_changes.specs.Steps.{NotedFailsApart, NotedFailsGive, NotedWritesApart, NotedWritesGive}
 use Rattle.mg_engine_changes.specs.Notes.{AreCounts}
 
@@ -125,3 +127,9 @@ module _ {D P : Type 0} (m : Meaning D) (places : Places P) (inside old new : Co
       writes inside new t table write is.lawful given_inside may is.apart written
   writes_apart may writes fails (Err refusal) failed = fails places inside new t table write refusal is.lawful counted
       given_inside fits storable may is.apart failed
+
+  pub writes_undamaged : WritesMeetNone D m → (result : Result (Unit {0}) Refusal)
+      → MatchResult result (λ _. WritesNoted m inside new t table write) (FailsNoted m inside new t table write)
+      → MeetsNoDamage (means m places) old new
+  writes_undamaged law result written = undamaged_as m places inside old new same
+      (law inside new t table write result is.lawful given_inside fits storable written)

@@ -7,5 +7,6 @@ use Rattle.mg_engine_meaning.specs.Meaning.{Places}
 abbrev pub places : Places Place
 places = record {
   rec = λ place. place.rec;
+  sequence = λ place. place.sequence;
   rank = λ place. place.sequence * 65536 + place.rec.slot;
 }

@@ -4,7 +4,7 @@ ghost use Rattle.std.specs.Prelude.{◌≡◌, ◌<◌, None, IfOk};
 ghost use Rattle.mg_model.specs.declared.event.Event.{Event};
 ghost use Rattle.mg_records.specs.Adding.{Adds, drawn_in, number_or};
 ghost use Rattle.mg_records.specs.Crashing.{LeavesQuietly};
-ghost use Rattle.mg_records.specs.Keeping.{FaultsAreTold, Leaves, Reads, refusal_in};
+ghost use Rattle.mg_records.specs.Keeping.{FaultsAreTold, Leaves, MeetsNoDamage, Reads, refusal_in};
 ghost use Rattle.mg_records.specs.Sessions.{SessionsStay, begun_in};
 ghost use Rattle.mg_txlist.specs.TxList.{next_said};
 ghost use Rattle.mg_core.specs.Committing.{WritesPage};
@@ -18,6 +18,7 @@ use mg_base::{Disk, Markers, PageNo, TxNo};
 use mg_core::{Core, Place};
 use mg_engine_calls::{begins_give, next_pages_go_on};
 use mg_engine_faults::{begins_tell_faults, page_writes_tell_faults};
+use mg_engine_no_damage::{begins_meet_no_damage, commits_meet_no_damage};
 use mg_model::{Mode, Refusal};
 
 impl<D: Disk> Engine<D> {
@@ -36,11 +37,13 @@ impl<D: Disk> Engine<D> {
         ensures leaves { Leaves (means D.meaning places) self.old self.new
             (refusal_in result) (drawn_in result) (drawn_in result) }
         ensures told { FaultsAreTold (means D.meaning places) self.old self.new (refusal_in result) }
+        ensures undamaged { MeetsNoDamage (means D.meaning places) self.old self.new }
         ensures crash { LeavesQuietly (means D.meaning places) self.old self.new }
         ensures sessions { SessionsStay (means D.meaning places) self.old self.new (begun_in session result) None }
         ensures works { IfOk result (λ t. (means D.meaning places).works self.new t.0 session) }
     {
         begins_tell_faults::<D>();
+        begins_meet_no_damage::<D>();
         begins_give::<D, Place>();
         tell_counts(&self.core);
         self.core.begin(session, mode)
@@ -58,10 +61,12 @@ impl<D: Disk> Engine<D> {
         ensures writes { WritesPage D.meaning self.old self.new result }
         ensures reads { Reads (means D.meaning places) self.old self.new (refusal_in result) None }
         ensures told { FaultsAreTold (means D.meaning places) self.old self.new (refusal_in result) }
+        ensures undamaged { MeetsNoDamage (means D.meaning places) self.old self.new }
         ensures crash { LeavesQuietly (means D.meaning places) self.old self.new }
         ensures sessions { SessionsStay (means D.meaning places) self.old self.new None None }
     {
         page_writes_tell_faults::<D>();
+        commits_meet_no_damage::<D>();
         next_pages_go_on::<D, Place>();
         self.core.write_page()
     }

@@ -4,7 +4,7 @@ ghost use Rattle.std.specs.Prelude.{None, Some, OnOk};
 ghost use Rattle.mg_records.specs.Adding.{AnswersAll};
 ghost use Rattle.mg_records.specs.Committing.{WritesOne};
 ghost use Rattle.mg_records.specs.Crashing.{LeavesQuietly};
-ghost use Rattle.mg_records.specs.Keeping.{FaultsAreTold, Reads, refusal_in};
+ghost use Rattle.mg_records.specs.Keeping.{FaultsAreTold, MeetsNoDamage, Reads, refusal_in};
 ghost use Rattle.mg_records.specs.Sessions.{SessionsStay};
 ghost use Rattle.mg_engine_meaning.specs.Meaning.{means};
 ghost use Rattle.mg_engine.specs.Places.{places};
@@ -14,6 +14,7 @@ use mg_base::{Disk, TxNo};
 use mg_core::Place;
 use mg_engine_faults::page_writes_tell_faults;
 use mg_engine_meaning::steps_go_on;
+use mg_engine_no_damage::commits_meet_no_damage;
 use mg_model::Refusal;
 
 impl<D: Disk> Engine<D> {
@@ -23,10 +24,12 @@ impl<D: Disk> Engine<D> {
         ensures asks { OnOk result ((means D.meaning places).is_asked self.new t.0) }
         ensures reads { Reads (means D.meaning places) self.old self.new (refusal_in result) (Some t.0) }
         ensures told { FaultsAreTold (means D.meaning places) self.old self.new (refusal_in result) }
+        ensures undamaged { MeetsNoDamage (means D.meaning places) self.old self.new }
         ensures crash { LeavesQuietly (means D.meaning places) self.old self.new }
         ensures sessions { SessionsStay (means D.meaning places) self.old self.new None None }
     {
         page_writes_tell_faults::<D>();
+        commits_meet_no_damage::<D>();
         steps_go_on::<D, Place>();
         self.core.commit_ask(t)
     }
@@ -39,10 +42,12 @@ impl<D: Disk> Engine<D> {
         ensures one { WritesOne (means D.meaning places) self.old self.new t.0 result }
         ensures reads { Reads (means D.meaning places) self.old self.new (refusal_in result) None }
         ensures told { FaultsAreTold (means D.meaning places) self.old self.new (refusal_in result) }
+        ensures undamaged { MeetsNoDamage (means D.meaning places) self.old self.new }
         ensures crash { LeavesQuietly (means D.meaning places) self.old self.new }
         ensures sessions { SessionsStay (means D.meaning places) self.old self.new None None }
     {
         page_writes_tell_faults::<D>();
+        commits_meet_no_damage::<D>();
         steps_go_on::<D, Place>();
         self.core.commit_step(t)
     }

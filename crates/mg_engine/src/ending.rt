@@ -4,7 +4,7 @@ ghost use Rattle.std.specs.Prelude.{None, Some};
 ghost use Rattle.mg_model.specs.declared.event.Event.{Event};
 ghost use Rattle.mg_records.specs.Adding.{Adds, fine_or};
 ghost use Rattle.mg_records.specs.Crashing.{LeavesQuietly, LeavesWith};
-ghost use Rattle.mg_records.specs.Keeping.{FaultsAreTold, Leaves, refusal_in};
+ghost use Rattle.mg_records.specs.Keeping.{FaultsAreTold, Leaves, MeetsNoDamage, refusal_in};
 ghost use Rattle.mg_records.specs.Sessions.{SessionsStay, ended_in};
 ghost use Rattle.mg_engine_meaning.specs.Meaning.{means};
 ghost use Rattle.mg_engine.specs.Places.{places};
@@ -14,6 +14,7 @@ use mg_base::{Disk, TxNo};
 use mg_core::Place;
 use mg_engine_calls::{commits_go, rollbacks_go};
 use mg_engine_faults::{commits_tell_faults, events_tell_faults};
+use mg_engine_no_damage::{commits_meet_no_damage, events_meet_no_damage};
 use mg_model::Refusal;
 
 impl<D: Disk> Engine<D> {
@@ -23,10 +24,12 @@ impl<D: Disk> Engine<D> {
         ensures adds { Adds (means D.meaning places) self.old self.new (Event.Commit t) (fine_or result) }
         ensures leaves { Leaves (means D.meaning places) self.old self.new (refusal_in result) (Some t.0) (Some t.0) }
         ensures told { FaultsAreTold (means D.meaning places) self.old self.new (refusal_in result) }
+        ensures undamaged { MeetsNoDamage (means D.meaning places) self.old self.new }
         ensures crash { LeavesWith (means D.meaning places) self.old self.new (Event.Commit t) (fine_or result) }
         ensures sessions { SessionsStay (means D.meaning places) self.old self.new None (ended_in t.0 result) }
     {
         commits_tell_faults::<D>();
+        commits_meet_no_damage::<D>();
         commits_go::<D, Place>();
         self.core.commit_end(t)
     }
@@ -36,10 +39,12 @@ impl<D: Disk> Engine<D> {
         ensures adds { Adds (means D.meaning places) self.old self.new (Event.Rollback t) (fine_or result) }
         ensures leaves { Leaves (means D.meaning places) self.old self.new (refusal_in result) (Some t.0) (Some t.0) }
         ensures told { FaultsAreTold (means D.meaning places) self.old self.new (refusal_in result) }
+        ensures undamaged { MeetsNoDamage (means D.meaning places) self.old self.new }
         ensures crash { LeavesQuietly (means D.meaning places) self.old self.new }
         ensures sessions { SessionsStay (means D.meaning places) self.old self.new None (ended_in t.0 result) }
     {
         events_tell_faults::<D>();
+        events_meet_no_damage::<D>();
         rollbacks_go::<D, Place>();
         self.core.rollback(t)
     }

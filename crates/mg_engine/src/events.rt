@@ -4,7 +4,7 @@ ghost use Rattle.std.specs.Prelude.{◌≡◌, None, Some};
 ghost use Rattle.mg_model.specs.declared.event.Event.{Event};
 ghost use Rattle.mg_records.specs.Adding.{Adds, fine_or};
 ghost use Rattle.mg_records.specs.Crashing.{LeavesQuietly};
-ghost use Rattle.mg_records.specs.Keeping.{FaultsAreTold, Leaves, refusal_in};
+ghost use Rattle.mg_records.specs.Keeping.{FaultsAreTold, Leaves, MeetsNoDamage, refusal_in};
 ghost use Rattle.mg_records.specs.Reading.{FindAdds};
 ghost use Rattle.mg_records.specs.Sessions.{SessionsStay};
 ghost use Rattle.mg_engine_meaning.specs.Meaning.{means};
@@ -16,6 +16,7 @@ use mg_core::Place;
 use mg_engine_calls::looks_go_on;
 use mg_engine_faults::events_tell_faults;
 use mg_engine_meaning::points_go_on;
+use mg_engine_no_damage::events_meet_no_damage;
 use mg_expr::Expr;
 use mg_model::{Refusal, Rows};
 use mg_value::Name;
@@ -26,10 +27,12 @@ impl<D: Disk> Engine<D> {
         ensures adds { Adds (means D.meaning places) self.old self.new (Event.Look t) (fine_or result) }
         ensures leaves { Leaves (means D.meaning places) self.old self.new (refusal_in result) (Some t.0) (Some t.0) }
         ensures told { FaultsAreTold (means D.meaning places) self.old self.new (refusal_in result) }
+        ensures undamaged { MeetsNoDamage (means D.meaning places) self.old self.new }
         ensures crash { LeavesQuietly (means D.meaning places) self.old self.new }
         ensures sessions { SessionsStay (means D.meaning places) self.old self.new None None }
     {
         events_tell_faults::<D>();
+        events_meet_no_damage::<D>();
         looks_go_on::<D, Place>();
         self.core.look(t)
     }
@@ -45,10 +48,12 @@ impl<D: Disk> Engine<D> {
         ensures adds { FindAdds (means D.meaning places) self.old self.new t name.now filter.now rows.now result }
         ensures leaves { Leaves (means D.meaning places) self.old self.new (refusal_in result) None None }
         ensures told { FaultsAreTold (means D.meaning places) self.old self.new (refusal_in result) }
+        ensures undamaged { MeetsNoDamage (means D.meaning places) self.old self.new }
         ensures crash { LeavesQuietly (means D.meaning places) self.old self.new }
         ensures sessions { SessionsStay (means D.meaning places) self.old self.new None None }
     {
         events_tell_faults::<D>();
+        events_meet_no_damage::<D>();
         points_go_on::<D, Place>();
         self.core.found(t)
     }
@@ -58,10 +63,12 @@ impl<D: Disk> Engine<D> {
         ensures adds { Adds (means D.meaning places) self.old self.new (Event.Mark t) (fine_or result) }
         ensures leaves { Leaves (means D.meaning places) self.old self.new (refusal_in result) None None }
         ensures told { FaultsAreTold (means D.meaning places) self.old self.new (refusal_in result) }
+        ensures undamaged { MeetsNoDamage (means D.meaning places) self.old self.new }
         ensures crash { LeavesQuietly (means D.meaning places) self.old self.new }
         ensures sessions { SessionsStay (means D.meaning places) self.old self.new None None }
     {
         events_tell_faults::<D>();
+        events_meet_no_damage::<D>();
         points_go_on::<D, Place>();
         self.core.mark(t)
     }
@@ -72,10 +79,12 @@ impl<D: Disk> Engine<D> {
             (Event.Savepoint t name.now) (fine_or result) }
         ensures leaves { Leaves (means D.meaning places) self.old self.new (refusal_in result) None None }
         ensures told { FaultsAreTold (means D.meaning places) self.old self.new (refusal_in result) }
+        ensures undamaged { MeetsNoDamage (means D.meaning places) self.old self.new }
         ensures crash { LeavesQuietly (means D.meaning places) self.old self.new }
         ensures sessions { SessionsStay (means D.meaning places) self.old self.new None None }
     {
         events_tell_faults::<D>();
+        events_meet_no_damage::<D>();
         points_go_on::<D, Place>();
         self.core.savepoint(t, name)
     }

@@ -3,7 +3,7 @@
 ghost use Rattle.std.specs.Prelude.{◌≡◌, ◌≢◌, ◌≤◌, None, Some};
 ghost use Rattle.mg_model.specs.Catalog.{catalog_name};
 ghost use Rattle.mg_records.specs.Crashing.{LeavesQuietly};
-ghost use Rattle.mg_records.specs.Keeping.{FaultsAreTold, Leaves, refusal_in};
+ghost use Rattle.mg_records.specs.Keeping.{FaultsAreTold, Leaves, MeetsNoDamage, refusal_in};
 ghost use Rattle.mg_records.specs.Sessions.{SessionsStay};
 ghost use Rattle.mg_records.specs.Writing.{FitsPages, IsNewShape, MakesTable};
 ghost use Rattle.mg_value.specs.Names.{IsName};
@@ -17,6 +17,7 @@ use mg_base::{Disk, TxNo};
 use mg_core::Place;
 use mg_engine_changes::{creations_keep_apart, tables_are_made};
 use mg_engine_faults::changes_tell_faults;
+use mg_making_no_damage::creations_meet_no_damage;
 use mg_model::Refusal;
 use mg_table_making::create_table;
 use mg_value::{Column, Name, Shape};
@@ -36,10 +37,12 @@ impl<D: Disk> Engine<D> {
         ensures adds { MakesTable (means D.meaning places) self.old self.new t name.now shape.now (refusal_in result) }
         ensures leaves { Leaves (means D.meaning places) self.old self.new (refusal_in result) (Some t.0) (Some t.0) }
         ensures told { FaultsAreTold (means D.meaning places) self.old self.new (refusal_in result) }
+        ensures undamaged { MeetsNoDamage (means D.meaning places) self.old self.new }
         ensures crash { LeavesQuietly (means D.meaning places) self.old self.new }
         ensures sessions { SessionsStay (means D.meaning places) self.old self.new None None }
     {
         changes_tell_faults::<D>();
+        creations_meet_no_damage::<D, Place>();
         tables_are_made::<D, Place>();
         creations_keep_apart::<D, Place>();
         counts_fit(self.core.damage, self.core.shortages);

@@ -5,11 +5,12 @@ ghost use Rattle.std.specs.Option.{option_copied};
 ghost use Rattle.mg_model.specs.Changes.{KeyedRows};
 ghost use Rattle.mg_records.specs.Adding.{AnswersAll};
 ghost use Rattle.mg_records.specs.Crashing.{LeavesQuietly};
-ghost use Rattle.mg_records.specs.Keeping.{FaultsAreTold, Reads, refusal_in};
+ghost use Rattle.mg_records.specs.Keeping.{FaultsAreTold, MeetsNoDamage, Reads, refusal_in};
 ghost use Rattle.mg_records.specs.Reading.{IsPlace, IsTableGiven, Nears, TellsTable, Visits};
 ghost use Rattle.mg_records.specs.Sessions.{SessionsStay};
 ghost use Rattle.mg_engine_meaning.specs.Meaning.{means};
 ghost use Rattle.mg_engine_calls.specs.Reads.{IsInRank};
+ghost use Rattle.mg_engine_no_damage.specs.Walks.{IsShortPlace};
 ghost use Rattle.mg_core.specs.Scanning.{rank};
 ghost use Rattle.mg_engine.specs.Places.{places};
 
@@ -18,6 +19,7 @@ use mg_base::{Disk, Memory, TxNo};
 use mg_core::Place;
 use mg_engine_calls::{tables_go_on, visits_go_on};
 use mg_engine_faults::readings_tell_faults;
+use mg_engine_no_damage::{tables_meet_no_damage, visits_meet_no_damage};
 use mg_model::{Refusal, Table};
 use mg_records::Found;
 use mg_value::Name;
@@ -34,10 +36,12 @@ impl<D: Disk> Engine<D> {
         ensures given { IfOk result (IsTableGiven (means D.meaning places) self.new t.0 name.now) }
         ensures reads { Reads (means D.meaning places) self.old self.new (refusal_in result) None }
         ensures told { FaultsAreTold (means D.meaning places) self.old self.new (refusal_in result) }
+        ensures undamaged { MeetsNoDamage (means D.meaning places) self.old self.new }
         ensures crash { LeavesQuietly (means D.meaning places) self.old self.new }
         ensures sessions { SessionsStay (means D.meaning places) self.old self.new None None }
     {
         readings_tell_faults::<D>();
+        tables_meet_no_damage::<D>();
         tables_go_on::<D, Place>();
         counts_fit(self.core.damage, self.core.shortages);
         self.core.table(t, name)
@@ -65,12 +69,17 @@ impl<D: Disk> Engine<D> {
             → Visits (means D.meaning places) self.new t.0 table.now result rows }
         ensures reads { Reads (means D.meaning places) self.old self.new (refusal_in result) (Some t.0) }
         ensures told { FaultsAreTold (means D.meaning places) self.old self.new (refusal_in result) }
+        ensures undamaged { (rows : KeyedRows)
+            → (means D.meaning places).to_come self.old t.0 table.now (option_copied after.entry) rows
+            → MeetsNoDamage (means D.meaning places) self.old self.new }
         ensures crash { LeavesQuietly (means D.meaning places) self.old self.new }
         ensures sessions { SessionsStay (means D.meaning places) self.old self.new None None }
     {
         readings_tell_faults::<D>();
         visits_go_on::<D>();
+        visits_meet_no_damage::<D>();
         counts_fit(self.core.damage, self.core.shortages);
+        is_short(after);
         let visited = self.core.scan_step(t, table, after.copied());
         in_rank(&visited);
         visited
@@ -105,4 +114,18 @@ fn in_rank(visited: &Result<Option<Found<Place>>, Refusal>)
 /// A rank has six bytes.
 fn rank_fits(place: Place)
     ensures { rank place < 2 ^ 48 }
+{}
+
+/// The slot of a place has two bytes.
+fn is_short(after: Option<&Place>)
+    ensures { IsShortPlace (option_copied after.entry) }
+{
+    if let Some(place) = after {
+        slot_fits(*place);
+    }
+}
+
+/// A slot has two bytes.
+fn slot_fits(place: Place)
+    ensures { place.rec.slot < 65536 }
 {}

@@ -5,9 +5,10 @@ ghost use Rattle.mg_core.specs.Cores.{IsCore};
 ghost use Rattle.mg_engine_changes.specs.Notes.{AreCounts};
 ghost use Rattle.mg_engine_changes.specs.Outcomes.{IsBack, IsRolledShort, IsUndone};
 ghost use Rattle.mg_engine_faults.specs.Told.{TellsFaults};
+ghost use Rattle.mg_engine_no_damage.specs.Stands.{DamageStands};
 ghost use Rattle.mg_engine_meaning.specs.Meaning.{means};
 ghost use Rattle.mg_records.specs.Crashing.{LeavesQuietly};
-ghost use Rattle.mg_records.specs.Keeping.{FaultsAreTold, Leaves, refusal_in};
+ghost use Rattle.mg_records.specs.Keeping.{FaultsAreTold, Leaves, MeetsNoDamage, refusal_in};
 ghost use Rattle.mg_records.specs.Sessions.{SessionsStay, given_up_in};
 ghost use Rattle.mg_records.specs.TakingBack.{GoesBack, Undoes};
 ghost use Rattle.mg_engine.specs.Engines.{IsEngine};
@@ -15,6 +16,7 @@ ghost use Rattle.mg_engine.specs.Places.{places};
 
 use crate::engine::Engine;
 use crate::reading::counts_fit;
+use mg_back_no_damage::{backs_meet_no_damage, backs_over_meet_no_damage};
 use mg_base::{Disk, TxNo};
 use mg_core::{Core, Place};
 use mg_engine_changes::{backs_give, backs_give_over};
@@ -35,6 +37,7 @@ impl<D: Disk> Engine<D> {
         ensures undoes { Undoes (means D.meaning places) self.old self.new t result }
         ensures leaves { Leaves (means D.meaning places) self.old self.new (refusal_in result) (Some t.0) (Some t.0) }
         ensures told { FaultsAreTold (means D.meaning places) self.old self.new (refusal_in result) }
+        ensures undamaged { MeetsNoDamage (means D.meaning places) self.old self.new }
         ensures crash { LeavesQuietly (means D.meaning places) self.old self.new }
         ensures sessions { SessionsStay (means D.meaning places) self.old self.new None (given_up_in t.0 result) }
     {
@@ -52,6 +55,7 @@ impl<D: Disk> Engine<D> {
         ensures goes { GoesBack (means D.meaning places) self.old self.new t name.now result }
         ensures leaves { Leaves (means D.meaning places) self.old self.new (refusal_in result) (Some t.0) (Some t.0) }
         ensures told { FaultsAreTold (means D.meaning places) self.old self.new (refusal_in result) }
+        ensures undamaged { MeetsNoDamage (means D.meaning places) self.old self.new }
         ensures crash { LeavesQuietly (means D.meaning places) self.old self.new }
         ensures sessions { SessionsStay (means D.meaning places) self.old self.new None (given_up_in t.0 result) }
     {
@@ -72,10 +76,13 @@ fn take_to_mark<D: Disk>(core: &mut Core<D>, t: TxNo) -> Result<(), Refusal>
     ensures core { IsCore D.meaning core.new }
     ensures undone { IsUndone D.meaning places core.old core.new t result }
     ensures told { TellsFaults D.meaning core.old core.new (refusal_in result) }
+    ensures undamaged { DamageStands D.meaning core.old core.new }
 {
     backs_give::<D, Place>();
     backs_give_over::<D, Place>();
     backs_tell_faults::<D>();
+    backs_meet_no_damage::<D>();
+    backs_over_meet_no_damage::<D>();
     match takes_tables_to_mark(core, t) {
         Ok(true) => undo_tables_to_mark(core, t),
         Ok(false) => undo_mark(core, t),
@@ -94,10 +101,13 @@ fn take_to_savepoint<D: Disk>(core: &mut Core<D>, t: TxNo, name: &Name) -> Resul
     ensures core { IsCore D.meaning core.new }
     ensures back { IsBack D.meaning places core.old core.new t name.now result }
     ensures told { TellsFaults D.meaning core.old core.new (refusal_in result) }
+    ensures undamaged { DamageStands D.meaning core.old core.new }
 {
     backs_give::<D, Place>();
     backs_give_over::<D, Place>();
     backs_tell_faults::<D>();
+    backs_meet_no_damage::<D>();
+    backs_over_meet_no_damage::<D>();
     match takes_tables_to_savepoint(core, t, name) {
         Ok(true) => back_over_tables(core, t, name),
         Ok(false) => back_to(core, t, name),

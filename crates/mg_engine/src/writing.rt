@@ -3,7 +3,7 @@
 ghost use Rattle.std.specs.Prelude.{◌≡◌, ◌≤◌, None, Some, length};
 ghost use Rattle.mg_records.specs.Adding.{Adds, fine_or};
 ghost use Rattle.mg_records.specs.Crashing.{LeavesQuietly};
-ghost use Rattle.mg_records.specs.Keeping.{FaultsAreTold, Leaves, refusal_in};
+ghost use Rattle.mg_records.specs.Keeping.{FaultsAreTold, Leaves, MeetsNoDamage, refusal_in};
 ghost use Rattle.mg_records.specs.Sessions.{SessionsStay};
 ghost use Rattle.mg_records.specs.Writing.{FitsShape, event_of};
 ghost use Rattle.mg_row_writes.specs.Storing.{row_stored};
@@ -18,6 +18,7 @@ use mg_base::{Disk, TxNo};
 use mg_core::Place;
 use mg_engine_changes::{noted_writes_give, noted_writes_keep_apart};
 use mg_engine_faults::changes_tell_faults;
+use mg_engine_no_damage::writes_meet_no_damage;
 use mg_model::{Refusal, Table};
 use mg_records::Write;
 use mg_taking_back::write_noted;
@@ -38,10 +39,12 @@ impl<D: Disk> Engine<D> {
             (event_of t table.now.name write.now) (fine_or result) }
         ensures leaves { Leaves (means D.meaning places) self.old self.new (refusal_in result) None (Some t.0) }
         ensures told { FaultsAreTold (means D.meaning places) self.old self.new (refusal_in result) }
+        ensures undamaged { MeetsNoDamage (means D.meaning places) self.old self.new }
         ensures crash { LeavesQuietly (means D.meaning places) self.old self.new }
         ensures sessions { SessionsStay (means D.meaning places) self.old self.new None None }
     {
         changes_tell_faults::<D>();
+        writes_meet_no_damage::<D>();
         noted_writes_give::<D, Place>();
         noted_writes_keep_apart::<D, Place>();
         counts_fit(self.core.damage, self.core.shortages);

@@ -155,6 +155,7 @@ module _ {D : Type 0} (m : Meaning D) (counts_to : ℕ) where
     headline_of size o lines old new before after end whole line = record {
       entries = line.entries;
       served = line.served;
+      unjudged = line.unjudged;
       legal = line.legal;
       crash = leaves old new (HoldsFrom packed_form size o (asked line.entries) 0) line.crash;
       exit = line.exit;

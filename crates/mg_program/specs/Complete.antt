@@ -4,24 +4,15 @@ use Rattle.mg_base.specs.Disk.{Meaning, Rose}
 use Rattle.mg_base.specs.Image.{Image}
 use Rattle.mg_base.specs.Streams.{SinkMeaning, SourceMeaning}
 use Rattle.mg_model.specs.declared.opening.Opening.{Opening}
-use Rattle.mg_model.specs.History.{Entries}
-use Rattle.mg_script.specs.declared.line.Line.{Line}
 use Rattle.mg_runs.specs.declared.ending.RunEnd.{RunEnd}
 use Rattle.mg_runs.specs.declared.ending.TheConstants.{SCRIPT_MOST}
 use Rattle.mg_runs.specs.Ends.{status, status_of}
 use Rattle.mg_runs.specs.Entry.{IsEntry}
-use Rattle.mg_runs.specs.Headline.{AreServed}
 use Rattle.mg_program.specs.Top.{Runs}
 
--- lines were obeyed, or as many of them as the end lets
-abbrev pub HasServed : {K : Type 0} → SinkMeaning K → K → K → ℕ → Opening → RunEnd → Type 0
-HasServed n before after size o end = (lines : List Line) × (entries : Entries)
-    × AreServed n before after size o lines end entries
-
--- The status is 0 or 1, or 6; or it is 4, by a line or by a rolling back at the end, and not by the opening.
-abbrev pub IsComplete : {K : Type 0} → SinkMeaning K → K → K → ℕ → Opening → RunEnd → Type 0
-IsComplete n before after size o end = ((status_of end ≡ status 0) ⊎ (status_of end ≡ status 1))
-    ⊎ ((status_of end ≡ status 6) ⊎ ((status_of end ≡ status 4) × HasServed n before after size o end))
+-- The status is 0 or 1, or 6 for want of memory.
+abbrev pub IsComplete : RunEnd → Type 0
+IsComplete end = (status_of end ≡ status 0) ⊎ ((status_of end ≡ status 1) ⊎ (status_of end ≡ status 6))
 
 -- So ends a run without `--stop` on a disk on which a history can begin, where the script has at most 1,048,576 bytes, and
 -- no count of faults rose, of the disk, of the source or of the sink.
@@ -30,4 +21,4 @@ RunsAreComplete {D} {S} {K} m s n = (counts_to : ℕ) (source source' : S) (old 
     (image : Image) (o : Opening) (script : List ℕ) → Runs m counts_to s n None source source' old new sink sink' end
     → IsEntry m old size image o → s.left source ≡ Some script → length script ≤ SCRIPT_MOST
     → (Rose (m.faults old) (m.faults new) → ⊥) → (Rose (s.faults source) (s.faults source') → ⊥)
-    → (Rose (n.faults sink) (n.faults sink') → ⊥) → IsComplete n sink sink' size o end
+    → (Rose (n.faults sink) (n.faults sink') → ⊥) → IsComplete end

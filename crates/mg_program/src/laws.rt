@@ -4,7 +4,7 @@ ghost use Rattle.mg_program.specs.Complete.{RunsAreComplete};
 
 use mg_base::{Disk, Sink, Source};
 
-/// A run on which nothing fails comes to the end of its script, but for want of memory, and for a page that is damaged.
+/// A run on which nothing fails comes to the end of its script, but for want of memory.
 pub fn runs_are_complete<D: Disk, S: Source, K: Sink>()
     ensures { RunsAreComplete D.meaning S.meaning K.meaning }
 {}

@@ -34,10 +34,11 @@ use Rattle.mg_runs.specs.declared.ending.RunEnd.TheVariants.{Outside, Whole}
 use Rattle.mg_runs.specs.Ends.{last_line}
 use Rattle.mg_runs.specs.Entry.{IsEntry}
 use Rattle.mg_runs.specs.EntryLaws.{has_ended}
-use Rattle.mg_runs.specs.Headline.{AreServed, EndsBehind, HasEnded, Headline, IsClosingRefusal, IsSettledAt}
+use Rattle.mg_runs.specs.Headline.{AreServed, EndsBehind, HasEnded, Headline, IsClosingRefusal, IsSettledAt, IsUnjudged}
 use Rattle.mg_runs.specs.Laws.{IsCutOff, RunsClose, RunsStop, closed_end}
 use Rattle.mg_runs.specs.OpeningLaws.{crash_over, kept_over, nothing_settled, opening_leaves, size_over, sized_over, stands_over}
 use Rattle.mg_runs.specs.Printing.{IsPrinted}
+use Rattle.mg_runs.specs.UnjudgedLaws.{unjudged}
 
 -- ---- page sizes
 
@@ -88,7 +89,6 @@ module _ {D P K : Type 0} (m : Meaning D) (places : Places P) (n : SinkMeaning K
     served = inr (record {
       refusal = refusals.Memory;
       ends = end_is;
-      judged = tt;
       none = refl;
       last = subst (λ (k : K). IsPrinted n k after (last_line end)) none.sink last;
     });
@@ -98,6 +98,7 @@ module _ {D P K : Type 0} (m : Meaning D) (places : Places P) (n : SinkMeaning K
     exit = λ c may. subst (λ (s : ℕ). HoldsAcknowledged packed_form s o [] c) core_size
         (left_of m core o [] opened_stands c (subst (λ (k : Core D). MayLeave m k.store.disk c) none.keeper may));
     settled = subst (IsSettledAt m now.store.disk size o []) (sym end_is) tt;
+    unjudged = subst IsUnjudged (sym end_is) tt;
     tells = ap (λ (c : Core D). m.tells c.store.disk) none.keeper ∙ opened.same.tells;
     sized = ap (λ (c : Core D). m.size c.store.disk) none.keeper
         ∙ sized_over m disk limit core size image opened entry.sized;
@@ -123,6 +124,10 @@ module _ {D P K : Type 0} (m : Meaning D) (places : Places P) (n : SinkMeaning K
 
     told : m.tells core.store.disk ≡ true
     told = opened.same.tells ∙ entry.settled.tells.told
+
+    end_unjudged : (end : RunEnd) → EndsBehind lines_end lines_refusals fine end → IsUnjudged end
+    end_unjudged end ends = unjudged m places core now opened.undamaged (ran.carries.undamaged told) o size fine
+        ran.turns ran.obeyed_to ran.entries ran.unfinished lines_end lines_refusals end ran.run ran.ended accounts ends
 
     lines_leave : LeavesOnly m core.store.disk now.store.disk
         (HoldsFrom packed_form size o (asked ran.entries) 0)
@@ -173,6 +178,7 @@ module _ {D P K : Type 0} (m : Meaning D) (places : Places P) (n : SinkMeaning K
       crash = so_far;
       exit = left_now;
       settled = settled;
+      unjudged = end_unjudged end ends;
       tells = tells_now;
       sized = sized_now;
     }
@@ -199,6 +205,7 @@ module _ {D P K : Type 0} (m : Meaning D) (places : Places P) (n : SinkMeaning K
         crash = all_crash;
         exit = its_crash.left;
         settled = settled;
+        unjudged = end_unjudged end ends;
         tells = closes.same.tells ∙ tells_now;
         sized = closes.same.size size sized_now;
       }

@@ -72,14 +72,18 @@ pub record AreServed {K : Type 0} (n : SinkMeaning K) (before after : K) (size :
   pub transcript : PrintsSo n before mid lines_end turns
   pub last : IsPrinted n mid after (last_line end)
 
+-- the run says neither that the disk holds no database, nor that a page is damaged
+abbrev pub IsUnjudged : RunEnd → Type 0
+IsUnjudged (InLine refusal) = IsNoJudgement refusal
+IsUnjudged (Outside refusal) = IsNoJudgement refusal
+IsUnjudged end = Unit {0}
+
 -- No line was obeyed, and nothing has come to the history: the disk was not opened, or memory was short before the
 -- first line.
 pub record AreUnserved {K : Type 0} (n : SinkMeaning K) (before after : K) (end : RunEnd) (entries : Entries)
     : Type 0 where
   pub refusal : Refusal
   pub ends : end ≡ Outside refusal
-  -- it is not said that the disk holds no database, or is damaged
-  pub judged : IsNoJudgement refusal
   pub none : entries ≡ []
   pub last : IsPrinted n before after (last_line end)
 
@@ -113,6 +117,8 @@ pub record Headline {D K : Type 0} (m : Meaning D) (n : SinkMeaning K) (size : �
   pub crash : LeavesOnly m old new (HoldsFrom packed_form size o (asked entries) 0)
   pub exit : (c : Image) → MayLeave m new c → HoldsAcknowledged packed_form size o entries c
   pub settled : IsSettledAt m new size o entries end
+  -- no page was found damaged, by the opening, a line, a rolling back at the end or the closing
+  pub unjudged : IsUnjudged end
   -- the disk tells as before, and has pages of the same size
   pub tells : m.tells new ≡ m.tells old
   pub sized : m.size new ≡ Some size

@@ -9,3 +9,4 @@ pub mod MemLaws
 pub mod OpeningLaws
 pub mod Printing
 pub mod Promise
+pub mod UnjudgedLaws

@@ -39,6 +39,7 @@ use Rattle.mg_runs.specs.declared.ending.RunEnd.{RunEnd}
 use Rattle.mg_runs.specs.Ends.{IsOutside, last_line}
 use Rattle.mg_runs.specs.Entry.{IsOpeningOf, TellsWholePages, of_new, of_sound}
 use Rattle.mg_runs.specs.Headline.{AreUnserved, IsSettledAt}
+use Rattle.mg_runs.specs.UnjudgedLaws.{outside_unjudged}
 use Rattle.mg_runs.specs.Laws.{BeginsRun, OpeningsAreJudged, RunsBegin}
 use Rattle.mg_runs.specs.Printing.{IsPrinted}
 
@@ -175,19 +176,16 @@ module _ {D : Type 0} (m : Meaning D) (disk new : D) (limit : ℕ) (refusal : Re
 
 -- the refusal by which the run has ended then
 unserved : {K : Type 0} (n : SinkMeaning K) (before after : K) (refusal : Refusal) (end : RunEnd)
-    → IsNoJudgement refusal → IsOutside refusal end → IsPrinted n before after (last_line end)
-    → AreUnserved n before after end []
-unserved n before after refusal end judged (inl is) last = record {
+    → IsOutside refusal end → IsPrinted n before after (last_line end) → AreUnserved n before after end []
+unserved n before after refusal end (inl is) last = record {
   refusal = refusal;
   ends = is;
-  judged = judged;
   none = refl;
   last = last;
 }
-unserved n before after refusal end judged (inr (other, is)) last = record {
+unserved n before after refusal end (inr (other, is)) last = record {
   refusal = refusals.Memory;
   ends = is;
-  judged = tt;
   none = refl;
   last = last;
 }
@@ -204,13 +202,14 @@ pub openings_are_judged : {D K : Type 0} (m : Meaning D) (n : SinkMeaning K) →
 openings_are_judged m n counts new_begin disk new limit refusal size image o lines end before after entry refused ends last =
     record {
       entries = [];
-      served = inr (unserved n before after refusal end
-          (not_judged m disk new limit refusal size image refused entry.sized entry.settled o entry.opening) ends last);
+      served = inr (unserved n before after refusal end ends last);
       legal = tt;
       crash = leaves;
       exit = λ c may. leaves.each c (counts new (m.moment disk) c
           (refused.same.tells ∙ entry.settled.tells.told) leaves.later may);
       settled = nothing_settled m new size o [] refusal end ends;
+      unjudged = outside_unjudged refusal end
+          (not_judged m disk new limit refusal size image refused entry.sized entry.settled o entry.opening) ends;
       tells = refused.same.tells;
       sized = refused.same.size size entry.sized;
     }

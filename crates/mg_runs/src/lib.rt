@@ -2,9 +2,10 @@
 //!
 //! Owns: how a run ends (`RunEnd`) and its status (`Status`), and the definitions by which a run is judged. In
 //! `specs/`: `Ends` (the status and the last line of an end), `Entry` (the disks on which a history can begin),
-//! `Printing` (what the sink takes), `Headline` (one legal history of the lines, its transcript, and that each image a
-//! crash leaves holds it), `Promise` (the script, and the causes that hold over any disk). `Laws` has what the steps of
-//! a run give of it; `OpeningLaws`, `EndLaws`, `FaultLaws`, `EntryLaws` and `MemLaws` prove that.
+//! `Printing` (what the sink takes), `Headline` (one legal history of the lines, its transcript, that each image a crash
+//! leaves holds it, and that the disk is not said to be damaged), `Promise` (the script, and the causes that hold over
+//! any disk). `Laws` has what the steps of a run give of it; `OpeningLaws`, `EndLaws`, `UnjudgedLaws`, `FaultLaws`,
+//! `EntryLaws` and `MemLaws` prove that.
 //!
 //! Invariant: none, it keeps no state.
 //! Below: `mg_scripts`, the lines of a script; `mg_engine_calls`, the opening and closing of an engine; `mg_transcript`,

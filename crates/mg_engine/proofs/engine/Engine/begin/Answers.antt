@@ -4,7 +4,7 @@ use Rattle.mg_works.specs.Works.{has_session}
 use Rattle.mg_engine.specs.Places.{places}
 use Rattle.mg_records.specs.Keeping.{refusal_in}
 use Rattle.mg_engine.proofs.BeginLemmas.{begins_apart, begins_as}
-use Rattle.mg_engine.proofs.ToldLemmas.{told_as}
+use Rattle.mg_engine.proofs.ToldLemmas.{told_as, undamaged_as}
 use Rattle.mg_engine.proofs.engine.Engine.begin.Goals as goal
 
 pub begin-requires-clause-free : goal.begin-requires-clause-free
@@ -50,3 +50,9 @@ returns-clause-told g c = told_as g.D.Disk.meaning places c.self.inside.core c.a
     c.begin.new.self c.self.view_is (refusal_in c.begin.result)
     (c.begins_tell_faults.ensures c.self.inside.core c.begin.new.self c.args.session c.args.mode c.begin.result
     c.begin.ensures.begins)
+
+pub returns-clause-undamaged : goal.returns-clause-undamaged
+returns-clause-undamaged g c = undamaged_as g.D.Disk.meaning places c.self.inside.core c.args.self.now
+    c.begin.new.self c.self.view_is
+    (c.begins_meet_no_damage.ensures c.self.inside.core c.begin.new.self c.args.session c.args.mode c.begin.result
+    c.self.invariant.lawful c.begin.ensures.begins)

@@ -2,7 +2,7 @@ use Rattle.mg_engine.specs.Places.{places}
 use Rattle.mg_records.specs.Keeping.{refusal_in}
 use Rattle.mg_engine.proofs.ApartLemmas.{commits_apart}
 use Rattle.mg_engine.proofs.EngineLemmas.{commits_as}
-use Rattle.mg_engine.proofs.ToldLemmas.{told_as}
+use Rattle.mg_engine.proofs.ToldLemmas.{told_as, undamaged_as}
 use Rattle.mg_engine.proofs.engine.Engine.commit_end.Goals as goal
 
 pub invariant_of-self : goal.invariant_of-self
@@ -32,4 +32,10 @@ pub returns-clause-told : goal.returns-clause-told
 returns-clause-told g c = told_as g.D.Disk.meaning places c.self.inside.core c.args.self.now
     c.commit_end.new.self c.self.view_is (refusal_in c.commit_end.result)
     (c.commits_tell_faults.ensures c.self.inside.core c.commit_end.new.self c.args.t.0 c.commit_end.result
+    c.commit_end.ensures.commits)
+
+pub returns-clause-undamaged : goal.returns-clause-undamaged
+returns-clause-undamaged g c = undamaged_as g.D.Disk.meaning places c.self.inside.core c.args.self.now
+    c.commit_end.new.self c.self.view_is
+    (c.commits_meet_no_damage.ensures.ends c.self.inside.core c.commit_end.new.self c.args.t.0 c.commit_end.result
     c.commit_end.ensures.commits)

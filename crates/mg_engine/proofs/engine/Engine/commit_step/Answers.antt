@@ -1,7 +1,7 @@
 use Rattle.mg_engine.specs.Places.{places}
 use Rattle.mg_records.specs.Keeping.{refusal_in}
 use Rattle.mg_engine.proofs.EngineLemmas.{steps_as}
-use Rattle.mg_engine.proofs.ToldLemmas.{told_as}
+use Rattle.mg_engine.proofs.ToldLemmas.{told_as, undamaged_as}
 use Rattle.mg_engine.proofs.engine.Engine.commit_step.Goals as goal
 
 pub returns-clause-reads : goal.returns-clause-reads
@@ -18,4 +18,10 @@ pub returns-clause-told : goal.returns-clause-told
 returns-clause-told g c = told_as g.D.Disk.meaning places c.self.inside.core c.args.self.now
     c.commit_step.new.self c.self.view_is (refusal_in c.commit_step.result)
     (c.page_writes_tell_faults.ensures.steps c.self.inside.core c.commit_step.new.self c.args.t.0 c.commit_step.result
+    c.commit_step.ensures.steps)
+
+pub returns-clause-undamaged : goal.returns-clause-undamaged
+returns-clause-undamaged g c = undamaged_as g.D.Disk.meaning places c.self.inside.core c.args.self.now
+    c.commit_step.new.self c.self.view_is
+    (c.commits_meet_no_damage.ensures.steps c.self.inside.core c.commit_step.new.self c.args.t.0 c.commit_step.result
     c.commit_step.ensures.steps)

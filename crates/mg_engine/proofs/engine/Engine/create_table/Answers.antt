@@ -1,7 +1,7 @@
 use Rattle.std.proofs.Common.{subst}
 use Rattle.mg_engine.specs.Places.{places}
 use Rattle.mg_records.specs.Keeping.{refusal_in}
-use Rattle.mg_engine.proofs.MakingLemmas.{makes_apart, makes_as}
+use Rattle.mg_engine.proofs.MakingLemmas.{makes_apart, makes_as, makes_undamaged}
 use Rattle.mg_engine_changes.specs.MakingSteps.{AreNamed}
 use Rattle.mg_engine.proofs.ToldLemmas.{told_as}
 use Rattle.mg_engine.proofs.engine.Engine.create_table.Goals as goal
@@ -49,3 +49,10 @@ returns-clause-told g c = told_as g.D.Disk.meaning places c.self.inside.core c.a
     c.create_table.new.core c.self.view_is (refusal_in c.create_table.result)
     (c.changes_tell_faults.ensures.makings c.self.inside.core c.create_table.new.core c.args.t c.args.name.now
     c.args.shape.now c.create_table.result c.create_table.ensures.creates)
+
+pub returns-clause-undamaged : goal.returns-clause-undamaged
+returns-clause-undamaged g c = makes_undamaged g.D.Disk.meaning places c.self.inside.core c.args.self.now
+    c.create_table.new.core c.self.view_is c.self.invariant c.counts_fit.ensures.0 c.counts_fit.ensures.1 c.args.t
+    c.args.name.now c.args.shape.now c.requires.other c.requires.shape c.requires.pages c.note_name.ensures
+    (subst AreNamed c.as_slice.ensures c.note_columns.ensures) c.creations_meet_no_damage.ensures
+    c.create_table.result c.create_table.ensures.creates

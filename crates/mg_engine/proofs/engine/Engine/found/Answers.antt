@@ -1,7 +1,7 @@
 use Rattle.mg_engine.specs.Places.{places}
 use Rattle.mg_records.specs.Keeping.{refusal_in}
 use Rattle.mg_engine.proofs.EngineLemmas.{found_as}
-use Rattle.mg_engine.proofs.ToldLemmas.{told_as}
+use Rattle.mg_engine.proofs.ToldLemmas.{told_as, undamaged_as}
 use Rattle.mg_engine.proofs.engine.Engine.found.Goals as goal
 
 pub returns-clause-leaves : goal.returns-clause-leaves
@@ -14,3 +14,8 @@ returns-clause-told g c = told_as g.D.Disk.meaning places c.self.inside.core c.a
     c.found.new.self c.self.view_is (refusal_in c.found.result)
     (c.events_tell_faults.ensures.waits c.self.inside.core c.found.new.self c.args.t.0 (refusal_in c.found.result)
     c.found.ensures.wait)
+
+pub returns-clause-undamaged : goal.returns-clause-undamaged
+returns-clause-undamaged g c = undamaged_as g.D.Disk.meaning places c.self.inside.core c.args.self.now
+    c.found.new.self c.self.view_is
+    (c.events_meet_no_damage.ensures.waits c.self.inside.core c.found.new.self c.args.t.0 c.found.ensures.wait)

@@ -2,7 +2,7 @@ use Rattle.mg_engine.specs.Places.{places}
 use Rattle.mg_records.specs.Keeping.{refusal_in}
 use Rattle.mg_engine.proofs.ApartLemmas.{looks_apart}
 use Rattle.mg_engine.proofs.EngineLemmas.{looks_as}
-use Rattle.mg_engine.proofs.ToldLemmas.{told_as}
+use Rattle.mg_engine.proofs.ToldLemmas.{told_as, undamaged_as}
 use Rattle.mg_engine.proofs.engine.Engine.look.Goals as goal
 
 pub invariant_of-self : goal.invariant_of-self
@@ -31,4 +31,10 @@ pub returns-clause-told : goal.returns-clause-told
 returns-clause-told g c = told_as g.D.Disk.meaning places c.self.inside.core c.args.self.now
     c.look.new.self c.self.view_is (refusal_in c.look.result)
     (c.events_tell_faults.ensures.looks c.self.inside.core c.look.new.self c.args.t.0 c.look.result
+    c.look.ensures.looks)
+
+pub returns-clause-undamaged : goal.returns-clause-undamaged
+returns-clause-undamaged g c = undamaged_as g.D.Disk.meaning places c.self.inside.core c.args.self.now
+    c.look.new.self c.self.view_is
+    (c.events_meet_no_damage.ensures.looks c.self.inside.core c.look.new.self c.args.t.0 c.look.result
     c.look.ensures.looks)

@@ -3,7 +3,7 @@ use Rattle.mg_engine.specs.Places.{places}
 use Rattle.mg_records.specs.Keeping.{refusal_in}
 use Rattle.mg_engine.proofs.ApartLemmas.{points_apart}
 use Rattle.mg_engine.proofs.EngineLemmas.{marks_as}
-use Rattle.mg_engine.proofs.ToldLemmas.{told_as}
+use Rattle.mg_engine.proofs.ToldLemmas.{told_as, undamaged_as}
 use Rattle.mg_engine.proofs.engine.Engine.mark.Goals as goal
 
 pub invariant_of-self : goal.invariant_of-self
@@ -32,4 +32,10 @@ pub returns-clause-told : goal.returns-clause-told
 returns-clause-told g c = told_as g.D.Disk.meaning places c.self.inside.core c.args.self.now
     c.mark.new.self c.self.view_is (refusal_in c.mark.result)
     (c.events_tell_faults.ensures.points c.self.inside.core c.mark.new.self c.args.t.0 None c.mark.result
+    c.mark.ensures.sets)
+
+pub returns-clause-undamaged : goal.returns-clause-undamaged
+returns-clause-undamaged g c = undamaged_as g.D.Disk.meaning places c.self.inside.core c.args.self.now
+    c.mark.new.self c.self.view_is
+    (c.events_meet_no_damage.ensures.points c.self.inside.core c.mark.new.self c.args.t.0 None c.mark.result
     c.mark.ensures.sets)

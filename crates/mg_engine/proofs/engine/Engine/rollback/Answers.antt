@@ -2,7 +2,7 @@ use Rattle.mg_engine.specs.Places.{places}
 use Rattle.mg_records.specs.Keeping.{refusal_in}
 use Rattle.mg_engine.proofs.ApartLemmas.{rollbacks_apart}
 use Rattle.mg_engine.proofs.EngineLemmas.{rollbacks_as}
-use Rattle.mg_engine.proofs.ToldLemmas.{told_as}
+use Rattle.mg_engine.proofs.ToldLemmas.{told_as, undamaged_as}
 use Rattle.mg_engine.proofs.engine.Engine.rollback.Goals as goal
 
 pub invariant_of-self : goal.invariant_of-self
@@ -32,4 +32,10 @@ pub returns-clause-told : goal.returns-clause-told
 returns-clause-told g c = told_as g.D.Disk.meaning places c.self.inside.core c.args.self.now
     c.rollback.new.self c.self.view_is (refusal_in c.rollback.result)
     (c.events_tell_faults.ensures.rollbacks c.self.inside.core c.rollback.new.self c.args.t.0 c.rollback.result
+    c.rollback.ensures.rolls)
+
+pub returns-clause-undamaged : goal.returns-clause-undamaged
+returns-clause-undamaged g c = undamaged_as g.D.Disk.meaning places c.self.inside.core c.args.self.now
+    c.rollback.new.self c.self.view_is
+    (c.events_meet_no_damage.ensures.rollbacks c.self.inside.core c.rollback.new.self c.args.t.0 c.rollback.result
     c.rollback.ensures.rolls)

@@ -1,7 +1,7 @@
 use Rattle.std.specs.Option.{option_copied}
 use Rattle.mg_records.specs.Keeping.{refusal_in}
 use Rattle.mg_engine.specs.Places.{places}
-use Rattle.mg_engine.proofs.ReadLemmas.{may_scan, scans_apart, visits_as}
+use Rattle.mg_engine.proofs.ReadLemmas.{may_scan, scans_apart, visits_as, visits_undamaged}
 use Rattle.mg_engine.proofs.ToldLemmas.{told_as}
 use Rattle.mg_engine.proofs.engine.Engine.scan_step.Goals as goal
 
@@ -57,3 +57,9 @@ returns-clause-told g c = told_as g.D.Disk.meaning places c.self.inside.core c.a
     c.scan_step-visited.new.self c.self.view_is (refusal_in c.scan_step-visited.result)
     (c.readings_tell_faults.ensures.walks c.self.inside.core c.scan_step-visited.new.self c.args.t
     c.args.table.now c.copied.result c.scan_step-visited.result c.scan_step-visited.ensures.scans)
+
+pub returns-clause-undamaged : goal.returns-clause-undamaged
+returns-clause-undamaged g c = visits_undamaged g.D.Disk.meaning c.self.inside.core c.args.self.now
+    c.scan_step-visited.new.self c.self.view_is c.visits_meet_no_damage.ensures c.args.t c.args.table.now
+    c.copied.result (option_copied c.args.after) c.scan_step-visited.result c.copied.ensures c.is_short.ensures
+    c.scan_step-visited.ensures.scans

@@ -1,7 +1,7 @@
 use Rattle.mg_records.specs.Keeping.{refusal_in}
 use Rattle.mg_engine.specs.Places.{places}
 use Rattle.mg_engine.proofs.ReadLemmas.{table_apart, tables_as}
-use Rattle.mg_engine.proofs.ToldLemmas.{told_as}
+use Rattle.mg_engine.proofs.ToldLemmas.{told_as, undamaged_as}
 use Rattle.mg_engine.proofs.engine.Engine.table.Goals as goal
 
 pub invariant_of-self : goal.invariant_of-self
@@ -41,3 +41,9 @@ returns-clause-told g c = told_as g.D.Disk.meaning places c.self.inside.core c.a
     c.table.new.self c.self.view_is (refusal_in c.table.result)
     (c.readings_tell_faults.ensures.tables c.self.inside.core c.table.new.self c.args.t c.args.name.now c.table.result
     c.table.ensures.table)
+
+pub returns-clause-undamaged : goal.returns-clause-undamaged
+returns-clause-undamaged g c = undamaged_as g.D.Disk.meaning places c.self.inside.core c.args.self.now
+    c.table.new.self c.self.view_is
+    (c.tables_meet_no_damage.ensures c.self.inside.core c.table.new.self c.args.t c.args.name.now c.table.result
+    c.self.invariant.lawful c.table.ensures.table)

@@ -1,6 +1,6 @@
 use Rattle.mg_engine.specs.Places.{places}
 use Rattle.mg_engine.proofs.BackLemmas.{counted, undone_as}
-use Rattle.mg_engine.proofs.ToldLemmas.{told_as}
+use Rattle.mg_engine.proofs.ToldLemmas.{told_as, undamaged_as}
 use Rattle.mg_records.specs.Keeping.{refusal_in}
 use Rattle.mg_engine.proofs.engine.Engine.undo_mark.Goals as goal
 
@@ -36,3 +36,8 @@ invariant_of-self g c = record {
 pub returns-clause-told : goal.returns-clause-told
 returns-clause-told g c = told_as g.D.Disk.meaning places c.self.inside.core c.args.self.now c.take_to_mark.new.core
     c.self.view_is (refusal_in c.take_to_mark.result) c.take_to_mark.ensures.told
+
+pub returns-clause-undamaged : goal.returns-clause-undamaged
+returns-clause-undamaged g c = undamaged_as g.D.Disk.meaning places c.self.inside.core c.args.self.now
+    c.take_to_mark.new.core c.self.view_is
+    c.take_to_mark.ensures.undamaged

@@ -1,7 +1,7 @@
 use Rattle.mg_engine.specs.Places.{places}
 use Rattle.mg_records.specs.Keeping.{refusal_in}
 use Rattle.mg_engine.proofs.ReadLemmas.{may_scan}
-use Rattle.mg_engine.proofs.WriteLemmas.{writes_apart, writes_as}
+use Rattle.mg_engine.proofs.WriteLemmas.{writes_apart, writes_as, writes_undamaged}
 use Rattle.mg_engine.proofs.ToldLemmas.{told_as}
 use Rattle.mg_engine.proofs.engine.Engine.write_step.Goals as goal
 
@@ -53,3 +53,9 @@ returns-clause-told g c = told_as g.D.Disk.meaning places c.self.inside.core c.a
     c.write_noted.new.core c.self.view_is (refusal_in c.write_noted.result)
     (c.changes_tell_faults.ensures.writes c.self.inside.core c.write_noted.new.core c.args.t c.args.table.now
     c.args.write.now c.write_noted.result c.write_noted.ensures.writes)
+
+pub returns-clause-undamaged : goal.returns-clause-undamaged
+returns-clause-undamaged g c = writes_undamaged g.D.Disk.meaning places c.self.inside.core c.args.self.now
+    c.write_noted.new.core c.self.view_is c.self.invariant c.counts_fit.ensures.0 c.counts_fit.ensures.1 c.args.t
+    c.args.table.now c.args.write.now c.requires.table c.requires.fits c.note_write.ensures
+    c.writes_meet_no_damage.ensures c.write_noted.result c.write_noted.ensures.writes
