@@ -23,14 +23,14 @@ use mg_space::{SpaceFault, Store, take_page};
 use std::alloc::Global;
 
 /// Two pages that were taken.
-#[derive(Clone, Copy, Debug)]
+#[derive(Clone, Copy)]
 pub(crate) struct TwoPages {
     pub first: PageNo,
     pub second: PageNo,
 }
 
 /// A root that splits: its halves on two pages, and its new content.
-#[derive(Debug, Drop)]
+#[derive(Drop)]
 pub(crate) struct Growth {
     pub halves: Halves,
     /// The pages that the left half names.

@@ -14,14 +14,14 @@ use mg_space::SpaceFault;
 use std::alloc::Global;
 
 /// An index page with its content.
-#[derive(Debug, Drop)]
+#[derive(Drop)]
 pub(crate) struct PageBytes {
     pub page: PageNo,
     pub bytes: Bytes,
 }
 
 /// The two pages between which the entries of a page are shared out.
-#[derive(Debug, Drop)]
+#[derive(Drop)]
 pub(crate) struct Halves {
     /// The page that splits, with the first entries.
     pub left: PageBytes,
@@ -34,7 +34,7 @@ pub(crate) struct Halves {
 }
 
 /// The contents of two halves.
-#[derive(Debug, Drop)]
+#[derive(Drop)]
 struct Pair {
     left: Bytes,
     right: Bytes,

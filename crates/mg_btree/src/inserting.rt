@@ -26,7 +26,7 @@ use mg_pool::Batch;
 use mg_space::{SpaceFault, Store};
 
 /// The leaf at which an entry belongs, and what the root says of its tree.
-#[derive(Debug, Drop)]
+#[derive(Drop)]
 pub(crate) struct Leaf {
     pub top: Root,
     pub read: ReadNode,

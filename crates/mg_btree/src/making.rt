@@ -29,7 +29,7 @@ use mg_pool::Batch;
 use mg_space::{SpaceFault, Store, take_page};
 
 /// A page that splits, and the page above that covers the fence between its halves.
-#[derive(Debug, Drop)]
+#[derive(Drop)]
 pub(crate) struct Split {
     pub halves: Halves,
     pub above: ReadNode,

@@ -16,7 +16,7 @@ use mg_pool::Batch;
 use mg_space::{Found, SpaceFault, Store, find_page};
 
 /// An index page that was read.
-#[derive(Debug, Drop)]
+#[derive(Drop)]
 pub(crate) struct ReadNode {
     pub page: PageNo,
     pub bytes: Bytes,

@@ -142,13 +142,13 @@ fn first_leaf<D: Disk>(
 }
 
 /// A walk along the entries of a range: the leaf from which on the next one is looked for.
-#[derive(Debug, Drop)]
+#[derive(Drop)]
 pub struct Walk {
     leaf: ReadNode,
 }
 
 /// A step of a walk.
-#[derive(Debug, Drop)]
+#[derive(Drop)]
 pub struct Step {
     /// The next entry of the range, none where there is none.
     pub found: Option<Entry>,

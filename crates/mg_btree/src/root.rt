@@ -16,7 +16,7 @@ use mg_pool::Batch;
 use mg_space::{SpaceFault, Store};
 
 /// What a root's page says of its tree.
-#[derive(Clone, Copy, Debug)]
+#[derive(Clone, Copy)]
 pub(crate) struct Root {
     pub page: PageNo,
     /// The number of the first pointer page of the table.

@@ -1,7 +1,9 @@
 //! What a cache shows of its dirty pages: what they hold, and which is written before which.
 
+ghost use Rattle.std.specs.Prelude.{◌≡◌};
 ghost use Rattle.mg_base.specs.MemDisk.{mem_meaning};
 ghost use Rattle.mg_pool.specs.Pool.{IsPool};
+ghost use Rattle.mg_space.specs.Taking.{IsGeometry};
 
 use crate::deeds::{MOST_ROOM, NOTHING, Past, new_store, play, store_on};
 use crate::reading::{Deed, Verb};
@@ -82,11 +84,12 @@ struct Ground {
 // The disk after deeds. What they leave in the cache is lost.
 fn ground_of(alloc: Global, deeds: &[Deed]) -> Result<Ground, SpaceFault> {
     let mut store = new_store(alloc, deeds)?;
-    let past = play(&mut store, NOTHING, deeds)?;
-    Ok(Ground {
-        disk: store.into_disk(),
-        past,
-    })
+    let past = play(&mut store, NOTHING, deeds);
+    let disk = store.into_disk();
+    match past {
+        Ok(past) => Ok(Ground { disk, past }),
+        Err(fault) => Err(fault),
+    }
 }
 
 // How many of the deeds there are up to the last one that has all written.
@@ -111,8 +114,13 @@ fn settled(deeds: &[Deed]) -> usize {
 pub fn lay(alloc: Global, deeds: &[Deed]) -> Result<Laid, SpaceFault> {
     let (before, since) = deeds.split_at(settled(deeds).min(deeds.len()));
     let ground = ground_of(alloc, before)?;
-    let shown = show(alloc, &ground, since)?;
-    let orders = orders_of(alloc, &ground, since, &shown.pages)?;
+    lay_on(alloc, &ground, since)
+}
+
+// What deeds leave in the cache over a disk.
+fn lay_on(alloc: Global, ground: &Ground, deeds: &[Deed]) -> Result<Laid, SpaceFault> {
+    let shown = show(alloc, ground, deeds)?;
+    let orders = orders_of(alloc, ground, deeds, &shown.pages)?;
     Ok(Laid {
         disk: shown.disk,
         pages: shown.pages,
@@ -133,15 +141,36 @@ struct Shown {
 // What deeds leave in the cache, and on the disk: a change may write pages before it is made.
 fn show(alloc: Global, ground: &Ground, deeds: &[Deed]) -> Result<Shown, SpaceFault> {
     let mut store = store_on(alloc, &ground.disk)?;
-    play(&mut store, ground.past, deeds)?;
-    let pages = dirty_pages(&store)?;
-    let contents = contents_of(&store, &pages)?;
-    let disk = image_of(alloc, &mut store.into_disk())?;
+    let left = left_by(&mut store, ground.past, deeds);
+    let disk = disk_below(alloc, store);
+    let (pages, contents) = left?;
     Ok(Shown {
-        disk,
+        disk: disk?,
         pages,
         contents,
     })
+}
+
+// The pages that deeds leave in the cache, and what they hold.
+fn left_by(
+    store: &mut Store<MemDisk>,
+    past: Past,
+    deeds: &[Deed],
+) -> Result<(Vec<u32>, Image), SpaceFault>
+    requires pool { IsPool mem_meaning store.old }
+    requires geometry { IsGeometry store.old.geometry }
+    requires size { store.old.geometry.size ≡ 1024 }
+{
+    play(store, past, deeds)?;
+    let pages = dirty_pages(store)?;
+    let contents = contents_of(store, &pages)?;
+    Ok((pages, contents))
+}
+
+// The pages of the disk below a store, which ends.
+fn disk_below(alloc: Global, store: Store<MemDisk>) -> Result<Image, Memory> {
+    let mut disk = store.into_disk();
+    image_of(alloc, &mut disk)
 }
 
 // The dirty pages, in the order of their numbers.
@@ -185,14 +214,21 @@ fn orders_of(
 ) -> Result<Vec<Order>, SpaceFault> {
     let mut orders = Vec::new(alloc);
     for later in pages {
-        for first in written_before(alloc, ground, deeds, *later)?.iter() {
-            orders.push(Order {
-                first: *first,
-                later: *later,
-            })?;
-        }
+        let firsts = written_before(alloc, ground, deeds, *later)?;
+        add_orders(&mut orders, &firsts, *later)?;
     }
     Ok(orders)
+}
+
+// Adds the orders of pages before another.
+fn add_orders(orders: &mut Vec<Order>, firsts: &[u32], later: u32) -> Result<(), Memory> {
+    for first in firsts {
+        orders.push(Order {
+            first: *first,
+            later,
+        })?;
+    }
+    Ok(())
 }
 
 // The pages that are written before a page.
@@ -203,8 +239,22 @@ fn written_before(
     page: u32,
 ) -> Result<Vec<u32>, SpaceFault> {
     let mut store = store_on(alloc, &ground.disk)?;
-    play(&mut store, ground.past, deeds)?;
-    write_up_to(&mut store, page)
+    play_up_to(&mut store, ground.past, deeds, page)
+}
+
+// Does deeds, writes a page after those that come before it, and tells those.
+fn play_up_to(
+    store: &mut Store<MemDisk>,
+    past: Past,
+    deeds: &[Deed],
+    page: u32,
+) -> Result<Vec<u32>, SpaceFault>
+    requires pool { IsPool mem_meaning store.old }
+    requires geometry { IsGeometry store.old.geometry }
+    requires size { store.old.geometry.size ≡ 1024 }
+{
+    play(store, past, deeds)?;
+    write_up_to(store, page)
 }
 
 // Writes a page, after those that come before it, and tells those.
@@ -233,11 +283,22 @@ fn write_up_to(store: &mut Store<MemDisk>, page: u32) -> Result<Vec<u32>, SpaceF
 /// What a call is refused for.
 pub fn written(alloc: Global, deeds: &[Deed], before: usize) -> Result<Laid, SpaceFault> {
     let (first, _) = deeds.split_at(before.min(deeds.len()));
-    let start = ground_of(alloc, first)?.disk.writes();
-    let disk = ground_of(alloc, deeds)?.disk;
-    let pages = pages_since(alloc, &disk, start)?;
+    let start = writes_of(alloc, first)?;
+    let ground = ground_of(alloc, deeds)?;
+    written_on(alloc, &ground.disk, start)
+}
+
+// How many page writes a disk has obeyed after deeds.
+fn writes_of(alloc: Global, deeds: &[Deed]) -> Result<usize, SpaceFault> {
+    let ground = ground_of(alloc, deeds)?;
+    Ok(ground.disk.writes())
+}
+
+// The pages that a disk has from a page write on, one after another.
+fn written_on(alloc: Global, disk: &MemDisk, start: usize) -> Result<Laid, SpaceFault> {
+    let pages = pages_since(alloc, disk, start)?;
     let orders = all_orders(alloc, &pages)?;
-    raised(alloc, &disk, start, pages, orders)
+    raised(alloc, disk, start, pages, orders)
 }
 
 /// The pages of a new database, the last one behind all others.
@@ -246,11 +307,16 @@ pub fn written(alloc: Global, deeds: &[Deed], before: usize) -> Result<Laid, Spa
 ///
 /// What a call is refused for.
 pub fn made(alloc: Global) -> Result<Laid, SpaceFault> {
-    let disk = ground_of(alloc, &[])?.disk;
-    let pages = pages_since(alloc, &disk, 0)?;
+    let ground = ground_of(alloc, &[])?;
+    made_on(alloc, &ground.disk)
+}
+
+// The pages of a disk, the last one behind all others.
+fn made_on(alloc: Global, disk: &MemDisk) -> Result<Laid, SpaceFault> {
+    let pages = pages_since(alloc, disk, 0)?;
     let mut orders = Vec::new(alloc);
     add_orders_to_last(&mut orders, &pages)?;
-    raised(alloc, &disk, 0, pages, orders)
+    raised(alloc, disk, 0, pages, orders)
 }
 
 // Pages that a disk has, as if they were above it as it was after so many page writes.
@@ -285,13 +351,18 @@ fn image_after(alloc: Global, disk: &MemDisk, count: usize) -> Result<Image, Mem
 fn pages_since(alloc: Global, disk: &MemDisk, start: usize) -> Result<Vec<u32>, Memory> {
     let mut pages = Vec::new(alloc);
     for count in start..disk.writes() {
-        let old = image_after(alloc, disk, count)?;
-        let new = image_after(alloc, disk, count + 1)?;
-        if let Some(page) = changed_page(&old, &new) {
+        if let Some(page) = written_by(alloc, disk, count)? {
             pages.push(page)?;
         }
     }
     Ok(pages)
+}
+
+// The page that the page write behind so many others changed.
+fn written_by(alloc: Global, disk: &MemDisk, count: usize) -> Result<Option<u32>, Memory> {
+    let old = image_after(alloc, disk, count)?;
+    let new = image_after(alloc, disk, count.saturating_add(1))?;
+    Ok(changed_page(&old, &new))
 }
 
 // The first page that differs between two images.
@@ -334,14 +405,8 @@ fn all_orders(alloc: Global, pages: &[u32]) -> Result<Vec<Order>, Memory> {
 
 // Adds the orders of all pages but the last before that.
 fn add_orders_to_last(orders: &mut Vec<Order>, pages: &[u32]) -> Result<(), Memory> {
-    let Some((later, firsts)) = pages.split_last() else {
-        return Ok(());
-    };
-    for first in firsts {
-        orders.push(Order {
-            first: *first,
-            later: *later,
-        })?;
+    match pages.split_last() {
+        Some((later, firsts)) => add_orders(orders, firsts, *later),
+        None => Ok(()),
     }
-    Ok(())
 }

@@ -5,7 +5,7 @@ use mg_decimal::unsigned;
 use std::alloc::Global;
 
 /// What a line asks for.
-#[derive(Clone, Copy, Debug, PartialEq, Eq)]
+#[derive(Clone, Copy, PartialEq, Eq)]
 pub enum Verb {
     Heading,
     Prose,
@@ -38,7 +38,7 @@ pub struct Step {
 }
 
 /// What is done, with the numbers of the line, and 0 where it has fewer.
-#[derive(Clone, Copy, Debug, PartialEq, Eq)]
+#[derive(Clone, Copy)]
 pub struct Deed {
     pub verb: Verb,
     pub numbers: [u32; 2],

@@ -20,6 +20,27 @@ fn column(name: &[u8], kind: Kind, not_null: bool) -> Result<Column, Memory> {
     }
 }
 
+/// A column of the catalog: its name, its kind, and whether it is never NULL.
+type Told = (&'static [u8], Kind, bool);
+
+const CATALOG_COLUMNS: &[Told] = &[
+    (b"K", Kind::Text(40), true),
+    (b"NAME", Kind::Text(31), false),
+    (b"A", Kind::Int, false),
+    (b"B", Kind::Int, false),
+    (b"C", Kind::Int, false),
+    (b"D", Kind::Int, false),
+];
+
+// The columns that are told.
+fn columns_of(alloc: Global, told: &[Told]) -> Result<Vec<Column>, Memory> {
+    let mut columns = Vec::new(alloc);
+    for (name, kind, not_null) in told {
+        columns.push(column(name, *kind, *not_null)?)?;
+    }
+    Ok(columns)
+}
+
 /// The table of the catalog, which begins on page 3.
 ///
 /// # Errors
@@ -28,13 +49,7 @@ fn column(name: &[u8], kind: Kind, not_null: bool) -> Result<Column, Memory> {
 pub fn catalog(alloc: Global) -> Result<Table, Memory>
     ensures pointer { IfOk result (λ table. table.pointer.0 ≡ 3) }
 {
-    let mut columns = Vec::new(alloc);
-    columns.push(column(b"K", Kind::Text(40), true)?)?;
-    columns.push(column(b"NAME", Kind::Text(31), false)?)?;
-    columns.push(column(b"A", Kind::Int, false)?)?;
-    columns.push(column(b"B", Kind::Int, false)?)?;
-    columns.push(column(b"C", Kind::Int, false)?)?;
-    columns.push(column(b"D", Kind::Int, false)?)?;
+    let columns = columns_of(alloc, CATALOG_COLUMNS)?;
     table_of(alloc, columns)
 }
 

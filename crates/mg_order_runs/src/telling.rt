@@ -2,7 +2,7 @@
 
 use crate::judging::{Broken, closed_sets, first_broken, stands_alone};
 use crate::laying::{Laid, lay, made, written};
-use crate::links::{Want, wanted_in};
+use crate::links::{Want, Wanted, wanted_in};
 use crate::reading::{Deed, Step, Verb};
 use mg_base::Memory;
 use mg_careful::Order;
@@ -98,38 +98,46 @@ fn put_pages(alloc: Global, laid: &Laid, out: &mut String) -> Result<(), Memory>
 // Tells that all overlays are linked, with all orders.
 fn tell_kept(alloc: Global, laid: &Laid, with_parts: bool, out: &mut String) -> Result<(), Memory> {
     match find_broken(alloc, laid, with_parts, None)? {
-        Some((broken, _)) => {
-            let text = broken_text(alloc, laid, &broken)?;
-            put_line(format!(in alloc; "NOT LINKED: {text}")?.as_str(), out)
-        }
-        None => {
-            let count = closed_sets(alloc, laid)?;
-            put_line(
-                format!(in alloc;
-                    "{count} closed sets, and the overlay of each is linked"
-                )?.as_str(),
-                out,
-            )
-        }
+        Some((text, _)) => put_line(format!(in alloc; "NOT LINKED: {text}")?.as_str(), out),
+        None => tell_count(alloc, closed_sets(alloc, laid)?, out),
     }
 }
 
-// The first closed set whose overlay is not linked, and whether a root leads there.
+// Tells how many sets are closed.
+fn tell_count(alloc: Global, count: usize, out: &mut String) -> Result<(), Memory> {
+    let line = format!(in alloc; "{count} closed sets, and the overlay of each is linked")?;
+    put_line(line.as_str(), out)
+}
+
+// What the first closed set lacks whose overlay is not linked, and whether a root leads there.
 fn find_broken(
     alloc: Global,
     laid: &Laid,
     with_parts: bool,
     without: Option<usize>,
-) -> Result<Option<(Broken, bool)>, Memory> {
-    if let Some(broken) = first_broken(alloc, laid, None, without)? {
-        return Ok(Some((broken, true)));
+) -> Result<Option<(String, bool)>, Memory> {
+    if let Some(text) = broken_from(alloc, laid, None, without)? {
+        return Ok(Some((text, true)));
     }
     if !with_parts {
         return Ok(None);
     }
     let wanted = wanted_in(alloc, laid)?;
-    match first_broken(alloc, laid, Some(&wanted), without)? {
-        Some(broken) => Ok(Some((broken, false))),
+    match broken_from(alloc, laid, Some(&wanted), without)? {
+        Some(text) => Ok(Some((text, false))),
+        None => Ok(None),
+    }
+}
+
+// What the first closed set lacks whose overlay is not linked, from the roots or from these wants.
+fn broken_from(
+    alloc: Global,
+    laid: &Laid,
+    wanted: Option<&Wanted>,
+    without: Option<usize>,
+) -> Result<Option<String>, Memory> {
+    match first_broken(alloc, laid, wanted, without)? {
+        Some(broken) => Ok(Some(broken_text(alloc, laid, &broken)?)),
         None => Ok(None),
     }
 }
@@ -143,20 +151,28 @@ fn tell_order(
     order: Order,
     out: &mut String,
 ) -> Result<(), Memory> {
-    let (first, later) = (order.first, order.later);
-    out.push_str(format!(in alloc; "{first} before {later}: ")?.as_str())?;
+    put_order(alloc, order, out)?;
     match find_broken(alloc, laid, with_parts, Some(at))? {
-        Some((broken, rooted)) => {
-            let text = broken_text(alloc, laid, &broken)?;
-            let end = if rooted {
-                ""
-            } else {
-                ", and no root leads there yet"
-            };
-            put_line(format!(in alloc; "else {text}{end}")?.as_str(), out)
-        }
+        Some((text, rooted)) => put_else(alloc, text.as_str(), rooted, out),
         None => put_line("no link needs it", out),
     }
+}
+
+// Writes which page comes before which.
+fn put_order(alloc: Global, order: Order, out: &mut String) -> Result<(), Memory> {
+    let (first, later) = (order.first, order.later);
+    out.push_str(format!(in alloc; "{first} before {later}: ")?.as_str())?;
+    Ok(())
+}
+
+// Writes what a crash may leave.
+fn put_else(alloc: Global, text: &str, rooted: bool, out: &mut String) -> Result<(), Memory> {
+    let end = if rooted {
+        ""
+    } else {
+        ", and no root leads there yet"
+    };
+    put_line(format!(in alloc; "else {text}{end}")?.as_str(), out)
 }
 
 // What an overlay lacks.

@@ -3,6 +3,8 @@
 mod appended;
 mod base;
 mod broken;
+mod bytes;
+mod cases;
 mod format;
 mod header;
 mod node;

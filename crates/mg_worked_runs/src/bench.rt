@@ -10,7 +10,7 @@ use std::alloc::Global;
 const SINK_ROOM: u32 = 1 << 20;
 
 /// How a disk is made.
-#[derive(Clone, Copy, Debug, PartialEq, Eq)]
+#[derive(Clone, Copy)]
 pub struct Frame {
     /// The page size, in bytes.
     pub size: u32,
@@ -41,7 +41,7 @@ pub struct Bench {
 }
 
 /// What goes wrong with the disk in a run.
-#[derive(Clone, Copy, Debug, PartialEq, Eq)]
+#[derive(Clone, Copy)]
 pub enum Mishap {
     Nothing,
     /// The run is given `--stop` with this number.
@@ -134,6 +134,16 @@ impl Bench {
         })
     }
 
+    /// Takes a blank disk in the place of this one.
+    ///
+    /// # Errors
+    ///
+    /// `Memory` only.
+    pub fn renew(&mut self, alloc: Global, frame: Frame) -> Result<(), Memory> {
+        *self = Bench::new(alloc, frame)?;
+        Ok(())
+    }
+
     /// The same disk once more.
     ///
     /// # Errors
@@ -208,16 +218,18 @@ impl Bench {
     ///
     /// `Memory` only.
     pub fn cut(&mut self, alloc: Global, pages: u32, bytes: u32) -> Result<(), Memory> {
+        let last = front_of(alloc, &mut self.disk, pages, bytes as usize)?;
         let mut copy = copy_of(alloc, &mut self.disk, self.frame, pages)?;
-        if let Some(mut last) = read_page(alloc, &mut self.disk, pages)? {
-            let kept = (bytes as usize).min(last.len());
-            for at in kept..last.len() {
-                last[at] = 0;
-            }
+        if let Some(last) = last {
             write_page(&mut copy, pages, &last);
         }
-        self.disk = copy;
+        self.keep(copy);
         Ok(())
+    }
+
+    // Takes a disk in the place of this one.
+    fn keep(&mut self, disk: MemDisk) {
+        self.disk = disk;
     }
 
     /// Calls the program on the disk, with the words of a line `$ run DB ..`.
@@ -232,26 +244,73 @@ impl Bench {
         script: &str,
         mishap: Mishap,
     ) -> Result<Said, Memory> {
-        let alloc = rt.alloc();
         let bad = (self.bad_take, self.bad_put);
-        let disk = copy_of(alloc, &mut self.disk, self.frame, u32::MAX)?;
+        let words = command(rt.alloc(), line, mishap)?;
+        let disk = copy_of(rt.alloc(), &mut self.disk, self.frame, u32::MAX)?;
         let before = disk.writes();
-        let words = command(alloc, line, mishap)?;
-        let (said, disk) = match mishap {
-            Mishap::Fail(call) => {
-                let faulty = FaultyDisk::new(disk, vec![in alloc; call]?);
-                let (said, faulty) = call_program(rt, &words, faulty, script, bad)?;
-                (said, faulty.into_inner())
-            }
-            Mishap::Nothing | Mishap::Stop(_) => call_program(rt, &words, disk, script, bad)?,
-        };
+        let (said, disk) = call_on(rt, &words, disk, script, mishap, bad)?;
         let obeyed = disk.writes().saturating_sub(before);
         self.written = self.written.saturating_add(obeyed);
-        self.disk = disk;
+        self.keep(disk);
         self.bad_take = 0;
         self.bad_put = 0;
         Ok(said)
     }
+}
+
+/// Ends a bench: here alone its end is written out.
+pub fn let_go(_bench: Bench) {}
+
+// A page of a disk, if it has that page, with zeros behind so many bytes.
+fn front_of(
+    alloc: Global,
+    disk: &mut MemDisk,
+    page: u32,
+    count: usize,
+) -> Result<Option<Vec<u8>>, Memory> {
+    match read_page(alloc, disk, page)? {
+        Some(mut bytes) => {
+            clear_from(&mut bytes, count);
+            Ok(Some(bytes))
+        }
+        None => Ok(None),
+    }
+}
+
+// Makes all bytes from a place on 0.
+fn clear_from(bytes: &mut [u8], count: usize) {
+    for at in count..bytes.len() {
+        bytes[at] = 0;
+    }
+}
+
+// Calls the program on a disk with which this goes wrong.
+fn call_on(
+    rt: &HostRuntime,
+    words: &[String],
+    disk: MemDisk,
+    script: &str,
+    mishap: Mishap,
+    bad: (u32, u32),
+) -> Result<(Said, MemDisk), Memory> {
+    match mishap {
+        Mishap::Fail(call) => call_on_faulty(rt, words, disk, script, call, bad),
+        Mishap::Nothing | Mishap::Stop(_) => call_program(rt, words, disk, script, bad),
+    }
+}
+
+// Calls the program on a disk of which this call fails.
+fn call_on_faulty(
+    rt: &HostRuntime,
+    words: &[String],
+    disk: MemDisk,
+    script: &str,
+    call: u32,
+    bad: (u32, u32),
+) -> Result<(Said, MemDisk), Memory> {
+    let faulty = FaultyDisk::new(disk, bad_calls(rt.alloc(), call)?);
+    let (said, faulty) = call_program(rt, words, faulty, script, bad)?;
+    Ok((said, faulty.into_inner()))
 }
 
 // The words of a call: the program's name, then those of the line.
@@ -276,6 +335,43 @@ fn bad_calls(alloc: Global, call: u32) -> Result<Vec<u32>, Memory> {
     Ok(calls)
 }
 
+// A source of a script in which this call fails.
+fn new_source(alloc: Global, script: &str, bad: u32) -> Result<MemSource, Memory> {
+    let calls = bad_calls(alloc, bad)?;
+    Ok(MemSource::new(Vec::from_slice(alloc, script.as_bytes())?, calls))
+}
+
+// A sink in which this call fails.
+fn new_sink(alloc: Global, bad: u32) -> Result<MemSink, Memory> {
+    MemSink::new(alloc, SINK_ROOM, bad_calls(alloc, bad)?)
+}
+
+// What a sink was given.
+fn printed_in(alloc: Global, sink: &MemSink) -> Result<String, Memory> {
+    match String::from_utf8(Vec::from_slice(alloc, sink.bytes())?) {
+        Ok(text) => Ok(text),
+        Err(_) => Ok(String::from_str(alloc, "no text\n")?),
+    }
+}
+
+// Calls the program, and tells its status. What the call promises ends here: nothing below needs it.
+fn call<D: CountsWrites + Drop + Send + 'static>(
+    rt: &HostRuntime,
+    words: &[String],
+    disk: D,
+    source: &mut MemSource,
+    sink: &mut MemSink,
+) -> Result<(u8, D), Memory> {
+    let rt = rt.clone()?;
+    let shelf = Shelf {
+        first: disk,
+        second: None,
+    };
+    let (status, shelf) = mgdb(rt, words, shelf, source, sink);
+    let Shelf { first, second: _ } = shelf;
+    Ok((status.0, first))
+}
+
 // Calls the program over streams in memory.
 fn call_program<D: CountsWrites + Drop + Send + 'static>(
     rt: &HostRuntime,
@@ -284,25 +380,9 @@ fn call_program<D: CountsWrites + Drop + Send + 'static>(
     script: &str,
     bad: (u32, u32),
 ) -> Result<(Said, D), Memory> {
-    let alloc = rt.alloc();
-    let script = Vec::from_slice(alloc, script.as_bytes())?;
-    let mut source = MemSource::new(script, bad_calls(alloc, bad.0)?);
-    let mut sink = MemSink::new(alloc, SINK_ROOM, bad_calls(alloc, bad.1)?)?;
-    let shelf = Shelf {
-        first: disk,
-        second: None,
-    };
-    let (status, shelf) = mgdb(rt.clone()?, words, shelf, &mut source, &mut sink);
-    let Shelf { first, second: _ } = shelf;
-    let printed = match String::from_utf8(Vec::from_slice(alloc, sink.bytes())?) {
-        Ok(text) => text,
-        Err(_) => String::from_str(alloc, "no text\n")?,
-    };
-    Ok((
-        Said {
-            status: status.0,
-            printed,
-        },
-        first,
-    ))
+    let mut source = new_source(rt.alloc(), script, bad.0)?;
+    let mut sink = new_sink(rt.alloc(), bad.1)?;
+    let (status, disk) = call(rt, words, disk, &mut source, &mut sink)?;
+    let printed = printed_in(rt.alloc(), &sink)?;
+    Ok((Said { status, printed }, disk))
 }

@@ -5,7 +5,7 @@ use mg_decimal::unsigned;
 use std::alloc::Global;
 
 /// What a step does.
-#[derive(Clone, Copy, Debug, PartialEq, Eq)]
+#[derive(Clone, Copy, PartialEq, Eq)]
 pub enum Verb {
     Heading,
     Prose,
@@ -96,14 +96,19 @@ fn add_line(alloc: Global, steps: &mut Vec<Step>, line: &str) -> Result<(), Memo
         return add_step(alloc, steps, line, Verb::Run, [0, 0, 0]);
     }
     if line.starts_with("% ") {
-        let words = words_of(alloc, line)?;
-        let (verb, numbers) = read_verb(&words);
-        return add_step(alloc, steps, line, verb, numbers);
+        return add_deed(alloc, steps, line);
     }
     if add_to_script(steps, line)? || line.is_empty() {
         return Ok(());
     }
     add_step(alloc, steps, line, Verb::Prose, [0, 0, 0])
+}
+
+// Adds the step of a line that begins with `%`.
+fn add_deed(alloc: Global, steps: &mut Vec<Step>, line: &str) -> Result<(), Memory> {
+    let words = words_of(alloc, line)?;
+    let (verb, numbers) = read_verb(&words);
+    add_step(alloc, steps, line, verb, numbers)
 }
 
 // Adds a step without a script.
@@ -143,10 +148,30 @@ fn add_lines(alloc: Global, steps: &mut Vec<Step>, line: &str) -> Result<(), Mem
     };
     for number in from..to.saturating_add(1) {
         let filler = format!(in alloc; "{number}")?;
-        let filled = filled_in(alloc, pattern, filler.as_str())?;
-        add_to_script(steps, filled.as_str())?;
+        add_filled(alloc, steps, pattern, filler.as_str())?;
     }
     Ok(())
+}
+
+// Adds a line of a script with a text in the place of each `#`.
+fn add_filled(
+    alloc: Global,
+    steps: &mut Vec<Step>,
+    pattern: &str,
+    filler: &str,
+) -> Result<(), Memory> {
+    let filled = filled_in(alloc, pattern, filler)?;
+    add_to_script(steps, filled.as_str())?;
+    Ok(())
+}
+
+// A text so many times.
+fn repeated(alloc: Global, text: &str, count: u32) -> Result<String, Memory> {
+    let mut filler = String::new(alloc);
+    for _ in 0..count {
+        filler.push_str(text)?;
+    }
+    Ok(filler)
 }
 
 // Adds a line of a script with a text that is repeated.
@@ -154,13 +179,8 @@ fn add_many(alloc: Global, steps: &mut Vec<Step>, line: &str) -> Result<(), Memo
     let Some((count, text, pattern)) = read_many(line) else {
         return add_step(alloc, steps, line, Verb::Unknown, [0, 0, 0]);
     };
-    let mut filler = String::new(alloc);
-    for _ in 0..count {
-        filler.push_str(text)?;
-    }
-    let filled = filled_in(alloc, pattern, filler.as_str())?;
-    add_to_script(steps, filled.as_str())?;
-    Ok(())
+    let filler = repeated(alloc, text, count)?;
+    add_filled(alloc, steps, pattern, filler.as_str())
 }
 
 // A number and what stands behind it and one blank.

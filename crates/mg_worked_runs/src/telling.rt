@@ -1,6 +1,6 @@
 //! The transcript of steps.
 
-use crate::bench::{Bench, Frame, Mishap, Said};
+use crate::bench::{Bench, Frame, Mishap, Said, let_go};
 use crate::reading::{Step, Verb};
 use crate::trials::try_block;
 use mg_base::Memory;
@@ -18,27 +18,55 @@ const LINES_KEPT: usize = 3;
 ///
 /// `Memory` only.
 pub fn tell_all(rt: &HostRuntime, steps: &[Step]) -> Result<String, Memory> {
-    let alloc = rt.alloc();
-    let mut out = String::new(alloc);
-    let mut bench = Bench::new(alloc, Frame::USUAL)?;
+    let mut out = String::new(rt.alloc());
+    let mut bench = Bench::new(rt.alloc(), Frame::USUAL)?;
+    let told = tell_each(rt, &mut bench, steps, &mut out);
+    let_go(bench);
+    told?;
+    Ok(out)
+}
+
+// Does all steps, and writes what came.
+fn tell_each(
+    rt: &HostRuntime,
+    bench: &mut Bench,
+    steps: &[Step],
+    out: &mut String,
+) -> Result<(), Memory> {
     // Where the block begins in which the step is.
     let mut block = None;
     for (at, step) in steps.iter().enumerate() {
-        put_head(step, at, &mut out)?;
-        block = match block {
-            Some(begun) if step.verb == Verb::End => {
-                try_block(rt, &mut bench, steps.get(begun..at), &mut out)?;
-                None
-            }
-            Some(begun) => Some(begun),
-            None if is_block(step.verb) => Some(at),
-            None => {
-                tell_step(rt, &mut bench, step, &mut out)?;
-                None
-            }
-        };
+        put_head(step, at, out)?;
+        block = tell_next(rt, bench, steps, at, block, out)?;
     }
-    Ok(out)
+    Ok(())
+}
+
+// Does the step at a place, or the block that it ends, and tells where the block begins in which the
+// next step is.
+fn tell_next(
+    rt: &HostRuntime,
+    bench: &mut Bench,
+    steps: &[Step],
+    at: usize,
+    block: Option<usize>,
+    out: &mut String,
+) -> Result<Option<usize>, Memory> {
+    let Some(step) = steps.get(at) else {
+        return Ok(None);
+    };
+    match block {
+        Some(begun) if step.verb == Verb::End => {
+            try_block(rt, bench, steps.get(begun..at), out)?;
+            Ok(None)
+        }
+        Some(begun) => Ok(Some(begun)),
+        None if is_block(step.verb) => Ok(Some(at)),
+        None => {
+            tell_step(rt, bench, step, out)?;
+            Ok(None)
+        }
+    }
 }
 
 // Whether a step begins a block.
@@ -65,45 +93,84 @@ pub fn tell_step(
     step: &Step,
     out: &mut String,
 ) -> Result<(), Memory> {
-    let alloc = rt.alloc();
-    let [a, b, c] = step.numbers;
     match step.verb {
-        Verb::Heading => *bench = Bench::new(alloc, Frame::USUAL)?,
-        Verb::Disk => {
-            *bench = Bench::new(
-                alloc,
-                Frame {
-                    size: a,
-                    pages: b,
-                    writes: c,
-                },
-            )?;
+        Verb::Prose => Ok(()),
+        Verb::Run => tell_run(rt, bench, step, out),
+        Verb::Writes | Verb::Pages | Verb::Byte => tell_disk(rt.alloc(), bench, step, out),
+        Verb::Set => tell_set(rt.alloc(), bench, step.numbers, out),
+        Verb::Unknown | Verb::Stops | Verb::Fails | Verb::End => put_line("no such line", out),
+        Verb::Heading | Verb::Disk | Verb::Zero | Verb::Cut | Verb::Take | Verb::Put => {
+            change(rt.alloc(), bench, step.verb, step.numbers)
         }
-        Verb::Run => {
-            let said = bench.run(
-                rt,
-                step.text.as_str(),
-                step.script.as_str(),
-                Mishap::Nothing,
-            )?;
-            put_said(alloc, &said, out)?;
-        }
-        Verb::Writes => put_count(alloc, bench.take_written(), " page writes", out)?,
-        Verb::Pages => put_count(alloc, bench.pages() as usize, " pages", out)?,
-        Verb::Byte => put_byte(alloc, bench.byte(alloc, a, b)?, out)?,
-        Verb::Set => {
-            if !bench.set(alloc, a, b, c)? {
-                put_line("no such byte", out)?;
-            }
-        }
-        Verb::Zero => bench.zero(alloc, a)?,
-        Verb::Cut => bench.cut(alloc, a, b)?,
-        Verb::Take => bench.bad_take = a,
-        Verb::Put => bench.bad_put = a,
-        Verb::Prose => {}
-        Verb::Unknown | Verb::Stops | Verb::Fails | Verb::End => put_line("no such line", out)?,
     }
-    Ok(())
+}
+
+// Runs the program, and writes what it printed.
+fn tell_run(
+    rt: &HostRuntime,
+    bench: &mut Bench,
+    step: &Step,
+    out: &mut String,
+) -> Result<(), Memory> {
+    let (line, script) = (step.text.as_str(), step.script.as_str());
+    let said = bench.run(rt, line, script, Mishap::Nothing)?;
+    put_said(rt.alloc(), &said, out)
+}
+
+// Writes what is asked of the disk.
+fn tell_disk(
+    alloc: Global,
+    bench: &mut Bench,
+    step: &Step,
+    out: &mut String,
+) -> Result<(), Memory> {
+    let [a, b, _] = step.numbers;
+    match step.verb {
+        Verb::Writes => put_count(alloc, bench.take_written(), " page writes", out),
+        Verb::Pages => put_count(alloc, bench.pages() as usize, " pages", out),
+        _ => put_byte(alloc, bench.byte(alloc, a, b)?, out),
+    }
+}
+
+// Sets a byte, or writes that it is not there.
+fn tell_set(
+    alloc: Global,
+    bench: &mut Bench,
+    numbers: [u32; 3],
+    out: &mut String,
+) -> Result<(), Memory> {
+    let [page, at, value] = numbers;
+    if bench.set(alloc, page, at, value)? {
+        return Ok(());
+    }
+    put_line("no such byte", out)
+}
+
+// Changes the disk, or what is asked of the next run on it.
+fn change(alloc: Global, bench: &mut Bench, verb: Verb, numbers: [u32; 3]) -> Result<(), Memory> {
+    let [a, b, c] = numbers;
+    match verb {
+        Verb::Disk => bench.renew(alloc, frame_of(a, b, c)),
+        Verb::Zero => bench.zero(alloc, a),
+        Verb::Cut => bench.cut(alloc, a, b),
+        Verb::Take => {
+            bench.bad_take = a;
+            Ok(())
+        }
+        Verb::Put => {
+            bench.bad_put = a;
+            Ok(())
+        }
+        _ => bench.renew(alloc, Frame::USUAL),
+    }
+}
+
+fn frame_of(size: u32, pages: u32, writes: u32) -> Frame {
+    Frame {
+        size,
+        pages,
+        writes,
+    }
 }
 
 // Writes a number and what it counts.

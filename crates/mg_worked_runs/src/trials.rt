@@ -1,6 +1,6 @@
 //! Blocks: the same runs once for each place at which something goes wrong.
 
-use crate::bench::{Bench, Mishap, Said};
+use crate::bench::{Bench, Mishap, Said, let_go};
 use crate::reading::{Step, Verb};
 use crate::telling::{put_line, put_status, tell_step};
 use mg_base::Memory;
@@ -29,19 +29,22 @@ pub fn try_block(
     let Some((head, steps)) = block.unwrap_or(&[]).split_first() else {
         return Ok(());
     };
-    let alloc = rt.alloc();
     let [from, to, _] = head.numbers;
-    let mut row = None;
+    let mut rows = Vec::new(rt.alloc());
     for number in from..to.saturating_add(1) {
-        let mishap = if head.verb == Verb::Stops {
-            Mishap::Stop(number)
-        } else {
-            Mishap::Fail(number)
-        };
-        let told = try_once(rt, bench, steps, mishap)?;
-        row = Some(add_row(alloc, row, number, told, out)?);
+        let told = try_once(rt, bench, steps, mishap_of(head.verb, number))?;
+        add_row(&mut rows, number, told)?;
     }
-    put_row(alloc, row, out)
+    put_rows(rt.alloc(), &rows, out)
+}
+
+// What goes wrong in the trial with a number.
+fn mishap_of(verb: Verb, number: u32) -> Mishap {
+    if verb == Verb::Stops {
+        Mishap::Stop(number)
+    } else {
+        Mishap::Fail(number)
+    }
 }
 
 // Does the steps of a block on a copy of the disk. The first run has the mishap.
@@ -51,20 +54,44 @@ fn try_once(
     steps: &[Step],
     mishap: Mishap,
 ) -> Result<String, Memory> {
-    let alloc = rt.alloc();
-    let mut copy = bench.copy(alloc)?;
-    let mut told = String::new(alloc);
+    let mut told = String::new(rt.alloc());
+    let mut copy = bench.copy(rt.alloc())?;
+    let tried = try_on(rt, &mut copy, steps, mishap, &mut told);
+    let_go(copy);
+    tried?;
+    Ok(told)
+}
+
+// Does the steps of a block. The first run has the mishap.
+fn try_on(
+    rt: &HostRuntime,
+    bench: &mut Bench,
+    steps: &[Step],
+    mishap: Mishap,
+    told: &mut String,
+) -> Result<(), Memory> {
     let mut met = false;
     for step in steps {
         if !met && step.verb == Verb::Run {
             met = true;
-            let said = copy.run(rt, step.text.as_str(), step.script.as_str(), mishap)?;
-            put_last(alloc, &said, &mut told)?;
+            run_with(rt, bench, step, mishap, told)?;
         } else {
-            tell_step(rt, &mut copy, step, &mut told)?;
+            tell_step(rt, bench, step, told)?;
         }
     }
-    Ok(told)
+    Ok(())
+}
+
+// Runs the program with a mishap, and writes the last line.
+fn run_with(
+    rt: &HostRuntime,
+    bench: &mut Bench,
+    step: &Step,
+    mishap: Mishap,
+    told: &mut String,
+) -> Result<(), Memory> {
+    let said = bench.run(rt, step.text.as_str(), step.script.as_str(), mishap)?;
+    put_last(rt.alloc(), &said, told)
 }
 
 // Writes the last line that a run printed, and its status.
@@ -79,41 +106,54 @@ fn put_last(alloc: Global, said: &Said, out: &mut String) -> Result<(), Memory> 
     put_status(alloc, said.status, out)
 }
 
-// The row that goes on with this number. Where the answers are others, the one before it is written.
-fn add_row(
-    alloc: Global,
-    row: Option<Row>,
-    number: u32,
-    told: String,
-    out: &mut String,
-) -> Result<Row, Memory> {
-    let from = match &row {
-        Some(row) if row.told == told => row.from,
-        _ => number,
-    };
-    if from == number {
-        put_row(alloc, row, out)?;
+// Adds the answers to a number: to the last row, where they are the same, or as a row of their own.
+fn add_row(rows: &mut Vec<Row>, number: u32, told: String) -> Result<(), Memory> {
+    if goes_on(rows, number, told.as_str()) {
+        return Ok(());
     }
-    Ok(Row {
-        from,
+    rows.push(Row {
+        from: number,
         to: number,
         told,
-    })
+    })?;
+    Ok(())
 }
 
-// Writes a row: the numbers, and their answers in one line.
-fn put_row(alloc: Global, row: Option<Row>, out: &mut String) -> Result<(), Memory> {
-    let Some(row) = row else {
-        return Ok(());
+// Tells whether the last row has these answers, and takes the number into it then.
+fn goes_on(rows: &mut Vec<Row>, number: u32, told: &str) -> bool {
+    let Some(row) = rows.last_mut() else {
+        return false;
     };
-    let (from, to) = (row.from, row.to);
+    if row.told.as_str() != told {
+        return false;
+    }
+    row.to = number;
+    true
+}
+
+// Writes rows: the numbers of each, and their answers in one line.
+fn put_rows(alloc: Global, rows: &[Row], out: &mut String) -> Result<(), Memory> {
+    for row in rows {
+        put_numbers(alloc, row.from, row.to, out)?;
+        put_answers(row.told.as_str(), out)?;
+    }
+    Ok(())
+}
+
+// Writes the numbers of a row.
+fn put_numbers(alloc: Global, from: u32, to: u32, out: &mut String) -> Result<(), Memory> {
     let numbers = if from == to {
         format!(in alloc; "{from}:")?
     } else {
         format!(in alloc; "{from} to {to}:")?
     };
     out.push_str(numbers.as_str())?;
-    for (at, line) in row.told.as_str().split('\n').enumerate() {
+    Ok(())
+}
+
+// Writes the lines of answers as one.
+fn put_answers(told: &str, out: &mut String) -> Result<(), Memory> {
+    for (at, line) in told.split('\n').enumerate() {
         if !line.is_empty() {
             out.push_str(if at == 0 { " " } else { " / " })?;
             out.push_str(line)?;

@@ -1,8 +1,10 @@
 //! What no clause shows: that calls succeed with ample memory.
 
+use super::bytes::has_bytes;
+use super::cases::{Case, hold_each};
 use mg_base::{
-    Damaged, Disk, FaultyDisk, Field, Fused, Geometry, MemDisk, MemSink, MemSource, Memory, OWN_AT,
-    PageNo, Sink, Source, get_u16, get_u32, new_common, put_u16,
+    Damaged, Disk, FaultyDisk, Field, Geometry, MemDisk, MemSink, MemSource, OWN_AT, PageNo, Sink,
+    Source, get_u16, get_u32, new_common, put_u16,
 };
 use std::alloc::Global;
 use std::process::Abort;
@@ -23,29 +25,34 @@ fn new_page() -> [u8; 24] {
 #[test]
 fn a_page_begins_with_its_common_part(rt: HostRuntime) {
     let mut page = new_page();
-    assert_eq!(rt; page.as_slice(), FRONT.as_slice());
-    assert_eq!(rt; get_u32(&page, OWN_AT), 0x0102_0304);
+    assert!(rt; has_bytes(&page, 0, &FRONT));
+    assert!(rt; get_u32(&page, OWN_AT) == 0x0102_0304);
     put_u16(&mut page, 16, 0xfffe);
-    assert_eq!(rt; get_u16(&page, 16), 0xfffe);
+    assert!(rt; get_u16(&page, 16) == 0xfffe);
 }
 
 /// A page size, a limit, and whether a database may have them.
-const GEOMETRIES: &[(u32, u32, bool)] = &[
-    (1024, 16, true),
-    (16384, 131_072, true),
-    (4096, 15, false),
-    (4096, 131_073, false),
-    (4095, 16, false),
-    (0, 16, false),
-    (32768, 16, false),
+struct Measured(u32, u32, bool);
+
+impl Case for Measured {
+    fn holds(&self, _alloc: Global) -> Result<bool, Fail> {
+        Ok(Geometry::new(self.0, self.1).is_some() == self.2)
+    }
+}
+
+const GEOMETRIES: &[Measured] = &[
+    Measured(1024, 16, true),
+    Measured(16384, 131_072, true),
+    Measured(4096, 15, false),
+    Measured(4096, 131_073, false),
+    Measured(4095, 16, false),
+    Measured(0, 16, false),
+    Measured(32768, 16, false),
 ];
 
 #[test]
-fn a_geometry_has_one_of_five_sizes_and_a_limit_in_its_range(rt: HostRuntime) {
-    for (size, limit, lawful) in GEOMETRIES {
-        let found = Geometry::new(*size, *limit).is_some();
-        assert_eq!(rt; found, *lawful, "at {size}, {limit}");
-    }
+fn a_geometry_has_one_of_five_sizes_and_a_limit_in_its_range(rt: HostRuntime) -> Result<(), Fail> {
+    hold_each(&rt, rt.alloc(), GEOMETRIES)
 }
 
 #[test]
@@ -130,127 +137,139 @@ fn does_each<D: Disk>(rt: &impl Abort, disk: &mut D, calls: &[Call]) {
 }
 
 /// A disk in memory with room for three pages, and for the record of so many writes.
-fn new_disk(alloc: Global, writes: u32) -> Result<MemDisk, Memory> {
-    MemDisk::new(alloc, 1024, 3, writes)
+fn new_disk(alloc: Global, writes: u32) -> Result<MemDisk, Fail> {
+    Ok(MemDisk::new(alloc, 1024, 3, writes)?)
 }
+
+/// How many writes a disk has recorded.
+fn writes_of(disk: &MemDisk) -> usize {
+    disk.writes()
+}
+
+const ROOM_OF_TWO: &[Call] = &[
+    Call::Put(3, 1, false),
+    Call::Put(2, 1, true),
+    Call::Settle(true),
+    Call::Put(0, 2, true),
+    Call::Put(0, 3, false),
+    Call::Get(0, Some(2)),
+    Call::Get(1, Some(0)),
+    Call::Get(2, Some(1)),
+    Call::Get(3, None),
+];
 
 #[test]
 fn a_disk_in_memory_has_room_for_its_pages_and_its_record(rt: HostRuntime) -> Result<(), Fail> {
     let mut disk = new_disk(rt.alloc(), 2)?;
-    let calls = [
-        Call::Put(3, 1, false),
-        Call::Put(2, 1, true),
-        Call::Settle(true),
-        Call::Put(0, 2, true),
-        Call::Put(0, 3, false),
-        Call::Get(0, Some(2)),
-        Call::Get(1, Some(0)),
-        Call::Get(2, Some(1)),
-        Call::Get(3, None),
-    ];
-    does_each(&rt, &mut disk, &calls);
-    assert_eq!(rt; disk.writes(), 2);
+    does_each(&rt, &mut disk, ROOM_OF_TWO);
+    assert!(rt; writes_of(&disk) == 2);
     Ok(())
 }
 
 /// The disk after its first write, with room for the record of one more.
-fn after_first(rt: &impl Abort, alloc: Global, disk: &MemDisk) -> Result<MemDisk, Memory> {
-    assert_eq!(rt; disk.writes(), 2);
-    disk.after(alloc, 1, 1)
+fn after_first(alloc: Global, disk: &MemDisk) -> Result<MemDisk, Fail> {
+    if disk.writes() != 2 {
+        return Err("two writes")?;
+    }
+    Ok(disk.after(alloc, 1, 1)?)
 }
+
+const TWO_WRITES: &[Call] = &[Call::Put(0, 1, true), Call::Put(1, 2, true)];
+
+const ONE_WRITE: &[Call] = &[
+    Call::Pages(1),
+    Call::Get(0, Some(1)),
+    Call::Put(2, 3, true),
+    Call::Get(1, Some(0)),
+    Call::Put(2, 3, false),
+];
 
 #[test]
 fn a_disk_after_its_first_write_has_that_write_alone(rt: HostRuntime) -> Result<(), Fail> {
     let mut disk = new_disk(rt.alloc(), 4)?;
-    does_each(
-        &rt,
-        &mut disk,
-        &[Call::Put(0, 1, true), Call::Put(1, 2, true)],
-    );
-    let mut before = after_first(&rt, rt.alloc(), &disk)?;
-    let calls = [
-        Call::Pages(1),
-        Call::Get(0, Some(1)),
-        Call::Put(2, 3, true),
-        Call::Get(1, Some(0)),
-        Call::Put(2, 3, false),
-    ];
-    does_each(&rt, &mut before, &calls);
+    does_each(&rt, &mut disk, TWO_WRITES);
+    let mut before = after_first(rt.alloc(), &disk)?;
+    does_each(&rt, &mut before, ONE_WRITE);
     Ok(())
 }
 
-#[test]
-fn a_fuse_passes_so_many_page_writes_and_no_more(rt: HostRuntime) -> Result<(), Fail> {
-    let mut disk = Fused::new(new_disk(rt.alloc(), 9)?, 2);
-    let calls = [
-        Call::Put(0, 1, true),
-        Call::Put(1, 1, true),
-        Call::Put(2, 1, false),
-        Call::Settle(true),
-        Call::Put(2, 1, false),
-    ];
-    does_each(&rt, &mut disk, &calls);
-    assert_eq!(rt; disk.into_inner().writes(), 2);
-    Ok(())
+/// A disk whose calls 2 and 5 fail.
+fn faulty_disk(alloc: Global) -> Result<FaultyDisk, Fail> {
+    let bad = vec![in alloc; 2, 5]?;
+    Ok(FaultyDisk::new(new_disk(alloc, 9)?, bad))
 }
+
+/// How many calls a faulty disk has had, and how many writes are recorded below it.
+fn counts_of(disk: FaultyDisk) -> (u32, usize) {
+    (disk.calls(), disk.into_inner().writes())
+}
+
+const TWO_FAULTS: &[Call] = &[
+    Call::Put(0, 1, false),
+    Call::Put(0, 1, true),
+    Call::Settle(false),
+    Call::Settle(true),
+];
 
 #[test]
 fn the_listed_calls_of_a_faulty_disk_fail(rt: HostRuntime) -> Result<(), Fail> {
-    let bad = vec![in rt.alloc(); 2, 5]?;
-    let mut disk = FaultyDisk::new(new_disk(rt.alloc(), 9)?, bad);
-    let calls = [
-        Call::Put(0, 1, false),
-        Call::Put(0, 1, true),
-        Call::Settle(false),
-        Call::Settle(true),
-    ];
-    does_each(&rt, &mut disk, &calls);
-    assert_eq!(rt; disk.calls(), 6);
-    assert_eq!(rt; disk.into_inner().writes(), 1);
+    let mut disk = faulty_disk(rt.alloc())?;
+    does_each(&rt, &mut disk, TWO_FAULTS);
+    assert!(rt; counts_of(disk) == (6, 1));
     Ok(())
 }
 
-/// Wants each call for three bytes to give these, or to fail where there are none here.
-fn takes_each(rt: &impl Abort, source: &mut MemSource, rows: &[Option<&[u8]>]) {
-    for wanted in rows {
-        let mut piece = [0; 3];
-        match source.take(&mut piece) {
-            Ok(count) => assert_eq!(rt; piece.get(..count), *wanted),
-            Err(_) => assert!(rt; wanted.is_none()),
-        }
+/// A source of five bytes whose second call fails.
+fn new_source(alloc: Global) -> Result<MemSource, Fail> {
+    let bytes = b"hello".to_vec(alloc)?;
+    Ok(MemSource::new(bytes, vec![in alloc; 2]?))
+}
+
+/// Tells whether a call for three bytes gives these, or fails where there are none here.
+fn takes(source: &mut MemSource, wanted: Option<&[u8]>) -> bool {
+    let mut piece = [0; 3];
+    match source.take(&mut piece) {
+        Ok(count) => piece.get(..count) == wanted,
+        Err(_) => wanted.is_none(),
     }
 }
+
+const TAKEN: &[Option<&[u8]>] = &[Some(b"hel"), None, Some(b"lo"), Some(b"")];
 
 #[test]
 fn a_source_in_memory_gives_its_bytes(rt: HostRuntime) -> Result<(), Fail> {
-    let bytes = b"hello".to_vec(rt.alloc())?;
-    let mut source = MemSource::new(bytes, vec![in rt.alloc(); 2]?);
-    takes_each(
-        &rt,
-        &mut source,
-        &[Some(b"hel"), None, Some(b"lo"), Some(b"")],
-    );
+    let mut source = new_source(rt.alloc())?;
+    for wanted in TAKEN {
+        assert!(rt; takes(&mut source, *wanted));
+    }
     Ok(())
 }
 
-/// Wants each piece to be taken, or refused.
-fn puts_each(rt: &impl Abort, sink: &mut MemSink, rows: &[(&[u8], bool)]) {
-    for (place, (piece, taken)) in rows.iter().enumerate() {
-        assert_eq!(rt; sink.put(piece).is_ok(), *taken, "piece {place}");
-    }
+/// A sink with room for six bytes, whose third call fails.
+fn new_sink(alloc: Global) -> Result<MemSink, Fail> {
+    Ok(MemSink::new(alloc, 6, vec![in alloc; 3]?)?)
 }
+
+/// Tells whether a sink takes a piece.
+fn puts(sink: &mut MemSink, piece: &[u8]) -> bool {
+    sink.put(piece).is_ok()
+}
+
+/// Pieces, and whether each is taken.
+const PIECES: &[(&[u8], bool)] = &[
+    (b"hel", true),
+    (b"lo", true),
+    (b"!", false),
+    (b"..", false),
+    (b"!", true),
+];
 
 #[test]
 fn a_sink_in_memory_takes_the_bytes_that_it_has_room_for(rt: HostRuntime) -> Result<(), Fail> {
-    let mut sink = MemSink::new(rt.alloc(), 6, vec![in rt.alloc(); 3]?)?;
-    let rows: [(&[u8], bool); 5] = [
-        (b"hel", true),
-        (b"lo", true),
-        (b"!", false),
-        (b"..", false),
-        (b"!", true),
-    ];
-    puts_each(&rt, &mut sink, &rows);
-    assert_eq!(rt; sink.bytes(), b"hello!".as_slice());
+    let mut sink = new_sink(rt.alloc())?;
+    for (piece, taken) in PIECES {
+        assert!(rt; puts(&mut sink, piece) == *taken);
+    }
+    assert!(rt; sink.bytes() == b"hello!".as_slice());
     Ok(())
 }

@@ -1,5 +1,6 @@
 //! Pages that are broken byte by byte, and the field that is told then.
 
+use super::bytes::put_byte;
 use mg_base::{Damaged, Field, PageNo};
 use mg_pip::check_pip;
 use mg_pointer::check_pointer;
@@ -35,11 +36,20 @@ pub fn check(kind: Kind, page: &[u8; 1024]) -> Result<(), Damaged> {
     }
 }
 
-/// Puts a byte at its place of a page.
-pub fn put_byte(page: &mut [u8; 1024], at: usize, byte: u8) {
-    if let Some(cell) = page.get_mut(at) {
-        *cell = byte;
-    }
+/// Tells whether a page of a kind is lawful.
+pub fn is_lawful(kind: Kind, page: &[u8; 1024]) -> bool {
+    check(kind, page).is_ok()
+}
+
+/// Tells whether a page is damaged at a field.
+fn is_damaged(kind: Kind, page: &[u8; 1024], field: Field, found: u64, wanted: u64) -> bool {
+    let damage = Damaged {
+        page: number_of(kind),
+        field,
+        found,
+        wanted,
+    };
+    check(kind, page) == Err(damage)
 }
 
 /// Wants a page to be damaged as each row says, with the bytes of the rows before it in it. So the
@@ -47,12 +57,9 @@ pub fn put_byte(page: &mut [u8; 1024], at: usize, byte: u8) {
 pub fn tells_each(rt: &impl Abort, kind: Kind, page: &mut [u8; 1024], rows: &[Broken]) {
     for (at, byte, field, found, wanted) in rows {
         put_byte(page, *at, *byte);
-        let damage = Damaged {
-            page: number_of(kind),
-            field: *field,
-            found: *found,
-            wanted: *wanted,
-        };
-        assert_eq!(rt; check(kind, page), Err(damage), "byte {at}");
+        assert!(rt;
+            is_damaged(kind, page, *field, *found, *wanted),
+            "byte {at}"
+        );
     }
 }

@@ -5,6 +5,7 @@ ghost use Rattle.mg_pool.specs.Pool.{IsPool};
 ghost use Rattle.mg_format.specs.Format.{IsClean};
 ghost use Rattle.mg_space.specs.Taking.{IsGeometry};
 
+use super::bytes::has_bytes;
 use mg_base::{Disk, Geometry, MemDisk, Memory, PageNo};
 use mg_format::format_database;
 use mg_pool::Pool;
@@ -33,8 +34,10 @@ fn store_over<D: Disk + Drop>(alloc: Global, disk: D) -> Result<Store<D>, Memory
 /// The disk of a new database.
 fn new_database(alloc: Global) -> Result<MemDisk, Fail> {
     let mut store = store_over(alloc, MemDisk::new(alloc, 4096, 8, 16)?)?;
-    format_database(&mut store)?;
-    Ok(store.into_disk())
+    let formatted = format_database(&mut store);
+    let disk = store.into_disk();
+    formatted?;
+    Ok(disk)
 }
 
 /// The bytes of a page of a disk.
@@ -53,9 +56,9 @@ fn bytes_of<D: Disk>(disk: &mut D, page: u32) -> Option<[u8; 4096]> {
 }
 
 /// Tells whether a page of a disk has these bytes from a place on.
-fn has_bytes<D: Disk>(disk: &mut D, page: u32, at: usize, wanted: &[u8]) -> bool {
+fn has_page_bytes<D: Disk>(disk: &mut D, page: u32, at: usize, wanted: &[u8]) -> bool {
     match bytes_of(disk, page) {
-        Some(bytes) => at <= 4096 && bytes[at..].starts_with(wanted),
+        Some(bytes) => has_bytes(&bytes, at, wanted),
         None => false,
     }
 }
@@ -78,14 +81,14 @@ const FIRST_BYTES: &[(u32, usize, &[u8])] = &[
 /// Wants a disk to have the bytes of each row.
 fn has_each<D: Disk>(rt: &impl Abort, disk: &mut D, rows: &[(u32, usize, &[u8])]) {
     for (page, at, wanted) in rows {
-        assert!(rt; has_bytes(disk, *page, *at, wanted), "page {page}");
+        assert!(rt; has_page_bytes(disk, *page, *at, wanted), "page {page}");
     }
 }
 
 #[test]
 fn a_new_database_has_its_header_last(rt: HostRuntime) -> Result<(), Fail> {
     let mut disk = new_database(rt.alloc())?;
-    assert_eq!(rt; disk.writes(), 7);
+    assert!(rt; disk.writes() == 7);
     has_each(&rt, &mut disk, FIRST_BYTES);
     Ok(())
 }

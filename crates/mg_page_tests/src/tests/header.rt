@@ -1,10 +1,11 @@
 //! Header pages, byte by byte.
 
-use super::broken::put_byte;
+use super::bytes::{has_bytes, is_zero_from, put_byte};
+use super::cases::{Case, hold_each};
 use mg_base::{Damaged, Field, PageNo, TxNo, new_common};
 use mg_header::{HEADER_KIND, HeadFault, Header, open_header, read_header, write_header};
-use std::process::Abort;
-use std::test::*;
+use std::alloc::Global;
+use std::test::Fail;
 
 /// The fields of a new database with pages of 4,096 bytes.
 const NEW_DATABASE: [u8; 40] = [
@@ -30,22 +31,12 @@ fn header(minor: u16, numbers: Numbers) -> Header {
     }
 }
 
-/// Writes a header into a page of 1024 bytes.
-fn write(page: &mut [u8; 1024], header: &Header) {
-    write_header(page, header);
-}
-
 /// The header page of a header, with 1024 bytes.
 fn page_of(header: &Header) -> [u8; 1024] {
     let mut page = [0u8; 1024];
     new_common(&mut page, PageNo(0), HEADER_KIND, 0, 0);
-    write(&mut page, header);
+    write_header(&mut page, header);
     page
-}
-
-/// What is read of a page of 1024 bytes.
-fn read(page: &[u8; 1024]) -> Result<Header, HeadFault> {
-    read_header(page, 1024)
 }
 
 /// The header page of a header, with 4096 bytes.
@@ -60,18 +51,18 @@ fn large_page_of(header: &Header) -> [u8; 4096] {
 fn a_new_header_has_the_bytes_of_the_format(rt: HostRuntime) {
     let new = header(0, (1, 1, 1, 1));
     let page = large_page_of(&new);
-    assert_eq!(rt; &page[16..56], NEW_DATABASE.as_slice());
-    assert_eq!(rt; page[56..].iter().filter(|byte| **byte != 0).count(), 0);
-    assert_eq!(rt; read_header(&page, 4096), Ok(new));
+    assert!(rt; has_bytes(&page, 16, &NEW_DATABASE));
+    assert!(rt; is_zero_from(&page, 56));
+    assert!(rt; read_header(&page, 4096) == Ok(new));
 }
 
 #[test]
 fn the_second_minor_version_is_read_and_not_opened(rt: HostRuntime) {
     let second = header(1, (900, 17, 40, 30));
     let page = page_of(&second);
-    assert_eq!(rt; read(&page), Ok(second));
+    assert!(rt; read_header(&page, 1024) == Ok(second));
     let fault = fault_of(Field::Minor, 1, None);
-    assert_eq!(rt; open_header(&page, 1024), Err(fault));
+    assert!(rt; open_header(&page, 1024) == Err(fault));
 }
 
 /// The fault of a field: damage, or that the file is no database where nothing is wanted there.
@@ -87,30 +78,40 @@ fn fault_of(field: Field, found: u64, wanted: Option<u64>) -> HeadFault {
     }
 }
 
+/// Tells whether a page is refused for a field.
+fn is_refused(page: &[u8; 1024], field: Field, found: u64, wanted: Option<u64>) -> bool {
+    read_header(page, 1024) == Err(fault_of(field, found, wanted))
+}
+
 /// Numbers of which one is out of order; the field that is told, that number and the wanted one.
-const UNORDERED: &[(Numbers, Field, u64, u64)] = &[
-    ((0, 1, 1, 1), Field::Next, 0, 1),
-    (
+struct Unordered(Numbers, Field, u64, u64);
+
+impl Case for Unordered {
+    fn holds(&self, _alloc: Global) -> Result<bool, Fail> {
+        let page = page_of(&header(0, self.0));
+        Ok(is_refused(&page, self.1, self.2, Some(self.3)))
+    }
+}
+
+const UNORDERED: &[Unordered] = &[
+    Unordered((0, 1, 1, 1), Field::Next, 0, 1),
+    Unordered(
         (1_000_000_001, 1, 1, 1),
         Field::Next,
         1_000_000_001,
         1_000_000_000,
     ),
-    ((7, 0, 1, 1), Field::Oit, 0, 1),
-    ((7, 8, 7, 7), Field::Oit, 8, 7),
-    ((7, 4, 3, 4), Field::Oat, 3, 4),
-    ((7, 4, 8, 4), Field::Oat, 8, 7),
-    ((7, 4, 6, 3), Field::Ost, 3, 4),
-    ((7, 4, 6, 7), Field::Ost, 7, 6),
+    Unordered((7, 0, 1, 1), Field::Oit, 0, 1),
+    Unordered((7, 8, 7, 7), Field::Oit, 8, 7),
+    Unordered((7, 4, 3, 4), Field::Oat, 3, 4),
+    Unordered((7, 4, 8, 4), Field::Oat, 8, 7),
+    Unordered((7, 4, 6, 3), Field::Ost, 3, 4),
+    Unordered((7, 4, 6, 7), Field::Ost, 7, 6),
 ];
 
 #[test]
-fn a_number_out_of_order_is_named_with_the_nearest_lawful_one(rt: HostRuntime) {
-    for (numbers, field, found, wanted) in UNORDERED {
-        let fault = fault_of(*field, *found, Some(*wanted));
-        let page = page_of(&header(0, *numbers));
-        assert_eq!(rt; read(&page), Err(fault), "found {found}");
-    }
+fn a_number_out_of_order_is_named_with_the_nearest_lawful_one(rt: HostRuntime) -> Result<(), Fail> {
+    hold_each(&rt, rt.alloc(), UNORDERED)
 }
 
 /// A byte that is put at a place; then the field that is told, and the numbers found and wanted:
@@ -135,7 +136,6 @@ fn the_first_field_that_differs_is_named(rt: HostRuntime) {
     let mut page = page_of(&header(0, (1, 1, 1, 1)));
     for (at, byte, field, found, wanted) in BROKEN {
         put_byte(&mut page, *at, *byte);
-        let fault = fault_of(*field, *found, *wanted);
-        assert_eq!(rt; read(&page), Err(fault), "byte {at}");
+        assert!(rt; is_refused(&page, *field, *found, *wanted), "byte {at}");
     }
 }

@@ -1,9 +1,9 @@
 //! Pages of 1024 bytes made by hand: what is read of them, and which ones are refused.
 
+use super::cases::{Case, hold_each};
 use mg_base::{Damaged, Field, PageNo, new_common};
 use mg_node::{Entry, NODE_KIND, Node, check_node, read_node};
 use std::alloc::Global;
-use std::process::Abort;
 use std::test::Fail;
 
 const SIZE: usize = 1024;
@@ -80,14 +80,25 @@ fn put_fence(fence: &Option<Entry>, out: &mut Vec<u8>) -> Result<(), Fail> {
 }
 
 // The bytes of a lawful page behind the common part, and what is read of it.
-const LAWFUL: &[(&[u8], &[u8])] = &[
+struct Lawful(&'static [u8], &'static [u8]);
+
+impl Case for Lawful {
+    fn holds(&self, alloc: Global) -> Result<bool, Fail> {
+        match read_of(alloc, self.0)? {
+            Some(read) => Ok(read.as_slice() == self.1),
+            None => Ok(false),
+        }
+    }
+}
+
+const LAWFUL: &[Lawful] = &[
     // An empty leaf.
-    (
+    Lawful(
         &[0, 0, 0, 0, 0, 0, 0, 0, 28, 0, 0, 0],
         &[0, 0, 0, 0, 0, 0, 255, 255],
     ),
     // A leaf with two entries, the second one ending at 28 + 9 + 10.
-    (
+    Lawful(
         &[
             0, 0, 2, 0, 0, 0, 0, 0, 47, 0, 0, 0, 1, 0, 7, 6, 0, 0, 0, 1, 0, 2, 0, 7, 7, 6, 0, 0, 0,
             0, 0,
@@ -95,7 +106,7 @@ const LAWFUL: &[(&[u8], &[u8])] = &[
         &[0, 0, 0, 0, 0, 0, 255, 255, 1, 7, 6, 1, 0, 2, 7, 7, 6, 0, 0],
     ),
     // A leaf with both fences, a right neighbour and an entry equal to its low fence.
-    (
+    Lawful(
         &[
             0, 0, 1, 0, 9, 0, 0, 0, 55, 0, 3, 0, 1, 0, 7, 6, 0, 0, 0, 1, 0, 1, 0, 8, 0, 0, 0, 0, 0,
             0, 1, 0, 7, 6, 0, 0, 0, 1, 0,
@@ -105,7 +116,7 @@ const LAWFUL: &[(&[u8], &[u8])] = &[
         ],
     ),
     // An inner page without a low fence, with two children.
-    (
+    Lawful(
         &[
             1, 0, 2, 0, 0, 0, 0, 0, 53, 0, 0, 0, 0, 0, 0, 0, 0, 0, 0, 0, 8, 0, 0, 0, 1, 0, 7, 6, 0,
             0, 0, 1, 0, 9, 0, 0, 0,
@@ -116,75 +127,76 @@ const LAWFUL: &[(&[u8], &[u8])] = &[
 
 #[test]
 fn what_lawful_pages_say(rt: HostRuntime) -> Result<(), Fail> {
-    for (fields, wanted) in LAWFUL {
-        let read = read_of(rt.alloc(), fields)?.ok_or("the page is lawful")?;
-        assert_eq!(&rt; read.as_slice(), *wanted);
-    }
-    Ok(())
+    hold_each(&rt, rt.alloc(), LAWFUL)
 }
 
-const UNLAWFUL: &[(&str, &[u8])] = &[
-    (
-        "the end is not the last entry's",
-        &[0, 0, 0, 0, 0, 0, 0, 0, 29, 0, 0, 0],
-    ),
-    (
-        "two equal entries",
+// The bytes of a page, and whether it is lawful.
+struct Judged(&'static [u8], bool);
+
+impl Case for Judged {
+    fn holds(&self, alloc: Global) -> Result<bool, Fail> {
+        Ok(read_of(alloc, self.0)?.is_some() == self.1)
+    }
+}
+
+const UNLAWFUL: &[Judged] = &[
+    // The end is not the last entry's.
+    Judged(&[0, 0, 0, 0, 0, 0, 0, 0, 29, 0, 0, 0], false),
+    // Two equal entries.
+    Judged(
         &[
             0, 0, 2, 0, 0, 0, 0, 0, 46, 0, 0, 0, 1, 0, 7, 6, 0, 0, 0, 1, 0, 1, 0, 7, 6, 0, 0, 0, 1,
             0,
         ],
+        false,
     ),
-    (
-        "an entry below the low fence",
+    // An entry below the low fence.
+    Judged(
         &[
             0, 0, 1, 0, 0, 0, 0, 0, 46, 0, 1, 0, 1, 0, 7, 6, 0, 0, 0, 1, 0, 1, 0, 7, 6, 0, 0, 0, 0,
             0,
         ],
+        false,
     ),
-    (
-        "an entry equal to the high fence",
+    // An entry equal to the high fence.
+    Judged(
         &[
             0, 0, 1, 0, 0, 0, 0, 0, 46, 0, 2, 0, 1, 0, 7, 6, 0, 0, 0, 1, 0, 1, 0, 7, 6, 0, 0, 0, 1,
             0,
         ],
+        false,
     ),
-    (
-        "an inner page begins with another entry than the least one",
+    // An inner page begins with another entry than the least one.
+    Judged(
         &[
             1, 0, 1, 0, 0, 0, 0, 0, 40, 0, 0, 0, 0, 0, 0, 0, 0, 0, 1, 0, 8, 0, 0, 0,
         ],
+        false,
     ),
-    (
-        "an inner page begins with another entry than its low fence",
+    // An inner page begins with another entry than its low fence.
+    Judged(
         &[
             1, 0, 1, 0, 0, 0, 0, 0, 50, 0, 1, 0, 1, 0, 7, 6, 0, 0, 0, 1, 0, 1, 0, 7, 6, 0, 0, 0, 2,
             0, 8, 0, 0, 0,
         ],
+        false,
     ),
-    (
-        "the key has 129 bytes",
-        &[0, 0, 1, 0, 0, 0, 0, 0, 165, 0, 0, 0, 129, 0],
-    ),
-    (
-        "more entries than there is room for",
-        &[0, 0, 255, 255, 0, 0, 0, 0, 36, 0, 0, 0],
-    ),
+    // The key has 129 bytes.
+    Judged(&[0, 0, 1, 0, 0, 0, 0, 0, 165, 0, 0, 0, 129, 0], false),
+    // More entries than there is room for.
+    Judged(&[0, 0, 255, 255, 0, 0, 0, 0, 36, 0, 0, 0], false),
 ];
 
 #[test]
 fn what_no_lawful_page_says(rt: HostRuntime) -> Result<(), Fail> {
-    for (case, fields) in UNLAWFUL {
-        assert!(&rt; read_of(rt.alloc(), fields)?.is_none(), "{case}");
-    }
-    Ok(())
+    hold_each(&rt, rt.alloc(), UNLAWFUL)
 }
+
+const LONGEST: &[Judged] = &[Judged(&[0, 0, 1, 0, 0, 0, 0, 0, 164, 0, 0, 0, 128, 0], true)];
 
 #[test]
 fn the_longest_key_has_an_eighth_of_the_page(rt: HostRuntime) -> Result<(), Fail> {
-    let read = read_of(rt.alloc(), &[0, 0, 1, 0, 0, 0, 0, 0, 164, 0, 0, 0, 128, 0])?;
-    assert!(&rt; read.is_some());
-    Ok(())
+    hold_each(&rt, rt.alloc(), LONGEST)
 }
 
 // What the test of page 9 of an owner answers, where these bytes stand behind the common part.
@@ -193,9 +205,23 @@ fn check_of(fields: &[u8], owner: u32) -> Result<(), Damaged> {
 }
 
 // The bytes of a page, and the field that is told of it, with the numbers found and wanted.
-const DAMAGED: &[(&[u8], Field, u64, u64)] = &[
+struct Broken(&'static [u8], Field, u64, u64);
+
+impl Case for Broken {
+    fn holds(&self, _alloc: Global) -> Result<bool, Fail> {
+        let damage = Damaged {
+            page: PageNo(9),
+            field: self.1,
+            found: self.2,
+            wanted: self.3,
+        };
+        Ok(check_of(self.0, 5) == Err(damage))
+    }
+}
+
+const DAMAGED: &[Broken] = &[
     // An inner page with one entry; more entries than fit a leaf, and an inner page.
-    (
+    Broken(
         &[
             1, 0, 1, 0, 0, 0, 0, 0, 40, 0, 0, 0, 0, 0, 0, 0, 0, 0, 0, 0, 8, 0, 0, 0,
         ],
@@ -203,32 +229,32 @@ const DAMAGED: &[(&[u8], Field, u64, u64)] = &[
         1,
         2,
     ),
-    (
+    Broken(
         &[0, 0, 255, 255, 0, 0, 0, 0, 28, 0, 0, 0],
         Field::Count,
         65_535,
         124,
     ),
-    (
+    Broken(
         &[1, 0, 84, 0, 0, 0, 0, 0, 28, 0, 0, 0],
         Field::Count,
         84,
         83,
     ),
     // The entries end elsewhere; a key has 129 bytes; an entry equal to the high fence.
-    (
+    Broken(
         &[0, 0, 0, 0, 0, 0, 0, 0, 29, 0, 0, 0],
         Field::Offset,
         29,
         28,
     ),
-    (
+    Broken(
         &[0, 0, 1, 0, 0, 0, 0, 0, 165, 0, 0, 0, 129, 0],
         Field::Offset,
         129,
         128,
     ),
-    (
+    Broken(
         &[
             0, 0, 1, 0, 0, 0, 0, 0, 46, 0, 2, 0, 1, 0, 7, 6, 0, 0, 0, 1, 0, 1, 0, 7, 6, 0, 0, 0, 1,
             0,
@@ -240,16 +266,8 @@ const DAMAGED: &[(&[u8], Field, u64, u64)] = &[
 ];
 
 #[test]
-fn the_first_field_that_differs_is_named(rt: HostRuntime) {
-    for (fields, field, found, wanted) in DAMAGED {
-        let damage = Damaged {
-            page: PageNo(9),
-            field: *field,
-            found: *found,
-            wanted: *wanted,
-        };
-        assert_eq!(&rt; check_of(fields, 5), Err(damage), "found {found}");
-    }
+fn the_first_field_that_differs_is_named(rt: HostRuntime) -> Result<(), Fail> {
+    hold_each(&rt, rt.alloc(), DAMAGED)
 }
 
 // A leaf without entries.
@@ -265,6 +283,6 @@ fn field_of(checked: Result<(), Damaged>) -> Option<Field> {
 
 #[test]
 fn the_common_part_is_tested(rt: HostRuntime) {
-    assert_eq!(&rt; field_of(check_of(EMPTY, 5)), None);
-    assert_eq!(&rt; field_of(check_of(EMPTY, 6)), Some(Field::Owner));
+    assert!(&rt; field_of(check_of(EMPTY, 5)).is_none());
+    assert!(&rt; field_of(check_of(EMPTY, 6)) == Some(Field::Owner));
 }

@@ -1,6 +1,7 @@
 //! Page inventory pages, bit by bit.
 
-use super::broken::{Broken, Kind, check, number_of, tells_each};
+use super::broken::{Broken, Kind, is_lawful, number_of, tells_each};
+use super::bytes::{has_bytes, used_from};
 use mg_base::Field;
 use mg_pip::{first_free, is_used, new_pip, set_used};
 use std::process::Abort;
@@ -15,76 +16,99 @@ fn new_page() -> [u8; 1024] {
     page
 }
 
-/// Sets or clears a bit.
-fn put_bit(rt: &impl Abort, page: &mut [u8; 1024], bit: u32, used: bool) {
-    assert!(rt; bit < BITS);
+/// A call on a page, and what it does.
+#[derive(Clone, Copy)]
+enum Call {
+    /// A bit is set or cleared; the byte that then stands at a place.
+    Put(u32, bool, usize, u8),
+    /// The first bits are set.
+    Front(u32),
+    /// All bits are set.
+    Fill,
+    /// The first free bit below a number.
+    First(u32, Option<u32>),
+}
+
+/// Sets or clears a bit, and tells whether it is so then.
+fn put(page: &mut [u8; 1024], bit: u32, used: bool) -> bool {
+    if bit >= BITS {
+        return false;
+    }
     set_used(page, bit, used);
+    is_used(page, bit) == used
 }
 
-/// Tells whether a bit is set.
-fn has_bit(rt: &impl Abort, page: &[u8; 1024], bit: u32) -> bool {
-    assert!(rt; bit < BITS);
-    is_used(page, bit)
+/// Sets each of the first bits, and tells whether it could.
+fn put_front(page: &mut [u8; 1024], count: u32) -> bool {
+    for bit in 0..count {
+        if !put(page, bit, true) {
+            return false;
+        }
+    }
+    true
 }
 
-/// A bit that is set or cleared, and the byte that then stands at a place.
-type Step = (u32, bool, usize, u8);
+/// Tells whether this bit is the first free one below a number.
+fn is_first(page: &[u8; 1024], below: u32, first: Option<u32>) -> bool {
+    below <= BITS && first_free(page, below) == first
+}
 
-/// Wants each step to do so, one after another.
-fn steps_do(rt: &impl Abort, page: &mut [u8; 1024], steps: &[Step]) {
-    for (bit, used, at, byte) in steps {
-        put_bit(rt, page, *bit, *used);
-        let found = page.get(*at).copied();
-        assert_eq!(rt; found, Some(*byte), "byte {at} after bit {bit}");
-        assert_eq!(rt; has_bit(rt, page, *bit), *used, "bit {bit}");
+/// Makes a call, and tells whether it does what it should.
+fn does(page: &mut [u8; 1024], call: Call) -> bool {
+    match call {
+        Call::Put(bit, used, at, byte) => put(page, bit, used) && has_bytes(page, at, &[byte]),
+        Call::Front(count) => put_front(page, count),
+        Call::Fill => {
+            page[16..].fill(0xff);
+            true
+        }
+        Call::First(below, first) => is_first(page, below, first),
     }
 }
 
-const STEPS: &[Step] = &[
-    (0, true, 16, 0x01),
-    (1, true, 16, 0x03),
-    (7, true, 16, 0x83),
-    (1, false, 16, 0x81),
-    (8, true, 17, 0x01),
-    (8063, true, 1023, 0x80),
+/// Wants each call to do so, one after another.
+fn does_each(rt: &impl Abort, page: &mut [u8; 1024], calls: &[Call]) {
+    for (place, call) in calls.iter().enumerate() {
+        assert!(rt; does(page, *call), "call {place}");
+    }
+}
+
+const ALONE: &[Call] = &[
+    Call::Put(0, true, 16, 0x01),
+    Call::Put(1, true, 16, 0x03),
+    Call::Put(7, true, 16, 0x83),
+    Call::Put(1, false, 16, 0x81),
+    Call::Put(8, true, 17, 0x01),
+    Call::Put(8063, true, 1023, 0x80),
 ];
 
 #[test]
 fn a_bit_is_set_and_cleared_alone(rt: HostRuntime) {
     let mut page = new_page();
-    steps_do(&rt, &mut page, STEPS);
-    let used = page[16..].iter().filter(|byte| **byte != 0).count();
-    assert_eq!(rt; used, 3, "bytes with a used bit");
-    assert_eq!(rt; check(Kind::Inventory, &page), Ok(()));
+    does_each(&rt, &mut page, ALONE);
+    assert!(rt; used_from(&page, 16) == 3, "bytes with a used bit");
+    assert!(rt; is_lawful(Kind::Inventory, &page));
 }
 
-/// Sets each of the first bits.
-fn set_front(rt: &impl Abort, page: &mut [u8; 1024], count: u32) {
-    for bit in 0..count {
-        put_bit(rt, page, bit, true);
-    }
-}
-
-/// Wants the first free bit below each number to be this one.
-fn are_first(rt: &impl Abort, page: &[u8; 1024], rows: &[(u32, Option<u32>)]) {
-    for (below, first) in rows {
-        assert!(rt; *below <= BITS);
-        assert_eq!(rt; first_free(page, *below), *first, "below {below}");
-    }
-}
+const FIRST: &[Call] = &[
+    Call::First(0, None),
+    Call::First(1, Some(0)),
+    Call::Front(20),
+    Call::First(20, None),
+    Call::First(21, Some(20)),
+    Call::First(8064, Some(20)),
+    Call::Put(9, false, 17, 0xfd),
+    Call::First(8064, Some(9)),
+    Call::First(9, None),
+    Call::Fill,
+    Call::First(8064, None),
+    Call::Put(8063, false, 1023, 0x7f),
+    Call::First(8064, Some(8063)),
+];
 
 #[test]
 fn the_first_free_bit_is_the_least_clear_one(rt: HostRuntime) {
-    let mut page = new_page();
-    are_first(&rt, &page, &[(0, None), (1, Some(0))]);
-    set_front(&rt, &mut page, 20);
-    are_first(&rt, &page, &[(20, None), (21, Some(20)), (8064, Some(20))]);
-    put_bit(&rt, &mut page, 9, false);
-    are_first(&rt, &page, &[(8064, Some(9)), (9, None)]);
-    page[16..].fill(0xff);
-    are_first(&rt, &page, &[(8064, None)]);
-    put_bit(&rt, &mut page, 8063, false);
-    are_first(&rt, &page, &[(8064, Some(8063))]);
+    does_each(&rt, &mut new_page(), FIRST);
 }
 
 const BROKEN: &[Broken] = &[

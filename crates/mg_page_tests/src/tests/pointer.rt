@@ -2,10 +2,10 @@
 
 ghost use Rattle.mg_pointer.specs.PointerPage.{IsPointerPage};
 
-use super::broken::{Broken, Kind, check, number_of, tells_each};
+use super::broken::{Broken, Kind, is_lawful, number_of, tells_each};
+use super::bytes::has_bytes;
 use mg_base::{Field, PageNo};
 use mg_pointer::{add_entry, entry, new_pointer, next_of, set_next};
-use std::process::Abort;
 use std::test::*;
 
 /// The second pointer page of table 3, without entries.
@@ -17,50 +17,44 @@ fn new_page() -> [u8; 1024]
     page
 }
 
-/// Adds entries from 1000 on, and wants each to find room.
-fn add_many(rt: &impl Abort, page: &mut [u8; 1024], count: u16)
+/// Adds entries from 1000 on until one finds no room, and answers how many found it.
+fn add_many(page: &mut [u8; 1024]) -> u16
     requires { IsPointerPage page.old }
     ensures { IsPointerPage page.new }
 {
-    for place in 0..count {
-        let is_added = add_entry(page, PageNo(1000 + u32::from(place)));
-        assert!(rt; is_added, "place {place}");
+    for place in 0..1000 {
+        if !add_entry(page, PageNo(1000 + u32::from(place))) {
+            return place;
+        }
     }
+    1000
 }
 
-/// Wants these entries at their places.
-fn are_entries(rt: &impl Abort, page: &[u8; 1024], rows: &[(u16, Option<u32>)])
-    requires { IsPointerPage page.now }
-{
-    for (place, wanted) in rows {
-        assert_eq!(rt; entry_of(page, *place), *wanted, "place {place}");
-    }
-}
-
-/// The number of the page that is the entry at a place.
-fn entry_of(page: &[u8; 1024], place: u16) -> Option<u32>
+/// Tells whether this is the number of the page that is the entry at a place.
+fn is_entry(page: &[u8; 1024], place: u16, wanted: Option<u32>) -> bool
     requires { IsPointerPage page.now }
 {
     match entry(page, place) {
-        Some(number) => Some(number.0),
-        None => None,
+        Some(number) => wanted == Some(number.0),
+        None => wanted.is_none(),
     }
+}
+
+/// Tells whether a full page has the entries that were added.
+fn is_full(page: &[u8; 1024]) -> bool
+    requires { IsPointerPage page.now }
+{
+    is_entry(page, 0, Some(1000)) && is_entry(page, 249, Some(1249)) && is_entry(page, 250, None)
 }
 
 #[test]
 fn entries_stand_behind_each_other_until_the_page_is_full(rt: HostRuntime) {
     let mut page = new_page();
-    are_entries(&rt, &page, &[(0, None)]);
-    add_many(&rt, &mut page, 250);
-    assert!(rt; !add_entry(&mut page, PageNo(7)), "a full page");
-    let front = [250, 0, 0, 0, 0xe8, 3, 0, 0];
-    assert_eq!(rt; &page[20..28], front.as_slice());
-    are_entries(
-        &rt,
-        &page,
-        &[(0, Some(1000)), (249, Some(1249)), (250, None)],
-    );
-    assert_eq!(rt; check(Kind::Pointers, &page), Ok(()));
+    assert!(rt; is_entry(&page, 0, None));
+    assert!(rt; add_many(&mut page) == 250);
+    assert!(rt; is_full(&page));
+    assert!(rt; has_bytes(&page, 20, &[250, 0, 0, 0, 0xe8, 3, 0, 0]));
+    assert!(rt; is_lawful(Kind::Pointers, &page));
 }
 
 /// A page with the entry 5, which leads to this page.
@@ -75,12 +69,11 @@ fn page_before(next: u32) -> [u8; 1024]
 
 #[test]
 fn the_next_page_stands_beside_the_entries(rt: HostRuntime) {
-    assert_eq!(rt; next_of(&new_page()), PageNo(0));
+    assert!(rt; next_of(&new_page()) == PageNo(0));
     let page = page_before(131_071);
-    assert_eq!(rt; next_of(&page), PageNo(131_071));
-    let front = [0xff, 0xff, 1, 0, 1, 0, 0, 0, 5, 0, 0, 0];
-    assert_eq!(rt; &page[16..28], front.as_slice());
-    assert_eq!(rt; check(Kind::Pointers, &page), Ok(()));
+    assert!(rt; next_of(&page) == PageNo(131_071));
+    assert!(rt; has_bytes(&page, 16, &[0xff, 0xff, 1, 0, 1, 0, 0, 0, 5, 0, 0, 0]));
+    assert!(rt; is_lawful(Kind::Pointers, &page));
 }
 
 const BROKEN: &[Broken] = &[

@@ -1,95 +1,21 @@
 //! Texts that are packed and unpacked, byte by byte.
 
-use super::appended::{THERE, is_appended};
+use super::appended::{begun, is_appended};
+use super::cases::{Case, hold_each};
 use mg_rle::{RunFault, pack, unpack};
 use std::alloc::Global;
-use std::process::Abort;
 use std::test::Fail;
 
-/// Unpacks a text behind bytes that are there.
-fn unpack_short(rt: &impl Abort, packed: &[u8], out: &mut Vec<u8>) -> Result<(), RunFault> {
-    assert!(rt; packed.len() < 2_147_483_648);
-    unpack(packed, out)
-}
-
-/// Wants `plain` to be packed to `packed`, behind a byte that is there.
-fn is_packed(rt: &impl Abort, alloc: Global, plain: &[u8], packed: &[u8]) -> Result<(), Fail> {
-    let mut out = [THERE].to_vec(alloc)?;
-    assert_eq!(rt; pack(plain, &mut out), Ok(()), "{plain:?}");
-    is_appended(rt, &out, packed);
-    Ok(())
-}
-
-/// Wants `packed` to be unpacked to `plain`, behind a byte that is there.
-fn is_unpacked(rt: &impl Abort, alloc: Global, packed: &[u8], plain: &[u8]) -> Result<(), Fail> {
-    let mut out = [THERE].to_vec(alloc)?;
-    assert_eq!(rt; unpack_short(rt, packed, &mut out), Ok(()), "{packed:?}");
-    is_appended(rt, &out, plain);
-    Ok(())
-}
-
-/// Wants `plain` to be packed to `packed`, and that to be unpacked to `plain` again.
-fn packs_to(rt: &impl Abort, alloc: Global, plain: &[u8], packed: &[u8]) -> Result<(), Fail> {
-    is_packed(rt, alloc, plain, packed)?;
-    is_unpacked(rt, alloc, packed, plain)
-}
-
-/// Wants each text to be packed so, and unpacked again.
-fn pack_to(rt: &impl Abort, alloc: Global, rows: &[(&[u8], &[u8])]) -> Result<(), Fail> {
-    for (plain, packed) in rows {
-        packs_to(rt, alloc, plain, packed)?;
-    }
-    Ok(())
-}
-
-/// Wants so many equal bytes to be packed so, and unpacked again.
-fn equal_pack_to(
-    rt: &impl Abort,
-    alloc: Global,
-    byte: u8,
-    rows: &[(usize, &[u8])],
-) -> Result<(), Fail> {
-    for (count, packed) in rows {
-        let plain = vec![in alloc; byte; *count]?;
-        packs_to(rt, alloc, &plain, packed)?;
-    }
-    Ok(())
-}
-
-#[test]
-fn the_vectors_of_the_format_pack_and_unpack(rt: HostRuntime) -> Result<(), Fail> {
-    let rows: [(&[u8], &[u8]); 2] = [
-        // The row K = 1, V = 10 of a table of two numbers.
-        (
-            &[0, 1, 0, 0, 0, 0, 0, 0, 0, 10, 0, 0, 0, 0, 0, 0, 0],
-            &[2, 0, 1, 0xf9, 0, 1, 10, 0xf9, 0],
-        ),
-        (&[], &[]),
-    ];
-    pack_to(&rt, rt.alloc(), &rows)?;
-    equal_pack_to(
-        &rt,
-        rt.alloc(),
-        0x61,
-        &[(130, &[0x80, 0x61, 2, 0x61, 0x61])],
-    )
-}
-
-/// How many bytes 5, and what they are packed to.
-const FIVES: &[(usize, &[u8])] = &[
-    (1, &[1, 5]),
-    (2, &[2, 5, 5]),
-    (3, &[253, 5]),
-    (127, &[129, 5]),
-    (128, &[128, 5]),
-    (129, &[128, 5, 1, 5]),
-    (131, &[128, 5, 253, 5]),
-    (256, &[128, 5, 128, 5]),
-];
-
-#[test]
-fn equal_bytes_pack_to_repeats_and_literals_of_these_sizes(rt: HostRuntime) -> Result<(), Fail> {
-    equal_pack_to(&rt, rt.alloc(), 5, FIVES)
+/// A text as the tests write it.
+#[derive(Clone, Copy)]
+enum Text {
+    Bytes(&'static [u8]),
+    /// So many bytes of a value.
+    Equal(u8, usize),
+    /// So many bytes of which no two neighbours are equal, each below 2.
+    Alternating(usize),
+    /// A full literal of 127 such bytes, and what is behind it.
+    Full(&'static [u8]),
 }
 
 /// `len` bytes of which no two neighbours are equal, each below 2.
@@ -109,73 +35,150 @@ fn full_literal(alloc: Global, rest: &[u8]) -> Result<Vec<u8>, Fail> {
     Ok(packed)
 }
 
-/// Wants so many bytes to be packed to a full literal and this rest.
-fn fills_literal(rt: &impl Abort, alloc: Global, len: usize, rest: &[u8]) -> Result<(), Fail> {
-    let bytes = alternating(alloc, len)?;
-    let packed = full_literal(alloc, rest)?;
-    packs_to(rt, alloc, &bytes, &packed)
+/// The bytes of a text.
+fn bytes_of(alloc: Global, text: Text) -> Result<Vec<u8>, Fail> {
+    match text {
+        Text::Bytes(bytes) => Ok(bytes.to_vec(alloc)?),
+        Text::Equal(byte, len) => Ok(vec![in alloc; byte; len]?),
+        Text::Alternating(len) => alternating(alloc, len),
+        Text::Full(rest) => full_literal(alloc, rest),
+    }
 }
+
+/// Unpacks a text behind bytes that are there.
+fn unpack_short(packed: &[u8], out: &mut Vec<u8>) -> Result<(), RunFault> {
+    if packed.len() >= 2_147_483_648 {
+        return Err(RunFault::Memory);
+    }
+    unpack(packed, out)
+}
+
+/// Tells whether a text is packed to another, behind a byte that is there.
+fn is_packed(alloc: Global, plain: &[u8], packed: &[u8]) -> Result<bool, Fail> {
+    let mut out = begun(alloc)?;
+    let done = pack(plain, &mut out).is_ok();
+    Ok(done && is_appended(&out, packed))
+}
+
+/// Tells whether a text is unpacked to another, behind a byte that is there.
+fn is_unpacked(alloc: Global, packed: &[u8], plain: &[u8]) -> Result<bool, Fail> {
+    let mut out = begun(alloc)?;
+    let done = unpack_short(packed, &mut out).is_ok();
+    Ok(done && is_appended(&out, plain))
+}
+
+/// A text, and what it is packed to, which is unpacked to it again.
+struct Packed(Text, Text);
+
+impl Case for Packed {
+    fn holds(&self, alloc: Global) -> Result<bool, Fail> {
+        let plain = bytes_of(alloc, self.0)?;
+        let packed = bytes_of(alloc, self.1)?;
+        Ok(is_packed(alloc, &plain, &packed)? && is_unpacked(alloc, &packed, &plain)?)
+    }
+}
+
+const VECTORS: &[Packed] = &[
+    // The row K = 1, V = 10 of a table of two numbers.
+    Packed(
+        Text::Bytes(&[0, 1, 0, 0, 0, 0, 0, 0, 0, 10, 0, 0, 0, 0, 0, 0, 0]),
+        Text::Bytes(&[2, 0, 1, 0xf9, 0, 1, 10, 0xf9, 0]),
+    ),
+    Packed(Text::Bytes(&[]), Text::Bytes(&[])),
+    Packed(
+        Text::Equal(0x61, 130),
+        Text::Bytes(&[0x80, 0x61, 2, 0x61, 0x61]),
+    ),
+];
+
+#[test]
+fn the_vectors_of_the_format_pack_and_unpack(rt: HostRuntime) -> Result<(), Fail> {
+    hold_each(&rt, rt.alloc(), VECTORS)
+}
+
+/// Bytes 5, and what they are packed to.
+const FIVES: &[Packed] = &[
+    Packed(Text::Equal(5, 1), Text::Bytes(&[1, 5])),
+    Packed(Text::Equal(5, 2), Text::Bytes(&[2, 5, 5])),
+    Packed(Text::Equal(5, 3), Text::Bytes(&[253, 5])),
+    Packed(Text::Equal(5, 127), Text::Bytes(&[129, 5])),
+    Packed(Text::Equal(5, 128), Text::Bytes(&[128, 5])),
+    Packed(Text::Equal(5, 129), Text::Bytes(&[128, 5, 1, 5])),
+    Packed(Text::Equal(5, 131), Text::Bytes(&[128, 5, 253, 5])),
+    Packed(Text::Equal(5, 256), Text::Bytes(&[128, 5, 128, 5])),
+];
+
+#[test]
+fn equal_bytes_pack_to_repeats_and_literals_of_these_sizes(rt: HostRuntime) -> Result<(), Fail> {
+    hold_each(&rt, rt.alloc(), FIVES)
+}
+
+const LITERALS: &[Packed] = &[
+    Packed(Text::Alternating(127), Text::Full(&[])),
+    Packed(Text::Alternating(128), Text::Full(&[1, 1])),
+    // Two equal bytes stay in the literal, three leave it.
+    Packed(
+        Text::Bytes(&[1, 2, 2, 3, 4, 4, 4]),
+        Text::Bytes(&[4, 1, 2, 2, 3, 253, 4]),
+    ),
+    Packed(Text::Bytes(&[1, 2, 2, 2, 2]), Text::Bytes(&[1, 1, 252, 2])),
+];
 
 #[test]
 fn a_literal_ends_at_127_bytes_or_before_three_equal_ones(rt: HostRuntime) -> Result<(), Fail> {
-    fills_literal(&rt, rt.alloc(), 127, &[])?;
-    fills_literal(&rt, rt.alloc(), 128, &[1, 1])?;
-    // Two equal bytes stay in the literal, three leave it.
-    let rows: [(&[u8], &[u8]); 2] = [
-        (&[1, 2, 2, 3, 4, 4, 4], &[4, 1, 2, 2, 3, 253, 4]),
-        (&[1, 2, 2, 2, 2], &[1, 1, 252, 2]),
-    ];
-    pack_to(&rt, rt.alloc(), &rows)
+    hold_each(&rt, rt.alloc(), LITERALS)
 }
 
-/// Wants `packed` to be refused at `at`, with the output as before.
-fn is_refused(rt: &impl Abort, alloc: Global, packed: &[u8], at: u32) -> Result<(), Fail> {
-    let mut out = [THERE, 8].to_vec(alloc)?;
-    let fault = RunFault::BadRun { at };
-    assert_eq!(rt;
-        unpack_short(rt, packed, &mut out),
-        Err(fault),
-        "{packed:?}"
-    );
-    is_appended(rt, &out, &[8]);
-    Ok(())
+/// Tells whether a text is refused at a place, with the output as before.
+fn is_refused(alloc: Global, packed: &[u8], at: u32) -> Result<bool, Fail> {
+    let mut out = begun(alloc)?;
+    let fault = unpack_short(packed, &mut out).err();
+    Ok(fault == Some(RunFault::BadRun { at }) && is_appended(&out, &[]))
 }
 
-/// Texts that are refused, and where.
-const REFUSED: &[(&[u8], u32)] = &[
+/// A text that is refused, and where.
+struct Refused(Text, u32);
+
+impl Case for Refused {
+    fn holds(&self, alloc: Global) -> Result<bool, Fail> {
+        let packed = bytes_of(alloc, self.0)?;
+        is_refused(alloc, &packed, self.1)
+    }
+}
+
+const REFUSED: &[Refused] = &[
     // The vectors of the format: a repeat of two, and a literal behind one that could go on.
-    (&[0xfe, 0x61], 0),
-    (&[2, 0x61, 0x62, 1, 0x63], 3),
+    Refused(Text::Bytes(&[0xfe, 0x61]), 0),
+    Refused(Text::Bytes(&[2, 0x61, 0x62, 1, 0x63]), 3),
     // Control bytes 0 and 255, and runs that are cut short.
-    (&[1, 5, 0], 2),
-    (&[1, 5, 255, 5], 2),
-    (&[253, 1, 2, 5], 2),
-    (&[1, 1, 253], 2),
+    Refused(Text::Bytes(&[1, 5, 0]), 2),
+    Refused(Text::Bytes(&[1, 5, 255, 5]), 2),
+    Refused(Text::Bytes(&[253, 1, 2, 5]), 2),
+    Refused(Text::Bytes(&[1, 1, 253]), 2),
     // Three equal bytes in a literal, and across its end.
-    (&[253, 1, 3, 5, 5, 5], 2),
-    (&[1, 5, 253, 5], 2),
+    Refused(Text::Bytes(&[253, 1, 3, 5, 5, 5]), 2),
+    Refused(Text::Bytes(&[1, 5, 253, 5]), 2),
     // A repeat that could go on before its byte.
-    (&[253, 5, 1, 5], 2),
-    (&[253, 5, 253, 5], 2),
+    Refused(Text::Bytes(&[253, 5, 1, 5]), 2),
+    Refused(Text::Bytes(&[253, 5, 253, 5]), 2),
 ];
 
 #[test]
 fn other_texts_are_refused_at_the_first_run_that_breaks_the_rule(
     rt: HostRuntime,
 ) -> Result<(), Fail> {
-    for (packed, at) in REFUSED {
-        is_refused(&rt, rt.alloc(), packed, *at)?;
-    }
-    Ok(())
+    hold_each(&rt, rt.alloc(), REFUSED)
 }
+
+/// The literal ends in 0; the next one goes on with two more, or with one before a repeat.
+const BEHIND_FULL: &[Refused] = &[
+    Refused(Text::Full(&[3, 0, 0, 1]), 128),
+    Refused(Text::Full(&[1, 0, 253, 0]), 130),
+];
 
 #[test]
 fn three_equal_bytes_may_not_begin_in_a_full_literal(rt: HostRuntime) -> Result<(), Fail> {
-    // The literal ends in 0; the next one goes on with two more, or with one before a repeat.
-    for (rest, at) in [([3, 0, 0, 1], 128), ([1, 0, 253, 0], 130)] {
-        is_refused(&rt, rt.alloc(), &full_literal(rt.alloc(), &rest)?, at)?;
-    }
-    Ok(())
+    hold_each(&rt, rt.alloc(), BEHIND_FULL)
 }
 
 #[test]

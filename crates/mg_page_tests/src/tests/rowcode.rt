@@ -1,11 +1,11 @@
 //! Rows and the bytes that they are stored as.
 
-use super::appended::{THERE, is_appended};
+use super::appended::{begun, is_appended};
+use super::cases::{Case, hold_each};
 use super::values::{Said, Told, row_of, shape_of};
 use mg_rowcode::{RowFault, decode_row, encode_row};
 use mg_value::{Kind, MOST_COLUMNS, Row, Shape, print, row_fits};
 use std::alloc::Global;
-use std::process::Abort;
 use std::test::Fail;
 
 /// Two numbers, the first one not NULL.
@@ -29,152 +29,143 @@ fn printed(alloc: Global, row: &Row) -> Result<Vec<u8>, Fail> {
     Ok(out)
 }
 
-/// Appends what a row is stored as.
-fn store(rt: &impl Abort, s: &Shape, row: &Row, out: &mut Vec<u8>) -> Result<(), Fail> {
-    assert!(rt; row_fits(s, row));
-    encode_row(s, row, out)?;
-    Ok(())
-}
-
 /// The row that these bytes are read as.
-fn read(
-    rt: &impl Abort,
-    alloc: Global,
-    s: &Shape,
-    format: u16,
-    packed: &[u8],
-) -> Result<Row, RowFault> {
-    assert!(rt; s.columns.as_slice().len() <= MOST_COLUMNS && packed.len() < 2_147_483_648);
+fn read(alloc: Global, s: &Shape, format: u16, packed: &[u8]) -> Result<Row, RowFault> {
+    if s.columns.as_slice().len() > MOST_COLUMNS || packed.len() >= 2_147_483_648 {
+        return Err(RowFault::Memory);
+    }
     decode_row(alloc, s, format, packed)
 }
 
-/// Wants a row to be stored so, behind a byte that is there.
-fn is_stored(
-    rt: &impl Abort,
-    alloc: Global,
-    s: &Shape,
-    row: &Row,
-    packed: &[u8],
-) -> Result<(), Fail> {
-    let mut out = [THERE].to_vec(alloc)?;
-    store(rt, s, row, &mut out)?;
-    is_appended(rt, &out, packed);
-    Ok(())
+/// Tells whether a row is stored so, behind a byte that is there.
+fn is_stored(alloc: Global, s: &Shape, row: &Row, packed: &[u8]) -> Result<bool, Fail> {
+    if !row_fits(s, row) {
+        return Ok(false);
+    }
+    let mut out = begun(alloc)?;
+    encode_row(s, row, &mut out)?;
+    Ok(is_appended(&out, packed))
 }
 
 /// What the row that is read of these bytes prints.
-fn text_of(
-    rt: &impl Abort,
-    alloc: Global,
-    s: &Shape,
-    format: u16,
-    packed: &[u8],
-) -> Result<Vec<u8>, Fail> {
-    let row = read(rt, alloc, s, format, packed)?;
+fn text_of(alloc: Global, s: &Shape, format: u16, packed: &[u8]) -> Result<Vec<u8>, Fail> {
+    let row = read(alloc, s, format, packed)?;
     printed(alloc, &row)
 }
 
-/// Wants a row of these columns to be stored so, and to be read again.
-fn is_stored_as(
-    rt: &impl Abort,
-    alloc: Global,
-    s: &Shape,
-    format: u16,
-    row: &Row,
-    packed: &[u8],
-) -> Result<(), Fail> {
-    is_stored(rt, alloc, s, row, packed)?;
-    let again = text_of(rt, alloc, s, format, packed)?;
-    assert_eq!(rt; again.as_slice(), printed(alloc, row)?.as_slice());
-    Ok(())
+/// Columns, a format, a row, and the bytes that it is stored as.
+struct Stored(&'static [Told], u16, &'static [Said], &'static [u8]);
+
+/// Tells whether a row is stored so, and read again.
+fn is_case(alloc: Global, s: &Shape, row: &Row, case: &Stored) -> Result<bool, Fail> {
+    let again = text_of(alloc, s, case.1, case.3)?;
+    let is_again = again.as_slice() == printed(alloc, row)?.as_slice();
+    Ok(is_again && is_stored(alloc, s, row, case.3)?)
 }
 
-/// A row, and the bytes that it is stored as.
-type Stored = (&'static [Said], &'static [u8]);
-
-/// Wants the rows of a table to be stored so in a format, and to be read again.
-fn are_stored_as(
-    rt: &impl Abort,
-    alloc: Global,
-    s: &Shape,
-    format: u16,
-    rows: &[Stored],
-) -> Result<(), Fail> {
-    for (said, packed) in rows {
-        let row = row_of(alloc, said)?;
-        is_stored_as(rt, alloc, s, format, &row, packed)?;
+impl Case for Stored {
+    fn holds(&self, alloc: Global) -> Result<bool, Fail> {
+        let shape = shape_of(alloc, self.0)?;
+        let row = row_of(alloc, self.2)?;
+        is_case(alloc, &shape, &row, self)
     }
-    Ok(())
 }
+
+const VECTORS: &[Stored] = &[
+    Stored(
+        KV,
+        1,
+        &[Said::Int(1), Said::Int(10)],
+        &[2, 0, 1, 0xf9, 0, 1, 10, 0xf9, 0],
+    ),
+    // NULL is bit 1 of the first byte, and eight zeros; -1 is eight bytes 255.
+    Stored(
+        KV,
+        1,
+        &[Said::Int(-1), Said::Null],
+        &[1, 2, 0xf8, 0xff, 0xf8, 0],
+    ),
+];
 
 #[test]
 fn the_vector_of_the_format_is_a_row_of_kv(rt: HostRuntime) -> Result<(), Fail> {
-    let rows: [Stored; 2] = [
-        (
-            &[Said::Int(1), Said::Int(10)],
-            &[2, 0, 1, 0xf9, 0, 1, 10, 0xf9, 0],
-        ),
-        // NULL is bit 1 of the first byte, and eight zeros; -1 is eight bytes 255.
-        (&[Said::Int(-1), Said::Null], &[1, 2, 0xf8, 0xff, 0xf8, 0]),
-    ];
-    are_stored_as(&rt, rt.alloc(), &shape_of(rt.alloc(), KV)?, 1, &rows)
+    hold_each(&rt, rt.alloc(), VECTORS)
 }
+
+/// 00 | 02 00 61 62 00 | eight zeros
+const TEXT: &[Stored] = &[Stored(
+    TEXTS,
+    2,
+    &[Said::Text(b"ab"), Said::Int(0)],
+    &[5, 0, 2, 0, 0x61, 0x62, 0xf7, 0],
+)];
 
 #[test]
 fn a_text_has_its_length_before_it_and_zeros_behind_it(rt: HostRuntime) -> Result<(), Fail> {
-    // 00 | 02 00 61 62 00 | eight zeros
-    let rows: [Stored; 1] = [(
-        &[Said::Text(b"ab"), Said::Int(0)],
-        &[5, 0, 2, 0, 0x61, 0x62, 0xf7, 0],
-    )];
-    are_stored_as(&rt, rt.alloc(), &shape_of(rt.alloc(), TEXTS)?, 2, &rows)
+    hold_each(&rt, rt.alloc(), TEXT)
 }
+
+/// ff 01 | 72 zeros
+const NULLS: &[Stored] = &[Stored(NINE, 1, &[Said::Null; 9], &[2, 0xff, 1, 0xb8, 0])];
 
 #[test]
 fn nine_columns_have_two_bytes_of_bits(rt: HostRuntime) -> Result<(), Fail> {
-    // ff 01 | 72 zeros
-    let rows: [Stored; 1] = [(&[Said::Null; 9], &[2, 0xff, 1, 0xb8, 0])];
-    are_stored_as(&rt, rt.alloc(), &shape_of(rt.alloc(), NINE)?, 1, &rows)
+    hold_each(&rt, rt.alloc(), NULLS)
 }
 
-#[test]
-fn a_column_that_came_after_the_format_is_null(rt: HostRuntime) -> Result<(), Fail> {
-    let s = shape_of(rt.alloc(), TEXTS)?;
-    // 00 | 01 00 61 00 00
-    let text = text_of(&rt, rt.alloc(), &s, 1, &[6, 0, 1, 0, 0x61, 0, 0])?;
-    assert_eq!(rt; text.as_slice(), b"'a' NULL ".as_slice());
-    Ok(())
+/// Bytes of the table of texts in a format, and what the row that they are read as prints.
+struct Shown(u16, &'static [u8], &'static [u8]);
+
+/// Tells whether the row that is read of these bytes prints so.
+fn shows(alloc: Global, s: &Shape, case: &Shown) -> Result<bool, Fail> {
+    let text = text_of(alloc, s, case.0, case.1)?;
+    Ok(text.as_slice() == case.2)
 }
 
-/// Bytes that are no row of the table of texts in format 1, and their fault.
-const REFUSED: &[(&[u8], RowFault)] = &[
-    // NULL where none is allowed, and an unused bit.
-    (&[6, 1, 0, 0, 1, 0, 0], RowFault::BadRow { at: 0 }),
-    (&[6, 2, 1, 0, 1, 0, 0], RowFault::BadRow { at: 0 }),
-    // A length of 4, one of 258 of which the first byte is lawful, and a byte behind the text.
-    (&[6, 0, 4, 0, 1, 2, 3], RowFault::BadRow { at: 1 }),
-    (&[6, 0, 2, 1, 1, 2, 3], RowFault::BadRow { at: 2 }),
-    (&[6, 0, 1, 0, 1, 0, 3], RowFault::BadRow { at: 5 }),
-    (&[0xfd, 0, 3, 9, 0, 3], RowFault::BadRow { at: 3 }),
-    // Too short, too long, and no packed text.
-    (&[4, 0, 1, 0, 1], RowFault::BadRow { at: 4 }),
-    (&[7, 0, 1, 0, 1, 0, 0, 9], RowFault::BadRow { at: 6 }),
-    (&[2, 1, 2, 1, 3], RowFault::BadRun { at: 3 }),
-    (&[], RowFault::BadRow { at: 0 }),
-];
-
-/// Wants each text to be refused so, as a row in format 1.
-fn are_refused(rt: &impl Abort, alloc: Global, s: &Shape, rows: &[(&[u8], RowFault)]) {
-    for (packed, fault) in rows {
-        let found = read(rt, alloc, s, 1, packed).err();
-        assert_eq!(rt; found, Some(*fault), "{packed:?}");
+impl Case for Shown {
+    fn holds(&self, alloc: Global) -> Result<bool, Fail> {
+        let shape = shape_of(alloc, TEXTS)?;
+        shows(alloc, &shape, self)
     }
 }
 
+/// 00 | 01 00 61 00 00
+const SHORT: &[Shown] = &[Shown(1, &[6, 0, 1, 0, 0x61, 0, 0], b"'a' NULL ")];
+
+#[test]
+fn a_column_that_came_after_the_format_is_null(rt: HostRuntime) -> Result<(), Fail> {
+    hold_each(&rt, rt.alloc(), SHORT)
+}
+
+/// Bytes that are no row of the table of texts in format 1, and their fault.
+struct Refused(&'static [u8], RowFault);
+
+impl Case for Refused {
+    fn holds(&self, alloc: Global) -> Result<bool, Fail> {
+        let shape = shape_of(alloc, TEXTS)?;
+        Ok(read(alloc, &shape, 1, self.0).err() == Some(self.1))
+    }
+}
+
+const REFUSED: &[Refused] = &[
+    // NULL where none is allowed, and an unused bit.
+    Refused(&[6, 1, 0, 0, 1, 0, 0], RowFault::BadRow { at: 0 }),
+    Refused(&[6, 2, 1, 0, 1, 0, 0], RowFault::BadRow { at: 0 }),
+    // A length of 4, one of 258 of which the first byte is lawful, and a byte behind the text.
+    Refused(&[6, 0, 4, 0, 1, 2, 3], RowFault::BadRow { at: 1 }),
+    Refused(&[6, 0, 2, 1, 1, 2, 3], RowFault::BadRow { at: 2 }),
+    Refused(&[6, 0, 1, 0, 1, 0, 3], RowFault::BadRow { at: 5 }),
+    Refused(&[0xfd, 0, 3, 9, 0, 3], RowFault::BadRow { at: 3 }),
+    // Too short, too long, and no packed text.
+    Refused(&[4, 0, 1, 0, 1], RowFault::BadRow { at: 4 }),
+    Refused(&[7, 0, 1, 0, 1, 0, 0, 9], RowFault::BadRow { at: 6 }),
+    Refused(&[2, 1, 2, 1, 3], RowFault::BadRun { at: 3 }),
+    Refused(&[], RowFault::BadRow { at: 0 }),
+];
+
 #[test]
 fn other_bytes_are_refused_where_no_row_goes_on_as_they_do(rt: HostRuntime) -> Result<(), Fail> {
-    are_refused(&rt, rt.alloc(), &shape_of(rt.alloc(), TEXTS)?, REFUSED);
-    Ok(())
+    hold_each(&rt, rt.alloc(), REFUSED)
 }
 
 #[test]

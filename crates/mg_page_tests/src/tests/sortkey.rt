@@ -1,51 +1,52 @@
 //! The keys of single values, and the longest keys.
 
-use super::appended::{THERE, is_appended};
+use super::appended::{begun, is_appended};
+use super::cases::{Case, hold_each};
 use super::values::{Said, value_of};
 use mg_sortkey::{key_bytes, key_most};
 use mg_value::{Kind, Value};
 use std::alloc::Global;
-use std::process::Abort;
 use std::test::Fail;
 
-/// The bytes of a value's key.
-fn key_of(alloc: Global, value: &Value) -> Result<Vec<u8>, Fail> {
-    let mut out = Vec::new(alloc);
+/// Tells whether a value has a key of these bytes, behind a byte that is there.
+fn has_key(alloc: Global, value: &Value, key: &[u8]) -> Result<bool, Fail> {
+    let mut out = begun(alloc)?;
     key_bytes(value, &mut out)?;
-    Ok(out)
+    Ok(is_appended(&out, key))
 }
 
-/// Wants each value to have this key.
-fn have_keys(rt: &impl Abort, alloc: Global, rows: &[(Said, &[u8])]) -> Result<(), Fail> {
-    for (said, wanted) in rows {
-        let key = key_of(alloc, &value_of(alloc, *said)?)?;
-        assert_eq!(rt; key.as_slice(), *wanted);
+/// A value and the bytes of its key.
+struct Keyed(Said, &'static [u8]);
+
+impl Case for Keyed {
+    fn holds(&self, alloc: Global) -> Result<bool, Fail> {
+        let value = value_of(alloc, self.0)?;
+        has_key(alloc, &value, self.1)
     }
-    Ok(())
 }
 
-const NUMBERS: &[(Said, &[u8])] = &[
-    (Said::Int(0), &[1, 0x80, 0, 0, 0, 0, 0, 0, 0]),
-    (Said::Int(1), &[1, 0x80, 0, 0, 0, 0, 0, 0, 1]),
-    (Said::Int(-1), &[1, 0x7f, 255, 255, 255, 255, 255, 255, 255]),
-    (
+const NUMBERS: &[Keyed] = &[
+    Keyed(Said::Int(0), &[1, 0x80, 0, 0, 0, 0, 0, 0, 0]),
+    Keyed(Said::Int(1), &[1, 0x80, 0, 0, 0, 0, 0, 0, 1]),
+    Keyed(Said::Int(-1), &[1, 0x7f, 255, 255, 255, 255, 255, 255, 255]),
+    Keyed(
         Said::Int(i64::MAX),
         &[1, 255, 255, 255, 255, 255, 255, 255, 255],
     ),
-    (Said::Int(i64::MIN), &[1, 0, 0, 0, 0, 0, 0, 0, 0]),
+    Keyed(Said::Int(i64::MIN), &[1, 0, 0, 0, 0, 0, 0, 0, 0]),
 ];
 
 #[test]
 fn a_number_is_highest_byte_first_with_its_sign_bit_turned_over(
     rt: HostRuntime,
 ) -> Result<(), Fail> {
-    have_keys(&rt, rt.alloc(), NUMBERS)
+    hold_each(&rt, rt.alloc(), NUMBERS)
 }
 
-const TEXTS: &[(Said, &[u8])] = &[
-    (Said::Text(b"ab"), &[2, b'a', b'b', 0, 0]),
-    (Said::Text(b""), &[2, 0, 0]),
-    (
+const TEXTS: &[Keyed] = &[
+    Keyed(Said::Text(b"ab"), &[2, b'a', b'b', 0, 0]),
+    Keyed(Said::Text(b""), &[2, 0, 0]),
+    Keyed(
         Said::Text(b"a\0b\0"),
         &[2, b'a', 0, 255, b'b', 0, 255, 0, 0],
     ),
@@ -55,21 +56,30 @@ const TEXTS: &[(Said, &[u8])] = &[
 fn a_text_has_its_zero_bytes_marked_and_two_zero_bytes_behind_it(
     rt: HostRuntime,
 ) -> Result<(), Fail> {
-    have_keys(&rt, rt.alloc(), TEXTS)
+    hold_each(&rt, rt.alloc(), TEXTS)
 }
 
 #[test]
 fn a_key_comes_behind_what_stands_there(rt: HostRuntime) -> Result<(), Fail> {
-    let mut out = [THERE].to_vec(rt.alloc())?;
-    key_bytes(&Value::Null, &mut out)?;
-    is_appended(&rt, &out, &[0]);
-    Ok(())
+    hold_each(&rt, rt.alloc(), &[Keyed(Said::Null, &[0])])
 }
+
+/// A kind of column, and how long its keys are at most.
+struct Most(Kind, u32);
+
+impl Case for Most {
+    fn holds(&self, _alloc: Global) -> Result<bool, Fail> {
+        Ok(key_most(self.0) == self.1)
+    }
+}
+
+const MOST: &[Most] = &[
+    Most(Kind::Int, 9),
+    Most(Kind::Text(40), 83),
+    Most(Kind::Text(65_535), 131_073),
+];
 
 #[test]
 fn the_longest_keys(rt: HostRuntime) -> Result<(), Fail> {
-    assert_eq!(&rt; key_most(Kind::Int), 9);
-    assert_eq!(&rt; key_most(Kind::Text(40)), 83);
-    assert_eq!(&rt; key_most(Kind::Text(65_535)), 131_073);
-    Ok(())
+    hold_each(&rt, rt.alloc(), MOST)
 }

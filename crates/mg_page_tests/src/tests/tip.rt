@@ -1,9 +1,11 @@
 //! Transaction inventory pages, state by state.
 
 use super::broken::{Broken, Kind, number_of, tells_each};
+use super::bytes::{has_bytes, used_from};
+use super::cases::{Case, hold_each};
 use mg_base::{Field, PageNo, TxState};
 use mg_tip::{check_tip, new_tip, prev_of, set_state, state_at};
-use std::process::Abort;
+use std::alloc::Global;
 use std::test::*;
 
 /// How many states a page of 1024 bytes has.
@@ -16,32 +18,17 @@ fn new_page() -> [u8; 1024] {
     page
 }
 
-/// Sets the state at a place.
-fn put_state(rt: &impl Abort, page: &mut [u8; 1024], place: u32, state: TxState) {
-    assert!(rt; place < PLACES);
+/// Sets the state at a place, and tells whether it is so then.
+fn put(page: &mut [u8; 1024], place: u32, state: TxState) -> bool {
+    if place >= PLACES {
+        return false;
+    }
     set_state(page, place, state);
-}
-
-/// The state at a place.
-fn state_of(rt: &impl Abort, page: &[u8; 1024], place: u32) -> TxState {
-    assert!(rt; place < PLACES);
-    state_at(page, place)
+    state_at(page, place) == state
 }
 
 /// A state that is set at a place, and the byte that then stands at a place of the page.
-type Step = (u32, TxState, usize, u8);
-
-/// Wants each step to do so, one after another.
-fn steps_do(rt: &impl Abort, page: &mut [u8; 1024], steps: &[Step]) {
-    for (place, state, at, byte) in steps {
-        put_state(rt, page, *place, *state);
-        let found = page.get(*at).copied();
-        assert_eq!(rt; found, Some(*byte), "byte {at} after place {place}");
-        assert_eq!(rt; state_of(rt, page, *place), *state, "place {place}");
-    }
-}
-
-const STEPS: &[Step] = &[
+const STEPS: &[(u32, TxState, usize, u8)] = &[
     (0, TxState::Committed, 20, 0x03),
     (1, TxState::Committed, 20, 0x0f),
     (2, TxState::Dead, 20, 0x2f),
@@ -54,27 +41,39 @@ const STEPS: &[Step] = &[
 #[test]
 fn a_commit_sets_its_two_bits_and_no_other(rt: HostRuntime) {
     let mut page = new_page();
-    steps_do(&rt, &mut page, STEPS);
-    let used = page[20..].iter().filter(|byte| **byte != 0).count();
-    assert_eq!(rt; used, 3, "bytes with a state other than Active");
+    for (place, state, at, byte) in STEPS {
+        let done = put(&mut page, *place, *state) && has_bytes(&page, *at, &[*byte]);
+        assert!(rt; done, "place {place}");
+    }
+    assert!(rt;
+        used_from(&page, 20) == 3,
+        "bytes with a state other than Active"
+    );
 }
 
-/// Wants a new page at a place of the chain to pass, to name the page before it, and to have all
-/// its transactions active.
-fn is_new(rt: &impl Abort, page: &mut [u8; 1024], seq: u32, prev: u32) {
-    let number = number_of(Kind::Transactions);
-    new_tip(page, number, seq, PageNo(prev));
-    assert_eq!(rt; check_tip(page, number, seq), Ok(()), "sequence {seq}");
-    assert_eq!(rt; prev_of(page), PageNo(prev), "sequence {seq}");
-    assert_eq!(rt; state_at(page, 4015), TxState::Active, "sequence {seq}");
+/// The place of a new page in the chain, and the page before it.
+struct New(u32, u32);
+
+/// Tells whether a page passes, names the page before it, and has all its transactions active.
+fn is_new(page: &[u8; 1024], new: &New) -> bool {
+    check_tip(page, PageNo(2), new.0).is_ok()
+        && prev_of(page) == PageNo(new.1)
+        && state_at(page, 4015) == TxState::Active
 }
+
+impl Case for New {
+    fn holds(&self, _alloc: Global) -> Result<bool, Fail> {
+        let mut page = [0xffu8; 1024];
+        new_tip(&mut page, PageNo(2), self.0, PageNo(self.1));
+        Ok(is_new(&page, self))
+    }
+}
+
+const NEW: &[New] = &[New(0, 0), New(1, 2), New(65_535, 131_071)];
 
 #[test]
-fn a_new_page_passes_and_names_the_page_before_it(rt: HostRuntime) {
-    let mut page = [0xffu8; 1024];
-    for (seq, prev) in [(0, 0), (1, 2), (65_535, 131_071)] {
-        is_new(&rt, &mut page, seq, prev);
-    }
+fn a_new_page_passes_and_names_the_page_before_it(rt: HostRuntime) -> Result<(), Fail> {
+    hold_each(&rt, rt.alloc(), NEW)
 }
 
 const BROKEN: &[Broken] = &[

@@ -1,42 +1,47 @@
 //! Values: how they print and are ordered, and which names, keys and rows there are.
 
-use super::appended::{THERE, is_appended};
+use super::appended::{begun, is_appended};
+use super::cases::{Case, hold_each};
 use super::values::{Said, Told, row_of, shape_of, value_of, values_of};
 use mg_value::{
-    Key, Kind, MOST_COLUMNS, Name, Shape, Txt, Value, ValueFault, compare, order, print, row_fits,
-    row_len,
+    Key, Kind, MOST_COLUMNS, Name, Row, Shape, Txt, Value, ValueFault, compare, order, print,
+    row_fits, row_len,
 };
 use std::alloc::Global;
 use std::cmp::Ordering;
-use std::process::Abort;
 use std::test::Fail;
 
-/// Wants the value to print so, behind a byte that is there before.
-fn prints(rt: &impl Abort, alloc: Global, value: &Value, printed: &[u8]) -> Result<(), Fail> {
-    let mut out = [THERE].to_vec(alloc)?;
+/// A value, and what it prints.
+struct Printed(Said, &'static [u8]);
+
+/// Tells whether a value prints so, behind a byte that is there before.
+fn prints(alloc: Global, value: &Value, printed: &[u8]) -> Result<bool, Fail> {
+    let mut out = begun(alloc)?;
     print(value, &mut out)?;
-    is_appended(rt, &out, printed);
-    Ok(())
+    Ok(is_appended(&out, printed))
 }
 
-const PRINTED: &[(Said, &[u8])] = &[
-    (Said::Null, b"NULL"),
-    (Said::Int(0), b"0"),
-    (Said::Int(-10), b"-10"),
-    (Said::Int(i64::MIN), b"-9223372036854775808"),
-    (Said::Int(i64::MAX), b"9223372036854775807"),
-    (Said::Text(b""), b"''"),
-    (Said::Text(b"it's"), b"'it''s'"),
-    (Said::Text(b"''"), b"''''''"),
+impl Case for Printed {
+    fn holds(&self, alloc: Global) -> Result<bool, Fail> {
+        let value = value_of(alloc, self.0)?;
+        prints(alloc, &value, self.1)
+    }
+}
+
+const PRINTED: &[Printed] = &[
+    Printed(Said::Null, b"NULL"),
+    Printed(Said::Int(0), b"0"),
+    Printed(Said::Int(-10), b"-10"),
+    Printed(Said::Int(i64::MIN), b"-9223372036854775808"),
+    Printed(Said::Int(i64::MAX), b"9223372036854775807"),
+    Printed(Said::Text(b""), b"''"),
+    Printed(Said::Text(b"it's"), b"'it''s'"),
+    Printed(Said::Text(b"''"), b"''''''"),
 ];
 
 #[test]
 fn values_print_as_digits_as_null_or_in_quotes(rt: HostRuntime) -> Result<(), Fail> {
-    for (said, printed) in PRINTED {
-        let value = value_of(rt.alloc(), *said)?;
-        prints(&rt, rt.alloc(), &value, printed)?;
-    }
-    Ok(())
+    hold_each(&rt, rt.alloc(), PRINTED)
 }
 
 /// Values in their order.
@@ -61,22 +66,32 @@ fn comparison_of(i: usize, j: usize) -> Option<Ordering> {
     Some(i.cmp(&j))
 }
 
-/// Wants the value at a place to be ordered before each later one, and behind each earlier one.
-fn is_ordered(rt: &impl Abort, values: &[Value], i: usize, a: &Value) {
+/// Tells whether the values at two places are ordered and compare as their places do.
+fn is_pair(i: usize, a: &Value, j: usize, b: &Value) -> bool {
+    order(a, b) == i.cmp(&j) && compare(a, b) == comparison_of(i, j)
+}
+
+/// Tells whether the value at a place is ordered before each later one, and behind each earlier one.
+fn is_ordered(values: &[Value], i: usize, a: &Value) -> bool {
     for (j, b) in values.iter().enumerate() {
-        assert_eq!(rt; order(a, b), i.cmp(&j), "{i} and {j}");
-        assert_eq!(rt; compare(a, b), comparison_of(i, j), "{i} and {j}");
+        if !is_pair(i, a, j, b) {
+            return false;
+        }
     }
+    true
 }
 
 #[test]
 fn null_is_least_numbers_order_as_numbers_and_texts_by_bytes(rt: HostRuntime) -> Result<(), Fail> {
     let values = values_of(rt.alloc(), ORDERED)?;
     for (i, a) in values.iter().enumerate() {
-        is_ordered(&rt, &values, i, a);
+        assert!(rt; is_ordered(&values, i, a), "value {i}");
     }
     Ok(())
 }
+
+/// A text, how many bytes its column takes, and the fault that this is.
+struct Taken(&'static [u8], u16, Option<ValueFault>);
 
 /// A text of a column that takes so many bytes.
 fn text_of(alloc: Global, bytes: &[u8], most: u16) -> Result<Txt, ValueFault> {
@@ -86,14 +101,29 @@ fn text_of(alloc: Global, bytes: &[u8], most: u16) -> Result<Txt, ValueFault> {
     Txt::new(alloc, bytes, most)
 }
 
+/// Tells whether a text and its copy have these bytes.
+fn is_text(alloc: Global, text: &Txt, bytes: &[u8]) -> Result<bool, Fail> {
+    let copy = text.copy(alloc)?;
+    Ok(text.as_slice() == bytes && copy.as_slice() == bytes)
+}
+
+impl Case for Taken {
+    fn holds(&self, alloc: Global) -> Result<bool, Fail> {
+        match text_of(alloc, self.0, self.1) {
+            Ok(text) => Ok(self.2.is_none() && is_text(alloc, &text, self.0)?),
+            Err(fault) => Ok(self.2 == Some(fault)),
+        }
+    }
+}
+
+const TAKEN: &[Taken] = &[
+    Taken(b"abc", 3, None),
+    Taken(b"abcd", 3, Some(ValueFault::TextTooLong { len: 4 })),
+];
+
 #[test]
 fn a_text_has_at_most_as_many_bytes_as_its_column_takes(rt: HostRuntime) -> Result<(), Fail> {
-    let taken = text_of(rt.alloc(), b"abc", 3)?;
-    assert_eq!(rt; taken.as_slice(), b"abc".as_slice());
-    assert_eq!(rt; taken.copy(rt.alloc())?.as_slice(), b"abc".as_slice());
-    let refused = text_of(rt.alloc(), b"abcd", 3).err();
-    assert_eq!(rt; refused, Some(ValueFault::TextTooLong { len: 4 }));
-    Ok(())
+    hold_each(&rt, rt.alloc(), TAKEN)
 }
 
 #[test]
@@ -104,45 +134,56 @@ fn faults_print_their_words(rt: HostRuntime) -> Result<(), Fail> {
     Ok(())
 }
 
-const NAMES: &[&[u8]] = &[
-    b"A",
-    b"KV",
-    b"MG$CATALOG",
-    b"A_1",
-    b"SETS",
-    b"ABCDEFGHIJKLMNOPQRSTUVWXYZ01234",
-];
+/// Bytes that are a name, which gives them back.
+struct Named(&'static [u8]);
 
-const NO_NAMES: &[&[u8]] = &[
-    b"",
-    b"a",
-    b"1A",
-    b"_A",
-    b"A-",
-    b"A B",
-    b"SET",
-    b"INDEX",
-    b"ON",
-    b"IS",
-    b"ABCDEFGHIJKLMNOPQRSTUVWXYZ012345",
-];
-
-/// Wants these bytes to be a name, which gives them back.
-fn is_name(rt: &impl Abort, bytes: &[u8]) {
-    match Name::new(bytes) {
-        Some(name) => assert_eq!(rt; name.as_slice(), bytes),
-        None => assert!(rt; false, "{bytes:?} is a name"),
+impl Case for Named {
+    fn holds(&self, _alloc: Global) -> Result<bool, Fail> {
+        match Name::new(self.0) {
+            Some(name) => Ok(name.as_slice() == self.0),
+            None => Ok(false),
+        }
     }
 }
 
+const NAMES: &[Named] = &[
+    Named(b"A"),
+    Named(b"KV"),
+    Named(b"MG$CATALOG"),
+    Named(b"A_1"),
+    Named(b"SETS"),
+    Named(b"ABCDEFGHIJKLMNOPQRSTUVWXYZ01234"),
+];
+
+/// Bytes that are no name.
+struct Unnamed(&'static [u8]);
+
+impl Case for Unnamed {
+    fn holds(&self, _alloc: Global) -> Result<bool, Fail> {
+        Ok(Name::new(self.0).is_none())
+    }
+}
+
+const NO_NAMES: &[Unnamed] = &[
+    Unnamed(b""),
+    Unnamed(b"a"),
+    Unnamed(b"1A"),
+    Unnamed(b"_A"),
+    Unnamed(b"A-"),
+    Unnamed(b"A B"),
+    Unnamed(b"SET"),
+    Unnamed(b"INDEX"),
+    Unnamed(b"ON"),
+    Unnamed(b"IS"),
+    Unnamed(b"ABCDEFGHIJKLMNOPQRSTUVWXYZ012345"),
+];
+
 #[test]
-fn names_are_capitals_digits_and_signs_and_no_words_of_the_grammar(rt: HostRuntime) {
-    for bytes in NAMES {
-        is_name(&rt, bytes);
-    }
-    for bytes in NO_NAMES {
-        assert!(rt; Name::new(bytes).is_none(), "{bytes:?} is no name");
-    }
+fn names_are_capitals_digits_and_signs_and_no_words_of_the_grammar(
+    rt: HostRuntime,
+) -> Result<(), Fail> {
+    hold_each(&rt, rt.alloc(), NAMES)?;
+    hold_each(&rt, rt.alloc(), NO_NAMES)
 }
 
 /// Tells whether a key is 5.
@@ -150,12 +191,23 @@ fn is_five(key: &Key) -> bool {
     order(key.value(), &Value::Int(5)) == Ordering::Equal
 }
 
+/// Tells whether a key and its copy are 5.
+fn are_five(alloc: Global, key: &Key) -> Result<bool, Fail> {
+    let copy = key.copy(alloc)?;
+    Ok(is_five(key) && is_five(&copy))
+}
+
+/// The key 5.
+fn five() -> Result<Key, Fail> {
+    Ok(Key::new(Value::Int(5)).ok_or("5 is a key")?)
+}
+
 #[test]
 fn a_key_is_any_value_but_null(rt: HostRuntime) -> Result<(), Fail> {
     assert!(rt; Key::new(Value::Null).is_none());
-    let key = Key::new(Value::Int(5)).ok_or("5 is a key")?;
-    assert!(rt; is_five(&key));
-    assert!(rt; is_five(&key.copy(rt.alloc())?));
+    let key = five()?;
+    let is = are_five(rt.alloc(), &key)?;
+    assert!(rt; is);
     Ok(())
 }
 
@@ -168,66 +220,77 @@ const NOTED: &[Told] = &[
     (b"V", Kind::Text(5), false, 2),
 ];
 
-/// How many bytes a row has.
-fn len_of(rt: &impl Abort, shape: &Shape) -> u32 {
-    assert!(rt; shape.columns.as_slice().len() <= MOST_COLUMNS);
-    row_len(shape)
+/// Tells whether a row of a shape has so many bytes.
+fn has_len(shape: &Shape, len: u32) -> bool {
+    shape.columns.as_slice().len() <= MOST_COLUMNS && row_len(shape) == len
 }
 
 #[test]
 fn a_row_of_kv_has_17_bytes(rt: HostRuntime) -> Result<(), Fail> {
-    assert_eq!(rt; len_of(&rt, &shape_of(rt.alloc(), KV)?), 17);
+    assert!(rt; has_len(&shape_of(rt.alloc(), KV)?, 17));
     Ok(())
+}
+
+/// Tells whether the copy of a shape has rows of so many bytes, and its key.
+fn is_copied(alloc: Global, shape: &Shape, len: u32) -> Result<bool, Fail> {
+    let copy = shape.copy(alloc)?;
+    Ok(has_len(&copy, len) && copy.key == shape.key)
 }
 
 #[test]
 fn a_copy_of_a_shape_has_its_columns_and_its_key(rt: HostRuntime) -> Result<(), Fail> {
-    let copy = shape_of(rt.alloc(), NOTED)?.copy(rt.alloc())?;
-    assert_eq!(rt; len_of(&rt, &copy), 24);
-    assert_eq!(rt; copy.key, 0);
+    let shape = shape_of(rt.alloc(), NOTED)?;
+    let is = is_copied(rt.alloc(), &shape, 24)?;
+    assert!(rt; is);
     Ok(())
+}
+
+/// How many values the copy of a row has.
+fn len_of_copy(alloc: Global, row: &Row) -> Result<usize, Fail> {
+    Ok(row.copy(alloc)?.as_slice().len())
+}
+
+/// Tells whether a row gives back two values, the second of them NULL.
+fn gives_back(row: Row) -> bool {
+    let values = row.into_vec();
+    values.len() == 2 && values[1].is_null()
 }
 
 #[test]
 fn a_row_lends_copies_and_gives_back_its_values(rt: HostRuntime) -> Result<(), Fail> {
     let row = row_of(rt.alloc(), &[Said::Int(1), Said::Null])?;
-    assert_eq!(rt; row.copy(rt.alloc())?.as_slice().len(), 2);
-    let values = row.into_vec();
-    assert_eq!(rt; values.len(), 2);
-    assert!(rt; values[1].is_null());
+    let len = len_of_copy(rt.alloc(), &row)?;
+    let given = gives_back(row);
+    assert!(rt; len == 2 && given);
     Ok(())
 }
 
 /// A number that is not NULL, and a text of at most two bytes.
 const TWO: &[Told] = &[(b"C", Kind::Int, true, 1), (b"C", Kind::Text(2), false, 1)];
 
-/// Rows, and whether each fits those columns.
-const ROWS: &[(&[Said], bool)] = &[
-    (&[Said::Int(1), Said::Null], true),
-    (&[Said::Int(1), Said::Text(b"ab")], true),
-    (&[Said::Null, Said::Null], false),
-    (&[Said::Int(1), Said::Text(b"abc")], false),
-    (&[Said::Int(1), Said::Int(1)], false),
-    (&[Said::Text(b"a"), Said::Null], false),
-    (&[Said::Int(1)], false),
-    (&[Said::Int(1), Said::Null, Said::Null], false),
-];
+/// A row, and whether it fits those columns.
+struct Fitting(&'static [Said], bool);
 
-/// Wants each row to fit or not.
-fn rows_fit(
-    rt: &impl Abort,
-    alloc: Global,
-    shape: &Shape,
-    rows: &[(&[Said], bool)],
-) -> Result<(), Fail> {
-    for (place, (said, fits)) in rows.iter().enumerate() {
-        let row = row_of(alloc, said)?;
-        assert_eq!(rt; row_fits(shape, &row), *fits, "row {place}");
+impl Case for Fitting {
+    fn holds(&self, alloc: Global) -> Result<bool, Fail> {
+        let shape = shape_of(alloc, TWO)?;
+        let row = row_of(alloc, self.0)?;
+        Ok(row_fits(&shape, &row) == self.1)
     }
-    Ok(())
 }
+
+const ROWS: &[Fitting] = &[
+    Fitting(&[Said::Int(1), Said::Null], true),
+    Fitting(&[Said::Int(1), Said::Text(b"ab")], true),
+    Fitting(&[Said::Null, Said::Null], false),
+    Fitting(&[Said::Int(1), Said::Text(b"abc")], false),
+    Fitting(&[Said::Int(1), Said::Int(1)], false),
+    Fitting(&[Said::Text(b"a"), Said::Null], false),
+    Fitting(&[Said::Int(1)], false),
+    Fitting(&[Said::Int(1), Said::Null, Said::Null], false),
+];
 
 #[test]
 fn a_row_fits_where_each_value_may_stand_in_its_column(rt: HostRuntime) -> Result<(), Fail> {
-    rows_fit(&rt, rt.alloc(), &shape_of(rt.alloc(), TWO)?, ROWS)
+    hold_each(&rt, rt.alloc(), ROWS)
 }

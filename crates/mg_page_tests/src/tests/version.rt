@@ -1,9 +1,9 @@
 //! Cells and their bytes.
 
+use super::cases::{Case, hold_each};
 use mg_base::{Bytes, PageNo, RecId, TxNo};
 use mg_version::{Cell, CellFault, Link, Version, read_cell, write_cell};
 use std::alloc::Global;
-use std::process::Abort;
 use std::test::Fail;
 
 /// A link: a page, a slot and a transaction.
@@ -68,29 +68,35 @@ fn cell_of(alloc: Global, told: Told) -> Result<Cell, Fail> {
 }
 
 /// What is read of bytes.
-fn read(rt: &impl Abort, alloc: Global, bytes: &[u8]) -> Result<Cell, CellFault> {
-    assert!(rt; bytes.len() < 2_147_483_648);
+fn read(alloc: Global, bytes: &[u8]) -> Result<Cell, CellFault> {
+    if bytes.len() >= 2_147_483_648 {
+        return Err(CellFault::Memory);
+    }
     read_cell(alloc, bytes)
 }
 
-/// Writes a cell.
-fn write(rt: &impl Abort, cell: &Cell, out: &mut Vec<u8>) -> Result<(), Fail> {
+/// Writes a cell, if it is one that may be written, and tells so.
+fn write(cell: &Cell, out: &mut Vec<u8>) -> Result<bool, Fail> {
     match cell {
         Cell::Anchor(_) => write_cell(cell, out)?,
         Cell::Version(version) => {
-            assert!(rt; !version.primary && version.format >= 1);
+            if version.primary {
+                return Ok(false);
+            }
+            if version.format == 0 {
+                return Ok(false);
+            }
             write_cell(cell, out)?;
         }
     }
-    Ok(())
+    Ok(true)
 }
 
-/// Wants a cell to be written as these bytes.
-fn is_written(rt: &impl Abort, alloc: Global, cell: &Cell, bytes: &[u8]) -> Result<(), Fail> {
+/// Tells whether a cell is written as these bytes.
+fn is_written(alloc: Global, cell: &Cell, bytes: &[u8]) -> Result<bool, Fail> {
     let mut out = Vec::new(alloc);
-    write(rt, cell, &mut out)?;
-    assert_eq!(rt; out.as_slice(), bytes);
-    Ok(())
+    let done = write(cell, &mut out)?;
+    Ok(done && out.as_slice() == bytes)
 }
 
 /// Tells whether a version is that of these parts.
@@ -131,73 +137,98 @@ fn cell_with_copy(alloc: Global, cell: &Cell) -> Result<Cell, Fail> {
     })
 }
 
-/// Wants these bytes to be read as the cell that is told, and copies of it to be written so again.
-fn is_read(rt: &impl Abort, alloc: Global, told: Told, bytes: &[u8]) -> Result<(), Fail> {
-    let cell = read(rt, alloc, bytes).ok().ok_or("no cell")?;
-    assert!(rt; is_told(&cell, told), "{bytes:?}");
-    is_written(rt, alloc, &cell.copy(alloc)?, bytes)?;
-    is_written(rt, alloc, &cell_with_copy(alloc, &cell)?, bytes)
+/// Tells whether copies of a cell are written as these bytes.
+fn are_copies_written(alloc: Global, cell: &Cell, bytes: &[u8]) -> Result<bool, Fail> {
+    let whole = is_written(alloc, &cell.copy(alloc)?, bytes)?;
+    Ok(whole && is_written(alloc, &cell_with_copy(alloc, cell)?, bytes)?)
 }
 
-/// Cells and their bytes.
-const CELLS: &[(Told, &[u8])] = &[
-    (Told::Anchor((6, 1, 1)), &[1, 6, 0, 0, 0, 1, 0, 1, 0, 0, 0]),
-    // The packed row K = 1, V = 10 of transaction 1, in format 1.
-    (
-        Told::Version(1, 1, None, &[2, 0, 1, 0xf9, 0, 1, 10, 0xf9, 0]),
-        &[2, 0, 1, 0, 1, 0, 0, 0, 2, 0, 1, 0xf9, 0, 1, 10, 0xf9, 0],
-    ),
-    // By transaction 258 in format 3, of a row without bytes, behind the version at page 65,541,
-    // slot 7, of transaction 257.
-    (
-        Told::Deletion(3, 258, Some((65_541, 7, 257)), &[]),
-        &[2, 3, 3, 0, 2, 1, 0, 0, 5, 0, 1, 0, 7, 0, 1, 1, 0, 0],
-    ),
-];
+/// A cell and its bytes.
+type Stored = (Told, &'static [u8]);
+
+const ANCHOR: Stored = (Told::Anchor((6, 1, 1)), &[1, 6, 0, 0, 0, 1, 0, 1, 0, 0, 0]);
+
+/// The packed row K = 1, V = 10 of transaction 1, in format 1.
+const FIRST: Stored = (
+    Told::Version(1, 1, None, &[2, 0, 1, 0xf9, 0, 1, 10, 0xf9, 0]),
+    &[2, 0, 1, 0, 1, 0, 0, 0, 2, 0, 1, 0xf9, 0, 1, 10, 0xf9, 0],
+);
+
+/// By transaction 258 in format 3, of a row without bytes, behind the version at page 65,541, slot 7,
+/// of transaction 257.
+const DELETION: Stored = (
+    Told::Deletion(3, 258, Some((65_541, 7, 257)), &[]),
+    &[2, 3, 3, 0, 2, 1, 0, 0, 5, 0, 1, 0, 7, 0, 1, 1, 0, 0],
+);
+
+/// A cell that is written as its bytes.
+struct Written(Stored);
+
+impl Case for Written {
+    fn holds(&self, alloc: Global) -> Result<bool, Fail> {
+        let (told, bytes) = self.0;
+        let cell = cell_of(alloc, told)?;
+        is_written(alloc, &cell, bytes)
+    }
+}
 
 #[test]
 fn cells_are_written_as_their_bytes(rt: HostRuntime) -> Result<(), Fail> {
-    for (told, bytes) in CELLS {
-        let cell = cell_of(rt.alloc(), *told)?;
-        is_written(&rt, rt.alloc(), &cell, bytes)?;
+    const CELLS: &[Written] = &[Written(ANCHOR), Written(FIRST), Written(DELETION)];
+    hold_each(&rt, rt.alloc(), CELLS)
+}
+
+/// A cell that is read of its bytes, and of which copies are written so again.
+struct Copied(Stored);
+
+impl Case for Copied {
+    fn holds(&self, alloc: Global) -> Result<bool, Fail> {
+        let (told, bytes) = self.0;
+        match read(alloc, bytes) {
+            Ok(cell) => Ok(is_told(&cell, told) && are_copies_written(alloc, &cell, bytes)?),
+            Err(_) => Ok(false),
+        }
     }
-    Ok(())
 }
 
 #[test]
 fn cells_are_read_of_their_bytes(rt: HostRuntime) -> Result<(), Fail> {
-    for (told, bytes) in CELLS {
-        is_read(&rt, rt.alloc(), *told, bytes)?;
-    }
-    Ok(())
+    const CELLS: &[Copied] = &[Copied(ANCHOR), Copied(FIRST), Copied(DELETION)];
+    hold_each(&rt, rt.alloc(), CELLS)
 }
 
 /// Bytes that are no cell, and where they go wrong.
-const REFUSED: &[(&[u8], u32)] = &[
-    (&[], 0),
-    (&[0], 0),
-    (&[3, 0, 1, 0, 1, 0, 0, 0], 0),
-    (&[1, 6, 0, 0, 0], 5),
-    (&[1, 6, 0, 0, 0, 1, 0, 1, 0, 0, 0, 0], 11),
-    (&[2], 1),
-    (&[2, 4, 1, 0, 1, 0, 0, 0], 1),
-    (&[2, 0, 0], 3),
-    (&[2, 0, 0, 0, 1, 0, 0, 0], 3),
-    (&[2, 0, 1, 0, 1, 0, 0], 7),
-    (&[2, 2, 1, 0, 1, 0, 0, 0], 8),
-    (&[2, 3, 1, 0, 1, 0, 0, 0, 5, 0, 0, 0, 7, 0, 1, 0, 0], 17),
+struct Refused(&'static [u8], u32);
+
+impl Case for Refused {
+    fn holds(&self, alloc: Global) -> Result<bool, Fail> {
+        let fault = read(alloc, self.0).err();
+        Ok(fault == Some(CellFault::BadCell { at: self.1 }))
+    }
+}
+
+const REFUSED: &[Refused] = &[
+    Refused(&[], 0),
+    Refused(&[0], 0),
+    Refused(&[3, 0, 1, 0, 1, 0, 0, 0], 0),
+    Refused(&[1, 6, 0, 0, 0], 5),
+    Refused(&[1, 6, 0, 0, 0, 1, 0, 1, 0, 0, 0, 0], 11),
+    Refused(&[2], 1),
+    Refused(&[2, 4, 1, 0, 1, 0, 0, 0], 1),
+    Refused(&[2, 0, 0], 3),
+    Refused(&[2, 0, 0, 0, 1, 0, 0, 0], 3),
+    Refused(&[2, 0, 1, 0, 1, 0, 0], 7),
+    Refused(&[2, 2, 1, 0, 1, 0, 0, 0], 8),
+    Refused(&[2, 3, 1, 0, 1, 0, 0, 0, 5, 0, 0, 0, 7, 0, 1, 0, 0], 17),
 ];
 
 #[test]
-fn what_is_no_cell_is_refused_where_it_goes_wrong(rt: HostRuntime) {
-    for (bytes, at) in REFUSED {
-        let fault = read(&rt, rt.alloc(), bytes).err();
-        assert_eq!(rt; fault, Some(CellFault::BadCell { at: *at }), "length {at}");
-    }
+fn what_is_no_cell_is_refused_where_it_goes_wrong(rt: HostRuntime) -> Result<(), Fail> {
+    hold_each(&rt, rt.alloc(), REFUSED)
 }
 
 #[test]
 fn a_fault_is_copied(rt: HostRuntime) {
     let fault = CellFault::BadCell { at: 5 };
-    assert_eq!(rt; fault.copy(rt.alloc()), Ok(fault));
+    assert!(rt; fault.copy(rt.alloc()) == Ok(fault));
 }

@@ -2,7 +2,7 @@
 
 ghost use Rattle.std.specs.Prelude.{◌<◌};
 
-use super::machine::{machine_at, name, new_opening, row};
+use super::machine::{let_machine_go, name, new_machine, row};
 use mg_base::TxNo;
 use mg_model::{Mode, Refusal, Rows};
 use mg_plain::Plain;
@@ -176,15 +176,21 @@ fn refuses(rt: &impl Abort, alloc: Global, plain: &mut Plain, b: TxNo) -> Result
     Ok(())
 }
 
+/// Walks over what one transaction writes, and another reads.
+fn walks(rt: &impl Abort, alloc: Global, plain: &mut Plain) -> Result<(), Fail> {
+    let a = done(rt, begin(plain, 0, true));
+    put(rt, alloc, plain, a, 2, 20)?;
+    put(rt, alloc, plain, a, 1, 10)?;
+    sees(rt, alloc, plain, a, &[1, 2]);
+    takes_back(rt, alloc, plain, a)?;
+    let b = shows_another(rt, alloc, plain, a);
+    refuses(rt, alloc, plain, b)
+}
+
 #[test]
 fn a_walk_comes_to_the_rows_that_its_transaction_sees(rt: HostRuntime) -> Result<(), Fail> {
-    let alloc = rt.alloc();
-    let mut plain = machine_at(&rt, alloc, &new_opening(&rt, alloc, 1000)?)?;
-    let a = done(&rt, begin(&mut plain, 0, true));
-    put(&rt, alloc, &mut plain, a, 2, 20)?;
-    put(&rt, alloc, &mut plain, a, 1, 10)?;
-    sees(&rt, alloc, &mut plain, a, &[1, 2]);
-    takes_back(&rt, alloc, &mut plain, a)?;
-    let b = shows_another(&rt, alloc, &mut plain, a);
-    refuses(&rt, alloc, &mut plain, b)
+    let mut plain = new_machine(&rt, rt.alloc(), 1000)?;
+    let walked = walks(&rt, rt.alloc(), &mut plain);
+    let_machine_go(plain);
+    walked
 }

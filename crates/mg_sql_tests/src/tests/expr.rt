@@ -1,9 +1,9 @@
 //! Expressions that are evaluated by hand.
 
+use super::cases::{Case, hold_each};
 use mg_expr::{EvalFault, Expr, Part, Sign, evaluate, test};
 use mg_value::{Row, Truth, Txt, Value, print};
 use std::alloc::Global;
-use std::process::Abort;
 use std::test::Fail;
 
 /// A step of an expression, which the tests write as one enters it into a calculator that takes
@@ -122,37 +122,41 @@ fn row(alloc: Global) -> Result<Row, Fail> {
     Ok(Row::new(vec![in alloc; Value::Int(7), Value::Null, text]?))
 }
 
-/// The truth of an expression at that row.
-fn truth_of(alloc: Global, e: &Expr) -> Result<Result<Truth, EvalFault>, Fail> {
-    Ok(test(alloc, e, &row(alloc)?))
+/// Tells whether an expression has this truth at that row.
+fn has_truth(alloc: Global, e: &Expr, truth: Result<Truth, EvalFault>) -> Result<bool, Fail> {
+    let row = row(alloc)?;
+    Ok(test(alloc, e, &row) == truth)
 }
 
-/// Wants an expression, and its copy, to have this truth.
-fn holds(
-    rt: &impl Abort,
-    alloc: Global,
-    e: &Expr,
-    truth: Result<Truth, EvalFault>,
-) -> Result<(), Fail> {
-    assert_eq!(rt; truth_of(alloc, e)?, truth);
-    assert_eq!(rt; truth_of(alloc, &e.copy(alloc)?)?, truth);
-    Ok(())
+/// The copy of an expression.
+fn copy_of(alloc: Global, e: &Expr) -> Result<Expr, Fail> {
+    Ok(e.copy(alloc)?)
 }
 
-/// Conditions, and their truth.
-const CONDITIONS: &[(&[Step], Result<Truth, EvalFault>)] = &[
+/// A condition, and the truth of it and of its copy.
+struct Condition(&'static [Step], Result<Truth, EvalFault>);
+
+impl Case for Condition {
+    fn holds(&self, alloc: Global) -> Result<bool, Fail> {
+        let e = expression(alloc, self.0)?;
+        let copy = copy_of(alloc, &e)?;
+        Ok(has_truth(alloc, &e, self.1)? && has_truth(alloc, &copy, self.1)?)
+    }
+}
+
+const CONDITIONS: &[Condition] = &[
     // column 0 < 8
-    (
+    Condition(
         &[Step::Column(0), Step::Integer(8), Step::Compare(Sign::Less)],
         Ok(Truth::True),
     ),
     // column 1 = NULL
-    (
+    Condition(
         &[Step::Column(1), Step::Null, Step::Compare(Sign::Equal)],
         Ok(Truth::Unknown),
     ),
     // column 1 = NULL AND 1 / 0 IS NULL
-    (
+    Condition(
         &[
             Step::Column(1),
             Step::Null,
@@ -166,7 +170,7 @@ const CONDITIONS: &[(&[Step], Result<Truth, EvalFault>)] = &[
         Err(EvalFault::Arithmetic),
     ),
     // column 0 IS NULL AND 1 / 0 IS NULL
-    (
+    Condition(
         &[
             Step::Column(0),
             Step::IsNull,
@@ -179,7 +183,7 @@ const CONDITIONS: &[(&[Step], Result<Truth, EvalFault>)] = &[
         Ok(Truth::False),
     ),
     // NOT (column 0 IS NULL AND 1 / 0 IS NULL)
-    (
+    Condition(
         &[
             Step::Column(0),
             Step::IsNull,
@@ -193,7 +197,7 @@ const CONDITIONS: &[(&[Step], Result<Truth, EvalFault>)] = &[
         Ok(Truth::True),
     ),
     // column 0 IS NOT NULL OR 1 / 0 IS NULL
-    (
+    Condition(
         &[
             Step::Column(0),
             Step::IsNotNull,
@@ -209,35 +213,47 @@ const CONDITIONS: &[(&[Step], Result<Truth, EvalFault>)] = &[
 
 #[test]
 fn a_condition_has_three_truths_and_skips_what_cant_change_it(rt: HostRuntime) -> Result<(), Fail> {
-    for (steps, truth) in CONDITIONS {
-        let e = expression(rt.alloc(), steps)?;
-        holds(&rt, rt.alloc(), &e, *truth)?;
-    }
-    Ok(())
+    hold_each(&rt, rt.alloc(), CONDITIONS)
 }
 
-/// What the value of an expression prints at that row.
-fn printed(alloc: Global, e: &Expr) -> Result<Vec<u8>, Fail> {
-    let value = evaluate(alloc, e, &row(alloc)?)?;
+/// The value of an expression at that row, or its fault.
+fn evaluated(alloc: Global, e: &Expr) -> Result<Result<Value, EvalFault>, Fail> {
+    let row = row(alloc)?;
+    Ok(evaluate(alloc, e, &row))
+}
+
+/// Tells whether a value prints so.
+fn prints(alloc: Global, value: &Value, wanted: &[u8]) -> Result<bool, Fail> {
     let mut out = Vec::new(alloc);
-    print(&value, &mut out)?;
-    Ok(out)
+    print(value, &mut out)?;
+    Ok(out.as_slice() == wanted)
 }
 
-/// Wants an expression, and its copy, to have a value that prints so.
-fn gives(rt: &impl Abort, alloc: Global, e: &Expr, wanted: &[u8]) -> Result<(), Fail> {
-    assert_eq!(rt; printed(alloc, e)?.as_slice(), wanted);
-    assert_eq!(rt; printed(alloc, &e.copy(alloc)?)?.as_slice(), wanted);
-    Ok(())
+/// Tells whether an expression has a value that prints so.
+fn gives(alloc: Global, e: &Expr, wanted: &[u8]) -> Result<bool, Fail> {
+    match evaluated(alloc, e)? {
+        Ok(value) => prints(alloc, &value, wanted),
+        Err(_) => Ok(false),
+    }
 }
 
-/// Expressions, and what their values print.
-const VALUES: &[(&[Step], &[u8])] = &[
-    (&[Step::Column(2)], b"'a'"),
+/// An expression, and what the value of it and of its copy prints.
+struct Valued(&'static [Step], &'static [u8]);
+
+impl Case for Valued {
+    fn holds(&self, alloc: Global) -> Result<bool, Fail> {
+        let e = expression(alloc, self.0)?;
+        let copy = copy_of(alloc, &e)?;
+        Ok(gives(alloc, &e, self.1)? && gives(alloc, &copy, self.1)?)
+    }
+}
+
+const VALUES: &[Valued] = &[
+    Valued(&[Step::Column(2)], b"'a'"),
     // column 0 - 10
-    (&[Step::Column(0), Step::Integer(10), Step::Minus], b"-3"),
+    Valued(&[Step::Column(0), Step::Integer(10), Step::Minus], b"-3"),
     // column 0 / -2
-    (
+    Valued(
         &[
             Step::Column(0),
             Step::Integer(2),
@@ -247,24 +263,29 @@ const VALUES: &[(&[Step], &[u8])] = &[
         b"-3",
     ),
     // NULL / 0
-    (&[Step::Null, Step::Integer(0), Step::Over], b"NULL"),
+    Valued(&[Step::Null, Step::Integer(0), Step::Over], b"NULL"),
 ];
 
 #[test]
 fn arithmetic_is_exact_and_division_goes_toward_zero(rt: HostRuntime) -> Result<(), Fail> {
-    for (steps, wanted) in VALUES {
-        let e = expression(rt.alloc(), steps)?;
-        gives(&rt, rt.alloc(), &e, wanted)?;
-    }
-    Ok(())
+    hold_each(&rt, rt.alloc(), VALUES)
 }
+
+/// An expression that has no value.
+struct Unvalued(&'static [Step]);
+
+impl Case for Unvalued {
+    fn holds(&self, alloc: Global) -> Result<bool, Fail> {
+        let e = expression(alloc, self.0)?;
+        Ok(evaluated(alloc, &e)?.err() == Some(EvalFault::Arithmetic))
+    }
+}
+
+const UNVALUED: &[Unvalued] = &[Unvalued(&[Step::Integer(i64::MIN), Step::Negative])];
 
 #[test]
 fn a_number_past_the_greatest_is_a_fault(rt: HostRuntime) -> Result<(), Fail> {
-    let least = expression(rt.alloc(), &[Step::Integer(i64::MIN), Step::Negative])?;
-    let refused = evaluate(rt.alloc(), &least, &row(rt.alloc())?);
-    assert!(rt; matches!(refused, Err(EvalFault::Arithmetic)));
-    Ok(())
+    hold_each(&rt, rt.alloc(), UNVALUED)
 }
 
 #[test]

@@ -1,14 +1,14 @@
 //! Statements that are bound, and the refusal of each that is not.
 
+use super::cases::{Case, hold_each};
 use super::shapes::{Told, table_of};
 use super::texts::statement_of;
 use mg_expr::Expr;
 use mg_model::Table;
 use mg_plan::{Bound, PlanFault, bind};
-use mg_statements::Statement;
+use mg_statements::{Statement, let_go};
 use mg_value::{Kind, MOST_COLUMNS};
 use std::alloc::Global;
-use std::process::Abort;
 use std::test::Fail;
 
 /// KV (K BIGINT PRIMARY KEY, V BIGINT, T VARCHAR(3)).
@@ -18,69 +18,12 @@ const KV: &[Told] = &[
     (b"T", Kind::Text(3), false),
 ];
 
-/// Binds a statement to a table, for pages of so many bytes.
-fn bind_to(
-    rt: &impl Abort,
-    alloc: Global,
-    table: &Table,
-    s: &Statement,
-    size: u32,
-) -> Result<Bound, PlanFault> {
-    assert!(rt; table.shape.columns.as_slice().len() <= MOST_COLUMNS);
-    bind(alloc, s, Some(table), size)
-}
-
-/// The refusal of a statement of the table.
-fn refusal_of(rt: &impl Abort, alloc: Global, table: &Table, text: &[u8]) -> Option<PlanFault> {
-    bind_to(rt, alloc, table, &statement_of(rt, alloc, text), 4096).err()
-}
-
-/// A statement, and its refusal.
-const REFUSALS: &[(&[u8], Option<PlanFault>)] = &[
-    (b"SELECT X FROM KV", Some(PlanFault::NoColumn)),
-    (b"SELECT K = 1 FROM KV", Some(PlanFault::TypeMismatch)),
-    (b"SELECT * FROM KV ORDER BY X", Some(PlanFault::NoColumn)),
-    (b"SELECT SUM(T) FROM KV", Some(PlanFault::TypeMismatch)),
-    (b"SELECT SUM(NULL), COUNT(*) FROM KV WHERE T > 'a'", None),
-    (b"SELECT K, K FROM KV WHERE V IS NULL ORDER BY V", None),
-    (b"UPDATE KV SET X = 1, X = 2", Some(PlanFault::ColumnExists)),
-    (b"UPDATE KV SET K = X", Some(PlanFault::NoColumn)),
-    (b"UPDATE KV SET K = 'a'", Some(PlanFault::KeyChange)),
-    (b"UPDATE KV SET V = 'a'", Some(PlanFault::TypeMismatch)),
-    (b"UPDATE KV SET V = NULL, T = NULL WHERE K = V / 2", None),
-    (b"DELETE FROM KV WHERE K", Some(PlanFault::TypeMismatch)),
-    (
-        b"INSERT INTO KV (K, K) VALUES (1)",
-        Some(PlanFault::ColumnExists),
-    ),
-    (
-        b"INSERT INTO KV (K) VALUES (1, 2)",
-        Some(PlanFault::CountMismatch),
-    ),
-    (b"INSERT INTO KV VALUES (V, 1)", Some(PlanFault::NoColumn)),
-    (
-        b"INSERT INTO KV VALUES ('a', 1, NULL)",
-        Some(PlanFault::TypeMismatch),
-    ),
-    (b"INSERT INTO KV (T, K) VALUES ('abcd', -7 / 2)", None),
-];
-
-/// Wants each statement of the table to be refused so.
-fn are_refused(rt: &impl Abort, alloc: Global, table: &Table, rows: &[(&[u8], Option<PlanFault>)]) {
-    for (row, (text, wanted)) in rows.iter().enumerate() {
-        assert_eq!(rt; refusal_of(rt, alloc, table, text), *wanted, "{row}");
+/// Binds a statement to the table, for pages of so many bytes.
+fn bind_to(alloc: Global, table: &Table, s: &Statement) -> Result<Bound, PlanFault> {
+    if table.shape.columns.as_slice().len() > MOST_COLUMNS {
+        return Err(PlanFault::Memory);
     }
-}
-
-#[test]
-fn the_first_refusal_in_the_order_of_tests_stands(rt: HostRuntime) -> Result<(), Fail> {
-    are_refused(
-        &rt,
-        rt.alloc(),
-        &table_of(&rt, rt.alloc(), b"KV", KV)?,
-        REFUSALS,
-    );
-    Ok(())
+    bind(alloc, s, Some(table), 4096)
 }
 
 /// Binds a statement without a table.
@@ -88,28 +31,97 @@ fn bind_alone(alloc: Global, s: &Statement, size: u32) -> Result<Bound, PlanFaul
     bind(alloc, s, None, size)
 }
 
-/// The refusal of a new table.
-fn refusal_of_new(rt: &impl Abort, alloc: Global, text: &[u8], size: u32) -> Option<PlanFault> {
-    bind_alone(alloc, &statement_of(rt, alloc, text), size).err()
+/// The refusal of a statement.
+fn refusal_in(bound: Result<Bound, PlanFault>) -> Option<PlanFault> {
+    match bound {
+        Ok(bound) => {
+            mg_plan::let_go(bound);
+            None
+        }
+        Err(fault) => Some(fault),
+    }
+}
+
+/// The refusal of a statement of the table.
+fn refusal_of(alloc: Global, s: &Statement) -> Result<Option<PlanFault>, Fail> {
+    let table = table_of(alloc, b"KV", KV)?;
+    Ok(refusal_in(bind_to(alloc, &table, s)))
+}
+
+/// A statement of the table, and its refusal.
+struct Refused(&'static [u8], Option<PlanFault>);
+
+impl Case for Refused {
+    fn holds(&self, alloc: Global) -> Result<bool, Fail> {
+        let statement = statement_of(alloc, self.0)?;
+        let refusal = refusal_of(alloc, &statement);
+        let_go(statement);
+        Ok(refusal? == self.1)
+    }
+}
+
+const REFUSALS: &[Refused] = &[
+    Refused(b"SELECT X FROM KV", Some(PlanFault::NoColumn)),
+    Refused(b"SELECT K = 1 FROM KV", Some(PlanFault::TypeMismatch)),
+    Refused(b"SELECT * FROM KV ORDER BY X", Some(PlanFault::NoColumn)),
+    Refused(b"SELECT SUM(T) FROM KV", Some(PlanFault::TypeMismatch)),
+    Refused(b"SELECT SUM(NULL), COUNT(*) FROM KV WHERE T > 'a'", None),
+    Refused(b"SELECT K, K FROM KV WHERE V IS NULL ORDER BY V", None),
+    Refused(b"UPDATE KV SET X = 1, X = 2", Some(PlanFault::ColumnExists)),
+    Refused(b"UPDATE KV SET K = X", Some(PlanFault::NoColumn)),
+    Refused(b"UPDATE KV SET K = 'a'", Some(PlanFault::KeyChange)),
+    Refused(b"UPDATE KV SET V = 'a'", Some(PlanFault::TypeMismatch)),
+    Refused(b"UPDATE KV SET V = NULL, T = NULL WHERE K = V / 2", None),
+    Refused(b"DELETE FROM KV WHERE K", Some(PlanFault::TypeMismatch)),
+    Refused(
+        b"INSERT INTO KV (K, K) VALUES (1)",
+        Some(PlanFault::ColumnExists),
+    ),
+    Refused(
+        b"INSERT INTO KV (K) VALUES (1, 2)",
+        Some(PlanFault::CountMismatch),
+    ),
+    Refused(b"INSERT INTO KV VALUES (V, 1)", Some(PlanFault::NoColumn)),
+    Refused(
+        b"INSERT INTO KV VALUES ('a', 1, NULL)",
+        Some(PlanFault::TypeMismatch),
+    ),
+    Refused(b"INSERT INTO KV (T, K) VALUES ('abcd', -7 / 2)", None),
+];
+
+#[test]
+fn the_first_refusal_in_the_order_of_tests_stands(rt: HostRuntime) -> Result<(), Fail> {
+    hold_each(&rt, rt.alloc(), REFUSALS)
+}
+
+/// A new table, how many bytes a page has, and its refusal.
+struct New(&'static [u8], u32, Option<PlanFault>);
+
+impl Case for New {
+    fn holds(&self, alloc: Global) -> Result<bool, Fail> {
+        let statement = statement_of(alloc, self.0)?;
+        let refusal = refusal_in(bind_alone(alloc, &statement, self.1));
+        let_go(statement);
+        Ok(refusal == self.2)
+    }
 }
 
 const LONG: &[u8] = b"CREATE TABLE A (B VARCHAR(1000) PRIMARY KEY)";
 
-/// A new table, how many bytes a page has, and its refusal.
-const NEW_TABLES: &[(&[u8], u32, Option<PlanFault>)] = &[
-    (b"CREATE TABLE A (B BIGINT)", 1024, Some(PlanFault::OneKey)),
-    (
+const NEW_TABLES: &[New] = &[
+    New(b"CREATE TABLE A (B BIGINT)", 1024, Some(PlanFault::OneKey)),
+    New(
         b"CREATE TABLE A (B BIGINT PRIMARY KEY, B BIGINT)",
         1024,
         Some(PlanFault::ColumnExists),
     ),
-    (
+    New(
         b"CREATE TABLE A (B BIGINT PRIMARY KEY, C BIGINT PRIMARY KEY)",
         1024,
         Some(PlanFault::OneKey),
     ),
     // 1 byte of bits, 2 for the length, 1,000 for the text; half of 1024, an eighth of 4096
-    (
+    New(
         LONG,
         1024,
         Some(PlanFault::RowTooLong {
@@ -117,7 +129,7 @@ const NEW_TABLES: &[(&[u8], u32, Option<PlanFault>)] = &[
             limit: 512,
         }),
     ),
-    (
+    New(
         LONG,
         4096,
         Some(PlanFault::KeyTooLong {
@@ -125,8 +137,8 @@ const NEW_TABLES: &[(&[u8], u32, Option<PlanFault>)] = &[
             limit: 512,
         }),
     ),
-    (LONG, 16384, None),
-    (
+    New(LONG, 16384, None),
+    New(
         b"CREATE TABLE A (B BIGINT, C VARCHAR(62) PRIMARY KEY)",
         1024,
         None,
@@ -134,11 +146,8 @@ const NEW_TABLES: &[(&[u8], u32, Option<PlanFault>)] = &[
 ];
 
 #[test]
-fn a_new_table_has_one_key_and_short_rows(rt: HostRuntime) {
-    for (row, (text, size, wanted)) in NEW_TABLES.iter().enumerate() {
-        let found = refusal_of_new(&rt, rt.alloc(), text, *size);
-        assert_eq!(rt; found, *wanted, "{row}");
-    }
+fn a_new_table_has_one_key_and_short_rows(rt: HostRuntime) -> Result<(), Fail> {
+    hold_each(&rt, rt.alloc(), NEW_TABLES)
 }
 
 fn is_first_column(e: &Expr) -> bool {
@@ -163,20 +172,30 @@ fn sets_second_to_first(s: &Statement) -> bool {
     }
 }
 
-/// The statement of a text, bound to the table.
-fn bound_of(rt: &impl Abort, alloc: Global, table: &Table, text: &[u8]) -> Bound {
-    match bind_to(rt, alloc, table, &statement_of(rt, alloc, text), 4096) {
-        Ok(bound) => bound,
-        Err(fault) => panic!(rt; "{fault}"),
+/// Tells whether a statement is bound to the places 2 and 1, and its names are those of columns.
+fn is_bound(bound: &Bound) -> bool {
+    bound.places.as_slice() == [2, 1].as_slice() && sets_second_to_first(&bound.statement)
+}
+
+/// Tells whether a statement of the table is bound so.
+fn is_bound_to(alloc: Global, s: &Statement) -> Result<bool, Fail> {
+    let table = table_of(alloc, b"KV", KV)?;
+    match bind_to(alloc, &table, s) {
+        Ok(bound) => {
+            let is = is_bound(&bound);
+            mg_plan::let_go(bound);
+            Ok(is)
+        }
+        Err(_) => Ok(false),
     }
 }
 
 #[test]
 fn names_become_places(rt: HostRuntime) -> Result<(), Fail> {
-    let table = table_of(&rt, rt.alloc(), b"KV", KV)?;
     let text = b"UPDATE KV SET T = 'x', V = K WHERE T IS NULL";
-    let bound = bound_of(&rt, rt.alloc(), &table, text);
-    assert_eq!(rt; bound.places.as_slice(), [2, 1].as_slice());
-    assert!(rt; sets_second_to_first(&bound.statement));
+    let statement = statement_of(rt.alloc(), text)?;
+    let bound = is_bound_to(rt.alloc(), &statement);
+    let_go(statement);
+    assert!(rt; bound?);
     Ok(())
 }

@@ -3,7 +3,6 @@
 use mg_sql::parse;
 use mg_statements::Statement;
 use std::alloc::Global;
-use std::process::Abort;
 use std::test::Fail;
 
 /// Puts bytes so often behind a text.
@@ -31,10 +30,11 @@ pub fn nested(
     Ok(text)
 }
 
-/// The statement of a text that is one.
-pub fn statement_of(rt: &impl Abort, alloc: Global, text: &[u8]) -> Statement {
+/// The statement of a text that is one. Whoever has it lets it go by `let_go`: written out at each
+/// exit of a function, the end of a statement is dearer to prove than all else.
+pub fn statement_of(alloc: Global, text: &[u8]) -> Result<Statement, Fail> {
     match parse(alloc, text) {
-        Ok(statement) => statement,
-        Err(fault) => panic!(rt; "{fault}"),
+        Ok(statement) => Ok(statement),
+        Err(_) => Err("no statement")?,
     }
 }

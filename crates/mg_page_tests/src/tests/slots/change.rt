@@ -3,9 +3,10 @@
 ghost use Rattle.std.specs.Prelude.{◌<◌, ◌^◌, length};
 ghost use Rattle.mg_slots.specs.DataPage.{IsDataPage};
 
+use super::super::bytes::has_bytes;
 use super::deeds::{Deed, does_each};
 use mg_base::PageNo;
-use mg_slots::{new_data, put_cell};
+use mg_slots::{new_data, put_cell, room, slots};
 use std::alloc::Global;
 use std::process::Abort;
 use std::test::Fail;
@@ -73,21 +74,16 @@ fn a_page_of_4096_holds_92_records_of_an_anchor_and_a_version_of_25_bytes(
 ) -> Result<(), Fail> {
     let mut page = [0u8; 4096];
     new_data(&mut page, PageNo(4), 3, 0);
-    assert_eq!(rt; put_records(&mut page, &[2; 25]), 92);
+    assert!(rt; put_records(&mut page, &[2; 25]) == 92);
     // 4076 - 92 * 44 = 28 bytes are left: an anchor with its slot, and 13 bytes.
-    does_each(
-        &rt,
-        rt.alloc(),
-        &mut page,
-        &[Deed::Slots(185), Deed::Room(9)],
-    )
+    assert!(rt; slots(&page) == 185 && room(&page) == 9);
+    Ok(())
 }
 
 #[test]
 fn an_empty_page_has_its_common_part_no_slots_and_its_end_as_the_lowest_cell(rt: HostRuntime) {
-    let page = new_page();
     let front = [5u8, 0, 0, 0, 4, 0, 0, 0, 3, 0, 0, 0, 0, 0, 0, 0, 0, 0, 0, 4];
-    assert_eq!(rt; &page[..20], front.as_slice());
+    assert!(rt; has_bytes(&new_page(), 0, &front));
 }
 
 /// A page with twelve bytes 8 and the anchor.
@@ -102,10 +98,8 @@ fn page_of_two() -> [u8; 1024] {
 fn cells_lie_from_the_end_downward_in_the_order_of_their_slots(rt: HostRuntime) {
     let page = page_of_two();
     // Offsets 1012 and 1001.
-    let fields = [2u8, 0, 0xe9, 3, 0xf4, 3, 12, 0, 0xe9, 3, 11, 0];
-    assert_eq!(rt; &page[16..28], fields.as_slice());
-    assert_eq!(rt; &page[1001..1012], ANCHOR.as_slice());
-    assert_eq!(rt; &page[1012..], [8; 12].as_slice());
+    assert!(rt; has_bytes(&page, 16, &[2, 0, 0xe9, 3, 0xf4, 3, 12, 0, 0xe9, 3, 11, 0]));
+    assert!(rt; has_bytes(&page, 1001, &ANCHOR) && has_bytes(&page, 1012, &[8; 12]));
 }
 
 const THREE_CELLS: &[Deed] = &[

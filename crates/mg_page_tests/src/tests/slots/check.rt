@@ -24,27 +24,27 @@ fn new_page(rt: &impl Abort, alloc: Global) -> Result<[u8; 1024], Fail> {
     Ok(page)
 }
 
-/// Tests the page under a number, an owner and a place among the owner's pages.
-fn check(page: &[u8; 1024], place: (u32, u32, u32)) -> Result<(), Damaged> {
-    let (number, owner, sequence) = place;
-    check_data(page, PageNo(number), owner, sequence)
-}
+/// A number, an owner and a place among the owner's pages, and whether the page is lawful there.
+const PLACES: &[(u32, u32, u32, bool)] = &[
+    (4, 3, 0, true),
+    (5, 3, 0, false),
+    (4, 2, 0, false),
+    (4, 3, 1, false),
+];
 
 #[test]
 fn a_page_is_lawful_under_its_own_number_owner_and_sequence(rt: HostRuntime) -> Result<(), Fail> {
     let page = new_page(&rt, rt.alloc())?;
-    assert_eq!(rt; check(&page, (4, 3, 0)), Ok(()));
-    for other in [(5, 3, 0), (4, 2, 0), (4, 3, 1)] {
-        assert!(rt; check(&page, other).is_err());
+    for (number, owner, sequence, lawful) in PLACES {
+        let checked = check_data(&page, PageNo(*number), *owner, *sequence);
+        assert!(rt; checked.is_ok() == *lawful);
     }
     Ok(())
 }
 
 /// Two bytes that are put at a place, after the lowest byte that a cell uses; then the field that
 /// is told, and the numbers found and wanted.
-type Broken = (usize, u16, u16, Field, u64, u64);
-
-const BROKEN: &[Broken] = &[
+const BROKEN: &[(usize, u16, u16, Field, u64, u64)] = &[
     (0, 4, 962, Field::Kind, 4, 5),
     (0, 256 + 5, 962, Field::Flags, 1, 0),
     (2, 7, 962, Field::Zero, 7, 0),
@@ -80,22 +80,26 @@ fn broken_page(page: &[u8; 1024], at: usize, value: u16, low: u16) -> [u8; 1024]
     broken
 }
 
-/// Wants the page to be damaged as each row says.
-fn tells_each(rt: &impl Abort, page: &[u8; 1024], rows: &[Broken]) {
-    for (at, value, low, field, found, wanted) in rows {
-        let damage = Damaged {
-            page: PageNo(4),
-            field: *field,
-            found: *found,
-            wanted: *wanted,
-        };
-        let broken = broken_page(page, *at, *value, *low);
-        assert_eq!(rt; check(&broken, (4, 3, 0)), Err(damage), "{value} at {at}");
-    }
+/// Tells whether a page is damaged at a field.
+fn is_damaged(page: &[u8; 1024], field: Field, found: u64, wanted: u64) -> bool {
+    let damage = Damaged {
+        page: PageNo(4),
+        field,
+        found,
+        wanted,
+    };
+    check_data(page, PageNo(4), 3, 0) == Err(damage)
 }
 
 #[test]
 fn the_first_field_that_differs_is_named(rt: HostRuntime) -> Result<(), Fail> {
-    tells_each(&rt, &new_page(&rt, rt.alloc())?, BROKEN);
+    let page = new_page(&rt, rt.alloc())?;
+    for (at, value, low, field, found, wanted) in BROKEN {
+        let broken = broken_page(&page, *at, *value, *low);
+        assert!(rt;
+            is_damaged(&broken, *field, *found, *wanted),
+            "{value} at {at}"
+        );
+    }
     Ok(())
 }
