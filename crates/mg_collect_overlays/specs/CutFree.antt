@@ -14,19 +14,19 @@ use Rattle.mg_image.specs.RecordRules.{Facts, table_in}
 use Rattle.mg_image.specs.Records.{Reading, Stands, cells_of}
 use Rattle.mg_image.specs.Sound.{IsSoundBy, facts_by}
 use Rattle.mg_image.specs.Tables.{Layout}
-use Rattle.mg_kept_images.specs.CutFronts.{unread as cut_unread}
-use Rattle.mg_kept_images.specs.Cuts.{IsCommittedAt, behind}
-use Rattle.mg_kept_images.specs.Fronts.{HasFronts, living}
-use Rattle.mg_kept_images.specs.Kinds.{HasNoSequences}
-use Rattle.mg_kept_images.specs.Rest.{LeavesRest, LeavesRests}
-use Rattle.mg_kept_images.specs.Trees.{data_leaves, trees_stay}
-use Rattle.mg_kept_images.specs.KeptImages.{IsKept, keeping}
-use Rattle.mg_kept_images.specs.StartLaws.{front_self}
+use Rattle.mg_image_overlays.specs.CutFronts.{unread as cut_unread}
+use Rattle.mg_image_overlays.specs.Cuts.{IsCommittedAt, behind}
+use Rattle.mg_image_overlays.specs.Fronts.{HasFronts, living}
+use Rattle.mg_image_overlays.specs.Kinds.{HasNoSequences}
+use Rattle.mg_image_overlays.specs.Rest.{LeavesRest, LeavesRests}
+use Rattle.mg_image_overlays.specs.Trees.{data_leaves, trees_stay}
+use Rattle.mg_image_overlays.specs.KeptImages.{IsKept, keeping}
+use Rattle.mg_image_overlays.specs.StartLaws.{front_self}
 use Rattle.mg_overlays.specs.BatchLaws.{change_keeps_always}
 use Rattle.mg_overlays.specs.Overlays.{ChangesCache, EveryOverlay, KeepsLaidAlways, KeepsNeeds, left_state}
 use Rattle.mg_overlays.specs.Views.{LaysPage, first_view, last_view, partly, step_in, step_out}
 use Rattle.mg_collect_overlays.specs.Frees.{FreesAll, IsUnread, Places, free_all}
-use Rattle.mg_record_overlays.specs.Cut.{CutsPage, cut_in, cut_out, laid_page}
+use Rattle.mg_image_overlays.specs.Cut.{CutsPage, cut_in, cut_out, laid_page}
 
 -- The version is a committed one of a record of a table, and these cells are those of versions behind it.
 pub record FindsBehind (f : Facts) (r : Reading) (p x : RecId) (cells : Places) : Type 0 where

@@ -22,21 +22,21 @@ use Rattle.mg_image.specs.Records.{Chain, Changes, Reading, Stands, cells_of, ne
 use Rattle.mg_image.specs.Sound.{IsSoundBy, facts_by}
 use Rattle.mg_image.specs.StepLaws.{put_cases, put_reading}
 use Rattle.mg_image.specs.Tables.{Layout}
-use Rattle.mg_kept_images.specs.DataPages.{ChangesData}
-use Rattle.mg_kept_images.specs.Fronts.{IsFront, living}
-use Rattle.mg_kept_images.specs.Kinds.{HasNoSequences}
-use Rattle.mg_kept_images.specs.QuietVersions.{IsQuiet}
-use Rattle.mg_kept_images.specs.Rest.{LeavesRest, LeavesRests}
-use Rattle.mg_kept_images.specs.Trees.{data_leaves, trees_stay}
-use Rattle.mg_kept_images.specs.KeptImages.{IsKept, keeping}
+use Rattle.mg_image_overlays.specs.DataPages.{ChangesData}
+use Rattle.mg_image_overlays.specs.Fronts.{IsFront, living}
+use Rattle.mg_image_overlays.specs.Kinds.{HasNoSequences}
+use Rattle.mg_image_overlays.specs.QuietVersions.{IsQuiet}
+use Rattle.mg_image_overlays.specs.Rest.{LeavesRest, LeavesRests}
+use Rattle.mg_image_overlays.specs.Trees.{data_leaves, trees_stay}
+use Rattle.mg_image_overlays.specs.KeptImages.{IsKept, keeping}
 use Rattle.mg_overlays.specs.BatchLaws.{change_keeps_always}
 use Rattle.mg_overlays.specs.Overlays.{ChangesCache, EveryOverlay, KeepsLaidAlways, KeepsNeeds, left_state}
 use Rattle.mg_overlays.specs.Views.{LaysPage, first_view, last_view, partly, step_in, step_out}
-use Rattle.mg_table_overlays.specs.OwnVersion.{in_pool_too}
-use Rattle.mg_table_overlays.specs.TakeOut.{clear_sound, living_settled}
+use Rattle.mg_image_overlays.specs.OwnVersion.{in_pool_too}
+use Rattle.mg_image_overlays.specs.TakeOut.{clear_sound, living_settled}
 use Rattle.mg_collect_overlays.specs.Frees.{FreesAll, IsUnread, Places, free_all}
-use Rattle.mg_record_overlays.specs.PushPart.{cells_alike, cells_laid, page_laid}
-use Rattle.mg_record_overlays.specs.QuietSteps.{StepsQuietly, quiet_in, quiet_out}
+use Rattle.mg_image_overlays.specs.PushPart.{cells_alike, cells_laid, page_laid}
+use Rattle.mg_image_overlays.specs.QuietSteps.{StepsQuietly, quiet_in, quiet_out}
 
 -- A record's slot is freed on its page.
 pub record FreesSlot (in_primary : Bool) (old new : Pages) (p : RecId) (l : Link) : Type 0 where

@@ -14,7 +14,7 @@
 //! program here: each function does nothing, and its contract is a law.
 //!
 //! Invariant: none, it keeps no state.
-//! Below: `mg_record_overlays`, the cut alone; `mg_table_overlays`, that a dead version is taken out. Above:
+//! Below: `mg_image_overlays`, the cut alone; `mg_image_overlays`, that a dead version is taken out. Above:
 //! the engine, which collects.
 //! Not here: who sees what.
 #![tactic(auto)]

@@ -1,2 +1,8 @@
-mod BearingLemmas
 mod AllLemmas
+mod BearingLemmas
+mod ListLemmas
+mod NeededLemmas
+mod RowLemmas
+mod RunLemmas
+mod SoundLemmas
+mod StartLemmas

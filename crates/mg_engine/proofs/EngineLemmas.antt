@@ -17,10 +17,10 @@ use Rattle.mg_core.specs.Committing.{AsksCommit, StepsCommit}
 use Rattle.mg_core.specs.Cores.{Continues, RefusesCall}
 use Rattle.mg_core.specs.Ending.{Commits, RefusesCommit}
 use Rattle.mg_core.specs.Events.{EndsWait, IsRefused, Looks, RollsBack, SetsPoint}
-use Rattle.mg_engine_calls.specs.Looks.{LooksGoOn}
+use Rattle.mg_engine_meaning.specs.Looks.{LooksGoOn}
 use Rattle.mg_engine_meaning.specs.Frames.{GivesEvent}
 use Rattle.mg_engine_meaning.specs.Laws.{FoundGoesOn, GoesOnOr, MarksGoOn, SavepointsGoOn, TellsFound}
-use Rattle.mg_engine_calls.specs.Ends.{CommitsGo, GivesDurable, RollbacksGo}
+use Rattle.mg_engine_meaning.specs.Ends.{CommitsGo, GivesDurable, RollbacksGo}
 use Rattle.mg_engine_meaning.specs.Meaning.{HasWrittenAll, Places}
 use Rattle.mg_engine_meaning.specs.Standings.{asked_in}
 use Rattle.mg_engine_meaning.specs.Steps.{AddsNone, AsksGoOn, StepsGoOn}

@@ -16,7 +16,7 @@ use Rattle.mg_engine.specs.Engines.{IsEngine}
 use Rattle.mg_engine_changes.specs.MakingSteps.{AreNamed, CreationsKeepApart, GivesTable, MayHave, RefusalsKeepApart, TablesAreMade, TablesAreRefused}
 use Rattle.mg_engine_meaning.specs.Meaning.{Places, means}
 use Rattle.mg_engine_changes.specs.Notes.{AreCounts}
-use Rattle.mg_making_no_damage.specs.Creations.{CreationsMeetNone}
+use Rattle.mg_no_damage.specs.Creations.{CreationsMeetNone}
 use Rattle.mg_engine.proofs.ToldLemmas.{undamaged_as}
 
 module _ {D P : Type 0} (m : Meaning D) (places : Places P) (inside old new : Core D) (same : inside ≡ old)

@@ -3,8 +3,8 @@ use Rattle.std.proofs.Common.{◌≡◌, inl, inr, ℕ, Option, Some, ap, subst}
 use Rattle.mg_base.specs.Disk.{Meaning}
 use Rattle.mg_core.specs.declared.parts.Core.{Core}
 use Rattle.mg_engine_changes.specs.Outcomes.{IsRolledShort}
-use Rattle.mg_engine_faults.specs.Told.{TellsFaults}
-use Rattle.mg_engine_no_damage.specs.Stands.{DamageStands}
+use Rattle.mg_engine_changes.specs.Told.{TellsFaults}
+use Rattle.mg_no_damage.specs.Stands.{DamageStands}
 use Rattle.mg_engine_meaning.specs.Meaning.{Places, means}
 use Rattle.mg_model.specs.declared.refusal.Refusal.{Refusal}
 use Rattle.mg_records.specs.Keeping.{FaultsAreTold, MeetsNoDamage}

@@ -26,7 +26,7 @@ use Rattle.mg_works.specs.Works.{AreApart, MayBeGiven, given_to}
 use Rattle.mg_engine.specs.Engines.{IsEngine}
 use Rattle.mg_engine_meaning.specs.Frames.{GivesEvent}
 use Rattle.mg_engine_meaning.specs.Meaning.{Places, means}
-use Rattle.mg_engine_no_damage.specs.Calls.{WritesMeetNone}
+use Rattle.mg_no_damage.specs.Calls.{WritesMeetNone}
 use Rattle.mg_engine.proofs.ToldLemmas.{undamaged_as}
 use Rattle.mg_engine_changes.specs.Steps.{NotedFailsApart, NotedFailsGive, NotedWritesApart, NotedWritesGive}
 use Rattle.mg_engine_changes.specs.Notes.{AreCounts}

@@ -8,18 +8,18 @@ ghost use Rattle.mg_records.specs.Keeping.{FaultsAreTold, Leaves, MeetsNoDamage,
 ghost use Rattle.mg_records.specs.Sessions.{SessionsStay, begun_in};
 ghost use Rattle.mg_txlist.specs.TxList.{next_said};
 ghost use Rattle.mg_core.specs.Committing.{WritesPage};
-ghost use Rattle.mg_engine_calls.specs.Begins.{HasCounts};
-ghost use Rattle.mg_engine_calls.specs.NextPages.{WritesNext};
+ghost use Rattle.mg_engine_meaning.specs.Begins.{HasCounts};
+ghost use Rattle.mg_engine_meaning.specs.NextPages.{WritesNext};
 ghost use Rattle.mg_engine_meaning.specs.Meaning.{means};
 ghost use Rattle.mg_engine.specs.Places.{places};
 
 use crate::engine::Engine;
 use mg_base::{Disk, Markers, PageNo, TxNo};
 use mg_core::{Core, Place};
-use mg_engine_calls::{begins_give, next_pages_go_on};
-use mg_engine_faults::{begins_tell_faults, page_writes_tell_faults};
-use mg_engine_no_damage::{begins_meet_no_damage, commits_meet_no_damage};
+use mg_engine_changes::{begins_tell_faults, page_writes_tell_faults};
+use mg_engine_meaning::{begins_give, next_pages_go_on};
 use mg_model::{Mode, Refusal};
+use mg_no_damage::{begins_meet_no_damage, commits_meet_no_damage};
 
 impl<D: Disk> Engine<D> {
     /// Begins a transaction for a session that has no active one, with the next number, which is drawn on the

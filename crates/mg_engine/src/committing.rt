@@ -12,10 +12,10 @@ ghost use Rattle.mg_engine.specs.Places.{places};
 use crate::engine::Engine;
 use mg_base::{Disk, TxNo};
 use mg_core::Place;
-use mg_engine_faults::page_writes_tell_faults;
+use mg_engine_changes::page_writes_tell_faults;
 use mg_engine_meaning::steps_go_on;
-use mg_engine_no_damage::commits_meet_no_damage;
 use mg_model::Refusal;
+use mg_no_damage::commits_meet_no_damage;
 
 impl<D: Disk> Engine<D> {
     /// Asks for a commit: what the transaction's commit has to write first is noted.

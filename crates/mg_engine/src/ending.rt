@@ -12,10 +12,10 @@ ghost use Rattle.mg_engine.specs.Places.{places};
 use crate::engine::Engine;
 use mg_base::{Disk, TxNo};
 use mg_core::Place;
-use mg_engine_calls::{commits_go, rollbacks_go};
-use mg_engine_faults::{commits_tell_faults, events_tell_faults};
-use mg_engine_no_damage::{commits_meet_no_damage, events_meet_no_damage};
+use mg_engine_changes::{commits_tell_faults, events_tell_faults};
+use mg_engine_meaning::{commits_go, rollbacks_go};
 use mg_model::Refusal;
+use mg_no_damage::{commits_meet_no_damage, events_meet_no_damage};
 
 impl<D: Disk> Engine<D> {
     /// Commits a transaction, once all that was noted is written.

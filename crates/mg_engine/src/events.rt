@@ -13,12 +13,11 @@ ghost use Rattle.mg_engine.specs.Places.{places};
 use crate::engine::Engine;
 use mg_base::{Disk, TxNo};
 use mg_core::Place;
-use mg_engine_calls::looks_go_on;
-use mg_engine_faults::events_tell_faults;
-use mg_engine_meaning::points_go_on;
-use mg_engine_no_damage::events_meet_no_damage;
+use mg_engine_changes::events_tell_faults;
+use mg_engine_meaning::{looks_go_on, points_go_on};
 use mg_expr::Expr;
 use mg_model::{Refusal, Rows};
+use mg_no_damage::events_meet_no_damage;
 use mg_value::Name;
 
 impl<D: Disk> Engine<D> {

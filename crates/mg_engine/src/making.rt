@@ -15,10 +15,9 @@ use crate::engine::Engine;
 use crate::reading::counts_fit;
 use mg_base::{Disk, TxNo};
 use mg_core::Place;
-use mg_engine_changes::{creations_keep_apart, tables_are_made};
-use mg_engine_faults::changes_tell_faults;
-use mg_making_no_damage::creations_meet_no_damage;
+use mg_engine_changes::{changes_tell_faults, creations_keep_apart, tables_are_made};
 use mg_model::Refusal;
+use mg_no_damage::creations_meet_no_damage;
 use mg_table_making::create_table;
 use mg_value::{Column, Name, Shape};
 

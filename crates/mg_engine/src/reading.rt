@@ -9,18 +9,18 @@ ghost use Rattle.mg_records.specs.Keeping.{FaultsAreTold, MeetsNoDamage, Reads, 
 ghost use Rattle.mg_records.specs.Reading.{IsPlace, IsTableGiven, Nears, TellsTable, Visits};
 ghost use Rattle.mg_records.specs.Sessions.{SessionsStay};
 ghost use Rattle.mg_engine_meaning.specs.Meaning.{means};
-ghost use Rattle.mg_engine_calls.specs.Reads.{IsInRank};
-ghost use Rattle.mg_engine_no_damage.specs.Walks.{IsShortPlace};
+ghost use Rattle.mg_engine_meaning.specs.Reads.{IsInRank};
+ghost use Rattle.mg_no_damage.specs.Walks.{IsShortPlace};
 ghost use Rattle.mg_core.specs.Scanning.{rank};
 ghost use Rattle.mg_engine.specs.Places.{places};
 
 use crate::engine::Engine;
 use mg_base::{Disk, Memory, TxNo};
 use mg_core::Place;
-use mg_engine_calls::{tables_go_on, visits_go_on};
-use mg_engine_faults::readings_tell_faults;
-use mg_engine_no_damage::{tables_meet_no_damage, visits_meet_no_damage};
+use mg_engine_changes::readings_tell_faults;
+use mg_engine_meaning::{tables_go_on, visits_go_on};
 use mg_model::{Refusal, Table};
+use mg_no_damage::{tables_meet_no_damage, visits_meet_no_damage};
 use mg_records::Found;
 use mg_value::Name;
 use std::alloc::Global;

@@ -15,7 +15,7 @@ use Rattle.mg_engine_meaning.specs.KeptLaws.{kept_with_work}
 use Rattle.mg_engine_meaning.specs.LawfulLaws.{quiet_count, quiet_event}
 use Rattle.mg_engine_meaning.specs.MemoryCallLaws.{active_answer}
 use Rattle.mg_engine_meaning.specs.Standings.{KeepsWritten, ShowsIt, StandsFor, asked_in, asked_kept, sessions_in, standing_of}
-use Rattle.mg_engine_writes.specs.Midway.{GoesBack}
+use Rattle.mg_engine_steps.specs.Midway.{GoesBack}
 use Rattle.mg_model.specs.History.{Entries, entry}
 use Rattle.mg_model.specs.Legal.{MayBegin}
 use Rattle.mg_model.specs.Machine.{deeds_by, state_of, steps}

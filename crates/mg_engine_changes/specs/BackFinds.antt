@@ -1,8 +1,8 @@
 -- Which tables each active transaction finds after one has taken back to a point.
 use Rattle.std.specs.Prelude.{◌≡◌, ℕ, List, [], Some}
 use Rattle.mg_base.specs.declared.transaction.TxState.TheVariants.{Active}
-use Rattle.mg_engine_writes.specs.Again.{AreTaken}
-use Rattle.mg_engine_writes.specs.Shown.{ShowsMidway}
+use Rattle.mg_engine_steps.specs.Again.{AreTaken}
+use Rattle.mg_engine_steps.specs.Shown.{ShowsMidway}
 use Rattle.mg_image.specs.Form.{Pages, packed_form}
 use Rattle.mg_model.specs.History.{Entries, Entry, TakesBack, effect_of}
 use Rattle.mg_model.specs.declared.change.Change.{Change}

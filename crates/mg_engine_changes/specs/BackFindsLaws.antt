@@ -5,9 +5,9 @@ use Rattle.std.proofs.Math.Path.{fun_ext}
 use Rattle.std.proofs.lemmas.Bool.{eqb-true, false≢true}
 use Rattle.mg_base.specs.declared.transaction.TxState.{TxState}
 use Rattle.mg_base.specs.declared.transaction.TxState.TheVariants.{Active}
-use Rattle.mg_engine_writes.specs.Again.{AreTaken}
-use Rattle.mg_engine_writes.specs.OwnChains.{change_there, none_second}
-use Rattle.mg_engine_writes.specs.Shown.{ShowsMidway}
+use Rattle.mg_engine_steps.specs.Again.{AreTaken}
+use Rattle.mg_engine_steps.specs.OwnChains.{change_there, none_second}
+use Rattle.mg_engine_steps.specs.Shown.{ShowsMidway}
 use Rattle.mg_engine_changes.specs.BackFinds.{BackFinds}
 use Rattle.mg_image.specs.Form.{Pages, packed_form}
 use Rattle.mg_image.specs.Histories.{newest_at}
@@ -23,7 +23,7 @@ use Rattle.mg_model.specs.declared.change.Change.{Change}
 use Rattle.mg_model.specs.declared.change.Point.{Point}
 use Rattle.mg_model.specs.declared.opening.Opening.{Opening}
 use Rattle.mg_model.specs.declared.table.Table.{Table}
-use Rattle.mg_table_overlays.specs.OneLayout.{StandsOneWay}
+use Rattle.mg_image_overlays.specs.OneLayout.{StandsOneWay}
 use Rattle.mg_overlays.specs.Overlays.{left_by, left_state}
 use Rattle.mg_engine_steps.specs.Following.{FollowsEntry, KeepsTables, OthersKeepTables}
 use Rattle.mg_engine_steps.specs.Standing.{FindsTables, HasFirstPage, ShowsHistory, Standing}

@@ -27,9 +27,9 @@ use Rattle.mg_engine_changes.specs.Backs.{BacksGoOn, BeginsBack}
 use Rattle.mg_engine_changes.specs.Memory.{IsBackInMemory}
 use Rattle.mg_engine_changes.specs.TakingSteps.{StandsMidway}
 use Rattle.mg_engine_changes.specs.ToTake.{SinceAreTaken, since_point}
-use Rattle.mg_engine_writes.specs.Midway.{GoesBack, MidwaysBegin}
-use Rattle.mg_engine_writes.specs.Shown.{ShowsFirst}
-use Rattle.mg_engine_writes.specs.Unasked.{UnaskingLasts}
+use Rattle.mg_engine_steps.specs.Midway.{GoesBack, MidwaysBegin}
+use Rattle.mg_engine_steps.specs.Shown.{ShowsFirst}
+use Rattle.mg_engine_steps.specs.Unasked.{UnaskingLasts}
 use Rattle.mg_grown_catalogs.specs.Grown.{makes_alone}
 use Rattle.mg_image.specs.Form.{Pages, packed_form}
 use Rattle.mg_image.specs.Tables.{Stand, stands_of}
@@ -50,9 +50,9 @@ use Rattle.mg_overlays.specs.Overlays.{left_state}
 use Rattle.mg_pool.specs.Pool.{shown}
 use Rattle.mg_pool_overlays.specs.Needs.{Asked, Sessions}
 use Rattle.mg_space.specs.declared.links.FireLinks.{FireLinks}
-use Rattle.mg_kept_images.specs.KeptImages.{AreFrontStands}
-use Rattle.mg_kept_images.specs.TableOwners.{IsOneOf}
-use Rattle.mg_table_overlays.specs.OneLayout.{StandsOneWay}
+use Rattle.mg_image_overlays.specs.KeptImages.{AreFrontStands}
+use Rattle.mg_image_overlays.specs.TableOwners.{IsOneOf}
+use Rattle.mg_image_overlays.specs.OneLayout.{StandsOneWay}
 use Rattle.mg_taking_back.specs.Taking.{TakesBackTo, TakesChanges, not_asking, works_back}
 use Rattle.mg_txlist.specs.TxList.{said}
 use Rattle.mg_undo.specs.Machine.{first_of, going_to}

@@ -2,7 +2,7 @@
 use Rattle.std.specs.Prelude.{ℕ, List}
 use Rattle.mg_base.specs.Disk.{Meaning}
 use Rattle.mg_base.specs.Image.{Image}
-use Rattle.mg_engine_writes.specs.Midway.{GoesBack}
+use Rattle.mg_engine_steps.specs.Midway.{GoesBack}
 use Rattle.mg_engine_meaning.specs.PlainTables.{HasPlainTables}
 use Rattle.mg_engine_changes.specs.Tips.{KeepsTips}
 use Rattle.mg_engine_changes.specs.TakingSteps.{StandsMidway, TakesKeysOf}

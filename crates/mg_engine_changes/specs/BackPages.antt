@@ -2,11 +2,11 @@
 use Rattle.std.specs.Prelude.{ℕ, List}
 use Rattle.mg_base.specs.Disk.{Meaning}
 use Rattle.mg_base.specs.Image.{Image}
-use Rattle.mg_engine_writes.specs.Midway.{GoesBack}
+use Rattle.mg_engine_steps.specs.Midway.{GoesBack}
 use Rattle.mg_engine_changes.specs.TakingSteps.{StandsMidway, TakesKeysOf}
 use Rattle.mg_image.specs.Form.{Pages, packed_form}
 use Rattle.mg_image.specs.Tables.{stands_of}
-use Rattle.mg_kept_images.specs.KeptImages.{AreFrontStands}
+use Rattle.mg_image_overlays.specs.KeptImages.{AreFrontStands}
 use Rattle.mg_model.specs.History.{Entries, Entry}
 use Rattle.mg_model.specs.Legal.{IsLegal, MayBegin}
 use Rattle.mg_model.specs.declared.change.Change.{Change}

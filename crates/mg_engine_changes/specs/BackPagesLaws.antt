@@ -5,31 +5,31 @@ use Rattle.mg_base.specs.Image.{Image}
 use Rattle.mg_base.specs.declared.numbers.RecId.{RecId}
 use Rattle.mg_base.specs.declared.transaction.TxState.{TxState}
 use Rattle.mg_chain.specs.Writing.{Moves, OverwritesOrMoves, PutsAt, Replaces, link_to}
-use Rattle.mg_chain_ties.specs.BackTies as back_ties
-use Rattle.mg_chain_ties.specs.MoveTies.{moves_pages, puts, some_grows}
-use Rattle.mg_chain_ties.specs.PlaceTies.{replaces_page}
-use Rattle.mg_chain_ties.specs.PushTies.{written}
-use Rattle.mg_chain_ties.specs.PutTies.{PutsGiven}
-use Rattle.mg_chain_ties.specs.Rows.{ForEach}
+use Rattle.mg_ties.specs.BackTies as back_ties
+use Rattle.mg_ties.specs.MoveTies.{moves_pages, puts, some_grows}
+use Rattle.mg_ties.specs.PlaceTies.{replaces_page}
+use Rattle.mg_ties.specs.PushTies.{written}
+use Rattle.mg_ties.specs.PutTies.{PutsGiven}
+use Rattle.mg_ties.specs.Rows.{ForEach}
 use Rattle.mg_engine_changes.specs.BackPages.{KeysKeepPages}
-use Rattle.mg_engine_writes.specs.Again.{again, without_key}
-use Rattle.mg_engine_writes.specs.Midway.{GoesBack, IsBackAt, IsMidway, KeysComeBack, KeysGoOut}
-use Rattle.mg_engine_writes.specs.Shown.{TakesKeyBack}
-use Rattle.mg_engine_writes.specs.TablePages.{HasLater, MovesKeepPages, PagesAreKeptOn, ReplacementsKeepPages, TakingOutKeepsPages}
+use Rattle.mg_engine_steps.specs.Again.{again, without_key}
+use Rattle.mg_engine_steps.specs.Midway.{GoesBack, IsBackAt, IsMidway, KeysComeBack, KeysGoOut}
+use Rattle.mg_engine_steps.specs.Shown.{TakesKeyBack}
+use Rattle.mg_engine_steps.specs.WrittenTablePages.{HasLater, MovesKeepPages, PagesAreKeptOn, ReplacementsKeepPages, TakingOutKeepsPages}
 use Rattle.mg_engine_steps.specs.Batches.{ReadsLast}
 use Rattle.mg_engine_steps.specs.GoesOnLaws.{pool_is_kept}
 use Rattle.mg_engine_changes.specs.TakingStepLaws.{read_midway}
 use Rattle.mg_engine_changes.specs.TakingSteps.{ComesBack, GoesOut, KeysGoOn, StandsMidway, TakesKeyOf, TakesKeysOf, no_keys, one_key}
-use Rattle.mg_engine_writes.specs.Choices.{placed}
-use Rattle.mg_engine_writes.specs.Knowing.{WasChanged}
-use Rattle.mg_table_overlays.specs.Growing.{IsTableOf}
-use Rattle.mg_heap_ties.specs.RoomTies.{GrowsSome, end_of, ends_there}
+use Rattle.mg_engine_steps.specs.Choices.{placed}
+use Rattle.mg_engine_steps.specs.Knowing.{WasChanged}
+use Rattle.mg_image_overlays.specs.Growing.{IsTableOf}
+use Rattle.mg_ties.specs.RoomTies.{GrowsSome, end_of, ends_there}
 use Rattle.mg_image.specs.Form.{Pages, packed_coding, packed_form}
 use Rattle.mg_image.specs.ReadingLaws.{RowsAreOne}
 use Rattle.mg_image.specs.Sound.{IsSoundBy}
 use Rattle.mg_image.specs.Tables.{Layout, Stand, stands_of, table_at}
-use Rattle.mg_kept_images.specs.Kinds.{HasNoSequences}
-use Rattle.mg_kept_images.specs.KeptImages.{AreFrontStands, IsFrontOf, IsKept}
+use Rattle.mg_image_overlays.specs.Kinds.{HasNoSequences}
+use Rattle.mg_image_overlays.specs.KeptImages.{AreFrontStands, IsFrontOf, IsKept}
 use Rattle.mg_model.specs.History.{Entries, Entry}
 use Rattle.mg_model.specs.Legal.{IsLegal, MayBegin}
 use Rattle.mg_model.specs.Openings.{everyone}
@@ -37,7 +37,7 @@ use Rattle.mg_model.specs.declared.change.Change.{Change}
 use Rattle.mg_model.specs.declared.change.Point.{Point}
 use Rattle.mg_model.specs.declared.opening.Opening.{Opening}
 use Rattle.mg_model.specs.declared.table.Table.{Table}
-use Rattle.mg_table_overlays.specs.OneLayout.{StandsOneWay}
+use Rattle.mg_image_overlays.specs.OneLayout.{StandsOneWay}
 use Rattle.mg_overlays.specs.Overlays.{left_state}
 use Rattle.mg_pool.specs.Batch.{Changed, content_in, lists}
 use Rattle.mg_pool.specs.Dirty.{DirtyPages}
@@ -46,7 +46,7 @@ use Rattle.mg_pool.specs.declared.pool.Pool.{Pool}
 use Rattle.mg_pool_overlays.specs.Needs.{Asked, Sessions}
 use Rattle.mg_slots.specs.Room.{need_of}
 use Rattle.mg_space.specs.View.{viewed}
-use Rattle.mg_space_ties.specs.Changed.{KeptIn, fresh}
+use Rattle.mg_ties.specs.Changed.{KeptIn, fresh}
 use Rattle.mg_engine_steps.specs.Standing.{Remembers, ShowsHistory, Standing}
 use Rattle.mg_value.specs.declared.value.Value.{Value}
 

@@ -4,10 +4,10 @@ use Rattle.mg_base.specs.Disk.{MayLeave, Meaning}
 use Rattle.mg_base.specs.Image.{Image}
 use Rattle.mg_base.specs.Moments.{joined, leaves_as}
 use Rattle.mg_engine_changes.specs.BackStops.{StopsAreGivenUp, StopsReading, WritesFailMidway}
-use Rattle.mg_engine_writes.specs.Again.{AreTaken, rolling}
-use Rattle.mg_engine_writes.specs.Midway.{IsMidway, MidwaysBegin}
-use Rattle.mg_engine_writes.specs.MidwayLaws.{holds_back}
-use Rattle.mg_engine_writes.specs.Shown.{ShowsFirst, ShowsMidway}
+use Rattle.mg_engine_steps.specs.Again.{AreTaken, rolling}
+use Rattle.mg_engine_steps.specs.Midway.{IsMidway, MidwaysBegin}
+use Rattle.mg_engine_steps.specs.MidwayLaws.{holds_back}
+use Rattle.mg_engine_steps.specs.Shown.{ShowsFirst, ShowsMidway}
 use Rattle.mg_engine_steps.specs.PageWrites.{KeepAsking}
 use Rattle.mg_engine_changes.specs.GivenUp.{EnginesGiveUp, GivesUp}
 use Rattle.mg_engine_steps.specs.Batches.{ReadsLast}

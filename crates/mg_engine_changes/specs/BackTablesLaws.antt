@@ -11,8 +11,8 @@ use Rattle.mg_engine_changes.specs.BackTables.{ItsTablesMayBeWritten}
 use Rattle.mg_engine_meaning.specs.PlainTables.{HasPlainTables}
 use Rattle.mg_engine_changes.specs.ChoiceTables.{none_by_rows, stands_by_committed, stands_by_row}
 use Rattle.mg_engine_changes.specs.OwnerLaws.{IsLimboRow}
-use Rattle.mg_engine_writes.specs.Knowing.{HasRowsOf, MayWriteInto}
-use Rattle.mg_table_overlays.specs.Growing.{IsTableOf}
+use Rattle.mg_engine_steps.specs.Knowing.{HasRowsOf, MayWriteInto}
+use Rattle.mg_image_overlays.specs.Growing.{IsTableOf}
 use Rattle.mg_image.specs.Catalog.{HasMade, IsNamed, MayStandIn, committed_with}
 use Rattle.mg_image.specs.Form.{Pages, Row, packed_coding, packed_form}
 use Rattle.mg_image.specs.Held.{Shows}
@@ -22,7 +22,7 @@ use Rattle.mg_image.specs.Records.{Reading, key_of, record_key, shown, writer}
 use Rattle.mg_image.specs.Sound.{IsSoundBy, facts_by}
 use Rattle.mg_image.specs.Tables.{EachStand, Layout, stands_of}
 use Rattle.mg_image.specs.declared.entry.Entry.{Entry}
-use Rattle.mg_kept_images.specs.KeptImages.{IsKept}
+use Rattle.mg_image_overlays.specs.KeptImages.{IsKept}
 use Rattle.mg_model.specs.Answers.{is_committed}
 use Rattle.mg_model.specs.Catalog.{catalog_name, table_key}
 use Rattle.mg_model.specs.History.{Entries}
@@ -30,10 +30,10 @@ use Rattle.mg_model.specs.Legal.{is_limbo}
 use Rattle.mg_model.specs.Openings.{everyone}
 use Rattle.mg_model.specs.declared.opening.Opening.{Opening}
 use Rattle.mg_model.specs.declared.table.Table.{Table}
-use Rattle.mg_named_tables.specs.NamedTables.{IsNamedFor, NamesTellTables}
+use Rattle.mg_image_overlays.specs.NamedTables.{IsNamedFor, NamesTellTables}
 use Rattle.mg_overlays.specs.Overlays.{left_by, left_state}
 use Rattle.mg_engine_steps.specs.Standing.{Standing}
-use Rattle.mg_table_overlays.specs.OneTable.{table_at_stands}
+use Rattle.mg_image_overlays.specs.OneTable.{table_at_stands}
 
 -- ---- who counts in a record
 

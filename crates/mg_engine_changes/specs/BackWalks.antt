@@ -4,13 +4,13 @@ use Rattle.mg_base.specs.declared.transaction.TxState.TheVariants.{Active}
 use Rattle.mg_chain.specs.Chains.{takes_version}
 use Rattle.mg_engine_steps.specs.Known.{IsShown}
 use Rattle.mg_engine_steps.specs.Walking.{AreToCome, WalkPlace}
-use Rattle.mg_engine_writes.specs.Shown.{ShowsMidway}
+use Rattle.mg_engine_steps.specs.Shown.{ShowsMidway}
 use Rattle.mg_engine_meaning.specs.Falling.{Falls}
 use Rattle.mg_image.specs.Form.{Pages, packed_form}
 use Rattle.mg_image.specs.Records.{Reading}
 use Rattle.mg_image.specs.Sound.{IsSoundBy}
 use Rattle.mg_image.specs.Tables.{Layout, stands_of}
-use Rattle.mg_kept_images.specs.KeptImages.{AreFrontStands}
+use Rattle.mg_image_overlays.specs.KeptImages.{AreFrontStands}
 use Rattle.mg_model.specs.Changes.{KeyedRows}
 use Rattle.mg_model.specs.History.{Entries, Entry}
 use Rattle.mg_model.specs.Openings.{everyone}

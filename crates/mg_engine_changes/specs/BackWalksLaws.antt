@@ -9,30 +9,30 @@ use Rattle.mg_engine_steps.specs.Known.{IsShown}
 use Rattle.mg_engine_steps.specs.TablePages.{data_once}
 use Rattle.mg_engine_changes.specs.BackWalks.{BackWalksGoOn, GivenUpWalksGoOn, WalksBeside}
 use Rattle.mg_engine_changes.specs.OthersRows.{keyed_alike, row_same}
-use Rattle.mg_engine_writes.specs.Shown.{ShowsMidway}
+use Rattle.mg_engine_steps.specs.Shown.{ShowsMidway}
 use Rattle.mg_engine_meaning.specs.Falling.{Falls, read_alike}
 use Rattle.mg_engine_changes.specs.RowWalks.{RowWalksGoOn, ShowsOn, row_at_record}
-use Rattle.mg_table_overlays.specs.Growing.{IsTableOf}
-use Rattle.mg_table_overlays.specs.Knowing.{its_pages}
+use Rattle.mg_image_overlays.specs.Growing.{IsTableOf}
+use Rattle.mg_image_overlays.specs.Knowing.{its_pages}
 use Rattle.mg_image.specs.Form.{Pages, packed_coding, packed_form}
 use Rattle.mg_image.specs.ReadingLaws.{RowsAreOne}
 use Rattle.mg_image.specs.Records.{Reading, shown}
 use Rattle.mg_image.specs.Sound.{HasTablePages, IsSoundBy}
 use Rattle.mg_image.specs.Tables.{Has, IsOnce, Layout, PointerChain, Stand, entries_in, stands_of, table_at}
 use Rattle.mg_image.specs.declared.entry.Entry.{Entry as Read}
-use Rattle.mg_kept_images.specs.KeptImages.{AreFrontStands, IsFrontOf, IsFrontStand}
+use Rattle.mg_image_overlays.specs.KeptImages.{AreFrontStands, IsFrontOf, IsFrontStand}
 use Rattle.mg_model.specs.History.{Entries, Entry}
 use Rattle.mg_model.specs.Openings.{everyone}
 use Rattle.mg_model.specs.declared.change.Change.{Change}
 use Rattle.mg_model.specs.declared.opening.Opening.{Opening}
 use Rattle.mg_model.specs.declared.table.Table.{Table}
-use Rattle.mg_table_overlays.specs.OneChain.{link_once}
-use Rattle.mg_table_overlays.specs.OneLayout.{StandsOneWay}
+use Rattle.mg_image_overlays.specs.OneChain.{link_once}
+use Rattle.mg_image_overlays.specs.OneLayout.{StandsOneWay}
 use Rattle.mg_overlays.specs.Overlays.{left_by, left_state}
 use Rattle.mg_pointer.specs.PointerPage.{next_in}
 use Rattle.mg_seek.specs.Walks.{keyed}
 use Rattle.mg_engine_steps.specs.Standing.{ShowsHistory, Standing}
-use Rattle.mg_table_overlays.specs.OneTable.{its_data}
+use Rattle.mg_image_overlays.specs.OneTable.{its_data}
 
 -- ---- fronts
 

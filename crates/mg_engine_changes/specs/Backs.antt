@@ -3,8 +3,8 @@
 use Rattle.std.specs.Prelude.{◌≡◌, ℕ, true, false, List, ◌∷◌, None, Some}
 use Rattle.mg_base.specs.Disk.{Meaning}
 use Rattle.mg_base.specs.Image.{Image}
-use Rattle.mg_engine_writes.specs.Again.{rolling}
-use Rattle.mg_engine_writes.specs.Midway.{GoesBack}
+use Rattle.mg_engine_steps.specs.Again.{rolling}
+use Rattle.mg_engine_steps.specs.Midway.{GoesBack}
 use Rattle.mg_engine_steps.specs.PageWrites.{KeepAsking}
 use Rattle.mg_engine_changes.specs.GivenUp.{GivesUp}
 use Rattle.mg_engine_steps.specs.GoesOn.{HasGoneOn}

@@ -3,9 +3,9 @@ use Rattle.std.proofs.Common.{◌≡◌, sym, subst, ◌∙◌, ℕ, false, List
 use Rattle.mg_base.specs.Disk.{Meaning}
 use Rattle.mg_base.specs.Image.{Image}
 use Rattle.mg_base.specs.declared.numbers.RecId.{RecId}
-use Rattle.mg_engine_writes.specs.Again.{AreTaken, rolling, without_key}
-use Rattle.mg_engine_writes.specs.Midway.{EnginesGoBack, IsMidway, MidwaysBegin}
-use Rattle.mg_engine_writes.specs.Shown.{ShowsFirst, ShowsMidway}
+use Rattle.mg_engine_steps.specs.Again.{AreTaken, rolling, without_key}
+use Rattle.mg_engine_steps.specs.Midway.{EnginesGoBack, IsMidway, MidwaysBegin}
+use Rattle.mg_engine_steps.specs.Shown.{ShowsFirst, ShowsMidway}
 use Rattle.mg_engine_steps.specs.PageWrites.{KeepAsking}
 use Rattle.mg_engine_changes.specs.GivenUp.{EnginesGiveUp, GivesUp}
 use Rattle.mg_engine_steps.specs.GoesOn.{HasGoneOn}

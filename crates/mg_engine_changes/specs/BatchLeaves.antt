@@ -22,23 +22,23 @@ use Rattle.mg_image.specs.Records.{Reading}
 use Rattle.mg_image.specs.Sound.{IsSoundBy}
 use Rattle.mg_image.specs.Tables.{Layout, pages_of}
 use Rattle.std.specs.List.{flat_map}
-use Rattle.mg_kept_images.specs.DataPages.{kind_of}
-use Rattle.mg_kept_images.specs.Growth.{has_front}
-use Rattle.mg_kept_images.specs.Kinds.{HasNoSequences, linked_is, stands_linked}
+use Rattle.mg_image_overlays.specs.DataPages.{kind_of}
+use Rattle.mg_image_overlays.specs.Growth.{has_front}
+use Rattle.mg_image_overlays.specs.Kinds.{HasNoSequences, linked_is, stands_linked}
 use Rattle.mg_pool.specs.Batch.{Changed}
 use Rattle.mg_pool.specs.Pool.{shown}
 use Rattle.mg_pool.specs.declared.pool.Pool.{Pool}
 use Rattle.mg_pool_overlays.specs.Needs.{Asked, Sessions}
 use Rattle.mg_space.specs.TakingLaws.{page_sizes}
 use Rattle.mg_space.specs.View.{viewed}
-use Rattle.mg_space_ties.specs.Changed.{BatchIsChanged, ChangesFresh, KeptIn, changed_fresh, fresh}
-use Rattle.mg_catalog_batches.specs.CatalogRows.{IsRowOf}
-use Rattle.mg_catalog_batches.specs.Filled.{catalog_of}
-use Rattle.mg_catalog_batches.specs.FilledPages.{filled_pages_stay}
-use Rattle.mg_catalog_batches.specs.Filling.{Fills, HasTaken}
-use Rattle.mg_catalog_batches.specs.Others.{IsLeft, IsOther}
+use Rattle.mg_ties.specs.Changed.{BatchIsChanged, ChangesFresh, KeptIn, changed_fresh, fresh}
+use Rattle.mg_ties.specs.CatalogRows.{IsRowOf}
+use Rattle.mg_ties.specs.Filled.{catalog_of}
+use Rattle.mg_ties.specs.FilledPages.{filled_pages_stay}
+use Rattle.mg_ties.specs.Filling.{Fills, HasTaken}
+use Rattle.mg_ties.specs.Others.{IsLeft, IsOther}
 use Rattle.mg_table_batch.specs.Filling.{FillsTable, rows_at}
-use Rattle.mg_table_ties.specs.Ties.{HoldsOfRows, tables_fill_catalogs}
+use Rattle.mg_ties.specs.Ties.{HoldsOfRows, tables_fill_catalogs}
 use Rattle.mg_engine_changes.specs.JoinedBatch.{ReadsBatch}
 use Rattle.mg_engine_steps.specs.ListShows.{BehindKeepsTips}
 use Rattle.mg_engine_changes.specs.StandMade.{LeavesPages}

@@ -19,13 +19,13 @@ use Rattle.mg_model.specs.Openings.{everyone}
 use Rattle.mg_generations.specs.Generations.{generation, is_newest_by, newest_row}
 use Rattle.mg_generations.specs.Kept.{StandFor}
 use Rattle.mg_engine_steps.specs.Known.{IsShown, KnowsPages, facts_shown}
-use Rattle.mg_engine_writes.specs.OwnChains.{IsOwnTold, own_told}
+use Rattle.mg_engine_steps.specs.OwnChains.{IsOwnTold, own_told}
 use Rattle.mg_image.specs.declared.entry.Entry.{Entry}
 use Rattle.mg_image.specs.Form.{Pages, Row, packed_form}
 use Rattle.mg_image.specs.Held.{told_row}
 use Rattle.mg_image.specs.RecordRules.{Each, EachBack, Facts}
 use Rattle.mg_image.specs.Records.{Chain, Reading, cells_of, newest_of, shown, writer}
-use Rattle.mg_kept_images.specs.Fronts.{is_dead}
+use Rattle.mg_image_overlays.specs.Fronts.{is_dead}
 use Rattle.mg_overlays.specs.Overlays.{left_by, left_state}
 use Rattle.mg_chain.specs.Chains.{takes_version}
 use Rattle.mg_chain.specs.Views.{first_entry}
@@ -43,7 +43,7 @@ use Rattle.mg_seek.specs.declared.walk.Placed.{Placed}
 use Rattle.mg_seek.specs.declared.whose.Wanted.TheVariants.{Any, SeenBy}
 use Rattle.mg_engine_steps.specs.Standing.{Standing}
 use Rattle.mg_engine_steps.specs.Versions.{IsRecordOf, SpeaksFor}
-use Rattle.mg_table_overlays.specs.OneTable.{one_table, table_at_stands}
+use Rattle.mg_image_overlays.specs.OneTable.{one_table, table_at_stands}
 use Rattle.mg_undo.specs.Machine.{was_given, was_in}
 use Rattle.mg_undo.specs.declared.changes.Was.TheVariants as wases
 use Rattle.mg_version.specs.declared.cell.Version.{Version}

@@ -16,20 +16,20 @@ use Rattle.mg_value.specs.declared.value.Value.{Value}
 use Rattle.mg_chain.specs.Chains.{takes_version}
 use Rattle.mg_chain.specs.Views.{first_entry, is_dead as is_dead_state}
 use Rattle.mg_chain.specs.Writing.{TakesOut}
-use Rattle.mg_chain_ties.specs.BackTies.{pages as out_pages}
-use Rattle.mg_chain_ties.specs.Newest.{BeginsAt, begins, newest_found, newest_placed}
-use Rattle.mg_chain_ties.specs.Rows.{ForEach}
+use Rattle.mg_ties.specs.BackTies.{pages as out_pages}
+use Rattle.mg_ties.specs.Newest.{BeginsAt, begins, newest_found, newest_placed}
+use Rattle.mg_ties.specs.Rows.{ForEach}
 use Rattle.mg_engine_steps.specs.GoesOnLaws.{taking_out_is_read}
 use Rattle.mg_engine_steps.specs.Known.{bases_see_all}
 use Rattle.mg_engine_steps.specs.ListShows.{BehindKeepsTips, ListsStay, TipsStayOn}
 use Rattle.mg_engine_steps.specs.Standing.{ShowsHistory, Standing, Stands}
 use Rattle.mg_engine_steps.specs.Versions.{SpeaksOrSilent, told_version}
 use Rattle.mg_engine_steps.specs.Writes.{ReadsAfter}
-use Rattle.mg_engine_writes.specs.Caches.{kept_now}
-use Rattle.mg_engine_writes.specs.Choices.{placed}
-use Rattle.mg_engine_writes.specs.Knowing.{MayWriteInto, WasChanged}
-use Rattle.mg_engine_writes.specs.Rows.{DeadsGo, HasStayed}
-use Rattle.mg_engine_writes.specs.TablePagesLaws.{taking_out_keeps_pages}
+use Rattle.mg_engine_steps.specs.Caches.{kept_now}
+use Rattle.mg_engine_steps.specs.Choices.{placed}
+use Rattle.mg_engine_steps.specs.Knowing.{MayWriteInto, WasChanged}
+use Rattle.mg_engine_steps.specs.Rows.{DeadsGo, HasStayed}
+use Rattle.mg_engine_steps.specs.WrittenTablePagesLaws.{taking_out_keeps_pages}
 use Rattle.mg_generations.specs.Kept.{IsErasedForAll}
 use Rattle.mg_image.specs.Catalog.{IsNamed, MayStandIn}
 use Rattle.mg_image.specs.Held.{told_row}
@@ -40,9 +40,9 @@ use Rattle.mg_image.specs.Records.{Reading, cells_of, record_key, shown as shown
 use Rattle.mg_image.specs.Sound.{facts_by}
 use Rattle.mg_image.specs.Tables.{Layout, stands_of, table_at}
 use Rattle.mg_image.specs.declared.entry.Entry.{Entry}
-use Rattle.mg_kept_images.specs.Fronts.{is_dead}
-use Rattle.mg_kept_images.specs.Kinds.{HasNoSequences}
-use Rattle.mg_kept_images.specs.KeptImages.{AreFrontStands, IsKept}
+use Rattle.mg_image_overlays.specs.Fronts.{is_dead}
+use Rattle.mg_image_overlays.specs.Kinds.{HasNoSequences}
+use Rattle.mg_image_overlays.specs.KeptImages.{AreFrontStands, IsKept}
 use Rattle.mg_lasting.specs.Lasting.{LastsOn}
 use Rattle.mg_model.specs.Answers.{is_committed}
 use Rattle.mg_model.specs.Catalog.{catalog_name}
@@ -63,12 +63,12 @@ use Rattle.mg_seek.specs.declared.whose.Wanted.TheVariants.{Living}
 use Rattle.mg_snap.specs.Live.{all_see}
 use Rattle.mg_space.specs.View.{viewed}
 use Rattle.mg_space.specs.declared.links.FireLinks.{FireLinks}
-use Rattle.mg_space_ties.specs.Changed.{KeptIn, fresh}
-use Rattle.mg_table_overlays.specs.BackPart.{TakesOutPages}
-use Rattle.mg_table_overlays.specs.DataKept.{KeepsBits}
-use Rattle.mg_table_overlays.specs.Growing.{IsTableOf}
-use Rattle.mg_table_overlays.specs.OneLayout.{sound_once}
-use Rattle.mg_table_overlays.specs.OwnVersion.{FindsNewest}
+use Rattle.mg_ties.specs.Changed.{KeptIn, fresh}
+use Rattle.mg_image_overlays.specs.BackPart.{TakesOutPages}
+use Rattle.mg_image_overlays.specs.DataKept.{KeepsBits}
+use Rattle.mg_image_overlays.specs.Growing.{IsTableOf}
+use Rattle.mg_image_overlays.specs.OneLayout.{sound_once}
+use Rattle.mg_image_overlays.specs.OwnVersion.{FindsNewest}
 use Rattle.mg_txlist.specs.declared.list.TxList.{TxList}
 use Rattle.mg_version.specs.declared.cell.Cell.TheVariants as cells
 use Rattle.mg_version.specs.declared.cell.Link.{Link}

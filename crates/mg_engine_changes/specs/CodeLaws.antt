@@ -28,7 +28,7 @@ use Rattle.mg_version.specs.declared.cell.Version.{Version}
 use Rattle.mg_engine_meaning.specs.PlainTables.{AreFirst}
 use Rattle.mg_engine_changes.specs.Codes.{StoredRowsAreCoded}
 use Rattle.mg_engine_changes.specs.Kept.{row_given}
-use Rattle.mg_engine_writes.specs.Knowing.{CodesRow}
+use Rattle.mg_engine_steps.specs.Knowing.{CodesRow}
 
 -- ---- columns of the first format
 

@@ -12,7 +12,7 @@ use Rattle.mg_rowcode.specs.Storable.{AreStorable}
 use Rattle.mg_version.specs.declared.cell.Version.{Version}
 use Rattle.mg_engine_changes.specs.Kept.{row_given}
 use Rattle.mg_engine_meaning.specs.PlainTables.{AreFirst}
-use Rattle.mg_engine_writes.specs.Knowing.{CodesRow}
+use Rattle.mg_engine_steps.specs.Knowing.{CodesRow}
 
 -- in a table that is not the catalog, and the same but for its indexes
 abbrev pub StoredRowsAreCoded : Type 0

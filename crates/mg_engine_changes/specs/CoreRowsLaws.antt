@@ -18,7 +18,7 @@ use Rattle.mg_txlist.specs.TxList.{said}
 use Rattle.mg_core.specs.Cores.{IsCatalog}
 use Rattle.mg_core.specs.declared.parts.Core.{Core}
 use Rattle.mg_engine_steps.specs.Standing.{Standing}
-use Rattle.mg_engine_writes.specs.Knowing.{WasChanged}
+use Rattle.mg_engine_steps.specs.Knowing.{WasChanged}
 use Rattle.mg_engine_changes.specs.Keys.{HasCatalog}
 use Rattle.mg_engine_changes.specs.Takings.{KnowsCache}
 use Rattle.mg_table_takings.specs.Takings.{TakesTheRows}

@@ -5,15 +5,15 @@ use Rattle.std.proofs.lemmas.Bool.{cases_eq, eq-eqb, ne_eqb}
 use Rattle.mg_base.specs.Disk.{Meaning}
 use Rattle.mg_base.specs.declared.transaction.TxState.{TxState}
 use Rattle.mg_base.specs.declared.transaction.TxState.TheVariants.{Active, Dead}
-use Rattle.mg_engine_writes.specs.Again.{again, rolling}
-use Rattle.mg_engine_writes.specs.Midway.{MidwaysAreGivenUp}
+use Rattle.mg_engine_steps.specs.Again.{again, rolling}
+use Rattle.mg_engine_steps.specs.Midway.{MidwaysAreGivenUp}
 use Rattle.mg_engine_steps.specs.PageWrites.{AsksOtherwise}
 use Rattle.mg_engine_meaning.specs.Falling.{all_but}
 use Rattle.mg_engine_changes.specs.GivenUp.{EnginesGiveUp, GivenUpIsShown, GivesUp}
 use Rattle.mg_engine_steps.specs.GoesOn.{PoolIsKept}
 use Rattle.mg_image.specs.Form.{packed_form}
 use Rattle.mg_image.specs.Sound.{IsSoundBy}
-use Rattle.mg_kept_images.specs.KeptImages.{IsKept}
+use Rattle.mg_image_overlays.specs.KeptImages.{IsKept}
 use Rattle.mg_lasting.specs.Crashes.{HoldsAcknowledged, LeavesSince}
 use Rattle.mg_lasting.specs.Entries.{is_idle}
 use Rattle.mg_lasting.specs.Lasting.{LastsOn}

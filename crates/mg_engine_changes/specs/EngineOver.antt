@@ -8,7 +8,7 @@ use Rattle.mg_core.specs.declared.parts.Core.{Core}
 use Rattle.mg_engine_changes.specs.Memory.{MayGoTo}
 use Rattle.mg_engine_meaning.specs.Standings.{StandsFor, standing_of}
 use Rattle.mg_engine_steps.specs.Walking.{AreToCome, WalkPlace}
-use Rattle.mg_engine_writes.specs.Again.{rolling}
+use Rattle.mg_engine_steps.specs.Again.{rolling}
 use Rattle.mg_image.specs.Form.{packed_form}
 use Rattle.mg_lasting.specs.Crashes.{HoldsAcknowledged, LeavesSince, may_last}
 use Rattle.mg_model.specs.Changes.{KeyedRows}

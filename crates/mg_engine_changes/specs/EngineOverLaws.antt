@@ -26,26 +26,26 @@ use Rattle.mg_engine_steps.specs.GoesOn.{HasGoneOn}
 use Rattle.mg_engine_steps.specs.ListShows.{ListsStay}
 use Rattle.mg_engine_steps.specs.Standing.{Standing, Stands, IsSeenAs, RemembersOne}
 use Rattle.mg_engine_steps.specs.Walking.{AreToCome, WalkPlace}
-use Rattle.mg_engine_unmakings.specs.ChangedTables.{NoneOfGone}
-use Rattle.mg_engine_unmakings.specs.EngineTables.{EnginesTakeTables}
-use Rattle.mg_engine_unmakings.specs.LeftFinds.{SeesRow, sees_row}
-use Rattle.mg_engine_unmakings.specs.Outs.{is_among}
-use Rattle.mg_engine_unmakings.specs.RowsTaken.{RowsAreTaken}
-use Rattle.mg_engine_unmakings.specs.ShapesLeft.{table_left}
-use Rattle.mg_engine_unmakings.specs.TablesBack.{AreRowsLeft, TablesAreTaken, TakesOnPages}
-use Rattle.mg_engine_writes.specs.Again.{again, without_key, AreTaken}
-use Rattle.mg_engine_writes.specs.Midway.{GoesBack, MidwaysBegin}
-use Rattle.mg_engine_writes.specs.OwnChains.{newest_second}
-use Rattle.mg_engine_writes.specs.Shown.{ShowsFirst}
-use Rattle.mg_engine_writes.specs.Unasked.{UnaskingLasts}
+use Rattle.mg_engine_steps.specs.ChangedTables.{NoneOfGone}
+use Rattle.mg_engine_steps.specs.EngineTables.{EnginesTakeTables}
+use Rattle.mg_engine_steps.specs.LeftFinds.{SeesRow, sees_row}
+use Rattle.mg_engine_steps.specs.Outs.{is_among}
+use Rattle.mg_engine_steps.specs.RowsTaken.{RowsAreTaken}
+use Rattle.mg_engine_steps.specs.ShapesLeft.{table_left}
+use Rattle.mg_engine_steps.specs.TablesBack.{AreRowsLeft, TablesAreTaken, TakesOnPages}
+use Rattle.mg_engine_steps.specs.Again.{again, without_key, AreTaken}
+use Rattle.mg_engine_steps.specs.Midway.{GoesBack, MidwaysBegin}
+use Rattle.mg_engine_steps.specs.OwnChains.{newest_second}
+use Rattle.mg_engine_steps.specs.Shown.{ShowsFirst}
+use Rattle.mg_engine_steps.specs.Unasked.{UnaskingLasts}
 use Rattle.mg_grown_catalogs.specs.Grown.{makes_alone, SeenIsNotMade}
 use Rattle.mg_header.specs.HeaderPage.{header_in}
 use Rattle.mg_image.specs.Form.{Pages, packed_form}
 use Rattle.mg_image.specs.Histories.{newest_at}
 use Rattle.mg_image.specs.Inventory.{header_of}
 use Rattle.mg_image.specs.Tables.{Stand, stands_of}
-use Rattle.mg_kept_images.specs.KeptImages.{AreFrontStands}
-use Rattle.mg_kept_images.specs.TableOwners.{IsOneOf}
+use Rattle.mg_image_overlays.specs.KeptImages.{AreFrontStands}
+use Rattle.mg_image_overlays.specs.TableOwners.{IsOneOf}
 use Rattle.mg_lasting.specs.Crashes.{HoldsAcknowledged, LeavesSince}
 use Rattle.mg_lasting.specs.Lasting.{LastsOn}
 use Rattle.mg_model.specs.Answers.{is_open}
@@ -68,7 +68,7 @@ use Rattle.mg_pool.specs.declared.pool.Pool.{Pool}
 use Rattle.mg_pool_overlays.specs.Needs.{Asked, Sessions}
 use Rattle.mg_records.specs.Reading.{shape_seen}
 use Rattle.mg_space.specs.declared.links.FireLinks.{FireLinks}
-use Rattle.mg_table_overlays.specs.OneLayout.{StandsOneWay}
+use Rattle.mg_image_overlays.specs.OneLayout.{StandsOneWay}
 use Rattle.mg_table_takings.specs.Keys.{AreNewIn, AreRowsToTake}
 use Rattle.mg_table_takings.specs.Takings.{TakesTablesTo, works_left, TakesBoth}
 use Rattle.mg_taking_back.specs.Taking.{TakesChanges, not_asking}

@@ -34,15 +34,15 @@ use Rattle.mg_engine_steps.specs.AnswersLaws.{SpeakersAreTold, TellsSpeaker}
 use Rattle.mg_engine_steps.specs.ListShows.{BehindKeepsTips, ListsStay, TipsStayOn}
 use Rattle.mg_engine_steps.specs.GoesOn.{HasGoneOn, WritesGoOn}
 use Rattle.mg_engine_steps.specs.GoesOnLaws.{pool_is_kept}
-use Rattle.mg_engine_writes.specs.Caches.{kept_from}
-use Rattle.mg_engine_writes.specs.Knowing.{CodesRow, EntersWrite, HasEntries, MayWriteInto, WasChanged}
-use Rattle.mg_engine_writes.specs.Unasked.{UnaskingLasts}
+use Rattle.mg_engine_steps.specs.Caches.{kept_from}
+use Rattle.mg_engine_steps.specs.Knowing.{CodesRow, EntersWrite, HasEntries, MayWriteInto, WasChanged}
+use Rattle.mg_engine_steps.specs.Unasked.{UnaskingLasts}
 use Rattle.mg_grown_catalogs.specs.Grown.{makes_alone}
 use Rattle.mg_image.specs.Form.{Pages, packed_coding, packed_form}
 use Rattle.mg_image.specs.Indexes.{IsFoundIn}
 use Rattle.mg_image.specs.Tables.{Stand, stands_of, table_at}
-use Rattle.mg_kept_images.specs.TableOwners.{IsOneOf}
-use Rattle.mg_kept_images.specs.KeptImages.{IsKept}
+use Rattle.mg_image_overlays.specs.TableOwners.{IsOneOf}
+use Rattle.mg_image_overlays.specs.KeptImages.{IsKept}
 use Rattle.mg_lasting.specs.Crashes.{HoldsAcknowledged, LeavesSince, may_last}
 use Rattle.mg_lasting.specs.Lasting.{LastsOn}
 use Rattle.mg_overlays.specs.Overlays.{left_state}
@@ -55,11 +55,11 @@ use Rattle.mg_row_writes.specs.declared.before.Before.{Before}
 use Rattle.mg_rowcode.specs.Storable.{AreStorable}
 use Rattle.mg_seek.specs.Speaking.{IsSpeaker, Speaks}
 use Rattle.mg_space.specs.declared.links.FireLinks.{FireLinks}
-use Rattle.mg_space_ties.specs.Changed.{KeptIn, fresh}
+use Rattle.mg_ties.specs.Changed.{KeptIn, fresh}
 use Rattle.mg_engine_steps.specs.Following.{FollowsEntry}
 use Rattle.mg_engine_steps.specs.Standing.{HasFirstPage, Standing, Stands}
 use Rattle.mg_engine_steps.specs.Writing.{WritesKey}
-use Rattle.mg_table_overlays.specs.OneTable.{one_table, stands_in}
+use Rattle.mg_image_overlays.specs.OneTable.{one_table, stands_in}
 use Rattle.mg_txlist.specs.TxList.{said}
 use Rattle.mg_undo.specs.Undo.{after_keep}
 use Rattle.mg_version.specs.declared.cell.Cell.TheVariants as cells
@@ -92,8 +92,8 @@ use Rattle.mg_engine_changes.specs.Kept.{MadeWritesFollow, NotesWrite, made_by, 
 use Rattle.mg_engine_changes.specs.Laid.{HasNoted, LeavesPages}
 use Rattle.mg_engine_changes.specs.Owners.{SeenMayBeWritten}
 use Rattle.mg_chain.specs.Writing.{Pushes, Replaces, GivesSpot, MakesRecord, TakesOut}
-use Rattle.mg_engine_writes.specs.Rows.{DeadsGo, PushesGoOn, ReplacementsGoOn, FirstsGoOn}
-use Rattle.mg_engine_writes.specs.Spoken.{spoken_of}
+use Rattle.mg_engine_steps.specs.Rows.{DeadsGo, PushesGoOn, ReplacementsGoOn, FirstsGoOn}
+use Rattle.mg_engine_steps.specs.Spoken.{spoken_of}
 use Rattle.mg_image.specs.ReadingLaws.{RowsAreOne}
 use Rattle.mg_lasting.specs.PoolLaws.{HoldsOne}
 use Rattle.mg_model.specs.Laws.{OpeningsBegin}

@@ -2,8 +2,8 @@
 use Rattle.std.specs.Prelude.{◌≡◌, ℕ, true, List, ◌∷◌, Option, Some}
 use Rattle.mg_base.specs.declared.numbers.RecId.{RecId}
 use Rattle.mg_base.specs.declared.transaction.TxState.TheVariants.{Active}
-use Rattle.mg_engine_writes.specs.Shown.{ShowsMidway}
-use Rattle.mg_table_overlays.specs.Growing.{IsTableOf}
+use Rattle.mg_engine_steps.specs.Shown.{ShowsMidway}
+use Rattle.mg_image_overlays.specs.Growing.{IsTableOf}
 use Rattle.mg_image.specs.Form.{Pages, packed_form}
 use Rattle.mg_image.specs.Histories.{newest_at, row_change}
 use Rattle.mg_image.specs.Records.{record_key, writer}

@@ -9,12 +9,12 @@ use Rattle.mg_chain.specs.Views.{first_entry}
 use Rattle.mg_chain.specs.Chains.{newest_link}
 use Rattle.mg_engine_steps.specs.Listed.{page_listed}
 use Rattle.mg_engine_steps.specs.TablePages.{table_there}
-use Rattle.mg_engine_writes.specs.OwnChains.{change_there, row_of}
-use Rattle.mg_engine_writes.specs.Shown.{IsTakenBack, ShowsMidway}
+use Rattle.mg_engine_steps.specs.OwnChains.{change_there, row_of}
+use Rattle.mg_engine_steps.specs.Shown.{IsTakenBack, ShowsMidway}
 use Rattle.mg_engine_changes.specs.Found.{ChangesAreThere, HasNewest, IsItsRecord, ItsRecordIsFound}
 use Rattle.mg_generations.specs.Generations.{Generation, is_newest_by}
 use Rattle.mg_generations.specs.Kept.{IsErasedForAll}
-use Rattle.mg_table_overlays.specs.Growing.{IsTableOf}
+use Rattle.mg_image_overlays.specs.Growing.{IsTableOf}
 use Rattle.mg_heap.specs.Table.{IsTable}
 use Rattle.mg_image.specs.Form.{Pages, packed_form}
 use Rattle.mg_image.specs.Histories.{newest_at, row_change}
@@ -24,14 +24,14 @@ use Rattle.mg_image.specs.Records.{Reading, cells_of, record_key, writer}
 use Rattle.mg_image.specs.Sound.{facts_by}
 use Rattle.mg_image.specs.Tables.{Has, entries_in, stands_of, table_at}
 use Rattle.mg_image.specs.declared.entry.Entry.{Entry as Read}
-use Rattle.mg_kept_images.specs.Fronts.{is_dead}
+use Rattle.mg_image_overlays.specs.Fronts.{is_dead}
 use Rattle.mg_model.specs.History.{Entries, Entry}
 use Rattle.mg_model.specs.Machine.{state_of}
 use Rattle.mg_model.specs.Openings.{everyone}
 use Rattle.mg_model.specs.declared.change.Change.{Change}
 use Rattle.mg_model.specs.declared.opening.Opening.{Opening}
 use Rattle.mg_model.specs.declared.table.Table.{Table}
-use Rattle.mg_table_overlays.specs.OneChain.{link_once}
+use Rattle.mg_image_overlays.specs.OneChain.{link_once}
 use Rattle.mg_overlays.specs.Overlays.{left_by, left_state}
 use Rattle.mg_pointer.specs.PointerPage.{next_in}
 use Rattle.mg_seek.specs.Histories.{told_versions}
@@ -43,7 +43,7 @@ use Rattle.mg_seek.specs.declared.walk.Placed.{Placed}
 use Rattle.mg_seek.specs.declared.whose.Wanted.TheVariants.{Any}
 use Rattle.mg_engine_steps.specs.Standing.{Remembers, ShowsHistory, Standing}
 use Rattle.mg_engine_steps.specs.Versions.{SpeaksOrSilent, told_version}
-use Rattle.mg_table_overlays.specs.OneTable.{its_data}
+use Rattle.mg_image_overlays.specs.OneTable.{its_data}
 use Rattle.mg_value.specs.declared.value.Value.{Value}
 
 -- ---- changes

@@ -15,7 +15,7 @@ use Rattle.mg_image.specs.Form.{Pages, packed_form}
 use Rattle.mg_image.specs.Records.{Reading}
 use Rattle.mg_image.specs.Sound.{IsSoundBy}
 use Rattle.mg_image.specs.Tables.{Layout, Stand, stands_of}
-use Rattle.mg_kept_images.specs.TableOwners.{IsOneOf}
+use Rattle.mg_image_overlays.specs.TableOwners.{IsOneOf}
 use Rattle.mg_model.specs.Answers.{catalog_of, told}
 use Rattle.mg_model.specs.Changes.{has_change, is_at, same_key, same_name}
 use Rattle.mg_model.specs.DeedLaws.{deeds_after, deeds_after_entry}
@@ -31,7 +31,7 @@ use Rattle.mg_model.specs.declared.change.Point.{Point}
 use Rattle.mg_model.specs.declared.change.Point.TheVariants.{LastMark, SavepointNamed}
 use Rattle.mg_model.specs.declared.opening.Opening.{Opening}
 use Rattle.mg_model.specs.declared.table.Table.{Table}
-use Rattle.mg_table_overlays.specs.OneTable.{stands_in}
+use Rattle.mg_image_overlays.specs.OneTable.{stands_in}
 use Rattle.mg_undo.specs.Machine.{GivesWhatWas, TellsApart, TellsFrom, changes_since, first_of, given_from, going_to, has_same, points_of, undo_of}
 use Rattle.mg_undo.specs.Undo.{State as Undo, Taken, TakesBack as GivesAll, ends, from_goal, gives, take_to}
 use Rattle.mg_undo.specs.declared.changes.Change.{Change as Kept}

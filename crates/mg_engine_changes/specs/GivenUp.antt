@@ -4,9 +4,9 @@ use Rattle.std.specs.Prelude.{◌≡◌, ℕ, false, List, ◌∷◌, Some}
 use Rattle.mg_base.specs.Disk.{Meaning}
 use Rattle.mg_base.specs.Image.{Image}
 use Rattle.mg_base.specs.declared.transaction.TxState.TheVariants.{Active, Dead}
-use Rattle.mg_engine_writes.specs.Again.{AreTaken, rolling}
-use Rattle.mg_engine_writes.specs.Midway.{IsMidway}
-use Rattle.mg_engine_writes.specs.Shown.{ShowsMidway}
+use Rattle.mg_engine_steps.specs.Again.{AreTaken, rolling}
+use Rattle.mg_engine_steps.specs.Midway.{IsMidway}
+use Rattle.mg_engine_steps.specs.Shown.{ShowsMidway}
 use Rattle.mg_grown_catalogs.specs.Grown.{CatalogGrows}
 use Rattle.mg_image.specs.Form.{Pages, packed_form}
 use Rattle.mg_image.specs.Records.{Reading}

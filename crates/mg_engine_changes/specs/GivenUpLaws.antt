@@ -6,9 +6,9 @@ use Rattle.mg_base.specs.declared.numbers.RecId.{RecId}
 use Rattle.mg_base.specs.declared.transaction.TxState.{TxState}
 use Rattle.mg_base.specs.declared.transaction.TxState.TheVariants.{Active, Committed, Dead, Limbo}
 use Rattle.mg_engine_steps.specs.TableAnswers.{shown_key}
-use Rattle.mg_engine_writes.specs.Again.{AreTaken}
-use Rattle.mg_engine_writes.specs.OwnChains.{change_there, none_second, own_told}
-use Rattle.mg_engine_writes.specs.Shown.{IsTakenBack, ShowsMidway}
+use Rattle.mg_engine_steps.specs.Again.{AreTaken}
+use Rattle.mg_engine_steps.specs.OwnChains.{change_there, none_second, own_told}
+use Rattle.mg_engine_steps.specs.Shown.{IsTakenBack, ShowsMidway}
 use Rattle.mg_engine_meaning.specs.AlikeTables.{versions_alike}
 use Rattle.mg_engine_meaning.specs.Falling.{Falls, HasAlike, alike, goes, read_alike, same_back, stays_named, stays_unless}
 use Rattle.mg_engine_changes.specs.Dying.{DiesMidway, GoesForOthers, StaysForOthers, versions_die_midway}
@@ -27,8 +27,8 @@ use Rattle.mg_image.specs.Records.{Reading, key_of, record_key, shown as shown_r
 use Rattle.mg_image.specs.Sound.{IsSoundBy, facts_by}
 use Rattle.mg_image.specs.Tables.{Layout, Stand, stands_of}
 use Rattle.mg_image.specs.declared.entry.Entry.{Entry as Read}
-use Rattle.mg_kept_images.specs.Fronts.{is_dead}
-use Rattle.mg_kept_images.specs.TableOwners.{IsOneOf, has_stand}
+use Rattle.mg_image_overlays.specs.Fronts.{is_dead}
+use Rattle.mg_image_overlays.specs.TableOwners.{IsOneOf, has_stand}
 use Rattle.mg_model.specs.Answers.{catalog_of, is_open, told}
 use Rattle.mg_model.specs.Catalog.{catalog_name, shape_said, table_key}
 use Rattle.mg_model.specs.CatalogRules.{HasTableOf}
@@ -48,7 +48,7 @@ use Rattle.mg_engine_steps.specs.Following.{KeepsTables, OthersKeepTables}
 use Rattle.mg_engine_steps.specs.StandingLaws.{VersionsStay}
 use Rattle.mg_engine_steps.specs.Standing.{FindsTables, HasFirstPage, IsSeenAs, Remembers, ShowsHistory, Standing}
 use Rattle.mg_engine_steps.specs.Versions.{HaveVersions, IsRecordOf, SpeaksFor, SpeaksOrSilent, told_version}
-use Rattle.mg_table_overlays.specs.OneTable.{one_table, stands_in, table_at_stands}
+use Rattle.mg_image_overlays.specs.OneTable.{one_table, stands_in, table_at_stands}
 use Rattle.mg_value.specs.declared.shape.Shape.{Shape}
 use Rattle.mg_value.specs.declared.value.Value.{Value}
 

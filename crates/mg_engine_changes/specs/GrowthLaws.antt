@@ -8,7 +8,7 @@ use Rattle.mg_base.specs.declared.numbers.RecId.{RecId}
 use Rattle.mg_base.specs.declared.numbers.TxNo.{TxNo}
 use Rattle.mg_base.specs.declared.transaction.TxState.{TxState}
 use Rattle.mg_base.specs.declared.transaction.TxState.TheVariants.{Active}
-use Rattle.mg_chain_ties.specs.Rows.{ForEach}
+use Rattle.mg_ties.specs.Rows.{ForEach}
 use Rattle.mg_engine_steps.specs.ListShows.{BehindKeepsTips, ListsStay, TipsStayOn}
 use Rattle.mg_engine_steps.specs.Batches.{RowsLastStill}
 use Rattle.mg_engine_steps.specs.Reads.{grown_bits, grown_to}
@@ -17,26 +17,26 @@ use Rattle.mg_engine_steps.specs.StandingLaws.{IsChainOf}
 use Rattle.mg_engine_steps.specs.Versions.{HaveVersions, SpeaksFor}
 use Rattle.mg_engine_steps.specs.Walking.{AreToCome}
 use Rattle.mg_engine_steps.specs.WritesLaws.{finds_on}
-use Rattle.mg_engine_writes.specs.Caches.{kept_from, kept_now, pool_now, row_changed}
-use Rattle.mg_engine_writes.specs.Knowing.{WasChanged}
-use Rattle.mg_engine_writes.specs.SameRecords.{catalog_stands, same_catalog}
-use Rattle.mg_engine_writes.specs.SpotLaws.{versions_on}
-use Rattle.mg_engine_writes.specs.TablePagesLaws.{then_keeps, to as grown_layout}
+use Rattle.mg_engine_steps.specs.Caches.{kept_from, kept_now, pool_now, row_changed}
+use Rattle.mg_engine_steps.specs.Knowing.{WasChanged}
+use Rattle.mg_engine_steps.specs.SameRecords.{catalog_stands, same_catalog}
+use Rattle.mg_engine_steps.specs.SpotLaws.{versions_on}
+use Rattle.mg_engine_steps.specs.WrittenTablePagesLaws.{then_keeps, to as grown_layout}
 use Rattle.mg_engine_steps.specs.GoesOnLaws.{pool_is_kept}
 use Rattle.mg_generations.specs.Generations.{Generation}
 use Rattle.mg_generations.specs.Kept.{IsErasedForAll}
 use Rattle.mg_heap.specs.Room.{GivesRoom}
-use Rattle.mg_heap_ties.specs.Batches.{within_self}
-use Rattle.mg_heap_ties.specs.RoomTies.{GrowsSome, end_of, ends_there, room_grows}
-use Rattle.mg_heap_ties.specs.SpotTies.{spot_row_keeps}
+use Rattle.mg_ties.specs.Batches.{within_self}
+use Rattle.mg_ties.specs.RoomTies.{GrowsSome, end_of, ends_there, room_grows}
+use Rattle.mg_ties.specs.SpotTies.{spot_row_keeps}
 use Rattle.mg_image.specs.Form.{Pages, packed_coding, packed_form}
 use Rattle.mg_image.specs.ReadingLaws.{RowsAreOne}
 use Rattle.mg_image.specs.RecordRules.{Facts, table_in}
 use Rattle.mg_image.specs.Records.{Reading}
 use Rattle.mg_image.specs.Sound.{facts_by}
 use Rattle.mg_image.specs.Tables.{Layout, stands_of, table_at as page_table}
-use Rattle.mg_kept_images.specs.Kinds.{HasNoSequences}
-use Rattle.mg_kept_images.specs.KeptImages.{IsKept, AreFrontStands}
+use Rattle.mg_image_overlays.specs.Kinds.{HasNoSequences}
+use Rattle.mg_image_overlays.specs.KeptImages.{IsKept, AreFrontStands}
 use Rattle.mg_lasting.specs.Crashes.{HoldsAcknowledged, LeavesSince}
 use Rattle.mg_lasting.specs.Lasting.{LastsOn}
 use Rattle.mg_lasting.specs.PoolLaws.{HoldsOne}
@@ -54,12 +54,12 @@ use Rattle.mg_pool_overlays.specs.Needs.{Asked, Sessions}
 use Rattle.mg_space.specs.Taking.{IsGeometry}
 use Rattle.mg_space.specs.View.{Tells, viewed}
 use Rattle.mg_space.specs.declared.links.FireLinks.{FireLinks}
-use Rattle.mg_space_ties.specs.Changed.{KeptIn, changed_fresh, fresh}
+use Rattle.mg_ties.specs.Changed.{KeptIn, changed_fresh, fresh}
 use Rattle.mg_table_batch.specs.Making.{Grows as GetsPage}
-use Rattle.mg_table_overlays.specs.DataKept.{KeepsBits, data_self}
-use Rattle.mg_table_overlays.specs.Growing.{EndsAt, Grows, IsTableOf, TableEnd}
-use Rattle.mg_table_overlays.specs.GrowingLaws.{StandsTo}
-use Rattle.mg_table_overlays.specs.OneLayout.{sound_once}
+use Rattle.mg_image_overlays.specs.DataKept.{KeepsBits, data_self}
+use Rattle.mg_image_overlays.specs.Growing.{EndsAt, Grows, IsTableOf, TableEnd}
+use Rattle.mg_image_overlays.specs.GrowingLaws.{StandsTo}
+use Rattle.mg_image_overlays.specs.OneLayout.{sound_once}
 use Rattle.mg_value.specs.declared.value.Value.{Value}
 use Rattle.mg_txlist.specs.TxList.{said}
 use Rattle.mg_txlist.specs.declared.list.TxList.{TxList}

@@ -20,8 +20,8 @@ use Rattle.mg_image.specs.RecordRules.{Facts, TakesKey, table_in}
 use Rattle.mg_image.specs.Records.{Reading, key_of, record_key, writer}
 use Rattle.mg_image.specs.Sound.{HasTablePages, IsSoundBy, facts_by}
 use Rattle.mg_image.specs.Tables.{EachStand, IsOnce, Layout, Stand, has, stands_of, table_at}
-use Rattle.mg_kept_images.specs.Begins.{Raises}
-use Rattle.mg_kept_images.specs.KeptImages.{IsKept}
+use Rattle.mg_image_overlays.specs.Begins.{Raises}
+use Rattle.mg_image_overlays.specs.KeptImages.{IsKept}
 use Rattle.mg_engine_changes.specs.Rows.{MadeRow, reading_with, row_told, with_rows}
 
 -- ---- the layout

@@ -24,11 +24,11 @@ use Rattle.mg_pool.specs.Pool.{shown}
 use Rattle.mg_pool.specs.declared.pool.Pool.{Pool}
 use Rattle.mg_pool_overlays.specs.Needs.{Asked, Sessions}
 use Rattle.mg_space.specs.View.{viewed}
-use Rattle.mg_space_ties.specs.Changed.{BatchIsChanged, ChangesFresh, KeptIn, cache_over, changed_fresh, fresh, needs_in}
+use Rattle.mg_ties.specs.Changed.{BatchIsChanged, ChangesFresh, KeptIn, cache_over, changed_fresh, fresh, needs_in}
 use Rattle.mg_overlays.specs.BatchLaws.{good_of_pool}
 use Rattle.mg_overlays.specs.Overlays.{LaysBatch, left_state, without}
-use Rattle.mg_heap_ties.specs.Batches.{within_self}
-use Rattle.mg_chain_ties.specs.FirstPages.{left_within}
+use Rattle.mg_ties.specs.Batches.{within_self}
+use Rattle.mg_ties.specs.FirstPages.{left_within}
 use Rattle.mg_image.specs.declared.entry.Entry.{Entry}
 use Rattle.mg_image.specs.Catalog.{FitsPages}
 use Rattle.mg_image.specs.Form.{Form, Pages, Row}
@@ -40,18 +40,18 @@ use Rattle.mg_image.specs.Records.{Reading, key_of, record_key}
 use Rattle.mg_image.specs.Sound.{HasTablePages, IsSoundBy, facts_by}
 use Rattle.mg_image.specs.StepLaws.{put_reading, same_place}
 use Rattle.mg_image.specs.Tables.{EachStand, IsOnce, Layout, Stand, has, stands_of, table_at}
-use Rattle.mg_kept_images.specs.Begins.{Raises}
-use Rattle.mg_kept_images.specs.Kinds.{HasNoSequences}
-use Rattle.mg_kept_images.specs.KeptImages.{IsBehind, IsKept, keeping}
-use Rattle.mg_page_overlays.specs.Creating.{without_raises}
-use Rattle.mg_catalog_batches.specs.CatalogRows.{IsRowOf}
-use Rattle.mg_catalog_batches.specs.Filled.{IsFilled, MayFill, catalog_of}
-use Rattle.mg_catalog_batches.specs.Filling.{NewRow}
+use Rattle.mg_image_overlays.specs.Begins.{Raises}
+use Rattle.mg_image_overlays.specs.Kinds.{HasNoSequences}
+use Rattle.mg_image_overlays.specs.KeptImages.{IsBehind, IsKept, keeping}
+use Rattle.mg_image_overlays.specs.Creating.{without_raises}
+use Rattle.mg_ties.specs.CatalogRows.{IsRowOf}
+use Rattle.mg_ties.specs.Filled.{IsFilled, MayFill, catalog_of}
+use Rattle.mg_ties.specs.Filling.{NewRow}
 use Rattle.mg_table_batch.specs.Filling.{FillsTable, rows_at}
-use Rattle.mg_table_overlays.specs.Growing.{IsTableOf}
-use Rattle.mg_table_ties.specs.Made.{FilledTablesGo, LeavesOthersEach}
-use Rattle.mg_table_ties.specs.Ties.{HoldsOfRows, IsOneOf, row_put, tables_fill_catalogs}
-use Rattle.mg_engine_writes.specs.SameRecords.{catalog_stands, same_catalog, same_page, same_record}
+use Rattle.mg_image_overlays.specs.Growing.{IsTableOf}
+use Rattle.mg_ties.specs.Made.{FilledTablesGo, LeavesOthersEach}
+use Rattle.mg_ties.specs.Ties.{HoldsOfRows, IsOneOf, row_put, tables_fill_catalogs}
+use Rattle.mg_engine_steps.specs.SameRecords.{catalog_stands, same_catalog, same_page, same_record}
 use Rattle.mg_engine_changes.specs.Joined.{IsMade, Joins, layout_with, rows_stored}
 use Rattle.mg_engine_changes.specs.JoinedKept.{joined_kept}
 use Rattle.mg_engine_changes.specs.JoinedRows.{catalog_page}

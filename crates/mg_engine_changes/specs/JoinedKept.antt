@@ -26,9 +26,9 @@ use Rattle.mg_image.specs.RecordRules.{Facts, TakesKey, committed_in, table_in}
 use Rattle.mg_image.specs.Records.{Change, Erases, Puts, Reading, change_in, key_of, record_key, shown, writer}
 use Rattle.mg_image.specs.Sound.{IsSoundBy, facts_by}
 use Rattle.mg_image.specs.Tables.{Layout, Stand, has, table_at}
-use Rattle.mg_kept_images.specs.Begins.{Raises}
-use Rattle.mg_kept_images.specs.KeptImages.{IsKept}
-use Rattle.mg_kept_images.specs.StartLaws.{kept_by_itself}
+use Rattle.mg_image_overlays.specs.Begins.{Raises}
+use Rattle.mg_image_overlays.specs.KeptImages.{IsKept}
+use Rattle.mg_image_overlays.specs.StartLaws.{kept_by_itself}
 use Rattle.mg_engine_changes.specs.Joined.{IsMade, JoinedAreKept, Joins, layout_with, rows_stored}
 use Rattle.mg_engine_changes.specs.JoinedNames.{cat_is, of_catalog, of_other, read_still, was_of_catalog, was_other}
 use Rattle.mg_engine_changes.specs.JoinedRows.{cases_made, catalog_named, other_name, reading_at}

@@ -21,9 +21,9 @@ use Rattle.mg_image.specs.RecordRules.{Each, EachBack, Facts, IsVersion, TakesKe
 use Rattle.mg_image.specs.Records.{Reading, key_of, record_key, shown, writer}
 use Rattle.mg_image.specs.Sound.{IsSoundBy, facts_by}
 use Rattle.mg_image.specs.Tables.{Layout, Stand, has, table_at}
-use Rattle.mg_kept_images.specs.Begins.{Raises}
-use Rattle.mg_new_tables.specs.JoinedRows.{each_of_all, join_names, with_tables}
-use Rattle.mg_new_tables.specs.MadeRows.{all_stay, joined_rows, made_stay, row_either}
+use Rattle.mg_image_overlays.specs.Begins.{Raises}
+use Rattle.mg_image_overlays.specs.JoinedRows.{each_of_all, join_names, with_tables}
+use Rattle.mg_image_overlays.specs.MadeRows.{all_stay, joined_rows, made_stay, row_either}
 use Rattle.mg_engine_changes.specs.Joined.{IsMade, Joins, layout_with, rows_by, rows_stored}
 use Rattle.mg_engine_changes.specs.JoinedRows.{at_with, cases_made, catalog_named, catalog_page, made_by_key, other_name, reading_at, row_of, tables_with}
 use Rattle.mg_engine_changes.specs.Rows.{MadeRow, reading_with}

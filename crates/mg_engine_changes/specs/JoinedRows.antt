@@ -22,7 +22,7 @@ use Rattle.mg_image.specs.StepLaws.{cases_place, put_reading, same_place}
 use Rattle.mg_image.specs.Tables.{Layout, Stand, has, stands_of, table_at}
 use Rattle.mg_engine_changes.specs.Joined.{HasOwnPlace, HaveOwnPlaces, IsMade, rows_by, rows_stored, stands_with}
 use Rattle.mg_engine_changes.specs.Rows.{MadeRow, reading_with}
-use Rattle.mg_new_tables.specs.JoinedRows.{with_table}
+use Rattle.mg_image_overlays.specs.JoinedRows.{with_table}
 
 -- ---- what is read
 

@@ -25,7 +25,7 @@ use Rattle.mg_image.specs.RecordRules.{Each, EachBack, Facts, IsRecord, IsVersio
 use Rattle.mg_image.specs.Records.{Cells, Chain, Reading, Stands, cells_of, ended, goes, key_of, newest_of, record_key, shown, slot_cell, writer}
 use Rattle.mg_image.specs.Sound.{HasTablePages, IsSoundBy, facts_by}
 use Rattle.mg_image.specs.Tables.{EachStand, Layout, Stand, has, table_at}
-use Rattle.mg_kept_images.specs.Begins.{Raises, committed_still, dead_before}
+use Rattle.mg_image_overlays.specs.Begins.{Raises, committed_still, dead_before}
 use Rattle.mg_engine_changes.specs.Joined.{IsMade, JoinedAreSound, Joins, layout_with, stands_with}
 use Rattle.mg_engine_changes.specs.JoinedNames.{cat_is, names_joined, of_catalog, of_other, read_still, same_catalog, was_of_catalog, was_other}
 use Rattle.mg_engine_changes.specs.JoinedRows.{cases_made, catalog_named, catalog_page, made_once, other_name}

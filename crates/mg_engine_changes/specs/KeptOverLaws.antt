@@ -25,7 +25,7 @@ use Rattle.mg_image.specs.Records as records
 use Rattle.mg_image.specs.Records.{Reading}
 use Rattle.mg_image.specs.Sound.{IsSoundBy}
 use Rattle.mg_image.specs.Tables.{Layout}
-use Rattle.mg_kept_images.specs.TableOwners.{IsOneOf}
+use Rattle.mg_image_overlays.specs.TableOwners.{IsOneOf}
 use Rattle.mg_overlays.specs.Overlays.{left_state}
 use Rattle.mg_undo.specs.Machine.{changes_of}
 use Rattle.mg_undo.specs.Whole.{is_one_of}
@@ -33,11 +33,11 @@ use Rattle.mg_works.specs.Works.{Working, tables_left, work_of, written_in}
 use Rattle.mg_grown_catalogs.specs.Grown.{CatalogGrows}
 use Rattle.mg_engine_steps.specs.Standing.{FindsTables, Standing}
 use Rattle.mg_engine_meaning.specs.Standings.{AreOfKept, KeepsWritten, written_kept}
-use Rattle.mg_engine_writes.specs.Again.{AreTaken}
-use Rattle.mg_engine_writes.specs.OwnChains.{change_there, none_second}
-use Rattle.mg_engine_unmakings.specs.ChangedTables.{NoneOfGone}
-use Rattle.mg_engine_unmakings.specs.Outs.{is_among}
-use Rattle.mg_engine_unmakings.specs.TablesBack.{AreRowsLeft}
+use Rattle.mg_engine_steps.specs.Again.{AreTaken}
+use Rattle.mg_engine_steps.specs.OwnChains.{change_there, none_second}
+use Rattle.mg_engine_steps.specs.ChangedTables.{NoneOfGone}
+use Rattle.mg_engine_steps.specs.Outs.{is_among}
+use Rattle.mg_engine_steps.specs.TablesBack.{AreRowsLeft}
 use Rattle.mg_engine_changes.specs.WrittenLaws.{first_in, first_named, one_in, one_stands}
 use Rattle.mg_engine_changes.specs.RowsGivenLaws.{one_test}
 

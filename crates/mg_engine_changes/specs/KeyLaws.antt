@@ -19,10 +19,10 @@ use Rattle.mg_engine_changes.specs.Found.{IsItsRecord, ItsRecordIsFound}
 use Rattle.mg_engine_changes.specs.KeySteps.{FindsIts, IsTableOfIts, KeyStepsAreTaken, PutsFormer, TakesItOut, TakesKeyAt}
 use Rattle.mg_engine_changes.specs.TakingSteps.{StandsMidway}
 use Rattle.mg_engine_changes.specs.Written.{KeptTablesAreNamed, KeptTablesStand}
-use Rattle.mg_engine_writes.specs.Again.{again}
-use Rattle.mg_engine_writes.specs.Knowing.{CodesRow}
+use Rattle.mg_engine_steps.specs.Again.{again}
+use Rattle.mg_engine_steps.specs.Knowing.{CodesRow}
 use Rattle.mg_image.specs.Form.{Pages, packed_coding, packed_form}
-use Rattle.mg_kept_images.specs.KeptImages.{IsKept}
+use Rattle.mg_image_overlays.specs.KeptImages.{IsKept}
 use Rattle.mg_lasting.specs.PoolLaws.{HoldsOne}
 use Rattle.mg_model.specs.Catalog.{catalog_name}
 use Rattle.mg_model.specs.Changes.{has_change, same_name}

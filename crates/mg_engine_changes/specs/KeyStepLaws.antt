@@ -9,11 +9,11 @@ use Rattle.mg_base.specs.declared.transaction.TxState.TheVariants.{Active, Dead}
 use Rattle.mg_chain.specs.Chains.{Meets, newest_link}
 use Rattle.mg_chain.specs.Writing.{TakesOut}
 use Rattle.mg_engine_changes.specs.KeySteps.{IsTableOfIts, KeyStepsAreTaken, PutsFormer, TakesItOut, TakesKeyAt}
-use Rattle.mg_engine_writes.specs.Midway.{IsBackAt}
+use Rattle.mg_engine_steps.specs.Midway.{IsBackAt}
 use Rattle.mg_engine_changes.specs.Found.{ChangesAreThere, HasNewest as HasNewestChange, IsItsRecord, ItsRecordIsFound}
 use Rattle.mg_engine_changes.specs.TakingSteps.{ComesBack, GoesOut, StandsMidway, TakesKeyOf}
 use Rattle.mg_engine_changes.specs.ToTake.{WasIsTold, was_of}
-use Rattle.mg_engine_writes.specs.Knowing.{WasChanged}
+use Rattle.mg_engine_steps.specs.Knowing.{WasChanged}
 use Rattle.mg_image.specs.Form.{Pages, Row, packed_form}
 use Rattle.mg_image.specs.Histories.{newest_at, row_change}
 use Rattle.mg_image.specs.Indexes.{IsFoundIn}
@@ -40,7 +40,7 @@ use Rattle.mg_seek.specs.declared.walk.Placed.{Placed}
 use Rattle.mg_space.specs.Taking.{IsGeometry}
 use Rattle.mg_space.specs.View.{Tells}
 use Rattle.mg_space.specs.declared.links.FireLinks.{FireLinks}
-use Rattle.mg_space_ties.specs.Changed.{fresh}
+use Rattle.mg_ties.specs.Changed.{fresh}
 use Rattle.mg_engine_steps.specs.Standing.{Remembers, ShowsHistory, Standing}
 use Rattle.mg_undo.specs.Machine.{was_given, was_in}
 use Rattle.mg_undo.specs.declared.changes.Was.TheVariants.{Untouched}

@@ -6,7 +6,7 @@ use Rattle.mg_base.specs.Image.{Image}
 use Rattle.mg_base.specs.declared.numbers.RecId.{RecId}
 use Rattle.mg_base.specs.declared.transaction.TxState.TheVariants.{Active}
 use Rattle.mg_engine_changes.specs.TakingSteps.{StandsMidway, TakesKeyOf}
-use Rattle.mg_engine_writes.specs.Knowing.{CodesRow, MayWriteInto}
+use Rattle.mg_engine_steps.specs.Knowing.{CodesRow, MayWriteInto}
 use Rattle.mg_image.specs.Form.{Pages, Row, packed_coding, packed_form}
 use Rattle.mg_image.specs.Records.{Reading}
 use Rattle.mg_image.specs.Tables.{Layout}

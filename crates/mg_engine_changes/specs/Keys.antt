@@ -8,7 +8,7 @@ use Rattle.mg_engine_steps.specs.Standing.{Remembers, ShowsHistory, Standing}
 use Rattle.mg_engine_changes.specs.Takings.{KnowsCache}
 use Rattle.mg_engine_changes.specs.TakingSteps.{StandsMidway, TakesKeysOf}
 use Rattle.mg_engine_changes.specs.ToTake.{AreKeysOf, EachChange}
-use Rattle.mg_engine_writes.specs.Midway.{GoesBack}
+use Rattle.mg_engine_steps.specs.Midway.{GoesBack}
 use Rattle.mg_image.specs.Form.{Pages, packed_form}
 use Rattle.mg_image.specs.Inventory.{header_of}
 use Rattle.mg_model.specs.Catalog.{catalog_name}

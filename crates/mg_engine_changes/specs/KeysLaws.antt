@@ -16,8 +16,8 @@ use Rattle.mg_engine_changes.specs.BackLists.{KeepsLists, KeysKeepLists}
 use Rattle.mg_engine_changes.specs.TakingSteps.{KeysGoOn, StandsMidway, TakesKeysOf, no_keys, one_key}
 use Rattle.mg_engine_changes.specs.ToTake.{AreKeysOf, EachChange, KeysAreTaken}
 use Rattle.mg_engine_changes.specs.WrittenLaws.{first_named}
-use Rattle.mg_engine_writes.specs.Again.{without_key}
-use Rattle.mg_engine_writes.specs.Midway.{GoesBack}
+use Rattle.mg_engine_steps.specs.Again.{without_key}
+use Rattle.mg_engine_steps.specs.Midway.{GoesBack}
 use Rattle.mg_image.specs.Form.{Pages, packed_form}
 use Rattle.mg_model.specs.Changes.{has_change}
 use Rattle.mg_model.specs.History.{Entries, Entry}

@@ -1,10 +1,10 @@
 -- The laws on which a transaction that is taken back stands.
 use Rattle.mg_base.specs.Disk.{Meaning}
-use Rattle.mg_engine_calls.specs.Ends.{RollbacksGo}
+use Rattle.mg_engine_meaning.specs.Ends.{RollbacksGo}
 use Rattle.mg_engine_steps.specs.Following.{StandsOn}
 use Rattle.mg_engine_steps.specs.Idle.{IdleGoesOn}
 use Rattle.mg_engine_steps.specs.ListShows.{ListsStay}
-use Rattle.mg_engine_tables.specs.Alike.{OthersTakeAlike}
+use Rattle.mg_engine_steps.specs.Alike.{OthersTakeAlike}
 use Rattle.mg_engine_changes.specs.EngineBacks.{EnginesGoBackTo, OthersWalkOnBack}
 use Rattle.mg_engine_changes.specs.Given.{UndoListsGiveKeys}
 use Rattle.mg_engine_changes.specs.Keys.{CoresTakeAll}
@@ -13,16 +13,16 @@ use Rattle.mg_engine_changes.specs.BackPages.{KeysKeepPages}
 use Rattle.mg_engine_changes.specs.BackStops.{StopsAreGivenUp, WritesFailMidway}
 use Rattle.mg_engine_changes.specs.BackWalks.{GivenUpWalksGoOn}
 use Rattle.mg_engine_changes.specs.ToTake.{KeysAreTaken, SinceAreTaken}
-use Rattle.mg_engine_writes.specs.Midway.{MidwaysBegin}
-use Rattle.mg_engine_writes.specs.Shown.{ShowsFirst}
-use Rattle.mg_engine_writes.specs.Unasked.{UnaskingLasts}
+use Rattle.mg_engine_steps.specs.Midway.{MidwaysBegin}
+use Rattle.mg_engine_steps.specs.Shown.{ShowsFirst}
+use Rattle.mg_engine_steps.specs.Unasked.{UnaskingLasts}
 use Rattle.mg_image.specs.Form.{packed_form}
 use Rattle.mg_lasting.specs.Changing.{QuietHolds}
 use Rattle.mg_lasting.specs.PoolLaws.{HoldsOne}
 use Rattle.mg_model.specs.Laws.{OpeningsBegin}
 use Rattle.mg_space.specs.ViewLaws.{CountsNow}
 use Rattle.mg_space.specs.declared.links.FireLinks.{FireLinks}
-use Rattle.mg_table_overlays.specs.OneLayout.{StandsOneWay}
+use Rattle.mg_image_overlays.specs.OneLayout.{StandsOneWay}
 use Rattle.mg_taking_back.specs.Taking.{ComesToEnd, GivesOn}
 use Rattle.mg_undo.specs.Machine.{GivesWhatWas, NotesDeeds}
 

@@ -21,8 +21,8 @@ use Rattle.mg_engine_steps.specs.AnswersLaws.{NothingAtKeys, ObstaclesAtKeys, Ro
 use Rattle.mg_engine_steps.specs.ListShows.{BehindKeepsTips, ListsStay, TipsStayOn}
 use Rattle.mg_engine_steps.specs.Batches.{ReadsLast, RowsLastStill}
 use Rattle.mg_engine_steps.specs.GoesOn.{WritesGoOn}
-use Rattle.mg_engine_writes.specs.Rows.{DeadsGo, PushesGoOn, ReplacementsGoOn, FirstsGoOn}
-use Rattle.mg_engine_writes.specs.Unasked.{UnaskingLasts}
+use Rattle.mg_engine_steps.specs.Rows.{DeadsGo, PushesGoOn, ReplacementsGoOn, FirstsGoOn}
+use Rattle.mg_engine_steps.specs.Unasked.{UnaskingLasts}
 use Rattle.mg_image.specs.Form.{Pages, packed_coding, packed_form}
 use Rattle.mg_image.specs.ReadingLaws.{RowsAreOne}
 use Rattle.mg_lasting.specs.Crashes.{HoldsAcknowledged, LeavesSince}
@@ -67,7 +67,7 @@ use Rattle.mg_engine_steps.specs.Known.{IsShown}
 use Rattle.mg_model.specs.Machine.{own}
 use Rattle.mg_model.specs.Openings.{everyone}
 use Rattle.mg_overlays.specs.Overlays.{left_state}
-use Rattle.mg_table_overlays.specs.OneTable.{one_table}
+use Rattle.mg_image_overlays.specs.OneTable.{one_table}
 use Rattle.mg_undo.specs.Machine.{was_in}
 use Rattle.mg_base.specs.declared.geometry.Geometry.{Geometry}
 use Rattle.mg_engine_steps.specs.Walking.{AreToCome, WalkPlace}

@@ -6,29 +6,29 @@ use Rattle.mg_base.specs.declared.numbers.RecId.{RecId}
 use Rattle.mg_base.specs.declared.transaction.TxState.{TxState}
 use Rattle.mg_base.specs.declared.transaction.TxState.TheVariants.{Committed}
 use Rattle.mg_chain.specs.Writing.{Moves, OverwritesOrMoves, Pushes, PutsAt, Replaces, link_to, MakesRecord, leading_to}
-use Rattle.mg_chain_ties.specs.MoveTies.{moves_pages, puts as move_puts, some_grows as move_grows}
-use Rattle.mg_chain_ties.specs.PlaceTies.{replaces_page}
-use Rattle.mg_chain_ties.specs.PushTies.{pushes_pages, puts, some_grows, written}
-use Rattle.mg_chain_ties.specs.PutTies.{PutsGiven}
-use Rattle.mg_chain_ties.specs.Rows.{ForEach}
+use Rattle.mg_ties.specs.MoveTies.{moves_pages, puts as move_puts, some_grows as move_grows}
+use Rattle.mg_ties.specs.PlaceTies.{replaces_page}
+use Rattle.mg_ties.specs.PushTies.{pushes_pages, puts, some_grows, written}
+use Rattle.mg_ties.specs.PutTies.{PutsGiven}
+use Rattle.mg_ties.specs.Rows.{ForEach}
 use Rattle.mg_engine_steps.specs.ListShows.{BehindKeepsTips, TipsStayOn}
 use Rattle.mg_engine_steps.specs.GoesOn.{WritesGoOn}
 use Rattle.mg_engine_steps.specs.GoesOnLaws.{pool_is_kept}
-use Rattle.mg_engine_writes.specs.Caches.{kept_now}
-use Rattle.mg_engine_writes.specs.Knowing.{CodesRow, EntersWrite, HasEntries, MayWriteInto, WasChanged}
-use Rattle.mg_engine_writes.specs.OwnKept.{IsRewritten, found, rewritten, its_own}
-use Rattle.mg_engine_writes.specs.PushLaws.{reads}
-use Rattle.mg_engine_writes.specs.Spoken.{spoken_key, spoken_of, was_drawn}
-use Rattle.mg_engine_writes.specs.WriteKnown.{placed_each, may_be}
-use Rattle.mg_table_overlays.specs.Growing.{IsTableOf, MayBeWritten, EndsAt}
-use Rattle.mg_heap_ties.specs.RoomTies.{GrowsSome, end_of, ends_there}
+use Rattle.mg_engine_steps.specs.Caches.{kept_now}
+use Rattle.mg_engine_steps.specs.Knowing.{CodesRow, EntersWrite, HasEntries, MayWriteInto, WasChanged}
+use Rattle.mg_engine_steps.specs.OwnKept.{IsRewritten, found, rewritten, its_own}
+use Rattle.mg_engine_steps.specs.PushLaws.{reads}
+use Rattle.mg_engine_steps.specs.Spoken.{spoken_key, spoken_of, was_drawn}
+use Rattle.mg_engine_steps.specs.WriteKnown.{placed_each, may_be}
+use Rattle.mg_image_overlays.specs.Growing.{IsTableOf, MayBeWritten, EndsAt}
+use Rattle.mg_ties.specs.RoomTies.{GrowsSome, end_of, ends_there}
 use Rattle.mg_image.specs.Form.{Pages, Row, packed_coding, packed_form}
 use Rattle.mg_image.specs.Inventory.{next_of}
 use Rattle.mg_image.specs.ReadingLaws.{RowsAreOne}
 use Rattle.mg_image.specs.Records.{record_key, cells_of, key_of, shown as shown_by_writers, writer}
 use Rattle.mg_image.specs.Tables.{stands_of, table_at}
-use Rattle.mg_kept_images.specs.Kinds.{HasNoSequences}
-use Rattle.mg_kept_images.specs.KeptImages.{IsKept}
+use Rattle.mg_image_overlays.specs.Kinds.{HasNoSequences}
+use Rattle.mg_image_overlays.specs.KeptImages.{IsKept}
 use Rattle.mg_lasting.specs.Lasting.{LastsOn}
 use Rattle.mg_model.specs.Changes.{Cells}
 use Rattle.mg_model.specs.History.{Entries, Entry as Event}
@@ -43,21 +43,21 @@ use Rattle.mg_pool.specs.declared.pool.Pool.{Pool}
 use Rattle.mg_pool_overlays.specs.Needs.{Asked, Sessions}
 use Rattle.mg_slots.specs.Room.{need_of}
 use Rattle.mg_space.specs.View.{viewed}
-use Rattle.mg_space_ties.specs.Changed.{KeptIn, fresh, changed_fresh}
+use Rattle.mg_ties.specs.Changed.{KeptIn, fresh, changed_fresh}
 use Rattle.mg_engine_steps.specs.Standing.{Standing, Stands}
 use Rattle.mg_value.specs.declared.value.Value.{Value}
 use Rattle.mg_version.specs.declared.cell.Version.{Version}
 use Rattle.mg_engine_meaning.specs.PlainTables.{HasPlainTables}
-use Rattle.mg_chain_ties.specs.FirstPages.{MakesPages}
-use Rattle.mg_chain_ties.specs.FirstTies.{pages}
+use Rattle.mg_ties.specs.FirstPages.{MakesPages}
+use Rattle.mg_ties.specs.FirstTies.{pages}
 use Rattle.mg_engine_steps.specs.Writes.{IsSilentAt, ReadsAfter}
-use Rattle.mg_engine_writes.specs.FirstLaws.{reads as first_reads}
+use Rattle.mg_engine_steps.specs.FirstLaws.{reads as first_reads}
 use Rattle.mg_image.specs.Sound.{facts_by}
-use Rattle.mg_record_overlays.specs.AddPart.{AddsPages}
-use Rattle.mg_engine_writes.specs.TablePages.{HasLater, KeepsPages}
-use Rattle.mg_engine_writes.specs.TablePagesLaws.{firsts_keep_pages, moves_keep_pages, pushes_keep_pages, replacements_keep_pages}
-use Rattle.mg_table_overlays.specs.OwnVersion.{FindsNewest}
-use Rattle.mg_table_overlays.specs.DataKept.{KeepsBits}
+use Rattle.mg_image_overlays.specs.AddPart.{AddsPages}
+use Rattle.mg_engine_steps.specs.WrittenTablePages.{HasLater, KeepsPages}
+use Rattle.mg_engine_steps.specs.WrittenTablePagesLaws.{firsts_keep_pages, moves_keep_pages, pushes_keep_pages, replacements_keep_pages}
+use Rattle.mg_image_overlays.specs.OwnVersion.{FindsNewest}
+use Rattle.mg_image_overlays.specs.DataKept.{KeepsBits}
 use Rattle.mg_engine_changes.specs.Laid.{LeavesPages}
 use Rattle.mg_engine_changes.specs.Plain.{WritesKeepPlain}
 use Rattle.mg_engine_changes.specs.TipLaws.{moves_keep_tips, pushes_keep_tips, replacements_keep_tips, firsts_keep_tips}

@@ -36,6 +36,13 @@ pub mod EngineOverLaws
 pub mod Enters
 pub mod Events
 pub mod FailedLaws
+pub mod FaultBackLaws
+pub mod FaultCallLaws
+pub mod FaultCoreLaws
+pub mod FaultMakingLaws
+pub mod FaultPageLaws
+pub mod FaultTableBackLaws
+pub mod FaultWriteLaws
 pub mod Found
 pub mod FoundLaws
 pub mod Given
@@ -146,6 +153,7 @@ pub mod TipLaws
 pub mod Tips
 pub mod ToTake
 pub mod ToTakeLaws
+pub mod Told
 pub mod UndoneLaws
 pub mod UndoneOver
 pub mod Untouched

@@ -33,9 +33,9 @@ use Rattle.mg_image.specs.RecordRules.{Facts, table_in}
 use Rattle.mg_image.specs.Records.{Reading, key_of}
 use Rattle.mg_image.specs.Sound.{IsSoundBy, facts_by}
 use Rattle.mg_image.specs.Tables.{Layout, has}
-use Rattle.mg_kept_images.specs.Fronts.{is_dead}
-use Rattle.mg_kept_images.specs.KeptImages.{IsKept}
-use Rattle.mg_kept_images.specs.Kinds.{HasNoSequences}
+use Rattle.mg_image_overlays.specs.Fronts.{is_dead}
+use Rattle.mg_image_overlays.specs.KeptImages.{IsKept}
+use Rattle.mg_image_overlays.specs.Kinds.{HasNoSequences}
 use Rattle.mg_lasting.specs.Changing.{QuietHolds}
 use Rattle.mg_lasting.specs.CrashLaws.{asked_quiet}
 use Rattle.mg_lasting.specs.Crashes.{HoldsAcknowledged, LeavesSince, asked as asked_of}
@@ -47,15 +47,15 @@ use Rattle.mg_pool.specs.declared.pool.Pool.{Pool}
 use Rattle.mg_pool_overlays.specs.Needs.{Asked, Sessions}
 use Rattle.mg_space.specs.View.{viewed}
 use Rattle.mg_space.specs.declared.links.FireLinks.{FireLinks}
-use Rattle.mg_space_ties.specs.Changed.{KeptIn, changed_fresh, fresh}
-use Rattle.mg_stand_owners.specs.StandOwners.{OwnersKeepStandsApart}
-use Rattle.mg_catalog_batches.specs.CatalogRows.{IsRowOf}
-use Rattle.mg_catalog_batches.specs.Filled.{catalog_of}
+use Rattle.mg_ties.specs.Changed.{KeptIn, changed_fresh, fresh}
+use Rattle.mg_image_overlays.specs.StandOwners.{OwnersKeepStandsApart}
+use Rattle.mg_ties.specs.CatalogRows.{IsRowOf}
+use Rattle.mg_ties.specs.Filled.{catalog_of}
 use Rattle.mg_table_batch.specs.Filling.{FillsTable, rows_at, table_at}
-use Rattle.mg_table_overlays.specs.DataKept.{KeepsBits}
-use Rattle.mg_table_overlays.specs.OneLayout.{sound_once}
-use Rattle.mg_table_ties.specs.Made.{LeavesOthersEach, no_entry, one_more}
-use Rattle.mg_table_ties.specs.Ties.{HoldsOfRows, IsOneOf}
+use Rattle.mg_image_overlays.specs.DataKept.{KeepsBits}
+use Rattle.mg_image_overlays.specs.OneLayout.{sound_once}
+use Rattle.mg_ties.specs.Made.{LeavesOthersEach, no_entry, one_more}
+use Rattle.mg_ties.specs.Ties.{HoldsOfRows, IsOneOf}
 use Rattle.mg_engine_changes.specs.Joined.{HasOwnPlace, HaveOwnPlaces, IsMade, layout_with, rows_stored}
 use Rattle.mg_engine_changes.specs.JoinedBatch.{AreItsRows, HasJoined, HasPages, MadeTableKeeps, ReadsBatch, joined_batch, reads_batch, told_made}
 use Rattle.mg_engine_changes.specs.JoinedNames.{of_catalog, of_other, was_of_catalog, was_other}
@@ -70,8 +70,8 @@ use Rattle.mg_engine_steps.specs.Reads.{behind_bits}
 use Rattle.mg_engine_steps.specs.Standing.{ShowsHistory, Standing, Stands}
 use Rattle.mg_engine_steps.specs.Versions.{HaveVersions}
 use Rattle.mg_engine_steps.specs.Writes.{IsSilentAt}
-use Rattle.mg_engine_writes.specs.Caches.{kept_now, pool_now, row_changed}
-use Rattle.mg_engine_writes.specs.Knowing.{WasChanged}
+use Rattle.mg_engine_steps.specs.Caches.{kept_now, pool_now, row_changed}
+use Rattle.mg_engine_steps.specs.Knowing.{WasChanged}
 use Rattle.mg_engine_meaning.specs.PlainTables.{HasPlainTables}
 use Rattle.mg_engine_changes.specs.BatchLeaves.{batch_leaves}
 use Rattle.mg_engine_changes.specs.MadePages.{MadePages}

@@ -38,7 +38,7 @@ use Rattle.mg_grown_catalogs.specs.Grown.{EachMakes}
 use Rattle.mg_image.specs.Catalog.{IsSameTable, StaysAmong, catalog_table}
 use Rattle.mg_image.specs.Form.{Pages, packed_form}
 use Rattle.mg_image.specs.Tables.{Layout, Stand, stands_of}
-use Rattle.mg_kept_images.specs.TableOwners.{IsOneOf}
+use Rattle.mg_image_overlays.specs.TableOwners.{IsOneOf}
 use Rattle.mg_lasting.specs.Lasting.{LastsOn}
 use Rattle.mg_overlays.specs.Overlays.{left_state}
 use Rattle.mg_pool.specs.Pool.{shown}
@@ -48,7 +48,7 @@ use Rattle.mg_space.specs.declared.links.FireLinks.{FireLinks}
 use Rattle.mg_table_batch.specs.Filling.{table_at}
 use Rattle.mg_table_making.specs.Keeping.{works_made}
 use Rattle.mg_table_making.specs.Keys.{keys_made}
-use Rattle.mg_table_overlays.specs.OneTable.{one_table, stands_in}
+use Rattle.mg_image_overlays.specs.OneTable.{one_table, stands_in}
 use Rattle.mg_txlist.specs.TxList.{said}
 use Rattle.mg_undo.specs.Undo.{State as Undo}
 use Rattle.mg_waits.specs.Waits.{NowWaits, edges_in}

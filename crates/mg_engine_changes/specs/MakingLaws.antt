@@ -36,15 +36,15 @@ use Rattle.mg_space.specs.Taking.{IsGeometry}
 use Rattle.mg_space.specs.View.{Tells}
 use Rattle.mg_space.specs.ViewLaws.{CountsNow}
 use Rattle.mg_space.specs.declared.links.FireLinks.{FireLinks}
-use Rattle.mg_space_ties.specs.Changed.{fresh}
-use Rattle.mg_stand_owners.specs.StandOwners.{OwnersKeepStandsApart}
-use Rattle.mg_catalog_batches.specs.Filled.{catalog_of}
+use Rattle.mg_ties.specs.Changed.{fresh}
+use Rattle.mg_image_overlays.specs.StandOwners.{OwnersKeepStandsApart}
+use Rattle.mg_ties.specs.Filled.{catalog_of}
 use Rattle.mg_table_batch.specs.Filling.{FillsTable, rows_at}
 use Rattle.mg_table_batch.specs.Making.{MakesAtOnce, MakesTable}
 use Rattle.mg_table_making.specs.Creating.{CreatesTable}
 use Rattle.mg_table_making.specs.Keeping.{works_made}
 use Rattle.mg_table_making.specs.Keys.{keys_made}
-use Rattle.mg_table_ties.specs.Ties.{IsOneOf}
+use Rattle.mg_ties.specs.Ties.{IsOneOf}
 use Rattle.mg_txlist.specs.TxList.{said}
 use Rattle.mg_waits.specs.Waits.{NowWaits, edges_in}
 use Rattle.mg_works.specs.Works.{Working, given_by, given_to, work_of}
@@ -61,8 +61,8 @@ use Rattle.mg_engine_steps.specs.ListShows.{BehindKeepsTips, ListsStay}
 use Rattle.mg_engine_steps.specs.Standing.{Standing}
 use Rattle.mg_engine_steps.specs.Walking.{AreToCome, WalkPlace}
 use Rattle.mg_engine_steps.specs.Writes.{IsSilentAt}
-use Rattle.mg_engine_writes.specs.Knowing.{WasChanged}
-use Rattle.mg_engine_writes.specs.Unasked.{UnaskingLasts}
+use Rattle.mg_engine_steps.specs.Knowing.{WasChanged}
+use Rattle.mg_engine_steps.specs.Unasked.{UnaskingLasts}
 use Rattle.mg_engine_meaning.specs.FrameLaws.{apart_from, commits_of, kept_all, keeps_of, sessions_of, tables_of}
 use Rattle.mg_engine_meaning.specs.Frames.{WorksStay}
 use Rattle.mg_engine_meaning.specs.LawfulLaws.{memory_of}

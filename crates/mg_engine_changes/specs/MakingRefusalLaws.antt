@@ -44,7 +44,7 @@ use Rattle.mg_space.specs.declared.fault.SpaceFault.TheVariants as faults
 use Rattle.mg_space.specs.declared.links.FireLinks.{FireLinks}
 use Rattle.mg_table_making.specs.Creating.{FailsCreation, FailsPut, MayBeMade, no_catalog, no_keys, not_begun, not_free, not_kept, not_made, not_put, only_reads}
 use Rattle.mg_table_making.specs.Keys.{AreFreeKeys, FailsColumnKey, FailsColumnKeys, FailsFree, FailsOwnKey, column_spoken, column_taken, column_unread, first_taken, free_more, free_none, keys_made, later_taken, out_of_place, own_hindered, own_seen, own_spoken, own_taken, own_unread}
-use Rattle.mg_table_overlays.specs.OneTable.{stands_in}
+use Rattle.mg_image_overlays.specs.OneTable.{stands_in}
 use Rattle.mg_txlist.specs.TxList.{said}
 use Rattle.mg_waits.specs.Machine.{NobodyWaits, VerdictsAreTheMachines}
 use Rattle.mg_works.specs.Works.{Working, work_of}

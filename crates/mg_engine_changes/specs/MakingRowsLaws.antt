@@ -27,7 +27,7 @@ use Rattle.mg_image.specs.Catalog.{catalog_table}
 use Rattle.mg_image.specs.RecordRules.{Facts, table_in}
 use Rattle.mg_image.specs.Records.{Reading, record_key, writer}
 use Rattle.mg_image.specs.StepLaws.{cases_place, put_reading, same_place}
-use Rattle.mg_kept_images.specs.Fronts.{is_dead}
+use Rattle.mg_image_overlays.specs.Fronts.{is_dead}
 use Rattle.mg_seek.specs.Histories.{told_versions}
 use Rattle.mg_engine_steps.specs.AnswersLaws.{NothingAtKeys}
 use Rattle.mg_engine_steps.specs.ChainLaws.{erased_still}

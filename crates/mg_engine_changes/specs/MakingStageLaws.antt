@@ -35,9 +35,9 @@ use Rattle.mg_space.specs.declared.links.FireLinks.{FireLinks}
 use Rattle.mg_table_batch.specs.Making.{Grows, GrowsAsWanted, gets_one, has_enough}
 use Rattle.mg_table_making.specs.Creating.{MayBeMade}
 use Rattle.mg_table_making.specs.Keys.{AreFreeKeys, IsFreeKey, free_more, free_none, keys_made}
-use Rattle.mg_table_overlays.specs.OneLayout.{sound_once}
-use Rattle.mg_table_overlays.specs.OneTable.{stands_in}
-use Rattle.mg_table_ties.specs.Ties.{IsOneOf}
+use Rattle.mg_image_overlays.specs.OneLayout.{sound_once}
+use Rattle.mg_image_overlays.specs.OneTable.{stands_in}
+use Rattle.mg_ties.specs.Ties.{IsOneOf}
 use Rattle.mg_txlist.specs.TxList.{said}
 use Rattle.mg_core.specs.declared.parts.Core.{Core}
 use Rattle.mg_core.specs.Cores.{IsCore}

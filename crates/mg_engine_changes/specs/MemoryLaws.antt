@@ -5,7 +5,7 @@ use Rattle.std.proofs.Math.Path.{fun_ext}
 use Rattle.std.proofs.lemmas.Bool.{eq-eqb, eqb-true, false≢true}
 use Rattle.mg_base.specs.declared.transaction.TxState.TheVariants.{Active}
 use Rattle.mg_chain.specs.Bases.{live_after}
-use Rattle.mg_engine_writes.specs.OwnChains.{change_there, newest_second, row_of, row_there}
+use Rattle.mg_engine_steps.specs.OwnChains.{change_there, newest_second, row_of, row_there}
 use Rattle.mg_engine_changes.specs.Memory.{BacksFollow, IsBackInMemory, LeavesCatalog, MayGoTo}
 use Rattle.mg_engine_changes.specs.ToTake.{SinceAreTaken, since_point}
 use Rattle.mg_image.specs.Histories.{newest_at, row_change}

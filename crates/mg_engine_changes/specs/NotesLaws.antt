@@ -10,7 +10,7 @@ use Rattle.mg_pool_overlays.specs.Needs.{Asked, Sessions}
 use Rattle.mg_engine_steps.specs.Standing.{Standing}
 use Rattle.mg_lasting.specs.Lasting.{LastsOn}
 use Rattle.mg_image.specs.Form.{packed_form}
-use Rattle.mg_kept_images.specs.TableOwners.{IsOneOf}
+use Rattle.mg_image_overlays.specs.TableOwners.{IsOneOf}
 use Rattle.mg_works.specs.Works.{Working, given_by, has_session, with_work, with_written, work_of, written_by, written_in, written_to}
 use Rattle.mg_works.specs.WorksLaws.{none_untouched, with_its, with_none, with_others}
 use Rattle.mg_core.specs.declared.parts.Core.{Core}

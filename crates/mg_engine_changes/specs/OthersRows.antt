@@ -7,7 +7,7 @@ use Rattle.mg_base.specs.declared.transaction.TxState.{TxState}
 use Rattle.mg_base.specs.declared.transaction.TxState.TheVariants.{Active, Committed, Dead, Limbo}
 use Rattle.mg_chain.specs.Chains.{takes_version}
 use Rattle.mg_engine_steps.specs.TableAnswers.{shown_key, shown_living}
-use Rattle.mg_engine_writes.specs.Shown.{IsTakenBack, ShowsMidway}
+use Rattle.mg_engine_steps.specs.Shown.{IsTakenBack, ShowsMidway}
 use Rattle.mg_engine_changes.specs.RowWalks.{row_at_record}
 use Rattle.mg_generations.specs.After.{generations_back}
 use Rattle.mg_generations.specs.Generations.{Generation, put, shown_by, without_newest_by}
@@ -18,7 +18,7 @@ use Rattle.mg_image.specs.RecordRules.{Each, Facts, IsVersion, table_in}
 use Rattle.mg_image.specs.Records.{Reading, key_of, record_key, shown, writer}
 use Rattle.mg_image.specs.Sound.{facts_by}
 use Rattle.mg_image.specs.declared.entry.Entry.{Entry as Read}
-use Rattle.mg_kept_images.specs.Fronts.{is_dead, living}
+use Rattle.mg_image_overlays.specs.Fronts.{is_dead, living}
 use Rattle.mg_model.specs.Answers.{is_committed}
 use Rattle.mg_model.specs.Changes.{KeyedRows, has_change, row_at}
 use Rattle.mg_model.specs.History.{Entries, Entry}

@@ -21,7 +21,7 @@ use Rattle.mg_model.specs.declared.opening.Opening.{Opening}
 use Rattle.mg_model.specs.declared.table.Table.{Table}
 use Rattle.mg_overlays.specs.Overlays.{left_state}
 use Rattle.mg_pool.specs.Pool.{shown}
-use Rattle.mg_table_overlays.specs.OneTable.{one_table, stands_in}
+use Rattle.mg_image_overlays.specs.OneTable.{one_table, stands_in}
 use Rattle.mg_txlist.specs.TxList.{said}
 use Rattle.mg_undo.specs.Machine.{GivesWhatWas, first_of, given_from, going_to}
 use Rattle.mg_undo.specs.Undo.{State as Undo, TakesBack as GivesAll}

@@ -10,7 +10,7 @@ use Rattle.mg_generations.specs.Generations.{Generation, is_newest_by, put, with
 use Rattle.mg_image.specs.declared.entry.Entry.{Entry as Read}
 use Rattle.mg_image.specs.RecordRules.{Each, EachBack}
 use Rattle.mg_image.specs.Records.{writer}
-use Rattle.mg_kept_images.specs.Fronts.{is_dead}
+use Rattle.mg_image_overlays.specs.Fronts.{is_dead}
 use Rattle.mg_model.specs.Changes.{has_change, row_at}
 use Rattle.mg_model.specs.declared.change.Change.{Change}
 use Rattle.mg_model.specs.declared.table.Table.{Table}

@@ -10,7 +10,7 @@ use Rattle.mg_base.specs.declared.transaction.TxState.TheVariants.{Active, Commi
 use Rattle.mg_value.specs.declared.shape.Shape.{Shape}
 use Rattle.mg_value.specs.declared.value.Value.{Value}
 use Rattle.mg_grown_catalogs.specs.Grown.{CatalogGrows, SeenIsNotMade}
-use Rattle.mg_table_overlays.specs.Growing.{IsTableOf}
+use Rattle.mg_image_overlays.specs.Growing.{IsTableOf}
 use Rattle.mg_generations.specs.Generations.{Generation, is_newest_by}
 use Rattle.mg_generations.specs.Kept.{IsErasedForAll, IsGarbage, StandFor, behind, erased, nothing}
 use Rattle.mg_image.specs.Catalog.{committed_with}
@@ -22,9 +22,9 @@ use Rattle.mg_image.specs.Records.{Reading, key_of, record_key, shown, writer}
 use Rattle.mg_image.specs.Sound.{facts_by}
 use Rattle.mg_image.specs.Tables.{EachStand, Layout, stands_of}
 use Rattle.mg_image.specs.declared.entry.Entry.{Entry}
-use Rattle.mg_kept_images.specs.Fronts.{is_dead}
-use Rattle.mg_kept_images.specs.TableOwners.{IsOneOf, one_each}
-use Rattle.mg_kept_images.specs.KeptImages.{IsKept}
+use Rattle.mg_image_overlays.specs.Fronts.{is_dead}
+use Rattle.mg_image_overlays.specs.TableOwners.{IsOneOf, one_each}
+use Rattle.mg_image_overlays.specs.KeptImages.{IsKept}
 use Rattle.mg_model.specs.Answers.{catalog_of, is_committed, is_open, told}
 use Rattle.mg_model.specs.Catalog.{CatalogRows, catalog_name, shape_said, table_key}
 use Rattle.mg_model.specs.CatalogRules.{IsTable}
@@ -36,16 +36,16 @@ use Rattle.mg_model.specs.Machine.{own, state_of, view}
 use Rattle.mg_model.specs.Openings.{everyone}
 use Rattle.mg_model.specs.declared.opening.Opening.{Opening}
 use Rattle.mg_model.specs.declared.table.Table.{Table}
-use Rattle.mg_named_tables.specs.NamedTables.{IsNamedFor, NamesTellTables}
+use Rattle.mg_image_overlays.specs.NamedTables.{IsNamedFor, NamesTellTables}
 use Rattle.mg_overlays.specs.Overlays.{left_by, left_state}
 use Rattle.mg_records.specs.Reading.{shape_named, shape_seen}
 use Rattle.mg_seek.specs.Histories.{told_all, told_versions}
 use Rattle.mg_engine_steps.specs.Standing.{ShowsHistory, Standing, Stands}
 use Rattle.mg_engine_steps.specs.Versions.{IsRecordOf, SpeaksFor, SpeaksOrSilent}
-use Rattle.mg_table_overlays.specs.OneTable.{one_standing}
+use Rattle.mg_image_overlays.specs.OneTable.{one_standing}
 use Rattle.mg_engine_steps.specs.TableAnswers.{shown_key}
 use Rattle.mg_engine_meaning.specs.PlainTables.{HasPlainTables}
-use Rattle.mg_engine_writes.specs.Knowing.{HasRowsOf, MayWriteInto}
+use Rattle.mg_engine_steps.specs.Knowing.{HasRowsOf, MayWriteInto}
 use Rattle.mg_engine_changes.specs.ChoiceTables.{none_by_rows, stands_by_committed, stands_by_row}
 use Rattle.mg_engine_changes.specs.Owners.{SeenMayBeWritten}
 

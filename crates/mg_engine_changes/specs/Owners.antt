@@ -3,9 +3,9 @@ use Rattle.std.specs.Prelude.{◌≡◌, ℕ, Bool, List, Some}
 use Rattle.mg_base.specs.declared.transaction.TxState.TheVariants.{Active}
 use Rattle.mg_value.specs.declared.shape.Shape.{Shape}
 use Rattle.mg_grown_catalogs.specs.Grown.{CatalogGrows}
-use Rattle.mg_table_overlays.specs.Growing.{IsTableOf}
+use Rattle.mg_image_overlays.specs.Growing.{IsTableOf}
 use Rattle.mg_image.specs.Form.{Pages, packed_form}
-use Rattle.mg_kept_images.specs.KeptImages.{IsKept}
+use Rattle.mg_image_overlays.specs.KeptImages.{IsKept}
 use Rattle.mg_model.specs.declared.opening.Opening.{Opening}
 use Rattle.mg_model.specs.declared.table.Table.{Table}
 use Rattle.mg_model.specs.History.{Entries}
@@ -14,7 +14,7 @@ use Rattle.mg_overlays.specs.Overlays.{left_state}
 use Rattle.mg_records.specs.Reading.{shape_seen}
 use Rattle.mg_engine_steps.specs.Standing.{Standing, Stands}
 use Rattle.mg_engine_meaning.specs.PlainTables.{HasPlainTables}
-use Rattle.mg_engine_writes.specs.Knowing.{MayWriteInto}
+use Rattle.mg_engine_steps.specs.Knowing.{MayWriteInto}
 
 -- no table has an index, and the pages are what they have to be under each choice: then a table that stands on the
 -- pages and has a name under which an active transaction sees one is its own, or a committed row of the catalog names it

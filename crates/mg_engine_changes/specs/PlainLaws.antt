@@ -7,8 +7,8 @@ use Rattle.mg_base.specs.declared.transaction.TxState.{TxState}
 use Rattle.mg_value.specs.declared.value.Value.{Value}
 use Rattle.mg_catalog.specs.TableLaws.{tables_once}
 use Rattle.mg_engine_steps.specs.Writes.{ReadsAfter}
-use Rattle.mg_engine_writes.specs.SameRecords.{catalog_stands}
-use Rattle.mg_table_overlays.specs.Growing.{HasGrown, IsTableOf}
+use Rattle.mg_engine_steps.specs.SameRecords.{catalog_stands}
+use Rattle.mg_image_overlays.specs.Growing.{HasGrown, IsTableOf}
 use Rattle.mg_image.specs.Catalog.{CatalogNames, committed_with}
 use Rattle.mg_image.specs.Form.{Pages, Row, Rows, packed_coding, packed_form}
 use Rattle.mg_image.specs.Held.{AreRows}
@@ -18,8 +18,8 @@ use Rattle.mg_image.specs.Records.{Reading, key_of, shown}
 use Rattle.mg_image.specs.Sound.{IsSoundBy, facts_by}
 use Rattle.mg_image.specs.Tables.{Layout, stands_of, table_at}
 use Rattle.mg_image.specs.declared.entry.Entry.{Entry}
-use Rattle.mg_kept_images.specs.TableOwners.{IsOneOf}
-use Rattle.mg_kept_images.specs.KeptImages.{IsKept}
+use Rattle.mg_image_overlays.specs.TableOwners.{IsOneOf}
+use Rattle.mg_image_overlays.specs.KeptImages.{IsKept}
 use Rattle.mg_model.specs.CatalogRules.{AreTables}
 use Rattle.mg_model.specs.declared.opening.Opening.{Opening}
 use Rattle.mg_model.specs.declared.table.Table.{Table}
@@ -27,7 +27,7 @@ use Rattle.mg_model.specs.History.{Entries}
 use Rattle.mg_model.specs.Legal.{is_limbo}
 use Rattle.mg_model.specs.Openings.{everyone}
 use Rattle.mg_overlays.specs.Overlays.{left_state}
-use Rattle.mg_table_overlays.specs.OneTable.{one_standing, stands_in}
+use Rattle.mg_image_overlays.specs.OneTable.{one_standing, stands_in}
 use Rattle.mg_engine_meaning.specs.PlainTables.{HasPlainTables}
 use Rattle.mg_engine_changes.specs.ChoiceTables.{tables_are}
 use Rattle.mg_engine_changes.specs.Plain.{WritesKeepPlain}

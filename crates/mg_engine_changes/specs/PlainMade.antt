@@ -22,14 +22,14 @@ use Rattle.mg_image.specs.ReadingLaws.{RowsAreOne}
 use Rattle.mg_image.specs.Records.{Reading}
 use Rattle.mg_image.specs.Sound.{IsSoundBy}
 use Rattle.mg_image.specs.Tables.{Layout, Stand, stands_of}
-use Rattle.mg_kept_images.specs.KeptImages.{AreFrontStands, IsKept}
-use Rattle.mg_kept_images.specs.Kinds.{HasNoSequences}
-use Rattle.mg_kept_images.specs.TableOwners.{IsOneOf}
+use Rattle.mg_image_overlays.specs.KeptImages.{AreFrontStands, IsKept}
+use Rattle.mg_image_overlays.specs.Kinds.{HasNoSequences}
+use Rattle.mg_image_overlays.specs.TableOwners.{IsOneOf}
 use Rattle.mg_overlays.specs.Overlays.{left_state, without}
 use Rattle.mg_table_batch.specs.Filling.{table_at}
-use Rattle.mg_table_overlays.specs.Growing.{IsTableOf}
-use Rattle.mg_table_overlays.specs.OneLayout.{sound_once}
-use Rattle.mg_table_overlays.specs.OneTable.{one_standing, stands_in}
+use Rattle.mg_image_overlays.specs.Growing.{IsTableOf}
+use Rattle.mg_image_overlays.specs.OneLayout.{sound_once}
+use Rattle.mg_image_overlays.specs.OneTable.{one_standing, stands_in}
 use Rattle.mg_engine_changes.specs.Joined.{layout_with, stands_with}
 use Rattle.mg_engine_changes.specs.JoinedBatch.{HasJoined}
 use Rattle.mg_engine_changes.specs.JoinedSound.{joined_sound}

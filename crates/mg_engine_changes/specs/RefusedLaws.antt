@@ -42,7 +42,7 @@ use Rattle.mg_engine_steps.specs.Idle.{IdleGoesOn}
 use Rattle.mg_engine_steps.specs.PageWrites.{PageWritesFail}
 use Rattle.mg_engine_steps.specs.Standing.{Standing}
 use Rattle.mg_engine_steps.specs.Walking.{WalkPlace}
-use Rattle.mg_engine_writes.specs.Unasked.{UnaskingLasts}
+use Rattle.mg_engine_steps.specs.Unasked.{UnaskingLasts}
 use Rattle.mg_engine_meaning.specs.FrameLaws.{apart_from, commits_of, kept_all, keeps_of, kept_with, same_sessions, sessions_of, tables_of, works_with}
 use Rattle.mg_engine_meaning.specs.Frames.{GivesEvent, MayAnswer}
 use Rattle.mg_engine_meaning.specs.LawfulLaws.{quiet_count, quiet_event}

@@ -24,7 +24,7 @@ use Rattle.mg_overlays.specs.Overlays.{left_state}
 use Rattle.mg_seek.specs.TableRecords.{rec_at, records_in, records_on}
 use Rattle.mg_seek.specs.Walks.{StandsAt, keyed, records_behind, records_from}
 use Rattle.mg_slots.specs.DataPage.{cell_of}
-use Rattle.mg_table_overlays.specs.OneTable.{its_data}
+use Rattle.mg_image_overlays.specs.OneTable.{its_data}
 use Rattle.mg_version.specs.CellReading.{link_in, version_in}
 use Rattle.mg_version.specs.declared.cell.Cell.TheVariants as cells
 use Rattle.mg_version.specs.declared.cell.Link.{Link}

@@ -19,7 +19,7 @@ use Rattle.mg_image.specs.Catalog.{catalog_table}
 use Rattle.mg_image.specs.RecordRules.{Facts, table_in}
 use Rattle.mg_image.specs.Records.{Reading, writer}
 use Rattle.mg_image.specs.StepLaws.{put_reading}
-use Rattle.mg_kept_images.specs.Fronts.{is_dead}
+use Rattle.mg_image_overlays.specs.Fronts.{is_dead}
 use Rattle.mg_engine_steps.specs.StandingLaws.{IsChainOf}
 use Rattle.mg_engine_steps.specs.Versions.{HaveVersions}
 

@@ -8,10 +8,10 @@ use Rattle.mg_model.specs.History.{Entries, Entry}
 use Rattle.mg_model.specs.Machine.{own}
 use Rattle.mg_model.specs.declared.opening.Opening.{Opening}
 use Rattle.mg_undo.specs.Machine.{given_from}
-use Rattle.mg_engine_writes.specs.Again.{AreTaken}
+use Rattle.mg_engine_steps.specs.Again.{AreTaken}
 use Rattle.mg_image.specs.Histories.{newest_at}
-use Rattle.mg_engine_unmakings.specs.Outs.{is_among}
-use Rattle.mg_engine_unmakings.specs.TablesBack.{AreRowsLeft}
+use Rattle.mg_engine_steps.specs.Outs.{is_among}
+use Rattle.mg_engine_steps.specs.TablesBack.{AreRowsLeft}
 use Rattle.mg_engine_changes.specs.ToTake.{AreKeysOf, EachChange}
 use Rattle.mg_table_takings.specs.Keys.{AreNewIn, keys_of, others_of}
 use Rattle.mg_engine_changes.specs.ListsTell.{KeysGoWhole}

@@ -18,11 +18,11 @@ use Rattle.mg_undo.specs.Machine.{given_from, has_same, was_given, was_in}
 use Rattle.mg_undo.specs.Whole.{is_one_of}
 use Rattle.mg_undo.specs.declared.changes.Change.{Change as Kept}
 use Rattle.mg_undo.specs.declared.changes.Was.TheVariants as was
-use Rattle.mg_engine_writes.specs.Again.{AreTaken}
-use Rattle.mg_engine_writes.specs.OwnChains.{change_there, newest_second, none_second}
-use Rattle.mg_engine_unmakings.specs.Outs.{is_among}
-use Rattle.mg_engine_unmakings.specs.TablesBack.{AreRowsLeft}
-use Rattle.mg_engine_unmakings.specs.Whole.{GoWhole}
+use Rattle.mg_engine_steps.specs.Again.{AreTaken}
+use Rattle.mg_engine_steps.specs.OwnChains.{change_there, newest_second, none_second}
+use Rattle.mg_engine_steps.specs.Outs.{is_among}
+use Rattle.mg_engine_steps.specs.TablesBack.{AreRowsLeft}
+use Rattle.mg_engine_steps.specs.Whole.{GoWhole}
 use Rattle.mg_engine_changes.specs.ToTake.{AreKeysOf, AreOfOtherKeys, EachChange}
 use Rattle.mg_table_takings.specs.Keys.{AreNewIn, keys_of, others_of}
 use Rattle.mg_engine_changes.specs.ListsTell.{KeysGoWhole}

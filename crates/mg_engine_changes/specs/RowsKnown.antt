@@ -38,17 +38,17 @@ use Rattle.mg_image.specs.Records.{Reading, record_key}
 use Rattle.mg_image.specs.Sound.{IsSoundBy, facts_by}
 use Rattle.mg_image.specs.Tables.{Layout, stands_of, table_at as page_table}
 use Rattle.mg_overlays.specs.Overlays.{left_state}
-use Rattle.mg_catalog_batches.specs.CatalogRows.{IsRowOf}
-use Rattle.mg_catalog_batches.specs.Filled.{catalog_of}
+use Rattle.mg_ties.specs.CatalogRows.{IsRowOf}
+use Rattle.mg_ties.specs.Filled.{catalog_of}
 use Rattle.mg_table_batch.specs.Filling.{rows_at, table_at}
-use Rattle.mg_table_overlays.specs.Growing.{IsTableOf}
-use Rattle.mg_table_ties.specs.Ties.{HoldsOfRows, IsOneOf}
+use Rattle.mg_image_overlays.specs.Growing.{IsTableOf}
+use Rattle.mg_ties.specs.Ties.{HoldsOfRows, IsOneOf}
 use Rattle.mg_engine_steps.specs.Standing.{ShowsHistory, Standing, Stands}
 use Rattle.mg_engine_steps.specs.Writes.{IsSilentAt}
-use Rattle.mg_engine_writes.specs.Choices.{placed_back, read, takes_too}
-use Rattle.mg_engine_writes.specs.SameRecords.{catalog_stands, same_catalog}
-use Rattle.mg_engine_writes.specs.Spoken.{was_drawn}
-use Rattle.mg_engine_writes.specs.TakenKeys.{none_takes}
+use Rattle.mg_engine_steps.specs.Choices.{placed_back, read, takes_too}
+use Rattle.mg_engine_steps.specs.SameRecords.{catalog_stands, same_catalog}
+use Rattle.mg_engine_steps.specs.Spoken.{was_drawn}
+use Rattle.mg_engine_steps.specs.TakenKeys.{none_takes}
 use Rattle.mg_engine_meaning.specs.PlainTables.{AreFirst}
 
 -- ---- the catalog's columns are of the first format

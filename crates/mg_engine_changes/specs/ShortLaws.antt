@@ -10,7 +10,7 @@ use Rattle.mg_core.specs.declared.parts.Core.{Core}
 use Rattle.mg_engine_changes.specs.Events.{answer_back, whose_back}
 use Rattle.mg_engine_changes.specs.Known.{KnownOfBacks}
 use Rattle.mg_engine_changes.specs.Outcomes.{IsGivenUp, back_event}
-use Rattle.mg_engine_calls.specs.Freeing.{sessions_end}
+use Rattle.mg_engine_meaning.specs.Freeing.{sessions_end}
 use Rattle.mg_engine_meaning.specs.EventLaws.{refused_gives, short_gives}
 use Rattle.mg_engine_meaning.specs.FrameLaws.{keeps_of, quiet_of, store_stands}
 use Rattle.mg_engine_meaning.specs.Frames.{GivesEvent}

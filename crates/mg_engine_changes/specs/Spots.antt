@@ -9,27 +9,27 @@ use Rattle.mg_base.specs.declared.transaction.TxState.{TxState}
 use Rattle.mg_base.specs.declared.transaction.TxState.TheVariants.{Active}
 use Rattle.mg_value.specs.declared.value.Value.{Value}
 use Rattle.mg_chain.specs.Writing.{GivesSpot}
-use Rattle.mg_chain_ties.specs.SpotTies.{HasSpotFor}
+use Rattle.mg_ties.specs.SpotRowTies.{HasSpotFor}
 use Rattle.mg_engine_steps.specs.ListShows.{BehindKeepsTips, ListsStay, TipsStayOn}
 use Rattle.mg_engine_steps.specs.Batches.{RowsLastStill}
 use Rattle.mg_engine_steps.specs.Reads.{grown_to}
 use Rattle.mg_engine_steps.specs.Writes.{IsSilentAt}
 use Rattle.mg_engine_steps.specs.WritesLaws.{finds_on}
-use Rattle.mg_engine_writes.specs.Knowing.{WasChanged}
-use Rattle.mg_engine_writes.specs.Rows.{HasPlace}
-use Rattle.mg_engine_writes.specs.SpotLaws.{bits, grown, spot, spot_stays}
+use Rattle.mg_engine_steps.specs.Knowing.{WasChanged}
+use Rattle.mg_engine_steps.specs.Rows.{HasPlace}
+use Rattle.mg_engine_steps.specs.SpotLaws.{bits, grown, spot, spot_stays}
 use Rattle.mg_generations.specs.Generations.{Generation}
-use Rattle.mg_table_overlays.specs.Growing.{EndsAt, Grows, IsTableOf, TableEnd}
-use Rattle.mg_table_overlays.specs.GrowingLaws.{StandsTo, table_of_end}
-use Rattle.mg_heap_ties.specs.RoomTies.{GrowsSome, end_of, ends_there}
+use Rattle.mg_image_overlays.specs.Growing.{EndsAt, Grows, IsTableOf, TableEnd}
+use Rattle.mg_image_overlays.specs.GrowingLaws.{StandsTo, table_of_end}
+use Rattle.mg_ties.specs.RoomTies.{GrowsSome, end_of, ends_there}
 use Rattle.mg_image.specs.Form.{Pages, packed_coding, packed_form}
 use Rattle.mg_image.specs.ReadingLaws.{RowsAreOne}
 use Rattle.mg_image.specs.RecordRules.{Facts}
 use Rattle.mg_image.specs.Records.{cells_of}
 use Rattle.mg_image.specs.Sound.{facts_by}
 use Rattle.mg_image.specs.Tables.{stands_of, table_at}
-use Rattle.mg_kept_images.specs.Kinds.{HasNoSequences}
-use Rattle.mg_kept_images.specs.KeptImages.{IsKept, AreFrontStands}
+use Rattle.mg_image_overlays.specs.Kinds.{HasNoSequences}
+use Rattle.mg_image_overlays.specs.KeptImages.{IsKept, AreFrontStands}
 use Rattle.mg_lasting.specs.Crashes.{HoldsAcknowledged, LeavesSince}
 use Rattle.mg_lasting.specs.Lasting.{LastsOn}
 use Rattle.mg_model.specs.declared.opening.Opening.{Opening}
@@ -38,7 +38,7 @@ use Rattle.mg_model.specs.History.{Entries}
 use Rattle.mg_model.specs.Laws.{OpeningsBegin}
 use Rattle.mg_model.specs.Openings.{everyone}
 use Rattle.mg_overlays.specs.Overlays.{left_state}
-use Rattle.mg_table_overlays.specs.Whose.{IsTableFor}
+use Rattle.mg_image_overlays.specs.Whose.{IsTableFor}
 use Rattle.mg_pool.specs.Batch.{Changed, content_in, lists}
 use Rattle.mg_pool.specs.Pool.{shown}
 use Rattle.mg_pool.specs.declared.pool.Pool.{Pool}
@@ -46,15 +46,15 @@ use Rattle.mg_pool_overlays.specs.Needs.{Asked, Sessions}
 use Rattle.mg_seek.specs.Histories.{told_versions}
 use Rattle.mg_space.specs.View.{viewed}
 use Rattle.mg_space.specs.declared.links.FireLinks.{FireLinks}
-use Rattle.mg_space_ties.specs.Changed.{changed_fresh, fresh}
+use Rattle.mg_ties.specs.Changed.{changed_fresh, fresh}
 use Rattle.mg_engine_steps.specs.StandingLaws.{IsChainOf}
 use Rattle.mg_engine_steps.specs.Standing.{ShowsHistory, Standing, Stands}
 use Rattle.mg_engine_steps.specs.Versions.{SpeaksFor, SpeaksOrSilent}
-use Rattle.mg_table_overlays.specs.DataKept.{KeepsBits, data_self}
+use Rattle.mg_image_overlays.specs.DataKept.{KeepsBits, data_self}
 use Rattle.mg_txlist.specs.declared.list.TxList.{TxList}
 use Rattle.mg_engine_meaning.specs.PlainTables.{HasPlainTables}
 use Rattle.mg_engine_meaning.specs.Standings.{HasTips}
-use Rattle.mg_engine_writes.specs.TablePagesLaws.{then_keeps, to as grown_layout}
+use Rattle.mg_engine_steps.specs.WrittenTablePagesLaws.{then_keeps, to as grown_layout}
 use Rattle.mg_engine_changes.specs.PlainLaws.{grown_keeps_plain}
 use Rattle.mg_engine_changes.specs.TipLaws.{growth_keeps_tips}
 use Rattle.mg_engine_changes.specs.Tips.{KeepsTips}

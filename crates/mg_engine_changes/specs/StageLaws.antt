@@ -2,7 +2,7 @@
 use Rattle.std.proofs.Common.{◌≡◌, ◌⊎◌, inl, inr, ◌≤◌, ℕ, Option, None, Some, Err, refl, sym, ap, ◌∙◌, subst}
 use Rattle.mg_base.specs.Disk.{Meaning}
 use Rattle.mg_base.specs.Image.{Image}
-use Rattle.mg_engine_calls.specs.StillLaws.{quiet_then}
+use Rattle.mg_engine_meaning.specs.StillLaws.{quiet_then}
 use Rattle.mg_engine_steps.specs.Batches.{ReadsLast}
 use Rattle.mg_engine_steps.specs.PageWrites.{PageWritesFail}
 use Rattle.mg_image.specs.Form.{packed_form}

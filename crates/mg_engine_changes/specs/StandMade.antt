@@ -10,11 +10,11 @@ use Rattle.mg_image.specs.Inventory.{is_used, next_of}
 use Rattle.mg_image.specs.Records.{Reading}
 use Rattle.mg_image.specs.Sound.{IsSoundBy}
 use Rattle.mg_image.specs.Tables.{Layout, Stand}
-use Rattle.mg_catalog_batches.specs.Others.{IsLeft, IsOther}
+use Rattle.mg_ties.specs.Others.{IsLeft, IsOther}
 use Rattle.mg_engine_changes.specs.JoinedBatch.{HasPages}
 use Rattle.mg_engine_steps.specs.ListShows.{TipsStay}
 use Rattle.mg_table_batch.specs.Filling.{table_at}
-use Rattle.mg_table_overlays.specs.Growing.{IsTableOf}
+use Rattle.mg_image_overlays.specs.Growing.{IsTableOf}
 
 -- a new table stands with its first pointer page alone
 abbrev pub stand_at : List ℕ → Shape → ℕ → Stand

@@ -24,19 +24,19 @@ use Rattle.mg_image.specs.Reached.{linked_pages, tips_below, tips_of}
 use Rattle.mg_image.specs.Records.{Reading}
 use Rattle.mg_image.specs.Sound.{HasTablePages, IsSoundBy, IsTablePointer}
 use Rattle.mg_image.specs.Tables.{EachStand, Has, IsOnce, Layout, LinkChain, Stand, ended, entries_in, goes, has, pages_of, stands_of, table_at as page_table, tree_pages}
-use Rattle.mg_kept_images.specs.Growth.{has_back, has_front}
-use Rattle.mg_kept_images.specs.Kinds.{HasNoSequences, linked_is, stands_linked}
-use Rattle.mg_kept_images.specs.Reach.{data_there, has_it, once_apart, once_back, once_front, page_there}
-use Rattle.mg_kept_images.specs.TableOwners.{IsOneOf}
+use Rattle.mg_image_overlays.specs.Growth.{has_back, has_front}
+use Rattle.mg_image_overlays.specs.Kinds.{HasNoSequences, linked_is, stands_linked}
+use Rattle.mg_image_overlays.specs.Reach.{data_there, has_it, once_apart, once_back, once_front, page_there}
+use Rattle.mg_image_overlays.specs.TableOwners.{IsOneOf}
 use Rattle.mg_header.specs.HeaderPage.{header_in}
 use Rattle.mg_space.specs.TakingLaws.{page_sizes}
-use Rattle.mg_stand_owners.specs.StandOwners.{IsOwned, OwnersKeepStandsApart, first_pages, stand_owned}
-use Rattle.mg_catalog_batches.specs.Others.{IsLeft, IsOther}
+use Rattle.mg_image_overlays.specs.StandOwners.{IsOwned, OwnersKeepStandsApart, first_pages, stand_owned}
+use Rattle.mg_ties.specs.Others.{IsLeft, IsOther}
 use Rattle.mg_engine_changes.specs.Joined.{layout_with, stands_with}
 use Rattle.mg_engine_changes.specs.JoinedBatch.{HasPages}
 use Rattle.mg_engine_changes.specs.JoinedSound.{each_stand_with}
 use Rattle.mg_engine_steps.specs.ListShows.{TipsStay}
-use Rattle.mg_table_overlays.specs.OneTable.{stands_in}
+use Rattle.mg_image_overlays.specs.OneTable.{stands_in}
 use Rattle.mg_engine_changes.specs.StandMade.{HasNoIndexes, LeavesPages, LeftPagesAreThere, stand_at}
 
 -- ---- lists of stands

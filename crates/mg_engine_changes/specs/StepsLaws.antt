@@ -20,7 +20,7 @@ use Rattle.mg_engine_changes.specs.Stopped.{stops_after}
 use Rattle.mg_engine_changes.specs.StopsAfter.{StopsAfter}
 use Rattle.mg_engine_changes.specs.StopsAfterLaws.{stopped_is}
 use Rattle.mg_engine_changes.specs.UndoneLaws.{taken_back_gives}
-use Rattle.mg_engine_calls.specs.StillLaws.{still_quiet}
+use Rattle.mg_engine_meaning.specs.StillLaws.{still_quiet}
 use Rattle.mg_engine_meaning.specs.FrameLaws.{commits_of, keeps_of, sessions_of, store_stands, tables_of, works_same}
 use Rattle.mg_engine_meaning.specs.Frames.{GivesEvent}
 use Rattle.mg_engine_meaning.specs.LawfulLaws.{memory_of}

@@ -17,9 +17,9 @@ use Rattle.mg_engine_changes.specs.Backs.{BeginsBack, EndsOver}
 use Rattle.mg_engine_changes.specs.StopsAfter.{StopsAfter, TakesSome}
 use Rattle.mg_engine_changes.specs.StopsAfterLaws.{counts, ends_over, keeps_lists, may_answer, stopped_is, stops_reading}
 use Rattle.mg_engine_meaning.specs.StepLaws.{shows_of}
-use Rattle.mg_engine_calls.specs.Freeing.{sessions_end}
-use Rattle.mg_engine_calls.specs.Leaving.{follows_end, given_same, seen_still, still_active}
-use Rattle.mg_engine_calls.specs.RollbackEnds.{none_by_dead}
+use Rattle.mg_engine_meaning.specs.Freeing.{sessions_end}
+use Rattle.mg_engine_meaning.specs.Leaving.{follows_end, given_same, seen_still, still_active}
+use Rattle.mg_engine_meaning.specs.RollbackEnds.{none_by_dead}
 use Rattle.mg_engine_meaning.specs.Falling.{Falls}
 use Rattle.mg_engine_meaning.specs.FrameLaws.{apart_from, commits_of, keeps_of, quiet_of, tables_of}
 use Rattle.mg_engine_meaning.specs.KeptLaws.{kept_without_work}
@@ -41,13 +41,13 @@ use Rattle.mg_engine_changes.specs.BackWalks.{WalksBeside}
 use Rattle.mg_engine_changes.specs.GivenUp.{GivesUp}
 use Rattle.mg_engine_changes.specs.TakingSteps.{StandsMidway}
 use Rattle.mg_engine_changes.specs.ToTake.{since_point}
-use Rattle.mg_engine_writes.specs.Midway.{GoesBack}
-use Rattle.mg_engine_writes.specs.Again.{rolling}
+use Rattle.mg_engine_steps.specs.Midway.{GoesBack}
+use Rattle.mg_engine_steps.specs.Again.{rolling}
 use Rattle.mg_image.specs.Form.{Pages, packed_form}
 use Rattle.mg_image.specs.Inventory.{header_of}
 use Rattle.mg_image.specs.Sound.{IsSoundBy}
 use Rattle.mg_image.specs.Tables.{Stand, stands_of}
-use Rattle.mg_kept_images.specs.KeptImages.{AreFrontStands}
+use Rattle.mg_image_overlays.specs.KeptImages.{AreFrontStands}
 use Rattle.mg_lasting.specs.Crashes.{HoldsAcknowledged, LeavesSince, may_last}
 use Rattle.mg_lasting.specs.Entries.{idle_state}
 use Rattle.mg_lasting.specs.Lasting.{LastsOn}

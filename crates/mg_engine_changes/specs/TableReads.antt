@@ -20,22 +20,22 @@ use Rattle.mg_value.specs.declared.shape.Shape.{Shape}
 use Rattle.mg_version.specs.declared.cell.TheConstants.{ANCHOR_LEN}
 use Rattle.mg_version.specs.declared.cell.Version.{Version}
 use Rattle.mg_heap.specs.Growth.{orders_to}
-use Rattle.mg_heap_ties.specs.Batches.{IsWithin}
+use Rattle.mg_ties.specs.Batches.{IsWithin}
 use Rattle.mg_chain.specs.Chains.{newest_link}
-use Rattle.mg_chain_ties.specs.PushTies.{written}
-use Rattle.mg_chain_ties.specs.Rows.{within_orders}
+use Rattle.mg_ties.specs.PushTies.{written}
+use Rattle.mg_ties.specs.Rows.{within_orders}
 use Rattle.mg_image.specs.declared.entry.Entry.{Entry}
 use Rattle.mg_image.specs.Form.{Form, Pages, Row}
 use Rattle.mg_image.specs.ReadingLaws.{RowsAreOne}
 use Rattle.mg_image.specs.Records.{Reading, writer}
 use Rattle.mg_image.specs.StepLaws.{cases_place, put_reading, same_place}
 use Rattle.mg_image.specs.Tables.{Layout, stands_of, table_at}
-use Rattle.mg_kept_images.specs.Kinds.{HasNoSequences}
+use Rattle.mg_image_overlays.specs.Kinds.{HasNoSequences}
 use Rattle.mg_overlays.specs.Overlays.{LaysBatch}
-use Rattle.mg_table_overlays.specs.Growing.{HasGrown}
-use Rattle.mg_catalog_batches.specs.Filled.{IsFilled, MayFill, ReadsRow, catalog_of, order_reads, order_step, row_reads, row_step, take_reads, take_step}
-use Rattle.mg_catalog_batches.specs.Filling.{NewRow, TakesAndMakes}
-use Rattle.mg_catalog_batches.specs.Within.{given_within, made_within}
+use Rattle.mg_image_overlays.specs.Growing.{HasGrown}
+use Rattle.mg_ties.specs.Filled.{IsFilled, MayFill, ReadsRow, catalog_of, order_reads, order_step, row_reads, row_step, take_reads, take_step}
+use Rattle.mg_ties.specs.Filling.{NewRow, TakesAndMakes}
+use Rattle.mg_ties.specs.Within.{given_within, made_within}
 use Rattle.mg_table_batch.specs.Filling.{FillsTable, PutsRow, PutsRows, PutsTable, StoresRow, page_of_version, puts_more, puts_none, rows_at}
 use Rattle.mg_engine_changes.specs.Joined.{HasOwnPlace, HaveOwnPlaces, IsMade, rows_stored}
 use Rattle.mg_engine_changes.specs.Rows.{MadeRow, reading_with}

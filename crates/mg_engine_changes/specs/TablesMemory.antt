@@ -17,9 +17,9 @@ use Rattle.mg_undo.specs.declared.changes.Change.{Change as Kept}
 use Rattle.mg_grown_catalogs.specs.Grown.{CatalogGrows}
 use Rattle.mg_engine_steps.specs.Following.{FollowsEntry, KeepsOne}
 use Rattle.mg_engine_steps.specs.Standing.{Remembers, Standing}
-use Rattle.mg_engine_unmakings.specs.Outs.{is_among}
-use Rattle.mg_engine_unmakings.specs.ShapesLeft.{table_left}
-use Rattle.mg_engine_unmakings.specs.TablesBack.{AreRowsLeft}
+use Rattle.mg_engine_steps.specs.Outs.{is_among}
+use Rattle.mg_engine_steps.specs.ShapesLeft.{table_left}
+use Rattle.mg_engine_steps.specs.TablesBack.{AreRowsLeft}
 use Rattle.mg_engine_changes.specs.Memory.{MayGoTo}
 
 -- A transaction is taken back to a point, and the tables whose rows of the catalog go, under these keys, are gone: what it

@@ -7,9 +7,9 @@ use Rattle.mg_chain.specs.Bases.{live_after}
 use Rattle.mg_engine_changes.specs.Memory.{MayGoTo}
 use Rattle.mg_engine_changes.specs.MemoryLaws.{none_left, nothing_given}
 use Rattle.mg_engine_changes.specs.TablesMemory.{IsBackOverTables, TablesFollow}
-use Rattle.mg_engine_unmakings.specs.Outs.{is_among}
-use Rattle.mg_engine_unmakings.specs.ShapesLeft.{ShapesLeft, table_left}
-use Rattle.mg_engine_unmakings.specs.TablesBack.{AreRowsLeft}
+use Rattle.mg_engine_steps.specs.Outs.{is_among}
+use Rattle.mg_engine_steps.specs.ShapesLeft.{ShapesLeft, table_left}
+use Rattle.mg_engine_steps.specs.TablesBack.{AreRowsLeft}
 use Rattle.mg_grown_catalogs.specs.Grown.{CatalogGrows}
 use Rattle.mg_image.specs.Histories.{newest_at}
 use Rattle.mg_model.specs.Answers.{catalog_of, told}

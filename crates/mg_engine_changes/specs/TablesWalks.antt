@@ -15,7 +15,7 @@ use Rattle.mg_image.specs.Tables.{Layout}
 use Rattle.mg_overlays.specs.Overlays.{left_state}
 use Rattle.mg_engine_steps.specs.Standing.{Standing}
 use Rattle.mg_engine_steps.specs.Walking.{AreToCome, WalkPlace}
-use Rattle.mg_engine_unmakings.specs.LeftShown.{TakesTables}
+use Rattle.mg_engine_steps.specs.LeftShown.{TakesTables}
 use Rattle.mg_engine_changes.specs.BackWalks.{WalksBeside}
 
 -- The tables that they walk over stay, and they have taken no version of the one that takes back.

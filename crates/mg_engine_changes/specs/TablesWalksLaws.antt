@@ -23,15 +23,15 @@ use Rattle.mg_image.specs.Sound.{IsSoundBy, facts_by}
 use Rattle.mg_image.specs.Tables.{Has, Layout, Stand, has, stands_of, table_at}
 use Rattle.mg_overlays.specs.Overlays.{left_by, left_state}
 use Rattle.mg_seek.specs.Walks.{keyed}
-use Rattle.mg_table_overlays.specs.Growing.{IsTableOf}
-use Rattle.mg_table_overlays.specs.OneLayout.{StandsOneWay}
-use Rattle.mg_table_overlays.specs.OneTable.{its_data}
+use Rattle.mg_image_overlays.specs.Growing.{IsTableOf}
+use Rattle.mg_image_overlays.specs.OneLayout.{StandsOneWay}
+use Rattle.mg_image_overlays.specs.OneTable.{its_data}
 use Rattle.mg_engine_steps.specs.Known.{IsShown}
 use Rattle.mg_engine_steps.specs.Standing.{Standing}
 use Rattle.mg_engine_steps.specs.Walking.{AreToCome, WalkPlace}
-use Rattle.mg_engine_unmakings.specs.LeftShown.{TakesTables}
-use Rattle.mg_engine_unmakings.specs.Taken.{HasGone, IsLeft, layout_left, read_of, reading_left, stands_left}
-use Rattle.mg_engine_unmakings.specs.TakenNames.{others_named}
+use Rattle.mg_engine_steps.specs.LeftShown.{TakesTables}
+use Rattle.mg_engine_steps.specs.Taken.{HasGone, IsLeft, layout_left, read_of, reading_left, stands_left}
+use Rattle.mg_engine_steps.specs.TakenNames.{others_named}
 use Rattle.mg_engine_changes.specs.BackWalks.{WalksBeside}
 use Rattle.mg_engine_changes.specs.RowWalks.{RowWalksGoOn, ShowsOn, row_at_record}
 use Rattle.mg_engine_changes.specs.TablesWalks.{TablesWalksGoOn}

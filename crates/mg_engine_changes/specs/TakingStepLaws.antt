@@ -5,12 +5,12 @@ use Rattle.mg_base.specs.Image.{Image}
 use Rattle.mg_base.specs.Moments.{joined, leaves_as}
 use Rattle.mg_base.specs.declared.numbers.RecId.{RecId}
 use Rattle.mg_careful.specs.Graph.{PageGraph}
-use Rattle.mg_engine_writes.specs.Again.{again, rolling, without_key}
-use Rattle.mg_engine_writes.specs.Midway.{GoesBack, IsBackAt, IsMidway, KeysComeBack, KeysGoOut}
-use Rattle.mg_engine_writes.specs.MidwayLaws.{holds_back}
-use Rattle.mg_engine_writes.specs.Shown.{ShowsMidway, ShowsOnward, TakesKeyBack}
+use Rattle.mg_engine_steps.specs.Again.{again, rolling, without_key}
+use Rattle.mg_engine_steps.specs.Midway.{GoesBack, IsBackAt, IsMidway, KeysComeBack, KeysGoOut}
+use Rattle.mg_engine_steps.specs.MidwayLaws.{holds_back}
+use Rattle.mg_engine_steps.specs.Shown.{ShowsMidway, ShowsOnward, TakesKeyBack}
 use Rattle.mg_engine_steps.specs.Batches.{ReadsLast}
-use Rattle.mg_engine_writes.specs.Knowing.{WasChanged}
+use Rattle.mg_engine_steps.specs.Knowing.{WasChanged}
 use Rattle.mg_engine_changes.specs.TakingSteps.{ComesBack, GoesOut, KeysGoOn, StandsMidway, TakesKeyOf, TakesKeysOf, no_keys, one_key}
 use Rattle.mg_image.specs.Form.{Pages, packed_form}
 use Rattle.mg_image.specs.Histories.{row_change}
@@ -26,7 +26,7 @@ use Rattle.mg_model.specs.declared.change.Change.{Change}
 use Rattle.mg_model.specs.declared.change.Point.{Point}
 use Rattle.mg_model.specs.declared.opening.Opening.{Opening}
 use Rattle.mg_model.specs.declared.table.Table.{Table}
-use Rattle.mg_table_overlays.specs.OneLayout.{StandsOneWay}
+use Rattle.mg_image_overlays.specs.OneLayout.{StandsOneWay}
 use Rattle.mg_overlays.specs.Overlays.{left_state}
 use Rattle.mg_pool.specs.Batch.{Changed}
 use Rattle.mg_pool.specs.Dirty.{DirtyPages}
@@ -34,7 +34,7 @@ use Rattle.mg_pool.specs.Pool.{shown}
 use Rattle.mg_pool.specs.declared.pool.Pool.{Pool}
 use Rattle.mg_pool_overlays.specs.Needs.{Asked, Sessions}
 use Rattle.mg_space.specs.View.{KeepsStore}
-use Rattle.mg_space_ties.specs.Changed.{KeptIn}
+use Rattle.mg_ties.specs.Changed.{KeptIn}
 use Rattle.mg_engine_steps.specs.Standing.{Remembers, ShowsHistory, Standing}
 use Rattle.mg_engine_steps.specs.Versions.{SpeaksFor}
 use Rattle.mg_value.specs.declared.value.Value.{Value}

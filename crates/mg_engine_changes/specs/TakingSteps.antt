@@ -5,10 +5,10 @@ use Rattle.mg_base.specs.Disk.{Meaning}
 use Rattle.mg_base.specs.Image.{Image}
 use Rattle.mg_base.specs.declared.numbers.RecId.{RecId}
 use Rattle.mg_chain.specs.Writing.{Replaces, TakesOut}
-use Rattle.mg_engine_writes.specs.Again.{without_key}
-use Rattle.mg_engine_writes.specs.Midway.{GoesBack, IsBackAt, IsMidway}
-use Rattle.mg_engine_writes.specs.Shown.{ShowsMidway}
-use Rattle.mg_engine_writes.specs.Knowing.{CodesRow, HasEntries, WasChanged}
+use Rattle.mg_engine_steps.specs.Again.{without_key}
+use Rattle.mg_engine_steps.specs.Midway.{GoesBack, IsBackAt, IsMidway}
+use Rattle.mg_engine_steps.specs.Shown.{ShowsMidway}
+use Rattle.mg_engine_steps.specs.Knowing.{CodesRow, HasEntries, WasChanged}
 use Rattle.mg_image.specs.Form.{Pages, Row, packed_coding, packed_form}
 use Rattle.mg_image.specs.Histories.{newest_at, row_change}
 use Rattle.mg_model.specs.Changes.{Cells}
@@ -24,7 +24,7 @@ use Rattle.mg_pool.specs.Pool.{shown}
 use Rattle.mg_pool.specs.declared.pool.Pool.{Pool}
 use Rattle.mg_pool_overlays.specs.Needs.{Asked, Sessions}
 use Rattle.mg_space.specs.View.{KeepsStore}
-use Rattle.mg_space_ties.specs.Changed.{fresh}
+use Rattle.mg_ties.specs.Changed.{fresh}
 use Rattle.mg_engine_steps.specs.Standing.{Remembers, ShowsHistory, Standing}
 use Rattle.mg_value.specs.declared.value.Value.{Value}
 use Rattle.mg_version.specs.declared.cell.Version.{Version}

@@ -7,8 +7,8 @@ use Rattle.mg_model.specs.declared.table.Table.{Table}
 use Rattle.mg_model.specs.History.{Entries}
 use Rattle.mg_engine_steps.specs.ListShows.{BehindKeepsTips, TipsStayOn}
 use Rattle.mg_engine_steps.specs.Reads.{grown_to}
-use Rattle.mg_table_overlays.specs.Growing.{EndsAt, Grows, TableEnd}
-use Rattle.mg_table_overlays.specs.GrowingLaws.{StandsTo, grows_part}
+use Rattle.mg_image_overlays.specs.Growing.{EndsAt, Grows, TableEnd}
+use Rattle.mg_image_overlays.specs.GrowingLaws.{StandsTo, grows_part}
 use Rattle.mg_header.specs.declared.header.Header.{Header}
 use Rattle.mg_header.specs.HeaderPage.{header_in}
 use Rattle.mg_image.specs.Form.{Form, Pages}
@@ -17,12 +17,12 @@ use Rattle.mg_image.specs.ReadingLaws.{RowsAreOne}
 use Rattle.mg_image.specs.Records.{Reading}
 use Rattle.mg_image.specs.Sound.{IsSoundBy}
 use Rattle.mg_image.specs.Tables.{Layout}
-use Rattle.mg_kept_images.specs.DataPages.{ChangesData, header_same, last_same, tip_content, tip_same}
-use Rattle.mg_kept_images.specs.Kinds.{HasNoSequences}
-use Rattle.mg_kept_images.specs.Trees.{trees_stay}
-use Rattle.mg_kept_images.specs.KeptImages.{IsKept}
-use Rattle.mg_table_overlays.specs.OneLayout.{sound_once}
-use Rattle.mg_table_overlays.specs.DataKept.{IsDataChanged, data_more, data_self}
+use Rattle.mg_image_overlays.specs.DataPages.{ChangesData, header_same, last_same, tip_content, tip_same}
+use Rattle.mg_image_overlays.specs.Kinds.{HasNoSequences}
+use Rattle.mg_image_overlays.specs.Trees.{trees_stay}
+use Rattle.mg_image_overlays.specs.KeptImages.{IsKept}
+use Rattle.mg_image_overlays.specs.OneLayout.{sound_once}
+use Rattle.mg_image_overlays.specs.DataKept.{IsDataChanged, data_more, data_self}
 use Rattle.mg_engine_changes.specs.Tips.{FirstsKeepTips, GrowthKeepsTips, KeepsTips, MovesKeepTips, PushesKeepTips, ReplacementsKeepTips, TakingOutKeepsTips}
 
 module _ (on : TipsStayOn) where

@@ -7,19 +7,19 @@ use Rattle.mg_model.specs.declared.opening.Opening.{Opening}
 use Rattle.mg_model.specs.declared.table.Table.{Table}
 use Rattle.mg_model.specs.History.{Entries}
 use Rattle.mg_engine_steps.specs.ListShows.{TipsStay}
-use Rattle.mg_table_overlays.specs.Growing.{EndsAt, Grows, TableEnd}
+use Rattle.mg_image_overlays.specs.Growing.{EndsAt, Grows, TableEnd}
 use Rattle.mg_image.specs.Form.{Form, Pages}
 use Rattle.mg_image.specs.Inventory.{header_of, next_of}
 use Rattle.mg_image.specs.Records.{Reading}
 use Rattle.mg_image.specs.Sound.{IsSoundBy}
 use Rattle.mg_image.specs.Tables.{Layout}
 use Rattle.mg_image.specs.declared.entry.Entry.{Entry}
-use Rattle.mg_kept_images.specs.KeptImages.{IsKept}
-use Rattle.mg_table_overlays.specs.BackPart.{TakesOutPages}
-use Rattle.mg_table_overlays.specs.MovePart.{MovesPages}
-use Rattle.mg_table_overlays.specs.ReplacePart.{ReplacesPage}
-use Rattle.mg_record_overlays.specs.AddPart.{AddsPages}
-use Rattle.mg_record_overlays.specs.PushPart.{PushesPages}
+use Rattle.mg_image_overlays.specs.KeptImages.{IsKept}
+use Rattle.mg_image_overlays.specs.BackPart.{TakesOutPages}
+use Rattle.mg_image_overlays.specs.MovePart.{MovesPages}
+use Rattle.mg_image_overlays.specs.ReplacePart.{ReplacesPage}
+use Rattle.mg_image_overlays.specs.AddPart.{AddsPages}
+use Rattle.mg_image_overlays.specs.PushPart.{PushesPages}
 use Rattle.mg_version.specs.declared.cell.Link.{Link}
 use Rattle.mg_version.specs.declared.cell.Version.{Version}
 

@@ -1,6 +1,6 @@
 -- Which changes a transaction takes back to a point, and which are still to be taken back after some keys.
 use Rattle.std.specs.Prelude.{◌≡◌, ℕ, Bool, true, false, List, [], ◌∷◌, Option, None, Some}
-use Rattle.mg_engine_writes.specs.Again.{AreTaken, without_key}
+use Rattle.mg_engine_steps.specs.Again.{AreTaken, without_key}
 use Rattle.mg_image.specs.Histories.{newest_at}
 use Rattle.mg_image.specs.Records as records
 use Rattle.mg_model.specs.Changes.{has_change}

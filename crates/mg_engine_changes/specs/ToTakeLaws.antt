@@ -3,7 +3,7 @@ use Rattle.std.proofs.Common.{◌≡◌, ◌||◌, ◌&&◌, ◌++◌, ◌∙◌
 use Rattle.std.specs.Prelude.{if◌then◌else◌}
 use Rattle.std.proofs.lemmas.Bool.{and_parts, eq-eqb, false≢true}
 use Rattle.std.specs.Cmp.Lexicographic.{same_text}
-use Rattle.mg_engine_writes.specs.Again.{without_key}
+use Rattle.mg_engine_steps.specs.Again.{without_key}
 use Rattle.mg_engine_changes.specs.ToTake.{AreKeysOf, AreOfOtherKeys, EachChange, KeysAreTaken, SinceAreTaken, since_if, since_point, was_of}
 use Rattle.mg_image.specs.Histories.{newest_at, row_change}
 use Rattle.mg_model.specs.Answers.{catalog_of, told}

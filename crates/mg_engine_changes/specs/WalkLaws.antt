@@ -11,23 +11,23 @@ use Rattle.mg_engine_steps.specs.TablePages.{data_once}
 use Rattle.mg_engine_changes.specs.RowWalks.{ShowsOn, row_at_record}
 use Rattle.mg_engine_changes.specs.RowWalksLaws.{row_walks_go_on}
 use Rattle.mg_engine_steps.specs.Writes.{ReadsAfter}
-use Rattle.mg_table_overlays.specs.Growing.{IsTableOf}
+use Rattle.mg_image_overlays.specs.Growing.{IsTableOf}
 use Rattle.mg_image.specs.Form.{Pages, Row, packed_coding, packed_form}
 use Rattle.mg_image.specs.ReadingLaws.{RowsAreOne}
 use Rattle.mg_image.specs.Records.{Reading, shown, writer}
 use Rattle.mg_image.specs.Sound.{IsSoundBy}
 use Rattle.mg_image.specs.Tables.{Has, IsOnce, Layout, Stand, stands_of, table_at}
 use Rattle.mg_image.specs.declared.entry.Entry.{Entry}
-use Rattle.mg_kept_images.specs.KeptImages.{AreFrontStands, IsFrontOf, IsFrontStand}
+use Rattle.mg_image_overlays.specs.KeptImages.{AreFrontStands, IsFrontOf, IsFrontStand}
 use Rattle.mg_model.specs.declared.table.Table.{Table}
 use Rattle.mg_model.specs.Answers.{is_committed}
 use Rattle.mg_model.specs.Openings.{everyone}
-use Rattle.mg_table_overlays.specs.OneLayout.{sound_once}
+use Rattle.mg_image_overlays.specs.OneLayout.{sound_once}
 use Rattle.mg_overlays.specs.Overlays.{left_state}
 use Rattle.mg_seek.specs.Walks.{keyed}
 use Rattle.mg_snap.specs.Live.{sees}
 use Rattle.mg_engine_steps.specs.Standing.{Standing}
-use Rattle.mg_table_overlays.specs.OneTable.{its_data}
+use Rattle.mg_image_overlays.specs.OneTable.{its_data}
 use Rattle.mg_engine_changes.specs.Walks.{OthersWalkOn}
 
 -- ---- fronts

@@ -23,16 +23,16 @@ use Rattle.mg_image.specs.ReadingLaws.{RowsAreOne}
 use Rattle.mg_image.specs.Records.{Reading, shown}
 use Rattle.mg_image.specs.Sound.{HasTablePages, IsSoundBy}
 use Rattle.mg_image.specs.Tables.{EachStand, Has, IsOnce, Layout, Stand, has, stands_of}
-use Rattle.mg_kept_images.specs.Grow.{each_mid}
-use Rattle.mg_kept_images.specs.KeptImages.{IsFrontOf}
-use Rattle.mg_kept_images.specs.Reach.{has_it, has_so, once_apart}
-use Rattle.mg_kept_images.specs.Growth.{has_back}
-use Rattle.mg_kept_images.specs.TableOwners.{IsOneOf}
-use Rattle.mg_table_overlays.specs.Growing.{IsTableOf}
-use Rattle.mg_table_overlays.specs.Knowing.{its_pages}
-use Rattle.mg_table_overlays.specs.OneChain.{same_stand}
-use Rattle.mg_table_overlays.specs.OneLayout.{sound_once}
-use Rattle.mg_table_overlays.specs.OneTable.{stands_in}
+use Rattle.mg_image_overlays.specs.Grow.{each_mid}
+use Rattle.mg_image_overlays.specs.KeptImages.{IsFrontOf}
+use Rattle.mg_image_overlays.specs.Reach.{has_it, has_so, once_apart}
+use Rattle.mg_image_overlays.specs.Growth.{has_back}
+use Rattle.mg_image_overlays.specs.TableOwners.{IsOneOf}
+use Rattle.mg_image_overlays.specs.Growing.{IsTableOf}
+use Rattle.mg_image_overlays.specs.Knowing.{its_pages}
+use Rattle.mg_image_overlays.specs.OneChain.{same_stand}
+use Rattle.mg_image_overlays.specs.OneLayout.{sound_once}
+use Rattle.mg_image_overlays.specs.OneTable.{stands_in}
 use Rattle.mg_engine_changes.specs.Joined.{IsMade, layout_with, stands_with}
 use Rattle.mg_engine_changes.specs.JoinedBatch.{HasJoined}
 use Rattle.mg_engine_changes.specs.JoinedRows.{cases_made}

@@ -10,7 +10,7 @@ use Rattle.mg_chain.specs.Views.{is_dead}
 use Rattle.mg_image.specs.Form.{Pages}
 use Rattle.mg_image.specs.Records.{cells_of, newest_of}
 use Rattle.mg_model.specs.declared.table.Table.{Table}
-use Rattle.mg_engine_writes.specs.Free.{RecordsAreFree}
+use Rattle.mg_engine_steps.specs.Free.{RecordsAreFree}
 use Rattle.mg_row_writes.specs.Befores.{IsBeforeBy, IsBeforeIn, IsBeforeOf, OwnBefore}
 use Rattle.mg_row_writes.specs.declared.before.Before.{Before}
 use Rattle.mg_row_writes.specs.declared.before.Way.TheVariants as ways

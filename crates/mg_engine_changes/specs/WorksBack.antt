@@ -24,7 +24,7 @@ use Rattle.mg_works.specs.WorksLaws.{with_its}
 use Rattle.mg_core.specs.declared.parts.Core.{Core}
 use Rattle.mg_table_making.specs.Keeping.{kept_each, retracted}
 use Rattle.mg_engine_steps.specs.Standing.{Standing}
-use Rattle.mg_engine_writes.specs.Unasked.{UnaskingLasts}
+use Rattle.mg_engine_steps.specs.Unasked.{UnaskingLasts}
 use Rattle.mg_engine_meaning.specs.FrameLaws.{kept_all, kept_with, same_asked, same_modes, same_sessions, works_same, works_with}
 use Rattle.mg_engine_meaning.specs.Frames.{WorksStay}
 use Rattle.mg_engine_meaning.specs.KeptLaws.{kept_each as each_is_kept}

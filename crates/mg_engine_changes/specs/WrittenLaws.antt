@@ -15,8 +15,8 @@ use Rattle.mg_image.specs.Reached.{tips_of}
 use Rattle.mg_image.specs.Records.{Reading}
 use Rattle.mg_image.specs.Sound.{HasTablePages, IsSoundBy}
 use Rattle.mg_image.specs.Tables.{Has, HasStand, IsOnce, Layout, LinkChain, Stand, ended, goes, pages_of, stands_of}
-use Rattle.mg_kept_images.specs.Reach.{once_back, once_front}
-use Rattle.mg_kept_images.specs.TableOwners.{IsOneOf}
+use Rattle.mg_image_overlays.specs.Reach.{once_back, once_front}
+use Rattle.mg_image_overlays.specs.TableOwners.{IsOneOf}
 use Rattle.mg_model.specs.Changes.{has_change, same_name}
 use Rattle.mg_model.specs.History.{Entries}
 use Rattle.mg_model.specs.Machine.{own}
@@ -24,7 +24,7 @@ use Rattle.mg_model.specs.Openings.{everyone}
 use Rattle.mg_model.specs.ReadLaws.{same_name_itself}
 use Rattle.mg_model.specs.declared.opening.Opening.{Opening}
 use Rattle.mg_model.specs.declared.table.Table.{Table}
-use Rattle.mg_named_tables.specs.Stands.{pointer_page, stand_has, stands_apart}
+use Rattle.mg_image_overlays.specs.Stands.{pointer_page, stand_has, stands_apart}
 use Rattle.mg_overlays.specs.Overlays.{left_state}
 use Rattle.mg_base.specs.declared.numbers.PageNo.{PageNo}
 use Rattle.mg_base.specs.declared.transaction.TxState.{TxState}

@@ -1,3 +1,7 @@
+//! The laws of the engine's calls that change rows and tables, or take them back, and of the faults that calls tell.
+//!
+//! # Rows and tables
+//!
 //! Calls of an engine that change tables, as laws: from what the core says of a call to what a keeper of records owes.
 //!
 //! Owns:
@@ -7,19 +11,32 @@
 //! - `takings`: a transaction takes back what it has changed since a mark or a savepoint.
 //! - `over_tables`: the same, with tables that it has made since.
 //!
+//! # Faults of the disk are told
+//!
+//! A call of an engine tells each fault of the disk: where its refusal tells none, the disk's count of faults stands.
+//!
+//! Owns: laws over what the calls of the core promise (`specs/Told`), call by call: each cache that a call has gone
+//! through met no fault, or the last of them met the one that is told. `FaultPageLaws` has what is known of batches, `FaultCoreLaws`
+//! of readings and of who is in the way, `FaultWriteLaws`, `FaultBackLaws`, `FaultTableBackLaws` and `FaultMakingLaws` of changes, stage by
+//! stage; `FaultCallLaws` has the calls.
+//!
 //! There is no program here: each function does nothing, and its contract is a law.
 //!
 //! Invariant: none, it keeps no state.
-//! Below: `mg_taking_back`, `mg_table_takings` and `mg_table_making`, the calls; `mg_engine_writes`, what one write or one
-//! key taken back makes of the pages; `mg_engine_unmakings`, rows of the catalog that go; `mg_engine_meaning` and
-//! `mg_engine_calls`. Above: the engine.
+//! Below: `mg_engine_meaning`, `mg_engine_steps`, `mg_taking_back`, `mg_table_takings`, `mg_table_making`. Above: `mg_no_damage`, `mg_engine`.
+//! Not here: beginnings, endings and reading (`mg_engine_meaning`).
 #![tactic(auto)]
 
+mod faults;
 mod makings;
 mod over_tables;
 mod row_writes;
 mod takings;
 
+pub use faults::{
+    backs_tell_faults, begins_tell_faults, changes_tell_faults, commits_tell_faults,
+    events_tell_faults, page_writes_tell_faults, readings_tell_faults,
+};
 pub use makings::{
     creations_are_refused, creations_keep_apart, growths_stay, joined_tables_stand,
     left_pages_are_there, made_rows_are_remembered, made_rows_follow, made_tables_are_seen,

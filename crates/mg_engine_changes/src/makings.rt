@@ -21,8 +21,8 @@
 //! There is no program here: each function does nothing, and its contract is a law.
 //!
 //! Invariant: none, it keeps no state.
-//! Below: `mg_catalog_batches`, `mg_table_batch` and `mg_table_ties`, the batch; `mg_table_making`, the call;
-//! `mg_stand_owners`, whose pages are; `mg_engine_steps`, what an engine stands for; `row_writes` of this crate, calls that
+//! Below: `mg_ties`, `mg_table_batch` and `mg_ties`, the batch; `mg_table_making`, the call;
+//! `mg_image_overlays`, whose pages are; `mg_engine_steps`, what an engine stands for; `row_writes` of this crate, calls that
 //! only read, and what a call leaves of the store. Above: the engine.
 //! Not here: how the batch is filled (`mg_table_batch`), and whether the table may be made (`mg_table_making`).
 

@@ -7,7 +7,7 @@
 //!   (`GivenApart`); once the former are taken back, what is left are rows that the transaction had made (`RowsAreLeft`).
 //! - `ways`: memory follows the entry, where the tables have gone that the transaction saw (`TablesFollow`); the walks of
 //!   all others go on over the batch (`TablesWalksGoOn`); and what the core takes out of the catalog is a step of the laws
-//!   of `mg_engine_unmakings` (`CoresTakeRows`).
+//!   of `mg_engine_steps` (`CoresTakeRows`).
 //! - `engines`: an engine whose transaction was taken back to a point over tables that it had made stands for the history
 //!   with the event, every crash since the call began leaves what it has to (`EnginesGoOver`), and the walks of all others
 //!   go on (`OthersWalkOver`). Nothing is asked of the changes since the point: where none is of the catalog, no row goes.
@@ -19,7 +19,7 @@
 //! All stands in `specs/`. There is no program here: each function does nothing, and its contract is a law.
 //!
 //! Invariant: none, it keeps no state.
-//! Below: `mg_table_takings`, whose calls these laws are of; `mg_engine_unmakings`, for the rows of the catalog;
+//! Below: `mg_table_takings`, whose calls these laws are of; `mg_engine_steps`, for the rows of the catalog;
 //! `takings` of this crate, for the keys of other tables. Above: the engine as a keeper of records.
 
 mod engines;

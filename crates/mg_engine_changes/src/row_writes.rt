@@ -19,7 +19,7 @@
 //! There is no program here: each function does nothing, and its contract is a law.
 //!
 //! Invariant: none, it keeps no state.
-//! Below: `mg_engine_writes`, `mg_engine_calls`, `mg_engine_steps` and what they are over; `mg_taking_back`, which keeps
+//! Below: `mg_engine_steps`, `mg_engine_meaning`, `mg_engine_steps` and what they are over; `mg_taking_back`, which keeps
 //! the table. Above: the laws on taking back and on making tables, and the engine.
 //! Not here: how a version is laid, and that a table which is kept is the one on the pages.
 

@@ -26,8 +26,8 @@
 //! All stands in `specs/`. There is no program here: each function does nothing, and its contract is a law.
 //!
 //! Invariant: none, it keeps no state.
-//! Below: `mg_taking_back`, the calls; `mg_engine_writes`, one key taken back; `row_writes` of this crate, a row's batches, and
-//! what a call leaves of the store; `mg_engine_meaning`; `mg_engine_calls`, a rollback; `mg_undo`, what a transaction has
+//! Below: `mg_taking_back`, the calls; `mg_engine_steps`, one key taken back; `row_writes` of this crate, a row's batches, and
+//! what a call leaves of the store; `mg_engine_meaning`; `mg_engine_meaning`, a rollback; `mg_undo`, what a transaction has
 //! to take back. Above: the engine.
 //! Not here: rows of the catalog that are taken back.
 

@@ -7,18 +7,18 @@ use Rattle.mg_careful.specs.declared.links.Demand.{Demand}
 use Rattle.mg_careful.specs.Precedence.{Orders}
 use Rattle.mg_careful.specs.CarefulWrite.{Cache, DemandSet, Has, IsClosed, IsIn, IsLinked, PageSet, overlay, three_parts}
 use Rattle.mg_careful.specs.CarefulSteps.{Contents, LaysBatch, written_out}
-use Rattle.mg_demand_ties.specs.Runs.{IsLasting, Lasting}
+use Rattle.mg_demands.specs.Runs.{IsLasting, Lasting}
 use Rattle.mg_image.specs.Form.{Pages}
 use Rattle.mg_image.specs.Tables.{Layout}
 use Rattle.mg_model.specs.Answers.{is_active, is_committed}
 use Rattle.mg_model.specs.declared.table.Table.{Table}
 use Rattle.mg_space.specs.Demands.{demands_of, meets_of}
 use Rattle.mg_space.specs.declared.links.TheConstants.{HEADER, NEXT, VERSION}
-use Rattle.mg_table_overlays.specs.Growing.{IsTableOf}
-use Rattle.mg_batch_demands.specs.Wanting.{want_of}
-use Rattle.mg_batch_ties.specs.BatchSteps.{HasLasting}
-use Rattle.mg_batch_ties.specs.Wants.{WantsPointer}
-use Rattle.mg_table_demands.specs.Keeping.{BearsTables, PaysOrderly}
+use Rattle.mg_image_overlays.specs.Growing.{IsTableOf}
+use Rattle.mg_demands.specs.Wanting.{want_of}
+use Rattle.mg_demands.specs.BatchSteps.{HasLasting}
+use Rattle.mg_demands.specs.Wants.{WantsPointer}
+use Rattle.mg_demands.specs.Keeping.{BearsTables, PaysOrderly}
 use Rattle.mg_engine_demands.specs.Wanted.{WantsTables}
 
 -- What an engine's memory says of its transactions: what has become of each, which active ones have asked for their

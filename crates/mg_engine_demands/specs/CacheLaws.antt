@@ -8,19 +8,19 @@ use Rattle.mg_careful.specs.CarefulWrite.{Cache, DemandSet, IsClosed, IsIn, Page
 use Rattle.mg_careful.specs.CarefulSteps.{Contents, LaysBatch, written_out}
 use Rattle.mg_demands.specs.Bearing.{OverlaysAreLinked}
 use Rattle.mg_demands.specs.Freeing.{WritesBearAll, without}
-use Rattle.mg_demand_ties.specs.Runs.{BatchBearsExactly, BearsLinks, IsLasting, Lasting, ThreeHasBoth}
+use Rattle.mg_demands.specs.Runs.{BatchBearsExactly, BearsLinks, IsLasting, Lasting, ThreeHasBoth}
 use Rattle.mg_image.specs.Inventory.{inventory_page}
 use Rattle.mg_image.specs.Tables.{Layout}
 use Rattle.mg_model.specs.declared.table.Table.{Table}
 use Rattle.mg_space.specs.Demands.{demands_of, meets_of}
 use Rattle.mg_space.specs.Taking.{region_of}
 use Rattle.mg_space.specs.declared.links.TheConstants.{BIT, HEADER, NEXT, POINTER, VERSION}
-use Rattle.mg_table_overlays.specs.Growing.{IsTableOf}
-use Rattle.mg_batch_demands.specs.VersionLaws.{may_is_version}
-use Rattle.mg_batch_demands.specs.Wanting.{may_go, want_of}
-use Rattle.mg_batch_demands.specs.WantingLaws.{either_cases, in_one, in_other}
-use Rattle.mg_batch_ties.specs.Wants.{WantsPointer}
-use Rattle.mg_table_demands.specs.KeepingTies.{in_wanted}
+use Rattle.mg_image_overlays.specs.Growing.{IsTableOf}
+use Rattle.mg_demands.specs.VersionLaws.{may_is_version}
+use Rattle.mg_demands.specs.Wanting.{may_go, want_of}
+use Rattle.mg_demands.specs.WantingLaws.{either_cases, in_one, in_other}
+use Rattle.mg_demands.specs.Wants.{WantsPointer}
+use Rattle.mg_demands.specs.KeepingTies.{in_wanted}
 use Rattle.mg_engine_demands.specs.Bearing.{BatchesKeep, CrashesLinked, EngineBears, Fates, IsBorneWith, LastsFor, Marks, MarksGo, PaysFor, PaysForAny, WritesKeep, asks, lasting_clean, no_page}
 
 -- ---- page writes

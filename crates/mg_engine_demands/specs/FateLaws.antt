@@ -9,12 +9,12 @@ use Rattle.mg_careful.specs.Precedence.{Orders}
 use Rattle.mg_careful.specs.CarefulWrite.{Cache, DemandSet, IsIn, PageSet, Pages, three_parts}
 use Rattle.mg_careful.specs.CarefulSteps.{written_out}
 use Rattle.mg_demands.specs.Freeing.{WritesBearAll}
-use Rattle.mg_demand_ties.specs.Runs.{BearsLinks, IsLasting, Lasting, ThreeHasBoth}
+use Rattle.mg_demands.specs.Runs.{BearsLinks, IsLasting, Lasting, ThreeHasBoth}
 use Rattle.mg_image.specs.Tables.{Layout}
 use Rattle.mg_model.specs.Answers.{is_committed}
 use Rattle.mg_space.specs.Demands.{demands_of, meets_of}
 use Rattle.mg_space.specs.declared.links.TheConstants.{VERSION}
-use Rattle.mg_batch_ties.specs.SettleTies.{CommitSettles, settled_with}
+use Rattle.mg_demands.specs.SettleTies.{CommitSettles, settled_with}
 use Rattle.mg_engine_demands.specs.Bearing.{Fates, IsBorne, LastsFor, Marks, asks, lasting_clean, no_page}
 use Rattle.mg_engine_demands.specs.CacheLaws.{and_true, clean_links, nothing_closed}
 use Rattle.mg_engine_demands.specs.Fates.{AskingKeeps, AsksNow, CommittingKeeps, TellingKeeps}

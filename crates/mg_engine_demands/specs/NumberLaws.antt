@@ -9,7 +9,7 @@ use Rattle.mg_base.specs.declared.transaction.TxState.{TxState}
 use Rattle.mg_base.specs.declared.transaction.TxState.TheVariants.{Active}
 use Rattle.mg_careful.specs.declared.links.Demand.{Demand}
 use Rattle.mg_careful.specs.CarefulWrite.{Cache, DemandSet, Has, IsIn}
-use Rattle.mg_demand_ties.specs.DrawDemands.{SaysNumber, draw_wants}
+use Rattle.mg_demands.specs.DrawDemands.{SaysNumber, draw_wants}
 use Rattle.mg_header.specs.HeaderPage.{reading}
 use Rattle.mg_header.specs.declared.header.HeadFault.{HeadFault}
 use Rattle.mg_header.specs.declared.header.Header.{Header}
@@ -31,17 +31,17 @@ use Rattle.mg_txlist.specs.Ending.{header_first}
 use Rattle.mg_txlist.specs.TxList.{next_said, tip_in}
 use Rattle.mg_txlist.specs.declared.list.TipPage.{TipPage}
 use Rattle.mg_txlist.specs.declared.list.TxList.{TxList}
-use Rattle.mg_txlist_ties.specs.DrawTies.{DrawsFrom}
-use Rattle.mg_kept_images.specs.Rest.{div_grows}
-use Rattle.mg_batch_demands.specs.KindLaws.{tip_kind}
-use Rattle.mg_batch_demands.specs.Met.{has_back, in_listed, of_listed}
-use Rattle.mg_batch_demands.specs.Wanting.{IsWanting, want_of}
-use Rattle.mg_batch_ties.specs.EndTies.{KnowsEnd, with_page}
-use Rattle.mg_batch_ties.specs.PoolTies.{cache_over}
-use Rattle.mg_batch_ties.specs.SettleTies.{CommitSettles}
-use Rattle.mg_batch_ties.specs.Wants.{AreOrderly, IsTaken, WantsBit, is_head, taken_is, tip_passes}
-use Rattle.mg_chain_demands.specs.Chained.{IsChained}
-use Rattle.mg_table_demands.specs.NumberTies.{commit_keeps, draw_keeps, drawn_none}
+use Rattle.mg_ties.specs.DrawTies.{DrawsFrom}
+use Rattle.mg_image_overlays.specs.Rest.{div_grows}
+use Rattle.mg_demands.specs.KindLaws.{tip_kind}
+use Rattle.mg_demands.specs.Met.{has_back, in_listed, of_listed}
+use Rattle.mg_demands.specs.Wanting.{IsWanting, want_of}
+use Rattle.mg_demands.specs.EndTies.{KnowsEnd, with_page}
+use Rattle.mg_demands.specs.PoolTies.{cache_over}
+use Rattle.mg_demands.specs.SettleTies.{CommitSettles}
+use Rattle.mg_demands.specs.Wants.{AreOrderly, IsTaken, WantsBit, is_head, taken_is, tip_passes}
+use Rattle.mg_demands.specs.Chained.{IsChained}
+use Rattle.mg_demands.specs.NumberTies.{commit_keeps, draw_keeps, drawn_none}
 use Rattle.mg_engine_demands.specs.Bearing.{Fates, IsBorne, IsBorneWith, Marks, PaysFor, asks}
 use Rattle.mg_engine_demands.specs.FateLaws.{committing_keeps, telling_keeps}
 use Rattle.mg_engine_demands.specs.Numbers.{CommitsIn, CommitsKeep, DrawsKeep, HasBegun}

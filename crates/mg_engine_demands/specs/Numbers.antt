@@ -18,8 +18,8 @@ use Rattle.mg_space.specs.View.{Tells}
 use Rattle.mg_txlist.specs.Ending.{CommitsBits}
 use Rattle.mg_txlist.specs.TxList.{next_said}
 use Rattle.mg_txlist.specs.declared.list.TxList.{TxList}
-use Rattle.mg_txlist_ties.specs.CommitTies.{ShowsTip}
-use Rattle.mg_txlist_ties.specs.DrawTies.{DrawsFrom}
+use Rattle.mg_ties.specs.CommitTies.{ShowsTip}
+use Rattle.mg_ties.specs.DrawTies.{DrawsFrom}
 use Rattle.mg_engine_demands.specs.Bearing.{Fates, asks}
 use Rattle.mg_engine_demands.specs.Fates.{HasCommitted}
 use Rattle.mg_engine_demands.specs.Stores.{StoreBears}

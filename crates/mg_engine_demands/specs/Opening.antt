@@ -2,13 +2,13 @@
 use Rattle.std.specs.Prelude.{◌≢◌, ◌&&◌, ◌==◌, ℕ}
 use Rattle.mg_base.specs.declared.transaction.TxState.TheVariants.{Active}
 use Rattle.mg_careful.specs.CarefulWrite.{Cache, listed}
-use Rattle.mg_demand_ties.specs.Runs.{Lasting}
-use Rattle.mg_demand_ties.specs.Starts.{IsOpened}
+use Rattle.mg_demands.specs.Runs.{Lasting}
+use Rattle.mg_demands.specs.Starts.{IsOpened}
 use Rattle.mg_image.specs.Form.{packed_form}
 use Rattle.mg_image.specs.Records.{Reading}
 use Rattle.mg_image.specs.Tables.{Layout}
 use Rattle.mg_model.specs.Answers.{is_committed}
-use Rattle.mg_sound_links.specs.Roots.{roots_of}
+use Rattle.mg_demands.specs.Roots.{roots_of}
 use Rattle.mg_space.specs.declared.links.TheConstants.{VERSION}
 use Rattle.mg_engine_demands.specs.Bearing.{Fates, IsBorne, Marks}
 

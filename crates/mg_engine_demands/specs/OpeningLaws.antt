@@ -7,8 +7,8 @@ use Rattle.mg_base.specs.declared.transaction.TxState.{TxState}
 use Rattle.mg_base.specs.declared.transaction.TxState.TheVariants.{Active, Limbo, Dead, Committed}
 use Rattle.mg_careful.specs.declared.links.Demand.{Demand}
 use Rattle.mg_careful.specs.CarefulWrite.{Has}
-use Rattle.mg_demand_ties.specs.Runs.{IsLasting}
-use Rattle.mg_demand_ties.specs.Starts.{wanted_in}
+use Rattle.mg_demands.specs.Runs.{IsLasting}
+use Rattle.mg_demands.specs.Starts.{wanted_in}
 use Rattle.mg_heap.specs.Reach.{MayOwn}
 use Rattle.mg_image.specs.Form.{packed_form}
 use Rattle.mg_image.specs.Inventory.{inventory_page}
@@ -17,15 +17,15 @@ use Rattle.mg_model.specs.Answers.{is_active}
 use Rattle.mg_model.specs.declared.table.Index.{Index}
 use Rattle.mg_model.specs.declared.table.Table.{Table}
 use Rattle.mg_pip.specs.PipPage.{bits}
-use Rattle.mg_sound_links.specs.Roots.{SoundIsWanted, WantsFrom, index_roots, roots_of, table_roots}
+use Rattle.mg_demands.specs.Roots.{SoundIsWanted, WantsFrom, index_roots, roots_of, table_roots}
 use Rattle.mg_space.specs.Demands.{bit_demand, demand, linked}
 use Rattle.mg_space.specs.Taking.{region_of}
 use Rattle.mg_space.specs.declared.links.TheConstants.{BIT, HEADER, POINTER, TREE, VERSION}
-use Rattle.mg_table_overlays.specs.Growing.{IsTableOf}
-use Rattle.mg_batch_demands.specs.Met.{has_back, has_either, has_front, is_demand, of_listed}
-use Rattle.mg_batch_demands.specs.Wanting.{want_of}
-use Rattle.mg_batch_ties.specs.TableTies.{bit_wanted, demand_there}
-use Rattle.mg_table_demands.specs.OpenedChains.{OpenedTablesBear}
+use Rattle.mg_image_overlays.specs.Growing.{IsTableOf}
+use Rattle.mg_demands.specs.Met.{has_back, has_either, has_front, is_demand, of_listed}
+use Rattle.mg_demands.specs.Wanting.{want_of}
+use Rattle.mg_demands.specs.TableTies.{bit_wanted, demand_there}
+use Rattle.mg_demands.specs.OpenedChains.{OpenedTablesBear}
 use Rattle.mg_engine_demands.specs.Bearing.{Fates}
 use Rattle.mg_engine_demands.specs.Opening.{OpeningBears, lasting_first}
 use Rattle.mg_engine_demands.specs.RecordLaws.{stand_owns}

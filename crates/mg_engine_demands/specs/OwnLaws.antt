@@ -7,7 +7,7 @@ use Rattle.mg_base.specs.declared.numbers.RecId.{RecId}
 use Rattle.mg_careful.specs.declared.links.Demand.{Demand}
 use Rattle.mg_careful.specs.CarefulWrite.{DemandSet, Has}
 use Rattle.mg_chain.specs.Writing.{HasNewest, Moves, PutsAt, Replaces, TakesOut}
-use Rattle.mg_demand_ties.specs.Runs.{IsLasting, Lasting}
+use Rattle.mg_demands.specs.Runs.{IsLasting, Lasting}
 use Rattle.mg_image.specs.Records.{Reading}
 use Rattle.mg_image.specs.Tables.{Layout}
 use Rattle.mg_model.specs.Answers.{is_committed}
@@ -24,15 +24,15 @@ use Rattle.mg_space.specs.declared.links.FireLinks.{FireLinks}
 use Rattle.mg_space.specs.declared.links.TheConstants.{VERSION}
 use Rattle.mg_version.specs.declared.cell.Link.{Link}
 use Rattle.mg_version.specs.declared.cell.Version.{Version}
-use Rattle.mg_batch_demands.specs.Met.{has_either, of_listed}
-use Rattle.mg_batch_demands.specs.Wanting.{want_of}
-use Rattle.mg_batch_ties.specs.BatchSteps.{HasLasting}
-use Rattle.mg_batch_ties.specs.CellTies.{write_wants}
-use Rattle.mg_batch_ties.specs.GrowthTies.{room_versions, room_wants}
-use Rattle.mg_chain_demands.specs.May.{MayMove}
-use Rattle.mg_table_demands.specs.KeepingTies.{move_keeps, out_keeps, over_keeps}
-use Rattle.mg_table_demands.specs.PartLaws.{knows_write}
-use Rattle.mg_table_demands.specs.Parts.{KnowsTable}
+use Rattle.mg_demands.specs.Met.{has_either, of_listed}
+use Rattle.mg_demands.specs.Wanting.{want_of}
+use Rattle.mg_demands.specs.BatchSteps.{HasLasting}
+use Rattle.mg_demands.specs.CellTies.{write_wants}
+use Rattle.mg_demands.specs.GrowthTies.{room_versions, room_wants}
+use Rattle.mg_demands.specs.May.{MayMove}
+use Rattle.mg_demands.specs.KeepingTies.{move_keeps, out_keeps, over_keeps}
+use Rattle.mg_demands.specs.PartLaws.{knows_write}
+use Rattle.mg_demands.specs.Parts.{KnowsTable}
 use Rattle.mg_engine_demands.specs.Bearing.{Fates, LastsFor, PaysFor, asks}
 use Rattle.mg_engine_demands.specs.Fates.{StoodBefore}
 use Rattle.mg_engine_demands.specs.RecordLaws.{behind_committed, names_table}

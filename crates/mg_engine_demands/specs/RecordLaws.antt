@@ -19,15 +19,15 @@ use Rattle.mg_image.specs.declared.entry.Entry.{Entry}
 use Rattle.mg_model.specs.declared.table.Table.{Table}
 use Rattle.mg_pointer.specs.PointerPage.{next_in}
 use Rattle.mg_slots.specs.declared.page.TheConstants.{DATA_KIND}
-use Rattle.mg_table_overlays.specs.Growing.{IsTableOf}
-use Rattle.mg_table_overlays.specs.Knowing.{its_pages}
-use Rattle.mg_table_overlays.specs.OneTable.{its_data, table_at_stands}
+use Rattle.mg_image_overlays.specs.Growing.{IsTableOf}
+use Rattle.mg_image_overlays.specs.Knowing.{its_pages}
+use Rattle.mg_image_overlays.specs.OneTable.{its_data, table_at_stands}
 use Rattle.mg_version.specs.declared.cell.Cell.{Cell}
 use Rattle.mg_version.specs.declared.cell.Cell.TheVariants as cells
 use Rattle.mg_version.specs.declared.cell.Link.{Link}
 use Rattle.mg_version.specs.declared.cell.Version.{Version}
-use Rattle.mg_batch_ties.specs.TableTies.{later_place, tables_are_wanted}
-use Rattle.mg_batch_ties.specs.Wants.{IsDataOf, WantsPointer}
+use Rattle.mg_demands.specs.TableTies.{later_place, tables_are_wanted}
+use Rattle.mg_demands.specs.Wants.{IsDataOf, WantsPointer}
 use Rattle.mg_engine_demands.specs.Wanted.{BehindHaveCommitted, IsPageOf, RecordsAreWanted, SoundAndWanted}
 
 head_in : (next : ℕ → ℕ) (n : ℕ) (ns : List ℕ) → LinkChain next n ns → n ≢ 0 → HasPage ns n

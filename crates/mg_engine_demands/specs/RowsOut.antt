@@ -7,7 +7,7 @@ use Rattle.mg_careful.specs.declared.links.Demand.{Demand}
 use Rattle.mg_careful.specs.Precedence.{Orders}
 use Rattle.mg_careful.specs.CarefulWrite.{Cache, DemandSet, IsClosed, IsIn, PageSet}
 use Rattle.mg_careful.specs.CarefulSteps.{Contents, LaysBatch}
-use Rattle.mg_demand_ties.specs.Runs.{IsLasting, Lasting}
+use Rattle.mg_demands.specs.Runs.{IsLasting, Lasting}
 use Rattle.mg_image.specs.Form.{Pages}
 use Rattle.mg_image.specs.Records.{Reading}
 use Rattle.mg_image.specs.Tables.{Layout}
@@ -22,9 +22,9 @@ use Rattle.mg_space.specs.declared.links.FireLinks.{FireLinks}
 use Rattle.mg_space.specs.declared.links.TheConstants.{VERSION}
 use Rattle.mg_table_unmaking.specs.Rows.{TakesRows, TakesRowsOut, takes_more, takes_none}
 use Rattle.mg_value.specs.declared.value.Value.{Value}
-use Rattle.mg_batch_ties.specs.BatchSteps.{PaysInSteps}
-use Rattle.mg_batch_ties.specs.Wants.{AreOrderly}
-use Rattle.mg_chain_demands.specs.Chained.{IsChained}
+use Rattle.mg_demands.specs.BatchSteps.{PaysInSteps}
+use Rattle.mg_demands.specs.Wants.{AreOrderly}
+use Rattle.mg_demands.specs.Chained.{IsChained}
 use Rattle.mg_engine_demands.specs.Bearing.{EngineBears, Fates, IsBorne, LastsFor, Marks, MarksGo}
 use Rattle.mg_engine_demands.specs.Fates.{StoodBefore}
 use Rattle.mg_engine_demands.specs.Stores.{StoreBears}

@@ -9,7 +9,7 @@ use Rattle.mg_careful.specs.Precedence.{Orders}
 use Rattle.mg_careful.specs.CarefulWrite.{Cache, DemandSet, IsClosed, PageSet, three_parts}
 use Rattle.mg_careful.specs.CarefulSteps.{Contents, LaysBatch, written_out}
 use Rattle.mg_demands.specs.Freeing.{WritesBearAll}
-use Rattle.mg_demand_ties.specs.Runs.{IsLasting, Lasting, ThreeHasBoth}
+use Rattle.mg_demands.specs.Runs.{IsLasting, Lasting, ThreeHasBoth}
 use Rattle.mg_image.specs.Form.{Pages}
 use Rattle.mg_image.specs.Inventory.{inventory_page}
 use Rattle.mg_image.specs.Tables.{Layout}
@@ -25,16 +25,16 @@ use Rattle.mg_space.specs.Taking.{region_of}
 use Rattle.mg_space.specs.View.{viewed}
 use Rattle.mg_space.specs.declared.links.FireLinks.{FireLinks}
 use Rattle.mg_space.specs.declared.links.TheConstants.{BIT, HEADER, NEXT, POINTER}
-use Rattle.mg_table_overlays.specs.Growing.{IsTableOf}
+use Rattle.mg_image_overlays.specs.Growing.{IsTableOf}
 use Rattle.mg_table_unmaking.specs.Rows.{TakesRows, takes_more, takes_none}
 use Rattle.mg_value.specs.declared.value.Value.{Value}
-use Rattle.mg_batch_demands.specs.Wanting.{want_of}
-use Rattle.mg_batch_ties.specs.BatchSteps.{BearsWith}
-use Rattle.mg_batch_ties.specs.PoolTies.{cache_over}
-use Rattle.mg_batch_ties.specs.StepTies.{StepsBear}
-use Rattle.mg_batch_ties.specs.Wants.{IsDataOf, WantsPointer}
-use Rattle.mg_table_demands.specs.Unmaking.{MayTakeRows, PaysRows}
-use Rattle.mg_table_demands.specs.UnmakingTies.{rows_pay}
+use Rattle.mg_demands.specs.Wanting.{want_of}
+use Rattle.mg_demands.specs.BatchSteps.{BearsWith}
+use Rattle.mg_demands.specs.PoolTies.{cache_over}
+use Rattle.mg_demands.specs.StepTies.{StepsBear}
+use Rattle.mg_demands.specs.Wants.{IsDataOf, WantsPointer}
+use Rattle.mg_demands.specs.Unmaking.{MayTakeRows, PaysRows}
+use Rattle.mg_demands.specs.UnmakingTies.{rows_pay}
 use Rattle.mg_engine_demands.specs.Bearing.{EngineBears, Fates, IsBorne, LastsFor, Marks, MarksGo, lasting_clean, no_page}
 use Rattle.mg_engine_demands.specs.CacheLaws.{laid_then, no_bit, no_header, no_next, no_pointer, nothing_closed, writes_keep}
 use Rattle.mg_engine_demands.specs.Fates.{StoodBefore}

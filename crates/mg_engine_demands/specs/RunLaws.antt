@@ -10,9 +10,9 @@ use Rattle.mg_model.specs.declared.table.Table.{Table}
 use Rattle.mg_pool.specs.Batch.{Changed}
 use Rattle.mg_pool.specs.Dirty.{is_marked}
 use Rattle.mg_pool.specs.declared.pool.Pool.{Pool}
-use Rattle.mg_sound_links.specs.Roots.{roots_of}
+use Rattle.mg_demands.specs.Roots.{roots_of}
 use Rattle.mg_space.specs.declared.links.FireLinks.{FireLinks}
-use Rattle.mg_batch_ties.specs.PoolTies.{cache_over}
+use Rattle.mg_demands.specs.PoolTies.{cache_over}
 use Rattle.mg_engine_demands.specs.Bearing.{CrashesLinked, IsBorne}
 use Rattle.mg_engine_demands.specs.FateLaws.{telling_keeps}
 use Rattle.mg_engine_demands.specs.Fates.{AskingKeeps}

@@ -9,7 +9,7 @@ use Rattle.mg_base.specs.declared.transaction.TxState.{TxState}
 use Rattle.mg_base.specs.declared.transaction.TxState.TheVariants.{Active, Committed}
 use Rattle.mg_careful.specs.CarefulWrite.{IsClosed, IsLinked, PageSet, listed, overlay}
 use Rattle.mg_chain.specs.Writing.{GivesSpot, MakesRecord, Pushes, Replaces, TakesOut}
-use Rattle.mg_demand_ties.specs.Starts.{IsOpened}
+use Rattle.mg_demands.specs.Starts.{IsOpened}
 use Rattle.mg_heap.specs.Room.{GivesRoom}
 use Rattle.mg_image.specs.Form.{packed_form}
 use Rattle.mg_image.specs.Records.{Reading, cells_of}
@@ -23,7 +23,7 @@ use Rattle.mg_pool.specs.Pool.{shown}
 use Rattle.mg_pool.specs.Run.{HasWritten}
 use Rattle.mg_pool.specs.declared.pool.Pool.{Pool}
 use Rattle.mg_row_writes.specs.Changing.{nothing_yet}
-use Rattle.mg_sound_links.specs.Roots.{roots_of}
+use Rattle.mg_demands.specs.Roots.{roots_of}
 use Rattle.mg_space.specs.Demands.{demands_of, meets_of}
 use Rattle.mg_space.specs.View.{KeepsStore, Tells}
 use Rattle.mg_space.specs.declared.links.FireLinks.{FireLinks}
@@ -32,11 +32,11 @@ use Rattle.mg_table_batch.specs.Filling.{FillsTable}
 use Rattle.mg_table_unmaking.specs.Rows.{TakesRowsOut}
 use Rattle.mg_txlist.specs.TxList.{next_said}
 use Rattle.mg_txlist.specs.declared.list.TxList.{TxList}
-use Rattle.mg_txlist_ties.specs.DrawTies.{DrawsFrom}
+use Rattle.mg_ties.specs.DrawTies.{DrawsFrom}
 use Rattle.mg_value.specs.declared.shape.Shape.{Shape}
 use Rattle.mg_value.specs.declared.value.Value.{Value}
 use Rattle.mg_version.specs.declared.cell.Version.{Version}
-use Rattle.mg_batch_ties.specs.PoolTies.{cache_over}
+use Rattle.mg_demands.specs.PoolTies.{cache_over}
 use Rattle.mg_engine_demands.specs.Bearing.{Fates, asks}
 use Rattle.mg_engine_demands.specs.Fates.{AsksNow, HasCommitted, StoodBefore}
 use Rattle.mg_engine_demands.specs.Numbers.{CommitsIn, HasBegun}

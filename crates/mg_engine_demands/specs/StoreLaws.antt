@@ -23,8 +23,8 @@ use Rattle.mg_pool.specs.declared.pool.Pool.{Pool}
 use Rattle.mg_row_writes.specs.Changing.{ChangesOwn}
 use Rattle.mg_space.specs.View.{KeepsStore, Tells, viewed}
 use Rattle.mg_space.specs.declared.links.FireLinks.{FireLinks}
-use Rattle.mg_batch_ties.specs.PoolTies.{cache_over, lays}
-use Rattle.mg_write_ties.specs.WriteLaws.{written_cache, written_closed}
+use Rattle.mg_demands.specs.PoolTies.{cache_over, lays}
+use Rattle.mg_demands.specs.WriteLaws.{written_cache, written_closed}
 use Rattle.mg_engine_demands.specs.Bearing.{BatchesKeep, Fates, IsBorne, IsBorneWith, Marks, MarksGo, PaysForAny, WritesKeep, lasting_clean}
 use Rattle.mg_engine_demands.specs.Stores.{ChangesStore, PageWritesKeep, ReadsKeep, StoreBears, StoreChangesKeep, WantsAll}
 

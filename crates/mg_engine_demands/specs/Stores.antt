@@ -15,10 +15,10 @@ use Rattle.mg_pool.specs.declared.pool.Pool.{Pool}
 use Rattle.mg_space.specs.View.{KeepsStore, Tells, viewed}
 use Rattle.mg_space.specs.declared.links.TheConstants.{HEADER, NEXT}
 use Rattle.mg_base.specs.declared.transaction.TxState.TheVariants.{Active}
-use Rattle.mg_batch_demands.specs.Wanting.{IsWanting, want_of}
-use Rattle.mg_batch_ties.specs.PoolTies.{cache_over}
-use Rattle.mg_batch_ties.specs.Wants.{AreOrderly}
-use Rattle.mg_chain_demands.specs.Chained.{IsChained}
+use Rattle.mg_demands.specs.Wanting.{IsWanting, want_of}
+use Rattle.mg_demands.specs.PoolTies.{cache_over}
+use Rattle.mg_demands.specs.Wants.{AreOrderly}
+use Rattle.mg_demands.specs.Chained.{IsChained}
 use Rattle.mg_engine_demands.specs.Bearing.{Fates, IsBorne, IsBorneWith, PaysForAny}
 use Rattle.mg_engine_demands.specs.Wanted.{WantsTables}
 

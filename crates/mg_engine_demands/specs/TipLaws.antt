@@ -14,11 +14,11 @@ use Rattle.mg_space.specs.Demands.{bit_demand, demand, drawn_demands, header_dem
 use Rattle.mg_space.specs.Taking.{region_of}
 use Rattle.mg_space.specs.declared.links.TheConstants.{BIT, HEADER, POINTER, TRANSACTIONS}
 use Rattle.mg_tip.specs.TipPage.{places, prev_in}
-use Rattle.mg_batch_demands.specs.KindLaws.{from_want}
-use Rattle.mg_batch_demands.specs.Met.{has_back, has_front}
-use Rattle.mg_batch_demands.specs.Wanting.{IsWanting, want_of}
-use Rattle.mg_batch_ties.specs.TableTies.{bit_wanted, demand_there}
-use Rattle.mg_batch_ties.specs.Wants.{WantsBit}
+use Rattle.mg_demands.specs.KindLaws.{from_want}
+use Rattle.mg_demands.specs.Met.{has_back, has_front}
+use Rattle.mg_demands.specs.Wanting.{IsWanting, want_of}
+use Rattle.mg_demands.specs.TableTies.{bit_wanted, demand_there}
+use Rattle.mg_demands.specs.Wants.{WantsBit}
 
 -- A transaction inventory page is wanted, with its bit.
 pub record WantsTip (size : ℕ) (wanted : DemandSet) (n sequence : ℕ) : Type 0 where

@@ -10,12 +10,12 @@ use Rattle.mg_image.specs.Records.{Reading, cells_of}
 use Rattle.mg_image.specs.Sound.{IsSoundBy}
 use Rattle.mg_image.specs.Tables.{Layout, stands_of, table_at}
 use Rattle.mg_model.specs.declared.table.Table.{Table}
-use Rattle.mg_table_overlays.specs.Growing.{IsTableOf}
+use Rattle.mg_image_overlays.specs.Growing.{IsTableOf}
 use Rattle.mg_version.specs.declared.cell.Cell.TheVariants as cells
 use Rattle.mg_version.specs.declared.cell.Link.{Link}
 use Rattle.mg_version.specs.declared.cell.Version.{Version}
-use Rattle.mg_batch_demands.specs.Wanting.{IsWanting}
-use Rattle.mg_batch_ties.specs.Wants.{AreOrderly, IsDataOf, WantsPointer}
+use Rattle.mg_demands.specs.Wanting.{IsWanting}
+use Rattle.mg_demands.specs.Wants.{AreOrderly, IsDataOf, WantsPointer}
 
 -- each table that stands in a layout, the catalog among them, is wanted by its first pointer page
 abbrev pub WantsTables : ℕ → DemandSet → Layout → Type 0

@@ -7,7 +7,7 @@ use Rattle.mg_base.specs.declared.transaction.TxState.{TxState}
 use Rattle.mg_base.specs.declared.transaction.TxState.TheVariants.{Active, Limbo, Dead, Committed}
 use Rattle.mg_careful.specs.declared.links.Demand.{Demand}
 use Rattle.mg_careful.specs.CarefulWrite.{DemandSet, Has, listed}
-use Rattle.mg_demand_ties.specs.Runs.{IsLasting, Lasting}
+use Rattle.mg_demands.specs.Runs.{IsLasting, Lasting}
 use Rattle.mg_image.specs.Inventory.{inventory_page}
 use Rattle.mg_image.specs.Records.{Reading}
 use Rattle.mg_image.specs.Tables.{Layout}
@@ -22,16 +22,16 @@ use Rattle.mg_row_writes.specs.Changing.{nothing_yet}
 use Rattle.mg_space.specs.Taking.{region_of}
 use Rattle.mg_space.specs.View.{viewed}
 use Rattle.mg_space.specs.declared.links.TheConstants.{BIT, POINTER}
-use Rattle.mg_table_overlays.specs.Growing.{IsTableOf}
+use Rattle.mg_image_overlays.specs.Growing.{IsTableOf}
 use Rattle.mg_space.specs.declared.links.FireLinks.{FireLinks}
-use Rattle.mg_batch_demands.specs.Met.{in_listed, of_listed}
-use Rattle.mg_batch_demands.specs.Wanting.{want_of}
-use Rattle.mg_batch_ties.specs.BatchSteps.{HasLasting}
-use Rattle.mg_batch_ties.specs.Wants.{IsDataOf, WantsPointer}
-use Rattle.mg_table_demands.specs.KeepingTies.{part_keeps}
-use Rattle.mg_table_demands.specs.FillTies.{fill_pays}
-use Rattle.mg_table_demands.specs.PartLaws.{place_part, record_part, room_part, version_part}
-use Rattle.mg_table_demands.specs.Parts.{KnowsTable, PaysPart, PaysTable}
+use Rattle.mg_demands.specs.Met.{in_listed, of_listed}
+use Rattle.mg_demands.specs.Wanting.{want_of}
+use Rattle.mg_demands.specs.BatchSteps.{HasLasting}
+use Rattle.mg_demands.specs.Wants.{IsDataOf, WantsPointer}
+use Rattle.mg_demands.specs.KeepingTies.{part_keeps}
+use Rattle.mg_demands.specs.FillTies.{fill_pays}
+use Rattle.mg_demands.specs.PartLaws.{place_part, record_part, room_part, version_part}
+use Rattle.mg_demands.specs.Parts.{KnowsTable, PaysPart, PaysTable}
 use Rattle.mg_engine_demands.specs.Bearing.{Fates, LastsFor, PaysFor, asks}
 use Rattle.mg_engine_demands.specs.RecordLaws.{names_table, record_wanted, stand_owns}
 use Rattle.mg_engine_demands.specs.Stores.{WantsAll}

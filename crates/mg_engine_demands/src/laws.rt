@@ -5,12 +5,11 @@ ghost use Rattle.mg_engine_demands.specs.Fates.{AskingKeeps, CommittingKeeps, Te
 ghost use Rattle.mg_engine_demands.specs.Opening.{OpeningBears};
 ghost use Rattle.mg_engine_demands.specs.Wanted.{BehindHaveCommitted, RecordsAreWanted};
 
-use mg_batch_ties::commits_settle;
-use mg_demand_ties::runs_bear;
-use mg_demands::{all_is_borne, demands_are_borne};
-use mg_sound_links::sound_images_are_linked;
+use mg_demands::{
+    all_is_borne, commits_settle, demands_are_borne, pointer_pages_stay_orderly, runs_bear,
+    sound_images_are_linked,
+};
 use mg_space::FireLinks;
-use mg_table_demands::pointer_pages_stay_orderly;
 
 /// A record's page is wanted as a data page, and the version behind its newest one is of a transaction that has
 /// committed.

@@ -1,7 +1,9 @@
-//! What the calls of an engine owe to the law of careful write, by what an engine knows of its pages.
+//! The engine's calls as steps of the law of careful write.
+//!
+//! # What the calls of an engine owe to the law of careful write, by what an engine knows of its pages
 //!
 //! Owns: the one invariant that an engine keeps from call to call (`EngineBears`; `IsBorne` hides what disk and pool
-//! want). The cache bears its demands (`BearsTables` of mg_table_demands); settled are exactly the transactions that
+//! want). The cache bears its demands (`BearsTables` of mg_demands); settled are exactly the transactions that
 //! have committed, and of one that has asked for its commit each version that is wanted is on the disk, or its page is
 //! marked; the header is wanted, each table of the layout by its first pointer page, and the number of each active
 //! transaction. It holds where a sound image is opened (`OpeningBears`), and after each of these:
@@ -14,7 +16,7 @@
 //! | a row is written | `Lays` of mg_row_writes | `LaysGo`, as steps | `Laying` |
 //! | a table is made | `GetsWanted`, `MakesAtOnce` of mg_table_batch | `GrowthsGo`, `MakingsGo`, as steps | `Making` |
 //! | rows are taken out together | `TakesRowsOut` of mg_table_unmaking | `RowsOutKeep` | `RowsOut` |
-//! | a number is drawn | `DrawsFrom` of mg_txlist_ties | `DrawsKeep` | `Numbers` |
+//! | a number is drawn | `DrawsFrom` of mg_ties | `DrawsKeep` | `Numbers` |
 //! | a commit is asked for | `MarksAll` of mg_pool | `AskingKeeps` | `Fates` |
 //! | it is made | `CommitsBits` of mg_txlist | `CommitsKeep` | `Numbers` |
 //! | memory tells otherwise, as after a rollback | | `TellingKeeps` | `Fates` |
@@ -23,15 +25,39 @@
 //! image that was opened (`RunsStayLinked`).
 //! There is no program here: each function does nothing, and its contract is a law.
 //!
+//! # The calls of an engine as steps of its runs: by the engine's own contracts each is one, or several
+//!
+//! Owns: an engine at a moment, by what it has in memory (`moment_of`), and for each call the step that it is (`GoesBy` of
+//! mg_engine_demands).
+//!
+//! | call | record, of mg_core where none is named | law |
+//! |---|---|---|
+//! | a transaction begins | `Begins` | `BeginsGo` |
+//! | a commit is asked for | `Asks` | `AsksGo` |
+//! | a page is written | `WritesOne` | `PagesGo` |
+//! | a commit is made | `Commits` | `CommitsGo` |
+//! | a transaction is rolled back | `RollsBack` | `RollbacksGo` |
+//! | a row is put | `PutsRow` | `RowsGo` |
+//! | a table is made | `PutsTable` of mg_table_making | `TablesGo` |
+//! | pages are read | `KeepsStore` | `ReadsGo` |
+//!
+//! So whatever calls an engine has obeyed (`ObeysAll`) that was opened over a sound image, every image that a crash may
+//! leave is linked from the roots of that one (`EnginesStayLinked`).
+//! There is no program here: each function does nothing, and its contract is the laws.
+//!
+//! There is no program here: each function does nothing, and its contract is a law.
+//!
 //! Invariant: none, it keeps no state.
-//! Below: `mg_table_demands`, the batches; `mg_table_overlays`, `mg_txlist_ties`, `mg_row_writes`. Above: `mg_engine_runs`.
-//! Not here: index pages (`mg_tree_demands`).
+//! Below: `mg_demands`, of the batches; `mg_core`, `mg_engine_steps`. Above: nobody yet: these are promises of their own.
+//! Not here: the premises that follow from what an engine stands for.
 #![tactic(auto)]
 
+mod calls;
 mod laws;
 mod runs;
 mod stores;
 
+pub use calls::{calls_go, engines_stay_linked, tables_are_made};
 pub use laws::{caches_keep, fates_keep, openings_bear, records_are_wanted};
 pub use runs::{rows_go, runs_stay_linked, tables_go};
 pub use stores::{numbers_keep, stores_keep, takings_keep, writes_pay};

@@ -7,9 +7,7 @@ ghost use Rattle.mg_engine_demands.specs.Writes.{FirstsPay, GrowthPays, MakingPa
 
 use crate::laws::caches_keep;
 use mg_base::Disk;
-use mg_batch_ties::{commits_settle, steps_bear};
-use mg_demand_ties::runs_bear;
-use mg_demands::all_is_borne;
+use mg_demands::{all_is_borne, commits_settle, runs_bear, steps_bear};
 use mg_space::FireLinks;
 
 /// A store's cache bears its demands after pages were read, or written, and after a batch that pays.

@@ -17,7 +17,7 @@ use Rattle.mg_image.specs.declared.entry.Entry.{Entry}
 use Rattle.mg_image.specs.Catalog.{IsSameTable}
 use Rattle.mg_image.specs.RecordRules.{Facts, table_in}
 use Rattle.mg_image.specs.Records.{Reading, key_of, record_key, writer}
-use Rattle.mg_kept_images.specs.Fronts.{living}
+use Rattle.mg_image_overlays.specs.Fronts.{living}
 use Rattle.mg_seek.specs.Histories.{told_versions}
 use Rattle.mg_engine_steps.specs.Versions.{HaveVersions, SpeaksFor, SpeaksOrSilent, told_version}
 use Rattle.mg_engine_meaning.specs.Falling.{HasAlike}

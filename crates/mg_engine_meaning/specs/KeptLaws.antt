@@ -9,9 +9,9 @@ use Rattle.mg_image.specs.Form.{Pages, packed_form}
 use Rattle.mg_image.specs.Records.{Reading}
 use Rattle.mg_image.specs.Sound.{IsSoundBy}
 use Rattle.mg_image.specs.Tables.{Layout}
-use Rattle.mg_kept_images.specs.TableOwners.{IsOneOf}
+use Rattle.mg_image_overlays.specs.TableOwners.{IsOneOf}
 use Rattle.mg_model.specs.declared.table.Table.{Table}
-use Rattle.mg_table_overlays.specs.OneTable.{one_table}
+use Rattle.mg_image_overlays.specs.OneTable.{one_table}
 use Rattle.mg_undo.specs.declared.changes.Change.{Change}
 use Rattle.mg_works.specs.Works.{Working, with_work, without_work, work_of, written_in}
 use Rattle.mg_works.specs.WorksLaws.{with_its, with_none, with_others, without_its, without_others}

@@ -35,9 +35,9 @@ use Rattle.mg_image.specs.RecordRules.{EachBack, Facts, table_in}
 use Rattle.mg_image.specs.Records.{Reading, key_of, record_key, shown as shown_row, writer}
 use Rattle.mg_image.specs.Sound.{IsSoundBy, facts_by}
 use Rattle.mg_image.specs.Tables.{Layout, Stand, stands_of}
-use Rattle.mg_kept_images.specs.Fronts.{is_dead}
-use Rattle.mg_kept_images.specs.TableOwners.{IsOneOf, has_stand}
-use Rattle.mg_kept_images.specs.KeptImages.{IsKept}
+use Rattle.mg_image_overlays.specs.Fronts.{is_dead}
+use Rattle.mg_image_overlays.specs.TableOwners.{IsOneOf, has_stand}
+use Rattle.mg_image_overlays.specs.KeptImages.{IsKept}
 use Rattle.mg_overlays.specs.Overlays.{left_by, left_state}
 use Rattle.mg_pool.specs.Pool.{cache_of, shown}
 use Rattle.mg_pool_overlays.specs.Needs.{needs_by}
@@ -47,7 +47,7 @@ use Rattle.mg_engine_steps.specs.Ending.{Dies, GoesWithTable, StaysRecord, Versi
 use Rattle.mg_engine_steps.specs.Following.{FollowsEntry, KeepsTables, OthersKeepTables, StandsOn}
 use Rattle.mg_engine_steps.specs.Standing.{FindsTables, HasFirstPage, IsSeenAs, ShowsHistory, Standing, Stands}
 use Rattle.mg_engine_steps.specs.Versions.{HaveVersions, IsRecordOf, SpeaksFor, SpeaksOrSilent, told_version}
-use Rattle.mg_table_overlays.specs.OneTable.{one_table, stands_in, table_at_stands}
+use Rattle.mg_image_overlays.specs.OneTable.{one_table, stands_in, table_at_stands}
 use Rattle.mg_engine_steps.specs.TableAnswers.{shown_key}
 use Rattle.mg_engine_steps.specs.PageWrites.{AsksOtherwise}
 use Rattle.mg_engine_steps.specs.Idle.{RollbackLastsOn}

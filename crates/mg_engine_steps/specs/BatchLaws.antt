@@ -12,7 +12,7 @@ use Rattle.mg_model.specs.Legal.{IsLegal, MayBegin}
 use Rattle.mg_model.specs.Machine.{next_number, state_of}
 use Rattle.mg_image.specs.Form.{Form}
 use Rattle.mg_image.specs.Inventory.{next_of, state_at}
-use Rattle.mg_kept_images.specs.KeptImages.{keeping}
+use Rattle.mg_image_overlays.specs.KeptImages.{keeping}
 use Rattle.mg_overlays.specs.BatchLaws.{good_of_pool}
 use Rattle.mg_overlays.specs.Overlays.{EveryOverlay, left_by, left_state, nobody}
 use Rattle.mg_pool.specs.Batch.{Changed, content_in}
@@ -20,7 +20,7 @@ use Rattle.mg_pool.specs.Dirty.{DirtyPages}
 use Rattle.mg_pool.specs.Pool.{cache_of, shown}
 use Rattle.mg_pool.specs.declared.pool.Pool.{Pool}
 use Rattle.mg_pool_overlays.specs.Needs.{Asked, Sessions, needs_by}
-use Rattle.mg_space_ties.specs.Changed.{cache_over, needs_in}
+use Rattle.mg_ties.specs.Changed.{cache_over, needs_in}
 use Rattle.mg_lasting.specs.Changing.{ChangesLast, QuietHolds}
 use Rattle.mg_lasting.specs.CrashLaws.{asked_quiet}
 use Rattle.mg_lasting.specs.Crashes.{HoldsAcknowledged, LeavesSince, asked}

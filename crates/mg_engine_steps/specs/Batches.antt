@@ -15,8 +15,8 @@ use Rattle.mg_pool.specs.Pool.{IsPool, LeavesOverlays, shown}
 use Rattle.mg_pool.specs.declared.pool.Pool.{Pool}
 use Rattle.mg_pool_overlays.specs.Needs.{Asked, Sessions}
 use Rattle.mg_space.specs.View.{KeepsStore, Tells}
-use Rattle.mg_space_ties.specs.Changed.{ChangesFresh, KeptIn}
-use Rattle.mg_table_overlays.specs.DataKept.{KeepsBits}
+use Rattle.mg_ties.specs.Changed.{ChangesFresh, KeptIn}
+use Rattle.mg_image_overlays.specs.DataKept.{KeepsBits}
 use Rattle.mg_lasting.specs.Bits.{IsSettled}
 use Rattle.mg_lasting.specs.Crashes.{HoldsAcknowledged, LeavesSince, asked, may_last}
 use Rattle.mg_lasting.specs.Lasting.{Lasts, LastsOn}

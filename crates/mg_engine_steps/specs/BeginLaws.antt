@@ -15,16 +15,16 @@ use Rattle.mg_model.specs.Openings.{everyone}
 use Rattle.mg_image.specs.Form.{Form, Pages}
 use Rattle.mg_image.specs.Inventory.{next_of, state_at}
 use Rattle.mg_image.specs.ReadingLaws.{RowsAreOne}
-use Rattle.mg_kept_images.specs.Begins.{markers_are}
-use Rattle.mg_kept_images.specs.Kinds.{HasNoSequences}
+use Rattle.mg_image_overlays.specs.Begins.{markers_are}
+use Rattle.mg_image_overlays.specs.Kinds.{HasNoSequences}
 use Rattle.mg_overlays.specs.Overlays.{left_by, left_state}
 use Rattle.mg_pool.specs.Dirty.{is_dirty, is_marked}
 use Rattle.mg_pool.specs.Pool.{IsPool, cache_of, shown}
 use Rattle.mg_pool.specs.declared.pool.Pool.{Pool}
 use Rattle.mg_pool_overlays.specs.Needs.{Asked, Sessions, needs_by}
-use Rattle.mg_space_ties.specs.Changed.{KeptIn, cache_over, needs_in}
+use Rattle.mg_ties.specs.Changed.{KeptIn, cache_over, needs_in}
 use Rattle.mg_txlist.specs.declared.list.TxList.{TxList}
-use Rattle.mg_txlist_ties.specs.DrawTies.{DrawRowKeeps, DrawsFrom}
+use Rattle.mg_ties.specs.DrawTies.{DrawRowKeeps, DrawsFrom}
 use Rattle.mg_lasting.specs.Bits.{IsSettled}
 use Rattle.mg_lasting.specs.Changing.{QuietHolds}
 use Rattle.mg_lasting.specs.CrashLaws.{asked_quiet}

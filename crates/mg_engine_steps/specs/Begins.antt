@@ -12,7 +12,7 @@ use Rattle.mg_pool.specs.Pool.{IsPool, shown}
 use Rattle.mg_pool.specs.declared.pool.Pool.{Pool}
 use Rattle.mg_pool_overlays.specs.Needs.{Asked, Sessions}
 use Rattle.mg_txlist.specs.declared.list.TxList.{TxList}
-use Rattle.mg_txlist_ties.specs.DrawTies.{DrawsFrom}
+use Rattle.mg_ties.specs.DrawTies.{DrawsFrom}
 use Rattle.mg_lasting.specs.Crashes.{may_last}
 use Rattle.mg_lasting.specs.Lasting.{LastsOn}
 use Rattle.mg_engine_steps.specs.Following.{FollowsEntry}

@@ -16,7 +16,7 @@ use Rattle.mg_model.specs.Openings.{everyone}
 use Rattle.mg_image.specs.Form.{Form, Pages}
 use Rattle.mg_image.specs.Inventory.{next_of, state_at}
 use Rattle.mg_image.specs.Sound.{IsSoundBy}
-use Rattle.mg_kept_images.specs.Kinds.{HasNoSequences}
+use Rattle.mg_image_overlays.specs.Kinds.{HasNoSequences}
 use Rattle.mg_overlays.specs.Overlays.{left_by, left_state}
 use Rattle.mg_pool.specs.Batch.{Changed, content_in, lists, one_page, orders_of}
 use Rattle.mg_pool.specs.Change.{or_else}
@@ -27,12 +27,12 @@ use Rattle.mg_pool_overlays.specs.Needs.{Asked, Sessions}
 use Rattle.mg_pool_overlays.specs.Ties.{none_marked_none}
 use Rattle.mg_space.specs.View.{Tells}
 use Rattle.mg_space.specs.ViewLaws.{keeps_itself}
-use Rattle.mg_space_ties.specs.Changed.{BatchIsChanged, cache_over, changed_batches_are, needs_in}
+use Rattle.mg_ties.specs.Changed.{BatchIsChanged, cache_over, changed_batches_are, needs_in}
 use Rattle.mg_tip.specs.TipPage.{SetsState, places}
 use Rattle.mg_txlist.specs.Ending.{ChangesBits, header_first}
 use Rattle.mg_txlist.specs.TxList.{tip_in}
 use Rattle.mg_txlist.specs.declared.list.TxList.{TxList}
-use Rattle.mg_txlist_ties.specs.CommitTies.{ShowsTip}
+use Rattle.mg_ties.specs.CommitTies.{ShowsTip}
 use Rattle.mg_lasting.specs.CommitStatements.{CommitGoesMidway}
 use Rattle.mg_lasting.specs.Crashes.{LeavesHistory, may_last}
 use Rattle.mg_lasting.specs.Entries.{end_here, end_others}

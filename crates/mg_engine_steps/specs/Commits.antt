@@ -18,7 +18,7 @@ use Rattle.mg_pool_overlays.specs.Needs.{Asked, Sessions}
 use Rattle.mg_space.specs.View.{Tells}
 use Rattle.mg_txlist.specs.Ending.{CommitsBits, FailsCommit}
 use Rattle.mg_txlist.specs.declared.list.TxList.{TxList}
-use Rattle.mg_txlist_ties.specs.CommitTies.{ShowsTip}
+use Rattle.mg_ties.specs.CommitTies.{ShowsTip}
 use Rattle.mg_lasting.specs.Crashes.{LeavesHistory, may_last}
 use Rattle.mg_lasting.specs.Lasting.{LastsOn, LeftOn}
 use Rattle.mg_engine_steps.specs.Following.{FollowsEntry}

@@ -16,24 +16,24 @@ use Rattle.mg_image.specs.Records.{Reading}
 use Rattle.mg_image.specs.Sound.{IsSoundBy}
 use Rattle.mg_image.specs.Reached.{linked_pages}
 use Rattle.mg_image.specs.Tables.{Has, Layout}
-use Rattle.mg_kept_images.specs.Begins.{markers_are}
-use Rattle.mg_kept_images.specs.Frame.{KeepsLinked}
-use Rattle.mg_kept_images.specs.Grow.{tip_is}
-use Rattle.mg_kept_images.specs.Kinds.{HasNoSequences}
-use Rattle.mg_kept_images.specs.Rest.{div_grows}
-use Rattle.mg_kept_images.specs.Trees.{trees_stay}
-use Rattle.mg_page_overlays.specs.Draw.{DrawsNumber, tip_content as number_content, tip_same as number_tip}
+use Rattle.mg_image_overlays.specs.Begins.{markers_are}
+use Rattle.mg_image_overlays.specs.Frame.{KeepsLinked}
+use Rattle.mg_image_overlays.specs.Grow.{tip_is}
+use Rattle.mg_image_overlays.specs.Kinds.{HasNoSequences}
+use Rattle.mg_image_overlays.specs.Rest.{div_grows}
+use Rattle.mg_image_overlays.specs.Trees.{trees_stay}
+use Rattle.mg_image_overlays.specs.Draw.{DrawsNumber, tip_content as number_content, tip_same as number_tip}
 use Rattle.mg_pool.specs.Pool.{shown}
 use Rattle.mg_pool.specs.declared.pool.Pool.{Pool}
 use Rattle.mg_space.specs.Taking.{TakesPage}
 use Rattle.mg_space.specs.View.{viewed}
-use Rattle.mg_page_overlays.specs.DrawPage.{DrawsPage, tip_content as page_content, tip_last as page_last, tip_same as page_tip}
+use Rattle.mg_image_overlays.specs.DrawPage.{DrawsPage, tip_content as page_content, tip_last as page_last, tip_same as page_tip}
 use Rattle.mg_txlist.specs.Drawing.{AddsPage, DrawsOn, RaisesHead, on_last, on_new}
 use Rattle.mg_txlist.specs.TxList.{next_said, no_page, tip_in}
 use Rattle.mg_txlist.specs.declared.list.TipPage.{TipPage}
 use Rattle.mg_txlist.specs.declared.list.TxList.{TxList}
-use Rattle.mg_txlist_ties.specs.CommitTies.{ShowsTip}
-use Rattle.mg_txlist_ties.specs.DrawTies.{DrawsFrom, with_header}
+use Rattle.mg_ties.specs.CommitTies.{ShowsTip}
+use Rattle.mg_ties.specs.DrawTies.{DrawsFrom, with_header}
 use Rattle.mg_engine_steps.specs.DrawnPages.{draws, its_page, keeps, kept_tip, made_raised, mid_sound, number, off_page, view_is}
 use Rattle.mg_engine_steps.specs.ListShows.{DrawsKeepList, ListShows}
 use Rattle.mg_engine_steps.specs.TipPages.{within_last}

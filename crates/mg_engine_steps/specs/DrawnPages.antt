@@ -15,22 +15,22 @@ use Rattle.mg_image.specs.ReadingLaws.{RowsAreOne}
 use Rattle.mg_image.specs.Records.{Reading}
 use Rattle.mg_image.specs.Sound.{HasNoOldLimbo, IsSoundBy, IsUndrawn}
 use Rattle.mg_image.specs.Tables.{Has, Layout}
-use Rattle.mg_kept_images.specs.Begins.{markers_are}
-use Rattle.mg_kept_images.specs.Frame.{KeepsLinked, frame_sound, tip_kept}
-use Rattle.mg_kept_images.specs.Grow.{tip_is}
-use Rattle.mg_kept_images.specs.Kinds.{HasNoSequences}
-use Rattle.mg_kept_images.specs.Rest.{div_grows}
-use Rattle.mg_kept_images.specs.Trees.{trees_stay}
-use Rattle.mg_page_overlays.specs.Draw.{DrawsNumber, draw_sound as number_sound, tip_content as number_content}
-use Rattle.mg_page_overlays.specs.DrawPage.{DrawsPage, draw_sound as page_sound, page_same as page_there, tip_content as page_content, tip_last as page_last}
-use Rattle.mg_page_overlays.specs.TakePart.{OccupiesPage, keeps_linked, off, taken_whole}
+use Rattle.mg_image_overlays.specs.Begins.{markers_are}
+use Rattle.mg_image_overlays.specs.Frame.{KeepsLinked, frame_sound, tip_kept}
+use Rattle.mg_image_overlays.specs.Grow.{tip_is}
+use Rattle.mg_image_overlays.specs.Kinds.{HasNoSequences}
+use Rattle.mg_image_overlays.specs.Rest.{div_grows}
+use Rattle.mg_image_overlays.specs.Trees.{trees_stay}
+use Rattle.mg_image_overlays.specs.Draw.{DrawsNumber, draw_sound as number_sound, tip_content as number_content}
+use Rattle.mg_image_overlays.specs.DrawPage.{DrawsPage, draw_sound as page_sound, page_same as page_there, tip_content as page_content, tip_last as page_last}
+use Rattle.mg_image_overlays.specs.TakePart.{OccupiesPage, keeps_linked, off, taken_whole}
 use Rattle.mg_pool.specs.Pool.{shown}
 use Rattle.mg_pool.specs.declared.pool.Pool.{Pool}
 use Rattle.mg_space.specs.View.{viewed}
-use Rattle.mg_space_ties.specs.Changed.{changed_batches_are}
+use Rattle.mg_ties.specs.Changed.{changed_batches_are}
 use Rattle.mg_txlist.specs.Drawing.{AddsPage, DrawsOn, RaisesHead, on_last, on_new}
 use Rattle.mg_txlist.specs.TxList.{next_said}
-use Rattle.mg_txlist_ties.specs.DrawTies.{DrawsFrom, draws_number, its_sequence, next_last, raised_is, raised_next, same_last, tip_draws, tip_occupied, with_header}
+use Rattle.mg_ties.specs.DrawTies.{DrawsFrom, draws_number, its_sequence, next_last, raised_is, raised_next, same_last, tip_draws, tip_occupied, with_header}
 use Rattle.mg_space.specs.Taking.{TakesPage, region_of}
 use Rattle.mg_txlist.specs.declared.list.TipPage.{TipPage}
 use Rattle.mg_txlist.specs.declared.list.TxList.{TxList}

@@ -22,7 +22,7 @@ use Rattle.mg_image.specs.Form.{Form}
 use Rattle.mg_image.specs.RecordRules.{Each, EachBack, Facts, table_in}
 use Rattle.mg_image.specs.Records.{Reading, record_key, writer}
 use Rattle.mg_image.specs.Sound.{facts_by}
-use Rattle.mg_kept_images.specs.Fronts.{is_dead}
+use Rattle.mg_image_overlays.specs.Fronts.{is_dead}
 use Rattle.mg_overlays.specs.Overlays.{left_state}
 use Rattle.mg_engine_steps.specs.ChainLaws.{erased_still}
 use Rattle.mg_engine_steps.specs.Ending.{Dies, GoesWithTable, StaysRecord, VersionsDie, WritesShow}

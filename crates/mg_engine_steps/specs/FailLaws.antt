@@ -16,7 +16,7 @@ use Rattle.mg_model.specs.History.{Ends, Entries, Entry, effect_of, effect_with,
 use Rattle.mg_model.specs.Laws.{OpeningsBegin}
 use Rattle.mg_model.specs.Legal.{IsLawful, IsLegal, MayBegin, durable_count, with_asked}
 use Rattle.mg_image.specs.Form.{Form}
-use Rattle.mg_kept_images.specs.Kinds.{HasNoSequences}
+use Rattle.mg_image_overlays.specs.Kinds.{HasNoSequences}
 use Rattle.mg_pool.specs.Pool.{IsClosedOverlay, IsPool, KeepsContent, LeavesOverlays, WritesSet, cache_of, shown, taken_out}
 use Rattle.mg_pool.specs.Run.{HasWritten}
 use Rattle.mg_pool.specs.declared.fault.PoolFault.TheVariants as faults
@@ -27,7 +27,7 @@ use Rattle.mg_tip.specs.TipPage.{places}
 use Rattle.mg_txlist.specs.Ending.{ChangesBits, FailsCommit, FailsToSettle, not_changed, not_settled, not_written}
 use Rattle.mg_txlist.specs.TxList.{tip_in}
 use Rattle.mg_txlist.specs.declared.list.TxList.{TxList}
-use Rattle.mg_txlist_ties.specs.CommitTies.{ShowsTip}
+use Rattle.mg_ties.specs.CommitTies.{ShowsTip}
 use Rattle.mg_lasting.specs.CommitStatements.{CommitGoesMidway}
 use Rattle.mg_lasting.specs.CrashLaws.{from_longer}
 use Rattle.mg_lasting.specs.Crashes.{HoldsAcknowledged, HoldsFrom, LeavesHistory, LeavesSince}

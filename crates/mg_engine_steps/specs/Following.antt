@@ -18,7 +18,7 @@ use Rattle.mg_image.specs.Inventory.{next_of}
 use Rattle.mg_image.specs.Records.{Reading}
 use Rattle.mg_image.specs.Sound.{IsSoundBy}
 use Rattle.mg_image.specs.Tables.{Layout}
-use Rattle.mg_kept_images.specs.Fronts.{is_dead}
+use Rattle.mg_image_overlays.specs.Fronts.{is_dead}
 use Rattle.mg_overlays.specs.Overlays.{left_state}
 use Rattle.mg_engine_steps.specs.Standing.{FindsTables, Remembers, RemembersOne, ShowsHistory, ShowsIfKnown, Standing, Stands}
 

@@ -20,25 +20,25 @@ use Rattle.mg_image.specs.Form.{Form}
 use Rattle.mg_image.specs.Records.{Reading, cells_of}
 use Rattle.mg_image.specs.Sound.{IsSoundBy}
 use Rattle.mg_image.specs.Tables.{Layout, stands_of, table_at}
-use Rattle.mg_kept_images.specs.KeptImages.{IsKept}
+use Rattle.mg_image_overlays.specs.KeptImages.{IsKept}
 use Rattle.mg_overlays.specs.Overlays.{left_state}
-use Rattle.mg_table_overlays.specs.BackPart.{TakesOutPages}
-use Rattle.mg_table_overlays.specs.MovePart.{MovesPages}
-use Rattle.mg_table_overlays.specs.ReplacePart.{ReplacesPage}
-use Rattle.mg_record_overlays.specs.AddPart.{AddsPages}
-use Rattle.mg_record_overlays.specs.PushPart.{PushesPages}
-use Rattle.mg_table_overlays.specs.Growing.{EndsAt, Grows, TableEnd}
+use Rattle.mg_image_overlays.specs.BackPart.{TakesOutPages}
+use Rattle.mg_image_overlays.specs.MovePart.{MovesPages}
+use Rattle.mg_image_overlays.specs.ReplacePart.{ReplacesPage}
+use Rattle.mg_image_overlays.specs.AddPart.{AddsPages}
+use Rattle.mg_image_overlays.specs.PushPart.{PushesPages}
+use Rattle.mg_image_overlays.specs.Growing.{EndsAt, Grows, TableEnd}
 use Rattle.mg_pool.specs.Batch.{Changed}
 use Rattle.mg_pool.specs.Pool.{shown}
 use Rattle.mg_pool.specs.declared.pool.Pool.{Pool}
 use Rattle.mg_pool_overlays.specs.Needs.{Asked, Sessions}
-use Rattle.mg_space_ties.specs.Changed.{KeptIn}
+use Rattle.mg_ties.specs.Changed.{KeptIn}
 use Rattle.mg_lasting.specs.Crashes.{HoldsAcknowledged, LeavesSince, may_last}
 use Rattle.mg_lasting.specs.Lasting.{LastsOn}
 use Rattle.mg_engine_steps.specs.Following.{FollowsEntry}
 use Rattle.mg_engine_steps.specs.Standing.{Standing, Stands}
-use Rattle.mg_table_overlays.specs.Chains.{HasItsRow}
-use Rattle.mg_table_overlays.specs.DataKept.{KeepsBits}
+use Rattle.mg_image_overlays.specs.Chains.{HasItsRow}
+use Rattle.mg_image_overlays.specs.DataKept.{KeepsBits}
 use Rattle.mg_engine_steps.specs.Batches.{ChangesRow}
 use Rattle.mg_engine_steps.specs.Writes.{ReadsAfter, WritesVersion}
 

@@ -5,10 +5,10 @@ use Rattle.mg_model.specs.Laws.{OpeningsBegin}
 use Rattle.mg_model.specs.Machine.{next_number, state_of}
 use Rattle.mg_image.specs.Form.{Form}
 use Rattle.mg_image.specs.ReadingLaws.{RowsAreOne}
-use Rattle.mg_kept_images.specs.Kinds.{HasNoSequences}
-use Rattle.mg_kept_images.specs.KeptImages.{keeping}
+use Rattle.mg_image_overlays.specs.Kinds.{HasNoSequences}
+use Rattle.mg_image_overlays.specs.KeptImages.{keeping}
 use Rattle.mg_overlays.specs.BatchLaws.{good_of_pool}
-use Rattle.mg_space_ties.specs.Changed.{cache_over, needs_in}
+use Rattle.mg_ties.specs.Changed.{cache_over, needs_in}
 use Rattle.mg_lasting.specs.Crashes.{HoldsAcknowledged, LeavesSince}
 use Rattle.mg_lasting.specs.Lasting.{LastsOn}
 use Rattle.mg_lasting.specs.PoolLaws.{needs_are}

@@ -25,11 +25,11 @@ use Rattle.mg_image.specs.Form.{Pages, Row, packed_form}
 use Rattle.mg_image.specs.Held.{told_row}
 use Rattle.mg_image.specs.RecordRules.{Each, EachBack, Facts, table_in}
 use Rattle.mg_image.specs.Records.{Chain, Reading, cells_of, record_key, writer}
-use Rattle.mg_kept_images.specs.Fronts.{is_dead, living}
+use Rattle.mg_image_overlays.specs.Fronts.{is_dead, living}
 use Rattle.mg_overlays.specs.Overlays.{left_state}
 use Rattle.mg_model.specs.Openings.{everyone}
-use Rattle.mg_table_overlays.specs.Growing.{IsTableOf}
-use Rattle.mg_table_overlays.specs.OneTable.{one_table, table_at_stands}
+use Rattle.mg_image_overlays.specs.Growing.{IsTableOf}
+use Rattle.mg_image_overlays.specs.OneTable.{one_table, table_at_stands}
 use Rattle.mg_seek.specs.declared.whose.Wanted.TheVariants.{Living}
 use Rattle.mg_seek.specs.Histories.{AreItsPages, HasSpeaker, NothingIsThere, ObstaclesAreTold, RowsAreOfViews, SpeakersStand, IsStateTold, by_of, told_given, told_if, told_versions, versions_spoken}
 use Rattle.mg_seek.specs.Readings.{IsReadAt, SpeakersOfReadings}

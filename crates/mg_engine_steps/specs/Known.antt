@@ -19,14 +19,14 @@ use Rattle.mg_image.specs.RecordRules.{AreRecords, Facts}
 use Rattle.mg_image.specs.Records.{cells_of}
 use Rattle.mg_image.specs.Sound.{facts_by}
 use Rattle.mg_image.specs.Tables.{Layout, stands_of}
-use Rattle.mg_kept_images.specs.Fronts.{is_dead}
-use Rattle.mg_kept_images.specs.TableOwners.{IsOneOf}
+use Rattle.mg_image_overlays.specs.Fronts.{is_dead}
+use Rattle.mg_image_overlays.specs.TableOwners.{IsOneOf}
 use Rattle.mg_overlays.specs.Overlays.{left_by, left_state}
-use Rattle.mg_table_overlays.specs.Growing.{IsTableOf}
+use Rattle.mg_image_overlays.specs.Growing.{IsTableOf}
 use Rattle.mg_seek.specs.Histories.{BasesSeeAll, DieAlike}
 use Rattle.mg_engine_steps.specs.BasedLaws.{tests_all}
 use Rattle.mg_engine_steps.specs.Standing.{Remembers, ShowsHistory, Standing}
-use Rattle.mg_table_overlays.specs.OneTable.{stands_in}
+use Rattle.mg_image_overlays.specs.OneTable.{stands_in}
 use Rattle.mg_engine_steps.specs.Writes.{IsSilentAt}
 
 -- ---- definitions

@@ -11,16 +11,16 @@ use Rattle.mg_image.specs.Inventory.{last_sequence, next_of, tip_page}
 use Rattle.mg_image.specs.Records.{Reading}
 use Rattle.mg_image.specs.Sound.{IsSoundBy}
 use Rattle.mg_image.specs.Tables.{Layout}
-use Rattle.mg_kept_images.specs.DataPages.{ChangesData, last_same, tip_content as data_content, tip_same as data_tip}
-use Rattle.mg_kept_images.specs.Kinds.{HasNoSequences}
-use Rattle.mg_kept_images.specs.KeptImages.{IsBehind}
+use Rattle.mg_image_overlays.specs.DataPages.{ChangesData, last_same, tip_content as data_content, tip_same as data_tip}
+use Rattle.mg_image_overlays.specs.Kinds.{HasNoSequences}
+use Rattle.mg_image_overlays.specs.KeptImages.{IsBehind}
 use Rattle.mg_pool.specs.Pool.{shown}
 use Rattle.mg_pool.specs.declared.pool.Pool.{Pool}
 use Rattle.mg_txlist.specs.TxList.{KeepsBits, no_page, tip_in}
 use Rattle.mg_txlist.specs.declared.list.TipPage.{TipPage}
 use Rattle.mg_txlist.specs.declared.list.TxList.{TxList}
-use Rattle.mg_txlist_ties.specs.CommitTies.{ShowsTip}
-use Rattle.mg_txlist_ties.specs.DrawTies.{DrawsFrom}
+use Rattle.mg_ties.specs.CommitTies.{ShowsTip}
+use Rattle.mg_ties.specs.DrawTies.{DrawsFrom}
 use Rattle.mg_engine_steps.specs.TipPages.{SetsBits, next_same, page_is, other_page, tip_stays, within_last}
 
 -- the page of each number that was drawn

@@ -13,9 +13,9 @@ use Rattle.mg_generations.specs.After.{leaves_versions}
 use Rattle.mg_image.specs.Form.{Form}
 use Rattle.mg_image.specs.Inventory.{next_of}
 use Rattle.mg_image.specs.Sound.{IsSoundBy}
-use Rattle.mg_kept_images.specs.Begins.{Raises, begin_sound}
-use Rattle.mg_kept_images.specs.CommitSound.{commit_sound, committing}
-use Rattle.mg_kept_images.specs.Fronts.{is_dead}
+use Rattle.mg_image_overlays.specs.Begins.{Raises, begin_sound}
+use Rattle.mg_image_overlays.specs.CommitSound.{commit_sound, committing}
+use Rattle.mg_image_overlays.specs.Fronts.{is_dead}
 use Rattle.mg_overlays.specs.Overlays.{left_by, left_state}
 use Rattle.mg_engine_steps.specs.QuietPages.{BeginShows, CommitShows, IdleShows}
 use Rattle.mg_engine_steps.specs.ShowsLaws.{shows_on}

@@ -22,20 +22,20 @@ use Rattle.mg_image.specs.ReadingLaws.{RowsAreOne, chain_opens}
 use Rattle.mg_image.specs.Records.{Chain, Reading, Stands, cells_of, ended, goes, newest_of}
 use Rattle.mg_image.specs.Sound.{IsSoundBy}
 use Rattle.mg_image.specs.Tables.{Layout, stands_of, table_at}
-use Rattle.mg_kept_images.specs.Cuts.{chain_cell}
-use Rattle.mg_kept_images.specs.Kinds.{HasNoSequences}
-use Rattle.mg_kept_images.specs.Rest.{div_grows}
-use Rattle.mg_kept_images.specs.Trees.{data_leaves, trees_stay}
-use Rattle.mg_kept_images.specs.KeptImages.{IsBehind, IsKept}
-use Rattle.mg_table_overlays.specs.OneLayout.{sound_once}
-use Rattle.mg_record_overlays.specs.AddPart.{AddsPages}
-use Rattle.mg_record_overlays.specs.PushPart.{PushesPages}
-use Rattle.mg_table_overlays.specs.Growing.{EndsAt, Grows, IsTableOf, TableEnd}
-use Rattle.mg_table_overlays.specs.GrowingLaws.{StandsTo, grows_part, grows_pool, table_of_end}
-use Rattle.mg_table_overlays.specs.Knowing.{put_still}
-use Rattle.mg_table_overlays.specs.Chains.{HasItsRow, each_standing, read_beside, read_here, rows_were}
-use Rattle.mg_table_overlays.specs.DataKept.{IsDataChanged, KeepsBits, bits_more, data_more, data_self}
-use Rattle.mg_table_overlays.specs.LayoutStays.{chain_stays, layout_stays, page_leaves}
+use Rattle.mg_image_overlays.specs.Cuts.{chain_cell}
+use Rattle.mg_image_overlays.specs.Kinds.{HasNoSequences}
+use Rattle.mg_image_overlays.specs.Rest.{div_grows}
+use Rattle.mg_image_overlays.specs.Trees.{data_leaves, trees_stay}
+use Rattle.mg_image_overlays.specs.KeptImages.{IsBehind, IsKept}
+use Rattle.mg_image_overlays.specs.OneLayout.{sound_once}
+use Rattle.mg_image_overlays.specs.AddPart.{AddsPages}
+use Rattle.mg_image_overlays.specs.PushPart.{PushesPages}
+use Rattle.mg_image_overlays.specs.Growing.{EndsAt, Grows, IsTableOf, TableEnd}
+use Rattle.mg_image_overlays.specs.GrowingLaws.{StandsTo, grows_part, grows_pool, table_of_end}
+use Rattle.mg_image_overlays.specs.Knowing.{put_still}
+use Rattle.mg_image_overlays.specs.Chains.{HasItsRow, each_standing, read_beside, read_here, rows_were}
+use Rattle.mg_image_overlays.specs.DataKept.{IsDataChanged, KeepsBits, bits_more, data_more, data_self}
+use Rattle.mg_image_overlays.specs.LayoutStays.{chain_stays, layout_stays, page_leaves}
 use Rattle.mg_engine_steps.specs.Writes.{ReadsAfter}
 
 -- ---- what stands in a cell

@@ -18,18 +18,18 @@ use Rattle.mg_image.specs.Records.{Chain, Reading, Stands, cells_of, goes, newes
 use Rattle.mg_image.specs.Sound.{IsSoundBy}
 use Rattle.mg_image.specs.StepLaws.{cases_place, same_place}
 use Rattle.mg_image.specs.Tables.{Layout, stands_of, table_at}
-use Rattle.mg_kept_images.specs.Kinds.{HasNoSequences}
-use Rattle.mg_kept_images.specs.Trees.{data_leaves, trees_stay}
-use Rattle.mg_kept_images.specs.KeptImages.{IsKept}
-use Rattle.mg_table_overlays.specs.BackPart.{TakesOutPages}
-use Rattle.mg_table_overlays.specs.MovePart.{MovesPages}
-use Rattle.mg_table_overlays.specs.TakeOut.{back_cell, back_leads}
-use Rattle.mg_table_overlays.specs.Growing.{EndsAt, Grows, TableEnd}
-use Rattle.mg_table_overlays.specs.GrowingLaws.{StandsTo, grown_self}
-use Rattle.mg_table_overlays.specs.Knowing.{put_still}
-use Rattle.mg_table_overlays.specs.Chains.{HasItsRow, each_standing, read_beside, read_here}
-use Rattle.mg_table_overlays.specs.DataKept.{IsDataChanged, KeepsBits, bits_more, data_more, data_self}
-use Rattle.mg_table_overlays.specs.LayoutStays.{chain_stays, layout_stays, leaves_on, page_leaves}
+use Rattle.mg_image_overlays.specs.Kinds.{HasNoSequences}
+use Rattle.mg_image_overlays.specs.Trees.{data_leaves, trees_stay}
+use Rattle.mg_image_overlays.specs.KeptImages.{IsKept}
+use Rattle.mg_image_overlays.specs.BackPart.{TakesOutPages}
+use Rattle.mg_image_overlays.specs.MovePart.{MovesPages}
+use Rattle.mg_image_overlays.specs.TakeOut.{back_cell, back_leads}
+use Rattle.mg_image_overlays.specs.Growing.{EndsAt, Grows, TableEnd}
+use Rattle.mg_image_overlays.specs.GrowingLaws.{StandsTo, grown_self}
+use Rattle.mg_image_overlays.specs.Knowing.{put_still}
+use Rattle.mg_image_overlays.specs.Chains.{HasItsRow, each_standing, read_beside, read_here}
+use Rattle.mg_image_overlays.specs.DataKept.{IsDataChanged, KeepsBits, bits_more, data_more, data_self}
+use Rattle.mg_image_overlays.specs.LayoutStays.{chain_stays, layout_stays, leaves_on, page_leaves}
 use Rattle.mg_engine_steps.specs.Reads.{grown_bits, grown_of, grown_to, off_anchor, stands_version}
 use Rattle.mg_engine_steps.specs.ReadsOwn.{HasOwnNewest, behind_own, cell_was, newest_apart, no_other, older_off, older_stands, own_stands, rows_behind, slot_apart}
 use Rattle.mg_engine_steps.specs.Writes.{ReadsAfter}

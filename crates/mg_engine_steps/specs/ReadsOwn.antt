@@ -16,12 +16,12 @@ use Rattle.mg_image.specs.Records.{Chain, Reading, Stands, cells_of, goes, newes
 use Rattle.mg_image.specs.Sound.{IsSoundBy, facts_by}
 use Rattle.mg_image.specs.StepLaws.{cases_place, same_place}
 use Rattle.mg_image.specs.Tables.{Layout, stands_of, table_at}
-use Rattle.mg_kept_images.specs.Kinds.{HasNoSequences}
-use Rattle.mg_table_overlays.specs.ReplacePart.{ReplacesPage}
-use Rattle.mg_table_overlays.specs.GrowingLaws.{grown_self}
-use Rattle.mg_table_overlays.specs.Chains.{HasItsRow, each_standing, read_beside, read_here, rows_were}
-use Rattle.mg_table_overlays.specs.DataKept.{IsDataChanged, KeepsBits, data_more, data_self}
-use Rattle.mg_table_overlays.specs.LayoutStays.{chain_stays, layout_stays, page_leaves}
+use Rattle.mg_image_overlays.specs.Kinds.{HasNoSequences}
+use Rattle.mg_image_overlays.specs.ReplacePart.{ReplacesPage}
+use Rattle.mg_image_overlays.specs.GrowingLaws.{grown_self}
+use Rattle.mg_image_overlays.specs.Chains.{HasItsRow, each_standing, read_beside, read_here, rows_were}
+use Rattle.mg_image_overlays.specs.DataKept.{IsDataChanged, KeepsBits, data_more, data_self}
+use Rattle.mg_image_overlays.specs.LayoutStays.{chain_stays, layout_stays, page_leaves}
 use Rattle.mg_engine_steps.specs.Writes.{ReadsAfter}
 
 -- A record's slot leads to its newest version, which stands in a cell.

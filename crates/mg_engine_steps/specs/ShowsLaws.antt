@@ -16,7 +16,7 @@ use Rattle.mg_image.specs.RecordRules.{AreRecords, Each, Facts, IsVersion, table
 use Rattle.mg_image.specs.Records.{Cells, Reading, record_key, writer}
 use Rattle.mg_image.specs.Sound.{IsSoundBy, facts_by}
 use Rattle.mg_image.specs.Tables.{Layout, stands_of}
-use Rattle.mg_kept_images.specs.Fronts.{is_dead, living}
+use Rattle.mg_image_overlays.specs.Fronts.{is_dead, living}
 use Rattle.mg_overlays.specs.Overlays.{left_by, left_state}
 use Rattle.mg_engine_steps.specs.Following.{KeepsTables, ShowsOn}
 use Rattle.mg_engine_steps.specs.Standing.{FindsTables, HasFirstPage, Standing}

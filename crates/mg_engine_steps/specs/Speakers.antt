@@ -11,15 +11,15 @@ use Rattle.mg_model.specs.Legal.{is_limbo}
 use Rattle.mg_model.specs.ReadLaws.{same_name_itself}
 use Rattle.mg_model.specs.declared.table.Table.{Table}
 use Rattle.mg_catalog.specs.KeyLaws.{keys_equal, same_key_self}
-use Rattle.mg_held_images.specs.HeldSome.{limbo_true}
-use Rattle.mg_held_images.specs.Places.{HasPlace, has_place, places_of}
+use Rattle.mg_image_overlays.specs.HeldSome.{limbo_true}
+use Rattle.mg_image_overlays.specs.Places.{HasPlace, has_place, places_of}
 use Rattle.mg_image.specs.declared.entry.Entry.{Entry}
 use Rattle.mg_image.specs.Form.{Form, Pages, Row}
 use Rattle.mg_image.specs.RecordRules.{Facts, IsInLimbo, TakesKey, committed_in, table_in}
 use Rattle.mg_image.specs.Records.{Reading, record_key, shown, writer}
 use Rattle.mg_image.specs.Sound.{IsSoundBy, facts_by}
 use Rattle.mg_image.specs.Tables.{Layout, stands_of}
-use Rattle.mg_kept_images.specs.TableOwners.{one_of_name}
+use Rattle.mg_image_overlays.specs.TableOwners.{one_of_name}
 
 -- ---- a record that takes a key
 

@@ -11,7 +11,7 @@ use Rattle.mg_generations.specs.Generations.{Generation}
 use Rattle.mg_generations.specs.Kept.{StandFor}
 use Rattle.mg_image.specs.RecordRules.{Facts, table_in}
 use Rattle.mg_image.specs.Records.{Reading}
-use Rattle.mg_kept_images.specs.Fronts.{living}
+use Rattle.mg_image_overlays.specs.Fronts.{living}
 use Rattle.mg_seek.specs.Histories.{told_versions}
 use Rattle.mg_engine_steps.specs.Versions.{HaveVersions, IsRecordOf, SpeaksOrSilent}
 

@@ -22,8 +22,8 @@ use Rattle.mg_image.specs.RecordRules.{Each, EachBack, Facts, TakesKey, committe
 use Rattle.mg_image.specs.Records.{Change, Erases, Puts, Reading, change_in, key_of, record_key, shown, writer}
 use Rattle.mg_image.specs.Sound.{IsSoundBy, facts_by}
 use Rattle.mg_image.specs.Tables.{Layout}
-use Rattle.mg_kept_images.specs.Fronts.{is_dead}
-use Rattle.mg_kept_images.specs.TableOwners.{one_of_name, owned}
+use Rattle.mg_image_overlays.specs.Fronts.{is_dead}
+use Rattle.mg_image_overlays.specs.TableOwners.{one_of_name, owned}
 use Rattle.mg_engine_steps.specs.Speakers.{TakesHere, one_here}
 use Rattle.mg_seek.specs.Histories.{told_given, told_versions}
 use Rattle.mg_engine_steps.specs.Versions.{told_version}

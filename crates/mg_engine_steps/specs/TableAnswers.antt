@@ -32,12 +32,12 @@ use Rattle.mg_image.specs.Form.{Pages, Row, packed_coding}
 use Rattle.mg_image.specs.Held.{told_row}
 use Rattle.mg_image.specs.RecordRules.{Each, Facts, IsVersion, table_in}
 use Rattle.mg_image.specs.Records.{Chain, Reading, cells_of, key_of, record_key, shown, writer}
-use Rattle.mg_kept_images.specs.Fronts.{is_dead, living}
+use Rattle.mg_image_overlays.specs.Fronts.{is_dead, living}
 use Rattle.mg_image_openings.specs.Catalogs.{shape_named}
 use Rattle.mg_image_openings.specs.Told.{shape_told}
 use Rattle.mg_overlays.specs.Overlays.{left_state}
-use Rattle.mg_table_overlays.specs.Growing.{IsTableOf}
-use Rattle.mg_table_overlays.specs.OneTable.{stands_in}
+use Rattle.mg_image_overlays.specs.Growing.{IsTableOf}
+use Rattle.mg_image_overlays.specs.OneTable.{stands_in}
 use Rattle.mg_seek.specs.Readings.{RowsOfReadings}
 use Rattle.mg_seek.specs.Histories.{HasSpeaker}
 use Rattle.mg_seek.specs.TableRecords.{IsAmong, records_in}

@@ -7,11 +7,11 @@ use Rattle.mg_image.specs.Form.{Pages, packed_form}
 use Rattle.mg_image.specs.Records.{Reading}
 use Rattle.mg_image.specs.Sound.{HasTablePages, IsSoundBy, IsTablePointer, facts_by}
 use Rattle.mg_image.specs.Tables.{EachFrom, IsOnce, Layout, tree_pages}
-use Rattle.mg_kept_images.specs.Reach.{once_back, once_front}
-use Rattle.mg_page_overlays.specs.GrowPages.{once_mid}
-use Rattle.mg_table_overlays.specs.Growing.{IsTableOf}
-use Rattle.mg_table_overlays.specs.Knowing.{its_once, its_pages}
-use Rattle.mg_table_overlays.specs.OneTable.{its_data}
+use Rattle.mg_image_overlays.specs.Reach.{once_back, once_front}
+use Rattle.mg_image_overlays.specs.GrowPages.{once_mid}
+use Rattle.mg_image_overlays.specs.Growing.{IsTableOf}
+use Rattle.mg_image_overlays.specs.Knowing.{its_once, its_pages}
+use Rattle.mg_image_overlays.specs.OneTable.{its_data}
 use Rattle.mg_seek.specs.Histories.{AreItsPages}
 
 module _ (size : ℕ) (state : ℕ → TxState) (pages : Pages) (layout : Layout) (r : Reading)

@@ -17,17 +17,17 @@ use Rattle.mg_image.specs.Reached.{IsAsWanted, tips_below, tips_of}
 use Rattle.mg_image.specs.Records.{Reading}
 use Rattle.mg_image.specs.Sound.{IsSoundBy}
 use Rattle.mg_image.specs.Tables.{Has, IsOnce, Layout, pages_of, stands_of}
-use Rattle.mg_kept_images.specs.Bits.{ChangesTip, bits_sound, header_same, tip_same, used_same}
-use Rattle.mg_kept_images.specs.DataPages.{kind_of}
-use Rattle.mg_kept_images.specs.DataSound.{KeepsTrees}
-use Rattle.mg_kept_images.specs.Kinds.{HasNoSequences}
-use Rattle.mg_kept_images.specs.Rest.{div_grows}
-use Rattle.mg_kept_images.specs.Trees.{trees_stay}
-use Rattle.mg_kept_images.specs.Reach.{once_front}
+use Rattle.mg_image_overlays.specs.Bits.{ChangesTip, bits_sound, header_same, tip_same, used_same}
+use Rattle.mg_image_overlays.specs.DataPages.{kind_of}
+use Rattle.mg_image_overlays.specs.DataSound.{KeepsTrees}
+use Rattle.mg_image_overlays.specs.Kinds.{HasNoSequences}
+use Rattle.mg_image_overlays.specs.Rest.{div_grows}
+use Rattle.mg_image_overlays.specs.Trees.{trees_stay}
+use Rattle.mg_image_overlays.specs.Reach.{once_front}
 use Rattle.mg_txlist.specs.TxList.{tip_in}
 use Rattle.mg_txlist.specs.declared.list.TxList.{TxList}
-use Rattle.mg_txlist_ties.specs.CommitTies.{ShowsTip}
-use Rattle.mg_page_overlays.specs.Midway.{IsDrawnPlace}
+use Rattle.mg_ties.specs.CommitTies.{ShowsTip}
+use Rattle.mg_image_overlays.specs.Midway.{IsDrawnPlace}
 
 -- ---- pages of transactions are apart
 

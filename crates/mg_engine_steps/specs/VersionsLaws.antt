@@ -14,7 +14,7 @@ use Rattle.mg_generations.specs.Kept.{IsErasedForAll, StandFor}
 use Rattle.mg_image.specs.declared.entry.Entry.{Entry as Read}
 use Rattle.mg_image.specs.RecordRules.{Facts}
 use Rattle.mg_image.specs.Records.{Reading}
-use Rattle.mg_kept_images.specs.Fronts.{living}
+use Rattle.mg_image_overlays.specs.Fronts.{living}
 use Rattle.mg_engine_steps.specs.ChainLaws.{erased_still, left_as_before, stand_goes_on}
 use Rattle.mg_engine_steps.specs.StandingLaws.{IsChainOf, VersionsFollow, VersionsStay}
 use Rattle.mg_seek.specs.Histories.{told_versions}

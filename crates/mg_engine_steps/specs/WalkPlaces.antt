@@ -11,8 +11,8 @@ use Rattle.mg_image.specs.Tables.{EachFrom, Has, Layout}
 use Rattle.mg_model.specs.declared.table.Table.{Table}
 use Rattle.mg_seek.specs.Walks.{StandsAt}
 use Rattle.mg_slots.specs.declared.page.TheConstants.{DATA_KIND}
-use Rattle.mg_table_overlays.specs.Growing.{IsTableOf}
-use Rattle.mg_table_overlays.specs.Knowing.{its_pages}
+use Rattle.mg_image_overlays.specs.Growing.{IsTableOf}
+use Rattle.mg_image_overlays.specs.Knowing.{its_pages}
 use Rattle.mg_engine_steps.specs.Walking.{HasAt, StandsInTurn, WalkPlace, rec_of}
 
 -- ---- what stands at a place of a list is in it

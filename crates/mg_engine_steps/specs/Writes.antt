@@ -20,7 +20,7 @@ use Rattle.mg_image.specs.Records.{Reading, key_of, writer}
 use Rattle.mg_image.specs.Sound.{IsSoundBy, facts_by}
 use Rattle.mg_image.specs.Tables.{Layout, stands_of, table_at}
 use Rattle.mg_overlays.specs.Overlays.{left_state}
-use Rattle.mg_table_overlays.specs.Growing.{HasGrown}
+use Rattle.mg_image_overlays.specs.Growing.{HasGrown}
 use Rattle.mg_engine_steps.specs.Following.{FollowsEntry}
 use Rattle.mg_engine_steps.specs.StandingLaws.{IsChainOf}
 use Rattle.mg_engine_steps.specs.Standing.{ShowsHistory, Standing, Stands}

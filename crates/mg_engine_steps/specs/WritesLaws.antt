@@ -29,9 +29,9 @@ use Rattle.mg_image.specs.RecordRules.{Facts, table_in}
 use Rattle.mg_image.specs.Records.{Reading, record_key, writer}
 use Rattle.mg_image.specs.Sound.{IsSoundBy, facts_by}
 use Rattle.mg_image.specs.Tables.{Layout, Stand, stands_of}
-use Rattle.mg_kept_images.specs.Fronts.{is_dead, living}
+use Rattle.mg_image_overlays.specs.Fronts.{is_dead, living}
 use Rattle.mg_overlays.specs.Overlays.{left_by, left_state}
-use Rattle.mg_table_overlays.specs.Growing.{HasGrown, IsTableOf}
+use Rattle.mg_image_overlays.specs.Growing.{HasGrown, IsTableOf}
 use Rattle.mg_engine_steps.specs.EndingLaws.{writes_show}
 use Rattle.mg_engine_steps.specs.Following.{FollowsEntry, StandsOn}
 use Rattle.mg_engine_steps.specs.StandingLaws.{IsChainOf}
@@ -42,7 +42,7 @@ use Rattle.mg_seek.specs.Histories.{told_versions}
 use Rattle.mg_engine_steps.specs.Versions.{HaveVersions, told_version}
 use Rattle.mg_engine_steps.specs.Writing.{WritesKey, WritesRecord}
 use Rattle.mg_engine_steps.specs.WritingLaws.{erased_may_be_silent}
-use Rattle.mg_table_overlays.specs.OneTable.{table_at_stands}
+use Rattle.mg_image_overlays.specs.OneTable.{table_at_stands}
 use Rattle.mg_engine_steps.specs.Writes.{StaysBehind, WritesShow, WritesStand, WritesVersion, made, pushed, replaced}
 
 -- ---- tables, where a layout has grown

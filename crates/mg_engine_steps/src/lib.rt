@@ -1,4 +1,6 @@
-//! What an engine has in memory and on its pages stands for a history, and each step takes it on.
+//! The steps of an engine, one batch of pages and one entry of a history after another: what stands and what transactions find before and after them.
+//!
+//! # What an engine has in memory and on its pages stands for a history, and each step takes it on
 //!
 //! Owns:
 //!
@@ -11,25 +13,104 @@
 //!
 //! None of these names a call's program. There is no program here: each function does nothing, and its contract is a law.
 //!
+//! # Records are written and taken back at an engine that stands for a history
+//!
+//! Owns:
+//!
+//! - `writes`: from a call of version chains to an engine that stands for the history with the entry.
+//! - `backs`: what a transaction takes back, key by key: the cache and the pages in between, and at the end.
+//! - `fronts`: each table has the data pages that it had, in their order, and more, after each kind of batch.
+//!
+//! # A transaction takes back tables that it has made, as laws
+//!
+//! Owns:
+//!
+//! - `rows`: of catalog rows alone: where whole tables go from them, the rows that are left are lawful and name the other
+//!   tables (`TablesAreLeft`). And the rows that go are of whole tables, if the keys are that the transaction has changed
+//!   (`GoneAreWhole`): that of a column goes where that of its table does, and none is of an index.
+//! - `pages`: the law from the pages before, in which the maker counts as in limbo, and those after, in which it counts
+//!   as dead, to those after in which it counts as in limbo: they are sound, and have all that was read before but for
+//!   the tables that have gone (`LeftAreSound`); and they are what they have to be for the history without those rows
+//!   (`LeftAreKept`).
+//! - `batches`: several records are taken out in one batch, one after another (`TakesRecordsOut`), rows of the catalog
+//!   with whole tables of theirs: every overlay is kept for the history without them (`TakenTablesKeep`). The steps are
+//!   taken with the maker dead, and the last one is the law of `pages`, which has what it wants of the batch by
+//!   `OutsThere`. With the maker dead the pages keep their layout, and each record reads as it did or has gone
+//!   (`OutsAreRead`). What `take_rows_out` of mg_table_unmaking takes out is such a batch (`RowsAreTaken`).
+//! - `histories`: a transaction has no change left of a table whose row it has taken back (`ChangedAreThere`), and sees the
+//!   tables that it saw but for these (`ShapesLeft`).
+//! - `shown`: the pages after show the history with the entry (`ShowsLeft`); so the batch is the last step on the way back
+//!   to a point, after which nothing is left to take back (`TablesGoBack`).
+//! - `engines`: the engine stands for the history with the entry then (`EnginesTakeTables`).
+//!
+//! So all rows of the catalog since a point go in one batch, after the keys of all other tables: no overlay has half a
+//! table.
+//!
+//! # Tables by their names, and walks
+//!
+//! Tables and walks of an engine that stands for a history: which tables stand on its pages, and that each active
+//! transaction finds its own there and walks on.
+//!
+//! Owns:
+//!
+//! - `tables`: under which names tables stand (`NamedTablesStand`), and that each active transaction finds its own after a
+//!   begin, a look, an idle entry and the commit of another.
+//! - `seen`, `found`: what a transaction sees of a catalog whose rows are only made stands newest, so the table that it
+//!   finds under a name stands on the pages (`FoundTablesStand`), however old its base is.
+//! - `lawful`: the rows of the catalog that a transaction sees are lawful (`SeenRowsAreLawful`), however old its base is.
+//! - `walks`: the walks of a transaction go on although others begin, end or write.
+//!
+//! There is no program here: each function does nothing, and its contract is a law.
+//!
 //! Invariant: none, it keeps no state.
-//! Below: `mg_generations`, the versions of a key; `mg_seek`, what is found by the pages; `mg_chain`, `mg_waits`,
-//! `mg_undo`; `mg_lasting`, what overlays have to be and what crashes leave; `mg_table_overlays` and the ties, which say
-//! that every overlay is kept. Above: the laws on calls, and the engine.
-//! Not here: which tables a transaction sees as it begins or looks (`mg_engine_tables`), and a rollback
-//! (`mg_engine_meaning`).
+//! Below: `mg_core` and the layers under it; `mg_ties`, of their batches. Above: `mg_engine_meaning`, of what an engine stands for; `mg_engine_changes`.
+//! Not here: whole calls.
 #![tactic(auto)]
 
 mod answers;
+mod backs;
+mod batches;
 mod commits;
+mod engines;
 mod entries;
+mod found;
+mod fronts;
+mod histories;
+mod lawful;
+mod pages;
+mod rows;
+mod seen;
+mod shown;
 mod standing;
 mod steps;
+mod tables;
+mod walks;
+mod writes;
 
 pub use answers::{keys_are_answered, tables_are_answered, walks_are_answered};
+pub use backs::{changes_are_taken_back, engines_go_back, pages_show_what_is_taken_back};
+pub use batches::{
+    rows_are_taken, taken_tables_are_read, taken_tables_are_there, taken_tables_keep,
+};
 pub use commits::{commits_fail, commits_go_on, lists_go_on, page_writes_go_on, tips_stay};
+pub use engines::engines_take_tables;
 pub use entries::{begins_go_on, draws_stay_sound, entries_go_on};
+pub use found::found_tables_stand;
+pub use fronts::tables_keep_pages;
+pub use histories::{changed_tables_are_there, left_tables_are_seen};
+pub use lawful::{databases_are_lawful, seen_rows_are_lawful};
+pub use pages::left_tables_stand;
+pub use rows::{gone_tables_are_whole, tables_are_left};
+pub use seen::newest_are_seen;
+pub use shown::{left_tables_are_shown, tables_go_back};
 pub use standing::{
     chains_go_on, memory_follows, pages_go_on, quiet_pages_go_on, standings_begin, standings_go_on,
     tests_tell_whom_all_see, versions_go_on,
 };
 pub use steps::{batches_last, records_are_read, writes_go_on, writes_stand};
+pub use tables::{bases_have_tables, named_tables_stand, tables_are_found};
+pub use walks::{others_take_alike, walks_go_alike};
+pub use writes::{
+    deads_go, firsts_go_on, pushes_go_on, records_are_free, replacements_go_on, spots_stay,
+    unasking_lasts,
+};

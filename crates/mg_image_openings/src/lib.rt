@@ -11,7 +11,7 @@
 //! program here: the function does nothing, and its contract is the law.
 //!
 //! Invariant: none, it keeps no state.
-//! Below: `mg_held_images`, what a sound image holds. Above: the engine, which opens images.
+//! Below: `mg_image_overlays`, what a sound image holds. Above: the engine, which opens images.
 #![tactic(auto)]
 
 mod laws;

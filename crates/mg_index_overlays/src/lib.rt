@@ -2,7 +2,7 @@
 //! there what it found in the overlay from which it comes.
 //!
 //! Owns: the indexes of an image as a list of trees (`trees_in`), that share no page (`AreIndexes`);
-//! that each has its tree in every overlay (`EveryIndex`), beside what `mg_kept_images` keeps of
+//! that each has its tree in every overlay (`EveryIndex`), beside what `mg_image_overlays` keeps of
 //! records; and what a batch is to all indexes at once (`ChangesIndexes`): a row of steps of each.
 //! An insertion into one index, with its splits up to the root, is such a row of that index, and for
 //! each other one it is a change beside it. So are the entries of all indexes of one row, its data

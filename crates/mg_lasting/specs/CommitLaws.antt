@@ -12,13 +12,13 @@ use Rattle.mg_model.specs.History.{Entries, Entry}
 use Rattle.mg_model.specs.Machine.{state_of}
 use Rattle.mg_image.specs.Form.{Form}
 use Rattle.mg_image.specs.Inventory.{next_of, state_at}
-use Rattle.mg_kept_images.specs.Kinds.{HasNoSequences}
-use Rattle.mg_kept_images.specs.KeptImages.{IsKept, keeping}
+use Rattle.mg_image_overlays.specs.Kinds.{HasNoSequences}
+use Rattle.mg_image_overlays.specs.KeptImages.{IsKept, keeping}
 use Rattle.mg_overlays.specs.BatchLaws.{lays, overlay_is}
 use Rattle.mg_overlays.specs.Overlays.{ChangesCache, before, left_state, nobody}
-use Rattle.mg_record_overlays.specs.CutEvery.{IsOnePage}
-use Rattle.mg_page_overlays.specs.Midway.{EveryMidway}
-use Rattle.mg_page_overlays.specs.MidwayLaws.{commit_changes_every, midway_writes, midway_written}
+use Rattle.mg_image_overlays.specs.CutEvery.{IsOnePage}
+use Rattle.mg_image_overlays.specs.Midway.{EveryMidway}
+use Rattle.mg_image_overlays.specs.MidwayLaws.{commit_changes_every, midway_writes, midway_written}
 use Rattle.mg_lasting.specs.Bits.{IsSettled, bits_behind, settled_drawn}
 use Rattle.mg_lasting.specs.CommitStatements.{CommitGoesMidway, MidwayIsWritten, MidwayWritesLast}
 use Rattle.mg_lasting.specs.Entries.{brings_changes, end_here, end_next, end_others}

@@ -8,10 +8,10 @@ use Rattle.mg_model.specs.declared.opening.Opening.{Opening}
 use Rattle.mg_model.specs.History.{Ends, Entries, Entry, effect_of}
 use Rattle.mg_model.specs.Machine.{state_of}
 use Rattle.mg_image.specs.Form.{Form}
-use Rattle.mg_kept_images.specs.Bits.{ChangesTip}
+use Rattle.mg_image_overlays.specs.Bits.{ChangesTip}
 use Rattle.mg_overlays.specs.Overlays.{ChangesCache, KeepsNeeds, NeedsOrGone, WritesPages}
-use Rattle.mg_record_overlays.specs.CutEvery.{IsOnePage}
-use Rattle.mg_page_overlays.specs.Midway.{IsDrawnPlace}
+use Rattle.mg_image_overlays.specs.CutEvery.{IsOnePage}
+use Rattle.mg_image_overlays.specs.Midway.{IsDrawnPlace}
 use Rattle.mg_lasting.specs.Lasting.{Lasts, LastsMidway}
 use Rattle.mg_lasting.specs.Laws.{AreNeeds, ArePoolBits}
 

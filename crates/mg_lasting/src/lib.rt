@@ -17,7 +17,7 @@
 //! `Bits` prove it. There is no program here: each function does nothing, and its contract is a law.
 //!
 //! Invariant: none, it keeps no state.
-//! Below: `mg_kept_images` and the crates of batches, what an overlay has to be; `mg_page_overlays`, the
+//! Below: `mg_image_overlays` and the crates of batches, what an overlay has to be; `mg_image_overlays`, the
 //! bits of a commit; `mg_pool_overlays`, the cache. Above: the engine, whose invariant over a told disk it
 //! is.
 //! Not here: what is in memory, and the versions of each key.

@@ -9,7 +9,7 @@ use Rattle.mg_image.specs.declared.entry.Entry.{Entry}
 use Rattle.mg_model.specs.Catalog.{catalog_name, catalog_shape}
 use Rattle.mg_model.specs.NewDatabase.{kv_name}
 use Rattle.mg_model.specs.declared.table.Table.{Table}
-use Rattle.mg_new_cells.specs.Data.{stand_on, table_on}
+use Rattle.mg_new_databases.specs.Data.{stand_on, table_on}
 use Rattle.mg_value.specs.declared.shape.Column.{Column}
 use Rattle.mg_value.specs.declared.shape.Kind.TheVariants as kinds
 use Rattle.mg_value.specs.declared.shape.Shape.{Shape}

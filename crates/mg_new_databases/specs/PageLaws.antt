@@ -21,10 +21,10 @@ use Rattle.mg_slots.specs.DataPage.{cell_of}
 use Rattle.mg_space.specs.TakingLaws.{page_sizes}
 use Rattle.mg_tip.specs.TipPage.{places}
 use Rattle.mg_version.specs.Cells.{cell_bytes}
-use Rattle.mg_new_cells.specs.CatalogLaws.{catalog_cell, catalog_past}
-use Rattle.mg_new_cells.specs.EmptyLaws.{new_are_empty}
-use Rattle.mg_new_cells.specs.RowLaws.{key_body_is, table_body_is, value_body_is}
-use Rattle.mg_new_images.specs.HeaderLaws.{catalog_is, last_tip_is, next_is}
+use Rattle.mg_new_databases.specs.CatalogCellLaws.{catalog_cell, catalog_past}
+use Rattle.mg_new_databases.specs.EmptyLaws.{new_are_empty}
+use Rattle.mg_new_databases.specs.RowCellLaws.{key_body_is, table_body_is, value_body_is}
+use Rattle.mg_new_databases.specs.HeaderLaws.{catalog_is, last_tip_is, next_is}
 use Rattle.mg_new_databases.specs.NewDatabase.{Bodies, catalog_slot, cell_at, new_layout}
 use Rattle.mg_new_databases.specs.RecordLaws.{IsNewImage}
 

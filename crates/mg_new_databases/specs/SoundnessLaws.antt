@@ -9,9 +9,9 @@ use Rattle.mg_image.specs.Records.{cells_of}
 use Rattle.mg_image.specs.Sound.{IsSound, facts_of}
 use Rattle.mg_model.specs.Catalog.{catalog_name, catalog_shape}
 use Rattle.mg_model.specs.NewDatabase.{kv_name}
-use Rattle.mg_new_cells.specs.PageLaws.{new_have_tables}
-use Rattle.mg_new_images.specs.ReadableLaws.{new_are_readable}
-use Rattle.mg_new_images.specs.TransactionLaws.{new_are_undrawn, new_are_used, new_have_inventory}
+use Rattle.mg_new_databases.specs.PageCellLaws.{new_have_tables}
+use Rattle.mg_new_databases.specs.ReadableLaws.{new_are_readable}
+use Rattle.mg_new_databases.specs.TransactionLaws.{new_are_undrawn, new_are_used, new_have_inventory}
 use Rattle.mg_new_databases.specs.NameLaws.{new_indexed, new_names, new_own_tables}
 use Rattle.mg_new_databases.specs.NewDatabase.{kv_shape, new_layout, new_reading}
 use Rattle.mg_new_databases.specs.PageLaws.{bodies, catalog_at, least, new_image, new_once, none_in_limbo}

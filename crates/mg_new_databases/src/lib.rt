@@ -1,4 +1,26 @@
-//! A new database is sound, whatever its page size, and holds the table KV, empty.
+//! Why a new database is sound, opens, and holds a history in which nothing has happened.
+//!
+//! # What is read of a new database, whose rows are packed, at each page size
+//!
+//! Owns: its header and its page of transactions pass their tests (`NewAreReadable`), so an opening that has just made
+//! a database reads it; its seven pages are marked as used, its inventory has the page of the first region alone, and no
+//! transaction has become anything but the system's (`NewAreUsed`, `NewHaveInventory`, `NewAreUndrawn`); its two tables
+//! have one pointer page and one data page each (`NewHavePointers`).
+//!
+//! `specs/Readable` has what counts, the other files prove it. There is no program here: each function does nothing, and
+//! its contract is a law.
+//!
+//! # What the data pages of a new database hold, at each page size
+//!
+//! Owns: cells that are put into a page one below the other stand in it, and such a page is lawful (`HasCells`,
+//! `DataLaws`). So the data page of the catalog is one, and each of its cells is spelled as one (`NewHaveCatalog`); and
+//! the data page of KV is one of that table, and has no cell (`NewAreEmpty`). So both tables stand on one pointer page
+//! and one data page each (`NewHaveTables`).
+//!
+//! `specs/Data` has what counts, the other files prove it. There is no program here: each function does nothing, and
+//! its contract is a law.
+//!
+//! # A new database is sound, whatever its page size, and holds the table KV, empty
 //!
 //! Owns: where the catalog and KV of a new database stand, and what is read of them (`new_layout`, `new_reading`); that
 //! its image is sound (`NewAreSound`), and what opening it gives (`NewAreOpened`). The rows of its catalog are packed, in
@@ -10,12 +32,19 @@
 //! (`PageLaws`), and all together (`SoundnessLaws`, `HeldLaws`). There is no program here: each function does nothing,
 //! and its contract is a law.
 //!
+//! There is no program here: each function does nothing, and its contract is a law.
+//!
 //! Invariant: none, it keeps no state.
-//! Below: `mg_new_images` and `mg_new_cells`, which tell the pages of a new database; `mg_image`, which says byte for
-//! byte what they are. Above: `mg_engine_calls`, where an engine that has made a database stands for its history.
-//! Not here: who writes the pages (`mg_format`).
+//! Below: `mg_format`, which makes it. Above: `mg_runs`.
+//! Not here: the making of a file.
 #![tactic(auto)]
 
-mod laws;
+mod cells;
+mod databases;
+mod images;
 
-pub use laws::{disks_in_memory_are_whole, new_databases_are_sound};
+pub use cells::{new_databases_have_data_pages, new_databases_have_table_pages};
+pub use databases::{disks_in_memory_are_whole, new_databases_are_sound};
+pub use images::{
+    new_databases_are_readable, new_databases_have_no_transactions, new_databases_have_two_tables,
+};

@@ -7,12 +7,12 @@ use Rattle.mg_catalog.specs.LawfulLaws.{column_lawful, table_lawful}
 use Rattle.mg_catalog.specs.TableLaws.{some_shape}
 use Rattle.mg_image.specs.RecordRules.{allowing_null, columns_for, erased_from}
 use Rattle.mg_image.specs.Tables.{Stand}
-use Rattle.mg_kept_images.specs.TableOwners.{IsOneOf, one_each}
+use Rattle.mg_image_overlays.specs.TableOwners.{IsOneOf, one_each}
 use Rattle.mg_model.specs.Catalog.{CatalogRows, catalog_shape, column_key, columns_said, count_said, is_key_row, key_said, said_b, said_c, says_key, with_column}
 use Rattle.mg_model.specs.CatalogRules.{IsCatalog, IsKeyColumn, IsTable, IsTableRow}
 use Rattle.mg_model.specs.Changes.{Cells}
 use Rattle.mg_model.specs.declared.table.Table.{Table}
-use Rattle.mg_table_overlays.specs.OneTable.{one_standing}
+use Rattle.mg_image_overlays.specs.OneTable.{one_standing}
 use Rattle.mg_value.specs.Rows.{RowFits, columns_of}
 use Rattle.mg_value.specs.declared.shape.Column.{Column}
 use Rattle.mg_value.specs.declared.value.Value.{Value}

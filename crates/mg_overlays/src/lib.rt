@@ -13,11 +13,11 @@
 //!
 //! All stands in `specs/`: the definitions in `Overlays`, and in `Views` for batches of several
 //! pages; the laws in `Laws`; `BatchLaws` and `StateLaws` prove them. There is no function here, since
-//! a contract speaks of no statement that is left open: `mg_kept_images` has them as contracts, of
+//! a contract speaks of no statement that is left open: `mg_image_overlays` has them as contracts, of
 //! what it says an image has to be.
 //!
 //! Invariant: none, it keeps no state.
-//! Below: `mg_careful`, closed sets and overlays. Above: `mg_kept_images`, which says what an overlay
+//! Below: `mg_careful`, closed sets and overlays. Above: `mg_image_overlays`, which says what an overlay
 //! has to be, and `mg_pool_overlays`, which ties the laws to the page cache.
 //! Not here: pages, records, and the page cache that writes them.
 #![tactic(auto)]

@@ -6,7 +6,7 @@ use Rattle.mg_base.specs.Disk.{Meaning, Rose}
 use Rattle.mg_base.specs.Image.{Image}
 use Rattle.mg_base.specs.Moments.{LeavesOnly}
 use Rattle.mg_base.specs.Streams.{SinkMeaning, SourceMeaning}
-use Rattle.mg_engine_calls.specs.Openings.{IsSettledOn}
+use Rattle.mg_engine_meaning.specs.Openings.{IsSettledOn}
 use Rattle.mg_fuse.specs.Counting.{AsksExactly}
 use Rattle.mg_fuse.specs.Stopped.{IsNewlyStopped, StoppedDisksAreAskedForNoMore, StopsWithin, blown_of, inner_of, stopped_meaning}
 use Rattle.mg_fuse.specs.declared.stopped.Stopped.{Stopped}

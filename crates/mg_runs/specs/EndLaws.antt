@@ -7,9 +7,9 @@ use Rattle.mg_base.specs.Moments.{LeavesOnly, joined, leaves_as}
 use Rattle.mg_base.specs.Streams.{SinkMeaning}
 use Rattle.mg_core.specs.Cores.{IsCore}
 use Rattle.mg_core.specs.declared.parts.Core.{Core}
-use Rattle.mg_engine_calls.specs.Closings.{ClosesEngine, HasLeft, RefusesClose}
-use Rattle.mg_engine_calls.specs.NewBegins.{NewBegin}
-use Rattle.mg_engine_calls.specs.Openings.{IsOpenedOver}
+use Rattle.mg_engine_meaning.specs.Closings.{ClosesEngine, HasLeft, RefusesClose}
+use Rattle.mg_engine_meaning.specs.NewBegins.{NewBegin}
+use Rattle.mg_engine_meaning.specs.Openings.{IsOpenedOver}
 use Rattle.mg_engine_meaning.specs.LawfulLaws.{left_of, opening_of}
 use Rattle.mg_engine_meaning.specs.Meaning.{Places, means}
 use Rattle.mg_engine_meaning.specs.Standings.{StandsFor}

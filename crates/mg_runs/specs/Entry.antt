@@ -3,7 +3,7 @@ use Rattle.std.specs.Prelude.{◌≡◌, ℕ, true, Some}
 use Rattle.mg_base.specs.Disk.{Meaning}
 use Rattle.mg_base.specs.Geometry.{is_page_size}
 use Rattle.mg_base.specs.Image.{Image}
-use Rattle.mg_engine_calls.specs.Openings.{BeginsWith, IsSettledOn, new_history}
+use Rattle.mg_engine_meaning.specs.Openings.{BeginsWith, IsSettledOn, new_history}
 use Rattle.mg_format.specs.Format.{IsUnmadeImage}
 use Rattle.mg_model.specs.declared.opening.Opening.{Opening}
 use Rattle.mg_new_databases.specs.Soundness.{HasWholePages}

@@ -5,8 +5,8 @@ use Rattle.mg_base.specs.Disk.{Meaning}
 use Rattle.mg_base.specs.Geometry.{is_page_size}
 use Rattle.mg_base.specs.Image.{Image, page_at}
 use Rattle.mg_base.specs.MemDisk.{acts_in}
-use Rattle.mg_engine_calls.specs.Closings.{HasLeft}
-use Rattle.mg_engine_calls.specs.ComposeLaws.{begins_with, goes_on_from}
+use Rattle.mg_engine_meaning.specs.Closings.{HasLeft}
+use Rattle.mg_engine_meaning.specs.ComposeLaws.{begins_with, goes_on_from}
 use Rattle.mg_grown_catalogs.specs.Grown.{CatalogGrows, OwnRowsAreNew}
 use Rattle.mg_image.specs.Form.{packed_form}
 use Rattle.mg_image_openings.specs.Begun.{begun}

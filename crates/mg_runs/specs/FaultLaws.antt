@@ -6,7 +6,7 @@ use Rattle.mg_core.specs.declared.parts.Core.{Core}
 use Rattle.mg_database.specs.Preparing.{FailsToPrepare, no_memory, unasked, unmade}
 use Rattle.mg_database.specs.declared.fault.OpenFault.{OpenFault}
 use Rattle.mg_database.specs.declared.fault.OpenFault.TheVariants.{NotADatabase, Space}
-use Rattle.mg_engine_calls.specs.Closings.{RefusesClose}
+use Rattle.mg_engine_meaning.specs.Closings.{RefusesClose}
 use Rattle.mg_engine_meaning.specs.Meaning.{Places, means}
 use Rattle.mg_model.specs.declared.refusal.Refusal.{Refusal}
 use Rattle.mg_model.specs.declared.refusal.Refusal.TheVariants as refusals

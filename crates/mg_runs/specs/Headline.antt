@@ -4,8 +4,8 @@ use Rattle.mg_base.specs.Disk.{MayLeave, Meaning}
 use Rattle.mg_base.specs.Image.{Image}
 use Rattle.mg_base.specs.Moments.{LeavesOnly}
 use Rattle.mg_base.specs.Streams.{SinkMeaning}
-use Rattle.mg_engine_calls.specs.Closings.{GoesOnFrom, HasLeft}
-use Rattle.mg_engine_calls.specs.Openings.{IsNoJudgement}
+use Rattle.mg_engine_meaning.specs.Closings.{GoesOnFrom, HasLeft}
+use Rattle.mg_engine_meaning.specs.Openings.{IsNoJudgement}
 use Rattle.mg_image.specs.Form.{packed_form}
 use Rattle.mg_lasting.specs.Crashes.{HoldsAcknowledged, HoldsFrom, asked}
 use Rattle.mg_model.specs.declared.opening.Opening.{Opening}

@@ -7,8 +7,8 @@ use Rattle.mg_base.specs.Streams.{SinkMeaning}
 use Rattle.mg_base.specs.declared.mem_disk.MemDisk.{MemDisk}
 use Rattle.mg_core.specs.Cores.{IsCore}
 use Rattle.mg_core.specs.declared.parts.Core.{Core}
-use Rattle.mg_engine_calls.specs.Closings.{ClosesEngine}
-use Rattle.mg_engine_calls.specs.Openings.{IsOpenedOver, RefusesOpening, new_history}
+use Rattle.mg_engine_meaning.specs.Closings.{ClosesEngine}
+use Rattle.mg_engine_meaning.specs.Openings.{IsOpenedOver, RefusesOpening, new_history}
 use Rattle.mg_engine_meaning.specs.Meaning.{Places, means}
 use Rattle.mg_engine_meaning.specs.Standings.{StandsFor}
 use Rattle.mg_model.specs.Answers.{is_active}

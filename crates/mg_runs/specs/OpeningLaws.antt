@@ -9,10 +9,10 @@ use Rattle.mg_base.specs.Streams.{SinkMeaning}
 use Rattle.mg_base.specs.declared.transaction.TxState.{TxState}
 use Rattle.mg_base.specs.declared.transaction.TxState.TheVariants.{Active, Committed, Dead, Limbo}
 use Rattle.mg_core.specs.declared.parts.Core.{Core}
-use Rattle.mg_engine_calls.specs.BlankLaws.{header_is_made}
-use Rattle.mg_engine_calls.specs.NewBegins.{NewBegin}
-use Rattle.mg_engine_calls.specs.OpenedLaws.{content_leaves, settled_on_opened}
-use Rattle.mg_engine_calls.specs.Openings.{BeginsWith, IsNoJudgement, IsOpenedOver, IsSettledOn, IsSoundImage, RefusesOpening, new_history}
+use Rattle.mg_engine_meaning.specs.BlankLaws.{header_is_made}
+use Rattle.mg_engine_meaning.specs.NewBegins.{NewBegin}
+use Rattle.mg_engine_meaning.specs.OpenedLaws.{content_leaves, settled_on_opened}
+use Rattle.mg_engine_meaning.specs.Openings.{BeginsWith, IsNoJudgement, IsOpenedOver, IsSettledOn, IsSoundImage, RefusesOpening, new_history}
 use Rattle.mg_engine_meaning.specs.LawfulLaws.{opening_of}
 use Rattle.mg_engine_meaning.specs.Standings.{StandsFor}
 use Rattle.mg_format.specs.Format.{HasNew, IsUnmadeImage, LeavesNew}

@@ -4,7 +4,7 @@ ghost use Rattle.mg_engine_meaning.specs.Meaning.{Places};
 ghost use Rattle.mg_runs.specs.Laws.{BlankIsEntry, ClosingsFail, LinesFail, OpeningsAreJudged, OpeningsFail, RunsBegin, RunsClose, RunsStop};
 
 use mg_base::{Disk, Sink};
-use mg_engine_calls::new_databases_begin;
+use mg_engine_meaning::new_databases_begin;
 use mg_grown_catalogs::catalogs_grow;
 use mg_model::histories_go_on;
 use mg_new_databases::disks_in_memory_are_whole;

@@ -18,7 +18,7 @@ use Rattle.mg_image.specs.Held.{told_row}
 use Rattle.mg_image.specs.RecordRules.{AreRecords, Each, EachBack, Facts, table_in}
 use Rattle.mg_image.specs.Records.{Cells, Chain, Reading, cells_of, goes, writer}
 use Rattle.mg_image.specs.declared.entry.Entry.{Entry}
-use Rattle.mg_kept_images.specs.Fronts.{is_dead, living}
+use Rattle.mg_image_overlays.specs.Fronts.{is_dead, living}
 use Rattle.mg_model.specs.Answers.{is_active, is_committed}
 use Rattle.mg_model.specs.History.{Entries}
 use Rattle.mg_model.specs.Machine.{state_of}

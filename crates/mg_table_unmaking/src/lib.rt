@@ -10,7 +10,7 @@
 //! Invariant: none, it keeps no state.
 //! Below: `mg_chain` for records, `mg_seek` for who speaks for a key, `mg_row_writes` for what a batch owes. Above: the way
 //! back to a point, which takes back the keys of all other tables first.
-//! Not here: which keys, that they are of whole tables, and what comes of histories and crashes (`mg_engine_unmakings`).
+//! Not here: which keys, that they are of whole tables, and what comes of histories and crashes (`mg_engine_steps`).
 #![tactic(auto)]
 
 mod rows;

@@ -9,14 +9,13 @@ use crate::{
 use mg_base::Disk;
 use mg_engine_steps::{
     batches_last, entries_go_on, keys_are_answered, lists_go_on, page_writes_go_on,
-    standings_go_on, tips_stay,
+    standings_go_on, tips_stay, unasking_lasts,
 };
-use mg_engine_writes::unasking_lasts;
 use mg_image::one_reading;
+use mg_image_overlays::owners_keep_stands_apart;
 use mg_lasting::crashes_hold;
 use mg_model::histories_go_on;
 use mg_space::FireLinks;
-use mg_stand_owners::owners_keep_stands_apart;
 use mg_undo::a_retracted_change_was_not_kept;
 
 /// A table that is made, and one that is refused, as a keeper of records owes it.

@@ -18,7 +18,7 @@ ghost use Rattle.mg_image.specs.Form.{packed_form};
 use mg_base::Disk;
 use mg_careful::Links;
 use mg_image::one_reading;
-use mg_table_ties::made_tables_are_kept;
+use mg_ties::made_tables_are_kept;
 
 /// What is read of a batch with a new table, its maker dead.
 pub fn new_tables_are_read<D: Disk, L: Links>()

@@ -7,9 +7,9 @@ ghost use Rattle.mg_image.specs.Form.{packed_form};
 use mg_base::Disk;
 use mg_engine_steps::{batches_last, lists_go_on, tips_stay};
 use mg_image::one_reading;
+use mg_image_overlays::owners_keep_stands_apart;
 use mg_model::histories_go_on;
 use mg_space::FireLinks;
-use mg_stand_owners::owners_keep_stands_apart;
 
 /// The pages of all tables are there.
 pub fn left_pages_are_there()

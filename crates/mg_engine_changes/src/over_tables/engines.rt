@@ -7,15 +7,14 @@ use crate::{
     lists_tell_whole, others_walk_on, rows_are_given, tables_follow, tables_walks_go_on,
 };
 use mg_base::Disk;
-use mg_engine_steps::lists_go_on;
-use mg_engine_unmakings::{
-    changed_tables_are_there, engines_take_tables, rows_are_taken, tables_go_back,
+use mg_engine_steps::{
+    changed_tables_are_there, changes_are_taken_back, engines_take_tables, lists_go_on,
+    pages_show_what_is_taken_back, rows_are_taken, tables_go_back, unasking_lasts,
 };
-use mg_engine_writes::{changes_are_taken_back, pages_show_what_is_taken_back, unasking_lasts};
 use mg_grown_catalogs::catalogs_grow;
+use mg_image_overlays::sound_images_stand_one_way;
 use mg_model::histories_go_on;
 use mg_space::FireLinks;
-use mg_table_overlays::sound_images_stand_one_way;
 use mg_undo::what_was_is_given;
 
 /// An engine whose transaction is taken back to a point stands for the history with the event, and the walks of all

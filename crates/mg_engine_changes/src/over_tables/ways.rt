@@ -6,8 +6,8 @@ ghost use Rattle.mg_engine_changes.specs.TablesWalks.{TablesWalksGoOn};
 
 use crate::row_walks_go_on;
 use mg_base::Disk;
-use mg_engine_unmakings::left_tables_are_seen;
-use mg_table_overlays::sound_images_stand_one_way;
+use mg_engine_steps::left_tables_are_seen;
+use mg_image_overlays::sound_images_stand_one_way;
 use mg_undo::the_list_follows_the_machine;
 
 /// Memory follows the entry by which a transaction is taken back, with tables that it had made.

@@ -4,8 +4,9 @@ ghost use Rattle.mg_engine_changes.specs.Steps.{NotLaidGives, NotedFailsApart, N
 
 use crate::{first_batches_stay, made_rows_give, noted_tables_are_quiet, refusals_go_on};
 use mg_base::Disk;
-use mg_engine_steps::{batches_last, entries_go_on, page_writes_go_on, standings_go_on};
-use mg_engine_writes::unasking_lasts;
+use mg_engine_steps::{
+    batches_last, entries_go_on, page_writes_go_on, standings_go_on, unasking_lasts,
+};
 use mg_lasting::crashes_hold;
 use mg_model::histories_go_on;
 use mg_space::FireLinks;

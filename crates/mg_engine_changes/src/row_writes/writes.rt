@@ -27,17 +27,15 @@ ghost use Rattle.mg_image.specs.Form.{packed_form};
 
 use mg_base::Disk;
 use mg_engine_steps::{
-    batches_last, entries_go_on, keys_are_answered, lists_go_on, standings_go_on, tips_stay,
+    batches_last, deads_go, entries_go_on, firsts_go_on, keys_are_answered, lists_go_on,
+    pushes_go_on, records_are_free, replacements_go_on, standings_go_on, tips_stay, unasking_lasts,
     writes_go_on,
-};
-use mg_engine_writes::{
-    deads_go, firsts_go_on, pushes_go_on, records_are_free, replacements_go_on, unasking_lasts,
 };
 use mg_grown_catalogs::catalogs_grow;
 use mg_image::one_reading;
+use mg_image_overlays::names_tell_tables;
 use mg_lasting::crashes_hold;
 use mg_model::histories_go_on;
-use mg_named_tables::names_tell_tables;
 use mg_seek::records_are_those_of_every_reading;
 use mg_space::FireLinks;
 use mg_undo::the_list_follows_the_machine;

@@ -16,9 +16,9 @@ ghost use Rattle.mg_engine_changes.specs.GivenUp.{EnginesGiveUp, GivenUpIsShown}
 use mg_base::Disk;
 use mg_careful::Links;
 use mg_engine_steps::{
-    batches_last, memory_follows, page_writes_go_on, standings_go_on, versions_go_on,
+    batches_last, changes_are_taken_back, memory_follows, page_writes_go_on, standings_go_on,
+    versions_go_on,
 };
-use mg_engine_writes::changes_are_taken_back;
 use mg_grown_catalogs::catalogs_grow;
 use mg_image::one_reading;
 use mg_model::histories_go_on;

@@ -38,13 +38,14 @@ use crate::row_writes::{row_walks_go_on, writes_keep_plain, writes_keep_tips};
 use crate::{engines_give_up, its_records_are_found, keys_are_taken, keys_go_on};
 use mg_base::Disk;
 use mg_careful::Links;
-use mg_engine_steps::{batches_last, standings_go_on, tips_stay};
-use mg_engine_writes::{changes_are_taken_back, pages_show_what_is_taken_back, tables_keep_pages};
+use mg_engine_steps::{
+    batches_last, changes_are_taken_back, pages_show_what_is_taken_back, standings_go_on,
+    tables_keep_pages, tips_stay,
+};
 use mg_image::one_reading;
+use mg_image_overlays::{names_tell_tables, sound_images_stand_one_way};
 use mg_lasting::{crashes_hold, pools_last};
 use mg_model::histories_go_on;
-use mg_named_tables::names_tell_tables;
-use mg_table_overlays::sound_images_stand_one_way;
 
 /// The walks of others go on while a transaction is taken back, and where it is given up.
 pub fn others_walk_on()

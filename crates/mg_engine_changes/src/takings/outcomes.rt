@@ -8,14 +8,15 @@ use crate::{
     others_walk_on, stops_go_on, undo_lists_give_keys,
 };
 use mg_base::Disk;
-use mg_engine_calls::rollbacks_go;
-use mg_engine_steps::{entries_go_on, lists_go_on, standings_go_on};
-use mg_engine_tables::others_take_alike;
-use mg_engine_writes::{changes_are_taken_back, pages_show_what_is_taken_back, unasking_lasts};
+use mg_engine_meaning::rollbacks_go;
+use mg_engine_steps::{
+    changes_are_taken_back, entries_go_on, lists_go_on, others_take_alike,
+    pages_show_what_is_taken_back, standings_go_on, unasking_lasts,
+};
+use mg_image_overlays::sound_images_stand_one_way;
 use mg_lasting::crashes_hold;
 use mg_model::histories_go_on;
 use mg_space::FireLinks;
-use mg_table_overlays::sound_images_stand_one_way;
 use mg_taking_back::steps_come_to_an_end;
 use mg_undo::{the_list_follows_the_machine, what_was_is_given};
 

@@ -12,11 +12,12 @@ use crate::{
     others_walk_on,
 };
 use mg_base::Disk;
-use mg_engine_steps::lists_go_on;
-use mg_engine_writes::{changes_are_taken_back, pages_show_what_is_taken_back, unasking_lasts};
+use mg_engine_steps::{
+    changes_are_taken_back, lists_go_on, pages_show_what_is_taken_back, unasking_lasts,
+};
+use mg_image_overlays::sound_images_stand_one_way;
 use mg_model::histories_go_on;
 use mg_space::FireLinks;
-use mg_table_overlays::sound_images_stand_one_way;
 use mg_undo::what_was_is_given;
 
 /// What the core takes back for a key is a step of the laws.

@@ -21,11 +21,13 @@ ghost use Rattle.mg_engine_changes.specs.ToTake.{KeysAreTaken, SinceAreTaken, Wa
 use crate::engines_give_up;
 use mg_base::Disk;
 use mg_careful::Links;
-use mg_engine_steps::{batches_last, memory_follows};
-use mg_engine_writes::{changes_are_taken_back, engines_go_back, pages_show_what_is_taken_back};
+use mg_engine_steps::{
+    batches_last, changes_are_taken_back, engines_go_back, memory_follows,
+    pages_show_what_is_taken_back,
+};
+use mg_image_overlays::sound_images_stand_one_way;
 use mg_model::histories_go_on;
 use mg_seek::records_are_those_of_every_reading;
-use mg_table_overlays::sound_images_stand_one_way;
 use mg_undo::the_list_follows_the_machine;
 
 /// The changes since a point are those that are taken back; their keys are taken one after another.

@@ -1,5 +1,0 @@
-mod KeyLemmas
-mod NextLemmas
-mod BackLemmas
-mod RowLemmas
-mod TableLemmas

@@ -1,4 +1,0 @@
-pub mod Keys
-pub mod Backs
-pub mod Rows
-pub mod Tables

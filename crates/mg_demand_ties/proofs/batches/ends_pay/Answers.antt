@@ -1,5 +1,0 @@
-use Rattle.mg_demand_ties.specs.CommitDemands.{ends_pay}
-use Rattle.mg_demand_ties.proofs.batches.ends_pay.Goals as goal
-
-pub returns : goal.returns
-returns c = ends_pay

@@ -1,0 +1,115 @@
+-- What is told of the disk's faults by calls on the pages.
+use Rattle.std.proofs.Common.{◌≡◌, ℕ, false, Some, Err, refl, sym, ap, ◌∙◌}
+use Rattle.std.proofs.lemmas.Bool.{false≢true}
+use Rattle.mg_base.specs.Disk.{Meaning}
+use Rattle.mg_base.specs.Image.{Image}
+use Rattle.mg_base.specs.declared.numbers.RecId.{RecId}
+use Rattle.mg_faults.specs.Faults.{tells_fault}
+use Rattle.mg_model.specs.declared.refusal.Refusal.{Refusal}
+use Rattle.mg_pool.specs.Batch.{Changed}
+use Rattle.mg_pool.specs.Fault.{StaysOnline, TellsFault}
+use Rattle.mg_pool.specs.declared.fault.PoolFault.{PoolFault}
+use Rattle.mg_pool.specs.declared.fault.PoolFault.TheVariants as faults
+use Rattle.mg_pool.specs.declared.pool.Pool.{Pool}
+use Rattle.mg_space.specs.View.{pool_answer}
+use Rattle.mg_space.specs.declared.fault.SpaceFault.{SpaceFault}
+use Rattle.mg_space.specs.declared.fault.SpaceFault.TheVariants as space
+use Rattle.mg_space.specs.declared.links.FireLinks.{FireLinks}
+use Rattle.mg_version.specs.declared.cell.Version.{Version}
+use Rattle.mg_core.specs.Refusing.{IsRefusal, IsRefusalOf}
+use Rattle.mg_row_writes.specs.Changing.{ChangesOwn, FailsBatch, FailsOwn, not_changed, not_filled}
+use Rattle.mg_row_writes.specs.Laying.{FailsLay, FailsNew, FailsOverDead, Lays, no_first, no_place, not_cleared, not_pushed}
+use Rattle.mg_row_writes.specs.declared.before.Way.{Way}
+use Rattle.mg_row_writes.specs.declared.before.Way.TheVariants as ways
+use Rattle.mg_engine_changes.specs.Told.{Stands, is_disks}
+
+-- a refusal that tells no fault of the disk comes of a fault that is none
+pub is_none : (fault : SpaceFault) (refusal : Refusal) → IsRefusal fault refusal
+    → tells_fault (Some refusal) ≡ false → is_disks fault ≡ false
+is_none (space.Full limit) refusal is quiet = refl
+is_none (space.Damaged it) refusal is quiet = refl
+is_none (space.Pool (faults.DiskRead n)) refusal is quiet =
+    sym (ap (λ (r : Refusal). tells_fault (Some r)) is) ∙ quiet
+is_none (space.Pool (faults.DiskWrite n)) refusal is quiet =
+    sym (ap (λ (r : Refusal). tells_fault (Some r)) is) ∙ quiet
+is_none (space.Pool (faults.Offline n)) refusal is quiet = refl
+is_none (space.Pool (faults.Absent n)) refusal is quiet = refl
+is_none (space.Pool faults.Memory) refusal is quiet = refl
+
+pub bits_none : (fault : PoolFault) (refusal : Refusal) → IsRefusalOf fault refusal
+    → tells_fault (Some refusal) ≡ false → is_disks (space.Pool fault) ≡ false
+bits_none (faults.DiskRead n) refusal is quiet = sym (ap (λ (r : Refusal). tells_fault (Some r)) is) ∙ quiet
+bits_none (faults.DiskWrite n) refusal is quiet = sym (ap (λ (r : Refusal). tells_fault (Some r)) is) ∙ quiet
+bits_none (faults.Offline n) refusal is quiet = refl
+bits_none (faults.Absent n) refusal is quiet = absurd is
+bits_none faults.Memory refusal is quiet = refl
+
+module _ {D : Type 0} (m : Meaning D) where
+  -- the cache met no fault
+  pub met : {L : Type 0} (a b : Pool D L) → StaysOnline m a b → Stands m a b
+  met a b online = ap (λ (counts : ℕ × ℕ). counts.1) online.2
+
+  pub pool_told : (T : Type 0) {L : Type 0} (a b : Pool D L) (fault : PoolFault) → TellsFault {T = T} m a b (Err fault)
+      → is_disks (space.Pool fault) ≡ false → Stands m a b
+  pool_told T a b (faults.DiskRead n) told quiet = absurd (false≢true (sym quiet))
+  pool_told T a b (faults.DiskWrite n) told quiet = absurd (false≢true (sym quiet))
+  pool_told T a b (faults.Offline n) told quiet = ap (λ (counts : ℕ × ℕ). counts.1) told.2
+  pool_told T a b (faults.Absent n) told quiet = met a b told
+  pool_told T a b faults.Memory told quiet = met a b told
+
+  pub told : (T : Type 0) {L : Type 0} (a b : Pool D L) (fault : SpaceFault)
+      → TellsFault m a b (pool_answer {T = T} (Err fault)) → is_disks fault ≡ false → Stands m a b
+  told T a b (space.Full limit) tells quiet = met a b tells
+  told T a b (space.Damaged it) tells quiet = met a b tells
+  told T a b (space.Pool fault) tells quiet = pool_told (Unit {0}) a b fault tells quiet
+
+  same_stands : (a b : Pool D FireLinks) → b ≡ a → Stands m a b
+  same_stands a b same = ap (λ (p : Pool D FireLinks). m.faults p.disk) same
+
+  -- ---- batches
+
+  batch_told : (a b : Pool D FireLinks) (batch : Changed) (fault : SpaceFault) → FailsBatch m a b batch fault
+      → is_disks fault ≡ false → Stands m a b
+  batch_told a b batch (space.Full limit) fails quiet = absurd fails
+  batch_told a b batch (space.Damaged it) fails quiet = same_stands a b fails.same
+  batch_told a b batch (space.Pool fault) fails quiet = pool_told (Unit {0}) a b fault fails.told quiet
+
+  pub own_stands : {fills : Image → Changed → Type 0} (a b : Pool D FireLinks) → ChangesOwn m a b fills
+      → Stands m a b
+  own_stands a b own = met own.ready b own.changed.online ∙ met a own.ready own.online
+
+  pub own_told : {fills : Image → Changed → Type 0} {refuses : Image → SpaceFault → Type 0}
+      (a b : Pool D FireLinks) (fault : SpaceFault) → FailsOwn m a b fills refuses fault
+      → is_disks fault ≡ false → Stands m a b
+  own_told a b fault (not_filled keeps alone tells why) quiet = told (Unit {0}) a b fault tells quiet
+  own_told a b fault (not_changed batch ready keeps online filled fails) quiet =
+      batch_told ready b batch fault fails quiet ∙ met a ready online
+
+  -- ---- a version comes into the record of its key
+
+  pub lays_stand : (a b : Pool D FireLinks) (owner : ℕ) (way : Way) (v : Version) → Lays m a b owner way v
+      → Stands m a b
+  lays_stand a b owner ways.Make v lays = own_stands lays.placed b lays.makes ∙ own_stands a lays.placed lays.takes
+  lays_stand a b owner (ways.Push rec) v lays = own_stands a b lays
+  lays_stand a b owner (ways.PushOverDead rec) v lays =
+      own_stands lays.cleared b lays.pushes ∙ own_stands a lays.cleared lays.takes
+  lays_stand a b owner (ways.Replace rec) v lays = own_stands a b lays
+
+  new_told : (a b : Pool D FireLinks) (owner : ℕ) (v : Version) (fault : SpaceFault) → FailsNew m a b owner v fault
+      → is_disks fault ≡ false → Stands m a b
+  new_told a b owner v fault (no_place fails) quiet = own_told a b fault fails quiet
+  new_told a b owner v fault (no_first at placed takes fails) quiet =
+      own_told placed b fault fails quiet ∙ own_stands a placed takes
+
+  over_told : (a b : Pool D FireLinks) (rec : RecId) (v : Version) (fault : SpaceFault)
+      → FailsOverDead m a b rec v fault → is_disks fault ≡ false → Stands m a b
+  over_told a b rec v fault (not_cleared fails) quiet = own_told a b fault fails quiet
+  over_told a b rec v fault (not_pushed cleared takes fails) quiet =
+      own_told cleared b fault fails quiet ∙ own_stands a cleared takes
+
+  pub lays_told : (a b : Pool D FireLinks) (owner : ℕ) (way : Way) (v : Version) (fault : SpaceFault)
+      → FailsLay m a b owner way v fault → is_disks fault ≡ false → Stands m a b
+  lays_told a b owner ways.Make v fault fails quiet = new_told a b owner v fault fails quiet
+  lays_told a b owner (ways.Push rec) v fault fails quiet = own_told a b fault fails quiet
+  lays_told a b owner (ways.PushOverDead rec) v fault fails quiet = over_told a b rec v fault fails quiet
+  lays_told a b owner (ways.Replace rec) v fault fails quiet = own_told a b fault fails quiet

@@ -1,9 +1,0 @@
-mod BeginLemmas
-mod FitLemmas
-mod LayLemmas
-mod PackedLemmas
-mod SpokenLemmas
-mod ViewLemmas
-mod WalkLemmas
-mod WriteLemmas
-mod WriteParts

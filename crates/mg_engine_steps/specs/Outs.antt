@@ -1,0 +1,130 @@
+-- Several records are taken out in one batch, and the tables that they say go.
+use Rattle.std.specs.Prelude.{◌≡◌, ◌⊎◌, ◌||◌, ℕ, Bool, true, false, List, [], ◌∷◌, None, Some}
+use Rattle.mg_base.specs.Disk.{Meaning}
+use Rattle.mg_base.specs.Image.{Image}
+use Rattle.mg_base.specs.declared.numbers.RecId.{RecId}
+use Rattle.mg_base.specs.declared.transaction.TxState.{TxState}
+use Rattle.mg_base.specs.declared.transaction.TxState.TheVariants.{Active}
+use Rattle.mg_value.specs.declared.value.Value.{Value}
+use Rattle.mg_chain.specs.Writing.{TakesOut}
+use Rattle.mg_model.specs.declared.opening.Opening.{Opening}
+use Rattle.mg_model.specs.declared.table.Table.{Table}
+use Rattle.mg_model.specs.Catalog.{catalog_name}
+use Rattle.mg_model.specs.Changes.{same_key}
+use Rattle.mg_model.specs.History.{Entries}
+use Rattle.mg_model.specs.Machine.{own}
+use Rattle.mg_image.specs.Form.{Form}
+use Rattle.mg_image.specs.declared.entry.Entry.{Entry}
+use Rattle.mg_image.specs.Records.{Reading, record_key, writer}
+use Rattle.mg_image.specs.Sound.{IsSoundBy, facts_by}
+use Rattle.mg_image.specs.Tables.{Layout, stands_of, table_at}
+use Rattle.mg_image_overlays.specs.KeptImages.{IsKept}
+use Rattle.mg_overlays.specs.Overlays.{left_state, without}
+use Rattle.mg_pool.specs.Batch.{Changed}
+use Rattle.mg_pool.specs.Pool.{shown}
+use Rattle.mg_pool.specs.declared.pool.Pool.{Pool}
+use Rattle.mg_pool_overlays.specs.Needs.{Asked, Sessions}
+use Rattle.mg_space.specs.View.{viewed}
+use Rattle.mg_ties.specs.Changed.{ChangesFresh, KeptIn, fresh}
+use Rattle.mg_engine_steps.specs.Taken.{IsWithout, LeavesTables, TakesRows}
+use Rattle.mg_engine_steps.specs.Whole.{GoWhole}
+
+-- One record after another is taken out in a batch, each of which had a transaction's version; whichever choice is made
+-- without it, the record is of a table of the pages as the batch has them.
+pub data TakesRecordsOut (form : Form) {D L : Type 0} (store : Pool D L) (image : Image) (state : ℕ → TxState) (by : ℕ)
+    : Changed → Changed → Type 0 where
+  none_out : (b : Changed) → TakesRecordsOut form store image state by b b
+  takes : (old mid new : Changed) (rec : RecId) (table : Table) (out : TakesOut store image old mid rec)
+      → out.was.tx.0 ≡ by
+      → ((chosen : ℕ → Bool) → chosen by ≡ false → (layout : Layout) (r : Reading)
+      → IsSoundBy form store.geometry.size (left_state chosen state) (viewed store image old) layout r
+      → table_at (stands_of layout) rec.page.0 ≡ Some table)
+      → TakesRecordsOut form store image state by mid new → TakesRecordsOut form store image state by old new
+
+-- Rows of the catalog are taken out in one batch by an active transaction that has not asked for its commit, with whole
+-- tables that it has made: every overlay is kept, for the history without them.
+abbrev pub TakenTablesKeep : Form → (D L : Type 0) → Meaning D → Type 0
+TakenTablesKeep form D L m = (before after : Pool D L) (i j : Image) (batch : Changed) (asked : Asked)
+    (session : Sessions) (o : Opening) (h later : Entries) (by : ℕ) (state : ℕ → TxState) (gone : Value → Bool)
+    → ChangesFresh m before after i j batch → TakesRecordsOut form before i state by fresh batch
+    → state by ≡ Active → asked by ≡ false → IsWithout o h later by gone
+    -- what has gone, where the transaction counts as in limbo
+    → ((chosen : ℕ → Bool) → chosen by ≡ true
+    → (was : IsKept form before.geometry.size o h (left_state chosen state) (shown before.dirty i)
+    (shown before.dirty i)) → (c : Layout) (rc : Reading)
+    → IsSoundBy form before.geometry.size (left_state (without by chosen) state) (viewed before i batch) c rc
+    → LeavesTables before.geometry.size (shown before.dirty i) (viewed before i batch) was.layout c
+    × TakesRows by was.layout (facts_by (left_state chosen state) (shown before.dirty i) was.layout) was.reading rc gone)
+    → KeptIn form before.geometry.size o h state asked session before i
+    → KeptIn form before.geometry.size o later state asked session after j
+
+-- ---- what is read
+
+-- A record had one version, the transaction's own, and has none.
+pub record GoesWhole (by : ℕ) (was now : List Entry) : Type 0 where
+  pub version : Entry
+  pub alone : was ≡ version ∷ []
+  pub its : writer version ≡ by
+  pub none : now ≡ []
+
+-- each record reads as it did, or has gone
+abbrev pub GoOrStay : ℕ → Reading → Reading → Type 0
+GoOrStay by r s = (p : RecId) → (s p ≡ r p) ⊎ GoesWhole by (r p) (s p)
+
+-- each version that is taken out is the first of its record
+abbrev pub AreFirst : (form : Form) {D L : Type 0} (store : Pool D L) (image : Image) (state : ℕ → TxState) (by : ℕ)
+    (old new : Changed) → TakesRecordsOut form store image state by old new → Type 0
+AreFirst form store image state by old new (none_out b) = Unit {0}
+AreFirst form store image state by old new (takes a mid c rec table out its placed more) =
+    (out.was.back ≡ None) × AreFirst form store image state by mid c more
+
+-- so with the maker dead the pages have the layout that they had, and of each record what it had, or it has gone
+abbrev pub OutsAreRead : Form → (D L : Type 0) → Type 0
+OutsAreRead form D L = (store : Pool D L) (image : Image) (o : Opening) (h : Entries) (state : ℕ → TxState) (by : ℕ)
+    (chosen : ℕ → Bool) (batch : Changed) (outs : TakesRecordsOut form store image state by fresh batch)
+    → state by ≡ Active → chosen by ≡ false → AreFirst form store image state by fresh batch outs
+    → (start : IsKept form store.geometry.size o h (left_state chosen state) (shown store.dirty image)
+    (shown store.dirty image))
+    → (c : Layout) (rc : Reading)
+    → IsSoundBy form store.geometry.size (left_state chosen state) (viewed store image batch) c rc
+    → (c ≡ start.of_pool) × GoOrStay by start.in_pool rc
+
+-- ---- rows of the catalog
+
+-- one of these keys is this one
+abbrev pub is_among : List Value → Value → Bool
+is_among [] key = false
+is_among (k ∷ keys) key = same_key k key || is_among keys key
+
+-- A record that is taken out is one of the catalog with a key, and had one version.
+pub record IsRowOut (form : Form) {D L : Type 0} (store : Pool D L) (image : Image) (state : ℕ → TxState) (by : ℕ)
+    (old mid : Changed) (rec : RecId) (table : Table) (out : TakesOut store image old mid rec) (key : Value) : Type 0
+  where
+    pub catalog : table.name ≡ catalog_name
+    pub first : out.was.back ≡ None
+    pub keyed : (chosen : ℕ → Bool) → chosen by ≡ false → (layout : Layout) (r : Reading)
+        → IsSoundBy form store.geometry.size (left_state chosen state) (viewed store image old) layout r
+        → record_key table (r rec) ≡ key
+
+-- the records that are taken out are those of these keys, in turn
+abbrev pub AreRowsOut : (form : Form) {D L : Type 0} (store : Pool D L) (image : Image) (state : ℕ → TxState) (by : ℕ)
+    (old new : Changed) → TakesRecordsOut form store image state by old new → List Value → Type 0
+AreRowsOut form store image state by old new (none_out b) [] = Unit {0}
+AreRowsOut form store image state by old new (none_out b) (key ∷ keys) = ⊥
+AreRowsOut form store image state by old new (takes a mid c rec table out its placed more) [] = ⊥
+AreRowsOut form store image state by old new (takes a mid c rec table out its placed more) (key ∷ keys) =
+    IsRowOut form store image state by a mid rec table out key × AreRowsOut form store image state by mid c more keys
+
+-- So the batch leaves and takes what the law of a batch wants, where whole tables go.
+abbrev pub OutsThere : Form → (D L : Type 0) → Type 0
+OutsThere form D L = (store : Pool D L) (image : Image) (o : Opening) (h : Entries) (state : ℕ → TxState) (by : ℕ)
+    (keys : List Value) (batch : Changed) (outs : TakesRecordsOut form store image state by fresh batch) (asked : Asked)
+    (session : Sessions) → state by ≡ Active → AreRowsOut form store image state by fresh batch outs keys
+    → GoWhole (own o h by) (is_among keys) → KeptIn form store.geometry.size o h state asked session store image
+    → (chosen : ℕ → Bool) → chosen by ≡ true
+    → (was : IsKept form store.geometry.size o h (left_state chosen state) (shown store.dirty image)
+    (shown store.dirty image)) → (c : Layout) (rc : Reading)
+    → IsSoundBy form store.geometry.size (left_state (without by chosen) state) (viewed store image batch) c rc
+    → LeavesTables store.geometry.size (shown store.dirty image) (viewed store image batch) was.layout c
+    × TakesRows by was.layout (facts_by (left_state chosen state) (shown store.dirty image) was.layout) was.reading rc
+    (is_among keys)

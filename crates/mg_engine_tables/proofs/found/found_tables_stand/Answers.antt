@@ -1,6 +1,0 @@
-use Rattle.mg_engine_tables.specs.FoundLaws.{found_tables_stand}
-use Rattle.mg_engine_tables.proofs.found.found_tables_stand.Goals as goal
-
-pub returns : goal.returns
-returns c = found_tables_stand c.records_are_those_of_every_reading.ensures.rows c.keys_are_answered.ensures.rows
-    c.keys_are_answered.ensures.nothing c.newest_are_seen.ensures c.tables_are_answered.ensures

@@ -1,9 +1,0 @@
-pub mod Batches
-pub mod GrowthTies
-pub mod LinkTies
-pub mod RoomTies
-pub mod CellTies
-pub mod OutTies
-pub mod SpotTies
-pub mod GivenTies
-pub mod GivenForTies

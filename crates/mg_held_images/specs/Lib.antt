@@ -1,4 +1,0 @@
-pub mod Places
-pub mod Listed
-pub mod Laws
-pub mod HeldSome

@@ -1,4 +1,0 @@
-mod GrownLemmas
-mod LivingLemmas
-mod KeyLemmas
-mod CreationLemmas

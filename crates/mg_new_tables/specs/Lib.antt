@@ -1,3 +1,0 @@
-pub mod JoinedRows
-pub mod MadeRows
-pub mod Making

@@ -1,0 +1,415 @@
+-- A key is taken back without damage: the record that spoke for it at first is found, and its newest version is the
+-- transaction's own.
+use Rattle.std.proofs.Common.{◌≡◌, ◌⊎◌, inl, inr, ap, refl, sym, subst, ◌∙◌, ℕ, Bool, true, false, List, [], ◌∷◌, Option, None, Some}
+use Rattle.std.proofs.Math.Path.{fun_ext}
+use Rattle.std.proofs.lemmas.Bool.{eqb-true, false≢true, ne_eqb}
+use Rattle.std.specs.Prelude.{if◌then◌else◌, map}
+use Rattle.mg_base.specs.Disk.{Meaning}
+use Rattle.mg_base.specs.Image.{Image}
+use Rattle.mg_base.specs.declared.damage.Damaged.{Damaged}
+use Rattle.mg_base.specs.declared.geometry.Geometry.{Geometry}
+use Rattle.mg_base.specs.declared.numbers.RecId.{RecId}
+use Rattle.mg_base.specs.declared.numbers.TxNo.{TxNo}
+use Rattle.mg_base.specs.declared.transaction.TxState.{TxState}
+use Rattle.mg_base.specs.declared.transaction.TxState.TheVariants.{Active, Committed, Dead, Limbo}
+use Rattle.mg_chain.specs.Chains.{newest_link}
+use Rattle.mg_chain.specs.Refusals.{RefusesChain}
+use Rattle.mg_engine_changes.specs.Found.{HasNewest}
+use Rattle.mg_engine_changes.specs.FoundLaws.{changes_are_there}
+use Rattle.mg_engine_changes.specs.Takings.{KnowsCache}
+use Rattle.mg_engine_changes.specs.TakingSteps.{StandsMidway}
+use Rattle.mg_engine_changes.specs.Written.{KeptTablesAreNamed, KeptTablesStand}
+use Rattle.mg_engine_meaning.specs.Standings.{KeepsWritten}
+use Rattle.mg_engine_steps.specs.BasedLaws.{tests_all}
+use Rattle.mg_engine_steps.specs.Known.{IsShown}
+use Rattle.mg_engine_steps.specs.OtherIndexes.{as_other, speaker_on}
+use Rattle.mg_engine_steps.specs.Standing.{FindsTables, Remembers, ShowsHistory, Standing}
+use Rattle.mg_engine_steps.specs.TablePages.{data_there, table_there}
+use Rattle.mg_engine_steps.specs.Versions.{SpeaksFor, SpeaksOrSilent, told_version}
+use Rattle.mg_engine_steps.specs.OwnChains.{own_told}
+use Rattle.mg_engine_steps.specs.Shown.{IsTakenBack}
+use Rattle.mg_generations.specs.Generations.{is_newest_by}
+use Rattle.mg_generations.specs.Kept.{IsErasedForAll, StandFor}
+use Rattle.mg_image.specs.Form.{Pages, packed_form}
+use Rattle.mg_image.specs.Histories.{newest_at, row_change}
+use Rattle.mg_image.specs.RecordRules.{Each, EachBack, Facts, table_in}
+use Rattle.mg_image.specs.Records.{Chain, Reading, cells_of, record_key, writer}
+use Rattle.mg_image.specs.Sound.{IsSoundBy, facts_by}
+use Rattle.mg_image.specs.Tables.{stands_of, table_at}
+use Rattle.mg_image.specs.declared.entry.Entry.{Entry as Read}
+use Rattle.mg_image_overlays.specs.Fronts.{is_dead}
+use Rattle.mg_model.specs.Changes.{has_change}
+use Rattle.mg_model.specs.History.{Entries, Entry}
+use Rattle.mg_model.specs.Machine.{own, state_of}
+use Rattle.mg_model.specs.Openings.{everyone}
+use Rattle.mg_model.specs.declared.change.Change.{Change}
+use Rattle.mg_model.specs.declared.opening.Opening.{Opening}
+use Rattle.mg_model.specs.declared.table.Table.{Table}
+use Rattle.mg_no_damage.specs.Keys.{WaysAreRead}
+use Rattle.mg_no_damage.specs.Sees.{no_batch}
+use Rattle.mg_no_damage.specs.Sound.{SoundRecordsAreLawful, SoundTablesStand}
+use Rattle.mg_no_damage.specs.Tables.{SeesTable, TablesAreRead}
+use Rattle.mg_no_damage.specs.Batches.{ShowsSound, VersionsAreReplaced, VersionsAreTakenOut}
+use Rattle.mg_no_damage.specs.Writes.{IsRecordOf}
+use Rattle.mg_overlays.specs.Overlays.{left_by, left_state}
+use Rattle.mg_pool.specs.Batch.{Changed}
+use Rattle.mg_pool.specs.Dirty.{DirtyPages}
+use Rattle.mg_pool.specs.Pool.{shown}
+use Rattle.mg_pool.specs.declared.fault.PoolFault.TheVariants as pool_faults
+use Rattle.mg_pool.specs.declared.pool.Pool.{Pool}
+use Rattle.mg_pool_overlays.specs.Needs.{Asked, Sessions}
+use Rattle.mg_records.specs.declared.write.Write.{Write}
+use Rattle.mg_row_writes.specs.Changing.{FailsOwn, FailsReplacing, FailsTakingOut, not_changed, not_filled}
+use Rattle.mg_seek.specs.Histories.{HasSpeaker, SpeakersStand, told_versions, versions_spoken}
+use Rattle.mg_seek.specs.Readings.{PlacesOfReadings}
+use Rattle.mg_seek.specs.Speaking.{IsSpeaker, RefusesTableRows}
+use Rattle.mg_seek.specs.Versions.{wants}
+use Rattle.mg_seek.specs.declared.whose.Wanted.TheVariants.{Any, Living}
+use Rattle.mg_space.specs.Taking.{IsGeometry}
+use Rattle.mg_space.specs.View.{KeepsStore}
+use Rattle.mg_space.specs.ViewLaws.{tells_on}
+use Rattle.mg_space.specs.declared.fault.SpaceFault.{SpaceFault}
+use Rattle.mg_space.specs.declared.fault.SpaceFault.TheVariants as faults
+use Rattle.mg_space.specs.declared.links.FireLinks.{FireLinks}
+use Rattle.mg_image_overlays.specs.OneTable.{one_table, table_at_stands}
+use Rattle.mg_taking_back.specs.Keys.{FailsKey, FailsPuttingBack, IsOwn, RefusesOwnAt, former, former_long, former_memory, former_not_put, former_unfit, key_not_put, key_unfit, key_unread, own_nobody, own_other, own_unread, own_unspoken}
+use Rattle.mg_undo.specs.declared.changes.Was.{Was}
+use Rattle.mg_works.specs.Works.{Working, written_to}
+use Rattle.mg_no_damage.specs.BackKeys.{KeysMeetNoDamage, KeysMissNoPage}
+
+-- ---- a version in front
+
+module _ (state : ℕ → TxState) (t : ℕ) (limbo : state t ≡ Limbo) where
+  -- committed versions are not the transaction's
+  none_older : (table : Table) (es : List Read) → Each (λ x. state (writer x) ≡ Committed) es
+      → is_newest_by t (map (told_version table) es) ≡ false
+  none_older table [] each = refl
+  none_older table (x ∷ es) each = ne_eqb (writer x) t (λ same.
+      let both : Limbo ≡ Committed = sym limbo ∙ (ap state (sym same) ∙ each.0) in absurd cc)
+
+  -- so where the newest one that counts is its own, that is the newest of all
+  own_first : (table : Table) (es : List Read) → EachBack (λ x. state (writer x) ≡ Committed) es
+      → is_newest_by t (told_versions state table es) ≡ true
+      → (d : Read) × (ds : List Read) × (es ≡ d ∷ ds) × (writer d ≡ t)
+  own_first table [] backs is = absurd (false≢true is)
+  own_first table (d ∷ ds) backs is = at (is_dead (state (writer d))) is
+    where
+      at : (b : Bool) → is_newest_by t (map (told_version table) (if b then ds else d ∷ ds)) ≡ true
+          → (x : Read) × (xs : List Read) × (d ∷ ds ≡ x ∷ xs) × (writer x ≡ t)
+      at true is_ = absurd (false≢true (sym (none_older table ds backs) ∙ is_))
+      at false is_ = (d, ds, refl, eqb-true (writer d) t is_)
+
+same_number : (a b : TxNo) → a.0 ≡ b.0 → a ≡ b
+same_number a b same = λ k. record { 0 = same k }
+
+-- who counts as in limbo is dead exactly where he was
+left_dead : (x : TxState) → is_dead (left_by true x) ≡ is_dead x
+left_dead Active = refl
+left_dead Limbo = refl
+left_dead Dead = refl
+left_dead Committed = refl
+
+-- ---- no page is wanting
+
+pub own_missing : {D : Type 0} (m : Meaning D) (a b : Pool D FireLinks) (fills : Image → Changed → Type 0)
+    (refuses : Image → SpaceFault → Type 0) (n : ℕ)
+    → FailsOwn m a b fills refuses (faults.Pool (pool_faults.Absent n)) → ⊥
+own_missing m a b fills refuses n (not_filled keeps alone told why) = alone
+own_missing m a b fills refuses n (not_changed batch ready keeps online filled fails) = fails.left
+
+putting_missing : {D : Type 0} (m : Meaning D) (a b : Pool D FireLinks) (t : ℕ) (table : Table) (rec : RecId)
+    (write : Option Write) (n : ℕ)
+    → FailsPuttingBack m a b t table rec write (faults.Pool (pool_faults.Absent n)) → ⊥
+putting_missing m a b t table rec None n fails = own_missing m a b _ _ n fails
+putting_missing m a b t table rec (Some write) n (former_unfit not_ is same) = absurd cc
+putting_missing m a b t table rec (Some write) n (former_memory is same) = absurd cc
+putting_missing m a b t table rec (Some write) n (former_long v stored not_ is same) = absurd cc
+putting_missing m a b t table rec (Some write) n (former_not_put v stored may fails) = own_missing m a b _ _ n fails
+
+pub keys_miss_no_page : {D : Type 0} (m : Meaning D) → KeysMissNoPage D m
+keys_miss_no_page m before after state live t table key was n (key_unfit not_ is same) = absurd cc
+keys_miss_no_page m before after state live t table key was n (key_unread keeps reads told why) = reads
+keys_miss_no_page m before after state live t table key was n (key_not_put rec ready keeps online own_ fails) =
+    putting_missing m ready after t table rec (former key was) n fails
+
+-- ---- a key
+
+module _ {D : Type 0} (m : Meaning D) (stand : KeptTablesStand) (named : KeptTablesAreNamed) (speak : SpeakersStand)
+    (places : PlacesOfReadings) (lawful_of : SoundRecordsAreLawful) (tables_stand : SoundTablesStand)
+    (read : TablesAreRead m) (ways : WaysAreRead m) (out : VersionsAreTakenOut m) (replaced : VersionsAreReplaced m)
+    (size : ℕ) (o : Opening) (h : Entries) (e : Entry) (t : ℕ) (whole left : List Change) (s : Standing)
+    (start before after : Pool D FireLinks) (begun : Pages) (first : ShowsHistory packed_form size o h s begun)
+    (i : Image) (asked : Asked) (session : Sessions)
+    (midway : StandsMidway m size o h e t whole left s start before begun first i asked session)
+    (memory : Remembers o h s) (active : s.state t ≡ Active) (catalog : ℕ) (works : List Working)
+    (keeps : KeepsWritten catalog works s.table) (knows : KnowsCache m size s before i) (c : Change)
+    (to_take : has_change left c.table c.key ≡ true) (changed : has_change (own o h t) c.table c.key ≡ true)
+    (table : Table) (kept : written_to works t (s.number t c.table) ≡ Some table) where
+  abbrev f : Facts
+  f = facts_by (left_state everyone s.state) (shown before.dirty i) midway.pages.layout
+
+  abbrev f0 : Facts
+  f0 = facts_by (left_state everyone s.state) begun first.layout
+
+  abbrev r : Reading
+  r = midway.pages.reading
+
+  active_told : state_of o h t ≡ Active
+  active_told = sym (memory.state t) ∙ active
+
+  in_limbo : left_state everyone s.state t ≡ Limbo
+  in_limbo = ap (λ (x : TxState). left_by true x) active
+
+  -- ---- the table
+
+  finds_it : FindsTables o h s midway.pages.layout t
+  finds_it = midway.pages.tables t active
+
+  there : IsShown midway.pages.layout table
+  there = stand o h s t midway.pages.layout catalog works finds_it keeps (s.number t c.table) table kept
+
+  its_named : there.its.name ≡ c.table
+  its_named = there.same.name ∙ named size o h s t (shown before.dirty i) midway.pages.layout midway.pages.reading
+      catalog works midway.pages.sound finds_it keeps c.table c.key changed table kept
+
+  changed_its : has_change (own o h t) there.its.name c.key ≡ true
+  changed_its = ap (λ (n : List ℕ). has_change (own o h t) n c.key) its_named ∙ changed
+
+  newest : HasNewest left c.table c.key
+  newest = changes_are_there left c.table c.key to_take
+
+  newest_its : newest_at left there.its.name c.key ≡ Some (row_change newest.row)
+  newest_its = ap (λ (n : List ℕ). newest_at left n c.key) its_named ∙ newest.is_
+
+  -- ---- the record that spoke for the key at first
+
+  record SpokeAtFirst : Type 0 where
+    p : RecId
+    spoke : first.versions.speaker there.its.name c.key ≡ Some p
+    of_its : table_in f p ≡ Some there.its
+    keyed : record_key there.its (r p) ≡ c.key
+    stands_for : StandFor o h there.its.name c.key (told_versions (left_state everyone s.state) there.its (r p))
+
+  speaker_there : SpokeAtFirst
+  speaker_there = at (first.versions.speaker there.its.name c.key) refl
+      (first.versions.speaks there.its.name c.key)
+    where
+      at : (x : Option RecId) → first.versions.speaker there.its.name c.key ≡ x
+          → SpeaksFor o h f0 first.reading there.its.name c.key x → SpokeAtFirst
+      at None is stand_ = absurd (false≢true (sym (own_told o h t there.its.name c.key [] active_told stand_).has_
+          ∙ changed_its))
+      at (Some p) is (it, stand_) =
+          let now_of : table_at (stands_of midway.pages.layout) p.page.0 ≡ Some it.table =
+          midway.pages.stays p it.table it.of_table in
+          let same_table : it.table ≡ there.its = one_table packed_form size (left_state everyone s.state)
+          (shown before.dirty i) midway.pages.layout midway.pages.reading midway.pages.sound it.table there.its
+          (table_at_stands midway.pages.layout p.page.0 it.table now_of) there.stands it.named in
+          let same : r p ≡ first.reading p =
+          midway.pages.not_yet there.its.name c.key (row_change newest.row) newest_its p is in record {
+            p = p;
+            spoke = is;
+            of_its = now_of ∙ ap Some same_table;
+            keyed = ap (record_key there.its) same
+                ∙ (ap (λ (x : Table). record_key x (first.reading p)) (sym same_table) ∙ it.keyed);
+            stands_for = subst (λ (es : List Read). StandFor o h there.its.name c.key
+                (told_versions (left_state everyone s.state) there.its es)) (sym same)
+                (subst (λ (x : Table). StandFor o h there.its.name c.key
+                (told_versions (left_state everyone s.state) x (first.reading p))) same_table stand_);
+          }
+
+  -- its newest version is the transaction's own
+  begins : (d : Read) × (ds : List Read) × (r speaker_there.p ≡ d ∷ ds) × (writer d ≡ t)
+  begins = own_first (left_state everyone s.state) t in_limbo there.its (r speaker_there.p)
+      (midway.pages.sound.records.each speaker_there.p there.its speaker_there.of_its).backs
+      (sym (own_told o h t there.its.name c.key (told_versions (left_state everyone s.state) there.its
+      (r speaker_there.p)) active_told speaker_there.stands_for).has_ ∙ changed_its)
+
+  -- ---- it is the one that is found
+
+  others : (rec : RecId) → table_in f rec ≡ Some there.its → record_key there.its (r rec) ≡ c.key
+      → (told_versions (left_state everyone s.state) there.its (r rec) ≡ [])
+      ⊎ IsErasedForAll o h (told_versions (left_state everyone s.state) there.its (r rec))
+      ⊎ (Some speaker_there.p ≡ Some rec)
+  others rec of keyed = at (midway.pages.new rec there.its of)
+    where
+      as_first : r rec ≡ first.reading rec → SpeaksOrSilent o h f0 first.reading first.versions.speaker rec there.its
+          → (told_versions (left_state everyone s.state) there.its (r rec) ≡ [])
+          ⊎ IsErasedForAll o h (told_versions (left_state everyone s.state) there.its (r rec))
+          ⊎ (Some speaker_there.p ≡ Some rec)
+      as_first same (inl empty) = inl (ap (told_versions (left_state everyone s.state) there.its) same ∙ empty)
+      as_first same (inr (inl gone)) = inr (inl (subst (λ (es : List Read). IsErasedForAll o h
+          (told_versions (left_state everyone s.state) there.its es)) (sym same) gone))
+      as_first same (inr (inr speaks)) = inr (inr (sym speaker_there.spoke
+          ∙ (ap (first.versions.speaker there.its.name) (sym keyed ∙ ap (record_key there.its) same) ∙ speaks)))
+
+      taken : table_in f0 rec ≡ Some there.its → IsTakenBack o h e t f0 first.reading r first.versions.speaker rec
+          → (es : List Read) → r rec ≡ es
+          → (told_versions (left_state everyone s.state) there.its (r rec) ≡ [])
+          ⊎ IsErasedForAll o h (told_versions (left_state everyone s.state) there.its (r rec))
+          ⊎ (Some speaker_there.p ≡ Some rec)
+      taken was it [] empty = inl (ap (told_versions (left_state everyone s.state) there.its) empty)
+      taken was it (x ∷ xs) some =
+          let both : Some it.table ≡ Some there.its = sym it.of ∙ was in
+          let same : it.table ≡ there.its = cc in
+          inr (inr (sym speaker_there.spoke ∙ (ap (first.versions.speaker there.its.name) (sym keyed
+          ∙ (ap (λ (y : Table). record_key y (r rec)) (sym same) ∙ (it.keyed (λ empty.
+          let none : x ∷ xs ≡ [] = sym some ∙ empty in absurd cc)
+          ∙ ap (λ (y : Table). record_key y (first.reading rec)) same)))
+          ∙ subst (λ (y : Table). first.versions.speaker y.name (record_key y (first.reading rec)) ≡ Some rec) same
+          it.spoke)))
+
+      by : table_in f0 rec ≡ Some there.its → (r rec ≡ first.reading rec)
+          ⊎ IsTakenBack o h e t f0 first.reading r first.versions.speaker rec
+          → (told_versions (left_state everyone s.state) there.its (r rec) ≡ [])
+          ⊎ IsErasedForAll o h (told_versions (left_state everyone s.state) there.its (r rec))
+          ⊎ (Some speaker_there.p ≡ Some rec)
+      by was (inl same) = as_first same (first.versions.others rec there.its was)
+      by was (inr it) = taken was it (r rec) refl
+
+      at : (table_at (stands_of first.layout) rec.page.0 ≡ Some there.its)
+          ⊎ ((first.reading rec ≡ []) × (r rec ≡ []))
+          → (told_versions (left_state everyone s.state) there.its (r rec) ≡ [])
+          ⊎ IsErasedForAll o h (told_versions (left_state everyone s.state) there.its (r rec))
+          ⊎ (Some speaker_there.p ≡ Some rec)
+      at (inl was) = by was (midway.pages.each_record rec)
+      at (inr (none, empty)) = inl (ap (told_versions (left_state everyone s.state) there.its) empty)
+
+  has_speaker : HasSpeaker o h f r there.its c.key (Some speaker_there.p)
+  has_speaker = record {
+    none = λ is. none_is is;
+    some = some_is;
+    others = others;
+  }
+    where
+      none_is : Some speaker_there.p ≡ None → StandFor o h there.its.name c.key []
+      none_is is = absurd cc
+
+      some_is : (rec : RecId) → Some speaker_there.p ≡ Some rec → (table_in f rec ≡ Some there.its)
+          × (record_key there.its (r rec) ≡ c.key)
+          × StandFor o h there.its.name c.key (told_versions (left_state everyone s.state) there.its (r rec))
+      some_is rec is =
+          let same : speaker_there.p ≡ rec = cc in
+          subst (λ (x : RecId). (table_in f x ≡ Some there.its) × (record_key there.its (r x) ≡ c.key)
+          × StandFor o h there.its.name c.key (told_versions (left_state everyone s.state) there.its (r x))) same
+          (speaker_there.of_its, speaker_there.keyed, speaker_there.stands_for)
+
+  is_its : (x : Option RecId) → IsSpeaker s.state s.live (shown before.dirty i) table c.key x
+      → IsSpeaker (state_of o h) s.live (shown before.dirty i) there.its c.key x
+  is_its x spoken = subst (λ (state : ℕ → TxState). IsSpeaker state s.live (shown before.dirty i) there.its c.key x)
+      (fun_ext memory.state) (as_other there.its table there.same
+      (λ (y : Table). IsSpeaker s.state s.live (shown before.dirty i) y c.key x)
+      (speaker_on table there.its.indexes s.state s.live (shown before.dirty i) c.key x spoken))
+
+  stands_so : (x : Option RecId) → IsSpeaker s.state s.live (shown before.dirty i) table c.key x
+      → StandFor o h there.its.name c.key (versions_spoken (left_state everyone s.state) there.its r x)
+      × ((rec : RecId) → x ≡ Some rec → (table_in f rec ≡ Some there.its) × (Some speaker_there.p ≡ Some rec))
+  stands_so x spoken = speak o h s.live (shown before.dirty i) there.its c.key there.stands.stand.pointers
+      there.stands.stand.data_pages f r (Some speaker_there.p) x midway.pages.sound.records
+      (λ u. left_dead (s.state u) ∙ ap is_dead (memory.state u))
+      (table_there size (left_state everyone s.state) (shown before.dirty i) midway.pages.layout midway.pages.reading
+      midway.pages.sound there.its there.stands)
+      (data_there size (left_state everyone s.state) (shown before.dirty i) midway.pages.layout midway.pages.reading
+      midway.pages.sound there.its there.stands) memory.live
+      (λ u seen. tests_all o h s.live u memory.live memory.based seen) has_speaker (is_its x spoken)
+
+  -- one is found
+  none_found : IsSpeaker s.state s.live (shown before.dirty i) table c.key None → ⊥
+  none_found spoken = false≢true (sym (own_told o h t there.its.name c.key [] active_told
+      (stands_so None spoken).0).has_ ∙ changed_its)
+
+  -- and it is that record
+  it_is : (rec : RecId) → IsSpeaker s.state s.live (shown before.dirty i) table c.key (Some rec)
+      → speaker_there.p ≡ rec
+  it_is rec spoken = let both : Some speaker_there.p ≡ Some rec = ((stands_so (Some rec) spoken).1 rec refl).1 in cc
+
+  -- ---- it is read
+
+  module _ (store : Pool D FireLinks) (same : KeepsStore m before store) where
+    sound_on : IsSoundBy packed_form store.geometry.size (left_state everyone s.state) (shown store.dirty i)
+        midway.pages.layout midway.pages.reading
+    sound_on = subst (λ (d : DirtyPages). IsSoundBy packed_form store.geometry.size (left_state everyone s.state)
+        (shown d i) midway.pages.layout midway.pages.reading) (sym same.dirty)
+        (subst (λ (n : ℕ). IsSoundBy packed_form n (left_state everyone s.state) (shown before.dirty i)
+        midway.pages.layout midway.pages.reading)
+        (sym (ap (λ (g : Geometry). g.size) same.geometry ∙ knows.size_is)) midway.pages.sound)
+
+    abbrev f_on : Facts
+    f_on = facts_by (left_state everyone s.state) (shown store.dirty i) midway.pages.layout
+
+    sees : SeesTable m store i no_batch f_on r there.stands.stand table
+    sees = record {
+      sees = record {
+        tells = tells_on m before store i same knows.tells;
+        lawful = lawful_of store.geometry.size (left_state everyone s.state) (shown store.dirty i)
+            midway.pages.layout midway.pages.reading sound_on;
+      };
+      stands = tables_stand store.geometry.size (left_state everyone s.state) (shown store.dirty i)
+          midway.pages.layout midway.pages.reading sound_on there.its table there.stands there.same;
+    }
+
+    shows : ShowsSound m store i (left_state everyone s.state) midway.pages.layout midway.pages.reading
+    shows = record {
+      tells = tells_on m before store i same knows.tells;
+      geometry = subst IsGeometry (sym same.geometry) knows.geometry;
+      sound = sound_on;
+    }
+
+    as_now : (P : Pages → Type 0) → P (shown before.dirty i) → P (shown store.dirty i)
+    as_now P holds = subst (λ (d : DirtyPages). P (shown d i)) (sym same.dirty) holds
+
+    own_found : (it : Damaged)
+        → RefusesOwnAt m store (shown before.dirty i) s.state s.live t table c.key (faults.Damaged it) → ⊥
+    own_found it (own_unspoken refused) = read store i no_batch f_on r there.stands.stand table sees
+        (wants s.state s.live Living) it (as_now (λ (view : Pages).
+        RefusesTableRows m store [] view (wants s.state s.live Living) table (faults.Damaged it)) refused)
+    own_found it (own_nobody spoken is) = none_found spoken
+    own_found it (own_unread rec spoken refused) = ways store i f_on r there.stands.stand table sees s.state s.live
+        c.key (Some rec) (as_now (λ (view : Pages). IsSpeaker s.state s.live view table c.key (Some rec)) spoken) it
+        (as_now (λ (view : Pages). RefusesChain m store [] view rec (faults.Damaged it)) refused)
+    own_found it (own_other rec found spoken is_first not_own is) =
+        let (d, ds, are, by) = begins in
+        not_own (subst (IsOwn t) (sym (places (cells_of (shown before.dirty i)) (wants s.state s.live Any)
+        (newest_link (shown before.dirty i) rec) found (d ∷ ds) is_first
+        (subst (Chain (cells_of (shown before.dirty i)) (newest_link (shown before.dirty i) rec))
+        (ap r (sym (it_is rec spoken)) ∙ are) (midway.pages.sound.records.reads rec there.its
+        (subst (λ (x : RecId). table_in f x ≡ Some there.its) (it_is rec spoken) speaker_there.of_its))))) by)
+
+    -- ---- and changed
+
+    its_record : IsRecordOf midway.pages.layout midway.pages.reading speaker_there.p there.its
+    its_record = record {
+      of = speaker_there.of_its;
+      newest = begins.0;
+      older = begins.1;
+      are = begins.2;
+    }
+
+    put_back : (rec : RecId) → speaker_there.p ≡ rec → (write : Option Write) (it : Damaged)
+        → FailsPuttingBack m store after t table rec write (faults.Damaged it) → ⊥
+    unfolding its_record begins
+    put_back rec is None it fails = out store after i (left_state everyone s.state) midway.pages.layout
+        midway.pages.reading shows speaker_there.p there.its its_record it
+        (subst (λ (x : RecId). FailsTakingOut m store after x (faults.Damaged it)) (sym is) fails)
+    put_back rec is (Some write) it (former_unfit not_ memory_ same_) = absurd cc
+    put_back rec is (Some write) it (former_memory memory_ same_) = absurd cc
+    put_back rec is (Some write) it (former_long v stored not_ memory_ same_) = absurd cc
+    put_back rec is (Some write) it (former_not_put v stored may fails) = replaced store after i
+        (left_state everyone s.state) midway.pages.layout midway.pages.reading shows speaker_there.p there.its
+        its_record v (same_number begins.0.version.tx v.tx (begins.3 ∙ sym stored.its)) may.short it
+        (subst (λ (x : RecId). FailsReplacing m store after x v (faults.Damaged it)) (sym is) fails)
+
+  pub key_taken : (was : Was) (it : Damaged)
+      → FailsKey m before after s.state s.live t table c.key was (faults.Damaged it) → ⊥
+  key_taken was it (key_unfit not_ is same) = absurd cc
+  key_taken was it (key_unread same reads told why) = own_found after same it (why i knows.tells)
+  key_taken was it (key_not_put rec ready same online own_ fails) =
+      put_back ready same rec (it_is rec (own_ i knows.tells).spoken) (former c.key was) it fails
+
+pub keys_meet_no_damage : {D : Type 0} (m : Meaning D) → KeptTablesStand → KeptTablesAreNamed → SpeakersStand
+    → PlacesOfReadings → SoundRecordsAreLawful → SoundTablesStand → TablesAreRead m → WaysAreRead m
+    → VersionsAreTakenOut m → VersionsAreReplaced m → KeysMeetNoDamage D m
+keys_meet_no_damage m stand named speak places lawful_of tables_stand read ways out replaced size o h e t whole left s
+    start before after begun first i asked session midway memory active catalog works keeps knows c to_take changed
+    table kept was it fails = key_taken m stand named speak places lawful_of tables_stand read ways out replaced size o
+    h e t whole left s start before after begun first i asked session midway memory active catalog works keeps knows c
+    to_take changed table kept was it fails

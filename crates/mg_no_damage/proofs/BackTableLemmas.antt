@@ -1,0 +1,285 @@
+-- A transaction is taken back to a point over tables that it has made: the engine finds no page damaged.
+use Rattle.std.proofs.Common.{◌≡◌, ◌≢◌, ◌==◌, ◌++◌, ap, refl, sym, subst, ◌∙◌, ℕ, Bool, true, false, List, [], ◌∷◌, Ok, Err}
+use Rattle.std.proofs.lemmas.Bool.{ne_eqb}
+use Rattle.std.specs.Prelude.{if◌then◌else◌, map}
+use Rattle.mg_base.specs.Disk.{Meaning}
+use Rattle.mg_base.specs.Image.{Image}
+use Rattle.mg_base.specs.declared.damage.Damaged.{Damaged}
+use Rattle.mg_base.specs.declared.numbers.TxNo.{TxNo}
+use Rattle.mg_core.specs.Cores.{IsCatalog, IsCore}
+use Rattle.mg_core.specs.Refusing.{CountsFault}
+use Rattle.mg_core.specs.declared.parts.Core.{Core}
+use Rattle.mg_engine_changes.specs.BackBegun.{goes, kept_begun, knows, midway, opening}
+use Rattle.mg_engine_changes.specs.Events.{may_go, takes_back}
+use Rattle.mg_engine_changes.specs.Keys.{HasTakenKeys, IsOfTable}
+use Rattle.mg_engine_changes.specs.Known.{KnownOfBacks}
+use Rattle.mg_engine_changes.specs.Memory.{MayGoTo}
+use Rattle.mg_engine_changes.specs.Outcomes.{back_event}
+use Rattle.mg_engine_changes.specs.OverGiven.{each_of_table, others_are}
+use Rattle.mg_engine_changes.specs.RowsGiven.{GivenApart, of_catalog, of_others}
+use Rattle.mg_engine_changes.specs.StopsAfter.{begun_as}
+use Rattle.mg_engine_changes.specs.ToTake.{AreKeysOf, EachChange, since_point}
+use Rattle.mg_engine_meaning.specs.Standings.{ShowsIt, StandsFor, asked_in, sessions_in, standing_of, undo_kept}
+use Rattle.mg_engine_meaning.specs.StepLaws.{shows_of}
+use Rattle.mg_engine_steps.specs.Standing.{Standing}
+use Rattle.mg_engine_steps.specs.Again.{again}
+use Rattle.mg_image.specs.Catalog.{catalog_table}
+use Rattle.mg_image.specs.Form.{packed_form}
+use Rattle.mg_image.specs.Inventory.{header_of}
+use Rattle.mg_model.specs.History.{Entries, Entry, entry}
+use Rattle.mg_model.specs.Machine.{deeds_by, own, steps}
+use Rattle.mg_model.specs.declared.answer.Answer.TheVariants.{Fine}
+use Rattle.mg_model.specs.declared.change.Change.{Change}
+use Rattle.mg_model.specs.declared.change.Point.{Point}
+use Rattle.mg_model.specs.declared.change.Point.TheVariants.{LastMark, SavepointNamed}
+use Rattle.mg_model.specs.declared.opening.Opening.{Opening}
+use Rattle.mg_model.specs.declared.refusal.Refusal.{Refusal}
+use Rattle.mg_model.specs.declared.table.Table.{Table}
+use Rattle.mg_pool.specs.Batch.{Changed}
+use Rattle.mg_pool.specs.Pool.{shown}
+use Rattle.mg_pool.specs.declared.fault.PoolFault.TheVariants as pool_faults
+use Rattle.mg_pool.specs.declared.pool.Pool.{Pool}
+use Rattle.mg_row_writes.specs.Changing.{FailsOwn, not_changed, not_filled}
+use Rattle.mg_space.specs.View.{Tells}
+use Rattle.mg_space.specs.ViewLaws.{tells_on}
+use Rattle.mg_space.specs.declared.fault.SpaceFault.{SpaceFault}
+use Rattle.mg_space.specs.declared.fault.SpaceFault.TheVariants as faults
+use Rattle.mg_space.specs.declared.links.FireLinks.{FireLinks}
+use Rattle.mg_ties.specs.Changed.{KeptIn}
+use Rattle.mg_table_takings.specs.Keys.{others_of}
+use Rattle.mg_table_takings.specs.Takings.{FailsTablesTo, FailsTheRows, StopsBoth, StopsOthers, TakesOthers, TakesTablesTo, rows_unknown, stops_at_other, stops_at_rows, tables_not_begun, tables_not_copied, tables_not_taken, tables_stopped}
+use Rattle.mg_table_unmaking.specs.Rows.{FailsRowsOut}
+use Rattle.mg_taking_back.specs.Taking.{HasBegun, MayReach, TakesChanges, not_asking}
+use Rattle.mg_txlist.specs.TxList.{said}
+use Rattle.mg_undo.specs.Machine.{first_of, given_from, going_to}
+use Rattle.mg_undo.specs.Undo.{State as Undo, TakesBack as GivesAll}
+use Rattle.mg_undo.specs.declared.changes.Change.{Change as Kept}
+use Rattle.mg_value.specs.declared.value.Value.{Value}
+use Rattle.mg_works.specs.Works.{unasked, with_work}
+use Rattle.mg_no_damage.proofs.BackLemmas.{given_up_stays, taken_stays}
+use Rattle.mg_no_damage.proofs.BackKeyLemmas.{own_missing}
+use Rattle.mg_no_damage.proofs.NextLemmas.{change_stays, given_next}
+use Rattle.mg_no_damage.specs.Backs.{DamageStays}
+use Rattle.mg_no_damage.specs.BackKeys.{KeysMeetNoDamage, KeysMissNoPage}
+use Rattle.mg_no_damage.specs.BackRows.{RowsMeetNoDamage, ShowsStill}
+use Rattle.mg_no_damage.specs.BackTables.{MarksOverMeetNoDamage, SavepointsOverMeetNoDamage}
+
+-- ---- lists
+
+others_on : (page : ℕ) (given rest : List Kept) → others_of page (given ++ rest) ≡ others_of page given ++ others_of page rest
+others_on page [] rest = refl
+others_on page (c ∷ given) rest = at (c.table == page) (others_on page given rest)
+  where
+    at : (b : Bool) → others_of page (given ++ rest) ≡ others_of page given ++ others_of page rest
+        → (if b then others_of page (given ++ rest) else c ∷ others_of page (given ++ rest))
+        ≡ (if b then others_of page given else c ∷ others_of page given) ++ others_of page rest
+    at true more = more
+    at false more = ap (λ (cs : List Kept). c ∷ cs) more
+
+other_first : (page : ℕ) (c : Kept) (rest : List Kept) → c.table ≢ page
+    → others_of page (c ∷ rest) ≡ c ∷ others_of page rest
+other_first page c rest ne = rw (ne_eqb c.table page ne) refl
+
+-- ---- the batch with the rows
+
+-- the catalog of the core is the one that the header says
+catalog_is : (table : Table) (page : ℕ) → IsCatalog table → table.pointer.0 ≡ page → catalog_table page ≡ table
+catalog_is table page is at = λ i. record {
+  name = sym is.named i;
+  shape = sym is.shape i;
+  pointer = record { 0 = sym at i };
+  indexes = sym is.none i;
+}
+
+-- it has only read
+own_still : {D : Type 0} (m : Meaning D) (a b : Pool D FireLinks) (fills : Image → Changed → Type 0)
+    (refuses : Image → SpaceFault → Type 0) (it : Damaged) (image : Image) → Tells m a.disk image
+    → FailsOwn m a b fills refuses (faults.Damaged it) → ShowsStill m a b image
+own_still {D} m a b fills refuses it image tells (not_filled keeps alone told why) = record {
+  like = keeps.dirty;
+  same = keeps.geometry;
+  tells = tells_on m a b image keeps tells;
+}
+own_still {D} m a b fills refuses it image tells (not_changed batch ready keeps online filled fails) =
+    subst (λ (x : Pool D FireLinks). ShowsStill m a x image) (sym fails.same) (record {
+      like = keeps.dirty;
+      same = keeps.geometry;
+      tells = tells_on m a ready image keeps tells;
+    })
+
+module _ {D P : Type 0} (m : Meaning D) (known : KnownOfBacks D P m) (apart : GivenApart) (law : KeysMeetNoDamage D m)
+    (missing : KeysMissNoPage D m) (rows_law : RowsMeetNoDamage D m) (old new : Core D) (t : TxNo)
+    (core : IsCore m old) where
+  module _ (point : Point) (begun : Core D) (undo : Undo) (has_begun : HasBegun old begun t.0 undo)
+      (reaches : MayReach undo point) (stopped : Core D) (refusal : Refusal) (o : Opening) (h : Entries)
+      (stands : StandsFor m old o h) where
+    abbrev e : Entry
+    e = entry (back_event t point) Fine
+
+    abbrev s : Standing
+    s = standing_of old stands.numbers stands.tables
+
+    abbrev whole : List Change
+    whole = since_point point (deeds_by t.0 (steps o h))
+
+    abbrev firsts : List Change
+    firsts = first_of (since_point point (deeds_by t.0 (steps o h)))
+
+    abbrev told : Change → Kept
+    told = given_from (stands.numbers t.0) (own o (entry (back_event t point) Fine ∷ h) t.0)
+
+    shows : ShowsIt m old o h (standing_of old stands.numbers stands.tables)
+    shows = shows_of m old o h stands has_begun.continues.0
+
+    begun_is : not_asking t.0 begun ≡ begun_as old begun t.0
+    begun_is = ap (λ (c : Core D). not_asking t.0 c) has_begun.ended.same
+
+    may : MayGoTo point (deeds_by t.0 (steps o h))
+    may = may_go m old t point undo has_begun.continues has_begun.its o h stands known.notes point reaches
+
+    left_rows : AreKeysOf (of_others firsts ++ of_catalog firsts) (since_point point (deeds_by t.0 (steps o h)))
+    left_rows = apart.all firsts whole (known.keys.first whole)
+
+    -- ---- what is given
+
+    module _ (given : List Kept) (end : Undo) (all : GivesAll (going_to undo point) given end) where
+      gave : GivesAll (going_to (s.undo t.0) point) given end
+      gave = subst (λ (u : Undo). GivesAll (going_to u point) given end)
+          (sym has_begun.its.2 ∙ sym (ap undo_kept has_begun.its.1)) all
+
+      others : others_of old.catalog.pointer.0 given
+          ≡ map (given_from (stands.numbers t.0) (own o (entry (back_event t point) Fine ∷ h) t.0)) (of_others firsts)
+      others = others_are m known.what_was known.keys apart old t.0 point o h e stands shows has_begun.continues.1
+          (takes_back t point) may given end gave
+
+      of_tables : EachChange (IsOfTable o h t.0) (of_others firsts)
+      of_tables = each_of_table m known.what_was known.keys apart old t.0 point o h e stands shows
+          has_begun.continues.1 (takes_back t point) may given end gave
+
+    -- ---- it stops at a change of another table
+
+    other_stays : StopsOthers m (not_asking t.0 begun) stopped t.0 (going_to undo point) refusal
+        → stopped.damage ≡ old.damage
+    other_stays stops = change_stays m known law missing old begun stopped t point undo core has_begun o h stands shows
+        (of_others firsts) (of_catalog firsts) (of_tables (stops.given ++ rest.0) rest.1 all) left_rows stops.at
+        (others_of page stops.given) (others_of page next.0) stops.change told_is takes refusal stops.fails
+      where
+        page : ℕ
+        page = old.catalog.pointer.0
+
+        rest : (given : List Kept) × (end : Undo) × GivesAll stops.left given end
+        rest = known.to_end stops.left
+
+        next : (more : List Kept) × (rest.0 ≡ stops.change ∷ more)
+        next = given_next stops.left rest.1 rest.0 stops.change stops.next rest.2
+
+        all : GivesAll (going_to undo point) (stops.given ++ rest.0) rest.1
+        all = known.gives_on (going_to undo point) stops.left rest.1 stops.given rest.0 stops.steps rest.2
+
+        apart_page : stops.change.table ≢ old.catalog.pointer.0
+        apart_page = subst (λ (c : Core D). stops.change.table ≢ c.catalog.pointer.0) begun_is stops.other
+
+        told_is : others_of old.catalog.pointer.0 stops.given
+            ++ (stops.change ∷ others_of old.catalog.pointer.0 next.0)
+            ≡ map (given_from (stands.numbers t.0) (own o (entry (back_event t point) Fine ∷ h) t.0)) (of_others firsts)
+        told_is = ap (λ (ks : List Kept). others_of old.catalog.pointer.0 stops.given ++ ks)
+            (sym (other_first old.catalog.pointer.0 stops.change next.0 apart_page))
+            ∙ (ap (λ (ks : List Kept). others_of old.catalog.pointer.0 stops.given
+            ++ others_of old.catalog.pointer.0 ks) (sym next.1)
+            ∙ (sym (others_on old.catalog.pointer.0 stops.given rest.0) ∙ others (stops.given ++ rest.0) rest.1 all))
+
+        takes : TakesChanges m t.0 (begun_as old begun t.0) (others_of old.catalog.pointer.0 stops.given) stops.at
+        takes = subst (λ (c : Core D). TakesChanges m t.0 c (others_of c.catalog.pointer.0 stops.given) stops.at)
+            begun_is stops.takes
+
+    -- ---- it stops at the rows
+
+    module _ (mid : Core D) (end : Undo)
+        (taken : TakesOthers m (not_asking t.0 begun) mid t.0 (going_to undo point) end) where
+      has_taken : HasTakenKeys m old.store.geometry.size o h e t.0 whole whole (of_others firsts) (of_catalog firsts) s
+          old.store old.store (shown old.store.dirty shows.image) shows.stands.shows shows.image
+          (asked_in (with_work t.0 unasked old.works)) (sessions_in old.works) (begun_as old begun t.0) mid
+      has_taken = known.takes_all (begun_as old begun t.0) (begun_as old begun t.0) mid s old.store.geometry.size o h e
+          point t.0 whole whole (of_others firsts) (of_catalog firsts) old.store old.store
+          (shown old.store.dirty shows.image) shows.stands.shows shows.image
+          (asked_in (with_work t.0 unasked old.works)) (sessions_in old.works) refl refl
+          (opening m known old begun t point undo core has_begun o h stands shows) shows.stands.legal
+          shows.stands.memory (goes m known old begun t point undo core has_begun o h stands shows)
+          (kept_begun m known old begun t point undo core has_begun o h stands shows)
+          (of_tables taken.given end taken.steps) left_rows refl
+          (subst (λ (ks : List Kept). TakesChanges m t.0 (begun_as old begun t.0) ks mid)
+          (others taken.given end taken.steps)
+          (subst (λ (c : Core D). TakesChanges m t.0 c (others_of c.catalog.pointer.0 taken.given) mid) begun_is
+          taken.takes)) (midway m known old begun t point undo core has_begun o h stands shows)
+          (knows m known old begun t point undo core has_begun o h stands shows) shows.catalog
+
+      kept_now : KeptIn packed_form mid.store.geometry.size o (again t.0 has_taken.rest (e ∷ h)) (said old.list)
+          (asked_in (with_work t.0 unasked old.works)) (sessions_in old.works) mid.store has_taken.image
+      kept_now = subst (λ (n : ℕ). KeptIn packed_form n o (again t.0 has_taken.rest (e ∷ h)) (said old.list)
+          (asked_in (with_work t.0 unasked old.works)) (sessions_in old.works) mid.store has_taken.image)
+          (sym has_taken.knows.size_is) has_taken.midway.cache.kept
+
+      fault_stays : (keys : List Value) (fault : SpaceFault) → FailsRowsOut m mid.store stopped.store (said old.list)
+          old.live t.0 old.catalog keys fault → (shortages : ℕ)
+          → CountsFault fault old.damage stopped.damage old.shortages shortages → stopped.damage ≡ old.damage
+      fault_stays keys (faults.Full limit) fails shortages counts = counts.0
+      fault_stays keys (faults.Damaged it) fails shortages counts = absurd (rows_law mid.store stopped.store
+          has_taken.image o (again t.0 has_taken.rest (e ∷ h)) (said old.list) old.live t.0 old.catalog keys
+          (asked_in (with_work t.0 unasked old.works)) (sessions_in old.works) has_begun.continues.1
+          (catalog_is old.catalog (header_of (shown mid.store.dirty has_taken.image)).catalog.0 core.catalog
+          has_taken.catalog) kept_now
+          (own_still m mid.store stopped.store _ _ it has_taken.image has_taken.knows.tells fails.own) it
+          (fails.damage it refl has_taken.image has_taken.knows.tells))
+      fault_stays keys (faults.Pool (pool_faults.DiskRead n)) fails shortages counts = counts.0
+      fault_stays keys (faults.Pool (pool_faults.DiskWrite n)) fails shortages counts = counts.0
+      fault_stays keys (faults.Pool (pool_faults.Offline n)) fails shortages counts = counts.0
+      fault_stays keys (faults.Pool (pool_faults.Absent n)) fails shortages counts =
+          absurd (own_missing m mid.store stopped.store _ _ n fails.own)
+      fault_stays keys (faults.Pool pool_faults.Memory) fails shortages counts = counts.0
+
+      rows_stay : (keys : List Value) → FailsTheRows m mid stopped t.0 keys refusal → stopped.damage ≡ old.damage
+      rows_stay keys fails =
+          let its = subst (λ (c : Core D). FailsTheRows m c stopped t.0 keys refusal) has_taken.same fails in
+          fault_stays keys its.fault its.fails stopped.shortages its.counts
+
+    both_stay : (keys : List Value) → StopsBoth m (not_asking t.0 begun) stopped t.0 (going_to undo point) keys refusal
+        → stopped.damage ≡ old.damage
+    both_stay keys (stops_at_other stops) = other_stays stops
+    both_stay keys (stops_at_rows mid end taken fails) = rows_stay mid end taken keys fails
+
+  -- ---- each outcome
+
+  pub over_fails : (point : Point) (refusal : Refusal) → FailsTablesTo m old new t.0 point refusal
+      → DamageStays m old new
+  over_fails point refusal (tables_not_begun refused) o h stands told = ap (λ (c : Core D). c.damage) refused.wait.same
+  over_fails point refusal (tables_not_copied begun continues ended is gives) o h stands told =
+      given_up_stays begun new t.0 refusal gives ∙ ap (λ (c : Core D). c.damage) ended.same
+  over_fails point refusal (tables_not_taken begun undo has_begun reaches (rows_unknown is gives)) o h stands told =
+      given_up_stays begun new t.0 refusal gives ∙ ap (λ (c : Core D). c.damage) has_begun.ended.same
+  over_fails point refusal (tables_not_taken begun undo has_begun reaches (tables_stopped keys stopped rows stops gives))
+      o h stands told = given_up_stays stopped new t.0 refusal gives
+      ∙ both_stay point begun undo has_begun reaches stopped refusal o h stands keys stops
+
+  pub over_takes : (point : Point) → TakesTablesTo m old new t.0 point → new.damage ≡ old.damage
+  over_takes point takes = ap (λ (c : Core D). c.damage) takes.takes.same
+      ∙ (ap (λ (c : Core D). c.damage) takes.takes.takes.rows.same
+      ∙ (taken_stays m t.0 (not_asking t.0 takes.begun) takes.takes.takes.mid
+      (others_of takes.begun.catalog.pointer.0 takes.takes.takes.others.given) takes.takes.takes.others.takes
+      ∙ ap (λ (c : Core D). c.damage) takes.has_begun.ended.same))
+
+pub marks_over_meet_no_damage : {D P : Type 0} (m : Meaning D) → KnownOfBacks D P m → GivenApart
+    → KeysMeetNoDamage D m → KeysMissNoPage D m → RowsMeetNoDamage D m → MarksOverMeetNoDamage D m
+marks_over_meet_no_damage m known apart law missing rows_law old new t (Ok x) core takes o h stands told =
+    over_takes m known apart law missing rows_law old new t core LastMark takes
+marks_over_meet_no_damage m known apart law missing rows_law old new t (Err refusal) core fails o h stands told =
+    over_fails m known apart law missing rows_law old new t core LastMark refusal fails o h stands told
+
+pub savepoints_over_meet_no_damage : {D P : Type 0} (m : Meaning D) → KnownOfBacks D P m → GivenApart
+    → KeysMeetNoDamage D m → KeysMissNoPage D m → RowsMeetNoDamage D m → SavepointsOverMeetNoDamage D m
+savepoints_over_meet_no_damage m known apart law missing rows_law old new t name (Ok true) core gone o h stands told =
+    over_takes m known apart law missing rows_law old new t core (SavepointNamed name) gone.1
+savepoints_over_meet_no_damage {D} m known apart law missing rows_law old new t name (Ok false) core gone o h stands
+    told = ap (λ (c : Core D). c.damage) gone.2
+savepoints_over_meet_no_damage m known apart law missing rows_law old new t name (Err refusal) core fails o h stands
+    told = over_fails m known apart law missing rows_law old new t core (SavepointNamed name) refusal fails o h stands
+    told

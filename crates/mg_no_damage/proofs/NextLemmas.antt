@@ -1,0 +1,258 @@
+-- A transaction is taken back over some changes, and then comes the next one: the engine finds no page damaged.
+use Rattle.std.proofs.Common.{◌≡◌, ◌⊎◌, inl, inr, ◌==◌, ◌++◌, ap, refl, sym, subst, ◌∙◌, ℕ, Bool, true, false, ◌&&◌, List, [], ◌∷◌, Option, None, Some}
+use Rattle.std.proofs.lemmas.Bool.{eqb-true, false≢true}
+use Rattle.std.proofs.lemmas.List.{append_assoc}
+use Rattle.std.specs.Cmp.Lexicographic.{same_text}
+use Rattle.std.specs.Prelude.{if◌then◌else◌, is_some, map}
+use Rattle.mg_base.specs.Disk.{Meaning}
+use Rattle.mg_base.specs.declared.numbers.TxNo.{TxNo}
+use Rattle.mg_core.specs.Cores.{IsCore}
+use Rattle.mg_core.specs.Refusing.{CountsFault}
+use Rattle.mg_core.specs.declared.parts.Core.{Core}
+use Rattle.mg_engine_changes.specs.BackBegun.{begun_work, goes, kept_begun, knows, midway, opening}
+use Rattle.mg_engine_changes.specs.Events.{undo_is}
+use Rattle.mg_engine_changes.specs.Keys.{HasTakenKeys, IsOfTable}
+use Rattle.mg_engine_changes.specs.Known.{KnownOfBacks}
+use Rattle.mg_engine_changes.specs.Outcomes.{back_event}
+use Rattle.mg_engine_changes.specs.Stopped.{each_front}
+use Rattle.mg_engine_changes.specs.StopsAfter.{begun_as}
+use Rattle.mg_engine_changes.specs.ToTake.{AreKeysOf, EachChange, since_point}
+use Rattle.mg_engine_changes.specs.WrittenLaws.{first_named}
+use Rattle.mg_engine_meaning.specs.Standings.{AreOfKept, AreTold, ShowsIt, StandsFor, asked_in, sessions_in, standing_of}
+use Rattle.mg_engine_steps.specs.Known.{catalog_is_shown}
+use Rattle.mg_engine_steps.specs.Standing.{Standing}
+use Rattle.mg_model.specs.Changes.{has_change, same_key, same_name}
+use Rattle.mg_model.specs.History.{Entries, Entry, entry}
+use Rattle.mg_model.specs.Machine.{changes_in, deeds_by, own, steps}
+use Rattle.mg_model.specs.Openings.{everyone}
+use Rattle.mg_model.specs.declared.answer.Answer.TheVariants.{Fine}
+use Rattle.mg_model.specs.declared.change.Change.{Change}
+use Rattle.mg_model.specs.declared.change.Deed.{Deed}
+use Rattle.mg_model.specs.declared.change.Deed.TheVariants.{Changed, Marked, Saved}
+use Rattle.mg_model.specs.declared.change.Point.{Point}
+use Rattle.mg_model.specs.declared.opening.Opening.{Opening}
+use Rattle.mg_model.specs.declared.refusal.Refusal.{Refusal}
+use Rattle.mg_model.specs.declared.table.Table.{Table}
+use Rattle.mg_overlays.specs.Overlays.{left_state}
+use Rattle.mg_pool.specs.Pool.{shown}
+use Rattle.mg_pool.specs.declared.fault.PoolFault.TheVariants as pool_faults
+use Rattle.mg_space.specs.declared.fault.SpaceFault.{SpaceFault}
+use Rattle.mg_space.specs.declared.fault.SpaceFault.TheVariants as faults
+use Rattle.mg_taking_back.specs.Changes.{FailsChange, change_not_taken, change_of_none}
+use Rattle.mg_taking_back.specs.Keys.{FailsKey}
+use Rattle.mg_taking_back.specs.Taking.{HasBegun, TakesChanges}
+use Rattle.mg_txlist.specs.TxList.{said}
+use Rattle.mg_undo.specs.Machine.{changes_of, given_from, was_in}
+use Rattle.mg_undo.specs.Undo.{State as Undo, TakesBack as GivesAll, ends, gives, take_back}
+use Rattle.mg_undo.specs.declared.changes.Change.{Change as Kept}
+use Rattle.mg_value.specs.declared.value.Value.{Value}
+use Rattle.mg_works.specs.Works.{Working, unasked, with_work, written_by, written_in, written_to}
+use Rattle.mg_no_damage.specs.BackKeys.{KeysMeetNoDamage, KeysMissNoPage}
+
+-- ---- lists
+
+-- What is given is told by the first of these, and then comes one more.
+pub record IsNext (f : Change → Kept) (cs : List Change) (given : List Kept) (change : Kept) : Type 0 where
+  pub keys : List Change
+  pub c : Change
+  pub more : List Change
+  pub parts : cs ≡ keys ++ (c ∷ more)
+  pub told : given ≡ map f keys
+  pub is_ : f c ≡ change
+
+cons_is : (a b : Kept) (xs ys : List Kept) → a ≡ b → xs ≡ ys → a ∷ xs ≡ b ∷ ys
+cons_is a b xs ys head tail = λ i. head i ∷ tail i
+
+next_of : (f : Change → Kept) (given rest : List Kept) (change : Kept) (cs : List Change)
+    → given ++ (change ∷ rest) ≡ map f cs → IsNext f cs given change
+next_of f [] rest change [] is = absurd cc
+next_of f [] rest change (c ∷ cs) is =
+    let head : f c ≡ change = cc in
+    record { keys = []; c = c; more = cs; parts = refl; told = refl; is_ = head }
+next_of f (g ∷ given) rest change [] is = absurd cc
+next_of f (g ∷ given) rest change (x ∷ cs) is =
+    let head : g ≡ f x = cc in
+    let tail : given ++ (change ∷ rest) ≡ map f cs = cc in
+    let its : IsNext f cs given change = next_of f given rest change cs tail in record {
+      keys = x ∷ its.keys;
+      c = its.c;
+      more = its.more;
+      parts = ap (λ (xs : List Change). x ∷ xs) its.parts;
+      told = cons_is g (f x) given (map f its.keys) head its.told;
+      is_ = its.is_;
+    }
+
+each_at : (P : Change → Type 0) (keys more : List Change) (c : Change) → EachChange P (keys ++ (c ∷ more)) → P c
+each_at P [] more c each = each.0
+each_at P (k ∷ keys) more c each = each_at P keys more c each.1
+
+-- the one that is given next comes first of all that would be given
+pub given_next : (left end : Undo) (given : List Kept) (change : Kept) → (take_back left).given ≡ Some change
+    → GivesAll left given end → (more : List Kept) × (given ≡ change ∷ more)
+given_next left end given change next (ends none after) =
+    let both : None ≡ Some change = sym none ∙ next in absurd cc
+given_next left end given change next (gives {given = rest} c some more) =
+    let both : Some c ≡ Some change = sym some ∙ next in
+    let same : c ≡ change = cc in (rest, ap (λ (k : Kept). k ∷ rest) same)
+
+-- ---- tables
+
+-- where the catalog does not begin at a page, the table is one that the transaction keeps
+kept_back : (first number : ℕ) (catalog : Table) (kept found : Option Table) → (first ≡ number → ⊥)
+    → (if first == number then Some catalog else kept) ≡ found → kept ≡ found
+kept_back first number catalog kept found apart is = at (first == number) refl is
+  where
+    at : (b : Bool) → (first == number) ≡ b → (if b then Some catalog else kept) ≡ found → kept ≡ found
+    at true same is_ = absurd (apart (eqb-true first number same))
+    at false off is_ = is_
+
+-- the table of a change among deeds is the catalog, or kept
+told_there : (catalog : ℕ) (written : List Table) (number : List ℕ → ℕ) (deeds : List Deed) (name : List ℕ)
+    (key : Value) → has_change (changes_in deeds) name key ≡ true
+    → AreOfKept catalog written (changes_of number deeds)
+    → (number name ≡ catalog) ⊎ (is_some (written_in written (number name)) ≡ true)
+told_there catalog written number [] name key has_ are = absurd (false≢true has_)
+told_there catalog written number (Changed c ∷ deeds) name key has_ are =
+    at (same_name c.table name) (same_key c.key key) refl has_
+    (λ more. told_there catalog written number deeds name key more are.1)
+  where
+    at : (a b : Bool) → same_name c.table name ≡ a
+        → (if a && b then true else has_change (changes_in deeds) name key) ≡ true
+        → (has_change (changes_in deeds) name key ≡ true
+        → (number name ≡ catalog) ⊎ (is_some (written_in written (number name)) ≡ true))
+        → (number name ≡ catalog) ⊎ (is_some (written_in written (number name)) ≡ true)
+    at true true same has_it later = subst (λ (n : List ℕ). (number n ≡ catalog)
+        ⊎ (is_some (written_in written (number n)) ≡ true)) (same_text c.table name (sym same)) are.0
+    at true false same has_it later = later has_it
+    at false b off has_it later = later has_it
+told_there catalog written number (Marked ∷ deeds) name key has_ are =
+    told_there catalog written number deeds name key has_ are
+told_there catalog written number (Saved saved ∷ deeds) name key has_ are =
+    told_there catalog written number deeds name key has_ are
+
+-- ---- the next change
+
+module _ {D P : Type 0} (m : Meaning D) (known : KnownOfBacks D P m) (law : KeysMeetNoDamage D m)
+    (missing : KeysMissNoPage D m) (old begun stopped : Core D) (t : TxNo) (point : Point) (undo : Undo)
+    (core : IsCore m old) (has_begun : HasBegun old begun t.0 undo) (o : Opening) (h : Entries)
+    (stands : StandsFor m old o h) (shows : ShowsIt m old o h (standing_of old stands.numbers stands.tables)) where
+  abbrev e : Entry
+  e = entry (back_event t point) Fine
+
+  abbrev s : Standing
+  s = standing_of old stands.numbers stands.tables
+
+  abbrev whole : List Change
+  whole = since_point point (deeds_by t.0 (steps o h))
+
+  abbrev works : List Working
+  works = with_work t.0 unasked old.works
+
+  abbrev told : Change → Kept
+  told = given_from (stands.numbers t.0) (own o (entry (back_event t point) Fine ∷ h) t.0)
+
+  module _ (at_core : Core D) (keys more : List Change) (c : Change)
+      (taken : HasTakenKeys m old.store.geometry.size o h e t.0 whole whole keys (c ∷ more) s old.store old.store
+      (shown old.store.dirty shows.image) shows.stands.shows shows.image
+      (asked_in (with_work t.0 unasked old.works)) (sessions_in old.works) (begun_as old begun t.0) at_core)
+      (of : IsOfTable o h t.0 c) where
+    not_catalog : old.catalog.pointer.0 ≡ stands.numbers t.0 c.table → ⊥
+    not_catalog same = of.other (sym (first_named old.store.geometry.size (left_state everyone s.state)
+        (shown at_core.store.dirty taken.image) taken.midway.pages.layout taken.midway.pages.reading
+        taken.midway.pages.sound c.table (stands.numbers t.0 c.table) taken.midway.pages.layout.catalog.table
+        ((taken.midway.pages.tables t.0 has_begun.continues.1).changed c.table c.key of.made)
+        (catalog_is_shown taken.midway.pages.layout)
+        (ap (λ (x : Table). x.pointer.0) taken.midway.pages.sound.catalog ∙ (sym taken.catalog ∙ same)))
+        ∙ ap (λ (x : Table). x.name) taken.midway.pages.sound.catalog)
+
+    -- the table of the change is kept
+    kept_told : AreOfKept old.catalog.pointer.0 has_begun.its.0.written
+        (changes_of (stands.numbers t.0) (deeds_by t.0 (steps o h)))
+    kept_told = subst (λ (u : Undo). AreOfKept old.catalog.pointer.0 has_begun.its.0.written u.changes)
+        (has_begun.its.2 ∙ undo_is m old t point undo has_begun.continues has_begun.its o h stands)
+        (subst (AreTold old.catalog.pointer.0) (begun_work m known old begun t point undo core has_begun o h stands shows)
+        ((kept_begun m known old begun t point undo core has_begun o h stands shows).told t.0))
+
+    its_kept : is_some (written_to works t.0 (stands.numbers t.0 c.table)) ≡ true
+    its_kept = ap (λ (w : Option Working). is_some (written_by w (stands.numbers t.0 c.table)))
+        (begun_work m known old begun t point undo core has_begun o h stands shows)
+        ∙ at (told_there old.catalog.pointer.0 has_begun.its.0.written (stands.numbers t.0)
+        (deeds_by t.0 (steps o h)) c.table c.key of.made kept_told)
+      where
+        at : (stands.numbers t.0 c.table ≡ old.catalog.pointer.0)
+            ⊎ (is_some (written_in has_begun.its.0.written (stands.numbers t.0 c.table)) ≡ true)
+            → is_some (written_in has_begun.its.0.written (stands.numbers t.0 c.table)) ≡ true
+        at (inl same) = absurd (not_catalog (sym same))
+        at (inr is) = is
+
+    -- so it is not taken back by a fault that is no damage
+    fault_stays : (after : Core D) (fault : SpaceFault) (table : Table)
+        → written_to works t.0 (stands.numbers t.0 c.table) ≡ Some table
+        → FailsKey m at_core.store after.store (said old.list) old.live t.0 table c.key
+        (was_in (own o (entry (back_event t point) Fine ∷ h) t.0) c.table c.key) fault → (shortages : ℕ)
+        → CountsFault fault old.damage after.damage old.shortages shortages → after.damage ≡ old.damage
+    fault_stays after (faults.Full limit) table kept fails shortages counts = counts.0
+    fault_stays after (faults.Damaged it) table kept fails shortages counts = absurd (law old.store.geometry.size o h e
+        t.0 whole taken.rest s old.store at_core.store after.store (shown old.store.dirty shows.image)
+        shows.stands.shows taken.image (asked_in (with_work t.0 unasked old.works)) (sessions_in old.works)
+        taken.midway shows.stands.memory has_begun.continues.1 old.catalog.pointer.0 works
+        (kept_begun m known old begun t point undo core has_begun o h stands shows) taken.knows c taken.to_come.each.0
+        of.made table kept (was_in (own o (entry (back_event t point) Fine ∷ h) t.0) c.table c.key) it fails)
+    fault_stays after (faults.Pool (pool_faults.DiskRead n)) table kept fails shortages counts = counts.0
+    fault_stays after (faults.Pool (pool_faults.DiskWrite n)) table kept fails shortages counts = counts.0
+    fault_stays after (faults.Pool (pool_faults.Offline n)) table kept fails shortages counts = counts.0
+    fault_stays after (faults.Pool (pool_faults.Absent n)) table kept fails shortages counts =
+        absurd (missing at_core.store after.store (said old.list) old.live t.0 table c.key
+        (was_in (own o (entry (back_event t point) Fine ∷ h) t.0) c.table c.key) n fails)
+    fault_stays after (faults.Pool pool_faults.Memory) table kept fails shortages counts = counts.0
+
+    fails_stay : (refusal : Refusal)
+        → FailsChange m (record (begun_as old begun t.0) { store = at_core.store }) stopped t.0
+        (given_from (stands.numbers t.0) (own o (entry (back_event t point) Fine ∷ h) t.0) c) refusal
+        → stopped.damage ≡ old.damage
+    fails_stay refusal (change_of_none none counts) = absurd (false≢true (sym (ap is_some
+        (kept_back old.catalog.pointer.0 (stands.numbers t.0 c.table) old.catalog
+        (written_to works t.0 (stands.numbers t.0 c.table)) None not_catalog none)) ∙ its_kept))
+    fails_stay refusal (change_not_taken table fails) = fault_stays stopped fails.fault table
+        (kept_back old.catalog.pointer.0 (stands.numbers t.0 c.table) old.catalog
+        (written_to works t.0 (stands.numbers t.0 c.table)) (Some table) not_catalog fails.found) fails.fails
+        stopped.shortages fails.counts
+
+  -- ---- once some of these were taken back
+
+  module _ (cs rows : List Change) (each : EachChange (IsOfTable o h t.0) cs)
+      (are : AreKeysOf (cs ++ rows) (since_point point (deeds_by t.0 (steps o h)))) (at_core : Core D)
+      (given rest : List Kept) (change : Kept)
+      (told_is : given ++ (change ∷ rest)
+      ≡ map (given_from (stands.numbers t.0) (own o (entry (back_event t point) Fine ∷ h) t.0)) cs)
+      (takes : TakesChanges m t.0 (begun_as old begun t.0) given at_core) where
+    its : IsNext (given_from (stands.numbers t.0) (own o (entry (back_event t point) Fine ∷ h) t.0)) cs given change
+    its = next_of told given rest change cs told_is
+
+    left_keys : AreKeysOf (its.keys ++ (its.c ∷ (its.more ++ rows))) (since_point point (deeds_by t.0 (steps o h)))
+    left_keys = subst (λ (xs : List Change). AreKeysOf xs (since_point point (deeds_by t.0 (steps o h))))
+        (append_assoc its.keys (its.c ∷ its.more) rows)
+        (subst (λ (xs : List Change). AreKeysOf (xs ++ rows) (since_point point (deeds_by t.0 (steps o h)))) its.parts are)
+
+    has_taken : HasTakenKeys m old.store.geometry.size o h e t.0 whole whole its.keys (its.c ∷ (its.more ++ rows)) s
+        old.store old.store (shown old.store.dirty shows.image) shows.stands.shows shows.image
+        (asked_in (with_work t.0 unasked old.works)) (sessions_in old.works) (begun_as old begun t.0) at_core
+    has_taken = known.takes_all (begun_as old begun t.0) (begun_as old begun t.0) at_core s old.store.geometry.size o h e
+        point t.0 whole whole its.keys (its.c ∷ (its.more ++ rows)) old.store old.store
+        (shown old.store.dirty shows.image) shows.stands.shows shows.image
+        (asked_in (with_work t.0 unasked old.works)) (sessions_in old.works) refl refl
+        (opening m known old begun t point undo core has_begun o h stands shows) shows.stands.legal shows.stands.memory
+        (goes m known old begun t point undo core has_begun o h stands shows)
+        (kept_begun m known old begun t point undo core has_begun o h stands shows)
+        (each_front (IsOfTable o h t.0) its.keys (its.c ∷ its.more) (subst (EachChange (IsOfTable o h t.0)) its.parts each))
+        left_keys refl (subst (λ (ks : List Kept). TakesChanges m t.0 (begun_as old begun t.0) ks at_core) its.told takes)
+        (midway m known old begun t point undo core has_begun o h stands shows)
+        (knows m known old begun t point undo core has_begun o h stands shows) shows.catalog
+
+    pub change_stays : (refusal : Refusal) → FailsChange m at_core stopped t.0 change refusal
+        → stopped.damage ≡ old.damage
+    change_stays refusal fails = fails_stay at_core its.keys (its.more ++ rows) its.c has_taken
+        (each_at (IsOfTable o h t.0) its.keys its.more its.c (subst (EachChange (IsOfTable o h t.0)) its.parts each))
+        refusal (subst (λ (x : Kept). FailsChange m (record (begun_as old begun t.0) { store = at_core.store }) stopped
+        t.0 x refusal) (sym its.is_) (subst (λ (x : Core D). FailsChange m x stopped t.0 change refusal) has_taken.same
+        fails))

@@ -1,0 +1,189 @@
+-- A row is written without damage.
+use Rattle.std.proofs.Common.{◌≡◌, ◌⊎◌, ◌∙◌, Option, inl, inr, ℕ, Bool, true, None, Some, Ok, Err, refl, sym, ap, subst}
+use Rattle.mg_base.specs.Disk.{Meaning}
+use Rattle.mg_base.specs.Image.{Image}
+use Rattle.mg_base.specs.declared.numbers.RecId.{RecId}
+use Rattle.mg_base.specs.declared.numbers.TxNo.{TxNo}
+use Rattle.mg_model.specs.History.{Entries}
+use Rattle.mg_model.specs.Openings.{everyone}
+use Rattle.mg_model.specs.declared.opening.Opening.{Opening}
+use Rattle.mg_model.specs.declared.refusal.Refusal.{Refusal}
+use Rattle.mg_model.specs.declared.table.Table.{Table}
+use Rattle.mg_overlays.specs.Overlays.{left_state}
+use Rattle.mg_pool.specs.Batch.{Changed}
+use Rattle.mg_pool.specs.Pool.{shown}
+use Rattle.mg_pool.specs.declared.fault.PoolFault.TheVariants as faults
+use Rattle.mg_pool.specs.declared.pool.Pool.{Pool}
+use Rattle.mg_records.specs.Writing.{FitsShape}
+use Rattle.mg_records.specs.declared.write.Write.{Write}
+use Rattle.mg_row_writes.specs.Changing.{FailsOwn, not_changed, not_filled}
+use Rattle.mg_row_writes.specs.Laying.{FailsLay, no_first, no_place, not_cleared, not_pushed}
+use Rattle.mg_row_writes.specs.Storing.{row_stored, written_at}
+use Rattle.mg_row_writes.specs.declared.before.Before.{Before}
+use Rattle.mg_row_writes.specs.declared.before.Way.{Way}
+use Rattle.mg_row_writes.specs.declared.before.Way.TheVariants as ways
+use Rattle.mg_rowcode.specs.Storable.{AreStorable}
+use Rattle.mg_space.specs.ViewLaws.{CountsNow}
+use Rattle.mg_space.specs.declared.fault.SpaceFault.{SpaceFault}
+use Rattle.mg_space.specs.declared.fault.SpaceFault.TheVariants as space
+use Rattle.mg_space.specs.declared.links.FireLinks.{FireLinks}
+use Rattle.mg_value.specs.declared.shape.Shape.{Shape}
+use Rattle.mg_version.specs.declared.cell.Version.{Version}
+use Rattle.mg_works.specs.Works.{given_to}
+use Rattle.mg_core.specs.declared.parts.Core.{Core}
+use Rattle.mg_core.specs.Cores.{Continues, IsCore}
+use Rattle.mg_core.specs.Events.{EndsWait}
+use Rattle.mg_core.specs.Putting.{FailsKept, FailsPut, no_before, no_lay, no_version, not_kept, not_laid, too_long}
+use Rattle.mg_core.specs.Refusing.{CountsFault}
+use Rattle.mg_core.specs.Writing.{FailsWrite, IsFree, Writes, at_record, at_row, at_table, no_key, not_begun, not_put, only_reads}
+use Rattle.mg_no_damage.specs.CoreReads.{BeforesAreRead, KeysAreNamed, RecordsArePassed, RowsAreFound, ShowsTable, TablesArePassed}
+use Rattle.mg_engine_changes.specs.KeptTables.{NotedTablesAreKept, NotedWorksStay, NotesStay}
+use Rattle.mg_engine_changes.specs.Laid.{HasNoted}
+use Rattle.mg_engine_changes.specs.NotedLaws.{noted_core, noted_given, table_noted}
+use Rattle.mg_engine_changes.specs.Notes.{HasRead}
+use Rattle.mg_engine_changes.specs.RefusalLaws.{free_read}
+use Rattle.mg_engine_changes.specs.Refusals.{IsReady}
+use Rattle.mg_engine_meaning.specs.Meaning.{Places}
+use Rattle.mg_engine_meaning.specs.Standings.{ShowsIt, StandsFor, standing_of}
+use Rattle.mg_engine_meaning.specs.StepLaws.{shows_of}
+use Rattle.mg_engine_steps.specs.Known.{IsShown, seen_is_shown}
+use Rattle.mg_no_damage.specs.Keyed.{IsKeyed, TablesAreKeyed}
+use Rattle.mg_taking_back.specs.Noting.{FailsNoted, noted_fails, noted_memory, noted_not, with_noted}
+use Rattle.mg_no_damage.specs.Calls.{WritesMeetNone}
+use Rattle.mg_no_damage.specs.CountLaws.{count, ended, refused}
+use Rattle.mg_no_damage.proofs.LayLemmas.{laid, may_store}
+use Rattle.mg_no_damage.specs.ShownLaws.{catalog_there, shown_table}
+use Rattle.mg_no_damage.specs.StageLaws.{at_befores, at_keys, at_records, at_rows, at_tables, own_there, read_stands}
+use Rattle.mg_no_damage.proofs.WriteParts.{WriteParts}
+
+-- ---- a batch is refused by no absent page
+
+lay_there : {D : Type 0} (m : Meaning D) (a b : Pool D FireLinks) (owner : ℕ) (way : Way) (v : Version) (n : ℕ)
+    → FailsLay m a b owner way v (space.Pool (faults.Absent n)) → ⊥
+lay_there m a b owner ways.Make v n (no_place own) = own_there m a b _ _ n own
+lay_there m a b owner ways.Make v n (no_first at placed takes own) = own_there m placed b _ _ n own
+lay_there m a b owner (ways.Push rec) v n own = own_there m a b _ _ n own
+lay_there m a b owner (ways.PushOverDead rec) v n (not_cleared own) = own_there m a b _ _ n own
+lay_there m a b owner (ways.PushOverDead rec) v n (not_pushed placed takes own) = own_there m placed b _ _ n own
+lay_there m a b owner (ways.Replace rec) v n own = own_there m a b _ _ n own
+
+-- ---- the laws on what is read
+
+-- What a write reads meets no damage.
+pub record ReadParts {D : Type 0} (m : Meaning D) : Type 0 where
+  pub keyed : TablesAreKeyed
+  pub named : KeysAreNamed D
+  pub tables : TablesArePassed m
+  pub rows : RowsAreFound m
+  pub records : RecordsArePassed m
+  pub befores : BeforesAreRead m
+
+-- ---- a row is not written
+
+module _ {D P : Type 0} (m : Meaning D) (places : Places P) (parts : WriteParts m) (reads : ReadParts m)
+    (old new : Core D) (t : TxNo) (table : Table) (write : Write) (core : IsCore m old)
+    (given : given_to old.works t.0 table.name ≡ Some table) (noted : HasNoted old.works t.0 table)
+    (fits : FitsShape table.shape write) (storable : AreStorable (row_stored table write)) (o : Opening) (h : Entries)
+    (stands : StandsFor m old o h) (told : m.tells old.store.disk ≡ true) where
+  module _ (continues : Continues old t.0) where
+    abbrev shows : ShowsIt m old o h (standing_of old stands.numbers stands.tables)
+    shows = shows_of m old o h stands continues.0
+
+    there : IsShown shows.stands.shows.layout table
+    there = seen_is_shown shows.stands.shows.layout table
+        ((shows.stands.shows.tables t.0 continues.1).seen table.name table (stands.given t.0 table.name table given))
+
+    tables : ShowsTable m old shows.image table
+    tables = shown_table parts.records parts.stand m old o h (standing_of old stands.numbers stands.tables) shows told
+        table there
+
+    catalogs : ShowsTable m old shows.image old.catalog
+    catalogs = shown_table parts.records parts.stand m old o h (standing_of old stands.numbers stands.tables) shows
+        told old.catalog (catalog_there parts.records parts.stand m old o h
+        (standing_of old stands.numbers stands.tables) shows told core)
+
+    keyed : IsKeyed table.shape
+    keyed = subst IsKeyed there.same.shape (reads.keyed old.store.geometry.size
+        (left_state everyone (standing_of old stands.numbers stands.tables).state) (shown old.store.dirty shows.image)
+        shows.stands.shows.layout shows.stands.shows.reading shows.stands.shows.sound there.its there.stands)
+
+  -- the version is not laid
+  kept_stands : (read : Core D) (before : Before) (v : Version) (refusal : Refusal)
+      → IsReady m old read t table write before v
+      → FailsKept m read new t.0 table.pointer.0 (written_at table write) before v refusal
+      → new.damage ≡ read.damage
+  kept_stands read before v refusal ready (too_long never counts) = absurd (never (may_store m places parts old t table
+      write core given noted fits storable o h read before v ready stands))
+  kept_stands read before v refusal ready (not_kept may told_) = ap count told_.1
+  kept_stands read before v refusal ready (not_laid fails) = at fails.fault fails.fails fails.counts
+    where
+      at : (fault : SpaceFault) → FailsLay m read.store new.store table.pointer.0 before.way v fault
+          → CountsFault fault read.damage new.damage read.shortages new.shortages → new.damage ≡ read.damage
+      at (space.Full limit) lay counts = counts.0
+      at (space.Damaged it) lay counts = absurd (laid m places parts old t table write core given noted fits storable o
+          h read before v ready stands new.store it before.way refl lay)
+      at (space.Pool (faults.DiskRead n)) lay counts = counts.0
+      at (space.Pool (faults.DiskWrite n)) lay counts = counts.0
+      at (space.Pool (faults.Offline n)) lay counts = counts.0
+      at (space.Pool (faults.Absent n)) lay counts =
+          absurd (lay_there m read.store new.store table.pointer.0 before.way v n lay)
+      at (space.Pool faults.Memory) lay counts = counts.0
+
+  put_stands : (free : Core D) (wait : Bool) (rec : Option RecId) (refusal : Refusal) → IsFree m old free t table write wait rec
+      → FailsPut m free new t table write (written_at table write) rec refusal → new.damage ≡ old.damage
+  put_stands free wait rec refusal is (no_version told_) = ap count told_.1 ∙ ap count
+      (free_read m parts.counts_now old core t table write free wait rec is).same
+  put_stands free wait rec refusal is (no_before fails) =
+      let begun = is.has_found.has_passed.has_begun.continues in
+      at_befores m parts.counts_now old core t table write (shows begun).image (tables begun) (catalogs begun)
+      reads.befores free new wait rec refusal is fails
+  put_stands free wait rec refusal is (no_lay read before v has fails) =
+      kept_stands read before v refusal
+      (record { free = free; wait = wait; rec = rec; is_free = is; has = has }) fails
+      ∙ (read_stands m free read has.reads
+      ∙ ap count (free_read m parts.counts_now old core t table write free wait rec is).same)
+
+  pub failed : (refusal : Refusal) → FailsWrite m old new t table write refusal → new.damage ≡ old.damage
+  failed refusal (not_begun is) = refused old new t.0 refusal is
+  failed refusal (only_reads continues wait may) = ended old new t.0 wait
+  failed refusal (at_table begun wait has stops) = at_tables m parts.counts_now old core t table write
+      (shows has.continues).image (tables has.continues) (catalogs has.continues) reads.tables begun new wait refusal
+      has stops
+  failed refusal (no_key passed wait has fails) =
+      let begun = has.has_begun.continues in
+      at_keys m parts.counts_now old core t table write (shows begun).image (tables begun) (catalogs begun) reads.named
+      (keyed begun) fits passed new wait refusal has fails
+  failed refusal (at_row passed wait has some fails) =
+      let begun = has.has_begun.continues in
+      at_rows m parts.counts_now old core t table write (shows begun).image (tables begun) (catalogs begun) reads.rows
+      passed new wait refusal has fails
+  failed refusal (at_record found wait rec has stops) =
+      let begun = has.has_passed.has_begun.continues in
+      at_records m parts.counts_now old core t table write (shows begun).image (tables begun) (catalogs begun)
+      reads.records found new wait rec refusal has stops
+  failed refusal (not_put free wait rec is fails) = put_stands free wait rec refusal is fails
+
+-- ---- the call
+
+-- a row that is written
+written : {D : Type 0} (m : Meaning D) (counts_now : CountsNow m) (old new : Core D) (t : TxNo) (table : Table)
+    (write : Write) → IsCore m old → Writes m old new t table write → new.damage ≡ old.damage
+written m counts_now old new t table write core writes = ap count writes.puts.laid.same
+    ∙ (read_stands m writes.free writes.puts.read writes.puts.has.reads
+    ∙ ap count (free_read m counts_now old core t table write writes.free writes.wait writes.rec writes.is_free).same)
+
+pub writes : {D P : Type 0} (m : Meaning D) (places : Places P) → WriteParts m → ReadParts m → NotedWorksStay
+    → NotedTablesAreKept → NotesStay D m → WritesMeetNone D m
+writes m places parts reads works_stay kept notes_stay old new t table write (Ok x) core given fits storable writes_ o h
+    stands told = written m parts.counts_now (with_noted t.0 table old) new t table write
+    (noted_core works_stay m notes_stay old t table given core) writes_
+writes m places parts reads works_stay kept notes_stay old new t table write (Err refusal) core given fits storable
+    (noted_not is) o h stands told = refused old new t.0 refusal is
+writes m places parts reads works_stay kept notes_stay old new t table write (Err refusal) core given fits storable
+    (noted_memory continues wait is) o h stands told = ended old new t.0 wait
+writes m places parts reads works_stay kept notes_stay old new t table write (Err refusal) core given fits storable
+    (noted_fails fails) o h stands told = failed m places parts reads (with_noted t.0 table old) new t table write
+    (noted_core works_stay m notes_stay old t table given core)
+    (noted_given works_stay m notes_stay old t table given t.0 table.name ∙ given)
+    (table_noted kept old t table given) fits storable o h (notes_stay old t.0 table o h given stands) told refusal
+    fails

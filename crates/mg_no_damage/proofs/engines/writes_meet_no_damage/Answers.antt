@@ -1,0 +1,52 @@
+use Rattle.mg_engine_meaning.specs.Meaning.{Places}
+use Rattle.mg_no_damage.proofs.WriteLemmas.{ReadParts, writes}
+use Rattle.mg_no_damage.proofs.WriteParts.{WriteParts}
+use Rattle.mg_no_damage.proofs.engines.writes_meet_no_damage.Goals as goal
+
+-- places that nobody walks to
+no_places : Places (Unit {0})
+no_places = record { rec = λ x. record { page = record { 0 = 0 }; slot = 0 }; sequence = λ x. 0; rank = λ x. 0 }
+
+pub returns : goal.returns
+returns g c = writes g.D.Disk.meaning no_places (record {
+  speakers = c.keys_are_answered.ensures.speakers;
+  obstacles = c.keys_are_answered.ensures.obstacles;
+  rows = c.keys_are_answered.ensures.rows;
+  nothing = c.keys_are_answered.ensures.nothing;
+  begin = c.histories_go_on.ensures.begins;
+  verdicts = c.verdicts_are_the_machines.ensures;
+  nobody = c.notes_follow_the_machine.ensures.none;
+  befores = c.befores_are_told.ensures;
+  follow = c.made_writes_follow.ensures;
+  may_write = c.seen_may_be_written.ensures;
+  coded = c.stored_rows_are_coded.ensures;
+  lists = c.lists_go_on.ensures.stay;
+  one = c.one_reading.ensures.packed_rows;
+  on = c.tips_stay.ensures.on;
+  behind = c.tips_stay.ensures.behind;
+  keep_plain = c.writes_keep_plain.ensures;
+  ways_free = c.ways_are_free.ensures;
+  counts_now = g.met.D.Disk.counts_now;
+  holds = g.met.D.Disk.holds;
+  unask = c.unasking_lasts.ensures;
+  last = c.batches_last.ensures.reads;
+  still = c.batches_last.ensures.still;
+  deads = c.deads_go.ensures;
+  places_of = c.records_are_those_of_every_reading.ensures.places;
+  speak = c.records_are_those_of_every_reading.ensures.speakers;
+  records = c.sound_images_are_lawful.ensures.records;
+  stand = c.sound_images_are_lawful.ensures.tables;
+  placed = c.records_are_made.ensures.places;
+  room = c.records_are_made.ensures.room;
+  made = c.records_are_made.ensures.made;
+  pushed = c.records_change.ensures.pushed;
+  replaced = c.records_change.ensures.replaced;
+  out = c.records_change.ensures.out;
+}) (record {
+  keyed = c.rows_are_keyed.ensures.tables;
+  named = c.writes_have_keys.ensures;
+  tables = c.reads_meet_no_damage.ensures.tables;
+  rows = c.reads_meet_no_damage.ensures.rows;
+  records = c.reads_meet_no_damage.ensures.records;
+  befores = c.reads_meet_no_damage.ensures.befores;
+}) c.noted_tables_are_quiet.ensures.works c.noted_tables_are_quiet.ensures.kept c.noted_tables_are_quiet.ensures.stands

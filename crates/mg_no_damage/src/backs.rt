@@ -1,0 +1,61 @@
+//! The laws.
+
+ghost use Rattle.mg_no_damage.specs.Backs.{MarksMeetNoDamage, SavepointsMeetNoDamage};
+ghost use Rattle.mg_no_damage.specs.BackKeys.{KeysMeetNoDamage, KeysMissNoPage};
+ghost use Rattle.mg_no_damage.specs.BackRows.{RowsMeetNoDamage};
+ghost use Rattle.mg_no_damage.specs.BackTables.{MarksOverMeetNoDamage, SavepointsOverMeetNoDamage};
+
+use crate::{
+    keys_are_read, lawful_records_are_read, lawful_tables_are_read, records_change,
+    sound_images_are_lawful, versions_go_out,
+};
+use mg_base::Disk;
+use mg_engine_changes::{backs_are_known, kept_tables_stand, rows_are_given};
+use mg_image::one_reading;
+use mg_seek::{keys_are_those_of_the_history, records_are_those_of_every_reading};
+
+/// A key is taken back.
+pub fn keys_meet_no_damage<D: Disk>()
+    ensures damage { KeysMeetNoDamage D D.meaning }
+    ensures pages { KeysMissNoPage D D.meaning }
+{
+    kept_tables_stand();
+    keys_are_those_of_the_history();
+    records_are_those_of_every_reading();
+    sound_images_are_lawful();
+    lawful_tables_are_read::<D>();
+    keys_are_read::<D>();
+    records_change::<D>();
+}
+
+/// A transaction is taken back to a point, where no table goes.
+pub fn backs_meet_no_damage<D: Disk>()
+    ensures marks { MarksMeetNoDamage D D.meaning }
+    ensures savepoints { SavepointsMeetNoDamage D D.meaning }
+{
+    backs_are_known::<D, u32>();
+    keys_meet_no_damage::<D>();
+}
+
+/// Rows of the catalog are taken out in one batch.
+pub fn rows_meet_no_damage<D: Disk>()
+    ensures { RowsMeetNoDamage D D.meaning }
+{
+    one_reading();
+    records_are_those_of_every_reading();
+    sound_images_are_lawful();
+    lawful_records_are_read::<D>();
+    lawful_tables_are_read::<D>();
+    versions_go_out::<D>();
+}
+
+/// A transaction is taken back to a point, over tables that it has made.
+pub fn backs_over_meet_no_damage<D: Disk>()
+    ensures marks { MarksOverMeetNoDamage D D.meaning }
+    ensures savepoints { SavepointsOverMeetNoDamage D D.meaning }
+{
+    backs_are_known::<D, u32>();
+    rows_are_given();
+    keys_meet_no_damage::<D>();
+    rows_meet_no_damage::<D>();
+}

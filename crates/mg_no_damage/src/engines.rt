@@ -1,0 +1,74 @@
+//! The laws.
+
+ghost use Rattle.mg_no_damage.specs.Calls.{AsksMeetNone, BeginsMeetNone, CommitsMeetNone, LooksMeetNone, PageWritesMeetNone, PointsMeetNone, RollbacksMeetNone, StepsMeetNone, WaitsMeetNone, WritesMeetNone};
+
+use crate::{
+    numbers_are_drawn, reads_meet_no_damage, records_are_made, records_change, rows_are_keyed,
+    sound_images_are_lawful, writes_have_keys,
+};
+use mg_base::Disk;
+use mg_engine_changes::{
+    befores_are_told, made_writes_follow, noted_tables_are_quiet, seen_may_be_written,
+    stored_rows_are_coded, ways_are_free, writes_keep_plain,
+};
+use mg_engine_steps::{
+    batches_last, deads_go, keys_are_answered, lists_go_on, tips_stay, unasking_lasts,
+};
+use mg_image::one_reading;
+use mg_model::histories_go_on;
+use mg_seek::records_are_those_of_every_reading;
+use mg_space::FireLinks;
+use mg_waits::{notes_follow_the_machine, verdicts_are_the_machines};
+
+/// Transactions begin.
+pub fn begins_meet_no_damage<D: Disk>()
+    ensures { BeginsMeetNone D D.meaning }
+{
+    numbers_are_drawn::<D>();
+}
+
+/// Events that change what is in memory alone.
+pub fn events_meet_no_damage<D: Disk>()
+    ensures looks { LooksMeetNone D D.meaning }
+    ensures waits { WaitsMeetNone D D.meaning }
+    ensures points { PointsMeetNone D D.meaning }
+    ensures rollbacks { RollbacksMeetNone D D.meaning }
+{}
+
+/// Commits, and page writes.
+pub fn commits_meet_no_damage<D: Disk>()
+    ensures asks { AsksMeetNone D D.meaning }
+    ensures steps { StepsMeetNone D D.meaning }
+    ensures ends { CommitsMeetNone D D.meaning }
+    ensures pages { PageWritesMeetNone D D.meaning }
+{}
+
+/// Rows are written.
+pub fn writes_meet_no_damage<D: Disk>()
+    ensures { WritesMeetNone D D.meaning }
+{
+    keys_are_answered();
+    histories_go_on();
+    verdicts_are_the_machines();
+    notes_follow_the_machine();
+    befores_are_told();
+    made_writes_follow();
+    seen_may_be_written();
+    stored_rows_are_coded();
+    writes_keep_plain();
+    ways_are_free();
+    noted_tables_are_quiet::<D>();
+    one_reading();
+    tips_stay();
+    lists_go_on::<D, FireLinks>();
+    batches_last::<D, FireLinks>();
+    unasking_lasts::<D, FireLinks>();
+    deads_go::<D, FireLinks>();
+    records_are_those_of_every_reading();
+    sound_images_are_lawful();
+    rows_are_keyed();
+    reads_meet_no_damage::<D>();
+    writes_have_keys::<D>();
+    records_are_made::<D>();
+    records_change::<D>();
+}

@@ -1,4 +1,0 @@
-mod BackLemmas
-mod CallLemmas
-mod DrawLemmas
-mod OutLemmas

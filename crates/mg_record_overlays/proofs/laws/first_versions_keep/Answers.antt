@@ -1,6 +1,0 @@
-use Rattle.mg_image.specs.Form.{packed_form}
-use Rattle.mg_record_overlays.specs.AddEvery.{add_every}
-use Rattle.mg_record_overlays.proofs.laws.first_versions_keep.Goals as goal
-
-pub returns : goal.returns
-returns c = add_every packed_form (λ page n is. is)

@@ -1,3 +1,0 @@
-pub mod Occupied
-pub mod Pointers
-pub mod Changed

@@ -1,4 +1,0 @@
-pub mod Runs
-pub mod RunLaws
-pub mod Known
-pub mod OpenedRuns

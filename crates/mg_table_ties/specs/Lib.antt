@@ -1,3 +1,0 @@
-pub mod Ties
-pub mod Made
-pub mod RowsMade

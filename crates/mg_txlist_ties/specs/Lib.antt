@@ -1,2 +1,0 @@
-pub mod DrawTies
-pub mod CommitTies
