@@ -7,7 +7,7 @@
 //!
 //! Invariant (`IsEngine`): the core is lawful, and each session has one active transaction at most.
 //! Below: `mg_core`, the calls over memory and pages; `mg_engine_meaning`, what an engine means; the laws of each kind
-//! of call (`mg_engine_meaning`, `mg_engine_changes`, `mg_engine_changes`, `mg_no_damage`, `mg_no_damage`, `mg_no_damage`).
+//! of call (`mg_engine_meaning`, `mg_engine_changes`, `mg_no_damage`).
 //! Above: the statements' steps.
 #![tactic(auto)]
 
