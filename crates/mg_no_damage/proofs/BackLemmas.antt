@@ -34,7 +34,8 @@ use Rattle.mg_undo.specs.Machine.{first_of, given_from, going_to}
 use Rattle.mg_undo.specs.Undo.{State as Undo, TakesBack as GivesAll}
 use Rattle.mg_undo.specs.declared.changes.Change.{Change as Kept}
 use Rattle.mg_no_damage.proofs.NextLemmas.{change_stays, given_next}
-use Rattle.mg_no_damage.specs.Backs.{DamageStays, MarksMeetNoDamage, SavepointsMeetNoDamage}
+use Rattle.mg_no_damage.specs.Backs.{MarksMeetNoDamage, SavepointsMeetNoDamage}
+use Rattle.mg_no_damage.specs.Stands.{DamageStands}
 use Rattle.mg_no_damage.specs.BackKeys.{KeysMeetNoDamage, KeysMissNoPage}
 
 -- a transaction that is given up leaves the count
@@ -114,7 +115,7 @@ module _ {D P : Type 0} (m : Meaning D) (known : KnownOfBacks D P m) (law : Keys
   begun_stays begun undo has = ap (λ (c : Core D). c.damage) has.ended.same
 
   pub back_fails : (point : Point) → TellsTables old t.0 point false → (refusal : Refusal)
-      → FailsBackTo m old new t.0 point refusal → DamageStays m old new
+      → FailsBackTo m old new t.0 point refusal → DamageStands m old new
   back_fails point none refusal (back_not_begun refused) o h stands told =
       ap (λ (c : Core D). c.damage) refused.wait.same
   back_fails point none refusal (back_not_copied begun continues ended is gives) o h stands told =

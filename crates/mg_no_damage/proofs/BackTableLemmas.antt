@@ -59,7 +59,7 @@ use Rattle.mg_works.specs.Works.{unasked, with_work}
 use Rattle.mg_no_damage.proofs.BackLemmas.{given_up_stays, taken_stays}
 use Rattle.mg_no_damage.proofs.BackKeyLemmas.{own_missing}
 use Rattle.mg_no_damage.proofs.NextLemmas.{change_stays, given_next}
-use Rattle.mg_no_damage.specs.Backs.{DamageStays}
+use Rattle.mg_no_damage.specs.Stands.{DamageStands}
 use Rattle.mg_no_damage.specs.BackKeys.{KeysMeetNoDamage, KeysMissNoPage}
 use Rattle.mg_no_damage.specs.BackRows.{RowsMeetNoDamage, ShowsStill}
 use Rattle.mg_no_damage.specs.BackTables.{MarksOverMeetNoDamage, SavepointsOverMeetNoDamage}
@@ -250,7 +250,7 @@ module _ {D P : Type 0} (m : Meaning D) (known : KnownOfBacks D P m) (apart : Gi
   -- ---- each outcome
 
   pub over_fails : (point : Point) (refusal : Refusal) → FailsTablesTo m old new t.0 point refusal
-      → DamageStays m old new
+      → DamageStands m old new
   over_fails point refusal (tables_not_begun refused) o h stands told = ap (λ (c : Core D). c.damage) refused.wait.same
   over_fails point refusal (tables_not_copied begun continues ended is gives) o h stands told =
       given_up_stays begun new t.0 refusal gives ∙ ap (λ (c : Core D). c.damage) ended.same
