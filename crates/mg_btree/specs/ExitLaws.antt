@@ -31,6 +31,14 @@ online_itself m store pool online = record {
   own = tt;
 }
 
+pub reads_itself : {D L A : Type 0} (m : Meaning D) (store : Pool D L) (x : A) → IsPool m store
+    → store.offline ≡ None → Reads m store store (Ok x)
+reads_itself m store x pool online = record {
+  keeps = keeps_itself m store pool;
+  fault = (online, online, refl);
+  own = tt;
+}
+
 -- and is so where what follows only runs out of memory, or finds damage
 pub reads_ok : {D L A B : Type 0} (m : Meaning D) (old a : Pool D L) (first : Result A SpaceFault) (x : A)
     (y : B) → first ≡ Ok x → Reads m old a first → Reads m old a (Ok y)

@@ -4,6 +4,8 @@ pub mod Searching
 pub mod SearchLaws
 pub mod Ways
 pub mod WayLaws
+pub mod Landings
+pub mod LandingLaws
 pub mod Roots
 pub mod RootLaws
 pub mod Changing

@@ -12,6 +12,8 @@ use Rattle.mg_pool.specs.Batch.{Changed}
 use Rattle.mg_tree_overlays.specs.TreeSteps.{InTree}
 use Rattle.mg_tree_overlays.specs.TreesBehind.{IsFrom}
 use Rattle.mg_btree.specs.declared.node.ReadNode.{ReadNode}
+use Rattle.mg_btree.specs.declared.range.Look.{Look}
+use Rattle.mg_btree.specs.declared.range.Look.TheVariants.{Ends, GoesOn}
 use Rattle.mg_btree.specs.declared.range.Step.{Step}
 use Rattle.mg_btree.specs.declared.range.Walk.{Walk}
 use Rattle.mg_space.specs.declared.fault.SpaceFault.{SpaceFault}
@@ -40,6 +42,20 @@ pub record IsFirst (low : List ℕ) (bound : Option Entry) (es : List Entry) (e 
 abbrev pub IsFirstInRange : List ℕ → Option Entry → List Entry → Option Entry → Type 0
 IsFirstInRange low bound es None = (f : Entry) → HasEntry es f → IsInRange low bound f → ⊥
 IsFirstInRange low bound es (Some e) = IsFirst low bound es e
+
+-- a leaf has that first entry, or none, and then it is the last of its level
+abbrev pub FoundOn : List ℕ → Option Entry → ReadNode → Option Entry → Type 0
+FoundOn low bound leaf None = IsFirstInRange low bound leaf.node.entries.items None
+    × (leaf.node.right.0 ≡ 0)
+FoundOn low bound leaf (Some e) = IsFirstInRange low bound leaf.node.entries.items (Some e)
+
+-- a walk ends at a leaf behind so many others, or goes on to its right neighbour
+abbrev pub LooksOn : List ℕ → Option Entry → ReadNode → ℕ → Look → Type 0
+LooksOn low bound leaf passed (Ends step) = (found : Option Entry)
+    × (step ≡ record { found = found; walk = record { leaf = leaf }; passed = passed })
+    × FoundOn low bound leaf found
+LooksOn low bound leaf passed (GoesOn next) = (next ≡ leaf.node.right) × (leaf.node.right.0 ≢ 0)
+    × IsFirstInRange low bound leaf.node.entries.items None
 
 -- the least entry of a tree in a range, or none
 abbrev pub GivesNext : Pages → ℕ → List ℕ → Option Entry → Option Entry → Type 0

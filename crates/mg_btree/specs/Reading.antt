@@ -6,7 +6,9 @@ use Rattle.mg_base.specs.Image.{blank}
 use Rattle.mg_node.specs.NodePage.{IsNodePage, level_in, node_checks}
 use Rattle.mg_node.specs.NodeReading.{IsNodeOf}
 use Rattle.mg_node.specs.NodeTests.{HasEnough}
+use Rattle.mg_node.specs.declared.node.Node.{Node}
 use Rattle.mg_pool.specs.Fault.{TellsFault}
+use Rattle.mg_pool.specs.declared.fault.PoolFault.TheVariants.{Memory}
 use Rattle.mg_pool.specs.declared.pool.Pool.{Pool}
 use Rattle.mg_space.specs.View.{KeepsStore, ReadsAlone, pool_answer}
 use Rattle.mg_space.specs.declared.fault.SpaceFault.{SpaceFault}
@@ -34,6 +36,10 @@ pub record IsReadNode (size owner level n : ℕ) (read : ReadNode) : Type 0 wher
   pub is : IsNodeOn owner level n read.bytes
   pub says : IsNodeOf read.bytes read.node
 
+-- bytes are such a page, and a node what they say
+abbrev pub IsNodeFrom : ℕ → ℕ → ℕ → List ℕ → Node → Type 0
+IsNodeFrom owner level n bytes node = IsNodeOn owner level n bytes × IsNodeOf bytes node
+
 -- damage comes only where the page is not there, and reads as zero
 abbrev pub RefusesBytes : ℕ → List ℕ → SpaceFault → Type 0
 RefusesBytes size bytes (Full limit) = ⊥
@@ -45,3 +51,9 @@ abbrev pub RefusesNode : ℕ → ℕ → ℕ → List ℕ → SpaceFault → Typ
 RefusesNode owner level n bytes (Full limit) = ⊥
 RefusesNode owner level n bytes (OfPage damage) = IsNodeOn owner level n bytes → ⊥
 RefusesNode owner level n bytes (OfPool fault) = Unit {0}
+
+-- the same of bytes that were read; else memory is wanting
+abbrev pub RefusesContent : ℕ → ℕ → ℕ → List ℕ → SpaceFault → Type 0
+RefusesContent owner level n bytes (Full limit) = ⊥
+RefusesContent owner level n bytes (OfPage damage) = IsNodeOn owner level n bytes → ⊥
+RefusesContent owner level n bytes (OfPool fault) = fault ≡ Memory

@@ -1,6 +1,6 @@
 -- Laws of calls that read index pages.
 use Rattle.std.proofs.Common.{◌≡◌, ap, refl, sym, subst, ◌∙◌, ℕ, zero, suc, true, false, List, Result, Ok, Err}
-use Rattle.std.specs.Prelude.{◌↔◌, IsErrAnd, IsOk, MatchResult}
+use Rattle.std.specs.Prelude.{◌↔◌, IfOk, IsErrAnd, IsOk, MatchResult}
 use Rattle.mg_base.specs.CheckLaws.{passes_from_verdict, verdict_from_passes}
 use Rattle.mg_base.specs.Checks.{Check, PassesAll, common_checks, verdict}
 use Rattle.mg_base.specs.declared.damage.Damaged.{Damaged}
@@ -9,13 +9,15 @@ use Rattle.mg_base.specs.Disk.{Meaning}
 use Rattle.mg_base.specs.Fields.{byte}
 use Rattle.mg_base.specs.Image.{blank}
 use Rattle.mg_node.specs.NodePage.{node_checks}
+use Rattle.mg_node.specs.declared.node.Node.{Node}
 use Rattle.mg_pool.specs.Fault.{TellsFault}
+use Rattle.mg_pool.specs.declared.fault.PoolFault.TheVariants.{Memory}
 use Rattle.mg_pool.specs.declared.pool.Pool.{Pool}
 use Rattle.mg_space.specs.View.{pool_answer}
 use Rattle.mg_space.specs.ViewLaws.{CountsNow, fault_on, keeps_on}
 use Rattle.mg_space.specs.declared.fault.SpaceFault.{SpaceFault}
 use Rattle.mg_space.specs.declared.fault.SpaceFault.TheVariants.{Full, Pool as OfPool, Damaged as OfPage}
-use Rattle.mg_btree.specs.Reading.{IsNodeOn, Reads, RefusesBytes, RefusesNode}
+use Rattle.mg_btree.specs.Reading.{IsNodeFrom, IsNodeOn, Reads, RefusesBytes, RefusesContent, RefusesNode}
 use Rattle.mg_btree.specs.declared.node.ReadNode.{ReadNode}
 
 blank_byte : (size : ℕ) → byte (blank size) 0 ≡ 0
@@ -70,3 +72,51 @@ tells_passes page checks (Err damage) is = (
   (λ passes. let both : ◌≡◌ {A = Result (Unit {0}) Damaged} (Err damage) (Ok tt) =
       is ∙ verdict_from_passes page checks passes in absurd cc),
 )
+
+-- where a call failed nothing is said of what it gives
+pub ok_of_err : {T E : Type 0} (P : T → Type 0) (Q : E → Type 0) (result : Result T E) → IsErrAnd result Q
+    → IfOk result P
+ok_of_err P Q (Ok x) none = absurd none
+ok_of_err P Q (Err e) is = tt
+
+-- bytes are not read for want of memory
+pub content_wants : (owner level n : ℕ) (bytes : List ℕ) (result : Result Node SpaceFault)
+    → IsErrAnd result (λ f. f ≡ OfPool Memory)
+    → MatchResult result (IsNodeFrom owner level n bytes) (RefusesContent owner level n bytes)
+content_wants owner level n bytes (Ok node) none = absurd none
+content_wants owner level n bytes (Err fault) same = rw same refl
+
+-- or they are no node of the level
+pub content_damaged : (owner level n : ℕ) (bytes : List ℕ) (damage : Damaged) (result : Result Node SpaceFault)
+    → IsErrAnd result (λ f. f ≡ OfPage damage) → (IsNodeOn owner level n bytes → ⊥)
+    → MatchResult result (IsNodeFrom owner level n bytes) (RefusesContent owner level n bytes)
+content_damaged owner level n bytes damage (Ok node) none is = absurd none
+content_damaged owner level n bytes damage (Err fault) same is = rw same is
+
+-- what was refused of bytes that were read is told of the page
+pub content_seen : (owner level n : ℕ) (bytes seen : List ℕ) (fault : SpaceFault)
+    (result : Result ReadNode SpaceFault) → bytes ≡ seen → IsErrAnd result (λ f. f ≡ fault)
+    → RefusesContent owner level n bytes fault
+    → MatchResult result (λ read. read.bytes ≡ seen) (RefusesNode owner level n seen)
+content_seen owner level n bytes seen fault (Ok read) same none is = absurd none
+content_seen owner level n bytes seen fault (Err f) same err is =
+    subst (RefusesNode owner level n seen) (sym err) (by fault is)
+  where
+    by : (fault : SpaceFault) → RefusesContent owner level n bytes fault
+        → RefusesNode owner level n seen fault
+    by (Full limit) none = none
+    by (OfPage damage) refuted = subst (λ (b : List ℕ). IsNodeOn owner level n b → ⊥) same refuted
+    by (OfPool f) is = tt
+
+-- and the call has only read
+pub content_reads : {D L A : Type 0} (B : Type 0) (m : Meaning D) (old a : Pool D L) (x : A)
+    (owner level n : ℕ) (bytes : List ℕ) (fault : SpaceFault) (result : Result B SpaceFault)
+    → Reads m old a (Ok x) → IsErrAnd result (λ f. f ≡ fault) → RefusesContent owner level n bytes fault
+    → Reads m old a result
+content_reads B m old a x owner level n bytes fault (Ok y) reads none is = absurd none
+content_reads B m old a x owner level n bytes fault (Err f) reads same is = rw same (by fault is)
+  where
+    by : (fault : SpaceFault) → RefusesContent owner level n bytes fault → Reads {T = B} m old a (Err fault)
+    by (Full limit) none = absurd none
+    by (OfPage damage) refuted = record { keeps = reads.keeps; fault = reads.fault; own = tt }
+    by (OfPool f) wants = rw wants (record { keeps = reads.keeps; fault = reads.fault; own = tt })

@@ -1,5 +1,6 @@
 -- The half to which an entry belongs covers it, and has room for it.
-use Rattle.std.proofs.Common.{◌≡◌, ◌∙◌, refl, sym, subst, ◌≤◌, ◌+◌, ◌/◌, ℕ, List, Option, length, Result, Ok, Err, arith}
+use Rattle.std.proofs.Common.{◌≡◌, ◌∙◌, refl, sym, subst, ◌<◌, ◌≤◌, ◌+◌, ◌/◌, ℕ, List, Option, length, Result, Ok, Err, arith}
+use Rattle.std.proofs.Math.Nat.{lt_of_not-le}
 use Rattle.std.specs.Prelude.{IfOk, IfSome}
 use Rattle.std.specs.declared.cmp.Ordering.{Ordering}
 use Rattle.std.specs.declared.cmp.Ordering.TheVariants.{Less, Equal, Greater}
@@ -25,6 +26,12 @@ room_for_any page size e len short room = at (least_len (is_inner page)) room
   where
     at : (least : ℕ) → least + length page / 8 ≤ room_in page → least + length e.key ≤ room_in page
     at least most = omega (arith, most, short, len)
+
+-- a page without room for an entry has less than the most that one may need
+pub no_room_full : (page : List ℕ) (size : ℕ) (e : Entry) → length page ≡ size
+    → length e.key ≤ size / 8 → (HasRoom page e → ⊥) → room_in page < most_need page
+no_room_full page size e len short none =
+    lt_of_not-le (λ room. none (room_for_any page size e len short room))
 
 module _ (size owner level : ℕ) (e : Entry) (old : List ℕ) (own at : ℕ) (halves : Halves)
     (is : AreHalves old own at halves) (fields : PassesAll (node_checks old own owner))

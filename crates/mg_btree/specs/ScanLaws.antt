@@ -1,5 +1,5 @@
 -- Laws of the steps of a scan along the leaves.
-use Rattle.std.proofs.Common.{◌≡◌, ◌≢◌, ◌∙◌, ap, refl, sym, subst, ◌+◌, ℕ, suc, List, [], Option, None, Result, Ok, Err, arith}
+use Rattle.std.proofs.Common.{◌≡◌, ◌≢◌, ◌∙◌, ap, refl, sym, subst, ◌+◌, ℕ, suc, List, [], Option, Some, None, Result, Ok, Err, arith}
 use Rattle.std.specs.Prelude.{IsErrAnd}
 use Rattle.mg_base.specs.Disk.{Meaning}
 use Rattle.mg_base.specs.Fields.{u32_at}
@@ -7,6 +7,7 @@ use Rattle.mg_base.specs.Image.{Image}
 use Rattle.mg_base.specs.declared.damage.Damaged.{Damaged}
 use Rattle.mg_base.specs.declared.fields.TheConstants.{OWNER_AT}
 use Rattle.mg_base.specs.declared.geometry.TheConstants.{GREATEST_LIMIT}
+use Rattle.mg_base.specs.declared.numbers.PageNo.{PageNo}
 use Rattle.mg_node.specs.declared.entry.Entry.{Entry}
 use Rattle.mg_node.specs.NodePage.{right_in}
 use Rattle.mg_image.specs.Form.{Pages}
@@ -23,10 +24,11 @@ use Rattle.mg_btree.specs.declared.node.ReadNode.{ReadNode}
 use Rattle.mg_btree.specs.Reading.{IsNodeOn, IsReadNode, Reads, RefusesNode}
 use Rattle.mg_btree.specs.Searching.{IsShort}
 use Rattle.mg_btree.specs.SearchLaws.{short_ends, short_right, tree_page, tree_short, viewed_same}
-use Rattle.mg_btree.specs.Ranges.{GivesRange, IsInRange, ScansFrom, StepsOn, no_pages, right_by}
+use Rattle.mg_btree.specs.Ranges.{GivesRange, IsInRange, LooksOn, ScansFrom, Steps, StepsOn, no_pages, right_by}
 use Rattle.mg_btree.specs.Changing.{IsLeaf}
+use Rattle.mg_btree.specs.declared.range.Look.TheVariants.{Ends, GoesOn}
 use Rattle.mg_btree.specs.declared.range.Step.{Step}
-use Rattle.mg_btree.specs.RangeLaws.{goes_right, owner_of_leaf, right_is_node}
+use Rattle.mg_btree.specs.RangeLaws.{goes_right, owner_of_leaf, right_is_node, steps_found, steps_none}
 use Rattle.mg_btree.specs.Scans.{IsScanning}
 
 pub scan_starts : {D L : Type 0} (m : Meaning D) (store : Pool D L) (batch : Changed)
@@ -159,6 +161,60 @@ module _ {D L : Type 0} (m : Meaning D) (counts : CountsNow m) (old a : Pool D L
         tree_page old.geometry.size (viewed old image batch) owner root levels read.page.0 there.tree
         there.placed (short_ends (viewed old image batch) read.page.0
         (scanning.short image owner root levels 0 tells scan (omega (arith, all))))
+
+    -- the walk ends at a leaf
+    pub look_ends : (step : Step) → LooksOn low bound read count (Ends step) → (image : Image)
+        (owner root : ℕ) (levels : List (List ℕ)) → Tells m old.disk image
+        → ScansFrom old.geometry.size (viewed old image batch) owner root levels low bound first
+        → Steps old.geometry.size (viewed old image batch) owner root levels low bound first step
+    look_ends step (None, is, last) image owner root levels tells scan =
+        steps_none old.geometry.size (viewed old image batch) owner root levels low bound read
+        (scanning.scans image owner root levels tells scan) first count step is last.0 last.1
+        (scanning.place image owner root levels tells scan)
+    look_ends step (Some e, is, found) image owner root levels tells scan =
+        steps_found old.geometry.size (viewed old image batch) owner root levels low bound read
+        (scanning.scans image owner root levels tells scan) first count e step is found
+        (scanning.place image owner root levels tells scan)
+
+    pub look_leaf : (step : Step) → LooksOn low bound read count (Ends step)
+        → IsLeaf old.geometry.size step.walk.leaf
+    look_leaf step (found, is, there) =
+        subst (λ (s : Step). IsLeaf old.geometry.size s.walk.leaf) (sym is) scanning.leaf
+
+    -- or it goes on to the right neighbour, which is refused
+    pub look_refused : (passed : ℕ) (right : PageNo) (owner_ : ℕ) (fault : SpaceFault)
+        (result : Result Step SpaceFault) → LooksOn low bound read passed (GoesOn right)
+        → IsErrAnd result (λ f. f ≡ fault) → owner_ ≡ u32_at first.bytes OWNER_AT
+        → ((image : Image) → Tells m a.disk image
+        → RefusesNode owner_ 0 right.0 (viewed a image batch right.0) fault)
+        → (image : Image) (owner root : ℕ) (levels : List (List ℕ)) → Tells m old.disk image
+        → ScansFrom old.geometry.size (viewed old image batch) owner root levels low bound first
+        → StepsOn old.geometry.size (viewed old image batch) owner root levels low bound first result
+    look_refused passed right owner_ fault result (same, some, none) err owner_is refuses =
+        scan_refused owner_ fault result err owner_is some
+        (λ image tells. subst (λ (n : PageNo). RefusesNode owner_ 0 n.0 (viewed a image batch n.0) fault) same
+        (refuses image tells))
+
+    -- or read
+    pub look_next : (passed : ℕ) (right : PageNo) (b : Pool D L) (next : ReadNode) (owner_ : ℕ)
+        → LooksOn low bound read passed (GoesOn right) → Reads m a b (Ok next)
+        → IsReadNode a.geometry.size owner_ 0 right.0 next
+        → ((image : Image) → Tells m a.disk image → next.bytes ≡ viewed a image batch right.0)
+        → IsScanning m old b batch first next low bound (count + 1)
+    look_next passed right b next owner_ (same, some, none) reads is seen =
+        scan_next b next owner_ reads none some
+        (subst (λ (n : ℕ). IsReadNode old.geometry.size owner_ 0 n next) (ap (λ n. n.0) same)
+        (subst (λ (size : ℕ). IsReadNode size owner_ 0 right.0 next)
+        (ap (λ g. g.size) scanning.keeps.geometry) is))
+        (λ image tells. seen image tells ∙ ap (λ (n : PageNo). viewed a image batch n.0) same)
+
+    -- a step that wants memory tells nothing of the tree
+    pub look_wants : (result : Result Step SpaceFault) → IsErrAnd result (λ fault. fault ≡ OfPool Memory)
+        → (image : Image) (owner root : ℕ) (levels : List (List ℕ)) → Tells m old.disk image
+        → ScansFrom old.geometry.size (viewed old image batch) owner root levels low bound first
+        → StepsOn old.geometry.size (viewed old image batch) owner root levels low bound first result
+    look_wants (Ok step) none image owner root levels tells scan = absurd none
+    look_wants (Err fault) same image owner root levels tells scan = rw same tt
 
 pub err_is : {B : Type 0} (fault : SpaceFault) (result : Result B SpaceFault)
     → IsErrAnd result (λ f. f ≡ fault) → result ≡ Err fault

@@ -136,3 +136,16 @@ way_ends m old a batch owner level e page at count way all image root levels tel
     begins_some old.geometry.size (viewed old image batch) owner root levels e level at
     (way.begins image root levels tells begins)
     (short_ends (viewed old image batch) at (way.short image root levels 0 tells begins (omega (arith, all))))
+
+-- where it does come back, no fault was met
+pub way_circle : {D L T : Type 0} (m : Meaning D) (old a : Pool D L) (batch : Changed)
+    (owner level : ℕ) (e : Entry) (page at count : ℕ)
+    → IsOnWay m old a batch owner level e page at count → count ≡ GREATEST_LIMIT → (damage : Damaged)
+    → Reads {T = T} m old a (Err (OfPage damage))
+way_circle m old a batch owner level e page at count way all damage =
+    let online = way.online (omega (arith, all)) in
+    record {
+      keeps = way.keeps;
+      fault = (sym way.keeps.offline ∙ online, online, way.faults);
+      own = tt;
+    }

@@ -8,7 +8,9 @@ ghost use Rattle.mg_node_writing.specs.NodeChanges.{IsSized, most_need, room_in}
 ghost use Rattle.mg_btree.specs.Halves.{AreHalves, CoversBy, HasPlace, HasRoom, IsHalfFor, IsSplitPair, NamesMore, RefusesName, names_in};
 
 use mg_base::{Bytes, Damaged, Field, Memory, PageNo, get_u16};
-use mg_node::{END_AT, Entry, have_same_place, is_below, is_inner, least_len, low_of, read_node};
+use mg_node::{
+    END_AT, Entry, Node, have_same_place, is_below, is_inner, least_len, low_of, read_node,
+};
 use mg_node_writing::{first_stays, insert, split};
 use mg_space::SpaceFault;
 use std::alloc::Global;
@@ -132,6 +134,19 @@ pub(crate) fn names_of(alloc: Global, b: &[u8]) -> Result<Vec<PageNo>, Memory>
     let Some(node) = read_node(alloc, b)? else {
         unreachable!()
     };
+    names_by(alloc, &node)
+}
+
+/// The pages that a node names: its right neighbour and its children, where it has any.
+///
+/// # Errors
+///
+/// `Memory` only.
+fn names_by(alloc: Global, node: &Node) -> Result<Vec<PageNo>, Memory>
+    ensures { IfOk result (λ names. names.items
+        ≡ (if node.now.right.0 == 0 then [] else (node.now.right ∷ []))
+        ++ (if nat_lt 0 node.now.level then map (λ e. e.child) node.now.entries.items else [])) }
+{
     let mut names = Vec::new(alloc);
     name_right(&mut names, node.right)?;
     name_children(&mut names, node.level, &node.entries)?;
@@ -200,6 +215,22 @@ pub(crate) fn has_place(entries: &[Entry], e: &Entry) -> bool
     false
 }
 
+/// Tells whether an entry of a page has the place of another one.
+///
+/// # Errors
+///
+/// `Memory` only.
+fn is_taken(alloc: Global, b: &[u8], e: &Entry) -> Result<bool, Memory>
+    requires sized { IsSized b.now }
+    requires lawful { IsNodePage b.now }
+    ensures { IfOk result (λ taken. IsTrue taken ↔ HasPlace (entries_of b.now) e.now) }
+{
+    let Some(node) = read_node(alloc, b)? else {
+        unreachable!()
+    };
+    Ok(has_place(&node.entries, e))
+}
+
 /// Tests that no entry of a page has the place of another one.
 ///
 /// # Errors
@@ -211,10 +242,7 @@ fn check_free(alloc: Global, page: PageNo, b: &[u8], e: &Entry) -> Result<(), Sp
     ensures { MatchResult result (λ _. HasPlace (entries_of b.now) e.now → ⊥)
         (RefusesName b.now e.now) }
 {
-    let Some(node) = read_node(alloc, b)? else {
-        unreachable!()
-    };
-    if has_place(&node.entries, e) {
+    if is_taken(alloc, b, e)? {
         return Err(SpaceFault::Damaged(Damaged {
             page,
             field: Field::Entry,

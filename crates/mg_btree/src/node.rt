@@ -8,12 +8,13 @@ ghost use Rattle.mg_node.specs.NodeTests.{HasEnough};
 ghost use Rattle.mg_pool.specs.Pool.{IsPool};
 ghost use Rattle.mg_space.specs.Taking.{IsGeometry};
 ghost use Rattle.mg_space.specs.View.{AreWhole, Tells, viewed};
-ghost use Rattle.mg_btree.specs.Reading.{IsReadNode, Reads, RefusesBytes, RefusesNode};
+ghost use Rattle.mg_btree.specs.Reading.{IsNodeFrom, IsReadNode, Reads, RefusesBytes, RefusesContent, RefusesNode};
 
 use mg_base::{Bytes, Damaged, Disk, Field, PageNo, check_field};
 use mg_node::{Node, check_node, check_node_common, count, is_inner, level_of, read_node};
 use mg_pool::Batch;
 use mg_space::{Found, SpaceFault, Store, find_page};
+use std::alloc::Global;
 
 /// An index page that was read.
 #[derive(Drop)]
@@ -134,6 +135,31 @@ fn damage_of(b: &[u8], page: PageNo, owner: u32) -> Damaged
     }
 }
 
+/// What the bytes of an index page of an owner on a level say.
+///
+/// # Errors
+///
+/// `Damaged` exactly where they are none; else `Memory`.
+fn node_of(
+    alloc: Global,
+    b: &[u8],
+    page: PageNo,
+    owner: u32,
+    level: u16,
+) -> Result<Node, SpaceFault>
+    requires least { 1024 ≤ length b.now }
+    requires most { length b.now ≤ 16384 }
+    ensures { MatchResult result (IsNodeFrom owner level page.0 b.now)
+        (RefusesContent owner level page.0 b.now) }
+{
+    // The reading tests the content, so a second test only has to name what is damaged.
+    let Some(node) = read_node(alloc, b)? else {
+        return Err(SpaceFault::Damaged(damage_of(b, page, owner)));
+    };
+    check_as(b, page, owner, level)?;
+    Ok(node)
+}
+
 /// Reads an index page of an owner on a level.
 ///
 /// # Errors
@@ -158,10 +184,6 @@ pub(crate) fn node_on<D: Disk>(
         (viewed store.old image batch.now page.0)) }
 {
     let bytes = bytes_of(store, batch, page)?;
-    // The reading tests the content, so a second test only has to name what is damaged.
-    let Some(node) = read_node(store.alloc(), bytes.as_slice())? else {
-        return Err(SpaceFault::Damaged(damage_of(bytes.as_slice(), page, owner)));
-    };
-    check_as(bytes.as_slice(), page, owner, level)?;
+    let node = node_of(store.alloc(), bytes.as_slice(), page, owner, level)?;
     Ok(ReadNode { page, bytes, node })
 }

@@ -13,7 +13,7 @@ ghost use Rattle.mg_space.specs.Taking.{IsGeometry};
 ghost use Rattle.mg_space.specs.View.{AreWhole, Tells, viewed};
 ghost use Rattle.mg_btree.specs.Changing.{IsLeaf};
 ghost use Rattle.mg_btree.specs.Reading.{Reads};
-ghost use Rattle.mg_btree.specs.Ranges.{GivesRange, IsFirstInRange, IsInRange, ScansFrom, StartsRange, StartsWalk, StepsOn, least_with as least_with_of, no_pages};
+ghost use Rattle.mg_btree.specs.Ranges.{GivesRange, IsFirstInRange, IsInRange, LooksOn, ScansFrom, StartsRange, StartsWalk, StepsOn, least_with as least_with_of, no_pages};
 
 use crate::node::{ReadNode, node_on};
 use crate::search::{circle, leaf_for};
@@ -186,17 +186,47 @@ fn next_from<D: Disk>(
         low.now (option_copied after.entry) start result }
 {
     let owner = get_u32(start.bytes.as_slice(), OWNER_AT);
-    let mut read = start;
+    let mut leaf = start;
     for passed in 0..GREATEST_LIMIT {
-        if let Some(e) = first_in(store.alloc(), &read.node.entries, low, after)? {
-            return Ok(step_at(Some(e), read, passed));
+        let look = look_on(store.alloc(), leaf, low, after, passed)?;
+        match look {
+            Look::Ends(step) => return Ok(step),
+            Look::GoesOn(right) => leaf = node_on(store, batch, owner, right, 0)?,
         }
-        if read.node.right.0 == 0 {
-            return Ok(step_at(None, read, passed));
-        }
-        read = node_on(store, batch, owner, read.node.right, 0)?;
     }
-    Err(SpaceFault::Damaged(circle(read.page)))
+    Err(SpaceFault::Damaged(circle(leaf.page)))
+}
+
+/// What a leaf gives of a range.
+#[derive(Drop)]
+enum Look {
+    /// The first entry of the range, or none where no leaf follows.
+    Ends(Step),
+    /// No entry of the range, and this right neighbour.
+    GoesOn(PageNo),
+}
+
+/// Looks for the first entry of a range on a leaf, behind so many others.
+///
+/// # Errors
+///
+/// `Memory` only.
+fn look_on(
+    alloc: Global,
+    leaf: ReadNode,
+    low: &[u8],
+    after: Option<&Entry>,
+    passed: u32,
+) -> Result<Look, Memory>
+    ensures { IfOk result (LooksOn low.now (option_copied after.entry) leaf passed) }
+{
+    if let Some(e) = first_in(alloc, &leaf.node.entries, low, after)? {
+        return Ok(Look::Ends(step_at(Some(e), leaf, passed)));
+    }
+    if leaf.node.right.0 == 0 {
+        return Ok(Look::Ends(step_at(None, leaf, passed)));
+    }
+    Ok(Look::GoesOn(leaf.node.right))
 }
 
 /// A step that comes to a leaf.

@@ -1,6 +1,6 @@
 //! The search for the page of a level between whose fences an entry lies.
 
-ghost use Rattle.std.specs.Prelude.{◌≡◌, ◌<◌, ◌≤◌, ◌↔◌, IfOk, IfSome, IsOk, List, length, ℕ};
+ghost use Rattle.std.specs.Prelude.{◌≡◌, ◌<◌, ◌≤◌, ◌↔◌, IfOk, IfSome, IsOk, List, MatchResult, length, ℕ};
 ghost use Rattle.mg_base.specs.Image.{Image};
 ghost use Rattle.mg_image.specs.Indexes.{IsTree};
 ghost use Rattle.mg_node.specs.NodePage.{IsAtLeast};
@@ -8,6 +8,7 @@ ghost use Rattle.mg_pool.specs.Pool.{IsPool};
 ghost use Rattle.mg_space.specs.Taking.{IsGeometry};
 ghost use Rattle.mg_space.specs.View.{AreWhole, Tells, viewed};
 ghost use Rattle.mg_btree.specs.Changing.{IsLeaf, ReadsLeaf};
+ghost use Rattle.mg_btree.specs.Landings.{ComesBefore, LandsAt};
 ghost use Rattle.mg_btree.specs.Reading.{Reads};
 ghost use Rattle.mg_btree.specs.Searching.{BeginsAt, ComesTo, IsReached, PassesTo};
 
@@ -40,6 +41,30 @@ fn check_from(low: &Option<Entry>, page: PageNo, e: &Entry) -> Result<(), Damage
     }
 }
 
+/// Where a search along a level goes on from a page that was read.
+#[derive(Drop)]
+enum Landing {
+    /// The entry lies between the fences of the page.
+    Here(ReadNode),
+    /// The entry comes behind the page, which has this right neighbour.
+    Right(PageNo),
+}
+
+/// Tells where a search goes on from a page that was read.
+///
+/// # Errors
+///
+/// `Damaged` exactly where the entry comes before the page's low fence.
+fn land_on(read: ReadNode, e: &Entry) -> Result<Landing, Damaged>
+    ensures { MatchResult result (LandsAt read e.now) (λ _. ComesBefore read e.now) }
+{
+    check_from(&read.node.low, read.page, e)?;
+    if is_up_to(&read.node.high, e) {
+        return Ok(Landing::Here(read));
+    }
+    Ok(Landing::Right(read.node.right))
+}
+
 /// Goes to the right on a level, from a page to the one whose high fence an entry lies below.
 ///
 /// # Errors
@@ -67,11 +92,11 @@ fn land<D: Disk>(
     let mut at = page;
     for _ in 0..GREATEST_LIMIT {
         let read = node_on(store, batch, owner, at, level)?;
-        check_from(&read.node.low, at, e)?;
-        if is_up_to(&read.node.high, e) {
-            return Ok(read);
+        let landing = land_on(read, e)?;
+        match landing {
+            Landing::Here(found) => return Ok(found),
+            Landing::Right(next) => at = next,
         }
-        at = read.node.right;
     }
     Err(SpaceFault::Damaged(circle(at)))
 }

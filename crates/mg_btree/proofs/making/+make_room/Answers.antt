@@ -3,25 +3,95 @@ use Rattle.mg_base.specs.declared.geometry.Geometry.{Geometry}
 use Rattle.mg_space.specs.Taking.{IsGeometry}
 use Rattle.mg_space.specs.View.{AreWhole, viewed}
 use Rattle.mg_btree.specs.declared.halves.PageBytes.{PageBytes}
-use Rattle.mg_btree.specs.ExitLaws.{reads_split}
+use Rattle.mg_btree.specs.ExitLaws.{reads_itself, reads_split}
 use Rattle.mg_btree.specs.Halves.{HasRoom, IsPlaceFor, IsRoomy}
 use Rattle.mg_btree.specs.Making.{SplitsIn}
 use Rattle.mg_btree.specs.MakingLaws.{above_made, rec_refused, split_put, take_refused}
-use Rattle.mg_btree.specs.OrderLaws.{widens_on}
+use Rattle.mg_btree.specs.OrderLaws.{widens_on, widens_same}
 use Rattle.mg_btree.specs.Ordering.{Widens}
 use Rattle.mg_btree.specs.PutAtLaws.{reached_place}
-use Rattle.mg_btree.specs.ReadingLaws.{reads_on}
+use Rattle.mg_btree.specs.ReadingLaws.{ok_of_err, reads_on}
 use Rattle.mg_btree.specs.RoomLaws.{makes_nothing}
+use Rattle.mg_btree.specs.Rooms.{MakesRoomIn}
+use Rattle.std.specs.Prelude.{IfOk}
+use Rattle.mg_btree.specs.declared.making.Split.{Split}
 use Rattle.mg_btree.specs.RowOrderLaws.{not_there}
-use Rattle.mg_btree.specs.RoomyLaws.{split_roomy}
+use Rattle.mg_btree.specs.RoomyLaws.{no_room_full, split_roomy}
 use Rattle.mg_btree.specs.ScanLaws.{reads_err}
 use Rattle.mg_btree.specs.Searching.{IsReached}
 use Rattle.mg_btree.proofs.making.+make_room.Goals as goal
+
+pub returns-then-has_room-clause-reads : goal.returns-then-has_room-clause-reads
+returns-then-has_room-clause-reads g t c = reads_itself g.D.Disk.meaning c.args.store.now c.args.full
+    c.requires.pool c.requires.online
+
+pub returns-then-has_room-clause-widens : goal.returns-then-has_room-clause-widens
+returns-then-has_room-clause-widens g t c = widens_same c.args.store.now.geometry.size c.args.batch.now
+    c.args.batch.now refl
+
+pub returns-then-has_room-clause-roomy : goal.returns-then-has_room-clause-roomy
+returns-then-has_room-clause-roomy g t c = record {
+  place = c.requires.place;
+  room = subst (λ (b : List ℕ). HasRoom b c.args.e.now) c.as_slice.ensures
+      (c.has_room.ensures.0 c.if-has_room.true);
+}
+
+pub returns-then-has_room-clause-in_place : goal.returns-then-has_room-clause-in_place
+returns-then-has_room-clause-in_place g t c = λ room. (refl, refl)
 
 pub returns-then-has_room-clause-makes : goal.returns-then-has_room-clause-makes
 returns-then-has_room-clause-makes g t c = λ image levels tells top stands. makes_nothing
     c.args.store.now.geometry (viewed c.args.store.now image c.args.batch.now) c.args.batch.now
     c.args.top.owner c.args.top.page.0 levels c.args.level c.args.e.now c.args.full stands
+
+pub grow_root-requires-clause-place : goal.grow_root-requires-clause-place
+grow_root-requires-clause-place g t c = subst (λ (k : ℕ). IsPlaceFor c.args.store.now.geometry.size
+    c.args.top.owner k c.args.e.now c.args.full) c.if-level-top.true c.requires.place
+
+pub grow_root-requires-clause-full : goal.grow_root-requires-clause-full
+grow_root-requires-clause-full g t c = no_room_full c.args.full.bytes c.args.store.now.geometry.size
+    c.args.e.now c.requires.place.len c.requires.short (λ room. not_there c.has_room.result c.has_room.ensures.1 c.if-has_room.false
+    (subst (λ (b : List ℕ). HasRoom b c.args.e.now) (sym c.as_slice.ensures) room))
+
+pub returns-then-level-top-clause-reads : goal.returns-then-level-top-clause-reads
+returns-then-level-top-clause-reads g t c = c.grow_root.ensures.reads
+
+pub returns-then-level-top-clause-widens : goal.returns-then-level-top-clause-widens
+returns-then-level-top-clause-widens g t c = c.grow_root.ensures.widens
+
+pub returns-then-level-top-clause-roomy : goal.returns-then-level-top-clause-roomy
+returns-then-level-top-clause-roomy g t c = subst (λ (k : ℕ). IfOk c.grow_root.result
+    (IsRoomy c.args.store.now.geometry.size c.args.top.owner k c.args.e.now)) (sym c.if-level-top.true)
+    c.grow_root.ensures.roomy
+
+pub returns-then-level-top-clause-in_place : goal.returns-then-level-top-clause-in_place
+returns-then-level-top-clause-in_place g t c = λ room. absurd (not_there c.has_room.result c.has_room.ensures.1 c.if-has_room.false
+    (subst (λ (b : List ℕ). HasRoom b c.args.e.now) (sym c.as_slice.ensures) room))
+
+pub returns-then-level-top-clause-makes : goal.returns-then-level-top-clause-makes
+returns-then-level-top-clause-makes g t c = λ image levels tells top stands.
+    subst (λ (k : ℕ). MakesRoomIn c.args.store.now.geometry
+    (viewed c.args.store.now image c.args.batch.now) (viewed c.args.store.now image c.grow_root.new.batch)
+    c.args.batch.now c.grow_root.new.batch c.args.top.owner c.args.top.page.0 levels k c.args.e.now
+    c.grow_root.result) (sym c.if-level-top.true) (c.grow_root.ensures.makes image levels tells top stands)
+
+pub take_above-requires-clause-full : goal.take_above-requires-clause-full
+take_above-requires-clause-full g t c = no_room_full c.args.full.bytes c.args.store.now.geometry.size
+    c.args.e.now c.requires.place.len c.requires.short (λ room. not_there c.has_room.result c.has_room.ensures.1 c.if-has_room.false
+    (subst (λ (b : List ℕ). HasRoom b c.args.e.now) (sym c.as_slice.ensures) room))
+
+pub returns-in_err-split-clause-reads : goal.returns-in_err-split-clause-reads
+returns-in_err-split-clause-reads g t c = reads_err Split g.D.Disk.meaning c.args.store.now
+    c.take_above.new.store c.in_err-split.field-0.0 c.from_residual.result c.from_residual.ensures.1
+    c.in_err-split.ensures.reads
+
+pub returns-in_err-split-clause-roomy : goal.returns-in_err-split-clause-roomy
+returns-in_err-split-clause-roomy g t c = ok_of_err (IsRoomy c.args.store.now.geometry.size
+    c.args.top.owner c.args.level c.args.e.now) _ c.from_residual.result c.from_residual.ensures.1
+
+pub returns-in_err-split-clause-in_place : goal.returns-in_err-split-clause-in_place
+returns-in_err-split-clause-in_place g t c = λ room. absurd (not_there c.has_room.result c.has_room.ensures.1 c.if-has_room.false
+    (subst (λ (b : List ℕ). HasRoom b c.args.e.now) (sym c.as_slice.ensures) room))
 
 pub returns-in_err-split-clause-makes : goal.returns-in_err-split-clause-makes
 returns-in_err-split-clause-makes g t c = λ image levels tells top stands. take_refused
@@ -71,6 +141,15 @@ returns-in_err-roomy-clause-widens g t c = widens_on c.args.store.now.geometry.s
     (subst (λ (k : Geometry). Widens k.size c.take_above.new.batch c.make_room.new.batch)
     c.in_ok-split.ensures.reads.keeps.geometry c.in_err-roomy.ensures.widens)
 
+pub returns-in_err-roomy-clause-roomy : goal.returns-in_err-roomy-clause-roomy
+returns-in_err-roomy-clause-roomy g t c = ok_of_err (IsRoomy c.args.store.now.geometry.size
+    c.args.top.owner c.args.level c.args.e.now) _ c.from_residual-in_err-roomy.result
+    c.from_residual-in_err-roomy.ensures.1
+
+pub returns-in_err-roomy-clause-in_place : goal.returns-in_err-roomy-clause-in_place
+returns-in_err-roomy-clause-in_place g t c = λ room. absurd (not_there c.has_room.result c.has_room.ensures.1 c.if-has_room.false
+    (subst (λ (b : List ℕ). HasRoom b c.args.e.now) (sym c.as_slice.ensures) room))
+
 pub returns-in_err-roomy-clause-makes : goal.returns-in_err-roomy-clause-makes
 returns-in_err-roomy-clause-makes g t c = λ image levels tells top stands.
     let lower : c.args.level < c.args.top.level = (search rules) in
@@ -114,6 +193,10 @@ returns-clause-roomy g t c =
     (subst (λ (k : Geometry). SplitsIn k.size c.make_room.new.batch c.put_split.new.batch
     c.in_ok-split.split.halves c.in_ok-roomy.roomy c.args.e.now c.put_split.result) second
     c.put_split.ensures.splits)
+
+pub returns-clause-in_place : goal.returns-clause-in_place
+returns-clause-in_place g t c = λ room. absurd (not_there c.has_room.result c.has_room.ensures.1 c.if-has_room.false
+    (subst (λ (b : List ℕ). HasRoom b c.args.e.now) (sym c.as_slice.ensures) room))
 
 pub returns-clause-makes : goal.returns-clause-makes
 returns-clause-makes g t c = λ image levels tells top stands.

@@ -3,12 +3,20 @@ use Rattle.mg_node.specs.NodePage.{right_in}
 use Rattle.mg_btree.specs.ExitLaws.{reads_ok}
 use Rattle.mg_btree.specs.PassLaws.{pass_down, pass_tested, pass_unread}
 use Rattle.mg_btree.specs.RowOrderLaws.{not_there}
-use Rattle.mg_btree.specs.WayLaws.{way_damaged, way_ends, way_next, way_reads, way_starts}
+use Rattle.mg_btree.specs.ScanLaws.{reads_err}
+use Rattle.mg_btree.specs.WayLaws.{way_circle, way_damaged, way_ends, way_next, way_reads, way_starts}
 use Rattle.mg_btree.proofs.search.pass.Goals as goal
 
 pub loop-init : goal.loop-init
 loop-init g c = way_starts g.D.Disk.meaning c.args.store.now c.args.batch.now c.args.owner c.args.level
     c.args.e.now c.args.page.0 c.requires.pool
+
+pub returns-in_err-bytes-clause-reads : goal.returns-in_err-bytes-clause-reads
+returns-in_err-bytes-clause-reads g c = reads_err _ g.D.Disk.meaning c.args.store.now c.bytes_of.new.store
+    c.in_err-bytes.field-0.0 c.from_residual.result c.from_residual.ensures.1
+    (way_reads g.D.Disk.meaning g.met.D.Disk.counts_now c.args.store.now c.loop.store
+    c.bytes_of.new.store c.args.batch.now c.args.owner c.args.level c.args.e.now c.args.page.0
+    c.loop.at.0 c.loop.counter _ c.loop.invariant c.in_err-bytes.ensures.reads)
 
 pub returns-in_err-bytes-clause-passes : goal.returns-in_err-bytes-clause-passes
 returns-in_err-bytes-clause-passes g c = pass_unread g.D.Disk.meaning c.args.store.now c.loop.store
@@ -55,6 +63,11 @@ loop-preserved g c = way_next g.D.Disk.meaning g.met.D.Disk.counts_now c.args.st
     (λ image tells. c.as_slice-in-loop.ensures ∙ c.in_ok-bytes.ensures.seen image tells)
     (λ lawful. not_there c.is_under.result (c.is_under.ensures lawful).1 c.if-is_under.false)
     (c.right_of-at.ensures ∙ ap right_in (c.as_slice-in-loop-2.ensures ∙ sym c.as_slice-in-loop.ensures))
+
+pub returns-clause-reads : goal.returns-clause-reads
+returns-clause-reads g c = way_circle g.D.Disk.meaning c.args.store.now c.loop.store
+    c.args.batch.now c.args.owner c.args.level c.args.e.now c.args.page.0 c.loop.at.0 c.loop.counter
+    c.loop.invariant (search rules) c.circle.result
 
 pub returns-clause-passes : goal.returns-clause-passes
 returns-clause-passes g c = λ image root levels tells begins. absurd (way_ends g.D.Disk.meaning
