@@ -5,7 +5,7 @@ use mg_reading::TablePages;
 use mg_trees::Levels;
 
 /// A table of an image, and where it stands.
-#[derive(Debug, Drop)]
+#[derive(Drop)]
 pub struct TableStand {
     pub table: Table,
     pub pages: TablePages,
@@ -14,7 +14,7 @@ pub struct TableStand {
 }
 
 /// Where the catalog stands, and where the tables stand that it names, in the order of their names.
-#[derive(Debug, Drop)]
+#[derive(Drop)]
 pub struct Standing {
     pub catalog: TableStand,
     pub tables: Vec<TableStand>,

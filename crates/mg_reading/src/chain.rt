@@ -14,7 +14,7 @@ use mg_pointer::{COUNT_AT, ENTRIES_AT, ENTRY_LEN, next_of};
 use std::alloc::Global;
 
 /// The pages of a table, in the order of their places.
-#[derive(Debug, Drop)]
+#[derive(Drop)]
 pub struct TablePages {
     pub pointers: Vec<u32>,
     pub data_pages: Vec<u32>,

@@ -21,7 +21,7 @@ use mg_value::{MOST_COLUMNS, Row};
 use std::alloc::Global;
 
 /// The rows of a table.
-#[derive(Debug, Drop)]
+#[derive(Drop)]
 pub struct TableRows {
     pub rows: Vec<Row>,
 }

@@ -7,7 +7,7 @@ use mg_base::{Bytes, Memory, PageNo, is_page_size};
 use std::alloc::Global;
 
 /// The pages of a database file, all of one lawful size. A page past the end reads as zero.
-#[derive(Debug, Drop)]
+#[derive(Drop)]
 pub struct Image {
     size: u32,
     pages: Vec<Bytes>,

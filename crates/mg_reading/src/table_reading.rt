@@ -23,7 +23,7 @@ use mg_value::MOST_COLUMNS;
 use std::alloc::Global;
 
 /// A table as it was read: its pages, and what was read of each slot of its data pages.
-#[derive(Debug, Drop)]
+#[derive(Drop)]
 pub struct TableReading {
     pub pages: TablePages,
     pub found: Vec<Found>,

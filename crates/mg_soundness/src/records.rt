@@ -18,7 +18,7 @@ use mg_reading::{
 use std::alloc::Global;
 
 /// The records of a table: of each slot of its data pages what was read.
-#[derive(Debug, Drop)]
+#[derive(Drop)]
 pub struct TableRecords {
     pub found: Vec<Found>,
 }

@@ -5,7 +5,7 @@ ghost use Rattle.std.specs.Prelude.{◌≡◌};
 use std::marker::Model;
 
 /// The pages of a level, from the leftmost one on.
-#[derive(Debug, Drop)]
+#[derive(Drop)]
 pub struct Level {
     pages: Vec<u32>,
 }
@@ -35,7 +35,7 @@ impl Level {
 }
 
 /// The levels of a tree, from the root's level down.
-#[derive(Debug, Drop)]
+#[derive(Drop)]
 pub struct Levels {
     levels: Vec<Level>,
 }
