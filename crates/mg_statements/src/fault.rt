@@ -47,12 +47,13 @@ impl<T: Drop> From<AllocFailed<T>> for SqlFault {
 
 impl fmt::Display for SqlFault {
     fn fmt<W: fmt::Write>(&self, f: &mut fmt::Formatter<W>) -> fmt::Result {
-        match self {
-            SqlFault::Syntax { at } => write!(f, "SYNTAX AT {at}"),
-            SqlFault::NameTooLong { at } => write!(f, "NAME TOO LONG AT {at}"),
-            SqlFault::NumberTooLarge { at } => write!(f, "NUMBER TOO LARGE AT {at}"),
-            SqlFault::TooDeep { at } => write!(f, "TOO DEEP AT {at}"),
-            SqlFault::Memory => write!(f, "OUT OF MEMORY"),
-        }
+        let (text, at) = match self {
+            SqlFault::Syntax { at } => ("SYNTAX", at),
+            SqlFault::NameTooLong { at } => ("NAME TOO LONG", at),
+            SqlFault::NumberTooLarge { at } => ("NUMBER TOO LARGE", at),
+            SqlFault::TooDeep { at } => ("TOO DEEP", at),
+            SqlFault::Memory => return f.write_str("OUT OF MEMORY"),
+        };
+        write!(f, "{text} AT {at}")
     }
 }

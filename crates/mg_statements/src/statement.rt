@@ -60,8 +60,10 @@ pub enum Statement {
 }
 
 /// Lets a statement go. A function at whose end a statement would end hands it on to this one: the end is proved for each
-/// kind of statement, at each place where it is written or implied.
-pub fn let_go(_statement: Statement) {}
+/// kind of statement, at each place where it is written or implied, but once for all calls of `drop`.
+pub fn let_go(statement: Statement) {
+    drop(statement);
+}
 
 /// A column of a new table.
 #[derive(Clone, Copy, Debug)]
