@@ -1,12 +1,15 @@
 //! Databases made by hand: what is read of them, and what is refused.
 
+mod cases;
 mod catalog;
 mod cells;
 mod layout;
+mod nodes;
 mod overlays;
 mod pages;
 mod reading;
 mod seek;
+mod sheets;
 mod soundness;
 mod tables;
 mod trees;

@@ -1,13 +1,13 @@
 //! Small catalogs made by hand: the tables that they name, and the first bad row of each broken
 //! one.
 
+use super::cases::{Case, hold_each};
 use mg_base::Memory;
 use mg_catalog::{CatFault, rows_of, tables_of};
 use mg_model::{Index, Table};
 use mg_value::{Column, Kind, Row, Txt, Value, order};
 use std::alloc::Global;
 use std::cmp::Ordering;
-use std::process::Abort;
 use std::test::Fail;
 
 // A row of the catalog; no name is NULL.
@@ -79,27 +79,13 @@ fn rows(alloc: Global, said: &[Said]) -> Result<Vec<Row>, Fail> {
     Ok(rows)
 }
 
-fn tables(alloc: Global, said: &[Said]) -> Result<Vec<Table>, Fail> {
+// The tables that rows name, or why they are refused.
+fn read(alloc: Global, said: &[Said]) -> Result<Result<Vec<Table>, CatFault>, Fail> {
     let rows = rows(alloc, said)?;
     if rows.len() >= 1000 {
         return Err("many rows")?;
     }
-    match tables_of(alloc, &rows) {
-        Ok(tables) => Ok(tables),
-        Err(_) => Err("no tables")?,
-    }
-}
-
-// The place of the row for which some rows are refused.
-fn bad_row(alloc: Global, said: &[Said]) -> Result<Option<u32>, Fail> {
-    let rows = rows(alloc, said)?;
-    if rows.len() >= 1000 {
-        return Err("many rows")?;
-    }
-    Ok(match tables_of(alloc, &rows) {
-        Err(CatFault::BadTable { at }) => Some(at),
-        _ => None,
-    })
+    Ok(tables_of(alloc, &rows))
 }
 
 // A table as the tests write it: its name, its first page, the place of its key, its columns, and
@@ -154,23 +140,33 @@ fn is_table(table: &Table, wanted: &Wanted) -> bool {
         && are_indexes(table.indexes.as_slice(), wanted.indexes)
 }
 
-// Wants rows to name these tables, in this order.
-fn are_named(rt: &impl Abort, alloc: Global, said: &[Said], wanted: &[Wanted]) -> Result<(), Fail> {
-    let tables = tables(alloc, said)?;
-    assert_eq!(rt; tables.len(), wanted.len());
-    for (place, (table, one)) in tables.iter().zip(wanted).enumerate() {
-        assert!(rt; is_table(table, one), "table {place}");
+// Tells whether tables are these, in this order.
+fn are_tables(tables: &[Table], wanted: &[Wanted]) -> bool {
+    if tables.len() != wanted.len() {
+        return false;
     }
-    Ok(())
+    for (table, one) in tables.iter().zip(wanted) {
+        if !is_table(table, one) {
+            return false;
+        }
+    }
+    true
 }
 
-#[test]
-fn no_rows_name_no_tables(rt: HostRuntime) -> Result<(), Fail> {
-    are_named(&rt, rt.alloc(), &[], &[])
+// Rows of a catalog, and the tables that they name, in this order.
+struct Named(&'static [Said], &'static [Wanted]);
+
+impl Case for Named {
+    fn holds(&self, alloc: Global) -> Result<bool, Fail> {
+        match read(alloc, self.0)? {
+            Ok(tables) => Ok(are_tables(&tables, self.1)),
+            Err(_) => Ok(false),
+        }
+    }
 }
 
 // The rows of a new database.
-const NEW: [Said; 3] = [
+const NEW: &[Said] = &[
     K,
     V,
     Said {
@@ -179,19 +175,6 @@ const NEW: [Said; 3] = [
         numbers: [5, 2, 0, 0],
     },
 ];
-
-const NAMED_NEW: [Wanted; 1] = [Wanted {
-    name: b"KV",
-    pointer: 5,
-    key: 0,
-    columns: &[(b"K", Kind::Int, true), (b"V", Kind::Int, false)],
-    indexes: &[],
-}];
-
-#[test]
-fn the_rows_of_a_new_database_name_the_table_kv(rt: HostRuntime) -> Result<(), Fail> {
-    are_named(&rt, rt.alloc(), &NEW, &NAMED_NEW)
-}
 
 // What a table B with two indexes and a table A say, in no order.
 const MIXED: &[Said] = &[
@@ -232,102 +215,49 @@ const MIXED: &[Said] = &[
     },
 ];
 
-// The index of a key has the table's name, and comes first.
-const NAMED_MIXED: [Wanted; 2] = [
-    Wanted {
-        name: b"A",
-        pointer: 13,
-        key: 0,
-        columns: &[(b"Z", Kind::Text(1000), true)],
-        indexes: &[(b"A", 0, 14)],
-    },
-    Wanted {
-        name: b"B",
-        pointer: 9,
-        key: 1,
-        columns: &[(b"X", Kind::Int, false), (b"Y", Kind::Text(20), true)],
-        indexes: &[(b"B", 1, 10), (b"A", 0, 12), (b"Z", 1, 11)],
-    },
+const NAMED: &[Named] = &[
+    // No rows name no tables.
+    Named(&[], &[]),
+    // Those of a new database name KV.
+    Named(
+        NEW,
+        &[Wanted {
+            name: b"KV",
+            pointer: 5,
+            key: 0,
+            columns: &[(b"K", Kind::Int, true), (b"V", Kind::Int, false)],
+            indexes: &[],
+        }],
+    ),
+    // The index of a key has the table's name, and comes first.
+    Named(
+        MIXED,
+        &[
+            Wanted {
+                name: b"A",
+                pointer: 13,
+                key: 0,
+                columns: &[(b"Z", Kind::Text(1000), true)],
+                indexes: &[(b"A", 0, 14)],
+            },
+            Wanted {
+                name: b"B",
+                pointer: 9,
+                key: 1,
+                columns: &[(b"X", Kind::Int, false), (b"Y", Kind::Text(20), true)],
+                indexes: &[(b"B", 1, 10), (b"A", 0, 12), (b"Z", 1, 11)],
+            },
+        ],
+    ),
 ];
 
 #[test]
 fn tables_and_indexes_come_in_the_order_of_their_names(rt: HostRuntime) -> Result<(), Fail> {
-    are_named(&rt, rt.alloc(), MIXED, &NAMED_MIXED)
+    hold_each(&rt, rt.alloc(), NAMED)
 }
 
-// The place of a row of KV, what it says in place of what it said, the place of the row for which
-// the rows are refused then, and why.
-type Changed = (
-    usize,
-    &'static [u8],
-    &'static [u8],
-    [i64; 4],
-    u32,
-    &'static str,
-);
-
-const CHANGED: &[Changed] = &[
-    (0, b"CKV.00", b"K", [0, 1, 1, 0], 3, "no key"),
-    (1, b"CKV.01", b"V", [0, 3, 1, 1], 3, "two keys"),
-    (1, b"CKV.01", b"V", [0, 2, 1, 1], 1, "flags 2"),
-    (1, b"CKV.01", b"V", [1001, 0, 1, 1], 1, "a long VARCHAR"),
-    (1, b"CKV.01", b"V", [0, 0, 0, 1], 1, "format 0"),
-    (1, b"CKV.01", b"V", [0, 0, 65_536, 1], 1, "a great format"),
-    (1, b"CKV.01", b"V", [0, 1, 2, 1], 1, "a late NOT NULL"),
-    (0, b"CKV.00", b"K", [0, 3, 2, 0], 0, "a late key"),
-    (1, b"CKV.01", b"V", [0, 0, 1, 2], 1, "another place"),
-    (1, b"CKV.01", b"V", [-1, 0, 1, 1], 1, "a negative length"),
-    (1, b"CKV.01", b"K", [0, 0, 1, 1], 0, "one name twice"),
-    (
-        0,
-        b"CKV.00",
-        b"K",
-        [0, 0, 2, 0],
-        1,
-        "a column before an older one",
-    ),
-    (1, b"CKV.01", b"KEY", [0, 0, 1, 1], 1, "a word as a name"),
-    (1, b"CKV.01", b"", [0, 0, 1, 1], 1, "no name"),
-    (1, b"CKV.02", b"V", [0, 0, 1, 2], 1, "a column too many"),
-    (1, b"CKV.0A", b"V", [0, 0, 1, 1], 1, "no digit"),
-    (1, b"CKV,01", b"V", [0, 0, 1, 1], 1, "no full stop"),
-    (2, b"IKVV", b"VK", [7, 1, 0, 0], 2, "an index of no table"),
-    (2, b"IKVV", b"KV", [7, 2, 0, 0], 2, "an index of no column"),
-    (2, b"IKVV", b"KV", [7, 1, 0, 1], 2, "a last number"),
-    (
-        2,
-        b"IKVV",
-        b"KV",
-        [4_294_967_296, 1, 0, 0],
-        2,
-        "a great root",
-    ),
-    (2, b"IKVV", b"KV", [0, 1, 0, 0], 2, "a root in page 0"),
-    (2, b"IKV V", b"KV", [7, 1, 0, 0], 2, "no name of an index"),
-    (2, b"XKVV", b"KV", [7, 1, 0, 0], 2, "an unknown letter"),
-    (3, b"TKV", b"", [5, 2, 6, 0], 3, "an index too many"),
-    (3, b"TKV", b"", [5, 3, 6, 1], 3, "a column too few"),
-    (3, b"TKV", b"KV", [5, 2, 6, 1], 3, "a table with a name"),
-    (
-        3,
-        b"TKV",
-        b"",
-        [4_294_967_296, 2, 6, 1],
-        3,
-        "a great pointer",
-    ),
-    (
-        3,
-        b"TKV",
-        b"",
-        [5, 1, 6, 1],
-        1,
-        "columns that are not counted",
-    ),
-];
-
 // The rows of KV with the one at a place changed.
-fn changed(place: usize, said: Said) -> [Said; 4] {
+fn with_row(place: usize, said: Said) -> [Said; 4] {
     let mut rows = KV;
     if place < 4 {
         rows[place] = said;
@@ -335,18 +265,98 @@ fn changed(place: usize, said: Said) -> [Said; 4] {
     rows
 }
 
+// The place of a row of KV, what it says in place of what it said, and the place of the row for
+// which the rows are refused then.
+struct Changed(usize, &'static [u8], &'static [u8], [i64; 4], u32);
+
+// The rows of KV that are changed so.
+fn rows_after(change: &Changed) -> [Said; 4] {
+    let said = Said {
+        key: change.1,
+        name: change.2,
+        numbers: change.3,
+    };
+    with_row(change.0, said)
+}
+
+// Tells whether rows are refused for the one at a place.
+fn is_refused(alloc: Global, said: &[Said], place: u32) -> Result<bool, Fail> {
+    match read(alloc, said)? {
+        Err(CatFault::BadTable { at }) => Ok(at == place),
+        _ => Ok(false),
+    }
+}
+
+impl Case for Changed {
+    fn holds(&self, alloc: Global) -> Result<bool, Fail> {
+        is_refused(alloc, &rows_after(self), self.4)
+    }
+}
+
+const CHANGED: &[Changed] = &[
+    // No key.
+    Changed(0, b"CKV.00", b"K", [0, 1, 1, 0], 3),
+    // Two keys.
+    Changed(1, b"CKV.01", b"V", [0, 3, 1, 1], 3),
+    // Flags 2.
+    Changed(1, b"CKV.01", b"V", [0, 2, 1, 1], 1),
+    // A long VARCHAR.
+    Changed(1, b"CKV.01", b"V", [1001, 0, 1, 1], 1),
+    // Format 0.
+    Changed(1, b"CKV.01", b"V", [0, 0, 0, 1], 1),
+    // A great format.
+    Changed(1, b"CKV.01", b"V", [0, 0, 65_536, 1], 1),
+    // A late NOT NULL.
+    Changed(1, b"CKV.01", b"V", [0, 1, 2, 1], 1),
+    // A late key.
+    Changed(0, b"CKV.00", b"K", [0, 3, 2, 0], 0),
+    // Another place.
+    Changed(1, b"CKV.01", b"V", [0, 0, 1, 2], 1),
+    // A negative length.
+    Changed(1, b"CKV.01", b"V", [-1, 0, 1, 1], 1),
+    // One name twice.
+    Changed(1, b"CKV.01", b"K", [0, 0, 1, 1], 0),
+    // A column before an older one.
+    Changed(0, b"CKV.00", b"K", [0, 0, 2, 0], 1),
+    // A word as a name.
+    Changed(1, b"CKV.01", b"KEY", [0, 0, 1, 1], 1),
+    // No name.
+    Changed(1, b"CKV.01", b"", [0, 0, 1, 1], 1),
+    // A column too many.
+    Changed(1, b"CKV.02", b"V", [0, 0, 1, 2], 1),
+    // No digit.
+    Changed(1, b"CKV.0A", b"V", [0, 0, 1, 1], 1),
+    // No full stop.
+    Changed(1, b"CKV,01", b"V", [0, 0, 1, 1], 1),
+    // An index of no table.
+    Changed(2, b"IKVV", b"VK", [7, 1, 0, 0], 2),
+    // An index of no column.
+    Changed(2, b"IKVV", b"KV", [7, 2, 0, 0], 2),
+    // A last number.
+    Changed(2, b"IKVV", b"KV", [7, 1, 0, 1], 2),
+    // A great root.
+    Changed(2, b"IKVV", b"KV", [4_294_967_296, 1, 0, 0], 2),
+    // A root in page 0.
+    Changed(2, b"IKVV", b"KV", [0, 1, 0, 0], 2),
+    // No name of an index.
+    Changed(2, b"IKV V", b"KV", [7, 1, 0, 0], 2),
+    // An unknown letter.
+    Changed(2, b"XKVV", b"KV", [7, 1, 0, 0], 2),
+    // An index too many.
+    Changed(3, b"TKV", b"", [5, 2, 6, 0], 3),
+    // A column too few.
+    Changed(3, b"TKV", b"", [5, 3, 6, 1], 3),
+    // A table with a name.
+    Changed(3, b"TKV", b"KV", [5, 2, 6, 1], 3),
+    // A great pointer.
+    Changed(3, b"TKV", b"", [4_294_967_296, 2, 6, 1], 3),
+    // Columns that are not counted.
+    Changed(3, b"TKV", b"", [5, 1, 6, 1], 1),
+];
+
 #[test]
 fn a_row_that_breaks_a_rule_is_named(rt: HostRuntime) -> Result<(), Fail> {
-    for (place, key, name, numbers, bad, what) in CHANGED {
-        let said = Said {
-            key,
-            name,
-            numbers: *numbers,
-        };
-        let found = bad_row(rt.alloc(), &changed(*place, said))?;
-        assert_eq!(rt; found, Some(*bad), "{what}");
-    }
-    Ok(())
+    hold_each(&rt, rt.alloc(), CHANGED)
 }
 
 // Tells whether two rows have equal values.
@@ -370,26 +380,47 @@ fn said_of(alloc: Global, table: &Table) -> Result<Vec<Row>, Fail> {
     Ok(rows_of(alloc, table)?)
 }
 
-// Tells whether a table is said by these rows.
-fn is_said(alloc: Global, table: &Table, wanted: &[Said]) -> Result<bool, Fail> {
-    let found = said_of(alloc, table)?;
+// Tells whether rows have equal values, one by one.
+fn are_all_equal(found: &[Row], wanted: &[Row]) -> bool {
     if found.len() != wanted.len() {
-        return Ok(false);
+        return false;
     }
-    for (row_found, said) in found.iter().zip(wanted) {
-        if !are_equal(row_found, &row(alloc, said)?) {
+    for (row, other) in found.iter().zip(wanted) {
+        if !are_equal(row, other) {
+            return false;
+        }
+    }
+    true
+}
+
+// Tells whether each table is said by these rows.
+fn are_said(alloc: Global, tables: &[Table], wanted: &[Row]) -> Result<bool, Fail> {
+    for table in tables {
+        let found = said_of(alloc, table)?;
+        if !are_all_equal(&found, wanted) {
             return Ok(false);
         }
     }
     Ok(true)
 }
 
+// The rows of one table, in the order in which it says them.
+struct SaidBack(&'static [Said]);
+
+impl Case for SaidBack {
+    fn holds(&self, alloc: Global) -> Result<bool, Fail> {
+        match read(alloc, self.0)? {
+            Ok(tables) => are_said(alloc, &tables, &rows(alloc, self.0)?),
+            Err(_) => Ok(false),
+        }
+    }
+}
+
+const SAID_BACK: &[SaidBack] = &[SaidBack(&KV)];
+
 #[test]
 fn a_table_is_said_by_the_rows_that_it_was_read_from(rt: HostRuntime) -> Result<(), Fail> {
-    for table in &tables(rt.alloc(), &KV)? {
-        assert!(rt; is_said(rt.alloc(), table, &KV)?);
-    }
-    Ok(())
+    hold_each(&rt, rt.alloc(), SAID_BACK)
 }
 
 const OF_CATALOG: &[Said] = &[
@@ -407,20 +438,18 @@ const OF_CATALOG: &[Said] = &[
 
 #[test]
 fn the_catalog_has_no_row_of_its_own(rt: HostRuntime) -> Result<(), Fail> {
-    assert_eq!(rt; bad_row(rt.alloc(), OF_CATALOG)?, Some(1));
+    assert!(rt; is_refused(rt.alloc(), OF_CATALOG, 1)?);
     Ok(())
 }
 
-// What a fault prints.
-fn printed(alloc: Global, fault: CatFault) -> Result<String, Fail> {
-    Ok(format!(in alloc; "{fault}")?)
+// Tells whether a fault prints these words.
+fn prints(alloc: Global, fault: CatFault, words: &str) -> Result<bool, Fail> {
+    Ok(format!(in alloc; "{fault}")?.as_str() == words)
 }
 
 #[test]
 fn faults_print_in_words(rt: HostRuntime) -> Result<(), Fail> {
-    let bad = printed(rt.alloc(), CatFault::BadTable { at: 12 })?;
-    assert_eq!(rt; bad.as_str(), "BAD TABLE 12");
-    let memory = printed(rt.alloc(), CatFault::from(Memory))?;
-    assert_eq!(rt; memory.as_str(), "OUT OF MEMORY");
+    assert!(rt; prints(rt.alloc(), CatFault::BadTable { at: 12 }, "BAD TABLE 12")?);
+    assert!(rt; prints(rt.alloc(), CatFault::from(Memory), "OUT OF MEMORY")?);
     Ok(())
 }

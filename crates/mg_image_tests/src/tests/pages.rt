@@ -1,12 +1,13 @@
-//! Pages of 1024 bytes made by hand, and images of them.
+//! Pages of 1024 bytes made by hand.
 
 ghost use Rattle.std.specs.Prelude.{◌≡◌, length};
+ghost use Rattle.mg_slots.specs.DataPage.{IsDataPage};
 
-use mg_base::{Bytes, PageNo, TxNo, TxState, new_common};
+use super::cells::{Laid, Said, cell_of};
+use mg_base::{PageNo, TxNo, TxState, new_common};
 use mg_header::{HEADER_KIND, Header, write_header};
 use mg_pip::{new_pip, set_used};
 use mg_pointer::{add_entry, new_pointer};
-use mg_reading::Image;
 use mg_slots::{new_data, put_cell};
 use mg_tip::{new_tip, set_state};
 use std::alloc::Global;
@@ -63,7 +64,7 @@ pub fn transactions(b: &mut [u8], states: &[TxState; 3])
     set_state(b, 3, states[2]);
 }
 
-/// Makes the pointer page of a table, with these data pages behind it.
+/// Makes the pointer page of the table that begins on it, with these data pages.
 pub fn pointers(b: &mut [u8], page: u32, data_pages: &[u32])
     requires { length b.old ≡ SIZE }
 {
@@ -73,23 +74,54 @@ pub fn pointers(b: &mut [u8], page: u32, data_pages: &[u32])
     }
 }
 
-/// Makes the data page of the table of an owner, at a place among its pages.
-pub fn data(b: &mut [u8], page: u32, owner: u32, place: u32, cells: &[Vec<u8>]) -> Result<(), Fail>
-    requires { length b.old ≡ SIZE }
+// Puts a cell whose versions stand on a page into the next slot of a data page.
+fn put_laid(alloc: Global, b: &mut [u8], page: u8, cell: Laid) -> Result<(), Fail>
+    requires { IsDataPage b.old }
+    ensures { IsDataPage b.new }
 {
-    new_data(b, PageNo(page), owner, place);
-    for cell in cells {
-        if cell.len() > 200 || put_cell(b, cell).is_err() {
-            return Err("no room")?;
-        }
+    let bytes = cell_of(alloc, page, cell)?;
+    if bytes.len() > 200 || put_cell(b, &bytes).is_err() {
+        return Err("no room")?;
     }
     Ok(())
 }
 
-/// The image of these pages.
-pub fn image_with(alloc: Global, pages: Vec<Bytes>) -> Result<Image, Fail> {
-    match Image::new(alloc, 1024, pages) {
-        Ok(Some(image)) => Ok(image),
-        _ => Err("no image")?,
+/// Puts cells whose versions stand on a page into the next slots of a data page.
+pub fn put_cells(alloc: Global, b: &mut [u8], page: u8, cells: &[Laid]) -> Result<(), Fail>
+    requires { IsDataPage b.old }
+{
+    for cell in cells {
+        put_laid(alloc, b, page, *cell)?;
     }
+    Ok(())
+}
+
+// Puts the cells of a row of the catalog into a slot and the next one: an anchor, and the version
+// behind it.
+fn put_row(alloc: Global, b: &mut [u8], slot: u8, said: Said) -> Result<(), Fail>
+    requires { IsDataPage b.old }
+    ensures { IsDataPage b.new }
+{
+    put_laid(alloc, b, 4, Laid::Anchor(slot.wrapping_add(1), said.3))?;
+    put_laid(alloc, b, 4, Laid::Row(said))
+}
+
+/// Puts the cells of rows of the catalog on its data page, which is page 4.
+pub fn put_rows(alloc: Global, b: &mut [u8], rows: &[Said]) -> Result<(), Fail>
+    requires { IsDataPage b.old }
+{
+    let mut slot = 0u8;
+    for said in rows {
+        put_row(alloc, b, slot, *said)?;
+        slot = slot.wrapping_add(2);
+    }
+    Ok(())
+}
+
+/// Makes the data page of a table at a place among its pages, without cells.
+pub fn data(b: &mut [u8], page: u32, owner: u32, place: u32)
+    requires { length b.old ≡ SIZE }
+    ensures { IsDataPage b.new }
+{
+    new_data(b, PageNo(page), owner, place);
 }

@@ -1,248 +1,37 @@
 //! Images of a small database made by hand: sound ones, and for each rule some that break it first.
 
-ghost use Rattle.std.specs.Prelude.{◌≤◌};
-
-use super::cells::{Laid, Said, TWO, cells_of, put_said, said_version};
-use super::pages::{
-    DONE, GONE, HELD, LIVE, SIZE, data, header, image_with, inventory, pointers, transactions,
-};
-use mg_base::{Bytes, TxState};
+use super::cases::{Case, hold_each};
+use super::cells::{K, KV, Laid, Said, TWO, V};
+use super::pages::{DONE, GONE, HELD, LIVE};
+use super::sheets::{Change, Sheet, image_of};
 use mg_reading::{Image, ReadFault, RowCoding, Rule};
 use mg_soundness::{check_soundness, is_unmade};
 use std::alloc::Global;
-use std::process::Abort;
 use std::test::Fail;
 
-// The table KV from page 5 on, whose primary index has its root on page 7.
-const INDEXED: [Said; 3] = [
-    (b"CKV.00", b"K", [0, 3, 1, 0]),
-    (b"CKV.01", b"V", [0, 0, 1, 1]),
-    (b"TKV", b"", [5, 2, 7, 0]),
-];
-
-// The same, and a table T that begins on the page of KV.
-const SHARED: [Said; 5] = [
-    (b"CKV.00", b"K", [0, 3, 1, 0]),
-    (b"CKV.01", b"V", [0, 0, 1, 1]),
-    (b"CT.00", b"K", [0, 3, 1, 0]),
-    (b"TKV", b"", [5, 2, 7, 0]),
-    (b"TT", b"", [5, 1, 0, 0]),
-];
-
-// The rows of a new database.
-const NEW: [Said; 3] = [
-    (b"TKV", b"", [5, 2, 0, 0]),
-    (b"CKV.00", b"K", [0, 3, 1, 0]),
-    (b"CKV.01", b"V", [0, 0, 1, 1]),
-];
-
-// KV with a row of 523 bytes, which is more than half a page.
-const WIDE: [Said; 4] = [
-    (b"CKV.00", b"K", [0, 3, 1, 0]),
-    (b"CKV.01", b"V", [255, 0, 1, 1]),
-    (b"CKV.02", b"W", [255, 0, 1, 2]),
-    (b"TKV", b"", [5, 3, 7, 0]),
-];
-
-// KV with a row of 512 bytes, which is half a page.
-const HALF: [Said; 4] = [
-    (b"CKV.00", b"K", [0, 3, 1, 0]),
-    (b"CKV.01", b"V", [255, 0, 1, 1]),
-    (b"CKV.02", b"W", [244, 0, 1, 2]),
-    (b"TKV", b"", [5, 3, 7, 0]),
-];
-
-// KV with a key of 129 bytes at most, which is more than an eighth of a page.
-const LONG_KEY: [Said; 3] = [
-    (b"CKV.00", b"K", [63, 3, 1, 0]),
-    (b"CKV.01", b"V", [0, 0, 1, 1]),
-    (b"TKV", b"", [5, 2, 7, 0]),
-];
-
-// KV with a key of 127 bytes at most.
-const SHORT_KEY: [Said; 3] = [
-    (b"CKV.00", b"K", [62, 3, 1, 0]),
-    (b"CKV.01", b"V", [0, 0, 1, 1]),
-    (b"TKV", b"", [5, 2, 7, 0]),
-];
-
-// A newest version of a row of the catalog, by the transaction 2: the place of the row among those
-// of transaction 0, and what it says.
-type Changed = (u8, Said);
-
-// A database: its header, what became of transactions 1 to 3, how many pages are used, the rows of
-// its catalog and the transaction that wrote them, a change of one, the cells of KV in the order of
-// their slots, and the keys in its index, each with the slot of its record.
-#[derive(Clone, Copy)]
-struct Made {
-    next: u32,
-    oit: u32,
-    oat: u32,
-    states: [TxState; 3],
-    used: u32,
-    catalog: &'static [Said],
-    by: u8,
-    changed: Option<Changed>,
-    cells: &'static [Laid],
-    keys: &'static [(u8, u8)],
-}
+// The row of the table KV from page 5 on, whose primary index has its root on page 7.
+const INDEXED: Said = (b"TKV", b"", [5, 2, 7, 0], 0);
 
 // A sound database.
-const SOUND: Made = Made {
-    next: 4,
-    oit: 1,
-    oat: 1,
-    states: [DONE, DONE, DONE],
-    used: 8,
-    catalog: &INDEXED,
-    by: 0,
-    changed: None,
-    cells: &TWO,
-    keys: &[(1, 0)],
-};
+const SOUND: &[Sheet] = &[
+    Sheet::Header(4, 1, 1, 3),
+    Sheet::Inventory(8),
+    Sheet::Transactions([DONE, DONE, DONE]),
+    Sheet::Pointers(&[4]),
+    Sheet::Catalog(&[K, V, INDEXED]),
+    Sheet::Pointers(&[6]),
+    Sheet::Cells(TWO),
+    Sheet::Leaf(&[(1, 0)]),
+];
 
-// Where the anchor of a row of the catalog leads, which stands in a slot: the slot and the
-// transaction of the newest version.
-fn newest_of(made: &Made, own: u8) -> (u8, u8) {
-    let last = 2 * (made.catalog.len() % 100) as u8;
-    match made.changed {
-        Some((place, _)) if u32::from(own) == 2 * u32::from(place) => (last, 2),
-        _ => (own.saturating_add(1), made.by),
-    }
-}
+// The same without cells and without keys.
+const NO_CELLS: Change = (6, Sheet::Cells(&[]));
 
-// Appends the cells of a row of the catalog: an anchor, and its version behind it.
-fn put_catalog_row(
-    alloc: Global,
-    cells: &mut Vec<Vec<u8>>,
-    made: &Made,
-    said: &Said,
-) -> Result<(), Fail> {
-    let (slot, by) = newest_of(made, (cells.len() % 256) as u8);
-    cells.push([1, 4, 0, 0, 0, slot, 0, by, 0, 0, 0].to_vec(alloc)?)?;
-    cells.push(said_version(alloc, said, made.by)?)?;
-    Ok(())
-}
+const NO_KEYS: Change = (7, Sheet::Leaf(&[]));
 
-// Appends the version that transaction 2 wrote over that of the row at a place, which is of another
-// transaction.
-fn put_changed(
-    alloc: Global,
-    cells: &mut Vec<Vec<u8>>,
-    changed: &Changed,
-    by: u8,
-) -> Result<(), Fail> {
-    let back = (changed.0 % 100) * 2 + 1;
-    let mut version = [2, 2, 1, 0, 2, 0, 0, 0, 4, 0, 0, 0, back, 0, by, 0, 0, 0].to_vec(alloc)?;
-    put_said(&mut version, &changed.1)?;
-    cells.push(version)?;
-    Ok(())
-}
-
-// The cells of the catalog, and then the version that changes a row.
-fn catalog_cells(alloc: Global, made: &Made) -> Result<Vec<Vec<u8>>, Fail> {
-    let mut cells = Vec::new(alloc);
-    for said in made.catalog {
-        put_catalog_row(alloc, &mut cells, made, said)?;
-    }
-    if let Some(changed) = made.changed {
-        put_changed(alloc, &mut cells, &changed, made.by)?;
-    }
-    Ok(cells)
-}
-
-// Appends zeros up to the size of a page.
-fn pad(bytes: &mut Vec<u8>) -> Result<(), Fail> {
-    for _ in bytes.len()..SIZE {
-        bytes.push(0)?;
-    }
-    Ok(())
-}
-
-// Appends the entry of a key and of the record of a slot of page 6.
-fn put_key(bytes: &mut Vec<u8>, key: u8, slot: u8) -> Result<(), Fail> {
-    bytes.extend_from_slice(&[9, 0, 1, 128, 0, 0, 0, 0, 0, 0, key, 6, 0, 0, 0, slot, 0])?;
-    Ok(())
-}
-
-// The front of the root of KV's index, a leaf with so many keys.
-fn index_front(count: u8) -> [u8; 28]
-    requires { count ≤ 10 }
-{
-    [
-        7,
-        0,
-        0,
-        0,
-        7,
-        0,
-        0,
-        0,
-        5,
-        0,
-        0,
-        0,
-        0,
-        0,
-        0,
-        0,
-        0,
-        0,
-        count,
-        0,
-        0,
-        0,
-        0,
-        0,
-        28 + 17 * count,
-        0,
-        0,
-        0,
-    ]
-}
-
-// The root of KV's index, a leaf with these keys, each of the record of a slot of page 6.
-fn index(alloc: Global, keys: &[(u8, u8)]) -> Result<Vec<u8>, Fail> {
-    if keys.len() > 10 {
-        return Err("many keys")?;
-    }
-    let mut bytes = index_front(keys.len() as u8).to_vec(alloc)?;
-    for (key, slot) in keys {
-        put_key(&mut bytes, *key, *slot)?;
-    }
-    pad(&mut bytes)?;
-    Ok(bytes)
-}
-
-// A page of a database but for the root of its index.
-fn page_of(alloc: Global, made: &Made, n: u32) -> Result<Vec<u8>, Fail> {
-    let mut page = [0u8; SIZE];
-    match n {
-        0 => header(&mut page, made.next, made.oit, made.oat, 3),
-        1 => inventory(&mut page, made.used),
-        2 => transactions(&mut page, &made.states),
-        3 => pointers(&mut page, 3, &[4]),
-        4 => data(&mut page, 4, 3, 0, &catalog_cells(alloc, made)?)?,
-        5 => pointers(&mut page, 5, &[6]),
-        6 => data(&mut page, 6, 5, 0, &cells_of(alloc, 6, made.cells)?)?,
-        _ => {}
-    }
-    Ok(page.to_vec(alloc)?)
-}
-
-// The image of a database.
-fn image_of(alloc: Global, made: &Made) -> Result<Image, Fail> {
-    let mut pages = Vec::new(alloc);
-    for n in 0..7 {
-        pages.push(Bytes::new(page_of(alloc, made, n)?))?;
-    }
-    pages.push(Bytes::new(index(alloc, made.keys)?))?;
-    image_with(alloc, pages)
-}
-
-// Tells whether this rule is the first that an image breaks, or whether it is sound where none is
-// told.
-fn breaks(alloc: Global, image: &Image, rule: Option<Rule>) -> bool {
+/// Tells whether this rule is the first that an image breaks, or whether it is sound where none is
+/// told.
+pub fn breaks(alloc: Global, image: &Image, rule: Option<Rule>) -> bool {
     match (check_soundness(alloc, image, RowCoding::Plain), rule) {
         (Ok(()), None) => true,
         (Err(ReadFault::Broken(found)), Some(rule)) => found == rule,
@@ -250,466 +39,404 @@ fn breaks(alloc: Global, image: &Image, rule: Option<Rule>) -> bool {
     }
 }
 
-fn is_told(alloc: Global, made: &Made, rule: Option<Rule>) -> Result<bool, Fail> {
-    Ok(breaks(alloc, &image_of(alloc, made)?, rule))
-}
+// Changes of that database, and the rule that it then breaks first, none where it is sound.
+struct Judged(&'static [Change], Option<Rule>);
 
-// A database, and the rule that it breaks first, none where it is sound.
-type Told = (&'static str, Made, Option<Rule>);
-
-// Wants each database to break the rule that is told first.
-fn are_told(rt: &impl Abort, alloc: Global, rows: &[Told]) -> Result<(), Fail> {
-    for (what, made, rule) in rows {
-        assert!(rt; is_told(alloc, made, *rule)?, "{what}");
+impl Case for Judged {
+    fn holds(&self, alloc: Global) -> Result<bool, Fail> {
+        let image = image_of(alloc, SOUND, self.0)?;
+        Ok(breaks(alloc, &image, self.1))
     }
-    Ok(())
 }
 
 // A deletion, and a cell that nothing leads to.
-const ERASED: &[Laid] = &[
-    Laid::Anchor(2, 2),
-    Laid::First(1, 1, 10),
-    Laid::Erased(2, (1, 1), 1),
-    Laid::First(3, 9, 90),
-];
+const ERASED: Change = (
+    6,
+    Sheet::Cells(&[
+        Laid::Anchor(2, 2),
+        Laid::First(1, 1, 10),
+        Laid::Erased(2, (1, 1), 1),
+        Laid::First(3, 9, 90),
+    ]),
+);
 
-const PASS: &[Told] = &[
-    ("two versions", SOUND, None),
-    (
-        "a limbo version",
-        Made {
-            states: [DONE, HELD, DONE],
-            ..SOUND
-        },
-        None,
-    ),
-    (
-        "a dead version",
-        Made {
-            states: [DONE, GONE, DONE],
-            ..SOUND
-        },
-        None,
-    ),
-    (
-        "an active version",
-        Made {
-            states: [DONE, LIVE, DONE],
-            ..SOUND
-        },
-        None,
-    ),
-    (
-        "a deletion, and a cell that nothing leads to",
-        Made {
-            cells: ERASED,
-            keys: &[],
-            ..SOUND
-        },
-        None,
-    ),
-    (
-        "an entry too many",
-        Made {
-            cells: ERASED,
-            keys: &[(5, 0)],
-            ..SOUND
-        },
-        None,
-    ),
+const PASS: &[Judged] = &[
+    // Two versions; the newer one is in limbo, dead, and active.
+    Judged(&[], None),
+    Judged(&[(2, Sheet::Transactions([DONE, HELD, DONE]))], None),
+    Judged(&[(2, Sheet::Transactions([DONE, GONE, DONE]))], None),
+    Judged(&[(2, Sheet::Transactions([DONE, LIVE, DONE]))], None),
+    // A deletion, and a cell that nothing leads to.
+    Judged(&[ERASED, NO_KEYS], None),
+    // An entry too many.
+    Judged(&[ERASED, (7, Sheet::Leaf(&[(5, 0)]))], None),
 ];
 
 #[test]
 fn sound_images_pass(rt: HostRuntime) -> Result<(), Fail> {
-    are_told(&rt, rt.alloc(), PASS)
+    hold_each(&rt, rt.alloc(), PASS)
 }
 
-const PAGES: &[Told] = &[
-    (
-        "OIT past Next",
-        Made { oit: 5, ..SOUND },
-        Some(Rule::Header),
-    ),
-    (
-        "bits from Next on",
-        Made { next: 3, ..SOUND },
-        Some(Rule::Transactions),
-    ),
-    (
-        "a root that is not used",
-        Made { used: 7, ..SOUND },
+const PAGES: &[Judged] = &[
+    // OIT past Next.
+    Judged(&[(0, Sheet::Header(4, 5, 1, 3))], Some(Rule::Header)),
+    // Bits from Next on.
+    Judged(&[(0, Sheet::Header(3, 1, 1, 3))], Some(Rule::Transactions)),
+    // A root that is not used.
+    Judged(&[(1, Sheet::Inventory(7))], Some(Rule::Pages)),
+    // An empty catalog.
+    Judged(&[(4, Sheet::Catalog(&[]))], None),
+    // A table without columns.
+    Judged(
+        &[(4, Sheet::Catalog(&[(b"TT", b"", [5, 1, 0, 0], 0)]))],
         Some(Rule::Pages),
     ),
-    (
-        "an empty catalog",
-        Made {
-            catalog: &[],
-            ..SOUND
-        },
-        None,
-    ),
-    (
-        "a table without columns",
-        Made {
-            catalog: &[(b"TT", b"", [5, 1, 0, 0])],
-            ..SOUND
-        },
-        Some(Rule::Pages),
-    ),
-    (
-        "a page of two tables",
-        Made {
-            catalog: &SHARED,
-            ..SOUND
-        },
+    // A page of two tables: T begins on the page of KV.
+    Judged(
+        &[(
+            4,
+            Sheet::Catalog(&[
+                K,
+                V,
+                (b"CT.00", b"K", [0, 3, 1, 0], 0),
+                INDEXED,
+                (b"TT", b"", [5, 1, 0, 0], 0),
+            ]),
+        )],
         Some(Rule::Once),
     ),
 ];
 
 #[test]
 fn the_rules_of_pages_are_named(rt: HostRuntime) -> Result<(), Fail> {
-    are_told(&rt, rt.alloc(), PAGES)
+    hold_each(&rt, rt.alloc(), PAGES)
 }
 
-const SIZES: &[Told] = &[
-    (
-        "a row of more than half a page",
-        Made {
-            cells: &[],
-            keys: &[],
-            catalog: &WIDE,
-            ..SOUND
-        },
+// The row of KV with a third column.
+const THREE: Said = (b"TKV", b"", [5, 3, 7, 0], 0);
+
+const SIZES: &[Judged] = &[
+    // A row of 523 bytes, which is more than half a page.
+    Judged(
+        &[
+            NO_CELLS,
+            NO_KEYS,
+            (
+                4,
+                Sheet::Catalog(&[
+                    K,
+                    (b"CKV.01", b"V", [255, 0, 1, 1], 0),
+                    (b"CKV.02", b"W", [255, 0, 1, 2], 0),
+                    THREE,
+                ]),
+            ),
+        ],
         Some(Rule::Pages),
     ),
-    (
-        "a row of half a page",
-        Made {
-            cells: &[],
-            keys: &[],
-            catalog: &HALF,
-            ..SOUND
-        },
+    // A row of 512 bytes, which is half a page.
+    Judged(
+        &[
+            NO_CELLS,
+            NO_KEYS,
+            (
+                4,
+                Sheet::Catalog(&[
+                    K,
+                    (b"CKV.01", b"V", [255, 0, 1, 1], 0),
+                    (b"CKV.02", b"W", [244, 0, 1, 2], 0),
+                    THREE,
+                ]),
+            ),
+        ],
         None,
     ),
-    (
-        "a key of more than an eighth of a page",
-        Made {
-            cells: &[],
-            keys: &[],
-            catalog: &LONG_KEY,
-            ..SOUND
-        },
+    // A key of 129 bytes at most, which is more than an eighth of a page.
+    Judged(
+        &[
+            NO_CELLS,
+            NO_KEYS,
+            (
+                4,
+                Sheet::Catalog(&[(b"CKV.00", b"K", [63, 3, 1, 0], 0), V, INDEXED]),
+            ),
+        ],
         Some(Rule::Pages),
     ),
-    (
-        "a key of nearly an eighth of a page",
-        Made {
-            cells: &[],
-            keys: &[],
-            catalog: &SHORT_KEY,
-            ..SOUND
-        },
+    // A key of 127 bytes at most.
+    Judged(
+        &[
+            NO_CELLS,
+            NO_KEYS,
+            (
+                4,
+                Sheet::Catalog(&[(b"CKV.00", b"K", [62, 3, 1, 0], 0), V, INDEXED]),
+            ),
+        ],
         None,
     ),
 ];
 
 #[test]
 fn tables_fit_their_pages(rt: HostRuntime) -> Result<(), Fail> {
-    are_told(&rt, rt.alloc(), SIZES)
+    hold_each(&rt, rt.alloc(), SIZES)
 }
 
 // Transaction 2 gives KV another shape: V comes to be NOT NULL.
-const RESHAPED: Option<Changed> = Some((1, (b"CKV.01", b"V", [0, 1, 1, 1])));
+const RESHAPED: Change = (
+    4,
+    Sheet::Data(
+        3,
+        0,
+        4,
+        &[
+            Laid::Anchor(1, 0),
+            Laid::Row(K),
+            Laid::Anchor(6, 2),
+            Laid::Row(V),
+            Laid::Anchor(5, 0),
+            Laid::Row(INDEXED),
+            Laid::RowOver((3, 0), (b"CKV.01", b"V", [0, 1, 1, 1], 2)),
+        ],
+    ),
+);
 
-// A row of transaction 1.
-const ONE: &[Laid] = &[Laid::Anchor(1, 1), Laid::First(1, 1, 10)];
+// Transaction 2 has made KV.
+const MADE: Change = (
+    4,
+    Sheet::Catalog(&[
+        (b"CKV.00", b"K", [0, 3, 1, 0], 2),
+        (b"CKV.01", b"V", [0, 0, 1, 1], 2),
+        (b"TKV", b"", [5, 2, 7, 0], 2),
+    ]),
+);
 
-// In the last three, transaction 2 has made KV.
-const MAKERS: &[Told] = &[
-    (
-        "a table that a limbo transaction changes",
-        Made {
-            cells: ONE,
-            changed: RESHAPED,
-            states: [DONE, HELD, DONE],
-            ..SOUND
-        },
+// A row of transaction 1, and one of transaction 2.
+const ONE: Change = (
+    6,
+    Sheet::Cells(&[Laid::Anchor(1, 1), Laid::First(1, 1, 10)]),
+);
+
+const ITS_OWN: Change = (
+    6,
+    Sheet::Cells(&[Laid::Anchor(1, 2), Laid::First(2, 1, 10)]),
+);
+
+const MAKERS: &[Judged] = &[
+    // A table that a limbo transaction changes.
+    Judged(
+        &[ONE, RESHAPED, (2, Sheet::Transactions([DONE, HELD, DONE]))],
         Some(Rule::Pages),
     ),
-    (
-        "a dead transaction changes nothing",
-        Made {
-            cells: ONE,
-            changed: RESHAPED,
-            states: [DONE, GONE, DONE],
-            ..SOUND
-        },
+    // A dead transaction changes nothing.
+    Judged(
+        &[ONE, RESHAPED, (2, Sheet::Transactions([DONE, GONE, DONE]))],
         None,
     ),
-    (
-        "a row of another in a table of limbo",
-        Made {
-            cells: ONE,
-            by: 2,
-            states: [DONE, HELD, DONE],
-            ..SOUND
-        },
+    // A row of another in a table of limbo.
+    Judged(
+        &[ONE, MADE, (2, Sheet::Transactions([DONE, HELD, DONE]))],
         Some(Rule::Drawn),
     ),
-    (
-        "a dead row in a table of limbo",
-        Made {
-            cells: ONE,
-            by: 2,
-            states: [GONE, HELD, DONE],
-            ..SOUND
-        },
+    // A dead row in a table of limbo.
+    Judged(
+        &[ONE, MADE, (2, Sheet::Transactions([GONE, HELD, DONE]))],
         None,
     ),
-    (
-        "the maker's own row",
-        Made {
-            cells: &[Laid::Anchor(1, 2), Laid::First(2, 1, 10)],
-            by: 2,
-            states: [DONE, HELD, DONE],
-            ..SOUND
-        },
+    // The maker's own row.
+    Judged(
+        &[ITS_OWN, MADE, (2, Sheet::Transactions([DONE, HELD, DONE]))],
         None,
     ),
 ];
 
 #[test]
 fn tables_are_those_of_their_makers(rt: HostRuntime) -> Result<(), Fail> {
-    are_told(&rt, rt.alloc(), MAKERS)
+    hold_each(&rt, rt.alloc(), MAKERS)
 }
 
-const LINKS: &[Told] = &[
-    (
-        "an anchor to a free slot",
-        Made {
-            cells: &[Laid::Anchor(5, 3)],
-            ..SOUND
-        },
+const LINKS: &[Judged] = &[
+    // An anchor to a free slot.
+    Judged(
+        &[(6, Sheet::Cells(&[Laid::Anchor(5, 3)]))],
         Some(Rule::Links),
     ),
-    (
-        "an anchor to another transaction",
-        Made {
-            cells: &[Laid::Anchor(1, 2), Laid::First(1, 1, 10)],
-            ..SOUND
-        },
+    // An anchor to another transaction.
+    Judged(
+        &[(
+            6,
+            Sheet::Cells(&[Laid::Anchor(1, 2), Laid::First(1, 1, 10)]),
+        )],
         Some(Rule::Links),
     ),
-    (
-        "a back pointer to an anchor",
-        Made {
-            cells: &[Laid::Anchor(1, 2), Laid::Over(2, (0, 2), 1, 10)],
-            ..SOUND
-        },
+    // A back pointer to an anchor.
+    Judged(
+        &[(
+            6,
+            Sheet::Cells(&[Laid::Anchor(1, 2), Laid::Over(2, (0, 2), 1, 10)]),
+        )],
         Some(Rule::Links),
     ),
-    (
-        "a chain that comes back",
-        Made {
-            cells: &[Laid::Anchor(1, 1), Laid::Over(1, (1, 1), 1, 10)],
-            ..SOUND
-        },
+    // A chain that comes back.
+    Judged(
+        &[(
+            6,
+            Sheet::Cells(&[Laid::Anchor(1, 1), Laid::Over(1, (1, 1), 1, 10)]),
+        )],
         Some(Rule::Links),
     ),
-    (
-        "a cell of two records",
-        Made {
-            cells: &[
+    // A cell of two records.
+    Judged(
+        &[(
+            6,
+            Sheet::Cells(&[
                 Laid::Anchor(1, 1),
                 Laid::First(1, 1, 10),
                 Laid::Anchor(1, 1),
-            ],
-            ..SOUND
-        },
+            ]),
+        )],
         Some(Rule::Links),
     ),
 ];
 
 #[test]
 fn the_rule_of_links_is_named(rt: HostRuntime) -> Result<(), Fail> {
-    are_told(&rt, rt.alloc(), LINKS)
+    hold_each(&rt, rt.alloc(), LINKS)
 }
 
-const TRANSACTIONS: &[Told] = &[
-    (
-        "a version from Next on",
-        Made {
-            next: 2,
-            states: [DONE, LIVE, LIVE],
-            ..SOUND
-        },
+const TRANSACTIONS: &[Judged] = &[
+    // A version from Next on.
+    Judged(
+        &[
+            (0, Sheet::Header(2, 1, 1, 3)),
+            (2, Sheet::Transactions([DONE, LIVE, LIVE])),
+        ],
         Some(Rule::Drawn),
     ),
-    (
-        "a dead version below OIT",
-        Made {
-            oit: 3,
-            oat: 3,
-            states: [DONE, GONE, DONE],
-            ..SOUND
-        },
+    // A dead version below OIT.
+    Judged(
+        &[
+            (0, Sheet::Header(4, 3, 3, 3)),
+            (2, Sheet::Transactions([DONE, GONE, DONE])),
+        ],
         Some(Rule::Drawn),
     ),
-    (
-        "limbo below OAT",
-        Made {
-            oat: 3,
-            states: [DONE, HELD, DONE],
-            ..SOUND
-        },
+    // Limbo below OAT.
+    Judged(
+        &[
+            (0, Sheet::Header(4, 1, 3, 3)),
+            (2, Sheet::Transactions([DONE, HELD, DONE])),
+        ],
         Some(Rule::Drawn),
     ),
-    (
-        "limbo at OAT",
-        Made {
-            oat: 2,
-            states: [DONE, HELD, DONE],
-            ..SOUND
-        },
+    // Limbo at OAT.
+    Judged(
+        &[
+            (0, Sheet::Header(4, 1, 2, 3)),
+            (2, Sheet::Transactions([DONE, HELD, DONE])),
+        ],
         None,
     ),
-    (
-        "a dead back version",
-        Made {
-            states: [GONE, DONE, DONE],
-            ..SOUND
-        },
+    // A dead back version.
+    Judged(
+        &[(2, Sheet::Transactions([GONE, DONE, DONE]))],
         Some(Rule::Backs),
     ),
 ];
 
 #[test]
 fn the_rules_of_transactions_are_named(rt: HostRuntime) -> Result<(), Fail> {
-    are_told(&rt, rt.alloc(), TRANSACTIONS)
+    hold_each(&rt, rt.alloc(), TRANSACTIONS)
 }
 
 // Two records of one key.
-const TWICE: &[Laid] = &[
-    Laid::Anchor(1, 1),
-    Laid::First(1, 1, 10),
-    Laid::Anchor(3, 2),
-    Laid::First(2, 1, 20),
-];
+const TWICE: Change = (
+    6,
+    Sheet::Cells(&[
+        Laid::Anchor(1, 1),
+        Laid::First(1, 1, 10),
+        Laid::Anchor(3, 2),
+        Laid::First(2, 1, 20),
+    ]),
+);
 
 // Two keys in one record.
-const OTHER_KEY: &[Laid] = &[
-    Laid::Anchor(2, 2),
-    Laid::First(1, 1, 10),
-    Laid::Over(2, (1, 1), 2, 20),
-];
+const OTHER_KEY: Change = (
+    6,
+    Sheet::Cells(&[
+        Laid::Anchor(2, 2),
+        Laid::First(1, 1, 10),
+        Laid::Over(2, (1, 1), 2, 20),
+    ]),
+);
 
-const KEYS: &[Told] = &[
-    (
-        "two records of one key",
-        Made {
-            cells: TWICE,
-            ..SOUND
-        },
+const KEYS: &[Judged] = &[
+    // Two records of one key; the second one's transaction is in limbo, and dead.
+    Judged(&[TWICE], Some(Rule::Keys)),
+    Judged(
+        &[TWICE, (2, Sheet::Transactions([DONE, HELD, DONE]))],
         Some(Rule::Keys),
     ),
-    (
-        "a row and a limbo version",
-        Made {
-            cells: TWICE,
-            states: [DONE, HELD, DONE],
-            ..SOUND
-        },
-        Some(Rule::Keys),
-    ),
-    (
-        "a row and a dead version",
-        Made {
-            cells: TWICE,
-            states: [DONE, GONE, DONE],
-            ..SOUND
-        },
-        None,
-    ),
-    (
-        "two keys in one record",
-        Made {
-            cells: OTHER_KEY,
-            ..SOUND
-        },
-        Some(Rule::Keys),
-    ),
-    (
-        "the entry of another record",
-        Made {
-            keys: &[(1, 4)],
-            ..SOUND
-        },
-        Some(Rule::Indexed),
-    ),
-    (
-        "the entry of another key",
-        Made {
-            keys: &[(2, 0)],
-            ..SOUND
-        },
-        Some(Rule::Indexed),
-    ),
-    (
-        "a row without entry",
-        Made { keys: &[], ..SOUND },
-        Some(Rule::Indexed),
-    ),
-    (
-        "a dead back version comes first",
-        Made {
-            keys: &[],
-            states: [GONE, DONE, DONE],
-            ..SOUND
-        },
+    Judged(&[TWICE, (2, Sheet::Transactions([DONE, GONE, DONE]))], None),
+    // Two keys in one record.
+    Judged(&[OTHER_KEY], Some(Rule::Keys)),
+    // The entry of another record.
+    Judged(&[(7, Sheet::Leaf(&[(1, 4)]))], Some(Rule::Indexed)),
+    // The entry of another key.
+    Judged(&[(7, Sheet::Leaf(&[(2, 0)]))], Some(Rule::Indexed)),
+    // A row without entry.
+    Judged(&[NO_KEYS], Some(Rule::Indexed)),
+    // A dead back version comes first.
+    Judged(
+        &[NO_KEYS, (2, Sheet::Transactions([GONE, DONE, DONE]))],
         Some(Rule::Backs),
     ),
 ];
 
 #[test]
 fn the_rules_of_keys_are_named(rt: HostRuntime) -> Result<(), Fail> {
-    are_told(&rt, rt.alloc(), KEYS)
+    hold_each(&rt, rt.alloc(), KEYS)
 }
 
-// The image of a database whose header is zero, without the root of its index.
-fn headless(alloc: Global, made: &Made) -> Result<Image, Fail> {
-    let mut pages = Vec::new(alloc);
-    pages.push(Bytes::zeroed(alloc, SIZE)?)?;
-    for n in 1..7 {
-        pages.push(Bytes::new(page_of(alloc, made, n)?))?;
+// Pages of a disk, and whether no database was made on it yet.
+struct Unmade(&'static [Sheet], bool);
+
+impl Case for Unmade {
+    fn holds(&self, alloc: Global) -> Result<bool, Fail> {
+        let image = image_of(alloc, self.0, &[])?;
+        Ok(is_unmade(alloc, &image, RowCoding::Plain)? == self.1)
     }
-    image_with(alloc, pages)
 }
 
-#[test]
-fn a_damaged_header_makes_no_disk_blank(rt: HostRuntime) -> Result<(), Fail> {
-    let image = headless(rt.alloc(), &SOUND)?;
-    assert!(rt; !is_unmade(rt.alloc(), &image, RowCoding::Plain)?);
-    Ok(())
-}
+const UNMADE: &[Unmade] = &[
+    // A sound database without an index, whose header is damaged.
+    Unmade(
+        &[
+            Sheet::Zero,
+            Sheet::Inventory(8),
+            Sheet::Transactions([DONE, DONE, DONE]),
+            Sheet::Pointers(&[4]),
+            Sheet::Catalog(&[K, V, INDEXED]),
+            Sheet::Pointers(&[6]),
+            Sheet::Cells(TWO),
+        ],
+        false,
+    ),
+    // A new database without a header.
+    Unmade(
+        &[
+            Sheet::Zero,
+            Sheet::Inventory(7),
+            Sheet::Transactions([LIVE, LIVE, LIVE]),
+            Sheet::Pointers(&[4]),
+            Sheet::Catalog(&[KV, K, V]),
+            Sheet::Pointers(&[6]),
+            Sheet::Cells(&[]),
+        ],
+        true,
+    ),
+];
 
-// A new database.
-const UNUSED: Made = Made {
-    next: 1,
-    oit: 1,
-    oat: 1,
-    states: [LIVE, LIVE, LIVE],
-    used: 7,
-    catalog: &NEW,
-    by: 0,
-    changed: None,
-    cells: &[],
-    keys: &[],
-};
-
 #[test]
-fn the_pages_of_a_new_database_are_known(rt: HostRuntime) -> Result<(), Fail> {
-    let image = headless(rt.alloc(), &UNUSED)?;
-    assert!(rt; is_unmade(rt.alloc(), &image, RowCoding::Plain)?);
-    Ok(())
+fn the_pages_of_a_new_database_are_known_and_no_others(rt: HostRuntime) -> Result<(), Fail> {
+    hold_each(&rt, rt.alloc(), UNMADE)
 }

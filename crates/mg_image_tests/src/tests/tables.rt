@@ -20,8 +20,25 @@ fn column(name: &[u8], kind: Kind, not_null: bool) -> Result<Column, Memory> {
     }
 }
 
+/// A column as the tests write it: its name, its kind, and whether it is NOT NULL.
+type Said = (&'static [u8], Kind, bool);
+
+/// The columns that are said.
+fn columns_of(alloc: Global, said: &[Said]) -> Result<Vec<Column>, Memory> {
+    let mut columns = Vec::new(alloc);
+    for (name, kind, not_null) in said {
+        columns.push(column(name, *kind, *not_null)?)?;
+    }
+    Ok(columns)
+}
+
 /// A table of these columns without indexes, whose key is the first.
-fn table_of(alloc: Global, name: &[u8], pointer: u32, columns: Vec<Column>) -> Result<Table, Memory>
+fn table_with(
+    alloc: Global,
+    name: &[u8],
+    pointer: u32,
+    columns: Vec<Column>,
+) -> Result<Table, Memory>
     ensures columns { IfOk result (λ table. table.shape.columns ≡ columns.items) }
     ensures pointer { IfOk result (λ table. table.pointer.0 ≡ pointer) }
 {
@@ -39,28 +56,43 @@ fn table_of(alloc: Global, name: &[u8], pointer: u32, columns: Vec<Column>) -> R
     }
 }
 
-/// The table KV (K BIGINT PRIMARY KEY, V BIGINT).
+/// A table of the columns that are said, of which there are at most 64.
+fn table_of(alloc: Global, name: &[u8], pointer: u32, said: &[Said]) -> Result<Table, Memory>
+    ensures columns { IfOk result (λ table. length table.shape.columns ≤ 64) }
+    ensures pointer { IfOk result (λ table. table.pointer.0 ≡ pointer) }
+{
+    let columns = columns_of(alloc, said)?;
+    if columns.len() > 64 {
+        return Err(Memory);
+    }
+    table_with(alloc, name, pointer, columns)
+}
+
+/// The columns of the table KV (K BIGINT PRIMARY KEY, V BIGINT).
+const KV: &[Said] = &[(b"K", Kind::Int, true), (b"V", Kind::Int, false)];
+
+/// The table KV.
 pub fn kv(alloc: Global) -> Result<Table, Memory>
     ensures columns { IfOk result (λ table. length table.shape.columns ≤ 64) }
     ensures pointer { IfOk result (λ table. table.pointer.0 ≡ 5) }
 {
-    let mut columns = Vec::new(alloc);
-    columns.push(column(b"K", Kind::Int, true)?)?;
-    columns.push(column(b"V", Kind::Int, false)?)?;
-    table_of(alloc, b"KV", 5, columns)
+    table_of(alloc, b"KV", 5, KV)
 }
+
+/// The columns of the catalog.
+const OF_CATALOG: &[Said] = &[
+    (b"K", Kind::Text(40), true),
+    (b"NAME", Kind::Text(31), false),
+    (b"A", Kind::Int, false),
+    (b"B", Kind::Int, false),
+    (b"C", Kind::Int, false),
+    (b"D", Kind::Int, false),
+];
 
 /// The catalog.
 pub fn catalog(alloc: Global) -> Result<Table, Memory>
     ensures columns { IfOk result (λ table. length table.shape.columns ≤ 64) }
     ensures pointer { IfOk result (λ table. table.pointer.0 ≡ 3) }
 {
-    let mut columns = Vec::new(alloc);
-    columns.push(column(b"K", Kind::Text(40), true)?)?;
-    columns.push(column(b"NAME", Kind::Text(31), false)?)?;
-    columns.push(column(b"A", Kind::Int, false)?)?;
-    columns.push(column(b"B", Kind::Int, false)?)?;
-    columns.push(column(b"C", Kind::Int, false)?)?;
-    columns.push(column(b"D", Kind::Int, false)?)?;
-    table_of(alloc, CATALOG, 3, columns)
+    table_of(alloc, CATALOG, 3, OF_CATALOG)
 }

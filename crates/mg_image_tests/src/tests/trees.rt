@@ -1,14 +1,15 @@
 //! Images of 1024-byte pages made by hand: which trees they have, what is found in them, and which
 //! rule each broken one breaks.
 
-use super::pages::{SIZE, header, image_with, inventory};
+use super::cases::{Case, hold_each};
+use super::nodes::{begun, pad};
+use super::sheets::{Sheet, image_with, pages_of};
 use mg_base::{Bytes, PageNo, RecId};
 use mg_model::Index;
 use mg_reading::{Image, ReadFault, Rule};
 use mg_trees::{Levels, is_found_in, read_tree};
 use mg_value::{Name, Txt, Value};
 use std::alloc::Global;
-use std::process::Abort;
 use std::test::Fail;
 
 // The first pointer page of the table.
@@ -17,7 +18,6 @@ const OWNER: u8 = 3;
 // An index page: its level, right neighbour, where its entries end, its fences, and its entries
 // with their children. A letter stands for the key of the text of that letter alone, with the
 // record of page 6 and of a slot of its number; 0 for no fence, and for the least entry.
-#[derive(Clone, Copy)]
 struct Made(u8, u8, u8, u8, u8, &'static [(u8, u8)]);
 
 // Appends a fence or an entry.
@@ -39,64 +39,38 @@ fn put_fence(letter: u8, out: &mut Vec<u8>) -> Result<(), Fail> {
 }
 
 // What stands before the fences of an index page of this number.
-fn front_of(n: u8, made: &Made) -> [u8; 28] {
+fn begin(alloc: Global, n: u8, made: &Made) -> Result<Vec<u8>, Fail> {
     let count = (made.5.len() % 256) as u8;
     let low = u8::from(made.3 != 0);
     let high = u8::from(made.4 != 0);
-    [
-        7,
-        0,
-        0,
-        0,
+    begun(
+        alloc,
         n,
-        0,
-        0,
-        0,
         OWNER,
-        0,
-        0,
-        0,
-        0,
-        0,
-        0,
-        0,
-        made.0,
-        0,
-        count,
-        0,
-        made.1,
-        0,
-        0,
-        0,
-        made.2,
-        0,
-        low + 2 * high,
-        0,
-    ]
+        [made.0, count, made.1, made.2, low + 2 * high],
+    )
 }
 
-// Appends the entries of a page of a level, each with its child where that is an inner page.
-fn put_entries(level: u8, entries: &[(u8, u8)], out: &mut Vec<u8>) -> Result<(), Fail> {
-    for (letter, child) in entries {
-        put_entry(*letter, out)?;
-        if level > 0 {
-            out.extend_from_slice(&[*child, 0, 0, 0])?;
-        }
+// Appends an entry of a page of a level, with its child where that is an inner page.
+fn put_child(level: u8, entry: (u8, u8), out: &mut Vec<u8>) -> Result<(), Fail> {
+    put_entry(entry.0, out)?;
+    if level > 0 {
+        out.extend_from_slice(&[entry.1, 0, 0, 0])?;
     }
     Ok(())
 }
 
-// Appends zeros up to the size of a page.
-fn pad(out: &mut Vec<u8>) -> Result<(), Fail> {
-    for _ in out.len()..SIZE {
-        out.push(0)?;
+// Appends the entries of a page of a level.
+fn put_entries(level: u8, entries: &[(u8, u8)], out: &mut Vec<u8>) -> Result<(), Fail> {
+    for entry in entries {
+        put_child(level, *entry, out)?;
     }
     Ok(())
 }
 
 // An index page of this number.
 fn page_of(alloc: Global, n: u8, made: &Made) -> Result<Bytes, Fail> {
-    let mut out = front_of(n, made).to_vec(alloc)?;
+    let mut out = begin(alloc, n, made)?;
     put_fence(made.3, &mut out)?;
     put_fence(made.4, &mut out)?;
     put_entries(made.0, made.5, &mut out)?;
@@ -104,33 +78,18 @@ fn page_of(alloc: Global, n: u8, made: &Made) -> Result<Bytes, Fail> {
     Ok(Bytes::new(out))
 }
 
-// The header, on which no index stands.
-fn header_page() -> [u8; SIZE] {
-    let mut page = [0u8; SIZE];
-    header(&mut page, 1, 1, 1, 3);
-    page
-}
-
-// The page inventory page, on which ten pages are used.
-fn inventory_page() -> [u8; SIZE] {
-    let mut page = [0u8; SIZE];
-    inventory(&mut page, 10);
-    page
-}
-
-// The pages before the index pages: the header, the inventory, and two that are zero.
-fn first_pages(alloc: Global) -> Result<Vec<Bytes>, Fail> {
-    let mut pages = Vec::new(alloc);
-    pages.push(Bytes::new(header_page().to_vec(alloc)?))?;
-    pages.push(Bytes::new(inventory_page().to_vec(alloc)?))?;
-    pages.push(Bytes::zeroed(alloc, SIZE)?)?;
-    pages.push(Bytes::zeroed(alloc, SIZE)?)?;
-    Ok(pages)
-}
+// The pages before the index pages: the header, the inventory, on which ten pages are used, and two
+// that are zero.
+const FIRST: &[Sheet] = &[
+    Sheet::Header(1, 1, 1, 3),
+    Sheet::Inventory(10),
+    Sheet::Zero,
+    Sheet::Zero,
+];
 
 // An image with these index pages from page 4 on, whose header is lawful.
 fn image_of(alloc: Global, nodes: &[Made]) -> Result<Image, Fail> {
-    let mut pages = first_pages(alloc)?;
+    let mut pages = pages_of(alloc, FIRST, &[])?;
     let mut n = 4u8;
     for node in nodes {
         pages.push(page_of(alloc, n, node)?)?;
@@ -159,11 +118,20 @@ fn listed(alloc: Global, tree: &Levels) -> Result<Vec<u32>, Fail> {
     Ok(out)
 }
 
-// The pages of the tree from page 4 on, a 0 behind each level.
-fn pages_of(alloc: Global, nodes: &[Made]) -> Result<Vec<u32>, Fail> {
-    match read(alloc, nodes, 4)? {
-        Ok(tree) => listed(alloc, &tree),
-        Err(_) => Err("no tree")?,
+// Tells whether these are the pages of a tree, a 0 behind each level.
+fn has_pages(alloc: Global, tree: &Levels, wanted: &[u32]) -> Result<bool, Fail> {
+    Ok(listed(alloc, tree)?.as_slice() == wanted)
+}
+
+// Index pages, and the pages of the tree from page 4 on, a 0 behind each level.
+struct Lawful(&'static [Made], &'static [u32]);
+
+impl Case for Lawful {
+    fn holds(&self, alloc: Global) -> Result<bool, Fail> {
+        match read(alloc, self.0, 4)? {
+            Ok(tree) => has_pages(alloc, &tree, self.1),
+            Err(_) => Ok(false),
+        }
     }
 }
 
@@ -185,26 +153,34 @@ const LINKED: &[Made] = &[
     Made(0, 6, 64, b'g', b'm', &[(b'h', 0)]),
 ];
 
-const LAWFUL: &[(&[Made], &[u32])] = &[
-    (LEAF, &[4, 0]),
-    (TWO, &[4, 0, 5, 6, 0]),
-    (LINKED, &[4, 0, 5, 7, 6, 0]),
+const LAWFUL: &[Lawful] = &[
+    Lawful(LEAF, &[4, 0]),
+    Lawful(TWO, &[4, 0, 5, 6, 0]),
+    Lawful(LINKED, &[4, 0, 5, 7, 6, 0]),
 ];
 
 #[test]
 fn the_levels_of_lawful_trees(rt: HostRuntime) -> Result<(), Fail> {
-    for (nodes, wanted) in LAWFUL {
-        let found = pages_of(rt.alloc(), nodes)?;
-        assert_eq!(rt; found.as_slice(), *wanted);
-    }
-    Ok(())
+    hold_each(&rt, rt.alloc(), LAWFUL)
 }
 
-// A case, the rule that it breaks, its root, and its index pages.
-const BROKEN: &[(&str, Rule, u32, &[Made])] = &[
-    ("page 0 is the header", Rule::Once, 0, LEAF),
-    (
-        "a low fence is the page's high one",
+// The rule that the tree from a root on breaks, the root, and the index pages.
+struct Broken(Rule, u32, &'static [Made]);
+
+impl Case for Broken {
+    fn holds(&self, alloc: Global) -> Result<bool, Fail> {
+        match read(alloc, self.2, self.1)? {
+            Err(ReadFault::Broken(rule)) => Ok(rule == self.0),
+            _ => Ok(false),
+        }
+    }
+}
+
+const BROKEN: &[Broken] = &[
+    // Page 0 is the header.
+    Broken(Rule::Once, 0, LEAF),
+    // A low fence is the page's high one.
+    Broken(
         Rule::Once,
         4,
         &[
@@ -214,16 +190,18 @@ const BROKEN: &[(&str, Rule, u32, &[Made])] = &[
             Made(0, 6, 52, b'm', b'm', &[]),
         ],
     ),
-    ("the page is not marked as used", Rule::Pages, 10, LEAF),
-    ("the page is none of an index", Rule::Pages, 2, LEAF),
-    (
-        "entries do not ascend",
+    // The page is not marked as used.
+    Broken(Rule::Pages, 10, LEAF),
+    // The page is none of an index.
+    Broken(Rule::Pages, 2, LEAF),
+    // Entries do not ascend.
+    Broken(
         Rule::Pages,
         4,
         &[Made(0, 0, 52, 0, 0, &[(b'd', 0), (b'b', 0)])],
     ),
-    (
-        "a child stands two levels below",
+    // A child stands two levels below.
+    Broken(
         Rule::Pages,
         4,
         &[
@@ -232,15 +210,16 @@ const BROKEN: &[(&str, Rule, u32, &[Made])] = &[
             Made(0, 0, 64, b'm', 0, &[(b'm', 0), (b't', 0)]),
         ],
     ),
-    (
-        "the root has a low fence",
+    // The root has a low fence.
+    Broken(
         Rule::Once,
         4,
         &[Made(0, 0, 64, b'a', 0, &[(b'b', 0), (b'd', 0)])],
     ),
-    ("the root has a right neighbour", Rule::Once, 5, TWO),
-    (
-        "the chain comes back",
+    // The root has a right neighbour.
+    Broken(Rule::Once, 5, TWO),
+    // The chain comes back.
+    Broken(
         Rule::Once,
         4,
         &[
@@ -248,8 +227,8 @@ const BROKEN: &[(&str, Rule, u32, &[Made])] = &[
             Made(0, 5, 64, 0, b'm', &[(b'b', 0), (b'd', 0)]),
         ],
     ),
-    (
-        "an inner page has one entry",
+    // An inner page has one entry.
+    Broken(
         Rule::Once,
         4,
         &[
@@ -257,8 +236,8 @@ const BROKEN: &[(&str, Rule, u32, &[Made])] = &[
             Made(0, 0, 52, 0, 0, &[(b'b', 0), (b'd', 0)]),
         ],
     ),
-    (
-        "a child is not on the level below",
+    // A child is not on the level below.
+    Broken(
         Rule::Once,
         4,
         &[
@@ -267,8 +246,8 @@ const BROKEN: &[(&str, Rule, u32, &[Made])] = &[
             Made(0, 0, 64, b'm', 0, &[(b'm', 0), (b't', 0)]),
         ],
     ),
-    (
-        "a child has another low fence than its entry",
+    // A child has another low fence than its entry.
+    Broken(
         Rule::Once,
         4,
         &[
@@ -277,8 +256,8 @@ const BROKEN: &[(&str, Rule, u32, &[Made])] = &[
             Made(0, 0, 64, b'm', 0, &[(b'm', 0), (b't', 0)]),
         ],
     ),
-    (
-        "the first child has a low fence",
+    // The first child has a low fence.
+    Broken(
         Rule::Once,
         4,
         &[
@@ -287,8 +266,8 @@ const BROKEN: &[(&str, Rule, u32, &[Made])] = &[
             Made(0, 0, 64, b'm', 0, &[(b'm', 0), (b't', 0)]),
         ],
     ),
-    (
-        "a high fence without a right neighbour",
+    // A high fence without a right neighbour.
+    Broken(
         Rule::Once,
         4,
         &[
@@ -297,8 +276,8 @@ const BROKEN: &[(&str, Rule, u32, &[Made])] = &[
             Made(0, 0, 76, b'm', b'z', &[(b'm', 0), (b't', 0)]),
         ],
     ),
-    (
-        "a right neighbour without a high fence",
+    // A right neighbour without a high fence.
+    Broken(
         Rule::Once,
         4,
         &[
@@ -307,8 +286,8 @@ const BROKEN: &[(&str, Rule, u32, &[Made])] = &[
             Made(0, 0, 64, b'm', 0, &[(b'm', 0), (b't', 0)]),
         ],
     ),
-    (
-        "the right neighbour has another low fence",
+    // The right neighbour has another low fence.
+    Broken(
         Rule::Once,
         4,
         &[
@@ -320,21 +299,9 @@ const BROKEN: &[(&str, Rule, u32, &[Made])] = &[
     ),
 ];
 
-// The rule that the tree from a root on breaks.
-fn rule_of(alloc: Global, nodes: &[Made], root: u32) -> Result<Option<Rule>, Fail> {
-    Ok(match read(alloc, nodes, root)? {
-        Err(ReadFault::Broken(rule)) => Some(rule),
-        _ => None,
-    })
-}
-
 #[test]
 fn a_broken_tree_is_refused_by_its_rule(rt: HostRuntime) -> Result<(), Fail> {
-    for (what, rule, root, nodes) in BROKEN {
-        let found = rule_of(rt.alloc(), nodes, *root)?;
-        assert!(rt; found == Some(*rule), "{what}");
-    }
-    Ok(())
+    hold_each(&rt, rt.alloc(), BROKEN)
 }
 
 // The row of a letter.
@@ -361,30 +328,34 @@ fn is_found(alloc: Global, image: &Image, row: &[Value], slot: u16) -> Result<bo
     Ok(is_found_in(alloc, image, &[index], &trees, p, row)?)
 }
 
-// Whether the row of a letter is found as the one of a slot of page 6.
-fn finds(alloc: Global, nodes: &[Made], letter: u8, slot: u16) -> Result<bool, Fail> {
-    let image = image_of(alloc, nodes)?;
-    is_found(alloc, &image, &row_of(alloc, letter)?, slot)
+// Index pages, a letter and a slot, and whether the row of the letter is found as the one of that
+// slot of page 6.
+struct Sought(&'static [Made], u8, u16, bool);
+
+impl Case for Sought {
+    fn holds(&self, alloc: Global) -> Result<bool, Fail> {
+        let image = image_of(alloc, self.0)?;
+        let row = row_of(alloc, self.1)?;
+        Ok(is_found(alloc, &image, &row, self.2)? == self.3)
+    }
 }
 
-// A case, its index pages, a letter and a slot, and whether the row is found.
-const ROWS: &[(&str, &[Made], u8, u16, bool)] = &[
-    ("the first of a leaf", LEAF, b'b', 98, true),
-    ("the last of a leaf", LEAF, b'd', 100, true),
-    ("another record", LEAF, b'b', 99, false),
-    ("between two of a leaf", LEAF, b'c', 99, false),
-    ("in the left leaf", TWO, b'd', 100, true),
-    ("equal to a fence", TWO, b'm', 109, true),
-    ("in the right leaf", TWO, b't', 116, true),
-    ("by a right link", LINKED, b'h', 104, true),
-    ("not there by a right link", LINKED, b'i', 105, false),
+const ROWS: &[Sought] = &[
+    // The first and the last one of a leaf, another record, and a row between the two.
+    Sought(LEAF, b'b', 98, true),
+    Sought(LEAF, b'd', 100, true),
+    Sought(LEAF, b'b', 99, false),
+    Sought(LEAF, b'c', 99, false),
+    // In the left leaf, equal to a fence, and in the right leaf.
+    Sought(TWO, b'd', 100, true),
+    Sought(TWO, b'm', 109, true),
+    Sought(TWO, b't', 116, true),
+    // By a right link, and not there.
+    Sought(LINKED, b'h', 104, true),
+    Sought(LINKED, b'i', 105, false),
 ];
 
 #[test]
 fn which_rows_are_found(rt: HostRuntime) -> Result<(), Fail> {
-    for (what, nodes, letter, slot, wanted) in ROWS {
-        let found = finds(rt.alloc(), nodes, *letter, *slot)?;
-        assert_eq!(rt; found, *wanted, "{what}");
-    }
-    Ok(())
+    hold_each(&rt, rt.alloc(), ROWS)
 }
