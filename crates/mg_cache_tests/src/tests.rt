@@ -2,6 +2,7 @@
 //! memory, and worked rows.
 
 mod btree;
+mod calls;
 mod careful;
 mod chain;
 mod device;

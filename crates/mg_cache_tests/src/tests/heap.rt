@@ -7,6 +7,7 @@ ghost use Rattle.mg_pool.specs.Pool.{IsPool};
 ghost use Rattle.mg_space.specs.Taking.{IsGeometry};
 ghost use Rattle.mg_space.specs.View.{AreWhole};
 
+use super::calls::{Begins, Bench, run};
 use super::stores::{OWNER, empty_store, empty_table, has_bytes};
 use mg_base::{MemDisk, PageNo, RecId};
 use mg_heap::{add, free, next};
@@ -14,12 +15,12 @@ use mg_image::PRIMARY_VERSION;
 use mg_pool::{Batch, PoolFault};
 use mg_space::{SpaceFault, Store};
 use mg_version::{ANCHOR, VERSION};
-use std::process::Abort;
-use std::test::*;
+use std::alloc::Global;
+use std::test::Fail;
 
 /// A call on a table in a batch, and what it answers.
 #[derive(Clone, Copy)]
-enum Call {
+pub enum Call {
     /// A cell of 1000 bytes goes into the first slot of this page.
     Large(u32),
     /// Such a cell goes into the first slot of each page from one to the one before another.
@@ -32,6 +33,8 @@ enum Call {
     Change(u32),
     /// A page of the batch has these bytes from a place on.
     Has(u32, usize, &'static [u8]),
+    /// The walk over what is in the cache gives these slots, and no more.
+    Walks(&'static [(u32, u16)]),
 }
 
 /// The name of a slot.
@@ -105,39 +108,74 @@ fn change_page(store: &mut Store<MemDisk>, batch: &Batch, page: u32) -> Result<(
     store.change_one(PageNo(page), bytes, None)
 }
 
-/// Does what a call says, and tells whether it answers so.
-fn does(store: &mut Store<MemDisk>, batch: &mut Batch, call: Call) -> bool
+/// The record of a table behind another one.
+fn next_of(store: &mut Store<MemDisk>, after: Option<RecId>) -> Result<Option<RecId>, SpaceFault>
     requires pool { IsPool mem_meaning store.old }
     requires geometry { IsGeometry store.old.geometry }
-    requires size { store.old.geometry.size ≡ 1024 }
-    requires whole { AreWhole 1024 batch.old.pages }
     ensures pool { IsPool mem_meaning store.new }
     ensures geometry { store.new.geometry ≡ store.old.geometry }
-    ensures whole { OnTrue result (AreWhole 1024 batch.new.pages) }
 {
-    match call {
-        Call::Large(page) => put(store, batch, &[1; 1000]) == Ok(slot_of(page, 0)),
-        Call::Fill(from, end) => fill(store, batch, from, end),
-        Call::Small(byte, page, slot) => put(store, batch, &[byte; 100]) == Ok(slot_of(page, slot)),
-        Call::Free(page, slot) => drop_slot(store, batch, slot_of(page, slot)),
-        Call::Change(page) => change_page(store, batch, page) == Ok(()),
-        Call::Has(page, at, bytes) => has_bytes(batch, PageNo(page), at, bytes),
+    next(store, OWNER, after)
+}
+
+/// Tells whether the walk gives these slots, one after another, and no more.
+fn walks(store: &mut Store<MemDisk>, slots: &[(u32, u16)]) -> Result<bool, SpaceFault>
+    requires pool { IsPool mem_meaning store.old }
+    requires geometry { IsGeometry store.old.geometry }
+    ensures pool { IsPool mem_meaning store.new }
+    ensures geometry { store.new.geometry ≡ store.old.geometry }
+{
+    let mut after = None;
+    for (page, slot) in slots {
+        let wanted = Some(slot_of(*page, *slot));
+        if next_of(store, after)? != wanted {
+            return Ok(false);
+        }
+        after = wanted;
+    }
+    Ok(next_of(store, after)?.is_none())
+}
+
+/// A table without records, and a batch on it.
+#[derive(Drop)]
+pub struct Table {
+    store: Store<MemDisk>,
+    batch: Batch,
+}
+
+impl Bench for Table {
+    type Call = Call;
+
+    ghost ready = { λ it. IsPool mem_meaning it.store × IsGeometry it.store.geometry
+        × (it.store.geometry.size ≡ 1024) × AreWhole 1024 it.batch.pages };
+
+    fn does(&mut self, _alloc: Global, call: &Call) -> bool {
+        let store = &mut self.store;
+        let batch = &mut self.batch;
+        match *call {
+            Call::Large(page) => put(store, batch, &[1; 1000]) == Ok(slot_of(page, 0)),
+            Call::Fill(from, end) => fill(store, batch, from, end),
+            Call::Small(byte, page, slot) => {
+                put(store, batch, &[byte; 100]) == Ok(slot_of(page, slot))
+            }
+            Call::Free(page, slot) => drop_slot(store, batch, slot_of(page, slot)),
+            Call::Change(page) => change_page(store, batch, page) == Ok(()),
+            Call::Has(page, at, bytes) => has_bytes(batch, PageNo(page), at, bytes),
+            Call::Walks(slots) => walks(store, slots) == Ok(true),
+        }
     }
 }
 
-/// Wants each call on a new table to answer as it says, one after another.
-fn does_each(rt: &impl Abort, store: &mut Store<MemDisk>, calls: &[Call]) -> Result<(), Fail>
-    requires pool { IsPool mem_meaning store.old }
-    requires geometry { IsGeometry store.old.geometry }
-    requires size { store.old.geometry.size ≡ 1024 }
-    ensures pool { IsPool mem_meaning store.new }
-    ensures geometry { store.new.geometry ≡ store.old.geometry }
-{
-    let mut batch = empty_table(store.alloc())?;
-    for (place, call) in calls.iter().enumerate() {
-        assert!(rt; does(store, &mut batch, *call), "call {place}");
+impl Begins for Table {
+    type From = ();
+
+    fn begin(alloc: Global, _from: ()) -> Result<Table, Fail> {
+        let batch = empty_table(alloc)?;
+        Ok(Table {
+            store: empty_store(alloc, 1000)?,
+            batch,
+        })
     }
-    Ok(())
 }
 
 /// Page 257 is the new pointer page.
@@ -154,33 +192,7 @@ const SECOND_POINTERS: &[Call] = &[
 
 #[test]
 fn the_251st_data_page_is_listed_by_a_second_pointer_page(rt: HostRuntime) -> Result<(), Fail> {
-    does_each(&rt, &mut empty_store(rt.alloc(), 1000)?, SECOND_POINTERS)
-}
-
-/// The record of a table behind another one.
-fn next_of(store: &mut Store<MemDisk>, after: Option<RecId>) -> Result<Option<RecId>, SpaceFault>
-    requires pool { IsPool mem_meaning store.old }
-    requires geometry { IsGeometry store.old.geometry }
-    ensures pool { IsPool mem_meaning store.new }
-    ensures geometry { store.new.geometry ≡ store.old.geometry }
-{
-    next(store, OWNER, after)
-}
-
-/// Tells whether the walk gives these slots, one after another, and no more.
-fn walks(store: &mut Store<MemDisk>, slots: &[(u32, u16)]) -> Result<bool, SpaceFault>
-    requires pool { IsPool mem_meaning store.old }
-    requires geometry { IsGeometry store.old.geometry }
-{
-    let mut after = None;
-    for (page, slot) in slots {
-        let wanted = Some(slot_of(*page, *slot));
-        if next_of(store, after)? != wanted {
-            return Ok(false);
-        }
-        after = wanted;
-    }
-    Ok(next_of(store, after)?.is_none())
+    run::<Table>(&rt, rt.alloc(), (), SECOND_POINTERS)
 }
 
 /// Nine cells of 100 bytes fill page 7; the others stand on page 8.
@@ -205,15 +217,12 @@ const TWO_PAGES: &[Call] = &[
     Call::Change(5),
     Call::Change(7),
     Call::Change(8),
+    Call::Walks(&[(7, 2), (7, 3), (7, 6), (8, 1), (8, 4)]),
 ];
 
 #[test]
 fn the_walk_gives_each_primary_slot_once_in_the_order_of_pages_and_slots(
     rt: HostRuntime,
 ) -> Result<(), Fail> {
-    let mut store = empty_store(rt.alloc(), 1000)?;
-    does_each(&rt, &mut store, TWO_PAGES)?;
-    let slots = [(7, 2), (7, 3), (7, 6), (8, 1), (8, 4)];
-    assert_eq!(rt; walks(&mut store, &slots), Ok(true));
-    Ok(())
+    run::<Table>(&rt, rt.alloc(), (), TWO_PAGES)
 }

@@ -3,29 +3,31 @@
 ghost use Rattle.std.specs.Prelude.{◌≡◌, ◌≤◌, length};
 ghost use Rattle.mg_node_writing.specs.LeafLaws.{IsFreeLeaf};
 
+use super::calls::{Begins, Bench, run};
 use super::entries::entry_of;
-use mg_base::{PageNo, get_u16};
+use mg_base::{Memory, PageNo, get_u16};
 use mg_node::END_AT;
 use mg_node_writing::{insert, new_node, remove, split};
 use std::alloc::Global;
-use std::process::Abort;
 use std::test::Fail;
 
 const SIZE: usize = 1024;
 
 /// What is done to a page, and what comes of it.
 #[derive(Clone, Copy)]
-enum Deed {
+pub enum Deed {
     /// The entry of a key of so many equal bytes, and of a slot of page 6, is put in.
     Put(u8, usize, u16),
     /// Such an entry is taken out, where it is there.
     Take(u8, usize, u16, bool),
     /// The page begins with these bytes.
     Begins(&'static [u8]),
+    /// Split, the page begins with the first bytes, and the new page 12 with the others.
+    Splits(&'static [u8], &'static [u8]),
 }
 
 // Puts an entry of a record of page 6 into a page, and tells whether it found room.
-fn put(page: &mut [u8], alloc: Global, byte: u8, len: usize, slot: u16) -> Result<bool, Fail>
+fn put(page: &mut [u8], alloc: Global, byte: u8, len: usize, slot: u16) -> Result<bool, Memory>
     requires leaf { IsFreeLeaf page.old }
     requires size { length page.old ≡ 1024 }
     requires short { len ≤ 128 }
@@ -36,7 +38,7 @@ fn put(page: &mut [u8], alloc: Global, byte: u8, len: usize, slot: u16) -> Resul
 }
 
 // Takes such an entry out of a page, and tells whether it was there.
-fn take(page: &mut [u8], alloc: Global, byte: u8, len: usize, slot: u16) -> Result<bool, Fail>
+fn take(page: &mut [u8], alloc: Global, byte: u8, len: usize, slot: u16) -> Result<bool, Memory>
     requires leaf { IsFreeLeaf page.old }
     ensures leaf { IsFreeLeaf page.new }
 {
@@ -44,33 +46,59 @@ fn take(page: &mut [u8], alloc: Global, byte: u8, len: usize, slot: u16) -> Resu
     Ok(remove(page, &entry))
 }
 
-// Does what a deed says, and tells whether it comes out so.
-fn does(page: &mut [u8], alloc: Global, deed: Deed) -> Result<bool, Fail>
-    requires leaf { IsFreeLeaf page.old }
-    requires size { length page.old ≡ 1024 }
-    ensures leaf { IsFreeLeaf page.new }
+// Splits a page where it has no room for some entry, and tells whether it did.
+fn split_if_full(left: &mut [u8], right: &mut [u8]) -> bool
+    requires leaf { IsFreeLeaf left.old }
+    requires sizes { length right.old ≡ length left.old }
 {
-    Ok(match deed {
-        Deed::Put(byte, len, slot) => put(page, alloc, byte, len.min(128), slot)?,
-        Deed::Take(byte, len, slot, there) => take(page, alloc, byte, len, slot)? == there,
-        Deed::Begins(bytes) => page.starts_with(bytes),
-    })
+    let room = left.len() - get_u16(left, END_AT) as usize;
+    if room >= 8 + left.len() / 8 {
+        return false;
+    }
+    split(left, right, PageNo(12));
+    true
 }
 
-// Wants each deed to come out as it says, one after another.
-fn does_each(
-    rt: &impl Abort,
-    alloc: Global,
-    page: &mut [u8; SIZE],
-    deeds: &[Deed],
-) -> Result<(), Fail>
-    requires leaf { IsFreeLeaf page.old }
-    ensures leaf { IsFreeLeaf page.new }
+// Tells whether a page that is split begins with the first bytes, and the new page with the others.
+fn splits(page: &[u8; SIZE], first: &[u8], others: &[u8]) -> bool
+    requires { IsFreeLeaf page.now }
 {
-    for (place, deed) in deeds.iter().enumerate() {
-        assert!(rt; does(page, alloc, *deed)?, "deed {place}");
+    let mut left = *page;
+    let mut right = [0u8; SIZE];
+    split_if_full(&mut left, &mut right) && left.starts_with(first) && right.starts_with(others)
+}
+
+/// A leaf to which the deeds are done.
+#[derive(Drop)]
+pub struct Leaf {
+    page: [u8; SIZE],
+}
+
+impl Bench for Leaf {
+    type Call = Deed;
+
+    ghost ready = { λ leaf. IsFreeLeaf leaf.page };
+
+    fn does(&mut self, alloc: Global, deed: &Deed) -> bool {
+        match *deed {
+            Deed::Put(byte, len, slot) => {
+                put(&mut self.page, alloc, byte, len.min(128), slot) == Ok(true)
+            }
+            Deed::Take(byte, len, slot, there) => {
+                take(&mut self.page, alloc, byte, len, slot) == Ok(there)
+            }
+            Deed::Begins(bytes) => self.page.starts_with(bytes),
+            Deed::Splits(first, others) => splits(&self.page, first, others),
+        }
     }
-    Ok(())
+}
+
+impl Begins for Leaf {
+    type From = ();
+
+    fn begin(_alloc: Global, _from: ()) -> Result<Leaf, Fail> {
+        Ok(Leaf { page: new_page() })
+    }
 }
 
 // The empty leaf 9 of owner 5.
@@ -102,20 +130,7 @@ const TWO: &[Deed] = &[
 
 #[test]
 fn entries_stand_in_order_and_each_once(rt: HostRuntime) -> Result<(), Fail> {
-    does_each(&rt, rt.alloc(), &mut new_page(), TWO)
-}
-
-// Splits a page where it has no room for some entry, and tells whether it did.
-fn split_if_full(left: &mut [u8], right: &mut [u8]) -> bool
-    requires leaf { IsFreeLeaf left.old }
-    requires sizes { length right.old ≡ length left.old }
-{
-    let room = left.len() - get_u16(left, END_AT) as usize;
-    if room >= 8 + left.len() / 8 {
-        return false;
-    }
-    split(left, right, PageNo(12));
-    true
+    run::<Leaf>(&rt, rt.alloc(), (), TWO)
 }
 
 // Seven entries of 128 bytes.
@@ -127,26 +142,21 @@ const SEVEN: &[Deed] = &[
     Deed::Put(5, 120, 1),
     Deed::Put(6, 120, 1),
     Deed::Put(7, 120, 1),
-];
-
-// Four entries and the high fence end at 28 + 128 + 4 * 128, and page 12 is to the right.
-const LEFT: &[u8] = &[
-    7, 0, 0, 0, 9, 0, 0, 0, 5, 0, 0, 0, 0, 0, 0, 0, 0, 0, 4, 0, 12, 0, 0, 0, 156, 2, 2, 0, 120, 0,
-    5, 5,
-];
-
-// The low fence and three entries end at 28 + 128 + 3 * 128.
-const RIGHT: &[u8] = &[
-    7, 0, 0, 0, 12, 0, 0, 0, 5, 0, 0, 0, 0, 0, 0, 0, 0, 0, 3, 0, 0, 0, 0, 0, 28, 2, 1, 0, 120, 0,
-    5, 5,
+    Deed::Splits(
+        // Four entries and the high fence end at 28 + 128 + 4 * 128, and page 12 is to the right.
+        &[
+            7, 0, 0, 0, 9, 0, 0, 0, 5, 0, 0, 0, 0, 0, 0, 0, 0, 0, 4, 0, 12, 0, 0, 0, 156, 2, 2, 0,
+            120, 0, 5, 5,
+        ],
+        // The low fence and three entries end at 28 + 128 + 3 * 128.
+        &[
+            7, 0, 0, 0, 12, 0, 0, 0, 5, 0, 0, 0, 0, 0, 0, 0, 0, 0, 3, 0, 0, 0, 0, 0, 28, 2, 1, 0,
+            120, 0, 5, 5,
+        ],
+    ),
 ];
 
 #[test]
 fn four_of_seven_entries_stay_on_a_page_that_is_split(rt: HostRuntime) -> Result<(), Fail> {
-    let mut left = new_page();
-    let mut right = [0u8; SIZE];
-    does_each(&rt, rt.alloc(), &mut left, SEVEN)?;
-    assert!(rt; split_if_full(&mut left, &mut right));
-    assert!(rt; left.starts_with(LEFT) && right.starts_with(RIGHT));
-    Ok(())
+    run::<Leaf>(&rt, rt.alloc(), (), SEVEN)
 }

@@ -1,18 +1,21 @@
 //! What no clause says: that calls succeed with ample memory, and whole runs with their writes.
 
+ghost use Rattle.std.specs.Bool.{OnTrue};
 ghost use Rattle.std.specs.Prelude.{◌≡◌, ◌≢◌, [], Some, None, IfOk, true, length};
 ghost use Rattle.mg_pool.specs.Pool.{IsPool};
 
+use super::calls::{Begins, Bench, go_on, run};
 use super::disks::read_page;
 use mg_base::{Disk, FaultyDisk, Geometry, MemDisk, Memory, PageNo};
 use mg_careful::{Demand, Links, Order};
 use mg_pool::{BATCH_PAGES, Batch, DIRTY_PAGES, MARKERS, Pool, PoolFault};
+use mg_space::SpaceFault;
 use std::alloc::Global;
 use std::process::Abort;
 use std::test::Fail;
 
 /// Pages that demand nothing of each other.
-struct Unlinked;
+pub struct Unlinked;
 
 impl Links for Unlinked {
     ghost demands_of = { λ b want. [] };
@@ -50,7 +53,7 @@ fn put_in_order<D: Disk>(
     pool: &mut Pool<D, Unlinked>,
     order: Order,
     bytes: &[u8],
-) -> Result<(), Fail>
+) -> Result<(), SpaceFault>
     requires pool { IsPool D.meaning pool.old }
     requires whole { length bytes.now ≡ pool.old.geometry.size }
     requires apart { order.first ≢ order.later }
@@ -73,17 +76,16 @@ fn order_two<D: Disk>(
     first: u32,
     later: u32,
     byte: u8,
-) -> Result<bool, Fail>
+) -> bool
     requires pool { IsPool D.meaning pool.old }
     requires size { pool.old.geometry.size ≡ 1024 }
     ensures pool { IsPool D.meaning pool.new }
     ensures geometry { pool.new.geometry ≡ pool.old.geometry }
 {
     if first == later {
-        return Ok(false);
+        return false;
     }
-    put_in_order(alloc, pool, Order { first, later }, &[byte; 1024])?;
-    Ok(true)
+    put_in_order(alloc, pool, Order { first, later }, &[byte; 1024]).is_ok()
 }
 
 /// Changes a page to equal bytes, after another one where there is one to be written first.
@@ -196,7 +198,7 @@ fn put_record<D: Disk>(pool: &mut Pool<D, Unlinked>, own: u8, next: u8) -> Resul
 
 /// A call of a pool, and what it answers.
 #[derive(Clone, Copy)]
-enum Call {
+pub enum Call {
     /// Two pages are changed at once to equal bytes, the first ordered before the second.
     Ordered(u32, u32, u8),
     /// A page is changed to equal bytes, after another one where there is one to be written first.
@@ -216,47 +218,83 @@ enum Call {
     Settle(Result<(), PoolFault>),
 }
 
-/// Does what a call says, and tells whether it answers so.
-fn does<D: Disk>(alloc: Global, pool: &mut Pool<D, Unlinked>, call: Call) -> Result<bool, Fail>
-    requires pool { IsPool D.meaning pool.old }
-    requires size { pool.old.geometry.size ≡ 1024 }
-    ensures pool { IsPool D.meaning pool.new }
-    ensures geometry { pool.new.geometry ≡ pool.old.geometry }
-{
-    Ok(match call {
-        Call::Ordered(first, later, byte) => order_two(alloc, pool, first, later, byte)?,
-        Call::Change(page, byte, first) => change(pool, page, byte, first).is_ok(),
-        Call::ChangeEach(end) => change_each(pool, end).is_ok(),
-        Call::Record(own, next) => put_record(pool, own, next).is_ok(),
-        Call::Dirty(page, is) => pool.is_dirty(PageNo(page)) == is,
-        Call::Write(goal, page) => write(pool, goal) == Ok(page),
-        Call::WriteEach(wanted) => write_each(pool) == wanted,
-        Call::Fetch(page, wanted) => fetch(pool, page) == wanted,
-        Call::Settle(wanted) => settle(pool) == wanted,
-    })
+/// A pool over a disk of which some calls may fail.
+type Cache = Pool<FaultyDisk, Unlinked>;
+
+impl Bench for Cache {
+    type Call = Call;
+
+    ghost ready = { λ pool. IsPool ⟦<FaultyDisk as Disk>⟧.meaning pool × (pool.geometry.size ≡ 1024) };
+
+    fn does(&mut self, alloc: Global, call: &Call) -> bool {
+        match *call {
+            Call::Ordered(first, later, byte) => order_two(alloc, self, first, later, byte),
+            Call::Change(page, byte, first) => change(self, page, byte, first).is_ok(),
+            Call::ChangeEach(end) => change_each(self, end).is_ok(),
+            Call::Record(own, next) => put_record(self, own, next).is_ok(),
+            Call::Dirty(page, is) => self.is_dirty(PageNo(page)) == is,
+            Call::Write(goal, page) => write(self, goal) == Ok(page),
+            Call::WriteEach(wanted) => write_each(self) == wanted,
+            Call::Fetch(page, wanted) => fetch(self, page) == wanted,
+            Call::Settle(wanted) => settle(self) == wanted,
+        }
+    }
 }
 
-/// Wants each call to answer as it says, one after another.
-fn does_each<D: Disk>(
-    rt: &impl Abort,
-    alloc: Global,
-    pool: &mut Pool<D, Unlinked>,
-    calls: &[Call],
-) -> Result<(), Fail>
-    requires pool { IsPool D.meaning pool.old }
-    requires size { pool.old.geometry.size ≡ 1024 }
-{
-    for (place, call) in calls.iter().enumerate() {
-        assert!(rt; does(alloc, pool, *call)?, "call {place}");
+impl Begins for Cache {
+    /// How many pages the disk may have, and which of its calls fail.
+    type From = (u32, &'static [u32]);
+
+    fn begin(alloc: Global, from: (u32, &'static [u32])) -> Result<Cache, Fail> {
+        let (pages, bad) = from;
+        let disk = MemDisk::new(alloc, 1024, pages, 16)?;
+        let bad = Vec::from_slice(alloc, bad)?;
+        Ok(pool_over(alloc, FaultyDisk::new(disk, bad))?)
     }
-    Ok(())
 }
 
 /// The disk of so many pages, below a pool that has done these calls.
 fn disk_after(rt: &impl Abort, alloc: Global, pages: u32, calls: &[Call]) -> Result<MemDisk, Fail> {
-    let mut pool = pool_over(alloc, MemDisk::new(alloc, 1024, pages, 16)?)?;
-    does_each(rt, alloc, &mut pool, calls)?;
-    Ok(pool.into_disk())
+    let mut pool = Cache::begin(alloc, (pages, &[]))?;
+    go_on(rt, alloc, &mut pool, calls)?;
+    Ok(pool.into_disk().into_inner())
+}
+
+/// What is found on a disk.
+#[derive(Clone, Copy)]
+pub enum Found {
+    /// So many pages were written.
+    Writes(usize),
+    /// The first byte of a page.
+    Byte(u32, u8),
+    /// Each record pointed to a record after so many page writes.
+    Resolves(u32),
+}
+
+impl Bench for MemDisk {
+    type Call = Found;
+
+    ghost ready = { λ disk. Unit {0} };
+
+    fn does(&mut self, alloc: Global, found: &Found) -> bool {
+        match *found {
+            Found::Writes(count) => self.writes() == count,
+            Found::Byte(page, byte) => byte_of(self, page, 0) == Some(byte),
+            Found::Resolves(writes) => resolves_after(alloc, self, writes) == Ok(true),
+        }
+    }
+}
+
+/// Wants the disk of so many pages to be found so, below a pool that has done these calls.
+fn leaves(
+    rt: &impl Abort,
+    alloc: Global,
+    pages: u32,
+    calls: &[Call],
+    found: &[Found],
+) -> Result<(), Fail> {
+    let mut disk = disk_after(rt, alloc, pages, calls)?;
+    go_on(rt, alloc, &mut disk, found)
 }
 
 /// A byte of a page of a disk.
@@ -277,6 +315,17 @@ fn resolves<D: Disk>(disk: &mut D) -> bool {
     true
 }
 
+/// Tells whether each record points to a record after so many page writes of a disk.
+fn resolves_after(alloc: Global, disk: &MemDisk, writes: u32) -> Result<bool, Memory> {
+    if writes >= 1000 {
+        return Ok(false);
+    }
+    if writes as usize <= disk.writes() {
+        return Ok(resolves(&mut disk.after(alloc, writes, 1)?));
+    }
+    Ok(false)
+}
+
 #[test]
 fn a_pool_has_512_dirty_pages_256_in_a_batch_and_32_marks(rt: HostRuntime) {
     assert!(rt; DIRTY_PAGES == 512 && BATCH_PAGES == 256 && MARKERS == 32);
@@ -292,13 +341,11 @@ const CYCLE: &[Call] = &[
     Call::Write(7, 8),
 ];
 
+const WRITTEN: &[Found] = &[Found::Writes(2), Found::Byte(7, 1), Found::Byte(8, 2)];
+
 #[test]
 fn an_order_that_would_close_a_cycle_writes_the_page_before(rt: HostRuntime) -> Result<(), Fail> {
-    let mut disk = disk_after(&rt, rt.alloc(), 16, CYCLE)?;
-    assert_eq!(rt; disk.writes(), 2);
-    assert_eq!(rt; byte_of(&mut disk, 7, 0), Some(1));
-    assert_eq!(rt; byte_of(&mut disk, 8, 0), Some(2));
-    Ok(())
+    leaves(&rt, rt.alloc(), 16, CYCLE, WRITTEN)
 }
 
 const PAST_THE_END: &[Call] = &[
@@ -310,8 +357,7 @@ const PAST_THE_END: &[Call] = &[
 
 #[test]
 fn a_page_past_the_end_is_absent(rt: HostRuntime) -> Result<(), Fail> {
-    disk_after(&rt, rt.alloc(), 16, PAST_THE_END)?;
-    Ok(())
+    run::<Cache>(&rt, rt.alloc(), (16, &[]), PAST_THE_END)
 }
 
 const FAILED: &[Call] = &[
@@ -323,10 +369,7 @@ const FAILED: &[Call] = &[
 
 #[test]
 fn a_page_write_that_fails_refuses_every_later_call(rt: HostRuntime) -> Result<(), Fail> {
-    let bad = vec![in rt.alloc(); 1]?;
-    let disk = FaultyDisk::new(MemDisk::new(rt.alloc(), 1024, 16, 16)?, bad);
-    let mut pool = pool_over(rt.alloc(), disk)?;
-    does_each(&rt, rt.alloc(), &mut pool, FAILED)
+    run::<Cache>(&rt, rt.alloc(), (16, &[1]), FAILED)
 }
 
 /// Page 300 has to be written before page 0.
@@ -346,9 +389,7 @@ const TOO_MANY: &[Call] = &[
 
 #[test]
 fn the_513th_page_writes_the_least_one_with_what_precedes_it(rt: HostRuntime) -> Result<(), Fail> {
-    let disk = disk_after(&rt, rt.alloc(), 600, TOO_MANY)?;
-    assert_eq!(rt; disk.writes(), 2);
-    Ok(())
+    leaves(&rt, rt.alloc(), 600, TOO_MANY, &[Found::Writes(2)])
 }
 
 /// A new record comes between 3 and 4, and goes again: its content goes out first, since it must
@@ -365,23 +406,18 @@ const RECORDS: &[Call] = &[
     Call::WriteEach(Ok(())),
 ];
 
-/// Tells whether each record points to a record after so many page writes of a disk.
-fn resolves_after(alloc: Global, disk: &MemDisk, writes: u32) -> Result<bool, Fail> {
-    if writes >= 1000 {
-        return Ok(false);
-    }
-    if writes as usize <= disk.writes() {
-        return Ok(resolves(&mut disk.after(alloc, writes, 1)?));
-    }
-    Ok(false)
-}
+const RESOLVED: &[Found] = &[
+    Found::Writes(6),
+    Found::Resolves(0),
+    Found::Resolves(1),
+    Found::Resolves(2),
+    Found::Resolves(3),
+    Found::Resolves(4),
+    Found::Resolves(5),
+    Found::Resolves(6),
+];
 
 #[test]
 fn after_every_page_write_each_record_points_to_a_record(rt: HostRuntime) -> Result<(), Fail> {
-    let disk = disk_after(&rt, rt.alloc(), 16, RECORDS)?;
-    assert_eq!(rt; disk.writes(), 6);
-    for count in 0..7 {
-        assert!(rt; resolves_after(rt.alloc(), &disk, count)?, "after {count}");
-    }
-    Ok(())
+    leaves(&rt, rt.alloc(), 16, RECORDS, RESOLVED)
 }

@@ -1,18 +1,18 @@
 //! What a base sees.
 
 ghost use Rattle.std.specs.Bool.{OnTrue};
-ghost use Rattle.std.specs.Prelude.{◌≡◌, IfOk};
+ghost use Rattle.std.specs.Prelude.{◌≡◌, IfOk, IfSome};
 ghost use Rattle.mg_snap.specs.Live.{MayEnter};
 
+use super::calls::{Begins, Bench, run};
 use mg_base::TxNo;
 use mg_snap::Live;
 use std::alloc::Global;
-use std::process::Abort;
 use std::test::Fail;
 
 /// A call, and what it answers.
 #[derive(Clone, Copy)]
-enum Call {
+pub enum Call {
     /// A transaction enters with a base: the next one, or one that was drawn before.
     Enter(u32),
     Leave(u32),
@@ -39,16 +39,19 @@ fn may_enter(live: &Live, next: u32, t: u32) -> bool
     t < next && !live.is_unended(TxNo(t))
 }
 
-/// Enters a transaction, where the one of this number is the next, and answers which one is then.
-fn enter(live: &mut Live, next: u32, t: u32) -> Result<u32, Fail>
+/// Enters a transaction, where the one of this number is the next, and answers which one is then:
+/// none where it may not enter.
+fn enter(live: &mut Live, next: u32, t: u32) -> Option<u32>
     requires next { live.old.next ≡ next }
-    ensures next { IfOk result (λ now. live.new.next ≡ now) }
+    ensures next { IfSome result (λ now. live.new.next ≡ now) }
 {
     if t >= 1000 || !may_enter(live, next, t) {
-        return Err("it may not enter")?;
+        return None;
     }
-    live.enter(TxNo(t))?;
-    Ok(next.max(t + 1))
+    match live.enter(TxNo(t)) {
+        Ok(()) => Some(next.max(t + 1)),
+        Err(_) => None,
+    }
 }
 
 /// Tells whether t sees exactly those of 1 to 7 that are named.
@@ -61,41 +64,56 @@ fn sees_just(live: &Live, t: u32, seen: &[u32]) -> bool {
     true
 }
 
-/// Tells whether a call that changes nothing answers as it says.
-fn answers(live: &Live, call: Call) -> bool {
-    match call {
-        Call::Unended(t, is) => live.is_unended(TxNo(t)) == is,
-        Call::AllSee(by, all) => live.all_see(TxNo(by)) == all,
-        Call::Sees(t, seen) => sees_just(live, t, seen),
-        _ => true,
-    }
+/// What lives, and which transaction is drawn next.
+#[derive(Drop)]
+pub struct Drawn {
+    live: Live,
+    next: u32,
 }
 
-/// Does what a call says, where the transaction of this number is the next, and answers which one
-/// is then.
-fn does(live: &mut Live, next: u32, call: Call) -> Result<u32, Fail>
-    requires next { live.old.next ≡ next }
-    ensures next { IfOk result (λ now. live.new.next ≡ now) }
+/// Enters a transaction, and tells whether it may.
+fn draw(drawn: &mut Drawn, t: u32) -> bool
+    requires next { drawn.old.live.next ≡ drawn.old.next }
+    ensures next { OnTrue result (drawn.new.live.next ≡ drawn.new.next) }
 {
-    match call {
-        Call::Enter(t) => return enter(live, next, t),
-        Call::Leave(t) => live.leave(TxNo(t)),
-        Call::Limbo(t) => live.limbo(TxNo(t)),
-        Call::Rebase(t) => live.rebase(TxNo(t)),
-        _ => {}
+    match enter(&mut drawn.live, drawn.next, t) {
+        Some(next) => {
+            drawn.next = next;
+            true
+        }
+        None => false,
     }
-    Ok(next)
 }
 
-/// Wants each call to answer as it says, one after another, where this number is drawn next.
-fn does_each(rt: &impl Abort, alloc: Global, first: u32, calls: &[Call]) -> Result<(), Fail> {
-    let mut live = Live::new(alloc, TxNo(first));
-    let mut next = first;
-    for (place, call) in calls.iter().enumerate() {
-        next = does(&mut live, next, *call)?;
-        assert!(rt; answers(&live, *call), "call {place}");
+impl Bench for Drawn {
+    type Call = Call;
+
+    ghost ready = { λ drawn. drawn.live.next ≡ drawn.next };
+
+    fn does(&mut self, _alloc: Global, call: &Call) -> bool {
+        match *call {
+            Call::Enter(t) => return draw(self, t),
+            Call::Leave(t) => self.live.leave(TxNo(t)),
+            Call::Limbo(t) => self.live.limbo(TxNo(t)),
+            Call::Rebase(t) => self.live.rebase(TxNo(t)),
+            Call::Unended(t, is) => return self.live.is_unended(TxNo(t)) == is,
+            Call::AllSee(by, all) => return self.live.all_see(TxNo(by)) == all,
+            Call::Sees(t, seen) => return sees_just(&self.live, t, seen),
+        }
+        true
     }
-    Ok(())
+}
+
+impl Begins for Drawn {
+    /// Which transaction is drawn first.
+    type From = u32;
+
+    fn begin(alloc: Global, first: u32) -> Result<Drawn, Fail> {
+        Ok(Drawn {
+            live: Live::new(alloc, TxNo(first)),
+            next: first,
+        })
+    }
 }
 
 const ENDED: &[Call] = &[
@@ -118,7 +136,7 @@ const ENDED: &[Call] = &[
 
 #[test]
 fn a_base_sees_what_had_ended_when_it_was_taken(rt: HostRuntime) -> Result<(), Fail> {
-    does_each(&rt, rt.alloc(), 4, ENDED)
+    run::<Drawn>(&rt, rt.alloc(), 4, ENDED)
 }
 
 /// Transaction 3 is in limbo, and then it is decided.
@@ -135,7 +153,7 @@ const DECIDED: &[Call] = &[
 
 #[test]
 fn one_that_is_decided_later_is_not_seen(rt: HostRuntime) -> Result<(), Fail> {
-    does_each(&rt, rt.alloc(), 4, DECIDED)
+    run::<Drawn>(&rt, rt.alloc(), 4, DECIDED)
 }
 
 /// Transaction 2 does not see 1 at first. Later it does, and 3 has no base.
@@ -158,5 +176,5 @@ const REBASED: &[Call] = &[
 
 #[test]
 fn a_new_base_sees_what_has_ended_since(rt: HostRuntime) -> Result<(), Fail> {
-    does_each(&rt, rt.alloc(), 1, REBASED)
+    run::<Drawn>(&rt, rt.alloc(), 1, REBASED)
 }

@@ -1,12 +1,14 @@
 //! What no clause says: that calls succeed with ample memory, and that the second transaction
 //! inventory page comes with transaction 4016 where pages have 1024 bytes.
 
+ghost use Rattle.std.specs.Bool.{OnTrue};
 ghost use Rattle.std.specs.Prelude.{◌≡◌, Some, IfOk};
 ghost use Rattle.mg_base.specs.MemDisk.{mem_meaning};
 ghost use Rattle.mg_pool.specs.Pool.{IsPool};
 ghost use Rattle.mg_space.specs.Taking.{IsGeometry};
 ghost use Rattle.mg_txlist.specs.TxList.{IsTxList};
 
+use super::calls::{Begins, Bench, run};
 use super::stores::{inventory_page, store_over};
 use mg_base::{Disk, MemDisk, Memory, PageNo, TxNo, TxState, new_common};
 use mg_header::{GREATEST_NEXT, HEADER_KIND, Header, read_header, write_header};
@@ -15,7 +17,6 @@ use mg_space::{SpaceFault, Store, page_of};
 use mg_tip::{new_tip, set_state};
 use mg_txlist::TxList;
 use std::alloc::Global;
-use std::process::Abort;
 use std::test::Fail;
 
 /// The header, where the number 4015 is drawn next.
@@ -132,7 +133,7 @@ fn commit(list: &mut TxList, store: &mut Store<MemDisk>, t: TxNo) -> Result<(), 
 
 /// A call of a list over its store, and what it answers.
 #[derive(Clone, Copy)]
-enum Call {
+pub enum Call {
     /// This number is drawn.
     Draw(u32),
     /// A number that was drawn is committed.
@@ -144,6 +145,8 @@ enum Call {
     State(u32, TxState),
     /// The first number from one on that is open, below another one.
     FirstOpen(u32, u32, u32),
+    /// The list is loaded anew.
+    Load,
 }
 
 /// Tells whether a list answers so.
@@ -158,54 +161,60 @@ fn says(list: &TxList, call: Call) -> bool
     }
 }
 
-/// Does what a call says, and tells whether it answers so.
-fn does(list: &mut TxList, store: &mut Store<MemDisk>, call: Call) -> bool
-    requires list { IsTxList list.old }
-    requires pool { IsPool mem_meaning store.old }
-    requires geometry { IsGeometry store.old.geometry }
-    requires page_size { store.old.geometry.size ≡ 1024 }
-    requires size { list.old.size ≡ 1024 }
-    ensures list { IsTxList list.new }
-    ensures pool { IsPool mem_meaning store.new }
-    ensures geometry { store.new.geometry ≡ store.old.geometry }
-    ensures size { list.new.size ≡ list.old.size }
+/// A list over its store.
+#[derive(Drop)]
+pub struct Listed {
+    list: TxList,
+    store: Store<MemDisk>,
+}
+
+/// Loads the list anew, and tells whether it can.
+fn load(listed: &mut Listed) -> bool
+    requires pool { IsPool mem_meaning listed.old.store }
+    requires geometry { IsGeometry listed.old.store.geometry }
+    requires size { listed.old.store.geometry.size ≡ 1024 }
+    ensures list { OnTrue result (IsTxList listed.new.list) }
+    ensures list_size { OnTrue result (listed.new.list.size ≡ 1024) }
+    ensures pool { IsPool mem_meaning listed.new.store }
+    ensures geometry { listed.new.store.geometry ≡ listed.old.store.geometry }
 {
-    match call {
-        Call::Draw(t) => draw(list, store) == Ok(TxNo(t)),
-        Call::Commit(t) => commit(list, store, TxNo(t)) == Ok(()),
-        Call::LastTip(page) => last_tip(store) == Ok(page),
-        _ => says(list, call),
+    match TxList::load(&mut listed.store) {
+        Ok(list) => {
+            listed.list = list;
+            true
+        }
+        Err(_) => false,
     }
 }
 
-/// Wants each call of a list to answer as it says, one after another.
-fn does_each(rt: &impl Abort, list: &mut TxList, store: &mut Store<MemDisk>, calls: &[Call])
-    requires list { IsTxList list.old }
-    requires pool { IsPool mem_meaning store.old }
-    requires geometry { IsGeometry store.old.geometry }
-    requires page_size { store.old.geometry.size ≡ 1024 }
-    requires size { list.old.size ≡ 1024 }
-    ensures pool { IsPool mem_meaning store.new }
-    ensures geometry { store.new.geometry ≡ store.old.geometry }
-{
-    for (place, call) in calls.iter().enumerate() {
-        assert!(rt; does(list, store, *call), "call {place}");
+impl Bench for Listed {
+    type Call = Call;
+
+    ghost ready = { λ it. IsTxList it.list × (it.list.size ≡ 1024)
+        × IsPool mem_meaning it.store × IsGeometry it.store.geometry
+        × (it.store.geometry.size ≡ 1024) };
+
+    fn does(&mut self, _alloc: Global, call: &Call) -> bool {
+        match *call {
+            Call::Draw(t) => draw(&mut self.list, &mut self.store) == Ok(TxNo(t)),
+            Call::Commit(t) => commit(&mut self.list, &mut self.store, TxNo(t)) == Ok(()),
+            Call::LastTip(page) => last_tip(&mut self.store) == Ok(page),
+            Call::Load => load(self),
+            _ => says(&self.list, *call),
+        }
     }
 }
 
-/// Wants each call of a list that is loaded to answer as it says, one after another.
-fn loaded_does(rt: &impl Abort, store: &mut Store<MemDisk>, calls: &[Call]) -> Result<(), Fail>
-    requires pool { IsPool mem_meaning store.old }
-    requires geometry { IsGeometry store.old.geometry }
-    requires page_size { store.old.geometry.size ≡ 1024 }
-    ensures pool { IsPool mem_meaning store.new }
-    ensures geometry { store.new.geometry ≡ store.old.geometry }
-{
-    let Ok(mut list) = TxList::load(store) else {
-        return Err(Memory.into());
-    };
-    does_each(rt, &mut list, store, calls);
-    Ok(())
+impl Begins for Listed {
+    type From = ();
+
+    fn begin(alloc: Global, _from: ()) -> Result<Listed, Fail> {
+        let mut store = new_database(alloc)?;
+        match TxList::load(&mut store) {
+            Ok(list) => Ok(Listed { list, store }),
+            Err(_) => Err(Memory.into()),
+        }
+    }
 }
 
 const DRAWN: &[Call] = &[
@@ -217,9 +226,7 @@ const DRAWN: &[Call] = &[
     Call::State(4016, TxState::Active),
     Call::Commit(4016),
     Call::FirstOpen(4014, 4017, 4015),
-];
-
-const AGAIN: &[Call] = &[
+    Call::Load,
     Call::Next(4017),
     Call::State(4014, TxState::Committed),
     Call::State(4015, TxState::Dead),
@@ -228,7 +235,5 @@ const AGAIN: &[Call] = &[
 
 #[test]
 fn transaction_4016_takes_the_second_page(rt: HostRuntime) -> Result<(), Fail> {
-    let mut store = new_database(rt.alloc())?;
-    loaded_does(&rt, &mut store, DRAWN)?;
-    loaded_does(&rt, &mut store, AGAIN)
+    run::<Listed>(&rt, rt.alloc(), (), DRAWN)
 }

@@ -1,14 +1,14 @@
 //! What a transaction has changed, given back.
 
+use super::calls::{Begins, Bench, run};
 use mg_undo::{Undo, Was};
 use mg_value::{Key, Name, Value};
 use std::alloc::Global;
-use std::process::Abort;
 use std::test::Fail;
 
 /// A call, and what it answers.
 #[derive(Clone, Copy)]
-enum Call {
+pub enum Call {
     /// A mark is set.
     Mark,
     /// The savepoint S is set.
@@ -31,17 +31,15 @@ fn number_of(key: &Key) -> Option<i64> {
     }
 }
 
-fn key_of(number: i64) -> Result<Key, Fail> {
-    Ok(Key::new(Value::Int(number)).ok_or("a number is a key")?)
+fn keep_key(undo: &mut Undo, key: &Key) -> bool {
+    undo.keep(5, key, Was::Untouched).is_ok()
 }
 
-fn keep_key(undo: &mut Undo, key: &Key) -> Result<bool, Fail> {
-    undo.keep(5, key, Was::Untouched)?;
-    Ok(true)
-}
-
-fn keep(undo: &mut Undo, number: i64) -> Result<bool, Fail> {
-    keep_key(undo, &key_of(number)?)
+fn keep(undo: &mut Undo, number: i64) -> bool {
+    match Key::new(Value::Int(number)) {
+        Some(key) => keep_key(undo, &key),
+        None => false,
+    }
 }
 
 /// Tells whether a change that is given back is one of table 5 and this key.
@@ -58,39 +56,44 @@ fn gives(undo: &mut Undo, wanted: Option<i64>) -> bool {
     }
 }
 
-fn mark(undo: &mut Undo) -> Result<bool, Fail> {
-    undo.mark()?;
-    Ok(true)
+/// What a transaction has changed, and the name S of its savepoint.
+#[derive(Drop)]
+pub struct Changes {
+    undo: Undo,
+    name: Name,
 }
 
-fn set_name(undo: &mut Undo, name: &Name) -> Result<bool, Fail> {
-    undo.name(name)?;
-    Ok(true)
-}
+impl Bench for Changes {
+    type Call = Call;
 
-/// Does what a call says, and tells whether it answers so.
-fn does(undo: &mut Undo, name: &Name, call: Call) -> Result<bool, Fail> {
-    Ok(match call {
-        Call::Mark => mark(undo)?,
-        Call::Name => set_name(undo, name)?,
-        Call::Keep(number) => keep(undo, number)?,
-        Call::Retract => {
-            undo.retract();
-            true
+    ghost ready = { λ changes. Unit {0} };
+
+    fn does(&mut self, _alloc: Global, call: &Call) -> bool {
+        match *call {
+            Call::Mark => self.undo.mark().is_ok(),
+            Call::Name => self.undo.name(&self.name).is_ok(),
+            Call::Keep(number) => keep(&mut self.undo, number),
+            Call::Retract => {
+                self.undo.retract();
+                true
+            }
+            Call::BackTo(there) => self.undo.back_to(&self.name) == there,
+            Call::Gives(wanted) => gives(&mut self.undo, wanted),
         }
-        Call::BackTo(there) => undo.back_to(name) == there,
-        Call::Gives(wanted) => gives(undo, wanted),
-    })
+    }
 }
 
-/// Wants each call to answer as it says, one after another, where nothing is kept at first.
-fn does_each(rt: &impl Abort, alloc: Global, calls: &[Call]) -> Result<(), Fail> {
-    let mut undo = Undo::new(alloc);
-    let name = Name::new(b"S").ok_or("a letter is a name")?;
-    for (place, call) in calls.iter().enumerate() {
-        assert!(rt; does(&mut undo, &name, *call)?, "call {place}");
+impl Begins for Changes {
+    type From = ();
+
+    /// Nothing is kept at first.
+    fn begin(alloc: Global, _from: ()) -> Result<Changes, Fail> {
+        let name = Name::new(b"S").ok_or("a letter is a name")?;
+        Ok(Changes {
+            undo: Undo::new(alloc),
+            name,
+        })
     }
-    Ok(())
 }
 
 const CHANGED_TWICE: &[Call] = &[
@@ -105,7 +108,7 @@ const CHANGED_TWICE: &[Call] = &[
 
 #[test]
 fn a_key_that_was_changed_twice_comes_back_once(rt: HostRuntime) -> Result<(), Fail> {
-    does_each(&rt, rt.alloc(), CHANGED_TWICE)
+    run::<Changes>(&rt, rt.alloc(), (), CHANGED_TWICE)
 }
 
 /// The savepoint stays.
@@ -124,7 +127,7 @@ const BEFORE_MARK: &[Call] = &[
 
 #[test]
 fn a_mark_goes_with_what_is_taken_back_before_it(rt: HostRuntime) -> Result<(), Fail> {
-    does_each(&rt, rt.alloc(), BEFORE_MARK)
+    run::<Changes>(&rt, rt.alloc(), (), BEFORE_MARK)
 }
 
 /// The savepoint is gone.
@@ -139,7 +142,7 @@ const BEFORE_NAME: &[Call] = &[
 
 #[test]
 fn a_savepoint_goes_with_what_is_taken_back_before_it(rt: HostRuntime) -> Result<(), Fail> {
-    does_each(&rt, rt.alloc(), BEFORE_NAME)
+    run::<Changes>(&rt, rt.alloc(), (), BEFORE_NAME)
 }
 
 const RETRACTED: &[Call] = &[
@@ -153,7 +156,7 @@ const RETRACTED: &[Call] = &[
 
 #[test]
 fn a_retracted_change_is_not_given(rt: HostRuntime) -> Result<(), Fail> {
-    does_each(&rt, rt.alloc(), RETRACTED)
+    run::<Changes>(&rt, rt.alloc(), (), RETRACTED)
 }
 
 const KEPT_BEFORE: &[Call] = &[
@@ -168,5 +171,5 @@ const KEPT_BEFORE: &[Call] = &[
 
 #[test]
 fn what_was_kept_before_the_point_is_not_retracted(rt: HostRuntime) -> Result<(), Fail> {
-    does_each(&rt, rt.alloc(), KEPT_BEFORE)
+    run::<Changes>(&rt, rt.alloc(), (), KEPT_BEFORE)
 }

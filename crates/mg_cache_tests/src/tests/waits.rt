@@ -1,14 +1,14 @@
 //! Who waits for whom.
 
+use super::calls::{Begins, Bench, run};
 use mg_base::{TxNo, TxState};
 use mg_waits::{Verdict, Waits};
 use std::alloc::Global;
-use std::process::Abort;
 use std::test::Fail;
 
 /// A call, and what it answers.
 #[derive(Clone, Copy)]
-enum Call {
+pub enum Call {
     /// A transaction waits for another one.
     Note(u32, u32),
     /// A transaction waits no longer.
@@ -17,34 +17,38 @@ enum Call {
     Asks(bool, u32, TxState, Option<Verdict>),
 }
 
-fn note(waits: &mut Waits, t: u32, on: u32) -> Result<bool, Fail> {
-    waits.note(TxNo(t), TxNo(on))?;
-    Ok(true)
+fn note(waits: &mut Waits, t: u32, on: u32) -> bool {
+    waits.note(TxNo(t), TxNo(on)).is_ok()
 }
 
 fn verdict(waits: &Waits, wait: bool, by: u32, state: TxState) -> Option<Verdict> {
     waits.verdict(TxNo(3), wait, TxNo(by), state)
 }
 
-/// Does what a call says, and tells whether it answers so.
-fn does(waits: &mut Waits, call: Call) -> Result<bool, Fail> {
-    Ok(match call {
-        Call::Note(t, on) => note(waits, t, on)?,
-        Call::Over(t) => {
-            waits.over(TxNo(t));
-            true
+impl Bench for Waits {
+    type Call = Call;
+
+    ghost ready = { λ waits. Unit {0} };
+
+    fn does(&mut self, _alloc: Global, call: &Call) -> bool {
+        match *call {
+            Call::Note(t, on) => note(self, t, on),
+            Call::Over(t) => {
+                self.over(TxNo(t));
+                true
+            }
+            Call::Asks(wait, by, state, wanted) => verdict(self, wait, by, state) == wanted,
         }
-        Call::Asks(wait, by, state, wanted) => verdict(waits, wait, by, state) == wanted,
-    })
+    }
 }
 
-/// Wants each call to answer as it says, one after another, where nobody waits at first.
-fn does_each(rt: &impl Abort, alloc: Global, calls: &[Call]) -> Result<(), Fail> {
-    let mut waits = Waits::new(alloc);
-    for (place, call) in calls.iter().enumerate() {
-        assert!(rt; does(&mut waits, *call)?, "call {place}");
+impl Begins for Waits {
+    type From = ();
+
+    /// Nobody waits at first.
+    fn begin(alloc: Global, _from: ()) -> Result<Waits, Fail> {
+        Ok(Waits::new(alloc))
     }
-    Ok(())
 }
 
 const STATES: &[Call] = &[
@@ -57,7 +61,7 @@ const STATES: &[Call] = &[
 
 #[test]
 fn the_verdict_goes_by_the_state_of_the_other_one(rt: HostRuntime) -> Result<(), Fail> {
-    does_each(&rt, rt.alloc(), STATES)
+    run::<Waits>(&rt, rt.alloc(), (), STATES)
 }
 
 const EACH_OTHER: &[Call] = &[
@@ -69,7 +73,7 @@ const EACH_OTHER: &[Call] = &[
 
 #[test]
 fn to_wait_for_one_that_waits_for_this_one_is_a_deadlock(rt: HostRuntime) -> Result<(), Fail> {
-    does_each(&rt, rt.alloc(), EACH_OTHER)
+    run::<Waits>(&rt, rt.alloc(), (), EACH_OTHER)
 }
 
 const OVER_OTHERS: &[Call] = &[
@@ -83,5 +87,5 @@ const OVER_OTHERS: &[Call] = &[
 
 #[test]
 fn a_deadlock_is_found_over_several_others(rt: HostRuntime) -> Result<(), Fail> {
-    does_each(&rt, rt.alloc(), OVER_OTHERS)
+    run::<Waits>(&rt, rt.alloc(), (), OVER_OTHERS)
 }

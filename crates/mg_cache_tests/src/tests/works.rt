@@ -1,14 +1,15 @@
 //! Transactions that run.
 
+use super::calls::{Begins, Bench, run};
 use mg_base::TxNo;
 use mg_model::Mode;
 use mg_works::{Work, Works};
-use std::process::Abort;
+use std::alloc::Global;
 use std::test::Fail;
 
 /// A call, and what it answers.
 #[derive(Clone, Copy)]
-enum Call {
+pub enum Call {
     /// A transaction begins in a session, with a snapshot or without.
     Begin(u32, u8, bool),
     /// A transaction asks for its commit.
@@ -33,20 +34,18 @@ fn mode(snapshot: bool) -> Mode {
 }
 
 /// Begins a transaction that is not active, in a session that has none.
-fn begin(works: &mut Works, t: u32, session: u8, snapshot: bool) -> Result<bool, Fail> {
+fn begin(works: &mut Works, t: u32, session: u8, snapshot: bool) -> bool {
     if session >= 32 || works.has_session(session) {
-        return Ok(false);
+        return false;
     }
     if works.work(TxNo(t)).is_some() {
-        return Ok(false);
+        return false;
     }
-    works.begin(TxNo(t), session, mode(snapshot))?;
-    Ok(true)
+    works.begin(TxNo(t), session, mode(snapshot)).is_ok()
 }
 
-fn set_mark(works: &mut Works, t: u32) -> Result<bool, Fail> {
-    works.set_mark(TxNo(t))?;
-    Ok(true)
+fn set_mark(works: &mut Works, t: u32) -> bool {
+    works.set_mark(TxNo(t)).is_ok()
 }
 
 /// Tells whether a transaction is as these say.
@@ -62,23 +61,36 @@ fn is_active(works: &Works, t: u32, session: u8, asked: bool, snapshot: bool) ->
     }
 }
 
-/// Does what a call says, and tells whether it answers so.
-fn does(works: &mut Works, call: Call) -> Result<bool, Fail> {
-    Ok(match call {
-        Call::Begin(t, session, snapshot) => begin(works, t, session, snapshot)?,
-        Call::Ask(t) => {
-            works.ask(TxNo(t));
-            true
+impl Bench for Works {
+    type Call = Call;
+
+    ghost ready = { λ works. Unit {0} };
+
+    fn does(&mut self, _alloc: Global, call: &Call) -> bool {
+        match *call {
+            Call::Begin(t, session, snapshot) => begin(self, t, session, snapshot),
+            Call::Ask(t) => {
+                self.ask(TxNo(t));
+                true
+            }
+            Call::Mark(t) => set_mark(self, t),
+            Call::End(t) => {
+                self.end(TxNo(t));
+                true
+            }
+            Call::Gone(t) => self.work(TxNo(t)).is_none(),
+            Call::Session(session, has) => self.has_session(session) == has,
+            Call::Is(t, session, asked, snapshot) => is_active(self, t, session, asked, snapshot),
         }
-        Call::Mark(t) => set_mark(works, t)?,
-        Call::End(t) => {
-            works.end(TxNo(t));
-            true
-        }
-        Call::Gone(t) => works.work(TxNo(t)).is_none(),
-        Call::Session(session, has) => works.has_session(session) == has,
-        Call::Is(t, session, asked, snapshot) => is_active(works, t, session, asked, snapshot),
-    })
+    }
+}
+
+impl Begins for Works {
+    type From = ();
+
+    fn begin(alloc: Global, _from: ()) -> Result<Works, Fail> {
+        Ok(Works::new(alloc))
+    }
 }
 
 const TWO: &[Call] = &[
@@ -94,9 +106,5 @@ const TWO: &[Call] = &[
 
 #[test]
 fn two_begin_and_one_ends(rt: HostRuntime) -> Result<(), Fail> {
-    let mut works = Works::new(rt.alloc());
-    for (place, call) in TWO.iter().enumerate() {
-        assert!(rt; does(&mut works, *call)?, "call {place}");
-    }
-    Ok(())
+    run::<Works>(&rt, rt.alloc(), (), TWO)
 }

@@ -1,13 +1,13 @@
 //! Tests of the graph: orders, cycles, and the page that is written first.
 
+use crate::tests::calls::{Begins, Bench, run};
 use mg_careful::Graph;
 use std::alloc::Global;
-use std::process::Abort;
 use std::test::Fail;
 
 /// A call of a graph, and what it answers.
 #[derive(Clone, Copy)]
-enum Call {
+pub enum Call {
     /// A page is entered, for which there is room.
     Enter(u32),
     /// A page is ordered before another one, which closes no cycle.
@@ -54,28 +54,33 @@ fn clear(graph: &mut Graph, page: u32) -> bool {
     true
 }
 
-/// Does what a call says, and tells whether it answers so.
-fn does(graph: &mut Graph, call: Call) -> bool {
-    match call {
-        Call::Enter(page) => enter(graph, page),
-        Call::Add(first, later) => add(graph, first, later),
-        Call::Clear(page) => clear(graph, page),
-        Call::Cycle(first, later, would) => graph.would_cycle(first, later) == would,
-        Call::Ready(goal, page) => graph.first_ready(goal) == page,
-        Call::Entered(page, is) => graph.is_entered(page) == is,
-        Call::Room(has) => graph.has_room() == has,
-        Call::Len(count) => graph.len() == count,
-        Call::Empty(is) => graph.is_empty() == is,
+impl Bench for Graph {
+    type Call = Call;
+
+    ghost ready = { λ graph. Unit {0} };
+
+    fn does(&mut self, _alloc: Global, call: &Call) -> bool {
+        match *call {
+            Call::Enter(page) => enter(self, page),
+            Call::Add(first, later) => add(self, first, later),
+            Call::Clear(page) => clear(self, page),
+            Call::Cycle(first, later, would) => self.would_cycle(first, later) == would,
+            Call::Ready(goal, page) => self.first_ready(goal) == page,
+            Call::Entered(page, is) => self.is_entered(page) == is,
+            Call::Room(has) => self.has_room() == has,
+            Call::Len(count) => self.len() == count,
+            Call::Empty(is) => self.is_empty() == is,
+        }
     }
 }
 
-/// Wants each call to answer as it says, one after another, in a graph with room for so many pages.
-fn does_each(rt: &impl Abort, alloc: Global, room: u32, calls: &[Call]) -> Result<(), Fail> {
-    let mut graph = Graph::new(alloc, room)?;
-    for (place, call) in calls.iter().enumerate() {
-        assert!(rt; does(&mut graph, *call), "call {place}");
+impl Begins for Graph {
+    /// For how many pages there is room.
+    type From = u32;
+
+    fn begin(alloc: Global, room: u32) -> Result<Graph, Fail> {
+        Ok(Graph::new(alloc, room)?)
     }
-    Ok(())
 }
 
 const CHAIN: &[Call] = &[
@@ -98,7 +103,7 @@ const CHAIN: &[Call] = &[
 
 #[test]
 fn a_page_that_precedes_through_another_one_is_written_first(rt: HostRuntime) -> Result<(), Fail> {
-    does_each(&rt, rt.alloc(), 10, CHAIN)
+    run::<Graph>(&rt, rt.alloc(), 10, CHAIN)
 }
 
 const LEAST: &[Call] = &[
@@ -124,7 +129,7 @@ const LEAST: &[Call] = &[
 
 #[test]
 fn the_page_of_least_number_is_ready_first(rt: HostRuntime) -> Result<(), Fail> {
-    does_each(&rt, rt.alloc(), 10, LEAST)
+    run::<Graph>(&rt, rt.alloc(), 10, LEAST)
 }
 
 /// Page 1 precedes 3 through 2 alone, and 5 through 4 too.
@@ -149,7 +154,7 @@ const CLEARED: &[Call] = &[
 fn what_preceded_through_a_cleared_page_alone_precedes_no_longer(
     rt: HostRuntime,
 ) -> Result<(), Fail> {
-    does_each(&rt, rt.alloc(), 10, CLEARED)
+    run::<Graph>(&rt, rt.alloc(), 10, CLEARED)
 }
 
 /// There is room for two pages.
@@ -175,5 +180,5 @@ const ROOM: &[Call] = &[
 fn a_page_is_entered_once_and_room_ends_at_the_number_that_was_given(
     rt: HostRuntime,
 ) -> Result<(), Fail> {
-    does_each(&rt, rt.alloc(), 2, ROOM)
+    run::<Graph>(&rt, rt.alloc(), 2, ROOM)
 }

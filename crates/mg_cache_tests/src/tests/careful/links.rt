@@ -3,10 +3,10 @@
 ghost use Rattle.std.specs.Prelude.{◌≡◌, [], ◌∷◌, ◌==◌, ◌++◌, if◌then◌else◌};
 ghost use Rattle.mg_base.specs.Fields.{byte};
 
+use crate::tests::calls::{Begins, Bench, run};
 use mg_base::Memory;
 use mg_careful::{Demand, Links, careful_write};
 use std::alloc::Global;
-use std::process::Abort;
 use std::test::Fail;
 
 /// A chain of pages: byte 0 is the page's own number, byte 1 that of the next page, 0 for none.
@@ -85,8 +85,31 @@ fn overlay(one: bool, three: bool) -> [[u8; 2]; 4] {
     pages
 }
 
-/// Whether page 1 and page 3 are in a set, and whether the chain is linked then. Page 3 is ordered
-/// before page 1, so the set of page 1 alone isn't closed.
+/// The overlays of the disk, each by itself.
+#[derive(Drop)]
+pub struct Overlays;
+
+impl Bench for Overlays {
+    /// Whether page 1 and page 3 are in a set, and whether the chain is linked then.
+    type Call = (bool, bool, bool);
+
+    ghost ready = { λ overlays. Unit {0} };
+
+    fn does(&mut self, alloc: Global, set: &(bool, bool, bool)) -> bool {
+        let (one, three, linked) = *set;
+        is_linked(alloc, &overlay(one, three)) == Ok(linked)
+    }
+}
+
+impl Begins for Overlays {
+    type From = ();
+
+    fn begin(_alloc: Global, _from: ()) -> Result<Overlays, Fail> {
+        Ok(Overlays)
+    }
+}
+
+/// Page 3 is ordered before page 1, so the set of page 1 alone isn't closed.
 const SETS: &[(bool, bool, bool)] = &[
     (false, false, true),
     (false, true, true),
@@ -102,9 +125,5 @@ fn law() {
 #[test]
 fn a_new_page_is_linked_in_every_overlay_of_a_closed_set(rt: HostRuntime) -> Result<(), Fail> {
     law();
-    for (one, three, linked) in SETS {
-        let found = is_linked(rt.alloc(), &overlay(*one, *three))?;
-        assert_eq!(rt; found, *linked, "page 1 {one}, page 3 {three}");
-    }
-    Ok(())
+    run::<Overlays>(&rt, rt.alloc(), (), SETS)
 }

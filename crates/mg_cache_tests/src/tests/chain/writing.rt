@@ -6,6 +6,7 @@ ghost use Rattle.mg_pool.specs.Pool.{IsPool};
 ghost use Rattle.mg_space.specs.Taking.{IsGeometry};
 ghost use Rattle.mg_space.specs.View.{AreWhole};
 
+use crate::tests::calls::{Begins, Bench, run};
 use crate::tests::stores::{OWNER, empty_store, empty_table};
 use mg_base::{Bytes, MemDisk, Memory, RecId, TxNo};
 use mg_chain::{back_out, first, newest_link, push, replace_own, spot, version_at};
@@ -13,7 +14,7 @@ use mg_pool::Batch;
 use mg_space::{SpaceFault, Store};
 use mg_version::{Link, Version};
 use std::alloc::Global;
-use std::test::*;
+use std::test::Fail;
 
 /// A version of a transaction, with a body of so many bytes.
 fn version(alloc: Global, t: u32, len: usize) -> Result<Version, Memory>
@@ -56,15 +57,16 @@ fn make(
 
 /// What is done to the newest version of a record.
 #[derive(Clone, Copy)]
-enum Deed {
+pub enum Deed {
     Push,
     Replace,
     BackOut,
 }
 
 /// A deed of a transaction with a body of so many bytes, and then the transaction of the newest
-/// version and how many bytes its body has: 0 and 0 where there is no record.
-type Step = (Deed, u32, usize, u32, usize);
+/// version and how many bytes its body has: 0 and 0 where there is no record, nothing where the
+/// deed is refused.
+pub type Step = (Deed, u32, usize, Option<(u32, usize)>);
 
 /// Does something to a record.
 fn act(
@@ -107,7 +109,7 @@ fn do_step(
     ensures geometry { store.new.geometry ≡ store.old.geometry }
     ensures whole { AreWhole 1024 batch.new.pages }
 {
-    let (deed, by, len, _, _) = step;
+    let (deed, by, len, _) = step;
     let v = version(store.alloc(), by, len.min(900))?;
     act(store, batch, rec, deed, &v)
 }
@@ -145,71 +147,88 @@ fn newest(store: &mut Store<MemDisk>, batch: &Batch, rec: RecId) -> Result<(u32,
     told_of(store, batch, rec, link)
 }
 
-/// Tells whether all steps go as they say, one after another.
-fn all_go(
+/// Does what a step says, and tells of the newest version then.
+fn after_step(
     store: &mut Store<MemDisk>,
     batch: &mut Batch,
     rec: RecId,
-    steps: &[Step],
-) -> Result<bool, SpaceFault>
+    step: Step,
+) -> Result<(u32, usize), SpaceFault>
     requires pool { IsPool mem_meaning store.old }
     requires geometry { IsGeometry store.old.geometry }
     requires size { store.old.geometry.size ≡ 1024 }
     requires whole { AreWhole 1024 batch.old.pages }
+    ensures pool { IsPool mem_meaning store.new }
+    ensures geometry { store.new.geometry ≡ store.old.geometry }
+    ensures whole { AreWhole 1024 batch.new.pages }
 {
-    for step in steps {
-        do_step(store, batch, rec, *step)?;
-        if newest(store, batch, rec)? != (step.3, step.4) {
-            return Ok(false);
-        }
-    }
-    Ok(true)
+    do_step(store, batch, rec, step)?;
+    newest(store, batch, rec)
 }
 
-/// Makes a record with a version of transaction 2, and tells whether the steps go as they say.
-fn record_goes(alloc: Global, len: usize, steps: &[Step]) -> Result<bool, SpaceFault>
-    requires { len ≤ 900 }
-{
-    let mut store = empty_store(alloc, 100)?;
-    let mut batch = empty_table(alloc)?;
-    let rec = make(&mut store, &mut batch, 2, len)?;
-    all_go(&mut store, &mut batch, rec, steps)
+/// A record of a table in a batch.
+#[derive(Drop)]
+pub struct Record {
+    store: Store<MemDisk>,
+    batch: Batch,
+    rec: RecId,
+}
+
+impl Bench for Record {
+    type Call = Step;
+
+    ghost ready = { λ it. IsPool mem_meaning it.store × IsGeometry it.store.geometry
+        × (it.store.geometry.size ≡ 1024) × AreWhole 1024 it.batch.pages };
+
+    fn does(&mut self, _alloc: Global, step: &Step) -> bool {
+        after_step(&mut self.store, &mut self.batch, self.rec, *step).ok() == step.3
+    }
+}
+
+impl Begins for Record {
+    /// How many bytes the body of its version has, which is of transaction 2.
+    type From = usize;
+
+    fn begin(alloc: Global, len: usize) -> Result<Record, Fail> {
+        let mut store = empty_store(alloc, 100)?;
+        let mut batch = empty_table(alloc)?;
+        let Ok(rec) = make(&mut store, &mut batch, 2, len.min(900)) else {
+            return Err("no record is made")?;
+        };
+        Ok(Record { store, batch, rec })
+    }
 }
 
 /// The version is replaced in its cell, and then in another one, on another page.
 const TAKEN_BACK: &[Step] = &[
-    (Deed::Push, 3, 30, 3, 30),
-    (Deed::Push, 4, 40, 4, 40),
-    (Deed::Replace, 4, 50, 4, 50),
-    (Deed::Replace, 4, 900, 4, 900),
-    (Deed::Push, 5, 10, 5, 10),
-    (Deed::BackOut, 9, 0, 4, 900),
-    (Deed::BackOut, 9, 0, 3, 30),
-    (Deed::BackOut, 9, 0, 2, 20),
-    (Deed::BackOut, 9, 0, 0, 0),
+    (Deed::Push, 3, 30, Some((3, 30))),
+    (Deed::Push, 4, 40, Some((4, 40))),
+    (Deed::Replace, 4, 50, Some((4, 50))),
+    (Deed::Replace, 4, 900, Some((4, 900))),
+    (Deed::Push, 5, 10, Some((5, 10))),
+    (Deed::BackOut, 9, 0, Some((4, 900))),
+    (Deed::BackOut, 9, 0, Some((3, 30))),
+    (Deed::BackOut, 9, 0, Some((2, 20))),
+    (Deed::BackOut, 9, 0, Some((0, 0))),
 ];
 
 #[test]
 fn a_record_is_made_and_taken_back_to_nothing(rt: HostRuntime) -> Result<(), Fail> {
-    assert_eq!(rt; record_goes(rt.alloc(), 20, TAKEN_BACK), Ok(true));
-    Ok(())
+    run::<Record>(&rt, rt.alloc(), 20, TAKEN_BACK)
 }
 
 const ON_ANOTHER: &[Step] = &[
-    (Deed::Push, 3, 800, 3, 800),
-    (Deed::Replace, 3, 10, 3, 10),
-    (Deed::BackOut, 9, 0, 2, 900),
+    (Deed::Push, 3, 800, Some((3, 800))),
+    (Deed::Replace, 3, 10, Some((3, 10))),
+    (Deed::BackOut, 9, 0, Some((2, 900))),
 ];
 
 #[test]
 fn a_version_stands_on_another_page_than_its_slot(rt: HostRuntime) -> Result<(), Fail> {
-    assert_eq!(rt; record_goes(rt.alloc(), 900, ON_ANOTHER), Ok(true));
-    Ok(())
+    run::<Record>(&rt, rt.alloc(), 900, ON_ANOTHER)
 }
 
 #[test]
 fn a_version_of_another_transaction_is_not_replaced(rt: HostRuntime) -> Result<(), Fail> {
-    let steps = [(Deed::Replace, 3, 20, 3, 20)];
-    assert!(rt; record_goes(rt.alloc(), 20, &steps).is_err());
-    Ok(())
+    run::<Record>(&rt, rt.alloc(), 20, &[(Deed::Replace, 3, 20, None)])
 }

@@ -1,5 +1,6 @@
 //! Worked rows of the links of a new database, and of an index tree.
 
+use crate::tests::calls::{Begins, Bench, run};
 use mg_base::{Memory, PageNo, TxNo, new_common, put_u16, put_u32};
 use mg_careful::{Demand, Links};
 use mg_header::{HEADER_KIND, Header, write_header};
@@ -7,7 +8,6 @@ use mg_node::{COUNT_AT, LEVEL_AT, NODE_KIND, RIGHT_AT};
 use mg_pointer::{add_entry, new_pointer};
 use mg_space::{BIT, DATA, FireLinks, HEADER, NEXT, NODE, POINTER, TRANSACTIONS, TREE};
 use std::alloc::Global;
-use std::process::Abort;
 use std::test::Fail;
 
 /// A demand: its page, its kind, and its two numbers.
@@ -15,7 +15,7 @@ type Told = (u32, u8, u32, u32);
 
 /// What is asked of a page, and what it answers.
 #[derive(Clone, Copy)]
-enum Asked {
+pub enum Asked {
     /// The page meets a demand, or it does not.
     Meets(Told, bool),
     /// What the page demands of which this is wanted.
@@ -51,23 +51,39 @@ fn are_told(found: &[Demand], told: &[Told]) -> bool {
     true
 }
 
-/// Tells whether a page answers so.
-fn answers(alloc: Global, page: &[u8], asked: Asked) -> Result<bool, Memory> {
-    Ok(match asked {
-        Asked::Meets(want, does) => meets(page, demand(want)) == does,
-        Asked::Leads(want, told) => {
-            let found = demands(alloc, page, demand(want))?;
-            are_told(&found, told)
-        }
-    })
+/// Tells whether a page demands what is told.
+fn leads(alloc: Global, page: &[u8], want: Told, told: &[Told]) -> bool {
+    match demands(alloc, page, demand(want)) {
+        Ok(found) => are_told(&found, told),
+        Err(_) => false,
+    }
 }
 
-/// Wants a page to answer all that is asked.
-fn answers_each(rt: &impl Abort, alloc: Global, page: &[u8], rows: &[Asked]) -> Result<(), Fail> {
-    for (place, asked) in rows.iter().enumerate() {
-        assert!(rt; answers(alloc, page, *asked)?, "row {place}");
+/// A page that is asked.
+#[derive(Drop)]
+pub struct Page {
+    bytes: [u8; 1024],
+}
+
+impl Bench for Page {
+    type Call = Asked;
+
+    ghost ready = { λ page. Unit {0} };
+
+    fn does(&mut self, alloc: Global, asked: &Asked) -> bool {
+        match *asked {
+            Asked::Meets(want, does) => meets(&self.bytes, demand(want)) == does,
+            Asked::Leads(want, told) => leads(alloc, &self.bytes, want, told),
+        }
     }
-    Ok(())
+}
+
+impl Begins for Page {
+    type From = [u8; 1024];
+
+    fn begin(_alloc: Global, bytes: [u8; 1024]) -> Result<Page, Fail> {
+        Ok(Page { bytes })
+    }
 }
 
 const HEADER_SAID: Header = Header {
@@ -105,7 +121,7 @@ const OF_HEADER: &[Asked] = &[
 
 #[test]
 fn a_header_leads_to_transactions_and_catalog(rt: HostRuntime) -> Result<(), Fail> {
-    answers_each(&rt, rt.alloc(), &header_page(), OF_HEADER)
+    run::<Page>(&rt, rt.alloc(), header_page(), OF_HEADER)
 }
 
 /// The second pointer page of the owner 5.
@@ -127,7 +143,7 @@ const OF_POINTERS: &[Asked] = &[
 
 #[test]
 fn a_pointer_page_leads_to_its_data_pages_and_the_next_one(rt: HostRuntime) -> Result<(), Fail> {
-    answers_each(&rt, rt.alloc(), &pointer_page(), OF_POINTERS)
+    run::<Page>(&rt, rt.alloc(), pointer_page(), OF_POINTERS)
 }
 
 /// The inner page 20 of the tree of the owner 5, on the level 2: a neighbour to its right, no
@@ -168,7 +184,7 @@ const OF_INNER: &[Asked] = &[
 
 #[test]
 fn an_inner_page_leads_to_its_neighbour_and_its_children(rt: HostRuntime) -> Result<(), Fail> {
-    answers_each(&rt, rt.alloc(), &inner_page(), OF_INNER)
+    run::<Page>(&rt, rt.alloc(), inner_page(), OF_INNER)
 }
 
 const OF_TOP: &[Asked] = &[
@@ -189,7 +205,7 @@ const OF_TOP: &[Asked] = &[
 
 #[test]
 fn the_top_of_a_tree_leads_to_its_children(rt: HostRuntime) -> Result<(), Fail> {
-    answers_each(&rt, rt.alloc(), &inner_page(), OF_TOP)
+    run::<Page>(&rt, rt.alloc(), inner_page(), OF_TOP)
 }
 
 /// The same page as a leaf, with this neighbour to its right.
@@ -213,6 +229,6 @@ const OF_LAST_LEAF: &[Asked] = &[Asked::Leads((20, NODE, 5, 0), &[])];
 
 #[test]
 fn a_leaf_leads_to_its_neighbour_alone(rt: HostRuntime) -> Result<(), Fail> {
-    answers_each(&rt, rt.alloc(), &leaf_page(8066), OF_LEAF)?;
-    answers_each(&rt, rt.alloc(), &leaf_page(0), OF_LAST_LEAF)
+    run::<Page>(&rt, rt.alloc(), leaf_page(8066), OF_LEAF)?;
+    run::<Page>(&rt, rt.alloc(), leaf_page(0), OF_LAST_LEAF)
 }

@@ -1,18 +1,18 @@
 //! What no clause says: that calls succeed with ample memory, and worked rows of the page
 //! inventory.
 
-ghost use Rattle.std.specs.Prelude.{◌≡◌, ◌≤◌};
+ghost use Rattle.std.specs.Prelude.{◌≡◌};
 ghost use Rattle.mg_base.specs.MemDisk.{mem_meaning};
 ghost use Rattle.mg_pool.specs.Pool.{IsPool};
 ghost use Rattle.mg_space.specs.Taking.{IsGeometry};
 ghost use Rattle.mg_space.specs.View.{AreWhole};
 
+use crate::tests::calls::{Begins, Bench, run};
 use crate::tests::stores::{batch_with, empty_store, has_bytes};
 use mg_base::{MemDisk, PageNo};
 use mg_pool::Batch;
 use mg_space::{SpaceFault, Store, take_page};
 use std::alloc::Global;
-use std::process::Abort;
 use std::test::Fail;
 
 /// Takes a page, and keeps what the next call needs.
@@ -28,58 +28,95 @@ fn take(store: &mut Store<MemDisk>, batch: &mut Batch) -> Result<PageNo, SpaceFa
     take_page(store, batch)
 }
 
-/// Tells whether these pages are taken one after another, and then the file is full.
-fn takes_each(store: &mut Store<MemDisk>, batch: &mut Batch, limit: u32, pages: &[u32]) -> bool
-    requires pool { IsPool mem_meaning store.old }
-    requires geometry { IsGeometry store.old.geometry }
-    requires size { store.old.geometry.size ≡ 1024 }
-    requires whole { AreWhole 1024 batch.old.pages }
-{
-    for page in pages {
-        if take(store, batch) != Ok(PageNo(*page)) {
-            return false;
-        }
-    }
-    take(store, batch) == Err(SpaceFault::Full { limit })
+/// A call on the inventory in a batch, and what it answers.
+#[derive(Clone, Copy)]
+pub enum Call {
+    /// This page is taken.
+    Take(u32),
+    /// The file is full, with this limit.
+    Full(u32),
+    /// A page of the batch has these bytes from a place on.
+    Has(u32, usize, &'static [u8]),
 }
 
-/// A batch in which these pages were taken until the file was full, where it has this limit and the
-/// first pages are used; none where other ones were taken.
-fn batch_after(alloc: Global, limit: u32, used: u32, pages: &[u32]) -> Result<Option<Batch>, Fail>
-    requires limit { limit ≤ 131072 }
-    requires used { used ≤ 8064 }
-{
-    let mut store = empty_store(alloc, limit)?;
-    let mut batch = batch_with(alloc, used)?;
-    if takes_each(&mut store, &mut batch, limit, pages) {
-        Ok(Some(batch))
-    } else {
-        Ok(None)
+/// A store, and a batch in which its pages are taken.
+#[derive(Drop)]
+pub struct Inventory {
+    store: Store<MemDisk>,
+    batch: Batch,
+}
+
+impl Bench for Inventory {
+    type Call = Call;
+
+    ghost ready = { λ it. IsPool mem_meaning it.store × IsGeometry it.store.geometry
+        × (it.store.geometry.size ≡ 1024) × AreWhole 1024 it.batch.pages };
+
+    fn does(&mut self, _alloc: Global, call: &Call) -> bool {
+        match *call {
+            Call::Take(page) => take(&mut self.store, &mut self.batch) == Ok(PageNo(page)),
+            Call::Full(limit) => {
+                take(&mut self.store, &mut self.batch) == Err(SpaceFault::Full { limit })
+            }
+            Call::Has(page, at, bytes) => has_bytes(&self.batch, PageNo(page), at, bytes),
+        }
     }
 }
+
+impl Begins for Inventory {
+    /// The limit of the file, and how many of the first pages are used.
+    type From = (u32, u32);
+
+    fn begin(alloc: Global, from: (u32, u32)) -> Result<Inventory, Fail> {
+        let (limit, used) = from;
+        let batch = batch_with(alloc, used.min(8064))?;
+        Ok(Inventory {
+            store: empty_store(alloc, limit.min(131_072))?,
+            batch,
+        })
+    }
+}
+
+const FROM_7_ON: &[Call] = &[
+    Call::Take(7),
+    Call::Take(8),
+    Call::Take(9),
+    Call::Take(10),
+    Call::Take(11),
+    Call::Take(12),
+    Call::Take(13),
+    Call::Take(14),
+    Call::Take(15),
+    Call::Full(16),
+    Call::Has(1, 16, &[0xff, 0xff, 0]),
+];
 
 #[test]
 fn a_new_database_gives_its_pages_from_7_on(rt: HostRuntime) -> Result<(), Fail> {
-    let pages = [7, 8, 9, 10, 11, 12, 13, 14, 15];
-    let batch = batch_after(rt.alloc(), 16, 7, &pages)?.ok_or("other pages")?;
-    assert!(rt; has_bytes(&batch, PageNo(1), 16, &[0xff, 0xff, 0]));
-    Ok(())
+    run::<Inventory>(&rt, rt.alloc(), (16, 7), FROM_7_ON)
 }
+
+const SECOND_REGION: &[Call] = &[
+    Call::Take(8064),
+    Call::Take(8066),
+    Call::Full(8067),
+    Call::Has(
+        8065,
+        0,
+        &[
+            2, 0, 0, 0, 0x81, 0x1f, 0, 0, 0, 0, 0, 0, 1, 0, 0, 0, 7, 0, 0, 0,
+        ],
+    ),
+];
 
 #[test]
 fn the_second_region_gets_its_inventory_page(rt: HostRuntime) -> Result<(), Fail> {
-    let batch = batch_after(rt.alloc(), 8067, 8064, &[8064, 8066])?.ok_or("other pages")?;
-    let second = [
-        2, 0, 0, 0, 0x81, 0x1f, 0, 0, 0, 0, 0, 0, 1, 0, 0, 0, 7, 0, 0, 0,
-    ];
-    assert!(rt; has_bytes(&batch, PageNo(8065), 0, &second));
-    Ok(())
+    run::<Inventory>(&rt, rt.alloc(), (8067, 8064), SECOND_REGION)
 }
 
 #[test]
 fn a_page_whose_inventory_page_lies_past_the_limit_is_not_free(
     rt: HostRuntime,
 ) -> Result<(), Fail> {
-    assert!(rt; batch_after(rt.alloc(), 8065, 8064, &[])?.is_some());
-    Ok(())
+    run::<Inventory>(&rt, rt.alloc(), (8065, 8064), &[Call::Full(8065)])
 }
