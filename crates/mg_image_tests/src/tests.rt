@@ -1,5 +1,6 @@
 //! Databases made by hand: what is read of them, and what is refused.
 
+mod alike;
 mod cases;
 mod catalog;
 mod cells;

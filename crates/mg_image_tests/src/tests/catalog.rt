@@ -1,6 +1,7 @@
 //! Small catalogs made by hand: the tables that they name, and the first bad row of each broken
 //! one.
 
+use super::alike::{Alike, are_like};
 use super::cases::{Case, hold_each};
 use mg_base::Memory;
 use mg_catalog::{CatFault, rows_of, tables_of};
@@ -88,69 +89,46 @@ fn read(alloc: Global, said: &[Said]) -> Result<Result<Vec<Table>, CatFault>, Fa
     Ok(tables_of(alloc, &rows))
 }
 
-// A table as the tests write it: its name, its first page, the place of its key, its columns, and
-// its indexes, each with the place of its column and its root.
+// A column as the tests write it: its name, its kind, and whether it is NOT NULL.
+type Told = (&'static [u8], Kind, bool);
+
+impl Alike<Told> for Column {
+    // It is there since format 1.
+    fn is_like(&self, told: &Told) -> bool {
+        self.name.as_slice() == told.0
+            && self.kind == told.1
+            && self.not_null == told.2
+            && self.since == 1
+    }
+}
+
+// An index as the tests write it: its name, the place of its column, and its root.
+type Rooted = (&'static [u8], u16, u32);
+
+impl Alike<Rooted> for Index {
+    fn is_like(&self, told: &Rooted) -> bool {
+        self.name.as_slice() == told.0 && self.column == told.1 && self.root.0 == told.2
+    }
+}
+
+// A table as the tests write it: its name, its first page, the place of its key, its columns and its
+// indexes.
 struct Wanted {
     name: &'static [u8],
     pointer: u32,
     key: u16,
-    columns: &'static [(&'static [u8], Kind, bool)],
-    indexes: &'static [(&'static [u8], u16, u32)],
+    columns: &'static [Told],
+    indexes: &'static [Rooted],
 }
 
-// Tells whether columns have these names and kinds, whether they are NOT NULL so, and whether all
-// are there since format 1.
-fn are_columns(columns: &[Column], wanted: &[(&'static [u8], Kind, bool)]) -> bool {
-    if columns.len() != wanted.len() {
-        return false;
+impl Alike<Wanted> for Table {
+    fn is_like(&self, told: &Wanted) -> bool {
+        self.name.as_slice() == told.name
+            && self.pointer.0 == told.pointer
+            && self.shape.key == told.key
+            && are_like(self.shape.columns.as_slice(), told.columns)
+            && are_like(self.indexes.as_slice(), told.indexes)
     }
-    for (column, one) in columns.iter().zip(wanted) {
-        if column.name.as_slice() != one.0 || column.kind != one.1 {
-            return false;
-        }
-        if column.not_null != one.2 || column.since != 1 {
-            return false;
-        }
-    }
-    true
-}
-
-// Tells whether indexes have these names, columns and roots.
-fn are_indexes(indexes: &[Index], wanted: &[(&'static [u8], u16, u32)]) -> bool {
-    if indexes.len() != wanted.len() {
-        return false;
-    }
-    for (index, one) in indexes.iter().zip(wanted) {
-        if index.name.as_slice() != one.0 || index.column != one.1 {
-            return false;
-        }
-        if index.root.0 != one.2 {
-            return false;
-        }
-    }
-    true
-}
-
-// Tells whether a table is as these say.
-fn is_table(table: &Table, wanted: &Wanted) -> bool {
-    table.name.as_slice() == wanted.name
-        && table.pointer.0 == wanted.pointer
-        && table.shape.key == wanted.key
-        && are_columns(table.shape.columns.as_slice(), wanted.columns)
-        && are_indexes(table.indexes.as_slice(), wanted.indexes)
-}
-
-// Tells whether tables are these, in this order.
-fn are_tables(tables: &[Table], wanted: &[Wanted]) -> bool {
-    if tables.len() != wanted.len() {
-        return false;
-    }
-    for (table, one) in tables.iter().zip(wanted) {
-        if !is_table(table, one) {
-            return false;
-        }
-    }
-    true
 }
 
 // Rows of a catalog, and the tables that they name, in this order.
@@ -159,7 +137,7 @@ struct Named(&'static [Said], &'static [Wanted]);
 impl Case for Named {
     fn holds(&self, alloc: Global) -> Result<bool, Fail> {
         match read(alloc, self.0)? {
-            Ok(tables) => Ok(are_tables(&tables, self.1)),
+            Ok(tables) => Ok(are_like(tables.as_slice(), self.1)),
             Err(_) => Ok(false),
         }
     }
@@ -359,17 +337,16 @@ fn a_row_that_breaks_a_rule_is_named(rt: HostRuntime) -> Result<(), Fail> {
     hold_each(&rt, rt.alloc(), CHANGED)
 }
 
-// Tells whether two rows have equal values.
-fn are_equal(row: &Row, other: &Row) -> bool {
-    if row.as_slice().len() != other.as_slice().len() {
-        return false;
+impl Alike<Value> for Value {
+    fn is_like(&self, told: &Value) -> bool {
+        order(self, told) == Ordering::Equal
     }
-    for (a, b) in row.as_slice().iter().zip(other.as_slice()) {
-        if order(a, b) != Ordering::Equal {
-            return false;
-        }
+}
+
+impl Alike<Row> for Row {
+    fn is_like(&self, told: &Row) -> bool {
+        are_like(self.as_slice(), told.as_slice())
     }
-    true
 }
 
 // The rows that say a table.
@@ -380,24 +357,11 @@ fn said_of(alloc: Global, table: &Table) -> Result<Vec<Row>, Fail> {
     Ok(rows_of(alloc, table)?)
 }
 
-// Tells whether rows have equal values, one by one.
-fn are_all_equal(found: &[Row], wanted: &[Row]) -> bool {
-    if found.len() != wanted.len() {
-        return false;
-    }
-    for (row, other) in found.iter().zip(wanted) {
-        if !are_equal(row, other) {
-            return false;
-        }
-    }
-    true
-}
-
 // Tells whether each table is said by these rows.
 fn are_said(alloc: Global, tables: &[Table], wanted: &[Row]) -> Result<bool, Fail> {
     for table in tables {
         let found = said_of(alloc, table)?;
-        if !are_all_equal(&found, wanted) {
+        if !are_like(found.as_slice(), wanted) {
             return Ok(false);
         }
     }
@@ -449,7 +413,8 @@ fn prints(alloc: Global, fault: CatFault, words: &str) -> Result<bool, Fail> {
 
 #[test]
 fn faults_print_in_words(rt: HostRuntime) -> Result<(), Fail> {
-    assert!(rt; prints(rt.alloc(), CatFault::BadTable { at: 12 }, "BAD TABLE 12")?);
-    assert!(rt; prints(rt.alloc(), CatFault::from(Memory), "OUT OF MEMORY")?);
+    let bad = prints(rt.alloc(), CatFault::BadTable { at: 12 }, "BAD TABLE 12")?;
+    let memory = prints(rt.alloc(), CatFault::from(Memory), "OUT OF MEMORY")?;
+    assert!(rt; bad && memory);
     Ok(())
 }

@@ -1,5 +1,6 @@
 //! Images of a small database made by hand: where their tables stand, and what is refused.
 
+use super::alike::{Alike, are_like};
 use super::cases::{Case, hold_each};
 use super::cells::{K, KV, Said, V};
 use super::pages::{DONE, GONE, HELD};
@@ -33,40 +34,59 @@ const T: Said = (b"TT", b"", [7, 1, 0, 0], 1);
 // A table by its name and its first page.
 type Named = (&'static [u8], u32);
 
-// What is told of a database: its tables, in this order, and whether no page is reached twice; or
-// that it has no layout.
+// What is told of a database: its tables, in this order, and whether no page is reached twice; that
+// its catalog stands on pages 3 and 4, and its first table on 5 and 6; or that it has no layout.
 #[derive(Clone, Copy)]
 enum Told {
     Tables(&'static [Named], bool),
+    New,
     Refused,
 }
 
-// Tells whether a table has this name and this first page.
-fn is_named(stand: &TableStand, named: &Named) -> bool {
-    stand.table.name.as_slice() == named.0 && stand.table.pointer.0 == named.1
+impl Alike<Named> for TableStand {
+    fn is_like(&self, told: &Named) -> bool {
+        self.table.name.as_slice() == told.0 && self.table.pointer.0 == told.1
+    }
 }
 
-// Tells whether the tables of a layout are these, in this order.
-fn are_tables(found: &Standing, wanted: &[Named]) -> bool {
-    if found.tables.len() != wanted.len() {
-        return false;
+// Tells whether a table stands on a pointer page and the data page behind it.
+fn stands_from(stand: &TableStand, first: u32) -> bool {
+    stand.pages.pointers.as_slice() == [first].as_slice()
+        && stand.pages.data_pages.as_slice() == [first.wrapping_add(1)].as_slice()
+}
+
+// Tells whether the catalog stands from page 3 on, and the first table from page 5 on.
+fn is_new(found: &Standing) -> bool {
+    match found.tables.first() {
+        Some(table) => stands_from(&found.catalog, 3) && stands_from(table, 5),
+        None => false,
     }
-    for (stand, named) in found.tables.iter().zip(wanted) {
-        if !is_named(stand, named) {
-            return false;
+}
+
+// Tells whether a layout is the one that is told.
+fn is_standing(alloc: Global, image: &Image, found: &Standing, told: Told) -> Result<bool, Fail> {
+    match told {
+        Told::Tables(wanted, once) => {
+            Ok(
+                are_like(found.tables.as_slice(), wanted)
+                    && are_pages_once(alloc, image, found)? == once,
+            )
         }
+        Told::New => Ok(is_new(found)),
+        Told::Refused => Ok(false),
     }
-    true
 }
 
 // Tells whether an image has the layout that is told.
 fn is_told(alloc: Global, image: &Image, told: Told) -> Result<bool, Fail> {
-    match (layout_of(alloc, image, RowCoding::Plain), told) {
-        (Ok(found), Told::Tables(wanted, once)) => {
-            Ok(are_tables(&found, wanted) && are_pages_once(alloc, image, &found)? == once)
+    match layout_of(alloc, image, RowCoding::Plain) {
+        Ok(found) => {
+            let is = is_standing(alloc, image, &found, told);
+            drop(found);
+            is
         }
-        (Err(ReadFault::Broken(Rule::Pages)), Told::Refused) => Ok(true),
-        _ => Ok(false),
+        Err(ReadFault::Broken(Rule::Pages)) => Ok(matches!(told, Told::Refused)),
+        Err(_) => Ok(false),
     }
 }
 
@@ -90,50 +110,26 @@ const NEW: Change = (4, Sheet::Catalog(&[K, V, KV]));
 // One with a second table.
 const TWO: Change = (4, Sheet::Catalog(&[K, V, KV, T_K, T]));
 
-const NAMES: &[Placed] = &[
+// A second table by transaction 2, whose column is by transaction 1.
+const SPLIT: Change = (
+    4,
+    Sheet::Catalog(&[K, V, KV, T_K, (b"TT", b"", [7, 1, 0, 0], 2)]),
+);
+
+// The row of KV where it has one index more.
+const KV_X: Said = (b"TKV", b"", [5, 2, 0, 1], 0);
+
+const PLACED: &[Placed] = &[
+    // Tables stand in the order of their names:
     // An empty catalog.
     Placed(&[], Told::Tables(&[], true)),
-    // A new database.
+    // A new database, and its pages.
     Placed(&[NEW], FIRST_ALONE),
+    Placed(&[NEW], Told::New),
     // Two tables.
     Placed(&[(4, Sheet::Catalog(&[T_K, T, K, V, KV]))], BOTH),
-];
 
-#[test]
-fn tables_stand_in_the_order_of_their_names(rt: HostRuntime) -> Result<(), Fail> {
-    hold_each(&rt, rt.alloc(), NAMES)
-}
-
-// Tells whether a table stands on a pointer page and the data page behind it.
-fn stands_from(stand: &TableStand, first: u32) -> bool {
-    stand.pages.pointers.as_slice() == [first].as_slice()
-        && stand.pages.data_pages.as_slice() == [first.wrapping_add(1)].as_slice()
-}
-
-// Tells whether the catalog stands from page 3 on, and the first table from page 5 on.
-fn is_new(found: &Standing) -> bool {
-    match found.tables.first() {
-        Some(table) => stands_from(&found.catalog, 3) && stands_from(table, 5),
-        None => false,
-    }
-}
-
-// Tells whether an image has the pages of a new database.
-fn has_new_pages(alloc: Global, image: &Image) -> bool {
-    match layout_of(alloc, image, RowCoding::Plain) {
-        Ok(found) => is_new(&found),
-        Err(_) => false,
-    }
-}
-
-#[test]
-fn the_pages_of_a_new_database_are_told(rt: HostRuntime) -> Result<(), Fail> {
-    let image = image_of(rt.alloc(), EMPTY, &[NEW])?;
-    assert!(rt; image.has_header() && has_new_pages(rt.alloc(), &image));
-    Ok(())
-}
-
-const SHARED: &[Placed] = &[
+    // A page of two tables is reached twice:
     // One first page.
     Placed(
         &[(
@@ -144,15 +140,8 @@ const SHARED: &[Placed] = &[
     ),
     // A data page of another owner.
     Placed(&[TWO, (7, Sheet::Pointers(&[6]))], Told::Refused),
-];
 
-#[test]
-fn a_page_of_two_tables_is_reached_twice(rt: HostRuntime) -> Result<(), Fail> {
-    hold_each(&rt, rt.alloc(), SHARED)
-}
-
-// A row besides those of a new database, with which the catalog is not lawful.
-const UNLAWFUL: &[Placed] = &[
+    // A row besides those of a new database, with which the catalog is not lawful:
     // A table without its column.
     Placed(
         &[(
@@ -203,14 +192,8 @@ const UNLAWFUL: &[Placed] = &[
         )],
         Told::Refused,
     ),
-];
 
-#[test]
-fn a_row_of_the_catalog_that_is_not_lawful_is_refused(rt: HostRuntime) -> Result<(), Fail> {
-    hold_each(&rt, rt.alloc(), UNLAWFUL)
-}
-
-const OFF_PAGES: &[Placed] = &[
+    // A table stands on its own pages:
     // No first page.
     Placed(
         &[(
@@ -245,20 +228,8 @@ const OFF_PAGES: &[Placed] = &[
     ),
     // A data page as the catalog's first page.
     Placed(&[NEW, (0, Sheet::Header(4, 1, 4, 4))], Told::Refused),
-];
 
-#[test]
-fn a_table_stands_on_its_own_pages(rt: HostRuntime) -> Result<(), Fail> {
-    hold_each(&rt, rt.alloc(), OFF_PAGES)
-}
-
-// A second table by transaction 2, whose column is by transaction 1.
-const SPLIT: Change = (
-    4,
-    Sheet::Catalog(&[K, V, KV, T_K, (b"TT", b"", [7, 1, 0, 0], 2)]),
-);
-
-const CHOICES: &[Placed] = &[
+    // Each choice of limbo transactions has to be lawful:
     // A table of a limbo transaction.
     Placed(&[TWO, (2, Sheet::Transactions([HELD, DONE, DONE]))], BOTH),
     // A table of a dead one.
@@ -288,18 +259,8 @@ const CHOICES: &[Placed] = &[
         &[SPLIT, (2, Sheet::Transactions([GONE, GONE, DONE]))],
         FIRST_ALONE,
     ),
-];
 
-#[test]
-fn each_choice_of_limbo_transactions_has_to_be_lawful(rt: HostRuntime) -> Result<(), Fail> {
-    hold_each(&rt, rt.alloc(), CHOICES)
-}
-
-// The row of KV where it has one index more.
-const KV_X: Said = (b"TKV", b"", [5, 2, 0, 1], 0);
-
-// KV with a second index.
-const ROOTS: &[Placed] = &[
+    // An index stands from its root, also that of a second one:
     // An empty index.
     Placed(
         &[(
@@ -348,6 +309,6 @@ const ROOTS: &[Placed] = &[
 ];
 
 #[test]
-fn an_index_stands_from_its_root(rt: HostRuntime) -> Result<(), Fail> {
-    hold_each(&rt, rt.alloc(), ROOTS)
+fn tables_stand_on_their_own_pages_by_their_names(rt: HostRuntime) -> Result<(), Fail> {
+    hold_each(&rt, rt.alloc(), PLACED)
 }

@@ -83,23 +83,6 @@ const VERSION: Change = (
     ),
 );
 
-// The slot without the version; the version and the slot, whose transaction was not drawn.
-const PUSHES: &[Overlay] = &[
-    Overlay(PUSH, &[], true, None),
-    Overlay(PUSH, &[HEADER], true, None),
-    Overlay(PUSH, &[SLOT], false, Some(Rule::Links)),
-    Overlay(PUSH, &[HEADER, SLOT], false, Some(Rule::Links)),
-    Overlay(PUSH, &[VERSION], false, None),
-    Overlay(PUSH, &[HEADER, VERSION], true, None),
-    Overlay(PUSH, &[SLOT, VERSION], false, Some(Rule::Drawn)),
-    Overlay(PUSH, &[HEADER, SLOT, VERSION], true, None),
-];
-
-#[test]
-fn a_draw_and_a_push_keep_every_overlay(rt: HostRuntime) -> Result<(), Fail> {
-    hold_each(&rt, rt.alloc(), PUSHES)
-}
-
 // KV gets a data page: the bit of the page inventory and the new page go before the entry in the
 // pointer page.
 const GROWTH: Orders = &[(1, 5), (8, 5)];
@@ -110,8 +93,18 @@ const ENTRY: Change = (5, Sheet::Pointers(&[6, 7, 8]));
 
 const PAGE: Change = (8, Sheet::Data(5, 2, 7, &[]));
 
-// The entry without the page, without the bit, and without both.
-const GROWTHS: &[Overlay] = &[
+const OVERLAYS: &[Overlay] = &[
+    // The slot without the version; the version and the slot, whose transaction was not drawn.
+    Overlay(PUSH, &[], true, None),
+    Overlay(PUSH, &[HEADER], true, None),
+    Overlay(PUSH, &[SLOT], false, Some(Rule::Links)),
+    Overlay(PUSH, &[HEADER, SLOT], false, Some(Rule::Links)),
+    Overlay(PUSH, &[VERSION], false, None),
+    Overlay(PUSH, &[HEADER, VERSION], true, None),
+    Overlay(PUSH, &[SLOT, VERSION], false, Some(Rule::Drawn)),
+    Overlay(PUSH, &[HEADER, SLOT, VERSION], true, None),
+
+    // The entry without the page, without the bit, and without both.
     Overlay(GROWTH, &[], true, None),
     Overlay(GROWTH, &[BIT], true, None),
     Overlay(GROWTH, &[ENTRY], false, Some(Rule::Pages)),
@@ -123,6 +116,6 @@ const GROWTHS: &[Overlay] = &[
 ];
 
 #[test]
-fn growth_keeps_every_overlay(rt: HostRuntime) -> Result<(), Fail> {
-    hold_each(&rt, rt.alloc(), GROWTHS)
+fn a_push_and_growth_keep_every_overlay(rt: HostRuntime) -> Result<(), Fail> {
+    hold_each(&rt, rt.alloc(), OVERLAYS)
 }

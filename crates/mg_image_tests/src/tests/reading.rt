@@ -1,5 +1,6 @@
 //! Images of a small database made by hand: what they hold, and which rule each broken one breaks.
 
+use super::alike::{Alike, are_like};
 use super::cases::{Case, hold_each};
 use super::cells::{K, KV, Laid, TWO, V};
 use super::pages::{DONE, GONE, HELD, LIVE};
@@ -41,28 +42,17 @@ enum Told {
     Broken(Rule),
 }
 
-// Tells whether a row has this key and this value.
-fn is_pair(row: &Row, pair: &(i64, i64)) -> bool {
-    number(row.as_slice(), 0) == pair.0 && number(row.as_slice(), 1) == pair.1
-}
-
-// Tells whether rows have these keys and values.
-fn are_rows(rows: &[Row], wanted: &[(i64, i64)]) -> bool {
-    if rows.len() != wanted.len() {
-        return false;
+impl Alike<(i64, i64)> for Row {
+    // This key and this value.
+    fn is_like(&self, told: &(i64, i64)) -> bool {
+        number(self.as_slice(), 0) == told.0 && number(self.as_slice(), 1) == told.1
     }
-    for (row, pair) in rows.iter().zip(wanted) {
-        if !is_pair(row, pair) {
-            return false;
-        }
-    }
-    true
 }
 
 // Tells whether the first table has these keys and values.
 fn has_rows(held: &[TableRows], wanted: &[(i64, i64)]) -> bool {
     match held.first() {
-        Some(first) => are_rows(&first.rows, wanted),
+        Some(first) => are_like(first.rows.as_slice(), wanted),
         None => false,
     }
 }
@@ -103,7 +93,9 @@ const UNREACHED: &[Laid] = &[
     Laid::First(3, 9, 90),
 ];
 
-const SHOWN: &[Read] = &[
+// Cells of KV that break a rule.
+const READ: &[Read] = &[
+    // The first committed version is shown:
     // An empty table holds no rows.
     Read(&[EMPTIED], Told::Rows(&[])),
     // Nor does one whose row is deleted by a committed transaction.
@@ -133,14 +125,8 @@ const SHOWN: &[Read] = &[
         ],
         Told::Rows(&[(1, 10)]),
     ),
-];
 
-#[test]
-fn the_first_committed_version_is_shown(rt: HostRuntime) -> Result<(), Fail> {
-    hold_each(&rt, rt.alloc(), SHOWN)
-}
-
-const RULES: &[Read] = &[
+    // Each broken rule is named:
     // OIT past Next.
     Read(
         &[(0, Sheet::Header(4, 5, 5, 3))],
@@ -202,15 +188,8 @@ const RULES: &[Read] = &[
     Read(&[(5, Sheet::Pointers(&[6, 6]))], Told::Broken(Rule::Pages)),
     // A page that no entry leads to.
     Read(&[(5, Sheet::Pointers(&[]))], Told::Rows(&[])),
-];
 
-#[test]
-fn each_broken_rule_is_named(rt: HostRuntime) -> Result<(), Fail> {
-    hold_each(&rt, rt.alloc(), RULES)
-}
-
-// Cells of KV that break a rule.
-const RECORDS: &[Read] = &[
+    // Cells that break a rule:
     // Two records with one key.
     Read(
         &[(
@@ -288,8 +267,8 @@ const RECORDS: &[Read] = &[
 ];
 
 #[test]
-fn each_broken_record_is_told_by_its_rule(rt: HostRuntime) -> Result<(), Fail> {
-    hold_each(&rt, rt.alloc(), RECORDS)
+fn an_image_is_read_or_breaks_the_rule_that_is_told(rt: HostRuntime) -> Result<(), Fail> {
+    hold_each(&rt, rt.alloc(), READ)
 }
 
 // Pages of a file, and whether it is blank: none of it was made yet.

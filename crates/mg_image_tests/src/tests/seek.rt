@@ -9,6 +9,7 @@ ghost use Rattle.mg_pool.specs.Pool.{IsPool};
 ghost use Rattle.mg_slots.specs.DataPage.{IsDataPage};
 ghost use Rattle.mg_space.specs.Taking.{IsGeometry};
 
+use super::cases::{Case, hold_each};
 use super::tables::{catalog, kv};
 use mg_base::{Damaged, Field, Geometry, MemDisk, Memory, PageNo, RecId, TxNo, TxState};
 use mg_chain::States;
@@ -21,7 +22,6 @@ use mg_snap::Live;
 use mg_space::{SpaceFault, Store};
 use mg_value::{Row, Value};
 use std::alloc::Global;
-use std::process::Abort;
 use std::test::Fail;
 
 /// The data page of KV.
@@ -249,6 +249,20 @@ enum Asked {
     InTheWay(u16, u32, u32),
     /// The visit of a walk behind the record of a slot: its slot and V.
     Step(Option<u16>, Option<(u16, i64)>),
+    /// The field at which the page of KV is damaged, as transaction 6 is told at the first record,
+    /// with the numbers found and wanted.
+    Damaged(Field, u64, u64),
+}
+
+/// Tells whether the page of KV is damaged at this field, with these numbers found and wanted.
+fn is_damaged(told: Result<i64, SpaceFault>, field: Field, found: u64, wanted: u64) -> bool {
+    let damage = Damaged {
+        page: PAGE,
+        field,
+        found,
+        wanted,
+    };
+    told == Err(SpaceFault::Damaged(damage))
 }
 
 /// Tells whether a question is answered so.
@@ -265,92 +279,71 @@ fn answers(store: &mut Store<MemDisk>, table: &Table, live: &Live, asked: Asked)
         Asked::Speaks(key, slot) => speaking(store, table, live, key) == Ok(slot),
         Asked::InTheWay(slot, t, by) => in_the_way(store, live, slot, t) == Ok(by),
         Asked::Step(after, visit) => step(store, table, live, after) == Ok(visit),
+        Asked::Damaged(field, found, wanted) => {
+            is_damaged(seen(store, table, live, 0, 6), field, found, wanted)
+        }
     }
 }
 
-/// Wants each question to be answered so.
-fn answers_each(
-    rt: &impl Abort,
-    store: &mut Store<MemDisk>,
-    table: &Table,
-    live: &Live,
-    rows: &[Asked],
-)
+/// Tells whether each question is answered so, one after another.
+fn answers_all(store: &mut Store<MemDisk>, table: &Table, live: &Live, rows: &[Asked]) -> bool
     requires pool { IsPool mem_meaning store.old }
     requires geometry { IsGeometry store.old.geometry }
     requires columns { length table.now.shape.columns ≤ 64 }
     requires pointer { table.now.pointer.0 ≡ 5 }
 {
-    for (place, asked) in rows.iter().enumerate() {
-        assert!(rt; answers(store, table, live, *asked), "row {place}");
+    for asked in rows {
+        if !answers(store, table, live, *asked) {
+            return false;
+        }
     }
+    true
 }
 
-/// Wants each question to be answered so, in a database with the three records.
-fn are_answered(rt: &impl Abort, alloc: Global, live: &Live, rows: &[Asked]) -> Result<(), Fail> {
+/// Tells whether each question is answered so, in a database where KV has these cells.
+fn are_answered(
+    alloc: Global,
+    cells: &[&'static [u8]],
+    table: &Table,
+    live: &Live,
+    rows: &[Asked],
+) -> Result<bool, Fail>
+    requires columns { length table.now.shape.columns ≤ 64 }
+    requires pointer { table.now.pointer.0 ≡ 5 }
+{
+    let mut store = store_with(alloc, cells)?;
+    let are = answers_all(&mut store, table, live, rows);
+    drop(store);
+    Ok(are)
+}
+
+/// Tells whether each question of KV is answered so, where it has these cells.
+fn are_answered_of_kv(
+    alloc: Global,
+    cells: &[&'static [u8]],
+    live: &Live,
+    rows: &[Asked],
+) -> Result<bool, Fail> {
     let table = kv(alloc)?;
-    answers_each(rt, &mut store_with(alloc, RECORDS)?, &table, live, rows);
-    Ok(())
+    let are = are_answered(alloc, cells, &table, live, rows);
+    drop(table);
+    are
 }
 
-const SEEN: &[Asked] = &[
-    Asked::Seen(0, 6, 10),
-    Asked::Seen(3, 6, 0),
-    Asked::Seen(3, 5, 20),
-    Asked::Seen(6, 5, 30),
-    Asked::Seen(6, 6, 0),
-];
+/// The cells of KV, whether 5 has ended too, and questions that are asked of one store, with their
+/// answers.
+struct Looked(&'static [&'static [u8]], bool, &'static [Asked]);
 
-#[test]
-fn a_row_is_seen_through_a_dead_version_and_not_through_a_deletion(
-    rt: HostRuntime,
-) -> Result<(), Fail> {
-    are_answered(&rt, rt.alloc(), &bases(rt.alloc())?, SEEN)
-}
-
-const SPEAKS: &[Asked] = &[
-    Asked::Speaks(1, 0),
-    Asked::Speaks(2, 3),
-    Asked::Speaks(3, 6),
-    Asked::Speaks(4, 99),
-];
-
-/// Once 5 has ended, every base sees the deletion.
-const SPEAKS_LATER: &[Asked] = &[Asked::Speaks(2, 99)];
-
-#[test]
-fn a_deletion_speaks_as_long_as_a_base_does_not_see_it(rt: HostRuntime) -> Result<(), Fail> {
-    let mut live = bases(rt.alloc())?;
-    are_answered(&rt, rt.alloc(), &live, SPEAKS)?;
-    live.leave(TxNo(5));
-    are_answered(&rt, rt.alloc(), &live, SPEAKS_LATER)
-}
-
-const IN_THE_WAY: &[Asked] = &[
-    Asked::InTheWay(0, 6, 0),
-    Asked::InTheWay(3, 5, 3),
-    Asked::InTheWay(3, 6, 0),
-    Asked::InTheWay(6, 6, 5),
-    Asked::InTheWay(6, 5, 0),
-];
-
-#[test]
-fn an_active_one_and_one_committed_since_the_base_are_in_the_way(
-    rt: HostRuntime,
-) -> Result<(), Fail> {
-    are_answered(&rt, rt.alloc(), &bases(rt.alloc())?, IN_THE_WAY)
-}
-
-const STEPS: &[Asked] = &[
-    Asked::Step(None, Some((0, 10))),
-    Asked::Step(Some(0), Some((3, 0))),
-    Asked::Step(Some(3), Some((6, 0))),
-    Asked::Step(Some(6), None),
-];
-
-#[test]
-fn a_walk_goes_on_behind_records_without_a_row(rt: HostRuntime) -> Result<(), Fail> {
-    are_answered(&rt, rt.alloc(), &bases(rt.alloc())?, STEPS)
+impl Case for Looked {
+    fn holds(&self, alloc: Global) -> Result<bool, Fail> {
+        let mut live = bases(alloc)?;
+        if self.1 {
+            live.leave(TxNo(5));
+        }
+        let are = are_answered_of_kv(alloc, self.0, &live, self.2);
+        drop(live);
+        are
+    }
 }
 
 /// An anchor to slot 1, whose version is of transaction 2.
@@ -368,33 +361,62 @@ const NO_RUN: &[&[u8]] = &[
     &[2, 0, 1, 0, 2, 0, 0, 0, 1, 0, 255, 1, 249, 0, 1, 10, 0],
 ];
 
-/// The cells of KV, and the field of its data page that is damaged, with the numbers found and
-/// wanted.
-const DAMAGED: &[(&[&[u8]], Field, u64, u64)] = &[
-    (NO_ROW, Field::Row, 0, 17),
-    (NO_RUN, Field::Run, 2, 9),
+const LOOKED: &[Looked] = &[
+    // A row is seen through a dead version, and not through a deletion.
+    Looked(
+        RECORDS,
+        false,
+        &[
+            Asked::Seen(0, 6, 10),
+            Asked::Seen(3, 6, 0),
+            Asked::Seen(3, 5, 20),
+            Asked::Seen(6, 5, 30),
+            Asked::Seen(6, 6, 0),
+        ],
+    ),
+    // A deletion speaks as long as a base does not see it. Once 5 has ended, every base does.
+    Looked(
+        RECORDS,
+        false,
+        &[
+            Asked::Speaks(1, 0),
+            Asked::Speaks(2, 3),
+            Asked::Speaks(3, 6),
+            Asked::Speaks(4, 99),
+        ],
+    ),
+    Looked(RECORDS, true, &[Asked::Speaks(2, 99)]),
+    // An active transaction and one that committed since the base are in the way.
+    Looked(
+        RECORDS,
+        false,
+        &[
+            Asked::InTheWay(0, 6, 0),
+            Asked::InTheWay(3, 5, 3),
+            Asked::InTheWay(3, 6, 0),
+            Asked::InTheWay(6, 6, 5),
+            Asked::InTheWay(6, 5, 0),
+        ],
+    ),
+    // A walk goes on behind records without a row.
+    Looked(
+        RECORDS,
+        false,
+        &[
+            Asked::Step(None, Some((0, 10))),
+            Asked::Step(Some(0), Some((3, 0))),
+            Asked::Step(Some(3), Some((6, 0))),
+            Asked::Step(Some(6), None),
+        ],
+    ),
+    // A body that codes no row is told at its page.
+    Looked(NO_ROW, false, &[Asked::Damaged(Field::Row, 0, 17)]),
+    Looked(NO_RUN, false, &[Asked::Damaged(Field::Run, 2, 9)]),
 ];
 
-/// What transaction 6 sees of the first record, where KV has these cells.
-fn first_seen(alloc: Global, cells: &[&'static [u8]]) -> Result<Result<i64, SpaceFault>, Fail> {
-    let mut store = store_with(alloc, cells)?;
-    let table = kv(alloc)?;
-    Ok(seen(&mut store, &table, &bases(alloc)?, 0, 6))
-}
-
 #[test]
-fn a_body_that_codes_no_row_is_told_at_its_page(rt: HostRuntime) -> Result<(), Fail> {
-    for (cells, field, found, wanted) in DAMAGED {
-        let damage = Damaged {
-            page: PAGE,
-            field: *field,
-            found: *found,
-            wanted: *wanted,
-        };
-        let told = first_seen(rt.alloc(), cells)?;
-        assert_eq!(rt; told, Err(SpaceFault::Damaged(damage)));
-    }
-    Ok(())
+fn what_is_asked_of_records_is_answered(rt: HostRuntime) -> Result<(), Fail> {
+    hold_each(&rt, rt.alloc(), LOOKED)
 }
 
 /// The columns of a table that t sees, 0 where it sees none of that name.
@@ -418,16 +440,46 @@ fn columns_of(
     }
 }
 
-/// The columns of a table of a new database that transaction 6 sees, 0 where it sees none.
-fn new_columns(alloc: Global, name: &[u8]) -> Result<usize, Fail> {
+/// Tells whether a table of a new database has so many columns, where its catalog is this table.
+fn has_columns(
+    alloc: Global,
+    catalog: &Table,
+    live: &Live,
+    name: &[u8],
+    count: usize,
+) -> Result<bool, Fail>
+    requires columns { length catalog.now.shape.columns ≤ 64 }
+    requires pointer { catalog.now.pointer.0 ≡ 3 }
+{
     let mut store = new_store(alloc)?;
-    let table = catalog(alloc)?;
-    Ok(columns_of(&mut store, &table, &bases(alloc)?, name)?)
+    let found = columns_of(&mut store, catalog, live, name);
+    drop(store);
+    Ok(found == Ok(count))
 }
+
+/// Tells whether a table of a new database has so many columns, 0 where there is none of that name.
+fn is_wide(alloc: Global, live: &Live, name: &[u8], count: usize) -> Result<bool, Fail> {
+    let table = catalog(alloc)?;
+    let is = has_columns(alloc, &table, live, name, count);
+    drop(table);
+    is
+}
+
+/// The name of a table, and how many columns it has in a new database.
+struct Wide(&'static [u8], usize);
+
+impl Case for Wide {
+    fn holds(&self, alloc: Global) -> Result<bool, Fail> {
+        let live = bases(alloc)?;
+        let is = is_wide(alloc, &live, self.0, self.1);
+        drop(live);
+        is
+    }
+}
+
+const WIDE: &[Wide] = &[Wide(b"KV", 2), Wide(b"VK", 0)];
 
 #[test]
 fn the_catalog_of_a_new_database_names_kv(rt: HostRuntime) -> Result<(), Fail> {
-    assert_eq!(rt; new_columns(rt.alloc(), b"KV")?, 2);
-    assert_eq!(rt; new_columns(rt.alloc(), b"VK")?, 0);
-    Ok(())
+    hold_each(&rt, rt.alloc(), WIDE)
 }

@@ -60,7 +60,72 @@ const ERASED: Change = (
     ]),
 );
 
-const PASS: &[Judged] = &[
+// The row of KV with a third column.
+const THREE: Said = (b"TKV", b"", [5, 3, 7, 0], 0);
+
+// Transaction 2 gives KV another shape: V comes to be NOT NULL.
+const RESHAPED: Change = (
+    4,
+    Sheet::Data(
+        3,
+        0,
+        4,
+        &[
+            Laid::Anchor(1, 0),
+            Laid::Row(K),
+            Laid::Anchor(6, 2),
+            Laid::Row(V),
+            Laid::Anchor(5, 0),
+            Laid::Row(INDEXED),
+            Laid::RowOver((3, 0), (b"CKV.01", b"V", [0, 1, 1, 1], 2)),
+        ],
+    ),
+);
+
+// Transaction 2 has made KV.
+const MADE: Change = (
+    4,
+    Sheet::Catalog(&[
+        (b"CKV.00", b"K", [0, 3, 1, 0], 2),
+        (b"CKV.01", b"V", [0, 0, 1, 1], 2),
+        (b"TKV", b"", [5, 2, 7, 0], 2),
+    ]),
+);
+
+// A row of transaction 1, and one of transaction 2.
+const ONE: Change = (
+    6,
+    Sheet::Cells(&[Laid::Anchor(1, 1), Laid::First(1, 1, 10)]),
+);
+
+const ITS_OWN: Change = (
+    6,
+    Sheet::Cells(&[Laid::Anchor(1, 2), Laid::First(2, 1, 10)]),
+);
+
+// Two records of one key.
+const TWICE: Change = (
+    6,
+    Sheet::Cells(&[
+        Laid::Anchor(1, 1),
+        Laid::First(1, 1, 10),
+        Laid::Anchor(3, 2),
+        Laid::First(2, 1, 20),
+    ]),
+);
+
+// Two keys in one record.
+const OTHER_KEY: Change = (
+    6,
+    Sheet::Cells(&[
+        Laid::Anchor(2, 2),
+        Laid::First(1, 1, 10),
+        Laid::Over(2, (1, 1), 2, 20),
+    ]),
+);
+
+const JUDGED: &[Judged] = &[
+    // Sound images pass:
     // Two versions; the newer one is in limbo, dead, and active.
     Judged(&[], None),
     Judged(&[(2, Sheet::Transactions([DONE, HELD, DONE]))], None),
@@ -70,14 +135,8 @@ const PASS: &[Judged] = &[
     Judged(&[ERASED, NO_KEYS], None),
     // An entry too many.
     Judged(&[ERASED, (7, Sheet::Leaf(&[(5, 0)]))], None),
-];
 
-#[test]
-fn sound_images_pass(rt: HostRuntime) -> Result<(), Fail> {
-    hold_each(&rt, rt.alloc(), PASS)
-}
-
-const PAGES: &[Judged] = &[
+    // The rules of pages:
     // OIT past Next.
     Judged(&[(0, Sheet::Header(4, 5, 1, 3))], Some(Rule::Header)),
     // Bits from Next on.
@@ -105,17 +164,8 @@ const PAGES: &[Judged] = &[
         )],
         Some(Rule::Once),
     ),
-];
 
-#[test]
-fn the_rules_of_pages_are_named(rt: HostRuntime) -> Result<(), Fail> {
-    hold_each(&rt, rt.alloc(), PAGES)
-}
-
-// The row of KV with a third column.
-const THREE: Said = (b"TKV", b"", [5, 3, 7, 0], 0);
-
-const SIZES: &[Judged] = &[
+    // Tables fit their pages:
     // A row of 523 bytes, which is more than half a page.
     Judged(
         &[
@@ -174,54 +224,8 @@ const SIZES: &[Judged] = &[
         ],
         None,
     ),
-];
 
-#[test]
-fn tables_fit_their_pages(rt: HostRuntime) -> Result<(), Fail> {
-    hold_each(&rt, rt.alloc(), SIZES)
-}
-
-// Transaction 2 gives KV another shape: V comes to be NOT NULL.
-const RESHAPED: Change = (
-    4,
-    Sheet::Data(
-        3,
-        0,
-        4,
-        &[
-            Laid::Anchor(1, 0),
-            Laid::Row(K),
-            Laid::Anchor(6, 2),
-            Laid::Row(V),
-            Laid::Anchor(5, 0),
-            Laid::Row(INDEXED),
-            Laid::RowOver((3, 0), (b"CKV.01", b"V", [0, 1, 1, 1], 2)),
-        ],
-    ),
-);
-
-// Transaction 2 has made KV.
-const MADE: Change = (
-    4,
-    Sheet::Catalog(&[
-        (b"CKV.00", b"K", [0, 3, 1, 0], 2),
-        (b"CKV.01", b"V", [0, 0, 1, 1], 2),
-        (b"TKV", b"", [5, 2, 7, 0], 2),
-    ]),
-);
-
-// A row of transaction 1, and one of transaction 2.
-const ONE: Change = (
-    6,
-    Sheet::Cells(&[Laid::Anchor(1, 1), Laid::First(1, 1, 10)]),
-);
-
-const ITS_OWN: Change = (
-    6,
-    Sheet::Cells(&[Laid::Anchor(1, 2), Laid::First(2, 1, 10)]),
-);
-
-const MAKERS: &[Judged] = &[
+    // Tables are those of their makers:
     // A table that a limbo transaction changes.
     Judged(
         &[ONE, RESHAPED, (2, Sheet::Transactions([DONE, HELD, DONE]))],
@@ -247,14 +251,8 @@ const MAKERS: &[Judged] = &[
         &[ITS_OWN, MADE, (2, Sheet::Transactions([DONE, HELD, DONE]))],
         None,
     ),
-];
 
-#[test]
-fn tables_are_those_of_their_makers(rt: HostRuntime) -> Result<(), Fail> {
-    hold_each(&rt, rt.alloc(), MAKERS)
-}
-
-const LINKS: &[Judged] = &[
+    // The rule of links:
     // An anchor to a free slot.
     Judged(
         &[(6, Sheet::Cells(&[Laid::Anchor(5, 3)]))],
@@ -296,14 +294,8 @@ const LINKS: &[Judged] = &[
         )],
         Some(Rule::Links),
     ),
-];
 
-#[test]
-fn the_rule_of_links_is_named(rt: HostRuntime) -> Result<(), Fail> {
-    hold_each(&rt, rt.alloc(), LINKS)
-}
-
-const TRANSACTIONS: &[Judged] = &[
+    // The rules of transactions:
     // A version from Next on.
     Judged(
         &[
@@ -341,35 +333,8 @@ const TRANSACTIONS: &[Judged] = &[
         &[(2, Sheet::Transactions([GONE, DONE, DONE]))],
         Some(Rule::Backs),
     ),
-];
 
-#[test]
-fn the_rules_of_transactions_are_named(rt: HostRuntime) -> Result<(), Fail> {
-    hold_each(&rt, rt.alloc(), TRANSACTIONS)
-}
-
-// Two records of one key.
-const TWICE: Change = (
-    6,
-    Sheet::Cells(&[
-        Laid::Anchor(1, 1),
-        Laid::First(1, 1, 10),
-        Laid::Anchor(3, 2),
-        Laid::First(2, 1, 20),
-    ]),
-);
-
-// Two keys in one record.
-const OTHER_KEY: Change = (
-    6,
-    Sheet::Cells(&[
-        Laid::Anchor(2, 2),
-        Laid::First(1, 1, 10),
-        Laid::Over(2, (1, 1), 2, 20),
-    ]),
-);
-
-const KEYS: &[Judged] = &[
+    // The rules of keys:
     // Two records of one key; the second one's transaction is in limbo, and dead.
     Judged(&[TWICE], Some(Rule::Keys)),
     Judged(
@@ -393,8 +358,8 @@ const KEYS: &[Judged] = &[
 ];
 
 #[test]
-fn the_rules_of_keys_are_named(rt: HostRuntime) -> Result<(), Fail> {
-    hold_each(&rt, rt.alloc(), KEYS)
+fn an_image_is_sound_or_breaks_the_rule_that_is_told_first(rt: HostRuntime) -> Result<(), Fail> {
+    hold_each(&rt, rt.alloc(), JUDGED)
 }
 
 // Pages of a disk, and whether no database was made on it yet.

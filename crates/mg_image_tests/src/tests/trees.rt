@@ -87,14 +87,20 @@ const FIRST: &[Sheet] = &[
     Sheet::Zero,
 ];
 
-// An image with these index pages from page 4 on, whose header is lawful.
-fn image_of(alloc: Global, nodes: &[Made]) -> Result<Image, Fail> {
-    let mut pages = pages_of(alloc, FIRST, &[])?;
+// Appends these index pages, from page 4 on.
+fn put_nodes(alloc: Global, pages: &mut Vec<Bytes>, nodes: &[Made]) -> Result<(), Fail> {
     let mut n = 4u8;
     for node in nodes {
         pages.push(page_of(alloc, n, node)?)?;
         n = n.wrapping_add(1);
     }
+    Ok(())
+}
+
+// An image with these index pages, whose header is lawful.
+fn image_of(alloc: Global, nodes: &[Made]) -> Result<Image, Fail> {
+    let mut pages = pages_of(alloc, FIRST, &[])?;
+    put_nodes(alloc, &mut pages, nodes)?;
     let image = image_with(alloc, pages)?;
     if !image.has_header() {
         return Err("no header")?;

@@ -2,12 +2,13 @@
 
 use super::bytes::has_bytes;
 use super::cases::{Case, hold_each};
+use super::printing::Printed;
+use super::steps::{Step, go_each};
 use mg_base::{
     Damaged, Disk, FaultyDisk, Field, Geometry, MemDisk, MemSink, MemSource, OWN_AT, PageNo, Sink,
     Source, get_u16, get_u32, new_common, put_u16,
 };
 use std::alloc::Global;
-use std::process::Abort;
 use std::test::Fail;
 
 /// The front of a page of the kind 5, the owner 6 and the sequence 7.
@@ -55,21 +56,22 @@ fn a_geometry_has_one_of_five_sizes_and_a_limit_in_its_range(rt: HostRuntime) ->
     hold_each(&rt, rt.alloc(), GEOMETRIES)
 }
 
-#[test]
-fn damage_prints_its_page_its_field_and_both_numbers(rt: HostRuntime) -> Result<(), Fail> {
-    let damaged = Damaged {
+const PRINTED: &[Printed<Damaged>] = &[Printed {
+    fault: Damaged {
         page: PageNo(3),
         field: Field::PageSize,
         found: 9,
         wanted: 4,
-    };
-    let text = format!(in rt.alloc(); "{damaged}")?;
-    assert_eq!(rt; text.as_str(), "DAMAGED PAGE 3 PAGE SIZE FOUND 9 WANTED 4");
-    Ok(())
+    },
+    words: "DAMAGED PAGE 3 PAGE SIZE FOUND 9 WANTED 4",
+}];
+
+#[test]
+fn damage_prints_its_page_its_field_and_both_numbers(rt: HostRuntime) -> Result<(), Fail> {
+    hold_each(&rt, rt.alloc(), PRINTED)
 }
 
 /// A call of a disk whose pages have 1024 bytes, and what it does.
-#[derive(Clone, Copy)]
 enum Call {
     /// A page of equal bytes is written, or refused.
     Put(u32, u8, bool),
@@ -119,20 +121,14 @@ fn has_pages<D: Disk>(disk: &mut D, count: u32) -> bool {
     disk.pages() == Ok(count)
 }
 
-/// Tells whether a disk does what a call says.
-fn does<D: Disk>(disk: &mut D, call: Call) -> bool {
-    match call {
-        Call::Put(page, byte, done) => put(disk, page, byte) == done,
-        Call::Get(page, byte) => get(disk, page) == byte,
-        Call::Settle(done) => settles(disk) == done,
-        Call::Pages(count) => has_pages(disk, count),
-    }
-}
-
-/// Wants a disk to do what each call says, one after another.
-fn does_each<D: Disk>(rt: &impl Abort, disk: &mut D, calls: &[Call]) {
-    for (place, call) in calls.iter().enumerate() {
-        assert!(rt; does(disk, *call), "call {place}");
+impl<D: Disk> Step<D> for Call {
+    fn goes(&self, on: &mut D) -> bool {
+        match *self {
+            Call::Put(page, byte, done) => put(on, page, byte) == done,
+            Call::Get(page, byte) => get(on, page) == byte,
+            Call::Settle(done) => settles(on) == done,
+            Call::Pages(count) => has_pages(on, count),
+        }
     }
 }
 
@@ -161,7 +157,7 @@ const ROOM_OF_TWO: &[Call] = &[
 #[test]
 fn a_disk_in_memory_has_room_for_its_pages_and_its_record(rt: HostRuntime) -> Result<(), Fail> {
     let mut disk = new_disk(rt.alloc(), 2)?;
-    does_each(&rt, &mut disk, ROOM_OF_TWO);
+    go_each(&rt, &mut disk, ROOM_OF_TWO);
     assert!(rt; writes_of(&disk) == 2);
     Ok(())
 }
@@ -187,9 +183,9 @@ const ONE_WRITE: &[Call] = &[
 #[test]
 fn a_disk_after_its_first_write_has_that_write_alone(rt: HostRuntime) -> Result<(), Fail> {
     let mut disk = new_disk(rt.alloc(), 4)?;
-    does_each(&rt, &mut disk, TWO_WRITES);
+    go_each(&rt, &mut disk, TWO_WRITES);
     let mut before = after_first(rt.alloc(), &disk)?;
-    does_each(&rt, &mut before, ONE_WRITE);
+    go_each(&rt, &mut before, ONE_WRITE);
     Ok(())
 }
 
@@ -214,7 +210,7 @@ const TWO_FAULTS: &[Call] = &[
 #[test]
 fn the_listed_calls_of_a_faulty_disk_fail(rt: HostRuntime) -> Result<(), Fail> {
     let mut disk = faulty_disk(rt.alloc())?;
-    does_each(&rt, &mut disk, TWO_FAULTS);
+    go_each(&rt, &mut disk, TWO_FAULTS);
     assert!(rt; counts_of(disk) == (6, 1));
     Ok(())
 }
@@ -225,23 +221,29 @@ fn new_source(alloc: Global) -> Result<MemSource, Fail> {
     Ok(MemSource::new(bytes, vec![in alloc; 2]?))
 }
 
-/// Tells whether a call for three bytes gives these, or fails where there are none here.
-fn takes(source: &mut MemSource, wanted: Option<&[u8]>) -> bool {
-    let mut piece = [0; 3];
-    match source.take(&mut piece) {
-        Ok(count) => piece.get(..count) == wanted,
-        Err(_) => wanted.is_none(),
+/// A call for three bytes gives these, or fails where there are none here.
+struct Takes(Option<&'static [u8]>);
+
+impl Step<MemSource> for Takes {
+    fn goes(&self, on: &mut MemSource) -> bool {
+        let mut piece = [0; 3];
+        match on.take(&mut piece) {
+            Ok(count) => piece.get(..count) == self.0,
+            Err(_) => self.0.is_none(),
+        }
     }
 }
 
-const TAKEN: &[Option<&[u8]>] = &[Some(b"hel"), None, Some(b"lo"), Some(b"")];
+const TAKEN: &[Takes] = &[
+    Takes(Some(b"hel")),
+    Takes(None),
+    Takes(Some(b"lo")),
+    Takes(Some(b"")),
+];
 
 #[test]
 fn a_source_in_memory_gives_its_bytes(rt: HostRuntime) -> Result<(), Fail> {
-    let mut source = new_source(rt.alloc())?;
-    for wanted in TAKEN {
-        assert!(rt; takes(&mut source, *wanted));
-    }
+    go_each(&rt, &mut new_source(rt.alloc())?, TAKEN);
     Ok(())
 }
 
@@ -250,26 +252,27 @@ fn new_sink(alloc: Global) -> Result<MemSink, Fail> {
     Ok(MemSink::new(alloc, 6, vec![in alloc; 3]?)?)
 }
 
-/// Tells whether a sink takes a piece.
-fn puts(sink: &mut MemSink, piece: &[u8]) -> bool {
-    sink.put(piece).is_ok()
+/// A piece, and whether it is taken.
+struct Puts(&'static [u8], bool);
+
+impl Step<MemSink> for Puts {
+    fn goes(&self, on: &mut MemSink) -> bool {
+        on.put(self.0).is_ok() == self.1
+    }
 }
 
-/// Pieces, and whether each is taken.
-const PIECES: &[(&[u8], bool)] = &[
-    (b"hel", true),
-    (b"lo", true),
-    (b"!", false),
-    (b"..", false),
-    (b"!", true),
+const PIECES: &[Puts] = &[
+    Puts(b"hel", true),
+    Puts(b"lo", true),
+    Puts(b"!", false),
+    Puts(b"..", false),
+    Puts(b"!", true),
 ];
 
 #[test]
 fn a_sink_in_memory_takes_the_bytes_that_it_has_room_for(rt: HostRuntime) -> Result<(), Fail> {
     let mut sink = new_sink(rt.alloc())?;
-    for (piece, taken) in PIECES {
-        assert!(rt; puts(&mut sink, piece) == *taken);
-    }
+    go_each(&rt, &mut sink, PIECES);
     assert!(rt; sink.bytes() == b"hello!".as_slice());
     Ok(())
 }

@@ -1,6 +1,7 @@
 //! Pages that are broken byte by byte, and the field that is told then.
 
 use super::bytes::put_byte;
+use super::steps::{Step, go_each};
 use mg_base::{Damaged, Field, PageNo};
 use mg_pip::check_pip;
 use mg_pointer::check_pointer;
@@ -16,7 +17,7 @@ pub enum Kind {
 }
 
 /// A byte that is put at a place; then the field that is told, and the numbers found and wanted.
-pub type Broken = (usize, u8, Field, u64, u64);
+pub struct Broken(pub usize, pub u8, pub Field, pub u64, pub u64);
 
 /// The number of the page of a kind.
 pub fn number_of(kind: Kind) -> PageNo {
@@ -52,14 +53,15 @@ fn is_damaged(kind: Kind, page: &[u8; 1024], field: Field, found: u64, wanted: u
     check(kind, page) == Err(damage)
 }
 
+impl Step<(Kind, [u8; 1024])> for Broken {
+    fn goes(&self, on: &mut (Kind, [u8; 1024])) -> bool {
+        put_byte(&mut on.1, self.0, self.1);
+        is_damaged(on.0, &on.1, self.2, self.3, self.4)
+    }
+}
+
 /// Wants a page to be damaged as each row says, with the bytes of the rows before it in it. So the
 /// rows go from the last field to the first, and each stands before those that differ already.
-pub fn tells_each(rt: &impl Abort, kind: Kind, page: &mut [u8; 1024], rows: &[Broken]) {
-    for (at, byte, field, found, wanted) in rows {
-        put_byte(page, *at, *byte);
-        assert!(rt;
-            is_damaged(kind, page, *field, *found, *wanted),
-            "byte {at}"
-        );
-    }
+pub fn tells_each(rt: &impl Abort, kind: Kind, page: [u8; 1024], rows: &[Broken]) {
+    go_each(rt, &mut (kind, page), rows);
 }

@@ -6,12 +6,12 @@ ghost use Rattle.mg_format.specs.Format.{IsClean};
 ghost use Rattle.mg_space.specs.Taking.{IsGeometry};
 
 use super::bytes::has_bytes;
+use super::steps::{Step, go_each};
 use mg_base::{Disk, Geometry, MemDisk, Memory, PageNo};
 use mg_format::format_database;
 use mg_pool::Pool;
 use mg_space::Store;
 use std::alloc::Global;
-use std::process::Abort;
 use std::test::Fail;
 
 /// A store over a disk with pages of 4096 bytes.
@@ -55,18 +55,21 @@ fn bytes_of<D: Disk>(disk: &mut D, page: u32) -> Option<[u8; 4096]> {
     Some(bytes)
 }
 
-/// Tells whether a page of a disk has these bytes from a place on.
-fn has_page_bytes<D: Disk>(disk: &mut D, page: u32, at: usize, wanted: &[u8]) -> bool {
-    match bytes_of(disk, page) {
-        Some(bytes) => has_bytes(&bytes, at, wanted),
-        None => false,
+/// A page, a place of it, and the bytes that stand there in a new database: on the header from the
+/// magic number on, on the page inventory page, and on the data page of the catalog.
+struct First(u32, usize, &'static [u8]);
+
+impl<D: Disk> Step<D> for First {
+    fn goes(&self, on: &mut D) -> bool {
+        match bytes_of(on, self.0) {
+            Some(bytes) => has_bytes(&bytes, self.1, self.2),
+            None => false,
+        }
     }
 }
 
-/// A page, a place of it, and the bytes that stand there in a new database: on the header from the
-/// magic number on, on the page inventory page, and on the data page of the catalog.
-const FIRST_BYTES: &[(u32, usize, &[u8])] = &[
-    (
+const FIRST_BYTES: &[First] = &[
+    First(
         0,
         16,
         &[
@@ -74,21 +77,14 @@ const FIRST_BYTES: &[(u32, usize, &[u8])] = &[
             1, 0, 0, 0, 2, 0, 0, 0, 0x20, 0x4e, 0, 0, 3, 0, 0, 0,
         ],
     ),
-    (1, 16, &[0x7f, 0]),
-    (4, 16, &[6, 0, 0x82, 0x0f, 0xf5, 0x0f, 11, 0]),
+    First(1, 16, &[0x7f, 0]),
+    First(4, 16, &[6, 0, 0x82, 0x0f, 0xf5, 0x0f, 11, 0]),
 ];
-
-/// Wants a disk to have the bytes of each row.
-fn has_each<D: Disk>(rt: &impl Abort, disk: &mut D, rows: &[(u32, usize, &[u8])]) {
-    for (page, at, wanted) in rows {
-        assert!(rt; has_page_bytes(disk, *page, *at, wanted), "page {page}");
-    }
-}
 
 #[test]
 fn a_new_database_has_its_header_last(rt: HostRuntime) -> Result<(), Fail> {
     let mut disk = new_database(rt.alloc())?;
     assert!(rt; disk.writes() == 7);
-    has_each(&rt, &mut disk, FIRST_BYTES);
+    go_each(&rt, &mut disk, FIRST_BYTES);
     Ok(())
 }

@@ -2,6 +2,7 @@
 
 use super::bytes::{has_bytes, is_zero_from, put_byte};
 use super::cases::{Case, hold_each};
+use super::steps::{Step, go_each};
 use mg_base::{Damaged, Field, PageNo, TxNo, new_common};
 use mg_header::{HEADER_KIND, HeadFault, Header, open_header, read_header, write_header};
 use std::alloc::Global;
@@ -117,25 +118,30 @@ fn a_number_out_of_order_is_named_with_the_nearest_lawful_one(rt: HostRuntime) -
 /// A byte that is put at a place; then the field that is told, and the numbers found and wanted:
 /// none is wanted of a file that is no database. From the last field of a database to the first, and
 /// then so of what tells a database, so that each stands before those that differ already.
-const BROKEN: &[(usize, u8, Field, u64, Option<u64>)] = &[
-    (28, 0, Field::Next, 0, Some(1)),
-    (12, 1, Field::Sequence, 1, Some(0)),
-    (8, 1, Field::Owner, 1, Some(0)),
-    (4, 1, Field::Own, 1, Some(0)),
-    (3, 1, Field::Zero, 256, Some(0)),
-    (1, 1, Field::Flags, 1, Some(0)),
-    (0, 2, Field::Kind, 2, Some(1)),
-    (25, 8, Field::PageSize, 2048, None),
-    (22, 2, Field::Minor, 2, None),
-    (20, 2, Field::Major, 2, None),
-    (16, 0, Field::Magic, 0x4244_4700, None),
+struct Broken(usize, u8, Field, u64, Option<u64>);
+
+impl Step<[u8; 1024]> for Broken {
+    fn goes(&self, on: &mut [u8; 1024]) -> bool {
+        put_byte(on, self.0, self.1);
+        is_refused(on, self.2, self.3, self.4)
+    }
+}
+
+const BROKEN: &[Broken] = &[
+    Broken(28, 0, Field::Next, 0, Some(1)),
+    Broken(12, 1, Field::Sequence, 1, Some(0)),
+    Broken(8, 1, Field::Owner, 1, Some(0)),
+    Broken(4, 1, Field::Own, 1, Some(0)),
+    Broken(3, 1, Field::Zero, 256, Some(0)),
+    Broken(1, 1, Field::Flags, 1, Some(0)),
+    Broken(0, 2, Field::Kind, 2, Some(1)),
+    Broken(25, 8, Field::PageSize, 2048, None),
+    Broken(22, 2, Field::Minor, 2, None),
+    Broken(20, 2, Field::Major, 2, None),
+    Broken(16, 0, Field::Magic, 0x4244_4700, None),
 ];
 
 #[test]
 fn the_first_field_that_differs_is_named(rt: HostRuntime) {
-    let mut page = page_of(&header(0, (1, 1, 1, 1)));
-    for (at, byte, field, found, wanted) in BROKEN {
-        put_byte(&mut page, *at, *byte);
-        assert!(rt; is_refused(&page, *field, *found, *wanted), "byte {at}");
-    }
+    go_each(&rt, &mut page_of(&header(0, (1, 1, 1, 1))), BROKEN);
 }

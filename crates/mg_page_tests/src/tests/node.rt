@@ -139,7 +139,7 @@ impl Case for Judged {
     }
 }
 
-const UNLAWFUL: &[Judged] = &[
+const JUDGED: &[Judged] = &[
     // The end is not the last entry's.
     Judged(&[0, 0, 0, 0, 0, 0, 0, 0, 29, 0, 0, 0], false),
     // Two equal entries.
@@ -185,18 +185,13 @@ const UNLAWFUL: &[Judged] = &[
     Judged(&[0, 0, 1, 0, 0, 0, 0, 0, 165, 0, 0, 0, 129, 0], false),
     // More entries than there is room for.
     Judged(&[0, 0, 255, 255, 0, 0, 0, 0, 36, 0, 0, 0], false),
+    // The longest key has an eighth of the page.
+    Judged(&[0, 0, 1, 0, 0, 0, 0, 0, 164, 0, 0, 0, 128, 0], true),
 ];
 
 #[test]
-fn what_no_lawful_page_says(rt: HostRuntime) -> Result<(), Fail> {
-    hold_each(&rt, rt.alloc(), UNLAWFUL)
-}
-
-const LONGEST: &[Judged] = &[Judged(&[0, 0, 1, 0, 0, 0, 0, 0, 164, 0, 0, 0, 128, 0], true)];
-
-#[test]
-fn the_longest_key_has_an_eighth_of_the_page(rt: HostRuntime) -> Result<(), Fail> {
-    hold_each(&rt, rt.alloc(), LONGEST)
+fn what_no_lawful_page_says_and_the_longest_key(rt: HostRuntime) -> Result<(), Fail> {
+    hold_each(&rt, rt.alloc(), JUDGED)
 }
 
 // What the test of page 9 of an owner answers, where these bytes stand behind the common part.

@@ -2,9 +2,9 @@
 
 use super::broken::{Broken, Kind, is_lawful, number_of, tells_each};
 use super::bytes::{has_bytes, used_from};
+use super::steps::{Step, go_each};
 use mg_base::Field;
 use mg_pip::{first_free, is_used, new_pip, set_used};
-use std::process::Abort;
 
 /// How many bits a page of 1024 bytes has.
 const BITS: u32 = 8064;
@@ -17,7 +17,6 @@ fn new_page() -> [u8; 1024] {
 }
 
 /// A call on a page, and what it does.
-#[derive(Clone, Copy)]
 enum Call {
     /// A bit is set or cleared; the byte that then stands at a place.
     Put(u32, bool, usize, u8),
@@ -53,23 +52,20 @@ fn is_first(page: &[u8; 1024], below: u32, first: Option<u32>) -> bool {
     below <= BITS && first_free(page, below) == first
 }
 
-/// Makes a call, and tells whether it does what it should.
-fn does(page: &mut [u8; 1024], call: Call) -> bool {
-    match call {
-        Call::Put(bit, used, at, byte) => put(page, bit, used) && has_bytes(page, at, &[byte]),
-        Call::Front(count) => put_front(page, count),
-        Call::Fill => {
-            page[16..].fill(0xff);
-            true
-        }
-        Call::First(below, first) => is_first(page, below, first),
-    }
+/// Sets all bits.
+fn fill(page: &mut [u8; 1024]) -> bool {
+    page[16..].fill(0xff);
+    true
 }
 
-/// Wants each call to do so, one after another.
-fn does_each(rt: &impl Abort, page: &mut [u8; 1024], calls: &[Call]) {
-    for (place, call) in calls.iter().enumerate() {
-        assert!(rt; does(page, *call), "call {place}");
+impl Step<[u8; 1024]> for Call {
+    fn goes(&self, on: &mut [u8; 1024]) -> bool {
+        match *self {
+            Call::Put(bit, used, at, byte) => put(on, bit, used) && has_bytes(on, at, &[byte]),
+            Call::Front(count) => put_front(on, count),
+            Call::Fill => fill(on),
+            Call::First(below, first) => is_first(on, below, first),
+        }
     }
 }
 
@@ -85,7 +81,7 @@ const ALONE: &[Call] = &[
 #[test]
 fn a_bit_is_set_and_cleared_alone(rt: HostRuntime) {
     let mut page = new_page();
-    does_each(&rt, &mut page, ALONE);
+    go_each(&rt, &mut page, ALONE);
     assert!(rt; used_from(&page, 16) == 3, "bytes with a used bit");
     assert!(rt; is_lawful(Kind::Inventory, &page));
 }
@@ -108,19 +104,19 @@ const FIRST: &[Call] = &[
 
 #[test]
 fn the_first_free_bit_is_the_least_clear_one(rt: HostRuntime) {
-    does_each(&rt, &mut new_page(), FIRST);
+    go_each(&rt, &mut new_page(), FIRST);
 }
 
 const BROKEN: &[Broken] = &[
-    (12, 9, Field::Sequence, 9, 0),
-    (8, 3, Field::Owner, 3, 0),
-    (5, 1, Field::Own, 257, 1),
-    (2, 1, Field::Zero, 1, 0),
-    (1, 1, Field::Flags, 1, 0),
-    (0, 3, Field::Kind, 3, 2),
+    Broken(12, 9, Field::Sequence, 9, 0),
+    Broken(8, 3, Field::Owner, 3, 0),
+    Broken(5, 1, Field::Own, 257, 1),
+    Broken(2, 1, Field::Zero, 1, 0),
+    Broken(1, 1, Field::Flags, 1, 0),
+    Broken(0, 3, Field::Kind, 3, 2),
 ];
 
 #[test]
 fn the_first_field_that_differs_is_named(rt: HostRuntime) {
-    tells_each(&rt, Kind::Inventory, &mut new_page(), BROKEN);
+    tells_each(&rt, Kind::Inventory, new_page(), BROKEN);
 }

@@ -77,17 +77,17 @@ fn the_next_page_stands_beside_the_entries(rt: HostRuntime) {
 }
 
 const BROKEN: &[Broken] = &[
-    (23, 1, Field::Zero, 256, 0),
-    (20, 251, Field::Count, 251, 250),
-    (12, 0, Field::Sequence, 0, 1),
-    (8, 4, Field::Owner, 4, 3),
-    (4, 5, Field::Own, 5, 4),
-    (2, 1, Field::Zero, 1, 0),
-    (1, 1, Field::Flags, 1, 0),
-    (0, 5, Field::Kind, 5, 4),
+    Broken(23, 1, Field::Zero, 256, 0),
+    Broken(20, 251, Field::Count, 251, 250),
+    Broken(12, 0, Field::Sequence, 0, 1),
+    Broken(8, 4, Field::Owner, 4, 3),
+    Broken(4, 5, Field::Own, 5, 4),
+    Broken(2, 1, Field::Zero, 1, 0),
+    Broken(1, 1, Field::Flags, 1, 0),
+    Broken(0, 5, Field::Kind, 5, 4),
 ];
 
 #[test]
 fn the_first_field_that_differs_is_named(rt: HostRuntime) {
-    tells_each(&rt, Kind::Pointers, &mut new_page(), BROKEN);
+    tells_each(&rt, Kind::Pointers, new_page(), BROKEN);
 }

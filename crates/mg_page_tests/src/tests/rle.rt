@@ -2,6 +2,7 @@
 
 use super::appended::{begun, is_appended};
 use super::cases::{Case, hold_each};
+use super::printing::Printed;
 use mg_rle::{RunFault, pack, unpack};
 use std::alloc::Global;
 use std::test::Fail;
@@ -78,7 +79,8 @@ impl Case for Packed {
     }
 }
 
-const VECTORS: &[Packed] = &[
+const PACKED: &[Packed] = &[
+    // The vectors of the format:
     // The row K = 1, V = 10 of a table of two numbers.
     Packed(
         Text::Bytes(&[0, 1, 0, 0, 0, 0, 0, 0, 0, 10, 0, 0, 0, 0, 0, 0, 0]),
@@ -89,15 +91,8 @@ const VECTORS: &[Packed] = &[
         Text::Equal(0x61, 130),
         Text::Bytes(&[0x80, 0x61, 2, 0x61, 0x61]),
     ),
-];
 
-#[test]
-fn the_vectors_of_the_format_pack_and_unpack(rt: HostRuntime) -> Result<(), Fail> {
-    hold_each(&rt, rt.alloc(), VECTORS)
-}
-
-/// Bytes 5, and what they are packed to.
-const FIVES: &[Packed] = &[
+    // Bytes 5, in repeats and literals of these sizes:
     Packed(Text::Equal(5, 1), Text::Bytes(&[1, 5])),
     Packed(Text::Equal(5, 2), Text::Bytes(&[2, 5, 5])),
     Packed(Text::Equal(5, 3), Text::Bytes(&[253, 5])),
@@ -106,14 +101,8 @@ const FIVES: &[Packed] = &[
     Packed(Text::Equal(5, 129), Text::Bytes(&[128, 5, 1, 5])),
     Packed(Text::Equal(5, 131), Text::Bytes(&[128, 5, 253, 5])),
     Packed(Text::Equal(5, 256), Text::Bytes(&[128, 5, 128, 5])),
-];
 
-#[test]
-fn equal_bytes_pack_to_repeats_and_literals_of_these_sizes(rt: HostRuntime) -> Result<(), Fail> {
-    hold_each(&rt, rt.alloc(), FIVES)
-}
-
-const LITERALS: &[Packed] = &[
+    // A literal ends at 127 bytes, or before three equal ones:
     Packed(Text::Alternating(127), Text::Full(&[])),
     Packed(Text::Alternating(128), Text::Full(&[1, 1])),
     // Two equal bytes stay in the literal, three leave it.
@@ -125,8 +114,8 @@ const LITERALS: &[Packed] = &[
 ];
 
 #[test]
-fn a_literal_ends_at_127_bytes_or_before_three_equal_ones(rt: HostRuntime) -> Result<(), Fail> {
-    hold_each(&rt, rt.alloc(), LITERALS)
+fn texts_pack_and_unpack(rt: HostRuntime) -> Result<(), Fail> {
+    hold_each(&rt, rt.alloc(), PACKED)
 }
 
 /// Tells whether a text is refused at a place, with the output as before.
@@ -161,6 +150,9 @@ const REFUSED: &[Refused] = &[
     // A repeat that could go on before its byte.
     Refused(Text::Bytes(&[253, 5, 1, 5]), 2),
     Refused(Text::Bytes(&[253, 5, 253, 5]), 2),
+    // A full literal ends in 0; the next one goes on with two more, or with one before a repeat.
+    Refused(Text::Full(&[3, 0, 0, 1]), 128),
+    Refused(Text::Full(&[1, 0, 253, 0]), 130),
 ];
 
 #[test]
@@ -170,21 +162,18 @@ fn other_texts_are_refused_at_the_first_run_that_breaks_the_rule(
     hold_each(&rt, rt.alloc(), REFUSED)
 }
 
-/// The literal ends in 0; the next one goes on with two more, or with one before a repeat.
-const BEHIND_FULL: &[Refused] = &[
-    Refused(Text::Full(&[3, 0, 0, 1]), 128),
-    Refused(Text::Full(&[1, 0, 253, 0]), 130),
+const PRINTED: &[Printed<RunFault>] = &[
+    Printed {
+        fault: RunFault::BadRun { at: 3 },
+        words: "BAD RUN AT 3",
+    },
+    Printed {
+        fault: RunFault::Memory,
+        words: "OUT OF MEMORY",
+    },
 ];
 
 #[test]
-fn three_equal_bytes_may_not_begin_in_a_full_literal(rt: HostRuntime) -> Result<(), Fail> {
-    hold_each(&rt, rt.alloc(), BEHIND_FULL)
-}
-
-#[test]
 fn faults_print_their_words(rt: HostRuntime) -> Result<(), Fail> {
-    let bad = RunFault::BadRun { at: 3 };
-    let text = format!(in rt.alloc(); "{bad}, {}", RunFault::Memory)?;
-    assert_eq!(rt; text.as_str(), "BAD RUN AT 3, OUT OF MEMORY");
-    Ok(())
+    hold_each(&rt, rt.alloc(), PRINTED)
 }

@@ -2,6 +2,7 @@
 
 use super::appended::{begun, is_appended};
 use super::cases::{Case, hold_each};
+use super::printing::Printed;
 use super::values::{Said, Told, row_of, shape_of};
 use mg_rowcode::{RowFault, decode_row, encode_row};
 use mg_value::{Kind, MOST_COLUMNS, Row, Shape, print, row_fits};
@@ -71,7 +72,8 @@ impl Case for Stored {
     }
 }
 
-const VECTORS: &[Stored] = &[
+const STORED: &[Stored] = &[
+    // The vector of the format is a row of KV.
     Stored(
         KV,
         1,
@@ -85,32 +87,20 @@ const VECTORS: &[Stored] = &[
         &[Said::Int(-1), Said::Null],
         &[1, 2, 0xf8, 0xff, 0xf8, 0],
     ),
+    // A text has its length before it and zeros behind it: 00 | 02 00 61 62 00 | eight zeros.
+    Stored(
+        TEXTS,
+        2,
+        &[Said::Text(b"ab"), Said::Int(0)],
+        &[5, 0, 2, 0, 0x61, 0x62, 0xf7, 0],
+    ),
+    // Nine columns have two bytes of bits: ff 01 | 72 zeros.
+    Stored(NINE, 1, &[Said::Null; 9], &[2, 0xff, 1, 0xb8, 0]),
 ];
 
 #[test]
-fn the_vector_of_the_format_is_a_row_of_kv(rt: HostRuntime) -> Result<(), Fail> {
-    hold_each(&rt, rt.alloc(), VECTORS)
-}
-
-/// 00 | 02 00 61 62 00 | eight zeros
-const TEXT: &[Stored] = &[Stored(
-    TEXTS,
-    2,
-    &[Said::Text(b"ab"), Said::Int(0)],
-    &[5, 0, 2, 0, 0x61, 0x62, 0xf7, 0],
-)];
-
-#[test]
-fn a_text_has_its_length_before_it_and_zeros_behind_it(rt: HostRuntime) -> Result<(), Fail> {
-    hold_each(&rt, rt.alloc(), TEXT)
-}
-
-/// ff 01 | 72 zeros
-const NULLS: &[Stored] = &[Stored(NINE, 1, &[Said::Null; 9], &[2, 0xff, 1, 0xb8, 0])];
-
-#[test]
-fn nine_columns_have_two_bytes_of_bits(rt: HostRuntime) -> Result<(), Fail> {
-    hold_each(&rt, rt.alloc(), NULLS)
+fn rows_are_stored_as_their_bytes(rt: HostRuntime) -> Result<(), Fail> {
+    hold_each(&rt, rt.alloc(), STORED)
 }
 
 /// Bytes of the table of texts in a format, and what the row that they are read as prints.
@@ -168,11 +158,22 @@ fn other_bytes_are_refused_where_no_row_goes_on_as_they_do(rt: HostRuntime) -> R
     hold_each(&rt, rt.alloc(), REFUSED)
 }
 
+const PRINTED: &[Printed<RowFault>] = &[
+    Printed {
+        fault: RowFault::BadRun { at: 3 },
+        words: "BAD RUN AT 3",
+    },
+    Printed {
+        fault: RowFault::BadRow { at: 4 },
+        words: "BAD ROW AT 4",
+    },
+    Printed {
+        fault: RowFault::Memory,
+        words: "OUT OF MEMORY",
+    },
+];
+
 #[test]
 fn faults_print_their_words(rt: HostRuntime) -> Result<(), Fail> {
-    let run = RowFault::BadRun { at: 3 };
-    let row = RowFault::BadRow { at: 4 };
-    let text = format!(in rt.alloc(); "{run}, {row}, {}", RowFault::Memory)?;
-    assert_eq!(rt; text.as_str(), "BAD RUN AT 3, BAD ROW AT 4, OUT OF MEMORY");
-    Ok(())
+    hold_each(&rt, rt.alloc(), PRINTED)
 }

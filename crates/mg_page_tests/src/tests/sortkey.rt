@@ -25,7 +25,8 @@ impl Case for Keyed {
     }
 }
 
-const NUMBERS: &[Keyed] = &[
+const KEYED: &[Keyed] = &[
+    // A number is highest byte first, with its sign bit turned over.
     Keyed(Said::Int(0), &[1, 0x80, 0, 0, 0, 0, 0, 0, 0]),
     Keyed(Said::Int(1), &[1, 0x80, 0, 0, 0, 0, 0, 0, 1]),
     Keyed(Said::Int(-1), &[1, 0x7f, 255, 255, 255, 255, 255, 255, 255]),
@@ -34,34 +35,20 @@ const NUMBERS: &[Keyed] = &[
         &[1, 255, 255, 255, 255, 255, 255, 255, 255],
     ),
     Keyed(Said::Int(i64::MIN), &[1, 0, 0, 0, 0, 0, 0, 0, 0]),
-];
-
-#[test]
-fn a_number_is_highest_byte_first_with_its_sign_bit_turned_over(
-    rt: HostRuntime,
-) -> Result<(), Fail> {
-    hold_each(&rt, rt.alloc(), NUMBERS)
-}
-
-const TEXTS: &[Keyed] = &[
+    // A text has its zero bytes marked, and two zero bytes behind it.
     Keyed(Said::Text(b"ab"), &[2, b'a', b'b', 0, 0]),
     Keyed(Said::Text(b""), &[2, 0, 0]),
     Keyed(
         Said::Text(b"a\0b\0"),
         &[2, b'a', 0, 255, b'b', 0, 255, 0, 0],
     ),
+    // NULL is one byte.
+    Keyed(Said::Null, &[0]),
 ];
 
 #[test]
-fn a_text_has_its_zero_bytes_marked_and_two_zero_bytes_behind_it(
-    rt: HostRuntime,
-) -> Result<(), Fail> {
-    hold_each(&rt, rt.alloc(), TEXTS)
-}
-
-#[test]
 fn a_key_comes_behind_what_stands_there(rt: HostRuntime) -> Result<(), Fail> {
-    hold_each(&rt, rt.alloc(), &[Keyed(Said::Null, &[0])])
+    hold_each(&rt, rt.alloc(), KEYED)
 }
 
 /// A kind of column, and how long its keys are at most.

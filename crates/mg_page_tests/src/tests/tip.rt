@@ -3,6 +3,7 @@
 use super::broken::{Broken, Kind, number_of, tells_each};
 use super::bytes::{has_bytes, used_from};
 use super::cases::{Case, hold_each};
+use super::steps::{Step, go_each};
 use mg_base::{Field, PageNo, TxState};
 use mg_tip::{check_tip, new_tip, prev_of, set_state, state_at};
 use std::alloc::Global;
@@ -28,23 +29,28 @@ fn put(page: &mut [u8; 1024], place: u32, state: TxState) -> bool {
 }
 
 /// A state that is set at a place, and the byte that then stands at a place of the page.
-const STEPS: &[(u32, TxState, usize, u8)] = &[
-    (0, TxState::Committed, 20, 0x03),
-    (1, TxState::Committed, 20, 0x0f),
-    (2, TxState::Dead, 20, 0x2f),
-    (3, TxState::Limbo, 20, 0x6f),
-    (1, TxState::Active, 20, 0x63),
-    (4, TxState::Committed, 21, 0x03),
-    (4015, TxState::Committed, 1023, 0xc0),
+struct Puts(u32, TxState, usize, u8);
+
+impl Step<[u8; 1024]> for Puts {
+    fn goes(&self, on: &mut [u8; 1024]) -> bool {
+        put(on, self.0, self.1) && has_bytes(on, self.2, &[self.3])
+    }
+}
+
+const STEPS: &[Puts] = &[
+    Puts(0, TxState::Committed, 20, 0x03),
+    Puts(1, TxState::Committed, 20, 0x0f),
+    Puts(2, TxState::Dead, 20, 0x2f),
+    Puts(3, TxState::Limbo, 20, 0x6f),
+    Puts(1, TxState::Active, 20, 0x63),
+    Puts(4, TxState::Committed, 21, 0x03),
+    Puts(4015, TxState::Committed, 1023, 0xc0),
 ];
 
 #[test]
 fn a_commit_sets_its_two_bits_and_no_other(rt: HostRuntime) {
     let mut page = new_page();
-    for (place, state, at, byte) in STEPS {
-        let done = put(&mut page, *place, *state) && has_bytes(&page, *at, &[*byte]);
-        assert!(rt; done, "place {place}");
-    }
+    go_each(&rt, &mut page, STEPS);
     assert!(rt;
         used_from(&page, 20) == 3,
         "bytes with a state other than Active"
@@ -77,16 +83,16 @@ fn a_new_page_passes_and_names_the_page_before_it(rt: HostRuntime) -> Result<(),
 }
 
 const BROKEN: &[Broken] = &[
-    (17, 1, Field::Link, 256, 0),
-    (12, 9, Field::Sequence, 9, 0),
-    (8, 3, Field::Owner, 3, 0),
-    (4, 7, Field::Own, 7, 2),
-    (3, 1, Field::Zero, 256, 0),
-    (1, 1, Field::Flags, 1, 0),
-    (0, 2, Field::Kind, 2, 3),
+    Broken(17, 1, Field::Link, 256, 0),
+    Broken(12, 9, Field::Sequence, 9, 0),
+    Broken(8, 3, Field::Owner, 3, 0),
+    Broken(4, 7, Field::Own, 7, 2),
+    Broken(3, 1, Field::Zero, 256, 0),
+    Broken(1, 1, Field::Flags, 1, 0),
+    Broken(0, 2, Field::Kind, 2, 3),
 ];
 
 #[test]
 fn the_first_field_that_differs_is_named(rt: HostRuntime) {
-    tells_each(&rt, Kind::Transactions, &mut new_page(), BROKEN);
+    tells_each(&rt, Kind::Transactions, new_page(), BROKEN);
 }

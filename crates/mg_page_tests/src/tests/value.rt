@@ -2,6 +2,7 @@
 
 use super::appended::{begun, is_appended};
 use super::cases::{Case, hold_each};
+use super::printing::Printed;
 use super::values::{Said, Told, row_of, shape_of, value_of, values_of};
 use mg_value::{
     Key, Kind, MOST_COLUMNS, Name, Row, Shape, Txt, Value, ValueFault, compare, order, print,
@@ -12,7 +13,7 @@ use std::cmp::Ordering;
 use std::test::Fail;
 
 /// A value, and what it prints.
-struct Printed(Said, &'static [u8]);
+struct Written(Said, &'static [u8]);
 
 /// Tells whether a value prints so, behind a byte that is there before.
 fn prints(alloc: Global, value: &Value, printed: &[u8]) -> Result<bool, Fail> {
@@ -21,27 +22,27 @@ fn prints(alloc: Global, value: &Value, printed: &[u8]) -> Result<bool, Fail> {
     Ok(is_appended(&out, printed))
 }
 
-impl Case for Printed {
+impl Case for Written {
     fn holds(&self, alloc: Global) -> Result<bool, Fail> {
         let value = value_of(alloc, self.0)?;
         prints(alloc, &value, self.1)
     }
 }
 
-const PRINTED: &[Printed] = &[
-    Printed(Said::Null, b"NULL"),
-    Printed(Said::Int(0), b"0"),
-    Printed(Said::Int(-10), b"-10"),
-    Printed(Said::Int(i64::MIN), b"-9223372036854775808"),
-    Printed(Said::Int(i64::MAX), b"9223372036854775807"),
-    Printed(Said::Text(b""), b"''"),
-    Printed(Said::Text(b"it's"), b"'it''s'"),
-    Printed(Said::Text(b"''"), b"''''''"),
+const WRITTEN: &[Written] = &[
+    Written(Said::Null, b"NULL"),
+    Written(Said::Int(0), b"0"),
+    Written(Said::Int(-10), b"-10"),
+    Written(Said::Int(i64::MIN), b"-9223372036854775808"),
+    Written(Said::Int(i64::MAX), b"9223372036854775807"),
+    Written(Said::Text(b""), b"''"),
+    Written(Said::Text(b"it's"), b"'it''s'"),
+    Written(Said::Text(b"''"), b"''''''"),
 ];
 
 #[test]
 fn values_print_as_digits_as_null_or_in_quotes(rt: HostRuntime) -> Result<(), Fail> {
-    hold_each(&rt, rt.alloc(), PRINTED)
+    hold_each(&rt, rt.alloc(), WRITTEN)
 }
 
 /// Values in their order.
@@ -126,12 +127,20 @@ fn a_text_has_at_most_as_many_bytes_as_its_column_takes(rt: HostRuntime) -> Resu
     hold_each(&rt, rt.alloc(), TAKEN)
 }
 
+const PRINTED: &[Printed<ValueFault>] = &[
+    Printed {
+        fault: ValueFault::TextTooLong { len: 4 },
+        words: "TEXT TOO LONG 4",
+    },
+    Printed {
+        fault: ValueFault::Memory,
+        words: "OUT OF MEMORY",
+    },
+];
+
 #[test]
 fn faults_print_their_words(rt: HostRuntime) -> Result<(), Fail> {
-    let fault = ValueFault::TextTooLong { len: 4 };
-    let words = format!(in rt.alloc(); "{fault}, {}", ValueFault::Memory)?;
-    assert_eq!(rt; words.as_str(), "TEXT TOO LONG 4, OUT OF MEMORY");
-    Ok(())
+    hold_each(&rt, rt.alloc(), PRINTED)
 }
 
 /// Bytes that are a name, which gives them back.
