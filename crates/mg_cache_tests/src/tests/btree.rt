@@ -6,6 +6,7 @@ ghost use Rattle.mg_pool.specs.Pool.{IsPool};
 ghost use Rattle.mg_space.specs.Taking.{IsGeometry};
 ghost use Rattle.mg_space.specs.View.{AreWhole};
 
+use super::calls::{Begins, Bench, run_each};
 use super::entries::entry_of;
 use super::stores::{has_bytes, store_over};
 use mg_base::{Damaged, Disk, FaultyDisk, Field, MemDisk, Memory, PageNo, new_common};
@@ -14,7 +15,6 @@ use mg_node::{Entry, NODE_KIND};
 use mg_pool::Batch;
 use mg_space::{SpaceFault, Store};
 use std::alloc::Global;
-use std::process::Abort;
 use std::test::Fail;
 
 /// The root, page 5 on level 1: the children 6 from the least entry on, and 7 from the key `m` on.
@@ -44,19 +44,19 @@ fn node_page(page: PageNo, content: &[u8]) -> [u8; 1024]
 }
 
 /// Writes an index page of the table 4 with these bytes behind its common part.
-fn write_node(disk: &mut MemDisk, page: PageNo, content: &[u8]) -> Result<(), Fail>
+fn write_node(disk: &mut MemDisk, page: PageNo, content: &[u8]) -> Result<(), Memory>
     requires size { ⟦<MemDisk as Disk>⟧.meaning.size disk.old ≡ Some 1024 }
     requires content { length content.now ≤ 1000 }
     ensures size { ⟦<MemDisk as Disk>⟧.meaning.size disk.new ≡ Some 1024 }
 {
     match disk.write(page, &node_page(page, content)) {
         Ok(()) => Ok(()),
-        Err(_) => Err(Fail::from(Memory)),
+        Err(_) => Err(Memory),
     }
 }
 
 /// A disk with the tree of three pages, whose root has these bytes.
-fn disk_with(alloc: Global, root: &[u8]) -> Result<MemDisk, Fail>
+fn disk_with(alloc: Global, root: &[u8]) -> Result<MemDisk, Memory>
     requires root { length root.now ≤ 1000 }
     ensures size { IfOk result (λ disk. ⟦<MemDisk as Disk>⟧.meaning.size disk ≡ Some 1024) }
 {
@@ -68,14 +68,14 @@ fn disk_with(alloc: Global, root: &[u8]) -> Result<MemDisk, Fail>
 }
 
 /// A store over the tree of three pages, whose root has these bytes.
-fn store_with(alloc: Global, root: &[u8]) -> Result<Store<MemDisk>, Fail>
+fn store_with(alloc: Global, root: &[u8]) -> Result<Store<MemDisk>, Memory>
     requires root { length root.now ≤ 1000 }
     ensures pool { IfOk result (λ store. IsPool ⟦<MemDisk as Disk>⟧.meaning store) }
     ensures geometry { IfOk result (λ store. IsGeometry store.geometry) }
     ensures size { IfOk result (λ store. store.geometry.size ≡ 1024) }
 {
     let disk = disk_with(alloc, root)?;
-    Ok(store_over(alloc, disk, 16)?)
+    store_over(alloc, disk, 16)
 }
 
 /// The next entry of a range by its slot, 99 where there is none.
@@ -96,10 +96,7 @@ fn next_slot<D: Disk>(
 }
 
 /// An entry by the byte that is its key, and its slot of page 9.
-type Key = (u8, u16);
-
-/// Where a range begins, the entry that it goes on behind, and the slot of its next entry.
-type Range = (&'static [u8], Option<Key>, u16);
+pub type Key = (u8, u16);
 
 /// The next entry of a range by its slot, behind an entry that is told.
 fn slot_behind<D: Disk>(
@@ -119,25 +116,8 @@ fn slot_behind<D: Disk>(
     next_slot(store, low, Some(&entry))
 }
 
-const RANGES: &[Range] = &[
-    (b"", None, 0),
-    (b"b", None, 1),
-    (b"d", None, 2),
-    (b"y", None, 99),
-    (b"b", Some((b'c', 1)), 2),
-];
-
-#[test]
-fn a_range_goes_along_the_leaves(rt: HostRuntime) -> Result<(), Fail> {
-    let mut store = store_with(rt.alloc(), ROOT)?;
-    for (low, after, slot) in RANGES {
-        assert_eq!(rt; slot_behind(&mut store, low, *after), Ok(*slot));
-    }
-    Ok(())
-}
-
 /// The tree of three pages on a disk of which every call fails behind the first so many.
-fn failing_disk(alloc: Global, calls: u32) -> Result<FaultyDisk, Fail>
+fn failing_disk(alloc: Global, calls: u32) -> Result<FaultyDisk, Memory>
     requires few { calls ≤ 100 }
     ensures size { IfOk result (λ disk. ⟦<FaultyDisk as Disk>⟧.meaning.size disk ≡ Some 1024) }
 {
@@ -150,15 +130,38 @@ fn failing_disk(alloc: Global, calls: u32) -> Result<FaultyDisk, Fail>
 
 /// The first entry of a range by its slot, where every call of the disk fails behind the first so
 /// many; none where a page can't be read.
-fn slot_within(alloc: Global, calls: u32, low: &[u8]) -> Result<Option<u16>, Fail>
+fn slot_within(alloc: Global, calls: u32, low: &[u8]) -> Result<Option<u16>, Memory>
     requires few { calls ≤ 100 }
 {
     let mut store = store_over(alloc, failing_disk(alloc, calls)?, 16)?;
     Ok(next_slot(&mut store, low, None).ok())
 }
 
-/// How many calls of the disk are obeyed, where a range begins, and the slot of its first entry. A
-/// page that is read takes two calls: how many pages the disk has, and the page. The root and a
+/// Disks of which only the first calls are obeyed, each by itself.
+#[derive(Drop)]
+pub struct FewCalls;
+
+impl Bench for FewCalls {
+    /// How many calls of the disk are obeyed, where a range begins, and the slot of its first entry.
+    type Call = (u32, &'static [u8], Option<u16>);
+
+    ghost ready = { λ it. Unit {0} };
+
+    fn does(&mut self, alloc: Global, call: &(u32, &'static [u8], Option<u16>)) -> bool {
+        let (calls, low, slot) = *call;
+        slot_within(alloc, calls.min(100), low) == Ok(slot)
+    }
+}
+
+impl Begins for FewCalls {
+    type From = ();
+
+    fn begin(_alloc: Global, _from: ()) -> Result<FewCalls, Memory> {
+        Ok(FewCalls)
+    }
+}
+
+/// A page that is read takes two calls: how many pages the disk has, and the page. The root and a
 /// leaf are read; where the leaf has no such entry, its right neighbour comes besides.
 const READS: &[(u32, &[u8], Option<u16>)] = &[
     (4, b"b", Some(1)),
@@ -167,13 +170,15 @@ const READS: &[(u32, &[u8], Option<u16>)] = &[
     (5, b"d", None),
 ];
 
+const FEW_CALLS: &[(&str, (), &[(u32, &[u8], Option<u16>)])] = &[(
+    "a step reads a page a level",
+    (),
+    READS,
+)];
+
 #[test]
 fn a_step_reads_a_page_a_level(rt: HostRuntime) -> Result<(), Fail> {
-    for (calls, low, slot) in READS {
-        let found = slot_within(rt.alloc(), (*calls).min(100), low)?;
-        assert_eq!(rt; found, *slot, "{calls} calls");
-    }
-    Ok(())
+    run_each::<FewCalls>(&rt, rt.alloc(), FEW_CALLS)
 }
 
 /// How many leaves each of three steps of a walk reads, from the key `b` on.
@@ -184,6 +189,8 @@ fn leaves_passed(
 ) -> Result<(u32, u32, u32), SpaceFault>
     requires pool { IsPool ⟦<MemDisk as Disk>⟧.meaning store.old }
     requires geometry { IsGeometry store.old.geometry }
+    ensures pool { IsPool ⟦<MemDisk as Disk>⟧.meaning store.new }
+    ensures geometry { store.new.geometry ≡ store.old.geometry }
 {
     let walk = walk_from(store, PageNo(5), b"b")?;
     let one = walk_on(store, walk, b"b", None)?;
@@ -192,14 +199,16 @@ fn leaves_passed(
     Ok((one.passed, two.passed, three.passed))
 }
 
-#[test]
-fn a_walk_keeps_its_leaf(rt: HostRuntime) -> Result<(), Fail> {
-    let alloc = rt.alloc();
-    let mut store = store_with(alloc, ROOT)?;
-    let second = entry_of(alloc, 99, 1, 9, 1)?;
-    let third = entry_of(alloc, 120, 1, 9, 2)?;
-    assert_eq!(rt; leaves_passed(&mut store, &second, &third), Ok((0, 1, 0)));
-    Ok(())
+/// How many leaves each step of a walk reads, from the key `b` on over the keys `c` and `x`.
+fn passes(store: &mut Store<MemDisk>) -> Result<(u32, u32, u32), SpaceFault>
+    requires pool { IsPool ⟦<MemDisk as Disk>⟧.meaning store.old }
+    requires geometry { IsGeometry store.old.geometry }
+    ensures pool { IsPool ⟦<MemDisk as Disk>⟧.meaning store.new }
+    ensures geometry { store.new.geometry ≡ store.old.geometry }
+{
+    let second = entry_of(store.alloc(), b'c', 1, 9, 1)?;
+    let third = entry_of(store.alloc(), b'x', 1, 9, 2)?;
+    leaves_passed(store, &second, &third)
 }
 
 /// The tree whose root leads to itself.
@@ -208,25 +217,13 @@ const CIRCLE: &[u8] = &[
     0, 0, 7, 0, 0, 0,
 ];
 
-#[test]
-fn a_child_that_comes_back_is_refused(rt: HostRuntime) -> Result<(), Fail> {
-    let mut store = store_with(rt.alloc(), CIRCLE)?;
-    let damage = Damaged {
-        page: PageNo(5),
-        field: Field::Level,
-        found: 1,
-        wanted: 0,
-    };
-    assert_eq!(rt;
-        next_slot(&mut store, b"", None),
-        Err(SpaceFault::Damaged(damage))
-    );
-    Ok(())
-}
-
-/// A call on a tree in a batch, and what it answers.
+/// A call on a tree, or on it in a batch, and what it answers.
 #[derive(Clone, Copy)]
-enum Call {
+pub enum Call {
+    /// Where a range begins, the entry that it goes on behind, and the slot of its next entry.
+    Range(&'static [u8], Option<Key>, Result<u16, SpaceFault>),
+    /// How many leaves the steps of a walk read.
+    Walk(u32, u32, u32),
     /// The entry of a key of 120 such bytes is put in, of the slot of that number.
     Put(u8),
     /// The entry of the key `x` and this slot is taken out, where it is there.
@@ -293,53 +290,72 @@ fn take(store: &mut Store<MemDisk>, batch: &mut Batch, slot: u16) -> Result<bool
     take_entry(store, batch, &e)
 }
 
-/// Does what a call says, and tells whether it answers so.
-fn does(store: &mut Store<MemDisk>, batch: &mut Batch, call: Call) -> bool
-    requires pool { IsPool ⟦<MemDisk as Disk>⟧.meaning store.old }
-    requires geometry { IsGeometry store.old.geometry }
-    requires size { store.old.geometry.size ≡ 1024 }
-    requires whole { AreWhole 1024 batch.old.pages }
-    ensures pool { IsPool ⟦<MemDisk as Disk>⟧.meaning store.new }
-    ensures geometry { store.new.geometry ≡ store.old.geometry }
-    ensures whole { AreWhole 1024 batch.new.pages }
-{
-    match call {
-        Call::Put(key) => put(store, batch, key) == Ok(()),
-        Call::Take(slot, there) => take(store, batch, slot) == Ok(there),
-        Call::Absent(page) => batch.bytes(PageNo(page)).is_none(),
-        Call::Has(page, bytes) => has_bytes(batch, PageNo(page), 16, bytes),
+/// A tree, and a batch on it.
+#[derive(Drop)]
+pub struct Tree {
+    store: Store<MemDisk>,
+    batch: Batch,
+}
+
+impl Bench for Tree {
+    type Call = Call;
+
+    ghost ready = { λ it. IsPool ⟦<MemDisk as Disk>⟧.meaning it.store × IsGeometry it.store.geometry
+        × (it.store.geometry.size ≡ 1024) × AreWhole 1024 it.batch.pages };
+
+    fn does(&mut self, _alloc: Global, call: &Call) -> bool {
+        let store = &mut self.store;
+        let batch = &mut self.batch;
+        match *call {
+            Call::Range(low, after, slot) => slot_behind(store, low, after) == slot,
+            Call::Walk(one, two, three) => passes(store) == Ok((one, two, three)),
+            Call::Put(key) => put(store, batch, key) == Ok(()),
+            Call::Take(slot, there) => take(store, batch, slot) == Ok(there),
+            Call::Absent(page) => batch.bytes(PageNo(page)).is_none(),
+            Call::Has(page, bytes) => has_bytes(batch, PageNo(page), 16, bytes),
+        }
     }
 }
 
-/// A batch without pages.
-fn no_batch(alloc: Global) -> Batch
-    ensures { AreWhole 1024 result.pages }
-{
-    Batch::new(alloc)
+impl Begins for Tree {
+    /// The bytes of its root, 1000 at most.
+    type From = &'static [u8];
+
+    fn begin(alloc: Global, root: &'static [u8]) -> Result<Tree, Memory> {
+        if root.len() > 1000 {
+            return Err(Memory);
+        }
+        Ok(Tree {
+            store: store_with(alloc, root)?,
+            batch: Batch::new(alloc),
+        })
+    }
 }
 
-/// Wants each call on the tree with this root to answer as it says, one after another.
-fn does_each(rt: &impl Abort, alloc: Global, root: &[u8], calls: &[Call]) -> Result<(), Fail>
-    requires root { length root.now ≤ 1000 }
-{
-    let mut store = store_with(alloc, root)?;
-    let mut batch = no_batch(alloc);
-    for (place, call) in calls.iter().enumerate() {
-        assert!(rt; does(&mut store, &mut batch, *call), "call {place}");
-    }
-    Ok(())
-}
+const RANGES: &[Call] = &[
+    Call::Range(b"", None, Ok(0)),
+    Call::Range(b"b", None, Ok(1)),
+    Call::Range(b"d", None, Ok(2)),
+    Call::Range(b"y", None, Ok(99)),
+    Call::Range(b"b", Some((b'c', 1)), Ok(2)),
+];
+
+const REFUSED: &[Call] = &[Call::Range(
+    b"",
+    None,
+    Err(SpaceFault::Damaged(Damaged {
+        page: PageNo(5),
+        field: Field::Level,
+        found: 1,
+        wanted: 0,
+    })),
+)];
 
 const TAKEN: &[Call] = &[
     Call::Take(3, false),
     Call::Take(2, true),
     Call::Take(2, false),
 ];
-
-#[test]
-fn an_entry_is_taken_out_once(rt: HostRuntime) -> Result<(), Fail> {
-    does_each(&rt, rt.alloc(), ROOT, TAKEN)
-}
 
 /// A leaf without entries, as the only page of a tree.
 const EMPTY: &[u8] = &[0, 0, 0, 0, 0, 0, 0, 0, 28, 0, 0, 0];
@@ -368,7 +384,15 @@ const SPLIT: &[Call] = &[
     Call::Has(3, &[0, 0, 4, 0, 0, 0, 0, 0, 156, 2, 1, 0, 120, 0, 5, 5]),
 ];
 
+const RUNS: &[(&str, &[u8], &[Call])] = &[
+    ("a range goes along the leaves", ROOT, RANGES),
+    ("a walk keeps its leaf", ROOT, &[Call::Walk(0, 1, 0)]),
+    ("a child that comes back is refused", CIRCLE, REFUSED),
+    ("an entry is taken out once", ROOT, TAKEN),
+    ("a root splits at the entry that does not fit", EMPTY, SPLIT),
+];
+
 #[test]
-fn a_root_splits_at_the_entry_that_does_not_fit(rt: HostRuntime) -> Result<(), Fail> {
-    does_each(&rt, rt.alloc(), EMPTY, SPLIT)
+fn what_a_tree_answers(rt: HostRuntime) -> Result<(), Fail> {
+    run_each::<Tree>(&rt, rt.alloc(), RUNS)
 }

@@ -42,7 +42,11 @@ fn put<D: Disk>(disk: &mut D, page: u32, byte: u8) -> bool {
 fn get<D: Disk>(disk: &mut D, page: u32) -> Option<u8> {
     let bytes = read_page(disk, page)?;
     let first = bytes[0];
-    bytes.iter().all(|byte| *byte == first).then_some(first)
+    if bytes == [first; 1024] {
+        Some(first)
+    } else {
+        None
+    }
 }
 
 fn settles<D: Disk>(disk: &mut D) -> bool {
@@ -68,14 +72,14 @@ fn does<D: Disk>(disk: &mut D, call: Call) -> bool {
     }
 }
 
-// The place of the first call that a disk does otherwise, of calls one after another.
-fn first_wrong<D: Disk>(disk: &mut D, calls: &[Call]) -> Option<usize> {
-    for (place, call) in calls.iter().enumerate() {
+// Tells whether a disk does what each call says, one after another.
+fn does_each<D: Disk>(disk: &mut D, calls: &[Call]) -> bool {
+    for call in calls {
         if !does(disk, *call) {
-            return Some(place);
+            return false;
         }
     }
-    None
+    true
 }
 
 // There is no room for page 3. From then on everything is refused.
@@ -94,14 +98,21 @@ const FORCED: &[Call] = &[
 // A new disk over the device refuses, too.
 const FORCED_AGAIN: &[Call] = &[Call::Pages(Some(2)), Call::Get(1, None)];
 
+// Tells whether a disk over a device with room for three pages keeps its pages and then refuses.
+fn refuses_all(device: MemDevice) -> bool {
+    let mut disk = ForcedWrites::new(device);
+    if !does_each(&mut disk, FORCED) {
+        return false;
+    }
+    let mut again = ForcedWrites::new(disk.into_inner());
+    does_each(&mut again, FORCED_AGAIN)
+}
+
 #[test]
 fn a_forced_disk_keeps_its_pages_and_refuses_all_after_a_failed_write(
     rt: HostRuntime,
 ) -> Result<(), Fail> {
-    let mut disk = ForcedWrites::new(MemDevice::new(rt.alloc(), 1024, 3, 9)?);
-    assert_eq!(rt; first_wrong(&mut disk, FORCED), None);
-    let mut again = ForcedWrites::new(disk.into_inner());
-    assert_eq!(rt; first_wrong(&mut again, FORCED_AGAIN), None);
+    assert!(rt; refuses_all(MemDevice::new(rt.alloc(), 1024, 3, 9)?));
     Ok(())
 }
 
@@ -113,12 +124,18 @@ fn settles_pending<V: Device + Drop>(device: V) -> bool {
     is_pending && is_settled && disk.into_inner().is_synced()
 }
 
+// Tells whether a device is synced until a page is written, and after the first settle.
+fn settles_written(alloc: Global) -> Result<bool, Fail> {
+    let mut device = MemDevice::new(alloc, 1024, 3, 9)?;
+    let is_synced = device.is_synced();
+    let is_written = device.write(PageNo(0), &[7; 1024]).is_ok();
+    let is_settled = settles_pending(device);
+    Ok(is_synced && is_written && is_settled)
+}
+
 #[test]
 fn what_is_pending_on_a_device_is_synced_by_the_first_settle(rt: HostRuntime) -> Result<(), Fail> {
-    let mut device = MemDevice::new(rt.alloc(), 1024, 3, 9)?;
-    assert!(rt; device.is_synced());
-    assert!(rt; device.write(PageNo(0), &[7; 1024]).is_ok());
-    assert!(rt; settles_pending(device));
+    assert!(rt; settles_written(rt.alloc())?);
     Ok(())
 }
 
@@ -137,16 +154,11 @@ fn disk_at(rt: &HostRuntime, path: &String, size: u32) -> Result<FileDisk<HostRu
     Ok(FileDisk::at(rt.clone()?, path.clone()?, size))
 }
 
-// The place of the first call that a new disk over the file at a path does otherwise.
-fn wrong_at(
-    rt: &HostRuntime,
-    path: &String,
-    size: u32,
-    calls: &[Call],
-) -> Result<Option<usize>, Fail>
+// Tells whether a new disk over the file at a path does what each call says.
+fn does_at(rt: &HostRuntime, path: &String, size: u32, calls: &[Call]) -> Result<bool, Fail>
     requires { is_page_size size ≡ true }
 {
-    Ok(first_wrong(&mut disk_at(rt, path, size)?, calls))
+    Ok(does_each(&mut disk_at(rt, path, size)?, calls))
 }
 
 const FILE: &[Call] = &[
@@ -160,45 +172,62 @@ const FILE: &[Call] = &[
 
 const FILE_AGAIN: &[Call] = &[Call::Size(Some(4096)), Call::Pages(Some(1))];
 
-// The places of the first calls that a disk over the file at a path does otherwise, and that a
-// second one does otherwise while the first has the lock.
-fn wrong_with_lock(
-    rt: &HostRuntime,
-    path: &String,
-) -> Result<(Option<usize>, Option<usize>), Fail> {
-    let mut disk = disk_at(rt, path, 1024)?;
-    let first = first_wrong(&mut disk, FILE);
-    let second = wrong_at(rt, path, 1024, LOCKED)?;
-    Ok((first, second))
-}
-
 // A second opening is refused while the first has the lock.
 const LOCKED: &[Call] = &[Call::Size(None)];
 
-#[test]
-fn a_file_keeps_its_pages_and_its_lock(rt: HostRuntime) -> Result<(), Fail> {
-    let path = temporary(&rt, "pages")?;
-    assert_eq!(rt; wrong_with_lock(&rt, &path)?, (None, None));
-    assert_eq!(rt; wrong_at(&rt, &path, 4096, FILE_AGAIN)?, None);
-    fs::remove_file(&rt, path.as_str())?;
-    Ok(())
+// Tells whether a second disk over the file at a path is refused while the first has the lock.
+fn is_locked(rt: &HostRuntime, path: &String) -> Result<bool, Fail> {
+    let mut disk = disk_at(rt, path, 1024)?;
+    let is_done = does_each(&mut disk, FILE);
+    let is_refused = does_at(rt, path, 1024, LOCKED)?;
+    Ok(is_done && is_refused)
 }
 
-// Writes a page of bytes 7 into the file at a path, and answers how many pages a disk over it has,
-// and whether its first settle syncs them.
-fn written(rt: &HostRuntime, path: &String) -> Result<(Option<u32>, bool), Fail> {
+// Tells whether the file at a path keeps its pages and its lock.
+fn is_kept(rt: &HostRuntime, path: &String) -> Result<bool, Fail> {
+    Ok(is_locked(rt, path)? && does_at(rt, path, 4096, FILE_AGAIN)?)
+}
+
+// What is tried on the file at a path.
+#[derive(Clone, Copy)]
+enum Tried {
+    KeepsPages,
+    SyncsFirst,
+    IsCut,
+    // A file of these bytes is one page of so many bytes.
+    HasSize(&'static [u8], u32),
+    // The path leads elsewhere after the lock.
+    LeadsElsewhere,
+    LeadsToNoFile,
+}
+
+// Tells whether it comes out so.
+fn comes_out(rt: &HostRuntime, path: &String, tried: Tried) -> Result<bool, Fail> {
+    match tried {
+        Tried::KeepsPages => is_kept(rt, path),
+        Tried::SyncsFirst => is_synced_first(rt, path),
+        Tried::IsCut => is_cut(rt, path),
+        Tried::HasSize(bytes, size) => has_size(rt, path, bytes, size),
+        Tried::LeadsElsewhere => is_refused_elsewhere(rt, path),
+        Tried::LeadsToNoFile => makes_target(rt, path),
+    }
+}
+
+// Tells whether it comes out so on a file in the folder for temporary files, which is removed then.
+fn comes_out_at(rt: &HostRuntime, name: &str, tried: Tried) -> Result<bool, Fail> {
+    let path = temporary(rt, name)?;
+    let is_so = comes_out(rt, &path, tried)?;
+    fs::remove_file(rt, path.as_str())?;
+    Ok(is_so)
+}
+
+// Tells whether a disk over a file with one page of bytes 7 syncs it by its first settle.
+fn is_synced_first(rt: &HostRuntime, path: &String) -> Result<bool, Fail> {
     fs::write(rt, path.as_str(), [7u8; 1024].as_slice())?;
     let mut disk = disk_at(rt, path, 1024)?;
-    let count = pages(&mut disk);
-    Ok((count, settles_pending(disk.into_inner())))
-}
-
-#[test]
-fn a_file_is_synced_by_the_first_settle_after_its_opening(rt: HostRuntime) -> Result<(), Fail> {
-    let path = temporary(&rt, "unsynced")?;
-    assert_eq!(rt; written(&rt, &path)?, (Some(1), true));
-    fs::remove_file(&rt, path.as_str())?;
-    Ok(())
+    let is_page = pages(&mut disk) == Some(1);
+    let is_synced = settles_pending(disk.into_inner());
+    Ok(is_page && is_synced)
 }
 
 // The file was cut behind its first page.
@@ -225,15 +254,15 @@ fn cut(rt: &HostRuntime, path: &str, len: u64) -> Result<(), Fail> {
     Ok(())
 }
 
-// The place of the first call that a disk over the file at a path does otherwise, which has three
-// pages when the file is cut.
-fn wrong_when_cut(rt: &HostRuntime, path: &String) -> Result<Option<usize>, Fail> {
+// Tells whether a disk over the file at a path is refused, which has three pages when the file is
+// cut.
+fn is_refused_when_cut(rt: &HostRuntime, path: &String) -> Result<bool, Fail> {
     let mut disk = disk_at(rt, path, 1024)?;
     if !put(&mut disk, 2, 7) {
-        return Err("the page is not written")?;
+        return Ok(false);
     }
     cut(rt, path.as_str(), 1500)?;
-    Ok(first_wrong(&mut disk, CUT))
+    Ok(does_each(&mut disk, CUT))
 }
 
 // How many bytes the file at a path has.
@@ -241,62 +270,29 @@ fn length_of(rt: &HostRuntime, path: &String) -> Result<u64, Fail> {
     Ok(fs::metadata(rt, path.as_str())?.len())
 }
 
-#[test]
-fn a_file_that_was_cut_is_neither_read_past_its_end_nor_written(
-    rt: HostRuntime,
-) -> Result<(), Fail> {
-    let path = temporary(&rt, "cut")?;
-    assert_eq!(rt; wrong_when_cut(&rt, &path)?, None);
-    assert_eq!(rt; wrong_at(&rt, &path, 1024, CUT_AGAIN)?, None);
-    assert_eq!(rt; length_of(&rt, &path)?, 2048);
-    fs::remove_file(&rt, path.as_str())?;
-    Ok(())
+// Tells whether the file at a path is neither read past its end nor written once it is cut.
+fn is_cut(rt: &HostRuntime, path: &String) -> Result<bool, Fail> {
+    let is_refused = is_refused_when_cut(rt, path)?;
+    let is_filled = does_at(rt, path, 1024, CUT_AGAIN)?;
+    Ok(is_refused && is_filled && length_of(rt, path)? == 2048)
 }
 
-// The bytes of a file, and the page size that a disk over it has. 8192 stands at byte 24.
-const FRONTS: &[(&[u8], u32)] = &[
-    (
-        &[
-            0, 0, 0, 0, 0, 0, 0, 0, 0, 0, 0, 0, 0, 0, 0, 0, 0, 0, 0, 0, 0, 0, 0, 0, 0, 0x20, 0, 0,
-        ],
-        8192,
-    ),
-    (
-        &[
-            0, 0, 0, 0, 0, 0, 0, 0, 0, 0, 0, 0, 0, 0, 0, 0, 0, 0, 0, 0, 0, 0, 0, 0, 0, 0x20, 0,
-        ],
-        1024,
-    ),
-];
-
-// Writes these bytes into the file at a path, and answers the page size and the pages of a disk
-// over it.
-fn measured(
-    rt: &HostRuntime,
-    path: &String,
-    bytes: &[u8],
-) -> Result<(Option<u32>, Option<u32>), Fail> {
+// Tells whether a disk over a file of these bytes has one page of this size.
+fn has_size(rt: &HostRuntime, path: &String, bytes: &[u8], size: u32) -> Result<bool, Fail> {
     fs::write(rt, path.as_str(), bytes)?;
-    let mut disk = disk_at(rt, path, 1024)?;
-    Ok((page_size(&mut disk), pages(&mut disk)))
-}
-
-#[test]
-fn a_file_of_28_bytes_tells_its_page_size_at_byte_24(rt: HostRuntime) -> Result<(), Fail> {
-    let path = temporary(&rt, "front")?;
-    for (bytes, size) in FRONTS {
-        let found = measured(&rt, &path, bytes)?;
-        assert_eq!(rt; found, (Some(*size), Some(1)));
-    }
-    fs::remove_file(&rt, path.as_str())?;
-    Ok(())
+    does_at(
+        rt,
+        path,
+        1024,
+        &[Call::Size(Some(size)), Call::Pages(Some(1))],
+    )
 }
 
 const REFUSED: &[Call] = &[Call::Size(None), Call::Pages(None), Call::Settle(true)];
 
 // Tells whether a disk over what is at a path is refused.
 fn is_refused(rt: &HostRuntime, path: &String) -> Result<bool, Fail> {
-    Ok(wrong_at(rt, path, 4096, REFUSED)?.is_none())
+    does_at(rt, path, 4096, REFUSED)
 }
 
 // A path at which there is no file.
@@ -353,33 +349,84 @@ fn leaves_no_file(rt: &HostRuntime, path: &String, other: &String) -> Result<boo
     Ok(is_refused && !fs::exists(rt, path.as_str())?)
 }
 
-// Tells whether a disk over a path makes a file of this length at a path, which is removed then.
-fn makes_file(rt: &HostRuntime, path: &String, at: &String, len: u64) -> Result<bool, Fail> {
-    let wrong = wrong_at(rt, path, 1024, &[Call::Put(0, 7, true)])?;
-    let found = length_of(rt, at)?;
-    fs::remove_file(rt, path.as_str())?;
-    Ok(wrong.is_none() && found == len)
+// Tells whether a disk over a path makes a file of one page at a path.
+fn makes_file(rt: &HostRuntime, path: &String, at: &String) -> Result<bool, Fail> {
+    let is_done = does_at(rt, path, 1024, &[Call::Put(0, 7, true)])?;
+    Ok(is_done && length_of(rt, at)? == 1024)
 }
 
-#[test]
-fn a_path_that_leads_elsewhere_after_the_lock_is_refused_and_leaves_no_file(
-    rt: HostRuntime,
-) -> Result<(), Fail> {
-    let path = temporary(&rt, "replaced")?;
-    let other = temporary(&rt, "other")?;
-    assert!(rt; leaves_no_file(&rt, &path, &other)?);
-    // Where nothing else comes in, the same path is opened and there is a file.
-    assert!(rt; makes_file(&rt, &path, &path, 1024)?);
-    Ok(())
+// Tells whether a disk is refused and leaves no file where its path leads elsewhere after the lock;
+// where nothing else comes in, the same path is opened and there is a file.
+fn is_refused_elsewhere(rt: &HostRuntime, path: &String) -> Result<bool, Fail> {
+    let other = temporary(rt, "other")?;
+    Ok(leaves_no_file(rt, path, &other)? && makes_file(rt, path, path)?)
 }
 
+// Tells whether a disk over a link to no file makes the file that it leads to.
+fn makes_target(rt: &HostRuntime, path: &String) -> Result<bool, Fail> {
+    let target = temporary(rt, "target")?;
+    symlink(rt, target.as_str(), path.as_str())?;
+    let is_made = makes_file(rt, path, &target)?;
+    fs::remove_file(rt, target.as_str())?;
+    Ok(is_made)
+}
+
+// What is shown, the name of the file, and what is tried on it.
+const FILES: &[(&str, &str, Tried)] = &[
+    (
+        "a file keeps its pages and its lock",
+        "pages",
+        Tried::KeepsPages,
+    ),
+    (
+        "a file is synced by the first settle after its opening",
+        "unsynced",
+        Tried::SyncsFirst,
+    ),
+    (
+        "a file that was cut is neither read past its end nor written",
+        "cut",
+        Tried::IsCut,
+    ),
+    (
+        "a path that leads elsewhere after the lock is refused and leaves no file",
+        "replaced",
+        Tried::LeadsElsewhere,
+    ),
+    (
+        "a link to no file makes the file that it leads to",
+        "link",
+        Tried::LeadsToNoFile,
+    ),
+    // 8192 stands at byte 24.
+    (
+        "a file of 28 bytes tells its page size at byte 24",
+        "front",
+        Tried::HasSize(
+            &[
+                0, 0, 0, 0, 0, 0, 0, 0, 0, 0, 0, 0, 0, 0, 0, 0, 0, 0, 0, 0, 0, 0, 0, 0, 0, 0x20, 0,
+                0,
+            ],
+            8192,
+        ),
+    ),
+    (
+        "a file of 27 bytes does not tell its page size",
+        "front",
+        Tried::HasSize(
+            &[
+                0, 0, 0, 0, 0, 0, 0, 0, 0, 0, 0, 0, 0, 0, 0, 0, 0, 0, 0, 0, 0, 0, 0, 0, 0, 0x20, 0,
+            ],
+            1024,
+        ),
+    ),
+];
+
 #[test]
-fn a_link_to_no_file_makes_the_file_that_it_leads_to(rt: HostRuntime) -> Result<(), Fail> {
-    let path = temporary(&rt, "link")?;
-    let target = temporary(&rt, "target")?;
-    symlink(&rt, target.as_str(), path.as_str())?;
-    assert!(rt; makes_file(&rt, &path, &target, 1024)?);
-    fs::remove_file(&rt, target.as_str())?;
+fn what_a_disk_does_to_a_real_file(rt: HostRuntime) -> Result<(), Fail> {
+    for (shows, name, tried) in FILES {
+        assert!(rt; comes_out_at(&rt, name, *tried)?, "{shows}");
+    }
     Ok(())
 }
 

@@ -7,9 +7,9 @@ ghost use Rattle.mg_pool.specs.Pool.{IsPool};
 ghost use Rattle.mg_space.specs.Taking.{IsGeometry};
 ghost use Rattle.mg_space.specs.View.{AreWhole};
 
-use super::calls::{Begins, Bench, run};
-use super::stores::{OWNER, empty_store, empty_table, has_bytes};
-use mg_base::{MemDisk, PageNo, RecId};
+use super::calls::{Begins, Bench, run_each};
+use super::stores::{OWNER, Table, has_bytes, new_table};
+use mg_base::{MemDisk, Memory, PageNo, RecId};
 use mg_heap::{add, free, next};
 use mg_image::PRIMARY_VERSION;
 use mg_pool::{Batch, PoolFault};
@@ -136,13 +136,6 @@ fn walks(store: &mut Store<MemDisk>, slots: &[(u32, u16)]) -> Result<bool, Space
     Ok(next_of(store, after)?.is_none())
 }
 
-/// A table without records, and a batch on it.
-#[derive(Drop)]
-pub struct Table {
-    store: Store<MemDisk>,
-    batch: Batch,
-}
-
 impl Bench for Table {
     type Call = Call;
 
@@ -169,12 +162,8 @@ impl Bench for Table {
 impl Begins for Table {
     type From = ();
 
-    fn begin(alloc: Global, _from: ()) -> Result<Table, Fail> {
-        let batch = empty_table(alloc)?;
-        Ok(Table {
-            store: empty_store(alloc, 1000)?,
-            batch,
-        })
+    fn begin(alloc: Global, _from: ()) -> Result<Table, Memory> {
+        new_table(alloc, 1000)
     }
 }
 
@@ -189,11 +178,6 @@ const SECOND_POINTERS: &[Call] = &[
         &[5, 0, 0, 0, 1, 0, 0, 0, 0, 0, 0, 0, 1, 0, 0, 0, 2, 1, 0, 0],
     ),
 ];
-
-#[test]
-fn the_251st_data_page_is_listed_by_a_second_pointer_page(rt: HostRuntime) -> Result<(), Fail> {
-    run::<Table>(&rt, rt.alloc(), (), SECOND_POINTERS)
-}
 
 /// Nine cells of 100 bytes fill page 7; the others stand on page 8.
 const TWO_PAGES: &[Call] = &[
@@ -220,9 +204,20 @@ const TWO_PAGES: &[Call] = &[
     Call::Walks(&[(7, 2), (7, 3), (7, 6), (8, 1), (8, 4)]),
 ];
 
+const RUNS: &[(&str, (), &[Call])] = &[
+    (
+        "the 251st data page is listed by a second pointer page",
+        (),
+        SECOND_POINTERS,
+    ),
+    (
+        "the walk gives each primary slot once in the order of pages and slots",
+        (),
+        TWO_PAGES,
+    ),
+];
+
 #[test]
-fn the_walk_gives_each_primary_slot_once_in_the_order_of_pages_and_slots(
-    rt: HostRuntime,
-) -> Result<(), Fail> {
-    run::<Table>(&rt, rt.alloc(), (), TWO_PAGES)
+fn where_cells_of_a_table_stand(rt: HostRuntime) -> Result<(), Fail> {
+    run_each::<Table>(&rt, rt.alloc(), RUNS)
 }

@@ -3,7 +3,7 @@
 ghost use Rattle.std.specs.Prelude.{◌≡◌, ◌≤◌, length};
 ghost use Rattle.mg_node_writing.specs.LeafLaws.{IsFreeLeaf};
 
-use super::calls::{Begins, Bench, run};
+use super::calls::{Begins, Bench, run_each};
 use super::entries::entry_of;
 use mg_base::{Memory, PageNo, get_u16};
 use mg_node::END_AT;
@@ -96,7 +96,7 @@ impl Bench for Leaf {
 impl Begins for Leaf {
     type From = ();
 
-    fn begin(_alloc: Global, _from: ()) -> Result<Leaf, Fail> {
+    fn begin(_alloc: Global, _from: ()) -> Result<Leaf, Memory> {
         Ok(Leaf { page: new_page() })
     }
 }
@@ -128,11 +128,6 @@ const TWO: &[Deed] = &[
     ]),
 ];
 
-#[test]
-fn entries_stand_in_order_and_each_once(rt: HostRuntime) -> Result<(), Fail> {
-    run::<Leaf>(&rt, rt.alloc(), (), TWO)
-}
-
 // Seven entries of 128 bytes.
 const SEVEN: &[Deed] = &[
     Deed::Put(1, 120, 1),
@@ -156,7 +151,16 @@ const SEVEN: &[Deed] = &[
     ),
 ];
 
+const RUNS: &[(&str, (), &[Deed])] = &[
+    ("entries stand in order and each once", (), TWO),
+    (
+        "four of seven entries stay on a page that is split",
+        (),
+        SEVEN,
+    ),
+];
+
 #[test]
-fn four_of_seven_entries_stay_on_a_page_that_is_split(rt: HostRuntime) -> Result<(), Fail> {
-    run::<Leaf>(&rt, rt.alloc(), (), SEVEN)
+fn what_stands_on_a_page_of_an_index(rt: HostRuntime) -> Result<(), Fail> {
+    run_each::<Leaf>(&rt, rt.alloc(), RUNS)
 }

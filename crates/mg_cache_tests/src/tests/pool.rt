@@ -4,7 +4,7 @@ ghost use Rattle.std.specs.Bool.{OnTrue};
 ghost use Rattle.std.specs.Prelude.{◌≡◌, ◌≢◌, [], Some, None, IfOk, true, length};
 ghost use Rattle.mg_pool.specs.Pool.{IsPool};
 
-use super::calls::{Begins, Bench, go_on, run};
+use super::calls::{Begins, Bench, go_on, run_each};
 use super::disks::read_page;
 use mg_base::{Disk, FaultyDisk, Geometry, MemDisk, Memory, PageNo};
 use mg_careful::{Demand, Links, Order};
@@ -245,18 +245,24 @@ impl Begins for Cache {
     /// How many pages the disk may have, and which of its calls fail.
     type From = (u32, &'static [u32]);
 
-    fn begin(alloc: Global, from: (u32, &'static [u32])) -> Result<Cache, Fail> {
+    fn begin(alloc: Global, from: (u32, &'static [u32])) -> Result<Cache, Memory> {
         let (pages, bad) = from;
         let disk = MemDisk::new(alloc, 1024, pages, 16)?;
         let bad = Vec::from_slice(alloc, bad)?;
-        Ok(pool_over(alloc, FaultyDisk::new(disk, bad))?)
+        pool_over(alloc, FaultyDisk::new(disk, bad))
     }
 }
 
 /// The disk of so many pages, below a pool that has done these calls.
-fn disk_after(rt: &impl Abort, alloc: Global, pages: u32, calls: &[Call]) -> Result<MemDisk, Fail> {
+fn disk_after(
+    rt: &impl Abort,
+    alloc: Global,
+    shows: &str,
+    pages: u32,
+    calls: &[Call],
+) -> Result<MemDisk, Fail> {
     let mut pool = Cache::begin(alloc, (pages, &[]))?;
-    go_on(rt, alloc, &mut pool, calls)?;
+    go_on(rt, alloc, &mut pool, shows, calls)?;
     Ok(pool.into_disk().into_inner())
 }
 
@@ -289,12 +295,13 @@ impl Bench for MemDisk {
 fn leaves(
     rt: &impl Abort,
     alloc: Global,
+    shows: &str,
     pages: u32,
     calls: &[Call],
     found: &[Found],
 ) -> Result<(), Fail> {
-    let mut disk = disk_after(rt, alloc, pages, calls)?;
-    go_on(rt, alloc, &mut disk, found)
+    let mut disk = disk_after(rt, alloc, shows, pages, calls)?;
+    go_on(rt, alloc, &mut disk, shows, found)
 }
 
 /// A byte of a page of a disk.
@@ -343,22 +350,12 @@ const CYCLE: &[Call] = &[
 
 const WRITTEN: &[Found] = &[Found::Writes(2), Found::Byte(7, 1), Found::Byte(8, 2)];
 
-#[test]
-fn an_order_that_would_close_a_cycle_writes_the_page_before(rt: HostRuntime) -> Result<(), Fail> {
-    leaves(&rt, rt.alloc(), 16, CYCLE, WRITTEN)
-}
-
 const PAST_THE_END: &[Call] = &[
     Call::Change(6, 1, None),
     Call::WriteEach(Ok(())),
     Call::Fetch(9, Err(PoolFault::Absent { pages: 7 })),
     Call::Fetch(6, Ok(1024)),
 ];
-
-#[test]
-fn a_page_past_the_end_is_absent(rt: HostRuntime) -> Result<(), Fail> {
-    run::<Cache>(&rt, rt.alloc(), (16, &[]), PAST_THE_END)
-}
 
 const FAILED: &[Call] = &[
     Call::Change(6, 1, None),
@@ -367,9 +364,18 @@ const FAILED: &[Call] = &[
     Call::Dirty(6, true),
 ];
 
+const RUNS: &[(&str, (u32, &[u32]), &[Call])] = &[
+    ("a page past the end is absent", (16, &[]), PAST_THE_END),
+    (
+        "a page write that fails refuses every later call",
+        (16, &[1]),
+        FAILED,
+    ),
+];
+
 #[test]
-fn a_page_write_that_fails_refuses_every_later_call(rt: HostRuntime) -> Result<(), Fail> {
-    run::<Cache>(&rt, rt.alloc(), (16, &[1]), FAILED)
+fn what_a_pool_refuses(rt: HostRuntime) -> Result<(), Fail> {
+    run_each::<Cache>(&rt, rt.alloc(), RUNS)
 }
 
 /// Page 300 has to be written before page 0.
@@ -386,11 +392,6 @@ const TOO_MANY: &[Call] = &[
     Call::Dirty(301, true),
     Call::Dirty(512, true),
 ];
-
-#[test]
-fn the_513th_page_writes_the_least_one_with_what_precedes_it(rt: HostRuntime) -> Result<(), Fail> {
-    leaves(&rt, rt.alloc(), 600, TOO_MANY, &[Found::Writes(2)])
-}
 
 /// A new record comes between 3 and 4, and goes again: its content goes out first, since it must
 /// reach the disk before record 3 does, and its end after record 3 does.
@@ -417,7 +418,32 @@ const RESOLVED: &[Found] = &[
     Found::Resolves(6),
 ];
 
+/// What the calls show, how many pages the disk may have, the calls, and what is found on it then.
+const LEFT: &[(&str, u32, &[Call], &[Found])] = &[
+    (
+        "an order that would close a cycle writes the page before",
+        16,
+        CYCLE,
+        WRITTEN,
+    ),
+    (
+        "the 513th page writes the least one with what precedes it",
+        600,
+        TOO_MANY,
+        &[Found::Writes(2)],
+    ),
+    (
+        "after every page write each record points to a record",
+        16,
+        RECORDS,
+        RESOLVED,
+    ),
+];
+
 #[test]
-fn after_every_page_write_each_record_points_to_a_record(rt: HostRuntime) -> Result<(), Fail> {
-    leaves(&rt, rt.alloc(), 16, RECORDS, RESOLVED)
+fn what_a_pool_leaves_on_its_disk(rt: HostRuntime) -> Result<(), Fail> {
+    for (shows, pages, calls, found) in LEFT {
+        leaves(&rt, rt.alloc(), shows, *pages, calls, found)?;
+    }
+    Ok(())
 }

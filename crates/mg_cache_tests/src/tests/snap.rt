@@ -4,8 +4,8 @@ ghost use Rattle.std.specs.Bool.{OnTrue};
 ghost use Rattle.std.specs.Prelude.{◌≡◌, IfOk, IfSome};
 ghost use Rattle.mg_snap.specs.Live.{MayEnter};
 
-use super::calls::{Begins, Bench, run};
-use mg_base::TxNo;
+use super::calls::{Begins, Bench, run_each};
+use mg_base::{Memory, TxNo};
 use mg_snap::Live;
 use std::alloc::Global;
 use std::test::Fail;
@@ -108,7 +108,7 @@ impl Begins for Drawn {
     /// Which transaction is drawn first.
     type From = u32;
 
-    fn begin(alloc: Global, first: u32) -> Result<Drawn, Fail> {
+    fn begin(alloc: Global, first: u32) -> Result<Drawn, Memory> {
         Ok(Drawn {
             live: Live::new(alloc, TxNo(first)),
             next: first,
@@ -134,11 +134,6 @@ const ENDED: &[Call] = &[
     Call::Sees(5, &[]),
 ];
 
-#[test]
-fn a_base_sees_what_had_ended_when_it_was_taken(rt: HostRuntime) -> Result<(), Fail> {
-    run::<Drawn>(&rt, rt.alloc(), 4, ENDED)
-}
-
 /// Transaction 3 is in limbo, and then it is decided.
 const DECIDED: &[Call] = &[
     Call::Enter(3),
@@ -150,11 +145,6 @@ const DECIDED: &[Call] = &[
     Call::Enter(5),
     Call::Sees(5, &[1, 2, 3]),
 ];
-
-#[test]
-fn one_that_is_decided_later_is_not_seen(rt: HostRuntime) -> Result<(), Fail> {
-    run::<Drawn>(&rt, rt.alloc(), 4, DECIDED)
-}
 
 /// Transaction 2 does not see 1 at first. Later it does, and 3 has no base.
 const REBASED: &[Call] = &[
@@ -174,7 +164,13 @@ const REBASED: &[Call] = &[
     Call::Sees(3, &[]),
 ];
 
+const RUNS: &[(&str, u32, &[Call])] = &[
+    ("a base sees what had ended when it was taken", 4, ENDED),
+    ("one that is decided later is not seen", 4, DECIDED),
+    ("a new base sees what has ended since", 1, REBASED),
+];
+
 #[test]
-fn a_new_base_sees_what_has_ended_since(rt: HostRuntime) -> Result<(), Fail> {
-    run::<Drawn>(&rt, rt.alloc(), 1, REBASED)
+fn what_a_base_sees(rt: HostRuntime) -> Result<(), Fail> {
+    run_each::<Drawn>(&rt, rt.alloc(), RUNS)
 }

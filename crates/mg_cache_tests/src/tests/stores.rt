@@ -87,3 +87,25 @@ pub fn empty_table(alloc: Global) -> Result<Batch, Memory>
     batch.put(OWNER, &pointer_page())?;
     Ok(batch)
 }
+
+/// An empty table in a batch, over a store.
+#[derive(Drop)]
+pub struct Table {
+    pub store: Store<MemDisk>,
+    pub batch: Batch,
+}
+
+/// An empty table, over a store below this limit.
+pub fn new_table(alloc: Global, limit: u32) -> Result<Table, Memory>
+    requires limit { limit ≤ 131072 }
+    ensures pool { IfOk result (λ it. IsPool mem_meaning it.store) }
+    ensures geometry { IfOk result (λ it. IsGeometry it.store.geometry) }
+    ensures size { IfOk result (λ it. it.store.geometry.size ≡ 1024) }
+    ensures whole { IfOk result (λ it. AreWhole 1024 it.batch.pages) }
+{
+    let batch = empty_table(alloc)?;
+    Ok(Table {
+        store: empty_store(alloc, limit)?,
+        batch,
+    })
+}

@@ -8,7 +8,7 @@ ghost use Rattle.mg_pool.specs.Pool.{IsPool};
 ghost use Rattle.mg_space.specs.Taking.{IsGeometry};
 ghost use Rattle.mg_txlist.specs.TxList.{IsTxList};
 
-use super::calls::{Begins, Bench, run};
+use super::calls::{Begins, Bench, run_each};
 use super::stores::{inventory_page, store_over};
 use mg_base::{Disk, MemDisk, Memory, PageNo, TxNo, TxState, new_common};
 use mg_header::{GREATEST_NEXT, HEADER_KIND, Header, read_header, write_header};
@@ -208,11 +208,11 @@ impl Bench for Listed {
 impl Begins for Listed {
     type From = ();
 
-    fn begin(alloc: Global, _from: ()) -> Result<Listed, Fail> {
+    fn begin(alloc: Global, _from: ()) -> Result<Listed, Memory> {
         let mut store = new_database(alloc)?;
         match TxList::load(&mut store) {
             Ok(list) => Ok(Listed { list, store }),
-            Err(_) => Err(Memory.into()),
+            Err(_) => Err(Memory),
         }
     }
 }
@@ -233,7 +233,9 @@ const DRAWN: &[Call] = &[
     Call::State(4016, TxState::Committed),
 ];
 
+const RUNS: &[(&str, (), &[Call])] = &[("transaction 4016 takes the second page", (), DRAWN)];
+
 #[test]
 fn transaction_4016_takes_the_second_page(rt: HostRuntime) -> Result<(), Fail> {
-    run::<Listed>(&rt, rt.alloc(), (), DRAWN)
+    run_each::<Listed>(&rt, rt.alloc(), RUNS)
 }

@@ -1,6 +1,7 @@
 //! What a transaction has changed, given back.
 
-use super::calls::{Begins, Bench, run};
+use super::calls::{Begins, Bench, run_each};
+use mg_base::Memory;
 use mg_undo::{Undo, Was};
 use mg_value::{Key, Name, Value};
 use std::alloc::Global;
@@ -42,17 +43,16 @@ fn keep(undo: &mut Undo, number: i64) -> bool {
     }
 }
 
-/// Tells whether a change that is given back is one of table 5 and this key.
-fn is_of(given: &(u32, Key, Was), number: i64) -> bool {
-    given.0 == 5 && number_of(&given.1) == Some(number)
+/// Tells whether a change that is given back is one of table 5 and this key, if there is one.
+fn is_of(given: &(u32, Key, Was), wanted: Option<i64>) -> bool {
+    given.0 == 5 && wanted.is_some() && number_of(&given.1) == wanted
 }
 
 /// Tells whether this key is given back next, or nothing.
 fn gives(undo: &mut Undo, wanted: Option<i64>) -> bool {
-    match (undo.take_back(), wanted) {
-        (Some(given), Some(number)) => is_of(&given, number),
-        (None, None) => true,
-        _ => false,
+    match undo.take_back() {
+        Some(given) => is_of(&given, wanted),
+        None => wanted.is_none(),
     }
 }
 
@@ -87,12 +87,14 @@ impl Begins for Changes {
     type From = ();
 
     /// Nothing is kept at first.
-    fn begin(alloc: Global, _from: ()) -> Result<Changes, Fail> {
-        let name = Name::new(b"S").ok_or("a letter is a name")?;
-        Ok(Changes {
-            undo: Undo::new(alloc),
-            name,
-        })
+    fn begin(alloc: Global, _from: ()) -> Result<Changes, Memory> {
+        match Name::new(b"S") {
+            Some(name) => Ok(Changes {
+                undo: Undo::new(alloc),
+                name,
+            }),
+            None => Err(Memory),
+        }
     }
 }
 
@@ -105,11 +107,6 @@ const CHANGED_TWICE: &[Call] = &[
     Call::Gives(Some(1)),
     Call::Gives(None),
 ];
-
-#[test]
-fn a_key_that_was_changed_twice_comes_back_once(rt: HostRuntime) -> Result<(), Fail> {
-    run::<Changes>(&rt, rt.alloc(), (), CHANGED_TWICE)
-}
 
 /// The savepoint stays.
 const BEFORE_MARK: &[Call] = &[
@@ -125,11 +122,6 @@ const BEFORE_MARK: &[Call] = &[
     Call::Gives(Some(2)),
 ];
 
-#[test]
-fn a_mark_goes_with_what_is_taken_back_before_it(rt: HostRuntime) -> Result<(), Fail> {
-    run::<Changes>(&rt, rt.alloc(), (), BEFORE_MARK)
-}
-
 /// The savepoint is gone.
 const BEFORE_NAME: &[Call] = &[
     Call::Mark,
@@ -140,11 +132,6 @@ const BEFORE_NAME: &[Call] = &[
     Call::BackTo(false),
 ];
 
-#[test]
-fn a_savepoint_goes_with_what_is_taken_back_before_it(rt: HostRuntime) -> Result<(), Fail> {
-    run::<Changes>(&rt, rt.alloc(), (), BEFORE_NAME)
-}
-
 const RETRACTED: &[Call] = &[
     Call::Mark,
     Call::Keep(1),
@@ -153,11 +140,6 @@ const RETRACTED: &[Call] = &[
     Call::Gives(Some(1)),
     Call::Gives(None),
 ];
-
-#[test]
-fn a_retracted_change_is_not_given(rt: HostRuntime) -> Result<(), Fail> {
-    run::<Changes>(&rt, rt.alloc(), (), RETRACTED)
-}
 
 const KEPT_BEFORE: &[Call] = &[
     Call::Name,
@@ -169,7 +151,31 @@ const KEPT_BEFORE: &[Call] = &[
     Call::Gives(None),
 ];
 
+const RUNS: &[(&str, (), &[Call])] = &[
+    (
+        "a key that was changed twice comes back once",
+        (),
+        CHANGED_TWICE,
+    ),
+    (
+        "a mark goes with what is taken back before it",
+        (),
+        BEFORE_MARK,
+    ),
+    (
+        "a savepoint goes with what is taken back before it",
+        (),
+        BEFORE_NAME,
+    ),
+    ("a retracted change is not given", (), RETRACTED),
+    (
+        "what was kept before the point is not retracted",
+        (),
+        KEPT_BEFORE,
+    ),
+];
+
 #[test]
-fn what_was_kept_before_the_point_is_not_retracted(rt: HostRuntime) -> Result<(), Fail> {
-    run::<Changes>(&rt, rt.alloc(), (), KEPT_BEFORE)
+fn what_a_transaction_has_changed_is_given_back(rt: HostRuntime) -> Result<(), Fail> {
+    run_each::<Changes>(&rt, rt.alloc(), RUNS)
 }

@@ -1,7 +1,7 @@
 //! Who waits for whom.
 
-use super::calls::{Begins, Bench, run};
-use mg_base::{TxNo, TxState};
+use super::calls::{Begins, Bench, run_each};
+use mg_base::{Memory, TxNo, TxState};
 use mg_waits::{Verdict, Waits};
 use std::alloc::Global;
 use std::test::Fail;
@@ -46,7 +46,7 @@ impl Begins for Waits {
     type From = ();
 
     /// Nobody waits at first.
-    fn begin(alloc: Global, _from: ()) -> Result<Waits, Fail> {
+    fn begin(alloc: Global, _from: ()) -> Result<Waits, Memory> {
         Ok(Waits::new(alloc))
     }
 }
@@ -59,22 +59,12 @@ const STATES: &[Call] = &[
     Call::Asks(true, 7, TxState::Dead, None),
 ];
 
-#[test]
-fn the_verdict_goes_by_the_state_of_the_other_one(rt: HostRuntime) -> Result<(), Fail> {
-    run::<Waits>(&rt, rt.alloc(), (), STATES)
-}
-
 const EACH_OTHER: &[Call] = &[
     Call::Note(5, 3),
     Call::Asks(true, 5, TxState::Active, Some(Verdict::Deadlock)),
     Call::Over(5),
     Call::Asks(true, 5, TxState::Active, Some(Verdict::Wait)),
 ];
-
-#[test]
-fn to_wait_for_one_that_waits_for_this_one_is_a_deadlock(rt: HostRuntime) -> Result<(), Fail> {
-    run::<Waits>(&rt, rt.alloc(), (), EACH_OTHER)
-}
 
 const OVER_OTHERS: &[Call] = &[
     Call::Note(5, 8),
@@ -85,7 +75,17 @@ const OVER_OTHERS: &[Call] = &[
     Call::Asks(true, 5, TxState::Active, Some(Verdict::Wait)),
 ];
 
+const RUNS: &[(&str, (), &[Call])] = &[
+    ("the verdict goes by the state of the other one", (), STATES),
+    (
+        "to wait for one that waits for this one is a deadlock",
+        (),
+        EACH_OTHER,
+    ),
+    ("a deadlock is found over several others", (), OVER_OTHERS),
+];
+
 #[test]
-fn a_deadlock_is_found_over_several_others(rt: HostRuntime) -> Result<(), Fail> {
-    run::<Waits>(&rt, rt.alloc(), (), OVER_OTHERS)
+fn what_one_that_is_ready_to_wait_is_told(rt: HostRuntime) -> Result<(), Fail> {
+    run_each::<Waits>(&rt, rt.alloc(), RUNS)
 }

@@ -1,7 +1,7 @@
 //! Transactions that run.
 
-use super::calls::{Begins, Bench, run};
-use mg_base::TxNo;
+use super::calls::{Begins, Bench, run_each};
+use mg_base::{Memory, TxNo};
 use mg_model::Mode;
 use mg_works::{Work, Works};
 use std::alloc::Global;
@@ -88,7 +88,7 @@ impl Bench for Works {
 impl Begins for Works {
     type From = ();
 
-    fn begin(alloc: Global, _from: ()) -> Result<Works, Fail> {
+    fn begin(alloc: Global, _from: ()) -> Result<Works, Memory> {
         Ok(Works::new(alloc))
     }
 }
@@ -104,7 +104,9 @@ const TWO: &[Call] = &[
     Call::Is(8, 4, true, false),
 ];
 
+const RUNS: &[(&str, (), &[Call])] = &[("two begin and one ends", (), TWO)];
+
 #[test]
 fn two_begin_and_one_ends(rt: HostRuntime) -> Result<(), Fail> {
-    run::<Works>(&rt, rt.alloc(), (), TWO)
+    run_each::<Works>(&rt, rt.alloc(), RUNS)
 }

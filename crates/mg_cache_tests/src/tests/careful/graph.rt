@@ -1,6 +1,7 @@
 //! Tests of the graph: orders, cycles, and the page that is written first.
 
-use crate::tests::calls::{Begins, Bench, run};
+use crate::tests::calls::{Begins, Bench, run_each};
+use mg_base::Memory;
 use mg_careful::Graph;
 use std::alloc::Global;
 use std::test::Fail;
@@ -78,8 +79,8 @@ impl Begins for Graph {
     /// For how many pages there is room.
     type From = u32;
 
-    fn begin(alloc: Global, room: u32) -> Result<Graph, Fail> {
-        Ok(Graph::new(alloc, room)?)
+    fn begin(alloc: Global, room: u32) -> Result<Graph, Memory> {
+        Graph::new(alloc, room)
     }
 }
 
@@ -100,11 +101,6 @@ const CHAIN: &[Call] = &[
     Call::Ready(3, Some(2)),
     Call::Ready(1, None),
 ];
-
-#[test]
-fn a_page_that_precedes_through_another_one_is_written_first(rt: HostRuntime) -> Result<(), Fail> {
-    run::<Graph>(&rt, rt.alloc(), 10, CHAIN)
-}
 
 const LEAST: &[Call] = &[
     Call::Enter(900),
@@ -127,11 +123,6 @@ const LEAST: &[Call] = &[
     Call::Len(1),
 ];
 
-#[test]
-fn the_page_of_least_number_is_ready_first(rt: HostRuntime) -> Result<(), Fail> {
-    run::<Graph>(&rt, rt.alloc(), 10, LEAST)
-}
-
 /// Page 1 precedes 3 through 2 alone, and 5 through 4 too.
 const CLEARED: &[Call] = &[
     Call::Enter(1),
@@ -149,13 +140,6 @@ const CLEARED: &[Call] = &[
     Call::Cycle(5, 1, true),
     Call::Ready(3, Some(3)),
 ];
-
-#[test]
-fn what_preceded_through_a_cleared_page_alone_precedes_no_longer(
-    rt: HostRuntime,
-) -> Result<(), Fail> {
-    run::<Graph>(&rt, rt.alloc(), 10, CLEARED)
-}
 
 /// There is room for two pages.
 const ROOM: &[Call] = &[
@@ -176,9 +160,26 @@ const ROOM: &[Call] = &[
     Call::Entered(9, true),
 ];
 
+const RUNS: &[(&str, u32, &[Call])] = &[
+    (
+        "a page that precedes through another one is written first",
+        10,
+        CHAIN,
+    ),
+    ("the page of least number is ready first", 10, LEAST),
+    (
+        "what preceded through a cleared page alone precedes no longer",
+        10,
+        CLEARED,
+    ),
+    (
+        "a page is entered once and room ends at the number that was given",
+        2,
+        ROOM,
+    ),
+];
+
 #[test]
-fn a_page_is_entered_once_and_room_ends_at_the_number_that_was_given(
-    rt: HostRuntime,
-) -> Result<(), Fail> {
-    run::<Graph>(&rt, rt.alloc(), 2, ROOM)
+fn what_is_ordered_and_what_is_ready_first(rt: HostRuntime) -> Result<(), Fail> {
+    run_each::<Graph>(&rt, rt.alloc(), RUNS)
 }

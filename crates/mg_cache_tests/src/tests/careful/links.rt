@@ -3,7 +3,7 @@
 ghost use Rattle.std.specs.Prelude.{◌≡◌, [], ◌∷◌, ◌==◌, ◌++◌, if◌then◌else◌};
 ghost use Rattle.mg_base.specs.Fields.{byte};
 
-use crate::tests::calls::{Begins, Bench, run};
+use crate::tests::calls::{Begins, Bench, run_each};
 use mg_base::Memory;
 use mg_careful::{Demand, Links, careful_write};
 use std::alloc::Global;
@@ -104,7 +104,7 @@ impl Bench for Overlays {
 impl Begins for Overlays {
     type From = ();
 
-    fn begin(_alloc: Global, _from: ()) -> Result<Overlays, Fail> {
+    fn begin(_alloc: Global, _from: ()) -> Result<Overlays, Memory> {
         Ok(Overlays)
     }
 }
@@ -122,8 +122,14 @@ fn law() {
     careful_write::<Chain>();
 }
 
+const RUNS: &[(&str, (), &[(bool, bool, bool)])] = &[(
+    "a new page is linked in every overlay of a closed set",
+    (),
+    SETS,
+)];
+
 #[test]
 fn a_new_page_is_linked_in_every_overlay_of_a_closed_set(rt: HostRuntime) -> Result<(), Fail> {
     law();
-    run::<Overlays>(&rt, rt.alloc(), (), SETS)
+    run_each::<Overlays>(&rt, rt.alloc(), RUNS)
 }

@@ -7,6 +7,7 @@ ghost use Rattle.mg_pool.specs.Pool.{IsPool};
 ghost use Rattle.mg_slots.specs.DataPage.{IsDataPage};
 ghost use Rattle.mg_space.specs.Taking.{IsGeometry};
 
+use crate::tests::calls::{Begins, Bench, run_each};
 use crate::tests::stores::empty_store;
 use mg_base::{Damaged, Field, MemDisk, Memory, PageNo, RecId, TxNo, TxState};
 use mg_chain::States;
@@ -16,7 +17,6 @@ use mg_slots::{new_data, put_cell};
 use mg_snap::Live;
 use mg_space::{SpaceFault, Store};
 use std::alloc::Global;
-use std::process::Abort;
 use std::test::Fail;
 
 /// The page of the records, and the record of its first slot.
@@ -43,7 +43,7 @@ impl States for TwoAndFour {
 }
 
 /// The cells of a record with three versions: an anchor, and the versions in slots 1 to 3.
-type Record = [&'static [u8]; 4];
+pub type Record = [&'static [u8]; 4];
 
 /// Puts these cells into the next slots of a data page.
 fn put_each(page: &mut [u8], cells: &[&'static [u8]])
@@ -66,13 +66,15 @@ fn page_of(record: &Record) -> [u8; 1024] {
 }
 
 /// A store with a record.
-fn store_with(alloc: Global, record: &Record) -> Result<Store<MemDisk>, Fail>
+fn store_with(alloc: Global, record: &Record) -> Result<Store<MemDisk>, Memory>
     ensures pool { IfOk result (λ store. IsPool mem_meaning store) }
     ensures geometry { IfOk result (λ store. IsGeometry store.geometry) }
 {
     let mut store = empty_store(alloc, 16)?;
-    store.change_one(PAGE, &page_of(record), None)?;
-    Ok(store)
+    match store.change_one(PAGE, &page_of(record), None) {
+        Ok(()) => Ok(store),
+        Err(_) => Err(Memory),
+    }
 }
 
 /// 3 began after 2 had ended and before 4 was drawn, 5 is active, and 6 began after 4 had ended.
@@ -123,7 +125,7 @@ fn found(store: &mut Store<MemDisk>, live: &Live, reader: Option<u32>) -> Result
 }
 
 /// A reader, and whose version it finds, or the damage of the page that it meets.
-type Read = (Option<u32>, Result<u32, (Field, u64, u64)>);
+pub type Read = (Option<u32>, Result<u32, (Field, u64, u64)>);
 
 fn answer_of(wanted: Result<u32, (Field, u64, u64)>) -> Result<u32, SpaceFault> {
     match wanted {
@@ -137,31 +139,33 @@ fn answer_of(wanted: Result<u32, (Field, u64, u64)>) -> Result<u32, SpaceFault> 
     }
 }
 
-/// Tells whether a reader finds what is told.
-fn finds(store: &mut Store<MemDisk>, live: &Live, read: &Read) -> bool
-    requires pool { IsPool mem_meaning store.old }
-    requires geometry { IsGeometry store.old.geometry }
-    ensures pool { IsPool mem_meaning store.new }
-    ensures geometry { store.new.geometry ≡ store.old.geometry }
-{
-    found(store, live, read.0) == answer_of(read.1)
+/// A store with a record, and those who read it.
+#[derive(Drop)]
+pub struct Readers {
+    store: Store<MemDisk>,
+    live: Live,
 }
 
-/// Wants each reader to find what is told.
-fn reads_each(rt: &impl Abort, store: &mut Store<MemDisk>, live: &Live, rows: &[Read])
-    requires pool { IsPool mem_meaning store.old }
-    requires geometry { IsGeometry store.old.geometry }
-{
-    for (place, read) in rows.iter().enumerate() {
-        assert!(rt; finds(store, live, read), "row {place}");
+impl Bench for Readers {
+    type Call = Read;
+
+    ghost ready = { λ it. IsPool mem_meaning it.store × IsGeometry it.store.geometry };
+
+    fn does(&mut self, _alloc: Global, read: &Read) -> bool {
+        found(&mut self.store, &self.live, read.0) == answer_of(read.1)
     }
 }
 
-/// Wants each reader of a record to find what is told.
-fn is_read(rt: &impl Abort, alloc: Global, record: &Record, rows: &[Read]) -> Result<(), Fail> {
-    let live = bases(alloc)?;
-    reads_each(rt, &mut store_with(alloc, record)?, &live, rows);
-    Ok(())
+impl Begins for Readers {
+    type From = &'static Record;
+
+    fn begin(alloc: Global, record: &'static Record) -> Result<Readers, Memory> {
+        let live = bases(alloc)?;
+        Ok(Readers {
+            store: store_with(alloc, record)?,
+            live,
+        })
+    }
 }
 
 /// An anchor to slot 1, whose version is of transaction 5.
@@ -177,18 +181,12 @@ const SEEN: Record = [
     OLDEST,
 ];
 
-#[test]
-fn a_transaction_sees_its_own_version_and_what_was_committed_before_its_base(
-    rt: HostRuntime,
-) -> Result<(), Fail> {
-    let rows = [
-        (Some(3), Ok(2)),
-        (Some(5), Ok(5)),
-        (Some(6), Ok(4)),
-        (None, Ok(5)),
-    ];
-    is_read(&rt, rt.alloc(), &SEEN, &rows)
-}
+const SEEN_BY: &[Read] = &[
+    (Some(3), Ok(2)),
+    (Some(5), Ok(5)),
+    (Some(6), Ok(4)),
+    (None, Ok(5)),
+];
 
 const COMES_BACK: Record = [
     ANCHOR,
@@ -197,11 +195,7 @@ const COMES_BACK: Record = [
     OLDEST,
 ];
 
-#[test]
-fn links_that_come_back_are_refused(rt: HostRuntime) -> Result<(), Fail> {
-    let rows = [(Some(3), Err((Field::Link, 6, 0))), (Some(5), Ok(5))];
-    is_read(&rt, rt.alloc(), &COMES_BACK, &rows)
-}
+const STOPPED: &[Read] = &[(Some(3), Err((Field::Link, 6, 0))), (Some(5), Ok(5))];
 
 const OF_ANOTHER: Record = [
     ANCHOR,
@@ -210,8 +204,23 @@ const OF_ANOTHER: Record = [
     OLDEST,
 ];
 
+const REFUSED: &[Read] = &[(Some(3), Err((Field::Target, 7, 8)))];
+
+const RUNS: &[(&str, &Record, &[Read])] = &[
+    (
+        "a transaction sees its own version and what was committed before its base",
+        &SEEN,
+        SEEN_BY,
+    ),
+    ("links that come back are refused", &COMES_BACK, STOPPED),
+    (
+        "a version of another transaction is refused",
+        &OF_ANOTHER,
+        REFUSED,
+    ),
+];
+
 #[test]
-fn a_version_of_another_transaction_is_refused(rt: HostRuntime) -> Result<(), Fail> {
-    let rows = [(Some(3), Err((Field::Target, 7, 8)))];
-    is_read(&rt, rt.alloc(), &OF_ANOTHER, &rows)
+fn what_a_reader_finds(rt: HostRuntime) -> Result<(), Fail> {
+    run_each::<Readers>(&rt, rt.alloc(), RUNS)
 }

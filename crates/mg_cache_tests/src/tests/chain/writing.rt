@@ -6,8 +6,8 @@ ghost use Rattle.mg_pool.specs.Pool.{IsPool};
 ghost use Rattle.mg_space.specs.Taking.{IsGeometry};
 ghost use Rattle.mg_space.specs.View.{AreWhole};
 
-use crate::tests::calls::{Begins, Bench, run};
-use crate::tests::stores::{OWNER, empty_store, empty_table};
+use crate::tests::calls::{Begins, Bench, run_each};
+use crate::tests::stores::{OWNER, Table, new_table};
 use mg_base::{Bytes, MemDisk, Memory, RecId, TxNo};
 use mg_chain::{back_out, first, newest_link, push, replace_own, spot, version_at};
 use mg_pool::Batch;
@@ -169,19 +169,19 @@ fn after_step(
 /// A record of a table in a batch.
 #[derive(Drop)]
 pub struct Record {
-    store: Store<MemDisk>,
-    batch: Batch,
+    table: Table,
     rec: RecId,
 }
 
 impl Bench for Record {
     type Call = Step;
 
-    ghost ready = { λ it. IsPool mem_meaning it.store × IsGeometry it.store.geometry
-        × (it.store.geometry.size ≡ 1024) × AreWhole 1024 it.batch.pages };
+    ghost ready = { λ it. IsPool mem_meaning it.table.store × IsGeometry it.table.store.geometry
+        × (it.table.store.geometry.size ≡ 1024) × AreWhole 1024 it.table.batch.pages };
 
     fn does(&mut self, _alloc: Global, step: &Step) -> bool {
-        after_step(&mut self.store, &mut self.batch, self.rec, *step).ok() == step.3
+        let table = &mut self.table;
+        after_step(&mut table.store, &mut table.batch, self.rec, *step).ok() == step.3
     }
 }
 
@@ -189,13 +189,12 @@ impl Begins for Record {
     /// How many bytes the body of its version has, which is of transaction 2.
     type From = usize;
 
-    fn begin(alloc: Global, len: usize) -> Result<Record, Fail> {
-        let mut store = empty_store(alloc, 100)?;
-        let mut batch = empty_table(alloc)?;
-        let Ok(rec) = make(&mut store, &mut batch, 2, len.min(900)) else {
-            return Err("no record is made")?;
-        };
-        Ok(Record { store, batch, rec })
+    fn begin(alloc: Global, len: usize) -> Result<Record, Memory> {
+        let mut table = new_table(alloc, 100)?;
+        match make(&mut table.store, &mut table.batch, 2, len.min(900)) {
+            Ok(rec) => Ok(Record { table, rec }),
+            Err(_) => Err(Memory),
+        }
     }
 }
 
@@ -212,23 +211,27 @@ const TAKEN_BACK: &[Step] = &[
     (Deed::BackOut, 9, 0, Some((0, 0))),
 ];
 
-#[test]
-fn a_record_is_made_and_taken_back_to_nothing(rt: HostRuntime) -> Result<(), Fail> {
-    run::<Record>(&rt, rt.alloc(), 20, TAKEN_BACK)
-}
-
 const ON_ANOTHER: &[Step] = &[
     (Deed::Push, 3, 800, Some((3, 800))),
     (Deed::Replace, 3, 10, Some((3, 10))),
     (Deed::BackOut, 9, 0, Some((2, 900))),
 ];
 
-#[test]
-fn a_version_stands_on_another_page_than_its_slot(rt: HostRuntime) -> Result<(), Fail> {
-    run::<Record>(&rt, rt.alloc(), 900, ON_ANOTHER)
-}
+const RUNS: &[(&str, usize, &[Step])] = &[
+    ("a record is made and taken back to nothing", 20, TAKEN_BACK),
+    (
+        "a version stands on another page than its slot",
+        900,
+        ON_ANOTHER,
+    ),
+    (
+        "a version of another transaction is not replaced",
+        20,
+        &[(Deed::Replace, 3, 20, None)],
+    ),
+];
 
 #[test]
-fn a_version_of_another_transaction_is_not_replaced(rt: HostRuntime) -> Result<(), Fail> {
-    run::<Record>(&rt, rt.alloc(), 20, &[(Deed::Replace, 3, 20, None)])
+fn what_a_record_comes_to(rt: HostRuntime) -> Result<(), Fail> {
+    run_each::<Record>(&rt, rt.alloc(), RUNS)
 }

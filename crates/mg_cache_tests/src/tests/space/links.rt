@@ -1,6 +1,6 @@
 //! Worked rows of the links of a new database, and of an index tree.
 
-use crate::tests::calls::{Begins, Bench, run};
+use crate::tests::calls::{Begins, Bench, run_each};
 use mg_base::{Memory, PageNo, TxNo, new_common, put_u16, put_u32};
 use mg_careful::{Demand, Links};
 use mg_header::{HEADER_KIND, Header, write_header};
@@ -59,33 +59,6 @@ fn leads(alloc: Global, page: &[u8], want: Told, told: &[Told]) -> bool {
     }
 }
 
-/// A page that is asked.
-#[derive(Drop)]
-pub struct Page {
-    bytes: [u8; 1024],
-}
-
-impl Bench for Page {
-    type Call = Asked;
-
-    ghost ready = { λ page. Unit {0} };
-
-    fn does(&mut self, alloc: Global, asked: &Asked) -> bool {
-        match *asked {
-            Asked::Meets(want, does) => meets(&self.bytes, demand(want)) == does,
-            Asked::Leads(want, told) => leads(alloc, &self.bytes, want, told),
-        }
-    }
-}
-
-impl Begins for Page {
-    type From = [u8; 1024];
-
-    fn begin(_alloc: Global, bytes: [u8; 1024]) -> Result<Page, Fail> {
-        Ok(Page { bytes })
-    }
-}
-
 const HEADER_SAID: Header = Header {
     minor: 0,
     next: TxNo(4017),
@@ -119,11 +92,6 @@ const OF_HEADER: &[Asked] = &[
     ),
 ];
 
-#[test]
-fn a_header_leads_to_transactions_and_catalog(rt: HostRuntime) -> Result<(), Fail> {
-    run::<Page>(&rt, rt.alloc(), header_page(), OF_HEADER)
-}
-
 /// The second pointer page of the owner 5.
 fn pointer_page() -> [u8; 1024] {
     let mut page = [0; 1024];
@@ -140,11 +108,6 @@ const OF_POINTERS: &[Asked] = &[
         &[(8066, DATA, 5, 250), (8065, BIT, 8066, 0)],
     ),
 ];
-
-#[test]
-fn a_pointer_page_leads_to_its_data_pages_and_the_next_one(rt: HostRuntime) -> Result<(), Fail> {
-    run::<Page>(&rt, rt.alloc(), pointer_page(), OF_POINTERS)
-}
 
 /// The inner page 20 of the tree of the owner 5, on the level 2: a neighbour to its right, no
 /// fences, and children under an empty key, a key of one byte and a key of three.
@@ -182,11 +145,6 @@ const OF_INNER: &[Asked] = &[
     ),
 ];
 
-#[test]
-fn an_inner_page_leads_to_its_neighbour_and_its_children(rt: HostRuntime) -> Result<(), Fail> {
-    run::<Page>(&rt, rt.alloc(), inner_page(), OF_INNER)
-}
-
 const OF_TOP: &[Asked] = &[
     Asked::Meets((20, TREE, 5, 0), true),
     Asked::Meets((20, TREE, 6, 0), false),
@@ -202,11 +160,6 @@ const OF_TOP: &[Asked] = &[
         ],
     ),
 ];
-
-#[test]
-fn the_top_of_a_tree_leads_to_its_children(rt: HostRuntime) -> Result<(), Fail> {
-    run::<Page>(&rt, rt.alloc(), inner_page(), OF_TOP)
-}
 
 /// The same page as a leaf, with this neighbour to its right.
 fn leaf_page(right: u32) -> [u8; 1024] {
@@ -227,8 +180,88 @@ const OF_LEAF: &[Asked] = &[
 
 const OF_LAST_LEAF: &[Asked] = &[Asked::Leads((20, NODE, 5, 0), &[])];
 
+/// Which page is asked.
+#[derive(Clone, Copy)]
+pub enum Form {
+    Header,
+    Pointers,
+    Inner,
+    /// A leaf with this neighbour to its right.
+    Leaf(u32),
+}
+
+fn page_of(form: Form) -> [u8; 1024] {
+    match form {
+        Form::Header => header_page(),
+        Form::Pointers => pointer_page(),
+        Form::Inner => inner_page(),
+        Form::Leaf(right) => leaf_page(right),
+    }
+}
+
+/// A page that is asked.
+#[derive(Drop)]
+pub struct Page {
+    bytes: [u8; 1024],
+}
+
+impl Bench for Page {
+    type Call = Asked;
+
+    ghost ready = { λ page. Unit {0} };
+
+    fn does(&mut self, alloc: Global, asked: &Asked) -> bool {
+        match *asked {
+            Asked::Meets(want, does) => meets(&self.bytes, demand(want)) == does,
+            Asked::Leads(want, told) => leads(alloc, &self.bytes, want, told),
+        }
+    }
+}
+
+impl Begins for Page {
+    type From = Form;
+
+    fn begin(_alloc: Global, form: Form) -> Result<Page, Memory> {
+        Ok(Page {
+            bytes: page_of(form),
+        })
+    }
+}
+
+const RUNS: &[(&str, Form, &[Asked])] = &[
+    (
+        "a header leads to transactions and catalog",
+        Form::Header,
+        OF_HEADER,
+    ),
+    (
+        "a pointer page leads to its data pages and the next one",
+        Form::Pointers,
+        OF_POINTERS,
+    ),
+    (
+        "an inner page leads to its neighbour and its children",
+        Form::Inner,
+        OF_INNER,
+    ),
+    (
+        "the top of a tree leads to its children",
+        Form::Inner,
+        OF_TOP,
+    ),
+    (
+        "a leaf leads to its neighbour alone",
+        Form::Leaf(8066),
+        OF_LEAF,
+    ),
+    (
+        "a leaf leads to its neighbour alone",
+        Form::Leaf(0),
+        OF_LAST_LEAF,
+    ),
+];
+
 #[test]
-fn a_leaf_leads_to_its_neighbour_alone(rt: HostRuntime) -> Result<(), Fail> {
-    run::<Page>(&rt, rt.alloc(), leaf_page(8066), OF_LEAF)?;
-    run::<Page>(&rt, rt.alloc(), leaf_page(0), OF_LAST_LEAF)
+fn what_a_page_meets_and_demands(rt: HostRuntime) -> Result<(), Fail> {
+    run_each::<Page>(&rt, rt.alloc(), RUNS)
 }

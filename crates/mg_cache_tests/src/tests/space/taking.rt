@@ -7,9 +7,9 @@ ghost use Rattle.mg_pool.specs.Pool.{IsPool};
 ghost use Rattle.mg_space.specs.Taking.{IsGeometry};
 ghost use Rattle.mg_space.specs.View.{AreWhole};
 
-use crate::tests::calls::{Begins, Bench, run};
+use crate::tests::calls::{Begins, Bench, run_each};
 use crate::tests::stores::{batch_with, empty_store, has_bytes};
-use mg_base::{MemDisk, PageNo};
+use mg_base::{MemDisk, Memory, PageNo};
 use mg_pool::Batch;
 use mg_space::{SpaceFault, Store, take_page};
 use std::alloc::Global;
@@ -67,7 +67,7 @@ impl Begins for Inventory {
     /// The limit of the file, and how many of the first pages are used.
     type From = (u32, u32);
 
-    fn begin(alloc: Global, from: (u32, u32)) -> Result<Inventory, Fail> {
+    fn begin(alloc: Global, from: (u32, u32)) -> Result<Inventory, Memory> {
         let (limit, used) = from;
         let batch = batch_with(alloc, used.min(8064))?;
         Ok(Inventory {
@@ -91,11 +91,6 @@ const FROM_7_ON: &[Call] = &[
     Call::Has(1, 16, &[0xff, 0xff, 0]),
 ];
 
-#[test]
-fn a_new_database_gives_its_pages_from_7_on(rt: HostRuntime) -> Result<(), Fail> {
-    run::<Inventory>(&rt, rt.alloc(), (16, 7), FROM_7_ON)
-}
-
 const SECOND_REGION: &[Call] = &[
     Call::Take(8064),
     Call::Take(8066),
@@ -109,14 +104,25 @@ const SECOND_REGION: &[Call] = &[
     ),
 ];
 
-#[test]
-fn the_second_region_gets_its_inventory_page(rt: HostRuntime) -> Result<(), Fail> {
-    run::<Inventory>(&rt, rt.alloc(), (8067, 8064), SECOND_REGION)
-}
+const RUNS: &[(&str, (u32, u32), &[Call])] = &[
+    (
+        "a new database gives its pages from 7 on",
+        (16, 7),
+        FROM_7_ON,
+    ),
+    (
+        "the second region gets its inventory page",
+        (8067, 8064),
+        SECOND_REGION,
+    ),
+    (
+        "a page whose inventory page lies past the limit is not free",
+        (8065, 8064),
+        &[Call::Full(8065)],
+    ),
+];
 
 #[test]
-fn a_page_whose_inventory_page_lies_past_the_limit_is_not_free(
-    rt: HostRuntime,
-) -> Result<(), Fail> {
-    run::<Inventory>(&rt, rt.alloc(), (8065, 8064), &[Call::Full(8065)])
+fn which_pages_are_taken(rt: HostRuntime) -> Result<(), Fail> {
+    run_each::<Inventory>(&rt, rt.alloc(), RUNS)
 }
