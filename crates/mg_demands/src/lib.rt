@@ -203,7 +203,7 @@
 //! (`WritesKeepTrees`), and so does a batch whose parts pay so (`BatchesKeepTrees`), in any sequence
 //! (`TreeRunsBear`).
 //!
-//! `NodeSteps` has the definitions of single pages, `Rows` those of a row, `Taken` those of a tree whose pages are
+//! `NodeSteps` has the definitions of single pages, `TreeRows` those of a row, `Taken` those of a tree whose pages are
 //! wanted and of pages that were taken for it, `Calls` those of several trees; `NodeLinks` the children of a page, as
 //! entries and as demands; `TakenSteps`, `SplitPays` and `GrowPays` each step of a row that takes its pages. A row's
 //! orders are those that `insert` adds (`row_orders`). There is no program here: each function does nothing, and its
@@ -266,16 +266,16 @@
 //!
 //! | step | law | file |
 //! |---|---|---|
-//! | page writes | `WritesKeepJointly` | `Steps` |
-//! | a batch that pays, whatever it drops | `BatchesKeepJointly` | `Steps` |
-//! | a batch that takes rows out | `RowsKeepJointly` | `Steps` |
-//! | a part for a table, which leaves the trees alone | `TablePartPays` | `Parts` |
-//! | a part for trees, which leaves tables alone | `TreePartPays` | `Parts` |
-//! | a call on one of several trees | `OneOfTreesPaysJointly` | `Parts` |
-//! | two parts of one batch, as a row and its index entries | `JointPartsAreOne` | `Parts` |
-//! | a part that is a whole batch | `JointPartKeeps` | `Parts` |
-//! | a part, and then a batch that may drop versions | `PartThenBatchPays` | `Parts` |
-//! | any sequence of steps | `JointRunsStayLinked` | `Runs` |
+//! | page writes | `WritesKeepJointly` | `JointSteps` |
+//! | a batch that pays, whatever it drops | `BatchesKeepJointly` | `JointSteps` |
+//! | a batch that takes rows out | `RowsKeepJointly` | `JointSteps` |
+//! | a part for a table, which leaves the trees alone | `TablePartPays` | `JointParts` |
+//! | a part for trees, which leaves tables alone | `TreePartPays` | `JointParts` |
+//! | a call on one of several trees | `OneOfTreesPaysJointly` | `JointParts` |
+//! | two parts of one batch, as a row and its index entries | `JointPartsAreOne` | `JointParts` |
+//! | a part that is a whole batch | `JointPartKeeps` | `JointParts` |
+//! | a part, and then a batch that may drop versions | `PartThenBatchPays` | `JointParts` |
+//! | any sequence of steps | `JointRunsStayLinked` | `JointRuns` |
 //!
 //! A change for tables keeps the trees that it leaves alone (`LeavesTrees`): none of their pages changes, what was used
 //! is used, and what it newly wants as an index page was not used. A change for trees keeps the tables where it leaves
