@@ -1,1 +1,2 @@
 pub mod MemDiskLemmas
+mod FaultyDiskLemmas

@@ -102,8 +102,7 @@ impl Field {
 
 impl fmt::Display for Field {
     fn fmt<W: fmt::Write>(&self, f: &mut fmt::Formatter<W>) -> fmt::Result {
-        let word = self.word();
-        write!(f, "{word}")
+        f.write_str(self.word())
     }
 }
 

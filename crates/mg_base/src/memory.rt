@@ -9,7 +9,7 @@ pub struct Memory;
 
 impl fmt::Display for Memory {
     fn fmt<W: fmt::Write>(&self, f: &mut fmt::Formatter<W>) -> fmt::Result {
-        write!(f, "OUT OF MEMORY")
+        f.write_str("OUT OF MEMORY")
     }
 }
 

@@ -32,11 +32,7 @@ pub fn blank_pages(alloc: Global, size: u32, room: u32) -> Result<Vec<Bytes>, Me
 pub fn blank_flags(alloc: Global, room: u32) -> Result<Vec<bool>, Memory>
     ensures { IfOk result (λ v. v.items ≡ replicate room false) }
 {
-    let mut flags = Vec::with_capacity(alloc, room as usize)?;
-    for _ in 0..room {
-        flags.push(false)?;
-    }
-    Ok(flags)
+    Ok(vec![in alloc; false; room as usize]?)
 }
 
 /// Room for so many page writes.

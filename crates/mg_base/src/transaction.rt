@@ -19,12 +19,12 @@ pub enum TxState {
 
 impl fmt::Display for TxState {
     fn fmt<W: fmt::Write>(&self, f: &mut fmt::Formatter<W>) -> fmt::Result {
-        match self {
-            TxState::Active => write!(f, "ACTIVE"),
-            TxState::Limbo => write!(f, "LIMBO"),
-            TxState::Dead => write!(f, "DEAD"),
-            TxState::Committed => write!(f, "COMMITTED"),
-        }
+        f.write_str(match self {
+            TxState::Active => "ACTIVE",
+            TxState::Limbo => "LIMBO",
+            TxState::Dead => "DEAD",
+            TxState::Committed => "COMMITTED",
+        })
     }
 }
 

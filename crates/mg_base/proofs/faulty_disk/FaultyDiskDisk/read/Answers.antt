@@ -1,0 +1,8 @@
+use Rattle.mg_base.proofs.FaultyDiskLemmas.{calm_before, calm_inside}
+use Rattle.mg_base.proofs.faulty_disk.FaultyDiskDisk.read.Goals as goal
+
+pub returns-in_err-admit-clause-calm : goal.returns-in_err-admit-clause-calm
+returns-in_err-admit-clause-calm c = calm_before c.args.self.now c.admit.new.self c.from_residual.result _ c.admit.ensures.inner c.admit.ensures.asked c.admit.ensures.never_falls c.in_err-admit.ensures.rose c.from_residual.ensures.1
+
+pub returns-clause-calm : goal.returns-clause-calm
+returns-clause-calm c = calm_inside c.args.self.now (record c.admit.new.self { inner = c.read.new.self }) c.admit.new.self.inner c.read.result c.admit.ensures.inner c.in_ok-admit.ensures.steady c.admit.ensures.asked c.read.ensures.calm
