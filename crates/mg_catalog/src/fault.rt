@@ -19,7 +19,7 @@ impl fmt::Display for CatFault {
     fn fmt<W: fmt::Write>(&self, f: &mut fmt::Formatter<W>) -> fmt::Result {
         match self {
             CatFault::BadTable { at } => write!(f, "BAD TABLE {at}"),
-            CatFault::Memory => write!(f, "OUT OF MEMORY"),
+            CatFault::Memory => f.write_str("OUT OF MEMORY"),
         }
     }
 }

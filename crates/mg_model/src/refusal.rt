@@ -93,45 +93,66 @@ impl From<Memory> for Refusal {
 
 impl fmt::Display for Refusal {
     fn fmt<W: fmt::Write>(&self, f: &mut fmt::Formatter<W>) -> fmt::Result {
+        f.write_str(self.text())?;
         match self {
-            Refusal::UpdateConflict { by } => write!(f, "UPDATE CONFLICT BY {by}"),
-            Refusal::LockConflict { by } => write!(f, "LOCK CONFLICT BY {by}"),
-            Refusal::Waits { on } => write!(f, "WAITS ON {on}"),
-            Refusal::Deadlock { by } => write!(f, "DEADLOCK BY {by}"),
-            Refusal::InLimbo { by } => write!(f, "IN LIMBO {by}"),
-            Refusal::DuplicateKey => write!(f, "DUPLICATE KEY"),
-            Refusal::NoRow => write!(f, "NO ROW"),
-            Refusal::ReadOnly => write!(f, "READ ONLY"),
-            Refusal::NoTransaction => write!(f, "NO TRANSACTION"),
-            Refusal::NotActive { state } => write!(f, "NOT ACTIVE {state}"),
-            Refusal::NoTable => write!(f, "NO TABLE"),
-            Refusal::TableExists => write!(f, "TABLE EXISTS"),
-            Refusal::RowTooLong { len, limit } => write!(f, "ROW TOO LONG {len} LIMIT {limit}"),
-            Refusal::DatabaseFull { limit } => write!(f, "DATABASE FULL LIMIT {limit}"),
-            Refusal::TransactionLimit => write!(f, "TRANSACTION LIMIT"),
-            Refusal::DiskRead { .. } => write!(f, "DISK READ FAULT"),
-            Refusal::DiskWrite { .. } => write!(f, "DISK WRITE FAULT"),
-            Refusal::Offline { .. } => write!(f, "OFFLINE"),
-            Refusal::NotADatabase { field, found } => {
-                write!(f, "NOT A DATABASE {field} FOUND {found}")
-            }
+            Refusal::UpdateConflict { by: tx }
+            | Refusal::LockConflict { by: tx }
+            | Refusal::Waits { on: tx }
+            | Refusal::Deadlock { by: tx }
+            | Refusal::InLimbo { by: tx } => write!(f, " {tx}"),
+            Refusal::NotActive { state } => write!(f, " {state}"),
+            Refusal::RowTooLong { len, limit } => write!(f, " {len} LIMIT {limit}"),
+            Refusal::DatabaseFull { limit } => write!(f, " LIMIT {limit}"),
+            Refusal::NotADatabase { field, found } => write!(f, " {field} FOUND {found}"),
             Refusal::Damaged {
                 page,
                 field,
                 found,
                 wanted,
-            } => {
-                write!(
-                    f,
-                    "DAMAGED PAGE {page} {field} FOUND {found} WANTED {wanted}"
-                )
-            }
-            Refusal::Memory => write!(f, "OUT OF MEMORY"),
+            } => write!(f, " {page} {field} FOUND {found} WANTED {wanted}"),
+            Refusal::DuplicateKey
+            | Refusal::NoRow
+            | Refusal::ReadOnly
+            | Refusal::NoTransaction
+            | Refusal::NoTable
+            | Refusal::TableExists
+            | Refusal::TransactionLimit
+            | Refusal::DiskRead { .. }
+            | Refusal::DiskWrite { .. }
+            | Refusal::Offline { .. }
+            | Refusal::Memory => Ok(()),
         }
     }
 }
 
 impl Refusal {
+    /// What is printed of it in front of its numbers.
+    fn text(&self) -> &'static str {
+        match self {
+            Refusal::UpdateConflict { .. } => "UPDATE CONFLICT BY",
+            Refusal::LockConflict { .. } => "LOCK CONFLICT BY",
+            Refusal::Waits { .. } => "WAITS ON",
+            Refusal::Deadlock { .. } => "DEADLOCK BY",
+            Refusal::InLimbo { .. } => "IN LIMBO",
+            Refusal::DuplicateKey => "DUPLICATE KEY",
+            Refusal::NoRow => "NO ROW",
+            Refusal::ReadOnly => "READ ONLY",
+            Refusal::NoTransaction => "NO TRANSACTION",
+            Refusal::NotActive { .. } => "NOT ACTIVE",
+            Refusal::NoTable => "NO TABLE",
+            Refusal::TableExists => "TABLE EXISTS",
+            Refusal::RowTooLong { .. } => "ROW TOO LONG",
+            Refusal::DatabaseFull { .. } => "DATABASE FULL",
+            Refusal::TransactionLimit => "TRANSACTION LIMIT",
+            Refusal::DiskRead { .. } => "DISK READ FAULT",
+            Refusal::DiskWrite { .. } => "DISK WRITE FAULT",
+            Refusal::Offline { .. } => "OFFLINE",
+            Refusal::NotADatabase { .. } => "NOT A DATABASE",
+            Refusal::Damaged { .. } => "DAMAGED PAGE",
+            Refusal::Memory => "OUT OF MEMORY",
+        }
+    }
+
     /// The number of the refusal, from 1 to 21.
     pub fn number(&self) -> u8
         ensures { result ≡ refusal_number self.now }

@@ -34,7 +34,7 @@ impl fmt::Display for RunFault {
     fn fmt<W: fmt::Write>(&self, f: &mut fmt::Formatter<W>) -> fmt::Result {
         match self {
             RunFault::BadRun { at } => write!(f, "BAD RUN AT {at}"),
-            RunFault::Memory => write!(f, "OUT OF MEMORY"),
+            RunFault::Memory => f.write_str("OUT OF MEMORY"),
         }
     }
 }

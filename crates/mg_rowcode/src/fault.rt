@@ -48,7 +48,7 @@ impl fmt::Display for RowFault {
         match self {
             RowFault::BadRun { at } => write!(f, "BAD RUN AT {at}"),
             RowFault::BadRow { at } => write!(f, "BAD ROW AT {at}"),
-            RowFault::Memory => write!(f, "OUT OF MEMORY"),
+            RowFault::Memory => f.write_str("OUT OF MEMORY"),
         }
     }
 }
