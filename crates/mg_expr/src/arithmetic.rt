@@ -49,36 +49,36 @@ fn multiplied(inverse: bool, x: i64, y: i64) -> Result<Value, EvalFault>
 }
 
 /// A sum or a difference of two values.
-pub fn plus(inverse: bool, a: &Value, b: &Value) -> Result<Value, EvalFault>
-    ensures { Answers (arithmetic (added_to inverse) (Some a.now) (Some b.now)) result }
+pub fn plus(inverse: bool, a: Value, b: Value) -> Result<Value, EvalFault>
+    ensures { Answers (arithmetic (added_to inverse) (Some a) (Some b)) result }
 {
-    let Some(x) = number(a) else {
+    let Some(x) = number(&a) else {
         return Ok(Value::Null);
     };
-    let Some(y) = number(b) else {
+    let Some(y) = number(&b) else {
         return Ok(Value::Null);
     };
     added(inverse, x, y)
 }
 
 /// A product or a quotient of two values.
-pub fn times(inverse: bool, a: &Value, b: &Value) -> Result<Value, EvalFault>
-    ensures { Answers (arithmetic (multiplied_by inverse) (Some a.now) (Some b.now)) result }
+pub fn times(inverse: bool, a: Value, b: Value) -> Result<Value, EvalFault>
+    ensures { Answers (arithmetic (multiplied_by inverse) (Some a) (Some b)) result }
 {
-    let Some(x) = number(a) else {
+    let Some(x) = number(&a) else {
         return Ok(Value::Null);
     };
-    let Some(y) = number(b) else {
+    let Some(y) = number(&b) else {
         return Ok(Value::Null);
     };
     multiplied(inverse, x, y)
 }
 
 /// The negative of a value.
-pub fn negative(a: &Value) -> Result<Value, EvalFault>
-    ensures { Answers (negative_of (Some a.now)) result }
+pub fn negative(a: Value) -> Result<Value, EvalFault>
+    ensures { Answers (negative_of (Some a)) result }
 {
-    let Some(x) = number(a) else {
+    let Some(x) = number(&a) else {
         return Ok(Value::Null);
     };
     match x.checked_neg() {

@@ -6,7 +6,7 @@ ghost use Rattle.mg_expr.specs.Meaning.{says_of, part_says, value_of, truth_of, 
 ghost use Rattle.mg_expr.specs.Outcomes.{Tells, Answers};
 
 use crate::arithmetic::{negative, plus, times};
-use crate::logic::{both, compared, either, negated, truth_from};
+use crate::logic::{both, compared, either, negated, not_null_test, null_test};
 use crate::outcome::Outcome;
 use crate::{EvalFault, Expr, Part};
 use mg_base::Memory;
@@ -30,7 +30,7 @@ fn all(alloc: Global, parts: &[Expr], row: &[Value]) -> Result<Truth, EvalFault>
 {
     let mut all = Truth::True;
     for part in parts {
-        all = both(all, says(alloc, part, row)?.truth());
+        all = both(all, says(alloc, part, row)?.into_truth());
         if all == Truth::False {
             return Ok(Truth::False);
         }
@@ -45,7 +45,7 @@ fn any(alloc: Global, parts: &[Expr], row: &[Value]) -> Result<Truth, EvalFault>
 {
     let mut any = Truth::False;
     for part in parts {
-        any = either(any, says(alloc, part, row)?.truth());
+        any = either(any, says(alloc, part, row)?.into_truth());
         if any == Truth::True {
             return Ok(Truth::True);
         }
@@ -62,7 +62,7 @@ fn sum(alloc: Global, first: Value, parts: &[Part], row: &[Value]) -> Result<Val
     let mut sum = first;
     for part in parts {
         let value = says(alloc, &part.value, row)?.into_value();
-        sum = plus(part.inverse, &sum, &value)?;
+        sum = plus(part.inverse, sum, value)?;
     }
     Ok(sum)
 }
@@ -76,7 +76,7 @@ fn product(alloc: Global, first: Value, parts: &[Part], row: &[Value]) -> Result
     let mut product = first;
     for part in parts {
         let value = says(alloc, &part.value, row)?.into_value();
-        product = times(part.inverse, &product, &value)?;
+        product = times(part.inverse, product, value)?;
     }
     Ok(product)
 }
@@ -90,21 +90,21 @@ fn says(alloc: Global, e: &Expr, row: &[Value]) -> Result<Outcome, EvalFault>
         Expr::Or(parts) => Ok(Outcome::Truth(any(alloc, parts, row)?)),
         Expr::And(parts) => Ok(Outcome::Truth(all(alloc, parts, row)?)),
         Expr::Not(part) => {
-            let truth = says(alloc, part, row)?.truth();
+            let truth = says(alloc, part, row)?.into_truth();
             Ok(Outcome::Truth(negated(truth)))
         }
         Expr::Compare(a, sign, b) => {
             let a = says(alloc, a, row)?.into_value();
             let b = says(alloc, b, row)?.into_value();
-            Ok(Outcome::Truth(compared(*sign, &a, &b)))
+            Ok(Outcome::Truth(compared(*sign, a, b)))
         }
         Expr::IsNull(part) => {
             let value = says(alloc, part, row)?.into_value();
-            Ok(Outcome::Truth(truth_from(value.is_null())))
+            Ok(Outcome::Truth(null_test(value)))
         }
         Expr::IsNotNull(part) => {
             let value = says(alloc, part, row)?.into_value();
-            Ok(Outcome::Truth(truth_from(!value.is_null())))
+            Ok(Outcome::Truth(not_null_test(value)))
         }
         Expr::Sum(first, parts) => {
             let first = says(alloc, first, row)?.into_value();
@@ -116,7 +116,7 @@ fn says(alloc: Global, e: &Expr, row: &[Value]) -> Result<Outcome, EvalFault>
         }
         Expr::Minus(part) => {
             let value = says(alloc, part, row)?.into_value();
-            Ok(Outcome::Value(negative(&value)?))
+            Ok(Outcome::Value(negative(value)?))
         }
         Expr::Integer(number) => Ok(Outcome::Value(Value::Int(*number))),
         Expr::Text(text) => Ok(Outcome::Value(Value::Text(text.copy(alloc)?))),
@@ -153,5 +153,5 @@ pub fn evaluate(alloc: Global, e: &Expr, row: &Row) -> Result<Value, EvalFault>
 pub fn test(alloc: Global, e: &Expr, row: &Row) -> Result<Truth, EvalFault>
     ensures { Answers (truth_of e.now row.now) result }
 {
-    Ok(says(alloc, e, row.as_slice())?.truth())
+    Ok(says(alloc, e, row.as_slice())?.into_truth())
 }

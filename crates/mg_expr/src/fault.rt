@@ -25,8 +25,8 @@ impl From<Memory> for EvalFault {
 impl fmt::Display for EvalFault {
     fn fmt<W: fmt::Write>(&self, f: &mut fmt::Formatter<W>) -> fmt::Result {
         match self {
-            EvalFault::Arithmetic => write!(f, "ARITHMETIC"),
-            EvalFault::Memory => write!(f, "OUT OF MEMORY"),
+            EvalFault::Arithmetic => f.write_str("ARITHMETIC"),
+            EvalFault::Memory => f.write_str("OUT OF MEMORY"),
         }
     }
 }

@@ -1,18 +1,32 @@
 //! Truths: NOT, AND, OR and comparisons.
 
-ghost use Rattle.std.specs.Prelude.{◌≡◌, Bool};
+ghost use Rattle.std.specs.Prelude.{◌≡◌, Bool, Some};
 ghost use Rattle.mg_value.specs.Values.{comparison};
-ghost use Rattle.mg_expr.specs.Meaning.{truth_from as truth_of_test, negated as negated_of, both as both_of, either as either_of, meets as meets_sign, compared as compared_by};
+ghost use Rattle.mg_expr.specs.Meaning.{truth_from as truth_of_test, negated as negated_of, both as both_of, either as either_of, meets as meets_sign, compared as compared_by, null_test as null_test_of, not_null_test as not_null_test_of};
 
 use crate::Sign;
 use mg_value::{Truth, Value, compare};
 use std::cmp::Ordering;
 
 /// TRUE or FALSE, as the test was answered.
-pub fn truth_from(test: bool) -> Truth
+fn truth_from(test: bool) -> Truth
     ensures { result ≡ truth_of_test test }
 {
     if test { Truth::True } else { Truth::False }
+}
+
+/// IS NULL.
+pub fn null_test(value: Value) -> Truth
+    ensures { null_test_of (Some value) ≡ Some result }
+{
+    truth_from(value.is_null())
+}
+
+/// IS NOT NULL.
+pub fn not_null_test(value: Value) -> Truth
+    ensures { not_null_test_of (Some value) ≡ Some result }
+{
+    truth_from(!value.is_null())
 }
 
 /// NOT.
@@ -70,10 +84,10 @@ fn meets(sign: Sign, order: Ordering) -> bool
 }
 
 /// The truth of a comparison: unknown where one of the values is NULL.
-pub fn compared(sign: Sign, a: &Value, b: &Value) -> Truth
-    ensures { result ≡ compared_by sign (comparison a.now b.now) }
+pub fn compared(sign: Sign, a: Value, b: Value) -> Truth
+    ensures { result ≡ compared_by sign (comparison a b) }
 {
-    match compare(a, b) {
+    match compare(&a, &b) {
         None => Truth::Unknown,
         Some(order) => truth_from(meets(sign, order)),
     }

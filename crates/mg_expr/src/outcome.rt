@@ -7,7 +7,7 @@ ghost use Rattle.mg_expr.specs.Outcomes.{said_by};
 use mg_value::{Truth, Value};
 
 /// What an expression says of a row.
-#[derive(Debug, Drop)]
+#[derive(Drop)]
 pub enum Outcome {
     Value(Value),
     Truth(Truth),
@@ -25,12 +25,12 @@ impl Outcome {
     }
 
     /// The truth; unknown for a value.
-    pub fn truth(&self) -> Truth
-        ensures { truth_in (said_by self.now) ≡ Some result }
+    pub fn into_truth(self) -> Truth
+        ensures { truth_in (said_by self) ≡ Some result }
     {
         match self {
             Outcome::Value(_) => Truth::Unknown,
-            Outcome::Truth(truth) => *truth,
+            Outcome::Truth(truth) => truth,
         }
     }
 }
