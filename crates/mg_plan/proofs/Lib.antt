@@ -1,2 +1,3 @@
 pub mod TypeLemmas
 pub mod BindingLemmas
+pub mod StepLemmas

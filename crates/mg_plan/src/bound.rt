@@ -1,10 +1,11 @@
 //! Bound statements.
 
-ghost use Rattle.std.specs.Prelude.{◌≡◌, ◌≤◌, length};
+ghost use Rattle.std.specs.Prelude.{◌≡◌, ◌≤◌, OnOk, length};
 ghost use Rattle.std.specs.Option.{option_copied};
 ghost use Rattle.mg_value.specs.declared.shape.TheConstants.{MOST_COLUMNS};
 ghost use Rattle.mg_statements.specs.Plain.{plain_of};
-ghost use Rattle.mg_plan.specs.Refusing.{Binds, HasFewColumns, columns_in, key_in};
+ghost use Rattle.mg_plan.specs.Refusing.{Binds, HasFewColumns, IsBoundAs, Tells, TestsPart, columns_in, key_in, lengths_refused, names_refused, types_refused};
+ghost use Rattle.mg_plan.specs.Statements.{count_defined as count_defined_in};
 
 use crate::PlanFault;
 use crate::names::has_twice;
@@ -70,6 +71,24 @@ fn bind_in(
     requires few { length columns.now ≤ MOST_COLUMNS }
     ensures { Binds columns.now key size (plain_of s.now) result }
 {
+    test_names(alloc, columns, key, s)?;
+    let places = places_in(alloc, columns, s)?;
+    let statement = bind_statement(alloc, columns, s)?;
+    let bound = Bound { statement, places };
+    match test_bound(alloc, columns, size, s, &bound) {
+        Ok(()) => Ok(bound),
+        Err(fault) => {
+            let_go(bound);
+            Err(fault)
+        }
+    }
+}
+
+/// Tests what a statement names, before it is bound.
+fn test_names(alloc: Global, columns: &[Column], key: u16, s: &Statement) -> Result<(), PlanFault>
+    ensures tests { TestsPart (names_refused columns.now key (plain_of s.now)) result }
+    ensures few { OnOk result (count_defined_in (plain_of s.now) ≤ MOST_COLUMNS) }
+{
     let listed = columns_listed(alloc, s)?;
     if has_twice(&listed) {
         return Err(PlanFault::ColumnExists);
@@ -91,9 +110,22 @@ fn bind_in(
     if sets_key(columns, key, s) {
         return Err(PlanFault::KeyChange);
     }
-    let statement = bind_statement(alloc, columns, s)?;
-    let places = places_in(alloc, columns, s)?;
-    if !is_typed(columns, &places, &statement) {
+    Ok(())
+}
+
+/// Tests the types of a bound statement, and the lengths of a new table.
+fn test_bound(
+    alloc: Global,
+    columns: &[Column],
+    size: u32,
+    s: &Statement,
+    bound: &Bound,
+) -> Result<(), PlanFault>
+    requires few { count_defined_in (plain_of s.now) ≤ MOST_COLUMNS }
+    requires bound { IsBoundAs columns.now (plain_of s.now) bound.now }
+    ensures { Tells (types_refused columns.now (plain_of s.now) (lengths_refused size (plain_of s.now))) result }
+{
+    if !is_typed(columns, &bound.places, &bound.statement) {
         return Err(PlanFault::TypeMismatch);
     }
     let len = new_row_len(alloc, s)?;
@@ -110,5 +142,5 @@ fn bind_in(
             limit: size / 8,
         });
     }
-    Ok(Bound { statement, places })
+    Ok(())
 }

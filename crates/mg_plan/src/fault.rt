@@ -39,19 +39,39 @@ impl From<Memory> for PlanFault {
     }
 }
 
+impl PlanFault {
+    /// What is printed of it in front of its numbers.
+    fn text(&self) -> &'static str {
+        match self {
+            PlanFault::ColumnExists => "COLUMN EXISTS",
+            PlanFault::TooMany { .. } => "TOO MANY",
+            PlanFault::NoColumn => "NO COLUMN",
+            PlanFault::OneKey => "ONE KEY",
+            PlanFault::CountMismatch => "COUNT MISMATCH",
+            PlanFault::KeyChange => "KEY CHANGE",
+            PlanFault::TypeMismatch => "TYPE MISMATCH",
+            PlanFault::RowTooLong { .. } => "ROW TOO LONG",
+            PlanFault::KeyTooLong { .. } => "KEY TOO LONG",
+            PlanFault::Memory => "OUT OF MEMORY",
+        }
+    }
+}
+
 impl fmt::Display for PlanFault {
     fn fmt<W: fmt::Write>(&self, f: &mut fmt::Formatter<W>) -> fmt::Result {
+        f.write_str(self.text())?;
         match self {
-            PlanFault::ColumnExists => write!(f, "COLUMN EXISTS"),
-            PlanFault::TooMany { limit } => write!(f, "TOO MANY LIMIT {limit}"),
-            PlanFault::NoColumn => write!(f, "NO COLUMN"),
-            PlanFault::OneKey => write!(f, "ONE KEY"),
-            PlanFault::CountMismatch => write!(f, "COUNT MISMATCH"),
-            PlanFault::KeyChange => write!(f, "KEY CHANGE"),
-            PlanFault::TypeMismatch => write!(f, "TYPE MISMATCH"),
-            PlanFault::RowTooLong { len, limit } => write!(f, "ROW TOO LONG {len} LIMIT {limit}"),
-            PlanFault::KeyTooLong { len, limit } => write!(f, "KEY TOO LONG {len} LIMIT {limit}"),
-            PlanFault::Memory => write!(f, "OUT OF MEMORY"),
+            PlanFault::TooMany { limit } => write!(f, " LIMIT {limit}"),
+            PlanFault::RowTooLong { len, limit } | PlanFault::KeyTooLong { len, limit } => {
+                write!(f, " {len} LIMIT {limit}")
+            }
+            PlanFault::ColumnExists
+            | PlanFault::NoColumn
+            | PlanFault::OneKey
+            | PlanFault::CountMismatch
+            | PlanFault::KeyChange
+            | PlanFault::TypeMismatch
+            | PlanFault::Memory => Ok(()),
         }
     }
 }

@@ -5,7 +5,7 @@ ghost use Rattle.std.specs.List.{list_all, list_any};
 ghost use Rattle.mg_value.specs.declared.shape.TheConstants.{MOST_COLUMNS};
 ghost use Rattle.mg_expr.specs.Trees.{tree_of};
 ghost use Rattle.mg_expr.specs.Typing.{fits_value as fits_value_test, sort_of};
-ghost use Rattle.mg_statements.specs.Plain.{plain_of, tree_in, trees_in, names_in, assign_of, total_of};
+ghost use Rattle.mg_statements.specs.Plain.{Insert as InsertPlain, Update as UpdatePlain, Totals as TotalsPlain, plain_of, tree_in, trees_in, names_in, assign_of, total_of};
 ghost use Rattle.mg_plan.specs.Binding.{is_known, bound as bound_tree, is_filter_known as is_filter_known_test};
 ghost use Rattle.mg_plan.specs.Names.{place_of as place_of_name, place_or_0 as place_or_0_of, is_column as is_column_test};
 ghost use Rattle.mg_plan.specs.Types.{sort_if, fit_places as fit_places_test, fits_column as fits_column_test, is_filter_truth as is_filter_truth_test};
@@ -363,6 +363,61 @@ fn bind_values(
     }
 }
 
+fn bind_insert(
+    alloc: Global,
+    table: &Name,
+    listed: &Option<Vec<Name>>,
+    values: &[Expr],
+) -> Result<Statement, Memory>
+    ensures { IfOk result (λ bound. plain_of bound
+        ≡ InsertPlain table.now (names_in listed.now) (map tree_of values.now)) }
+{
+    let listed = copy_listed(alloc, listed)?;
+    Ok(Statement::Insert {
+        table: *table,
+        columns: listed,
+        values: copy_values(alloc, values)?,
+    })
+}
+
+fn bind_update(
+    alloc: Global,
+    columns: &[Column],
+    table: &Name,
+    sets: &[Assign],
+    filter: &Option<Expr>,
+) -> Result<Statement, Memory>
+    requires { length columns.now ≤ MOST_COLUMNS }
+    ensures { IfOk result (λ bound. plain_of bound ≡ bound_plain columns.now
+        (UpdatePlain table.now (map assign_of sets.now) (tree_in filter.now))) }
+{
+    let sets = bind_sets(alloc, columns, sets)?;
+    Ok(Statement::Update {
+        table: *table,
+        sets,
+        filter: bind_filter(alloc, columns, filter)?,
+    })
+}
+
+fn bind_select_totals(
+    alloc: Global,
+    columns: &[Column],
+    table: &Name,
+    aggs: &[Agg],
+    filter: &Option<Expr>,
+) -> Result<Statement, Memory>
+    requires { length columns.now ≤ MOST_COLUMNS }
+    ensures { IfOk result (λ bound. plain_of bound ≡ bound_plain columns.now
+        (TotalsPlain table.now (map total_of aggs.now) (tree_in filter.now))) }
+{
+    let aggs = bind_totals(alloc, columns, aggs)?;
+    Ok(Statement::Totals {
+        table: *table,
+        aggs,
+        filter: bind_filter(alloc, columns, filter)?,
+    })
+}
+
 /// The statement with columns in place of names in its expressions.
 pub(crate) fn bind_statement(
     alloc: Global,
@@ -397,26 +452,12 @@ pub(crate) fn bind_statement(
             table,
             columns: listed,
             values,
-        } => {
-            let listed = copy_listed(alloc, listed)?;
-            Ok(Statement::Insert {
-                table: *table,
-                columns: listed,
-                values: copy_values(alloc, values)?,
-            })
-        }
+        } => bind_insert(alloc, table, listed, values),
         Statement::Update {
             table,
             sets,
             filter,
-        } => {
-            let sets = bind_sets(alloc, columns, sets)?;
-            Ok(Statement::Update {
-                table: *table,
-                sets,
-                filter: bind_filter(alloc, columns, filter)?,
-            })
-        }
+        } => bind_update(alloc, columns, table, sets, filter),
         Statement::Delete { table, filter } => Ok(Statement::Delete {
             table: *table,
             filter: bind_filter(alloc, columns, filter)?,
@@ -425,14 +466,7 @@ pub(crate) fn bind_statement(
             table,
             aggs,
             filter,
-        } => {
-            let aggs = bind_totals(alloc, columns, aggs)?;
-            Ok(Statement::Totals {
-                table: *table,
-                aggs,
-                filter: bind_filter(alloc, columns, filter)?,
-            })
-        }
+        } => bind_select_totals(alloc, columns, table, aggs, filter),
         Statement::Select {
             table,
             values,

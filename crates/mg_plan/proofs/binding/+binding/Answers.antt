@@ -1,3 +1,7 @@
+use Rattle.std.proofs.Common.{ap}
+use Rattle.mg_expr.specs.Trees.{Tree, tree_of, part_tree}
+use Rattle.mg_plan.specs.Binding.{bound, bound_part}
+use Rattle.mg_plan.proofs.StepLemmas.{alike, alike_twice}
 use Rattle.mg_plan.proofs.BindingLemmas.{or_bound, and_bound, sum_bound, product_bound}
 use Rattle.mg_plan.proofs.binding.+binding.Goals as goal
 
@@ -16,3 +20,16 @@ bind_expr-returns-in_ok-bind_parts-in-Sum t c =
 pub bind_expr-returns-in_ok-bind_parts-in-Product : goal.bind_expr-returns-in_ok-bind_parts-in-Product
 bind_expr-returns-in_ok-bind_parts-in-Product t c =
     product_bound c.args.columns.now _ _ c.in-Product.first _ c.in-Product.parts _ _ c.in-Product.is c.deref-in-Product-2.ensures.value c.deref-in-Product.ensures c.in_ok-first-in-Product.ensures c.in_ok-bind_parts-in-Product.ensures
+
+pub bind_each-loop-part-preserved : goal.bind_each-loop-part-preserved
+bind_each-loop-part-preserved t c =
+    alike_twice tree_of (λ t. bound t c.args.columns.now) tree_of c.args.parts.now c.loop-part.part-index
+    c.part-item.result _ _ _ c.loop-part-test.true c.part-item.is c.in_ok-bind_expr.ensures c.loop-part.invariant
+    c.in_ok-push.ensures.items
+
+pub bind_parts-loop-part-preserved : goal.bind_parts-loop-part-preserved
+bind_parts-loop-part-preserved t c =
+    alike part_tree (bound_part c.args.columns.now) c.args.parts.now c.loop-part.part-index c.part-item.result _ _ _
+    c.loop-part-test.true c.part-item.is
+    (ap (λ (t : Tree). (c.part-item.result.inverse, t)) c.in_ok-bind_expr.ensures) c.loop-part.invariant
+    c.in_ok-push.ensures.items
