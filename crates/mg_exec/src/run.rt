@@ -266,7 +266,8 @@ impl<R: Records> Run<R> {
     {
         let phase = replace(&mut self.phase, Phase::Ended);
         let Turn { phase, answer } = go(r, self.alloc, self.t, phase);
-        self.phase = phase;
+        // `drop` is a call; an assignment lets the old phase go in place, variant by variant
+        drop(replace(&mut self.phase, phase));
         answer
     }
 

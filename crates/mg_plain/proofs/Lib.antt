@@ -1,3 +1,4 @@
+mod LoopLemmas
 mod LookupLemmas
 mod WaitLemmas
 mod RowLemmas

@@ -2,6 +2,7 @@
 
 ghost use Rattle.std.specs.Prelude.{◌≡◌, ◌+◌, ◌≤◌, ◌∷◌, [], IfOk, OnErr, length};
 ghost use Rattle.mg_model.specs.Changes.{row_at};
+ghost use Rattle.mg_model.specs.Machine.{placed, catalog_changes as catalog_changes_in};
 ghost use Rattle.mg_model.specs.Catalog.{catalog_name};
 ghost use Rattle.mg_model.specs.Answers.{answer as answer_after, answer_by};
 ghost use Rattle.mg_plain.specs.Keeping.{StandsFor, told_in, kept_after, LieWithin};
@@ -12,7 +13,7 @@ use crate::beginning::{catalog_changes, known_at_first, limbo_steps, placed_chan
 use crate::known::{BegunBy, Known};
 use crate::plain::taking::{transaction_of, waits_by};
 use mg_base::{Memory, TxNo};
-use mg_model::{Answer, Change, Event, Opening, Step};
+use mg_model::{Answer, Change, Event, Opening, PlacedRow, Step};
 use std::alloc::Global;
 
 mod judging;
@@ -54,8 +55,7 @@ impl Plain {
         ensures { IfOk result (λ plain. StandsFor opening.now [] (kept plain)) }
     {
         let rows = opening.rows.as_slice();
-        let seen = Plain::of_catalog(alloc, catalog_changes(alloc, rows)?)?;
-        let database = placed_changes(alloc, &seen, rows)?;
+        let database = rows_placed(alloc, rows)?;
         let opened = database.as_slice().len();
         let known = known_at_first(alloc, opening.states.as_slice(), opened)?;
         let steps = limbo_steps(alloc, opening.limbo.as_slice())?;
@@ -106,4 +106,13 @@ impl Plain {
         self.note(transaction_of(event), waits_by(&answer));
         Ok(answer)
     }
+}
+
+/// The rows of an opening as changes, each under its key by the catalog among them.
+fn rows_placed(alloc: Global, rows: &[PlacedRow]) -> Result<Vec<Change>, Memory>
+    ensures { IfOk result (λ changes. changes.items
+        ≡ placed (row_at (catalog_changes_in rows.now) catalog_name) rows.now) }
+{
+    let seen = Plain::of_catalog(alloc, catalog_changes(alloc, rows)?)?;
+    placed_changes(alloc, &seen, rows)
 }

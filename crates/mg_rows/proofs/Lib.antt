@@ -3,3 +3,4 @@ pub mod SumLemmas
 pub mod RowLemmas
 pub mod FilterLemmas
 pub mod SelectLemmas
+pub mod GatherLemmas

@@ -57,15 +57,24 @@ impl From<EvalFault> for NewRowFault {
     }
 }
 
+impl NewRowFault {
+    /// What is printed of it in front of its numbers.
+    fn text(&self) -> &'static str {
+        match self {
+            NewRowFault::Arithmetic => "ARITHMETIC",
+            NewRowFault::NullNotAllowed => "NULL NOT ALLOWED",
+            NewRowFault::TextTooLong { .. } => "TEXT TOO LONG",
+            NewRowFault::Memory => "OUT OF MEMORY",
+        }
+    }
+}
+
 impl fmt::Display for NewRowFault {
     fn fmt<W: fmt::Write>(&self, f: &mut fmt::Formatter<W>) -> fmt::Result {
-        match self {
-            NewRowFault::Arithmetic => write!(f, "ARITHMETIC"),
-            NewRowFault::NullNotAllowed => write!(f, "NULL NOT ALLOWED"),
-            NewRowFault::TextTooLong { len, most } => {
-                write!(f, "TEXT TOO LONG {len} LIMIT {most}")
-            }
-            NewRowFault::Memory => write!(f, "OUT OF MEMORY"),
+        f.write_str(self.text())?;
+        if let NewRowFault::TextTooLong { len, most } = self {
+            write!(f, " {len} LIMIT {most}")?;
         }
+        Ok(())
     }
 }

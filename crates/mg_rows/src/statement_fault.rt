@@ -123,33 +123,58 @@ impl From<NewRowFault> for StatementFault {
     }
 }
 
+impl StatementFault {
+    /// What is printed of it in front of its numbers, or of the machine's refusal.
+    fn text(&self) -> &'static str {
+        match self {
+            StatementFault::Engine(_) => "",
+            StatementFault::Syntax { .. } => "SYNTAX",
+            StatementFault::NameTooLong { .. } => "NAME TOO LONG",
+            StatementFault::NumberTooLarge { .. } => "NUMBER TOO LARGE",
+            StatementFault::TooDeep { .. } => "TOO DEEP",
+            StatementFault::NoColumn => "NO COLUMN",
+            StatementFault::TypeMismatch => "TYPE MISMATCH",
+            StatementFault::Arithmetic => "ARITHMETIC",
+            StatementFault::NullNotAllowed => "NULL NOT ALLOWED",
+            StatementFault::TextTooLong { .. } => "TEXT TOO LONG",
+            StatementFault::KeyChange => "KEY CHANGE",
+            StatementFault::TooMany { .. } => "TOO MANY",
+            StatementFault::KeyTooLong { .. } => "KEY TOO LONG",
+            StatementFault::NoSavepoint => "NO SAVEPOINT",
+            StatementFault::Busy => "BUSY",
+            StatementFault::ColumnExists => "COLUMN EXISTS",
+            StatementFault::InTransaction => "IN TRANSACTION",
+            StatementFault::OneKey => "ONE KEY",
+            StatementFault::CountMismatch => "COUNT MISMATCH",
+            StatementFault::NothingHeld => "NOTHING HELD",
+        }
+    }
+}
+
 impl fmt::Display for StatementFault {
     fn fmt<W: fmt::Write>(&self, f: &mut fmt::Formatter<W>) -> fmt::Result {
+        f.write_str(self.text())?;
         match self {
             StatementFault::Engine(refusal) => write!(f, "{refusal}"),
-            StatementFault::Syntax { at } => write!(f, "SYNTAX AT {at}"),
-            StatementFault::NameTooLong { at } => write!(f, "NAME TOO LONG AT {at}"),
-            StatementFault::NumberTooLarge { at } => write!(f, "NUMBER TOO LARGE AT {at}"),
-            StatementFault::TooDeep { at } => write!(f, "TOO DEEP AT {at}"),
-            StatementFault::NoColumn => write!(f, "NO COLUMN"),
-            StatementFault::TypeMismatch => write!(f, "TYPE MISMATCH"),
-            StatementFault::Arithmetic => write!(f, "ARITHMETIC"),
-            StatementFault::NullNotAllowed => write!(f, "NULL NOT ALLOWED"),
-            StatementFault::TextTooLong { len, most } => {
-                write!(f, "TEXT TOO LONG {len} LIMIT {most}")
-            }
-            StatementFault::KeyChange => write!(f, "KEY CHANGE"),
-            StatementFault::TooMany { limit } => write!(f, "TOO MANY LIMIT {limit}"),
-            StatementFault::KeyTooLong { len, limit } => {
-                write!(f, "KEY TOO LONG {len} LIMIT {limit}")
-            }
-            StatementFault::NoSavepoint => write!(f, "NO SAVEPOINT"),
-            StatementFault::Busy => write!(f, "BUSY"),
-            StatementFault::ColumnExists => write!(f, "COLUMN EXISTS"),
-            StatementFault::InTransaction => write!(f, "IN TRANSACTION"),
-            StatementFault::OneKey => write!(f, "ONE KEY"),
-            StatementFault::CountMismatch => write!(f, "COUNT MISMATCH"),
-            StatementFault::NothingHeld => write!(f, "NOTHING HELD"),
+            StatementFault::Syntax { at }
+            | StatementFault::NameTooLong { at }
+            | StatementFault::NumberTooLarge { at }
+            | StatementFault::TooDeep { at } => write!(f, " AT {at}"),
+            StatementFault::TextTooLong { len, most: limit }
+            | StatementFault::KeyTooLong { len, limit } => write!(f, " {len} LIMIT {limit}"),
+            StatementFault::TooMany { limit } => write!(f, " LIMIT {limit}"),
+            StatementFault::NoColumn
+            | StatementFault::TypeMismatch
+            | StatementFault::Arithmetic
+            | StatementFault::NullNotAllowed
+            | StatementFault::KeyChange
+            | StatementFault::NoSavepoint
+            | StatementFault::Busy
+            | StatementFault::ColumnExists
+            | StatementFault::InTransaction
+            | StatementFault::OneKey
+            | StatementFault::CountMismatch
+            | StatementFault::NothingHeld => Ok(()),
         }
     }
 }

@@ -1,3 +1,4 @@
+pub mod LastWord
 pub mod Lexemes
 pub mod KindNumbers
 pub mod Unique

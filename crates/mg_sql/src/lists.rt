@@ -4,7 +4,8 @@ ghost use Rattle.std.specs.Prelude.{◌≡◌, List, ℕ, map, true};
 ghost use Rattle.mg_expr.specs.Trees.{Tree, tree_of};
 ghost use Rattle.mg_sql.specs.Reading.{IsReady, Keeps};
 ghost use Rattle.mg_statements.specs.Plain.{Total, assign_of, total_of};
-ghost use Rattle.mg_sql.specs.Statements.{Rest, list, item, names as names_item, expressions as expressions_item, assignments as assignments_item, definitions as definitions_item, totals as totals_item};
+ghost use Rattle.mg_sql.specs.declared.token.Kind.TheVariants as kinds;
+ghost use Rattle.mg_sql.specs.Statements.{Rest, list, item, word, expression as expression_rule, names as names_item, expressions as expressions_item, assignments as assignments_item, definitions as definitions_item, totals as totals_item};
 ghost use Rattle.mg_sql.specs.Going.{Goes, begins_in, behind_item, behind_list};
 ghost use Rattle.mg_statements.specs.declared.statement.Def.{Def as AnyDef};
 
@@ -97,6 +98,31 @@ pub(crate) fn definitions(p: &mut Parser) -> Result<Vec<Def>, SqlFault>
     Ok(columns)
 }
 
+/// "(" "*" ")"
+fn all_rows(p: &mut Parser) -> Result<(), SqlFault>
+    requires ready { IsReady p.old }
+    ensures keeps { Keeps p.old p.new }
+    ensures told { (then_ : Rest)
+        → Goes (λ nothing. nothing) (word kinds.Open (word kinds.Star (word kinds.Close then_))) (λ _. then_) p.old p.new result }
+{
+    p.expect(Kind::Open)?;
+    p.expect(Kind::Star)?;
+    p.expect(Kind::Close)
+}
+
+/// "(" expr ")"
+fn argument(p: &mut Parser) -> Result<Expr, SqlFault>
+    requires ready { IsReady p.old }
+    ensures keeps { Keeps p.old p.new }
+    ensures told { (then_ : Tree → Rest)
+        → Goes tree_of (word kinds.Open (expression_rule true (λ e. word kinds.Close (then_ e)))) then_ p.old p.new result }
+{
+    p.expect(Kind::Open)?;
+    let value = expression(p, true)?;
+    p.expect(Kind::Close)?;
+    Ok(value)
+}
+
 /// agg = COUNT "(" "*" ")" | SUM "(" expr ")"
 fn total(p: &mut Parser) -> Result<Agg, SqlFault>
     requires ready { IsReady p.old }
@@ -105,15 +131,11 @@ fn total(p: &mut Parser) -> Result<Agg, SqlFault>
         → Goes total_of (item totals_item then_) then_ p.old p.new result }
 {
     if p.takes(Kind::Count) {
-        p.expect(Kind::Open)?;
-        p.expect(Kind::Star)?;
-        p.expect(Kind::Close)?;
+        all_rows(p)?;
         return Ok(Agg::Count);
     }
     p.expect(Kind::Sum)?;
-    p.expect(Kind::Open)?;
-    let value = expression(p, true)?;
-    p.expect(Kind::Close)?;
+    let value = argument(p)?;
     Ok(Agg::Sum(value))
 }
 

@@ -13,7 +13,7 @@ use crate::scanning::scan;
 use crate::selecting::select;
 use crate::token::Kind;
 use crate::transactions::{commit, rollback, savepoint, set_transaction};
-use mg_statements::{SqlFault, Statement};
+use mg_statements::{SqlFault, Statement, let_go};
 use std::alloc::Global;
 
 /// Reads a statement.
@@ -70,6 +70,11 @@ pub fn parse(alloc: Global, text: &[u8]) -> Result<Statement, SqlFault>
         kind,
     };
     let parsed = statement(&mut parser)?;
-    end(&mut parser)?;
-    Ok(parsed)
+    match end(&mut parser) {
+        Ok(()) => Ok(parsed),
+        Err(fault) => {
+            let_go(parsed);
+            Err(fault)
+        }
+    }
 }

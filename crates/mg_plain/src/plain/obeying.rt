@@ -48,11 +48,12 @@ impl Plain {
     }
 
     /// Answers an event whose answer is Fine or a refusal.
-    pub(crate) fn finish(&mut self, event: &Event) -> Result<(), Refusal>
-        requires short { is_short_event event.now ≡ true }
-        ensures { IsDone (kept self.old) (kept self.new) event.now result (seer_of event.now) }
+    pub(crate) fn finish(&mut self, event: Event) -> Result<(), Refusal>
+        requires short { is_short_event event ≡ true }
+        ensures { IsDone (kept self.old) (kept self.new) event result (seer_of event) }
     {
-        let given = self.obey(event);
+        let given = self.obey(&event);
+        drop(event);
         as_done(given)
     }
 
@@ -72,7 +73,7 @@ impl Plain {
             result (Some t.0) }
     {
         match row.copy(self.alloc) {
-            Ok(row) => self.finish(&Event::Insert(t, *table, row)),
+            Ok(row) => self.finish(Event::Insert(t, *table, row)),
             Err(_) => self.fail(t),
         }
     }
@@ -90,7 +91,7 @@ impl Plain {
     {
         match key.copy(self.alloc) {
             Ok(key) => match row.copy(self.alloc) {
-                Ok(row) => self.finish(&Event::Change(t, *table, key, row)),
+                Ok(row) => self.finish(Event::Change(t, *table, key, row)),
                 Err(_) => self.fail(t),
             },
             Err(_) => self.fail(t),
@@ -103,7 +104,7 @@ impl Plain {
             result (Some t.0) }
     {
         match key.copy(self.alloc) {
-            Ok(key) => self.finish(&Event::Erase(t, *table, key)),
+            Ok(key) => self.finish(Event::Erase(t, *table, key)),
             Err(_) => self.fail(t),
         }
     }

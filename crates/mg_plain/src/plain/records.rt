@@ -153,7 +153,9 @@ impl Records for Plain {
     fn begin(&mut self, session: u8, mode: Mode) -> Result<TxNo, Refusal> {
         match self.note_session(session) {
             Ok(()) => {
-                let given = self.obey(&Event::Begin(session, mode));
+                let event = Event::Begin(session, mode);
+                let given = self.obey(&event);
+                drop(event);
                 as_number(given)
             }
             Err(_) => Err(Refusal::Memory),
@@ -161,7 +163,7 @@ impl Records for Plain {
     }
 
     fn look(&mut self, t: TxNo) -> Result<(), Refusal> {
-        self.finish(&Event::Look(t))
+        self.finish(Event::Look(t))
     }
 
     fn table(&mut self, t: TxNo, name: &Name) -> Result<Table, Refusal> {
@@ -229,7 +231,7 @@ impl Records for Plain {
     }
 
     fn mark(&mut self, t: TxNo) -> Result<(), Refusal> {
-        self.finish(&Event::Mark(t))
+        self.finish(Event::Mark(t))
     }
 
     fn undo_mark(&mut self, t: TxNo) -> Result<(), Refusal> {
@@ -237,7 +239,7 @@ impl Records for Plain {
     }
 
     fn savepoint(&mut self, t: TxNo, name: &Name) -> Result<(), Refusal> {
-        self.finish(&Event::Savepoint(t, *name))
+        self.finish(Event::Savepoint(t, *name))
     }
 
     fn back_to(&mut self, t: TxNo, name: &Name) -> Result<bool, Refusal> {
@@ -263,11 +265,11 @@ impl Records for Plain {
     }
 
     fn commit_end(&mut self, t: TxNo) -> Result<(), Refusal> {
-        self.finish(&Event::Commit(t))
+        self.finish(Event::Commit(t))
     }
 
     fn rollback(&mut self, t: TxNo) -> Result<(), Refusal> {
-        self.finish(&Event::Rollback(t))
+        self.finish(Event::Rollback(t))
     }
 
     ghost seen = { tables_are_seen };

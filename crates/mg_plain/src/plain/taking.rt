@@ -69,10 +69,8 @@ impl Plain {
         ensures ok { OnOk result (kept self.new ≡ stepped t.0 deed (kept self.old)) }
         ensures err { OnErr result (kept self.new ≡ kept self.old) }
     {
-        match self.steps.insert(0, Step { by: t, deed }) {
-            Ok(()) => Ok(()),
-            Err(_) => Err(Memory),
-        }
+        self.steps.insert(0, Step { by: t, deed })?;
+        Ok(())
     }
 
     /// A transaction is taken back to a point, if it has set one.

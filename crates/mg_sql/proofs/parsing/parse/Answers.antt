@@ -25,13 +25,12 @@ returns-in_err-parsed c =
     let p = err_from_is_err_and c.from_residual.result c.from_residual.ensures.1 in rw (p.1, p.2)
     (answers _ c.statement.new.p c.scan-at.ensures.blanks c.in_err-parsed.ensures.keeps (Err c.in_err-parsed.field-0.0) c.in_err-parsed.ensures.told)
 
-pub returns-in_err-end : goal.returns-in_err-end
-returns-in_err-end c =
-    let p = err_from_is_err_and c.from_residual-in_err-end.result c.from_residual-in_err-end.ensures.1 in rw (p.1, p.2)
-    (answers _ c.end.new.p c.scan-at.ensures.blanks (kept_on _ c.statement.new.p c.end.new.p c.in_ok-parsed.ensures.keeps c.in_err-end.ensures.keeps) (Err c.in_err-end.field-0.0)
-    (fails_on c.in_ok-parsed.ensures.told c.in_err-end.ensures.keeps _ (c.in_err-end.ensures.told (plain_of c.in_ok-parsed.parsed))))
+pub returns-in-Err : goal.returns-in-Err
+returns-in-Err c =
+    answers _ c.end.new.p c.scan-at.ensures.blanks (kept_on _ c.statement.new.p c.end.new.p c.in_ok-parsed.ensures.keeps c.in-Err.ensures.keeps) (Err c.in-Err.fault)
+    (fails_on c.in_ok-parsed.ensures.told c.in-Err.ensures.keeps _ (c.in-Err.ensures.told (plain_of c.in_ok-parsed.parsed)))
 
-pub returns : goal.returns
-returns c =
-    answers _ c.end.new.p c.scan-at.ensures.blanks (kept_on _ c.statement.new.p c.end.new.p c.in_ok-parsed.ensures.keeps c.in_ok-end.ensures.keeps) (Ok c.in_ok-parsed.parsed)
-    (let d = c.in_ok-end.ensures.told (plain_of c.in_ok-parsed.parsed) in (reads_on c.end.new.p c.in_ok-parsed.ensures.told d.0, d.1))
+pub returns-in-Ok : goal.returns-in-Ok
+returns-in-Ok c =
+    answers _ c.end.new.p c.scan-at.ensures.blanks (kept_on _ c.statement.new.p c.end.new.p c.in_ok-parsed.ensures.keeps c.in-Ok.ensures.keeps) (Ok c.in_ok-parsed.parsed)
+    (let d = c.in-Ok.ensures.told (plain_of c.in_ok-parsed.parsed) in (reads_on c.end.new.p c.in_ok-parsed.ensures.told d.0, d.1))
