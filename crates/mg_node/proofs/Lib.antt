@@ -1,3 +1,4 @@
 pub mod CheckLemmas
 pub mod NodeLemmas
 pub mod OrderLemmas
+pub mod PlaceLemmas

@@ -1,7 +1,7 @@
 -- One more run is read, or the first one that breaks the rule is met.
 use Rattle.std.proofs.Common.{◌≡◌, ℕ, ◌+◌, ◌-◌, ◌<◌, ◌≤◌, ◌≢◌, max, Bool, true, false, List, [], ◌∷◌, ◌++◌, length, take, drop, replicate, get_or, refl, sym, ap, subst, ◌∙◌, append_assoc, arith, inl, inr, cond, eqb}
 use Rattle.std.proofs.lemmas.Bool.{cases_lt, false≢true, eqb-true, eq-eqb}
-use Rattle.std.proofs.lemmas.List.{append-nil, length-append, length-replicate, length-take-le, length-drop, get_or-replicate, get_or_append_left, get_or_past, drop_at, take_at, take-take, length-take}
+use Rattle.std.proofs.lemmas.List.{append-nil, length-append, length-replicate, length-take-le, length-drop, get_or-replicate, get_or_append_left, get_or_past, drop_at, take_at, take_all, take-take, length-take}
 use Rattle.mg_base.specs.Fields.{byte}
 use Rattle.mg_rle.specs.declared.reading.Control.{Control}
 use Rattle.mg_rle.specs.declared.reading.Control.TheVariants as controls
@@ -332,6 +332,22 @@ pub keeps_front_twice : (a b c : List ℕ) → KeepsFront a b → KeepsFront b c
 keeps_front_twice a b c h k =
     let shorter : length a ≤ length b = omega (arith, ap length h, length-take (length a) b) in
     sym (take-take (length a) (length b) c shorter) ∙ ap (take (length a)) k ∙ h
+
+pub kept_front : (old new : List ℕ) → new ≡ old → KeepsFront old new
+kept_front old new is = subst (λ (t : List ℕ). KeepsFront old t) (sym is) (take_all (length old) old (omega arith))
+
+pub longer_keeps_front : (old new more : List ℕ) → new ≡ old ++ more → KeepsFront old new
+longer_keeps_front old new more is = ap (λ (t : List ℕ). take (length old) t) is ∙ take_at old more (length old) refl
+
+pub reads_further : (reader after : Reader) (run : Run) (len : ℕ) → after ≡ reader_after reader run len → reader.at < after.at
+reads_further reader after run len is = subst (λ (r : Reader). reader.at < r.at) (sym is) (further run)
+  where
+    further : (run : Run) → reader.at < (reader_after reader run len).at
+    further (Literal bytes) = omega arith
+    further (Repeat count same) = omega arith
+
+pub reads_from_start : (reader after : Reader) (run : Run) (len : ℕ) → after ≡ reader_after reader run len → after.start ≡ reader.start
+reads_from_start reader after run len is = ap (λ (r : Reader). r.start) is ∙ start-reader_after reader run len
 
 pub has_read_all : (packed : List ℕ) (reader : Reader) (out initial : List ℕ) → HasRead packed reader out → length packed ≤ reader.at → reader.start ≡ length initial → KeepsFront initial out → AppendsPlain initial out packed
 has_read_all packed reader out initial h le start keeps =
