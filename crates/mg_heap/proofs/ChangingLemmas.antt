@@ -1,9 +1,12 @@
 -- Lemmas of changes of one data page.
 use Rattle.std.proofs.Common.{◌≡◌, ◌<◌, ◌+◌, ◌++◌, ◌∙◌, ℕ, Bool, true, false, List, Option, None, Some, take, length, refl, sym, ap, subst, arith}
 use Rattle.std.proofs.Math.Seq.{take-append_seam}
-use Rattle.std.specs.Prelude.{is_some}
+use Rattle.std.proofs.lemmas.Bool.{false≢true}
+use Rattle.std.specs.Prelude.{IsTrue, is_some}
 use Rattle.mg_base.specs.Image.{Image}
+use Rattle.mg_base.specs.declared.numbers.PageNo.{PageNo}
 use Rattle.mg_base.specs.declared.numbers.RecId.{RecId}
+use Rattle.mg_image.specs.Form.{Pages}
 use Rattle.mg_pool.specs.Batch.{Changed, PutsPage}
 use Rattle.mg_pool.specs.declared.pool.Pool.{Pool}
 use Rattle.mg_slots.specs.Changes.{FreesCell, PutsCell}
@@ -12,7 +15,7 @@ use Rattle.mg_slots.specs.Room.{first_without, least_free}
 use Rattle.mg_slots.specs.RoomLaws.{first_without_found, first_without_more}
 use Rattle.mg_space.specs.View.{viewed}
 use Rattle.mg_space.specs.ViewLaws.{viewed_else, viewed_here}
-use Rattle.mg_heap.specs.Changing.{FreesCellAt, MayHave, PlacesCell}
+use Rattle.mg_heap.specs.Changing.{FreesCellAt, IsLeastSlot, MayHave, PlacesCell}
 use Rattle.mg_heap.specs.Reading.{IsSomeData}
 
 -- bytes that were written through a slice
@@ -77,3 +80,31 @@ module _ {D L : Type 0} (store : Pool D L) (image : Image) (old new : Changed) (
     },
     subst (λ (b : List ℕ). MayHave b at.slot cell) slice_is may,
   )
+
+-- a cell that may not stand in a slot
+pub not_placed : (old new : Pages) (at : RecId) (cell read slice : List ℕ) → IsSomeData at.page read
+    → read ≡ old at.page.0 → slice ≡ read → (MayHave slice at.slot cell → IsTrue false)
+    → PlacesCell old new at cell false
+not_placed old new at cell read slice some seen same none = (
+  subst (IsSomeData at.page) seen some,
+  (λ may. false≢true (none (subst (λ (b : List ℕ). MayHave b at.slot cell) (sym (same ∙ seen)) may))),
+)
+
+-- a slot that is free already
+pub not_freed : (pages : Pages) (at : RecId) (read slice : List ℕ) → IsSomeData at.page read
+    → read ≡ pages at.page.0 → slice ≡ read → false ≡ is_some (cell_of slice at.slot)
+    → FreesCellAt pages pages at
+not_freed pages at read slice some seen same had = record {
+  data_page = subst (IsSomeData at.page) seen some;
+  used = λ has. absurd (false≢true (had
+      ∙ (ap (λ (b : List ℕ). is_some (cell_of b at.slot)) (same ∙ seen) ∙ has)));
+  unused = λ none. refl;
+  others = λ n ne. refl;
+}
+
+pub least_seen : (page : PageNo) (b read slice : List ℕ) (slot : ℕ) → IsSomeData page read → read ≡ b
+    → slice ≡ read → slot ≡ least_free slice → IsLeastSlot page.0 b slot
+least_seen page b read slice slot some seen same is = record {
+  data_page = subst (IsSomeData page) seen some;
+  is_least = is ∙ ap least_free (same ∙ seen);
+}

@@ -11,7 +11,8 @@ use Rattle.mg_pool.specs.declared.batch.BatchPage.{BatchPage}
 use Rattle.mg_pool.specs.declared.pool.Pool.{Pool}
 use Rattle.mg_space.specs.declared.fault.SpaceFault.{SpaceFault}
 use Rattle.mg_space.specs.declared.fault.SpaceFault.TheVariants as faults
-use Rattle.mg_heap.specs.Reach.{IsReached, RefusesReach}
+use Rattle.mg_heap.specs.Reach.{IsReached, OwnsPage, RefusesOwner, RefusesReach}
+use Rattle.mg_heap.specs.Reading.{IsSomeData, RefusesData, owner_in}
 use Rattle.mg_heap.specs.Table.{FollowsPage, LeadsTo, RefusesPointer, link_damage}
 use Rattle.mg_heap.specs.TableLaws.{entries_push, table_ends}
 use Rattle.mg_heap.proofs.TableLemmas.{broken}
@@ -90,3 +91,19 @@ breaks_off m store batch pages owner pointers n page (faults.Full limit) leads s
 breaks_off m store batch pages owner pointers n page (faults.Damaged damage) leads some refused =
     inl (broken m store batch pages owner pointers n (faults.Damaged damage) leads some refused)
 breaks_off m store batch pages owner pointers n page (faults.Pool fault) leads some refused = tt
+
+-- ---- the owner that a data page names
+
+pub owns_seen : (page : PageNo) (b read slice : List ℕ) (owner : ℕ) → IsSomeData page read → read ≡ b
+    → slice ≡ read → owner ≡ owner_in slice → OwnsPage page b owner
+owns_seen page b read slice owner some seen same is = record {
+  data_page = subst (IsSomeData page) seen some;
+  is = is ∙ ap owner_in (same ∙ seen);
+}
+
+pub owner_refused : {D L : Type 0} (m : Meaning D) (store : Pool D L) (batch : List BatchPage)
+    (page : PageNo) (b : List ℕ) (fault : SpaceFault) → RefusesData m store batch page b fault
+    → RefusesOwner m store batch page b fault
+owner_refused m store batch page b (faults.Full limit) refused = refused
+owner_refused m store batch page b (faults.Damaged damage) refused = inl refused
+owner_refused m store batch page b (faults.Pool fault) refused = tt

@@ -1,5 +1,5 @@
 -- Lemmas of following the chain of a table's pointer pages.
-use Rattle.std.proofs.Common.{◌≡◌, ◌≢◌, ◌<◌, ◌≤◌, ◌+◌, ◌^◌, ◌++◌, ◌∷◌, [], ◌∙◌, ◌⊎◌, inl, inr, ℕ, true, List, length, length-append, refl, sym, ap, subst, arith, Result, Ok, Err}
+use Rattle.std.proofs.Common.{◌≡◌, ◌≢◌, ◌<◌, ◌≤◌, ◌+◌, ◌*◌, ◌-◌, ◌^◌, ◌++◌, ◌∷◌, [], ◌∙◌, ◌⊎◌, inl, inr, ℕ, true, List, length, length-append, refl, sym, ap, subst, arith, Result, Ok, Err}
 use Rattle.std.specs.Prelude.{IsErr, IsErrAnd, MatchResult, OnOk}
 use Rattle.mg_base.specs.Checks.{PassesAll, verdict}
 use Rattle.mg_base.specs.CheckLaws.{passes_from_verdict}
@@ -7,6 +7,7 @@ use Rattle.mg_base.specs.Disk.{Meaning}
 use Rattle.mg_base.specs.Geometry.{is_page_size}
 use Rattle.mg_base.specs.Image.{Image}
 use Rattle.mg_base.specs.declared.damage.Damaged.{Damaged}
+use Rattle.mg_base.specs.declared.geometry.Geometry.{Geometry}
 use Rattle.mg_base.specs.declared.geometry.TheConstants.{GREATEST_LIMIT}
 use Rattle.mg_base.specs.declared.numbers.PageNo.{PageNo}
 use Rattle.mg_image.specs.Form.{Pages}
@@ -14,11 +15,14 @@ use Rattle.mg_image.specs.Tables.{Has, IsOnce, entries_in}
 use Rattle.mg_pointer.specs.PointerPage.{IsPointerPage, entries_of, next_in, pointer_checks}
 use Rattle.mg_pointer.specs.PointerPageLaws.{length-entries_of, page_that_passes}
 use Rattle.mg_pool.specs.Batch.{Changed}
+use Rattle.mg_pool.specs.Fault.{MeetsNoFault, TellsFault}
 use Rattle.mg_pool.specs.declared.batch.BatchPage.{BatchPage}
+use Rattle.mg_pool.specs.declared.fault.PoolFault.{PoolFault}
 use Rattle.mg_pool.specs.declared.pool.Pool.{Pool}
+use Rattle.mg_space.specs.Taking.{IsGeometry}
 use Rattle.mg_space.specs.TakingLaws.{page_sizes}
-use Rattle.mg_space.specs.View.{KeepsStore, Tells, viewed}
-use Rattle.mg_space.specs.ViewLaws.{tells_on, viewed_on}
+use Rattle.mg_space.specs.View.{AreWhole, KeepsStore, Tells, pool_answer, viewed}
+use Rattle.mg_space.specs.ViewLaws.{fault_on, tells_on, viewed_on}
 use Rattle.mg_space.specs.declared.fault.SpaceFault.{SpaceFault}
 use Rattle.mg_space.specs.declared.fault.SpaceFault.TheVariants as faults
 use Rattle.mg_heap.specs.Table.{FollowsPage, IsLinkDamage, IsPointerAt, IsPointerDamage, LeadsTo, LinksTo, ListsPage, RefusesPointer, RefusesPointerPage, RefusesTable, back, link_damage, misled, past, unlike}
@@ -189,3 +193,68 @@ entries_few page old new size lawful len may is =
     let most = sizes.1 in
     let count = may.count in
     omega (arith, length-entries_of page, ap (length {A = ℕ}) is, length-append old (entries_of page))
+
+-- ---- counts of what is listed
+
+-- one page more leaves less to go
+pub one_further : (pointers listed : List ℕ) (n bound : ℕ) → length pointers < bound
+    → listed ≡ pointers ++ n ∷ [] → bound - length listed < bound - length pointers
+one_further pointers listed n bound short is =
+    omega (arith, short, ap (length {A = ℕ}) is, length-append pointers (n ∷ []))
+
+pub some_listed : (pointers listed : List ℕ) (n : ℕ) → listed ≡ pointers ++ n ∷ [] → 0 < length listed
+some_listed pointers listed n is =
+    omega (arith, ap (length {A = ℕ}) is, length-append pointers (n ∷ []))
+
+-- each pointer page has a few thousand entries
+pub few_entries : (pointers listed old new : List ℕ) (n : ℕ) → length new ≤ length old + 4090
+    → length old ≤ 4090 * length pointers → listed ≡ pointers ++ n ∷ []
+    → length new ≤ 4090 * length listed
+few_entries pointers listed old new n here before is =
+    omega (arith, here, before, ap (length {A = ℕ}) is, length-append pointers (n ∷ []))
+
+pub no_entries : (old : List ℕ) (count : ℕ) → old ≡ [] → length old ≤ 4090 * count
+no_entries old count none = omega (arith, ap (length {A = ℕ}) none)
+
+pub count_fits : (n : ℕ) → n < GREATEST_LIMIT → n < 2 ^ 32
+count_fits n short = omega (arith, short)
+
+pub all_few : (pointers data_pages : List ℕ) → length pointers ≤ GREATEST_LIMIT
+    → length data_pages ≤ 4090 * length pointers → length data_pages < 2 ^ 32
+all_few pointers data_pages short few_ = omega (arith, short, few_)
+
+pub all_short : (n : ℕ) → n ≤ GREATEST_LIMIT → n < 2 ^ 31
+all_short n short = omega (arith, short)
+
+-- ---- one call after another
+
+same_answer : (A B : Type 0) (fault : SpaceFault)
+    → pool_answer {T = A} (Err fault) ≡ pool_answer {T = B} (Err fault)
+same_answer A B (faults.Full limit) = refl
+same_answer A B (faults.Damaged damage) = refl
+same_answer A B (faults.Pool fault) = refl
+
+-- a fault that a later call met is handed on, and told since the start
+pub fault_up : {D L T : Type 0} (A : Type 0) (m : Meaning D) (a b c : Pool D L)
+    (result : Result T SpaceFault) (fault : SpaceFault) → KeepsStore m a b → MeetsNoFault m a b
+    → IsErr result → IsErrAnd result (λ given. given ≡ fault)
+    → TellsFault m b c (pool_answer {T = A} (Err fault)) → TellsFault m a c (pool_answer result)
+fault_up A m a b c (Ok x) fault kept same err is tells = absurd cc
+fault_up {T = T} A m a b c (Err e) fault kept same err is tells =
+    let P : Result (Unit {0}) PoolFault → Type 0 = λ answer. TellsFault m b c answer in
+    let Q : SpaceFault → Type 0 = λ f. TellsFault m b c (pool_answer {T = T} (Err f)) in
+    fault_on m a b c (pool_answer {T = T} (Err e)) kept same
+    (subst Q (sym is) (subst P (same_answer A T fault) tells))
+
+module _ {D L : Type 0} (m : Meaning D) (a b : Pool D L) (kept : KeepsStore m a b) where
+  pub geometry_later : IsGeometry a.geometry → IsGeometry b.geometry
+  geometry_later lawful = subst IsGeometry (sym kept.geometry) lawful
+
+  pub whole_later : (pages : List BatchPage) → AreWhole a.geometry.size pages
+      → AreWhole b.geometry.size pages
+  whole_later pages whole =
+      subst (λ (g : Geometry). AreWhole g.size pages) (sym kept.geometry) whole
+
+  pub whole_before : (pages : List BatchPage) → AreWhole b.geometry.size pages
+      → AreWhole a.geometry.size pages
+  whole_before pages whole = subst (λ (g : Geometry). AreWhole g.size pages) kept.geometry whole

@@ -12,3 +12,4 @@ mod BatchLemmas
 mod PutLemmas
 mod OutsideLemmas
 mod LawfulLemmas
+mod FetchLemmas

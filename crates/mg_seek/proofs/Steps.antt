@@ -1,11 +1,12 @@
 -- The steps of a walk along the versions of a record, and how refusals are handed on.
-use Rattle.std.specs.Prelude.{◌≡◌, ◌⊎◌, ℕ, ◌+◌, ◌<◌, ◌≤◌, ◌-◌, ◌^◌, Bool, true, false, List, [], Option, None, Some, unwrap_or, Result, Ok, Err, IsErr, IsErrAnd, MatchResult, refl}
+use Rattle.std.specs.Prelude.{◌≡◌, ◌⊎◌, ℕ, ◌+◌, ◌<◌, ◌≤◌, ◌-◌, ◌^◌, Bool, true, false, List, [], Option, None, Some, unwrap_or, Result, Ok, Err, IsErr, IsErrAnd, IfOk, MatchResult, refl}
 use Rattle.std.proofs.Common.{sym, ◌∙◌, ap, subst, inl, inr, arith}
 use Rattle.mg_base.specs.Disk.{Meaning}
 use Rattle.mg_base.specs.Image.{Image}
 use Rattle.mg_base.specs.declared.damage.Damaged.{Damaged}
 use Rattle.mg_base.specs.declared.damage.Field.TheVariants as fields
 use Rattle.mg_base.specs.declared.numbers.RecId.{RecId}
+use Rattle.mg_heap.specs.Reading.{ReadsData}
 use Rattle.mg_image.specs.Form.{Pages}
 use Rattle.mg_image.specs.Records.{cells_of}
 use Rattle.mg_pool.specs.Batch.{Changed, content_in}
@@ -178,6 +179,33 @@ fault_up {T = T} A m a b c (Err e) fault kept same err is tells =
     let Q : SpaceFault → Type 0 = λ f. TellsFault m b c (pool_answer {T = T} (Err f)) in
     fault_on m a b c (pool_answer {T = T} (Err e)) kept same
     (subst Q (sym is) (subst P (same_answer A T fault) tells))
+
+-- a fault that a call met is handed on, and told as that call told it
+pub fault_same : {D L T : Type 0} (A : Type 0) (m : Meaning D) (a b : Pool D L) (result : Result T SpaceFault)
+    (fault : SpaceFault) → IsErr result → IsErrAnd result (λ given. given ≡ fault)
+    → TellsFault m a b (pool_answer {T = A} (Err fault)) → TellsFault m a b (pool_answer result)
+fault_same A m a b (Ok x) fault err is tells = absurd cc
+fault_same {T = T} A m a b (Err e) fault err is tells =
+    let P : Result (Unit {0}) PoolFault → Type 0 = λ answer. TellsFault m a b answer in
+    let Q : SpaceFault → Type 0 = λ f. TellsFault m a b (pool_answer {T = T} (Err f)) in
+    subst Q (sym is) (subst P (same_answer A T fault) tells)
+
+reads_as : (A T : Type 0) (fault : SpaceFault) → ReadsData {T = A} (Err fault) → ReadsData {T = T} (Err fault)
+reads_as A T (faults.Full most) reads = reads
+reads_as A T (faults.Damaged it) reads = reads
+reads_as A T (faults.Pool fault) reads = reads
+
+-- a fault of a reading that is handed on is one of a reading
+pub reads_same : {T : Type 0} (A : Type 0) (result : Result T SpaceFault) (fault : SpaceFault) → IsErr result
+    → IsErrAnd result (λ given. given ≡ fault) → ReadsData {T = A} (Err fault) → ReadsData result
+reads_same A (Ok x) fault err is reads = tt
+reads_same {T = T} A (Err e) fault err is reads =
+    subst (λ (f : SpaceFault). ReadsData {T = T} (Err f)) (sym is) (reads_as A T fault reads)
+
+-- what is said of an answer holds where there is none
+pub no_answer : {T E : Type 0} (P : T → Type 0) (result : Result T E) → IsErr result → IfOk result P
+no_answer P (Ok x) err = absurd cc
+no_answer P (Err e) err = tt
 
 -- the damage that is told is the one that is meant
 pub damage_at : {D L : Type 0} (m : Meaning D) (store : Pool D L) (pages : List BatchPage) (view : Pages)

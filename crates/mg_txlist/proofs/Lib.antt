@@ -8,3 +8,4 @@ mod LoadLemmas
 mod ReadingLemmas
 mod RefusalLemmas
 mod WritingLemmas
+mod HandedLemmas

@@ -1,11 +1,13 @@
+use Rattle.std.proofs.Common.{◌∙◌}
 use Rattle.mg_image.specs.Form.{Pages}
 use Rattle.mg_space.specs.View.{viewed}
 use Rattle.mg_space.specs.ViewLaws.{keeps_on}
 use Rattle.mg_space.specs.declared.fault.SpaceFault.TheVariants as faults
 use Rattle.mg_heap.specs.Reach.{OwnsPage, RefusesOwner}
+use Rattle.mg_base.specs.declared.numbers.PageNo.{PageNo}
 use Rattle.mg_chain.specs.WritingRefusals.{RefusesHead}
 use Rattle.mg_chain.proofs.HeadLemmas.{has_head, head_cell, head_none, head_owner, seen_before}
-use Rattle.mg_chain.proofs.Steps.{handed_on}
+use Rattle.mg_chain.proofs.Steps.{handed_on, fault_up}
 use Rattle.mg_chain.proofs.heads.head_of.Goals as goal
 
 pub returns-in_err-cell_at-clause-gives : goal.returns-in_err-cell_at-clause-gives
@@ -53,3 +55,21 @@ returns-clause-gives g c = λ image tells.
     (seen_before g.D.Disk.meaning c.args.store.now c.cell_at.new.store image c.args.batch.now
     c.in_ok-cell_at.ensures.keeps tells (λ (pages : Pages). OwnsPage c.args.rec.page
     (pages c.args.rec.page.0) c.in_ok-owner.owner.0) c.in_ok-owner.ensures.gives)
+
+pub returns-in_err-owner-clause-keeps : goal.returns-in_err-owner-clause-keeps
+returns-in_err-owner-clause-keeps g c = keeps_on g.D.Disk.meaning g.met.D.Disk.counts_now
+    c.args.store.now c.cell_at.new.store c.owner_of.new.store c.in_ok-cell_at.ensures.keeps
+    c.in_err-owner.ensures.keeps
+
+pub returns-in_err-owner-clause-fault : goal.returns-in_err-owner-clause-fault
+returns-in_err-owner-clause-fault g c = fault_up PageNo g.D.Disk.meaning c.args.store.now
+    c.cell_at.new.store c.owner_of.new.store c.from_residual-in_err-owner.result c.in_err-owner.field-0.0
+    c.in_ok-cell_at.ensures.keeps c.in_ok-cell_at.ensures.fault.2 c.from_residual-in_err-owner.ensures.0
+    c.from_residual-in_err-owner.ensures.1 c.in_err-owner.ensures.fault
+
+pub returns-clause-fault : goal.returns-clause-fault
+returns-clause-fault g c = (
+  c.in_ok-cell_at.ensures.fault.0,
+  c.in_ok-owner.ensures.fault.1,
+  c.in_ok-owner.ensures.fault.2 ∙ c.in_ok-cell_at.ensures.fault.2,
+)

@@ -1,9 +1,10 @@
-use Rattle.std.proofs.Common.{Err, Ok}
+use Rattle.std.proofs.Common.{◌∙◌, Err, Ok}
 use Rattle.mg_space.specs.View.{viewed}
 use Rattle.mg_space.specs.ViewLaws.{keeps_on}
+use Rattle.mg_version.specs.declared.cell.Version.{Version}
 use Rattle.mg_chain.specs.WritingRefusals.{RefusesNewest}
 use Rattle.mg_chain.proofs.HeadLemmas.{newest_head, newest_version}
-use Rattle.mg_chain.proofs.Steps.{handed_on, met_on}
+use Rattle.mg_chain.proofs.Steps.{handed_on, met_on, fault_up}
 use Rattle.mg_chain.proofs.heads.newest_of.Goals as goal
 
 pub returns-in_err-head-clause-gives : goal.returns-in_err-head-clause-gives
@@ -41,3 +42,21 @@ returns-clause-gives g c = λ image tells. record {
       c.args.batch.now c.args.rec.page.0 c.in_ok-head.head.newest (Ok c.in_ok-version.version)
       c.in_ok-head.ensures.keeps tells c.in_ok-version.ensures.gives;
 }
+
+pub returns-in_err-version-clause-keeps : goal.returns-in_err-version-clause-keeps
+returns-in_err-version-clause-keeps g c = keeps_on g.D.Disk.meaning g.met.D.Disk.counts_now
+    c.args.store.now c.head_of.new.store c.version_at.new.store c.in_ok-head.ensures.keeps
+    c.in_err-version.ensures.keeps
+
+pub returns-in_err-version-clause-fault : goal.returns-in_err-version-clause-fault
+returns-in_err-version-clause-fault g c = fault_up Version g.D.Disk.meaning c.args.store.now
+    c.head_of.new.store c.version_at.new.store c.from_residual-in_err-version.result c.in_err-version.field-0.0
+    c.in_ok-head.ensures.keeps c.in_ok-head.ensures.fault.2 c.from_residual-in_err-version.ensures.0
+    c.from_residual-in_err-version.ensures.1 c.in_err-version.ensures.fault
+
+pub returns-clause-fault : goal.returns-clause-fault
+returns-clause-fault g c = (
+  c.in_ok-head.ensures.fault.0,
+  c.in_ok-version.ensures.fault.1,
+  c.in_ok-version.ensures.fault.2 ∙ c.in_ok-head.ensures.fault.2,
+)

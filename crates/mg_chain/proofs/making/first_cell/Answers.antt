@@ -1,4 +1,4 @@
-use Rattle.std.proofs.Common.{refl}
+use Rattle.std.proofs.Common.{◌∙◌, refl}
 use Rattle.mg_image.specs.Form.{Pages}
 use Rattle.mg_pool.specs.declared.fault.PoolFault.TheVariants as pool_faults
 use Rattle.mg_space.specs.ViewLaws.{keeps_on, tells_on}
@@ -7,7 +7,7 @@ use Rattle.mg_chain.specs.WritingRefusals.{RefusesFirstCell, RefusesTurn, first_
 use Rattle.mg_chain.proofs.HeadLemmas.{seen_before}
 use Rattle.mg_chain.proofs.MakeLemmas.{makes_cell}
 use Rattle.mg_chain.proofs.PushLemmas.{whole_ordered}
-use Rattle.mg_chain.proofs.Steps.{handed_on}
+use Rattle.mg_chain.proofs.Steps.{handed_on, fault_up, memory_up}
 use Rattle.mg_chain.proofs.TurnLemmas.{whole_as}
 use Rattle.mg_chain.proofs.making.first_cell.Goals as goal
 
@@ -70,3 +70,34 @@ returns-clause-makes g c = λ image tells.
     (c.in_ok-turn.ensures.gives image (tells_on g.D.Disk.meaning c.args.store.now
     c.put_first.new.store image c.in_ok-put.ensures.keeps tells)) c.deref.ensures.value
     c.deref-2.ensures.value c.in_ok-order_first.ensures.adds
+
+pub returns-in_err-turn-clause-keeps : goal.returns-in_err-turn-clause-keeps
+returns-in_err-turn-clause-keeps g c = keeps_on g.D.Disk.meaning g.met.D.Disk.counts_now
+    c.args.store.now c.put_first.new.store c.turn.new.store c.in_ok-put.ensures.keeps
+    c.in_err-turn.ensures.keeps
+
+pub returns-in_err-turn-clause-fault : goal.returns-in_err-turn-clause-fault
+returns-in_err-turn-clause-fault g c = fault_up (Unit {0}) g.D.Disk.meaning c.args.store.now
+    c.put_first.new.store c.turn.new.store c.from_residual-in_err-turn.result c.in_err-turn.field-0.0
+    c.in_ok-put.ensures.keeps c.in_ok-put.ensures.fault.2 c.from_residual-in_err-turn.ensures.0
+    c.from_residual-in_err-turn.ensures.1 c.in_err-turn.ensures.fault
+
+pub returns-in_err-turn-clause-whole : goal.returns-in_err-turn-clause-whole
+returns-in_err-turn-clause-whole g c = whole_as c.put_first.new.store.geometry c.args.store.now.geometry
+    c.turn.new.batch.pages c.in_ok-put.ensures.keeps.geometry c.in_err-turn.ensures.whole
+
+pub returns-in_err-order_first-clause-fault : goal.returns-in_err-order_first-clause-fault
+returns-in_err-order_first-clause-fault g c = memory_up g.D.Disk.meaning c.args.store.now c.turn.new.store
+    c.from_residual-in_err-order_first.result c.from_residual-in_err-order_first.ensures.0
+    c.from_residual-in_err-order_first.ensures.1 (
+      c.in_ok-put.ensures.fault.0,
+      c.in_ok-turn.ensures.fault.1,
+      c.in_ok-turn.ensures.fault.2 ∙ c.in_ok-put.ensures.fault.2,
+    )
+
+pub returns-clause-fault : goal.returns-clause-fault
+returns-clause-fault g c = (
+  c.in_ok-put.ensures.fault.0,
+  c.in_ok-turn.ensures.fault.1,
+  c.in_ok-turn.ensures.fault.2 ∙ c.in_ok-put.ensures.fault.2,
+)

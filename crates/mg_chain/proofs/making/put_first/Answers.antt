@@ -1,10 +1,11 @@
-use Rattle.std.proofs.Common.{◌⊎◌}
+use Rattle.std.proofs.Common.{◌⊎◌, ◌∙◌}
 use Rattle.mg_image.specs.Form.{Pages}
 use Rattle.mg_space.specs.ViewLaws.{keeps_on}
 use Rattle.mg_heap.specs.Reach.{IsReached, RefusesReach}
+use Rattle.mg_chain.specs.declared.making.BothPointers.{BothPointers}
 use Rattle.mg_chain.specs.WritingRefusals.{RefusesPutFirst, first_adds, first_reaches}
 use Rattle.mg_chain.proofs.HeadLemmas.{seen_before}
-use Rattle.mg_chain.proofs.Steps.{handed_on}
+use Rattle.mg_chain.proofs.Steps.{handed_on, fault_up}
 use Rattle.mg_chain.proofs.making.put_first.Goals as goal
 
 pub returns-in_err-at-clause-puts : goal.returns-in_err-at-clause-puts
@@ -39,3 +40,21 @@ returns-clause-puts g c = λ image tells.
     IsReached pages c.args.owner.0 c.in_ok-at.at.page.0 c.in_ok-both.both.pointers.items
     × IsReached pages c.args.owner.0 c.args.rec.page.0 c.in_ok-both.both.slot_pointers.items)
     c.in_ok-both.ensures.finds in (c.in_ok-at.ensures.adds image tells, both.0, both.1)
+
+pub returns-in_err-both-clause-keeps : goal.returns-in_err-both-clause-keeps
+returns-in_err-both-clause-keeps g c = keeps_on g.D.Disk.meaning g.met.D.Disk.counts_now
+    c.args.store.now c.add_apart.new.store c.both_pointers.new.store c.in_ok-at.ensures.keeps
+    c.in_err-both.ensures.keeps
+
+pub returns-in_err-both-clause-fault : goal.returns-in_err-both-clause-fault
+returns-in_err-both-clause-fault g c = fault_up BothPointers g.D.Disk.meaning c.args.store.now
+    c.add_apart.new.store c.both_pointers.new.store c.from_residual-in_err-both.result c.in_err-both.field-0.0
+    c.in_ok-at.ensures.keeps c.in_ok-at.ensures.fault.2 c.from_residual-in_err-both.ensures.0
+    c.from_residual-in_err-both.ensures.1 c.in_err-both.ensures.fault
+
+pub returns-clause-fault : goal.returns-clause-fault
+returns-clause-fault g c = (
+  c.in_ok-at.ensures.fault.0,
+  c.in_ok-both.ensures.fault.1,
+  c.in_ok-both.ensures.fault.2 ∙ c.in_ok-at.ensures.fault.2,
+)

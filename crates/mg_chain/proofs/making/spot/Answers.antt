@@ -1,10 +1,11 @@
+use Rattle.std.proofs.Common.{◌∙◌, ℕ}
 use Rattle.mg_image.specs.Form.{Pages}
 use Rattle.mg_space.specs.ViewLaws.{keeps_on}
 use Rattle.mg_heap.specs.Changing.{IsLeastSlot}
 use Rattle.mg_heap.specs.Reading.{RefusesData}
 use Rattle.mg_chain.specs.WritingRefusals.{RefusesSpot, spot_page, spot_room}
 use Rattle.mg_chain.proofs.HeadLemmas.{seen_before}
-use Rattle.mg_chain.proofs.Steps.{handed_on}
+use Rattle.mg_chain.proofs.Steps.{handed_on, fault_up}
 use Rattle.mg_chain.proofs.making.spot.Goals as goal
 
 pub returns-in_err-page-clause-gives : goal.returns-in_err-page-clause-gives
@@ -38,3 +39,21 @@ returns-clause-gives g c = λ image tells. record {
       IsLeastSlot c.in_ok-page.page.0 (pages c.in_ok-page.page.0) c.in_ok-slot.slot)
       c.in_ok-slot.ensures.gives;
 }
+
+pub returns-in_err-slot-clause-keeps : goal.returns-in_err-slot-clause-keeps
+returns-in_err-slot-clause-keeps g c = keeps_on g.D.Disk.meaning g.met.D.Disk.counts_now
+    c.args.store.now c.page_with_room.new.store c.least_slot.new.store c.in_ok-page.ensures.keeps
+    c.in_err-slot.ensures.keeps
+
+pub returns-in_err-slot-clause-fault : goal.returns-in_err-slot-clause-fault
+returns-in_err-slot-clause-fault g c = fault_up ℕ g.D.Disk.meaning c.args.store.now
+    c.page_with_room.new.store c.least_slot.new.store c.from_residual-in_err-slot.result c.in_err-slot.field-0.0
+    c.in_ok-page.ensures.keeps c.in_ok-page.ensures.fault.2 c.from_residual-in_err-slot.ensures.0
+    c.from_residual-in_err-slot.ensures.1 c.in_err-slot.ensures.fault
+
+pub returns-clause-fault : goal.returns-clause-fault
+returns-clause-fault g c = (
+  c.in_ok-page.ensures.fault.0,
+  c.in_ok-slot.ensures.fault.1,
+  c.in_ok-slot.ensures.fault.2 ∙ c.in_ok-page.ensures.fault.2,
+)

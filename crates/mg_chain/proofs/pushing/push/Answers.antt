@@ -1,7 +1,9 @@
 use Rattle.std.proofs.Common.{refl}
 use Rattle.mg_pool.specs.declared.fault.PoolFault.TheVariants as pool_faults
-use Rattle.mg_space.specs.ViewLaws.{tells_on}
+use Rattle.mg_space.specs.ViewLaws.{tells_on, keeps_on, fault_on}
 use Rattle.mg_space.specs.declared.fault.SpaceFault.TheVariants as faults
+use Rattle.mg_space.specs.View.{pool_answer}
+use Rattle.mg_chain.proofs.TurnLemmas.{whole_as}
 use Rattle.mg_chain.specs.WritingRefusals.{RefusesPush, pushed_memory, pushed_head}
 use Rattle.mg_chain.proofs.PushLemmas.{pushed}
 use Rattle.mg_chain.proofs.Steps.{handed_on}
@@ -30,3 +32,17 @@ returns-clause-pushes g c = λ image tells.
     c.in_ok-cell.ensures.spells
     (c.push_cell.ensures.pushes image (tells_on g.D.Disk.meaning c.args.store.now c.head_of.new.store image
     c.in_ok-head.ensures.keeps tells))
+
+pub returns-clause-keeps : goal.returns-clause-keeps
+returns-clause-keeps g c = keeps_on g.D.Disk.meaning g.met.D.Disk.counts_now
+    c.args.store.now c.head_of.new.store c.push_cell.new.store c.in_ok-head.ensures.keeps
+    c.push_cell.ensures.keeps
+
+pub returns-clause-fault : goal.returns-clause-fault
+returns-clause-fault g c = fault_on g.D.Disk.meaning c.args.store.now c.head_of.new.store
+    c.push_cell.new.store (pool_answer c.push_cell.result) c.in_ok-head.ensures.keeps
+    c.in_ok-head.ensures.fault.2 c.push_cell.ensures.fault
+
+pub returns-clause-whole : goal.returns-clause-whole
+returns-clause-whole g c = whole_as c.head_of.new.store.geometry c.args.store.now.geometry
+    c.push_cell.new.batch.pages c.in_ok-head.ensures.keeps.geometry c.push_cell.ensures.whole

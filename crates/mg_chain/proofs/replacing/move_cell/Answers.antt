@@ -1,11 +1,11 @@
-use Rattle.std.proofs.Common.{refl}
+use Rattle.std.proofs.Common.{◌∙◌, refl}
 use Rattle.mg_pool.specs.declared.fault.PoolFault.TheVariants as pool_faults
 use Rattle.mg_space.specs.ViewLaws.{keeps_on, tells_on}
 use Rattle.mg_space.specs.declared.fault.SpaceFault.TheVariants as faults
 use Rattle.mg_chain.specs.WritingRefusals.{RefusesMove, move_memory, move_puts, move_swings}
 use Rattle.mg_chain.proofs.MakeLemmas.{moves_cell}
 use Rattle.mg_chain.proofs.PushLemmas.{whole_ordered}
-use Rattle.mg_chain.proofs.Steps.{handed_on}
+use Rattle.mg_chain.proofs.Steps.{handed_on, fault_up, memory_up}
 use Rattle.mg_chain.proofs.TurnLemmas.{whole_as}
 use Rattle.mg_chain.proofs.replacing.move_cell.Goals as goal
 
@@ -70,3 +70,34 @@ returns-clause-moves g c = λ image tells.
     (c.in_ok-swing.ensures.gives image (tells_on g.D.Disk.meaning c.args.store.now
     c.put_moved.new.store image c.in_ok-moved.ensures.keeps tells)) c.deref.ensures.value
     c.deref-2.ensures.value c.in_ok-order_move.ensures.adds
+
+pub returns-in_err-swing-clause-keeps : goal.returns-in_err-swing-clause-keeps
+returns-in_err-swing-clause-keeps g c = keeps_on g.D.Disk.meaning g.met.D.Disk.counts_now
+    c.args.store.now c.put_moved.new.store c.swing.new.store c.in_ok-moved.ensures.keeps
+    c.in_err-swing.ensures.keeps
+
+pub returns-in_err-swing-clause-fault : goal.returns-in_err-swing-clause-fault
+returns-in_err-swing-clause-fault g c = fault_up (Unit {0}) g.D.Disk.meaning c.args.store.now
+    c.put_moved.new.store c.swing.new.store c.from_residual-in_err-swing.result c.in_err-swing.field-0.0
+    c.in_ok-moved.ensures.keeps c.in_ok-moved.ensures.fault.2 c.from_residual-in_err-swing.ensures.0
+    c.from_residual-in_err-swing.ensures.1 c.in_err-swing.ensures.fault
+
+pub returns-in_err-swing-clause-whole : goal.returns-in_err-swing-clause-whole
+returns-in_err-swing-clause-whole g c = whole_as c.put_moved.new.store.geometry c.args.store.now.geometry
+    c.swing.new.batch.pages c.in_ok-moved.ensures.keeps.geometry c.in_err-swing.ensures.whole
+
+pub returns-in_err-order_move-clause-fault : goal.returns-in_err-order_move-clause-fault
+returns-in_err-order_move-clause-fault g c = memory_up g.D.Disk.meaning c.args.store.now c.swing.new.store
+    c.from_residual-in_err-order_move.result c.from_residual-in_err-order_move.ensures.0
+    c.from_residual-in_err-order_move.ensures.1 (
+      c.in_ok-moved.ensures.fault.0,
+      c.in_ok-swing.ensures.fault.1,
+      c.in_ok-swing.ensures.fault.2 ∙ c.in_ok-moved.ensures.fault.2,
+    )
+
+pub returns-clause-fault : goal.returns-clause-fault
+returns-clause-fault g c = (
+  c.in_ok-moved.ensures.fault.0,
+  c.in_ok-swing.ensures.fault.1,
+  c.in_ok-swing.ensures.fault.2 ∙ c.in_ok-moved.ensures.fault.2,
+)

@@ -1,12 +1,12 @@
 use Rattle.std.proofs.Common.{inl, refl, subst, sym}
 use Rattle.mg_heap.specs.ChangingLaws.{whole_where}
 use Rattle.mg_pool.specs.Batch.{Changed}
-use Rattle.mg_space.specs.View.{AreWhole}
-use Rattle.mg_space.specs.ViewLaws.{tells_on}
+use Rattle.mg_space.specs.View.{AreWhole, pool_answer}
+use Rattle.mg_space.specs.ViewLaws.{tells_on, keeps_on, fault_on}
 use Rattle.mg_chain.specs.WritingRefusals.{RefusesOverwrite, over_reads}
 use Rattle.mg_chain.proofs.MakeLemmas.{moved_then}
 use Rattle.mg_chain.proofs.Steps.{handed_on}
-use Rattle.mg_chain.proofs.TurnLemmas.{puts_where}
+use Rattle.mg_chain.proofs.TurnLemmas.{puts_where, whole_as}
 use Rattle.mg_chain.proofs.replacing.overwrite_or_move.Goals as goal
 
 pub returns-in_err-placed-clause-writes : goal.returns-in_err-placed-clause-writes
@@ -41,3 +41,17 @@ returns-clause-writes g c = λ image tells. moved_then g.D.Disk.meaning c.args.s
     c.if-placed.false c.in_ok-placed.ensures.changes (c.in_ok-placed.ensures.places image tells)
     (c.move_cell.ensures.moves image (tells_on g.D.Disk.meaning c.args.store.now c.place.new.store image
     c.in_ok-placed.ensures.keeps tells))
+
+pub returns-clause-keeps : goal.returns-clause-keeps
+returns-clause-keeps g c = keeps_on g.D.Disk.meaning g.met.D.Disk.counts_now
+    c.args.store.now c.place.new.store c.move_cell.new.store c.in_ok-placed.ensures.keeps
+    c.move_cell.ensures.keeps
+
+pub returns-clause-fault : goal.returns-clause-fault
+returns-clause-fault g c = fault_on g.D.Disk.meaning c.args.store.now c.place.new.store
+    c.move_cell.new.store (pool_answer c.move_cell.result) c.in_ok-placed.ensures.keeps
+    c.in_ok-placed.ensures.fault.2 c.move_cell.ensures.fault
+
+pub returns-clause-whole : goal.returns-clause-whole
+returns-clause-whole g c = whole_as c.place.new.store.geometry c.args.store.now.geometry
+    c.move_cell.new.batch.pages c.in_ok-placed.ensures.keeps.geometry c.move_cell.ensures.whole

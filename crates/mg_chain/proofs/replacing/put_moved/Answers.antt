@@ -1,10 +1,13 @@
+use Rattle.std.specs.declared.alloc.Global.{Global}
+use Rattle.std.specs.declared.vec.Vec.{Vec}
+use Rattle.std.proofs.Common.{◌∙◌, ℕ}
 use Rattle.mg_image.specs.Form.{Pages}
 use Rattle.mg_space.specs.ViewLaws.{keeps_on}
 use Rattle.mg_heap.specs.Reach.{RefusesReach}
 use Rattle.mg_chain.specs.Writing.{SlotIsReached}
 use Rattle.mg_chain.specs.WritingRefusals.{RefusesPutMoved, moved_puts, moved_reaches}
 use Rattle.mg_chain.proofs.HeadLemmas.{seen_before}
-use Rattle.mg_chain.proofs.Steps.{handed_on}
+use Rattle.mg_chain.proofs.Steps.{handed_on, fault_up}
 use Rattle.mg_chain.proofs.replacing.put_moved.Goals as goal
 
 pub returns-in_err-put-clause-puts : goal.returns-in_err-put-clause-puts
@@ -40,4 +43,22 @@ returns-clause-puts g c = λ image tells. (
       c.in_ok-put.ensures.keeps tells (λ (pages : Pages). SlotIsReached pages c.args.owner.0
       c.args.rec.page.0 c.args.back c.in_ok-slot_pointers.slot_pointers.items)
       c.in_ok-slot_pointers.ensures.gives,
+)
+
+pub returns-in_err-slot_pointers-clause-keeps : goal.returns-in_err-slot_pointers-clause-keeps
+returns-in_err-slot_pointers-clause-keeps g c = keeps_on g.D.Disk.meaning g.met.D.Disk.counts_now
+    c.args.store.now c.put_version.new.store c.slot_pointers.new.store c.in_ok-put.ensures.keeps
+    c.in_err-slot_pointers.ensures.keeps
+
+pub returns-in_err-slot_pointers-clause-fault : goal.returns-in_err-slot_pointers-clause-fault
+returns-in_err-slot_pointers-clause-fault g c = fault_up (Vec ℕ Global) g.D.Disk.meaning c.args.store.now
+    c.put_version.new.store c.slot_pointers.new.store c.from_residual-in_err-slot_pointers.result c.in_err-slot_pointers.field-0.0
+    c.in_ok-put.ensures.keeps c.in_ok-put.ensures.fault.2 c.from_residual-in_err-slot_pointers.ensures.0
+    c.from_residual-in_err-slot_pointers.ensures.1 c.in_err-slot_pointers.ensures.fault
+
+pub returns-clause-fault : goal.returns-clause-fault
+returns-clause-fault g c = (
+  c.in_ok-put.ensures.fault.0,
+  c.in_ok-slot_pointers.ensures.fault.1,
+  c.in_ok-slot_pointers.ensures.fault.2 ∙ c.in_ok-put.ensures.fault.2,
 )

@@ -2,8 +2,10 @@ use Rattle.std.proofs.Common.{ap, refl, sym, ◌∙◌}
 use Rattle.std.proofs.lemmas.Bool.{false≢true}
 use Rattle.mg_base.specs.declared.damage.Damaged.{Damaged}
 use Rattle.mg_pool.specs.declared.fault.PoolFault.TheVariants as pool_faults
-use Rattle.mg_space.specs.ViewLaws.{keeps_on, tells_on}
+use Rattle.mg_space.specs.ViewLaws.{keeps_on, tells_on, fault_on}
 use Rattle.mg_space.specs.declared.fault.SpaceFault.TheVariants as faults
+use Rattle.mg_space.specs.View.{pool_answer}
+use Rattle.mg_chain.proofs.TurnLemmas.{whole_as}
 use Rattle.mg_chain.specs.WritingRefusals.{RefusesReplace, replace_memory, replace_newest, replace_other}
 use Rattle.mg_chain.proofs.MakeLemmas.{replaced_then}
 use Rattle.mg_chain.proofs.Steps.{handed_on}
@@ -44,3 +46,12 @@ pub returns-clause-keeps : goal.returns-clause-keeps
 returns-clause-keeps g c = keeps_on g.D.Disk.meaning g.met.D.Disk.counts_now c.args.store.now
     c.newest_of.new.store c.overwrite_or_move.new.store c.in_ok-top.ensures.keeps
     c.overwrite_or_move.ensures.keeps
+
+pub returns-clause-fault : goal.returns-clause-fault
+returns-clause-fault g c = fault_on g.D.Disk.meaning c.args.store.now c.newest_of.new.store
+    c.overwrite_or_move.new.store (pool_answer c.overwrite_or_move.result) c.in_ok-top.ensures.keeps
+    c.in_ok-top.ensures.fault.2 c.overwrite_or_move.ensures.fault
+
+pub returns-clause-whole : goal.returns-clause-whole
+returns-clause-whole g c = whole_as c.newest_of.new.store.geometry c.args.store.now.geometry
+    c.overwrite_or_move.new.batch.pages c.in_ok-top.ensures.keeps.geometry c.overwrite_or_move.ensures.whole

@@ -1,4 +1,6 @@
-use Rattle.mg_space.specs.ViewLaws.{tells_on}
+use Rattle.mg_space.specs.ViewLaws.{tells_on, keeps_on, fault_on}
+use Rattle.mg_space.specs.View.{pool_answer}
+use Rattle.mg_chain.proofs.TurnLemmas.{whole_as}
 use Rattle.mg_chain.specs.WritingRefusals.{RefusesBackOut, back_newest}
 use Rattle.mg_chain.proofs.MakeLemmas.{taken_then}
 use Rattle.mg_chain.proofs.Steps.{handed_on}
@@ -19,3 +21,17 @@ returns-clause-takes g c = λ image tells.
     c.take_cell_out.result (c.in_ok-top.ensures.gives image tells)
     (c.take_cell_out.ensures.takes image (tells_on g.D.Disk.meaning c.args.store.now
     c.newest_of.new.store image c.in_ok-top.ensures.keeps tells))
+
+pub returns-clause-keeps : goal.returns-clause-keeps
+returns-clause-keeps g c = keeps_on g.D.Disk.meaning g.met.D.Disk.counts_now
+    c.args.store.now c.newest_of.new.store c.take_cell_out.new.store c.in_ok-top.ensures.keeps
+    c.take_cell_out.ensures.keeps
+
+pub returns-clause-fault : goal.returns-clause-fault
+returns-clause-fault g c = fault_on g.D.Disk.meaning c.args.store.now c.newest_of.new.store
+    c.take_cell_out.new.store (pool_answer c.take_cell_out.result) c.in_ok-top.ensures.keeps
+    c.in_ok-top.ensures.fault.2 c.take_cell_out.ensures.fault
+
+pub returns-clause-whole : goal.returns-clause-whole
+returns-clause-whole g c = whole_as c.newest_of.new.store.geometry c.args.store.now.geometry
+    c.take_cell_out.new.batch.pages c.in_ok-top.ensures.keeps.geometry c.take_cell_out.ensures.whole

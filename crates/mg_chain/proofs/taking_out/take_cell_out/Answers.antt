@@ -1,11 +1,11 @@
-use Rattle.std.proofs.Common.{refl}
+use Rattle.std.proofs.Common.{◌∙◌, refl}
 use Rattle.mg_pool.specs.declared.fault.PoolFault.TheVariants as pool_faults
 use Rattle.mg_space.specs.ViewLaws.{keeps_on, tells_on}
 use Rattle.mg_space.specs.declared.fault.SpaceFault.TheVariants as faults
 use Rattle.mg_chain.specs.WritingRefusals.{RefusesTakeCellOut, out_memory, out_reaches, out_swings}
 use Rattle.mg_chain.proofs.MakeLemmas.{takes_cell_out}
 use Rattle.mg_chain.proofs.PushLemmas.{whole_ordered}
-use Rattle.mg_chain.proofs.Steps.{handed_on}
+use Rattle.mg_chain.proofs.Steps.{handed_on, fault_up, memory_up}
 use Rattle.mg_chain.proofs.TurnLemmas.{whole_as}
 use Rattle.mg_chain.proofs.taking_out.take_cell_out.Goals as goal
 
@@ -66,3 +66,34 @@ returns-clause-takes g c = λ image tells.
     (c.in_ok-swing.ensures.gives image (tells_on g.D.Disk.meaning c.args.store.now
     c.slot_pointers.new.store image c.in_ok-pointers.ensures.keeps tells)) c.deref.ensures.value
     c.in_ok-order_out.ensures.adds
+
+pub returns-in_err-swing-clause-keeps : goal.returns-in_err-swing-clause-keeps
+returns-in_err-swing-clause-keeps g c = keeps_on g.D.Disk.meaning g.met.D.Disk.counts_now
+    c.args.store.now c.slot_pointers.new.store c.swing.new.store c.in_ok-pointers.ensures.keeps
+    c.in_err-swing.ensures.keeps
+
+pub returns-in_err-swing-clause-fault : goal.returns-in_err-swing-clause-fault
+returns-in_err-swing-clause-fault g c = fault_up (Unit {0}) g.D.Disk.meaning c.args.store.now
+    c.slot_pointers.new.store c.swing.new.store c.from_residual-in_err-swing.result c.in_err-swing.field-0.0
+    c.in_ok-pointers.ensures.keeps c.in_ok-pointers.ensures.fault.2 c.from_residual-in_err-swing.ensures.0
+    c.from_residual-in_err-swing.ensures.1 c.in_err-swing.ensures.fault
+
+pub returns-in_err-swing-clause-whole : goal.returns-in_err-swing-clause-whole
+returns-in_err-swing-clause-whole g c = whole_as c.slot_pointers.new.store.geometry c.args.store.now.geometry
+    c.swing.new.batch.pages c.in_ok-pointers.ensures.keeps.geometry c.in_err-swing.ensures.whole
+
+pub returns-in_err-order_out-clause-fault : goal.returns-in_err-order_out-clause-fault
+returns-in_err-order_out-clause-fault g c = memory_up g.D.Disk.meaning c.args.store.now c.swing.new.store
+    c.from_residual-in_err-order_out.result c.from_residual-in_err-order_out.ensures.0
+    c.from_residual-in_err-order_out.ensures.1 (
+      c.in_ok-pointers.ensures.fault.0,
+      c.in_ok-swing.ensures.fault.1,
+      c.in_ok-swing.ensures.fault.2 ∙ c.in_ok-pointers.ensures.fault.2,
+    )
+
+pub returns-clause-fault : goal.returns-clause-fault
+returns-clause-fault g c = (
+  c.in_ok-pointers.ensures.fault.0,
+  c.in_ok-swing.ensures.fault.1,
+  c.in_ok-swing.ensures.fault.2 ∙ c.in_ok-pointers.ensures.fault.2,
+)

@@ -1,5 +1,6 @@
 use Rattle.std.proofs.Common.{sym}
-use Rattle.mg_space.specs.ViewLaws.{tells_on}
+use Rattle.mg_space.specs.ViewLaws.{tells_on, keeps_on, fault_on}
+use Rattle.mg_space.specs.View.{pool_answer}
 use Rattle.mg_chain.specs.WritingRefusals.{RefusesSwing, swing_turns}
 use Rattle.mg_chain.proofs.Steps.{handed_on}
 use Rattle.mg_chain.proofs.TurnLemmas.{swings_then, whole_as, whole_freed}
@@ -29,3 +30,13 @@ returns-clause-whole g c = whole_as c.turn_back.new.store.geometry c.args.store.
     (whole_as c.args.store.now.geometry c.turn_back.new.store.geometry c.turn_back.new.batch.pages
     (sym c.in_ok-turn_back.ensures.keeps.geometry) c.in_ok-turn_back.ensures.whole)
     c.free.ensures.changes c.free.ensures.same)
+
+pub returns-clause-keeps : goal.returns-clause-keeps
+returns-clause-keeps g c = keeps_on g.D.Disk.meaning g.met.D.Disk.counts_now
+    c.args.store.now c.turn_back.new.store c.free.new.store c.in_ok-turn_back.ensures.keeps
+    c.free.ensures.keeps
+
+pub returns-clause-fault : goal.returns-clause-fault
+returns-clause-fault g c = fault_on g.D.Disk.meaning c.args.store.now c.turn_back.new.store
+    c.free.new.store (pool_answer c.free.result) c.in_ok-turn_back.ensures.keeps
+    c.in_ok-turn_back.ensures.fault.2 c.free.ensures.fault

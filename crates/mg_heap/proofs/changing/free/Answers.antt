@@ -1,5 +1,6 @@
-use Rattle.std.proofs.Common.{◌≡◌, ◌∙◌, arith, drop, length}
-use Rattle.mg_heap.proofs.ChangingLemmas.{frees_at, written_back}
+use Rattle.std.proofs.Common.{◌≡◌, ◌∙◌, ℕ, ap, arith, drop, length, inr}
+use Rattle.mg_space.specs.View.{viewed}
+use Rattle.mg_heap.proofs.ChangingLemmas.{frees_at, not_freed, written_back}
 use Rattle.mg_heap.proofs.changing.free.Goals as goal
 
 pub returns-clause-frees : goal.returns-clause-frees
@@ -13,3 +14,24 @@ returns-clause-frees g c = λ image tells.
     (drop (length c.freed.new.b) c.into_vec-page.result.items) c.deref.result.now len
     c.deref.ensures.value) c.in_ok-put.ensures.puts
     c.if-not-freed.ensures.when c.if-not-freed.ensures.used
+
+pub returns-clause-changes : goal.returns-clause-changes
+returns-clause-changes g c =
+    let len : c.into_vec-page.result.len ≡ length c.freed.new.b =
+    omega (arith, c.freed.ensures.len, c.deref_mut.ensures.len) in
+    inr (record {
+      bytes = c.deref.result.now;
+      len = ap (length {A = ℕ}) (written_back c.into_vec-page.result.len c.freed.new.b
+          (drop (length c.freed.new.b) c.into_vec-page.result.items) c.deref.result.now len
+          c.deref.ensures.value) ∙ (c.freed.ensures.len
+          ∙ (ap (length {A = ℕ}) (c.deref_mut.ensures.value ∙ c.into_vec-page.ensures)
+          ∙ c.in_ok-data_page.ensures.len));
+      puts = c.in_ok-put.ensures.puts;
+    })
+
+pub returns-then-not-freed-clause-frees : goal.returns-then-not-freed-clause-frees
+returns-then-not-freed-clause-frees g c = λ image tells. not_freed
+    (viewed c.args.store.now image c.args.batch.now) c.args.at c.in_ok-data_page.field-0
+    c.deref_mut.result.now c.in_ok-data_page.ensures.data_page
+    (c.in_ok-data_page.ensures.seen image tells)
+    (c.deref_mut.ensures.value ∙ c.into_vec-page.ensures) c.if-not-freed.ensures.when

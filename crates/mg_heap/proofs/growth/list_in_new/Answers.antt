@@ -94,3 +94,19 @@ returns-clause-lists g c = λ image tells.
             c.in_ok-order_to-2.ensures.adds);
       },
     )
+
+pub returns-in_err-bytes-clause-whole : goal.returns-in_err-bytes-clause-whole
+returns-in_err-bytes-clause-whole g c = whole_same c.args.store.now.geometry.size
+    c.take_two.new.batch c.make_data.new.batch c.in_ok-taken.ensures.whole
+    (ap (λ (b : Changed). b.pages) c.in_err-bytes.ensures.same)
+
+pub returns-in_err-make_pointer-clause-whole : goal.returns-in_err-make_pointer-clause-whole
+returns-in_err-make_pointer-clause-whole g c = whole_same c.args.store.now.geometry.size
+    c.make_data.new.batch c.make_pointer.new.batch
+    (whole_made c.args.store.now.geometry.size c.take_two.new.batch c.make_data.new.batch
+    c.args.owner.0 c.args.at.data c.in_ok-taken.taken.second.0 c.in_ok-bytes.bytes.items
+    c.in_ok-taken.ensures.whole
+    (makes_as c.take_two.new.store.geometry c.args.store.now.geometry c.take_two.new.batch
+    c.make_data.new.batch c.args.owner.0 c.args.at.data c.in_ok-taken.taken.second.0
+    c.in_ok-bytes.bytes.items c.in_ok-taken.ensures.keeps.geometry c.in_ok-bytes.ensures.made))
+    (ap (λ (b : Changed). b.pages) c.in_err-make_pointer.ensures.same)

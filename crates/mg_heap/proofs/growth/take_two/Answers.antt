@@ -1,9 +1,12 @@
-use Rattle.std.proofs.Common.{inr}
+use Rattle.std.proofs.Common.{◌∙◌, ap, inr}
+use Rattle.mg_base.specs.declared.numbers.PageNo.{PageNo}
 use Rattle.mg_space.specs.ViewLaws.{keeps_on, tells_on}
+use Rattle.mg_pool.specs.Batch.{Changed}
 use Rattle.mg_heap.specs.Growth.{RefusesTwo}
+use Rattle.mg_heap.specs.GrowthLaws.{whole_same, whole_taken}
 use Rattle.mg_heap.proofs.GrowthLemmas.{refuses_on}
 use Rattle.mg_heap.specs.RoomLaws.{bits_on, takes_on}
-use Rattle.mg_heap.proofs.TableLemmas.{handed_on}
+use Rattle.mg_heap.proofs.TableLemmas.{fault_up, handed_on, whole_later}
 use Rattle.mg_heap.proofs.growth.take_two.Goals as goal
 
 pub returns-in_err-second-clause-takes : goal.returns-in_err-second-clause-takes
@@ -39,3 +42,44 @@ returns-clause-takes g c = λ image tells. record {
       (c.in_ok-second.ensures.takes image (tells_on g.D.Disk.meaning c.args.store.now
       c.take_page.new.store image c.in_ok-first.ensures.keeps tells));
 }
+
+pub returns-in_err-second-clause-keeps : goal.returns-in_err-second-clause-keeps
+returns-in_err-second-clause-keeps g c = keeps_on g.D.Disk.meaning g.met.D.Disk.counts_now
+    c.args.store.now c.take_page.new.store c.take_page-2.new.store c.in_ok-first.ensures.keeps
+    c.in_err-second.ensures.keeps
+
+pub returns-in_err-second-clause-fault : goal.returns-in_err-second-clause-fault
+returns-in_err-second-clause-fault g c = fault_up PageNo g.D.Disk.meaning c.args.store.now
+    c.take_page.new.store c.take_page-2.new.store c.from_residual-in_err-second.result
+    c.in_err-second.field-0.0 c.in_ok-first.ensures.keeps c.in_ok-first.ensures.fault.2
+    c.from_residual-in_err-second.ensures.0 c.from_residual-in_err-second.ensures.1
+    c.in_err-second.ensures.fault
+
+pub returns-clause-fault : goal.returns-clause-fault
+returns-clause-fault g c = (
+  c.in_ok-first.ensures.fault.0,
+  c.in_ok-second.ensures.fault.1,
+  c.in_ok-second.ensures.fault.2 ∙ c.in_ok-first.ensures.fault.2,
+)
+
+pub take_page-requires-2-clause-whole : goal.take_page-requires-2-clause-whole
+take_page-requires-2-clause-whole g c = whole_later g.D.Disk.meaning c.args.store.now
+    c.take_page.new.store c.in_ok-first.ensures.keeps c.take_page.new.batch.pages
+    (whole_taken c.args.store.now.geometry c.args.batch.now c.take_page.new.batch
+    c.in_ok-first.first.0 c.requires.whole c.in_ok-first.ensures.puts)
+
+pub returns-in_err-second-clause-whole : goal.returns-in_err-second-clause-whole
+returns-in_err-second-clause-whole g c = whole_same c.args.store.now.geometry.size
+    c.take_page.new.batch c.take_page-2.new.batch
+    (whole_taken c.args.store.now.geometry c.args.batch.now c.take_page.new.batch
+    c.in_ok-first.first.0 c.requires.whole c.in_ok-first.ensures.puts)
+    (ap (λ (b : Changed). b.pages) c.in_err-second.ensures.same)
+
+pub returns-clause-whole : goal.returns-clause-whole
+returns-clause-whole g c = whole_taken c.args.store.now.geometry c.take_page.new.batch
+    c.take_page-2.new.batch c.in_ok-second.second.0
+    (whole_taken c.args.store.now.geometry c.args.batch.now c.take_page.new.batch
+    c.in_ok-first.first.0 c.requires.whole c.in_ok-first.ensures.puts)
+    (bits_on g.D.Disk.meaning c.args.store.now c.take_page.new.store c.in_ok-first.ensures.keeps
+    c.take_page.new.batch c.take_page-2.new.batch c.in_ok-second.second.0
+    c.in_ok-second.ensures.puts)

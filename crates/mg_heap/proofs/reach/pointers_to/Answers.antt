@@ -1,5 +1,6 @@
-use Rattle.std.proofs.Common.{◌∙◌, ◌∷◌, [], ◌<◌, ℕ, List, length, length-append, ap, subst, sym, refl, arith}
+use Rattle.std.proofs.Common.{◌∙◌, ℕ, List, length, subst, sym, refl}
 use Rattle.mg_base.specs.declared.geometry.TheConstants.{GREATEST_LIMIT}
+use Rattle.mg_base.specs.declared.numbers.PageNo.{PageNo}
 use Rattle.mg_image.specs.Form.{Pages}
 use Rattle.mg_image.specs.Tables.{Has, IsOnce, entries_in}
 use Rattle.mg_space.specs.View.{viewed}
@@ -7,7 +8,7 @@ use Rattle.mg_space.specs.ViewLaws.{keeps_itself, keeps_on}
 use Rattle.mg_heap.specs.Reach.{RefusesReach}
 use Rattle.mg_heap.specs.Table.{FollowsPage, LeadsTo, RefusesPointer, none}
 use Rattle.mg_heap.proofs.ReachLemmas.{breaks_off, is_not, is_unlisted, none_further, reaches}
-use Rattle.mg_heap.proofs.TableLemmas.{as_started, few, handed_on, leads_further, still_once, still_small}
+use Rattle.mg_heap.proofs.TableLemmas.{as_started, count_fits, few, handed_on, leads_further, one_further, still_once, still_small, fault_up, geometry_later, whole_later}
 use Rattle.mg_heap.proofs.reach.pointers_to.Goals as goal
 
 pub loop-n-init : goal.loop-n-init
@@ -27,11 +28,9 @@ loop-n-init g c = record {
 }
 
 pub follow-requires-clause-few : goal.follow-requires-clause-few
-follow-requires-clause-few g c =
-    let short : length c.loop-n.pointers.items < GREATEST_LIMIT =
-    few c.loop-n.pointers.items c.loop-n.n.0 GREATEST_LIMIT c.loop-n.invariant.once
-    c.loop-n.invariant.small c.loop-n.invariant.new_one c.loop-n-test.true c.loop-n.invariant.below in
-    omega (arith, short)
+follow-requires-clause-few g c = count_fits (length c.loop-n.pointers.items)
+    (few c.loop-n.pointers.items c.loop-n.n.0 GREATEST_LIMIT c.loop-n.invariant.once
+    c.loop-n.invariant.small c.loop-n.invariant.new_one c.loop-n-test.true c.loop-n.invariant.below)
 
 pub returns-in_err-n-clause-reaches : goal.returns-in_err-n-clause-reaches
 returns-in_err-n-clause-reaches g c = λ image tells. handed_on c.from_residual-in_err-n.result
@@ -61,16 +60,10 @@ returns-then-has_number-clause-reaches g c = λ image tells.
     (c.has_number.ensures.0 c.if-has_number.true))
 
 pub loop-n-smaller : goal.loop-n-smaller
-loop-n-smaller g c =
-    let short : length c.loop-n.pointers.items < GREATEST_LIMIT =
-    few c.loop-n.pointers.items c.loop-n.n.0 GREATEST_LIMIT c.loop-n.invariant.once
-    c.loop-n.invariant.small c.loop-n.invariant.new_one c.loop-n-test.true c.loop-n.invariant.below in
-    omega (
-      arith,
-      short,
-      ap length c.in_ok-n.ensures.lists.listed,
-      length-append c.loop-n.pointers.items (c.loop-n.n.0 ∷ []),
-    )
+loop-n-smaller g c = one_further c.loop-n.pointers.items c.follow.new.pointers.items c.loop-n.n.0
+    GREATEST_LIMIT (few c.loop-n.pointers.items c.loop-n.n.0 GREATEST_LIMIT c.loop-n.invariant.once
+    c.loop-n.invariant.small c.loop-n.invariant.new_one c.loop-n-test.true c.loop-n.invariant.below)
+    c.in_ok-n.ensures.lists.listed
 
 pub loop-n-preserved : goal.loop-n-preserved
 loop-n-preserved g c = record {
@@ -111,3 +104,41 @@ returns-clause-reaches g c = λ image tells. is_unlisted g.D.Disk.meaning c.loop
     c.loop-n.pointers.items c.loop-n.n.0 c.args.page c.unlisted.result
     (c.loop-n.invariant.leads image tells) c.loop-n-test.false
     (c.loop-n.invariant.none_yet image tells) c.unlisted.ensures
+
+pub follow-requires-clause-geometry : goal.follow-requires-clause-geometry
+follow-requires-clause-geometry g c = geometry_later g.D.Disk.meaning c.args.store.now c.loop-n.store
+    c.loop-n.invariant.keeps c.requires.geometry
+
+pub follow-requires-clause-whole : goal.follow-requires-clause-whole
+follow-requires-clause-whole g c = whole_later g.D.Disk.meaning c.args.store.now c.loop-n.store
+    c.loop-n.invariant.keeps c.args.batch.now.pages c.requires.whole
+
+pub returns-in_err-n-clause-keeps : goal.returns-in_err-n-clause-keeps
+returns-in_err-n-clause-keeps g c = keeps_on g.D.Disk.meaning g.met.D.Disk.counts_now
+    c.args.store.now c.loop-n.store c.follow.new.store c.loop-n.invariant.keeps
+    c.in_err-n.ensures.keeps
+
+pub returns-in_err-n-clause-fault : goal.returns-in_err-n-clause-fault
+returns-in_err-n-clause-fault g c = fault_up PageNo g.D.Disk.meaning c.args.store.now
+    c.loop-n.store c.follow.new.store c.from_residual-in_err-n.result c.in_err-n.field-0.0
+    c.loop-n.invariant.keeps c.loop-n.invariant.faults c.from_residual-in_err-n.ensures.0
+    c.from_residual-in_err-n.ensures.1 c.in_err-n.ensures.fault
+
+pub returns-clause-fault : goal.returns-clause-fault
+returns-clause-fault g c = (
+  c.in_ok-online.ensures.fault.0,
+  c.loop-n.invariant.keeps.offline ∙ c.in_ok-online.ensures.fault.0,
+  c.loop-n.invariant.faults,
+)
+
+pub returns-then-has_number-clause-keeps : goal.returns-then-has_number-clause-keeps
+returns-then-has_number-clause-keeps g c = keeps_on g.D.Disk.meaning g.met.D.Disk.counts_now
+    c.args.store.now c.loop-n.store c.follow.new.store c.loop-n.invariant.keeps
+    c.in_ok-n.ensures.keeps
+
+pub returns-then-has_number-clause-fault : goal.returns-then-has_number-clause-fault
+returns-then-has_number-clause-fault g c = (
+  c.in_ok-online.ensures.fault.0,
+  c.in_ok-n.ensures.fault.1,
+  c.in_ok-n.ensures.fault.2 ∙ c.loop-n.invariant.faults,
+)

@@ -1,9 +1,10 @@
-use Rattle.std.proofs.Common.{inr, refl}
-use Rattle.mg_space.specs.ViewLaws.{tells_on}
+use Rattle.std.proofs.Common.{◌∙◌, inr, refl}
+use Rattle.mg_space.specs.ViewLaws.{tells_on, keeps_on}
 use Rattle.mg_heap.specs.Room.{RefusesRoom}
 use Rattle.mg_heap.specs.RoomLaws.{finds_on}
+use Rattle.mg_heap.specs.declared.growth.DataPage.{DataPage}
 use Rattle.mg_heap.proofs.RoomLemmas.{room_refused_on}
-use Rattle.mg_heap.proofs.TableLemmas.{handed_on}
+use Rattle.mg_heap.proofs.TableLemmas.{handed_on, fault_up, whole_before}
 use Rattle.mg_heap.proofs.room.page_with_room.Goals as goal
 
 pub returns-in_err-found-clause-gives : goal.returns-in_err-found-clause-gives
@@ -38,3 +39,33 @@ returns-clause-gives g c = λ image tells. record {
       (c.in_ok-found.ensures.gives image (tells_on g.D.Disk.meaning c.args.store.now
       c.table_pages.new.store image c.in_ok-table.ensures.keeps tells));
 }
+
+pub returns-in_err-found-clause-keeps : goal.returns-in_err-found-clause-keeps
+returns-in_err-found-clause-keeps g c = keeps_on g.D.Disk.meaning g.met.D.Disk.counts_now c.args.store.now
+    c.table_pages.new.store c.room_in.new.store c.in_ok-table.ensures.keeps c.in_err-found.ensures.keeps
+
+pub returns-in_err-found-clause-whole : goal.returns-in_err-found-clause-whole
+returns-in_err-found-clause-whole g c = whole_before g.D.Disk.meaning c.args.store.now c.table_pages.new.store
+    c.in_ok-table.ensures.keeps c.room_in.new.batch.pages c.in_err-found.ensures.whole
+
+pub returns-clause-keeps : goal.returns-clause-keeps
+returns-clause-keeps g c = keeps_on g.D.Disk.meaning g.met.D.Disk.counts_now c.args.store.now
+    c.table_pages.new.store c.room_in.new.store c.in_ok-table.ensures.keeps c.in_ok-found.ensures.keeps
+
+pub returns-clause-whole : goal.returns-clause-whole
+returns-clause-whole g c = whole_before g.D.Disk.meaning c.args.store.now c.table_pages.new.store
+    c.in_ok-table.ensures.keeps c.room_in.new.batch.pages c.in_ok-found.ensures.whole
+
+pub returns-in_err-found-clause-fault : goal.returns-in_err-found-clause-fault
+returns-in_err-found-clause-fault g c = fault_up DataPage g.D.Disk.meaning c.args.store.now
+    c.table_pages.new.store c.room_in.new.store c.from_residual-in_err-found.result
+    c.in_err-found.field-0.0 c.in_ok-table.ensures.keeps c.in_ok-table.ensures.fault.2
+    c.from_residual-in_err-found.ensures.0 c.from_residual-in_err-found.ensures.1
+    c.in_err-found.ensures.fault
+
+pub returns-clause-fault : goal.returns-clause-fault
+returns-clause-fault g c = (
+  c.in_ok-table.ensures.fault.0,
+  c.in_ok-found.ensures.fault.1,
+  c.in_ok-found.ensures.fault.2 ∙ c.in_ok-table.ensures.fault.2,
+)

@@ -1,10 +1,10 @@
 use Rattle.std.proofs.Common.{◌-◌, Option, arith, inl, subst}
-use Rattle.mg_space.specs.View.{viewed}
-use Rattle.mg_space.specs.ViewLaws.{tells_on}
+use Rattle.mg_space.specs.View.{viewed, pool_answer}
+use Rattle.mg_space.specs.ViewLaws.{tells_on, fault_on, keeps_on}
 use Rattle.mg_heap.specs.Room.{FindsRoom, RefusesRoomIn}
 use Rattle.mg_heap.specs.declared.growth.DataPage.{DataPage}
 use Rattle.mg_heap.proofs.RoomLemmas.{last_is, room_grown}
-use Rattle.mg_heap.proofs.TableLemmas.{handed_on}
+use Rattle.mg_heap.proofs.TableLemmas.{handed_on, whole_before}
 use Rattle.mg_heap.proofs.room.room_in.Goals as goal
 
 pub returns-in_err-found-clause-gives : goal.returns-in_err-found-clause-gives
@@ -29,3 +29,16 @@ returns-clause-gives g c = λ image tells. room_grown g.D.Disk.meaning c.args.st
     c.in_default.is (c.in_ok-found.ensures.finds image tells)))
     (c.grow.ensures.grows image (tells_on g.D.Disk.meaning c.args.store.now
     c.page_with.new.store image c.in_ok-found.ensures.keeps tells))
+
+pub returns-clause-keeps : goal.returns-clause-keeps
+returns-clause-keeps g c = keeps_on g.D.Disk.meaning g.met.D.Disk.counts_now c.args.store.now
+    c.page_with.new.store c.grow.new.store c.in_ok-found.ensures.keeps c.grow.ensures.keeps
+
+pub returns-clause-fault : goal.returns-clause-fault
+returns-clause-fault g c = fault_on g.D.Disk.meaning c.args.store.now c.page_with.new.store
+    c.grow.new.store (pool_answer c.grow.result) c.in_ok-found.ensures.keeps
+    c.in_ok-found.ensures.fault.2 c.grow.ensures.fault
+
+pub returns-clause-whole : goal.returns-clause-whole
+returns-clause-whole g c = whole_before g.D.Disk.meaning c.args.store.now c.page_with.new.store
+    c.in_ok-found.ensures.keeps c.grow.new.batch.pages c.grow.ensures.whole

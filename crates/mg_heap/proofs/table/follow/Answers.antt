@@ -2,7 +2,7 @@ use Rattle.std.proofs.Common.{arith, inr}
 use Rattle.mg_space.specs.declared.fault.SpaceFault.TheVariants as faults
 use Rattle.mg_space.specs.View.{viewed}
 use Rattle.mg_heap.specs.Table.{RefusesPointer}
-use Rattle.mg_heap.proofs.TableLemmas.{entries_few, handed_on, link_refused, page_refused}
+use Rattle.mg_heap.proofs.TableLemmas.{entries_few, handed_on, link_refused, page_refused, follows_page, lists_page}
 use Rattle.mg_heap.proofs.table.follow.Goals as goal
 
 pub returns-in_err-page-clause-follows : goal.returns-in_err-page-clause-follows
@@ -33,3 +33,17 @@ returns-clause-few g c = entries_few c.in_ok-page.page c.args.data_pages.now.ite
     c.add_entries.new.data_pages.items c.args.store.now.geometry.size c.requires.geometry.size
     c.in_ok-page.ensures.len c.in_ok-page.ensures.lawful
     (rw c.as_slice.ensures at c.in_ok-add_entries.ensures)
+
+pub returns-clause-lists : goal.returns-clause-lists
+returns-clause-lists g c = lists_page c.args.pointers.now.items c.push.new.self.items c.args.n.0
+    c.in_ok-page.page c.in_ok-linked.field-0.0 c.in_ok-push.ensures.items
+    (rw c.as_slice-2.ensures at c.in_ok-linked.ensures)
+
+pub returns-clause-follows : goal.returns-clause-follows
+returns-clause-follows g c = λ image tells. follows_page
+    (viewed c.args.store.now image c.args.batch.now) c.args.owner.0 c.len.result
+    c.args.pointers.now.items c.push.new.self.items c.args.n.0 c.in_ok-page.page
+    c.args.data_pages.now.items c.add_entries.new.data_pages.items c.in_ok-linked.field-0.0
+    (omega arith) (c.in_ok-page.ensures.seen image tells) c.in_ok-page.ensures.tested
+    (rw c.as_slice.ensures at c.in_ok-add_entries.ensures)
+    (rw c.as_slice-2.ensures at c.in_ok-linked.ensures)

@@ -1,10 +1,10 @@
-use Rattle.std.proofs.Common.{◌+◌, Some, arith}
+use Rattle.std.proofs.Common.{◌+◌, ℕ, Some, ap, inl}
 use Rattle.std.specs.Prelude.{MatchResult}
 use Rattle.mg_image.specs.Form.{Pages}
-use Rattle.mg_space.specs.View.{viewed}
-use Rattle.mg_space.specs.ViewLaws.{keeps_on}
-use Rattle.mg_heap.specs.Walk.{GivesBehind, RefusesWalk}
-use Rattle.mg_heap.proofs.TableLemmas.{as_started}
+use Rattle.mg_space.specs.View.{viewed, pool_answer}
+use Rattle.mg_space.specs.ViewLaws.{keeps_on, fault_on}
+use Rattle.mg_heap.specs.Walk.{GivesBehind, RefusesNext, RefusesWalk}
+use Rattle.mg_heap.proofs.TableLemmas.{as_started, handed_on}
 use Rattle.mg_heap.proofs.WalkLemmas.{none_behind}
 use Rattle.mg_heap.proofs.walk.next_after.Goals as goal
 
@@ -16,10 +16,23 @@ pub returns-clause-gives : goal.returns-clause-gives
 returns-clause-gives g c = λ image tells. none_behind g.D.Disk.meaning c.behind_in.new.store
     c.args.batch.now.pages (viewed c.args.store.now image c.args.batch.now) c.args.owner.0
     (c.from.result + 1) c.args.at c.in_ok-page.page c.as_slice.result.now c.behind_in.result
-    (c.in_ok-page.ensures.seen image tells) c.as_slice.ensures (omega (arith, c.from.ensures))
+    (c.in_ok-page.ensures.seen image tells) c.as_slice.ensures (ap (λ (n : ℕ). n + 1) c.from.ensures)
     c.in_default.ensures
     (as_started g.D.Disk.meaning c.args.store.now c.data_page.new.store image c.args.batch.now
     c.in_ok-page.ensures.keeps tells (λ (pages : Pages). MatchResult c.behind_in.result
     (GivesBehind pages c.args.owner.0 (Some c.args.at.page))
     (RefusesWalk g.D.Disk.meaning c.behind_in.new.store c.args.batch.now.pages pages c.args.owner.0))
     (c.behind_in.ensures.gives image))
+
+pub returns-clause-fault : goal.returns-clause-fault
+returns-clause-fault g c = fault_on g.D.Disk.meaning c.args.store.now c.data_page.new.store
+    c.behind_in.new.store (pool_answer c.behind_in.result) c.in_ok-page.ensures.keeps
+    c.in_ok-page.ensures.fault.2 c.behind_in.ensures.fault
+
+pub returns-in_err-page-clause-gives : goal.returns-in_err-page-clause-gives
+returns-in_err-page-clause-gives g c = λ image tells. handed_on c.from_residual.result
+    c.in_err-page.field-0.0 _
+    (RefusesNext g.D.Disk.meaning c.data_page.new.store c.args.batch.now.pages
+    (viewed c.args.store.now image c.args.batch.now) c.args.owner.0 (Some c.args.at))
+    c.from_residual.ensures.0 c.from_residual.ensures.1
+    (inl (c.in_err-page.ensures.seen image tells))

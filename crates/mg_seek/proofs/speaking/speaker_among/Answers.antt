@@ -1,4 +1,4 @@
-use Rattle.std.proofs.Common.{arith, ◌≡◌, ◌∙◌, ℕ, List, Some, None, Option, inl, inr, refl, subst, sym}
+use Rattle.std.proofs.Common.{arith, ◌≡◌, ◌∙◌, ℕ, List, Some, None, Option, inl, inr, refl, subst, sym, ap, Bool}
 use Rattle.std.specs.Prelude.{◌↔◌, IsTrue}
 use Rattle.std.proofs.lemmas.Bool.{false≢true}
 use Rattle.mg_base.specs.declared.numbers.RecId.{RecId}
@@ -11,8 +11,10 @@ use Rattle.mg_seek.specs.TableRecords.{IsAmong}
 use Rattle.mg_seek.specs.Versions.{wants}
 use Rattle.mg_seek.specs.declared.whose.Wanted.TheVariants.{Living}
 use Rattle.mg_seek.specs.RecordLaws.{as_kept}
-use Rattle.mg_seek.proofs.Steps.{handed_on}
+use Rattle.mg_seek.proofs.Steps.{handed_on, fault_up, reads_same}
 use Rattle.mg_seek.proofs.TableLemmas.{none_left, passed_over, record_refuses}
+use Rattle.mg_base.specs.declared.geometry.Geometry.{Geometry}
+use Rattle.mg_space.specs.Taking.{IsGeometry}
 use Rattle.mg_seek.proofs.speaking.speaker_among.Goals as goal
 
 pub returns-in_err-does-clause-gives : goal.returns-in_err-does-clause-gives
@@ -66,3 +68,48 @@ returns-clause-gives g c = λ image tells.
     c.loop-rec.invariant.further image tells None
     (subst (λ (recs : List RecId). SpeaksAmong (g.S.States.state_of c.args.states.now) c.args.live.now (viewed c.args.store.now image c.args.batch.now) c.args.table.now c.args.key.now recs
     None) (sym (none_left c.loop-rec.rest.now (omega (arith, c.in_default.ensures.cases)))) tt)
+
+pub speaks-requires-clause-pool : goal.speaks-requires-clause-pool
+speaks-requires-clause-pool g c = c.loop-rec.invariant.keeps.pool
+
+pub speaks-requires-clause-geometry : goal.speaks-requires-clause-geometry
+speaks-requires-clause-geometry g c = subst IsGeometry (sym c.loop-rec.invariant.keeps.geometry) c.requires.geometry
+
+pub speaks-requires-clause-whole : goal.speaks-requires-clause-whole
+speaks-requires-clause-whole g c = λ page bytes is. c.requires.whole page bytes is
+    ∙ ap (λ (x : Geometry). x.size) (sym c.loop-rec.invariant.keeps.geometry)
+
+pub speaks-requires-clause-columns : goal.speaks-requires-clause-columns
+speaks-requires-clause-columns g c = c.requires.columns
+
+pub returns-in_err-does-clause-keeps : goal.returns-in_err-does-clause-keeps
+returns-in_err-does-clause-keeps g c = keeps_on g.D.Disk.meaning g.met.D.Disk.counts_now c.args.store.now c.loop-rec.store
+    c.speaks.new.store c.loop-rec.invariant.keeps c.in_err-does.ensures.keeps
+
+pub returns-in_err-does-clause-fault : goal.returns-in_err-does-clause-fault
+returns-in_err-does-clause-fault g c = fault_up Bool g.D.Disk.meaning c.args.store.now c.loop-rec.store c.speaks.new.store
+    c.from_residual.result c.in_err-does.field-0.0 c.loop-rec.invariant.keeps c.loop-rec.invariant.faults
+    c.from_residual.ensures.0 c.from_residual.ensures.1 c.in_err-does.ensures.fault
+
+pub returns-in_err-does-clause-own : goal.returns-in_err-does-clause-own
+returns-in_err-does-clause-own g c = reads_same Bool c.from_residual.result c.in_err-does.field-0.0 c.from_residual.ensures.0 c.from_residual.ensures.1
+    c.in_err-does.ensures.own
+
+pub returns-then-does-clause-keeps : goal.returns-then-does-clause-keeps
+returns-then-does-clause-keeps g c = keeps_on g.D.Disk.meaning g.met.D.Disk.counts_now c.args.store.now c.loop-rec.store
+    c.speaks.new.store c.loop-rec.invariant.keeps c.in_ok-does.ensures.keeps
+
+pub returns-then-does-clause-fault : goal.returns-then-does-clause-fault
+returns-then-does-clause-fault g c = (c.requires.online, c.in_ok-does.ensures.fault.1, c.in_ok-does.ensures.fault.2 ∙ c.loop-rec.invariant.faults)
+
+pub returns-then-does-clause-own : goal.returns-then-does-clause-own
+returns-then-does-clause-own g c = tt
+
+pub returns-clause-keeps : goal.returns-clause-keeps
+returns-clause-keeps g c = c.loop-rec.invariant.keeps
+
+pub returns-clause-fault : goal.returns-clause-fault
+returns-clause-fault g c = (c.requires.online, c.loop-rec.invariant.keeps.offline ∙ c.requires.online, c.loop-rec.invariant.faults)
+
+pub returns-clause-own : goal.returns-clause-own
+returns-clause-own g c = tt

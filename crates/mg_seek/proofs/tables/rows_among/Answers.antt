@@ -1,4 +1,4 @@
-use Rattle.std.proofs.Common.{arith, ◌≡◌, ◌∙◌, ℕ, List, [], ◌++◌, inl, inr, refl, subst, sym}
+use Rattle.std.proofs.Common.{arith, ◌≡◌, ◌∙◌, ℕ, List, [], ◌++◌, inl, inr, refl, subst, sym, ap}
 use Rattle.mg_base.specs.declared.numbers.RecId.{RecId}
 use Rattle.mg_image.specs.Form.{Pages, Row}
 use Rattle.mg_space.specs.View.{viewed}
@@ -11,8 +11,10 @@ use Rattle.mg_seek.specs.Versions.{wants}
 use Rattle.mg_seek.specs.declared.whose.Wanted.TheVariants.{SeenBy}
 use Rattle.mg_seek.specs.RecordLaws.{as_kept}
 use Rattle.mg_seek.proofs.SeenLemmas.{seen_all, seen_on}
-use Rattle.mg_seek.proofs.Steps.{handed_on}
+use Rattle.mg_seek.proofs.Steps.{handed_on, fault_up, reads_same}
 use Rattle.mg_seek.proofs.TableLemmas.{none_left, record_refuses}
+use Rattle.mg_base.specs.declared.geometry.Geometry.{Geometry}
+use Rattle.mg_space.specs.Taking.{IsGeometry}
 use Rattle.mg_seek.proofs.tables.rows_among.Goals as goal
 
 pub loop-rec-init : goal.loop-rec-init
@@ -62,3 +64,38 @@ returns-clause-gives g c = λ image tells. seen_all (g.S.States.state_of c.args.
     c.args.records.now c.loop-rec.rows.items (c.loop-rec.invariant.further image tells []
     (subst (λ (recs : List RecId). AreSeen (g.S.States.state_of c.args.states.now) c.args.live.now c.args.t (viewed c.args.store.now image c.args.batch.now) c.args.table.now recs [])
     (sym (none_left c.loop-rec.rest.now (omega (arith, c.in_default.ensures.cases)))) refl))
+
+pub add_row-requires-clause-pool : goal.add_row-requires-clause-pool
+add_row-requires-clause-pool g c = c.loop-rec.invariant.keeps.pool
+
+pub add_row-requires-clause-geometry : goal.add_row-requires-clause-geometry
+add_row-requires-clause-geometry g c = subst IsGeometry (sym c.loop-rec.invariant.keeps.geometry) c.requires.geometry
+
+pub add_row-requires-clause-whole : goal.add_row-requires-clause-whole
+add_row-requires-clause-whole g c = λ page bytes is. c.requires.whole page bytes is
+    ∙ ap (λ (x : Geometry). x.size) (sym c.loop-rec.invariant.keeps.geometry)
+
+pub add_row-requires-clause-columns : goal.add_row-requires-clause-columns
+add_row-requires-clause-columns g c = c.requires.columns
+
+pub returns-in_err-add_row-clause-keeps : goal.returns-in_err-add_row-clause-keeps
+returns-in_err-add_row-clause-keeps g c = keeps_on g.D.Disk.meaning g.met.D.Disk.counts_now c.args.store.now c.loop-rec.store
+    c.add_row.new.store c.loop-rec.invariant.keeps c.in_err-add_row.ensures.keeps
+
+pub returns-in_err-add_row-clause-fault : goal.returns-in_err-add_row-clause-fault
+returns-in_err-add_row-clause-fault g c = fault_up (Unit {0}) g.D.Disk.meaning c.args.store.now c.loop-rec.store c.add_row.new.store
+    c.from_residual.result c.in_err-add_row.field-0.0 c.loop-rec.invariant.keeps c.loop-rec.invariant.faults
+    c.from_residual.ensures.0 c.from_residual.ensures.1 c.in_err-add_row.ensures.fault
+
+pub returns-in_err-add_row-clause-own : goal.returns-in_err-add_row-clause-own
+returns-in_err-add_row-clause-own g c = reads_same (Unit {0}) c.from_residual.result c.in_err-add_row.field-0.0 c.from_residual.ensures.0 c.from_residual.ensures.1
+    c.in_err-add_row.ensures.own
+
+pub returns-clause-keeps : goal.returns-clause-keeps
+returns-clause-keeps g c = c.loop-rec.invariant.keeps
+
+pub returns-clause-fault : goal.returns-clause-fault
+returns-clause-fault g c = (c.requires.online, c.loop-rec.invariant.keeps.offline ∙ c.requires.online, c.loop-rec.invariant.faults)
+
+pub returns-clause-own : goal.returns-clause-own
+returns-clause-own g c = tt

@@ -1,7 +1,10 @@
 use Rattle.mg_space.specs.View.{viewed}
 use Rattle.mg_seek.specs.TableRows.{IsTableSeen, RefusesTable}
 use Rattle.mg_seek.proofs.SeenLemmas.{rows_refuse, tables_fault, tables_read, tables_refuse}
-use Rattle.mg_seek.proofs.Steps.{handed_on}
+use Rattle.mg_seek.proofs.Steps.{handed_on, fault_same, reads_same}
+use Rattle.std.specs.declared.vec.Vec.{Vec}
+use Rattle.mg_image.specs.Form.{Row}
+use Rattle.std.specs.declared.alloc.Global.{Global}
 use Rattle.mg_seek.proofs.tables.table_named.Goals as goal
 
 pub returns-in_err-rows-clause-gives : goal.returns-in_err-rows-clause-gives
@@ -42,3 +45,26 @@ returns-clause-gives g c = λ image tells. record {
   seen = c.in_ok-rows.ensures.gives image tells;
   names = rw c.deref.ensures.value at c.in_ok-table_in.ensures;
 }
+
+pub returns-in_err-rows-clause-keeps : goal.returns-in_err-rows-clause-keeps
+returns-in_err-rows-clause-keeps g c = c.in_err-rows.ensures.keeps
+
+pub returns-in_err-rows-clause-fault : goal.returns-in_err-rows-clause-fault
+returns-in_err-rows-clause-fault g c = fault_same (Vec Row Global) g.D.Disk.meaning c.args.store.now c.rows_in_view.new.store c.from_residual.result c.in_err-rows.field-0.0
+    c.from_residual.ensures.0 c.from_residual.ensures.1 c.in_err-rows.ensures.fault
+
+pub returns-in_err-rows-clause-own : goal.returns-in_err-rows-clause-own
+returns-in_err-rows-clause-own g c = reads_same (Vec Row Global) c.from_residual.result c.in_err-rows.field-0.0 c.from_residual.ensures.0 c.from_residual.ensures.1
+    c.in_err-rows.ensures.own
+
+pub returns-in_err-table_in-clause-keeps : goal.returns-in_err-table_in-clause-keeps
+returns-in_err-table_in-clause-keeps g c = c.in_ok-rows.ensures.keeps
+
+pub returns-clause-keeps : goal.returns-clause-keeps
+returns-clause-keeps g c = c.in_ok-rows.ensures.keeps
+
+pub returns-clause-fault : goal.returns-clause-fault
+returns-clause-fault g c = c.in_ok-rows.ensures.fault
+
+pub returns-clause-own : goal.returns-clause-own
+returns-clause-own g c = tt

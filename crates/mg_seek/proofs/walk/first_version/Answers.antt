@@ -1,4 +1,4 @@
-use Rattle.std.proofs.Common.{Ok, Err, sym, ◌∙◌, ap, subst}
+use Rattle.std.proofs.Common.{Ok, Err, sym, ◌∙◌, ap, subst, Option}
 use Rattle.mg_base.specs.declared.geometry.Geometry.{Geometry}
 use Rattle.mg_space.specs.Taking.{IsGeometry}
 use Rattle.mg_space.specs.View.{viewed}
@@ -6,7 +6,8 @@ use Rattle.mg_space.specs.ViewLaws.{keeps_on}
 use Rattle.mg_version.specs.declared.cell.Version.{Version}
 use Rattle.mg_seek.specs.Versions.{IsFirst, wants}
 use Rattle.mg_chain.specs.Refusals.{RefusesChain}
-use Rattle.mg_seek.proofs.Steps.{damage_at, fault_up, handed_on, met_on, primary_refuses, version_refuses, walk_comes_back, walk_ends, walk_here, walk_is_long, walk_none, walk_on, walk_starts}
+use Rattle.mg_seek.proofs.Steps.{damage_at, fault_up, handed_on, met_on, primary_refuses, version_refuses, walk_comes_back, walk_ends, walk_here, walk_is_long, walk_none, walk_on, walk_starts, fault_same, reads_same, no_answer}
+use Rattle.mg_version.specs.declared.cell.Link.{Link}
 use Rattle.mg_seek.proofs.walk.first_version.Goals as goal
 
 pub returns-in_err-first-clause-gives : goal.returns-in_err-first-clause-gives
@@ -162,3 +163,57 @@ returns-clause-gives g c = λ image tells.
     g.D.Disk.meaning c.loop-step.store c.args.batch.now.pages
     c.loop-step.step c.loop-step.holder.0 c.loop-step.link c.loop-step.mark
     (c.loop-step.invariant.walk image tells) c.loop-step-test.false)
+
+pub returns-in_err-first-clause-keeps : goal.returns-in_err-first-clause-keeps
+returns-in_err-first-clause-keeps g c = c.in_err-first.ensures.keeps
+
+pub returns-in_err-first-clause-fault : goal.returns-in_err-first-clause-fault
+returns-in_err-first-clause-fault g c = fault_same (Option Link) g.D.Disk.meaning c.args.store.now c.newest_link.new.store c.from_residual.result c.in_err-first.field-0.0
+    c.from_residual.ensures.0 c.from_residual.ensures.1 c.in_err-first.ensures.fault
+
+pub returns-in_err-first-clause-own : goal.returns-in_err-first-clause-own
+returns-in_err-first-clause-own g c = reads_same (Option Link) c.from_residual.result c.in_err-first.field-0.0 c.from_residual.ensures.0 c.from_residual.ensures.1
+    c.in_err-first.ensures.own
+
+pub returns-in_default-clause-keeps : goal.returns-in_default-clause-keeps
+returns-in_default-clause-keeps g c = c.in_ok-first.ensures.keeps
+
+pub returns-in_default-clause-fault : goal.returns-in_default-clause-fault
+returns-in_default-clause-fault g c = c.in_ok-first.ensures.fault
+
+pub returns-in_default-clause-own : goal.returns-in_default-clause-own
+returns-in_default-clause-own g c = tt
+
+pub returns-in_err-version-clause-own : goal.returns-in_err-version-clause-own
+returns-in_err-version-clause-own g c = reads_same Version c.from_residual-in_err-version.result c.in_err-version.field-0.0
+    c.from_residual-in_err-version.ensures.0 c.from_residual-in_err-version.ensures.1 c.in_err-version.ensures.own
+
+pub returns-then-is_marked-clause-own : goal.returns-then-is_marked-clause-own
+returns-then-is_marked-clause-own g c = tt
+
+pub returns-then-wants-clause-own : goal.returns-then-wants-clause-own
+returns-then-wants-clause-own g c = tt
+
+pub returns-in_default-back-clause-own : goal.returns-in_default-back-clause-own
+returns-in_default-back-clause-own g c = tt
+
+pub returns-clause-own : goal.returns-clause-own
+returns-clause-own g c = tt
+
+pub returns-in_default-clause-short : goal.returns-in_default-clause-short
+returns-in_default-clause-short g c = tt
+
+pub returns-then-is_marked-clause-short : goal.returns-then-is_marked-clause-short
+returns-then-is_marked-clause-short g c = tt
+
+pub returns-in_default-back-clause-short : goal.returns-in_default-back-clause-short
+returns-in_default-back-clause-short g c = tt
+
+pub returns-clause-short : goal.returns-clause-short
+returns-clause-short g c = tt
+
+pub returns-in_err-first-clause-short : goal.returns-in_err-first-clause-short
+returns-in_err-first-clause-short g c = no_answer _ c.from_residual.result c.from_residual.ensures.0
+
+pub returns-in_err-version-clause-short : goal.returns-in_err-version-clause-short
+returns-in_err-version-clause-short g c = no_answer _ c.from_residual-in_err-version.result c.from_residual-in_err-version.ensures.0

@@ -10,7 +10,12 @@ use Rattle.mg_txlist.proofs.AddLemmas.{same_number}
 use Rattle.mg_txlist.proofs.DrawLemmas.{draws_last, draws_new, lawful_last, lawful_new, tip_len, tip_whole}
 use Rattle.mg_pool.specs.Pool.{shown}
 use Rattle.mg_txlist.specs.Refusals.{RefusesDraw}
-use Rattle.mg_txlist.proofs.RefusalLemmas.{err_as, head_draw, tip_draw}
+use Rattle.std.specs.Prelude.{Ok}
+use Rattle.mg_header.specs.declared.header.Header.{Header}
+use Rattle.mg_space.specs.ViewLaws.{fault_on}
+use Rattle.mg_txlist.specs.declared.list.TipPage.{TipPage}
+use Rattle.mg_txlist.proofs.HandedLemmas.{own_as, told_as, told_then}
+use Rattle.mg_txlist.proofs.RefusalLemmas.{err_as, head_draw, lacks_draw, tip_draw}
 use Rattle.mg_txlist.proofs.drawing.fill.Goals as goal
 
 pub returns-then-t-places_of-ne0-clause-lawful : goal.returns-then-t-places_of-ne0-clause-lawful
@@ -105,3 +110,74 @@ returns-in_err-page-clause-refused g c = λ image tells. err_as c.from_residual-
     c.args.batch.now c.args.t.0 c.places_of.result c.geometry-size.result c.in_err-page.field-0.0
     c.in_ok-header.ensures.keeps tells c.requires.empty c.geometry-size.ensures c.places_of.ensures
     c.if-t-places_of-ne0.false (c.in_err-page.ensures.refused image))
+
+pub returns-in_err-header-clause-keeps : goal.returns-in_err-header-clause-keeps
+returns-in_err-header-clause-keeps g c = c.read_head.ensures.keeps
+
+pub returns-in_err-header-clause-fault : goal.returns-in_err-header-clause-fault
+returns-in_err-header-clause-fault g c = told_as Header g.D.Disk.meaning c.args.store.now c.read_head.new.store c.from_residual.result c.in_err-header.field-0.0 c.from_residual.ensures.1 c.in_err-header.ensures.fault
+
+pub returns-in_err-header-clause-own : goal.returns-in_err-header-clause-own
+returns-in_err-header-clause-own g c = own_as Header c.from_residual.result c.in_err-header.field-0.0 c.from_residual.ensures.1 c.in_err-header.ensures.own
+
+pub returns-then-header-t-clause-keeps : goal.returns-then-header-t-clause-keeps
+returns-then-header-t-clause-keeps g c = c.read_head.ensures.keeps
+
+pub returns-then-header-t-clause-fault : goal.returns-then-header-t-clause-fault
+returns-then-header-t-clause-fault g c = c.in_ok-header.ensures.fault
+
+pub returns-then-header-t-clause-own : goal.returns-then-header-t-clause-own
+returns-then-header-t-clause-own g c = tt
+
+pub returns-in_err-put_head-clause-keeps : goal.returns-in_err-put_head-clause-keeps
+returns-in_err-put_head-clause-keeps g c = keeps_on g.D.Disk.meaning g.met.D.Disk.counts_now c.args.store.now c.read_head.new.store c.put_head.new.store c.read_head.ensures.keeps c.put_head.ensures.keeps
+
+pub returns-in_err-put_head-clause-fault : goal.returns-in_err-put_head-clause-fault
+returns-in_err-put_head-clause-fault g c = told_then (Unit {0}) g.D.Disk.meaning c.args.store.now c.read_head.new.store c.put_head.new.store c.from_residual-in_err-put_head.result c.in_err-put_head.field-0.0 c.from_residual-in_err-put_head.ensures.1 c.read_head.ensures.keeps c.in_ok-header.ensures.fault.2 c.in_err-put_head.ensures.fault
+
+pub returns-in_err-put_head-clause-own : goal.returns-in_err-put_head-clause-own
+returns-in_err-put_head-clause-own g c = own_as (Unit {0}) c.from_residual-in_err-put_head.result c.in_err-put_head.field-0.0 c.from_residual-in_err-put_head.ensures.1 c.in_err-put_head.ensures.own
+
+pub returns-in_err-put_head-clause-refused : goal.returns-in_err-put_head-clause-refused
+returns-in_err-put_head-clause-refused g c = λ image tells. err_as c.from_residual-in_err-put_head.result c.in_err-put_head.field-0.0 (RefusesDraw g.D.Disk.meaning c.put_head.new.store c.args.store.now.geometry c.args.t.0 (shown c.args.store.now.dirty image)) c.from_residual-in_err-put_head.ensures.1
+    (lacks_draw g.D.Disk.meaning c.put_head.new.store c.args.store.now.geometry c.args.t.0 (shown c.args.store.now.dirty image) c.in_err-put_head.field-0.0 c.in_err-put_head.ensures.lacks)
+
+pub returns-then-t-places_of-ne0-clause-keeps : goal.returns-then-t-places_of-ne0-clause-keeps
+returns-then-t-places_of-ne0-clause-keeps g c = keeps_on g.D.Disk.meaning g.met.D.Disk.counts_now c.args.store.now c.read_head.new.store c.put_head.new.store c.read_head.ensures.keeps c.put_head.ensures.keeps
+
+pub returns-then-t-places_of-ne0-clause-fault : goal.returns-then-t-places_of-ne0-clause-fault
+returns-then-t-places_of-ne0-clause-fault g c = fault_on {T = Unit {0}} g.D.Disk.meaning c.args.store.now c.read_head.new.store c.put_head.new.store (Ok tt) c.read_head.ensures.keeps c.in_ok-header.ensures.fault.2 c.in_ok-put_head.ensures.fault
+
+pub returns-then-t-places_of-ne0-clause-own : goal.returns-then-t-places_of-ne0-clause-own
+returns-then-t-places_of-ne0-clause-own g c = tt
+
+pub returns-then-t-places_of-ne0-clause-refused : goal.returns-then-t-places_of-ne0-clause-refused
+returns-then-t-places_of-ne0-clause-refused g c = λ image tells. tt
+
+pub returns-in_err-page-clause-keeps : goal.returns-in_err-page-clause-keeps
+returns-in_err-page-clause-keeps g c = keeps_on g.D.Disk.meaning g.met.D.Disk.counts_now c.args.store.now c.read_head.new.store c.put_tip.new.store c.read_head.ensures.keeps c.put_tip.ensures.keeps
+
+pub returns-in_err-page-clause-fault : goal.returns-in_err-page-clause-fault
+returns-in_err-page-clause-fault g c = told_then TipPage g.D.Disk.meaning c.args.store.now c.read_head.new.store c.put_tip.new.store c.from_residual-in_err-page.result c.in_err-page.field-0.0 c.from_residual-in_err-page.ensures.1 c.read_head.ensures.keeps c.in_ok-header.ensures.fault.2 c.in_err-page.ensures.fault
+
+pub returns-in_err-page-clause-own : goal.returns-in_err-page-clause-own
+returns-in_err-page-clause-own g c = own_as TipPage c.from_residual-in_err-page.result c.in_err-page.field-0.0 c.from_residual-in_err-page.ensures.1 c.in_err-page.ensures.own
+
+pub returns-in_err-put_head-2-clause-fault : goal.returns-in_err-put_head-2-clause-fault
+returns-in_err-put_head-2-clause-fault g c = told_then (Unit {0}) g.D.Disk.meaning c.args.store.now c.put_tip.new.store c.put_head-2.new.store c.from_residual-in_err-put_head-2.result c.in_err-put_head-2.field-0.0 c.from_residual-in_err-put_head-2.ensures.1 (keeps_on g.D.Disk.meaning g.met.D.Disk.counts_now c.args.store.now c.read_head.new.store c.put_tip.new.store c.read_head.ensures.keeps c.put_tip.ensures.keeps) (c.in_ok-page.ensures.fault.2 ∙ c.in_ok-header.ensures.fault.2) c.in_err-put_head-2.ensures.fault
+
+pub returns-in_err-put_head-2-clause-own : goal.returns-in_err-put_head-2-clause-own
+returns-in_err-put_head-2-clause-own g c = own_as (Unit {0}) c.from_residual-in_err-put_head-2.result c.in_err-put_head-2.field-0.0 c.from_residual-in_err-put_head-2.ensures.1 c.in_err-put_head-2.ensures.own
+
+pub returns-in_err-put_head-2-clause-refused : goal.returns-in_err-put_head-2-clause-refused
+returns-in_err-put_head-2-clause-refused g c = λ image tells. err_as c.from_residual-in_err-put_head-2.result c.in_err-put_head-2.field-0.0 (RefusesDraw g.D.Disk.meaning c.put_head-2.new.store c.args.store.now.geometry c.args.t.0 (shown c.args.store.now.dirty image)) c.from_residual-in_err-put_head-2.ensures.1
+    (lacks_draw g.D.Disk.meaning c.put_head-2.new.store c.args.store.now.geometry c.args.t.0 (shown c.args.store.now.dirty image) c.in_err-put_head-2.field-0.0 c.in_err-put_head-2.ensures.lacks)
+
+pub returns-clause-fault : goal.returns-clause-fault
+returns-clause-fault g c = fault_on {T = Unit {0}} g.D.Disk.meaning c.args.store.now c.put_tip.new.store c.put_head-2.new.store (Ok tt) (keeps_on g.D.Disk.meaning g.met.D.Disk.counts_now c.args.store.now c.read_head.new.store c.put_tip.new.store c.read_head.ensures.keeps c.put_tip.ensures.keeps) (c.in_ok-page.ensures.fault.2 ∙ c.in_ok-header.ensures.fault.2) c.in_ok-put_head-2.ensures.fault
+
+pub returns-clause-own : goal.returns-clause-own
+returns-clause-own g c = tt
+
+pub returns-clause-refused : goal.returns-clause-refused
+returns-clause-refused g c = λ image tells. tt

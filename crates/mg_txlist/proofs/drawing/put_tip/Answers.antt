@@ -6,6 +6,11 @@ use Rattle.mg_space.specs.Taking.{region_of}
 use Rattle.mg_tip.specs.TipPage.{places}
 use Rattle.mg_tip.specs.TipPageLaws.{length-new_tip_page}
 use Rattle.mg_txlist.specs.Drawing.{last_orders}
+use Rattle.mg_base.specs.declared.numbers.PageNo.{PageNo}
+use Rattle.mg_space.specs.Taking.{RefusesTake}
+use Rattle.mg_space.specs.View.{viewed}
+use Rattle.mg_txlist.proofs.HandedLemmas.{out_of_memory, own_as, own_memory, told_as, told_memory}
+use Rattle.mg_txlist.proofs.RefusalLemmas.{err_as}
 use Rattle.mg_txlist.proofs.DrawLemmas.{orders_made, tip_made, written_back}
 use Rattle.mg_txlist.proofs.drawing.put_tip.Goals as goal
 
@@ -48,3 +53,84 @@ returns-clause-puts g c =
           (c.in_ok-order_last.ensures.orders
           ∙ ap (λ (n : ℕ). c.order-2.new.self.orders ++ last_orders n c.in_ok-at.at.0 c.args.last_tip.0) size);
     }
+
+pub returns-in_err-at-clause-keeps : goal.returns-in_err-at-clause-keeps
+returns-in_err-at-clause-keeps g c = c.take_page.ensures.keeps
+
+pub returns-in_err-at-clause-fault : goal.returns-in_err-at-clause-fault
+returns-in_err-at-clause-fault g c = told_as PageNo g.D.Disk.meaning c.args.store.now c.take_page.new.store c.from_residual.result c.in_err-at.field-0.0 c.from_residual.ensures.1 c.in_err-at.ensures.fault
+
+pub returns-in_err-at-clause-own : goal.returns-in_err-at-clause-own
+returns-in_err-at-clause-own g c = own_as PageNo c.from_residual.result c.in_err-at.field-0.0 c.from_residual.ensures.1 c.in_err-at.ensures.own
+
+pub returns-in_err-bytes-clause-keeps : goal.returns-in_err-bytes-clause-keeps
+returns-in_err-bytes-clause-keeps g c = c.take_page.ensures.keeps
+
+pub returns-in_err-bytes-clause-fault : goal.returns-in_err-bytes-clause-fault
+returns-in_err-bytes-clause-fault g c = told_memory g.D.Disk.meaning c.args.store.now c.take_page.new.store c.from_residual-in_err-bytes.result c.from_residual-in_err-bytes.ensures.1 c.in_ok-at.ensures.fault
+
+pub returns-in_err-bytes-clause-own : goal.returns-in_err-bytes-clause-own
+returns-in_err-bytes-clause-own g c = own_memory c.from_residual-in_err-bytes.result c.from_residual-in_err-bytes.ensures.1
+
+pub returns-in_err-bytes-clause-refused : goal.returns-in_err-bytes-clause-refused
+returns-in_err-bytes-clause-refused g c = λ image tells. err_as c.from_residual-in_err-bytes.result out_of_memory (RefusesTake c.args.store.now.geometry (viewed c.args.store.now image c.args.batch.now)) c.from_residual-in_err-bytes.ensures.1 tt
+
+pub returns-in_err-put-clause-keeps : goal.returns-in_err-put-clause-keeps
+returns-in_err-put-clause-keeps g c = c.take_page.ensures.keeps
+
+pub returns-in_err-put-clause-fault : goal.returns-in_err-put-clause-fault
+returns-in_err-put-clause-fault g c = told_memory g.D.Disk.meaning c.args.store.now c.take_page.new.store c.from_residual-in_err-put.result c.from_residual-in_err-put.ensures.1 c.in_ok-at.ensures.fault
+
+pub returns-in_err-put-clause-own : goal.returns-in_err-put-clause-own
+returns-in_err-put-clause-own g c = own_memory c.from_residual-in_err-put.result c.from_residual-in_err-put.ensures.1
+
+pub returns-in_err-put-clause-refused : goal.returns-in_err-put-clause-refused
+returns-in_err-put-clause-refused g c = λ image tells. err_as c.from_residual-in_err-put.result out_of_memory (RefusesTake c.args.store.now.geometry (viewed c.args.store.now image c.args.batch.now)) c.from_residual-in_err-put.ensures.1 tt
+
+pub returns-in_err-order-clause-keeps : goal.returns-in_err-order-clause-keeps
+returns-in_err-order-clause-keeps g c = c.take_page.ensures.keeps
+
+pub returns-in_err-order-clause-fault : goal.returns-in_err-order-clause-fault
+returns-in_err-order-clause-fault g c = told_memory g.D.Disk.meaning c.args.store.now c.take_page.new.store c.from_residual-in_err-order.result c.from_residual-in_err-order.ensures.1 c.in_ok-at.ensures.fault
+
+pub returns-in_err-order-clause-own : goal.returns-in_err-order-clause-own
+returns-in_err-order-clause-own g c = own_memory c.from_residual-in_err-order.result c.from_residual-in_err-order.ensures.1
+
+pub returns-in_err-order-clause-refused : goal.returns-in_err-order-clause-refused
+returns-in_err-order-clause-refused g c = λ image tells. err_as c.from_residual-in_err-order.result out_of_memory (RefusesTake c.args.store.now.geometry (viewed c.args.store.now image c.args.batch.now)) c.from_residual-in_err-order.ensures.1 tt
+
+pub returns-in_err-order-2-clause-keeps : goal.returns-in_err-order-2-clause-keeps
+returns-in_err-order-2-clause-keeps g c = c.take_page.ensures.keeps
+
+pub returns-in_err-order-2-clause-fault : goal.returns-in_err-order-2-clause-fault
+returns-in_err-order-2-clause-fault g c = told_memory g.D.Disk.meaning c.args.store.now c.take_page.new.store c.from_residual-in_err-order-2.result c.from_residual-in_err-order-2.ensures.1 c.in_ok-at.ensures.fault
+
+pub returns-in_err-order-2-clause-own : goal.returns-in_err-order-2-clause-own
+returns-in_err-order-2-clause-own g c = own_memory c.from_residual-in_err-order-2.result c.from_residual-in_err-order-2.ensures.1
+
+pub returns-in_err-order-2-clause-refused : goal.returns-in_err-order-2-clause-refused
+returns-in_err-order-2-clause-refused g c = λ image tells. err_as c.from_residual-in_err-order-2.result out_of_memory (RefusesTake c.args.store.now.geometry (viewed c.args.store.now image c.args.batch.now)) c.from_residual-in_err-order-2.ensures.1 tt
+
+pub returns-in_err-order_last-clause-keeps : goal.returns-in_err-order_last-clause-keeps
+returns-in_err-order_last-clause-keeps g c = c.take_page.ensures.keeps
+
+pub returns-in_err-order_last-clause-fault : goal.returns-in_err-order_last-clause-fault
+returns-in_err-order_last-clause-fault g c = told_memory g.D.Disk.meaning c.args.store.now c.take_page.new.store c.from_residual-in_err-order_last.result c.from_residual-in_err-order_last.ensures.1 c.in_ok-at.ensures.fault
+
+pub returns-in_err-order_last-clause-own : goal.returns-in_err-order_last-clause-own
+returns-in_err-order_last-clause-own g c = own_memory c.from_residual-in_err-order_last.result c.from_residual-in_err-order_last.ensures.1
+
+pub returns-in_err-order_last-clause-refused : goal.returns-in_err-order_last-clause-refused
+returns-in_err-order_last-clause-refused g c = λ image tells. err_as c.from_residual-in_err-order_last.result out_of_memory (RefusesTake c.args.store.now.geometry (viewed c.args.store.now image c.args.batch.now)) c.from_residual-in_err-order_last.ensures.1 tt
+
+pub returns-clause-keeps : goal.returns-clause-keeps
+returns-clause-keeps g c = c.take_page.ensures.keeps
+
+pub returns-clause-fault : goal.returns-clause-fault
+returns-clause-fault g c = c.in_ok-at.ensures.fault
+
+pub returns-clause-own : goal.returns-clause-own
+returns-clause-own g c = tt
+
+pub returns-clause-refused : goal.returns-clause-refused
+returns-clause-refused g c = λ image tells. tt

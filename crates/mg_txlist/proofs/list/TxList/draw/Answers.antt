@@ -1,8 +1,15 @@
-use Rattle.std.proofs.Common.{rules, ◌∙◌, subst, ℕ}
+use Rattle.std.proofs.Common.{◌∙◌, subst, ℕ, Option}
+use Rattle.std.specs.Prelude.{Ok, Err}
 use Rattle.mg_pool.specs.Pool.{shown}
 use Rattle.mg_space.specs.View.{viewed}
 use Rattle.mg_txlist.specs.Drawing.{DrawsOn, IsTipFor, not_changed}
 use Rattle.mg_txlist.proofs.AddLemmas.{adds_number, own_back, pages_back, same_list}
+use Rattle.mg_space.specs.ViewLaws.{fault_on}
+use Rattle.mg_txlist.specs.Refusals.{RefusesDraw}
+use Rattle.mg_txlist.specs.TxList.{next_said}
+use Rattle.mg_txlist.specs.declared.list.TipPage.{TipPage}
+use Rattle.mg_txlist.proofs.HandedLemmas.{is_also, on_err, out_of_memory, own_as, own_memory, told_as, told_memory}
+use Rattle.mg_txlist.proofs.RefusalLemmas.{err_as}
 use Rattle.mg_txlist.proofs.WritingLemmas.{reads_alone}
 use Rattle.mg_txlist.proofs.list.TxList.draw.Goals as goal
 
@@ -49,8 +56,47 @@ returns-in-Err-clause-left g c =
 pub returns-in_err-page-clause-left : goal.returns-in_err-page-clause-left
 returns-in_err-page-clause-left g c =
     reads_alone g.D.Disk.meaning c.args.store.now c.fill.new.store c.from_residual.result c.fill.ensures.keeps
-    (search rules)
+    (own_as (Option TipPage) c.from_residual.result c.in_err-page.field-0.0 c.from_residual.ensures.1 c.in_err-page.ensures.own)
 
 pub returns-in_err-add-clause-left : goal.returns-in_err-add-clause-left
 returns-in_err-add-clause-left g c = reads_alone g.D.Disk.meaning c.args.store.now c.fill.new.store
-    c.from_residual-in_err-add.result c.in_ok-page.ensures.keeps (search rules)
+    c.from_residual-in_err-add.result c.in_ok-page.ensures.keeps
+    (own_memory c.from_residual-in_err-add.result (is_also c.from_residual-in_err-add.result c.in_err-add.field-0.0 out_of_memory c.from_residual-in_err-add.ensures.1 c.in_err-add.ensures.memory))
+
+pub returns-in_err-page-clause-fault : goal.returns-in_err-page-clause-fault
+returns-in_err-page-clause-fault g c = told_as (Option TipPage) g.D.Disk.meaning c.args.store.now c.fill.new.store c.from_residual.result c.in_err-page.field-0.0 c.from_residual.ensures.1 c.in_err-page.ensures.fault
+
+pub returns-in_err-page-clause-refused : goal.returns-in_err-page-clause-refused
+returns-in_err-page-clause-refused g c = λ image tells. err_as c.from_residual.result c.in_err-page.field-0.0 (RefusesDraw g.D.Disk.meaning c.fill.new.store c.args.store.now.geometry (next_said c.args.self.now) (shown c.args.store.now.dirty image)) c.from_residual.ensures.1
+    (subst (λ (t : ℕ). RefusesDraw g.D.Disk.meaning c.fill.new.store c.args.store.now.geometry t (shown c.args.store.now.dirty image) c.in_err-page.field-0.0) c.next-t.ensures (c.in_err-page.ensures.refused image tells))
+
+pub returns-in_err-add-clause-list : goal.returns-in_err-add-clause-list
+returns-in_err-add-clause-list g c = same_list c.args.self.now _ (record {
+  pages = c.in_err-add.ensures.same_pages;
+  own = c.in_err-add.ensures.same_own;
+  first = c.add.ensures.first;
+  size = c.add.ensures.size;
+}) c.requires.list
+
+pub returns-in_err-add-clause-fault : goal.returns-in_err-add-clause-fault
+returns-in_err-add-clause-fault g c = told_memory g.D.Disk.meaning c.args.store.now c.fill.new.store c.from_residual-in_err-add.result (is_also c.from_residual-in_err-add.result c.in_err-add.field-0.0 out_of_memory c.from_residual-in_err-add.ensures.1 c.in_err-add.ensures.memory) c.in_ok-page.ensures.fault
+
+pub returns-in_err-add-clause-same : goal.returns-in_err-add-clause-same
+returns-in_err-add-clause-same g c = on_err c.from_residual-in_err-add.result _ (record {
+  pages = c.in_err-add.ensures.same_pages;
+  own = c.in_err-add.ensures.same_own;
+  first = c.add.ensures.first;
+  size = c.add.ensures.size;
+})
+
+pub returns-in_err-add-clause-refused : goal.returns-in_err-add-clause-refused
+returns-in_err-add-clause-refused g c = λ image tells. err_as c.from_residual-in_err-add.result out_of_memory (RefusesDraw g.D.Disk.meaning c.fill.new.store c.args.store.now.geometry (next_said c.args.self.now) (shown c.args.store.now.dirty image)) (is_also c.from_residual-in_err-add.result c.in_err-add.field-0.0 out_of_memory c.from_residual-in_err-add.ensures.1 c.in_err-add.ensures.memory) tt
+
+pub returns-in-Ok-clause-fault : goal.returns-in-Ok-clause-fault
+returns-in-Ok-clause-fault g c = fault_on {T = Unit {0}} g.D.Disk.meaning c.args.store.now c.fill.new.store c.change.new.self (Ok tt) c.in_ok-page.ensures.keeps c.in_ok-page.ensures.fault.2 c.in-Ok.ensures.fault
+
+pub returns-in-Err-clause-fault : goal.returns-in-Err-clause-fault
+returns-in-Err-clause-fault g c = fault_on {T = Unit {0}} g.D.Disk.meaning c.args.store.now c.fill.new.store c.change.new.self (Err c.in-Err.fault) c.in_ok-page.ensures.keeps c.in_ok-page.ensures.fault.2 c.in-Err.ensures.fault
+
+pub returns-in-Err-clause-refused : goal.returns-in-Err-clause-refused
+returns-in-Err-clause-refused g c = λ image tells. tt

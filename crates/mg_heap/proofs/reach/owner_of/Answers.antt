@@ -1,0 +1,21 @@
+use Rattle.mg_space.specs.View.{viewed}
+use Rattle.mg_heap.specs.Reach.{RefusesOwner}
+use Rattle.mg_heap.proofs.ReachLemmas.{owner_refused, owns_seen}
+use Rattle.mg_heap.proofs.TableLemmas.{handed_on}
+use Rattle.mg_heap.proofs.reach.owner_of.Goals as goal
+
+pub returns-in_err-bytes-clause-gives : goal.returns-in_err-bytes-clause-gives
+returns-in_err-bytes-clause-gives g c = λ image tells. handed_on c.from_residual.result
+    c.in_err-bytes.field-0.0 _
+    (RefusesOwner g.D.Disk.meaning c.data_page.new.store c.args.batch.now.pages c.args.page
+    (viewed c.args.store.now image c.args.batch.now c.args.page.0))
+    c.from_residual.ensures.0 c.from_residual.ensures.1
+    (owner_refused g.D.Disk.meaning c.data_page.new.store c.args.batch.now.pages c.args.page
+    (viewed c.args.store.now image c.args.batch.now c.args.page.0) c.in_err-bytes.field-0.0
+    (c.in_err-bytes.ensures.seen image tells))
+
+pub returns-clause-gives : goal.returns-clause-gives
+returns-clause-gives g c = λ image tells. owns_seen c.args.page
+    (viewed c.args.store.now image c.args.batch.now c.args.page.0) c.in_ok-bytes.bytes
+    c.as_slice.result.now c.owner_number-owner.result c.in_ok-bytes.ensures.data_page
+    (c.in_ok-bytes.ensures.seen image tells) c.as_slice.ensures c.owner_number-owner.ensures
