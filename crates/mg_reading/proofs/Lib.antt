@@ -15,3 +15,7 @@ pub mod VersionsLemmas
 pub mod CountLemmas
 pub mod TableLemmas
 pub mod SoundLemmas
+pub mod TipLemmas
+pub mod EntryLemmas
+pub mod PairLemmas
+pub mod BlankLemmas

@@ -42,19 +42,26 @@ pub enum ReadFault {
     Memory,
 }
 
+impl Rule {
+    /// What is printed of it.
+    fn text(self) -> &'static str {
+        match self {
+            Rule::Header => "HEADER",
+            Rule::Transactions => "TRANSACTIONS",
+            Rule::Pages => "PAGES",
+            Rule::Once => "ONCE",
+            Rule::Links => "LINKS",
+            Rule::Drawn => "DRAWN",
+            Rule::Backs => "BACKS",
+            Rule::Keys => "KEYS",
+            Rule::Indexed => "INDEXED",
+        }
+    }
+}
+
 impl fmt::Display for Rule {
     fn fmt<W: fmt::Write>(&self, f: &mut fmt::Formatter<W>) -> fmt::Result {
-        match self {
-            Rule::Header => write!(f, "HEADER"),
-            Rule::Transactions => write!(f, "TRANSACTIONS"),
-            Rule::Pages => write!(f, "PAGES"),
-            Rule::Once => write!(f, "ONCE"),
-            Rule::Links => write!(f, "LINKS"),
-            Rule::Drawn => write!(f, "DRAWN"),
-            Rule::Backs => write!(f, "BACKS"),
-            Rule::Keys => write!(f, "KEYS"),
-            Rule::Indexed => write!(f, "INDEXED"),
-        }
+        f.write_str(self.text())
     }
 }
 

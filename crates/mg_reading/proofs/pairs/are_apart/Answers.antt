@@ -1,0 +1,30 @@
+use Rattle.std.proofs.Common.{◌∷◌, refl}
+use Rattle.mg_reading.specs.Found.{AreApart, HasNoCellOf}
+use Rattle.mg_reading.proofs.PairLemmas.{emptied, none_left, one_fails, opened, rest_left}
+use Rattle.mg_reading.proofs.pairs.are_apart.Goals as goal
+
+pub loop-first-init : goal.loop-first-init
+loop-first-init c = (λ all. all, λ all. all)
+
+pub loop-first-preserved : goal.loop-first-preserved
+loop-first-preserved c = rest_left (AreApart c.args.found.now)
+    (HasNoCellOf c.in-Some.first.now c.in-Some.later.now)
+    (AreApart c.in-Some.later.now)
+    (opened AreApart (AreApart c.args.found.now)
+    c.loop-first.rest.now (c.in-Some.first.now ∷ c.in-Some.later.now) c.in-Some.ensures.cases.0
+    c.loop-first.invariant)
+    (c.if-not-has_no_cell_of.ensures.0 refl)
+
+pub returns-then-not-has_no_cell_of : goal.returns-then-not-has_no_cell_of
+returns-then-not-has_no_cell_of c = one_fails (AreApart c.args.found.now)
+    (HasNoCellOf c.in-Some.first.now c.in-Some.later.now)
+    (AreApart c.in-Some.later.now)
+    (opened AreApart (AreApart c.args.found.now)
+    c.loop-first.rest.now (c.in-Some.first.now ∷ c.in-Some.later.now) c.in-Some.ensures.cases.0
+    c.loop-first.invariant)
+    c.if-not-has_no_cell_of.ensures.1
+
+pub returns : goal.returns
+returns c = none_left (AreApart c.args.found.now)
+    (emptied AreApart (AreApart c.args.found.now) c.loop-first.rest.now
+    c.in_default.ensures.cases c.loop-first.invariant)
