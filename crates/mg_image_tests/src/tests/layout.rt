@@ -119,6 +119,7 @@ const SPLIT: Change = (
 // The row of KV where it has one index more.
 const KV_X: Said = (b"TKV", b"", [5, 2, 0, 1], 0);
 
+// Tables, and the pages that they stand on.
 const PLACED: &[Placed] = &[
     // Tables stand in the order of their names:
     // An empty catalog.
@@ -140,7 +141,10 @@ const PLACED: &[Placed] = &[
     ),
     // A data page of another owner.
     Placed(&[TWO, (7, Sheet::Pointers(&[6]))], Told::Refused),
+];
 
+// Catalogs that are not lawful, and first pages that are none.
+const UNPLACED: &[Placed] = &[
     // A row besides those of a new database, with which the catalog is not lawful:
     // A table without its column.
     Placed(
@@ -228,7 +232,10 @@ const PLACED: &[Placed] = &[
     ),
     // A data page as the catalog's first page.
     Placed(&[NEW, (0, Sheet::Header(4, 1, 4, 4))], Told::Refused),
+];
 
+// Tables by transactions that have not committed, and indexes.
+const CHOSEN: &[Placed] = &[
     // Each choice of limbo transactions has to be lawful:
     // A table of a limbo transaction.
     Placed(&[TWO, (2, Sheet::Transactions([HELD, DONE, DONE]))], BOTH),
@@ -310,5 +317,7 @@ const PLACED: &[Placed] = &[
 
 #[test]
 fn tables_stand_on_their_own_pages_by_their_names(rt: HostRuntime) -> Result<(), Fail> {
-    hold_each(&rt, rt.alloc(), PLACED)
+    hold_each(&rt, rt.alloc(), PLACED)?;
+    hold_each(&rt, rt.alloc(), UNPLACED)?;
+    hold_each(&rt, rt.alloc(), CHOSEN)
 }

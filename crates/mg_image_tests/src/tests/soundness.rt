@@ -124,6 +124,7 @@ const OTHER_KEY: Change = (
     ]),
 );
 
+// Sound images, and pages.
 const JUDGED: &[Judged] = &[
     // Sound images pass:
     // Two versions; the newer one is in limbo, dead, and active.
@@ -164,7 +165,10 @@ const JUDGED: &[Judged] = &[
         )],
         Some(Rule::Once),
     ),
+];
 
+// Tables and links.
+const LINKED: &[Judged] = &[
     // Tables fit their pages:
     // A row of 523 bytes, which is more than half a page.
     Judged(
@@ -294,7 +298,10 @@ const JUDGED: &[Judged] = &[
         )],
         Some(Rule::Links),
     ),
+];
 
+// Transactions and keys.
+const DRAWN: &[Judged] = &[
     // The rules of transactions:
     // A version from Next on.
     Judged(
@@ -359,7 +366,9 @@ const JUDGED: &[Judged] = &[
 
 #[test]
 fn an_image_is_sound_or_breaks_the_rule_that_is_told_first(rt: HostRuntime) -> Result<(), Fail> {
-    hold_each(&rt, rt.alloc(), JUDGED)
+    hold_each(&rt, rt.alloc(), JUDGED)?;
+    hold_each(&rt, rt.alloc(), LINKED)?;
+    hold_each(&rt, rt.alloc(), DRAWN)
 }
 
 // Pages of a disk, and whether no database was made on it yet.

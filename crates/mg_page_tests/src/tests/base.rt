@@ -2,13 +2,13 @@
 
 use super::bytes::has_bytes;
 use super::cases::{Case, hold_each};
-use super::printing::Printed;
 use super::steps::{Step, go_each};
 use mg_base::{
-    Damaged, Disk, FaultyDisk, Field, Geometry, MemDisk, MemSink, MemSource, OWN_AT, PageNo, Sink,
-    Source, get_u16, get_u32, new_common, put_u16,
+    Disk, FaultyDisk, Geometry, MemDisk, MemSink, MemSource, OWN_AT, PageNo, Sink, Source, get_u16,
+    get_u32, new_common, put_u16,
 };
 use std::alloc::Global;
+use std::process::Abort;
 use std::test::Fail;
 
 /// The front of a page of the kind 5, the owner 6 and the sequence 7.
@@ -23,13 +23,15 @@ fn new_page() -> [u8; 24] {
     page
 }
 
-#[test]
-fn a_page_begins_with_its_common_part(rt: HostRuntime) {
-    let mut page = new_page();
-    assert!(rt; has_bytes(&page, 0, &FRONT));
-    assert!(rt; get_u32(&page, OWN_AT) == 0x0102_0304);
-    put_u16(&mut page, 16, 0xfffe);
-    assert!(rt; get_u16(&page, 16) == 0xfffe);
+/// Tells whether a page begins with its common part.
+fn has_common_part(page: &[u8; 24]) -> bool {
+    has_bytes(page, 0, &FRONT) && get_u32(page, OWN_AT) == 0x0102_0304
+}
+
+/// Tells whether a number of two bytes is read as it was written.
+fn is_number_kept(page: &mut [u8; 24]) -> bool {
+    put_u16(page, 16, 0xfffe);
+    get_u16(page, 16) == 0xfffe
 }
 
 /// A page size, a limit, and whether a database may have them.
@@ -41,6 +43,7 @@ impl Case for Measured {
     }
 }
 
+/// A geometry has one of five sizes, and a limit in its range.
 const GEOMETRIES: &[Measured] = &[
     Measured(1024, 16, true),
     Measured(16384, 131_072, true),
@@ -52,23 +55,12 @@ const GEOMETRIES: &[Measured] = &[
 ];
 
 #[test]
-fn a_geometry_has_one_of_five_sizes_and_a_limit_in_its_range(rt: HostRuntime) -> Result<(), Fail> {
+fn a_page_begins_with_its_common_part_and_has_one_of_five_sizes(
+    rt: HostRuntime,
+) -> Result<(), Fail> {
+    let mut page = new_page();
+    assert!(rt; has_common_part(&page) && is_number_kept(&mut page));
     hold_each(&rt, rt.alloc(), GEOMETRIES)
-}
-
-const PRINTED: &[Printed<Damaged>] = &[Printed {
-    fault: Damaged {
-        page: PageNo(3),
-        field: Field::PageSize,
-        found: 9,
-        wanted: 4,
-    },
-    words: "DAMAGED PAGE 3 PAGE SIZE FOUND 9 WANTED 4",
-}];
-
-#[test]
-fn damage_prints_its_page_its_field_and_both_numbers(rt: HostRuntime) -> Result<(), Fail> {
-    hold_each(&rt, rt.alloc(), PRINTED)
 }
 
 /// A call of a disk whose pages have 1024 bytes, and what it does.
@@ -142,6 +134,7 @@ fn writes_of(disk: &MemDisk) -> usize {
     disk.writes()
 }
 
+/// A disk in memory has room for its pages and its record.
 const ROOM_OF_TWO: &[Call] = &[
     Call::Put(3, 1, false),
     Call::Put(2, 1, true),
@@ -154,10 +147,10 @@ const ROOM_OF_TWO: &[Call] = &[
     Call::Get(3, None),
 ];
 
-#[test]
-fn a_disk_in_memory_has_room_for_its_pages_and_its_record(rt: HostRuntime) -> Result<(), Fail> {
-    let mut disk = new_disk(rt.alloc(), 2)?;
-    go_each(&rt, &mut disk, ROOM_OF_TWO);
+/// Wants a disk with room for the record of two writes to go each of those steps.
+fn goes_with_room_of_two(rt: &impl Abort, alloc: Global) -> Result<(), Fail> {
+    let mut disk = new_disk(alloc, 2)?;
+    go_each(rt, &mut disk, ROOM_OF_TWO);
     assert!(rt; writes_of(&disk) == 2);
     Ok(())
 }
@@ -172,6 +165,7 @@ fn after_first(alloc: Global, disk: &MemDisk) -> Result<MemDisk, Fail> {
 
 const TWO_WRITES: &[Call] = &[Call::Put(0, 1, true), Call::Put(1, 2, true)];
 
+/// A disk after its first write has that write alone.
 const ONE_WRITE: &[Call] = &[
     Call::Pages(1),
     Call::Get(0, Some(1)),
@@ -180,12 +174,12 @@ const ONE_WRITE: &[Call] = &[
     Call::Put(2, 3, false),
 ];
 
-#[test]
-fn a_disk_after_its_first_write_has_that_write_alone(rt: HostRuntime) -> Result<(), Fail> {
-    let mut disk = new_disk(rt.alloc(), 4)?;
-    go_each(&rt, &mut disk, TWO_WRITES);
-    let mut before = after_first(rt.alloc(), &disk)?;
-    go_each(&rt, &mut before, ONE_WRITE);
+/// Wants the disk after the first of two writes to go each of those steps.
+fn goes_after_its_first(rt: &impl Abort, alloc: Global) -> Result<(), Fail> {
+    let mut disk = new_disk(alloc, 4)?;
+    go_each(rt, &mut disk, TWO_WRITES);
+    let mut before = after_first(alloc, &disk)?;
+    go_each(rt, &mut before, ONE_WRITE);
     Ok(())
 }
 
@@ -200,6 +194,7 @@ fn counts_of(disk: FaultyDisk) -> (u32, usize) {
     (disk.calls(), disk.into_inner().writes())
 }
 
+/// The listed calls of a faulty disk fail.
 const TWO_FAULTS: &[Call] = &[
     Call::Put(0, 1, false),
     Call::Put(0, 1, true),
@@ -207,12 +202,21 @@ const TWO_FAULTS: &[Call] = &[
     Call::Settle(true),
 ];
 
-#[test]
-fn the_listed_calls_of_a_faulty_disk_fail(rt: HostRuntime) -> Result<(), Fail> {
-    let mut disk = faulty_disk(rt.alloc())?;
-    go_each(&rt, &mut disk, TWO_FAULTS);
+/// Wants a faulty disk to go each of those steps.
+fn goes_with_two_faults(rt: &impl Abort, alloc: Global) -> Result<(), Fail> {
+    let mut disk = faulty_disk(alloc)?;
+    go_each(rt, &mut disk, TWO_FAULTS);
     assert!(rt; counts_of(disk) == (6, 1));
     Ok(())
+}
+
+#[test]
+fn a_disk_in_memory_keeps_the_writes_that_it_has_room_for_and_fails_where_it_is_to(
+    rt: HostRuntime,
+) -> Result<(), Fail> {
+    goes_with_room_of_two(&rt, rt.alloc())?;
+    goes_after_its_first(&rt, rt.alloc())?;
+    goes_with_two_faults(&rt, rt.alloc())
 }
 
 /// A source of five bytes whose second call fails.
@@ -234,6 +238,7 @@ impl Step<MemSource> for Takes {
     }
 }
 
+/// A source in memory gives its bytes.
 const TAKEN: &[Takes] = &[
     Takes(Some(b"hel")),
     Takes(None),
@@ -241,38 +246,43 @@ const TAKEN: &[Takes] = &[
     Takes(Some(b"")),
 ];
 
-#[test]
-fn a_source_in_memory_gives_its_bytes(rt: HostRuntime) -> Result<(), Fail> {
-    go_each(&rt, &mut new_source(rt.alloc())?, TAKEN);
-    Ok(())
-}
-
 /// A sink with room for six bytes, whose third call fails.
 fn new_sink(alloc: Global) -> Result<MemSink, Fail> {
     Ok(MemSink::new(alloc, 6, vec![in alloc; 3]?)?)
 }
 
-/// A piece, and whether it is taken.
-struct Puts(&'static [u8], bool);
+/// A call of a sink, and what it does.
+enum Fills {
+    /// A piece is taken, or refused.
+    Put(&'static [u8], bool),
+    /// The sink has these bytes.
+    Has(&'static [u8]),
+}
 
-impl Step<MemSink> for Puts {
+impl Step<MemSink> for Fills {
     fn goes(&self, on: &mut MemSink) -> bool {
-        on.put(self.0).is_ok() == self.1
+        match *self {
+            Fills::Put(piece, done) => on.put(piece).is_ok() == done,
+            Fills::Has(bytes) => on.bytes() == bytes,
+        }
     }
 }
 
-const PIECES: &[Puts] = &[
-    Puts(b"hel", true),
-    Puts(b"lo", true),
-    Puts(b"!", false),
-    Puts(b"..", false),
-    Puts(b"!", true),
+/// A sink in memory takes the bytes that it has room for.
+const PIECES: &[Fills] = &[
+    Fills::Put(b"hel", true),
+    Fills::Put(b"lo", true),
+    Fills::Put(b"!", false),
+    Fills::Put(b"..", false),
+    Fills::Put(b"!", true),
+    Fills::Has(b"hello!"),
 ];
 
 #[test]
-fn a_sink_in_memory_takes_the_bytes_that_it_has_room_for(rt: HostRuntime) -> Result<(), Fail> {
-    let mut sink = new_sink(rt.alloc())?;
-    go_each(&rt, &mut sink, PIECES);
-    assert!(rt; sink.bytes() == b"hello!".as_slice());
+fn a_source_in_memory_gives_its_bytes_and_a_sink_takes_what_it_has_room_for(
+    rt: HostRuntime,
+) -> Result<(), Fail> {
+    go_each(&rt, &mut new_source(rt.alloc())?, TAKEN);
+    go_each(&rt, &mut new_sink(rt.alloc())?, PIECES);
     Ok(())
 }

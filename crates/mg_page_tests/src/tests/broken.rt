@@ -2,11 +2,11 @@
 
 use super::bytes::put_byte;
 use super::steps::{Step, go_each};
+use super::{pip, pointer, tip};
 use mg_base::{Damaged, Field, PageNo};
 use mg_pip::check_pip;
 use mg_pointer::check_pointer;
 use mg_tip::check_tip;
-use std::process::Abort;
 
 /// A kind of page, whose test is given the number, the owner and the place that its pages have here.
 #[derive(Clone, Copy)]
@@ -15,9 +15,6 @@ pub enum Kind {
     Transactions,
     Pointers,
 }
-
-/// A byte that is put at a place; then the field that is told, and the numbers found and wanted.
-pub struct Broken(pub usize, pub u8, pub Field, pub u64, pub u64);
 
 /// The number of the page of a kind.
 pub fn number_of(kind: Kind) -> PageNo {
@@ -53,15 +50,72 @@ fn is_damaged(kind: Kind, page: &[u8; 1024], field: Field, found: u64, wanted: u
     check(kind, page) == Err(damage)
 }
 
-impl Step<(Kind, [u8; 1024])> for Broken {
-    fn goes(&self, on: &mut (Kind, [u8; 1024])) -> bool {
-        put_byte(&mut on.1, self.0, self.1);
-        is_damaged(on.0, &on.1, self.2, self.3, self.4)
+/// A new page of a kind.
+fn new_page(kind: Kind) -> [u8; 1024] {
+    match kind {
+        Kind::Inventory => pip::new_page(),
+        Kind::Transactions => tip::new_page(),
+        Kind::Pointers => pointer::new_page(),
     }
 }
 
-/// Wants a page to be damaged as each row says, with the bytes of the rows before it in it. So the
-/// rows go from the last field to the first, and each stands before those that differ already.
-pub fn tells_each(rt: &impl Abort, kind: Kind, page: [u8; 1024], rows: &[Broken]) {
-    go_each(rt, &mut (kind, page), rows);
+/// What is done to a page.
+enum Call {
+    /// A new page of a kind comes in its place.
+    New(Kind),
+    /// A byte is put at a place; then the field that is told, and the numbers found and wanted.
+    Broken(usize, u8, Field, u64, u64),
+}
+
+/// Puts a new page of a kind in its place.
+fn renew(on: &mut (Kind, [u8; 1024]), kind: Kind) -> bool {
+    *on = (kind, new_page(kind));
+    true
+}
+
+impl Step<(Kind, [u8; 1024])> for Call {
+    fn goes(&self, on: &mut (Kind, [u8; 1024])) -> bool {
+        match *self {
+            Call::New(kind) => renew(on, kind),
+            Call::Broken(at, byte, field, found, wanted) => {
+                put_byte(&mut on.1, at, byte);
+                is_damaged(on.0, &on.1, field, found, wanted)
+            }
+        }
+    }
+}
+
+/// Each page has the bytes of the rows before it in it. So the rows go from the last field to the
+/// first, and each stands before those that differ already.
+const CALLS: &[Call] = &[
+    Call::New(Kind::Inventory),
+    Call::Broken(12, 9, Field::Sequence, 9, 0),
+    Call::Broken(8, 3, Field::Owner, 3, 0),
+    Call::Broken(5, 1, Field::Own, 257, 1),
+    Call::Broken(2, 1, Field::Zero, 1, 0),
+    Call::Broken(1, 1, Field::Flags, 1, 0),
+    Call::Broken(0, 3, Field::Kind, 3, 2),
+    Call::New(Kind::Transactions),
+    Call::Broken(17, 1, Field::Link, 256, 0),
+    Call::Broken(12, 9, Field::Sequence, 9, 0),
+    Call::Broken(8, 3, Field::Owner, 3, 0),
+    Call::Broken(4, 7, Field::Own, 7, 2),
+    Call::Broken(3, 1, Field::Zero, 256, 0),
+    Call::Broken(1, 1, Field::Flags, 1, 0),
+    Call::Broken(0, 2, Field::Kind, 2, 3),
+    Call::New(Kind::Pointers),
+    Call::Broken(23, 1, Field::Zero, 256, 0),
+    Call::Broken(20, 251, Field::Count, 251, 250),
+    Call::Broken(12, 0, Field::Sequence, 0, 1),
+    Call::Broken(8, 4, Field::Owner, 4, 3),
+    Call::Broken(4, 5, Field::Own, 5, 4),
+    Call::Broken(2, 1, Field::Zero, 1, 0),
+    Call::Broken(1, 1, Field::Flags, 1, 0),
+    Call::Broken(0, 5, Field::Kind, 5, 4),
+];
+
+#[test]
+fn the_first_field_that_differs_is_named(rt: HostRuntime) {
+    let kind = Kind::Inventory;
+    go_each(&rt, &mut (kind, new_page(kind)), CALLS);
 }

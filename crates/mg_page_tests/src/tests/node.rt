@@ -91,6 +91,7 @@ impl Case for Lawful {
     }
 }
 
+// What lawful pages say.
 const LAWFUL: &[Lawful] = &[
     // An empty leaf.
     Lawful(
@@ -125,11 +126,6 @@ const LAWFUL: &[Lawful] = &[
     ),
 ];
 
-#[test]
-fn what_lawful_pages_say(rt: HostRuntime) -> Result<(), Fail> {
-    hold_each(&rt, rt.alloc(), LAWFUL)
-}
-
 // The bytes of a page, and whether it is lawful.
 struct Judged(&'static [u8], bool);
 
@@ -139,6 +135,7 @@ impl Case for Judged {
     }
 }
 
+// What no lawful page says, and the longest key.
 const JUDGED: &[Judged] = &[
     // The end is not the last entry's.
     Judged(&[0, 0, 0, 0, 0, 0, 0, 0, 29, 0, 0, 0], false),
@@ -189,11 +186,6 @@ const JUDGED: &[Judged] = &[
     Judged(&[0, 0, 1, 0, 0, 0, 0, 0, 164, 0, 0, 0, 128, 0], true),
 ];
 
-#[test]
-fn what_no_lawful_page_says_and_the_longest_key(rt: HostRuntime) -> Result<(), Fail> {
-    hold_each(&rt, rt.alloc(), JUDGED)
-}
-
 // What the test of page 9 of an owner answers, where these bytes stand behind the common part.
 fn check_of(fields: &[u8], owner: u32) -> Result<(), Damaged> {
     check_node(&page_of(fields), PageNo(9), owner)
@@ -214,6 +206,7 @@ impl Case for Broken {
     }
 }
 
+// The first field that differs is named.
 const DAMAGED: &[Broken] = &[
     // An inner page with one entry; more entries than fit a leaf, and an inner page.
     Broken(
@@ -260,11 +253,6 @@ const DAMAGED: &[Broken] = &[
     ),
 ];
 
-#[test]
-fn the_first_field_that_differs_is_named(rt: HostRuntime) -> Result<(), Fail> {
-    hold_each(&rt, rt.alloc(), DAMAGED)
-}
-
 // A leaf without entries.
 const EMPTY: &[u8] = &[0, 0, 0, 0, 0, 0, 0, 0, 28, 0, 0, 0];
 
@@ -276,8 +264,24 @@ fn field_of(checked: Result<(), Damaged>) -> Option<Field> {
     }
 }
 
+// The owner of the leaf without entries, and the field of which it is damaged there.
+struct Owned(u32, Option<Field>);
+
+impl Case for Owned {
+    fn holds(&self, _alloc: Global) -> Result<bool, Fail> {
+        Ok(field_of(check_of(EMPTY, self.0)) == self.1)
+    }
+}
+
+// The common part is tested.
+const OWNED: &[Owned] = &[Owned(5, None), Owned(6, Some(Field::Owner))];
+
 #[test]
-fn the_common_part_is_tested(rt: HostRuntime) {
-    assert!(&rt; field_of(check_of(EMPTY, 5)).is_none());
-    assert!(&rt; field_of(check_of(EMPTY, 6)) == Some(Field::Owner));
+fn lawful_pages_are_read_and_others_refused_at_the_first_field_that_differs(
+    rt: HostRuntime,
+) -> Result<(), Fail> {
+    hold_each(&rt, rt.alloc(), LAWFUL)?;
+    hold_each(&rt, rt.alloc(), JUDGED)?;
+    hold_each(&rt, rt.alloc(), DAMAGED)?;
+    hold_each(&rt, rt.alloc(), OWNED)
 }

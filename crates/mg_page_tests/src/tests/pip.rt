@@ -1,16 +1,15 @@
 //! Page inventory pages, bit by bit.
 
-use super::broken::{Broken, Kind, is_lawful, number_of, tells_each};
+use super::broken::{Kind, is_lawful, number_of};
 use super::bytes::{has_bytes, used_from};
 use super::steps::{Step, go_each};
-use mg_base::Field;
 use mg_pip::{first_free, is_used, new_pip, set_used};
 
 /// How many bits a page of 1024 bytes has.
 const BITS: u32 = 8064;
 
 /// The page of the first region, whose pages are all free.
-fn new_page() -> [u8; 1024] {
+pub fn new_page() -> [u8; 1024] {
     let mut page = [0u8; 1024];
     new_pip(&mut page, number_of(Kind::Inventory), 0);
     page
@@ -18,6 +17,8 @@ fn new_page() -> [u8; 1024] {
 
 /// A call on a page, and what it does.
 enum Call {
+    /// A page whose bits are clear comes in its place.
+    New,
     /// A bit is set or cleared; the byte that then stands at a place.
     Put(u32, bool, usize, u8),
     /// The first bits are set.
@@ -26,6 +27,8 @@ enum Call {
     Fill,
     /// The first free bit below a number.
     First(u32, Option<u32>),
+    /// So many bytes have a used bit, and the page is lawful.
+    Used(usize),
 }
 
 /// Sets or clears a bit, and tells whether it is so then.
@@ -58,35 +61,41 @@ fn fill(page: &mut [u8; 1024]) -> bool {
     true
 }
 
+/// Puts a page whose bits are clear in its place.
+fn renew(page: &mut [u8; 1024]) -> bool {
+    *page = new_page();
+    true
+}
+
+/// Tells whether so many bytes have a used bit, and the page is lawful.
+fn has_used(page: &[u8; 1024], bytes: usize) -> bool {
+    used_from(page, 16) == bytes && is_lawful(Kind::Inventory, page)
+}
+
 impl Step<[u8; 1024]> for Call {
     fn goes(&self, on: &mut [u8; 1024]) -> bool {
         match *self {
+            Call::New => renew(on),
             Call::Put(bit, used, at, byte) => put(on, bit, used) && has_bytes(on, at, &[byte]),
             Call::Front(count) => put_front(on, count),
             Call::Fill => fill(on),
             Call::First(below, first) => is_first(on, below, first),
+            Call::Used(bytes) => has_used(on, bytes),
         }
     }
 }
 
-const ALONE: &[Call] = &[
+const CALLS: &[Call] = &[
+    // A bit is set and cleared alone.
     Call::Put(0, true, 16, 0x01),
     Call::Put(1, true, 16, 0x03),
     Call::Put(7, true, 16, 0x83),
     Call::Put(1, false, 16, 0x81),
     Call::Put(8, true, 17, 0x01),
     Call::Put(8063, true, 1023, 0x80),
-];
-
-#[test]
-fn a_bit_is_set_and_cleared_alone(rt: HostRuntime) {
-    let mut page = new_page();
-    go_each(&rt, &mut page, ALONE);
-    assert!(rt; used_from(&page, 16) == 3, "bytes with a used bit");
-    assert!(rt; is_lawful(Kind::Inventory, &page));
-}
-
-const FIRST: &[Call] = &[
+    Call::Used(3),
+    // The first free bit is the least clear one.
+    Call::New,
     Call::First(0, None),
     Call::First(1, Some(0)),
     Call::Front(20),
@@ -103,20 +112,6 @@ const FIRST: &[Call] = &[
 ];
 
 #[test]
-fn the_first_free_bit_is_the_least_clear_one(rt: HostRuntime) {
-    go_each(&rt, &mut new_page(), FIRST);
-}
-
-const BROKEN: &[Broken] = &[
-    Broken(12, 9, Field::Sequence, 9, 0),
-    Broken(8, 3, Field::Owner, 3, 0),
-    Broken(5, 1, Field::Own, 257, 1),
-    Broken(2, 1, Field::Zero, 1, 0),
-    Broken(1, 1, Field::Flags, 1, 0),
-    Broken(0, 3, Field::Kind, 3, 2),
-];
-
-#[test]
-fn the_first_field_that_differs_is_named(rt: HostRuntime) {
-    tells_each(&rt, Kind::Inventory, new_page(), BROKEN);
+fn a_bit_is_set_and_cleared_alone_and_the_first_free_one_is_the_least_clear_one(rt: HostRuntime) {
+    go_each(&rt, &mut new_page(), CALLS);
 }

@@ -2,14 +2,13 @@
 
 ghost use Rattle.mg_pointer.specs.PointerPage.{IsPointerPage};
 
-use super::broken::{Broken, Kind, is_lawful, number_of, tells_each};
+use super::broken::{Kind, is_lawful, number_of};
 use super::bytes::has_bytes;
-use mg_base::{Field, PageNo};
+use mg_base::PageNo;
 use mg_pointer::{add_entry, entry, new_pointer, next_of, set_next};
-use std::test::*;
 
 /// The second pointer page of table 3, without entries.
-fn new_page() -> [u8; 1024]
+pub fn new_page() -> [u8; 1024]
     ensures { IsPointerPage result }
 {
     let mut page = [0u8; 1024];
@@ -47,14 +46,14 @@ fn is_full(page: &[u8; 1024]) -> bool
     is_entry(page, 0, Some(1000)) && is_entry(page, 249, Some(1249)) && is_entry(page, 250, None)
 }
 
-#[test]
-fn entries_stand_behind_each_other_until_the_page_is_full(rt: HostRuntime) {
+/// Tells whether entries stand behind each other until the page is full.
+fn is_filled() -> bool {
     let mut page = new_page();
-    assert!(rt; is_entry(&page, 0, None));
-    assert!(rt; add_many(&mut page) == 250);
-    assert!(rt; is_full(&page));
-    assert!(rt; has_bytes(&page, 20, &[250, 0, 0, 0, 0xe8, 3, 0, 0]));
-    assert!(rt; is_lawful(Kind::Pointers, &page));
+    is_entry(&page, 0, None)
+        && add_many(&mut page) == 250
+        && is_full(&page)
+        && has_bytes(&page, 20, &[250, 0, 0, 0, 0xe8, 3, 0, 0])
+        && is_lawful(Kind::Pointers, &page)
 }
 
 /// A page with the entry 5, which leads to this page.
@@ -67,27 +66,17 @@ fn page_before(next: u32) -> [u8; 1024]
     page
 }
 
-#[test]
-fn the_next_page_stands_beside_the_entries(rt: HostRuntime) {
-    assert!(rt; next_of(&new_page()) == PageNo(0));
+/// Tells whether the next page stands beside the entries.
+fn has_next() -> bool {
     let page = page_before(131_071);
-    assert!(rt; next_of(&page) == PageNo(131_071));
-    assert!(rt; has_bytes(&page, 16, &[0xff, 0xff, 1, 0, 1, 0, 0, 0, 5, 0, 0, 0]));
-    assert!(rt; is_lawful(Kind::Pointers, &page));
+    next_of(&new_page()) == PageNo(0)
+        && next_of(&page) == PageNo(131_071)
+        && has_bytes(&page, 16, &[0xff, 0xff, 1, 0, 1, 0, 0, 0, 5, 0, 0, 0])
+        && is_lawful(Kind::Pointers, &page)
 }
 
-const BROKEN: &[Broken] = &[
-    Broken(23, 1, Field::Zero, 256, 0),
-    Broken(20, 251, Field::Count, 251, 250),
-    Broken(12, 0, Field::Sequence, 0, 1),
-    Broken(8, 4, Field::Owner, 4, 3),
-    Broken(4, 5, Field::Own, 5, 4),
-    Broken(2, 1, Field::Zero, 1, 0),
-    Broken(1, 1, Field::Flags, 1, 0),
-    Broken(0, 5, Field::Kind, 5, 4),
-];
-
 #[test]
-fn the_first_field_that_differs_is_named(rt: HostRuntime) {
-    tells_each(&rt, Kind::Pointers, new_page(), BROKEN);
+fn entries_stand_behind_each_other_beside_the_next_page(rt: HostRuntime) {
+    assert!(rt; is_filled());
+    assert!(rt; has_next());
 }

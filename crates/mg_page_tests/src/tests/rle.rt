@@ -2,7 +2,6 @@
 
 use super::appended::{begun, is_appended};
 use super::cases::{Case, hold_each};
-use super::printing::Printed;
 use mg_rle::{RunFault, pack, unpack};
 use std::alloc::Global;
 use std::test::Fail;
@@ -79,6 +78,7 @@ impl Case for Packed {
     }
 }
 
+/// Texts pack and unpack.
 const PACKED: &[Packed] = &[
     // The vectors of the format:
     // The row K = 1, V = 10 of a table of two numbers.
@@ -113,11 +113,6 @@ const PACKED: &[Packed] = &[
     Packed(Text::Bytes(&[1, 2, 2, 2, 2]), Text::Bytes(&[1, 1, 252, 2])),
 ];
 
-#[test]
-fn texts_pack_and_unpack(rt: HostRuntime) -> Result<(), Fail> {
-    hold_each(&rt, rt.alloc(), PACKED)
-}
-
 /// Tells whether a text is refused at a place, with the output as before.
 fn is_refused(alloc: Global, packed: &[u8], at: u32) -> Result<bool, Fail> {
     let mut out = begun(alloc)?;
@@ -135,6 +130,7 @@ impl Case for Refused {
     }
 }
 
+/// Other texts are refused at the first run that breaks the rule.
 const REFUSED: &[Refused] = &[
     // The vectors of the format: a repeat of two, and a literal behind one that could go on.
     Refused(Text::Bytes(&[0xfe, 0x61]), 0),
@@ -156,24 +152,9 @@ const REFUSED: &[Refused] = &[
 ];
 
 #[test]
-fn other_texts_are_refused_at_the_first_run_that_breaks_the_rule(
+fn texts_pack_and_unpack_and_others_are_refused_at_the_first_run_that_breaks_the_rule(
     rt: HostRuntime,
 ) -> Result<(), Fail> {
+    hold_each(&rt, rt.alloc(), PACKED)?;
     hold_each(&rt, rt.alloc(), REFUSED)
-}
-
-const PRINTED: &[Printed<RunFault>] = &[
-    Printed {
-        fault: RunFault::BadRun { at: 3 },
-        words: "BAD RUN AT 3",
-    },
-    Printed {
-        fault: RunFault::Memory,
-        words: "OUT OF MEMORY",
-    },
-];
-
-#[test]
-fn faults_print_their_words(rt: HostRuntime) -> Result<(), Fail> {
-    hold_each(&rt, rt.alloc(), PRINTED)
 }

@@ -2,7 +2,6 @@
 
 use super::appended::{begun, is_appended};
 use super::cases::{Case, hold_each};
-use super::printing::Printed;
 use super::values::{Said, Told, row_of, shape_of};
 use mg_rowcode::{RowFault, decode_row, encode_row};
 use mg_value::{Kind, MOST_COLUMNS, Row, Shape, print, row_fits};
@@ -72,6 +71,7 @@ impl Case for Stored {
     }
 }
 
+/// Rows are stored as their bytes.
 const STORED: &[Stored] = &[
     // The vector of the format is a row of KV.
     Stored(
@@ -98,11 +98,6 @@ const STORED: &[Stored] = &[
     Stored(NINE, 1, &[Said::Null; 9], &[2, 0xff, 1, 0xb8, 0]),
 ];
 
-#[test]
-fn rows_are_stored_as_their_bytes(rt: HostRuntime) -> Result<(), Fail> {
-    hold_each(&rt, rt.alloc(), STORED)
-}
-
 /// Bytes of the table of texts in a format, and what the row that they are read as prints.
 struct Shown(u16, &'static [u8], &'static [u8]);
 
@@ -119,13 +114,8 @@ impl Case for Shown {
     }
 }
 
-/// 00 | 01 00 61 00 00
+/// A column that came after the format is NULL: 00 | 01 00 61 00 00.
 const SHORT: &[Shown] = &[Shown(1, &[6, 0, 1, 0, 0x61, 0, 0], b"'a' NULL ")];
-
-#[test]
-fn a_column_that_came_after_the_format_is_null(rt: HostRuntime) -> Result<(), Fail> {
-    hold_each(&rt, rt.alloc(), SHORT)
-}
 
 /// Bytes that are no row of the table of texts in format 1, and their fault.
 struct Refused(&'static [u8], RowFault);
@@ -137,6 +127,7 @@ impl Case for Refused {
     }
 }
 
+/// Other bytes are refused where no row goes on as they do.
 const REFUSED: &[Refused] = &[
     // NULL where none is allowed, and an unused bit.
     Refused(&[6, 1, 0, 0, 1, 0, 0], RowFault::BadRow { at: 0 }),
@@ -154,26 +145,10 @@ const REFUSED: &[Refused] = &[
 ];
 
 #[test]
-fn other_bytes_are_refused_where_no_row_goes_on_as_they_do(rt: HostRuntime) -> Result<(), Fail> {
+fn rows_are_stored_as_their_bytes_and_others_are_refused_where_no_row_goes_on_as_they_do(
+    rt: HostRuntime,
+) -> Result<(), Fail> {
+    hold_each(&rt, rt.alloc(), STORED)?;
+    hold_each(&rt, rt.alloc(), SHORT)?;
     hold_each(&rt, rt.alloc(), REFUSED)
-}
-
-const PRINTED: &[Printed<RowFault>] = &[
-    Printed {
-        fault: RowFault::BadRun { at: 3 },
-        words: "BAD RUN AT 3",
-    },
-    Printed {
-        fault: RowFault::BadRow { at: 4 },
-        words: "BAD ROW AT 4",
-    },
-    Printed {
-        fault: RowFault::Memory,
-        words: "OUT OF MEMORY",
-    },
-];
-
-#[test]
-fn faults_print_their_words(rt: HostRuntime) -> Result<(), Fail> {
-    hold_each(&rt, rt.alloc(), PRINTED)
 }

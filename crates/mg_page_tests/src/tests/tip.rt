@@ -1,10 +1,10 @@
 //! Transaction inventory pages, state by state.
 
-use super::broken::{Broken, Kind, number_of, tells_each};
+use super::broken::{Kind, number_of};
 use super::bytes::{has_bytes, used_from};
 use super::cases::{Case, hold_each};
 use super::steps::{Step, go_each};
-use mg_base::{Field, PageNo, TxState};
+use mg_base::{PageNo, TxState};
 use mg_tip::{check_tip, new_tip, prev_of, set_state, state_at};
 use std::alloc::Global;
 use std::test::*;
@@ -13,7 +13,7 @@ use std::test::*;
 const PLACES: u32 = 4016;
 
 /// The first page, on which no transaction has ended.
-fn new_page() -> [u8; 1024] {
+pub fn new_page() -> [u8; 1024] {
     let mut page = [0u8; 1024];
     new_tip(&mut page, number_of(Kind::Transactions), 0, PageNo(0));
     page
@@ -37,6 +37,7 @@ impl Step<[u8; 1024]> for Puts {
     }
 }
 
+/// A commit sets its two bits and no other.
 const STEPS: &[Puts] = &[
     Puts(0, TxState::Committed, 20, 0x03),
     Puts(1, TxState::Committed, 20, 0x0f),
@@ -46,16 +47,6 @@ const STEPS: &[Puts] = &[
     Puts(4, TxState::Committed, 21, 0x03),
     Puts(4015, TxState::Committed, 1023, 0xc0),
 ];
-
-#[test]
-fn a_commit_sets_its_two_bits_and_no_other(rt: HostRuntime) {
-    let mut page = new_page();
-    go_each(&rt, &mut page, STEPS);
-    assert!(rt;
-        used_from(&page, 20) == 3,
-        "bytes with a state other than Active"
-    );
-}
 
 /// The place of a new page in the chain, and the page before it.
 struct New(u32, u32);
@@ -75,24 +66,13 @@ impl Case for New {
     }
 }
 
+/// A new page passes, and names the page before it.
 const NEW: &[New] = &[New(0, 0), New(1, 2), New(65_535, 131_071)];
 
 #[test]
-fn a_new_page_passes_and_names_the_page_before_it(rt: HostRuntime) -> Result<(), Fail> {
+fn a_commit_sets_its_two_bits_alone_and_a_new_page_passes(rt: HostRuntime) -> Result<(), Fail> {
+    let mut page = new_page();
+    go_each(&rt, &mut page, STEPS);
+    assert!(rt; used_from(&page, 20) == 3);
     hold_each(&rt, rt.alloc(), NEW)
-}
-
-const BROKEN: &[Broken] = &[
-    Broken(17, 1, Field::Link, 256, 0),
-    Broken(12, 9, Field::Sequence, 9, 0),
-    Broken(8, 3, Field::Owner, 3, 0),
-    Broken(4, 7, Field::Own, 7, 2),
-    Broken(3, 1, Field::Zero, 256, 0),
-    Broken(1, 1, Field::Flags, 1, 0),
-    Broken(0, 2, Field::Kind, 2, 3),
-];
-
-#[test]
-fn the_first_field_that_differs_is_named(rt: HostRuntime) {
-    tells_each(&rt, Kind::Transactions, new_page(), BROKEN);
 }

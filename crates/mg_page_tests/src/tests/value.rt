@@ -2,7 +2,6 @@
 
 use super::appended::{begun, is_appended};
 use super::cases::{Case, hold_each};
-use super::printing::Printed;
 use super::values::{Said, Told, row_of, shape_of, value_of, values_of};
 use mg_value::{
     Key, Kind, MOST_COLUMNS, Name, Row, Shape, Txt, Value, ValueFault, compare, order, print,
@@ -29,6 +28,7 @@ impl Case for Written {
     }
 }
 
+/// Values print as digits, as NULL or in quotes.
 const WRITTEN: &[Written] = &[
     Written(Said::Null, b"NULL"),
     Written(Said::Int(0), b"0"),
@@ -38,25 +38,6 @@ const WRITTEN: &[Written] = &[
     Written(Said::Text(b""), b"''"),
     Written(Said::Text(b"it's"), b"'it''s'"),
     Written(Said::Text(b"''"), b"''''''"),
-];
-
-#[test]
-fn values_print_as_digits_as_null_or_in_quotes(rt: HostRuntime) -> Result<(), Fail> {
-    hold_each(&rt, rt.alloc(), WRITTEN)
-}
-
-/// Values in their order.
-const ORDERED: &[Said] = &[
-    Said::Null,
-    Said::Int(i64::MIN),
-    Said::Int(-1),
-    Said::Int(2),
-    Said::Int(10),
-    Said::Text(b""),
-    Said::Text(b"B"),
-    Said::Text(b"a"),
-    Said::Text(b"a\0"),
-    Said::Text(b"ab"),
 ];
 
 /// How values at two places compare: not at all where one is the first, which is NULL.
@@ -82,14 +63,38 @@ fn is_ordered(values: &[Value], i: usize, a: &Value) -> bool {
     true
 }
 
-#[test]
-fn null_is_least_numbers_order_as_numbers_and_texts_by_bytes(rt: HostRuntime) -> Result<(), Fail> {
-    let values = values_of(rt.alloc(), ORDERED)?;
+/// Tells whether each value is ordered so.
+fn are_ordered(values: &[Value]) -> bool {
     for (i, a) in values.iter().enumerate() {
-        assert!(rt; is_ordered(&values, i, a), "value {i}");
+        if !is_ordered(values, i, a) {
+            return false;
+        }
     }
-    Ok(())
+    true
 }
+
+/// Values in their order.
+struct Ordered(&'static [Said]);
+
+impl Case for Ordered {
+    fn holds(&self, alloc: Global) -> Result<bool, Fail> {
+        Ok(are_ordered(&values_of(alloc, self.0)?))
+    }
+}
+
+/// NULL is least, numbers order as numbers, and texts by their bytes.
+const ORDERED: &[Ordered] = &[Ordered(&[
+    Said::Null,
+    Said::Int(i64::MIN),
+    Said::Int(-1),
+    Said::Int(2),
+    Said::Int(10),
+    Said::Text(b""),
+    Said::Text(b"B"),
+    Said::Text(b"a"),
+    Said::Text(b"a\0"),
+    Said::Text(b"ab"),
+])];
 
 /// A text, how many bytes its column takes, and the fault that this is.
 struct Taken(&'static [u8], u16, Option<ValueFault>);
@@ -117,31 +122,11 @@ impl Case for Taken {
     }
 }
 
+/// A text has at most as many bytes as its column takes.
 const TAKEN: &[Taken] = &[
     Taken(b"abc", 3, None),
     Taken(b"abcd", 3, Some(ValueFault::TextTooLong { len: 4 })),
 ];
-
-#[test]
-fn a_text_has_at_most_as_many_bytes_as_its_column_takes(rt: HostRuntime) -> Result<(), Fail> {
-    hold_each(&rt, rt.alloc(), TAKEN)
-}
-
-const PRINTED: &[Printed<ValueFault>] = &[
-    Printed {
-        fault: ValueFault::TextTooLong { len: 4 },
-        words: "TEXT TOO LONG 4",
-    },
-    Printed {
-        fault: ValueFault::Memory,
-        words: "OUT OF MEMORY",
-    },
-];
-
-#[test]
-fn faults_print_their_words(rt: HostRuntime) -> Result<(), Fail> {
-    hold_each(&rt, rt.alloc(), PRINTED)
-}
 
 /// Bytes that are a name, which gives them back.
 struct Named(&'static [u8]);
@@ -155,6 +140,7 @@ impl Case for Named {
     }
 }
 
+/// Names are capitals, digits and signs.
 const NAMES: &[Named] = &[
     Named(b"A"),
     Named(b"KV"),
@@ -173,6 +159,7 @@ impl Case for Unnamed {
     }
 }
 
+/// No name is a word of the grammar, or has another byte.
 const NO_NAMES: &[Unnamed] = &[
     Unnamed(b""),
     Unnamed(b"a"),
@@ -186,14 +173,6 @@ const NO_NAMES: &[Unnamed] = &[
     Unnamed(b"IS"),
     Unnamed(b"ABCDEFGHIJKLMNOPQRSTUVWXYZ012345"),
 ];
-
-#[test]
-fn names_are_capitals_digits_and_signs_and_no_words_of_the_grammar(
-    rt: HostRuntime,
-) -> Result<(), Fail> {
-    hold_each(&rt, rt.alloc(), NAMES)?;
-    hold_each(&rt, rt.alloc(), NO_NAMES)
-}
 
 /// Tells whether a key is 5.
 fn is_five(key: &Key) -> bool {
@@ -211,12 +190,20 @@ fn five() -> Result<Key, Fail> {
     Ok(Key::new(Value::Int(5)).ok_or("5 is a key")?)
 }
 
-#[test]
-fn a_key_is_any_value_but_null(rt: HostRuntime) -> Result<(), Fail> {
-    assert!(rt; Key::new(Value::Null).is_none());
+/// Tells whether a key is any value but NULL.
+fn are_keys(alloc: Global) -> Result<bool, Fail> {
     let key = five()?;
-    let is = are_five(rt.alloc(), &key)?;
-    assert!(rt; is);
+    Ok(are_five(alloc, &key)? && Key::new(Value::Null).is_none())
+}
+
+#[test]
+fn values_texts_names_and_keys(rt: HostRuntime) -> Result<(), Fail> {
+    hold_each(&rt, rt.alloc(), WRITTEN)?;
+    hold_each(&rt, rt.alloc(), ORDERED)?;
+    hold_each(&rt, rt.alloc(), TAKEN)?;
+    hold_each(&rt, rt.alloc(), NAMES)?;
+    hold_each(&rt, rt.alloc(), NO_NAMES)?;
+    assert!(rt; are_keys(rt.alloc())?);
     Ok(())
 }
 
@@ -234,25 +221,24 @@ fn has_len(shape: &Shape, len: u32) -> bool {
     shape.columns.as_slice().len() <= MOST_COLUMNS && row_len(shape) == len
 }
 
-#[test]
-fn a_row_of_kv_has_17_bytes(rt: HostRuntime) -> Result<(), Fail> {
-    assert!(rt; has_len(&shape_of(rt.alloc(), KV)?, 17));
-    Ok(())
-}
-
 /// Tells whether the copy of a shape has rows of so many bytes, and its key.
 fn is_copied(alloc: Global, shape: &Shape, len: u32) -> Result<bool, Fail> {
     let copy = shape.copy(alloc)?;
     Ok(has_len(&copy, len) && copy.key == shape.key)
 }
 
-#[test]
-fn a_copy_of_a_shape_has_its_columns_and_its_key(rt: HostRuntime) -> Result<(), Fail> {
-    let shape = shape_of(rt.alloc(), NOTED)?;
-    let is = is_copied(rt.alloc(), &shape, 24)?;
-    assert!(rt; is);
-    Ok(())
+/// The columns of a table, and how many bytes each of its rows has.
+struct Shaped(&'static [Told], u32);
+
+impl Case for Shaped {
+    fn holds(&self, alloc: Global) -> Result<bool, Fail> {
+        let shape = shape_of(alloc, self.0)?;
+        Ok(has_len(&shape, self.1) && is_copied(alloc, &shape, self.1)?)
+    }
 }
+
+/// A row of KV has 17 bytes, and a copy of a shape has its columns and its key.
+const SHAPED: &[Shaped] = &[Shaped(KV, 17), Shaped(NOTED, 24)];
 
 /// How many values the copy of a row has.
 fn len_of_copy(alloc: Global, row: &Row) -> Result<usize, Fail> {
@@ -265,13 +251,11 @@ fn gives_back(row: Row) -> bool {
     values.len() == 2 && values[1].is_null()
 }
 
-#[test]
-fn a_row_lends_copies_and_gives_back_its_values(rt: HostRuntime) -> Result<(), Fail> {
-    let row = row_of(rt.alloc(), &[Said::Int(1), Said::Null])?;
-    let len = len_of_copy(rt.alloc(), &row)?;
-    let given = gives_back(row);
-    assert!(rt; len == 2 && given);
-    Ok(())
+/// Tells whether a row lends, copies and gives back its values.
+fn is_given_back(alloc: Global) -> Result<bool, Fail> {
+    let row = row_of(alloc, &[Said::Int(1), Said::Null])?;
+    let len = len_of_copy(alloc, &row)?;
+    Ok(gives_back(row) && len == 2)
 }
 
 /// A number that is not NULL, and a text of at most two bytes.
@@ -288,6 +272,7 @@ impl Case for Fitting {
     }
 }
 
+/// A row fits where each value may stand in its column.
 const ROWS: &[Fitting] = &[
     Fitting(&[Said::Int(1), Said::Null], true),
     Fitting(&[Said::Int(1), Said::Text(b"ab")], true),
@@ -300,6 +285,11 @@ const ROWS: &[Fitting] = &[
 ];
 
 #[test]
-fn a_row_fits_where_each_value_may_stand_in_its_column(rt: HostRuntime) -> Result<(), Fail> {
-    hold_each(&rt, rt.alloc(), ROWS)
+fn rows_have_their_size_and_their_values_and_fit_their_columns(
+    rt: HostRuntime,
+) -> Result<(), Fail> {
+    hold_each(&rt, rt.alloc(), SHAPED)?;
+    hold_each(&rt, rt.alloc(), ROWS)?;
+    assert!(rt; is_given_back(rt.alloc())?);
+    Ok(())
 }

@@ -172,11 +172,8 @@ impl Case for Written {
     }
 }
 
-#[test]
-fn cells_are_written_as_their_bytes(rt: HostRuntime) -> Result<(), Fail> {
-    const CELLS: &[Written] = &[Written(ANCHOR), Written(FIRST), Written(DELETION)];
-    hold_each(&rt, rt.alloc(), CELLS)
-}
+/// Cells are written as their bytes.
+const WRITTEN: &[Written] = &[Written(ANCHOR), Written(FIRST), Written(DELETION)];
 
 /// A cell that is read of its bytes, and of which copies are written so again.
 struct Copied(Stored);
@@ -191,22 +188,20 @@ impl Case for Copied {
     }
 }
 
-#[test]
-fn cells_are_read_of_their_bytes(rt: HostRuntime) -> Result<(), Fail> {
-    const CELLS: &[Copied] = &[Copied(ANCHOR), Copied(FIRST), Copied(DELETION)];
-    hold_each(&rt, rt.alloc(), CELLS)
-}
+/// Cells are read of their bytes.
+const COPIED: &[Copied] = &[Copied(ANCHOR), Copied(FIRST), Copied(DELETION)];
 
-/// Bytes that are no cell, and where they go wrong.
+/// Bytes that are no cell, and where they go wrong, a fault that is copied.
 struct Refused(&'static [u8], u32);
 
 impl Case for Refused {
     fn holds(&self, alloc: Global) -> Result<bool, Fail> {
-        let fault = read(alloc, self.0).err();
-        Ok(fault == Some(CellFault::BadCell { at: self.1 }))
+        let fault = CellFault::BadCell { at: self.1 };
+        Ok(read(alloc, self.0).err() == Some(fault) && fault.copy(alloc) == Ok(fault))
     }
 }
 
+/// What is no cell is refused where it goes wrong.
 const REFUSED: &[Refused] = &[
     Refused(&[], 0),
     Refused(&[0], 0),
@@ -223,12 +218,10 @@ const REFUSED: &[Refused] = &[
 ];
 
 #[test]
-fn what_is_no_cell_is_refused_where_it_goes_wrong(rt: HostRuntime) -> Result<(), Fail> {
+fn cells_are_written_and_read_as_their_bytes_and_others_are_refused_where_they_go_wrong(
+    rt: HostRuntime,
+) -> Result<(), Fail> {
+    hold_each(&rt, rt.alloc(), WRITTEN)?;
+    hold_each(&rt, rt.alloc(), COPIED)?;
     hold_each(&rt, rt.alloc(), REFUSED)
-}
-
-#[test]
-fn a_fault_is_copied(rt: HostRuntime) {
-    let fault = CellFault::BadCell { at: 5 };
-    assert!(rt; fault.copy(rt.alloc()) == Ok(fault));
 }

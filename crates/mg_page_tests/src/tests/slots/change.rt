@@ -45,14 +45,6 @@ fn has_room(rt: &impl Abort, alloc: Global, size: u16) -> Result<(), Fail> {
     does_each(rt, alloc, &mut page, &deeds)
 }
 
-#[test]
-fn an_empty_page_has_room_for_all_but_its_fields_and_one_slot(rt: HostRuntime) -> Result<(), Fail> {
-    for size in [1024, 2048, 4096, 8192, 16384] {
-        has_room(&rt, rt.alloc(), size)?;
-    }
-    Ok(())
-}
-
 /// Puts records of an anchor and a version into a page until one has no room, and answers how many
 /// went in whole.
 fn put_records(b: &mut [u8], version: &[u8]) -> u32
@@ -68,22 +60,27 @@ fn put_records(b: &mut [u8], version: &[u8]) -> u32
     2000
 }
 
-#[test]
-fn a_page_of_4096_holds_92_records_of_an_anchor_and_a_version_of_25_bytes(
-    rt: HostRuntime,
-) -> Result<(), Fail> {
+/// Tells whether a page of 4096 holds 92 records of an anchor and a version of 25 bytes.
+fn holds_92() -> bool {
     let mut page = [0u8; 4096];
     new_data(&mut page, PageNo(4), 3, 0);
-    assert!(rt; put_records(&mut page, &[2; 25]) == 92);
     // 4076 - 92 * 44 = 28 bytes are left: an anchor with its slot, and 13 bytes.
-    assert!(rt; slots(&page) == 185 && room(&page) == 9);
-    Ok(())
+    put_records(&mut page, &[2; 25]) == 92 && slots(&page) == 185 && room(&page) == 9
 }
 
 #[test]
-fn an_empty_page_has_its_common_part_no_slots_and_its_end_as_the_lowest_cell(rt: HostRuntime) {
+fn an_empty_page_has_room_for_all_but_its_fields_and_one_slot(rt: HostRuntime) -> Result<(), Fail> {
+    for size in [1024, 2048, 4096, 8192, 16384] {
+        has_room(&rt, rt.alloc(), size)?;
+    }
+    assert!(rt; holds_92());
+    Ok(())
+}
+
+/// Tells whether an empty page has its common part, no slots, and its end as the lowest cell.
+fn is_empty(page: &[u8; 1024]) -> bool {
     let front = [5u8, 0, 0, 0, 4, 0, 0, 0, 3, 0, 0, 0, 0, 0, 0, 0, 0, 0, 0, 4];
-    assert!(rt; has_bytes(&new_page(), 0, &front));
+    has_bytes(page, 0, &front)
 }
 
 /// A page with twelve bytes 8 and the anchor.
@@ -94,14 +91,15 @@ fn page_of_two() -> [u8; 1024] {
     page
 }
 
-#[test]
-fn cells_lie_from_the_end_downward_in_the_order_of_their_slots(rt: HostRuntime) {
-    let page = page_of_two();
+/// Tells whether two cells lie from the end downward in the order of their slots.
+fn are_downward(page: &[u8; 1024]) -> bool {
     // Offsets 1012 and 1001.
-    assert!(rt; has_bytes(&page, 16, &[2, 0, 0xe9, 3, 0xf4, 3, 12, 0, 0xe9, 3, 11, 0]));
-    assert!(rt; has_bytes(&page, 1001, &ANCHOR) && has_bytes(&page, 1012, &[8; 12]));
+    has_bytes(page, 16, &[2, 0, 0xe9, 3, 0xf4, 3, 12, 0, 0xe9, 3, 11, 0])
+        && has_bytes(page, 1001, &ANCHOR)
+        && has_bytes(page, 1012, &[8; 12])
 }
 
+/// Slot numbers survive a change of other slots.
 const THREE_CELLS: &[Deed] = &[
     Deed::Put(300, 1, 0),
     Deed::Put(300, 2, 1),
@@ -118,11 +116,7 @@ const THREE_CELLS: &[Deed] = &[
     Deed::Cell(2, 310, 4),
 ];
 
-#[test]
-fn slot_numbers_survive_a_change_of_other_slots(rt: HostRuntime) -> Result<(), Fail> {
-    new_one_does(&rt, rt.alloc(), THREE_CELLS)
-}
-
+/// Free slots at the end are dropped.
 const FOUR_CELLS: &[Deed] = &[
     Deed::Put(11, 1, 0),
     Deed::Put(11, 1, 1),
@@ -137,11 +131,7 @@ const FOUR_CELLS: &[Deed] = &[
     Deed::Slots(1),
 ];
 
-#[test]
-fn free_slots_at_the_end_are_dropped(rt: HostRuntime) -> Result<(), Fail> {
-    new_one_does(&rt, rt.alloc(), FOUR_CELLS)
-}
-
+/// A cell without bytes takes eleven.
 const NO_BYTES: &[Deed] = &[
     Deed::Put(0, 0, 0),
     Deed::Cell(0, 0, 0),
@@ -151,6 +141,10 @@ const NO_BYTES: &[Deed] = &[
 ];
 
 #[test]
-fn a_cell_without_bytes_takes_eleven(rt: HostRuntime) -> Result<(), Fail> {
+fn cells_lie_from_the_end_downward_and_keep_their_slots(rt: HostRuntime) -> Result<(), Fail> {
+    assert!(rt; is_empty(&new_page()));
+    assert!(rt; are_downward(&page_of_two()));
+    new_one_does(&rt, rt.alloc(), THREE_CELLS)?;
+    new_one_does(&rt, rt.alloc(), FOUR_CELLS)?;
     new_one_does(&rt, rt.alloc(), NO_BYTES)
 }
