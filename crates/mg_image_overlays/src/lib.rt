@@ -46,7 +46,7 @@
 //! by going over them (`Listed`). One record shows a row under a table's name and a key, so it makes no
 //! difference in which order.
 //!
-//! All stands in `specs/`: the lists in `Places` and `Listed`, what counts in `Laws`, and `HeldSome`
+//! All stands in `specs/`: the lists in `Places` and `Listed`, what counts in `HeldLaws`, and `HeldSome`
 //! proves it. There is no program here: the function does nothing, and its contract is the law.
 //!
 //! # Each page of a table says whose it is
