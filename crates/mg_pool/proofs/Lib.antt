@@ -13,3 +13,5 @@ mod PutLemmas
 mod OutsideLemmas
 mod LawfulLemmas
 mod FetchLemmas
+pub mod BufferLemmas
+mod PlaceLemmas

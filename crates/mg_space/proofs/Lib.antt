@@ -1,3 +1,6 @@
 mod DemandLemmas
+mod HandedLemmas
+mod InventoryLemmas
+mod ReadingLemmas
 mod RegionLemmas
 mod TakingLemmas

@@ -1,6 +1,6 @@
 -- The taking of a page, region by region.
-use Rattle.std.proofs.Common.{◌≡◌, ◌≢◌, ◌<◌, ◌≤◌, ◌⊎◌, ◌+◌, ◌*◌, ◌-◌, ◌++◌, ℕ, true, List, length, take, sym, ap, subst, ◌∙◌, arith, inl, inr, min, Option, None, Some, Result, Ok, Err, MatchResult, IsErr, IsErrAnd}
-use Rattle.std.proofs.Math.Nat.{add-mul, one-mul}
+use Rattle.std.proofs.Common.{◌≡◌, ◌≢◌, ◌<◌, ◌≤◌, ◌⊎◌, ◌+◌, ◌*◌, ◌-◌, ◌/◌, ◌++◌, ◌↔◌, ℕ, true, List, length, take, sym, ap, subst, ◌∙◌, arith, inl, inr, min, Option, None, Some, Result, Ok, Err, MatchResult, IsErr, IsErrAnd, IfSome}
+use Rattle.std.proofs.Math.Nat.{add-mul, le-div_iff_mul-le, one-mul}
 use Rattle.std.proofs.Math.Seq.{take-append_seam}
 use Rattle.std.proofs.lemmas.Bool.{cases_lt}
 use Rattle.mg_base.specs.Disk.{Meaning}
@@ -14,9 +14,9 @@ use Rattle.mg_pool.specs.Batch.{Changed, PutsPage}
 use Rattle.mg_pool.specs.declared.pool.Pool.{Pool}
 use Rattle.mg_space.specs.declared.fault.SpaceFault.{SpaceFault}
 use Rattle.mg_space.specs.declared.fault.SpaceFault.TheVariants as faults
-use Rattle.mg_space.specs.Taking.{IsFree, IsGeometry, IsMarked, MarksFixed, PutsInventory, RefusesRegion, RefusesTake, TakesBit, TakesInRegion, TakesPage, region_of}
-use Rattle.mg_space.specs.TakingLaws.{region_is}
-use Rattle.mg_space.specs.View.{KeepsStore, Tells, viewed}
+use Rattle.mg_space.specs.Taking.{IsFree, IsFull, IsGeometry, IsMarked, MarksFixed, PutsInventory, RefusesRegion, RefusesTake, TakesBit, TakesInRegion, TakesPage, region_of}
+use Rattle.mg_space.specs.TakingLaws.{bits_some, region_is}
+use Rattle.mg_space.specs.View.{AreWhole, KeepsStore, Tells, viewed}
 use Rattle.mg_space.specs.ViewLaws.{tells_on, viewed_on}
 use Rattle.mg_space.proofs.TakingLemmas.{none_free, of_region, puts, takes}
 
@@ -167,3 +167,34 @@ pub handed_on : {T : Type 0} (result : Result T SpaceFault) (fault : SpaceFault)
     → IsErrAnd result (λ given. given ≡ fault) → Q fault → MatchResult result P Q
 handed_on (Ok x) fault P Q err is holds = absurd cc
 handed_on (Err e) fault P Q err is holds = subst Q (sym is) holds
+
+-- ---- from region to region the cache and the batch stay as they were
+
+module _ (g h : Geometry) (a b : Changed) (same : h ≡ g) (batch : b ≡ a) where
+  pub lawful_on : IsGeometry g → IsGeometry h
+  lawful_on lawful = subst IsGeometry (sym same) lawful
+
+  pub whole_still : AreWhole g.size a.pages → AreWhole h.size b.pages
+  whole_still whole = subst (λ (x : Geometry). AreWhole x.size b.pages) (sym same)
+      (subst (λ (x : Changed). AreWhole g.size x.pages) (sym batch) whole)
+
+  pub puts_on : (new : Changed) (taken : Option PageNo) (page : PageNo) → taken ≡ Some page
+      → IfSome taken (λ given. PutsInventory h b new given.0) → PutsInventory g a new page.0
+  puts_on new taken page is put = subst (λ (x : Geometry). PutsInventory x a new page.0) same
+      (subst (λ (x : Changed). PutsInventory h x new page.0) batch
+      (subst (λ (o : Option PageNo). IfSome o (λ given. PutsInventory h b new given.0)) is put))
+
+-- no page is free where no region has one
+pub full : (g : Geometry) (region end : ℕ) (pages : Pages) → IsGeometry g → end ≤ region
+    → ((r : ℕ) → r < end ↔ (inventory_page g.size r < g.limit))
+    → ((n : ℕ) → n < region * bits g.size → IsFree g pages n → ⊥) → IsFull g pages
+full g region end pages lawful past each none n free = none n (inside (cases_lt n (region * bits g.size))) free
+  where
+    inside : (n < region * bits g.size) ⊎ (region * bits g.size ≤ n) → n < region * bits g.size
+    inside (inl less) = less
+    inside (inr late) =
+        let some = bits_some g.size lawful.size in
+        let least : region ≤ n / bits g.size =
+        (le-div_iff_mul-le {k = bits g.size} {x = region} {y = n} (omega arith)).1 late in
+        let most : n / bits g.size < end = (each (n / bits g.size)).1 free.region in
+        absurd (omega arith)

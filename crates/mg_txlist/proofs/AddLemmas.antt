@@ -1,16 +1,19 @@
 -- The list with one number more.
-use Rattle.std.proofs.Common.{◌≡◌, ◌≢◌, ◌<◌, ◌≤◌, ◌⊎◌, ◌+◌, ◌-◌, ◌/◌, ◌%◌, ◌++◌, ℕ, true, List, [], ◌∷◌, length, take, sym, ap, subst, ◌∙◌, arith, inl, inr, get_or}
-use Rattle.std.proofs.Common.{Option, Some, None}
+use Rattle.std.proofs.Common.{◌≡◌, ◌≢◌, ◌<◌, ◌≤◌, ◌⊎◌, ◌+◌, ◌-◌, ◌/◌, ◌%◌, ◌++◌, ℕ, true, List, [], ◌∷◌, length, take, refl, sym, ap, subst, ◌∙◌, arith, inl, inr, get_or}
+use Rattle.std.proofs.Common.{Option, Some, None, ◌*◌, suc, zero}
+use Rattle.std.proofs.Math.Nat.{mod-add-div', mod-lt, suc-mul, zero-mul}
 use Rattle.std.proofs.Math.Seq.{take-append_seam}
+use Rattle.std.proofs.lemmas.Nat.{div-mul-add}
 use Rattle.std.proofs.lemmas.Bool.{cases_eq, cases_lt}
 use Rattle.std.proofs.lemmas.List.{get_or_append_left, get_or_past, get_or_push, length_push, take_all}
 use Rattle.mg_base.specs.Geometry.{is_page_size}
 use Rattle.mg_base.specs.declared.transaction.TxState.{TxState}
 use Rattle.mg_base.specs.declared.transaction.TxState.TheVariants.{Active, Dead}
+use Rattle.mg_header.specs.declared.header.TheConstants.{GREATEST_NEXT}
 use Rattle.mg_image.specs.Inventory.{settled}
 use Rattle.mg_space.specs.TakingLaws.{page_sizes}
 use Rattle.mg_tip.specs.TipPage.{places, state_in}
-use Rattle.mg_txlist.specs.Drawing.{AddsNumber, AddsPage, SaysSame}
+use Rattle.mg_txlist.specs.Drawing.{AddsNumber, AddsPage, IsTipFor, SaysSame}
 use Rattle.mg_txlist.specs.TxList.{IsTxList, bits_said, next_said, no_page, own_said, said, tip_in}
 use Rattle.mg_txlist.specs.declared.list.TipPage.{TipPage}
 use Rattle.mg_txlist.specs.declared.list.TxList.{TxList}
@@ -119,3 +122,115 @@ pub own_back : (old new : List TxState) (n : ℕ) (now : List TxState)
 own_back old new n now adds long is = is
     ∙ (ap (λ (xs : List TxState). take n xs) adds
     ∙ (ap (λ (k : ℕ). take k (old ++ Active ∷ [])) long ∙ take-append_seam old (Active ∷ [])))
+
+-- ---- the list with the number is a list
+
+-- the page of the number before, where the number is not the first of one, and where it is
+div_stays : (t k q r : ℕ) → 0 < r → r < k → r + q * k ≡ t → (t - 1) / k ≡ q
+div_stays t k q r some less is = ap (λ (n : ℕ). n / k) back ∙ div-mul-add q k (r - 1) low
+  where
+    back : t - 1 ≡ q * k + (r - 1)
+    back = omega (arith, some, is)
+
+    low : r - 1 < k
+    low = omega (arith, some, less)
+
+div_grows : (t k q : ℕ) → 0 < k → 0 < t → 0 + q * k ≡ t → (t - 1) / k + 1 ≡ q
+div_grows t k zero some drawn is =
+    let none : 0 * k ≡ 0 = zero-mul k in absurd (omega (arith, drawn, is, none))
+div_grows t k (suc p) some drawn is =
+    ap (λ (n : ℕ). n / k + 1) back ∙ (ap (λ (n : ℕ). n + 1) (div-mul-add p k (k - 1) low) ∙ omega arith)
+  where
+    more : suc p * k ≡ p * k + k
+    more = suc-mul p k
+
+    back : t - 1 ≡ p * k + (k - 1)
+    back = omega (arith, some, is, more)
+
+    low : k - 1 < k
+    low = omega (arith, some)
+
+some_of : (n : ℕ) → n ≢ 0 → 0 < n
+some_of n off = omega (arith, off)
+
+same_page : (t k : ℕ) → 0 < k → t % k ≢ 0 → (t - 1) / k + 1 ≡ t / k + 1
+same_page t k some off = ap (λ (n : ℕ). n + 1)
+    (div_stays t k (t / k) (t % k) (some_of (t % k) off) (mod-lt t some) (mod-add-div' t k))
+
+next_page : (t k : ℕ) → 0 < k → 0 < t → t % k ≡ 0 → (t - 1) / k + 1 ≡ t / k
+next_page t k some drawn first =
+    div_grows t k (t / k) some drawn (ap (λ (r : ℕ). r + t / k * k) (sym first) ∙ mod-add-div' t k)
+
+-- so many pages there are, with the one that the number got
+count_with : (old new : TxList) (k : ℕ) (page : Option TipPage) → 0 < k → 0 < next_said old
+    → k ≡ places old.size → length old.pages.items ≡ (next_said old - 1) / k + 1
+    → IsTipFor old.size (next_said old) page → AddsPage old new page
+    → length new.pages.items ≡ next_said old / k + 1
+count_with old new k None some drawn k_is count tip adds =
+    let off : next_said old % k ≢ 0 =
+    subst (λ (n : ℕ). next_said old % n ≢ 0) (sym k_is) tip in
+    ap (λ (xs : List TipPage). length xs) adds ∙ (count ∙ same_page (next_said old) k some off)
+count_with old new k (Some page) some drawn k_is count tip adds =
+    let first : next_said old % k ≡ 0 = ap (λ (n : ℕ). next_said old % n) k_is ∙ tip.0 in
+    ap (λ (xs : List TipPage). length xs) adds ∙ (length_push old.pages.items page
+    ∙ ap (λ (n : ℕ). n + 1) (count ∙ next_page (next_said old) k some drawn first))
+
+-- what holds of each page that was there and of the one that the number got holds of each page
+each_tip : (old new : TxList) (page : Option TipPage) (P : TipPage → Type 0) → AddsPage old new page
+    → ((s : ℕ) → s < length old.pages.items → P (tip_in old s))
+    → ((x : TipPage) → page ≡ Some x → P x)
+    → (s : ℕ) → s < length new.pages.items → P (tip_in new s)
+each_tip old new None P adds each last s inside =
+    let less : s < length old.pages.items =
+    subst (λ (xs : List TipPage). s < length xs) adds inside in
+    subst P (sym (tips_stay old new None adds s less)) (each s less)
+each_tip old new (Some page) P adds each last s inside = at (cases_lt s (length old.pages.items))
+  where
+    long : length new.pages.items ≡ length old.pages.items + 1
+    long = ap (λ (xs : List TipPage). length xs) adds ∙ length_push old.pages.items page
+
+    here : length old.pages.items ≤ s → tip_in new s ≡ page
+    here past = ap (λ (xs : List TipPage). get_or xs s no_page) adds
+        ∙ get_or_push old.pages.items page no_page s (omega (arith, past, inside, long))
+
+    at : (s < length old.pages.items) ⊎ (length old.pages.items ≤ s) → P (tip_in new s)
+    at (inl less) = subst P (sym (tips_stay old new (Some page) adds s less)) (each s less)
+    at (inr past) = subst P (sym (here past)) (last page refl)
+
+tip_given : (size t : ℕ) (page : Option TipPage) (x : TipPage) → IsTipFor size t page → page ≡ Some x
+    → IsTipFor size t (Some x)
+tip_given size t page x tip is = subst (λ (p : Option TipPage). IsTipFor size t p) is tip
+
+-- the list with the number is one, too
+pub adds_list : (old new : TxList) (page : Option TipPage) (size t : ℕ) → IsTxList old
+    → next_said old < GREATEST_NEXT → old.size ≡ size → t ≡ next_said old → IsTipFor size t page
+    → AddsPage old new page → new.own.items ≡ old.own.items ++ Active ∷ []
+    → new.first ≡ old.first → new.size ≡ old.size → IsTxList new
+adds_list old new page size t is below size_is t_is given adds own first same = record {
+  lawful = subst (λ (n : ℕ). is_page_size n ≡ true) (sym same) is.lawful;
+  some = subst (λ (n : ℕ). 1 ≤ n) (sym first) is.some;
+  most = omega (arith, next, below);
+  count = count_with old new (places old.size) page some_places drawn refl is.count tip adds
+      ∙ (ap (λ (n : ℕ). n / places old.size + 1) last
+      ∙ ap (λ (n : ℕ). (next_said new - 1) / places n + 1) (sym same));
+  whole = λ s inside. each_tip old new page (λ (x : TipPage). length x.bytes ≡ old.size) adds is.whole
+      (λ x here. let its = tip_given old.size (next_said old) page x tip here in its.2) s inside ∙ sym same;
+  apart = λ s inside. each_tip old new page (λ (x : TipPage). x.page ≢ 0) adds is.apart
+      (λ x here. let its = tip_given old.size (next_said old) page x tip here in its.1) s inside;
+}
+  where
+    tip : IsTipFor old.size (next_said old) page
+    tip = subst (λ (n : ℕ). IsTipFor n (next_said old) page) (sym size_is)
+        (subst (λ (n : ℕ). IsTipFor size n page) t_is given)
+
+    next : next_said new ≡ next_said old + 1
+    next = let number = adds_number old new page is adds own first same in number.next
+
+    last : next_said old ≡ next_said new - 1
+    last = omega (arith, next)
+
+    drawn : 0 < next_said old
+    drawn = let some = is.some in omega (arith, some)
+
+    some_places : 0 < places old.size
+    some_places = let sizes = page_sizes old.size is.lawful in let least = sizes.0 in omega arith

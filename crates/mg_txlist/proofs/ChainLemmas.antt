@@ -16,9 +16,12 @@ use Rattle.mg_base.specs.declared.geometry.Geometry.{Geometry}
 use Rattle.mg_pool.specs.Dirty.{DirtyPages}
 use Rattle.mg_pool.specs.Pool.{shown}
 use Rattle.mg_pool.specs.declared.pool.Pool.{Pool}
+use Rattle.mg_space.specs.Taking.{IsGeometry}
+use Rattle.mg_space.specs.TakingLaws.{page_sizes}
 use Rattle.mg_space.specs.View.{KeepsStore}
 use Rattle.mg_image.specs.Form.{Pages}
 use Rattle.mg_tip.specs.TipPage.{prev_in, tip_checks}
+use Rattle.mg_tip.specs.declared.page.TheConstants.{STATES_AT}
 use Rattle.mg_txlist.specs.declared.list.TipPage.{TipPage}
 use Rattle.mg_txlist.specs.Chain.{AreTested, AreWholePages, IsTipOf, tip_at, tips_below}
 
@@ -125,3 +128,41 @@ apart_at from [] d tested s inside = absurd (omega arith)
 apart_at from (x ∷ xs) d tested zero inside = tested.0.0
 apart_at from (x ∷ xs) d tested (suc s) inside =
     apart_at (from + 1) xs d tested.1 s (omega arith)
+
+-- ---- after the last page
+
+pub counted : (n k count : ℕ) → n ≡ k → k ≤ count → count ≤ k → n ≡ count
+counted n k count is most least = omega (arith, is, most, least)
+
+pub all_tested : (count k : ℕ) (items : List TipPage) → count ≤ k → AreTested (count - k) items
+    → AreTested 0 items
+all_tested count k items past tested = subst (λ (n : ℕ). AreTested n items) none tested
+  where
+    none : count - k ≡ 0
+    none = omega (arith, past)
+
+pub all_read : (pages : Pages) (whole items : List TipPage) (at count k : ℕ) → count ≤ k
+    → whole ≡ tips_below pages at (count - k) ++ items → items ≡ whole
+all_read pages whole items at count k past is =
+    sym (is ∙ ap (λ (n : ℕ). tips_below pages at n ++ items) none)
+  where
+    none : count - k ≡ 0
+    none = omega (arith, past)
+
+-- a page of a database is longer than what is before the states of its transactions
+pub has_states : (start mid : Geometry) (bytes seen : List ℕ) → IsGeometry start → mid ≡ start
+    → length bytes ≡ mid.size → seen ≡ bytes → STATES_AT ≤ length seen
+has_states start mid bytes seen lawful same len is =
+    let sizes = page_sizes start.size lawful.size in
+    let least = sizes.0 in
+    let size : mid.size ≡ start.size = ap (λ (g : Geometry). g.size) same in
+    let long : length seen ≡ length bytes = ap (λ (b : List ℕ). length b) is in
+    omega (arith, least, size, len, long)
+
+-- a header that was read is that of the page that one sees
+pub head_seen : (read bytes seen : List ℕ) (size g : ℕ) (answer : Result Header HeadFault) (h : Header)
+    → read ≡ bytes → bytes ≡ seen → size ≡ g → answer ≡ reading read size → answer ≡ Ok h
+    → reading seen g ≡ Ok h
+head_seen read bytes seen size g answer h same is size_is answer_is was =
+    subst (λ (n : ℕ). reading seen n ≡ Ok h) size_is
+    (subst (λ (b : List ℕ). reading b size ≡ Ok h) (same ∙ is) (sym answer_is ∙ was))

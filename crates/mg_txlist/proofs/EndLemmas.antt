@@ -1,11 +1,13 @@
 -- The bits of a transaction are set, and the list says so.
-use Rattle.std.proofs.Common.{◌≡◌, ◌≢◌, ◌<◌, ◌≤◌, ◌⊎◌, ◌+◌, ◌-◌, ◌*◌, ◌/◌, ◌%◌, ℕ, List, length, get_or, sym, ap, subst, ◌∙◌, arith, inl, inr, slice_index_or, slice_set}
+use Rattle.std.proofs.Common.{◌≡◌, ◌≢◌, ◌<◌, ◌≤◌, ◌⊎◌, ◌+◌, ◌-◌, ◌*◌, ◌/◌, ◌%◌, ℕ, true, List, length, get_or, sym, ap, subst, ◌∙◌, arith, inl, inr, slice_index_or, slice_set}
 use Rattle.std.proofs.Math.ListN.{set}
 use Rattle.std.proofs.Math.Nat.{mod-add-div'}
 use Rattle.std.proofs.lemmas.Bool.{cases_eq, cases_lt}
 use Rattle.std.proofs.lemmas.List.{get_or-set_other, get_or-set_same, length-set}
 use Rattle.mg_base.specs.declared.transaction.TxState.{TxState}
 use Rattle.mg_base.specs.declared.transaction.TxState.TheVariants.{Committed, Dead}
+use Rattle.mg_base.specs.Geometry.{is_page_size}
+use Rattle.mg_header.specs.declared.header.TheConstants.{GREATEST_NEXT}
 use Rattle.mg_image.specs.Inventory.{settled}
 use Rattle.mg_tip.specs.TipPage.{SetsState, places, state_in}
 use Rattle.mg_txlist.specs.declared.list.TipPage.{TipPage}
@@ -131,6 +133,32 @@ lengths_stay old new s bytes keeps len k = at (cases_eq k s)
         ∙ (len ∙ ap (λ (n : ℕ). length (tip_in old n).bytes) (sym same)))
     at (inr ne) = ap (λ (page : TipPage). length page.bytes) (keeps.others k ne)
 
+-- no page has another number
+pages_stay : (old new : TxList) (s : ℕ) (bytes : List ℕ) → KeepsBits old new s bytes
+    → (k : ℕ) → (tip_in new k).page ≡ (tip_in old k).page
+pages_stay old new s bytes keeps k = at (cases_eq k s)
+  where
+    at : (k ≡ s) ⊎ (k ≢ s) → (tip_in new k).page ≡ (tip_in old k).page
+    at (inl same) = ap (λ (n : ℕ). (tip_in new n).page) same
+        ∙ (ap (λ (page : TipPage). page.page) keeps.here
+        ∙ ap (λ (n : ℕ). (tip_in old n).page) (sym same))
+    at (inr ne) = ap (λ (page : TipPage). page.page) (keeps.others k ne)
+
+-- the list is one still
+kept_list : (old new : TxList) (s : ℕ) (bytes : List ℕ) → IsTxList old → KeepsBits old new s bytes
+    → length bytes ≡ length (tip_in old s).bytes → next_said new ≡ next_said old → IsTxList new
+kept_list old new s bytes is keeps len next = record {
+  lawful = subst (λ (n : ℕ). is_page_size n ≡ true) (sym keeps.same_size) is.lawful;
+  some = subst (λ (n : ℕ). 1 ≤ n) (sym keeps.same_first) is.some;
+  most = subst (λ (n : ℕ). n ≤ GREATEST_NEXT) (sym next) is.most;
+  count = keeps.count ∙ (is.count ∙ (ap (λ (n : ℕ). (n - 1) / places old.size + 1) (sym next)
+      ∙ ap (λ (n : ℕ). (next_said new - 1) / places n + 1) (sym keeps.same_size)));
+  whole = λ k inside. lengths_stay old new s bytes keeps len k
+      ∙ (is.whole k (subst (λ (n : ℕ). k < n) keeps.count inside) ∙ sym keeps.same_size);
+  apart = λ k inside zero. is.apart k (subst (λ (n : ℕ). k < n) keeps.count inside)
+      (sym (pages_stay old new s bytes keeps k) ∙ zero);
+}
+
 -- ---- by the numbers that the program has
 
 module _ (old new : TxList) (t at : ℕ) (bytes : List ℕ) (at_is : at ≡ t / places old.size)
@@ -159,3 +187,12 @@ module _ (old new : TxList) (t at : ℕ) (bytes : List ℕ) (at_is : at ≡ t / 
 
   pub else_commits : t < old.first → new.own.items ≡ old.own.items → EndsIn old new t Committed
   else_commits before own = old_commits old new t bytes some keeps_at sets before own
+
+  pub then_list : old.first ≤ t → new.own.items ≡ slice_set old.own.items (t - old.first) Committed
+      → IsTxList new
+  then_list from own = let ends = then_commits from own in
+      kept_list old new (t / places old.size) bytes kept keeps_at sets.len ends.next
+
+  pub else_list : t < old.first → new.own.items ≡ old.own.items → IsTxList new
+  else_list before own = let ends = else_commits before own in
+      kept_list old new (t / places old.size) bytes kept keeps_at sets.len ends.next

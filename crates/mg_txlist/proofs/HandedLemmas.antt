@@ -1,12 +1,17 @@
 -- A fault that is handed on is told as the call told it that answered it.
-use Rattle.std.proofs.Common.{◌≡◌, ◌∙◌, refl, subst, sym}
-use Rattle.std.specs.Prelude.{Result, Ok, Err, IfOk, IsErrAnd, OnErr}
+use Rattle.std.proofs.Common.{◌≡◌, ◌∙◌, ℕ, List, arith, inl, refl, subst, sym}
+use Rattle.std.specs.Prelude.{Result, Ok, Err, None, IfOk, IsErr, IsErrAnd, OnErr}
+use Rattle.mg_base.specs.declared.geometry.Geometry.{Geometry}
 use Rattle.mg_base.specs.Disk.{Meaning}
-use Rattle.mg_pool.specs.Fault.{MeetsNoFault, StaysOnline, TellsFault}
+use Rattle.mg_base.specs.declared.numbers.PageNo.{PageNo}
+use Rattle.mg_pool.specs.Reading.{Fetches}
+use Rattle.mg_pool.specs.declared.batch.BatchPage.{BatchPage}
+use Rattle.mg_pool.specs.Fault.{MeetsNoFault, OnlyRefuses, StaysOnline, TellsFault}
 use Rattle.mg_pool.specs.declared.fault.PoolFault.{PoolFault}
 use Rattle.mg_pool.specs.declared.fault.PoolFault.TheVariants as pool_faults
 use Rattle.mg_pool.specs.declared.pool.Pool.{Pool}
-use Rattle.mg_space.specs.View.{KeepsStore, ReadsAlone, pool_answer}
+use Rattle.mg_space.specs.Taking.{IsGeometry}
+use Rattle.mg_space.specs.View.{KeepsStore, ReadsAlone, RefusesRead, pool_answer}
 use Rattle.mg_space.specs.ViewLaws.{fault_on}
 use Rattle.mg_space.specs.declared.fault.SpaceFault.{SpaceFault}
 use Rattle.mg_space.specs.declared.fault.SpaceFault.TheVariants as faults
@@ -60,3 +65,42 @@ own_as {T} S (Err e) fault is own = subst (λ (f : SpaceFault). ReadsAlone {T = 
 pub own_memory : {T : Type 0} (r : Result T SpaceFault) → IsErrAnd r (λ given. given ≡ out_of_memory) → ReadsAlone r
 own_memory (Ok x) is = absurd is
 own_memory {T} (Err e) is = subst (λ (f : SpaceFault). ReadsAlone {T = T} (Err f)) (sym is) tt
+
+-- what is said of an answer holds where there is none
+pub no_answer : {T E : Type 0} (P : T → Type 0) (r : Result T E) → IsErr r → IfOk r P
+no_answer P (Ok x) err = absurd cc
+no_answer P (Err e) err = tt
+
+-- a refusal is one that a reading hands on
+pub refusal_reads : (fault : PoolFault) → OnlyRefuses {T = Unit {0}} (Err fault)
+    → ReadsAlone {T = Unit {0}} (Err (faults.Pool fault))
+refusal_reads (pool_faults.DiskRead n) refuses = absurd refuses
+refusal_reads (pool_faults.DiskWrite n) refuses = refuses
+refusal_reads (pool_faults.Offline n) refuses = tt
+refusal_reads (pool_faults.Absent n) refuses = refuses
+refusal_reads pool_faults.Memory refuses = absurd refuses
+
+-- after calls that have only read and met no fault the cache is online still
+pub stays_online : {D L : Type 0} (m : Meaning D) (a b : Pool D L) → KeepsStore m a b → MeetsNoFault m a b
+    → a.offline ≡ None → StaysOnline m a b
+stays_online m a b keeps none online = (online, keeps.offline ∙ online, none)
+
+pub geometry_on : {D L : Type 0} (m : Meaning D) (a b : Pool D L) → KeepsStore m a b
+    → IsGeometry a.geometry → IsGeometry b.geometry
+geometry_on m a b keeps is = subst (λ (g : Geometry). IsGeometry g) (sym keeps.geometry) is
+
+-- a page that is not found is told as a reading tells it
+pub refused_reads : {D L : Type 0} (T : Type 0) (m : Meaning D) (store : Pool D L) (batch : List BatchPage)
+    (page : PageNo) (fault : SpaceFault) → RefusesRead {T = T} m store batch page (Err fault)
+    → ReadsAlone {T = Unit {0}} (Err fault)
+refused_reads T m store batch page (faults.Full limit) refused = tt
+refused_reads T m store batch page (faults.Damaged damage) refused = tt
+refused_reads T m store batch page (faults.Pool fault) refused = refused
+
+-- no page was looked for
+pub fetches_none : {D L : Type 0} (m : Meaning D) (store : Pool D L) (page : ℕ) → Fetches m store store page
+fetches_none m store page = record {
+  once = record { reads = omega arith; alone = λ n was. inl was };
+  none = λ held. record { reads = refl; was_read = λ n. refl };
+  stay = λ p there. there;
+}

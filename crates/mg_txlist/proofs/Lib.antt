@@ -9,3 +9,4 @@ mod ReadingLemmas
 mod RefusalLemmas
 mod WritingLemmas
 mod HandedLemmas
+mod TipLemmas

@@ -1,5 +1,6 @@
 -- Page writes that go on, and one that fails.
-use Rattle.std.proofs.Common.{◌≡◌, ◌∙◌, ◌/◌, ◌%◌, sym, subst, None, Some, ℕ, true, false, List, Result, Ok, Err, OnOk, IfErr}
+use Rattle.std.proofs.Common.{◌≡◌, ◌∙◌, ◌+◌, ◌-◌, ◌/◌, ◌%◌, ap, min, refl, sym, subst, None, Some, ℕ, true, false, List, Result, Ok, Err, OnOk, IfErr}
+use Rattle.std.specs.Prelude.{◌^◌}
 use Rattle.mg_base.specs.Image.{Image}
 use Rattle.mg_base.specs.declared.numbers.PageNo.{PageNo}
 use Rattle.mg_base.specs.declared.transaction.TxState.TheVariants.{Committed}
@@ -11,10 +12,10 @@ use Rattle.mg_tip.specs.TipPage.{SetsState, places}
 use Rattle.mg_txlist.specs.declared.list.TxList.{TxList}
 use Rattle.mg_space.specs.View.{KeepsStore, ReadsAlone}
 use Rattle.mg_txlist.specs.Drawing.{FailsDraw, only_read}
-use Rattle.mg_txlist.specs.Ending.{ChangesBits, FailsCommit, FailsToSettle, SettlesPage, not_settled}
-use Rattle.mg_txlist.specs.TxList.{tip_in}
-use Rattle.mg_base.specs.Disk.{MayLeave, Meaning}
-use Rattle.mg_pool.specs.Fault.{OnlyWrites, TellsFault}
+use Rattle.mg_txlist.specs.Ending.{ChangesBits, CommitsBits, FailsCommit, FailsToSettle, SettlesPage, not_settled}
+use Rattle.mg_txlist.specs.TxList.{KeepsBits, tip_in}
+use Rattle.mg_base.specs.Disk.{MayLeave, Meaning, Rose}
+use Rattle.mg_pool.specs.Fault.{Counts, OnlyWrites, StaysOnline, TellsFault}
 use Rattle.mg_pool.specs.Law.{JoinsRuns}
 use Rattle.mg_pool.specs.Refusal.{LeavesRefused}
 use Rattle.mg_pool.specs.Run.{HasWritten}
@@ -91,3 +92,55 @@ reads_alone m old new (Ok x) keeps own = tt
 reads_alone m old new (Err (faults.Full limit)) keeps own = only_read (faults.Full limit) tt keeps
 reads_alone m old new (Err (faults.Damaged damage)) keeps own = only_read (faults.Damaged damage) tt keeps
 reads_alone m old new (Err (faults.Pool fault)) keeps own = only_read (faults.Pool fault) own keeps
+
+-- a transaction's bits were set, its page was settled, and the list has it so
+pub commits_bits : {D L : Type 0} (m : Meaning D) (old new : TxList) (before after : Pool D L) (t : ℕ)
+    (page : PageNo) (bytes : List ℕ) → page.0 ≡ (tip_in old (t / places old.size)).page
+    → SetsState (tip_in old (t / places old.size)).bytes bytes (t % places old.size) Committed
+    → SettlesPage m before after page bytes → KeepsBits old new (t / places old.size) bytes
+    → CommitsBits m old new before after t
+commits_bits m old new before after t page bytes number sets settles keeps = record {
+  bytes = bytes;
+  sets = sets;
+  settles = subst (λ (n : ℕ). SettlesPage m before after (record { 0 = n }) bytes) number settles;
+  keeps = keeps;
+}
+
+-- what has answered has no fault
+pub no_fault : (fault : SpaceFault) (P : Type 0)
+    → ◌≡◌ {A = Result (Unit {0}) SpaceFault} (Ok tt) (Err fault) → P
+no_fault fault P is = absurd cc
+
+both_same : (a b c d : ℕ) → a ≡ c → b ≡ d → ◌≡◌ {A = ℕ × ℕ} (a, b) (c, d)
+both_same a b c d first second =
+    subst (λ (x : ℕ). ◌≡◌ {A = ℕ × ℕ} (a, b) (x, d)) first
+    (subst (λ (y : ℕ). ◌≡◌ {A = ℕ × ℕ} (a, b) (a, y)) second refl)
+
+-- page writes that went on have met no fault
+pub written_online : {D L : Type 0} (m : Meaning D) (a b : Pool D L) → HasWritten m a b → b.offline ≡ None
+    → StaysOnline m a b
+written_online m a b run online = (
+  sym run.offline ∙ online,
+  online,
+  both_same b.faults (m.faults b.disk) a.faults (m.faults a.disk) run.faults run.steady,
+)
+
+counts_after : {D L : Type 0} (m : Meaning D) (a b c : Pool D L) (n : ℕ) → HasWritten m a b
+    → Counts m b c n → Counts m a c n
+counts_after m a b c n run counts = (
+  counts.0,
+  counts.1 ∙ ap (λ (k : ℕ). min (k + 1) (2 ^ 64 - 1)) run.faults,
+  subst (λ (k : ℕ). Rose k (m.faults c.disk)) run.steady counts.2,
+)
+
+-- the fault of a page write after others, told since the first of them
+pub told_on : {D L : Type 0} (m : Meaning D) (a b c : Pool D L) (fault : PoolFault) → HasWritten m a b
+    → b.offline ≡ None → OnlyWrites {T = Unit {0}} (Err fault)
+    → TellsFault {T = Unit {0}} m b c (Err fault) → TellsFault {T = Unit {0}} m a c (Err fault)
+told_on m a b c (DiskRead n) run online own tells = absurd own
+told_on m a b c (DiskWrite n) run online own tells =
+    (sym run.offline ∙ tells.0, tells.1, counts_after m a b c n run tells.2)
+told_on m a b c (Offline n) run online own tells =
+    let same : Some n ≡ None = sym tells.0 ∙ online in absurd cc
+told_on m a b c (Absent n) run online own tells = absurd own
+told_on m a b c Memory run online own tells = absurd own

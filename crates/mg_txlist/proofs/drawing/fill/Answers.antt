@@ -14,7 +14,7 @@ use Rattle.std.specs.Prelude.{Ok}
 use Rattle.mg_header.specs.declared.header.Header.{Header}
 use Rattle.mg_space.specs.ViewLaws.{fault_on}
 use Rattle.mg_txlist.specs.declared.list.TipPage.{TipPage}
-use Rattle.mg_txlist.proofs.HandedLemmas.{own_as, told_as, told_then}
+use Rattle.mg_txlist.proofs.HandedLemmas.{no_answer, own_as, told_as, told_then}
 use Rattle.mg_txlist.proofs.RefusalLemmas.{err_as, head_draw, lacks_draw, tip_draw}
 use Rattle.mg_txlist.proofs.drawing.fill.Goals as goal
 
@@ -181,3 +181,59 @@ returns-clause-own g c = tt
 
 pub returns-clause-refused : goal.returns-clause-refused
 returns-clause-refused g c = λ image tells. tt
+
+pub returns-in_err-header-clause-lawful : goal.returns-in_err-header-clause-lawful
+returns-in_err-header-clause-lawful g c = no_answer _ c.from_residual.result c.from_residual.ensures.0
+
+pub returns-in_err-header-clause-page : goal.returns-in_err-header-clause-page
+returns-in_err-header-clause-page g c = no_answer _ c.from_residual.result c.from_residual.ensures.0
+
+pub returns-in_err-header-clause-draws : goal.returns-in_err-header-clause-draws
+returns-in_err-header-clause-draws g c = λ image tells. no_answer _ c.from_residual.result
+    c.from_residual.ensures.0
+
+pub returns-in_err-put_head-clause-lawful : goal.returns-in_err-put_head-clause-lawful
+returns-in_err-put_head-clause-lawful g c = no_answer _ c.from_residual-in_err-put_head.result c.from_residual-in_err-put_head.ensures.0
+
+pub returns-in_err-put_head-clause-page : goal.returns-in_err-put_head-clause-page
+returns-in_err-put_head-clause-page g c = no_answer _ c.from_residual-in_err-put_head.result c.from_residual-in_err-put_head.ensures.0
+
+pub returns-in_err-put_head-clause-draws : goal.returns-in_err-put_head-clause-draws
+returns-in_err-put_head-clause-draws g c = λ image tells. no_answer _ c.from_residual-in_err-put_head.result
+    c.from_residual-in_err-put_head.ensures.0
+
+pub returns-in_err-page-clause-lawful : goal.returns-in_err-page-clause-lawful
+returns-in_err-page-clause-lawful g c = no_answer _ c.from_residual-in_err-page.result c.from_residual-in_err-page.ensures.0
+
+pub returns-in_err-page-clause-page : goal.returns-in_err-page-clause-page
+returns-in_err-page-clause-page g c = no_answer _ c.from_residual-in_err-page.result c.from_residual-in_err-page.ensures.0
+
+pub returns-in_err-page-clause-draws : goal.returns-in_err-page-clause-draws
+returns-in_err-page-clause-draws g c = λ image tells. no_answer _ c.from_residual-in_err-page.result
+    c.from_residual-in_err-page.ensures.0
+
+pub returns-in_err-put_head-2-clause-lawful : goal.returns-in_err-put_head-2-clause-lawful
+returns-in_err-put_head-2-clause-lawful g c = no_answer _ c.from_residual-in_err-put_head-2.result c.from_residual-in_err-put_head-2.ensures.0
+
+pub returns-in_err-put_head-2-clause-page : goal.returns-in_err-put_head-2-clause-page
+returns-in_err-put_head-2-clause-page g c = no_answer _ c.from_residual-in_err-put_head-2.result c.from_residual-in_err-put_head-2.ensures.0
+
+pub returns-in_err-put_head-2-clause-draws : goal.returns-in_err-put_head-2-clause-draws
+returns-in_err-put_head-2-clause-draws g c = λ image tells. no_answer _ c.from_residual-in_err-put_head-2.result
+    c.from_residual-in_err-put_head-2.ensures.0
+
+pub returns-then-header-t-clause-lawful : goal.returns-then-header-t-clause-lawful
+returns-then-header-t-clause-lawful g c = tt
+
+pub returns-then-header-t-clause-page : goal.returns-then-header-t-clause-page
+returns-then-header-t-clause-page g c = tt
+
+pub returns-then-header-t-clause-draws : goal.returns-then-header-t-clause-draws
+returns-then-header-t-clause-draws g c = λ image tells. tt
+
+pub returns-then-t-places_of-ne0-clause-page : goal.returns-then-t-places_of-ne0-clause-page
+returns-then-t-places_of-ne0-clause-page g c =
+    let size = ap (λ (x : Geometry). x.size) c.geometry-size.ensures
+    ∙ ap (λ (x : Geometry). x.size) c.read_head.ensures.keeps.geometry in
+    let same = ap (λ (k : ℕ). c.args.t.0 % k) (c.places_of.ensures ∙ ap places size) in
+    λ zero. c.if-t-places_of-ne0.true (same ∙ zero)

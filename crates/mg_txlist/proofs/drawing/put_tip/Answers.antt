@@ -1,4 +1,4 @@
-use Rattle.std.proofs.Common.{◌≡◌, ◌∙◌, ◌/◌, ◌++◌, List, ap, arith, drop, length, subst, sym, ℕ}
+use Rattle.std.proofs.Common.{◌≡◌, ◌≤◌, ◌∙◌, true, ◌/◌, ◌++◌, List, ap, arith, drop, length, subst, sym, ℕ}
 use Rattle.mg_base.specs.declared.geometry.Geometry.{Geometry}
 use Rattle.mg_image.specs.Inventory.{inventory_page}
 use Rattle.mg_pool.specs.Batch.{PutsPage}
@@ -9,10 +9,25 @@ use Rattle.mg_txlist.specs.Drawing.{last_orders}
 use Rattle.mg_base.specs.declared.numbers.PageNo.{PageNo}
 use Rattle.mg_space.specs.Taking.{RefusesTake}
 use Rattle.mg_space.specs.View.{viewed}
-use Rattle.mg_txlist.proofs.HandedLemmas.{out_of_memory, own_as, own_memory, told_as, told_memory}
+use Rattle.mg_txlist.proofs.HandedLemmas.{no_answer, out_of_memory, own_as, own_memory, told_as, told_memory}
 use Rattle.mg_txlist.proofs.RefusalLemmas.{err_as}
 use Rattle.mg_txlist.proofs.DrawLemmas.{orders_made, tip_made, written_back}
+use Rattle.mg_base.specs.Geometry.{is_page_size}
+use Rattle.mg_space.specs.Taking.{IsGeometry}
+use Rattle.mg_space.specs.TakingLaws.{page_sizes}
+use Rattle.mg_tip.specs.declared.page.TheConstants.{STATES_AT}
 use Rattle.mg_txlist.proofs.drawing.put_tip.Goals as goal
+
+size_made : (g made : Geometry) → IsGeometry g → made ≡ g → is_page_size made.size ≡ true
+size_made g made lawful is = subst (λ (x : Geometry). is_page_size x.size ≡ true) (sym is) lawful.size
+
+has_room : (g made : Geometry) (len n : ℕ) → IsGeometry g → made ≡ g → len ≡ made.size → n ≡ len
+    → STATES_AT ≤ n
+has_room g made len n lawful is len_is n_is =
+    let sizes = page_sizes g.size lawful.size in
+    let least = sizes.0 in
+    let size : made.size ≡ g.size = ap (λ (x : Geometry). x.size) is in
+    omega (arith, least, size, len_is, n_is)
 
 pub returns-clause-puts : goal.returns-clause-puts
 returns-clause-puts g c =
@@ -134,3 +149,54 @@ returns-clause-own g c = tt
 
 pub returns-clause-refused : goal.returns-clause-refused
 returns-clause-refused g c = λ image tells. tt
+
+pub returns-in_err-at-clause-puts : goal.returns-in_err-at-clause-puts
+returns-in_err-at-clause-puts g c = no_answer _ c.from_residual.result c.from_residual.ensures.0
+
+pub returns-in_err-bytes-clause-puts : goal.returns-in_err-bytes-clause-puts
+returns-in_err-bytes-clause-puts g c = no_answer _ c.from_residual-in_err-bytes.result c.from_residual-in_err-bytes.ensures.0
+
+pub returns-in_err-put-clause-puts : goal.returns-in_err-put-clause-puts
+returns-in_err-put-clause-puts g c = no_answer _ c.from_residual-in_err-put.result c.from_residual-in_err-put.ensures.0
+
+pub returns-in_err-order-clause-puts : goal.returns-in_err-order-clause-puts
+returns-in_err-order-clause-puts g c = no_answer _ c.from_residual-in_err-order.result c.from_residual-in_err-order.ensures.0
+
+pub returns-in_err-order-2-clause-puts : goal.returns-in_err-order-2-clause-puts
+returns-in_err-order-2-clause-puts g c = no_answer _ c.from_residual-in_err-order-2.result c.from_residual-in_err-order-2.ensures.0
+
+pub returns-in_err-order_last-clause-puts : goal.returns-in_err-order_last-clause-puts
+returns-in_err-order_last-clause-puts g c = no_answer _ c.from_residual-in_err-order_last.result c.from_residual-in_err-order_last.ensures.0
+
+pub returns-in_err-at-clause-refused : goal.returns-in_err-at-clause-refused
+returns-in_err-at-clause-refused g c = λ image tells. err_as c.from_residual.result c.in_err-at.field-0.0
+    (RefusesTake c.args.store.now.geometry (viewed c.args.store.now image c.args.batch.now))
+    c.from_residual.ensures.1 (c.in_err-at.ensures.takes image tells)
+
+pub take_page-requires-clause-pool : goal.take_page-requires-clause-pool
+take_page-requires-clause-pool g c = c.requires.pool
+
+pub take_page-requires-clause-geometry : goal.take_page-requires-clause-geometry
+take_page-requires-clause-geometry g c = c.requires.geometry
+
+pub take_page-requires-clause-whole : goal.take_page-requires-clause-whole
+take_page-requires-clause-whole g c = c.requires.whole
+
+pub new_tip-requires : goal.new_tip-requires
+new_tip-requires g c = has_room c.args.store.now.geometry c.geometry-size.result c.in_ok-bytes.bytes.len
+    (length c.deref_mut.result.now) c.requires.geometry c.geometry-size.ensures c.in_ok-bytes.ensures.len
+    c.deref_mut.ensures.len
+
+pub places_of-requires : goal.places_of-requires
+places_of-requires g c = size_made c.args.store.now.geometry c.geometry-size.result c.requires.geometry
+    c.geometry-size.ensures
+
+pub inventory_page_of-requires-clause-size : goal.inventory_page_of-requires-clause-size
+inventory_page_of-requires-clause-size g c = size_made c.args.store.now.geometry c.geometry-size.result
+    c.requires.geometry c.geometry-size.ensures
+
+pub order_last-requires : goal.order_last-requires
+order_last-requires g c = record {
+  size = size_made c.args.store.now.geometry c.geometry-size.result c.requires.geometry
+      c.geometry-size.ensures;
+}

@@ -1,14 +1,16 @@
-use Rattle.std.proofs.Common.{◌∙◌, subst, ℕ, Option}
+use Rattle.std.proofs.Common.{◌∙◌, refl, subst, sym, ℕ, Option}
+use Rattle.mg_base.specs.declared.geometry.Geometry.{Geometry}
+use Rattle.mg_pool.specs.Batch.{IsLawful}
 use Rattle.std.specs.Prelude.{Ok, Err}
 use Rattle.mg_pool.specs.Pool.{shown}
 use Rattle.mg_space.specs.View.{viewed}
 use Rattle.mg_txlist.specs.Drawing.{DrawsOn, IsTipFor, not_changed}
-use Rattle.mg_txlist.proofs.AddLemmas.{adds_number, own_back, pages_back, same_list}
+use Rattle.mg_txlist.proofs.AddLemmas.{adds_list, adds_number, own_back, pages_back, same_list}
 use Rattle.mg_space.specs.ViewLaws.{fault_on}
 use Rattle.mg_txlist.specs.Refusals.{RefusesDraw}
 use Rattle.mg_txlist.specs.TxList.{next_said}
 use Rattle.mg_txlist.specs.declared.list.TipPage.{TipPage}
-use Rattle.mg_txlist.proofs.HandedLemmas.{is_also, on_err, out_of_memory, own_as, own_memory, told_as, told_memory}
+use Rattle.mg_txlist.proofs.HandedLemmas.{is_also, no_answer, on_err, out_of_memory, own_as, own_memory, told_as, told_memory}
 use Rattle.mg_txlist.proofs.RefusalLemmas.{err_as}
 use Rattle.mg_txlist.proofs.WritingLemmas.{reads_alone}
 use Rattle.mg_txlist.proofs.list.TxList.draw.Goals as goal
@@ -100,3 +102,108 @@ returns-in-Err-clause-fault g c = fault_on {T = Unit {0}} g.D.Disk.meaning c.arg
 
 pub returns-in-Err-clause-refused : goal.returns-in-Err-clause-refused
 returns-in-Err-clause-refused g c = λ image tells. tt
+
+pub returns-in_err-page-clause-list : goal.returns-in_err-page-clause-list
+returns-in_err-page-clause-list g c = c.requires.list
+
+pub returns-in_err-page-clause-pool : goal.returns-in_err-page-clause-pool
+returns-in_err-page-clause-pool g c = c.fill.ensures.keeps.pool
+
+pub returns-in_err-page-clause-geometry : goal.returns-in_err-page-clause-geometry
+returns-in_err-page-clause-geometry g c = c.fill.ensures.keeps.geometry
+
+pub returns-in_err-page-clause-same : goal.returns-in_err-page-clause-same
+returns-in_err-page-clause-same g c = on_err c.from_residual.result _ (record {
+  pages = refl;
+  own = refl;
+  first = refl;
+  size = refl;
+})
+
+pub returns-in_err-page-clause-number : goal.returns-in_err-page-clause-number
+returns-in_err-page-clause-number g c = no_answer _ c.from_residual.result c.from_residual.ensures.0
+
+pub returns-in_err-page-clause-adds : goal.returns-in_err-page-clause-adds
+returns-in_err-page-clause-adds g c = no_answer _ c.from_residual.result c.from_residual.ensures.0
+
+pub returns-in_err-page-clause-draws : goal.returns-in_err-page-clause-draws
+returns-in_err-page-clause-draws g c = no_answer _ c.from_residual.result c.from_residual.ensures.0
+
+pub returns-in_err-add-clause-pool : goal.returns-in_err-add-clause-pool
+returns-in_err-add-clause-pool g c = c.fill.ensures.keeps.pool
+
+pub returns-in_err-add-clause-geometry : goal.returns-in_err-add-clause-geometry
+returns-in_err-add-clause-geometry g c = c.fill.ensures.keeps.geometry
+
+pub returns-in_err-add-clause-number : goal.returns-in_err-add-clause-number
+returns-in_err-add-clause-number g c = no_answer _ c.from_residual-in_err-add.result c.from_residual-in_err-add.ensures.0
+
+pub returns-in_err-add-clause-adds : goal.returns-in_err-add-clause-adds
+returns-in_err-add-clause-adds g c = no_answer _ c.from_residual-in_err-add.result c.from_residual-in_err-add.ensures.0
+
+pub returns-in_err-add-clause-draws : goal.returns-in_err-add-clause-draws
+returns-in_err-add-clause-draws g c = no_answer _ c.from_residual-in_err-add.result c.from_residual-in_err-add.ensures.0
+
+pub returns-in-Ok-clause-list : goal.returns-in-Ok-clause-list
+returns-in-Ok-clause-list g c = adds_list c.args.self.now c.add.new.self c.in_ok-page.page
+    c.args.store.now.geometry.size c.next-t.result.0 c.requires.list c.requires.below c.requires.size
+    c.next-t.ensures c.in_ok-page.ensures.page c.in_ok-add.ensures.pages c.in_ok-add.ensures.own
+    c.add.ensures.first c.add.ensures.size
+
+pub returns-in-Ok-clause-pool : goal.returns-in-Ok-clause-pool
+returns-in-Ok-clause-pool g c = c.change.ensures.pool
+
+pub returns-in-Ok-clause-geometry : goal.returns-in-Ok-clause-geometry
+returns-in-Ok-clause-geometry g c = c.change.ensures.geometry ∙ c.fill.ensures.keeps.geometry
+
+pub returns-in-Ok-clause-same : goal.returns-in-Ok-clause-same
+returns-in-Ok-clause-same g c = tt
+
+pub returns-in-Ok-clause-number : goal.returns-in-Ok-clause-number
+returns-in-Ok-clause-number g c = c.next-t.ensures
+
+pub returns-in-Ok-clause-left : goal.returns-in-Ok-clause-left
+returns-in-Ok-clause-left g c = tt
+
+pub returns-in-Ok-clause-refused : goal.returns-in-Ok-clause-refused
+returns-in-Ok-clause-refused g c = λ image tells. tt
+
+pub returns-in-Err-clause-pool : goal.returns-in-Err-clause-pool
+returns-in-Err-clause-pool g c = c.change.ensures.pool
+
+pub returns-in-Err-clause-geometry : goal.returns-in-Err-clause-geometry
+returns-in-Err-clause-geometry g c = c.change.ensures.geometry ∙ c.fill.ensures.keeps.geometry
+
+pub returns-in-Err-clause-same : goal.returns-in-Err-clause-same
+returns-in-Err-clause-same g c = record {
+  pages = pages_back c.args.self.now c.add.new.self c.in_ok-page.page c.len-pages.result
+      c.truncate.new.self.items c.in_ok-add.ensures.pages (c.len-pages.ensures ∙ c.args.self.now.pages.ok.0)
+      c.truncate.ensures.items;
+  own = own_back c.args.self.now.own.items c.add.new.self.own.items c.len-own.result
+      c.truncate-in-Err.new.self.items c.in_ok-add.ensures.own (c.len-own.ensures ∙ c.args.self.now.own.ok.0)
+      c.truncate-in-Err.ensures.items;
+  first = c.add.ensures.first;
+  size = c.add.ensures.size;
+}
+
+pub returns-in-Err-clause-number : goal.returns-in-Err-clause-number
+returns-in-Err-clause-number g c = tt
+
+pub returns-in-Err-clause-adds : goal.returns-in-Err-clause-adds
+returns-in-Err-clause-adds g c = tt
+
+pub returns-in-Err-clause-draws : goal.returns-in-Err-clause-draws
+returns-in-Err-clause-draws g c = tt
+
+pub fill-requires-clause-pool : goal.fill-requires-clause-pool
+fill-requires-clause-pool g c = c.requires.pool
+
+pub fill-requires-clause-geometry : goal.fill-requires-clause-geometry
+fill-requires-clause-geometry g c = c.requires.geometry
+
+pub change-requires-clause-pool : goal.change-requires-clause-pool
+change-requires-clause-pool g c = c.in_ok-page.ensures.keeps.pool
+
+pub change-requires-clause-lawful : goal.change-requires-clause-lawful
+change-requires-clause-lawful g c = subst (λ (x : Geometry). IsLawful x.size c.fill.new.batch.pages c.fill.new.batch.orders)
+    (sym c.fill.ensures.keeps.geometry) c.in_ok-page.ensures.lawful
