@@ -1,5 +1,6 @@
 -- Copies of expressions that hold lists have the same tree.
-use Rattle.std.proofs.Common.{◌≡◌, Bool, List, map, ap, sym, ◌∙◌, Result, Ok, Err}
+use Rattle.std.proofs.Common.{◌≡◌, ℕ, ◌+◌, ◌<◌, Bool, List, [], ◌∷◌, ◌++◌, length, get_or, take, map, ap, sym, ◌∙◌, Result, Ok, Err}
+use Rattle.std.proofs.lemmas.List.{map_more, map_push}
 use Rattle.std.proofs.lemmas.Bool.{false≢true}
 use Rattle.std.specs.Result.{IsErr, IfOk}
 use Rattle.std.specs.declared.alloc.Global.{Global}
@@ -30,35 +31,36 @@ pub product_copied : (e start : Expr) (first other : Box Expr Global) (parts cop
 product_copied e start first other parts copied items is same starts begins equal =
     tree_of_product other copied ∙ ap (λ (t : Tree). Product t (parts_of (map part_tree copied.items))) (begins ∙ ap tree_of starts) ∙ ap (λ (ps : List (Bool × Tree)). Product (tree_of first.value) (parts_of ps)) (equal ∙ ap (map part_tree) same) ∙ sym (tree_of_product first parts) ∙ sym (ap tree_of is)
 
-tree_of_not : (part : Box Expr Global) → tree_of (variants.Not part) ≡ Not (tree_of part.value)
+pub tree_of_not : (part : Box Expr Global) → tree_of (variants.Not part) ≡ Not (tree_of part.value)
 tree_of_not part = ap tree_of (sym (variants.rolls-Not part)) ∙ fold-roll-Expr Tree (Bool × Tree) tree_step part_step (layer.Not part)
 
 pub not_copied : (e start : Expr) (part copied : Box Expr Global) → e ≡ variants.Not part → start ≡ part.value → tree_of copied.value ≡ tree_of start → tree_of (variants.Not copied) ≡ tree_of e
 not_copied e start part copied is same equal =
     tree_of_not copied ∙ ap Not (equal ∙ ap tree_of same) ∙ sym (tree_of_not part) ∙ sym (ap tree_of is)
 
-tree_of_is_null : (part : Box Expr Global) → tree_of (variants.IsNull part) ≡ IsNull (tree_of part.value)
+pub tree_of_is_null : (part : Box Expr Global) → tree_of (variants.IsNull part) ≡ IsNull (tree_of part.value)
 tree_of_is_null part = ap tree_of (sym (variants.rolls-IsNull part)) ∙ fold-roll-Expr Tree (Bool × Tree) tree_step part_step (layer.IsNull part)
 
 pub is_null_copied : (e start : Expr) (part copied : Box Expr Global) → e ≡ variants.IsNull part → start ≡ part.value → tree_of copied.value ≡ tree_of start → tree_of (variants.IsNull copied) ≡ tree_of e
 is_null_copied e start part copied is same equal =
     tree_of_is_null copied ∙ ap IsNull (equal ∙ ap tree_of same) ∙ sym (tree_of_is_null part) ∙ sym (ap tree_of is)
 
-tree_of_is_not_null : (part : Box Expr Global) → tree_of (variants.IsNotNull part) ≡ IsNotNull (tree_of part.value)
+pub tree_of_is_not_null : (part : Box Expr Global) → tree_of (variants.IsNotNull part) ≡ IsNotNull (tree_of part.value)
 tree_of_is_not_null part = ap tree_of (sym (variants.rolls-IsNotNull part)) ∙ fold-roll-Expr Tree (Bool × Tree) tree_step part_step (layer.IsNotNull part)
 
 pub is_not_null_copied : (e start : Expr) (part copied : Box Expr Global) → e ≡ variants.IsNotNull part → start ≡ part.value → tree_of copied.value ≡ tree_of start → tree_of (variants.IsNotNull copied) ≡ tree_of e
 is_not_null_copied e start part copied is same equal =
     tree_of_is_not_null copied ∙ ap IsNotNull (equal ∙ ap tree_of same) ∙ sym (tree_of_is_not_null part) ∙ sym (ap tree_of is)
 
-tree_of_minus : (part : Box Expr Global) → tree_of (variants.Minus part) ≡ Minus (tree_of part.value)
+pub tree_of_minus : (part : Box Expr Global) → tree_of (variants.Minus part) ≡ Minus (tree_of part.value)
 tree_of_minus part = ap tree_of (sym (variants.rolls-Minus part)) ∙ fold-roll-Expr Tree (Bool × Tree) tree_step part_step (layer.Minus part)
 
 pub minus_copied : (e start : Expr) (part copied : Box Expr Global) → e ≡ variants.Minus part → start ≡ part.value → tree_of copied.value ≡ tree_of start → tree_of (variants.Minus copied) ≡ tree_of e
 minus_copied e start part copied is same equal =
     tree_of_minus copied ∙ ap Minus (equal ∙ ap tree_of same) ∙ sym (tree_of_minus part) ∙ sym (ap tree_of is)
 
-tree_of_compare : (a : Box Expr Global) (sign : Sign) (b : Box Expr Global) → tree_of (variants.Compare a sign b) ≡ Compare (tree_of a.value) sign (tree_of b.value)
+pub tree_of_compare : (a : Box Expr Global) (sign : Sign) (b : Box Expr Global) → tree_of (variants.Compare a sign b)
+    ≡ Compare (tree_of a.value) sign (tree_of b.value)
 tree_of_compare a sign b = ap tree_of (sym (variants.rolls-Compare a sign b)) ∙ fold-roll-Expr Tree (Bool × Tree) tree_step part_step (layer.Compare a sign b)
 
 pub compare_copied : (e left right : Expr) (a b first second : Box Expr Global) (sign : Sign) → e ≡ variants.Compare a sign b → left ≡ a.value → right ≡ b.value → tree_of first.value ≡ tree_of left → tree_of second.value ≡ tree_of right → tree_of (variants.Compare first sign second) ≡ tree_of e
@@ -69,3 +71,11 @@ compare_copied e left right a b first second sign is same other equal alike =
 pub none_copied : {T E : Type 0} (P : T → Type 0) (result : Result T E) → IsErr result → IfOk result P
 none_copied P (Ok x) is = absurd (false≢true is)
 none_copied P (Err e) is = tt
+
+-- one copy more
+pub one_copied : {X Y : Type 0} (f : X → Y) (parts copied new : List X) (i : ℕ) (item copy : X) → i < length parts
+    → item ≡ get_or parts i item → map f copied ≡ map f (take i parts) → f copy ≡ f item
+    → new ≡ copied ++ copy ∷ [] → map f new ≡ map f (take (i + 1) parts)
+one_copied {Y = Y} f parts copied new i item copy below is before equal put =
+    ap (map f) put ∙ map_push f copied copy ∙ ap (λ (ys : List Y). ys ++ f copy ∷ []) before
+    ∙ ap (λ (y : Y). map f (take i parts) ++ y ∷ []) (equal ∙ ap f is) ∙ sym (map_more f parts i item below)

@@ -1,3 +1,4 @@
 pub mod FaultLemmas
 pub mod PartLemmas
 pub mod CopyLemmas
+pub mod SayingLemmas

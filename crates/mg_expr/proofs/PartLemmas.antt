@@ -25,3 +25,21 @@ sum_says e start first parts items row value is same starts has =
 pub product_says : (e start : Expr) (first : Box Expr Global) (parts : Vec Part Global) (items : List Part) (row : List Value) (value : Value) → e ≡ variants.Product first parts → items ≡ parts.items → start ≡ first.value → value_in (says_of start row) ≡ Some value → says_of e row ≡ gives (total multiplied (Some value) (map (λ p. part_says p row) items))
 product_says e start first parts items row value is same starts has =
     ap (λ (x : Expr). says_of x row) is ∙ says_product first parts row ∙ ap (λ (ps : List Part). gives (total multiplied (value_in (says_of first.value row)) (map (λ p. part_says p row) ps))) (sym same) ∙ ap (λ v. gives (total multiplied v (map (λ p. part_says p row) items))) (ap (λ (x : Expr). value_in (says_of x row)) (sym starts) ∙ has)
+
+-- a sum, by what its first part says
+pub sum_starts : (e start : Expr) (first : Box Expr Global) (parts : Vec Part Global) (row : List Value)
+    → e ≡ variants.Sum first parts → start ≡ first.value
+    → says_of e row ≡ gives (total added (value_in (says_of start row)) (map (λ p. part_says p row) parts.items))
+sum_starts e start first parts row is starts =
+    ap (λ (x : Expr). says_of x row) is ∙ says_sum first parts row
+    ∙ ap (λ (x : Expr). gives (total added (value_in (says_of x row)) (map (λ p. part_says p row) parts.items)))
+    (sym starts)
+
+-- a product, by what its first part says
+pub product_starts : (e start : Expr) (first : Box Expr Global) (parts : Vec Part Global) (row : List Value)
+    → e ≡ variants.Product first parts → start ≡ first.value
+    → says_of e row ≡ gives (total multiplied (value_in (says_of start row)) (map (λ p. part_says p row) parts.items))
+product_starts e start first parts row is starts =
+    ap (λ (x : Expr). says_of x row) is ∙ says_product first parts row
+    ∙ ap (λ (x : Expr). gives (total multiplied (value_in (says_of x row)) (map (λ p. part_says p row) parts.items)))
+    (sym starts)

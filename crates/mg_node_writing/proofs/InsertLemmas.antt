@@ -76,6 +76,10 @@ opens old b1 b2 new w at end len count e w_is end_is len_is count_is far up room
         let c = moved.bytes k below in
         subst (λ (x : ℕ). byte new (at + x + k) ≡ byte old (at + k)) len_is (a ∙ (b ∙ c))
 
+-- an entry takes at least the bytes of one with an empty key
+pub entry_behind : (w : Bool) (page : List ℕ) (at : ℕ) → at ≤ end_of w page at
+entry_behind w page at = let long = end_of-least w page at in omega (arith, long)
+
 -- an entry stands on a page as it is, where a leaf's has no child
 placed_as_is : (w : Bool) (e : Entry) → (w ≡ false → e.child.0 ≡ 0) → as_placed w e ≡ e
 placed_as_is true e leaf = refl

@@ -256,3 +256,8 @@ first_ends page is =
 pub high_first : (page : List ℕ) → high_at page ≤ first_at page
 high_first page = choose_up (has_high page) (high_at page) (end_of false page (high_at page))
     (high_at page) (omega arith) (let e = end_of-least false page (high_at page) in omega (arith, e))
+
+-- what a test would have told does not hold where it failed
+pub untold : {P : Type 0} (told : Bool) → (P → told ≡ true) → told ≡ false → P → ⊥
+untold true tells is holds = absurd cc
+untold false tells is holds = let both = tells holds in absurd cc

@@ -3,3 +3,4 @@ pub mod NullLemmas
 pub mod ValueLemmas
 pub mod RowLemmas
 pub mod LawLemmas
+pub mod PutLemmas

@@ -1,6 +1,8 @@
-use Rattle.std.proofs.Common.{ap, sym}
-use Rattle.mg_expr.specs.Trees.{tree_of}
-use Rattle.mg_expr.proofs.CopyLemmas.{or_copied, and_copied, sum_copied, product_copied, not_copied, is_null_copied, is_not_null_copied, minus_copied, compare_copied, none_copied}
+use Rattle.std.proofs.Common.{ap, sym, map, ◌∙◌, Bool, List, ℕ}
+use Rattle.std.proofs.lemmas.List.{take_all}
+use Rattle.mg_expr.specs.declared.expr.Expr.TheVariants as variants
+use Rattle.mg_expr.specs.Trees.{Tree, part_tree, tree_of}
+use Rattle.mg_expr.proofs.CopyLemmas.{or_copied, and_copied, sum_copied, product_copied, not_copied, is_null_copied, is_not_null_copied, minus_copied, compare_copied, none_copied, one_copied}
 use Rattle.mg_expr.proofs.copying.+copying.Goals as goal
 
 pub copy-returns-in_ok-copy_all-in-Or : goal.copy-returns-in_ok-copy_all-in-Or
@@ -102,3 +104,64 @@ copy-returns-in_err-copy_boxed-in-Minus t c =
 pub copy-returns-in_err-copy-in-Text : goal.copy-returns-in_err-copy-in-Text
 copy-returns-in_err-copy-in-Text t c =
     none_copied _ _ c.from_residual-in_err-copy-in-Text.ensures.0
+
+pub copy_all-loop-part-init : goal.copy_all-loop-part-init
+copy_all-loop-part-init t c =
+    ap (map tree_of) c.new-copied.ensures.items
+
+pub copy_all-loop-part-preserved : goal.copy_all-loop-part-preserved
+copy_all-loop-part-preserved t c =
+    one_copied tree_of c.args.parts.now c.loop-part.copied.items c.push.new.self.items c.loop-part.part-index
+    c.part-item.result _ c.loop-part-test.true c.part-item.is c.loop-part.invariant c.in_ok-copy.ensures
+    c.in_ok-push.ensures.items
+
+pub copy_all-returns : goal.copy_all-returns
+copy_all-returns t c =
+    c.loop-part.invariant ∙ ap (map tree_of) (take_all c.loop-part.part-index c.args.parts.now c.loop-part-test.false)
+
+pub copy_all-returns-in_err-copy : goal.copy_all-returns-in_err-copy
+copy_all-returns-in_err-copy t c =
+    none_copied _ _ c.from_residual.ensures.0
+
+pub copy_all-returns-in_err-push : goal.copy_all-returns-in_err-push
+copy_all-returns-in_err-push t c =
+    none_copied _ _ c.from_residual-in_err-push.ensures.0
+
+pub copy_parts-loop-part-init : goal.copy_parts-loop-part-init
+copy_parts-loop-part-init t c =
+    ap (map part_tree) c.new-copied.ensures.items
+
+pub copy_parts-loop-part-preserved : goal.copy_parts-loop-part-preserved
+copy_parts-loop-part-preserved t c =
+    one_copied part_tree c.args.parts.now c.loop-part.copied.items c.push.new.self.items c.loop-part.part-index
+    c.part-item.result _ c.loop-part-test.true c.part-item.is c.loop-part.invariant (ap (λ (x : Tree).
+    (c.part-item.result.inverse, x)) c.in_ok-copy.ensures) c.in_ok-push.ensures.items
+
+pub copy_parts-returns : goal.copy_parts-returns
+copy_parts-returns t c =
+    c.loop-part.invariant ∙ ap (map part_tree) (take_all c.loop-part.part-index c.args.parts.now
+    c.loop-part-test.false)
+
+pub copy_parts-returns-in_err-copy : goal.copy_parts-returns-in_err-copy
+copy_parts-returns-in_err-copy t c =
+    none_copied _ _ c.from_residual.ensures.0
+
+pub copy_parts-returns-in_err-push : goal.copy_parts-returns-in_err-push
+copy_parts-returns-in_err-push t c =
+    none_copied _ _ c.from_residual-in_err-push.ensures.0
+
+pub copy_boxed-returns-in_err-copy : goal.copy_boxed-returns-in_err-copy
+copy_boxed-returns-in_err-copy t c =
+    none_copied _ _ c.from_residual.ensures.0
+
+pub copy_boxed-returns-in_err-new : goal.copy_boxed-returns-in_err-new
+copy_boxed-returns-in_err-new t c =
+    none_copied _ _ c.from_residual-in_err-new.ensures.0
+
+pub copy_boxed-returns : goal.copy_boxed-returns
+copy_boxed-returns t c =
+    ap tree_of c.in_ok-new.ensures.ok ∙ c.in_ok-copy.ensures
+
+pub copy-returns-in_ok-copy-in-Text : goal.copy-returns-in_ok-copy-in-Text
+copy-returns-in_ok-copy-in-Text t c =
+    ap (λ (text : List ℕ). tree_of (variants.Text text)) c.in_ok-copy-in-Text.ensures ∙ sym (ap tree_of c.in-Text.is)

@@ -1,15 +1,16 @@
 use Rattle.std.proofs.Common.{arith, sym, ap, ◌∙◌, ℕ, refl}
+use Rattle.std.proofs.lemmas.Bool.{false≢true}
 use Rattle.mg_node.specs.NodePage.{entry_at, is_inner}
 use Rattle.mg_node_writing.proofs.InsertLemmas.{removed}
-use Rattle.mg_node_writing.proofs.SeatLemmas.{entry_ends, found_at, is_there, not_there, other_child, other_children, place_behind, same_child, seated}
+use Rattle.mg_node_writing.proofs.SeatLemmas.{entry_ends, found_at, is_there, not_there, other_child, other_children, place_behind, same_child, seated, untold}
 use Rattle.mg_node_writing.proofs.removing.remove.Goals as goal
 
 pub returns-then-not-stands_at-clause-when : goal.returns-then-not-stands_at-clause-when
 returns-then-not-stands_at-clause-when c = (
-  λ f. absurd cc,
+  λ is. absurd (false≢true is),
   λ has. absurd (not_there c.args.b.now c.args.e.now c.seat-n.result c.requires.lawful
       (seated c.args.b.now c.args.e.now c.seat-n.result c.seat-n.ensures
-      (λ s. let t = c.stands_at.ensures.1 s in let f = c.if-not-stands_at.true in absurd cc)) has),
+      (untold c.stands_at.result c.stands_at.ensures.1 c.if-not-stands_at.true)) has),
 )
 
 pub child-requires-clause-inside : goal.child-requires-clause-inside
@@ -24,7 +25,7 @@ returns-then-ne-clause-when c =
     let b = c.args.b.now in
     let stands = c.stands_at.ensures.0 c.if-not-stands_at.false in
     let differs = other_children c.child.result c.args.e.now.child (sym c.ne.ensures ∙ c.if-ne.true) in (
-      λ f. absurd cc,
+      λ is. absurd (false≢true is),
       λ has. absurd (other_child b c.args.e.now c.seat-n.result c.requires.lawful c.seat-n.ensures stands
           (λ same. differs (c.child.ensures ∙
           (ap (λ (x : ℕ). (entry_at (is_inner b) b x).child) c.place-at.ensures.is ∙ same))) has),
