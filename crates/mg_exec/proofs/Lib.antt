@@ -1,4 +1,5 @@
 mod FrameLemmas
+mod ArmLemmas
 mod ChangeLemmas
 mod StartLemmas
 mod ShapeLemmas

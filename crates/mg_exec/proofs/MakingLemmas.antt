@@ -1,10 +1,13 @@
 -- As many values as places.
-use Rattle.std.proofs.Common.{◌≡◌, ℕ, zero, ◌<◌, arith, suc, ◌&&◌, Bool, true, false, List, [], ◌∷◌, length, map, Option, refl, ap, ◌∙◌}
-use Rattle.std.specs.Prelude.{slice_get, slice_index_or}
+use Rattle.std.proofs.Common.{◌+◌, ◌++◌, take, get_or, sym, subst, ◌≡◌, ℕ, zero, ◌<◌, arith, suc, ◌&&◌, Bool, true, false, List, [], ◌∷◌, length, map, Option, refl, ap, ◌∙◌}
+use Rattle.std.specs.Prelude.{All, slice_get, slice_index_or}
 use Rattle.mg_value.specs.declared.value.Value.TheVariants.{Null}
 use Rattle.mg_value.specs.Rows.{RowFits}
 use Rattle.mg_model.specs.Changes.{Cells}
+use Rattle.mg_records.specs.declared.write.Write.{Write}
 use Rattle.mg_records.specs.Writing.{IsOfColumn}
+use Rattle.std.proofs.lemmas.List.{map-append, take_more}
+use Rattle.std.proofs.lemmas.List.Elements.{All-append}
 use Rattle.std.proofs.lemmas.Bool.{false≢true}
 use Rattle.mg_value.specs.declared.shape.Column.{Column}
 use Rattle.mg_expr.specs.declared.expr.Expr.{Expr}
@@ -67,3 +70,27 @@ fits_at (column ∷ columns) [] place fit below = absurd fit
 fits_at (column ∷ columns) (value ∷ row) zero fit below = fit.0.kind
 fits_at (column ∷ columns) (value ∷ row) (suc place) fit below =
     fits_at columns row place fit.1 (omega (arith, below))
+
+-- ---- one write more
+
+fits_alone : (fits : Write → Type 0) (w : Write) → fits w → All fits (w ∷ [])
+fits_alone fits w is zero d below = is
+fits_alone fits w is (suc k) d below = absurd (omega (arith, below))
+
+-- what is made so far, and one write more
+pub fits_more : (fits : Write → Type 0) (made more : List Write) (w : Write) → All fits made → fits w
+    → more ≡ made ++ w ∷ [] → All fits more
+fits_more fits made more w all is pushed =
+    subst (All fits) (sym pushed) (All-append fits made (w ∷ []) all (fits_alone fits w is))
+
+pub one_more : (f : Cells → Write) (fits : Write → Type 0) (rows : List Cells) (i : ℕ) (row : Cells)
+    (w : Write) (made more : List Write) → i < length rows → row ≡ get_or rows i row → w ≡ f row → fits w
+    → (made ≡ map f (take i rows)) × All fits made → more ≡ made ++ w ∷ []
+    → (more ≡ map f (take (i + 1) rows)) × All fits more
+one_more f fits rows i row w made more below is equal fit so_far pushed = (
+  pushed ∙ ap (λ (ws : List Write). ws ++ w ∷ []) so_far.0
+      ∙ ap (λ (x : Write). map f (take i rows) ++ x ∷ []) equal
+      ∙ sym (map-append f (take i rows) (row ∷ []))
+      ∙ ap (map f) (sym (take_more rows i row below ∙ ap (λ (x : Cells). take i rows ++ x ∷ []) (sym is))),
+  fits_more fits made more w so_far.1 fit pushed,
+)

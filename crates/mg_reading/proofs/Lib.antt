@@ -15,7 +15,9 @@ pub mod VersionsLemmas
 pub mod CountLemmas
 pub mod TableLemmas
 pub mod SoundLemmas
+pub mod TakenLemmas
 pub mod TipLemmas
+pub mod EachLemmas
 pub mod EntryLemmas
 pub mod PairLemmas
 pub mod BlankLemmas

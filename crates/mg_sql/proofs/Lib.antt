@@ -1,11 +1,15 @@
 pub mod LastWord
 pub mod Lexemes
+pub mod Onward
+pub mod Folded
 pub mod KindNumbers
 pub mod Unique
 pub mod Refusing
 pub mod ExprParts
 pub mod TreeSteps
 pub mod Steps
+pub mod MemoryTold
+pub mod PartTrees
 pub mod Parting
 pub mod Scanned
 pub mod Symbols

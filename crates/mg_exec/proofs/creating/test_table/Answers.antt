@@ -1,7 +1,10 @@
-use Rattle.std.proofs.Common.{Some, None, sym, ◌∙◌}
+use Rattle.std.proofs.Common.{refl, Some, None, sym, ◌∙◌}
 use Rattle.mg_statements.specs.Plain.{plain_of}
+use Rattle.mg_model.specs.declared.refusal.Refusal.TheVariants.{ReadOnly, TableExists}
+use Rattle.mg_calls.specs.FrameLaws.{frames_reads_nothing}
 use Rattle.mg_calls.specs.QuietLaws.{quiet_nothing, quiet_reading}
 use Rattle.mg_exec.specs.NewTables.{may_not, not_read, taken}
+use Rattle.mg_exec.proofs.FrameLemmas.{frames_none, frames_quiet}
 use Rattle.mg_exec.proofs.TableStartLemmas.{named_catalog, phase_frames, phase_ready, refused_otherwise, seen_already, tested}
 use Rattle.mg_exec.proofs.creating.test_table.Goals as goal
 
@@ -77,3 +80,37 @@ pub returns-clause-quiet : goal.returns-clause-quiet
 returns-clause-quiet g c =
     quiet_reading g.R.Records.meaning c.args.r.now c.table.new.self (Some c.in-Err.refusal) None
     c.in-Err.ensures.reads c.in-Err.ensures.undamaged c.in-Err.ensures.crash c.in-Err.ensures.sessions
+
+-- ---- ready, and framed
+
+pub returns-then-is_barred-clause-ready : goal.returns-then-is_barred-clause-ready
+returns-then-is_barred-clause-ready g c = tt
+
+pub returns-then-is_catalog-clause-ready : goal.returns-then-is_catalog-clause-ready
+returns-then-is_catalog-clause-ready g c = tt
+
+pub returns-in-Ok-clause-ready : goal.returns-in-Ok-clause-ready
+returns-in-Ok-clause-ready g c = tt
+
+pub returns-clause-ready : goal.returns-clause-ready
+returns-clause-ready g c = tt
+
+pub returns-then-is_barred-clause-frames : goal.returns-then-is_barred-clause-frames
+returns-then-is_barred-clause-frames g c =
+    frames_none g.R.Records.meaning c.args.r.now c.args.t.0 (Some ReadOnly) tt
+
+pub returns-then-is_catalog-clause-frames : goal.returns-then-is_catalog-clause-frames
+returns-then-is_catalog-clause-frames g c =
+    frames_none g.R.Records.meaning c.args.r.now c.args.t.0 (Some TableExists) tt
+
+pub returns-in-Ok-clause-frames : goal.returns-in-Ok-clause-frames
+returns-in-Ok-clause-frames g c =
+    frames_quiet g.R.Records.meaning c.args.r.now c.table.new.self c.args.t.0 (Some TableExists) tt
+    (frames_reads_nothing g.R.Records.meaning c.args.r.now c.table.new.self c.args.t.0 None
+    c.in-Ok.ensures.reads c.in-Ok.ensures.told)
+    (λ quiet. refl)
+
+pub returns-clause-frames : goal.returns-clause-frames
+returns-clause-frames g c =
+    frames_reads_nothing g.R.Records.meaning c.args.r.now c.table.new.self c.args.t.0 (Some c.in-Err.refusal)
+    c.in-Err.ensures.reads c.in-Err.ensures.told

@@ -1,6 +1,9 @@
 use Rattle.mg_statements.specs.Plain.{plain_of}
 use Rattle.std.proofs.Common.{Some, None}
+use Rattle.mg_model.specs.declared.refusal.Refusal.TheVariants.{ReadOnly}
+use Rattle.mg_calls.specs.FrameLaws.{frames_reads_nothing}
 use Rattle.mg_calls.specs.QuietLaws.{quiet_nothing, quiet_reading}
+use Rattle.mg_exec.proofs.FrameLemmas.{frames_none}
 use Rattle.mg_exec.proofs.StartLemmas.{barred, untold, unbound, unbound_frames, started, ready_at_start}
 use Rattle.mg_exec.proofs.starting.test.Goals as goal
 
@@ -61,3 +64,28 @@ pub returns-in-Err-bind-clause-quiet : goal.returns-in-Err-bind-clause-quiet
 returns-in-Err-bind-clause-quiet g c =
     quiet_reading g.R.Records.meaning c.args.r.now c.table.new.self None None
     c.in-Ok.ensures.reads c.in-Ok.ensures.undamaged c.in-Ok.ensures.crash c.in-Ok.ensures.sessions
+
+-- ---- ready, and framed
+
+pub returns-then-is_barred-clause-ready : goal.returns-then-is_barred-clause-ready
+returns-then-is_barred-clause-ready g c = tt
+
+pub returns-in-Err-clause-ready : goal.returns-in-Err-clause-ready
+returns-in-Err-clause-ready g c = tt
+
+pub returns-in-Err-bind-clause-ready : goal.returns-in-Err-bind-clause-ready
+returns-in-Err-bind-clause-ready g c = tt
+
+pub returns-then-is_barred-clause-frames : goal.returns-then-is_barred-clause-frames
+returns-then-is_barred-clause-frames g c =
+    frames_none g.R.Records.meaning c.args.r.now c.args.t.0 (Some ReadOnly) tt
+
+pub returns-in-Err-clause-frames : goal.returns-in-Err-clause-frames
+returns-in-Err-clause-frames g c =
+    frames_reads_nothing g.R.Records.meaning c.args.r.now c.table.new.self c.args.t.0 (Some c.in-Err.refusal)
+    c.in-Err.ensures.reads c.in-Err.ensures.told
+
+pub returns-in-Ok-bind-clause-frames : goal.returns-in-Ok-bind-clause-frames
+returns-in-Ok-bind-clause-frames g c =
+    frames_reads_nothing g.R.Records.meaning c.args.r.now c.table.new.self c.args.t.0 None
+    c.in-Ok.ensures.reads c.in-Ok.ensures.told

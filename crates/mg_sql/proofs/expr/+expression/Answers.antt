@@ -10,7 +10,8 @@ use Rattle.mg_sql.proofs.ExprParts as parts
 use Rattle.mg_sql.specs.Ends.{binds}
 use Rattle.mg_sql.proofs.Refusing.{fails, reads_one}
 use Rattle.mg_sql.proofs.Parting.{is_bare, second_fails, second_on, second_read}
-use Rattle.mg_sql.proofs.Steps.{kept_on, one_read, moved_reads, moved_refuses, nearer, syntax_told, deep_told, ahead_is, binds_six, not_times, not_adds, not_tested, not_and, not_or, level_of, none_of, neg_told}
+use Rattle.mg_sql.proofs.MemoryTold.{memory_told}
+use Rattle.mg_sql.proofs.Steps.{kept, kept_on, one_read, moved_reads, moved_refuses, nearer, syntax_told, deep_told, ahead_is, binds_six, not_times, not_adds, not_tested, not_and, not_or, level_of, none_of, neg_told}
 use Rattle.mg_sql.proofs.TreeSteps.{tree_of_minus, tree_of_not, tree_of_is_null, tree_of_is_not_null, tree_of_compare, tree_of_null, tree_of_integer, tree_of_text, tree_of_name, first_part, more_parts, more_signed, not_nil, and_tree, or_tree}
 use Rattle.std.proofs.lemmas.Result.{err_from_is_err_and}
 use Rattle.mg_sql.proofs.expr.+expression.Goals as goal
@@ -408,3 +409,108 @@ pub test-returns-clause-told : goal.test-returns-clause-told
 test-returns-clause-told t c =
     let h = c.in_ok-not.ensures.told c.args.p.now c.args.levels (tree_of c.in_ok-first.first) c.in_ok-first.ensures.keeps c.in_ok-first.ensures.told.0 in
     (subst (λ u. Reads Test c.args.levels u c.args.p.now.text.now c.args.p.now.at c.asks.new.p.at) (sym c.in_ok-asked.ensures) h.0, h.1)
+
+pub conj-returns-in_err-push-clause-keeps : goal.conj-returns-in_err-push-clause-keeps
+conj-returns-in_err-push-clause-keeps t c = c.in_ok-first.ensures.keeps
+
+pub conj-returns-in_err-push-clause-told : goal.conj-returns-in_err-push-clause-told
+conj-returns-in_err-push-clause-told t c =
+    memory_told tree_of Conj 2 c.args.levels c.args.p.now c.neg.new.p c.from_residual-in_err-push.result c.from_residual-in_err-push.ensures.1
+
+pub conj-returns-in_err-push-2-clause-keeps : goal.conj-returns-in_err-push-2-clause-keeps
+conj-returns-in_err-push-2-clause-keeps t c = kept_on _ _ _ (kept_on _ _ _ c.loop-p.invariant.keeps c.advance.ensures.keeps) c.in_ok-part.ensures.keeps
+
+pub conj-returns-in_err-push-2-clause-told : goal.conj-returns-in_err-push-2-clause-told
+conj-returns-in_err-push-2-clause-told t c =
+    memory_told tree_of Conj 2 c.args.levels c.args.p.now c.neg-in-loop-p.new.p c.from_residual-in_err-push-2.result c.from_residual-in_err-push-2.ensures.1
+
+pub expr-returns-in_err-push-clause-keeps : goal.expr-returns-in_err-push-clause-keeps
+expr-returns-in_err-push-clause-keeps t c = c.in_ok-first.ensures.keeps
+
+pub expr-returns-in_err-push-clause-told : goal.expr-returns-in_err-push-clause-told
+expr-returns-in_err-push-clause-told t c =
+    memory_told tree_of Expr 1 c.args.levels c.args.p.now c.conj.new.p c.from_residual-in_err-push.result c.from_residual-in_err-push.ensures.1
+
+pub expr-returns-in_err-push-2-clause-keeps : goal.expr-returns-in_err-push-2-clause-keeps
+expr-returns-in_err-push-2-clause-keeps t c = kept_on _ _ _ (kept_on _ _ _ c.loop-p.invariant.keeps c.advance.ensures.keeps) c.in_ok-part.ensures.keeps
+
+pub expr-returns-in_err-push-2-clause-told : goal.expr-returns-in_err-push-2-clause-told
+expr-returns-in_err-push-2-clause-told t c =
+    memory_told tree_of Expr 1 c.args.levels c.args.p.now c.conj-in-loop-p.new.p c.from_residual-in_err-push-2.result c.from_residual-in_err-push-2.ensures.1
+
+pub sum-returns-in_err-push-clause-keeps : goal.sum-returns-in_err-push-clause-keeps
+sum-returns-in_err-push-clause-keeps t c = kept_on _ _ _ (kept_on _ _ _ c.loop-inverse.invariant.keeps c.advance.ensures.keeps) c.in_ok-value.ensures.keeps
+
+pub sum-returns-in_err-push-clause-told : goal.sum-returns-in_err-push-clause-told
+sum-returns-in_err-push-clause-told t c =
+    memory_told tree_of Sums 4 c.args.levels c.args.p.now c.term-in-Some.new.p c.from_residual-in_err-push.result c.from_residual-in_err-push.ensures.1
+
+pub sum-returns-in_err-summed-clause-keeps : goal.sum-returns-in_err-summed-clause-keeps
+sum-returns-in_err-summed-clause-keeps t c = c.loop-inverse.invariant.keeps
+
+pub sum-returns-in_err-summed-clause-told : goal.sum-returns-in_err-summed-clause-told
+sum-returns-in_err-summed-clause-told t c =
+    memory_told tree_of Sums 4 c.args.levels c.args.p.now c.loop-inverse.p c.from_residual-in_err-summed.result c.from_residual-in_err-summed.ensures.1
+
+pub term-returns-in_err-push-clause-keeps : goal.term-returns-in_err-push-clause-keeps
+term-returns-in_err-push-clause-keeps t c = kept_on _ _ _ (kept_on _ _ _ c.loop-inverse.invariant.keeps c.advance.ensures.keeps) c.in_ok-value.ensures.keeps
+
+pub term-returns-in_err-push-clause-told : goal.term-returns-in_err-push-clause-told
+term-returns-in_err-push-clause-told t c =
+    memory_told tree_of Term 5 c.args.levels c.args.p.now c.factor-in-Some.new.p c.from_residual-in_err-push.result c.from_residual-in_err-push.ensures.1
+
+pub term-returns-in_err-product-clause-keeps : goal.term-returns-in_err-product-clause-keeps
+term-returns-in_err-product-clause-keeps t c = c.loop-inverse.invariant.keeps
+
+pub term-returns-in_err-product-clause-told : goal.term-returns-in_err-product-clause-told
+term-returns-in_err-product-clause-told t c =
+    memory_told tree_of Term 5 c.args.levels c.args.p.now c.loop-inverse.p c.from_residual-in_err-product.result c.from_residual-in_err-product.ensures.1
+
+pub neg-returns-in_err-new-clause-keeps : goal.neg-returns-in_err-new-clause-keeps
+neg-returns-in_err-new-clause-keeps t c = kept_on _ _ _ c.advance.ensures.keeps c.in_ok-part.ensures.keeps
+
+pub neg-returns-in_err-new-clause-told : goal.neg-returns-in_err-new-clause-told
+neg-returns-in_err-new-clause-told t c =
+    memory_told tree_of Neg 3 c.args.levels c.args.p.now c.neg.new.p c.from_residual-in_err-new.result c.from_residual-in_err-new.ensures.1
+
+pub negated-returns-in_err-new-clause-keeps : goal.negated-returns-in_err-new-clause-keeps
+negated-returns-in_err-new-clause-keeps t c = kept_on _ _ _ c.advance.ensures.keeps c.in_ok-value.ensures.keeps
+
+pub negated-returns-in_err-new-clause-told : goal.negated-returns-in_err-new-clause-told
+negated-returns-in_err-new-clause-told t c =
+    memory_told tree_of Factor 6 c.args.levels c.args.p.now c.factor.new.p c.from_residual-in_err-new.result c.from_residual-in_err-new.ensures.1
+
+pub neg-returns-then-levels-eq0-clause-keeps : goal.neg-returns-then-levels-eq0-clause-keeps
+neg-returns-then-levels-eq0-clause-keeps t c = kept c.args.p.now c.requires.ready
+
+pub negated-returns-then-levels-eq0-clause-keeps : goal.negated-returns-then-levels-eq0-clause-keeps
+negated-returns-then-levels-eq0-clause-keeps t c = kept c.args.p.now c.requires.ready
+
+pub enclosed-returns-then-levels-eq0-clause-keeps : goal.enclosed-returns-then-levels-eq0-clause-keeps
+enclosed-returns-then-levels-eq0-clause-keeps t c = kept c.args.p.now c.requires.ready
+
+pub test-returns-in_err-asked-clause-keeps : goal.test-returns-in_err-asked-clause-keeps
+test-returns-in_err-asked-clause-keeps t c = kept_on _ _ _ c.in_ok-first.ensures.keeps c.in_ok-not.ensures.keeps
+
+pub test-returns-in_err-asked-clause-told : goal.test-returns-in_err-asked-clause-told
+test-returns-in_err-asked-clause-told t c =
+    memory_told tree_of Test 3 c.args.levels c.args.p.now c.asks.new.p c.from_residual-in_err-asked.result c.from_residual-in_err-asked.ensures.1
+
+pub test-returns-in_err-compared-clause-keeps : goal.test-returns-in_err-compared-clause-keeps
+test-returns-in_err-compared-clause-keeps t c = kept_on _ _ _ c.in_ok-first.ensures.keeps c.in_ok-second.ensures.keeps
+
+pub test-returns-in_err-compared-clause-told : goal.test-returns-in_err-compared-clause-told
+test-returns-in_err-compared-clause-told t c =
+    memory_told tree_of Test 3 c.args.levels c.args.p.now c.second_sum.new.p c.from_residual-in_err-compared.result c.from_residual-in_err-compared.ensures.1
+
+pub factor-returns-in-Minus-clause-keeps : goal.factor-returns-in-Minus-clause-keeps
+factor-returns-in-Minus-clause-keeps t c = c.negated.ensures.keeps
+
+pub factor-returns-in-Minus-clause-told : goal.factor-returns-in-Minus-clause-told
+factor-returns-in-Minus-clause-told t c = c.negated.ensures.told
+
+pub factor-returns-in-Open-clause-keeps : goal.factor-returns-in-Open-clause-keeps
+factor-returns-in-Open-clause-keeps t c = c.enclosed.ensures.keeps
+
+pub factor-returns-in-Open-clause-told : goal.factor-returns-in-Open-clause-told
+factor-returns-in-Open-clause-told t c = c.enclosed.ensures.told

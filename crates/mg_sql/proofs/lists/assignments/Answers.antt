@@ -16,6 +16,7 @@ use Rattle.mg_sql.specs.Reading.{IsReady, Keeps, Told, Fails, Takes_, Expects, T
 use Rattle.mg_sql.specs.Going.{Spelled, Derives, Goes, Never, begins_in, behind_item, behind_list}
 use Rattle.mg_sql.proofs.Moves as moves
 use Rattle.mg_sql.proofs.Moves.{derives_on, fails_on, goes_on, turned, turn_left, turn_right, turn_on, never_word, never_either, never_name, never_finish, never_by, expected, word_wrong, took_left, taken_word, passed, optional_read, wrong}
+use Rattle.mg_sql.proofs.MemoryTold.{memory_goes}
 use Rattle.mg_sql.proofs.Steps.{kept_on, kept}
 use Rattle.mg_sql.proofs.lists.assignments.Goals as goal
 
@@ -62,3 +63,20 @@ returns-clause-keeps c = kept_on _ _ _ c.loop-p.invariant.keeps c.loop-p-test.en
 pub returns-clause-told : goal.returns-clause-told
 returns-clause-told c then_ closes =
     moves.list_done (g.assignments) then_ (map assign_of c.loop-p.sets.items) c.args.p.now c.loop-p.p c.takes.new.self c.loop-p-test.ensures.told (c.loop-p.invariant.read then_ closes)
+
+pub returns-in_err-push-clause-keeps : goal.returns-in_err-push-clause-keeps
+returns-in_err-push-clause-keeps c = c.in_ok-first.ensures.keeps
+
+pub returns-in_err-push-clause-told : goal.returns-in_err-push-clause-told
+returns-in_err-push-clause-told c then_ closes =
+    memory_goes _ (g.list (g.assignments) then_) then_ c.args.p.now c.assignment.new.p c.from_residual-in_err-push.result
+    c.from_residual-in_err-push.ensures.1
+
+pub returns-in_err-push-2-clause-keeps : goal.returns-in_err-push-2-clause-keeps
+returns-in_err-push-2-clause-keeps c =
+    kept_on _ _ _ (kept_on _ _ _ c.loop-p.invariant.keeps c.loop-p-test.ensures.keeps) c.in_ok-next.ensures.keeps
+
+pub returns-in_err-push-2-clause-told : goal.returns-in_err-push-2-clause-told
+returns-in_err-push-2-clause-told c then_ closes =
+    memory_goes _ (g.list (g.assignments) then_) then_ c.args.p.now c.assignment-in-loop-p.new.p c.from_residual-in_err-push-2.result
+    c.from_residual-in_err-push-2.ensures.1

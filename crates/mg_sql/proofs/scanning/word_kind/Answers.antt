@@ -5,6 +5,7 @@ use Rattle.mg_sql.specs.declared.scanning.TheConstants.{WORDS}
 use Rattle.mg_sql.specs.Spelling.{capitals, capital, spelling, is_letter, IsWord}
 use Rattle.mg_sql.proofs.Lexemes.{found, found_none, same_is, same_bytes, head_of}
 use Rattle.mg_sql.proofs.Scanned.{letter_capital}
+use Rattle.mg_sql.proofs.Folded.{folded}
 use Rattle.std.proofs.Common.{get_or}
 use Rattle.std.proofs.lemmas.List.{take_more}
 use Rattle.mg_sql.proofs.scanning.word_kind.Goals as goal
@@ -28,6 +29,14 @@ free : (word : List ℕ) → IsWord word → found (capitals word) WORDS ≡ Non
 free word w none j e =
     let letter : is_letter (head_of (spelling j)) ≡ true = ap (λ xs. is_letter (head_of xs)) (sym e ∙ ap capitals w.parts) ∙ letter_capital w.first w.letter in
     let h = rw letter at (listed j) in let k = ap (λ xs. found xs WORDS) e in absurd (let l = sym none ∙ k ∙ h in cc)
+
+pub loop-kind-init : goal.loop-kind-init
+loop-kind-init c = refl
+
+pub returns-then-folds_to : goal.returns-then-folds_to
+returns-then-folds_to c =
+    folded (get_or WORDS c.loop-kind.kind-index kinds.Set) c.args.word.now c.requires
+    (c.if-folds_to.ensures ∙ c.spelling.ensures)
 
 pub loop-kind-preserved : goal.loop-kind-preserved
 loop-kind-preserved c =
