@@ -19,18 +19,21 @@ use Rattle.mg_header.specs.declared.header.Header.{Header}
 use Rattle.mg_image.specs.Catalog.{catalog_table}
 use Rattle.mg_image.specs.Form.{Pages}
 use Rattle.mg_image.specs.Inventory.{settled}
+use Rattle.mg_heap.specs.Reading.{ReadsData}
 use Rattle.mg_model.specs.Answers.{is_open}
 use Rattle.mg_model.specs.Legal.{is_limbo}
 use Rattle.mg_model.specs.Openings.{Each}
 use Rattle.mg_model.specs.declared.table.Table.{Table}
 use Rattle.mg_pool.specs.Batch.{Changed, content_in}
 use Rattle.mg_pool.specs.Dirty.{DirtyPages}
+use Rattle.mg_pool.specs.Fault.{MeetsNoFault, StaysOnline, TellsFault}
 use Rattle.mg_pool.specs.Pool.{shown}
 use Rattle.mg_pool.specs.Reading.{ReadsPages}
 use Rattle.mg_pool.specs.declared.batch.BatchPage.{BatchPage}
+use Rattle.mg_pool.specs.declared.fault.PoolFault.TheVariants.{Memory}
 use Rattle.mg_pool.specs.declared.pool.Pool.{Pool}
-use Rattle.mg_space.specs.View.{IsMissing, KeepsStore, RefusesRead, Tells, viewed}
-use Rattle.mg_space.specs.ViewLaws.{tells_on}
+use Rattle.mg_space.specs.View.{IsMissing, KeepsStore, ReadsAlone, RefusesRead, Tells, pool_answer, viewed}
+use Rattle.mg_space.specs.ViewLaws.{fault_on, tells_on}
 use Rattle.mg_space.specs.declared.fault.SpaceFault.{SpaceFault}
 use Rattle.mg_space.specs.declared.fault.SpaceFault.TheVariants as space
 use Rattle.mg_space.specs.declared.links.FireLinks.{FireLinks}
@@ -45,7 +48,8 @@ use Rattle.mg_txlist.specs.declared.list.TipPage.{TipPage}
 use Rattle.mg_txlist.specs.declared.list.TxList.{TxList}
 use Rattle.mg_database.specs.declared.fault.OpenFault.{OpenFault}
 use Rattle.mg_database.specs.declared.fault.OpenFault.TheVariants.{Space}
-use Rattle.mg_database.specs.Loading.{AreUndecided, AreUndecidedBelow, ChecksCatalog, ReadsFront, RefusesPages, SaysPages, head_fault, is_front, markers_in, no_catalog, no_list, untested}
+use Rattle.mg_database.specs.declared.loading.Loaded.{Loaded}
+use Rattle.mg_database.specs.Loading.{AreUndecided, AreUndecidedBelow, ChecksCatalog, OpensAlone, ReadsFront, RefusesPages, SaysPages, cache_answer, head_fault, is_front, markers_in, no_catalog, no_list, untested}
 use Rattle.mg_database.specs.Tested.{IsTested, ReadsTable, RefusesTested, is_of_table}
 use Rattle.mg_database.proofs.TestedLemmas.{or_left, or_right, wider}
 
@@ -386,3 +390,44 @@ catalog_lawful catalog page is below = (
   is ∙ ap catalog_table (sym (ap (λ (t : Table). t.pointer.0) is)),
   subst (λ (n : ℕ). n < GREATEST_LIMIT) (sym (ap (λ (t : Table). t.pointer.0) is)) below,
 )
+
+-- ---- faults of the calls
+
+-- a fault that a later call met is told since the start
+pub space_up : {D L : Type 0} (A : Type 0) (m : Meaning D) (a b c : Pool D L) (fault : SpaceFault)
+    → KeepsStore m a b → MeetsNoFault m a b → TellsFault m b c (pool_answer {T = A} (Err fault))
+    → TellsFault m a c (cache_answer {T = Loaded} (Err (Space fault)))
+space_up A m a b c (space.Full limit) kept same told = fault_on m a b c (pool_answer {T = A} (Err (space.Full
+    limit))) kept same told
+space_up A m a b c (space.Damaged it) kept same told = fault_on m a b c (pool_answer {T = A} (Err
+    (space.Damaged it))) kept same told
+space_up A m a b c (space.Pool fault) kept same told = fault_on m a b c (pool_answer {T = A} (Err (space.Pool
+    fault))) kept same told
+
+-- it is one of a reading call
+pub list_alone : (A : Type 0) (fault : SpaceFault) → ReadsAlone {T = A} (Err fault)
+    → OpensAlone {T = Loaded} (Err (Space fault))
+list_alone A (space.Full limit) own = own
+list_alone A (space.Damaged it) own = own
+list_alone A (space.Pool fault) own = own
+
+pub table_alone : (A : Type 0) (fault : SpaceFault) → ReadsData {T = A} (Err fault)
+    → OpensAlone {T = Loaded} (Err (Space fault))
+table_alone A (space.Full limit) own = tt
+table_alone A (space.Damaged it) own = tt
+table_alone A (space.Pool fault) own = own
+
+-- there is no memory after two calls that answered
+module _ {D : Type 0} (m : Meaning D) (fault : OpenFault) (is : fault ≡ Space (space.Pool Memory)) where
+  pub memory_told : (a b c : Pool D FireLinks) → StaysOnline m a b → StaysOnline m b c
+      → TellsFault m a c (cache_answer {T = Loaded} (Err fault))
+  memory_told a b c first second =
+      let P : OpenFault → Type 0 = λ f. TellsFault m a c (cache_answer {T = Loaded} (Err f)) in
+      subst P (sym is) (first.0, second.1, second.2 ∙ first.2)
+
+  pub memory_alone : OpensAlone {T = Loaded} (Err fault)
+  memory_alone = let P : OpenFault → Type 0 = λ f. OpensAlone {T = Loaded} (Err f) in subst P (sym is) tt
+
+  pub memory_refused : (store : Pool D FireLinks) (g : Geometry) (view : Pages)
+      → RefusesPages m store g view fault
+  memory_refused store g view = subst (RefusesPages m store g view) (sym is) tt

@@ -1,5 +1,6 @@
 -- The writing of a new database, page after page.
 use Rattle.std.proofs.Common.{◌≡◌, ◌≢◌, ◌<◌, ◌≤◌, ◌⊎◌, ◌+◌, ◌^◌, ◌-◌, min, ℕ, zero, suc, true, List, Some, refl, sym, ap, subst, ◌∙◌, arith, inl, inr, Result, Ok, Err, OnOk}
+use Rattle.std.specs.Prelude.{IsErrAnd}
 use Rattle.std.proofs.lemmas.Bool.{cases_eq, cases_lt, eq-eqb, ne_eqb}
 use Rattle.mg_base.specs.Disk.{MayLeave, Meaning, Rose}
 use Rattle.mg_base.specs.Image.{Image, blank, page_at}
@@ -11,7 +12,7 @@ use Rattle.mg_image.specs.NewDatabase.{IsNewPage}
 use Rattle.mg_careful.specs.declared.graph.Order.{Order}
 use Rattle.mg_pool.specs.declared.batch.BatchPage.{BatchPage}
 use Rattle.mg_pool.specs.Change.{Changes}
-use Rattle.mg_pool.specs.Fault.{Counts, StaysOnline, TellsFault}
+use Rattle.mg_pool.specs.Fault.{Counts, OnlyRefuses, OnlyWrites, StaysOnline, TellsFault}
 use Rattle.mg_pool.specs.Pool.{KeepsContent}
 use Rattle.mg_pool.specs.Refusal.{LeavesRefused}
 use Rattle.mg_pool.specs.Run.{TimeGoesOn}
@@ -301,3 +302,46 @@ module _ {D : Type 0} (m : Meaning D) (counts : CountsNow m) (start : D) (size :
                 sym (stays c may) ∙ (keeps.held ∙ holds.tells.held) in cc;
           }
           by (Err e) stays = tt
+
+-- ---- a fault that is handed on
+
+writes_turned : (S T : Type 0) (fault : PoolFault) → OnlyWrites {T = S} (Err fault) → OnlyWrites {T = T} (Err fault)
+writes_turned S T (DiskRead n) own = own
+writes_turned S T (DiskWrite n) own = tt
+writes_turned S T (Offline n) own = tt
+writes_turned S T (Absent n) own = own
+writes_turned S T Memory own = own
+
+pub writes_as : {T : Type 0} (S : Type 0) (r : Result T PoolFault) (fault : PoolFault)
+    → IsErrAnd r (λ given. given ≡ fault) → OnlyWrites {T = S} (Err fault) → OnlyWrites r
+writes_as S (Ok x) fault is own = tt
+writes_as {T} S (Err e) fault is own =
+    subst (λ (f : PoolFault). OnlyWrites {T = T} (Err f)) (sym is) (writes_turned S T fault own)
+
+tells_turned : {D L : Type 0} (S T : Type 0) (m : Meaning D) (a b : Pool D L) (fault : PoolFault)
+    → TellsFault {T = S} m a b (Err fault) → TellsFault {T = T} m a b (Err fault)
+tells_turned S T m a b (DiskRead n) told = told
+tells_turned S T m a b (DiskWrite n) told = told
+tells_turned S T m a b (Offline n) told = told
+tells_turned S T m a b (Absent n) told = told
+tells_turned S T m a b Memory told = told
+
+pub tells_as : {D L T : Type 0} (S : Type 0) (m : Meaning D) (a b : Pool D L) (r : Result T PoolFault)
+    (fault : PoolFault) → IsErrAnd r (λ given. given ≡ fault) → TellsFault {T = S} m a b (Err fault)
+    → TellsFault m a b r
+tells_as S m a b (Ok x) fault is told = absurd is
+tells_as {D} {L} {T} S m a b (Err e) fault is told =
+    subst (λ (f : PoolFault). TellsFault {T = T} m a b (Err f)) (sym is) (tells_turned S T m a b fault told)
+
+pub refusal_writes : (fault : PoolFault) → OnlyRefuses {T = Unit {0}} (Err fault)
+    → OnlyWrites {T = Unit {0}} (Err fault)
+refusal_writes (DiskRead n) refuses = refuses
+refusal_writes (DiskWrite n) refuses = absurd refuses
+refusal_writes (Offline n) refuses = tt
+refusal_writes (Absent n) refuses = refuses
+refusal_writes Memory refuses = refuses
+
+-- a call that answered after others that did
+pub stays_after : {D L : Type 0} (m : Meaning D) (a b c : Pool D L) → StaysOnline m a b → StaysOnline m b c
+    → StaysOnline m a c
+stays_after m a b c first second = (first.0, second.1, second.2 ∙ first.2)

@@ -10,3 +10,6 @@ pub mod StandLemmas
 pub mod StackedLemmas
 pub mod ChainLemmas
 pub mod ApartLemmas
+pub mod HandedLemmas
+pub mod PageLemmas
+pub mod EntryLemmas

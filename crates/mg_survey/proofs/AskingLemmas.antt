@@ -1,18 +1,20 @@
 -- A disk that is asked, call by call.
-use Rattle.std.proofs.Common.{◌≡◌, ◌≢◌, ◌==◌, ◌⊎◌, inl, inr, ◌<◌, ◌≤◌, ◌+◌, ℕ, zero, suc, Bool, true, Some, length, subst, refl, ◌∙◌, arith, Option, None, sym}
-use Rattle.std.specs.Prelude.{◌↔◌, IsTrue, Result, Ok, Err, IfOk, min}
-use Rattle.std.proofs.lemmas.Bool.{cases_lt}
+use Rattle.std.proofs.Common.{◌≡◌, ◌≢◌, ◌==◌, ◌⊎◌, inl, inr, ◌<◌, ◌≤◌, ◌+◌, ℕ, zero, suc, Bool, true, Some, ap, length, subst, refl, ◌∙◌, arith, Option, None, sym}
+use Rattle.std.specs.Prelude.{◌↔◌, IsErr, IsTrue, Result, Ok, Err, IfOk, min}
+use Rattle.std.proofs.lemmas.Bool.{cases_lt, false≢true}
 use Rattle.std.proofs.lemmas.List.{get_or_past}
 use Rattle.mg_base.specs.Asking.{kept_reads, no_reads, one_read}
-use Rattle.mg_base.specs.Disk.{KeepsReads, MayLeave, Meaning, ReadsPage, Calm, Stays}
+use Rattle.mg_base.specs.Disk.{KeepsReads, MayLeave, Meaning, ReadsPage, Calm, Rose, Stays}
+use Rattle.mg_base.specs.Geometry.{is_page_size}
 use Rattle.mg_base.specs.Image.{Image, blank, page_at}
 use Rattle.mg_base.specs.declared.geometry.TheConstants.{GREATEST_LIMIT}
 use Rattle.mg_image.specs.Form.{Pages, packed_coding, packed_form}
 use Rattle.mg_image.specs.NewDatabase.{IsNewPage}
 use Rattle.mg_image.specs.Opening.{IsUnmade}
 use Rattle.mg_pool.specs.Pool.{KeepsContent}
-use Rattle.mg_space.specs.ViewLaws.{content_on}
-use Rattle.mg_survey.specs.Survey.{AreUnmadeBehind, HasPages, HasTested, IsUnmadeAt, ReadsHead, IsSameDisk}
+use Rattle.mg_space.specs.ViewLaws.{content_on, same_content}
+use Rattle.mg_survey.specs.Survey.{AreUnmadeBehind, HasPages, HasTested, IsSurveyed, IsUnmadeAt, OnlyAsks, ReadsHead, IsSameDisk, limit_of}
+use Rattle.mg_survey.specs.declared.survey.Survey.{Survey}
 use Rattle.mg_survey.specs.UnmadeLaws.{zero_is_unmade}
 
 abbrev pub CountsNow : {D : Type 0} → Meaning D → Type 0
@@ -55,6 +57,113 @@ sized_same m old mid new size first told sized keeps = record {
   tells = keeps.tells ∙ first.tells;
   most_writes = keeps.most_writes ∙ first.most_writes;
 }
+
+-- ---- what was asked
+
+module _ {D : Type 0} (m : Meaning D) where
+  -- a call that changes nothing keeps the content,
+  pub calm_content : {T E : Type 0} {result : Result T E} (old new : D) → Calm m old new result
+      → KeepsContent m old new
+  calm_content old new calm = record {
+    held = calm.held;
+    tells = calm.keeps.tells;
+    most_writes = calm.keeps.most_writes;
+    never_falls = calm.keeps.never_falls;
+    crash = calm.crash;
+    time = calm.keeps.time;
+    asked = calm.asked;
+  }
+
+  -- and what was told of it
+  pub has_pages : {T E : Type 0} {result : Result T E} (old new : D) (size pages : ℕ) → m.size old ≡ Some size
+      → Calm m old new result → m.count new ≡ Some pages → HasPages m new size pages
+  has_pages old new size pages sized calm count = record {
+    sized = stays_known (m.size old) (m.size new) size sized calm.keeps.size;
+    count = count;
+  }
+
+  pub has_still : {T E : Type 0} {result : Result T E} (old new : D) (size pages : ℕ)
+      → HasPages m old size pages → Calm m old new result → HasPages m new size pages
+  has_still old new size pages has calm = has_pages old new size pages has.sized calm
+      (stays_known (m.count old) (m.count new) pages has.count calm.count)
+
+  -- calls that answered
+  pub asks_answered : {T E : Type 0} (old new : D) (x : T) → KeepsContent m old new
+      → m.faults new ≡ m.faults old → OnlyAsks {E = E} m old new (Ok x)
+  asks_answered old new x content steady = record {
+    content = content;
+    cause = λ is. absurd (false≢true is);
+    steady = steady;
+  }
+
+  -- a call that failed
+  pub asks_calm : {T U E : Type 0} (old new : D) (result : Result U E) (fault : E) → IsErr result
+      → Calm {T = T} m old new (Err fault) → OnlyAsks m old new result
+  asks_calm old new (Ok x) fault err calm = absurd (false≢true err)
+  asks_calm old new (Err e) fault err calm = record {
+    content = calm_content old new calm;
+    cause = λ is. calm.keeps.cause refl;
+    steady = tt;
+  }
+
+  pub asks_same : {T U E : Type 0} (old new : D) (result : Result U E) (fault : E) → IsErr result
+      → OnlyAsks {T = T} m old new (Err fault) → OnlyAsks m old new result
+  asks_same old new (Ok x) fault err asks = absurd (false≢true err)
+  asks_same old new (Err e) fault err asks = record {
+    content = asks.content;
+    cause = λ is. asks.cause refl;
+    steady = tt;
+  }
+
+  -- and one behind others that answered
+  module _ (now : CountsNow m) (old mid new : D) (content : KeepsContent m old mid)
+      (steady : m.faults mid ≡ m.faults old) where
+    pub asks_over : {T E : Type 0} (result : Result T E) → OnlyAsks m mid new result → OnlyAsks m old new result
+    asks_over (Ok x) asks = asks_answered old new x (content_on m now old mid new content asks.content)
+        (asks.steady ∙ steady)
+    asks_over (Err e) asks = record {
+      content = content_on m now old mid new content asks.content;
+      cause = λ is. subst (λ (n : ℕ). Rose n (m.faults new)) steady (asks.cause refl);
+      steady = tt;
+    }
+
+    pub asks_up : {T U E : Type 0} (result : Result U E) (fault : E) → IsErr result
+        → OnlyAsks {T = T} m mid new (Err fault) → OnlyAsks m old new result
+    asks_up result fault err asks = asks_over result (asks_same mid new result fault err asks)
+
+    pub calm_up : {T U E : Type 0} (result : Result U E) (fault : E) → IsErr result
+        → Calm {T = T} m mid new (Err fault) → OnlyAsks m old new result
+    calm_up result fault err calm = asks_over result (asks_calm mid new result fault err calm)
+
+  -- no page was tested yet
+  pub tested_none : (disk : D) (size pages : ℕ) → HasPages m disk size pages
+      → HasTested m disk disk size pages 1
+  tested_none disk size pages has = record {
+    has = has;
+    content = same_content m disk;
+    steady = refl;
+    unmade = λ image held k some below. absurd (omega (arith, some, below));
+  }
+
+  -- what a disk has told
+  pub surveyed : Counted m → (old mid new : D) (asked size pages : ℕ) (it : Survey) → m.size new ≡ Some size
+      → is_page_size size ≡ true → m.held mid ≡ m.held old → m.count mid ≡ Some pages
+      → it.geometry.size ≡ size → it.geometry.limit ≡ limit_of asked pages
+      → ((image : Image) → m.held mid ≡ Some image
+      → IsTrue it.unmade ↔ IsUnmade packed_form size (page_at size image)) → IsSurveyed m old new asked it
+  surveyed counted old mid new asked size pages it sized lawful held count same limit unmade = record {
+    sized = sized ∙ ap (λ (n : ℕ). Some n) (sym same);
+    lawful = subst (λ (n : ℕ). is_page_size n ≡ true) (sym same) lawful;
+    most = subst (λ (n : ℕ). n ≤ GREATEST_LIMIT) (sym limit) (least asked pages);
+    limit_is = λ image is. limit
+        ∙ ap (limit_of asked) (sym (counted mid image pages (held ∙ is) count));
+    unmade_is = λ image is. subst
+        (λ (n : ℕ). IsTrue it.unmade ↔ IsUnmade packed_form n (page_at n image)) (sym same)
+        (unmade image (held ∙ is));
+  }
+    where
+      least : (asked pages : ℕ) → limit_of asked pages ≤ GREATEST_LIMIT
+      least asked pages = omega arith
 
 -- ---- the pages one after another
 

@@ -1,13 +1,16 @@
-use Rattle.std.proofs.Common.{◌≡◌, ◌+◌, ◌∙◌, arith, refl, get_or, subst, take, take_all}
+use Rattle.std.proofs.Common.{◌≡◌, ◌+◌, ◌∙◌, ap, arith, refl, get_or, subst, sym, take, take_all}
 use Rattle.std.proofs.lemmas.List.{take_more}
 use Rattle.mg_heap.specs.Reads.{ReadsListed}
 use Rattle.mg_heap.specs.ReadsLaws.{listed_more, none_listed}
 use Rattle.mg_heap.specs.Walk.{RefusesTableData}
 use Rattle.mg_image.specs.Form.{Pages}
+use Rattle.mg_base.specs.declared.bytes.Bytes.{Bytes}
+use Rattle.mg_base.specs.declared.geometry.Geometry.{Geometry}
+use Rattle.mg_space.specs.Taking.{IsGeometry}
 use Rattle.mg_space.specs.View.{viewed}
 use Rattle.mg_space.specs.ViewLaws.{keeps_itself, keeps_on}
 use Rattle.mg_database.specs.Tested.{AreDataPages, RefusesListed}
-use Rattle.mg_database.proofs.TestedLemmas.{as_started, handed_on, page_tested, page_untested}
+use Rattle.mg_database.proofs.TestedLemmas.{as_started, fault_up, handed_on, page_tested, page_untested, reads_same}
 use Rattle.mg_database.proofs.tested.check_data_pages.Goals as goal
 
 pub loop-place-init : goal.loop-place-init
@@ -72,3 +75,43 @@ returns-clause-tests g c = λ image tells. subst (AreDataPages
 pub returns-clause-reads : goal.returns-clause-reads
 returns-clause-reads g c = subst (ReadsListed g.D.Disk.meaning c.args.store.now c.loop-place.store)
     (take_all c.loop-place.place c.args.data_pages.now (omega arith)) c.loop-place.invariant.reads
+
+pub table_data_page-requires-clause-pool : goal.table_data_page-requires-clause-pool
+table_data_page-requires-clause-pool g c = c.loop-place.invariant.keeps.pool
+
+pub table_data_page-requires-clause-geometry : goal.table_data_page-requires-clause-geometry
+table_data_page-requires-clause-geometry g c = subst IsGeometry (sym c.loop-place.invariant.keeps.geometry)
+    c.requires.geometry
+
+pub table_data_page-requires-clause-whole : goal.table_data_page-requires-clause-whole
+table_data_page-requires-clause-whole g c = λ page bytes is. c.requires.whole page bytes is
+    ∙ ap (λ (x : Geometry). x.size) (sym c.loop-place.invariant.keeps.geometry)
+
+pub returns-in_err-table_data_page-clause-keeps : goal.returns-in_err-table_data_page-clause-keeps
+returns-in_err-table_data_page-clause-keeps g c = keeps_on g.D.Disk.meaning g.met.D.Disk.counts_now
+    c.args.store.now c.loop-place.store
+    c.table_data_page.new.store c.loop-place.invariant.keeps c.in_err-table_data_page.ensures.keeps
+
+pub returns-in_err-table_data_page-clause-fault : goal.returns-in_err-table_data_page-clause-fault
+returns-in_err-table_data_page-clause-fault g c = fault_up Bytes g.D.Disk.meaning c.args.store.now c.loop-place.store
+    c.table_data_page.new.store c.from_residual.result c.in_err-table_data_page.field-0.0 c.loop-place.invariant.keeps
+    c.loop-place.invariant.faults c.from_residual.ensures.0 c.from_residual.ensures.1
+    c.in_err-table_data_page.ensures.fault
+
+pub returns-in_err-table_data_page-clause-own : goal.returns-in_err-table_data_page-clause-own
+returns-in_err-table_data_page-clause-own g c = reads_same Bytes c.from_residual.result
+    c.in_err-table_data_page.field-0.0
+    c.from_residual.ensures.0 c.from_residual.ensures.1 c.in_err-table_data_page.ensures.own
+
+pub returns-clause-keeps : goal.returns-clause-keeps
+returns-clause-keeps g c = c.loop-place.invariant.keeps
+
+pub returns-clause-fault : goal.returns-clause-fault
+returns-clause-fault g c = (
+  c.requires.online,
+  c.loop-place.invariant.keeps.offline ∙ c.requires.online,
+  c.loop-place.invariant.faults,
+)
+
+pub returns-clause-own : goal.returns-clause-own
+returns-clause-own g c = tt

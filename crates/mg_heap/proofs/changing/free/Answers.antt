@@ -1,6 +1,10 @@
-use Rattle.std.proofs.Common.{◌≡◌, ◌∙◌, ℕ, ap, arith, drop, length, inr}
+use Rattle.std.proofs.Common.{◌≡◌, ◌∙◌, ℕ, ap, arith, drop, length, inr, List, subst, sym}
 use Rattle.mg_space.specs.View.{viewed}
 use Rattle.mg_heap.proofs.ChangingLemmas.{frees_at, not_freed, written_back}
+use Rattle.mg_slots.specs.DataPage.{IsDataPage}
+use Rattle.mg_heap.specs.Reading.{RefusesData}
+use Rattle.mg_heap.proofs.HandedLemmas.{fault_memory, fault_same, no_answer_on, on_err, out_of_memory, reads_memory, reads_same}
+use Rattle.mg_heap.proofs.TableLemmas.{handed_on}
 use Rattle.mg_heap.proofs.changing.free.Goals as goal
 
 pub returns-clause-frees : goal.returns-clause-frees
@@ -35,3 +39,67 @@ returns-then-not-freed-clause-frees g c = λ image tells. not_freed
     c.deref_mut.result.now c.in_ok-data_page.ensures.data_page
     (c.in_ok-data_page.ensures.seen image tells)
     (c.deref_mut.ensures.value ∙ c.into_vec-page.ensures) c.if-not-freed.ensures.when
+
+pub returns-in_err-data_page-clause-keeps : goal.returns-in_err-data_page-clause-keeps
+returns-in_err-data_page-clause-keeps g c = c.in_err-data_page.ensures.keeps
+
+pub returns-in_err-data_page-clause-fault : goal.returns-in_err-data_page-clause-fault
+returns-in_err-data_page-clause-fault g c = fault_same (List ℕ) g.D.Disk.meaning c.args.store.now
+    c.data_page.new.store c.from_residual.result c.in_err-data_page.field-0.0 c.from_residual.ensures.0
+    c.from_residual.ensures.1 c.in_err-data_page.ensures.fault
+
+pub returns-in_err-data_page-clause-own : goal.returns-in_err-data_page-clause-own
+returns-in_err-data_page-clause-own g c = reads_same (List ℕ) c.from_residual.result
+    c.in_err-data_page.field-0.0 c.from_residual.ensures.0 c.from_residual.ensures.1
+    c.in_err-data_page.ensures.own
+
+pub returns-in_err-data_page-clause-changes : goal.returns-in_err-data_page-clause-changes
+returns-in_err-data_page-clause-changes g c = no_answer_on _ c.from_residual.result
+    c.from_residual.ensures.0
+
+pub returns-in_err-data_page-clause-frees : goal.returns-in_err-data_page-clause-frees
+returns-in_err-data_page-clause-frees g c = λ image tells. handed_on c.from_residual.result
+    c.in_err-data_page.field-0.0 _ (RefusesData g.D.Disk.meaning c.data_page.new.store
+    c.args.batch.now.pages c.args.at.page (viewed c.args.store.now image c.args.batch.now c.args.at.page.0))
+    c.from_residual.ensures.0 c.from_residual.ensures.1 (c.in_err-data_page.ensures.seen image tells)
+
+pub returns-in_err-put-clause-keeps : goal.returns-in_err-put-clause-keeps
+returns-in_err-put-clause-keeps g c = c.in_ok-data_page.ensures.keeps
+
+pub returns-in_err-put-clause-fault : goal.returns-in_err-put-clause-fault
+returns-in_err-put-clause-fault g c = fault_memory g.D.Disk.meaning c.args.store.now c.data_page.new.store
+    c.from_residual-in_err-put.result c.from_residual-in_err-put.ensures.0
+    c.from_residual-in_err-put.ensures.1 c.in_ok-data_page.ensures.fault
+
+pub returns-in_err-put-clause-own : goal.returns-in_err-put-clause-own
+returns-in_err-put-clause-own g c = reads_memory c.from_residual-in_err-put.result
+    c.from_residual-in_err-put.ensures.1
+
+pub returns-in_err-put-clause-changes : goal.returns-in_err-put-clause-changes
+returns-in_err-put-clause-changes g c = no_answer_on _ c.from_residual-in_err-put.result
+    c.from_residual-in_err-put.ensures.0
+
+pub returns-in_err-put-clause-same : goal.returns-in_err-put-clause-same
+returns-in_err-put-clause-same g c = on_err _ c.from_residual-in_err-put.result c.in_err-put.ensures.same
+
+pub returns-in_err-put-clause-frees : goal.returns-in_err-put-clause-frees
+returns-in_err-put-clause-frees g c = λ image tells. handed_on c.from_residual-in_err-put.result
+    out_of_memory _ (RefusesData g.D.Disk.meaning c.data_page.new.store c.args.batch.now.pages
+    c.args.at.page (viewed c.args.store.now image c.args.batch.now c.args.at.page.0))
+    c.from_residual-in_err-put.ensures.0 c.from_residual-in_err-put.ensures.1 tt
+
+pub returns-clause-keeps : goal.returns-clause-keeps
+returns-clause-keeps g c = c.in_ok-data_page.ensures.keeps
+
+pub returns-clause-fault : goal.returns-clause-fault
+returns-clause-fault g c = c.in_ok-data_page.ensures.fault
+
+pub returns-then-not-freed-clause-keeps : goal.returns-then-not-freed-clause-keeps
+returns-then-not-freed-clause-keeps g c = c.in_ok-data_page.ensures.keeps
+
+pub returns-then-not-freed-clause-fault : goal.returns-then-not-freed-clause-fault
+returns-then-not-freed-clause-fault g c = c.in_ok-data_page.ensures.fault
+
+pub freed-requires : goal.freed-requires
+freed-requires g c = subst IsDataPage (sym (c.deref_mut.ensures.value ∙ c.into_vec-page.ensures))
+    c.in_ok-data_page.ensures.data_page.lawful

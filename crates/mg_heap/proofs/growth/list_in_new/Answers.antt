@@ -1,8 +1,11 @@
-use Rattle.std.proofs.Common.{◌∙◌, ap}
+use Rattle.std.proofs.Common.{◌∙◌, ap, inl}
 use Rattle.mg_pool.specs.Batch.{Changed}
 use Rattle.mg_heap.proofs.GrowthLemmas.{makes_as, orders_as, orders_on, pointer_as, whole_linked}
-use Rattle.mg_heap.specs.Growth.{orders_to}
+use Rattle.mg_heap.specs.Growth.{orders_to, RefusesTwo}
 use Rattle.mg_heap.specs.GrowthLaws.{whole_begun, whole_made, whole_same}
+use Rattle.mg_heap.specs.declared.growth.TwoPages.{TwoPages}
+use Rattle.mg_heap.proofs.HandedLemmas.{alone_memory, alone_same, fault_memory, fault_same, out_of_memory, size_later}
+use Rattle.mg_heap.proofs.TableLemmas.{geometry_later, handed_on}
 use Rattle.mg_heap.proofs.growth.list_in_new.Goals as goal
 
 pub returns-in_err-put-clause-whole : goal.returns-in_err-put-clause-whole
@@ -110,3 +113,141 @@ returns-in_err-make_pointer-clause-whole g c = whole_same c.args.store.now.geome
     c.make_data.new.batch c.args.owner.0 c.args.at.data c.in_ok-taken.taken.second.0
     c.in_ok-bytes.bytes.items c.in_ok-taken.ensures.keeps.geometry c.in_ok-bytes.ensures.made))
     (ap (λ (b : Changed). b.pages) c.in_err-make_pointer.ensures.same)
+
+pub returns-in_err-taken-clause-keeps : goal.returns-in_err-taken-clause-keeps
+returns-in_err-taken-clause-keeps g c = c.in_err-taken.ensures.keeps
+
+pub returns-in_err-taken-clause-fault : goal.returns-in_err-taken-clause-fault
+returns-in_err-taken-clause-fault g c = fault_same TwoPages g.D.Disk.meaning c.args.store.now
+    c.take_two.new.store c.from_residual.result c.in_err-taken.field-0.0 c.from_residual.ensures.0
+    c.from_residual.ensures.1 c.in_err-taken.ensures.fault
+
+pub returns-in_err-taken-clause-own : goal.returns-in_err-taken-clause-own
+returns-in_err-taken-clause-own g c = alone_same TwoPages c.from_residual.result c.in_err-taken.field-0.0
+    c.from_residual.ensures.0 c.from_residual.ensures.1 c.in_err-taken.ensures.own
+
+pub returns-in_err-taken-clause-whole : goal.returns-in_err-taken-clause-whole
+returns-in_err-taken-clause-whole g c = c.in_err-taken.ensures.whole
+
+pub returns-in_err-taken-clause-lists : goal.returns-in_err-taken-clause-lists
+returns-in_err-taken-clause-lists g c = λ image tells. handed_on c.from_residual.result
+    c.in_err-taken.field-0.0 _ (RefusesTwo c.args.store.now.geometry c.args.store.now image
+    c.args.batch.now) c.from_residual.ensures.0 c.from_residual.ensures.1 (c.in_err-taken.ensures.takes
+    image tells)
+
+pub returns-in_err-bytes-clause-keeps : goal.returns-in_err-bytes-clause-keeps
+returns-in_err-bytes-clause-keeps g c = c.in_ok-taken.ensures.keeps
+
+pub returns-in_err-bytes-clause-fault : goal.returns-in_err-bytes-clause-fault
+returns-in_err-bytes-clause-fault g c = fault_memory g.D.Disk.meaning c.args.store.now c.take_two.new.store
+    c.from_residual-in_err-bytes.result c.from_residual-in_err-bytes.ensures.0
+    c.from_residual-in_err-bytes.ensures.1 c.in_ok-taken.ensures.fault
+
+pub returns-in_err-bytes-clause-own : goal.returns-in_err-bytes-clause-own
+returns-in_err-bytes-clause-own g c = alone_memory c.from_residual-in_err-bytes.result
+    c.from_residual-in_err-bytes.ensures.1
+
+pub returns-in_err-bytes-clause-lists : goal.returns-in_err-bytes-clause-lists
+returns-in_err-bytes-clause-lists g c = λ image tells. handed_on c.from_residual-in_err-bytes.result
+    out_of_memory _ (RefusesTwo c.args.store.now.geometry c.args.store.now image c.args.batch.now)
+    c.from_residual-in_err-bytes.ensures.0 c.from_residual-in_err-bytes.ensures.1 (inl tt)
+
+pub returns-in_err-make_pointer-clause-keeps : goal.returns-in_err-make_pointer-clause-keeps
+returns-in_err-make_pointer-clause-keeps g c = c.in_ok-taken.ensures.keeps
+
+pub returns-in_err-make_pointer-clause-fault : goal.returns-in_err-make_pointer-clause-fault
+returns-in_err-make_pointer-clause-fault g c = fault_memory g.D.Disk.meaning c.args.store.now
+    c.take_two.new.store c.from_residual-in_err-make_pointer.result
+    c.from_residual-in_err-make_pointer.ensures.0 c.from_residual-in_err-make_pointer.ensures.1
+    c.in_ok-taken.ensures.fault
+
+pub returns-in_err-make_pointer-clause-own : goal.returns-in_err-make_pointer-clause-own
+returns-in_err-make_pointer-clause-own g c = alone_memory c.from_residual-in_err-make_pointer.result
+    c.from_residual-in_err-make_pointer.ensures.1
+
+pub returns-in_err-make_pointer-clause-lists : goal.returns-in_err-make_pointer-clause-lists
+returns-in_err-make_pointer-clause-lists g c = λ image tells. handed_on
+    c.from_residual-in_err-make_pointer.result out_of_memory _ (RefusesTwo c.args.store.now.geometry
+    c.args.store.now image c.args.batch.now) c.from_residual-in_err-make_pointer.ensures.0
+    c.from_residual-in_err-make_pointer.ensures.1 (inl tt)
+
+pub returns-in_err-put-clause-keeps : goal.returns-in_err-put-clause-keeps
+returns-in_err-put-clause-keeps g c = c.in_ok-taken.ensures.keeps
+
+pub returns-in_err-put-clause-fault : goal.returns-in_err-put-clause-fault
+returns-in_err-put-clause-fault g c = fault_memory g.D.Disk.meaning c.args.store.now c.take_two.new.store
+    c.from_residual-in_err-put.result c.from_residual-in_err-put.ensures.0
+    c.from_residual-in_err-put.ensures.1 c.in_ok-taken.ensures.fault
+
+pub returns-in_err-put-clause-own : goal.returns-in_err-put-clause-own
+returns-in_err-put-clause-own g c = alone_memory c.from_residual-in_err-put.result
+    c.from_residual-in_err-put.ensures.1
+
+pub returns-in_err-put-clause-lists : goal.returns-in_err-put-clause-lists
+returns-in_err-put-clause-lists g c = λ image tells. handed_on c.from_residual-in_err-put.result
+    out_of_memory _ (RefusesTwo c.args.store.now.geometry c.args.store.now image c.args.batch.now)
+    c.from_residual-in_err-put.ensures.0 c.from_residual-in_err-put.ensures.1 (inl tt)
+
+pub returns-in_err-order_to-clause-keeps : goal.returns-in_err-order_to-clause-keeps
+returns-in_err-order_to-clause-keeps g c = c.in_ok-taken.ensures.keeps
+
+pub returns-in_err-order_to-clause-fault : goal.returns-in_err-order_to-clause-fault
+returns-in_err-order_to-clause-fault g c = fault_memory g.D.Disk.meaning c.args.store.now
+    c.take_two.new.store c.from_residual-in_err-order_to.result c.from_residual-in_err-order_to.ensures.0
+    c.from_residual-in_err-order_to.ensures.1 c.in_ok-taken.ensures.fault
+
+pub returns-in_err-order_to-clause-own : goal.returns-in_err-order_to-clause-own
+returns-in_err-order_to-clause-own g c = alone_memory c.from_residual-in_err-order_to.result
+    c.from_residual-in_err-order_to.ensures.1
+
+pub returns-in_err-order_to-clause-lists : goal.returns-in_err-order_to-clause-lists
+returns-in_err-order_to-clause-lists g c = λ image tells. handed_on c.from_residual-in_err-order_to.result
+    out_of_memory _ (RefusesTwo c.args.store.now.geometry c.args.store.now image c.args.batch.now)
+    c.from_residual-in_err-order_to.ensures.0 c.from_residual-in_err-order_to.ensures.1 (inl tt)
+
+pub returns-in_err-order_to-2-clause-keeps : goal.returns-in_err-order_to-2-clause-keeps
+returns-in_err-order_to-2-clause-keeps g c = c.in_ok-taken.ensures.keeps
+
+pub returns-in_err-order_to-2-clause-fault : goal.returns-in_err-order_to-2-clause-fault
+returns-in_err-order_to-2-clause-fault g c = fault_memory g.D.Disk.meaning c.args.store.now
+    c.take_two.new.store c.from_residual-in_err-order_to-2.result
+    c.from_residual-in_err-order_to-2.ensures.0 c.from_residual-in_err-order_to-2.ensures.1
+    c.in_ok-taken.ensures.fault
+
+pub returns-in_err-order_to-2-clause-own : goal.returns-in_err-order_to-2-clause-own
+returns-in_err-order_to-2-clause-own g c = alone_memory c.from_residual-in_err-order_to-2.result
+    c.from_residual-in_err-order_to-2.ensures.1
+
+pub returns-in_err-order_to-2-clause-lists : goal.returns-in_err-order_to-2-clause-lists
+returns-in_err-order_to-2-clause-lists g c = λ image tells. handed_on
+    c.from_residual-in_err-order_to-2.result out_of_memory _ (RefusesTwo c.args.store.now.geometry
+    c.args.store.now image c.args.batch.now) c.from_residual-in_err-order_to-2.ensures.0
+    c.from_residual-in_err-order_to-2.ensures.1 (inl tt)
+
+pub returns-clause-keeps : goal.returns-clause-keeps
+returns-clause-keeps g c = c.in_ok-taken.ensures.keeps
+
+pub returns-clause-fault : goal.returns-clause-fault
+returns-clause-fault g c = c.in_ok-taken.ensures.fault
+
+pub make_data-requires : goal.make_data-requires
+make_data-requires g c = geometry_later g.D.Disk.meaning c.args.store.now c.take_two.new.store
+    c.in_ok-taken.ensures.keeps c.requires.geometry
+
+pub make_pointer-requires : goal.make_pointer-requires
+make_pointer-requires g c = geometry_later g.D.Disk.meaning c.args.store.now c.take_two.new.store
+    c.in_ok-taken.ensures.keeps c.requires.geometry
+
+pub order_to-requires-clause-size : goal.order_to-requires-clause-size
+order_to-requires-clause-size g c = size_later c.geometry.result c.args.store.now.geometry
+    (c.geometry.ensures ∙ c.in_ok-taken.ensures.keeps.geometry) c.requires.geometry
+
+pub order_to-requires-2-clause-size : goal.order_to-requires-2-clause-size
+order_to-requires-2-clause-size g c = size_later c.geometry-2.result c.args.store.now.geometry
+    (c.geometry-2.ensures ∙ c.in_ok-taken.ensures.keeps.geometry) c.requires.geometry
+
+pub order_to-requires-clause-page : goal.order_to-requires-clause-page
+order_to-requires-clause-page g c = c.in_ok-taken.ensures.small.1
+
+pub order_to-requires-2-clause-page : goal.order_to-requires-2-clause-page
+order_to-requires-2-clause-page g c = c.in_ok-taken.ensures.small.0

@@ -1,4 +1,4 @@
-use Rattle.std.proofs.Common.{◌∙◌, ap, inr}
+use Rattle.std.proofs.Common.{◌∙◌, ap, inr, inl}
 use Rattle.mg_base.specs.declared.numbers.PageNo.{PageNo}
 use Rattle.mg_space.specs.ViewLaws.{keeps_on, tells_on}
 use Rattle.mg_pool.specs.Batch.{Changed}
@@ -6,7 +6,8 @@ use Rattle.mg_heap.specs.Growth.{RefusesTwo}
 use Rattle.mg_heap.specs.GrowthLaws.{whole_same, whole_taken}
 use Rattle.mg_heap.proofs.GrowthLemmas.{refuses_on}
 use Rattle.mg_heap.specs.RoomLaws.{bits_on, takes_on}
-use Rattle.mg_heap.proofs.TableLemmas.{fault_up, handed_on, whole_later}
+use Rattle.mg_heap.proofs.TableLemmas.{fault_up, handed_on, whole_later, geometry_later}
+use Rattle.mg_heap.proofs.HandedLemmas.{alone_same, fault_same, no_answer, taken_small}
 use Rattle.mg_heap.proofs.growth.take_two.Goals as goal
 
 pub returns-in_err-second-clause-takes : goal.returns-in_err-second-clause-takes
@@ -83,3 +84,53 @@ returns-clause-whole g c = whole_taken c.args.store.now.geometry c.take_page.new
     (bits_on g.D.Disk.meaning c.args.store.now c.take_page.new.store c.in_ok-first.ensures.keeps
     c.take_page.new.batch c.take_page-2.new.batch c.in_ok-second.second.0
     c.in_ok-second.ensures.puts)
+
+pub returns-in_err-first-clause-keeps : goal.returns-in_err-first-clause-keeps
+returns-in_err-first-clause-keeps g c = c.in_err-first.ensures.keeps
+
+pub returns-in_err-first-clause-fault : goal.returns-in_err-first-clause-fault
+returns-in_err-first-clause-fault g c = fault_same PageNo g.D.Disk.meaning c.args.store.now
+    c.take_page.new.store c.from_residual.result c.in_err-first.field-0.0 c.from_residual.ensures.0
+    c.from_residual.ensures.1 c.in_err-first.ensures.fault
+
+pub returns-in_err-first-clause-own : goal.returns-in_err-first-clause-own
+returns-in_err-first-clause-own g c = alone_same PageNo c.from_residual.result c.in_err-first.field-0.0
+    c.from_residual.ensures.0 c.from_residual.ensures.1 c.in_err-first.ensures.own
+
+pub returns-in_err-first-clause-whole : goal.returns-in_err-first-clause-whole
+returns-in_err-first-clause-whole g c = whole_same c.args.store.now.geometry.size c.args.batch.now
+    c.take_page.new.batch c.requires.whole (ap (λ (b : Changed). b.pages) c.in_err-first.ensures.same)
+
+pub returns-in_err-first-clause-small : goal.returns-in_err-first-clause-small
+returns-in_err-first-clause-small g c = no_answer _ c.from_residual.result c.from_residual.ensures.0
+
+pub returns-in_err-first-clause-takes : goal.returns-in_err-first-clause-takes
+returns-in_err-first-clause-takes g c = λ image tells. handed_on c.from_residual.result
+    c.in_err-first.field-0.0 _ (RefusesTwo c.args.store.now.geometry c.args.store.now image
+    c.args.batch.now) c.from_residual.ensures.0 c.from_residual.ensures.1 (inl (c.in_err-first.ensures.takes
+    image tells))
+
+pub returns-in_err-second-clause-own : goal.returns-in_err-second-clause-own
+returns-in_err-second-clause-own g c = alone_same PageNo c.from_residual-in_err-second.result
+    c.in_err-second.field-0.0 c.from_residual-in_err-second.ensures.0
+    c.from_residual-in_err-second.ensures.1 c.in_err-second.ensures.own
+
+pub returns-in_err-second-clause-small : goal.returns-in_err-second-clause-small
+returns-in_err-second-clause-small g c = no_answer _ c.from_residual-in_err-second.result
+    c.from_residual-in_err-second.ensures.0
+
+pub returns-clause-small : goal.returns-clause-small
+returns-clause-small g c = (
+  taken_small c.args.store.now.geometry c.args.batch.now c.take_page.new.batch c.in_ok-first.first.0
+      c.requires.geometry c.in_ok-first.ensures.puts,
+  taken_small c.take_page.new.store.geometry c.take_page.new.batch c.take_page-2.new.batch
+      c.in_ok-second.second.0 (geometry_later g.D.Disk.meaning c.args.store.now c.take_page.new.store
+      c.in_ok-first.ensures.keeps c.requires.geometry) c.in_ok-second.ensures.puts,
+)
+
+pub take_page-requires-2-clause-pool : goal.take_page-requires-2-clause-pool
+take_page-requires-2-clause-pool g c = c.in_ok-first.ensures.keeps.pool
+
+pub take_page-requires-2-clause-geometry : goal.take_page-requires-2-clause-geometry
+take_page-requires-2-clause-geometry g c = geometry_later g.D.Disk.meaning c.args.store.now
+    c.take_page.new.store c.in_ok-first.ensures.keeps c.requires.geometry

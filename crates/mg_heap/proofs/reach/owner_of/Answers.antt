@@ -2,6 +2,8 @@ use Rattle.mg_space.specs.View.{viewed}
 use Rattle.mg_heap.specs.Reach.{RefusesOwner}
 use Rattle.mg_heap.proofs.ReachLemmas.{owner_refused, owns_seen}
 use Rattle.mg_heap.proofs.TableLemmas.{handed_on}
+use Rattle.std.proofs.Common.{List, ℕ}
+use Rattle.mg_heap.proofs.HandedLemmas.{fault_same, no_answer, reads_same}
 use Rattle.mg_heap.proofs.reach.owner_of.Goals as goal
 
 pub returns-in_err-bytes-clause-gives : goal.returns-in_err-bytes-clause-gives
@@ -19,3 +21,24 @@ returns-clause-gives g c = λ image tells. owns_seen c.args.page
     (viewed c.args.store.now image c.args.batch.now c.args.page.0) c.in_ok-bytes.bytes
     c.as_slice.result.now c.owner_number-owner.result c.in_ok-bytes.ensures.data_page
     (c.in_ok-bytes.ensures.seen image tells) c.as_slice.ensures c.owner_number-owner.ensures
+
+pub returns-in_err-bytes-clause-keeps : goal.returns-in_err-bytes-clause-keeps
+returns-in_err-bytes-clause-keeps g c = c.in_err-bytes.ensures.keeps
+
+pub returns-in_err-bytes-clause-fault : goal.returns-in_err-bytes-clause-fault
+returns-in_err-bytes-clause-fault g c = fault_same (List ℕ) g.D.Disk.meaning c.args.store.now
+    c.data_page.new.store c.from_residual.result c.in_err-bytes.field-0.0 c.from_residual.ensures.0
+    c.from_residual.ensures.1 c.in_err-bytes.ensures.fault
+
+pub returns-in_err-bytes-clause-own : goal.returns-in_err-bytes-clause-own
+returns-in_err-bytes-clause-own g c = reads_same (List ℕ) c.from_residual.result c.in_err-bytes.field-0.0
+    c.from_residual.ensures.0 c.from_residual.ensures.1 c.in_err-bytes.ensures.own
+
+pub returns-clause-keeps : goal.returns-clause-keeps
+returns-clause-keeps g c = c.in_ok-bytes.ensures.keeps
+
+pub returns-clause-fault : goal.returns-clause-fault
+returns-clause-fault g c = c.in_ok-bytes.ensures.fault
+
+pub returns-in_err-bytes-clause-lawful : goal.returns-in_err-bytes-clause-lawful
+returns-in_err-bytes-clause-lawful g c = no_answer _ c.from_residual.result c.from_residual.ensures.0

@@ -4,7 +4,8 @@ use Rattle.mg_space.specs.ViewLaws.{tells_on, fault_on, keeps_on}
 use Rattle.mg_heap.specs.Room.{FindsRoom, RefusesRoomIn}
 use Rattle.mg_heap.specs.declared.growth.DataPage.{DataPage}
 use Rattle.mg_heap.proofs.RoomLemmas.{last_is, room_grown}
-use Rattle.mg_heap.proofs.TableLemmas.{handed_on, whole_before}
+use Rattle.mg_heap.proofs.TableLemmas.{handed_on, whole_before, geometry_later, whole_later}
+use Rattle.mg_heap.proofs.HandedLemmas.{alone_read, fault_same}
 use Rattle.mg_heap.proofs.room.room_in.Goals as goal
 
 pub returns-in_err-found-clause-gives : goal.returns-in_err-found-clause-gives
@@ -42,3 +43,32 @@ returns-clause-fault g c = fault_on g.D.Disk.meaning c.args.store.now c.page_wit
 pub returns-clause-whole : goal.returns-clause-whole
 returns-clause-whole g c = whole_before g.D.Disk.meaning c.args.store.now c.page_with.new.store
     c.in_ok-found.ensures.keeps c.grow.new.batch.pages c.grow.ensures.whole
+
+pub returns-in_err-found-clause-keeps : goal.returns-in_err-found-clause-keeps
+returns-in_err-found-clause-keeps g c = c.in_err-found.ensures.keeps
+
+pub returns-in_err-found-clause-fault : goal.returns-in_err-found-clause-fault
+returns-in_err-found-clause-fault g c = fault_same (Option DataPage) g.D.Disk.meaning c.args.store.now
+    c.page_with.new.store c.from_residual.result c.in_err-found.field-0.0 c.from_residual.ensures.0
+    c.from_residual.ensures.1 c.in_err-found.ensures.fault
+
+pub returns-in_err-found-clause-own : goal.returns-in_err-found-clause-own
+returns-in_err-found-clause-own g c = alone_read (Option DataPage) c.from_residual.result
+    c.in_err-found.field-0.0 c.from_residual.ensures.0 c.from_residual.ensures.1 c.in_err-found.ensures.own
+
+pub returns-in_err-found-clause-whole : goal.returns-in_err-found-clause-whole
+returns-in_err-found-clause-whole g c = c.requires.whole
+
+pub returns-clause-own : goal.returns-clause-own
+returns-clause-own g c = c.grow.ensures.own
+
+pub grow-requires-clause-pool : goal.grow-requires-clause-pool
+grow-requires-clause-pool g c = c.in_ok-found.ensures.keeps.pool
+
+pub grow-requires-clause-geometry : goal.grow-requires-clause-geometry
+grow-requires-clause-geometry g c = geometry_later g.D.Disk.meaning c.args.store.now c.page_with.new.store
+    c.in_ok-found.ensures.keeps c.requires.geometry
+
+pub grow-requires-clause-whole : goal.grow-requires-clause-whole
+grow-requires-clause-whole g c = whole_later g.D.Disk.meaning c.args.store.now c.page_with.new.store
+    c.in_ok-found.ensures.keeps c.args.batch.now.pages c.requires.whole

@@ -1,8 +1,9 @@
-use Rattle.std.proofs.Common.{arith, inr}
+use Rattle.std.proofs.Common.{arith, inr, List, ℕ}
 use Rattle.mg_space.specs.declared.fault.SpaceFault.TheVariants as faults
 use Rattle.mg_space.specs.View.{viewed}
 use Rattle.mg_heap.specs.Table.{RefusesPointer}
 use Rattle.mg_heap.proofs.TableLemmas.{entries_few, handed_on, link_refused, page_refused, follows_page, lists_page}
+use Rattle.mg_heap.proofs.HandedLemmas.{fault_damage, fault_memory, fault_same, no_answer, out_of_memory, reads_damage, reads_memory, reads_same}
 use Rattle.mg_heap.proofs.table.follow.Goals as goal
 
 pub returns-in_err-page-clause-follows : goal.returns-in_err-page-clause-follows
@@ -47,3 +48,117 @@ returns-clause-follows g c = λ image tells. follows_page
     (omega arith) (c.in_ok-page.ensures.seen image tells) c.in_ok-page.ensures.tested
     (rw c.as_slice.ensures at c.in_ok-add_entries.ensures)
     (rw c.as_slice-2.ensures at c.in_ok-linked.ensures)
+
+pub returns-in_err-page-clause-keeps : goal.returns-in_err-page-clause-keeps
+returns-in_err-page-clause-keeps g c = c.in_err-page.ensures.keeps
+
+pub returns-in_err-page-clause-fault : goal.returns-in_err-page-clause-fault
+returns-in_err-page-clause-fault g c = fault_same (List ℕ) g.D.Disk.meaning c.args.store.now
+    c.pointer_page.new.store c.from_residual.result c.in_err-page.field-0.0 c.from_residual.ensures.0
+    c.from_residual.ensures.1 c.in_err-page.ensures.fault
+
+pub returns-in_err-page-clause-own : goal.returns-in_err-page-clause-own
+returns-in_err-page-clause-own g c = reads_same (List ℕ) c.from_residual.result c.in_err-page.field-0.0
+    c.from_residual.ensures.0 c.from_residual.ensures.1 c.in_err-page.ensures.own
+
+pub returns-in_err-page-clause-few : goal.returns-in_err-page-clause-few
+returns-in_err-page-clause-few g c = no_answer _ c.from_residual.result c.from_residual.ensures.0
+
+pub returns-in_err-page-clause-lists : goal.returns-in_err-page-clause-lists
+returns-in_err-page-clause-lists g c = no_answer _ c.from_residual.result c.from_residual.ensures.0
+
+pub returns-in_err-page-clause-reads : goal.returns-in_err-page-clause-reads
+returns-in_err-page-clause-reads g c = c.in_err-page.ensures.reads
+
+pub returns-in_err-add_entries-clause-keeps : goal.returns-in_err-add_entries-clause-keeps
+returns-in_err-add_entries-clause-keeps g c = c.in_ok-page.ensures.keeps
+
+pub returns-in_err-add_entries-clause-few : goal.returns-in_err-add_entries-clause-few
+returns-in_err-add_entries-clause-few g c = no_answer _ c.from_residual-in_err-add_entries.result
+    c.from_residual-in_err-add_entries.ensures.0
+
+pub returns-in_err-add_entries-clause-lists : goal.returns-in_err-add_entries-clause-lists
+returns-in_err-add_entries-clause-lists g c = no_answer _ c.from_residual-in_err-add_entries.result
+    c.from_residual-in_err-add_entries.ensures.0
+
+pub returns-in_err-add_entries-clause-reads : goal.returns-in_err-add_entries-clause-reads
+returns-in_err-add_entries-clause-reads g c = c.in_ok-page.ensures.reads
+
+pub returns-in_err-add_entries-clause-fault : goal.returns-in_err-add_entries-clause-fault
+returns-in_err-add_entries-clause-fault g c = fault_memory g.D.Disk.meaning c.args.store.now
+    c.pointer_page.new.store c.from_residual-in_err-add_entries.result
+    c.from_residual-in_err-add_entries.ensures.0 c.from_residual-in_err-add_entries.ensures.1
+    c.in_ok-page.ensures.fault
+
+pub returns-in_err-add_entries-clause-own : goal.returns-in_err-add_entries-clause-own
+returns-in_err-add_entries-clause-own g c = reads_memory c.from_residual-in_err-add_entries.result
+    c.from_residual-in_err-add_entries.ensures.1
+
+pub returns-in_err-add_entries-clause-follows : goal.returns-in_err-add_entries-clause-follows
+returns-in_err-add_entries-clause-follows g c = λ image tells. handed_on
+    c.from_residual-in_err-add_entries.result out_of_memory _ (RefusesPointer g.D.Disk.meaning
+    c.pointer_page.new.store c.args.batch.now.pages (viewed c.args.store.now image c.args.batch.now)
+    c.args.owner.0 c.args.pointers.now.items c.args.n) c.from_residual-in_err-add_entries.ensures.0
+    c.from_residual-in_err-add_entries.ensures.1 tt
+
+pub returns-in_err-push-clause-keeps : goal.returns-in_err-push-clause-keeps
+returns-in_err-push-clause-keeps g c = c.in_ok-page.ensures.keeps
+
+pub returns-in_err-push-clause-few : goal.returns-in_err-push-clause-few
+returns-in_err-push-clause-few g c = no_answer _ c.from_residual-in_err-push.result
+    c.from_residual-in_err-push.ensures.0
+
+pub returns-in_err-push-clause-lists : goal.returns-in_err-push-clause-lists
+returns-in_err-push-clause-lists g c = no_answer _ c.from_residual-in_err-push.result
+    c.from_residual-in_err-push.ensures.0
+
+pub returns-in_err-push-clause-reads : goal.returns-in_err-push-clause-reads
+returns-in_err-push-clause-reads g c = c.in_ok-page.ensures.reads
+
+pub returns-in_err-push-clause-fault : goal.returns-in_err-push-clause-fault
+returns-in_err-push-clause-fault g c = fault_memory g.D.Disk.meaning c.args.store.now
+    c.pointer_page.new.store c.from_residual-in_err-push.result c.from_residual-in_err-push.ensures.0
+    c.from_residual-in_err-push.ensures.1 c.in_ok-page.ensures.fault
+
+pub returns-in_err-push-clause-own : goal.returns-in_err-push-clause-own
+returns-in_err-push-clause-own g c = reads_memory c.from_residual-in_err-push.result
+    c.from_residual-in_err-push.ensures.1
+
+pub returns-in_err-push-clause-follows : goal.returns-in_err-push-clause-follows
+returns-in_err-push-clause-follows g c = λ image tells. handed_on c.from_residual-in_err-push.result
+    out_of_memory _ (RefusesPointer g.D.Disk.meaning c.pointer_page.new.store c.args.batch.now.pages (viewed
+    c.args.store.now image c.args.batch.now) c.args.owner.0 c.args.pointers.now.items c.args.n)
+    c.from_residual-in_err-push.ensures.0 c.from_residual-in_err-push.ensures.1 tt
+
+pub returns-in_err-linked-clause-keeps : goal.returns-in_err-linked-clause-keeps
+returns-in_err-linked-clause-keeps g c = c.in_ok-page.ensures.keeps
+
+pub returns-in_err-linked-clause-few : goal.returns-in_err-linked-clause-few
+returns-in_err-linked-clause-few g c = no_answer _ c.from_residual-in_err-linked.result
+    c.from_residual-in_err-linked.ensures.0
+
+pub returns-in_err-linked-clause-lists : goal.returns-in_err-linked-clause-lists
+returns-in_err-linked-clause-lists g c = no_answer _ c.from_residual-in_err-linked.result
+    c.from_residual-in_err-linked.ensures.0
+
+pub returns-in_err-linked-clause-reads : goal.returns-in_err-linked-clause-reads
+returns-in_err-linked-clause-reads g c = c.in_ok-page.ensures.reads
+
+pub returns-in_err-linked-clause-fault : goal.returns-in_err-linked-clause-fault
+returns-in_err-linked-clause-fault g c = fault_damage g.D.Disk.meaning c.args.store.now
+    c.pointer_page.new.store c.from_residual-in_err-linked.result c.in_err-linked.field-0.0
+    c.from_residual-in_err-linked.ensures.0 c.from_residual-in_err-linked.ensures.1
+    c.in_ok-page.ensures.fault
+
+pub returns-in_err-linked-clause-own : goal.returns-in_err-linked-clause-own
+returns-in_err-linked-clause-own g c = reads_damage c.from_residual-in_err-linked.result
+    c.in_err-linked.field-0.0 c.from_residual-in_err-linked.ensures.1
+
+pub returns-clause-keeps : goal.returns-clause-keeps
+returns-clause-keeps g c = c.in_ok-page.ensures.keeps
+
+pub returns-clause-fault : goal.returns-clause-fault
+returns-clause-fault g c = c.in_ok-page.ensures.fault
+
+pub returns-clause-reads : goal.returns-clause-reads
+returns-clause-reads g c = c.in_ok-page.ensures.reads

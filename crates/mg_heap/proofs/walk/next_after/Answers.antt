@@ -1,11 +1,13 @@
-use Rattle.std.proofs.Common.{◌+◌, ℕ, Some, ap, inl}
+use Rattle.std.proofs.Common.{◌+◌, ℕ, Some, ap, inl, List, subst, sym}
 use Rattle.std.specs.Prelude.{MatchResult}
 use Rattle.mg_image.specs.Form.{Pages}
 use Rattle.mg_space.specs.View.{viewed, pool_answer}
 use Rattle.mg_space.specs.ViewLaws.{keeps_on, fault_on}
 use Rattle.mg_heap.specs.Walk.{GivesBehind, RefusesNext, RefusesWalk}
-use Rattle.mg_heap.proofs.TableLemmas.{as_started, handed_on}
+use Rattle.mg_heap.proofs.TableLemmas.{as_started, handed_on, geometry_later, whole_later}
 use Rattle.mg_heap.proofs.WalkLemmas.{none_behind}
+use Rattle.mg_slots.specs.DataPage.{IsDataPage}
+use Rattle.mg_heap.proofs.HandedLemmas.{fault_same, reads_same}
 use Rattle.mg_heap.proofs.walk.next_after.Goals as goal
 
 pub returns-clause-keeps : goal.returns-clause-keeps
@@ -36,3 +38,32 @@ returns-in_err-page-clause-gives g c = λ image tells. handed_on c.from_residual
     (viewed c.args.store.now image c.args.batch.now) c.args.owner.0 (Some c.args.at))
     c.from_residual.ensures.0 c.from_residual.ensures.1
     (inl (c.in_err-page.ensures.seen image tells))
+
+pub returns-in_err-page-clause-keeps : goal.returns-in_err-page-clause-keeps
+returns-in_err-page-clause-keeps g c = c.in_err-page.ensures.keeps
+
+pub returns-in_err-page-clause-fault : goal.returns-in_err-page-clause-fault
+returns-in_err-page-clause-fault g c = fault_same (List ℕ) g.D.Disk.meaning c.args.store.now
+    c.data_page.new.store c.from_residual.result c.in_err-page.field-0.0 c.from_residual.ensures.0
+    c.from_residual.ensures.1 c.in_err-page.ensures.fault
+
+pub returns-in_err-page-clause-own : goal.returns-in_err-page-clause-own
+returns-in_err-page-clause-own g c = reads_same (List ℕ) c.from_residual.result c.in_err-page.field-0.0
+    c.from_residual.ensures.0 c.from_residual.ensures.1 c.in_err-page.ensures.own
+
+pub returns-clause-own : goal.returns-clause-own
+returns-clause-own g c = c.behind_in.ensures.own
+
+pub first_record-requires : goal.first_record-requires
+first_record-requires g c = subst IsDataPage (sym c.as_slice.ensures) c.in_ok-page.ensures.data_page.lawful
+
+pub behind_in-requires-clause-pool : goal.behind_in-requires-clause-pool
+behind_in-requires-clause-pool g c = c.in_ok-page.ensures.keeps.pool
+
+pub behind_in-requires-clause-geometry : goal.behind_in-requires-clause-geometry
+behind_in-requires-clause-geometry g c = geometry_later g.D.Disk.meaning c.args.store.now
+    c.data_page.new.store c.in_ok-page.ensures.keeps c.requires.geometry
+
+pub behind_in-requires-clause-whole : goal.behind_in-requires-clause-whole
+behind_in-requires-clause-whole g c = whole_later g.D.Disk.meaning c.args.store.now c.data_page.new.store
+    c.in_ok-page.ensures.keeps c.args.batch.now.pages c.requires.whole
