@@ -1,2 +1,3 @@
 mod WriteLemmas
 mod TableLemmas
+mod WalkLemmas

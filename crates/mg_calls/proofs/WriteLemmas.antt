@@ -12,6 +12,7 @@ use Rattle.mg_model.specs.declared.event.Event.{Event}
 use Rattle.mg_model.specs.declared.event.Event.TheVariants.{Rollback, UndoMark}
 use Rattle.mg_model.specs.declared.opening.Opening.{Opening}
 use Rattle.mg_model.specs.declared.refusal.Refusal.{Refusal}
+use Rattle.mg_model.specs.declared.refusal.Refusal.TheVariants.{Waits}
 use Rattle.mg_model.specs.Answers.{is_active}
 use Rattle.mg_model.specs.History.{Entries, entry}
 use Rattle.mg_model.specs.Legal.{IsLawful, is_lasting}
@@ -30,9 +31,12 @@ use Rattle.mg_calls.specs.Quiet.{AreQuiet}
 use Rattle.mg_calls.specs.QuietLaws.{quiet_event, quiet_given_up}
 use Rattle.mg_calls.specs.declared.writing.Written.TheVariants as written
 use Rattle.mg_calls.specs.declared.writing.Written.{Written}
-use Rattle.mg_calls.specs.FrameLaws.{frames_changes, frames_first, frames_then}
+use Rattle.mg_calls.specs.FrameLaws.{frames_after, frames_changes, frames_first, frames_leaves, frames_then, frames_writes}
+use Rattle.mg_calls.specs.declared.steps.Writes.{Writes}
+use Rattle.mg_calls.specs.declared.steps.Wrote.{Wrote}
+use Rattle.mg_calls.specs.Steps.{StepsOn, refusal_wrote}
 use Rattle.mg_calls.specs.Undoing.{Undoes, is_waiting, left_so}
-use Rattle.mg_calls.specs.Writes.{IsWritten, WritesOne, ended_by, goes_on, refusal_written, refused_twice}
+use Rattle.mg_calls.specs.Writes.{Comes, IsWritten, WritesOne, ended_by, goes_on, refusal_written, refused_twice}
 
 -- the undoing was refused, and the transaction rolled back if the refusal is one that gives it up
 pub not_undone : {R P : Type 0} (m : Means R P) (old new : R) (t : TxNo) (refusal later : Refusal)
@@ -114,6 +118,43 @@ pub ended_leaves : {R P : Type 0} (m : Means R P) (old new : R) (t : ℕ) (resul
     → IsWritten m old new t result
 ended_leaves m old new t result ends frames =
     record { frames = frames; tables = λ on. absurd (false≢true (sym ends ∙ on)) }
+
+-- a write that took effect, or waits, leaves the tables of its transaction
+pub written_leaves : {R P : Type 0} (m : Means R P) (old new : R) (t : ℕ)
+    → Leaves m old new None None (Some t) → FaultsAreTold m old new None → IsWritten m old new t written.Done
+written_leaves m old new t leaves told = record {
+  frames = frames_writes m old new t None leaves told;
+  tables = λ on name table was. leaves.tables_stay t name table refl was;
+}
+
+-- a write that waits was refused so, and leaves no more
+pub waits_lawfully : {R P : Type 0} (m : Means R P) (old new : R) (event : Event) (refusal : Refusal) (on : TxNo)
+    → refusal ≡ Waits on → Adds m old new event (No refusal) → (o : Opening) (h : Entries) → m.stands old o h
+    → Comes m new o h event (No (Waits on))
+waits_lawfully m old new event refusal on is adds o h stands =
+    subst (λ (x : Refusal). Comes m new o h event (No x)) is
+    (record { lawful = (adds o h stands).0; stands = (adds o h stands).1 })
+
+pub waiting_leaves : {R P : Type 0} (m : Means R P) (old new : R) (t : ℕ) (refusal : Refusal) (on : TxNo)
+    → refusal ≡ Waits on → Leaves m old new (Some refusal) None (Some t) → FaultsAreTold m old new (Some refusal)
+    → IsWritten m old new t (written.Waits on)
+waiting_leaves m old new t refusal on is leaves told = record {
+  frames = subst (λ (x : Refusal). Frames m old new t (Some x)) is
+      (frames_writes m old new t (Some refusal) leaves told);
+  tables = λ on name table was. leaves.tables_stay t name table refl was;
+}
+
+-- a step behind the mark of its statement
+pub steps_behind : {R P : Type 0} (m : Means R P) (old mid new : R) (t : ℕ) (before after : Writes)
+    (result : Wrote) → Leaves m old mid None None None → FaultsAreTold m old mid None
+    → StepsOn m mid new t before after result → StepsOn m old new t before after result
+steps_behind m old mid new t before after result leaves told steps = record {
+  frames = frames_after m old mid new t (refusal_wrote result) (frames_leaves m old mid t None leaves told)
+      steps.frames;
+  table = steps.table;
+  ready = steps.ready;
+  fewer = steps.fewer;
+}
 
 -- ---- quiet calls
 

@@ -1,4 +1,5 @@
 pub mod FormLemmas
+pub mod FrontLemmas
 pub mod PuttingLemmas
 pub mod ReadingLemmas
 pub mod SplittingLemmas

@@ -4,7 +4,7 @@ use Rattle.mg_records.specs.Writing.{event_of}
 use Rattle.mg_calls.specs.FrameLaws.{frames_writes}
 use Rattle.mg_calls.specs.QuietLaws.{quiet_then}
 use Rattle.mg_calls.specs.Writes.{ended_by}
-use Rattle.mg_calls.proofs.WriteLemmas.{comes_to_nothing, ended_leaves, quiet_write}
+use Rattle.mg_calls.proofs.WriteLemmas.{comes_to_nothing, ended_leaves, quiet_write, waiting_leaves, waits_lawfully, written_leaves}
 use Rattle.mg_calls.proofs.writing.write_or_undo.Goals as goal
 
 pub returns-in-Ok-clause-quiet : goal.returns-in-Ok-clause-quiet
@@ -40,3 +40,25 @@ returns-in-None-clause-quiet g c =
     c.in-Err.ensures.adds c.in-Err.ensures.leaves
     c.in-Err.ensures.undamaged c.in-Err.ensures.crash c.in-Err.ensures.sessions)
     c.undo.ensures.quiet
+
+-- ---- what was written, or waits
+
+pub returns-in-Ok-clause-writes : goal.returns-in-Ok-clause-writes
+returns-in-Ok-clause-writes g c = λ o h stands.
+    let came = c.in-Ok.ensures.adds o h stands in record { lawful = came.0; stands = came.1 }
+
+pub returns-in-Ok-clause-leaves : goal.returns-in-Ok-clause-leaves
+returns-in-Ok-clause-leaves g c =
+    written_leaves g.R.Records.meaning c.args.r.now c.write_step.new.self c.args.t.0
+    c.in-Ok.ensures.leaves c.in-Ok.ensures.told
+
+pub returns-in-Some-clause-writes : goal.returns-in-Some-clause-writes
+returns-in-Some-clause-writes g c =
+    waits_lawfully g.R.Records.meaning c.args.r.now c.write_step.new.self
+    (event_of c.args.t c.args.table.now.name c.args.write.now) c.in-Err.refusal c.in-Some.on c.in-Some.ensures
+    c.in-Err.ensures.adds
+
+pub returns-in-Some-clause-leaves : goal.returns-in-Some-clause-leaves
+returns-in-Some-clause-leaves g c =
+    waiting_leaves g.R.Records.meaning c.args.r.now c.write_step.new.self c.args.t.0 c.in-Err.refusal
+    c.in-Some.on c.in-Some.ensures c.in-Err.ensures.leaves c.in-Err.ensures.told

@@ -1,0 +1,15 @@
+use Rattle.std.proofs.lemmas.Result.{IfOk-from_err}
+use Rattle.mg_script.proofs.FrontLemmas.{front_kept, front_longer}
+use Rattle.mg_script.proofs.answer.put_letter.Goals as goal
+
+pub returns-in_err-push-clause-ok : goal.returns-in_err-push-clause-ok
+returns-in_err-push-clause-ok c = IfOk-from_err c.from_residual.result _ c.from_residual.ensures.0
+
+pub returns-in_err-push-clause-front : goal.returns-in_err-push-clause-front
+returns-in_err-push-clause-front c = front_kept _ _ c.in_err-push.ensures.items
+
+pub returns-clause-ok : goal.returns-clause-ok
+returns-clause-ok c = c.in_ok-push.ensures.items
+
+pub returns-clause-front : goal.returns-clause-front
+returns-clause-front c = front_longer _ _ _ c.in_ok-push.ensures.items
