@@ -94,8 +94,11 @@ end_one page e lawful low high is empty least = bound (is_inner page) refl
 
 -- ---- the two entries of the new root
 
-inner_of : (page : List ℕ) (level : ℕ) → level_in page ≡ level → 0 < level → is_inner page ≡ true
+pub inner_of : (page : List ℕ) (level : ℕ) → level_in page ≡ level → 0 < level → is_inner page ≡ true
 inner_of page level is some = lt-ltb 0 (level_in page) (omega (arith, is, some))
+
+pub inner_next : (page : List ℕ) (level : ℕ) → level_in page ≡ level + 1 → is_inner page ≡ true
+inner_next page level is = inner_of page (level + 1) is (omega arith)
 
 no_entry : (page : List ℕ) (f : Entry) → entries_of page ≡ [] → IsEntryOf page f → ⊥
 no_entry page f none is = at is.front (sym none ∙ is.is)

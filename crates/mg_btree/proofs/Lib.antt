@@ -2,3 +2,5 @@ pub mod HalvesLemmas
 pub mod PutLemmas
 pub mod GrowingLemmas
 pub mod InsertingLemmas
+pub mod WrittenLemmas
+pub mod ExitLemmas

@@ -1,13 +1,17 @@
-use Rattle.std.proofs.Common.{rules, ◌≡◌, ◌∙◌, ◌+◌, refl, sym, subst, ap, suc, ℕ, List, length, arith}
+use Rattle.std.proofs.Common.{◌≡◌, ◌<◌, ◌∙◌, ◌+◌, refl, sym, subst, ap, suc, ℕ, List, length, arith}
 use Rattle.mg_node_writing.specs.NewNodes.{CopiesNode}
 use Rattle.mg_btree.specs.Halves.{names_in}
 use Rattle.mg_btree.specs.AboveLaws.{fence_short}
 use Rattle.mg_btree.proofs.GrowingLemmas.{copy_full, fence_not_least, grown_root, halves_at}
+use Rattle.mg_node.specs.NodePage.{IsNodePage}
+use Rattle.mg_node_writing.specs.NodeChanges.{IsSized, most_need, room_in}
+use Rattle.mg_btree.proofs.WrittenLemmas.{sized_same}
 use Rattle.mg_btree.proofs.growing.grow.Goals as goal
 
 pub halve-requires-clause-full : goal.halve-requires-clause-full
 halve-requires-clause-full c = copy_full c.as_slice.result.now c.in_ok-copy.copy.bytes c.args.at.first.0
-    c.in_ok-copy.ensures.bytes c.in_ok-copy.ensures.copies (search rules)
+    c.in_ok-copy.ensures.bytes c.in_ok-copy.ensures.copies
+    (subst (λ (b : List ℕ). room_in b < most_need b) (sym c.as_slice.ensures) c.requires.full)
 
 pub root_with-requires-clause-second : goal.root_with-requires-clause-second
 root_with-requires-clause-second c = fence_not_least c.in_ok-copy.copy.bytes c.in_ok-copy.copy.page.0
@@ -41,3 +45,25 @@ returns c =
           c.in_ok-halves.halves.right.bytes c.in_ok-copy.copy.bytes c.in_ok-halves.halves is up
           c.in_ok-root.ensures.names (ap (λ e. e.child.0) c.least_entry-first.ensures) refl;
     }
+
+pub copy_to-requires-clause-sized : goal.copy_to-requires-clause-sized
+copy_to-requires-clause-sized c = subst IsSized (sym c.as_slice.ensures) c.requires.sized
+
+pub copy_to-requires-clause-lawful : goal.copy_to-requires-clause-lawful
+copy_to-requires-clause-lawful c = subst IsNodePage (sym c.as_slice.ensures) c.requires.lawful
+
+pub halve-requires-clause-sized : goal.halve-requires-clause-sized
+halve-requires-clause-sized c = sized_same c.args.full.bytes c.in_ok-copy.copy.bytes
+    (c.in_ok-copy.ensures.copies.size ∙ ap (λ b. length b) c.as_slice.ensures) c.requires.sized
+
+pub halve-requires-clause-lawful : goal.halve-requires-clause-lawful
+halve-requires-clause-lawful c = c.in_ok-copy.ensures.copies.lawful
+
+pub names_of-requires-clause-sized : goal.names_of-requires-clause-sized
+names_of-requires-clause-sized c = sized_same c.args.full.bytes c.as_slice-2.result.now
+    (ap (λ b. length b) c.as_slice-2.ensures ∙ (c.in_ok-halves.ensures.pair.splits.left_size
+    ∙ (c.in_ok-copy.ensures.copies.size ∙ ap (λ b. length b) c.as_slice.ensures))) c.requires.sized
+
+pub names_of-requires-clause-lawful : goal.names_of-requires-clause-lawful
+names_of-requires-clause-lawful c = subst IsNodePage (sym c.as_slice-2.ensures)
+    c.in_ok-halves.ensures.pair.left_lawful

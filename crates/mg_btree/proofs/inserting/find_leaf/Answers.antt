@@ -1,12 +1,16 @@
-use Rattle.std.proofs.Common.{refl, Ok, Err}
-use Rattle.mg_space.specs.View.{viewed}
+use Rattle.std.proofs.Common.{refl, sym, subst, Ok, Err}
+use Rattle.mg_space.specs.View.{AreWhole, viewed}
 use Rattle.mg_btree.specs.declared.node.ReadNode.{ReadNode}
 use Rattle.mg_btree.specs.declared.root.Root.{Root}
 use Rattle.mg_btree.specs.ExitLaws.{reads_ok}
 use Rattle.mg_btree.specs.LeafLaws.{leaf_seen}
 use Rattle.mg_btree.specs.PutAtLaws.{leaf_fails, leaf_finds, root_fails}
-use Rattle.mg_btree.specs.ReadingLaws.{reads_on}
+use Rattle.mg_btree.specs.ReadingLaws.{ok_of_err, reads_on}
 use Rattle.mg_btree.specs.ScanLaws.{reads_err}
+use Rattle.mg_base.specs.declared.geometry.Geometry.{Geometry}
+use Rattle.mg_space.specs.Taking.{IsGeometry}
+use Rattle.mg_btree.specs.Searching.{IsReached}
+use Rattle.mg_btree.specs.declared.inserting.Leaf.{Leaf}
 use Rattle.mg_btree.proofs.inserting.find_leaf.Goals as goal
 
 pub returns-in_err-top-clause-reads : goal.returns-in_err-top-clause-reads
@@ -52,3 +56,28 @@ returns-clause-finds g c = λ image owner levels tells tree. leaf_finds c.args.s
     c.args.e.now c.in_ok-top.top (Ok c.in_ok-read.read) c.in_ok-top.ensures.reads.keeps
     c.in_ok-top.ensures.root c.in_ok-read.ensures.reached c.in_ok-read.ensures.comes image owner levels
     tells tree)
+
+pub descend-requires-clause-pool : goal.descend-requires-clause-pool
+descend-requires-clause-pool g c = c.in_ok-top.ensures.reads.keeps.pool
+
+pub descend-requires-clause-geometry : goal.descend-requires-clause-geometry
+descend-requires-clause-geometry g c = subst IsGeometry (sym c.in_ok-top.ensures.reads.keeps.geometry)
+    c.requires.geometry
+
+pub descend-requires-clause-whole : goal.descend-requires-clause-whole
+descend-requires-clause-whole g c = subst (λ (k : Geometry). AreWhole k.size c.args.batch.now.pages)
+    (sym c.in_ok-top.ensures.reads.keeps.geometry) c.requires.whole
+
+pub returns-in_err-top-clause-reached : goal.returns-in_err-top-clause-reached
+returns-in_err-top-clause-reached g c = ok_of_err (λ (leaf : Leaf). IsReached
+    c.args.store.now.geometry.size leaf.top.owner 0 c.args.e.now leaf.read) _ c.from_residual.result
+    c.from_residual.ensures.1
+
+pub returns-in_err-read-clause-reached : goal.returns-in_err-read-clause-reached
+returns-in_err-read-clause-reached g c = ok_of_err (λ (leaf : Leaf). IsReached
+    c.args.store.now.geometry.size leaf.top.owner 0 c.args.e.now leaf.read) _
+    c.from_residual-in_err-read.result c.from_residual-in_err-read.ensures.1
+
+pub returns-clause-reached : goal.returns-clause-reached
+returns-clause-reached g c = subst (λ (k : Geometry). IsReached k.size c.in_ok-top.top.owner 0
+    c.args.e.now c.in_ok-read.read) c.in_ok-top.ensures.reads.keeps.geometry c.in_ok-read.ensures.reached

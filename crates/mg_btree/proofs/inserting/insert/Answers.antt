@@ -1,12 +1,14 @@
-use Rattle.std.proofs.Common.{refl, subst, Ok}
+use Rattle.std.proofs.Common.{refl, sym, subst, ◌≤◌, ◌/◌, length, Ok}
 use Rattle.mg_base.specs.declared.geometry.Geometry.{Geometry}
-use Rattle.mg_space.specs.View.{viewed}
+use Rattle.mg_space.specs.View.{AreWhole, viewed}
 use Rattle.mg_btree.specs.declared.inserting.Leaf.{Leaf}
 use Rattle.mg_btree.specs.OrderLaws.{widens_same}
 use Rattle.mg_btree.specs.Ordering.{Widens}
 use Rattle.mg_btree.specs.PutAtLaws.{find_refused, insert_all}
 use Rattle.mg_btree.specs.ReadingLaws.{reads_on}
 use Rattle.mg_btree.specs.ScanLaws.{reads_err}
+use Rattle.mg_btree.specs.Searching.{IsReached}
+use Rattle.mg_space.specs.Taking.{IsGeometry}
 use Rattle.mg_btree.proofs.inserting.insert.Goals as goal
 
 pub returns-in_err-leaf-clause-reads : goal.returns-in_err-leaf-clause-reads
@@ -40,3 +42,23 @@ returns-clause-inserts g c = λ image owner levels tells tree no_inventory. inse
     c.put_at.ensures.reads.keeps c.args.batch.now c.put_at.new.batch owner c.args.root.0 levels
     c.in_ok-leaf.leaf c.args.e.now c.put_at.result tells tree no_inventory
     (c.in_ok-leaf.ensures.finds image owner levels tells tree) c.put_at.ensures.inserts
+
+pub put_at-requires-clause-pool : goal.put_at-requires-clause-pool
+put_at-requires-clause-pool g c = c.in_ok-leaf.ensures.reads.keeps.pool
+
+pub put_at-requires-clause-geometry : goal.put_at-requires-clause-geometry
+put_at-requires-clause-geometry g c = subst IsGeometry (sym c.in_ok-leaf.ensures.reads.keeps.geometry)
+    c.requires.geometry
+
+pub put_at-requires-clause-whole : goal.put_at-requires-clause-whole
+put_at-requires-clause-whole g c = subst (λ (k : Geometry). AreWhole k.size c.args.batch.now.pages)
+    (sym c.in_ok-leaf.ensures.reads.keeps.geometry) c.requires.whole
+
+pub put_at-requires-clause-short : goal.put_at-requires-clause-short
+put_at-requires-clause-short g c = subst (λ (k : Geometry). length c.args.e.now.key ≤ k.size / 8)
+    (sym c.in_ok-leaf.ensures.reads.keeps.geometry) c.requires.short
+
+pub put_at-requires-clause-reached : goal.put_at-requires-clause-reached
+put_at-requires-clause-reached g c = subst (λ (k : Geometry). IsReached k.size
+    c.in_ok-leaf.leaf.top.owner 0 c.args.e.now c.in_ok-leaf.leaf.read)
+    (sym c.in_ok-leaf.ensures.reads.keeps.geometry) c.in_ok-leaf.ensures.reached

@@ -1,4 +1,4 @@
-use Rattle.std.proofs.Common.{rules, ◌≡◌, ◌≤◌, ◌<◌, ◌+◌, ◌/◌, ◌∙◌, refl, sym, subst, Ok, Err, ℕ, List, length, arith, None}
+use Rattle.std.proofs.Common.{rules, ◌≡◌, ap, ◌≤◌, ◌<◌, ◌+◌, ◌/◌, ◌∙◌, refl, sym, subst, Ok, Err, ℕ, List, length, arith, None}
 use Rattle.mg_base.specs.declared.geometry.Geometry.{Geometry}
 use Rattle.mg_space.specs.Taking.{IsGeometry}
 use Rattle.mg_space.specs.View.{AreWhole, viewed}
@@ -19,6 +19,10 @@ use Rattle.mg_btree.specs.RowOrderLaws.{not_there}
 use Rattle.mg_btree.specs.RoomyLaws.{no_room_full, split_roomy}
 use Rattle.mg_btree.specs.ScanLaws.{reads_err}
 use Rattle.mg_btree.specs.Searching.{IsReached}
+use Rattle.mg_node.specs.NodePage.{IsNodePage}
+use Rattle.mg_btree.specs.AboveLaws.{sized_by}
+use Rattle.mg_btree.proofs.ExitLemmas.{below_other}
+use Rattle.mg_btree.proofs.GrowingLemmas.{inner_next}
 use Rattle.mg_btree.proofs.making.+make_room.Goals as goal
 
 pub returns-then-has_room-clause-reads : goal.returns-then-has_room-clause-reads
@@ -105,7 +109,8 @@ pub make_room-requires : goal.make_room-requires
 make_room-requires g t c =
     let keeps = c.in_ok-split.ensures.reads.keeps in
     let is = c.in_ok-split.ensures.split in
-    let lower : c.args.level < c.args.top.level = (search rules) in
+    let lower : c.args.level < c.args.top.level =
+    below_other c.args.level c.args.top.level c.requires.lower c.if-level-top.false in
     let geometry : IsGeometry c.take_above.new.store.geometry =
     subst IsGeometry (sym keeps.geometry) c.requires.geometry in
     let whole : AreWhole c.take_above.new.store.geometry.size c.take_above.new.batch.pages =
@@ -152,7 +157,8 @@ returns-in_err-roomy-clause-in_place g t c = λ room. absurd (not_there c.has_ro
 
 pub returns-in_err-roomy-clause-makes : goal.returns-in_err-roomy-clause-makes
 returns-in_err-roomy-clause-makes g t c = λ image levels tells top stands.
-    let lower : c.args.level < c.args.top.level = (search rules) in
+    let lower : c.args.level < c.args.top.level =
+    below_other c.args.level c.args.top.level c.requires.lower c.if-level-top.false in
     rec_refused g.D.Disk.meaning c.args.store.now c.take_above.new.store image
     c.in_ok-split.ensures.reads.keeps c.requires.geometry c.args.batch.now c.take_above.new.batch
     c.make_room.new.batch c.args.top.owner c.args.top.page.0 c.args.level c.args.top.level levels
@@ -200,7 +206,8 @@ returns-clause-in_place g t c = λ room. absurd (not_there c.has_room.result c.h
 
 pub returns-clause-makes : goal.returns-clause-makes
 returns-clause-makes g t c = λ image levels tells top stands.
-    let lower : c.args.level < c.args.top.level = (search rules) in
+    let lower : c.args.level < c.args.top.level =
+    below_other c.args.level c.args.top.level c.requires.lower c.if-level-top.false in
     let first = c.in_ok-split.ensures.reads.keeps.geometry in
     let second = c.in_ok-roomy.ensures.reads.keeps.geometry ∙ first in
     let takes = c.in_ok-split.ensures.takes image levels tells top stands in
@@ -232,3 +239,61 @@ pub grow_root-requires-clause-no_room : goal.grow_root-requires-clause-no_room
 grow_root-requires-clause-no_room g t c =
     λ room. not_there c.has_room.result c.has_room.ensures.1 c.if-has_room.false
     (subst (λ (b : List ℕ). HasRoom b c.args.e.now) (sym c.as_slice.ensures) room)
+
+pub has_room-requires-clause-sized : goal.has_room-requires-clause-sized
+has_room-requires-clause-sized g t c = sized_by c.args.store.now.geometry c.as_slice.result.now
+    c.requires.geometry (ap (length {A = ℕ}) c.as_slice.ensures ∙ c.requires.place.len)
+
+pub has_room-requires-clause-lawful : goal.has_room-requires-clause-lawful
+has_room-requires-clause-lawful g t c = subst IsNodePage (sym c.as_slice.ensures) c.requires.place.lawful
+
+pub has_room-requires-clause-short : goal.has_room-requires-clause-short
+has_room-requires-clause-short g t c = subst (λ (n : ℕ). length c.args.e.now.key ≤ n / 8)
+    (sym (ap (length {A = ℕ}) c.as_slice.ensures ∙ c.requires.place.len)) c.requires.short
+
+pub take_above-requires-clause-lower : goal.take_above-requires-clause-lower
+take_above-requires-clause-lower g t c = below_other c.args.level c.args.top.level c.requires.lower
+    c.if-level-top.false
+
+pub returns-in_err-split-clause-widens : goal.returns-in_err-split-clause-widens
+returns-in_err-split-clause-widens g t c = c.in_err-split.ensures.widens
+
+pub put_split-requires-clause-geometry : goal.put_split-requires-clause-geometry
+put_split-requires-clause-geometry g t c = subst IsGeometry
+    (sym (c.in_ok-roomy.ensures.reads.keeps.geometry ∙ c.in_ok-split.ensures.reads.keeps.geometry))
+    c.requires.geometry
+
+pub put_split-requires-clause-len : goal.put_split-requires-clause-len
+put_split-requires-clause-len g t c = c.in_ok-roomy.ensures.roomy.place.len
+    ∙ sym (ap (λ (k : Geometry). k.size) c.in_ok-roomy.ensures.reads.keeps.geometry)
+
+pub put_split-requires-clause-left : goal.put_split-requires-clause-left
+put_split-requires-clause-left g t c = c.in_ok-split.ensures.split.halves.pair.splits.left_size
+    ∙ (c.requires.place.len ∙ sym (ap (λ (k : Geometry). k.size)
+    (c.in_ok-roomy.ensures.reads.keeps.geometry ∙ c.in_ok-split.ensures.reads.keeps.geometry)))
+
+pub put_split-requires-clause-right : goal.put_split-requires-clause-right
+put_split-requires-clause-right g t c = c.in_ok-split.ensures.split.halves.pair.splits.right_size
+    ∙ (c.requires.place.len ∙ sym (ap (λ (k : Geometry). k.size)
+    (c.in_ok-roomy.ensures.reads.keeps.geometry ∙ c.in_ok-split.ensures.reads.keeps.geometry)))
+
+pub put_split-requires-clause-lawful : goal.put_split-requires-clause-lawful
+put_split-requires-clause-lawful g t c = c.in_ok-roomy.ensures.roomy.place.lawful
+
+pub put_split-requires-clause-inner : goal.put_split-requires-clause-inner
+put_split-requires-clause-inner g t c = inner_next c.in_ok-roomy.roomy.bytes c.args.level
+    c.in_ok-roomy.ensures.roomy.place.on_level
+
+pub put_split-requires-clause-enough : goal.put_split-requires-clause-enough
+put_split-requires-clause-enough g t c = c.in_ok-roomy.ensures.roomy.place.enough
+
+pub put_split-requires-clause-short : goal.put_split-requires-clause-short
+put_split-requires-clause-short g t c = subst (λ (k : Geometry). length c.in_ok-split.split.halves.fence.key
+    ≤ k.size / 8) (sym (c.in_ok-roomy.ensures.reads.keeps.geometry
+    ∙ c.in_ok-split.ensures.reads.keeps.geometry)) c.in_ok-split.ensures.split.short
+
+pub put_split-requires-clause-covers : goal.put_split-requires-clause-covers
+put_split-requires-clause-covers g t c = c.in_ok-roomy.ensures.roomy.place.covers
+
+pub put_split-requires-clause-room : goal.put_split-requires-clause-room
+put_split-requires-clause-room g t c = c.in_ok-roomy.ensures.roomy.room

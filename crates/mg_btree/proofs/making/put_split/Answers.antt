@@ -1,4 +1,4 @@
-use Rattle.std.proofs.Common.{refl, ap, subst, ℕ}
+use Rattle.std.proofs.Common.{refl, ap, sym, ◌∙◌, subst, ◌≤◌, ◌/◌, ℕ, length}
 use Rattle.mg_base.specs.declared.geometry.Geometry.{Geometry}
 use Rattle.mg_pool.specs.declared.fault.PoolFault.TheVariants.{Memory}
 use Rattle.mg_space.specs.declared.fault.SpaceFault.TheVariants.{Pool as OfPool}
@@ -7,6 +7,7 @@ use Rattle.mg_btree.specs.MakingLaws.{named_err}
 use Rattle.mg_btree.specs.OrderLaws.{widens_same}
 use Rattle.mg_btree.specs.Making.{PutsSplit}
 use Rattle.mg_btree.specs.Ordering.{Widens}
+use Rattle.mg_base.specs.Geometry.{is_page_size}
 use Rattle.mg_btree.proofs.making.put_split.Goals as goal
 
 pub name_half-requires-clause-sized : goal.name_half-requires-clause-sized
@@ -46,3 +47,23 @@ returns-clause-splits g c = record {
 pub returns-clause-widens : goal.returns-clause-widens
 returns-clause-widens g c = subst (λ (k : Geometry). Widens k.size c.args.batch.now
     c.put_named.new.batch) c.geometry.ensures c.in_ok-put_named.ensures.widens
+
+pub name_half-requires-clause-short : goal.name_half-requires-clause-short
+name_half-requires-clause-short g c = subst (λ (n : ℕ). length c.args.halves.fence.key ≤ n / 8)
+    (sym c.requires.len) c.requires.short
+
+pub put_named-requires-clause-size : goal.put_named-requires-clause-size
+put_named-requires-clause-size g c = ap (λ (k : Geometry). is_page_size k.size) c.geometry.ensures
+    ∙ c.requires.geometry.size
+
+pub put_named-requires-clause-left : goal.put_named-requires-clause-left
+put_named-requires-clause-left g c = c.requires.left
+    ∙ sym (ap (λ (k : Geometry). k.size) c.geometry.ensures)
+
+pub put_named-requires-clause-right : goal.put_named-requires-clause-right
+put_named-requires-clause-right g c = c.requires.right
+    ∙ sym (ap (λ (k : Geometry). k.size) c.geometry.ensures)
+
+pub put_named-requires-clause-named : goal.put_named-requires-clause-named
+put_named-requires-clause-named g c = c.in_ok-named.ensures.names.keeps.size
+    ∙ (c.requires.len ∙ sym (ap (λ (k : Geometry). k.size) c.geometry.ensures))

@@ -5,9 +5,11 @@ use Rattle.mg_btree.specs.declared.halves.Halves.{Halves}
 use Rattle.mg_btree.specs.declared.node.ReadNode.{ReadNode}
 use Rattle.mg_btree.specs.AboveLaws.{above_err, above_read, above_unread, fence_short}
 use Rattle.mg_btree.specs.ExitLaws.{reads_ok}
-use Rattle.mg_btree.specs.ReadingLaws.{reads_on}
+use Rattle.mg_btree.specs.ReadingLaws.{ok_of_err, reads_on}
 use Rattle.mg_btree.specs.ScanLaws.{reads_err}
 use Rattle.mg_btree.specs.Searching.{IsReached}
+use Rattle.mg_space.specs.Taking.{IsGeometry}
+use Rattle.mg_btree.specs.Making.{IsSplit}
 use Rattle.mg_btree.proofs.making.take_above.Goals as goal
 
 pub descend-requires-clause-whole : goal.descend-requires-clause-whole
@@ -73,3 +75,31 @@ returns-clause-takes g c = λ image levels tells top stands. above_read g.D.Disk
     c.args.level levels c.args.full c.in_ok-halves.halves (Ok c.in_ok-above.above) tells top stands
     (c.in_ok-halves.ensures.takes image tells) c.in_ok-above.ensures.comes c.in_ok-above.above
     (record { halves = c.in_ok-halves.halves; above = c.in_ok-above.above }) refl refl refl
+
+pub descend-requires-clause-pool : goal.descend-requires-clause-pool
+descend-requires-clause-pool g c = c.in_ok-halves.ensures.reads.keeps.pool
+
+pub descend-requires-clause-geometry : goal.descend-requires-clause-geometry
+descend-requires-clause-geometry g c = subst IsGeometry
+    (sym c.in_ok-halves.ensures.reads.keeps.geometry) c.requires.geometry
+
+pub returns-in_err-halves-clause-widens : goal.returns-in_err-halves-clause-widens
+returns-in_err-halves-clause-widens g c = c.in_err-halves.ensures.widens
+
+pub returns-in_err-halves-clause-split : goal.returns-in_err-halves-clause-split
+returns-in_err-halves-clause-split g c = ok_of_err (IsSplit c.args.store.now.geometry.size
+    c.args.top.owner c.args.level c.args.full) _ c.from_residual.result c.from_residual.ensures.1
+
+pub returns-in_err-above-clause-widens : goal.returns-in_err-above-clause-widens
+returns-in_err-above-clause-widens g c = c.in_ok-halves.ensures.widens
+
+pub returns-in_err-above-clause-split : goal.returns-in_err-above-clause-split
+returns-in_err-above-clause-split g c = ok_of_err (IsSplit c.args.store.now.geometry.size
+    c.args.top.owner c.args.level c.args.full) _ c.from_residual-in_err-above.result
+    c.from_residual-in_err-above.ensures.1
+
+pub returns-clause-widens : goal.returns-clause-widens
+returns-clause-widens g c = c.in_ok-halves.ensures.widens
+
+pub returns-clause-alone : goal.returns-clause-alone
+returns-clause-alone g c = c.in_ok-halves.ensures.alone

@@ -1,9 +1,13 @@
-use Rattle.std.proofs.Common.{rules, ◌-◌, refl, Ok}
+use Rattle.std.proofs.Common.{rules, ◌-◌, refl, subst, ℕ, Ok}
+use Rattle.std.specs.Prelude.{IfOk}
 use Rattle.mg_base.specs.declared.numbers.PageNo.{PageNo}
 use Rattle.mg_space.specs.View.{viewed}
 use Rattle.mg_btree.specs.PassLaws.{comes_below, pass_refused}
-use Rattle.mg_btree.specs.ReadingLaws.{reads_on}
+use Rattle.mg_btree.specs.ReadingLaws.{ok_of_err, reads_on}
 use Rattle.mg_btree.specs.ScanLaws.{reads_err}
+use Rattle.mg_base.specs.declared.geometry.Geometry.{Geometry}
+use Rattle.mg_btree.specs.Searching.{BeginsAt, IsReached}
+use Rattle.mg_btree.proofs.ExitLemmas.{some_above}
 use Rattle.mg_btree.proofs.search.+descend.Goals as goal
 
 pub returns-in_err-child-clause-reads : goal.returns-in_err-child-clause-reads
@@ -30,3 +34,22 @@ returns-clause-comes g t c =
     (c.args.from - 1) c.args.e.now c.args.page.0 c.in_ok-child.child c.descend.result
     c.in_ok-child.ensures.reads.keeps (search rules) c.in_ok-child.ensures.passes
     c.descend.ensures.comes
+
+pub returns-then-from-level-clause-comes : goal.returns-then-from-level-clause-comes
+returns-then-from-level-clause-comes g t c = λ image root levels tells begins.
+    c.land.ensures.comes image root levels tells
+    (subst (λ (k : ℕ). BeginsAt c.args.store.now.geometry.size
+    (viewed c.args.store.now image c.args.batch.now) c.args.owner root levels c.args.e.now k
+    c.args.page.0) c.if-from-level.true begins)
+
+pub pass-requires-clause-inner : goal.pass-requires-clause-inner
+pass-requires-clause-inner g t c = some_above c.args.from c.args.level c.requires.lower c.if-from-level.false
+
+pub returns-in_err-child-clause-reached : goal.returns-in_err-child-clause-reached
+returns-in_err-child-clause-reached g t c = ok_of_err (IsReached c.args.store.now.geometry.size
+    c.args.owner c.args.level c.args.e.now) _ c.from_residual.result c.from_residual.ensures.1
+
+pub returns-clause-reached : goal.returns-clause-reached
+returns-clause-reached g t c = subst (λ (k : Geometry). IfOk c.descend.result (IsReached k.size
+    c.args.owner c.args.level c.args.e.now)) c.in_ok-child.ensures.reads.keeps.geometry
+    c.descend.ensures.reached

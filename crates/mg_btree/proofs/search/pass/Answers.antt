@@ -1,10 +1,13 @@
-use Rattle.std.proofs.Common.{rules, refl, sym, Ok, Err, ap, ◌∙◌}
-use Rattle.mg_node.specs.NodePage.{right_in}
+use Rattle.std.proofs.Common.{rules, refl, sym, Ok, Err, ap, ◌∙◌, ℕ, length}
+use Rattle.mg_base.specs.declared.geometry.Geometry.{Geometry}
+use Rattle.mg_node.specs.NodePage.{level_in, right_in}
 use Rattle.mg_btree.specs.ExitLaws.{reads_ok}
 use Rattle.mg_btree.specs.PassLaws.{pass_down, pass_tested, pass_unread}
 use Rattle.mg_btree.specs.RowOrderLaws.{not_there}
 use Rattle.mg_btree.specs.ScanLaws.{reads_err}
 use Rattle.mg_btree.specs.WayLaws.{way_circle, way_damaged, way_ends, way_next, way_reads, way_starts}
+use Rattle.mg_btree.specs.AboveLaws.{sized_by}
+use Rattle.mg_btree.proofs.GrowingLemmas.{inner_of}
 use Rattle.mg_btree.proofs.search.pass.Goals as goal
 
 pub loop-init : goal.loop-init
@@ -73,3 +76,35 @@ pub returns-clause-passes : goal.returns-clause-passes
 returns-clause-passes g c = λ image root levels tells begins. absurd (way_ends g.D.Disk.meaning
     c.args.store.now c.loop.store c.args.batch.now c.args.owner c.args.level c.args.e.now
     c.args.page.0 c.loop.at.0 c.loop.counter c.loop.invariant (search rules) image root levels tells begins)
+
+pub check_above-requires : goal.check_above-requires
+check_above-requires g c = (sized_by c.args.store.now.geometry c.as_slice.result.now c.requires.geometry
+    (ap (length {A = ℕ}) c.as_slice.ensures ∙ (c.in_ok-bytes.ensures.len
+    ∙ ap (λ (k : Geometry). k.size) c.loop.invariant.keeps.geometry))).least
+
+pub is_under-requires-clause-least : goal.is_under-requires-clause-least
+is_under-requires-clause-least g c = (sized_by c.args.store.now.geometry c.as_slice-in-loop.result.now
+    c.requires.geometry (ap (length {A = ℕ}) c.as_slice-in-loop.ensures ∙ (c.in_ok-bytes.ensures.len
+    ∙ ap (λ (k : Geometry). k.size) c.loop.invariant.keeps.geometry))).least
+
+pub is_under-requires-clause-most : goal.is_under-requires-clause-most
+is_under-requires-clause-most g c = (sized_by c.args.store.now.geometry c.as_slice-in-loop.result.now
+    c.requires.geometry (ap (length {A = ℕ}) c.as_slice-in-loop.ensures ∙ (c.in_ok-bytes.ensures.len
+    ∙ ap (λ (k : Geometry). k.size) c.loop.invariant.keeps.geometry))).most
+
+pub child_on-requires-clause-least : goal.child_on-requires-clause-least
+child_on-requires-clause-least g c = (sized_by c.args.store.now.geometry
+    c.as_slice-then-is_under.result.now c.requires.geometry
+    (ap (length {A = ℕ}) c.as_slice-then-is_under.ensures ∙ (c.in_ok-bytes.ensures.len
+    ∙ ap (λ (k : Geometry). k.size) c.loop.invariant.keeps.geometry))).least
+
+pub child_on-requires-clause-most : goal.child_on-requires-clause-most
+child_on-requires-clause-most g c = (sized_by c.args.store.now.geometry
+    c.as_slice-then-is_under.result.now c.requires.geometry
+    (ap (length {A = ℕ}) c.as_slice-then-is_under.ensures ∙ (c.in_ok-bytes.ensures.len
+    ∙ ap (λ (k : Geometry). k.size) c.loop.invariant.keeps.geometry))).most
+
+pub child_on-requires-clause-inner : goal.child_on-requires-clause-inner
+child_on-requires-clause-inner g c = inner_of c.as_slice-then-is_under.result.now c.args.level
+    (ap level_in (c.as_slice-then-is_under.ensures ∙ sym c.as_slice.ensures)
+    ∙ (c.in_ok-check_above.ensures.0 refl).1) c.requires.inner
