@@ -1,11 +1,13 @@
 -- A batch of its own was filled and changed, or not.
-use Rattle.std.proofs.Common.{◌≡◌, ℕ, List, [], Result, Ok, Err, refl, subst, sym}
+use Rattle.std.proofs.Common.{◌≡◌, ◌⊎◌, inl, inr, [], Result, Ok, Err, subst}
 use Rattle.std.specs.Prelude.{MatchResult}
 use Rattle.mg_base.specs.Disk.{Meaning}
 use Rattle.mg_base.specs.Image.{Image}
 use Rattle.mg_heap.specs.Reading.{ReadsData}
 use Rattle.mg_pool.specs.Batch.{Changed}
-use Rattle.mg_pool.specs.Fault.{StaysOnline, TellsFault}
+use Rattle.mg_pool.specs.Fault.{OnlyWrites, StaysOnline, TellsFault}
+use Rattle.mg_pool.specs.declared.fault.PoolFault.{PoolFault}
+use Rattle.mg_pool.specs.declared.fault.PoolFault.TheVariants.{Memory}
 use Rattle.mg_pool.specs.declared.pool.Pool.{Pool}
 use Rattle.mg_space.specs.View.{KeepsStore, ReadsAlone, Tells, pool_answer}
 use Rattle.mg_space.specs.declared.fault.SpaceFault.{SpaceFault}
@@ -17,6 +19,13 @@ use Rattle.mg_row_writes.specs.Changing.{ChangesBatch, ChangesOwn, FailsBatch, F
 pub nothing : (batch : Changed) → batch.pages ≡ [] → batch.orders ≡ [] → batch ≡ nothing_yet
 nothing batch pages orders = λ k. record { pages = pages k; orders = orders k }
 
+-- the cache refuses a change by a page write, or for want of memory
+pub own_of : (fault : PoolFault)
+    → OnlyWrites {T = Unit {0}} (Err fault) ⊎ (◌≡◌ {A = Result (Unit {0}) PoolFault} (Err fault) (Err Memory))
+    → OnlyWrites {T = Unit {0}} (Err fault) ⊎ (fault ≡ Memory)
+own_of fault (inl own) = inl own
+own_of fault (inr is) = inr cc
+
 -- a batch that was filled is changed, or not
 pub own_batch : {D : Type 0} (m : Meaning D) (before ready after : Pool D FireLinks)
     (fills : Image → Changed → Type 0) (refuses : Image → SpaceFault → Type 0) (empty batch : Changed)
@@ -27,15 +36,16 @@ pub own_batch : {D : Type 0} (m : Meaning D) (before ready after : Pool D FireLi
     → ((image : Image) → Tells m before.disk image → P empty image batch)
     → MatchResult result (λ _. ChangesBatch m ready after batch) (FailsBatch m ready after batch)
     → MatchResult result (λ _. ChangesOwn m before after fills) (FailsOwn m before after fills refuses)
-own_batch m before ready after fills refuses empty batch P (Ok x) pages orders hands keeps online filled changed = record {
-  batch = batch;
-  ready = ready;
-  keeps = keeps;
-  online = online;
-  filled = λ image tells. hands image batch (subst (λ (e : Changed). P e image batch) (nothing empty pages orders)
-      (filled image tells));
-  changed = changed;
-}
+own_batch m before ready after fills refuses empty batch P (Ok x) pages orders hands keeps online filled
+    changed = record {
+      batch = batch;
+      ready = ready;
+      keeps = keeps;
+      online = online;
+      filled = λ image tells. hands image batch (subst (λ (e : Changed). P e image batch) (nothing empty pages orders)
+          (filled image tells));
+      changed = changed;
+    }
 own_batch m before ready after fills refuses empty batch P (Err fault) pages orders hands keeps online filled failed =
     not_changed batch ready keeps online (λ image tells. hands image batch (subst (λ (e : Changed). P e image batch)
     (nothing empty pages orders) (filled image tells))) failed

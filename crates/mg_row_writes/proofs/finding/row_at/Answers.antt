@@ -1,10 +1,13 @@
-use Rattle.std.proofs.Common.{ℕ}
-use Rattle.mg_image.specs.Form.{Pages}
+use Rattle.std.proofs.Common.{◌∙◌, subst, sym, Option}
+use Rattle.mg_image.specs.Form.{Pages, Row}
 use Rattle.mg_pool.specs.Pool.{shown}
 use Rattle.mg_seek.specs.Versions.{wants}
 use Rattle.mg_seek.specs.declared.whose.Wanted.TheVariants.{SeenBy}
 use Rattle.mg_row_writes.specs.Finding.{IsRowAt, IsSeenIn, RefusesRowAt, RefusesSeen, row_unread, row_unspoken}
-use Rattle.mg_row_writes.proofs.FindLemmas.{as_before, handed_on}
+use Rattle.mg_row_writes.proofs.FindLemmas.{as_before, handed_on, fault_same, reads_same, fault_up}
+use Rattle.mg_space.specs.ViewLaws.{keeps_on}
+use Rattle.mg_space.specs.Taking.{IsGeometry}
+use Rattle.mg_base.specs.declared.numbers.RecId.{RecId}
 use Rattle.mg_row_writes.proofs.finding.row_at.Goals as goal
 
 pub returns-in_err-rec-clause-gives : goal.returns-in_err-rec-clause-gives
@@ -39,3 +42,57 @@ returns-clause-gives g c = λ image tells. record {
       view c.args.table.now c.in_ok-rec.rec c.in_ok-row.row) c.in_ok-rec.ensures.keeps tells
       (c.in_ok-row.ensures.gives image);
 }
+
+pub returns-in_err-rec-clause-keeps : goal.returns-in_err-rec-clause-keeps
+returns-in_err-rec-clause-keeps g c = c.in_err-rec.ensures.keeps
+
+pub returns-in_err-rec-clause-fault : goal.returns-in_err-rec-clause-fault
+returns-in_err-rec-clause-fault g c = fault_same (Option RecId) g.D.Disk.meaning c.args.store.now
+    c.speaker_at.new.store c.from_residual.result c.in_err-rec.field-0.0
+    c.from_residual.ensures.0 c.from_residual.ensures.1 c.in_err-rec.ensures.fault
+
+pub returns-in_err-rec-clause-own : goal.returns-in_err-rec-clause-own
+returns-in_err-rec-clause-own g c = reads_same (Option RecId) c.from_residual.result c.in_err-rec.field-0.0
+    c.from_residual.ensures.0 c.from_residual.ensures.1
+    c.in_err-rec.ensures.own
+
+pub row_seen-requires-clause-pool : goal.row_seen-requires-clause-pool
+row_seen-requires-clause-pool g c = c.in_ok-rec.ensures.keeps.pool
+
+pub row_seen-requires-clause-geometry : goal.row_seen-requires-clause-geometry
+row_seen-requires-clause-geometry g c = subst IsGeometry (sym c.in_ok-rec.ensures.keeps.geometry) c.requires.geometry
+
+pub row_seen-requires-clause-online : goal.row_seen-requires-clause-online
+row_seen-requires-clause-online g c = c.in_ok-rec.ensures.fault.1
+
+pub row_seen-requires-clause-columns : goal.row_seen-requires-clause-columns
+row_seen-requires-clause-columns g c = c.requires.columns
+
+pub returns-in_err-row-clause-keeps : goal.returns-in_err-row-clause-keeps
+returns-in_err-row-clause-keeps g c = keeps_on g.D.Disk.meaning g.met.D.Disk.counts_now c.args.store.now
+    c.speaker_at.new.store
+    c.row_seen.new.store c.in_ok-rec.ensures.keeps c.in_err-row.ensures.keeps
+
+pub returns-in_err-row-clause-fault : goal.returns-in_err-row-clause-fault
+returns-in_err-row-clause-fault g c = fault_up (Option Row) g.D.Disk.meaning c.args.store.now
+    c.speaker_at.new.store c.row_seen.new.store
+    c.from_residual-in_err-row.result c.in_err-row.field-0.0 c.in_ok-rec.ensures.keeps c.in_ok-rec.ensures.fault.2
+    c.from_residual-in_err-row.ensures.0 c.from_residual-in_err-row.ensures.1 c.in_err-row.ensures.fault
+
+pub returns-in_err-row-clause-own : goal.returns-in_err-row-clause-own
+returns-in_err-row-clause-own g c = reads_same (Option Row) c.from_residual-in_err-row.result c.in_err-row.field-0.0
+    c.from_residual-in_err-row.ensures.0 c.from_residual-in_err-row.ensures.1 c.in_err-row.ensures.own
+
+pub returns-clause-keeps : goal.returns-clause-keeps
+returns-clause-keeps g c = keeps_on g.D.Disk.meaning g.met.D.Disk.counts_now c.args.store.now c.speaker_at.new.store
+    c.row_seen.new.store c.in_ok-rec.ensures.keeps c.in_ok-row.ensures.keeps
+
+pub returns-clause-fault : goal.returns-clause-fault
+returns-clause-fault g c = (
+  c.in_ok-rec.ensures.fault.0,
+  c.in_ok-row.ensures.fault.1,
+  c.in_ok-row.ensures.fault.2 ∙ c.in_ok-rec.ensures.fault.2,
+)
+
+pub returns-clause-own : goal.returns-clause-own
+returns-clause-own g c = tt
