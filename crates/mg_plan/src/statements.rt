@@ -363,6 +363,7 @@ fn bind_values(
     }
 }
 
+/// A new row's statement: its values name no column.
 fn bind_insert(
     alloc: Global,
     table: &Name,
@@ -380,6 +381,7 @@ fn bind_insert(
     })
 }
 
+/// An UPDATE, with columns in place of names in its new values and its filter.
 fn bind_update(
     alloc: Global,
     columns: &[Column],
@@ -399,6 +401,7 @@ fn bind_update(
     })
 }
 
+/// A SELECT of totals, with columns in place of names in them and in its filter.
 fn bind_select_totals(
     alloc: Global,
     columns: &[Column],
