@@ -1,7 +1,7 @@
 //! Descriptions of batches, read into steps.
 
 use mg_base::Memory;
-use mg_decimal::unsigned;
+use mg_words::unsigned;
 use std::alloc::Global;
 
 /// What a line asks for.

@@ -4,7 +4,7 @@ ghost use Rattle.std.specs.Prelude.{◌≡◌, ◌≢◌, ◌<◌, ◌∷◌, �
 ghost use Rattle.std.specs.Str.Lines.{lines, strip_carriage_return};
 ghost use Rattle.mg_script.specs.Spelling.{AreSpelled, IsFirst, StandsNowhere};
 
-use mg_decimal::signed;
+use mg_words::signed;
 
 /// The first line of a script that is not empty, without its end, and the script behind it.
 pub(crate) fn first_line(script: &[u8]) -> (&[u8], &[u8])

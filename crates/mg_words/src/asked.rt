@@ -4,8 +4,8 @@ ghost use Rattle.std.specs.Prelude.{◌≡◌, MatchOption, string_bytes};
 ghost use Rattle.mg_words.specs.Words.{Adds, given as given_in, nothing, with_number};
 ghost use Rattle.mg_words.specs.declared.asked.Asked.{Asked as AnyAsked};
 
+use crate::number::unsigned;
 use crate::switch::Switch;
-use mg_decimal::unsigned;
 
 /// What the options of a command line ask for.
 #[derive(Clone, Copy, Debug, PartialEq, Eq)]

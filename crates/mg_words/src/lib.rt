@@ -1,6 +1,9 @@
-//! The words of a command line: `run DB`, and its options.
+//! The words of a command line, `run DB` and its options; and the numbers that are spelled there and in
+//! a script.
 //!
-//! Owns: which command lines the program takes (`specs/Words`), and what they ask for.
+//! Owns: which command lines the program takes (`specs/Words`), and what they ask for; decimal numbers,
+//! `unsigned` of 32 bits and `signed` of 64: digits without a leading zero, and `-` before a negative
+//! one, so that each takes exactly the spellings that printing gives.
 //!
 //! | words | what |
 //! |---|---|
@@ -13,13 +16,15 @@
 //! `-` is none, so that no mistyped option makes a file.
 //!
 //! Invariant: none, it keeps no state.
-//! Below: `mg_decimal`, for numbers. Above: the program.
-//! Not here: what a command does.
+//! Below: `itoa`, which prints numbers. Above: the lines of a script, and the program.
+//! Not here: what a command does, and which numbers a line of a script may have.
 #![tactic(auto)]
 
 mod asked;
+mod number;
 mod reading;
 mod switch;
 
 pub use asked::Asked;
+pub use number::{signed, unsigned};
 pub use reading::{USUAL_PAGE, read_words, wanted_page};

@@ -1,7 +1,7 @@
 //! Descriptions of runs, read into steps.
 
 use mg_base::Memory;
-use mg_decimal::unsigned;
+use mg_words::unsigned;
 use std::alloc::Global;
 
 /// What a step does.

@@ -5,7 +5,7 @@ use Rattle.std.proofs.lemmas.Str.{IsUtf8-from_ascii}
 use Rattle.std.specs.Fmt.{decimal}
 use Rattle.std.specs.Str.{IsUtf8}
 use Rattle.std.specs.Cmp.Lexicographic.{other_text}
-use Rattle.mg_decimal.proofs.number.unsigned.Goals as goal
+use Rattle.mg_words.proofs.number.unsigned.Goals as goal
 
 pub returns-in_default : goal.returns-in_default
 returns-in_default c = λ n small is.

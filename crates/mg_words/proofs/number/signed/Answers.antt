@@ -7,7 +7,7 @@ use Rattle.std.specs.Str.{IsUtf8}
 use Rattle.std.specs.Int.{w64}
 use Rattle.std.proofs.lemmas.Int.{to_z-of_z}
 use Rattle.std.specs.Cmp.Lexicographic.{other_text}
-use Rattle.mg_decimal.proofs.number.signed.Goals as goal
+use Rattle.mg_words.proofs.number.signed.Goals as goal
 
 pub returns-in_default : goal.returns-in_default
 returns-in_default c = λ z fits is.
