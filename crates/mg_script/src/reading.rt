@@ -12,9 +12,9 @@ ghost use Rattle.mg_statements.specs.Plain.{plain_of};
 use crate::line::{LineKind, MOST_STEPS, SESSIONS, Session};
 use crate::splitting::{behind, two_numbers};
 use mg_base::{Bytes, Memory};
-use mg_words::{signed, unsigned};
 use mg_sql::{parse, statements_have_no_fault, texts_are_one_statement};
 use mg_statements::{SqlFault, Statement, let_go};
+use mg_words::{signed, unsigned};
 use std::alloc::Global;
 
 /// Reads one line, without its end.
