@@ -13,8 +13,7 @@
 //!
 //! Invariant: none of its own, it keeps no state.
 //! Below: `mg_heap` for cells by their places, `mg_version` for what a cell spells, `mg_snap` for
-//! what a base sees, `mg_txlist` for `ListStates`, and `mg_generations` for the laws. Above: the engine and
-//! the collection of garbage.
+//! what a base sees, and `mg_generations` for the laws. Above: the engine and the collection of garbage.
 //! Not here: the walk along a chain (`mg_seek`); what becomes of a transaction, which a caller tells by
 //! `States`; when a batch is changed; and how versions behind others are collected.
 #![tactic(auto)]
@@ -23,7 +22,6 @@ mod cells;
 mod damage;
 mod heads;
 mod laws;
-mod list_states;
 mod making;
 mod ordering;
 mod pushing;
@@ -38,7 +36,6 @@ pub use laws::{
     a_transaction_sees_its_view, bases_follow_the_machine, cells_are_changed,
     newest_versions_are_changed, versions_are_added,
 };
-pub use list_states::ListStates;
 pub use making::{first, spot};
 pub use pushing::push;
 pub use replacing::replace_own;
