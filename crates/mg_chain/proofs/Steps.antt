@@ -1,6 +1,6 @@
 -- How the refusals of the reading of a version are handed on.
 use Rattle.std.specs.Prelude.{◌≡◌, ℕ, ◌≤◌, ◌-◌, List, Option, Result, Ok, Err, IsErr, IsErrAnd, MatchResult}
-use Rattle.std.proofs.Common.{◌∙◌, sym, ap, subst, inl, inr, arith, refl}
+use Rattle.std.proofs.Common.{◌∙◌, sym, ap, subst, inl, inr, arith}
 use Rattle.mg_base.specs.Disk.{Meaning}
 use Rattle.mg_base.specs.Image.{Image}
 use Rattle.mg_base.specs.declared.damage.Damaged.{Damaged}
@@ -9,13 +9,10 @@ use Rattle.mg_base.specs.declared.geometry.TheConstants.{GREATEST_LIMIT}
 use Rattle.mg_image.specs.Form.{Pages}
 use Rattle.mg_image.specs.Records.{cells_of}
 use Rattle.mg_pool.specs.Batch.{Changed}
-use Rattle.mg_pool.specs.Fault.{MeetsNoFault, StaysOnline, TellsFault}
 use Rattle.mg_pool.specs.declared.batch.BatchPage.{BatchPage}
-use Rattle.mg_pool.specs.declared.fault.PoolFault.{PoolFault}
-use Rattle.mg_pool.specs.declared.fault.PoolFault.TheVariants as pool_faults
 use Rattle.mg_pool.specs.declared.pool.Pool.{Pool}
-use Rattle.mg_space.specs.View.{KeepsStore, Tells, viewed, pool_answer}
-use Rattle.mg_space.specs.ViewLaws.{tells_on, viewed_on, fault_on}
+use Rattle.mg_space.specs.View.{KeepsStore, Tells, viewed}
+use Rattle.mg_space.specs.ViewLaws.{tells_on, viewed_on}
 use Rattle.mg_space.specs.declared.fault.SpaceFault.{SpaceFault}
 use Rattle.mg_space.specs.declared.fault.SpaceFault.TheVariants as faults
 use Rattle.mg_version.specs.declared.cell.Cell.{Cell}
@@ -32,33 +29,6 @@ handed_on (Ok x) fault P Q err is holds = absurd cc
 handed_on (Err e) fault P Q err is holds = subst Q (sym is) holds
 
 -- ---- one call after another
-
-same_answer : (A B : Type 0) (fault : SpaceFault)
-    → pool_answer {T = A} (Err fault) ≡ pool_answer {T = B} (Err fault)
-same_answer A B (faults.Full most) = refl
-same_answer A B (faults.Damaged it) = refl
-same_answer A B (faults.Pool fault) = refl
-
--- a fault that a later call met is handed on, and told since the start
-pub fault_up : {D L T : Type 0} (A : Type 0) (m : Meaning D) (a b c : Pool D L)
-    (result : Result T SpaceFault) (fault : SpaceFault) → KeepsStore m a b → MeetsNoFault m a b
-    → IsErr result → IsErrAnd result (λ given. given ≡ fault)
-    → TellsFault m b c (pool_answer {T = A} (Err fault)) → TellsFault m a c (pool_answer result)
-fault_up A m a b c (Ok x) fault kept same err is tells = absurd cc
-fault_up {T = T} A m a b c (Err e) fault kept same err is tells =
-    let P : Result (Unit {0}) PoolFault → Type 0 = λ answer. TellsFault m b c answer in
-    let Q : SpaceFault → Type 0 = λ f. TellsFault m b c (pool_answer {T = T} (Err f)) in
-    fault_on m a b c (pool_answer {T = T} (Err e)) kept same
-    (subst Q (sym is) (subst P (same_answer A T fault) tells))
-
--- memory was wanting after calls that met no fault
-pub memory_up : {D L T : Type 0} (m : Meaning D) (a b : Pool D L) (result : Result T SpaceFault)
-    → IsErr result → IsErrAnd result (λ given. given ≡ faults.Pool pool_faults.Memory)
-    → StaysOnline m a b → TellsFault m a b (pool_answer result)
-memory_up m a b (Ok x) err is online = absurd cc
-memory_up {T = T} m a b (Err e) err is online =
-    let Q : SpaceFault → Type 0 = λ f. TellsFault m a b (pool_answer {T = T} (Err f)) in
-    subst Q (sym is) online
 
 -- a version that was read after a call that has only read is one of the pages before that call
 pub met_on : {D L : Type 0} (m : Meaning D) (a b c : Pool D L) (image : Image) (batch : Changed)

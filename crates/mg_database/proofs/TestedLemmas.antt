@@ -5,14 +5,12 @@ use Rattle.std.specs.Prelude.{IsErr, IsErrAnd, MatchResult, unwrap_or}
 use Rattle.mg_base.specs.Disk.{Meaning}
 use Rattle.mg_base.specs.Image.{Image}
 use Rattle.mg_base.specs.declared.numbers.PageNo.{PageNo}
-use Rattle.mg_heap.specs.Reading.{ReadsData}
 use Rattle.mg_heap.specs.Reads.{ReadsListed, is_listed}
 use Rattle.mg_heap.specs.Table.{IsTable, RefusesTable}
 use Rattle.mg_heap.specs.TableLaws.{each_push}
 use Rattle.mg_heap.specs.Walk.{RefusesTableData}
 use Rattle.mg_image.specs.Form.{Pages}
 use Rattle.mg_pool.specs.Batch.{Changed, content_in}
-use Rattle.mg_pool.specs.Fault.{MeetsNoFault, TellsFault}
 use Rattle.mg_pool.specs.Pool.{shown}
 use Rattle.mg_pool.specs.Reading.{ReadsPages}
 use Rattle.mg_pool.specs.declared.batch.BatchPage.{BatchPage}
@@ -20,8 +18,8 @@ use Rattle.mg_pool.specs.declared.pool.Pool.{Pool}
 use Rattle.mg_slots.specs.DataPage.{IsDataPage}
 use Rattle.mg_slots.specs.Verdict.{common_verdict}
 use Rattle.mg_slots.specs.declared.page.TheConstants.{DATA_KIND}
-use Rattle.mg_space.specs.View.{KeepsStore, Tells, pool_answer, viewed}
-use Rattle.mg_space.specs.ViewLaws.{fault_on, tells_on, viewed_on}
+use Rattle.mg_space.specs.View.{KeepsStore, Tells, viewed}
+use Rattle.mg_space.specs.ViewLaws.{tells_on, viewed_on}
 use Rattle.mg_space.specs.declared.fault.SpaceFault.{SpaceFault}
 use Rattle.mg_space.specs.declared.fault.SpaceFault.TheVariants as space
 use Rattle.mg_txlist.specs.ReadingLaws.{all_more, of_more}
@@ -33,42 +31,6 @@ pub handed_on : {T : Type 0} (result : Result T SpaceFault) (fault : SpaceFault)
     → MatchResult result P Q
 handed_on (Ok x) fault P Q err is holds = absurd cc
 handed_on (Err e) fault P Q err is holds = subst Q (sym is) holds
-
--- a fault is told whatever the call would have answered
-fault_told : {D L : Type 0} (T U : Type 0) (m : Meaning D) (a b : Pool D L) (fault : SpaceFault)
-    → TellsFault m a b (pool_answer {T = T} (Err fault)) → TellsFault m a b (pool_answer {T = U} (Err fault))
-fault_told T U m a b (space.Full limit) given = given
-fault_told T U m a b (space.Damaged it) given = given
-fault_told T U m a b (space.Pool it) given = given
-
-fault_read : (T U : Type 0) (fault : SpaceFault) → ReadsData {T = T} (Err fault) → ReadsData {T = U} (Err fault)
-fault_read T U (space.Full limit) given = given
-fault_read T U (space.Damaged it) given = given
-fault_read T U (space.Pool it) given = given
-
--- a fault that a call met is handed on, and told as that call told it
-pub fault_same : {D L T : Type 0} (A : Type 0) (m : Meaning D) (a b : Pool D L) (result : Result T SpaceFault)
-    (fault : SpaceFault) → IsErr result → IsErrAnd result (λ given. given ≡ fault)
-    → TellsFault m a b (pool_answer {T = A} (Err fault)) → TellsFault m a b (pool_answer result)
-fault_same A m a b (Ok x) fault err is tells = absurd cc
-fault_same {T = T} A m a b (Err e) fault err is tells =
-    subst (λ (f : SpaceFault). TellsFault m a b (pool_answer {T = T} (Err f))) (sym is) (fault_told A T m a b
-    fault tells)
-
--- so is one of a later call, and told since the start
-pub fault_up : {D L T : Type 0} (A : Type 0) (m : Meaning D) (a b c : Pool D L) (result : Result T SpaceFault)
-    (fault : SpaceFault) → KeepsStore m a b → MeetsNoFault m a b → IsErr result
-    → IsErrAnd result (λ given. given ≡ fault) → TellsFault m b c (pool_answer {T = A} (Err fault))
-    → TellsFault m a c (pool_answer result)
-fault_up A m a b c result fault kept same err is tells =
-    fault_on m a b c (pool_answer result) kept same (fault_same A m b c result fault err is tells)
-
--- a fault of a reading that is handed on is one of a reading
-pub reads_same : {T : Type 0} (A : Type 0) (result : Result T SpaceFault) (fault : SpaceFault) → IsErr result
-    → IsErrAnd result (λ given. given ≡ fault) → ReadsData {T = A} (Err fault) → ReadsData result
-reads_same A (Ok x) fault err is reads = tt
-reads_same {T = T} A (Err e) fault err is reads =
-    subst (λ (f : SpaceFault). ReadsData {T = T} (Err f)) (sym is) (fault_read A T fault reads)
 
 module _ {D L : Type 0} (m : Meaning D) (start store : Pool D L) (image : Image) (batch : Changed)
     (kept : KeepsStore m start store) (tells : Tells m start.disk image) where

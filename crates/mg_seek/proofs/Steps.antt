@@ -1,22 +1,19 @@
 -- The steps of a walk along the versions of a record, and how refusals are handed on.
-use Rattle.std.specs.Prelude.{◌≡◌, ◌⊎◌, ℕ, ◌+◌, ◌<◌, ◌≤◌, ◌-◌, ◌^◌, Bool, true, false, List, [], Option, None, Some, unwrap_or, Result, Ok, Err, IsErr, IsErrAnd, IfOk, MatchResult, refl}
+use Rattle.std.specs.Prelude.{◌≡◌, ◌⊎◌, ℕ, ◌+◌, ◌<◌, ◌≤◌, ◌-◌, ◌^◌, Bool, true, false, List, [], Option, None, Some, unwrap_or, Result, Ok, Err, IsErr, IsErrAnd, MatchResult, refl}
 use Rattle.std.proofs.Common.{sym, ◌∙◌, ap, subst, inl, inr, arith}
 use Rattle.mg_base.specs.Disk.{Meaning}
 use Rattle.mg_base.specs.Image.{Image}
 use Rattle.mg_base.specs.declared.damage.Damaged.{Damaged}
 use Rattle.mg_base.specs.declared.damage.Field.TheVariants as fields
 use Rattle.mg_base.specs.declared.numbers.RecId.{RecId}
-use Rattle.mg_heap.specs.Reading.{ReadsData}
 use Rattle.mg_image.specs.Form.{Pages}
 use Rattle.mg_image.specs.Records.{cells_of}
 use Rattle.mg_pool.specs.Batch.{Changed, content_in}
 use Rattle.mg_pool.specs.Pool.{shown}
 use Rattle.mg_pool.specs.declared.batch.BatchPage.{BatchPage}
 use Rattle.mg_pool.specs.declared.pool.Pool.{Pool}
-use Rattle.mg_pool.specs.Fault.{MeetsNoFault, TellsFault}
-use Rattle.mg_pool.specs.declared.fault.PoolFault.{PoolFault}
-use Rattle.mg_space.specs.View.{KeepsStore, Tells, pool_answer, viewed}
-use Rattle.mg_space.specs.ViewLaws.{fault_on, tells_on, viewed_on}
+use Rattle.mg_space.specs.View.{KeepsStore, Tells, viewed}
+use Rattle.mg_space.specs.ViewLaws.{tells_on, viewed_on}
 use Rattle.mg_space.specs.declared.fault.SpaceFault.{SpaceFault}
 use Rattle.mg_space.specs.declared.fault.SpaceFault.TheVariants as faults
 use Rattle.mg_version.specs.declared.cell.Link.{Link}
@@ -159,53 +156,6 @@ module _ (view : Pages) (rec : RecId) (takes : ℕ → Bool) where
           → WalkAt view rec takes n holder l mark → 2 ^ 32 - 1 ≤ n
           → IsChainDamage m store pages view rec (damage holder fields.Link l.rec.page.0 0)
       walk_is_long n holder l mark walk long = too_long n holder l walk.follows long
-
--- ---- faults of a later call
-
-same_answer : (A B : Type 0) (fault : SpaceFault)
-    → pool_answer {T = A} (Err fault) ≡ pool_answer {T = B} (Err fault)
-same_answer A B (faults.Full most) = refl
-same_answer A B (faults.Damaged it) = refl
-same_answer A B (faults.Pool fault) = refl
-
--- a fault that a later call met is handed on, and told since the start
-pub fault_up : {D L T : Type 0} (A : Type 0) (m : Meaning D) (a b c : Pool D L) (result : Result T SpaceFault)
-    (fault : SpaceFault) → KeepsStore m a b → MeetsNoFault m a b → IsErr result
-    → IsErrAnd result (λ given. given ≡ fault) → TellsFault m b c (pool_answer {T = A} (Err fault))
-    → TellsFault m a c (pool_answer result)
-fault_up A m a b c (Ok x) fault kept same err is tells = absurd cc
-fault_up {T = T} A m a b c (Err e) fault kept same err is tells =
-    let P : Result (Unit {0}) PoolFault → Type 0 = λ answer. TellsFault m b c answer in
-    let Q : SpaceFault → Type 0 = λ f. TellsFault m b c (pool_answer {T = T} (Err f)) in
-    fault_on m a b c (pool_answer {T = T} (Err e)) kept same
-    (subst Q (sym is) (subst P (same_answer A T fault) tells))
-
--- a fault that a call met is handed on, and told as that call told it
-pub fault_same : {D L T : Type 0} (A : Type 0) (m : Meaning D) (a b : Pool D L) (result : Result T SpaceFault)
-    (fault : SpaceFault) → IsErr result → IsErrAnd result (λ given. given ≡ fault)
-    → TellsFault m a b (pool_answer {T = A} (Err fault)) → TellsFault m a b (pool_answer result)
-fault_same A m a b (Ok x) fault err is tells = absurd cc
-fault_same {T = T} A m a b (Err e) fault err is tells =
-    let P : Result (Unit {0}) PoolFault → Type 0 = λ answer. TellsFault m a b answer in
-    let Q : SpaceFault → Type 0 = λ f. TellsFault m a b (pool_answer {T = T} (Err f)) in
-    subst Q (sym is) (subst P (same_answer A T fault) tells)
-
-reads_as : (A T : Type 0) (fault : SpaceFault) → ReadsData {T = A} (Err fault) → ReadsData {T = T} (Err fault)
-reads_as A T (faults.Full most) reads = reads
-reads_as A T (faults.Damaged it) reads = reads
-reads_as A T (faults.Pool fault) reads = reads
-
--- a fault of a reading that is handed on is one of a reading
-pub reads_same : {T : Type 0} (A : Type 0) (result : Result T SpaceFault) (fault : SpaceFault) → IsErr result
-    → IsErrAnd result (λ given. given ≡ fault) → ReadsData {T = A} (Err fault) → ReadsData result
-reads_same A (Ok x) fault err is reads = tt
-reads_same {T = T} A (Err e) fault err is reads =
-    subst (λ (f : SpaceFault). ReadsData {T = T} (Err f)) (sym is) (reads_as A T fault reads)
-
--- what is said of an answer holds where there is none
-pub no_answer : {T E : Type 0} (P : T → Type 0) (result : Result T E) → IsErr result → IfOk result P
-no_answer P (Ok x) err = absurd cc
-no_answer P (Err e) err = tt
 
 -- the damage that is told is the one that is meant
 pub damage_at : {D L : Type 0} (m : Meaning D) (store : Pool D L) (pages : List BatchPage) (view : Pages)

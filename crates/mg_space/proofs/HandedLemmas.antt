@@ -1,5 +1,5 @@
 -- A fault that is handed on is told as the call told it that answered it.
-use Rattle.std.proofs.Common.{◌≡◌, ◌∙◌, ℕ, refl, subst, sym}
+use Rattle.std.proofs.Common.{◌≡◌, ◌∙◌, ℕ, subst, sym}
 use Rattle.std.specs.Prelude.{Result, Ok, Err, IfOk, IsErrAnd, MatchResult, OnErr}
 use Rattle.mg_base.specs.Disk.{Meaning}
 use Rattle.mg_base.specs.declared.geometry.Geometry.{Geometry}
@@ -8,15 +8,12 @@ use Rattle.mg_pool.specs.Fault.{MeetsNoFault, OnlyRefuses, TellsFault}
 use Rattle.mg_pool.specs.declared.fault.PoolFault.{PoolFault}
 use Rattle.mg_pool.specs.declared.fault.PoolFault.TheVariants as pool_faults
 use Rattle.mg_pool.specs.declared.pool.Pool.{Pool}
+use Rattle.mg_space.specs.HandedLaws.{told_as}
 use Rattle.mg_space.specs.Taking.{RefusesRegion}
 use Rattle.mg_space.specs.View.{KeepsStore, OnlyReads, ReadsAlone, pool_answer}
 use Rattle.mg_space.specs.ViewLaws.{fault_on}
 use Rattle.mg_space.specs.declared.fault.SpaceFault.{SpaceFault}
 use Rattle.mg_space.specs.declared.fault.SpaceFault.TheVariants as faults
-
--- want of memory, as a fault of the cache
-abbrev pub out_of_memory : SpaceFault
-out_of_memory = faults.Pool pool_faults.Memory
 
 pub no_ok : {T E : Type 0} (r : Result T E) (P : E → Type 0) (Q : T → Type 0) → IsErrAnd r P → IfOk r Q
 no_ok (Ok x) P Q is = absurd is
@@ -40,21 +37,6 @@ refused_as (Err e) fault P Q is holds = subst Q (sym is) holds
 
 -- ---- the cache's faults
 
-same_answer : (S T : Type 0) (fault : SpaceFault)
-    → pool_answer {T = S} (Err fault) ≡ pool_answer {T = T} (Err fault)
-same_answer S T (faults.Full limit) = refl
-same_answer S T (faults.Pool fault) = refl
-same_answer S T (faults.Damaged damage) = refl
-
-pub told_as : {D L T : Type 0} (S : Type 0) (m : Meaning D) (a b : Pool D L)
-    (r : Result T SpaceFault) (fault : SpaceFault) → IsErrAnd r (λ given. given ≡ fault)
-    → TellsFault m a b (pool_answer {T = S} (Err fault)) → TellsFault m a b (pool_answer r)
-told_as S m a b (Ok x) fault is told = absurd is
-told_as {T = T} S m a b (Err e) fault is told =
-    let P : Result (Unit {0}) PoolFault → Type 0 = λ answer. TellsFault m a b answer in
-    let Q : SpaceFault → Type 0 = λ f. TellsFault m a b (pool_answer {T = T} (Err f)) in
-    subst Q (sym is) (subst P (same_answer S T fault) told)
-
 -- after calls that have only read
 pub told_then : {D L T : Type 0} (S : Type 0) (m : Meaning D) (a b c : Pool D L)
     (r : Result T SpaceFault) (fault : SpaceFault) → IsErrAnd r (λ given. given ≡ fault)
@@ -68,19 +50,6 @@ pub told_online : {D L T : Type 0} (m : Meaning D) (a b : Pool D L) (r : Result 
     (fault : SpaceFault) → IsErrAnd r (λ given. given ≡ fault)
     → TellsFault m a b (pool_answer {T = T} (Err fault)) → TellsFault m a b (pool_answer r)
 told_online {T = T} m a b r fault is told = told_as T m a b r fault is told
-
-own_turned : (S T : Type 0) (fault : SpaceFault) → ReadsAlone {T = S} (Err fault)
-    → ReadsAlone {T = T} (Err fault)
-own_turned S T (faults.Full limit) own = tt
-own_turned S T (faults.Pool fault) own = own
-own_turned S T (faults.Damaged damage) own = tt
-
-pub own_as : {T : Type 0} (S : Type 0) (r : Result T SpaceFault) (fault : SpaceFault)
-    → IsErrAnd r (λ given. given ≡ fault) → ReadsAlone {T = S} (Err fault) → ReadsAlone r
-own_as S (Ok x) fault is own = absurd is
-own_as {T = T} S (Err e) fault is own =
-    let P : SpaceFault → Type 0 = λ f. ReadsAlone {T = T} (Err f) in
-    subst P (sym is) (own_turned S T fault own)
 
 -- a reading call's faults are among those of a call of several readings
 only_turned : (S T : Type 0) (fault : PoolFault) → OnlyReads {T = S} (Err (faults.Pool fault))

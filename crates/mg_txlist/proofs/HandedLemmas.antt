@@ -1,6 +1,6 @@
 -- A fault that is handed on is told as the call told it that answered it.
 use Rattle.std.proofs.Common.{◌≡◌, ◌∙◌, ℕ, List, arith, inl, refl, subst, sym}
-use Rattle.std.specs.Prelude.{Result, Ok, Err, None, IfOk, IsErr, IsErrAnd, OnErr}
+use Rattle.std.specs.Prelude.{Result, Ok, Err, None, IfOk, IsErrAnd, OnErr}
 use Rattle.mg_base.specs.declared.geometry.Geometry.{Geometry}
 use Rattle.mg_base.specs.Disk.{Meaning}
 use Rattle.mg_base.specs.declared.numbers.PageNo.{PageNo}
@@ -10,15 +10,12 @@ use Rattle.mg_pool.specs.Fault.{MeetsNoFault, OnlyRefuses, StaysOnline, TellsFau
 use Rattle.mg_pool.specs.declared.fault.PoolFault.{PoolFault}
 use Rattle.mg_pool.specs.declared.fault.PoolFault.TheVariants as pool_faults
 use Rattle.mg_pool.specs.declared.pool.Pool.{Pool}
+use Rattle.mg_space.specs.HandedLaws.{out_of_memory, told_as}
 use Rattle.mg_space.specs.Taking.{IsGeometry}
 use Rattle.mg_space.specs.View.{KeepsStore, ReadsAlone, RefusesRead, pool_answer}
 use Rattle.mg_space.specs.ViewLaws.{fault_on}
 use Rattle.mg_space.specs.declared.fault.SpaceFault.{SpaceFault}
 use Rattle.mg_space.specs.declared.fault.SpaceFault.TheVariants as faults
-
--- want of memory, as a fault of the cache
-abbrev pub out_of_memory : SpaceFault
-out_of_memory = faults.Pool pool_faults.Memory
 
 pub no_ok : {T E : Type 0} (r : Result T E) (P : E → Type 0) (Q : T → Type 0) → IsErrAnd r P → IfOk r Q
 no_ok (Ok x) P Q is = absurd is
@@ -32,18 +29,6 @@ pub is_also : {T E : Type 0} (r : Result T E) (e f : E) → IsErrAnd r (λ given
 is_also (Ok x) e f is same = is
 is_also (Err y) e f is same = is ∙ same
 
-same_answer : (S T : Type 0) (fault : SpaceFault) → pool_answer {T = S} (Err fault) ≡ pool_answer {T = T} (Err fault)
-same_answer S T (faults.Full limit) = refl
-same_answer S T (faults.Pool fault) = refl
-same_answer S T (faults.Damaged damage) = refl
-
-pub told_as : {D L T : Type 0} (S : Type 0) (m : Meaning D) (a b : Pool D L) (r : Result T SpaceFault) (fault : SpaceFault) → IsErrAnd r (λ given. given ≡ fault)
-    → TellsFault m a b (pool_answer {T = S} (Err fault)) → TellsFault m a b (pool_answer r)
-told_as S m a b (Ok x) fault is told = absurd is
-told_as {D} {L} {T} S m a b (Err e) fault is told =
-    subst (λ (f : SpaceFault). TellsFault m a b (pool_answer {T = T} (Err f))) (sym is)
-    (subst (λ (answer : Result (Unit {0}) PoolFault). TellsFault m a b answer) (same_answer S T fault) told)
-
 -- after calls that have only read
 pub told_then : {D L T : Type 0} (S : Type 0) (m : Meaning D) (a b c : Pool D L) (r : Result T SpaceFault) (fault : SpaceFault) → IsErrAnd r (λ given. given ≡ fault)
     → KeepsStore m a b → MeetsNoFault m a b → TellsFault m b c (pool_answer {T = S} (Err fault)) → TellsFault m a c (pool_answer r)
@@ -53,23 +38,9 @@ pub told_memory : {D L T : Type 0} (m : Meaning D) (a b : Pool D L) (r : Result 
 told_memory m a b (Ok x) is online = absurd is
 told_memory {D} {L} {T} m a b (Err e) is online = subst (λ (f : SpaceFault). TellsFault m a b (pool_answer {T = T} (Err f))) (sym is) online
 
-own_turned : (S T : Type 0) (fault : SpaceFault) → ReadsAlone {T = S} (Err fault) → ReadsAlone {T = T} (Err fault)
-own_turned S T (faults.Full limit) own = tt
-own_turned S T (faults.Pool fault) own = own
-own_turned S T (faults.Damaged damage) own = tt
-
-pub own_as : {T : Type 0} (S : Type 0) (r : Result T SpaceFault) (fault : SpaceFault) → IsErrAnd r (λ given. given ≡ fault) → ReadsAlone {T = S} (Err fault) → ReadsAlone r
-own_as S (Ok x) fault is own = absurd is
-own_as {T} S (Err e) fault is own = subst (λ (f : SpaceFault). ReadsAlone {T = T} (Err f)) (sym is) (own_turned S T fault own)
-
 pub own_memory : {T : Type 0} (r : Result T SpaceFault) → IsErrAnd r (λ given. given ≡ out_of_memory) → ReadsAlone r
 own_memory (Ok x) is = absurd is
 own_memory {T} (Err e) is = subst (λ (f : SpaceFault). ReadsAlone {T = T} (Err f)) (sym is) tt
-
--- what is said of an answer holds where there is none
-pub no_answer : {T E : Type 0} (P : T → Type 0) (r : Result T E) → IsErr r → IfOk r P
-no_answer P (Ok x) err = absurd cc
-no_answer P (Err e) err = tt
 
 -- a refusal is one that a reading hands on
 pub refusal_reads : (fault : PoolFault) → OnlyRefuses {T = Unit {0}} (Err fault)

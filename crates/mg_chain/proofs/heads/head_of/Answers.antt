@@ -1,5 +1,6 @@
 use Rattle.std.proofs.Common.{◌∙◌}
 use Rattle.mg_image.specs.Form.{Pages}
+use Rattle.mg_space.specs.HandedLaws.{fault_up}
 use Rattle.mg_space.specs.View.{viewed}
 use Rattle.mg_space.specs.ViewLaws.{keeps_on}
 use Rattle.mg_space.specs.declared.fault.SpaceFault.TheVariants as faults
@@ -7,7 +8,7 @@ use Rattle.mg_heap.specs.Reach.{OwnsPage, RefusesOwner}
 use Rattle.mg_base.specs.declared.numbers.PageNo.{PageNo}
 use Rattle.mg_chain.specs.WritingRefusals.{RefusesHead}
 use Rattle.mg_chain.proofs.HeadLemmas.{has_head, head_cell, head_none, head_owner, seen_before}
-use Rattle.mg_chain.proofs.Steps.{handed_on, fault_up}
+use Rattle.mg_chain.proofs.Steps.{handed_on}
 use Rattle.mg_chain.proofs.heads.head_of.Goals as goal
 
 pub returns-in_err-cell_at-clause-gives : goal.returns-in_err-cell_at-clause-gives

@@ -1,10 +1,11 @@
 use Rattle.std.proofs.Common.{◌∙◌, Err, Ok}
+use Rattle.mg_space.specs.HandedLaws.{fault_up}
 use Rattle.mg_space.specs.View.{viewed}
 use Rattle.mg_space.specs.ViewLaws.{keeps_on}
 use Rattle.mg_version.specs.declared.cell.Version.{Version}
 use Rattle.mg_chain.specs.WritingRefusals.{RefusesNewest}
 use Rattle.mg_chain.proofs.HeadLemmas.{newest_head, newest_version}
-use Rattle.mg_chain.proofs.Steps.{handed_on, met_on, fault_up}
+use Rattle.mg_chain.proofs.Steps.{handed_on, met_on}
 use Rattle.mg_chain.proofs.heads.newest_of.Goals as goal
 
 pub returns-in_err-head-clause-gives : goal.returns-in_err-head-clause-gives

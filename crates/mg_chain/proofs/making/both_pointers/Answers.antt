@@ -2,12 +2,13 @@ use Rattle.std.specs.declared.alloc.Global.{Global}
 use Rattle.std.specs.declared.vec.Vec.{Vec}
 use Rattle.std.proofs.Common.{◌⊎◌, ◌∙◌, inl, inr, ℕ}
 use Rattle.mg_image.specs.Form.{Pages}
+use Rattle.mg_space.specs.HandedLaws.{fault_up}
 use Rattle.mg_space.specs.View.{viewed}
 use Rattle.mg_space.specs.ViewLaws.{keeps_on}
 use Rattle.mg_space.specs.declared.fault.SpaceFault.{SpaceFault}
 use Rattle.mg_heap.specs.Reach.{IsReached, RefusesReach}
 use Rattle.mg_chain.proofs.HeadLemmas.{seen_before}
-use Rattle.mg_chain.proofs.Steps.{handed_on, fault_up}
+use Rattle.mg_chain.proofs.Steps.{handed_on}
 use Rattle.mg_chain.proofs.making.both_pointers.Goals as goal
 
 pub returns-in_err-pointers-clause-finds : goal.returns-in_err-pointers-clause-finds

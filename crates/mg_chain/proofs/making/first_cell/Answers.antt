@@ -1,13 +1,14 @@
 use Rattle.std.proofs.Common.{◌∙◌, refl}
 use Rattle.mg_image.specs.Form.{Pages}
 use Rattle.mg_pool.specs.declared.fault.PoolFault.TheVariants as pool_faults
+use Rattle.mg_space.specs.HandedLaws.{fault_memory, fault_up}
 use Rattle.mg_space.specs.ViewLaws.{keeps_on, tells_on}
 use Rattle.mg_space.specs.declared.fault.SpaceFault.TheVariants as faults
 use Rattle.mg_chain.specs.WritingRefusals.{RefusesFirstCell, RefusesTurn, first_memory, first_puts, first_turns}
 use Rattle.mg_chain.proofs.HeadLemmas.{seen_before}
 use Rattle.mg_chain.proofs.MakeLemmas.{makes_cell}
 use Rattle.mg_chain.proofs.PushLemmas.{whole_ordered}
-use Rattle.mg_chain.proofs.Steps.{handed_on, fault_up, memory_up}
+use Rattle.mg_chain.proofs.Steps.{handed_on}
 use Rattle.mg_chain.proofs.TurnLemmas.{whole_as}
 use Rattle.mg_chain.proofs.making.first_cell.Goals as goal
 
@@ -87,7 +88,7 @@ returns-in_err-turn-clause-whole g c = whole_as c.put_first.new.store.geometry c
     c.turn.new.batch.pages c.in_ok-put.ensures.keeps.geometry c.in_err-turn.ensures.whole
 
 pub returns-in_err-order_first-clause-fault : goal.returns-in_err-order_first-clause-fault
-returns-in_err-order_first-clause-fault g c = memory_up g.D.Disk.meaning c.args.store.now c.turn.new.store
+returns-in_err-order_first-clause-fault g c = fault_memory g.D.Disk.meaning c.args.store.now c.turn.new.store
     c.from_residual-in_err-order_first.result c.from_residual-in_err-order_first.ensures.0
     c.from_residual-in_err-order_first.ensures.1 (
       c.in_ok-put.ensures.fault.0,

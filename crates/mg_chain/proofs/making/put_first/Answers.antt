@@ -1,11 +1,12 @@
 use Rattle.std.proofs.Common.{◌⊎◌, ◌∙◌}
 use Rattle.mg_image.specs.Form.{Pages}
+use Rattle.mg_space.specs.HandedLaws.{fault_up}
 use Rattle.mg_space.specs.ViewLaws.{keeps_on}
 use Rattle.mg_heap.specs.Reach.{IsReached, RefusesReach}
 use Rattle.mg_chain.specs.declared.making.BothPointers.{BothPointers}
 use Rattle.mg_chain.specs.WritingRefusals.{RefusesPutFirst, first_adds, first_reaches}
 use Rattle.mg_chain.proofs.HeadLemmas.{seen_before}
-use Rattle.mg_chain.proofs.Steps.{handed_on, fault_up}
+use Rattle.mg_chain.proofs.Steps.{handed_on}
 use Rattle.mg_chain.proofs.making.put_first.Goals as goal
 
 pub returns-in_err-at-clause-puts : goal.returns-in_err-at-clause-puts

@@ -1,11 +1,12 @@
 use Rattle.std.proofs.Common.{◌∙◌, ℕ}
 use Rattle.mg_image.specs.Form.{Pages}
+use Rattle.mg_space.specs.HandedLaws.{fault_up}
 use Rattle.mg_space.specs.ViewLaws.{keeps_on}
 use Rattle.mg_heap.specs.Changing.{IsLeastSlot}
 use Rattle.mg_heap.specs.Reading.{RefusesData}
 use Rattle.mg_chain.specs.WritingRefusals.{RefusesSpot, spot_page, spot_room}
 use Rattle.mg_chain.proofs.HeadLemmas.{seen_before}
-use Rattle.mg_chain.proofs.Steps.{handed_on, fault_up}
+use Rattle.mg_chain.proofs.Steps.{handed_on}
 use Rattle.mg_chain.proofs.making.spot.Goals as goal
 
 pub returns-in_err-page-clause-gives : goal.returns-in_err-page-clause-gives

@@ -1,12 +1,13 @@
 use Rattle.std.proofs.Common.{◌∙◌, refl}
 use Rattle.mg_image.specs.Form.{Pages}
 use Rattle.mg_pool.specs.declared.fault.PoolFault.TheVariants as pool_faults
+use Rattle.mg_space.specs.HandedLaws.{fault_memory, fault_up}
 use Rattle.mg_space.specs.ViewLaws.{keeps_on, tells_on}
 use Rattle.mg_space.specs.declared.fault.SpaceFault.TheVariants as faults
 use Rattle.mg_chain.specs.WritingRefusals.{RefusesPushCell, RefusesTurn, push_memory, push_puts, push_turns}
 use Rattle.mg_chain.proofs.HeadLemmas.{seen_before}
 use Rattle.mg_chain.proofs.PushLemmas.{pushes_cell, whole_ordered}
-use Rattle.mg_chain.proofs.Steps.{handed_on, fault_up, memory_up}
+use Rattle.mg_chain.proofs.Steps.{handed_on}
 use Rattle.mg_chain.proofs.TurnLemmas.{whole_as}
 use Rattle.mg_chain.proofs.pushing.push_cell.Goals as goal
 
@@ -85,7 +86,7 @@ returns-in_err-turn-clause-whole g c = whole_as c.put_version.new.store.geometry
     c.turn.new.batch.pages c.in_ok-put.ensures.keeps.geometry c.in_err-turn.ensures.whole
 
 pub returns-in_err-order_push-clause-fault : goal.returns-in_err-order_push-clause-fault
-returns-in_err-order_push-clause-fault g c = memory_up g.D.Disk.meaning c.args.store.now c.turn.new.store
+returns-in_err-order_push-clause-fault g c = fault_memory g.D.Disk.meaning c.args.store.now c.turn.new.store
     c.from_residual-in_err-order_push.result c.from_residual-in_err-order_push.ensures.0
     c.from_residual-in_err-order_push.ensures.1 (
       c.in_ok-put.ensures.fault.0,

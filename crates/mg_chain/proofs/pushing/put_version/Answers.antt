@@ -2,11 +2,12 @@ use Rattle.std.specs.declared.alloc.Global.{Global}
 use Rattle.std.specs.declared.vec.Vec.{Vec}
 use Rattle.std.proofs.Common.{◌∙◌, ℕ}
 use Rattle.mg_image.specs.Form.{Pages}
+use Rattle.mg_space.specs.HandedLaws.{fault_up}
 use Rattle.mg_space.specs.ViewLaws.{keeps_on}
 use Rattle.mg_heap.specs.Reach.{IsReached, RefusesReach}
 use Rattle.mg_chain.specs.WritingRefusals.{RefusesPutVersion, put_adds, put_reaches}
 use Rattle.mg_chain.proofs.HeadLemmas.{seen_before}
-use Rattle.mg_chain.proofs.Steps.{handed_on, fault_up}
+use Rattle.mg_chain.proofs.Steps.{handed_on}
 use Rattle.mg_chain.proofs.pushing.put_version.Goals as goal
 
 pub returns-in_err-at-clause-puts : goal.returns-in_err-at-clause-puts

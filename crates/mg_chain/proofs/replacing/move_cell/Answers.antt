@@ -1,11 +1,12 @@
 use Rattle.std.proofs.Common.{◌∙◌, refl}
 use Rattle.mg_pool.specs.declared.fault.PoolFault.TheVariants as pool_faults
+use Rattle.mg_space.specs.HandedLaws.{fault_memory, fault_up}
 use Rattle.mg_space.specs.ViewLaws.{keeps_on, tells_on}
 use Rattle.mg_space.specs.declared.fault.SpaceFault.TheVariants as faults
 use Rattle.mg_chain.specs.WritingRefusals.{RefusesMove, move_memory, move_puts, move_swings}
 use Rattle.mg_chain.proofs.MakeLemmas.{moves_cell}
 use Rattle.mg_chain.proofs.PushLemmas.{whole_ordered}
-use Rattle.mg_chain.proofs.Steps.{handed_on, fault_up, memory_up}
+use Rattle.mg_chain.proofs.Steps.{handed_on}
 use Rattle.mg_chain.proofs.TurnLemmas.{whole_as}
 use Rattle.mg_chain.proofs.replacing.move_cell.Goals as goal
 
@@ -87,7 +88,7 @@ returns-in_err-swing-clause-whole g c = whole_as c.put_moved.new.store.geometry 
     c.swing.new.batch.pages c.in_ok-moved.ensures.keeps.geometry c.in_err-swing.ensures.whole
 
 pub returns-in_err-order_move-clause-fault : goal.returns-in_err-order_move-clause-fault
-returns-in_err-order_move-clause-fault g c = memory_up g.D.Disk.meaning c.args.store.now c.swing.new.store
+returns-in_err-order_move-clause-fault g c = fault_memory g.D.Disk.meaning c.args.store.now c.swing.new.store
     c.from_residual-in_err-order_move.result c.from_residual-in_err-order_move.ensures.0
     c.from_residual-in_err-order_move.ensures.1 (
       c.in_ok-moved.ensures.fault.0,

@@ -1,11 +1,12 @@
 use Rattle.std.proofs.Common.{◌∙◌, refl}
 use Rattle.mg_pool.specs.declared.fault.PoolFault.TheVariants as pool_faults
+use Rattle.mg_space.specs.HandedLaws.{fault_memory, fault_up}
 use Rattle.mg_space.specs.ViewLaws.{keeps_on, tells_on}
 use Rattle.mg_space.specs.declared.fault.SpaceFault.TheVariants as faults
 use Rattle.mg_chain.specs.WritingRefusals.{RefusesTakeCellOut, out_memory, out_reaches, out_swings}
 use Rattle.mg_chain.proofs.MakeLemmas.{takes_cell_out}
 use Rattle.mg_chain.proofs.PushLemmas.{whole_ordered}
-use Rattle.mg_chain.proofs.Steps.{handed_on, fault_up, memory_up}
+use Rattle.mg_chain.proofs.Steps.{handed_on}
 use Rattle.mg_chain.proofs.TurnLemmas.{whole_as}
 use Rattle.mg_chain.proofs.taking_out.take_cell_out.Goals as goal
 
@@ -83,7 +84,7 @@ returns-in_err-swing-clause-whole g c = whole_as c.slot_pointers.new.store.geome
     c.swing.new.batch.pages c.in_ok-pointers.ensures.keeps.geometry c.in_err-swing.ensures.whole
 
 pub returns-in_err-order_out-clause-fault : goal.returns-in_err-order_out-clause-fault
-returns-in_err-order_out-clause-fault g c = memory_up g.D.Disk.meaning c.args.store.now c.swing.new.store
+returns-in_err-order_out-clause-fault g c = fault_memory g.D.Disk.meaning c.args.store.now c.swing.new.store
     c.from_residual-in_err-order_out.result c.from_residual-in_err-order_out.ensures.0
     c.from_residual-in_err-order_out.ensures.1 (
       c.in_ok-pointers.ensures.fault.0,

@@ -1,16 +1,18 @@
 use Rattle.std.proofs.Common.{◌≡◌, ◌+◌, ◌∙◌, ap, arith, refl, get_or, subst, sym, take, take_all}
 use Rattle.std.proofs.lemmas.List.{take_more}
+use Rattle.mg_heap.specs.HandedLaws.{reads_same}
 use Rattle.mg_heap.specs.Reads.{ReadsListed}
 use Rattle.mg_heap.specs.ReadsLaws.{listed_more, none_listed}
 use Rattle.mg_heap.specs.Walk.{RefusesTableData}
 use Rattle.mg_image.specs.Form.{Pages}
 use Rattle.mg_base.specs.declared.bytes.Bytes.{Bytes}
 use Rattle.mg_base.specs.declared.geometry.Geometry.{Geometry}
+use Rattle.mg_space.specs.HandedLaws.{fault_up}
 use Rattle.mg_space.specs.Taking.{IsGeometry}
 use Rattle.mg_space.specs.View.{viewed}
 use Rattle.mg_space.specs.ViewLaws.{keeps_itself, keeps_on}
 use Rattle.mg_database.specs.Tested.{AreDataPages, RefusesListed}
-use Rattle.mg_database.proofs.TestedLemmas.{as_started, fault_up, handed_on, page_tested, page_untested, reads_same}
+use Rattle.mg_database.proofs.TestedLemmas.{as_started, handed_on, page_tested, page_untested}
 use Rattle.mg_database.proofs.tested.check_data_pages.Goals as goal
 
 pub loop-place-init : goal.loop-place-init

@@ -1,11 +1,13 @@
 use Rattle.mg_image.specs.Form.{Pages}
+use Rattle.mg_space.specs.HandedLaws.{fault_same, fault_up}
 use Rattle.mg_space.specs.View.{viewed}
 use Rattle.mg_database.specs.Tested.{AreDataPages, RefusesListed, RefusesTested}
-use Rattle.mg_database.proofs.TestedLemmas.{as_started, chain_untested, handed_on, listed_untested, table_read, fault_same, fault_up, reads_same}
+use Rattle.mg_database.proofs.TestedLemmas.{as_started, chain_untested, handed_on, listed_untested, table_read}
 use Rattle.mg_space.specs.ViewLaws.{keeps_on}
 use Rattle.std.proofs.Common.{◌∙◌, ap, subst, sym}
 use Rattle.mg_base.specs.declared.geometry.Geometry.{Geometry}
 use Rattle.mg_space.specs.Taking.{IsGeometry}
+use Rattle.mg_heap.specs.HandedLaws.{reads_same}
 use Rattle.mg_heap.specs.declared.table.TablePages.{TablePages}
 use Rattle.mg_database.proofs.tested.check_pages.Goals as goal
 

@@ -5,6 +5,7 @@ use Rattle.mg_base.specs.declared.numbers.RecId.{RecId}
 use Rattle.mg_image.specs.Form.{Pages}
 use Rattle.mg_pool.specs.Pool.{shown}
 use Rattle.mg_pool.specs.declared.batch.BatchPage.{BatchPage}
+use Rattle.mg_heap.specs.HandedLaws.{reads_same}
 use Rattle.mg_chain.specs.Refusals.{RefusesChain}
 use Rattle.mg_seek.specs.Versions.{IsFirst, wants}
 use Rattle.mg_seek.specs.declared.whose.Wanted.TheVariants.{Any}
@@ -12,7 +13,8 @@ use Rattle.mg_undo.specs.declared.changes.Was.TheVariants as wases
 use Rattle.mg_row_writes.specs.Befores.{IsBefore}
 use Rattle.mg_row_writes.specs.declared.before.Way.TheVariants as ways
 use Rattle.mg_row_writes.specs.Finding.{RefusesSeen}
-use Rattle.mg_row_writes.proofs.FindLemmas.{before_by, chain_refuses, empty_seen, handed_on, other_by, own_comes, fault_same, reads_same}
+use Rattle.mg_row_writes.proofs.FindLemmas.{before_by, chain_refuses, empty_seen, handed_on, other_by, own_comes}
+use Rattle.mg_space.specs.HandedLaws.{fault_same}
 use Rattle.mg_space.specs.ViewLaws.{keeps_itself}
 use Rattle.mg_seek.specs.declared.walk.Placed.{Placed}
 use Rattle.mg_row_writes.proofs.before.before_at.Goals as goal

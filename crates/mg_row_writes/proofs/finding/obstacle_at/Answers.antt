@@ -2,8 +2,10 @@ use Rattle.std.proofs.Common.{subst, sym, Option}
 use Rattle.std.specs.Prelude.{MatchResult}
 use Rattle.mg_image.specs.Form.{Pages}
 use Rattle.mg_pool.specs.Pool.{shown}
+use Rattle.mg_heap.specs.HandedLaws.{reads_same}
 use Rattle.mg_row_writes.specs.Finding.{IsInWay, IsObstacleAt, RefusesObstacleAt, RefusesWay, way_unspoken}
-use Rattle.mg_row_writes.proofs.FindLemmas.{as_before, handed_on, obstacle_comes, fault_same, reads_same}
+use Rattle.mg_row_writes.proofs.FindLemmas.{as_before, handed_on, obstacle_comes}
+use Rattle.mg_space.specs.HandedLaws.{fault_same}
 use Rattle.mg_space.specs.ViewLaws.{keeps_on, fault_on}
 use Rattle.mg_space.specs.View.{pool_answer}
 use Rattle.mg_space.specs.Taking.{IsGeometry}

@@ -1,10 +1,12 @@
 use Rattle.std.proofs.Common.{◌∙◌, subst, sym, Option}
 use Rattle.mg_image.specs.Form.{Pages, Row}
 use Rattle.mg_pool.specs.Pool.{shown}
+use Rattle.mg_heap.specs.HandedLaws.{reads_same}
 use Rattle.mg_seek.specs.Versions.{wants}
 use Rattle.mg_seek.specs.declared.whose.Wanted.TheVariants.{SeenBy}
 use Rattle.mg_row_writes.specs.Finding.{IsRowAt, IsSeenIn, RefusesRowAt, RefusesSeen, row_unread, row_unspoken}
-use Rattle.mg_row_writes.proofs.FindLemmas.{as_before, handed_on, fault_same, reads_same, fault_up}
+use Rattle.mg_row_writes.proofs.FindLemmas.{as_before, handed_on}
+use Rattle.mg_space.specs.HandedLaws.{fault_same, fault_up}
 use Rattle.mg_space.specs.ViewLaws.{keeps_on}
 use Rattle.mg_space.specs.Taking.{IsGeometry}
 use Rattle.mg_base.specs.declared.numbers.RecId.{RecId}

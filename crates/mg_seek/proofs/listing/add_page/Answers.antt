@@ -1,6 +1,8 @@
-use Rattle.mg_seek.proofs.Steps.{fault_same, handed_on, reads_same}
+use Rattle.mg_seek.proofs.Steps.{handed_on}
 use Rattle.std.proofs.Common.{List, ℕ, ◌++◌, ◌∙◌, ap}
+use Rattle.mg_space.specs.HandedLaws.{fault_same}
 use Rattle.mg_space.specs.View.{viewed}
+use Rattle.mg_heap.specs.HandedLaws.{reads_same}
 use Rattle.mg_heap.specs.Walk.{RefusesTableData}
 use Rattle.mg_seek.specs.TableRecords.{records_on}
 use Rattle.mg_seek.proofs.listing.add_page.Goals as goal

@@ -1,11 +1,13 @@
 use Rattle.std.proofs.Common.{◌≡◌, ℕ}
 use Rattle.std.specs.Prelude.{MatchResult}
+use Rattle.mg_heap.specs.HandedLaws.{reads_same}
 use Rattle.mg_heap.specs.Walk.{RefusesWalk, RefusesWalkOf}
 use Rattle.mg_image.specs.Form.{Pages}
+use Rattle.mg_space.specs.HandedLaws.{fault_same}
 use Rattle.mg_space.specs.View.{viewed, pool_answer}
 use Rattle.mg_seek.specs.TableRecords.{AreTableRecords, records_in}
 use Rattle.mg_seek.specs.RecordLaws.{as_kept}
-use Rattle.mg_seek.proofs.Steps.{handed_on, fault_same, reads_same}
+use Rattle.mg_seek.proofs.Steps.{handed_on}
 use Rattle.mg_seek.proofs.TableLemmas.{table_broken, table_listed}
 use Rattle.mg_space.specs.ViewLaws.{fault_on, keeps_on}
 use Rattle.mg_heap.specs.declared.table.TablePages.{TablePages}

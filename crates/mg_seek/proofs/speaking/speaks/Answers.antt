@@ -1,12 +1,14 @@
 use Rattle.std.proofs.Common.{sym, ◌∙◌, Option}
 use Rattle.std.specs.Prelude.{◌↔◌, IsTrue}
+use Rattle.mg_space.specs.HandedLaws.{fault_same}
 use Rattle.mg_space.specs.View.{viewed}
+use Rattle.mg_heap.specs.HandedLaws.{reads_same}
 use Rattle.mg_seek.specs.Refusals.{RefusesRecord}
 use Rattle.mg_seek.specs.Speaking.{Speaks}
 use Rattle.mg_seek.specs.Versions.{wants}
 use Rattle.mg_seek.specs.declared.whose.Wanted.TheVariants.{Living}
 use Rattle.mg_seek.specs.RecordLaws.{body_refuses, chain_refuses, erased_silent, none_speaks, row_fault, row_reads, speaks_by_key}
-use Rattle.mg_seek.proofs.Steps.{handed_on, fault_same, reads_same}
+use Rattle.mg_seek.proofs.Steps.{handed_on}
 use Rattle.mg_seek.specs.declared.walk.Placed.{Placed}
 use Rattle.mg_seek.proofs.speaking.speaks.Goals as goal
 

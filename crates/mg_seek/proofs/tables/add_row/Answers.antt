@@ -1,9 +1,11 @@
+use Rattle.mg_space.specs.HandedLaws.{fault_same}
 use Rattle.mg_space.specs.View.{viewed}
+use Rattle.mg_heap.specs.HandedLaws.{reads_same}
 use Rattle.mg_seek.specs.Refusals.{RefusesRecord}
 use Rattle.mg_seek.specs.Versions.{wants}
 use Rattle.mg_seek.specs.declared.whose.Wanted.TheVariants.{SeenBy}
 use Rattle.mg_seek.proofs.SeenLemmas.{adds_none, adds_row}
-use Rattle.mg_seek.proofs.Steps.{handed_on, fault_same, reads_same}
+use Rattle.mg_seek.proofs.Steps.{handed_on}
 use Rattle.std.proofs.Common.{Option}
 use Rattle.mg_image.specs.Form.{Row}
 use Rattle.mg_seek.proofs.tables.add_row.Goals as goal

@@ -1,13 +1,15 @@
 use Rattle.std.proofs.Common.{ℕ}
 use Rattle.std.specs.Prelude.{MatchResult}
 use Rattle.mg_image.specs.Form.{Pages}
+use Rattle.mg_space.specs.HandedLaws.{fault_same}
 use Rattle.mg_space.specs.View.{viewed, pool_answer}
+use Rattle.mg_heap.specs.HandedLaws.{reads_same}
 use Rattle.mg_seek.specs.Speaking.{RefusesRecords, RefusesTableRows}
 use Rattle.mg_seek.specs.TableRows.{AreRowsSeen, AreSeen}
 use Rattle.mg_seek.specs.Versions.{wants}
 use Rattle.mg_seek.specs.declared.whose.Wanted.TheVariants.{SeenBy}
 use Rattle.mg_seek.specs.RecordLaws.{as_kept}
-use Rattle.mg_seek.proofs.Steps.{handed_on, fault_same, reads_same}
+use Rattle.mg_seek.proofs.Steps.{handed_on}
 use Rattle.mg_seek.proofs.TableLemmas.{of_table, walk_refuses}
 use Rattle.mg_space.specs.ViewLaws.{fault_on, keeps_on}
 use Rattle.std.specs.declared.vec.Vec.{Vec}

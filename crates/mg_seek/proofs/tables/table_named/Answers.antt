@@ -1,7 +1,9 @@
+use Rattle.mg_space.specs.HandedLaws.{fault_same}
 use Rattle.mg_space.specs.View.{viewed}
+use Rattle.mg_heap.specs.HandedLaws.{reads_same}
 use Rattle.mg_seek.specs.TableRows.{IsTableSeen, RefusesTable}
 use Rattle.mg_seek.proofs.SeenLemmas.{rows_refuse, tables_fault, tables_read, tables_refuse}
-use Rattle.mg_seek.proofs.Steps.{handed_on, fault_same, reads_same}
+use Rattle.mg_seek.proofs.Steps.{handed_on}
 use Rattle.std.specs.declared.vec.Vec.{Vec}
 use Rattle.mg_image.specs.Form.{Row}
 use Rattle.std.specs.declared.alloc.Global.{Global}

@@ -1,7 +1,9 @@
-use Rattle.mg_seek.proofs.Steps.{fault_same, reads_same, handed_on}
+use Rattle.mg_seek.proofs.Steps.{handed_on}
 use Rattle.std.proofs.Common.{Option}
+use Rattle.mg_heap.specs.HandedLaws.{reads_same}
 use Rattle.mg_seek.specs.declared.walk.Placed.{Placed}
 use Rattle.mg_chain.specs.Refusals.{RefusesChain}
+use Rattle.mg_space.specs.HandedLaws.{fault_same}
 use Rattle.mg_space.specs.View.{viewed}
 use Rattle.mg_seek.proofs.views.obstacle_for.Goals as goal
 

@@ -1,10 +1,12 @@
+use Rattle.mg_space.specs.HandedLaws.{fault_same}
 use Rattle.mg_space.specs.View.{viewed}
+use Rattle.mg_heap.specs.HandedLaws.{reads_same}
 use Rattle.mg_seek.specs.Refusals.{RefusesRecord}
 use Rattle.mg_seek.specs.Versions.{wants}
 use Rattle.mg_seek.specs.Views.{IsKeyOf}
 use Rattle.mg_seek.specs.declared.whose.Wanted.TheVariants.{Any}
 use Rattle.mg_seek.specs.RecordLaws.{body_refuses, chain_refuses, key_given, no_key, row_fault, row_reads}
-use Rattle.mg_seek.proofs.Steps.{handed_on, fault_same, reads_same}
+use Rattle.mg_seek.proofs.Steps.{handed_on}
 use Rattle.std.proofs.Common.{Option}
 use Rattle.mg_seek.specs.declared.walk.Placed.{Placed}
 use Rattle.mg_seek.proofs.views.record_key.Goals as goal

@@ -1,10 +1,12 @@
+use Rattle.mg_heap.specs.HandedLaws.{reads_same}
 use Rattle.mg_seek.specs.Refusals.{RefusesRecord}
 use Rattle.mg_seek.specs.Versions.{wants}
 use Rattle.mg_seek.specs.Views.{IsRowSeen}
 use Rattle.mg_seek.specs.declared.whose.Wanted.TheVariants.{SeenBy}
+use Rattle.mg_space.specs.HandedLaws.{fault_same}
 use Rattle.mg_space.specs.View.{viewed}
 use Rattle.mg_seek.specs.RecordLaws.{body_refuses, chain_refuses, erased_seen, none_seen, row_fault, row_reads, row_seen}
-use Rattle.mg_seek.proofs.Steps.{handed_on, fault_same, reads_same}
+use Rattle.mg_seek.proofs.Steps.{handed_on}
 use Rattle.std.proofs.Common.{Option}
 use Rattle.mg_seek.specs.declared.walk.Placed.{Placed}
 use Rattle.mg_seek.proofs.views.row_in_view.Goals as goal

@@ -2,13 +2,15 @@ use Rattle.std.proofs.Common.{ℕ, List, ◌∙◌, Option}
 use Rattle.mg_image.specs.Form.{Pages, Row}
 use Rattle.mg_pool.specs.Pool.{shown}
 use Rattle.mg_pool.specs.declared.batch.BatchPage.{BatchPage}
+use Rattle.mg_heap.specs.HandedLaws.{reads_same}
 use Rattle.mg_seek.specs.Refusals.{RefusesRecord, RefusesVisit}
 use Rattle.mg_seek.specs.Versions.{wants}
 use Rattle.mg_seek.specs.Views.{IsRowSeen, IsVisit}
 use Rattle.mg_seek.specs.declared.whose.Wanted.TheVariants.{SeenBy}
 use Rattle.mg_seek.specs.RecordLaws.{as_kept}
-use Rattle.mg_seek.proofs.Steps.{handed_on, fault_same, reads_same, fault_up}
+use Rattle.mg_seek.proofs.Steps.{handed_on}
 use Rattle.mg_seek.proofs.VisitLemmas.{next_refuses, sees_shown, visit_comes, visit_ends, visit_refuses}
+use Rattle.mg_space.specs.HandedLaws.{fault_same, fault_up}
 use Rattle.mg_space.specs.ViewLaws.{keeps_on}
 use Rattle.mg_base.specs.declared.numbers.RecId.{RecId}
 use Rattle.mg_seek.proofs.views.view_step.Goals as goal

@@ -1,12 +1,14 @@
 use Rattle.std.proofs.Common.{Ok, Err, sym, ◌∙◌, ap, subst, Option}
 use Rattle.mg_base.specs.declared.geometry.Geometry.{Geometry}
+use Rattle.mg_space.specs.HandedLaws.{fault_same, fault_up, no_answer}
 use Rattle.mg_space.specs.Taking.{IsGeometry}
 use Rattle.mg_space.specs.View.{viewed}
 use Rattle.mg_space.specs.ViewLaws.{keeps_on}
 use Rattle.mg_version.specs.declared.cell.Version.{Version}
+use Rattle.mg_heap.specs.HandedLaws.{reads_same}
 use Rattle.mg_seek.specs.Versions.{IsFirst, wants}
 use Rattle.mg_chain.specs.Refusals.{RefusesChain}
-use Rattle.mg_seek.proofs.Steps.{damage_at, fault_up, handed_on, met_on, primary_refuses, version_refuses, walk_comes_back, walk_ends, walk_here, walk_is_long, walk_none, walk_on, walk_starts, fault_same, reads_same, no_answer}
+use Rattle.mg_seek.proofs.Steps.{damage_at, handed_on, met_on, primary_refuses, version_refuses, walk_comes_back, walk_ends, walk_here, walk_is_long, walk_none, walk_on, walk_starts}
 use Rattle.mg_version.specs.declared.cell.Link.{Link}
 use Rattle.mg_seek.proofs.walk.first_version.Goals as goal
 

@@ -1,10 +1,11 @@
 use Rattle.std.proofs.Common.{◌≡◌, ◌∙◌, List, None, Some, ap, length, refl, sym, ℕ}
 use Rattle.mg_pool.specs.Batch.{content_in}
 use Rattle.mg_pool.specs.Pool.{resident, shown}
+use Rattle.mg_space.specs.HandedLaws.{out_of_memory, told_as}
 use Rattle.mg_space.specs.ViewLaws.{keeps_itself}
 use Rattle.mg_space.specs.declared.fault.SpaceFault.TheVariants as faults
 use Rattle.mg_space.specs.declared.reading.Found.{Found}
-use Rattle.mg_space.proofs.HandedLemmas.{no_ok, out_of_memory, refusal_reads, told_as, told_online}
+use Rattle.mg_space.proofs.HandedLemmas.{no_ok, refusal_reads, told_online}
 use Rattle.mg_space.proofs.ReadingLemmas.{batch_read, batch_seen, cache_read, cache_seen, copied_len, copied_read, copied_seen, fetch_keeps, fetches_nothing, reads_as}
 use Rattle.mg_space.proofs.reading.find_page.Goals as goal
 

@@ -4,11 +4,12 @@ use Rattle.std.specs.declared.vec.Vec.{Vec}
 use Rattle.mg_base.specs.Image.{blank}
 use Rattle.mg_base.specs.declared.geometry.Geometry.{Geometry}
 use Rattle.mg_image.specs.Inventory.{inventory_page}
+use Rattle.mg_space.specs.HandedLaws.{out_of_memory, own_as, told_as}
 use Rattle.mg_space.specs.Taking.{IsMarked, MarksFixed, RefusesRegion}
 use Rattle.mg_space.specs.View.{viewed}
 use Rattle.mg_space.specs.declared.fault.SpaceFault.TheVariants as faults
 use Rattle.mg_space.specs.declared.reading.Found.{Found}
-use Rattle.mg_space.proofs.HandedLemmas.{is_also, no_ok, out_of_memory, own_as, reads_own, reads_region, refused_as, told_as, told_online}
+use Rattle.mg_space.proofs.HandedLemmas.{is_also, no_ok, reads_own, reads_region, refused_as, told_online}
 use Rattle.mg_space.proofs.InventoryLemmas.{damage_on, made_len, made_seen, marks_on, there_len, there_seen}
 use Rattle.mg_space.proofs.RegionLemmas.{written_back}
 use Rattle.mg_space.proofs.TakingLemmas.{marked}

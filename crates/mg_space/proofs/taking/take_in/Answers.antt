@@ -1,10 +1,11 @@
 use Rattle.std.proofs.Common.{◌≡◌, ◌+◌, ◌*◌, ℕ, ap, arith, drop, length, refl}
 use Rattle.std.specs.declared.alloc.Global.{Global}
 use Rattle.std.specs.declared.vec.Vec.{Vec}
+use Rattle.mg_space.specs.HandedLaws.{out_of_memory, own_as, told_as}
 use Rattle.mg_space.specs.Taking.{RefusesRegion}
 use Rattle.mg_space.specs.View.{viewed}
 use Rattle.mg_space.specs.ViewLaws.{viewed_else, viewed_here}
-use Rattle.mg_space.proofs.HandedLemmas.{no_ok, on_err, out_of_memory, own_as, refused_as, told_as, told_online}
+use Rattle.mg_space.proofs.HandedLemmas.{no_ok, on_err, refused_as, told_online}
 use Rattle.mg_space.proofs.RegionLemmas.{none_in, puts_in, takes_in, written_back}
 use Rattle.mg_space.proofs.taking.take_in.Goals as goal
 

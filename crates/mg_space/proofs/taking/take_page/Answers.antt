@@ -2,11 +2,12 @@ use Rattle.std.proofs.Common.{◌<◌, ◌∙◌, ◌↔◌, ℕ, Option, ap, re
 use Rattle.mg_base.specs.declared.numbers.PageNo.{PageNo}
 use Rattle.mg_base.specs.declared.geometry.Geometry.{Geometry}
 use Rattle.mg_image.specs.Inventory.{inventory_page}
+use Rattle.mg_space.specs.HandedLaws.{own_as, told_as}
 use Rattle.mg_space.specs.Taking.{RefusesTake, TakesPage}
 use Rattle.mg_space.specs.View.{viewed}
 use Rattle.mg_space.specs.ViewLaws.{keeps_itself, keeps_on}
 use Rattle.mg_space.specs.declared.fault.SpaceFault.TheVariants as faults
-use Rattle.mg_space.proofs.HandedLemmas.{no_ok, on_err, own_as, refusal_reads, refused_as, told_as, told_then}
+use Rattle.mg_space.proofs.HandedLemmas.{no_ok, on_err, refusal_reads, refused_as, told_then}
 use Rattle.mg_space.proofs.RegionLemmas.{full, handed_on, lawful_on, none_on, puts_on, refuses_on, takes_on, whole_still}
 use Rattle.mg_space.proofs.taking.take_page.Goals as goal
 

@@ -2,6 +2,7 @@ use Rattle.std.proofs.Common.{◌<◌, ◌∙◌, ◌%◌, ap, subst, sym, ℕ}
 use Rattle.mg_base.specs.declared.geometry.Geometry.{Geometry}
 use Rattle.mg_header.specs.declared.header.TheConstants.{GREATEST_NEXT}
 use Rattle.mg_pool.specs.Batch.{IsLawful}
+use Rattle.mg_space.specs.HandedLaws.{no_answer, own_as, told_as}
 use Rattle.mg_space.specs.View.{AreWhole}
 use Rattle.mg_space.specs.ViewLaws.{keeps_on}
 use Rattle.mg_tip.specs.TipPage.{places}
@@ -14,7 +15,7 @@ use Rattle.std.specs.Prelude.{Ok}
 use Rattle.mg_header.specs.declared.header.Header.{Header}
 use Rattle.mg_space.specs.ViewLaws.{fault_on}
 use Rattle.mg_txlist.specs.declared.list.TipPage.{TipPage}
-use Rattle.mg_txlist.proofs.HandedLemmas.{no_answer, own_as, told_as, told_then}
+use Rattle.mg_txlist.proofs.HandedLemmas.{told_then}
 use Rattle.mg_txlist.proofs.RefusalLemmas.{err_as, head_draw, lacks_draw, tip_draw}
 use Rattle.mg_txlist.proofs.drawing.fill.Goals as goal
 

@@ -1,10 +1,11 @@
 use Rattle.std.proofs.Common.{◌≡◌, List, arith, drop, length, subst, sym, ℕ, Ok}
 use Rattle.mg_header.specs.HeaderPage.{reading, the_page}
+use Rattle.mg_space.specs.HandedLaws.{no_answer, out_of_memory, own_as, told_as}
 use Rattle.mg_space.specs.ViewLaws.{viewed_here}
 use Rattle.mg_txlist.specs.Drawing.{MayBeHeader}
 use Rattle.mg_txlist.specs.Refusals.{LacksHead}
 use Rattle.mg_txlist.proofs.DrawLemmas.{head_again, written_back}
-use Rattle.mg_txlist.proofs.HandedLemmas.{no_answer, out_of_memory, own_as, own_memory, refused_reads, told_as, told_memory}
+use Rattle.mg_txlist.proofs.HandedLemmas.{own_memory, refused_reads, told_memory}
 use Rattle.mg_txlist.proofs.RefusalLemmas.{err_as, lacks_read}
 use Rattle.mg_txlist.proofs.drawing.put_head.Goals as goal
 

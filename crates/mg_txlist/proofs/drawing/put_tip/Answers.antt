@@ -2,6 +2,7 @@ use Rattle.std.proofs.Common.{◌≡◌, ◌≤◌, ◌∙◌, true, ◌/◌, �
 use Rattle.mg_base.specs.declared.geometry.Geometry.{Geometry}
 use Rattle.mg_image.specs.Inventory.{inventory_page}
 use Rattle.mg_pool.specs.Batch.{PutsPage}
+use Rattle.mg_space.specs.HandedLaws.{no_answer, out_of_memory, own_as, told_as}
 use Rattle.mg_space.specs.Taking.{region_of}
 use Rattle.mg_tip.specs.TipPage.{places}
 use Rattle.mg_tip.specs.TipPageLaws.{length-new_tip_page}
@@ -9,7 +10,7 @@ use Rattle.mg_txlist.specs.Drawing.{last_orders}
 use Rattle.mg_base.specs.declared.numbers.PageNo.{PageNo}
 use Rattle.mg_space.specs.Taking.{RefusesTake}
 use Rattle.mg_space.specs.View.{viewed}
-use Rattle.mg_txlist.proofs.HandedLemmas.{no_answer, out_of_memory, own_as, own_memory, told_as, told_memory}
+use Rattle.mg_txlist.proofs.HandedLemmas.{own_memory, told_memory}
 use Rattle.mg_txlist.proofs.RefusalLemmas.{err_as}
 use Rattle.mg_txlist.proofs.DrawLemmas.{orders_made, tip_made, written_back}
 use Rattle.mg_base.specs.Geometry.{is_page_size}

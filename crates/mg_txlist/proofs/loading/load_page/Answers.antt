@@ -1,12 +1,13 @@
 use Rattle.std.proofs.Common.{◌∙◌, ap, inl, refl, List, ℕ}
 use Rattle.mg_image.specs.Form.{Pages}
 use Rattle.mg_pool.specs.Pool.{shown}
+use Rattle.mg_space.specs.HandedLaws.{no_answer, own_as, told_as}
 use Rattle.mg_space.specs.ViewLaws.{keeps_itself}
 use Rattle.mg_space.specs.declared.fault.SpaceFault.TheVariants as faults
 use Rattle.mg_txlist.specs.Refusals.{RefusesTip}
 use Rattle.mg_txlist.proofs.ChainLemmas.{has_states, tested_page}
 use Rattle.mg_txlist.proofs.DrawLemmas.{empty_view, empty_whole}
-use Rattle.mg_txlist.proofs.HandedLemmas.{fetches_none, no_answer, own_as, refusal_reads, refused_reads, told_as}
+use Rattle.mg_txlist.proofs.HandedLemmas.{fetches_none, refusal_reads, refused_reads}
 use Rattle.mg_txlist.proofs.RefusalLemmas.{err_as, tip_differs, tip_read}
 use Rattle.mg_txlist.proofs.loading.load_page.Goals as goal
 

@@ -2,13 +2,14 @@ use Rattle.std.proofs.Common.{◌∙◌, ap, arith, length}
 use Rattle.std.specs.Prelude.{Ok}
 use Rattle.mg_pool.specs.Dirty.{DirtyPages}
 use Rattle.mg_pool.specs.Pool.{shown}
+use Rattle.mg_space.specs.HandedLaws.{no_answer, out_of_memory, own_as, told_as}
 use Rattle.mg_space.specs.ViewLaws.{fault_on, keeps_itself, keeps_on, tells_on}
 use Rattle.mg_space.specs.declared.fault.SpaceFault.TheVariants as faults
 use Rattle.mg_txlist.specs.Chain.{tips_below}
 use Rattle.mg_txlist.specs.Refusals.{RefusesTips}
 use Rattle.mg_txlist.specs.declared.list.TipPage.{TipPage}
 use Rattle.mg_txlist.proofs.ChainLemmas.{all_read, all_tested, counted, has_states, read_at, read_tested, read_whole}
-use Rattle.mg_txlist.proofs.HandedLemmas.{geometry_on, no_answer, out_of_memory, own_as, own_memory, refusal_reads, stays_online, told_as, told_memory, told_then}
+use Rattle.mg_txlist.proofs.HandedLemmas.{geometry_on, own_memory, refusal_reads, stays_online, told_memory, told_then}
 use Rattle.mg_txlist.proofs.ReadingLemmas.{read_front}
 use Rattle.mg_txlist.proofs.RefusalLemmas.{err_as, one_back, tips_refused}
 use Rattle.mg_txlist.proofs.loading.load_pages.Goals as goal

@@ -3,10 +3,11 @@ use Rattle.mg_base.specs.declared.geometry.Geometry.{Geometry}
 use Rattle.mg_header.specs.HeaderPage.{the_page}
 use Rattle.mg_image.specs.Form.{Pages}
 use Rattle.mg_pool.specs.Pool.{shown}
+use Rattle.mg_space.specs.HandedLaws.{no_answer, own_as, told_as}
 use Rattle.mg_txlist.specs.Refusals.{RefusesHead}
 use Rattle.mg_txlist.proofs.ChainLemmas.{head_markers, head_seen, next_least}
 use Rattle.mg_txlist.proofs.DrawLemmas.{empty_view, empty_whole}
-use Rattle.mg_txlist.proofs.HandedLemmas.{no_answer, own_as, refused_reads, told_as}
+use Rattle.mg_txlist.proofs.HandedLemmas.{refused_reads}
 use Rattle.mg_txlist.proofs.RefusalLemmas.{err_as, head_lacks, lacks_read}
 use Rattle.mg_txlist.specs.ReadingLaws.{read_held}
 use Rattle.mg_txlist.proofs.loading.read_head.Goals as goal

@@ -3,6 +3,7 @@ use Rattle.mg_base.specs.declared.geometry.Geometry.{Geometry}
 use Rattle.mg_pool.specs.Batch.{IsLawful}
 use Rattle.std.specs.Prelude.{Ok, Err}
 use Rattle.mg_pool.specs.Pool.{shown}
+use Rattle.mg_space.specs.HandedLaws.{no_answer, out_of_memory, own_as, told_as}
 use Rattle.mg_space.specs.View.{viewed}
 use Rattle.mg_txlist.specs.Drawing.{DrawsOn, IsTipFor, not_changed}
 use Rattle.mg_txlist.proofs.AddLemmas.{adds_list, adds_number, own_back, pages_back, same_list}
@@ -10,7 +11,7 @@ use Rattle.mg_space.specs.ViewLaws.{fault_on}
 use Rattle.mg_txlist.specs.Refusals.{RefusesDraw}
 use Rattle.mg_txlist.specs.TxList.{next_said}
 use Rattle.mg_txlist.specs.declared.list.TipPage.{TipPage}
-use Rattle.mg_txlist.proofs.HandedLemmas.{is_also, no_answer, on_err, out_of_memory, own_as, own_memory, told_as, told_memory}
+use Rattle.mg_txlist.proofs.HandedLemmas.{is_also, on_err, own_memory, told_memory}
 use Rattle.mg_txlist.proofs.RefusalLemmas.{err_as}
 use Rattle.mg_txlist.proofs.WritingLemmas.{reads_alone}
 use Rattle.mg_txlist.proofs.list.TxList.draw.Goals as goal

@@ -4,9 +4,10 @@ use Rattle.std.specs.declared.alloc.Global.{Global}
 use Rattle.std.specs.declared.vec.Vec.{Vec}
 use Rattle.mg_base.specs.declared.geometry.Geometry.{Geometry}
 use Rattle.mg_header.specs.declared.header.Header.{Header}
+use Rattle.mg_space.specs.HandedLaws.{no_answer, own_as, told_as}
 use Rattle.mg_space.specs.ViewLaws.{fault_on, keeps_on}
 use Rattle.mg_txlist.specs.declared.list.TipPage.{TipPage}
-use Rattle.mg_txlist.proofs.HandedLemmas.{geometry_on, no_answer, own_as, told_as, told_then}
+use Rattle.mg_txlist.proofs.HandedLemmas.{geometry_on, told_then}
 use Rattle.mg_txlist.proofs.LoadLemmas.{head_read, list_made}
 use Rattle.mg_pool.specs.Pool.{shown}
 use Rattle.mg_txlist.specs.Refusals.{RefusesLoad}
