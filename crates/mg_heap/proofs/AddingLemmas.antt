@@ -12,13 +12,14 @@ use Rattle.mg_pool.specs.Batch.{Changed, PutsPage}
 use Rattle.mg_pool.specs.declared.pool.Pool.{Pool}
 use Rattle.mg_slots.specs.Changes.{PutsCell}
 use Rattle.mg_slots.specs.Room.{least_free, need_of, room_of}
+use Rattle.mg_slots.specs.declared.change.NoRoom.{NoRoom}
 use Rattle.mg_space.specs.View.{KeepsStore, viewed}
 use Rattle.mg_space.specs.ViewLaws.{viewed_else, viewed_here, viewed_on}
 use Rattle.mg_space.specs.declared.fault.SpaceFault.{SpaceFault}
 use Rattle.mg_space.specs.declared.fault.SpaceFault.TheVariants as faults
 use Rattle.mg_heap.specs.Changing.{ChangesOne}
 use Rattle.mg_heap.specs.Reading.{IsSomeData}
-use Rattle.mg_heap.specs.Room.{AddsCell, GivesRoom, PutsIn, RefusesAdd, RefusesPutIn}
+use Rattle.mg_heap.specs.Room.{AddsCell, GivesRoom, PutsIn, RefusesAdd, RefusesPutIn, lack_of, room_damage}
 
 pub puts_in_at : {D L : Type 0} (store : Pool D L) (image : Image) (old new : Changed) (page : PageNo)
     (slot : ℕ) (cell read slice after put : List ℕ) → IsSomeData page read
@@ -40,13 +41,22 @@ puts_in_at store image old new page slot cell read slice after put some seen sam
       };
     }
 
+-- the page is named with what the cell needs, and what it may take
+pub room_told : (page : PageNo) (need room : ℕ) (lack : NoRoom) (damage : Damaged) → damage ≡ room_damage page lack
+    → lack ≡ lack_of need room → damage ≡ room_damage page (lack_of need room)
+room_told page need room lack damage is lacks = is ∙ ap (λ (x : NoRoom). room_damage page x) lacks
+
 pub no_room_there : {D L : Type 0} (m : Meaning D) (store : Pool D L) (batch : Changed) (page : PageNo)
     (cell b read slice : List ℕ) (damage : Damaged) → IsSomeData page read → read ≡ b → slice ≡ read
-    → room_of slice < need_of cell → RefusesPutIn m store batch b page cell (faults.Damaged damage)
-no_room_there m store batch page cell b read slice damage some seen same less = inr (
-  subst (IsSomeData page) seen some,
-  subst (λ (x : List ℕ). room_of x < need_of cell) (same ∙ seen) less,
-)
+    → room_of slice < need_of cell → damage ≡ room_damage page (lack_of (need_of cell) (room_of slice))
+    → RefusesPutIn m store batch b page cell (faults.Damaged damage)
+no_room_there m store batch page cell b read slice damage some seen same less is = inr (record {
+  data_page = subst (IsSomeData page) seen some;
+  small = subst (λ (x : List ℕ). room_of x < need_of cell) (same ∙ seen) less;
+  is = subst (λ (x : List ℕ). faults.Damaged damage
+      ≡ faults.Damaged (room_damage page (lack_of (need_of cell) (room_of x)))) (same ∙ seen)
+      (ap (λ (it : Damaged). faults.Damaged it) is);
+})
 
 module _ {D L : Type 0} (m : Meaning D) (a b : Pool D L) (image : Image) (kept : KeepsStore m a b) where
   puts_on : (old new : Changed) (page : PageNo) (cell : List ℕ) (at : RecId)

@@ -1,7 +1,7 @@
 -- Lemmas of a cell that is put beside a slot which stays free.
 use Rattle.std.proofs.Common.{◌≡◌, ◌≢◌, ◌<◌, ◌≤◌, ◌+◌, ◌⊎◌, ◌∙◌, inl, inr, ℕ, Bool, true, false, List, Option, None, Some, length, refl, sym, ap, subst, arith, Result, Ok, Err}
 use Rattle.std.proofs.lemmas.Bool.{cases_eq, cases_lt, cases_order, eq-eqb, false≢true, lt-ltb, ltb-false, ltb-true}
-use Rattle.std.specs.Prelude.{IfOk, IsSome, MatchResult, OnErr, OnOk, is_some, nat_lt}
+use Rattle.std.specs.Prelude.{IfErr, IfOk, IsErrAnd, IsOk, IsSome, MatchResult, OnOk, is_some, nat_lt}
 use Rattle.mg_base.specs.Disk.{Meaning}
 use Rattle.mg_base.specs.Image.{Image}
 use Rattle.mg_base.specs.declared.damage.Damaged.{Damaged}
@@ -14,7 +14,7 @@ use Rattle.mg_pool.specs.declared.pool.Pool.{Pool}
 use Rattle.mg_slots.specs.Changes.{FreesCell, PutsCell, SetsCell}
 use Rattle.mg_slots.specs.DataPage.{all_taken, cell_of, slot_count, taken_by}
 use Rattle.mg_slots.specs.DataPageLaws.{cell_past, cells_fit}
-use Rattle.mg_slots.specs.Room.{least_free, need_of, rest_of, room_of}
+use Rattle.mg_slots.specs.Room.{least_free, need_of, rest_of, room_for, room_of}
 use Rattle.mg_slots.specs.declared.change.NoRoom.{NoRoom}
 use Rattle.mg_slots.specs.RoomLaws.{first_without_all, first_without_at, first_without_found, first_without_le, last_end_le, rest_is, used_before_least_free}
 use Rattle.mg_slots.specs.declared.page.TheConstants.{LEAST_TAKEN}
@@ -22,10 +22,10 @@ use Rattle.mg_space.specs.View.{KeepsStore, viewed}
 use Rattle.mg_space.specs.ViewLaws.{viewed_else, viewed_here, viewed_on}
 use Rattle.mg_space.specs.declared.fault.SpaceFault.{SpaceFault}
 use Rattle.mg_space.specs.declared.fault.SpaceFault.TheVariants as faults
-use Rattle.mg_heap.specs.Apart.{AddsApart, HasNoRoomBeside, HasNoRoomWith, HasPlace, HoldsSlot, PutsApart, PutsBeside, RefusesAddApart, RefusesPutApart, kept_on, need_with_anchor}
+use Rattle.mg_heap.specs.Apart.{AddsApart, HasNoRoomBeside, HasNoRoomWith, HasPlace, HoldsSlot, IsRoomDamage, PutsApart, PutsBeside, RefusesAddApart, RefusesPutApart, kept_on, need_with_anchor}
 use Rattle.mg_heap.specs.Changing.{ChangesOne}
 use Rattle.mg_heap.specs.Reading.{IsSomeData}
-use Rattle.mg_heap.specs.Room.{GivesRoom}
+use Rattle.mg_heap.specs.Room.{GivesRoom, lack_of}
 
 -- the least free slot has no cell
 pub least_is_free : (b : List ℕ) → cell_of b (least_free b) ≡ None
@@ -205,21 +205,52 @@ put_else_ok old new kept least cell kept_is (Ok slot) is no_ says at puts =
     put_else old new kept least slot cell is (λ same. false≢true (sym no_ ∙ says same)) at puts
 put_else_ok old new kept least cell kept_is (Err fault) is no_ says at puts = tt
 
--- the cell has no room beside the slot that is held
-pub no_room_with : (b0 b1 cell : List ℕ) (kept : Option ℕ) (least : ℕ) (result : Result ℕ NoRoom)
-    → kept ≡ Some least → HoldsSlot b0 b1 least
-    → (need_of cell ≤ room_of b1 → false ≡ true) → OnErr result (HasNoRoomBeside b0 kept cell)
-no_room_with b0 b1 cell kept least (Ok slot) keeps holds refused = tt
-no_room_with b0 b1 cell kept least (Err fault) keeps holds refused = inr
-    (subst (λ (k : Option ℕ). HasNoRoomWith b0 k cell) (sym keeps)
-    (inr (record { held = b1; holds = holds; small = above (need_of cell) (room_of b1) refused })))
+-- ---- there is no room
+
+-- what is refused needs more than there is
+above : (need room : ℕ) → (need ≤ room → false ≡ true) → room < need
+above need room refused = at (nat_lt room need) refl
   where
-    above : (need room : ℕ) → (need ≤ room → false ≡ true) → room < need
-    above need room refused = at (nat_lt room need) refl
-      where
-        at : (less : Bool) → nat_lt room need ≡ less → room < need
-        at true is = ltb-true room need is
-        at false is = absurd (false≢true (refused (ltb-false room need is)))
+    at : (less : Bool) → nat_lt room need ≡ less → room < need
+    at true is = ltb-true room need is
+    at false is = absurd (false≢true (refused (ltb-false room need is)))
+
+-- a lack that is handed on
+lack_on : {T : Type 0} (P : NoRoom → Type 0) (result : Result T NoRoom) (lack : NoRoom)
+    → IsErrAnd result (λ given. given ≡ lack) → P lack → IfErr result P
+lack_on P (Ok x) lack is holds = tt
+lack_on P (Err given) lack is holds = subst P (sym is) holds
+
+-- the cell has no room on the page
+pub no_room_on : (b cell : List ℕ) (kept : Option ℕ) (result : Result ℕ NoRoom)
+    → (need_of cell ≤ room_of b → IsOk result) → IfErr result (λ lack. lack ≡ lack_of (need_of cell) (room_of b))
+    → IfErr result (HasNoRoomBeside b kept cell)
+no_room_on b cell kept (Ok slot) fits told = tt
+no_room_on b cell kept (Err lack) fits told = inl (record {
+  less = above (need_of cell) (room_of b) (λ enough. fits enough);
+  is = told;
+})
+
+-- an anchor has no room in the slot that is kept
+pub no_room_kept : (b cell : List ℕ) (kept : Option ℕ) (least : ℕ) (result : Result ℕ NoRoom) (lack : NoRoom)
+    → kept ≡ Some least → room_for b least < LEAST_TAKEN → lack ≡ lack_of LEAST_TAKEN (room_for b least)
+    → IsErrAnd result (λ given. given ≡ lack) → IfErr result (HasNoRoomBeside b kept cell)
+no_room_kept b cell kept least result lack keeps less told given = lack_on (HasNoRoomBeside b kept cell) result lack
+    given (inr (subst (λ (k : Option ℕ). HasNoRoomWith b k cell lack) (sym keeps)
+    (inl (record { less = less; is = told }))))
+
+-- the cell has no room beside the slot that is held
+pub no_room_with : (b0 b1 cell : List ℕ) (kept : Option ℕ) (least : ℕ) (result : Result ℕ NoRoom) (lack : NoRoom)
+    → kept ≡ Some least → HoldsSlot b0 b1 least → (need_of cell ≤ room_of b1 → false ≡ true)
+    → lack ≡ lack_of (need_of cell) (room_of b1) → IsErrAnd result (λ given. given ≡ lack)
+    → IfErr result (HasNoRoomBeside b0 kept cell)
+no_room_with b0 b1 cell kept least result lack keeps holds refused told given =
+    lack_on (HasNoRoomBeside b0 kept cell) result lack given
+    (inr (subst (λ (k : Option ℕ). HasNoRoomWith b0 k cell lack) (sym keeps) (inr (record {
+      held = b1;
+      holds = holds;
+      lacks = record { less = above (need_of cell) (room_of b1) refused; is = told };
+    }))))
 
 -- ---- the page of a batch
 
@@ -252,13 +283,15 @@ puts_apart store image old new page place slot kept cell read slice after put so
 pub no_room_beside : {D L : Type 0} (m : Meaning D) (store : Pool D L) (batch : Changed) (page : PageNo)
     (place : RecId) (kept : Option ℕ) (cell b read slice : List ℕ) (damage : Damaged)
     → IsSomeData page read → read ≡ b → slice ≡ read → kept ≡ kept_on page place
-    → HasNoRoomBeside slice kept cell
+    → IsRoomDamage page slice kept cell damage
     → RefusesPutApart m store batch b page place cell (faults.Damaged damage)
-no_room_beside m store batch page place kept cell b read slice damage some seen same keeps none = inr (
-  subst (IsSomeData page) seen some,
-  subst (λ (k : Option ℕ). HasNoRoomBeside b k cell) keeps
-      (subst (λ (x : List ℕ). HasNoRoomBeside x kept cell) (same ∙ seen) none),
-)
+no_room_beside m store batch page place kept cell b read slice damage some seen same keeps lacks = inr (record {
+  data_page = subst (IsSomeData page) seen some;
+  damage = damage;
+  lacks = subst (λ (k : Option ℕ). IsRoomDamage page b k cell damage) keeps
+      (subst (λ (x : List ℕ). IsRoomDamage page x kept cell damage) (same ∙ seen) lacks);
+  is = refl;
+})
 
 -- ---- a page was given, and the cell was put there
 

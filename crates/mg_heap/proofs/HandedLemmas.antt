@@ -1,30 +1,22 @@
 -- A fault that is handed on: the answer that hands it on is as that of the call that met it.
-use Rattle.std.proofs.Common.{◌≡◌, ◌∙◌, ◌<◌, ◌^◌, ℕ, true, List, ap, arith, length, refl, subst, sym}
-use Rattle.std.specs.Prelude.{Result, Ok, Err, IfOk, IsErr, IsErrAnd, OnErr, OnOk}
+use Rattle.std.proofs.Common.{◌≡◌, ◌∙◌, ◌<◌, ◌^◌, ℕ, true, List, ap, arith, length, subst, sym}
+use Rattle.std.specs.Prelude.{Result, Ok, Err, IsErr, IsErrAnd, OnErr, OnOk}
 use Rattle.mg_base.specs.Disk.{Meaning}
 use Rattle.mg_base.specs.Geometry.{is_page_size}
 use Rattle.mg_base.specs.declared.damage.Damaged.{Damaged}
 use Rattle.mg_base.specs.declared.geometry.Geometry.{Geometry}
 use Rattle.mg_pool.specs.Batch.{Changed}
 use Rattle.mg_pool.specs.Fault.{StaysOnline, TellsFault}
-use Rattle.mg_pool.specs.declared.fault.PoolFault.{PoolFault}
-use Rattle.mg_pool.specs.declared.fault.PoolFault.TheVariants as pool_faults
 use Rattle.mg_pool.specs.declared.pool.Pool.{Pool}
+use Rattle.mg_space.specs.HandedLaws.{out_of_memory}
 use Rattle.mg_space.specs.Taking.{IsGeometry, PutsInventory}
 use Rattle.mg_space.specs.View.{ReadsAlone, pool_answer}
 use Rattle.mg_space.specs.declared.fault.SpaceFault.{SpaceFault}
 use Rattle.mg_space.specs.declared.fault.SpaceFault.TheVariants as faults
+use Rattle.mg_heap.specs.HandedLaws.{reads_same}
 use Rattle.mg_heap.specs.Reading.{ReadsData}
 
--- want of memory, as a fault of the cache
-abbrev pub out_of_memory : SpaceFault
-out_of_memory = faults.Pool pool_faults.Memory
-
 -- what is said of an answer holds where there is none
-pub no_answer : {T E : Type 0} (P : T → Type 0) (result : Result T E) → IsErr result → IfOk result P
-no_answer P (Ok x) err = absurd cc
-no_answer P (Err e) err = tt
-
 pub no_answer_on : {T E : Type 0} (P : Type 0) (result : Result T E) → IsErr result → OnOk result P
 no_answer_on P (Ok x) err = absurd cc
 no_answer_on P (Err e) err = tt
@@ -36,31 +28,7 @@ on_err P (Err e) holds = holds
 
 -- ---- what is told of the cache's faults
 
-same_answer : (A B : Type 0) (fault : SpaceFault)
-    → pool_answer {T = A} (Err fault) ≡ pool_answer {T = B} (Err fault)
-same_answer A B (faults.Full limit) = refl
-same_answer A B (faults.Damaged damage) = refl
-same_answer A B (faults.Pool fault) = refl
-
-pub fault_same : {D L T : Type 0} (A : Type 0) (m : Meaning D) (a b : Pool D L)
-    (result : Result T SpaceFault) (fault : SpaceFault) → IsErr result
-    → IsErrAnd result (λ given. given ≡ fault)
-    → TellsFault m a b (pool_answer {T = A} (Err fault)) → TellsFault m a b (pool_answer result)
-fault_same A m a b (Ok x) fault err is tells = absurd cc
-fault_same {T = T} A m a b (Err e) fault err is tells =
-    let P : Result (Unit {0}) PoolFault → Type 0 = λ answer. TellsFault m a b answer in
-    let Q : SpaceFault → Type 0 = λ f. TellsFault m a b (pool_answer {T = T} (Err f)) in
-    subst Q (sym is) (subst P (same_answer A T fault) tells)
-
--- memory was wanting, or a page is damaged, after calls that met no fault
-pub fault_memory : {D L T : Type 0} (m : Meaning D) (a b : Pool D L) (result : Result T SpaceFault)
-    → IsErr result → IsErrAnd result (λ given. given ≡ out_of_memory) → StaysOnline m a b
-    → TellsFault m a b (pool_answer result)
-fault_memory m a b (Ok x) err is online = absurd cc
-fault_memory {T = T} m a b (Err e) err is online =
-    let Q : SpaceFault → Type 0 = λ f. TellsFault m a b (pool_answer {T = T} (Err f)) in
-    subst Q (sym is) online
-
+-- a page is damaged, after calls that met no fault
 pub fault_damage : {D L T : Type 0} (m : Meaning D) (a b : Pool D L) (result : Result T SpaceFault)
     (damage : Damaged) → IsErr result → IsErrAnd result (λ given. given ≡ faults.Damaged damage)
     → StaysOnline m a b → TellsFault m a b (pool_answer result)
@@ -88,19 +56,6 @@ pub alone_memory : {T : Type 0} (result : Result T SpaceFault)
     → IsErrAnd result (λ given. given ≡ out_of_memory) → ReadsAlone result
 alone_memory (Ok x) is = tt
 alone_memory {T = T} (Err e) is = subst (λ (f : SpaceFault). ReadsAlone {T = T} (Err f)) (sym is) tt
-
-reads_as : (A T : Type 0) (fault : SpaceFault) → ReadsData {T = A} (Err fault)
-    → ReadsData {T = T} (Err fault)
-reads_as A T (faults.Full limit) reads = reads
-reads_as A T (faults.Damaged damage) reads = reads
-reads_as A T (faults.Pool fault) reads = reads
-
-pub reads_same : {T : Type 0} (A : Type 0) (result : Result T SpaceFault) (fault : SpaceFault)
-    → IsErr result → IsErrAnd result (λ given. given ≡ fault) → ReadsData {T = A} (Err fault)
-    → ReadsData result
-reads_same A (Ok x) fault err is reads = tt
-reads_same {T = T} A (Err e) fault err is reads =
-    subst (λ (f : SpaceFault). ReadsData {T = T} (Err f)) (sym is) (reads_as A T fault reads)
 
 pub reads_memory : {T : Type 0} (result : Result T SpaceFault)
     → IsErrAnd result (λ given. given ≡ out_of_memory) → ReadsData result

@@ -15,14 +15,12 @@ use Rattle.mg_image.specs.Tables.{Has, IsOnce, entries_in}
 use Rattle.mg_pointer.specs.PointerPage.{IsPointerPage, entries_of, next_in, pointer_checks}
 use Rattle.mg_pointer.specs.PointerPageLaws.{length-entries_of, page_that_passes}
 use Rattle.mg_pool.specs.Batch.{Changed}
-use Rattle.mg_pool.specs.Fault.{MeetsNoFault, TellsFault}
 use Rattle.mg_pool.specs.declared.batch.BatchPage.{BatchPage}
-use Rattle.mg_pool.specs.declared.fault.PoolFault.{PoolFault}
 use Rattle.mg_pool.specs.declared.pool.Pool.{Pool}
 use Rattle.mg_space.specs.Taking.{IsGeometry}
 use Rattle.mg_space.specs.TakingLaws.{page_sizes}
-use Rattle.mg_space.specs.View.{AreWhole, KeepsStore, Tells, pool_answer, viewed}
-use Rattle.mg_space.specs.ViewLaws.{fault_on, tells_on, viewed_on}
+use Rattle.mg_space.specs.View.{AreWhole, KeepsStore, Tells, viewed}
+use Rattle.mg_space.specs.ViewLaws.{tells_on, viewed_on}
 use Rattle.mg_space.specs.declared.fault.SpaceFault.{SpaceFault}
 use Rattle.mg_space.specs.declared.fault.SpaceFault.TheVariants as faults
 use Rattle.mg_heap.specs.Table.{FollowsPage, IsLinkDamage, IsPointerAt, IsPointerDamage, LeadsTo, LinksTo, ListsPage, RefusesPointer, RefusesPointerPage, RefusesTable, back, link_damage, misled, past, unlike}
@@ -227,24 +225,6 @@ pub all_short : (n : ℕ) → n ≤ GREATEST_LIMIT → n < 2 ^ 31
 all_short n short = omega (arith, short)
 
 -- ---- one call after another
-
-same_answer : (A B : Type 0) (fault : SpaceFault)
-    → pool_answer {T = A} (Err fault) ≡ pool_answer {T = B} (Err fault)
-same_answer A B (faults.Full limit) = refl
-same_answer A B (faults.Damaged damage) = refl
-same_answer A B (faults.Pool fault) = refl
-
--- a fault that a later call met is handed on, and told since the start
-pub fault_up : {D L T : Type 0} (A : Type 0) (m : Meaning D) (a b c : Pool D L)
-    (result : Result T SpaceFault) (fault : SpaceFault) → KeepsStore m a b → MeetsNoFault m a b
-    → IsErr result → IsErrAnd result (λ given. given ≡ fault)
-    → TellsFault m b c (pool_answer {T = A} (Err fault)) → TellsFault m a c (pool_answer result)
-fault_up A m a b c (Ok x) fault kept same err is tells = absurd cc
-fault_up {T = T} A m a b c (Err e) fault kept same err is tells =
-    let P : Result (Unit {0}) PoolFault → Type 0 = λ answer. TellsFault m b c answer in
-    let Q : SpaceFault → Type 0 = λ f. TellsFault m b c (pool_answer {T = T} (Err f)) in
-    fault_on m a b c (pool_answer {T = T} (Err e)) kept same
-    (subst Q (sym is) (subst P (same_answer A T fault) tells))
 
 module _ {D L : Type 0} (m : Meaning D) (a b : Pool D L) (kept : KeepsStore m a b) where
   pub geometry_later : IsGeometry a.geometry → IsGeometry b.geometry

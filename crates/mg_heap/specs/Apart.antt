@@ -3,6 +3,7 @@
 use Rattle.std.specs.Prelude.{◌≡◌, ◌≢◌, ◌<◌, ◌≤◌, ◌⊎◌, ◌+◌, ◌==◌, ℕ, List, length, Option, None, Some, if◌then◌else◌}
 use Rattle.mg_base.specs.Disk.{Meaning}
 use Rattle.mg_base.specs.Image.{Image}
+use Rattle.mg_base.specs.declared.damage.Damaged.{Damaged}
 use Rattle.mg_base.specs.declared.numbers.PageNo.{PageNo}
 use Rattle.mg_base.specs.declared.numbers.RecId.{RecId}
 use Rattle.mg_image.specs.Form.{Pages}
@@ -11,12 +12,14 @@ use Rattle.mg_pool.specs.declared.pool.Pool.{Pool}
 use Rattle.mg_slots.specs.Changes.{PutsCell, SetsCell}
 use Rattle.mg_slots.specs.DataPage.{cell_of}
 use Rattle.mg_slots.specs.Room.{least_free, need_of, room_for, room_of}
+use Rattle.mg_slots.specs.declared.change.NoRoom.{NoRoom}
 use Rattle.mg_slots.specs.declared.page.TheConstants.{LEAST_TAKEN}
 use Rattle.mg_space.specs.View.{viewed}
 use Rattle.mg_space.specs.declared.fault.SpaceFault.{SpaceFault}
+use Rattle.mg_space.specs.declared.fault.SpaceFault.TheVariants as faults
 use Rattle.mg_heap.specs.Changing.{ChangesOne}
 use Rattle.mg_heap.specs.Reading.{IsSomeData, RefusesData}
-use Rattle.mg_heap.specs.Room.{GivesRoom, RefusesRoom}
+use Rattle.mg_heap.specs.Room.{GivesRoom, RefusesRoom, lack_of, room_damage}
 
 -- the room that a page has to have: for the cell, and for an anchor with its slot
 abbrev pub need_with_anchor : List ℕ → ℕ
@@ -66,26 +69,46 @@ pub record HoldsSlot (b held : List ℕ) (slot : ℕ) : Type 0 where
   pub len : length anchor ≡ LEAST_TAKEN
   pub puts : PutsCell b held slot anchor
 
+-- a cell needs more bytes than it may take, and both numbers are told
+pub record LacksRoom (need room : ℕ) (lack : NoRoom) : Type 0 where
+  pub less : room < need
+  pub is : lack ≡ lack_of need room
+
 -- the slot of a page is held, and beside it the cell has no room
-pub record HasNoRoomHeld (b : List ℕ) (slot : ℕ) (cell : List ℕ) : Type 0 where
+pub record HasNoRoomHeld (b : List ℕ) (slot : ℕ) (cell : List ℕ) (lack : NoRoom) : Type 0 where
   pub held : List ℕ
   pub holds : HoldsSlot b held slot
-  pub small : room_of held < need_of cell
+  pub lacks : LacksRoom (need_of cell) (room_of held) lack
 
 -- An anchor holds a slot that is kept: it has no room there, or the cell has none beside it.
-abbrev pub HasNoRoomWith : List ℕ → Option ℕ → List ℕ → Type 0
-HasNoRoomWith b None cell = ⊥
-HasNoRoomWith b (Some kept) cell = (room_for b kept < LEAST_TAKEN) ⊎ HasNoRoomHeld b kept cell
+abbrev pub HasNoRoomWith : List ℕ → Option ℕ → List ℕ → NoRoom → Type 0
+HasNoRoomWith b None cell lack = ⊥
+HasNoRoomWith b (Some kept) cell lack =
+    LacksRoom LEAST_TAKEN (room_for b kept) lack ⊎ HasNoRoomHeld b kept cell lack
 
 -- a cell has no room on a page, or none beside the slot that is kept
-abbrev pub HasNoRoomBeside : List ℕ → Option ℕ → List ℕ → Type 0
-HasNoRoomBeside b kept cell = (room_of b < need_of cell) ⊎ HasNoRoomWith b kept cell
+abbrev pub HasNoRoomBeside : List ℕ → Option ℕ → List ℕ → NoRoom → Type 0
+HasNoRoomBeside b kept cell lack = LacksRoom (need_of cell) (room_of b) lack ⊎ HasNoRoomWith b kept cell lack
 
--- why a cell is not put apart from a place on a page, but for faults of the cache
+-- the damage of a page that tells of a cell which has no room there beside the slot that is kept
+abbrev pub IsRoomDamage : PageNo → List ℕ → Option ℕ → List ℕ → Damaged → Type 0
+IsRoomDamage page b kept cell damage =
+    (lack : NoRoom) × HasNoRoomBeside b kept cell lack × (damage ≡ room_damage page lack)
+
+-- A cell has no room on a data page apart from a place, and the fault is the damage of the page that tells so.
+pub record HasNoRoomApart (page : PageNo) (b : List ℕ) (place : RecId) (cell : List ℕ) (fault : SpaceFault)
+    : Type 0 where
+  pub data_page : IsSomeData page b
+  pub damage : Damaged
+  pub lacks : IsRoomDamage page b (kept_on page place) cell damage
+  pub is : fault ≡ faults.Damaged damage
+
+-- why a cell is not put apart from a place on a page, but for faults of the cache: it is no data page, or
+-- the cell has no room there
 abbrev pub RefusesPutApart : {D L : Type 0} → Meaning D → Pool D L → Changed → List ℕ → PageNo → RecId
     → List ℕ → SpaceFault → Type 0
-RefusesPutApart m store batch b page place cell fault = RefusesData m store batch.pages page b fault
-    ⊎ (IsSomeData page b × HasNoRoomBeside b (kept_on page place) cell)
+RefusesPutApart m store batch b page place cell fault =
+    RefusesData m store batch.pages page b fault ⊎ HasNoRoomApart page b place cell fault
 
 -- a page was given, and the cell was not put there
 pub record RefusesApartThere {D L : Type 0} (m : Meaning D) (old new : Pool D L) (image : Image)

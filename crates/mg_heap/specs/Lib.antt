@@ -3,6 +3,7 @@ pub mod Changing
 pub mod ChangingLaws
 pub mod Growth
 pub mod GrowthLaws
+pub mod HandedLaws
 pub mod Reach
 pub mod Reading
 pub mod Reads

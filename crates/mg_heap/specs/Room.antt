@@ -3,6 +3,8 @@
 use Rattle.std.specs.Prelude.{◌≡◌, ◌<◌, ◌≤◌, ◌⊎◌, ◌-◌, ◌==◌, ℕ, List, length, Option, None, Some, slice_index, if◌then◌else◌}
 use Rattle.mg_base.specs.Disk.{Meaning}
 use Rattle.mg_base.specs.Image.{Image}
+use Rattle.mg_base.specs.declared.damage.Damaged.{Damaged}
+use Rattle.mg_base.specs.declared.damage.Field.TheVariants.{Count}
 use Rattle.mg_base.specs.declared.numbers.PageNo.{PageNo}
 use Rattle.mg_base.specs.declared.numbers.RecId.{RecId}
 use Rattle.mg_image.specs.Form.{Pages}
@@ -10,8 +12,10 @@ use Rattle.mg_pool.specs.Batch.{Changed}
 use Rattle.mg_pool.specs.declared.pool.Pool.{Pool}
 use Rattle.mg_slots.specs.DataPage.{IsDataPage}
 use Rattle.mg_slots.specs.Room.{least_free, need_of, room_of}
+use Rattle.mg_slots.specs.declared.change.NoRoom.{NoRoom}
 use Rattle.mg_space.specs.View.{viewed}
 use Rattle.mg_space.specs.declared.fault.SpaceFault.{SpaceFault}
+use Rattle.mg_space.specs.declared.fault.SpaceFault.TheVariants as faults
 use Rattle.mg_heap.specs.Changing.{ChangesOne, PutsCellAt}
 use Rattle.mg_heap.specs.Growth.{GrowsTable, RefusesGrowth}
 use Rattle.mg_heap.specs.Reading.{IsSomeData, RefusesData}
@@ -115,12 +119,26 @@ pub record AddsCell {D L : Type 0} (store : Pool D L) (image : Image) (old new :
   pub one : ChangesOne store.geometry.size given new at.page.0
   pub puts : PutsIn (viewed store image given) (viewed store image new) at.page cell at
 
+-- how many bytes a cell needs, and how many it may take
+abbrev pub lack_of : ℕ → ℕ → NoRoom
+lack_of need room = record { need = need; room = room }
+
+-- a page on which a cell has no room: found is what the cell needs, wanted what it may take
+abbrev pub room_damage : PageNo → NoRoom → Damaged
+room_damage page lack = record { page = page; field = Count; found = lack.need; wanted = lack.room }
+
+-- A cell has no room on a data page, and the fault is the damage of the page that tells so.
+pub record HasNoRoom (page : PageNo) (b cell : List ℕ) (fault : SpaceFault) : Type 0 where
+  pub data_page : IsSomeData page b
+  pub small : room_of b < need_of cell
+  pub is : fault ≡ faults.Damaged (room_damage page (lack_of (need_of cell) (room_of b)))
+
 -- why a cell is not put into the least free slot of a page, but for faults of the cache: it is no data
 -- page, or the cell has no room there
 abbrev pub RefusesPutIn : {D L : Type 0} → Meaning D → Pool D L → Changed → List ℕ → PageNo → List ℕ
     → SpaceFault → Type 0
-RefusesPutIn m store batch b page cell fault = RefusesData m store batch.pages page b fault
-    ⊎ (IsSomeData page b × (room_of b < need_of cell))
+RefusesPutIn m store batch b page cell fault =
+    RefusesData m store batch.pages page b fault ⊎ HasNoRoom page b cell fault
 
 -- a page was given, and the cell was not put there: it is no data page, or has no room
 pub record RefusesPut {D L : Type 0} (m : Meaning D) (old new : Pool D L) (image : Image)

@@ -1,6 +1,6 @@
 //! A cell is added to a table.
 
-ghost use Rattle.std.specs.Prelude.{◌≡◌, ◌≢◌, ◌≤◌, ◌<◌, ◌+◌, ◌^◌, IfOk, MatchResult, OnErr, OnOk, length};
+ghost use Rattle.std.specs.Prelude.{◌≡◌, ◌≢◌, ◌≤◌, ◌<◌, ◌+◌, ◌^◌, IfErr, IfOk, MatchResult, OnErr, OnOk, length};
 ghost use Rattle.mg_base.specs.Image.{Image};
 ghost use Rattle.mg_pool.specs.Fault.{TellsFault};
 ghost use Rattle.mg_pool.specs.Pool.{IsPool};
@@ -11,7 +11,7 @@ ghost use Rattle.mg_space.specs.Taking.{IsGeometry};
 ghost use Rattle.mg_space.specs.View.{AreWhole, KeepsStore, ReadsAlone, Tells, pool_answer, viewed};
 ghost use Rattle.mg_heap.specs.Changing.{ChangesOne};
 ghost use Rattle.mg_heap.specs.Reading.{ReadsData};
-ghost use Rattle.mg_heap.specs.Room.{AddsCell, PutsIn, RefusesAdd, RefusesPutIn};
+ghost use Rattle.mg_heap.specs.Room.{AddsCell, PutsIn, RefusesAdd, RefusesPutIn, lack_of, room_damage};
 
 use crate::reading::data_page;
 use crate::room::page_with_room;
@@ -63,7 +63,8 @@ fn needed(cell: &[u8]) -> u32
 ///
 /// # Errors
 ///
-/// As `cell`; `Damaged` at `Count` where the cell has no room, which no caller here meets.
+/// As `cell`; `Damaged` at `Count` where the cell has no room, with what it needs as found and what it may
+/// take as wanted. No caller here meets that.
 fn put_in<D: Disk>(
     store: &mut Store<D>,
     batch: &mut Batch,
@@ -99,15 +100,24 @@ fn put_least(b: &mut [u8], page: PageNo, cell: &[u8]) -> Result<u16, Damaged>
     ensures slot { IfOk result (λ slot. slot ≡ least_free b.old) }
     ensures put { OnOk result (PutsCell b.old b.new (least_free b.old) cell.now) }
     ensures no_room { OnErr result (room_of b.old < need_of cell.now) }
+    ensures damage { IfErr result (λ it.
+        it ≡ room_damage page (lack_of (need_of cell.now) (room_of b.old))) }
     ensures len { length b.new ≡ length b.old }
 {
     match put_cell(b, cell) {
         Ok(slot) => Ok(slot),
-        Err(NoRoom { need, room }) => Err(Damaged {
-            page,
-            field: Field::Count,
-            found: u64::from(need),
-            wanted: u64::from(room),
-        }),
+        Err(lack) => Err(no_room(page, lack)),
+    }
+}
+
+/// Names a page on which a cell has no room.
+pub(crate) fn no_room(page: PageNo, lack: NoRoom) -> Damaged
+    ensures { result ≡ room_damage page lack }
+{
+    Damaged {
+        page,
+        field: Field::Count,
+        found: u64::from(lack.need),
+        wanted: u64::from(lack.room),
     }
 }

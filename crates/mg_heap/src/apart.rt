@@ -1,6 +1,6 @@
 //! A cell is added to a table apart from a place that is to be filled after it.
 
-ghost use Rattle.std.specs.Prelude.{◌≡◌, ◌≢◌, ◌≤◌, ◌<◌, ◌+◌, ◌^◌, ◌↔◌, IfOk, IsTrue, MatchResult, OnErr, OnOk, Some, length};
+ghost use Rattle.std.specs.Prelude.{◌≡◌, ◌≢◌, ◌≤◌, ◌<◌, ◌+◌, ◌^◌, ◌↔◌, IfErr, IfOk, IsTrue, MatchResult, OnErr, OnOk, Some, length};
 ghost use Rattle.mg_base.specs.Image.{Image};
 ghost use Rattle.mg_pool.specs.Fault.{TellsFault};
 ghost use Rattle.mg_pool.specs.Pool.{IsPool};
@@ -8,14 +8,16 @@ ghost use Rattle.mg_slots.specs.DataPage.{IsDataPage};
 ghost use Rattle.mg_slots.specs.Room.{least_free as least_in, need_of, room_for};
 ghost use Rattle.mg_space.specs.Taking.{IsGeometry};
 ghost use Rattle.mg_space.specs.View.{AreWhole, KeepsStore, ReadsAlone, Tells, pool_answer, viewed};
-ghost use Rattle.mg_heap.specs.Apart.{AddsApart, HasNoRoomBeside, HoldsSlot, PutsApart, PutsBeside, RefusesAddApart, RefusesPutApart, kept_on as kept_slot, need_with_anchor};
+ghost use Rattle.mg_heap.specs.Apart.{AddsApart, HasNoRoomBeside, HoldsSlot, IsRoomDamage, PutsApart, PutsBeside, RefusesAddApart, RefusesPutApart, kept_on as kept_slot, need_with_anchor};
 ghost use Rattle.mg_heap.specs.Changing.{ChangesOne};
 ghost use Rattle.mg_heap.specs.Reading.{ReadsData};
+ghost use Rattle.mg_heap.specs.Room.{lack_of};
 
+use crate::adding::no_room;
 use crate::changing::least_free;
 use crate::reading::data_page;
 use crate::room::page_with_room;
-use mg_base::{Damaged, Disk, Field, GREATEST_LIMIT, PageNo, RecId};
+use mg_base::{Damaged, Disk, GREATEST_LIMIT, PageNo, RecId};
 use mg_pool::Batch;
 use mg_slots::{LEAST_TAKEN, NoRoom, free, put_cell, replace};
 use mg_space::{SpaceFault, Store};
@@ -69,7 +71,8 @@ fn needed(cell: &[u8]) -> u32
 ///
 /// # Errors
 ///
-/// As `cell`; `Damaged` at `Count` where the cell has no room.
+/// As `cell`; `Damaged` at `Count` where the cell has no room, or an anchor none at the place, with what is
+/// needed as found and what may be taken as wanted.
 fn put_apart<D: Disk>(
     store: &mut Store<D>,
     batch: &mut Batch,
@@ -117,17 +120,12 @@ fn put_beside(b: &mut [u8], page: PageNo, kept: Option<u16>, cell: &[u8]) -> Res
     requires lawful { IsDataPage b.old }
     requires length { length cell.now < 2 ^ 31 }
     ensures put { IfOk result (PutsBeside b.old b.new kept cell.now) }
-    ensures no_room { OnErr result (HasNoRoomBeside b.old kept cell.now) }
+    ensures no_room { IfErr result (IsRoomDamage page b.old kept cell.now) }
     ensures len { length b.new ≡ length b.old }
 {
     match put_kept(b, kept, cell) {
         Ok(slot) => Ok(slot),
-        Err(NoRoom { need, room }) => Err(Damaged {
-            page,
-            field: Field::Count,
-            found: u64::from(need),
-            wanted: u64::from(room),
-        }),
+        Err(lack) => Err(no_room(page, lack)),
     }
 }
 
@@ -137,7 +135,7 @@ fn put_kept(b: &mut [u8], kept: Option<u16>, cell: &[u8]) -> Result<u16, NoRoom>
     requires lawful { IsDataPage b.old }
     requires length { length cell.now < 2 ^ 31 }
     ensures put { IfOk result (PutsBeside b.old b.new kept cell.now) }
-    ensures no_room { OnErr result (HasNoRoomBeside b.old kept cell.now) }
+    ensures no_room { IfErr result (HasNoRoomBeside b.old kept cell.now) }
     ensures len { length b.new ≡ length b.old }
 {
     let least = least_free(b);
@@ -156,6 +154,7 @@ fn hold(b: &mut [u8], least: u16) -> Result<(), NoRoom>
     requires least { least ≡ least_in b.old }
     ensures held { OnOk result (HoldsSlot b.old b.new least) }
     ensures no_room { OnErr result (room_for b.old least < LEAST_TAKEN) }
+    ensures lack { IfErr result (λ it. it ≡ lack_of LEAST_TAKEN (room_for b.old least)) }
     ensures lawful { IsDataPage b.new }
     ensures len { length b.new ≡ length b.old }
 {

@@ -22,6 +22,7 @@ use Rattle.mg_pool.specs.declared.pool.Pool.{Pool}
 use Rattle.mg_slots.specs.DataPage.{IsDataPage, all_taken, cell_of, slot_count, taken_by}
 use Rattle.mg_slots.specs.Room.{least_free, need_of, rest_of, room_for, room_of}
 use Rattle.mg_slots.specs.RoomLaws.{first_without_le, least_free_is_free, rest_is}
+use Rattle.mg_slots.specs.declared.change.NoRoom.{NoRoom}
 use Rattle.mg_space.specs.Taking.{IsGeometry}
 use Rattle.mg_space.specs.TakingLaws.{page_sizes}
 use Rattle.mg_space.specs.View.{Tells, viewed}
@@ -115,12 +116,14 @@ held_room b held slot lawful holds = by (cases_lt (least_free b) (slot_count b))
         omega (arith, more, old, w, n, l, t, r)
 
 -- a cell that has room beside an anchor has it
-room_beside : (b : List ℕ) (slot : ℕ) (cell : List ℕ) → IsDataPage b → need_with_anchor cell ≤ room_of b
-    → HasNoRoomWith b (Some slot) cell → ⊥
-room_beside b slot cell lawful room (inl small) = let more = room_or_more b slot in omega (arith, room, small, more)
-room_beside b slot cell lawful room (inr held) =
+room_beside : (b : List ℕ) (slot : ℕ) (cell : List ℕ) (lack : NoRoom) → IsDataPage b
+    → need_with_anchor cell ≤ room_of b → HasNoRoomWith b (Some slot) cell lack → ⊥
+room_beside b slot cell lack lawful room (inl lacks) =
+    let more = room_or_more b slot in
+    let small = lacks.less in omega (arith, room, small, more)
+room_beside b slot cell lack lawful room (inr held) =
     let less = held_room b held.held slot lawful held.holds in
-    let small = held.small in omega (arith, room, less, small)
+    let small = held.lacks.less in omega (arith, room, less, small)
 
 module _ {D : Type 0} (m : Meaning D) (laws : Reads m) (a n : Pool D FireLinks) (image : Image)
     (like : n.dirty ≡ a.dirty) (tells : Tells m n.disk image)
@@ -155,30 +158,32 @@ module _ {D : Type 0} (m : Meaning D) (laws : Reads m) (a n : Pool D FireLinks) 
         → ⊥
     cell_there it there = by there.refused
       where
-        given_listed_so : IsDataPage (view there.given there.page.0) → HasNoRoomBeside (view there.given there.page.0)
-            (kept_on there.page rec) bytes → ⊥
-        given_listed_so lawful none = at (given_or_new m laws a n image like tells geometry old state layout r sound
-            table its there.given need there.page there.gives rec.page.0
+        given_listed_so : (lack : NoRoom) → IsDataPage (view there.given there.page.0)
+            → HasNoRoomBeside (view there.given there.page.0) (kept_on there.page rec) bytes lack → ⊥
+        given_listed_so lack lawful none = at (given_or_new m laws a n image like tells geometry old state layout r
+            sound table its there.given need there.page there.gives rec.page.0
             (data_apart size state (view old) layout r sound table its rec.page.0
             ((its_data packed_form size state (view old) layout r sound table its rec.page.0).0 of)).used)
           where
             found : need ≤ room_of (view there.given there.page.0)
-                → HasNoRoomBeside (view there.given there.page.0) (kept_on there.page rec) bytes → ⊥
-            found room (inl small) = omega (arith, room, small)
+                → HasNoRoomBeside (view there.given there.page.0) (kept_on there.page rec) bytes lack → ⊥
+            found room (inl lacks) = let small = lacks.less in omega (arith, room, small)
             found room (inr with_) = on (there.page.0 == rec.page.0) with_
               where
-                on : (b : Bool) → HasNoRoomWith (view there.given there.page.0) (if b then Some rec.slot else None) bytes
+                on : (b : Bool)
+                    → HasNoRoomWith (view there.given there.page.0) (if b then Some rec.slot else None) bytes lack
                     → ⊥
-                on true beside = room_beside (view there.given there.page.0) rec.slot bytes lawful room beside
+                on true beside = room_beside (view there.given there.page.0) rec.slot bytes lack lawful room beside
                 on false beside = beside
 
             new : there.page.0 ≢ rec.page.0 → size ≤ room_of (view there.given there.page.0) + 24
-                → HasNoRoomBeside (view there.given there.page.0) (kept_on there.page rec) bytes → ⊥
-            new other room (inl small) = let f = fits in omega (arith, room, small, f)
+                → HasNoRoomBeside (view there.given there.page.0) (kept_on there.page rec) bytes lack → ⊥
+            new other room (inl lacks) = let f = fits in let small = lacks.less in omega (arith, room, small, f)
             new other room (inr with_) = on (there.page.0 == rec.page.0) refl with_
               where
                 on : (b : Bool) → (there.page.0 == rec.page.0) ≡ b
-                    → HasNoRoomWith (view there.given there.page.0) (if b then Some rec.slot else None) bytes → ⊥
+                    → HasNoRoomWith (view there.given there.page.0) (if b then Some rec.slot else None) bytes lack
+                    → ⊥
                 on true is beside = other (eqb-true there.page.0 rec.page.0 is)
                 on false is beside = beside
 
@@ -191,7 +196,7 @@ module _ {D : Type 0} (m : Meaning D) (laws : Reads m) (a n : Pool D FireLinks) 
             → ⊥
         by (inl refused) = given_there m laws a n image like tells geometry old state layout r sound table its
             there.given need there.page there.gives it refused
-        by (inr (data_page, none)) = given_listed_so data_page.lawful none
+        by (inr none) = given_listed_so none.lacks.0 none.data_page.lawful none.lacks.1
 
     added : (it : Damaged) → RefusesAddApart m a n image old table.pointer.0 rec bytes (faults.Damaged it) → ⊥
     added it (inl refused) = room_found m laws a n image like tells geometry old state layout r sound table its it

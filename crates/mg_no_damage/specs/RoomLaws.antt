@@ -25,7 +25,7 @@ use Rattle.mg_image.specs.Sound.{IsCellOf, IsSoundBy}
 use Rattle.mg_image.specs.Tables.{Has, Layout, stands_of, table_at}
 use Rattle.mg_image_overlays.specs.Trees.{trees_stay}
 use Rattle.mg_model.specs.declared.table.Table.{Table}
-use Rattle.mg_no_damage.specs.Inventory.{HasRegions}
+use Rattle.mg_space.specs.FreePages.{HasRegions}
 use Rattle.mg_pool.specs.Batch.{Changed, content_in, lists}
 use Rattle.mg_pool.specs.declared.pool.Pool.{Pool}
 use Rattle.mg_slots.specs.DataPage.{IsNewPage, cell_of}
@@ -262,8 +262,9 @@ module _ {D : Type 0} (m : Meaning D) (laws : Reads m) (a n : Pool D FireLinks) 
     where
       by : RefusesPutIn m n put.given (view put.given put.page.0) put.page bytes (faults.Damaged it) → ⊥
       by (inl refused) = given_there put.given (need_of bytes) put.page put.gives it refused
-      by (inr (data_page, small)) =
-          let room = given_room put.given (need_of bytes) put.page put.gives fits in omega (arith, room, small)
+      by (inr none) =
+          let room = given_room put.given (need_of bytes) put.page put.gives fits in
+          let small = none.small in omega (arith, room, small)
 
   module _ (put : Changed) (bytes : List ℕ) (at : RecId)
       (adds : AddsCell a image old put table.pointer.0 bytes at) (may : IsCellOf false bytes) where

@@ -1,10 +1,11 @@
+use Rattle.mg_space.specs.HandedLaws.{fault_same}
 use Rattle.mg_space.specs.ViewLaws.{tells_on, fault_on, keeps_on}
 use Rattle.mg_space.specs.View.{pool_answer}
 use Rattle.mg_heap.proofs.TableLemmas.{whole_before, geometry_later, handed_on, whole_later}
 use Rattle.mg_heap.proofs.AddingLemmas.{added}
 use Rattle.mg_base.specs.declared.numbers.PageNo.{PageNo}
 use Rattle.mg_heap.specs.Room.{RefusesAdd}
-use Rattle.mg_heap.proofs.HandedLemmas.{alone_of, alone_same, fault_same}
+use Rattle.mg_heap.proofs.HandedLemmas.{alone_of, alone_same}
 use Rattle.mg_heap.proofs.PageLemmas.{fits_page}
 use Rattle.std.proofs.Common.{inl, length}
 use Rattle.mg_heap.proofs.adding.add.Goals as goal

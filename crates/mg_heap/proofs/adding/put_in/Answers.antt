@@ -8,7 +8,9 @@ use Rattle.mg_heap.proofs.ChangingLemmas.{written_back}
 use Rattle.mg_heap.proofs.TableLemmas.{handed_on}
 use Rattle.mg_pool.specs.Batch.{Changed}
 use Rattle.mg_slots.specs.DataPage.{IsDataPage}
-use Rattle.mg_heap.proofs.HandedLemmas.{fault_damage, fault_memory, fault_same, no_answer, out_of_memory, reads_damage, reads_memory, reads_same}
+use Rattle.mg_space.specs.HandedLaws.{fault_memory, fault_same, no_answer, out_of_memory}
+use Rattle.mg_heap.specs.HandedLaws.{reads_same}
+use Rattle.mg_heap.proofs.HandedLemmas.{fault_damage, reads_damage, reads_memory}
 use Rattle.mg_heap.specs.GrowthLaws.{whole_same}
 use Rattle.mg_heap.proofs.adding.put_in.Goals as goal
 
@@ -36,7 +38,8 @@ returns-in_err-slot-clause-puts g c = λ image tells. handed_on c.from_residual-
     (viewed c.args.store.now image c.args.batch.now c.args.page.0) c.in_ok-data_page.field-0
     c.deref_mut.result.now c.in_err-slot.field-0.0 c.in_ok-data_page.ensures.data_page
     (c.in_ok-data_page.ensures.seen image tells)
-    (c.deref_mut.ensures.value ∙ c.into_vec-bytes.ensures) c.in_err-slot.ensures.no_room)
+    (c.deref_mut.ensures.value ∙ c.into_vec-bytes.ensures) c.in_err-slot.ensures.no_room
+    c.in_err-slot.ensures.damage)
 
 pub returns-clause-whole : goal.returns-clause-whole
 returns-clause-whole g c =

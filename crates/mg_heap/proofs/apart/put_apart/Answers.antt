@@ -8,7 +8,9 @@ use Rattle.mg_heap.proofs.ChangingLemmas.{written_back}
 use Rattle.mg_heap.proofs.TableLemmas.{handed_on}
 use Rattle.mg_pool.specs.Batch.{Changed}
 use Rattle.mg_slots.specs.DataPage.{IsDataPage}
-use Rattle.mg_heap.proofs.HandedLemmas.{fault_damage, fault_memory, fault_same, no_answer, out_of_memory, reads_damage, reads_memory, reads_same}
+use Rattle.mg_space.specs.HandedLaws.{fault_memory, fault_same, no_answer, out_of_memory}
+use Rattle.mg_heap.specs.HandedLaws.{reads_same}
+use Rattle.mg_heap.proofs.HandedLemmas.{fault_damage, reads_damage, reads_memory}
 use Rattle.mg_heap.specs.GrowthLaws.{whole_same}
 use Rattle.mg_heap.proofs.apart.put_apart.Goals as goal
 

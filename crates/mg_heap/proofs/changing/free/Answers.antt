@@ -1,9 +1,11 @@
 use Rattle.std.proofs.Common.{◌≡◌, ◌∙◌, ℕ, ap, arith, drop, length, inr, List, subst, sym}
+use Rattle.mg_space.specs.HandedLaws.{fault_memory, fault_same, out_of_memory}
 use Rattle.mg_space.specs.View.{viewed}
 use Rattle.mg_heap.proofs.ChangingLemmas.{frees_at, not_freed, written_back}
 use Rattle.mg_slots.specs.DataPage.{IsDataPage}
+use Rattle.mg_heap.specs.HandedLaws.{reads_same}
 use Rattle.mg_heap.specs.Reading.{RefusesData}
-use Rattle.mg_heap.proofs.HandedLemmas.{fault_memory, fault_same, no_answer_on, on_err, out_of_memory, reads_memory, reads_same}
+use Rattle.mg_heap.proofs.HandedLemmas.{no_answer_on, on_err, reads_memory}
 use Rattle.mg_heap.proofs.TableLemmas.{handed_on}
 use Rattle.mg_heap.proofs.changing.free.Goals as goal
 

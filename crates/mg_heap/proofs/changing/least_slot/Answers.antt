@@ -1,10 +1,11 @@
+use Rattle.mg_space.specs.HandedLaws.{fault_same}
 use Rattle.mg_space.specs.View.{viewed}
+use Rattle.mg_heap.specs.HandedLaws.{reads_same}
 use Rattle.mg_heap.specs.Reading.{RefusesData}
 use Rattle.mg_heap.proofs.ChangingLemmas.{least_seen}
 use Rattle.mg_heap.proofs.TableLemmas.{handed_on}
 use Rattle.mg_slots.specs.DataPage.{IsDataPage}
 use Rattle.std.proofs.Common.{List, subst, sym, ℕ}
-use Rattle.mg_heap.proofs.HandedLemmas.{fault_same, reads_same}
 use Rattle.mg_heap.proofs.changing.least_slot.Goals as goal
 
 pub returns-in_err-bytes-clause-gives : goal.returns-in_err-bytes-clause-gives

@@ -1,11 +1,12 @@
 use Rattle.std.proofs.Common.{◌∙◌, ◌+◌, refl, subst, List, inl, sym, ℕ}
 use Rattle.mg_heap.specs.Growth.{HasEntryRoom, RefusesGrowth}
+use Rattle.mg_space.specs.HandedLaws.{fault_same}
 use Rattle.mg_space.specs.ViewLaws.{tells_on, fault_on, keeps_on}
 use Rattle.mg_space.specs.View.{pool_answer}
 use Rattle.mg_heap.proofs.TableLemmas.{whole_before, geometry_later, handed_on, whole_later}
 use Rattle.mg_heap.proofs.GrowthLemmas.{grows_in_last, grows_in_new, no_room}
 use Rattle.mg_pointer.specs.PointerPage.{IsPointerPage}
-use Rattle.mg_heap.proofs.HandedLemmas.{alone_read, fault_same, length_as}
+use Rattle.mg_heap.proofs.HandedLemmas.{alone_read, length_as}
 use Rattle.mg_heap.proofs.growth.grow.Goals as goal
 
 pub returns-then-has_entry_room-clause-grows : goal.returns-then-has_entry_room-clause-grows

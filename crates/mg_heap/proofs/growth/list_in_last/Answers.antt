@@ -2,10 +2,11 @@ use Rattle.std.proofs.Common.{◌∙◌, ap}
 use Rattle.mg_pool.specs.Batch.{Changed}
 use Rattle.mg_heap.proofs.GrowthLemmas.{makes_as, on_true, orders_as}
 use Rattle.mg_heap.specs.GrowthLaws.{whole_made, whole_same, whole_taken}
+use Rattle.mg_space.specs.HandedLaws.{fault_memory, fault_same, out_of_memory}
 use Rattle.mg_space.specs.ViewLaws.{whole_on}
 use Rattle.mg_base.specs.declared.numbers.PageNo.{PageNo}
 use Rattle.mg_space.specs.Taking.{RefusesTake}
-use Rattle.mg_heap.proofs.HandedLemmas.{alone_memory, alone_same, fault_memory, fault_same, out_of_memory, size_later, taken_small}
+use Rattle.mg_heap.proofs.HandedLemmas.{alone_memory, alone_same, size_later, taken_small}
 use Rattle.mg_heap.proofs.TableLemmas.{geometry_later, handed_on}
 use Rattle.mg_space.specs.View.{viewed}
 use Rattle.mg_heap.proofs.growth.list_in_last.Goals as goal

@@ -1,10 +1,11 @@
 use Rattle.std.proofs.Common.{◌∙◌, ap, inl}
 use Rattle.mg_pool.specs.Batch.{Changed}
+use Rattle.mg_space.specs.HandedLaws.{fault_memory, fault_same, out_of_memory}
 use Rattle.mg_heap.proofs.GrowthLemmas.{makes_as, orders_as, orders_on, pointer_as, whole_linked}
 use Rattle.mg_heap.specs.Growth.{orders_to, RefusesTwo}
 use Rattle.mg_heap.specs.GrowthLaws.{whole_begun, whole_made, whole_same}
 use Rattle.mg_heap.specs.declared.growth.TwoPages.{TwoPages}
-use Rattle.mg_heap.proofs.HandedLemmas.{alone_memory, alone_same, fault_memory, fault_same, out_of_memory, size_later}
+use Rattle.mg_heap.proofs.HandedLemmas.{alone_memory, alone_same, size_later}
 use Rattle.mg_heap.proofs.TableLemmas.{geometry_later, handed_on}
 use Rattle.mg_heap.proofs.growth.list_in_new.Goals as goal
 

@@ -1,5 +1,6 @@
+use Rattle.mg_space.specs.HandedLaws.{no_answer}
 use Rattle.mg_heap.proofs.PageLemmas.{blank_len, least_long, most_long, data_made}
-use Rattle.mg_heap.proofs.HandedLemmas.{no_answer, on_err}
+use Rattle.mg_heap.proofs.HandedLemmas.{on_err}
 use Rattle.std.proofs.Common.{refl, arith, length, sym, ◌≡◌}
 use Rattle.mg_heap.proofs.growth.make_data.Goals as goal
 

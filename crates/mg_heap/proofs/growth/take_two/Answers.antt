@@ -1,13 +1,14 @@
 use Rattle.std.proofs.Common.{◌∙◌, ap, inr, inl}
 use Rattle.mg_base.specs.declared.numbers.PageNo.{PageNo}
+use Rattle.mg_space.specs.HandedLaws.{fault_same, fault_up, no_answer}
 use Rattle.mg_space.specs.ViewLaws.{keeps_on, tells_on}
 use Rattle.mg_pool.specs.Batch.{Changed}
 use Rattle.mg_heap.specs.Growth.{RefusesTwo}
 use Rattle.mg_heap.specs.GrowthLaws.{whole_same, whole_taken}
 use Rattle.mg_heap.proofs.GrowthLemmas.{refuses_on}
 use Rattle.mg_heap.specs.RoomLaws.{bits_on, takes_on}
-use Rattle.mg_heap.proofs.TableLemmas.{fault_up, handed_on, whole_later, geometry_later}
-use Rattle.mg_heap.proofs.HandedLemmas.{alone_same, fault_same, no_answer, taken_small}
+use Rattle.mg_heap.proofs.TableLemmas.{handed_on, whole_later, geometry_later}
+use Rattle.mg_heap.proofs.HandedLemmas.{alone_same, taken_small}
 use Rattle.mg_heap.proofs.growth.take_two.Goals as goal
 
 pub returns-in_err-second-clause-takes : goal.returns-in_err-second-clause-takes

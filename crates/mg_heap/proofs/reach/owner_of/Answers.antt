@@ -1,9 +1,10 @@
+use Rattle.mg_space.specs.HandedLaws.{fault_same, no_answer}
 use Rattle.mg_space.specs.View.{viewed}
+use Rattle.mg_heap.specs.HandedLaws.{reads_same}
 use Rattle.mg_heap.specs.Reach.{RefusesOwner}
 use Rattle.mg_heap.proofs.ReachLemmas.{owner_refused, owns_seen}
 use Rattle.mg_heap.proofs.TableLemmas.{handed_on}
 use Rattle.std.proofs.Common.{List, ℕ}
-use Rattle.mg_heap.proofs.HandedLemmas.{fault_same, no_answer, reads_same}
 use Rattle.mg_heap.proofs.reach.owner_of.Goals as goal
 
 pub returns-in_err-bytes-clause-gives : goal.returns-in_err-bytes-clause-gives

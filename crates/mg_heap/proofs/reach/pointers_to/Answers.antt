@@ -3,12 +3,13 @@ use Rattle.mg_base.specs.declared.geometry.TheConstants.{GREATEST_LIMIT}
 use Rattle.mg_base.specs.declared.numbers.PageNo.{PageNo}
 use Rattle.mg_image.specs.Form.{Pages}
 use Rattle.mg_image.specs.Tables.{Has, IsOnce, entries_in}
+use Rattle.mg_space.specs.HandedLaws.{fault_up}
 use Rattle.mg_space.specs.View.{viewed}
 use Rattle.mg_space.specs.ViewLaws.{keeps_itself, keeps_on}
 use Rattle.mg_heap.specs.Reach.{RefusesReach}
 use Rattle.mg_heap.specs.Table.{FollowsPage, LeadsTo, RefusesPointer, none}
 use Rattle.mg_heap.proofs.ReachLemmas.{breaks_off, is_not, is_unlisted, none_further, reaches}
-use Rattle.mg_heap.proofs.TableLemmas.{as_started, count_fits, few, handed_on, leads_further, one_further, still_once, still_small, fault_up, geometry_later, whole_later}
+use Rattle.mg_heap.proofs.TableLemmas.{as_started, count_fits, few, handed_on, leads_further, one_further, still_once, still_small, geometry_later, whole_later}
 use Rattle.mg_heap.proofs.reach.pointers_to.Goals as goal
 
 pub loop-n-init : goal.loop-n-init

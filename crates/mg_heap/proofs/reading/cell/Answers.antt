@@ -1,9 +1,11 @@
 use Rattle.mg_slots.specs.DataPage.{IsDataPage}
 use Rattle.std.proofs.Common.{List, subst, sym, ℕ}
+use Rattle.mg_heap.specs.HandedLaws.{reads_same}
 use Rattle.mg_heap.specs.Reading.{RefusesData}
 use Rattle.mg_heap.proofs.PageLemmas.{cell_given, short_cell}
-use Rattle.mg_heap.proofs.HandedLemmas.{fault_memory, fault_same, no_answer, out_of_memory, reads_memory, reads_same}
+use Rattle.mg_heap.proofs.HandedLemmas.{reads_memory}
 use Rattle.mg_heap.proofs.TableLemmas.{handed_on}
+use Rattle.mg_space.specs.HandedLaws.{fault_memory, fault_same, no_answer, out_of_memory}
 use Rattle.mg_space.specs.View.{viewed}
 use Rattle.mg_heap.proofs.reading.cell.Goals as goal
 

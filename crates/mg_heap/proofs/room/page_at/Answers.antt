@@ -1,10 +1,11 @@
 use Rattle.std.proofs.Common.{get_or, refl, List, subst, sym, ℕ}
+use Rattle.mg_space.specs.HandedLaws.{fault_same, no_answer}
 use Rattle.mg_space.specs.View.{viewed}
+use Rattle.mg_heap.specs.HandedLaws.{reads_same}
 use Rattle.mg_heap.specs.Walk.{RefusesWalkOf}
 use Rattle.mg_heap.proofs.TableLemmas.{handed_on}
 use Rattle.mg_heap.proofs.WalkLemmas.{page_broken}
 use Rattle.mg_slots.specs.DataPage.{IsDataPage}
-use Rattle.mg_heap.proofs.HandedLemmas.{fault_same, no_answer, reads_same}
 use Rattle.mg_heap.proofs.room.page_at.Goals as goal
 
 pub returns-in_err-bytes-clause-looks : goal.returns-in_err-bytes-clause-looks

@@ -1,5 +1,6 @@
 use Rattle.std.proofs.Common.{◌∙◌, Option, subst, get_or}
 use Rattle.mg_image.specs.Form.{Pages}
+use Rattle.mg_space.specs.HandedLaws.{fault_up}
 use Rattle.mg_space.specs.View.{viewed}
 use Rattle.mg_space.specs.ViewLaws.{keeps_on}
 use Rattle.mg_heap.specs.Room.{LooksAt, HasRoomFor}
@@ -7,7 +8,7 @@ use Rattle.mg_heap.specs.declared.growth.DataPage.{DataPage}
 use Rattle.mg_heap.specs.Walk.{RefusesWalkOf}
 use Rattle.std.specs.Prelude.{IfSome}
 use Rattle.mg_heap.proofs.RoomLemmas.{all_looked, all_seen, found_first, none_yet}
-use Rattle.mg_heap.proofs.TableLemmas.{as_started, fault_up, geometry_later, handed_on, whole_later}
+use Rattle.mg_heap.proofs.TableLemmas.{as_started, geometry_later, handed_on, whole_later}
 use Rattle.mg_heap.proofs.room.page_with.Goals as goal
 
 pub returns-in-Some-clause-finds : goal.returns-in-Some-clause-finds

@@ -1,12 +1,13 @@
 use Rattle.std.proofs.Common.{◌∙◌, inr, refl, inl}
+use Rattle.mg_space.specs.HandedLaws.{fault_same, fault_up}
 use Rattle.mg_space.specs.ViewLaws.{tells_on, keeps_on}
 use Rattle.mg_heap.specs.Room.{RefusesRoom}
 use Rattle.mg_heap.specs.RoomLaws.{finds_on}
 use Rattle.mg_heap.specs.declared.growth.DataPage.{DataPage}
 use Rattle.mg_heap.proofs.RoomLemmas.{room_refused_on}
-use Rattle.mg_heap.proofs.TableLemmas.{handed_on, fault_up, whole_before, geometry_later, whole_later}
+use Rattle.mg_heap.proofs.TableLemmas.{handed_on, whole_before, geometry_later, whole_later}
 use Rattle.mg_heap.specs.declared.table.TablePages.{TablePages}
-use Rattle.mg_heap.proofs.HandedLemmas.{alone_read, alone_same, fault_same}
+use Rattle.mg_heap.proofs.HandedLemmas.{alone_read, alone_same}
 use Rattle.mg_heap.proofs.room.page_with_room.Goals as goal
 
 pub returns-in_err-found-clause-gives : goal.returns-in_err-found-clause-gives

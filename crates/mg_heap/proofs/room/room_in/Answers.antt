@@ -1,11 +1,12 @@
 use Rattle.std.proofs.Common.{◌-◌, Option, arith, inl, subst}
+use Rattle.mg_space.specs.HandedLaws.{fault_same}
 use Rattle.mg_space.specs.View.{viewed, pool_answer}
 use Rattle.mg_space.specs.ViewLaws.{tells_on, fault_on, keeps_on}
 use Rattle.mg_heap.specs.Room.{FindsRoom, RefusesRoomIn}
 use Rattle.mg_heap.specs.declared.growth.DataPage.{DataPage}
 use Rattle.mg_heap.proofs.RoomLemmas.{last_is, room_grown}
 use Rattle.mg_heap.proofs.TableLemmas.{handed_on, whole_before, geometry_later, whole_later}
-use Rattle.mg_heap.proofs.HandedLemmas.{alone_read, fault_same}
+use Rattle.mg_heap.proofs.HandedLemmas.{alone_read}
 use Rattle.mg_heap.proofs.room.room_in.Goals as goal
 
 pub returns-in_err-found-clause-gives : goal.returns-in_err-found-clause-gives

@@ -1,9 +1,11 @@
 use Rattle.std.proofs.Common.{arith, inr, List, ℕ}
+use Rattle.mg_space.specs.HandedLaws.{fault_memory, fault_same, no_answer, out_of_memory}
 use Rattle.mg_space.specs.declared.fault.SpaceFault.TheVariants as faults
 use Rattle.mg_space.specs.View.{viewed}
+use Rattle.mg_heap.specs.HandedLaws.{reads_same}
 use Rattle.mg_heap.specs.Table.{RefusesPointer}
 use Rattle.mg_heap.proofs.TableLemmas.{entries_few, handed_on, link_refused, page_refused, follows_page, lists_page}
-use Rattle.mg_heap.proofs.HandedLemmas.{fault_damage, fault_memory, fault_same, no_answer, out_of_memory, reads_damage, reads_memory, reads_same}
+use Rattle.mg_heap.proofs.HandedLemmas.{fault_damage, reads_damage, reads_memory}
 use Rattle.mg_heap.proofs.table.follow.Goals as goal
 
 pub returns-in_err-page-clause-follows : goal.returns-in_err-page-clause-follows

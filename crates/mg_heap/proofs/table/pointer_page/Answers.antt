@@ -2,9 +2,10 @@ use Rattle.mg_pointer.specs.PointerPage.{IsPointerPage, pointer_checks}
 use Rattle.std.proofs.Common.{List, subst, ℕ, ◌∙◌}
 use Rattle.mg_base.specs.Checks.{PassesAll}
 use Rattle.mg_heap.specs.Table.{RefusesPointerPage}
-use Rattle.mg_heap.proofs.HandedLemmas.{fault_damage, fault_same, no_answer, reads_damage}
+use Rattle.mg_heap.proofs.HandedLemmas.{fault_damage, reads_damage}
 use Rattle.mg_heap.proofs.PageLemmas.{few_long, pointer_refused, reads_refused, some_long}
 use Rattle.mg_heap.proofs.TableLemmas.{handed_on, unlike_seen}
+use Rattle.mg_space.specs.HandedLaws.{fault_same, no_answer}
 use Rattle.mg_space.specs.View.{viewed}
 use Rattle.mg_space.specs.declared.fault.SpaceFault.TheVariants as faults
 use Rattle.mg_heap.proofs.table.pointer_page.Goals as goal

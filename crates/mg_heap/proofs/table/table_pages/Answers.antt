@@ -3,13 +3,14 @@ use Rattle.mg_base.specs.declared.geometry.TheConstants.{GREATEST_LIMIT}
 use Rattle.mg_base.specs.declared.numbers.PageNo.{PageNo}
 use Rattle.mg_image.specs.Form.{Pages}
 use Rattle.mg_image.specs.Tables.{Has, IsOnce, entries_in}
+use Rattle.mg_space.specs.HandedLaws.{fault_up}
 use Rattle.mg_space.specs.View.{viewed}
 use Rattle.mg_space.specs.ViewLaws.{keeps_itself, keeps_on}
 use Rattle.mg_heap.specs.Reads.{ReadsListed}
 use Rattle.mg_heap.specs.ReadsLaws.{listed_more, none_listed}
 use Rattle.mg_heap.specs.Table.{FollowsPage, LeadsTo, RefusesPointer, RefusesTable, none}
 use Rattle.mg_heap.specs.TableLaws.{once_short, table_ends}
-use Rattle.mg_heap.proofs.TableLemmas.{all_few, all_short, as_started, broken, count_fits, entries_further, few, few_entries, handed_on, leads_further, no_entries, one_further, some_listed, still_once, still_small, fault_up, geometry_later, whole_later}
+use Rattle.mg_heap.proofs.TableLemmas.{all_few, all_short, as_started, broken, count_fits, entries_further, few, few_entries, handed_on, leads_further, no_entries, one_further, some_listed, still_once, still_small, geometry_later, whole_later}
 use Rattle.mg_heap.proofs.table.table_pages.Goals as goal
 
 pub loop-n-init : goal.loop-n-init

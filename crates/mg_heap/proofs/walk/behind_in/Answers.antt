@@ -1,13 +1,14 @@
 use Rattle.std.proofs.Common.{drop}
 use Rattle.std.specs.Prelude.{MatchResult}
 use Rattle.mg_image.specs.Form.{Pages}
+use Rattle.mg_space.specs.HandedLaws.{fault_same}
 use Rattle.mg_space.specs.View.{viewed, pool_answer}
+use Rattle.mg_heap.specs.HandedLaws.{reads_same}
 use Rattle.mg_heap.specs.Walk.{IsNextIn, RefusesWalk, RefusesWalkOf}
 use Rattle.mg_space.specs.ViewLaws.{fault_on, keeps_on}
 use Rattle.mg_heap.proofs.TableLemmas.{as_started, handed_on, geometry_later, whole_later}
 use Rattle.mg_heap.proofs.WalkLemmas.{table_broken, walked}
 use Rattle.mg_heap.specs.declared.table.TablePages.{TablePages}
-use Rattle.mg_heap.proofs.HandedLemmas.{fault_same, reads_same}
 use Rattle.mg_heap.proofs.walk.behind_in.Goals as goal
 
 pub returns-clause-gives : goal.returns-clause-gives

@@ -1,9 +1,10 @@
 use Rattle.std.proofs.Common.{◌≡◌, ◌∙◌, Some, refl, get_or, ℕ, List, arith}
 use Rattle.mg_image.specs.Form.{Pages}
+use Rattle.mg_space.specs.HandedLaws.{fault_up}
 use Rattle.mg_space.specs.View.{viewed}
 use Rattle.mg_space.specs.ViewLaws.{keeps_on}
 use Rattle.mg_heap.specs.Walk.{RefusesTableData, RefusesWalkOf}
-use Rattle.mg_heap.proofs.TableLemmas.{as_started, handed_on, fault_up, geometry_later, whole_later}
+use Rattle.mg_heap.proofs.TableLemmas.{as_started, handed_on, geometry_later, whole_later}
 use Rattle.mg_heap.proofs.WalkLemmas.{found_here, none_here, page_broken}
 use Rattle.mg_heap.proofs.walk.first_from.Goals as goal
 

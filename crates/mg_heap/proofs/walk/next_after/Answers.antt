@@ -1,13 +1,14 @@
 use Rattle.std.proofs.Common.{◌+◌, ℕ, Some, ap, inl, List, subst, sym}
 use Rattle.std.specs.Prelude.{MatchResult}
 use Rattle.mg_image.specs.Form.{Pages}
+use Rattle.mg_space.specs.HandedLaws.{fault_same}
 use Rattle.mg_space.specs.View.{viewed, pool_answer}
 use Rattle.mg_space.specs.ViewLaws.{keeps_on, fault_on}
+use Rattle.mg_heap.specs.HandedLaws.{reads_same}
 use Rattle.mg_heap.specs.Walk.{GivesBehind, RefusesNext, RefusesWalk}
 use Rattle.mg_heap.proofs.TableLemmas.{as_started, handed_on, geometry_later, whole_later}
 use Rattle.mg_heap.proofs.WalkLemmas.{none_behind}
 use Rattle.mg_slots.specs.DataPage.{IsDataPage}
-use Rattle.mg_heap.proofs.HandedLemmas.{fault_same, reads_same}
 use Rattle.mg_heap.proofs.walk.next_after.Goals as goal
 
 pub returns-clause-keeps : goal.returns-clause-keeps

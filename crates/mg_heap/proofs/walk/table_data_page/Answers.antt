@@ -1,9 +1,10 @@
 use Rattle.mg_slots.specs.DataPage.{IsDataPage}
 use Rattle.std.proofs.Common.{List, subst, ℕ}
 use Rattle.mg_heap.specs.Walk.{RefusesTableData}
-use Rattle.mg_heap.proofs.HandedLemmas.{fault_damage, fault_same, no_answer, reads_damage}
+use Rattle.mg_heap.proofs.HandedLemmas.{fault_damage, reads_damage}
 use Rattle.mg_heap.proofs.TableLemmas.{handed_on}
 use Rattle.mg_heap.proofs.PageLemmas.{least_long, most_long, no_table_data_seen, reads_refused, table_data_refused}
+use Rattle.mg_space.specs.HandedLaws.{fault_same, no_answer}
 use Rattle.mg_space.specs.View.{viewed}
 use Rattle.mg_space.specs.declared.fault.SpaceFault.TheVariants as faults
 use Rattle.mg_heap.proofs.walk.table_data_page.Goals as goal
