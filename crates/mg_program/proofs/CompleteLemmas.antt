@@ -6,9 +6,9 @@ use Rattle.mg_engine_meaning.specs.Openings.{IsNoJudgement}
 use Rattle.mg_model.specs.declared.opening.Opening.{Opening}
 use Rattle.mg_model.specs.declared.refusal.Refusal.{Refusal}
 use Rattle.mg_model.specs.declared.refusal.Refusal.TheVariants as refusals
-use Rattle.mg_runs.specs.declared.ending.RunEnd.{RunEnd}
-use Rattle.mg_runs.specs.declared.ending.RunEnd.TheVariants.{InLine, Outside, ScriptTooLong, Stream, Whole}
-use Rattle.mg_runs.specs.Ends.{FailsWith, refused_status, status}
+use Rattle.mg_run_ends.specs.declared.ending.RunEnd.{RunEnd}
+use Rattle.mg_run_ends.specs.declared.ending.RunEnd.TheVariants.{InLine, Outside, ScriptTooLong, Stream, Whole}
+use Rattle.mg_run_ends.specs.Ends.{FailsWith, refused_status, status}
 use Rattle.mg_runs.specs.Headline.{IsUnjudged}
 use Rattle.mg_runs.specs.Promise.{IsReadingEnd, Promise}
 use Rattle.mg_program.specs.Complete.{IsComplete, RunsAreComplete}

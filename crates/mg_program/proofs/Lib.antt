@@ -1,4 +1,3 @@
-mod PrintLemmas
 mod ServingLemmas
 mod RunLemmas
 mod TopLemmas

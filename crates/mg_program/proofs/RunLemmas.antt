@@ -8,14 +8,14 @@ use Rattle.mg_model.specs.declared.opening.Opening.{Opening}
 use Rattle.mg_model.specs.declared.refusal.Refusal.TheVariants.{Memory}
 use Rattle.mg_script.specs.declared.line.Line.{Line}
 use Rattle.mg_script.specs.Lines.{IsScript}
-use Rattle.mg_runs.specs.declared.ending.RunEnd.{RunEnd}
-use Rattle.mg_runs.specs.declared.ending.RunEnd.TheVariants.{Outside, ScriptTooLong, Stream, Whole}
-use Rattle.mg_runs.specs.declared.ending.TheConstants.{SCRIPT_MOST}
-use Rattle.mg_runs.specs.Ends.{EndsWith}
+use Rattle.mg_run_ends.specs.declared.ending.RunEnd.{RunEnd}
+use Rattle.mg_run_ends.specs.declared.ending.RunEnd.TheVariants.{Outside, ScriptTooLong, Stream, Whole}
+use Rattle.mg_run_ends.specs.declared.ending.TheConstants.{SCRIPT_MOST}
+use Rattle.mg_run_ends.specs.Ends.{EndsWith}
 use Rattle.mg_runs.specs.Entry.{IsEntry}
 use Rattle.mg_runs.specs.Promise.{IsReadingEnd, Promise, ScriptCauses, StreamCauses}
-use Rattle.mg_program.specs.Reading.{FailsToRead, IsWholeScript}
-use Rattle.mg_program.specs.Saying.{IsTold, SaysEnd}
+use Rattle.mg_run_ends.specs.Reading.{FailsToRead, IsWholeScript}
+use Rattle.mg_run_ends.specs.Saying.{IsTold, SaysEnd}
 use Rattle.mg_program.specs.Serving.{Serves}
 
 -- ---- a script that was read

@@ -21,13 +21,13 @@ use Rattle.mg_scripts.specs.declared.lines.LinesEnd.{LinesEnd}
 use Rattle.mg_scripts.specs.declared.lines.LinesEnd.TheVariants as lines_ends
 use Rattle.mg_scripts.specs.Ending.{ScriptDone, reason_at}
 use Rattle.mg_scripts.specs.Printing.{SinkSays}
-use Rattle.mg_runs.specs.declared.ending.RunEnd.{RunEnd}
-use Rattle.mg_runs.specs.declared.ending.RunEnd.TheVariants.{InLine, Outside, ScriptTooLong, Stream, Whole}
-use Rattle.mg_runs.specs.Ends.{EndsWith, FailsWith, IsOutside, has_fixed_line, last_line}
+use Rattle.mg_run_ends.specs.declared.ending.RunEnd.{RunEnd}
+use Rattle.mg_run_ends.specs.declared.ending.RunEnd.TheVariants.{InLine, Outside, ScriptTooLong, Stream, Whole}
+use Rattle.mg_run_ends.specs.Ends.{EndsWith, FailsWith, IsOutside, has_fixed_line, last_line}
 use Rattle.mg_runs.specs.Headline.{EndsBehind, Headline}
 use Rattle.mg_runs.specs.Laws.{ClosingsFail, IsCutOff, LinesFail, OpeningsAreJudged, OpeningsFail, RunsBegin, RunsClose, RunsStop, closed_end}
-use Rattle.mg_runs.specs.Printing.{IsPrinted}
-use Rattle.mg_program.specs.Saying.{IsTold, SaysEnd}
+use Rattle.mg_run_ends.specs.Printing.{IsPrinted}
+use Rattle.mg_run_ends.specs.Saying.{IsTold, SaysEnd}
 use Rattle.mg_program.specs.Serving.{HasObeyed, Serves, cut_end}
 
 -- ---- an end by a refusal outside the lines

@@ -17,10 +17,10 @@ use Rattle.mg_model.specs.declared.refusal.Refusal.{Refusal}
 use Rattle.mg_model.specs.declared.refusal.Refusal.TheVariants as refusals
 use Rattle.mg_model.specs.History.{Entries}
 use Rattle.mg_script.specs.declared.line.Line.{Line}
-use Rattle.mg_runs.specs.declared.ending.RunEnd.{RunEnd}
-use Rattle.mg_runs.specs.declared.ending.RunEnd.TheVariants.{InLine, Outside, ScriptTooLong, Stream, Whole}
-use Rattle.mg_runs.specs.declared.status.Status.{Status}
-use Rattle.mg_runs.specs.Ends.{EndsWith, FailsWith, refused_status, status_of}
+use Rattle.mg_run_ends.specs.declared.ending.RunEnd.{RunEnd}
+use Rattle.mg_run_ends.specs.declared.ending.RunEnd.TheVariants.{InLine, Outside, ScriptTooLong, Stream, Whole}
+use Rattle.mg_run_ends.specs.declared.status.Status.{Status}
+use Rattle.mg_run_ends.specs.Ends.{EndsWith, FailsWith, refused_status, status_of}
 use Rattle.mg_runs.specs.Entry.{IsEntry, TellsWholePages}
 use Rattle.mg_runs.specs.Headline.{Headline, IsSettledAt}
 use Rattle.mg_runs.specs.Promise.{Promise, ScriptCauses, StreamCauses}

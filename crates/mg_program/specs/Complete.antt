@@ -4,9 +4,9 @@ use Rattle.mg_base.specs.Disk.{Meaning, Rose}
 use Rattle.mg_base.specs.Image.{Image}
 use Rattle.mg_base.specs.Streams.{SinkMeaning, SourceMeaning}
 use Rattle.mg_model.specs.declared.opening.Opening.{Opening}
-use Rattle.mg_runs.specs.declared.ending.RunEnd.{RunEnd}
-use Rattle.mg_runs.specs.declared.ending.TheConstants.{SCRIPT_MOST}
-use Rattle.mg_runs.specs.Ends.{status, status_of}
+use Rattle.mg_run_ends.specs.declared.ending.RunEnd.{RunEnd}
+use Rattle.mg_run_ends.specs.declared.ending.TheConstants.{SCRIPT_MOST}
+use Rattle.mg_run_ends.specs.Ends.{status, status_of}
 use Rattle.mg_runs.specs.Entry.{IsEntry}
 use Rattle.mg_program.specs.Top.{Runs}
 

@@ -1,5 +1,3 @@
-pub mod Reading
-pub mod Saying
 pub mod Serving
 pub mod Top
 pub mod Complete

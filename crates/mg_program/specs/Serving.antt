@@ -16,9 +16,9 @@ use Rattle.mg_scripts.specs.declared.lines.LinesEnd.TheVariants as lines_ends
 use Rattle.mg_scripts.specs.Ending.{ScriptDone, reason_at}
 use Rattle.mg_scripts.specs.Printing.{SinkSays}
 use Rattle.mg_sessions.specs.Accounts.{Accounts}
-use Rattle.mg_runs.specs.declared.ending.RunEnd.{RunEnd}
-use Rattle.mg_runs.specs.declared.ending.RunEnd.TheVariants.{InLine, Outside, ScriptTooLong, Stream, Whole}
-use Rattle.mg_runs.specs.Ends.{EndsWith}
+use Rattle.mg_run_ends.specs.declared.ending.RunEnd.{RunEnd}
+use Rattle.mg_run_ends.specs.declared.ending.RunEnd.TheVariants.{InLine, Outside, ScriptTooLong, Stream, Whole}
+use Rattle.mg_run_ends.specs.Ends.{EndsWith}
 use Rattle.mg_runs.specs.Entry.{IsEntry}
 use Rattle.mg_runs.specs.Headline.{Headline}
 

@@ -9,12 +9,12 @@ use Rattle.mg_model.specs.declared.refusal.Refusal.{Refusal}
 use Rattle.mg_model.specs.declared.refusal.Refusal.TheVariants as refusals
 use Rattle.mg_words.specs.declared.asked.Asked.{Asked}
 use Rattle.mg_words.specs.Words.{IsRun}
-use Rattle.mg_runs.specs.declared.ending.RunEnd.{RunEnd}
-use Rattle.mg_runs.specs.declared.ending.RunEnd.TheVariants.{InLine, Outside}
-use Rattle.mg_runs.specs.declared.status.Status.{Status}
-use Rattle.mg_runs.specs.Ends.{EndsWith, status_of}
+use Rattle.mg_run_ends.specs.declared.ending.RunEnd.{RunEnd}
+use Rattle.mg_run_ends.specs.declared.ending.RunEnd.TheVariants.{InLine, Outside}
+use Rattle.mg_run_ends.specs.declared.status.Status.{Status}
+use Rattle.mg_run_ends.specs.Ends.{EndsWith, status_of}
 use Rattle.mg_runs.specs.Entry.{IsEntry}
-use Rattle.mg_runs.specs.Printing.{IsPrinted}
+use Rattle.mg_run_ends.specs.Printing.{IsPrinted}
 use Rattle.mg_runs.specs.Promise.{Promise, ScriptCauses, StreamCauses}
 
 -- ---- words that are no command line

@@ -1,29 +1,27 @@
 //! The program as one call: a command line is obeyed on a disk, and ends with a status.
 //!
 //! Owns: `mgdb`, the top call, which reads the words and is what a `main` calls; `run`, which obeys the script of `run DB`
-//! on a disk that it opens and closes. Within: the script as it comes from the source (`script_source`), the lines on an
-//! engine (`serving`), and the line that says why a run has ended (`printing`).
+//! on a disk that it opens and closes. Within: the lines on an engine (`serving`).
 //!
 //! The script is read whole before the disk is first asked. Where nothing stops the run, what is live at its end is
 //! rolled back and the database is closed; where something does, nothing is written any more, and the disk is left as a
 //! power cut would leave it.
 //!
 //! Invariant: none, it keeps no state between two calls.
-//! Below: `mg_runs`, which says what a run promises; `mg_words`, the words; `mg_script`, the lines and texts; `mg_scripts`,
+//! Below: `mg_runs`, which says what a run promises; `mg_run_ends`, how it ends, with the script as it comes in and the
+//! last line as it goes out; `mg_words`, the words; `mg_script`, the lines and texts; `mg_scripts`,
 //! the run of a script over any keeper of records; `mg_engine`, the keeper; `mg_fuse`, a disk of which a number of page
 //! writes pass. Above: a program's `main`, which makes the disk and the streams.
 //! Not here: what a line does.
 #![tactic(auto)]
 
 mod laws;
-mod printing;
 mod running;
-mod script_source;
 mod serving;
 mod top;
 
 pub use laws::runs_are_complete;
-pub use mg_runs::{RunEnd, SCRIPT_MOST, Status};
+pub use mg_run_ends::{RunEnd, SCRIPT_MOST, Status};
 pub use mg_words::wanted_page;
 pub use running::run;
 pub use top::{Shelf, mgdb};

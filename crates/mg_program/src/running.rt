@@ -3,15 +3,13 @@
 ghost use Rattle.std.specs.Prelude.{◌≡◌, ℕ, List, Some};
 ghost use Rattle.mg_base.specs.Image.{Image};
 ghost use Rattle.mg_model.specs.declared.opening.Opening.{Opening};
-ghost use Rattle.mg_runs.specs.Ends.{EndsWith};
+ghost use Rattle.mg_run_ends.specs.Ends.{EndsWith};
 ghost use Rattle.mg_runs.specs.Entry.{IsEntry};
 ghost use Rattle.mg_runs.specs.Promise.{Promise, ScriptCauses, StreamCauses};
 
-use crate::printing::say_end;
-use crate::script_source::read_lines;
 use crate::serving::serve;
 use mg_base::{Disk, Sink, Source};
-use mg_runs::RunEnd;
+use mg_run_ends::{RunEnd, read_lines, say_end};
 use mg_scripts::lines_of_scripts_can_be_obeyed;
 use std::alloc::Global;
 

@@ -10,14 +10,14 @@ ghost use Rattle.mg_scripts.specs.Runs.{CanBeObeyed};
 ghost use Rattle.mg_runs.specs.Laws.{closed_end as closed_end_of};
 ghost use Rattle.mg_program.specs.Serving.{HasObeyed, Serves, cut_end as cut_end_of};
 
-use crate::printing::say_end;
 use mg_base::{Disk, Sink};
 use mg_core::Place;
 use mg_engine::Engine;
 use mg_model::Refusal;
 use mg_pending::PLACES;
+use mg_run_ends::{RunEnd, say_end};
 use mg_runs::{
-    RunEnd, closings_fail, lines_fail, openings_are_judged, openings_fail, runs_begin, runs_close,
+    closings_fail, lines_fail, openings_are_judged, openings_fail, runs_begin, runs_close,
     runs_stop,
 };
 use mg_script::Line;

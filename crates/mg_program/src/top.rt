@@ -5,11 +5,10 @@ ghost use Rattle.mg_words.specs.declared.asked.Asked.{Asked as AnyAsked};
 ghost use Rattle.mg_words.specs.Words.{IsRun, texts};
 ghost use Rattle.mg_program.specs.Top.{HasRun, IsUsage, Runs};
 
-use crate::printing::put_line;
 use crate::running::run;
 use mg_base::{GREATEST_LIMIT, Sink, Source};
 use mg_fuse::{CountsWrites, Stopped, stopped_disks_are_asked_for_no_more};
-use mg_runs::{RunEnd, Status};
+use mg_run_ends::{RunEnd, Status, put_line};
 use mg_words::{Asked, read_words};
 use std::alloc::Global;
 

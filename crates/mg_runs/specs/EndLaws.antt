@@ -29,15 +29,15 @@ use Rattle.mg_scripts.specs.declared.lines.LinesEnd.TheVariants as lines_ends
 use Rattle.mg_scripts.specs.Ending.{IsUnbegun, ScriptDone, ScriptRan, reason_at}
 use Rattle.mg_sessions.specs.Accounts.{Accounts}
 use Rattle.mg_space.specs.ViewLaws.{CountsNow}
-use Rattle.mg_runs.specs.declared.ending.RunEnd.{RunEnd}
-use Rattle.mg_runs.specs.declared.ending.RunEnd.TheVariants.{Outside, Whole}
-use Rattle.mg_runs.specs.Ends.{last_line}
+use Rattle.mg_run_ends.specs.declared.ending.RunEnd.{RunEnd}
+use Rattle.mg_run_ends.specs.declared.ending.RunEnd.TheVariants.{Outside, Whole}
+use Rattle.mg_run_ends.specs.Ends.{last_line}
 use Rattle.mg_runs.specs.Entry.{IsEntry}
 use Rattle.mg_runs.specs.EntryLaws.{has_ended}
 use Rattle.mg_runs.specs.Headline.{AreServed, EndsBehind, HasEnded, Headline, IsClosingRefusal, IsSettledAt, IsUnjudged}
 use Rattle.mg_runs.specs.Laws.{IsCutOff, RunsClose, RunsStop, closed_end}
 use Rattle.mg_runs.specs.OpeningLaws.{crash_over, kept_over, nothing_settled, opening_leaves, size_over, sized_over, stands_over}
-use Rattle.mg_runs.specs.Printing.{IsPrinted}
+use Rattle.mg_run_ends.specs.Printing.{IsPrinted}
 use Rattle.mg_runs.specs.UnjudgedLaws.{unjudged}
 
 -- ---- page sizes

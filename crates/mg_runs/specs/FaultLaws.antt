@@ -14,7 +14,7 @@ use Rattle.mg_pool.specs.Fault.{StaysOnline}
 use Rattle.mg_pool.specs.declared.fault.PoolFault.TheVariants as faults
 use Rattle.mg_space.specs.declared.fault.SpaceFault.TheVariants as space
 use Rattle.mg_sessions.specs.Accounts.{Accounts}
-use Rattle.mg_runs.specs.Ends.{FailsWith}
+use Rattle.mg_run_ends.specs.Ends.{FailsWith}
 use Rattle.mg_runs.specs.Laws.{ClosingsFail, LinesFail, OpeningsFail}
 
 -- a count that has risen has risen since any earlier moment

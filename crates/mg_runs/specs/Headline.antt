@@ -21,11 +21,11 @@ use Rattle.mg_scripts.specs.Ending.{EndsSo, fine_at}
 use Rattle.mg_scripts.specs.Runs.{AreLinesOf, AreRun, PrintsSo}
 use Rattle.mg_transcript.specs.Scripts.{Obeyed}
 use Rattle.mg_transcript.specs.Sessions.{Unfinished}
-use Rattle.mg_runs.specs.declared.ending.RunEnd.{RunEnd}
-use Rattle.mg_runs.specs.declared.ending.RunEnd.TheVariants.{Whole, InLine, Outside, Stream, ScriptTooLong}
-use Rattle.mg_runs.specs.Ends.{IsOutside, last_line}
+use Rattle.mg_run_ends.specs.declared.ending.RunEnd.{RunEnd}
+use Rattle.mg_run_ends.specs.declared.ending.RunEnd.TheVariants.{Whole, InLine, Outside, Stream, ScriptTooLong}
+use Rattle.mg_run_ends.specs.Ends.{IsOutside, last_line}
 use Rattle.mg_runs.specs.Entry.{IsEntry}
-use Rattle.mg_runs.specs.Printing.{IsPrinted}
+use Rattle.mg_run_ends.specs.Printing.{IsPrinted}
 
 -- ---- how a run ends behind its lines
 

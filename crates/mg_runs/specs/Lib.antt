@@ -1,5 +1,4 @@
 pub mod EndLaws
-pub mod Ends
 pub mod Entry
 pub mod EntryLaws
 pub mod FaultLaws
@@ -7,6 +6,5 @@ pub mod Headline
 pub mod Laws
 pub mod MemLaws
 pub mod OpeningLaws
-pub mod Printing
 pub mod Promise
 pub mod UnjudgedLaws

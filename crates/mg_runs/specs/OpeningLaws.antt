@@ -35,13 +35,13 @@ use Rattle.mg_pool.specs.Pool.{KeepsContent}
 use Rattle.mg_space.specs.TakingLaws.{bits_some}
 use Rattle.mg_space.specs.View.{Tells}
 use Rattle.mg_space.specs.ViewLaws.{CountsNow}
-use Rattle.mg_runs.specs.declared.ending.RunEnd.{RunEnd}
-use Rattle.mg_runs.specs.Ends.{IsOutside, last_line}
+use Rattle.mg_run_ends.specs.declared.ending.RunEnd.{RunEnd}
+use Rattle.mg_run_ends.specs.Ends.{IsOutside, last_line}
 use Rattle.mg_runs.specs.Entry.{IsOpeningOf, TellsWholePages, of_new, of_sound}
 use Rattle.mg_runs.specs.Headline.{AreUnserved, IsSettledAt}
 use Rattle.mg_runs.specs.UnjudgedLaws.{outside_unjudged}
 use Rattle.mg_runs.specs.Laws.{BeginsRun, OpeningsAreJudged, RunsBegin}
-use Rattle.mg_runs.specs.Printing.{IsPrinted}
+use Rattle.mg_run_ends.specs.Printing.{IsPrinted}
 
 -- ---- images
 

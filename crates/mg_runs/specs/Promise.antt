@@ -6,12 +6,12 @@ use Rattle.mg_model.specs.declared.opening.Opening.{Opening}
 use Rattle.mg_model.specs.declared.refusal.Refusal.TheVariants.{Memory}
 use Rattle.mg_script.specs.declared.line.Line.{Line}
 use Rattle.mg_script.specs.Lines.{IsScript}
-use Rattle.mg_runs.specs.declared.ending.RunEnd.{RunEnd}
-use Rattle.mg_runs.specs.declared.ending.RunEnd.TheVariants.{Whole, Outside, Stream, ScriptTooLong}
-use Rattle.mg_runs.specs.declared.ending.TheConstants.{SCRIPT_MOST}
-use Rattle.mg_runs.specs.Ends.{last_line}
+use Rattle.mg_run_ends.specs.declared.ending.RunEnd.{RunEnd}
+use Rattle.mg_run_ends.specs.declared.ending.RunEnd.TheVariants.{Whole, Outside, Stream, ScriptTooLong}
+use Rattle.mg_run_ends.specs.declared.ending.TheConstants.{SCRIPT_MOST}
+use Rattle.mg_run_ends.specs.Ends.{last_line}
 use Rattle.mg_runs.specs.Headline.{Headline}
-use Rattle.mg_runs.specs.Printing.{IsPrinted}
+use Rattle.mg_run_ends.specs.Printing.{IsPrinted}
 
 -- ---- the script
 

@@ -35,9 +35,9 @@ use Rattle.mg_transcript.specs.Scripts.{AreRolledBack, Obeyed, all_are, has_none
 use Rattle.mg_transcript.specs.Sessions.{Unfinished}
 use Rattle.mg_transcript.specs.Shorthand.{stops_run}
 use Rattle.mg_transcript.specs.Transcript.{flow}
-use Rattle.mg_runs.specs.declared.ending.RunEnd.{RunEnd}
-use Rattle.mg_runs.specs.declared.ending.RunEnd.TheVariants.{InLine, Outside, ScriptTooLong, Stream, Whole}
-use Rattle.mg_runs.specs.Ends.{IsOutside}
+use Rattle.mg_run_ends.specs.declared.ending.RunEnd.{RunEnd}
+use Rattle.mg_run_ends.specs.declared.ending.RunEnd.TheVariants.{InLine, Outside, ScriptTooLong, Stream, Whole}
+use Rattle.mg_run_ends.specs.Ends.{IsOutside}
 use Rattle.mg_runs.specs.Headline.{EndsBehind, EndsWhole, IsClosingRefusal, IsUnjudged}
 
 -- ---- refusals

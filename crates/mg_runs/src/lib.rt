@@ -1,25 +1,19 @@
 //! What a run of the program promises, in the terms of one history.
 //!
-//! Owns: how a run ends (`RunEnd`) and its status (`Status`), and the definitions by which a run is judged. In
-//! `specs/`: `Ends` (the status and the last line of an end), `Entry` (the disks on which a history can begin),
-//! `Printing` (what the sink takes), `Headline` (one legal history of the lines, its transcript, that each image a crash
-//! leaves holds it, and that the disk is not said to be damaged), `Promise` (the script, and the causes that hold over
-//! any disk). `Laws` has what the steps of a run give of it; `OpeningLaws`, `EndLaws`, `UnjudgedLaws`, `FaultLaws`,
-//! `EntryLaws` and `MemLaws` prove that.
+//! Owns: the definitions by which a run is judged. In `specs/`: `Entry` (the disks on which a history can begin),
+//! `Headline` (one legal history of the lines, its transcript, that each image a crash leaves holds it, and that the
+//! disk is not said to be damaged), `Promise` (the script, and the causes that hold over any disk). `Laws` has what the
+//! steps of a run give of it; `OpeningLaws`, `EndLaws`, `UnjudgedLaws`, `FaultLaws`, `EntryLaws` and `MemLaws` prove that.
 //!
 //! Invariant: none, it keeps no state.
 //! Below: `mg_scripts`, the lines of a script; `mg_engine_meaning`, the opening and closing of an engine; `mg_transcript`,
-//! the history of a script. Above: `mg_program`, whose calls keep these promises.
+//! the history of a script; `mg_run_ends`, how a run ends. Above: `mg_program`, whose calls keep these promises.
 //! Not here: where the words and the script come from.
 #![tactic(auto)]
 
-mod ending;
 mod laws;
-mod status;
 
-pub use ending::{RunEnd, SCRIPT_MOST};
 pub use laws::{
     blank_disks_are_entries, closings_fail, lines_fail, openings_are_judged, openings_fail,
     runs_begin, runs_close, runs_stop,
 };
-pub use status::Status;

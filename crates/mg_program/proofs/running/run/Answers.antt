@@ -1,7 +1,7 @@
 use Rattle.std.proofs.Common.{◌≡◌, List, sym, subst}
 use Rattle.mg_base.specs.Streams.{SourceMeaning}
 use Rattle.mg_script.specs.declared.line.Line.{Line}
-use Rattle.mg_program.specs.Reading.{IsWholeScript}
+use Rattle.mg_run_ends.specs.Reading.{IsWholeScript}
 use Rattle.mg_program.proofs.RunLemmas.{served_promise, served_script, served_streams, unread_disk, unread_promise, unread_script, unread_streams}
 use Rattle.mg_program.proofs.running.run.Goals as goal
 

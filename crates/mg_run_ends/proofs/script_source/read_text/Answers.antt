@@ -1,7 +1,7 @@
 -- What was read moves from what is left to the script.
 use Rattle.std.proofs.Common.{◌≡◌, ◌∙◌, ◌++◌, List, ℕ, take, drop, sym, ap, append_assoc}
 use Rattle.std.proofs.lemmas.List.{take-append-drop}
-use Rattle.mg_program.proofs.script_source.read_text.Goals as goal
+use Rattle.mg_run_ends.proofs.script_source.read_text.Goals as goal
 
 pub loop-piece-preserved : goal.loop-piece-preserved
 loop-piece-preserved g c = record {

@@ -1,6 +1,6 @@
 use Rattle.std.proofs.Common.{◌≡◌, ◌+◌, ◌-◌, ◌++◌, ℕ, List, length, Some}
-use Rattle.mg_runs.specs.declared.ending.TheConstants.{SCRIPT_MOST}
-use Rattle.mg_program.proofs.script_source.read_text.Given as goal
+use Rattle.mg_run_ends.specs.declared.ending.TheConstants.{SCRIPT_MOST}
+use Rattle.mg_run_ends.proofs.script_source.read_text.Given as goal
 
 -- what was read, and what is left, are what was left at the start; no call failed
 abbrev pub invariant-loop-piece : goal.invariant-loop-piece

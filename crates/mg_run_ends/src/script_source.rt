@@ -2,12 +2,12 @@
 
 ghost use Rattle.std.specs.Bool.{OnTrue};
 ghost use Rattle.std.specs.Prelude.{◌≡◌, ◌≤◌, ◌++◌, length, List, ℕ, Some, IfOk, IfErr, OnOk};
-ghost use Rattle.mg_runs.specs.declared.ending.TheConstants.{SCRIPT_MOST};
-ghost use Rattle.mg_program.specs.Reading.{FailsToRead, ReadsScript};
+ghost use Rattle.mg_run_ends.specs.declared.ending.TheConstants.{SCRIPT_MOST};
+ghost use Rattle.mg_run_ends.specs.Reading.{FailsToRead, ReadsScript};
 
+use crate::ending::{RunEnd, SCRIPT_MOST};
 use mg_base::Source;
 use mg_model::Refusal;
-use mg_runs::{RunEnd, SCRIPT_MOST};
 use mg_script::{Script, read_script};
 use std::alloc::Global;
 
@@ -20,7 +20,7 @@ const PIECE: usize = 16_384;
 ///
 /// `Stream` where the source failed; `ScriptTooLong` exactly where more than 1,048,576 bytes are left; `Outside` with
 /// `Memory`.
-pub(crate) fn read_lines<S: Source>(alloc: Global, source: &mut S) -> Result<Script, RunEnd>
+pub fn read_lines<S: Source>(alloc: Global, source: &mut S) -> Result<Script, RunEnd>
     ensures { ReadsScript S.meaning source.old source.new result }
 {
     let text = match read_text(alloc, source) {

@@ -5,9 +5,9 @@ use Rattle.mg_base.specs.Streams.{SourceMeaning}
 use Rattle.mg_model.specs.declared.refusal.Refusal.TheVariants.{Memory}
 use Rattle.mg_script.specs.declared.line.Line.{Line}
 use Rattle.mg_script.specs.Lines.{IsScript}
-use Rattle.mg_runs.specs.declared.ending.RunEnd.{RunEnd}
-use Rattle.mg_runs.specs.declared.ending.RunEnd.TheVariants.{Outside, ScriptTooLong, Stream}
-use Rattle.mg_runs.specs.declared.ending.TheConstants.{SCRIPT_MOST}
+use Rattle.mg_run_ends.specs.declared.ending.RunEnd.{RunEnd}
+use Rattle.mg_run_ends.specs.declared.ending.RunEnd.TheVariants.{Outside, ScriptTooLong, Stream}
+use Rattle.mg_run_ends.specs.declared.ending.TheConstants.{SCRIPT_MOST}
 
 -- Lines are those of all bytes that a source had, which are at most 1,048,576.
 pub record IsWholeScript {S : Type 0} (m : SourceMeaning S) (source : S) (lines : List Line) : Type 0 where

@@ -1,21 +1,21 @@
 //! The line behind all others, which says why a run has ended.
 
 ghost use Rattle.std.specs.Prelude.{◌≡◌, true};
-ghost use Rattle.mg_runs.specs.Ends.{has_fixed_line as has_fixed_line_of};
-ghost use Rattle.mg_runs.specs.Printing.{IsPrinted};
-ghost use Rattle.mg_runs.specs.declared.ending.RunEnd.TheVariants.{Outside};
+ghost use Rattle.mg_run_ends.specs.Ends.{has_fixed_line as has_fixed_line_of};
+ghost use Rattle.mg_run_ends.specs.Printing.{IsPrinted};
+ghost use Rattle.mg_run_ends.specs.declared.ending.RunEnd.TheVariants.{Outside};
 ghost use Rattle.mg_script.specs.Texts.{outside_text};
-ghost use Rattle.mg_program.specs.Saying.{SaysEnd};
+ghost use Rattle.mg_run_ends.specs.Saying.{SaysEnd};
 
+use crate::ending::RunEnd;
 use mg_base::Sink;
 use mg_model::Refusal;
-use mg_runs::RunEnd;
 use mg_script::refusal_line;
 use std::alloc::Global;
 
 /// Puts the line of an end into the sink, if it has one, and tells how the run ends: where memory is short for the line,
 /// by that. A sink that fails at this line leaves the end as it is.
-pub(crate) fn say_end<K: Sink>(alloc: Global, end: RunEnd, sink: &mut K) -> RunEnd
+pub fn say_end<K: Sink>(alloc: Global, end: RunEnd, sink: &mut K) -> RunEnd
     ensures { SaysEnd K.meaning sink.old sink.new end result }
 {
     match end {
@@ -77,7 +77,7 @@ fn fixed_line(refusal: Refusal) -> &'static [u8]
 }
 
 /// Puts a line into the sink.
-pub(crate) fn put_line<K: Sink>(line: &[u8], sink: &mut K)
+pub fn put_line<K: Sink>(line: &[u8], sink: &mut K)
     ensures { IsPrinted K.meaning sink.old sink.new line.now }
 {
     let _ = sink.put(line);

@@ -4,9 +4,9 @@ use Rattle.mg_base.specs.Disk.{Meaning, Rose}
 use Rattle.mg_model.specs.declared.refusal.Refusal.{Refusal}
 use Rattle.mg_model.specs.declared.refusal.Refusal.TheVariants as refusals
 use Rattle.mg_script.specs.Texts.{outside_text}
-use Rattle.mg_runs.specs.declared.ending.RunEnd.{RunEnd}
-use Rattle.mg_runs.specs.declared.ending.RunEnd.TheVariants.{Whole, InLine, Outside, Stream, ScriptTooLong}
-use Rattle.mg_runs.specs.declared.status.Status.{Status}
+use Rattle.mg_run_ends.specs.declared.ending.RunEnd.{RunEnd}
+use Rattle.mg_run_ends.specs.declared.ending.RunEnd.TheVariants.{Whole, InLine, Outside, Stream, ScriptTooLong}
+use Rattle.mg_run_ends.specs.declared.status.Status.{Status}
 
 abbrev pub status : ℕ → Status
 status number = record { 0 = number }

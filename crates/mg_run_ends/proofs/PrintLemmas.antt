@@ -3,7 +3,7 @@ use Rattle.std.specs.Prelude.{ℕ, List, [], ◌++◌, length, Some, Result, Ok,
 use Rattle.std.proofs.Common.{sym, ◌∙◌, ap, arith, append-nil}
 use Rattle.std.proofs.lemmas.List.{take_all}
 use Rattle.mg_base.specs.Streams.{Puts, SinkMeaning}
-use Rattle.mg_runs.specs.Printing.{IsPrinted}
+use Rattle.mg_run_ends.specs.Printing.{IsPrinted}
 
 pub printed_nothing : {K : Type 0} (n : SinkMeaning K) (sink : K) → IsPrinted n sink sink []
 printed_nothing n sink = record {

@@ -1,10 +1,10 @@
 -- What is said of the end of a run.
 use Rattle.std.specs.Prelude.{◌≡◌, []}
 use Rattle.mg_base.specs.Streams.{SinkMeaning}
-use Rattle.mg_runs.specs.declared.ending.RunEnd.{RunEnd}
-use Rattle.mg_runs.specs.declared.ending.RunEnd.TheVariants.{Outside}
-use Rattle.mg_runs.specs.Ends.{IsOutside, last_line}
-use Rattle.mg_runs.specs.Printing.{IsPrinted}
+use Rattle.mg_run_ends.specs.declared.ending.RunEnd.{RunEnd}
+use Rattle.mg_run_ends.specs.declared.ending.RunEnd.TheVariants.{Outside}
+use Rattle.mg_run_ends.specs.Ends.{IsOutside, last_line}
+use Rattle.mg_run_ends.specs.Printing.{IsPrinted}
 
 -- the run ends so; but where there is no memory to tell of its refusal, that ends it
 abbrev pub IsTold : RunEnd → RunEnd → Type 0

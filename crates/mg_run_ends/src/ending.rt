@@ -1,7 +1,7 @@
 //! How a run comes to its end.
 
 ghost use Rattle.std.specs.Prelude.{◌≡◌};
-ghost use Rattle.mg_runs.specs.Ends.{refused_status as refused_status_of, status_of};
+ghost use Rattle.mg_run_ends.specs.Ends.{refused_status as refused_status_of, status_of};
 
 use crate::status::Status;
 use mg_model::Refusal;

@@ -1,0 +1,4 @@
+pub mod Ends
+pub mod Printing
+pub mod Reading
+pub mod Saying
