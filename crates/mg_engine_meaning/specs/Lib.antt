@@ -20,6 +20,7 @@ pub mod Falling
 pub mod FaultLaws
 pub mod FrameLaws
 pub mod Frames
+pub mod FreePages
 pub mod Freeing
 pub mod GrowingLaws
 pub mod KeepLaws

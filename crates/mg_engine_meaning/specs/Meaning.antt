@@ -18,6 +18,7 @@ use Rattle.mg_records.specs.Meaning.{Means}
 use Rattle.mg_engine_steps.specs.Standing.{Standing}
 use Rattle.mg_works.specs.Works.{MayBeGiven, Working, given_to, has_session, work_of}
 use Rattle.mg_core.specs.declared.parts.Core.{Core}
+use Rattle.mg_engine_meaning.specs.FreePages.{CoreHasFree}
 use Rattle.mg_engine_meaning.specs.Standings.{StandsFor, asked_in, sessions_in, standing_of}
 
 -- ---- walks
@@ -98,6 +99,7 @@ means m places = record {
   faults = λ core. m.faults core.store.disk;
   damage = λ core. core.damage;
   shortages = λ core. core.shortages;
+  has_free = λ core count. CoreHasFree m core count;
   most_writes = λ core. m.most_writes core.store.disk;
   down = λ core. core.store.offline;
   is_size = λ core size. core.store.geometry.size == size;

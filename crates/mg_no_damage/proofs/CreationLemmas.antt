@@ -1,19 +1,17 @@
 -- A table is made without damage.
-use Rattle.std.proofs.Common.{◌≡◌, ◌≢◌, ◌∙◌, ◌+◌, ◌<◌, ◌^◌, ℕ, Bool, true, false, List, [], ◌∷◌, Option, None, Some, Ok, Err, inl, inr, map, refl, sym, ap, subst}
+use Rattle.std.proofs.Common.{◌≡◌, ◌≢◌, ◌∙◌, ◌+◌, ℕ, Bool, true, false, List, [], ◌∷◌, Option, None, Some, Ok, Err, inl, inr, map, refl, sym, ap, subst}
 use Rattle.std.specs.Prelude.{is_some, length}
 use Rattle.std.proofs.lemmas.Bool.{false≢true}
 use Rattle.mg_base.specs.Disk.{Meaning}
-use Rattle.mg_base.specs.Image.{Image}
 use Rattle.mg_base.specs.declared.geometry.Geometry.{Geometry}
 use Rattle.mg_base.specs.declared.numbers.PageNo.{PageNo}
 use Rattle.mg_base.specs.declared.numbers.RecId.{RecId}
 use Rattle.mg_base.specs.declared.numbers.TxNo.{TxNo}
-use Rattle.mg_base.specs.declared.transaction.TxState.{TxState}
 use Rattle.mg_base.specs.declared.transaction.TxState.TheVariants.{Active, Dead}
 use Rattle.mg_catalog.specs.RowsSaid.{column_rows}
 use Rattle.mg_core.specs.Cores.{Continues, IsCore}
 use Rattle.mg_core.specs.Obstacles.{IsOfRecord, StopsAtRecord}
-use Rattle.mg_core.specs.Reading.{FailsReading, OnlyReads}
+use Rattle.mg_core.specs.Reading.{FailsReading}
 use Rattle.mg_core.specs.Refusing.{CountsFault}
 use Rattle.mg_core.specs.Writing.{HasBegun, IsOfKey, ReadsRow, WhyOfKey, row_unread}
 use Rattle.mg_core.specs.declared.parts.Core.{Core}
@@ -28,22 +26,18 @@ use Rattle.mg_engine_changes.specs.StopLaws.{reads_on, told_before}
 use Rattle.mg_engine_meaning.specs.Meaning.{Places}
 use Rattle.mg_engine_meaning.specs.Standings.{ShowsIt, StandsFor, asked_in, sessions_in, standing_of}
 use Rattle.mg_engine_meaning.specs.StepLaws.{shows_of}
-use Rattle.mg_no_damage.specs.CountLaws.{count, count_stands, ended, refused}
+use Rattle.mg_no_damage.specs.CountLaws.{count, ended, refused}
 use Rattle.mg_no_damage.specs.ShownLaws.{catalog_there, shown_table, table_on}
 use Rattle.mg_no_damage.specs.StageLaws.{none_passed, own_there, read_stands, speaks_on, stops_stand, unread_stands}
 use Rattle.mg_engine_steps.specs.AnswersLaws.{ObstaclesAtKeys, RowsAtKeys, SpeakersAreTold, TellsSpeaker}
 use Rattle.mg_engine_steps.specs.GoesOnLaws.{pool_is_kept}
-use Rattle.mg_engine_steps.specs.Known.{IsShown, IsSilent, KnowsPages, catalog_is_shown}
+use Rattle.mg_engine_steps.specs.Known.{IsSilent, KnowsPages, catalog_is_shown}
 use Rattle.mg_engine_steps.specs.Standing.{Standing}
 use Rattle.mg_engine_steps.specs.Caches.{kept_from}
-use Rattle.mg_ties.specs.Filled.{catalog_of}
 use Rattle.mg_grown_catalogs.specs.Grown.{CommittedRowsStay, OwnRowsAreNew}
-use Rattle.mg_image.specs.Catalog.{catalog_table}
 use Rattle.mg_image.specs.Form.{Pages, Row, packed_coding, packed_form}
 use Rattle.mg_image.specs.ReadingLaws.{RowsAreOne}
-use Rattle.mg_image.specs.Records.{Reading}
 use Rattle.mg_image.specs.Sound.{IsSoundBy}
-use Rattle.mg_image.specs.Tables.{Layout}
 use Rattle.mg_image_overlays.specs.KeptImages.{IsKept}
 use Rattle.mg_no_damage.proofs.MakingKeyLemmas.{SpeaksWith, column_refuted, own_refuted, speaks_with}
 use Rattle.mg_no_damage.specs.Creations.{CreationsMeetNone}
@@ -64,20 +58,19 @@ use Rattle.mg_pool.specs.Pool.{shown}
 use Rattle.mg_pool.specs.declared.fault.PoolFault.TheVariants as faults
 use Rattle.mg_pool.specs.declared.pool.Pool.{Pool}
 use Rattle.mg_records.specs.declared.write.Write.TheVariants as writes
-use Rattle.mg_row_writes.specs.Befores.{IsBefore}
 use Rattle.mg_row_writes.specs.Finding.{IsInWay, IsRowAt, IsSeenIn}
 use Rattle.mg_row_writes.specs.declared.finding.RowAt.{RowAt}
 use Rattle.mg_seek.specs.Readings.{SpeakersOfReadings}
 use Rattle.mg_seek.specs.Speaking.{IsSpeaker}
 use Rattle.mg_space.specs.Taking.{IsGeometry}
-use Rattle.mg_space.specs.View.{KeepsStore, Tells}
+use Rattle.mg_space.specs.View.{Tells}
 use Rattle.mg_space.specs.ViewLaws.{CountsNow, tells_on}
 use Rattle.mg_space.specs.declared.fault.SpaceFault.{SpaceFault}
 use Rattle.mg_space.specs.declared.fault.SpaceFault.TheVariants as space
 use Rattle.mg_space.specs.declared.links.FireLinks.{FireLinks}
-use Rattle.mg_table_batch.specs.Filling.{StoresRow, rows_at}
+use Rattle.mg_table_batch.specs.Filling.{rows_at}
 use Rattle.mg_table_batch.specs.Making.{FailsTable, FailsTry, at_try, no_page, not_at_once, wants_more}
-use Rattle.mg_table_making.specs.Creating.{FailsCreation, FailsPut, MayBeMade, no_catalog, no_keys, not_begun, not_free, not_kept, not_made, not_put, only_reads}
+use Rattle.mg_table_making.specs.Creating.{FailsPut, no_catalog, no_keys, not_begun, not_free, not_kept, not_made, not_put, only_reads}
 use Rattle.mg_table_making.specs.Keys.{AreFreeKeys, FailsColumnKeys, FailsFree, FailsOwnKey, IsFreeKey, column_spoken, column_taken, column_unread, first_taken, free_more, free_none, keys_made, later_taken, own_hindered, own_seen, own_spoken, own_taken, own_unread}
 use Rattle.mg_no_damage.specs.NewTables.{AreNamed, EachRow, MayBePut, MayMake, TablesAreMade}
 use Rattle.mg_ties.specs.Ties.{IsOneOf}
@@ -86,7 +79,6 @@ use Rattle.mg_value.specs.declared.shape.Column.{Column}
 use Rattle.mg_value.specs.declared.shape.Shape.{Shape}
 use Rattle.mg_value.specs.declared.value.Value.{Value}
 use Rattle.mg_value.specs.declared.value.Value.TheVariants.{Null}
-use Rattle.mg_version.specs.declared.cell.Version.{Version}
 use Rattle.mg_waits.specs.Waits.{edges_in}
 
 -- ---- the keys of a new table
@@ -265,7 +257,7 @@ module _ {D : Type 0} (m : Meaning D) (parts : MakingParts m) (old new : Core D)
       → HasRead m old read t.0
   free_on now read key had free = reads_on m parts.counts_now old now read t.0 had free.reads.reads
 
-  all_on : (keys : List Value) (now free : Core D) → HasRead m old now t.0 → AreFreeKeys m t keys now free
+  pub all_on : (keys : List Value) (now free : Core D) → HasRead m old now t.0 → AreFreeKeys m t keys now free
       → HasRead m old free t.0
   all_on keys now free had (free_none c) = had
   all_on keys now free had (free_more key more first read last one rest) =
@@ -327,17 +319,17 @@ module _ {D : Type 0} (m : Meaning D) (parts : MakingParts m) (old new : Core D)
   -- ---- the batch
 
   -- the pages where those that have not ended count as dead
-  kept : IsKept packed_form old.store.geometry.size o h (left_state nobody (said old.list))
+  pub kept : IsKept packed_form old.store.geometry.size o h (left_state nobody (said old.list))
       (shown old.store.dirty shows.image) (shown old.store.dirty shows.image)
   kept = pool_is_kept packed_form D FireLinks old.store.geometry.size o h (said old.list) (asked_in old.works)
       (sessions_in old.works) old.store shows.image nobody (kept_from m packed_form o h
       (standing_of old stands.numbers stands.tables) old.store shows.image (asked_in old.works)
       (sessions_in old.works) shows.stands.memory core.pool shows.held shows.lasts)
 
-  its_catalog : kept.of_pool.catalog.table ≡ old.catalog
+  pub its_catalog : kept.of_pool.catalog.table ≡ old.catalog
   its_catalog = kept.pool_sound.catalog ∙ (sym shows.stands.shows.sound.catalog ∙ sym catalog_is)
 
-  dead : left_state nobody (said old.list) t.0 ≡ Dead
+  pub dead : left_state nobody (said old.list) t.0 ≡ Dead
   dead = ap (left_by false) continues.1
 
   may_make : {P : Type 0} (places : Places P) (name : List ℕ) (shape : Shape) → MayHave m places old name shape
@@ -358,7 +350,7 @@ module _ {D : Type 0} (m : Meaning D) (parts : MakingParts m) (old new : Core D)
 
   module _ {P : Type 0} (places : Places P) (name : List ℕ) (shape : Shape) (may : MayHave m places old name shape)
       (free : Core D) (had : HasRead m old free t.0) where
-    sound_free : ShowsSound m free.store shows.image (left_state nobody (said old.list)) kept.of_pool kept.in_pool
+    pub sound_free : ShowsSound m free.store shows.image (left_state nobody (said old.list)) kept.of_pool kept.in_pool
     sound_free = record {
       tells = tells_on m old.store free.store shows.image had.keeps tells_it;
       geometry = subst IsGeometry (sym had.keeps.geometry) core.geometry;
@@ -369,7 +361,7 @@ module _ {D : Type 0} (m : Meaning D) (parts : MakingParts m) (old new : Core D)
           kept.pool_sound);
     }
 
-    may_free : MayMake free.store.geometry.size (left_state nobody (said old.list))
+    pub may_free : MayMake free.store.geometry.size (left_state nobody (said old.list))
         (shown free.store.dirty shows.image) kept.of_pool free.catalog t.0 name shape
     may_free = subst (λ (c : Table). MayMake free.store.geometry.size (left_state nobody (said old.list))
         (shown free.store.dirty shows.image) kept.of_pool c t.0 name shape)
@@ -403,7 +395,7 @@ module _ {D : Type 0} (m : Meaning D) (parts : MakingParts m) (old new : Core D)
 
 -- ---- the call
 
-begun_on : {D : Type 0} (m : Meaning D) (counts_now : CountsNow m) (old : Core D) (core : IsCore m old) (t : TxNo)
+pub begun_on : {D : Type 0} (m : Meaning D) (counts_now : CountsNow m) (old : Core D) (core : IsCore m old) (t : TxNo)
     (begun : Core D) (wait : Bool) → HasBegun old begun t wait → HasRead m old begun t.0
 begun_on m counts_now old core t begun wait has =
     begun_read m counts_now old core t old.catalog (writes.Erase Null) begun wait has

@@ -1,5 +1,5 @@
 -- A version that a write stores in a table of a sound image fits a page.
-use Rattle.std.proofs.Common.{◌≡◌, ◌∙◌, ◌+◌, ◌/◌, ◌≤◌, inl, inr, ℕ, Bool, true, false, List, [], ◌∷◌, length, refl, sym, ap, subst, arith}
+use Rattle.std.proofs.Common.{◌≡◌, ◌+◌, ◌/◌, ◌≤◌, inl, inr, ℕ, Bool, true, false, List, [], ◌∷◌, length, refl, subst, arith}
 use Rattle.mg_image.specs.Catalog.{FitsPages, StaysAmong}
 use Rattle.mg_image.specs.RecordRules.{columns_for}
 use Rattle.mg_model.specs.CatalogRules.{EachTable}

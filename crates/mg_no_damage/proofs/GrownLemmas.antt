@@ -1,5 +1,5 @@
 -- In a catalog that grows each key for which somebody speaks has a row: no version gives it none, but one that all see.
-use Rattle.std.proofs.Common.{◌≡◌, ◌≢◌, ◌∙◌, ◌⊎◌, ◌==◌, ◌&&◌, ◌++◌, cond, ℕ, Bool, true, false, List, [], ◌∷◌, Option, None, Some, refl, sym, ap, subst, inl, inr}
+use Rattle.std.proofs.Common.{◌≡◌, ◌≢◌, ◌∙◌, ◌==◌, ◌&&◌, ◌++◌, cond, ℕ, Bool, true, false, List, [], ◌∷◌, Option, None, Some, refl, sym, ap, subst}
 use Rattle.std.specs.Prelude.{IsSome, if◌then◌else◌}
 use Rattle.std.proofs.lemmas.Bool.{eq-eqb, eqb-true, false≢true, ne_eqb}
 use Rattle.mg_base.specs.declared.transaction.TxState.{TxState}
@@ -8,14 +8,14 @@ use Rattle.mg_generations.specs.CommittedLaws.{committed_from_first}
 use Rattle.mg_generations.specs.Generations.{AreGenerations, Generation, PassesNews, first_writer, shown_by}
 use Rattle.mg_generations.specs.Kept.{AreKept, IsErasedForAll, IsGarbage, IsSeenByAll, StandFor, behind, erased, nothing}
 use Rattle.mg_grown_catalogs.specs.Grown.{CatalogGrows, CommittedRowsStay, OwnRowsAreNew}
-use Rattle.mg_model.specs.Answers.{catalog_of, changes_key, is_active, is_committed, is_open, newest_by, told}
-use Rattle.mg_model.specs.Catalog.{CatalogRows, catalog_name}
+use Rattle.mg_model.specs.Answers.{catalog_of, changes_key, is_committed, is_open, newest_by, told}
+use Rattle.mg_model.specs.Catalog.{catalog_name}
 use Rattle.mg_model.specs.Changes.{Cells, has_change, is_at, row_at}
 use Rattle.mg_model.specs.CommitLaws.{legal_at_base}
 use Rattle.mg_model.specs.DeedLaws.{deeds_after, deeds_after_entry}
 use Rattle.mg_model.specs.Effects.{changes_of, commits, if_committed}
 use Rattle.mg_model.specs.EntryLaws.{database_after_entry}
-use Rattle.mg_model.specs.History.{Begins, Effect, Ends, Entries, Entry, Gives, Looks, Makes, Marks, Nothing, Saves, TakesBack, effect_of}
+use Rattle.mg_model.specs.History.{Begins, Effect, Ends, Entries, Gives, Looks, Makes, Marks, Nothing, Saves, TakesBack, effect_of}
 use Rattle.mg_model.specs.Legal.{IsLegal, MayBegin}
 use Rattle.mg_model.specs.LegalLaws.{IsAllowed, lawful_is_allowed}
 use Rattle.mg_model.specs.Machine.{changes_by, changes_in, cut_at_base, database, deeds_by, opening_state, own, state_after, state_of, steps}

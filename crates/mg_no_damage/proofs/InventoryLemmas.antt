@@ -10,7 +10,8 @@ use Rattle.mg_image.specs.Sound.{HasRegion}
 use Rattle.mg_pip.specs.PipPage.{pip_checks}
 use Rattle.mg_space.specs.Taking.{IsLawfulRegion, region_of}
 use Rattle.mg_space.specs.TakingLaws.{takes_region}
-use Rattle.mg_no_damage.specs.Inventory.{PagesAreTaken, SoundRegionsAreLawful, TakingKeepsRegions}
+use Rattle.mg_space.specs.FreePages.{TakingKeepsRegions}
+use Rattle.mg_no_damage.specs.Inventory.{PagesAreTaken, SoundRegionsAreLawful}
 
 lawful_region : (size : ℕ) (pages : Pages) (at region : ℕ) → length (pages at) ≡ size
     → HasRegion size pages at region → IsLawfulRegion at region (pages at)

@@ -7,18 +7,16 @@ use Rattle.mg_base.specs.declared.geometry.Geometry.{Geometry}
 use Rattle.mg_base.specs.declared.numbers.PageNo.{PageNo}
 use Rattle.mg_base.specs.declared.numbers.RecId.{RecId}
 use Rattle.mg_base.specs.declared.numbers.TxNo.{TxNo}
-use Rattle.mg_base.specs.declared.transaction.TxState.TheVariants.{Active, Committed, Dead, Limbo}
 use Rattle.mg_base.specs.declared.transaction.TxState.{TxState}
 use Rattle.mg_chain.specs.Writing.{GivesSpot}
 use Rattle.mg_core.specs.Cores.{IsCore}
-use Rattle.mg_core.specs.Obstacles.{IsOfRecord, IsPassed}
+use Rattle.mg_core.specs.Obstacles.{IsOfRecord}
 use Rattle.mg_core.specs.Putting.{StandsBefore}
 use Rattle.mg_core.specs.Writing.{HasBegun, IsFree, IsOfKey}
 use Rattle.mg_core.specs.declared.parts.Core.{Core}
 use Rattle.mg_engine_changes.specs.Clearing.{HasCleared}
 use Rattle.mg_engine_changes.specs.Enters.{cleared_told, dead_cleared, placed_told, spot_taken, tells, there}
 use Rattle.mg_engine_changes.specs.Laid.{HasNoted}
-use Rattle.mg_engine_changes.specs.Looked.{placed_lives}
 use Rattle.mg_engine_changes.specs.Notes.{HasRead}
 use Rattle.mg_engine_changes.specs.RefusalLaws.{begun_read, found_read, free_answer, free_read, passed_read}
 use Rattle.mg_engine_changes.specs.Refusals.{IsReady}
@@ -36,19 +34,16 @@ use Rattle.mg_engine_steps.specs.Known.{IsShown}
 use Rattle.mg_engine_steps.specs.Writes.{IsSilentAt}
 use Rattle.mg_heap.specs.Apart.{HasPlace}
 use Rattle.mg_image.specs.Form.{Pages, packed_form}
-use Rattle.mg_image.specs.Records.{Reading}
-use Rattle.mg_image.specs.Tables.{Layout, stands_of, table_at}
 use Rattle.mg_model.specs.Answers.{answer}
 use Rattle.mg_model.specs.History.{Entries}
 use Rattle.mg_model.specs.Openings.{everyone}
 use Rattle.mg_model.specs.declared.answer.Answer.TheVariants.{Fine}
 use Rattle.mg_model.specs.declared.opening.Opening.{Opening}
 use Rattle.mg_model.specs.declared.table.Table.{Table}
-use Rattle.mg_no_damage.specs.Sees.{StandsOn, no_batch}
+use Rattle.mg_no_damage.specs.Sees.{no_batch}
 use Rattle.mg_no_damage.specs.Batches.{ShowsSound}
 use Rattle.mg_no_damage.specs.Writes.{IsRecordOf}
 use Rattle.mg_overlays.specs.Overlays.{left_state}
-use Rattle.mg_pool.specs.Batch.{Changed}
 use Rattle.mg_pool.specs.Dirty.{DirtyPages}
 use Rattle.mg_pool.specs.Pool.{shown}
 use Rattle.mg_pool.specs.declared.pool.Pool.{Pool}
@@ -64,21 +59,17 @@ use Rattle.mg_row_writes.specs.declared.before.Way.TheVariants as ways
 use Rattle.mg_row_writes.specs.declared.before.Way.{Way}
 use Rattle.mg_rowcode.specs.Storable.{AreStorable}
 use Rattle.mg_seek.specs.Speaking.{IsSpeaker}
-use Rattle.mg_seek.specs.declared.views.Obstacle.{Obstacle}
-use Rattle.mg_snap.specs.Live.{State}
 use Rattle.mg_space.specs.Taking.{IsGeometry}
 use Rattle.mg_space.specs.TakingLaws.{page_sizes}
 use Rattle.mg_space.specs.View.{Tells}
 use Rattle.mg_space.specs.declared.fault.SpaceFault.TheVariants as space
 use Rattle.mg_space.specs.declared.links.FireLinks.{FireLinks}
 use Rattle.mg_ties.specs.Changed.{changed_fresh}
-use Rattle.mg_image_overlays.specs.Growing.{IsTableOf}
 use Rattle.mg_txlist.specs.TxList.{said}
-use Rattle.mg_value.specs.Rows.{row_len_of}
 use Rattle.mg_version.specs.declared.cell.Version.{Version}
-use Rattle.mg_waits.specs.Waits.{Edges, IsVerdict, edges_in}
+use Rattle.mg_waits.specs.Waits.{edges_in}
 use Rattle.mg_works.specs.Works.{given_to, work_of}
-use Rattle.std.proofs.Common.{Bool, Err, List, None, Ok, Option, Some, ap, false, inl, inr, length, map, refl, subst, sym, true, ℕ, ◌+◌, ◌/◌, ◌==◌, ◌∙◌, ◌∷◌, ◌≡◌, ◌≢◌, ◌≤◌}
+use Rattle.std.proofs.Common.{None, Option, Some, ap, length, map, subst, sym, true, ℕ, ◌+◌, ◌∙◌, ◌≡◌, ◌≢◌, ◌≤◌}
 
 module _ {D P : Type 0} (m : Meaning D) (places : Places P) (parts : WriteParts m) (old : Core D) (t : TxNo)
     (table : Table) (write : Write) (core : IsCore m old) (given : given_to old.works t.0 table.name ≡ Some table)

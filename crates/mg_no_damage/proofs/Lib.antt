@@ -4,6 +4,7 @@ mod BackRowLemmas
 mod BackTableLemmas
 mod BeginLemmas
 mod CallLemmas
+mod CatalogGrowthLemmas
 mod CatalogRowLemmas
 mod ChainLemmas
 mod CoreKeyLemmas

@@ -1,6 +1,5 @@
 -- The newest version of a record that counts, and the row that it shows where all that have not ended count as committed.
 use Rattle.std.proofs.Common.{◌≡◌, ◌∙◌, cond, not, ℕ, Bool, true, false, List, [], ◌∷◌, Option, None, Some, refl, sym, ap, subst}
-use Rattle.std.proofs.lemmas.Bool.{false≢true}
 use Rattle.mg_base.specs.declared.transaction.TxState.{TxState}
 use Rattle.mg_base.specs.declared.transaction.TxState.TheVariants.{Committed}
 use Rattle.mg_chain.specs.Views.{first_entry, is_dead as dead_version}

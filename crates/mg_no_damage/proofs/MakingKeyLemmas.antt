@@ -13,7 +13,7 @@ use Rattle.mg_engine_steps.specs.Known.{IsSilent, KnowsPages, bases_see_all, fac
 use Rattle.mg_engine_steps.specs.KeyAnswers.{has_speaker}
 use Rattle.mg_engine_steps.specs.Standing.{Standing}
 use Rattle.mg_engine_steps.specs.StandingLaws.{IsChainOf}
-use Rattle.mg_generations.specs.Generations.{Generation, sees, shown_by}
+use Rattle.mg_generations.specs.Generations.{sees, shown_by}
 use Rattle.mg_generations.specs.Kept.{IsErasedForAll, StandFor}
 use Rattle.mg_generations.specs.KeptShowLaws.{chain_shows_view, chain_tells_obstacle}
 use Rattle.mg_grown_catalogs.specs.Grown.{CatalogGrows, CommittedRowsStay, OwnRowsAreNew}
@@ -23,7 +23,7 @@ use Rattle.mg_image.specs.Held.{Shows, told_row}
 use Rattle.mg_image.specs.RecordRules.{Facts, IsVersion, table_in}
 use Rattle.mg_image.specs.Records.{Reading, key_of, record_key, writer}
 use Rattle.mg_image.specs.declared.entry.Entry.{Entry}
-use Rattle.mg_image_overlays.specs.Fronts.{is_dead, living}
+use Rattle.mg_image_overlays.specs.Fronts.{is_dead}
 use Rattle.mg_model.specs.Answers.{can_hinder, is_active, is_committed, is_open, obstacle, told}
 use Rattle.mg_model.specs.Catalog.{catalog_name, column_key, table_key}
 use Rattle.mg_model.specs.CatalogRules.{IsCatalogRow}

@@ -1,5 +1,5 @@
 -- What is read for a write is read without damage.
-use Rattle.std.proofs.Common.{◌≡◌, inl, inr, ℕ, Bool, Option, None, Some, sym, subst}
+use Rattle.std.proofs.Common.{inl, inr, ℕ, Bool, Option, None, Some, sym, subst}
 use Rattle.std.specs.Prelude.{Err}
 use Rattle.mg_base.specs.Disk.{Meaning}
 use Rattle.mg_base.specs.Image.{Image}

@@ -12,7 +12,7 @@ use Rattle.mg_image.specs.Form.{Pages, packed_coding}
 use Rattle.mg_image.specs.RecordRules.{AreRecords}
 use Rattle.mg_image.specs.Records.{Reading, cells_of}
 use Rattle.mg_image.specs.Sound.{facts_by}
-use Rattle.mg_image.specs.Tables.{Layout, stands_of, table_at}
+use Rattle.mg_image.specs.Tables.{Layout}
 use Rattle.mg_image.specs.declared.entry.Entry.{Entry}
 use Rattle.mg_model.specs.History.{Entries}
 use Rattle.mg_model.specs.declared.opening.Opening.{Opening}

@@ -1,7 +1,6 @@
 -- A row is written without damage.
-use Rattle.std.proofs.Common.{◌≡◌, ◌⊎◌, ◌∙◌, Option, inl, inr, ℕ, Bool, true, None, Some, Ok, Err, refl, sym, ap, subst}
+use Rattle.std.proofs.Common.{◌≡◌, ◌∙◌, Option, ℕ, Bool, true, Some, Ok, Err, refl, ap, subst}
 use Rattle.mg_base.specs.Disk.{Meaning}
-use Rattle.mg_base.specs.Image.{Image}
 use Rattle.mg_base.specs.declared.numbers.RecId.{RecId}
 use Rattle.mg_base.specs.declared.numbers.TxNo.{TxNo}
 use Rattle.mg_model.specs.History.{Entries}
@@ -10,13 +9,11 @@ use Rattle.mg_model.specs.declared.opening.Opening.{Opening}
 use Rattle.mg_model.specs.declared.refusal.Refusal.{Refusal}
 use Rattle.mg_model.specs.declared.table.Table.{Table}
 use Rattle.mg_overlays.specs.Overlays.{left_state}
-use Rattle.mg_pool.specs.Batch.{Changed}
 use Rattle.mg_pool.specs.Pool.{shown}
 use Rattle.mg_pool.specs.declared.fault.PoolFault.TheVariants as faults
 use Rattle.mg_pool.specs.declared.pool.Pool.{Pool}
 use Rattle.mg_records.specs.Writing.{FitsShape}
 use Rattle.mg_records.specs.declared.write.Write.{Write}
-use Rattle.mg_row_writes.specs.Changing.{FailsOwn, not_changed, not_filled}
 use Rattle.mg_row_writes.specs.Laying.{FailsLay, no_first, no_place, not_cleared, not_pushed}
 use Rattle.mg_row_writes.specs.Storing.{row_stored, written_at}
 use Rattle.mg_row_writes.specs.declared.before.Before.{Before}
@@ -27,12 +24,10 @@ use Rattle.mg_space.specs.ViewLaws.{CountsNow}
 use Rattle.mg_space.specs.declared.fault.SpaceFault.{SpaceFault}
 use Rattle.mg_space.specs.declared.fault.SpaceFault.TheVariants as space
 use Rattle.mg_space.specs.declared.links.FireLinks.{FireLinks}
-use Rattle.mg_value.specs.declared.shape.Shape.{Shape}
 use Rattle.mg_version.specs.declared.cell.Version.{Version}
 use Rattle.mg_works.specs.Works.{given_to}
 use Rattle.mg_core.specs.declared.parts.Core.{Core}
 use Rattle.mg_core.specs.Cores.{Continues, IsCore}
-use Rattle.mg_core.specs.Events.{EndsWait}
 use Rattle.mg_core.specs.Putting.{FailsKept, FailsPut, no_before, no_lay, no_version, not_kept, not_laid, too_long}
 use Rattle.mg_core.specs.Refusing.{CountsFault}
 use Rattle.mg_core.specs.Writing.{FailsWrite, IsFree, Writes, at_record, at_row, at_table, no_key, not_begun, not_put, only_reads}
@@ -40,7 +35,6 @@ use Rattle.mg_no_damage.specs.CoreReads.{BeforesAreRead, KeysAreNamed, RecordsAr
 use Rattle.mg_engine_changes.specs.KeptTables.{NotedTablesAreKept, NotedWorksStay, NotesStay}
 use Rattle.mg_engine_changes.specs.Laid.{HasNoted}
 use Rattle.mg_engine_changes.specs.NotedLaws.{noted_core, noted_given, table_noted}
-use Rattle.mg_engine_changes.specs.Notes.{HasRead}
 use Rattle.mg_engine_changes.specs.RefusalLaws.{free_read}
 use Rattle.mg_engine_changes.specs.Refusals.{IsReady}
 use Rattle.mg_engine_meaning.specs.Meaning.{Places}
@@ -48,7 +42,7 @@ use Rattle.mg_engine_meaning.specs.Standings.{ShowsIt, StandsFor, standing_of}
 use Rattle.mg_engine_meaning.specs.StepLaws.{shows_of}
 use Rattle.mg_engine_steps.specs.Known.{IsShown, seen_is_shown}
 use Rattle.mg_no_damage.specs.Keyed.{IsKeyed, TablesAreKeyed}
-use Rattle.mg_taking_back.specs.Noting.{FailsNoted, noted_fails, noted_memory, noted_not, with_noted}
+use Rattle.mg_taking_back.specs.Noting.{noted_fails, noted_memory, noted_not, with_noted}
 use Rattle.mg_no_damage.specs.Calls.{WritesMeetNone}
 use Rattle.mg_no_damage.specs.CountLaws.{count, ended, refused}
 use Rattle.mg_no_damage.proofs.LayLemmas.{laid, may_store}

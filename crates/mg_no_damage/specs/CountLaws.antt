@@ -1,9 +1,7 @@
 -- The count of damage rises by a refusal that tells damage alone.
-use Rattle.std.proofs.Common.{◌≡◌, inl, inr, ℕ, Bool, true, false, List, Option, None, Some, Ok, Err, refl, sym, ap, ◌∙◌}
+use Rattle.std.proofs.Common.{◌≡◌, inl, inr, ℕ, Bool, true, false, None, Some, Ok, Err, refl, ap, ◌∙◌}
 use Rattle.mg_base.specs.Disk.{Meaning}
-use Rattle.mg_base.specs.declared.damage.Field.{Field}
 use Rattle.mg_base.specs.declared.damage.Field.TheVariants.{Presence}
-use Rattle.mg_base.specs.declared.numbers.PageNo.{PageNo}
 use Rattle.mg_model.specs.declared.refusal.Refusal.{Refusal}
 use Rattle.mg_model.specs.declared.refusal.Refusal.TheVariants as refusals
 use Rattle.mg_pool.specs.declared.fault.PoolFault.TheVariants as faults

@@ -14,7 +14,8 @@ use Rattle.mg_image.specs.Form.{Pages, packed_coding}
 use Rattle.mg_image.specs.ReadingLaws.{RowsAreOne}
 use Rattle.mg_image.specs.Sound.{HasTablePages}
 use Rattle.mg_image.specs.Tables.{Has, Stand}
-use Rattle.mg_no_damage.specs.Inventory.{PagesAreTaken, SoundRegionsAreLawful, TakingKeepsRegions}
+use Rattle.mg_space.specs.FreePages.{TakingKeepsRegions}
+use Rattle.mg_no_damage.specs.Inventory.{PagesAreTaken, SoundRegionsAreLawful}
 use Rattle.mg_no_damage.specs.Standing.{LastsAreThere, SeesStand, StandsAreReached, StandsAreThere, StandsAreWalked}
 use Rattle.mg_pool.specs.Batch.{Changed, content_in}
 use Rattle.mg_pool.specs.Dirty.{DirtyPages}

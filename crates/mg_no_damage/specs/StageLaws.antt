@@ -1,5 +1,5 @@
 -- The stages of a write before the version is laid: what is read there meets no damage.
-use Rattle.std.proofs.Common.{◌≡◌, ◌≢◌, ◌⊎◌, ◌∙◌, false, inl, inr, ℕ, Bool, true, List, Option, None, Some, Ok, Err, refl, sym, ap, subst}
+use Rattle.std.proofs.Common.{◌≡◌, ◌≢◌, ◌⊎◌, ◌∙◌, false, inl, inr, ℕ, Bool, true, List, Option, None, Some, refl, sym, ap, subst}
 use Rattle.mg_base.specs.declared.transaction.TxState.{TxState}
 use Rattle.mg_base.specs.declared.transaction.TxState.TheVariants.{Active, Committed, Dead, Limbo}
 use Rattle.mg_core.specs.Obstacles.{IsPassed}

@@ -60,8 +60,8 @@
 //!
 //! A batch in which the catalog gets no page is lawful: the page that is looked at first for room stands highest, each
 //! later one lower, and all pages of other kinds below. A row's cell wants more room than its slot, so it comes to stand
-//! on the slot's page or on a lower one. After as many tries as there are, the catalog has more empty pages than all rows
-//! of a table before its last one take; then it gets none, and the batch is lawful.
+//! on the slot's page or on a lower one. After two tries for each row, but for one, the catalog has more empty pages than
+//! all rows of a table before its last one take (`HasEmpty`); then it gets none, and the batch is lawful.
 //!
 //! # The engine's calls
 //!
@@ -95,26 +95,38 @@
 //! An engine that stands for a history, and whose disk tells what it holds, meets no damage as a table is made.
 //!
 //! Owns: that the count of damage stands from the engine before the call to the one after it, by what mg_table_making
-//! promises of it (`CreationsMeetNone`).
+//! promises of it (`CreationsMeetNone`); and that the catalog gets few data pages for the table (`CreationsGrowFew`).
 //!
 //! - Nobody speaks for a key of the new table where the core finds that one does and tells damage. Rows of the catalog are
 //!   only made: so the newest version of a key for which somebody speaks gives a row. That of the table's own key is seen,
 //!   or its maker is in the way; and a column's row has its table's row beside it, whoever counts as committed.
 //! - What is read is read over a sound image, and the batch is filled over one in which the maker counts as dead.
 //!
+//! # Free pages
+//!
+//! An engine that stands for a history, and whose disk tells what a crash may leave, is refused by DATABASE FULL only
+//! where fewer pages were free than a stated number, and takes no more of them (`RoomStands`): a transaction begins
+//! (`BeginsTakeFew`: 2), a row is written (`WritesTakeFew`: 5), a table with c columns is made (`CreationsTakeFew`:
+//! 4 + 5 * (c + 1)), a transaction is taken back (`MarksTakeFew`, `SavepointsTakeFew`, and over tables that it has made
+//! `MarksOverTakeFew`, `SavepointsOverTakeFew`: 5 for each record that is taken back). Each other call takes none
+//! (`LooksTakeNone`, ..).
+//!
 //! There is no program here: each function does nothing, and its contract is a law.
 //!
 //! Invariant: none, it keeps no state.
 //! Below: `mg_core` and the layers under it, whose clauses name each cause of damage; `mg_engine_changes`, of what an engine stands for.
-//! Above: `mg_engine`, whose calls have it as their clause `undamaged`.
+//! `mg_free_pages`, of what each batch takes.
+//! Above: `mg_engine`, whose calls have it as their clauses `undamaged` and `room`.
 //! Not here: faults of the disk (`mg_engine_changes`, module `faults`).
 #![tactic(auto)]
 
 mod backs;
 mod cores;
 mod engines;
+mod growths;
 mod makings;
 mod reads;
+mod room;
 mod tables;
 mod views;
 mod walks;
@@ -127,10 +139,15 @@ pub use cores::{reads_meet_no_damage, writes_have_keys};
 pub use engines::{
     begins_meet_no_damage, commits_meet_no_damage, events_meet_no_damage, writes_meet_no_damage,
 };
+pub use growths::creations_grow_few;
 pub use makings::creations_meet_no_damage;
 pub use reads::{
     keys_are_read, lawful_records_are_read, lawful_tables_are_read, pages_are_taken,
     pages_are_there, rows_are_keyed, sound_images_are_lawful, stands_are_read, walks_ascend,
+};
+pub use room::{
+    backs_over_take_few, backs_take_few, begins_take_few, commits_take_none, counts_are_known,
+    creations_take_few, events_take_none, readings_take_none, room_is_known, writes_take_few,
 };
 pub use tables::tables_are_made;
 pub use views::tables_meet_no_damage;

@@ -1,6 +1,7 @@
 //! The laws.
 
-ghost use Rattle.mg_no_damage.specs.Inventory.{PagesAreTaken, SoundRegionsAreLawful, TakingKeepsRegions};
+ghost use Rattle.mg_space.specs.FreePages.{TakingKeepsRegions};
+ghost use Rattle.mg_no_damage.specs.Inventory.{PagesAreTaken, SoundRegionsAreLawful};
 ghost use Rattle.mg_no_damage.specs.Keyed.{RowsAreKeyed, TablesAreKeyed};
 ghost use Rattle.mg_no_damage.specs.Keys.{KeysAreRead, ObstaclesAreRead, SpeakersAreRead, WaysAreRead};
 ghost use Rattle.mg_no_damage.specs.Order.{WalksAscend};

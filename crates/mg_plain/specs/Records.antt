@@ -71,6 +71,7 @@ means = record {
   faults = λ p. 0;
   damage = λ p. 0;
   shortages = λ p. 0;
+  has_free = λ p count. Unit {0};
   most_writes = λ p. None;
   down = λ p. None;
   is_size = λ p size. is_page_size size;

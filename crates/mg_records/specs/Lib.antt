@@ -7,3 +7,4 @@ pub mod Writing
 pub mod TakingBack
 pub mod Sessions
 pub mod Committing
+pub mod Room

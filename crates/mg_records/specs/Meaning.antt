@@ -40,6 +40,8 @@ pub record Means (R P : Type 0) : Type 1 where
   pub faults : R → ℕ
   pub damage : R → ℕ
   pub shortages : R → ℕ
+  -- so many pages are free at least
+  pub has_free : R → ℕ → Type 0
   -- how many page writes pass in all, where there is such a limit
   pub most_writes : R → Option ℕ
   -- the count with which a page write failed, once one has

@@ -1,6 +1,6 @@
 //! The keeper of records.
 
-ghost use Rattle.std.specs.Prelude.{◌≡◌, ◌≢◌, ◌<◌, ◌≤◌, ℕ, Option, Some, None, IfOk, OnOk};
+ghost use Rattle.std.specs.Prelude.{◌≡◌, ◌≢◌, ◌<◌, ◌≤◌, ℕ, Option, Some, None, IfOk, OnOk, length};
 ghost use Rattle.std.specs.Option.{option_copied};
 ghost use Rattle.mg_model.specs.declared.event.Event.{Event};
 ghost use Rattle.mg_model.specs.Changes.{KeyedRows};
@@ -14,6 +14,8 @@ ghost use Rattle.mg_records.specs.Reading.{TellsTable, IsTableGiven, TablesAreSe
 ghost use Rattle.mg_records.specs.Writing.{FitsShape, FitsPages, IsNewShape, MakesTable, event_of};
 ghost use Rattle.mg_records.specs.TakingBack.{GoesBack, Undoes};
 ghost use Rattle.mg_records.specs.Committing.{PagesAreFew, WritesOne};
+ghost use Rattle.mg_records.specs.Room.{TakesFew, TakesFewBack, pages_of_begin, pages_of_row, pages_of_table};
+ghost use Rattle.mg_model.specs.declared.change.Point.TheVariants.{LastMark, SavepointNamed};
 
 use crate::{Found, Write};
 use mg_base::{Memory, TxNo};
@@ -47,6 +49,7 @@ pub trait Records {
         ensures leaves { Leaves meaning self.old self.new (refusal_in result) (drawn_in result) (drawn_in result) }
         ensures told { FaultsAreTold meaning self.old self.new (refusal_in result) }
         ensures undamaged { MeetsNoDamage meaning self.old self.new }
+        ensures room { TakesFew meaning self.old self.new (refusal_in result) pages_of_begin }
         ensures crash { LeavesQuietly meaning self.old self.new }
         ensures sessions { SessionsStay meaning self.old self.new (begun_in session result) None }
         ensures works { IfOk result (λ t. meaning.works self.new t.0 session) };
@@ -57,6 +60,7 @@ pub trait Records {
         ensures leaves { Leaves meaning self.old self.new (refusal_in result) (Some t.0) (Some t.0) }
         ensures told { FaultsAreTold meaning self.old self.new (refusal_in result) }
         ensures undamaged { MeetsNoDamage meaning self.old self.new }
+        ensures room { TakesFew meaning self.old self.new (refusal_in result) 0 }
         ensures crash { LeavesQuietly meaning self.old self.new }
         ensures sessions { SessionsStay meaning self.old self.new None None };
 
@@ -72,6 +76,7 @@ pub trait Records {
         ensures reads { Reads meaning self.old self.new (refusal_in result) None }
         ensures told { FaultsAreTold meaning self.old self.new (refusal_in result) }
         ensures undamaged { MeetsNoDamage meaning self.old self.new }
+        ensures room { TakesFew meaning self.old self.new (refusal_in result) 0 }
         ensures crash { LeavesQuietly meaning self.old self.new }
         ensures sessions { SessionsStay meaning self.old self.new None None };
 
@@ -95,6 +100,7 @@ pub trait Records {
         ensures undamaged { (rows : KeyedRows)
             → meaning.to_come self.old t.0 table.now (option_copied after.entry) rows
             → MeetsNoDamage meaning self.old self.new }
+        ensures room { TakesFew meaning self.old self.new (refusal_in result) 0 }
         ensures crash { LeavesQuietly meaning self.old self.new }
         ensures sessions { SessionsStay meaning self.old self.new None None };
 
@@ -110,6 +116,7 @@ pub trait Records {
         ensures leaves { Leaves meaning self.old self.new (refusal_in result) None None }
         ensures told { FaultsAreTold meaning self.old self.new (refusal_in result) }
         ensures undamaged { MeetsNoDamage meaning self.old self.new }
+        ensures room { TakesFew meaning self.old self.new (refusal_in result) 0 }
         ensures crash { LeavesQuietly meaning self.old self.new }
         ensures sessions { SessionsStay meaning self.old self.new None None };
 
@@ -122,6 +129,7 @@ pub trait Records {
         ensures leaves { Leaves meaning self.old self.new (refusal_in result) None (Some t.0) }
         ensures told { FaultsAreTold meaning self.old self.new (refusal_in result) }
         ensures undamaged { MeetsNoDamage meaning self.old self.new }
+        ensures room { TakesFew meaning self.old self.new (refusal_in result) pages_of_row }
         ensures crash { LeavesQuietly meaning self.old self.new }
         ensures sessions { SessionsStay meaning self.old self.new None None };
 
@@ -135,6 +143,7 @@ pub trait Records {
         ensures leaves { Leaves meaning self.old self.new (refusal_in result) (Some t.0) (Some t.0) }
         ensures told { FaultsAreTold meaning self.old self.new (refusal_in result) }
         ensures undamaged { MeetsNoDamage meaning self.old self.new }
+        ensures room { TakesFew meaning self.old self.new (refusal_in result) (pages_of_table (length shape.now.columns)) }
         ensures crash { LeavesQuietly meaning self.old self.new }
         ensures sessions { SessionsStay meaning self.old self.new None None };
 
@@ -144,6 +153,7 @@ pub trait Records {
         ensures leaves { Leaves meaning self.old self.new (refusal_in result) None None }
         ensures told { FaultsAreTold meaning self.old self.new (refusal_in result) }
         ensures undamaged { MeetsNoDamage meaning self.old self.new }
+        ensures room { TakesFew meaning self.old self.new (refusal_in result) 0 }
         ensures crash { LeavesQuietly meaning self.old self.new }
         ensures sessions { SessionsStay meaning self.old self.new None None };
 
@@ -158,6 +168,7 @@ pub trait Records {
         ensures leaves { Leaves meaning self.old self.new (refusal_in result) (Some t.0) (Some t.0) }
         ensures told { FaultsAreTold meaning self.old self.new (refusal_in result) }
         ensures undamaged { MeetsNoDamage meaning self.old self.new }
+        ensures room { TakesFewBack meaning self.old self.new (refusal_in result) t.0 LastMark }
         ensures crash { LeavesQuietly meaning self.old self.new }
         ensures sessions { SessionsStay meaning self.old self.new None (given_up_in t.0 result) };
 
@@ -167,6 +178,7 @@ pub trait Records {
         ensures leaves { Leaves meaning self.old self.new (refusal_in result) None None }
         ensures told { FaultsAreTold meaning self.old self.new (refusal_in result) }
         ensures undamaged { MeetsNoDamage meaning self.old self.new }
+        ensures room { TakesFew meaning self.old self.new (refusal_in result) 0 }
         ensures crash { LeavesQuietly meaning self.old self.new }
         ensures sessions { SessionsStay meaning self.old self.new None None };
 
@@ -181,6 +193,8 @@ pub trait Records {
         ensures leaves { Leaves meaning self.old self.new (refusal_in result) (Some t.0) (Some t.0) }
         ensures told { FaultsAreTold meaning self.old self.new (refusal_in result) }
         ensures undamaged { MeetsNoDamage meaning self.old self.new }
+        ensures room { TakesFewBack meaning self.old self.new (refusal_in result) t.0
+            (SavepointNamed name.now) }
         ensures crash { LeavesQuietly meaning self.old self.new }
         ensures sessions { SessionsStay meaning self.old self.new None (given_up_in t.0 result) };
 
@@ -191,6 +205,7 @@ pub trait Records {
         ensures reads { Reads meaning self.old self.new (refusal_in result) (Some t.0) }
         ensures told { FaultsAreTold meaning self.old self.new (refusal_in result) }
         ensures undamaged { MeetsNoDamage meaning self.old self.new }
+        ensures room { TakesFew meaning self.old self.new (refusal_in result) 0 }
         ensures crash { LeavesQuietly meaning self.old self.new }
         ensures sessions { SessionsStay meaning self.old self.new None None };
 
@@ -204,6 +219,7 @@ pub trait Records {
         ensures reads { Reads meaning self.old self.new (refusal_in result) None }
         ensures told { FaultsAreTold meaning self.old self.new (refusal_in result) }
         ensures undamaged { MeetsNoDamage meaning self.old self.new }
+        ensures room { TakesFew meaning self.old self.new (refusal_in result) 0 }
         ensures crash { LeavesQuietly meaning self.old self.new }
         ensures sessions { SessionsStay meaning self.old self.new None None };
 
@@ -214,6 +230,7 @@ pub trait Records {
         ensures leaves { Leaves meaning self.old self.new (refusal_in result) (Some t.0) (Some t.0) }
         ensures told { FaultsAreTold meaning self.old self.new (refusal_in result) }
         ensures undamaged { MeetsNoDamage meaning self.old self.new }
+        ensures room { TakesFew meaning self.old self.new (refusal_in result) 0 }
         ensures crash { LeavesWith meaning self.old self.new (Event.Commit t) (fine_or result) }
         ensures sessions { SessionsStay meaning self.old self.new None (ended_in t.0 result) };
 
@@ -223,6 +240,7 @@ pub trait Records {
         ensures leaves { Leaves meaning self.old self.new (refusal_in result) (Some t.0) (Some t.0) }
         ensures told { FaultsAreTold meaning self.old self.new (refusal_in result) }
         ensures undamaged { MeetsNoDamage meaning self.old self.new }
+        ensures room { TakesFew meaning self.old self.new (refusal_in result) 0 }
         ensures crash { LeavesQuietly meaning self.old self.new }
         ensures sessions { SessionsStay meaning self.old self.new None (ended_in t.0 result) };
 

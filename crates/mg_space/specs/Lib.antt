@@ -1,4 +1,6 @@
 pub mod Demands
+pub mod FreePages
+pub mod HandedLaws
 pub mod Taking
 pub mod TakingLaws
 pub mod View

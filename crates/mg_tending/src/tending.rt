@@ -5,6 +5,7 @@ ghost use Rattle.mg_model.specs.declared.answer.Answer.TheVariants.{No};
 ghost use Rattle.mg_model.specs.Legal.{is_outer};
 ghost use Rattle.mg_records.specs.Crashing.{LeavesQuietly};
 ghost use Rattle.mg_records.specs.Keeping.{FaultsAreTold, MeetsNoDamage, Reads, refusal_in};
+ghost use Rattle.mg_records.specs.Room.{TakesFew};
 ghost use Rattle.mg_records.specs.Sessions.{SessionsStay};
 ghost use Rattle.mg_tending.specs.Tending.{WritesAPage};
 
@@ -20,6 +21,7 @@ pub trait PageWrites: Records {
         ensures reads { Reads Self.meaning self.old self.new (refusal_in result) None }
         ensures told { FaultsAreTold Self.meaning self.old self.new (refusal_in result) }
         ensures undamaged { MeetsNoDamage Self.meaning self.old self.new }
+        ensures room { TakesFew Self.meaning self.old self.new (refusal_in result) 0 }
         ensures crash { LeavesQuietly Self.meaning self.old self.new }
         ensures sessions { SessionsStay Self.meaning self.old self.new None None };
 }

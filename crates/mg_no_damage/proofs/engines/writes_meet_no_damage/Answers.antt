@@ -1,6 +1,5 @@
 use Rattle.mg_engine_meaning.specs.Meaning.{Places}
-use Rattle.mg_no_damage.proofs.WriteLemmas.{ReadParts, writes}
-use Rattle.mg_no_damage.proofs.WriteParts.{WriteParts}
+use Rattle.mg_no_damage.proofs.WriteLemmas.{writes}
 use Rattle.mg_no_damage.proofs.engines.writes_meet_no_damage.Goals as goal
 
 -- places that nobody walks to

@@ -1,0 +1,16 @@
+pub mod BatchLawsHold
+pub mod BatchStages
+pub mod CellLaws
+pub mod CellRefusals
+pub mod DrawSpending
+pub mod FreeLaws
+pub mod FreePages
+pub mod GrowthLaws
+pub mod KindLaws
+pub mod PutsExact
+pub mod RowSpending
+pub mod RowsOutSpending
+pub mod Spending
+pub mod SpendingLaws
+pub mod TableRefusals
+pub mod TableSpending

@@ -1,0 +1,8 @@
+use Rattle.mg_no_damage.specs.BackOverRoom.{marks_over_take_few, savepoints_over_take_few}
+use Rattle.mg_no_damage.proofs.room.backs_over_take_few.Goals as goal
+
+pub returns : goal.returns
+returns g c = record {
+  marks = marks_over_take_few g.D.Disk.meaning c.room_is_known.ensures c.counts_are_known.ensures;
+  savepoints = savepoints_over_take_few g.D.Disk.meaning c.room_is_known.ensures c.counts_are_known.ensures;
+}

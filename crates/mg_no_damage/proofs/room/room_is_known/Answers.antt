@@ -1,0 +1,9 @@
+use Rattle.mg_free_pages.specs.BatchLawsHold.{batch_laws}
+use Rattle.mg_no_damage.proofs.room.room_is_known.Goals as goal
+
+pub returns : goal.returns
+returns g c = record {
+  holds = g.met.D.Disk.holds;
+  batches = batch_laws g.D.Disk.meaning c.pages_are_taken.ensures.kept;
+  counts_now = g.met.D.Disk.counts_now;
+}

@@ -1,0 +1,231 @@
+-- A transaction that is taken back over tables that it has made takes two pages at most for each change of another
+-- table, and none for the rows of the catalog.
+use Rattle.std.proofs.Common.{◌≡◌, ◌∙◌, ◌≤◌, ◌+◌, ◌*◌, ◌==◌, ℕ, Bool, true, false, List, [], ◌∷◌, length, Option, Some, None, Ok, Err, sym, ap, subst, arith}
+use Rattle.std.specs.Prelude.{if◌then◌else◌}
+use Rattle.mg_base.specs.Disk.{Meaning}
+use Rattle.mg_base.specs.declared.geometry.Geometry.{Geometry}
+use Rattle.mg_base.specs.declared.numbers.TxNo.{TxNo}
+use Rattle.mg_core.specs.Cores.{IsCore}
+use Rattle.mg_core.specs.declared.parts.Core.{Core}
+use Rattle.mg_space.specs.FreePages.{HasFree, HasRegions}
+use Rattle.mg_engine_meaning.specs.Standings.{StandsFor}
+use Rattle.mg_model.specs.History.{Entries}
+use Rattle.mg_model.specs.Machine.{steps}
+use Rattle.mg_model.specs.declared.change.Point.{Point}
+use Rattle.mg_model.specs.declared.change.Point.TheVariants.{LastMark, SavepointNamed}
+use Rattle.mg_model.specs.declared.opening.Opening.{Opening}
+use Rattle.mg_model.specs.declared.refusal.Refusal.{Refusal}
+use Rattle.mg_model.specs.declared.refusal.Refusal.TheVariants as refusals
+use Rattle.mg_pool.specs.Pool.{shown}
+use Rattle.mg_pool.specs.declared.pool.Pool.{Pool}
+use Rattle.mg_records.specs.Room.{pages_of_row, records_back}
+use Rattle.mg_space.specs.Taking.{IsGeometry}
+use Rattle.mg_space.specs.declared.links.FireLinks.{FireLinks}
+use Rattle.mg_table_takings.specs.Keys.{others_of}
+use Rattle.mg_table_takings.specs.Takings.{FailsTablesTo, FailsTheRows, StopsBoth, StopsOthers, TakesBoth, TakesOthers, TakesTablesTo, rows_unknown, stops_at_other, stops_at_rows, tables_not_begun, tables_not_copied, tables_not_taken, tables_stopped}
+use Rattle.mg_taking_back.specs.Taking.{Gives, HasBegun, MayReach, not_asking}
+use Rattle.mg_txlist.specs.TxList.{said}
+use Rattle.mg_undo.specs.Machine.{going_to}
+use Rattle.mg_undo.specs.Undo.{State as Undo, TakesBack as GivesAll, take_back}
+use Rattle.mg_undo.specs.declared.changes.Change.{Change}
+use Rattle.mg_value.specs.declared.value.Value.{Value}
+use Rattle.mg_no_damage.specs.BackRoom.{all_over, as_rows, begins_other, given_up_store, none_taken, takes_over}
+use Rattle.mg_no_damage.specs.BackSpending.{changes_spend, stopping_takes}
+use Rattle.mg_no_damage.specs.CoreSpending.{IsNoWant, TakesPages}
+use Rattle.mg_no_damage.specs.CoreSpendingLaws.{told_full}
+use Rattle.mg_free_pages.specs.FreeLaws.{fewer}
+use Rattle.mg_no_damage.specs.GivenCounts.{KnowsGiven, given_few, next_few}
+use Rattle.mg_no_damage.specs.FewPages.{CoreTakes}
+use Rattle.mg_no_damage.specs.FewPagesCalls.{MarksOverTakeFew, SavepointsOverTakeFew}
+use Rattle.mg_no_damage.specs.FewPagesLaws.{KnowsRoom}
+use Rattle.mg_free_pages.specs.RowsOutSpending.{failed_rows_out, rows_out_spend}
+use Rattle.mg_free_pages.specs.Spending.{SpendsAtMost}
+use Rattle.mg_free_pages.specs.SpendingLaws.{both_spend, more_spent}
+
+-- ---- what is given
+
+-- At most so many changes are given from a list on, also with the one that is given next.
+pub record GivesFew (start : Undo) (most : ℕ) : Type 0 where
+  pub all : (given : List Change) (end : Undo) → GivesAll start given end → length given ≤ most
+  pub next : (given : List Change) (left : Undo) (change : Change) → Gives start given left
+      → (take_back left).given ≡ Some change → length given + 1 ≤ most
+
+-- those of other tables than one are no more
+others_fewer : (page : ℕ) (given : List Change) → length (others_of page given) ≤ length given
+others_fewer page [] = omega arith
+others_fewer page (c ∷ given) = at (c.table == page) (others_fewer page given)
+  where
+    at : (b : Bool) → length (others_of page given) ≤ length given
+        → length (if b then others_of page given else c ∷ others_of page given) ≤ length (c ∷ given)
+    at true less = omega (arith, less)
+    at false less = omega (arith, less)
+
+-- twice so many are no more than five times so many
+less_than_rows : (most : ℕ) → 2 * most ≤ 5 * most
+less_than_rows most = omega arith
+
+-- want of memory is no want of pages
+memory_no_want : (refusal : Refusal) → refusal ≡ refusals.Memory → IsNoWant refusal
+memory_no_want refusal is limit full = let both : refusals.Memory ≡ refusals.DatabaseFull limit = sym is ∙ full in
+    absurd cc
+
+module _ {D : Type 0} (m : Meaning D) (knows : KnowsRoom m) where
+  -- ---- calls one after another
+
+  -- at most so many are at most more
+  more_pages : (a b : Core D) (refusal : Option Refusal) (few many : ℕ) → few ≤ many → TakesPages m a b refusal few
+      → TakesPages m a b refusal many
+  more_pages a b refusal few many less it = record {
+    spends = more_spent m a.store b.store few many less it.spends;
+    enough = λ i shows. it.enough i (record {
+      tells = shows.tells;
+      regions = shows.regions;
+      free = fewer a.store.geometry (shown a.store.dirty i) many few less shows.free;
+    });
+  }
+
+  -- what is taken after so many pages were
+  after_spent : (a b c : Core D) (refusal : Option Refusal) (first second : ℕ) → IsGeometry a.store.geometry
+      → SpendsAtMost m a.store b.store first → TakesPages m b c refusal second
+      → TakesPages m a c refusal (first + second)
+  after_spent a b c refusal first second lawful spent it = record {
+    spends = both_spend m knows.holds a.store b.store c.store first second spent it.spends;
+    enough = λ i shows. let now = knows.holds b.store.disk (spent.tells shows.tells.told) in
+        let took = spent.takes lawful i now.0 shows.tells now.1 in
+        it.enough now.0 (record {
+          tells = record { told = spent.tells shows.tells.told; held = now.1 };
+          regions = subst (λ (g : Geometry). HasRegions g (shown b.store.dirty now.0)) (sym spent.geometry)
+              (took.regions shows.regions);
+          free = subst (λ (g : Geometry). HasFree g (shown b.store.dirty now.0) second) (sym spent.geometry)
+              (took.left shows.regions second (fewer a.store.geometry (shown a.store.dirty i) (first + second)
+              (second + first) (omega arith) shows.free));
+        });
+  }
+
+  -- ---- all is taken back
+
+  -- first the changes of other tables
+  others_spend : (begun mid : Core D) (t : ℕ) (start end : Undo) (most : ℕ) → GivesFew start most
+      → TakesOthers m begun mid t start end → SpendsAtMost m begun.store mid.store (2 * most)
+  others_spend begun mid t start end most gives it =
+      let few = others_fewer begun.catalog.pointer.0 it.given in
+      let all = gives.all it.given end it.steps in
+      more_spent m begun.store mid.store (2 * length (others_of begun.catalog.pointer.0 it.given)) (2 * most)
+      (omega (arith, few, all))
+      (changes_spend m knows.holds knows.batches t begun mid (others_of begun.catalog.pointer.0 it.given) it.takes)
+
+  -- and then the rows of the catalog, by which no page is taken
+  all_spend : (begun taken : Core D) (t : ℕ) (start end : Undo) (keys : List Value) (most : ℕ) → GivesFew start most
+      → TakesBoth m begun taken t start end keys → SpendsAtMost m begun.store taken.store (2 * most)
+  all_spend begun taken t start end keys most gives it =
+      more_spent m begun.store taken.store (2 * most + 0) (2 * most) (omega arith)
+      (both_spend m knows.holds begun.store it.mid.store taken.store (2 * most) 0
+      (others_spend begun it.mid t start end most gives it.others)
+      (rows_out_spend m knows.holds knows.batches (said it.mid.list) it.mid.live t it.mid.catalog it.mid.store
+      taken.store keys it.rows.takes))
+
+  -- ---- it stops
+
+  -- at a change of another table
+  other_stops : (begun stopped : Core D) (t : ℕ) (start : Undo) (refusal : Refusal) (most : ℕ) → GivesFew start most
+      → IsGeometry begun.store.geometry → StopsOthers m begun stopped t start refusal
+      → TakesPages m begun stopped (Some refusal) (2 * most)
+  other_stops begun stopped t start refusal most gives lawful stops =
+      let few = others_fewer begun.catalog.pointer.0 stops.given in
+      let all = gives.next stops.given stops.left stops.change stops.steps stops.next in
+      more_pages begun stopped (Some refusal) (2 * (length (others_of begun.catalog.pointer.0 stops.given) + 1))
+      (2 * most) (omega (arith, few, all))
+      (stopping_takes m knows.holds knows.batches t begun stops.at stopped
+      (others_of begun.catalog.pointer.0 stops.given) stops.change refusal lawful stops.takes stops.fails)
+
+  -- at the rows
+  rows_stop : (mid stopped : Core D) (t : ℕ) (keys : List Value) (refusal : Refusal) → IsGeometry mid.store.geometry
+      → FailsTheRows m mid stopped t keys refusal → TakesPages m mid stopped (Some refusal) 0
+  rows_stop mid stopped t keys refusal lawful fails =
+      let it = failed_rows_out m knows.holds knows.batches (said mid.list) mid.live t mid.catalog mid.store
+      stopped.store keys fails.fault fails.fails in record {
+        spends = it.0;
+        enough = λ i shows limit full. let is = told_full fails.fault refusal limit fails.is (cc full) in
+            it.1 lawful i shows.tells shows.regions shows.free is.0 is.1;
+      }
+
+  both_stop : (begun stopped : Core D) (t : ℕ) (start : Undo) (keys : List Value) (refusal : Refusal) (most : ℕ)
+      → GivesFew start most → IsGeometry begun.store.geometry → StopsBoth m begun stopped t start keys refusal
+      → TakesPages m begun stopped (Some refusal) (2 * most)
+  both_stop begun stopped t start keys refusal most gives lawful (stops_at_other stops) =
+      other_stops begun stopped t start refusal most gives lawful stops
+  both_stop begun stopped t start keys refusal most gives lawful (stops_at_rows mid end taken fails) =
+      let spent = others_spend begun mid t start end most gives taken in
+      more_pages begun stopped (Some refusal) (2 * most + 0) (2 * most) (omega arith)
+      (after_spent begun mid stopped (Some refusal) (2 * most) 0 lawful spent
+      (rows_stop mid stopped t keys refusal (subst IsGeometry (sym spent.geometry) lawful) fails))
+
+-- ---- to a point
+
+module _ {D : Type 0} (m : Meaning D) (knows : KnowsRoom m) (known : KnowsGiven) (old new : Core D) (t : TxNo)
+    (core : IsCore m old) (o : Opening) (h : Entries) (stands : StandsFor m old o h) (point : Point) where
+  -- no more are given than the records that are taken back
+  few_given : (begun : Core D) (undo : Undo) → HasBegun old begun t.0 undo → MayReach undo point
+      → GivesFew (going_to undo point) (records_back t.0 point (steps o h))
+  few_given begun undo has_begun reaches = record {
+    all = given_few m known old t point undo has_begun.continues has_begun.its reaches o h stands;
+    next = next_few m known old t point undo has_begun.continues has_begun.its reaches o h stands;
+  }
+
+  -- two for each of these are fewer than a row takes for each
+  by_twos : (refusal : Option Refusal) → TakesPages m old new refusal (2 * records_back t.0 point (steps o h))
+      → CoreTakes m old new refusal (pages_of_row * records_back t.0 point (steps o h))
+  by_twos refusal it = as_rows m knows known old new t core o h stands point refusal
+      (2 * records_back t.0 point (steps o h)) (less_than_rows (records_back t.0 point (steps o h))) it
+
+  -- all is taken back that is given, the rows of the catalog last
+  over_takes : TakesTablesTo m old new t.0 point
+      → CoreTakes m old new None (pages_of_row * records_back t.0 point (steps o h))
+  over_takes back = by_twos None (all_over m old new (not_asking t.0 back.begun) back.takes.taken
+      (ap (λ (c : Core D). c.store) back.has_begun.ended.same) (ap (λ (c : Core D). c.store) back.takes.same)
+      (2 * records_back t.0 point (steps o h))
+      (all_spend m knows (not_asking t.0 back.begun) back.takes.taken t.0 (going_to back.undo point) back.takes.end
+      back.takes.keys (records_back t.0 point (steps o h))
+      (few_given back.begun back.undo back.has_begun back.reaches) back.takes.takes))
+
+  -- it is not: nothing was changed; or some changes were taken back, and the next one not, or the rows not
+  over_fails : (refusal : Refusal) → FailsTablesTo m old new t.0 point refusal
+      → CoreTakes m old new (Some refusal) (pages_of_row * records_back t.0 point (steps o h))
+  over_fails refusal (tables_not_begun refused) = none_taken m knows known old new t core o h stands point
+      (Some refusal) (ap (λ (c : Core D). c.store) refused.wait.same)
+      (begins_other old.store.offline (said old.list t.0) refusal refused.refuses)
+  over_fails refusal (tables_not_copied begun continues ended is gives) =
+      none_taken m knows known old new t core o h stands point (Some refusal)
+      (given_up_store begun new t.0 refusal gives ∙ ap (λ (c : Core D). c.store) ended.same)
+      (memory_no_want refusal is)
+  over_fails refusal (tables_not_taken begun undo has_begun reaches (rows_unknown is gives)) =
+      none_taken m knows known old new t core o h stands point (Some refusal)
+      (given_up_store begun new t.0 refusal gives ∙ ap (λ (c : Core D). c.store) has_begun.ended.same)
+      (memory_no_want refusal is)
+  over_fails refusal (tables_not_taken begun undo has_begun reaches (tables_stopped keys stopped rows stops gives)) =
+      by_twos (Some refusal) (takes_over m old new (not_asking t.0 begun) stopped
+      (ap (λ (c : Core D). c.store) has_begun.ended.same) (given_up_store stopped new t.0 refusal gives) (Some refusal)
+      (2 * records_back t.0 point (steps o h))
+      (both_stop m knows (not_asking t.0 begun) stopped t.0 (going_to undo point) keys refusal
+      (records_back t.0 point (steps o h)) (few_given begun undo has_begun reaches)
+      (subst (λ (pool : Pool D FireLinks). IsGeometry pool.geometry)
+      (sym (ap (λ (c : Core D). c.store) has_begun.ended.same)) core.geometry) stops))
+
+-- ---- each outcome
+
+-- to the last mark
+pub marks_over_take_few : {D : Type 0} (m : Meaning D) → KnowsRoom m → KnowsGiven → MarksOverTakeFew D m
+marks_over_take_few m knows known old new t (Ok x) core back o h stands told =
+    over_takes m knows known old new t core o h stands LastMark back
+marks_over_take_few m knows known old new t (Err refusal) core fails o h stands told =
+    over_fails m knows known old new t core o h stands LastMark refusal fails
+
+-- to the last savepoint of a name
+pub savepoints_over_take_few : {D : Type 0} (m : Meaning D) → KnowsRoom m → KnowsGiven → SavepointsOverTakeFew D m
+savepoints_over_take_few m knows known old new t name (Ok true) core goes o h stands told =
+    over_takes m knows known old new t core o h stands (SavepointNamed name) goes.1
+savepoints_over_take_few {D} m knows known old new t name (Ok false) core goes o h stands told =
+    none_taken m knows known old new t core o h stands (SavepointNamed name) None
+    (ap (λ (c : Core D). c.store) goes.2) tt
+savepoints_over_take_few m knows known old new t name (Err refusal) core fails o h stands told =
+    over_fails m knows known old new t core o h stands (SavepointNamed name) refusal fails
