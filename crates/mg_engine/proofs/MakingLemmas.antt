@@ -1,5 +1,5 @@
 -- A table is made: what the laws say of it.
-use Rattle.std.proofs.Common.{◌≡◌, ◌≢◌, ◌≤◌, ◌<◌, ◌^◌, ◌-◌, ℕ, List, Some, Result, Ok, Err, ap, subst, sym, arith}
+use Rattle.std.proofs.Common.{◌≡◌, ◌≢◌, ◌≤◌, ◌<◌, ◌^◌, ◌-◌, ℕ, List, length, Some, Result, Ok, Err, ap, subst, sym, arith}
 use Rattle.std.specs.Prelude.{MatchResult}
 use Rattle.mg_base.specs.Disk.{Meaning}
 use Rattle.mg_base.specs.declared.numbers.TxNo.{TxNo}
@@ -7,6 +7,7 @@ use Rattle.mg_core.specs.declared.parts.Core.{Core}
 use Rattle.mg_model.specs.Catalog.{catalog_name}
 use Rattle.mg_model.specs.declared.refusal.Refusal.{Refusal}
 use Rattle.mg_records.specs.Keeping.{MeetsNoDamage, refusal_in}
+use Rattle.mg_records.specs.Room.{TakesFew, pages_of_table}
 use Rattle.mg_records.specs.Writing.{FitsPages, IsNewShape}
 use Rattle.mg_table_making.specs.Creating.{CreatesTable, FailsCreation}
 use Rattle.mg_value.specs.Names.{IsName}
@@ -16,8 +17,9 @@ use Rattle.mg_engine.specs.Engines.{IsEngine}
 use Rattle.mg_engine_changes.specs.MakingSteps.{AreNamed, CreationsKeepApart, GivesTable, MayHave, RefusalsKeepApart, TablesAreMade, TablesAreRefused}
 use Rattle.mg_engine_meaning.specs.Meaning.{Places, means}
 use Rattle.mg_engine_changes.specs.Notes.{AreCounts}
+use Rattle.mg_no_damage.specs.FewPagesCalls.{CreationsTakeFew}
 use Rattle.mg_no_damage.specs.Creations.{CreationsMeetNone}
-use Rattle.mg_engine.proofs.ToldLemmas.{undamaged_as}
+use Rattle.mg_engine.proofs.ToldLemmas.{room_as, undamaged_as}
 
 module _ {D P : Type 0} (m : Meaning D) (places : Places P) (inside old new : Core D) (same : inside ≡ old)
     (is : IsEngine m inside) (damage : inside.damage < 2 ^ 64) (shortages : inside.shortages < 2 ^ 64) (t : TxNo)
@@ -56,3 +58,9 @@ module _ {D P : Type 0} (m : Meaning D) (places : Places P) (inside old new : Co
       → MeetsNoDamage (means m places) old new
   makes_undamaged law result creates = undamaged_as m places inside old new same
       (law places inside new t name shape result is.lawful may creates)
+
+  pub makes_room : CreationsTakeFew D P m → (result : Result (Unit {0}) Refusal)
+      → MatchResult result (λ _. CreatesTable m inside new t name shape) (FailsCreation m inside new t name shape)
+      → TakesFew (means m places) old new (refusal_in result) (pages_of_table (length shape.columns))
+  makes_room law result creates = room_as m places inside old new same (refusal_in result)
+      (pages_of_table (length shape.columns)) (law places inside new t name shape result is.lawful may creates)

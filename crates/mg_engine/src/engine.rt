@@ -1,6 +1,6 @@
 //! The engine.
 
-use mg_base::{Disk, TxNo, TxState};
+use mg_base::Disk;
 use mg_core::Core;
 use std::alloc::{Allocator, Global};
 use std::marker::Model;
@@ -37,7 +37,6 @@ impl<D: Disk> Model for Engine<D> {
 
 impl<D: Disk> Engine<D> {
     ghost use Rattle.std.specs.Prelude.{◌≡◌};
-    ghost use Rattle.mg_txlist.specs.TxList.{said};
     ghost use Rattle.mg_engine.specs.Engines.{IsEngine};
 
     /// The engine whose core this is.
@@ -46,13 +45,6 @@ impl<D: Disk> Engine<D> {
         ensures { result ≡ core }
     {
         Engine { core }
-    }
-
-    /// What has become of a transaction.
-    pub fn state(&self, t: TxNo) -> TxState
-        ensures { result ≡ said self.now.list t.0 }
-    {
-        self.core.state(t)
     }
 
     /// The size of a page, in bytes.

@@ -1,9 +1,9 @@
 //! The engine as a keeper of records: it stands for a history of events.
 //!
 //! Owns: `Engine`, the core of an engine with its invariant. It is opened over a disk and closed (`OpensEngine`,
-//! `ClosesEngine`). Each other call is a call of the core; what its clauses say is what `mg_records` asks of a keeper of
-//! records, with the meaning that `mg_engine_meaning` gives (`means`); `keeping` has the impl, and that its pages can be written
-//! one by one. Statements run on it so (`mg_courses`).
+//! `ClosesEngine`). Each other call is a call of the core: `keeping` has them as the impl of a keeper of records, and so
+//! what they promise is what `mg_records` asks of one, with the meaning that `mg_engine_meaning` gives (`means`). Its pages
+//! can be written one by one. Statements run on it so (`mg_courses`).
 //!
 //! Invariant (`IsEngine`): the core is lawful, and each session has one active transaction at most.
 //! Below: `mg_core`, the calls over memory and pages; `mg_engine_meaning`, what an engine means; the laws of each kind
@@ -11,17 +11,13 @@
 //! Above: the statements' steps.
 #![tactic(auto)]
 
-mod beginning;
-mod committing;
-mod ending;
 mod engine;
-mod events;
 mod keeping;
 mod making;
 mod opening;
-mod reading;
+mod page_writes;
+mod sizes;
 mod taking;
 mod writing;
 
 pub use engine::Engine;
-pub use reading::copy_place;

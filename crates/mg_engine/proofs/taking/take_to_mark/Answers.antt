@@ -48,3 +48,19 @@ returns-in-Ok-false-clause-undamaged g c = c.backs_meet_no_damage.ensures.marks 
 pub returns-in-Err-clause-undamaged : goal.returns-in-Err-clause-undamaged
 returns-in-Err-clause-undamaged g c = rolled_undamaged g.D.Disk.meaning c.args.core.now c.roll_back.new.core c.args.t.0
     c.roll_back.result c.roll_back.ensures.rolled
+
+pub returns-in-Ok-true-clause-room : goal.returns-in-Ok-true-clause-room
+returns-in-Ok-true-clause-room g c = c.backs_over_take_few.ensures.marks c.args.core.now
+    c.undo_tables_to_mark.new.core c.args.t c.undo_tables_to_mark.result c.requires.engine.lawful
+    c.undo_tables_to_mark.ensures.takes
+
+pub returns-in-Ok-false-clause-room : goal.returns-in-Ok-false-clause-room
+returns-in-Ok-false-clause-room g c = c.backs_take_few.ensures.marks c.args.core.now c.undo_mark.new.core
+    c.args.t c.undo_mark.result c.requires.engine.lawful
+    (told_no c.takes_tables_to_mark.result c.in-Ok-false.field-0
+    (TellsTables c.args.core.now c.args.t.0 LastMark) c.takes_tables_to_mark.ensures
+    c.in-Ok-false.is c.in-Ok-false.field-0-test) c.undo_mark.ensures.takes
+
+pub returns-in-Err-clause-room : goal.returns-in-Err-clause-room
+returns-in-Err-clause-room g c = c.events_take_none.ensures.rolled c.args.core.now c.roll_back.new.core c.args.t.0
+    LastMark c.roll_back.result c.roll_back.ensures.rolled

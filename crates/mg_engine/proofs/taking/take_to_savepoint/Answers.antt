@@ -48,3 +48,19 @@ returns-in-Ok-false-clause-undamaged g c = c.backs_meet_no_damage.ensures.savepo
 pub returns-in-Err-clause-undamaged : goal.returns-in-Err-clause-undamaged
 returns-in-Err-clause-undamaged g c = rolled_undamaged g.D.Disk.meaning c.args.core.now c.roll_back.new.core c.args.t.0
     c.roll_back.result c.roll_back.ensures.rolled
+
+pub returns-in-Ok-true-clause-room : goal.returns-in-Ok-true-clause-room
+returns-in-Ok-true-clause-room g c = c.backs_over_take_few.ensures.savepoints c.args.core.now
+    c.back_over_tables.new.core c.args.t c.args.name.now c.back_over_tables.result c.requires.engine.lawful
+    c.back_over_tables.ensures.goes
+
+pub returns-in-Ok-false-clause-room : goal.returns-in-Ok-false-clause-room
+returns-in-Ok-false-clause-room g c = c.backs_take_few.ensures.savepoints c.args.core.now
+    c.back_to.new.core c.args.t c.args.name.now c.back_to.result c.requires.engine.lawful
+    (told_no c.takes_tables_to_savepoint.result c.in-Ok-false.field-0
+    (TellsTables c.args.core.now c.args.t.0 (SavepointNamed c.args.name.now)) c.takes_tables_to_savepoint.ensures
+    c.in-Ok-false.is c.in-Ok-false.field-0-test) c.back_to.ensures.goes
+
+pub returns-in-Err-clause-room : goal.returns-in-Err-clause-room
+returns-in-Err-clause-room g c = c.events_take_none.ensures.rolled c.args.core.now c.roll_back.new.core c.args.t.0
+    (SavepointNamed c.args.name.now) c.roll_back.result c.roll_back.ensures.rolled

@@ -4,7 +4,7 @@ use Rattle.mg_core.specs.Committing.{WritesPage}
 use Rattle.mg_engine.specs.Places.{places}
 use Rattle.mg_records.specs.Keeping.{refusal_in}
 use Rattle.mg_engine.proofs.BeginLemmas.{pages_apart, pages_as}
-use Rattle.mg_engine.proofs.ToldLemmas.{told_as, undamaged_as}
+use Rattle.mg_engine.proofs.ToldLemmas.{room_as, told_as, undamaged_as}
 use Rattle.mg_engine.proofs.engine.Engine.write_page.Goals as goal
 
 pub invariant_of-self : goal.invariant_of-self
@@ -45,3 +45,9 @@ returns-clause-undamaged g c = undamaged_as g.D.Disk.meaning places c.self.insid
     c.write_page.new.self c.self.view_is
     (c.commits_meet_no_damage.ensures.pages c.self.inside.core c.write_page.new.self c.write_page.result
     c.write_page.ensures.writes)
+
+pub returns-clause-room : goal.returns-clause-room
+returns-clause-room g c = room_as g.D.Disk.meaning places c.self.inside.core c.args.self.now
+    c.write_page.new.self c.self.view_is (refusal_in c.write_page.result) 0
+    (c.commits_take_none.ensures.pages c.self.inside.core c.write_page.new.self c.write_page.result
+    c.self.invariant.lawful c.write_page.ensures.writes)

@@ -1,0 +1,55 @@
+use Rattle.mg_records.specs.Keeping.{refusal_in}
+use Rattle.mg_engine.specs.Places.{places}
+use Rattle.mg_engine.proofs.ReadLemmas.{table_apart, tables_as}
+use Rattle.mg_engine.proofs.ToldLemmas.{room_as, told_as, undamaged_as}
+use Rattle.mg_engine.proofs.keeping.EngineRecords.table.Goals as goal
+
+pub invariant_of-self : goal.invariant_of-self
+invariant_of-self g c = record {
+  lawful = c.table.ensures.core;
+  apart = table_apart g.D.Disk.meaning c.self.inside.core c.table.new.self c.args.t c.args.name.now c.table.result
+      c.table.ensures.table c.self.invariant.apart;
+}
+
+pub returns-clause-table : goal.returns-clause-table
+returns-clause-table g c = (tables_as g.D.Disk.meaning c.self.inside.core c.args.self.now c.table.new.self
+    c.self.view_is c.self.invariant c.counts_fit.ensures.0 c.counts_fit.ensures.1 c.tables_go_on.ensures c.args.t
+    c.args.name.now c.table.result c.table.ensures.table).table
+
+pub returns-clause-given : goal.returns-clause-given
+returns-clause-given g c = (tables_as g.D.Disk.meaning c.self.inside.core c.args.self.now c.table.new.self
+    c.self.view_is c.self.invariant c.counts_fit.ensures.0 c.counts_fit.ensures.1 c.tables_go_on.ensures c.args.t
+    c.args.name.now c.table.result c.table.ensures.table).given
+
+pub returns-clause-reads : goal.returns-clause-reads
+returns-clause-reads g c = (tables_as g.D.Disk.meaning c.self.inside.core c.args.self.now c.table.new.self
+    c.self.view_is c.self.invariant c.counts_fit.ensures.0 c.counts_fit.ensures.1 c.tables_go_on.ensures c.args.t
+    c.args.name.now c.table.result c.table.ensures.table).reads
+
+pub returns-clause-crash : goal.returns-clause-crash
+returns-clause-crash g c = (tables_as g.D.Disk.meaning c.self.inside.core c.args.self.now c.table.new.self
+    c.self.view_is c.self.invariant c.counts_fit.ensures.0 c.counts_fit.ensures.1 c.tables_go_on.ensures c.args.t
+    c.args.name.now c.table.result c.table.ensures.table).crash
+
+pub returns-clause-sessions : goal.returns-clause-sessions
+returns-clause-sessions g c = (tables_as g.D.Disk.meaning c.self.inside.core c.args.self.now c.table.new.self
+    c.self.view_is c.self.invariant c.counts_fit.ensures.0 c.counts_fit.ensures.1 c.tables_go_on.ensures c.args.t
+    c.args.name.now c.table.result c.table.ensures.table).sessions
+
+pub returns-clause-told : goal.returns-clause-told
+returns-clause-told g c = told_as g.D.Disk.meaning places c.self.inside.core c.args.self.now
+    c.table.new.self c.self.view_is (refusal_in c.table.result)
+    (c.readings_tell_faults.ensures.tables c.self.inside.core c.table.new.self c.args.t c.args.name.now c.table.result
+    c.table.ensures.table)
+
+pub returns-clause-undamaged : goal.returns-clause-undamaged
+returns-clause-undamaged g c = undamaged_as g.D.Disk.meaning places c.self.inside.core c.args.self.now
+    c.table.new.self c.self.view_is
+    (c.tables_meet_no_damage.ensures c.self.inside.core c.table.new.self c.args.t c.args.name.now c.table.result
+    c.self.invariant.lawful c.table.ensures.table)
+
+pub returns-clause-room : goal.returns-clause-room
+returns-clause-room g c = room_as g.D.Disk.meaning places c.self.inside.core c.args.self.now
+    c.table.new.self c.self.view_is (refusal_in c.table.result) 0
+    (c.readings_take_none.ensures.tables c.self.inside.core c.table.new.self c.args.t c.args.name.now c.table.result
+    c.table.ensures.table)
