@@ -4,6 +4,8 @@ use Rattle.mg_value.specs.declared.value.Value.{Value}
 use Rattle.mg_model.specs.declared.answer.Answer.{Answer}
 use Rattle.mg_model.specs.declared.answer.Answer.TheVariants.{Fine, No}
 use Rattle.mg_model.specs.declared.refusal.Refusal.TheVariants.{DuplicateKey, NoRow}
+use Rattle.mg_model.specs.Catalog.{catalog_name, table_key}
+use Rattle.mg_model.specs.Changes.{same_name}
 use Rattle.mg_model.specs.Answers.{Told, if_writable, past, table_obstacle, obstacle, verdict, has_row, answer_insert, answer_give}
 
 -- this is what hinders a write at its table
@@ -60,3 +62,18 @@ give_found k t table key refusal a hinders is has answer =
     answer ∙ (ap (λ (b : Bool). cond b (past k t (obstacle k t table key) Fine) (No NoRow)) has
     ∙ (free refusal (cond (has_row k t table key) (past k t (obstacle k t table key) Fine) (No NoRow)) is
     ∙ hinders (cond (has_row k t table key) (past k t (obstacle k t table key) Fine) (No NoRow))))
+
+-- the catalog has no obstacle of its own row, another table that of its key
+pub catalog_free : (k : Told) (t : ℕ) (table name : List ℕ) → name ≡ table → true ≡ same_name name catalog_name
+    → None ≡ table_obstacle k t table
+catalog_free k t table name is same =
+    ap (λ (b : Bool). cond b None (obstacle k t catalog_name (table_key table)))
+    (same ∙ ap (λ (n : List ℕ). same_name n catalog_name) is)
+
+pub table_hindered : (k : Told) (t : ℕ) (table name again : List ℕ) (key : Value) (by : Option ℕ) → name ≡ table
+    → false ≡ same_name name catalog_name → again ≡ table → key ≡ table_key again
+    → by ≡ obstacle k t catalog_name key → by ≡ table_obstacle k t table
+table_hindered k t table name again key by is other again_is key_is found = found
+    ∙ (ap (λ (v : Value). obstacle k t catalog_name v) (key_is ∙ ap table_key again_is)
+    ∙ ap (λ (b : Bool). cond b None (obstacle k t catalog_name (table_key table)))
+    (other ∙ ap (λ (n : List ℕ). same_name n catalog_name) is))

@@ -1,5 +1,7 @@
+mod ExitLemmas
 mod LoopLemmas
 mod LookupLemmas
+mod NewestLemmas
 mod WaitLemmas
 mod RowLemmas
 mod KeyLemmas

@@ -1,5 +1,6 @@
 -- A transaction taken back: back to the newest step that sets the point.
-use Rattle.std.proofs.Common.{◌≡◌, ℕ, zero, suc, ◌+◌, ◌-◌, ◌<◌, ◌≤◌, ◌==◌, ◌&&◌, ◌||◌, Bool, true, false, List, [], ◌∷◌, ◌++◌, length, take, drop, Option, Some, None, refl, sym, ◌∙◌, ap, cond, get_or, arith}
+use Rattle.std.proofs.Common.{◌≡◌, ℕ, zero, suc, ◌+◌, ◌-◌, ◌<◌, ◌≤◌, ◌==◌, ◌&&◌, ◌||◌, Bool, true, false, List, [], ◌∷◌, ◌++◌, length, take, drop, Option, Some, None, refl, sym, ◌∙◌, ap, cond, get_or, arith, eq-eqb, ne_eqb}
+use Rattle.std.proofs.lemmas.List.{get_or_read}
 use Rattle.std.specs.Prelude.{is_some}
 use Rattle.std.specs.List.{remove}
 use Rattle.mg_model.specs.declared.change.Step.{Step}
@@ -21,6 +22,22 @@ cleared_front t m y x = at (y.by.0 == t)
 -- the steps without the one at a place, if it is the transaction's
 abbrev pub one_cleared : ℕ → ℕ → List Step → List Step
 one_cleared t n s = cond ((get_or s n nobody).by.0 == t) (remove s n) s
+
+-- the step at a place, as it was read, is another's, or was taken out
+pub one_other : (t n : ℕ) (s : List Step) (x : Step) → n < length s → x ≡ get_or s n x → (x.by.0 ≡ t → ⊥)
+    → s ≡ one_cleared t n s
+one_other t n s x inside is other =
+    let at : x ≡ get_or s n nobody = get_or_read s n x inside is nobody in
+    let test : (x.by.0 == t) ≡ false = ne_eqb x.by.0 t other in
+    ap (λ (b : Bool). cond b (remove s n) s) (sym test) ∙ ap (λ (y : Step). cond (y.by.0 == t) (remove s n) s) at
+
+pub one_taken : (t n : ℕ) (s new : List Step) (x : Step) → n < length s → x ≡ get_or s n x → x.by.0 ≡ t
+    → new ≡ remove s n → new ≡ one_cleared t n s
+one_taken t n s new x inside is mine taken =
+    let at : x ≡ get_or s n nobody = get_or_read s n x inside is nobody in
+    let test : (x.by.0 == t) ≡ true = eq-eqb x.by.0 t mine in
+    taken ∙ (ap (λ (b : Bool). cond b (remove s n) s) (sym test)
+    ∙ ap (λ (y : Step). cond (y.by.0 == t) (remove s n) s) at)
 
 pub cleared_one : (t n : ℕ) (s : List Step) → n < length s
     → cleared t n (one_cleared t n s) ≡ cleared t (n + 1) s
