@@ -1,5 +1,5 @@
--- Expressions that hold lists, once their parts are bound, and the types that they have.
-use Rattle.std.proofs.Common.{◌≡◌, ◌&&◌, Bool, List, map, ap, sym, ◌∙◌, Option}
+-- Expressions that hold lists, once their parts are bound; whether their names are known, and the types that they have.
+use Rattle.std.proofs.Common.{◌≡◌, ◌&&◌, Bool, true, false, List, map, ap, sym, ◌∙◌, Option}
 use Rattle.std.specs.List.{list_all}
 use Rattle.std.specs.declared.alloc.Global.{Global}
 use Rattle.std.specs.declared.boxed.Box.{Box}
@@ -11,8 +11,9 @@ use Rattle.mg_expr.specs.declared.expr.Part.{Part}
 use Rattle.mg_expr.specs.Trees.{Tree, Or, And, Sum, Product, tree_of, part_tree, trees_of, parts_of}
 use Rattle.mg_expr.specs.TreeLaws.{tree_of_or, tree_of_and, tree_of_sum, tree_of_product}
 use Rattle.mg_expr.specs.Typing.{Sort, OfTruths, OfIntegers, fits_truth, fits_integer, provided, sort_of_expr}
-use Rattle.mg_plan.specs.Binding.{bound, bound_expr, bound_part}
-use Rattle.mg_plan.specs.BindingLaws.{bound_or, bound_and, bound_sum, bound_product, sort_or, sort_and, sort_sum, sort_product}
+use Rattle.mg_plan.specs.Binding.{bound, bound_expr, bound_part, knows, knows_part}
+use Rattle.mg_plan.specs.BindingLaws.{knows_or, knows_and, knows_sum, knows_product, bound_or, bound_and, bound_sum}
+use Rattle.mg_plan.specs.BindingLaws.{bound_product, sort_or, sort_and, sort_sum, sort_product}
 
 module _ (columns : List Column) where
   pub or_bound : (e : Expr) (parts made : Vec Expr Global) (items : List Expr)
@@ -98,3 +99,51 @@ module _ (columns : List Column) where
       tests ∙ ap (list_all (λ p. fits_integer (sort_of_expr p.value columns))) same in
       gives ∙ ap (λ (b : Bool). provided b OfIntegers) (both ∙ (λ i. one_is i && others_are i))
       ∙ sym (sort_product columns first parts) ∙ sym (ap (λ (e : Expr). sort_of_expr e columns) is)
+
+  -- ---- names
+
+  pub or_knows : (e : Expr) (parts : Vec Expr Global) (items : List Expr) (given : Bool) → e ≡ variants.Or parts
+      → items ≡ parts.items → given ≡ list_all (knows columns) items → given ≡ knows columns e
+  or_knows e parts items given is same gives =
+      gives ∙ ap (list_all (knows columns)) same ∙ sym (knows_or columns parts) ∙ sym (ap (knows columns) is)
+
+  pub and_knows : (e : Expr) (parts : Vec Expr Global) (items : List Expr) (given : Bool) → e ≡ variants.And parts
+      → items ≡ parts.items → given ≡ list_all (knows columns) items → given ≡ knows columns e
+  and_knows e parts items given is same gives =
+      gives ∙ ap (list_all (knows columns)) same ∙ sym (knows_and columns parts) ∙ sym (ap (knows columns) is)
+
+  pub sum_knows : (e start : Expr) (first : Box Expr Global) (parts : Vec Part Global) (items : List Part)
+      (one given : Bool) → e ≡ variants.Sum first parts → items ≡ parts.items → start ≡ first.value
+      → one ≡ knows columns start → one ≡ true → given ≡ list_all (knows_part columns) items
+      → given ≡ knows columns e
+  sum_knows e start first parts items one given is same starts ones passed gives =
+      gives ∙ ap (list_all (knows_part columns)) same
+      ∙ sym (ap (λ (b : Bool). b && list_all (knows_part columns) parts.items)
+      (sym (ap (knows columns) starts) ∙ sym ones ∙ passed))
+      ∙ sym (knows_sum columns first parts) ∙ sym (ap (knows columns) is)
+
+  pub sum_fails : (e start : Expr) (first : Box Expr Global) (parts : Vec Part Global) (one : Bool)
+      → e ≡ variants.Sum first parts → start ≡ first.value → one ≡ knows columns start → one ≡ false
+      → one ≡ knows columns e
+  sum_fails e start first parts one is starts ones failed =
+      failed ∙ sym (ap (λ (b : Bool). b && list_all (knows_part columns) parts.items)
+      (sym (ap (knows columns) starts) ∙ sym ones ∙ failed))
+      ∙ sym (knows_sum columns first parts) ∙ sym (ap (knows columns) is)
+
+  pub product_knows : (e start : Expr) (first : Box Expr Global) (parts : Vec Part Global) (items : List Part)
+      (one given : Bool) → e ≡ variants.Product first parts → items ≡ parts.items → start ≡ first.value
+      → one ≡ knows columns start → one ≡ true → given ≡ list_all (knows_part columns) items
+      → given ≡ knows columns e
+  product_knows e start first parts items one given is same starts ones passed gives =
+      gives ∙ ap (list_all (knows_part columns)) same
+      ∙ sym (ap (λ (b : Bool). b && list_all (knows_part columns) parts.items)
+      (sym (ap (knows columns) starts) ∙ sym ones ∙ passed))
+      ∙ sym (knows_product columns first parts) ∙ sym (ap (knows columns) is)
+
+  pub product_fails : (e start : Expr) (first : Box Expr Global) (parts : Vec Part Global) (one : Bool)
+      → e ≡ variants.Product first parts → start ≡ first.value → one ≡ knows columns start → one ≡ false
+      → one ≡ knows columns e
+  product_fails e start first parts one is starts ones failed =
+      failed ∙ sym (ap (λ (b : Bool). b && list_all (knows_part columns) parts.items)
+      (sym (ap (knows columns) starts) ∙ sym ones ∙ failed))
+      ∙ sym (knows_product columns first parts) ∙ sym (ap (knows columns) is)

@@ -1,3 +1,6 @@
 pub mod TypeLemmas
 pub mod BindingLemmas
+pub mod BoxLemmas
+pub mod LeafLemmas
+pub mod StatementLemmas
 pub mod StepLemmas

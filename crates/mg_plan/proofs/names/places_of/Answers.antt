@@ -1,8 +1,20 @@
+use Rattle.std.proofs.lemmas.Result.{IfOk-from_err}
 use Rattle.mg_plan.specs.Names.{place_or_0}
-use Rattle.mg_plan.proofs.StepLemmas.{mapped}
+use Rattle.mg_plan.proofs.StepLemmas.{mapped, mapped_all}
 use Rattle.mg_plan.proofs.names.places_of.Goals as goal
 
 pub loop-name-preserved : goal.loop-name-preserved
 loop-name-preserved c =
     mapped (place_or_0 c.args.columns.now) c.args.names.now c.loop-name.name-index c.name-item.result _ _ _
     c.loop-name-test.true c.name-item.is c.place_or_0.ensures c.loop-name.invariant c.in_ok-push.ensures.items
+
+pub loop-name-init : goal.loop-name-init
+loop-name-init c = c.new-places.ensures.items
+
+pub returns : goal.returns
+returns c =
+    mapped_all (place_or_0 c.args.columns.now) c.args.names.now c.loop-name.name-index _ c.loop-name-test.false
+    c.loop-name.invariant
+
+pub returns-in_err-push : goal.returns-in_err-push
+returns-in_err-push c = IfOk-from_err c.from_residual.result _ c.from_residual.ensures.0

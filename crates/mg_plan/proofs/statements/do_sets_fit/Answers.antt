@@ -1,7 +1,9 @@
-use Rattle.std.proofs.Common.{◌∙◌}
+use Rattle.std.proofs.Common.{◌∙◌, ap}
+use Rattle.std.specs.Prelude.{slice_get}
 use Rattle.mg_expr.specs.Typing.{sort_of}
 use Rattle.mg_statements.specs.Plain.{assign_of}
-use Rattle.mg_plan.proofs.TypeLemmas.{fits_none}
+use Rattle.mg_plan.specs.Types.{fits_column}
+use Rattle.mg_plan.proofs.TypeLemmas.{fits_next, fits_not, fits_nowhere, fits_none}
 use Rattle.mg_plan.proofs.statements.do_sets_fit.Goals as goal
 
 pub returns : goal.returns
@@ -9,3 +11,27 @@ returns c =
     c.is_empty.ensures
     ∙ (fits_none c.args.columns.now c.loop-set.places.now (λ set. sort_of set.1 c.args.columns.now) assign_of c.loop-set.sets.now c.in_default.ensures.cases
     ∙ c.loop-set.invariant)
+
+pub loop-set-preserved : goal.loop-set-preserved
+loop-set-preserved c =
+    fits_next c.args.columns.now c.loop-set.places.now c.in-Some-split_first.others.now c.in-Some-split_first.place.now
+    (λ set. sort_of set.1 c.args.columns.now) assign_of c.loop-set.sets.now c.in-Some.later.now c.in-Some.set.now _ _
+    c.in-Some.ensures.cases.0 c.in-Some-split_first.ensures.cases.0
+    (c.fits_column.ensures ∙ ap (fits_column (slice_get c.args.columns.now c.in-Some-split_first.place.now))
+    c.type_of.ensures)
+    c.if-not-fits_column.false c.loop-set.invariant
+
+pub returns-then-not-fits_column : goal.returns-then-not-fits_column
+returns-then-not-fits_column c =
+    fits_not c.args.columns.now c.loop-set.places.now c.in-Some-split_first.others.now c.in-Some-split_first.place.now
+    (λ set. sort_of set.1 c.args.columns.now) assign_of c.loop-set.sets.now c.in-Some.later.now c.in-Some.set.now _ _
+    c.in-Some.ensures.cases.0 c.in-Some-split_first.ensures.cases.0
+    (c.fits_column.ensures ∙ ap (fits_column (slice_get c.args.columns.now c.in-Some-split_first.place.now))
+    c.type_of.ensures)
+    c.if-not-fits_column.true c.loop-set.invariant
+
+pub returns-in_default-split_first : goal.returns-in_default-split_first
+returns-in_default-split_first c =
+    fits_nowhere c.args.columns.now c.loop-set.places.now (λ set. sort_of set.1 c.args.columns.now) assign_of
+    c.loop-set.sets.now c.in-Some.later.now c.in-Some.set.now _ c.in-Some.ensures.cases.0
+    c.in_default-split_first.ensures.cases c.loop-set.invariant
