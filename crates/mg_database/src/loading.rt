@@ -1,6 +1,6 @@
 //! What an engine has in memory of the pages is read, when a database is opened.
 
-ghost use Rattle.std.specs.Prelude.{◌≡◌, ◌<◌, ◌+◌, [], None, Ok, IfErr, IfOk, IsSome, OnOk, length};
+ghost use Rattle.std.specs.Prelude.{◌≡◌, ◌<◌, ◌+◌, [], None, Ok, IfErr, IfOk, IsSome, OnOk};
 ghost use Rattle.mg_base.specs.Image.{Image};
 ghost use Rattle.mg_base.specs.declared.geometry.TheConstants.{GREATEST_LIMIT as MOST_LIMIT};
 ghost use Rattle.mg_header.specs.HeaderPage.{reading};

@@ -1,5 +1,5 @@
--- Where enough pages are free for all rows of a new table, no row of it is refused for want of them.
-use Rattle.std.proofs.Common.{◌≡◌, ◌∙◌, inl, inr, ◌≤◌, ◌+◌, ◌*◌, ℕ, List, [], ◌∷◌, length, sym, subst, arith}
+-- Where four pages are free, no row of the catalog is refused for want of them.
+use Rattle.std.proofs.Common.{◌≡◌, ◌∙◌, ◌≤◌, ◌+◌, ℕ, List, sym, arith}
 use Rattle.mg_base.specs.Disk.{Meaning}
 use Rattle.mg_base.specs.Image.{Image}
 use Rattle.mg_base.specs.declared.geometry.Geometry.{Geometry}
@@ -15,16 +15,12 @@ use Rattle.mg_space.specs.View.{viewed}
 use Rattle.mg_space.specs.declared.fault.SpaceFault.{SpaceFault}
 use Rattle.mg_space.specs.declared.fault.SpaceFault.TheVariants as faults
 use Rattle.mg_space.specs.declared.links.FireLinks.{FireLinks}
-use Rattle.mg_table_batch.specs.Filling.{rows_at}
-use Rattle.mg_table_batch.specs.Refusals.{RefusesNaming, RefusesRow, RefusesRows, RefusesRowsOf, RefusesStoring, RefusesTable, no_memory, own_memory, own_row, own_slot, row_unmade, row_unplaced, row_unstored, rows_first, rows_later, table_memory, table_page, table_rows, too_long, unfit}
-use Rattle.mg_value.specs.declared.shape.Shape.{Shape}
+use Rattle.mg_table_batch.specs.Refusals.{RefusesNaming, RefusesRow, RefusesStoring, no_memory, own_memory, own_row, own_slot, row_unmade, row_unplaced, row_unstored, too_long, unfit}
 use Rattle.mg_space.specs.FreePages.{TakingKeepsRegions}
 use Rattle.mg_free_pages.specs.CellRefusals.{IsOther, memory_other, other_there, since_read, still_lawful}
 use Rattle.mg_free_pages.specs.FreePages.{IsNotFull, TakesAtMost}
 use Rattle.mg_free_pages.specs.FreeLaws.{fewer}
-use Rattle.mg_free_pages.specs.GrowthLaws.{take_there}
 use Rattle.mg_free_pages.specs.RowSpending.{BatchLaws}
-use Rattle.mg_free_pages.specs.TableSpending.{first_taken, naming_taken, row_taken}
 
 -- where fewer are wanted than are free
 pub more_there : (g : Geometry) (pages : Pages) (few many : ℕ) (fault : SpaceFault) → few ≤ many
@@ -64,20 +60,6 @@ module _ (keeps : TakingKeepsRegions) {D : Type 0} (m : Meaning D) (laws : Batch
       (since_read m old ready image given 2 fault read
       (laws.making_there ready new image given catalog.pointer.0 at v fault refused (still_lawful m old ready read lawful)))
 
-  rows_there : (new : Pool D FireLinks) (fault : SpaceFault) (rows : List Row) (old : Pool D FireLinks) (batch : Changed)
-      → IsGeometry old.geometry → RefusesRows m new image catalog t fault rows old batch
-      → IsNotFull old.geometry (viewed old image batch) (4 * length rows) fault
-  rows_there new fault [] old batch lawful refused = elim refused [ ]
-  rows_there new fault (row ∷ rows) old batch lawful (rows_first _ _ _ _ refused) =
-      more_there old.geometry (viewed old image batch) 4 (4 * length (row ∷ rows)) fault (omega arith)
-      (row_there old new batch row fault lawful refused)
-  rows_there new fault (row ∷ rows) old batch lawful (rows_later _ _ _ ready _ mid at put read refused) =
-      more_there old.geometry (viewed old image batch) (4 * length rows + 4) (4 * length (row ∷ rows)) fault (omega arith)
-      (after_there old.geometry (viewed old image batch) (viewed old image mid) 4 (4 * length rows) fault
-      (row_taken keeps m laws old image lawful catalog t batch mid row at put)
-      (since_read m old ready image mid (4 * length rows) fault read
-      (rows_there new fault rows ready mid (still_lawful m old ready read lawful) refused)))
-
   pub naming_there : (old new : Pool D FireLinks) (batch : Changed) (row : Row) (fault : SpaceFault)
       → IsGeometry old.geometry → RefusesNaming m old new image catalog t batch row fault
       → IsNotFull old.geometry (viewed old image batch) 4 fault
@@ -87,34 +69,3 @@ module _ (keeps : TakingKeepsRegions) {D : Type 0} (m : Meaning D) (laws : Batch
   naming_there old new batch row fault lawful (own_slot at put puts refused) =
       other_there old.geometry (viewed old image batch) 4 fault
       (cell_other new put.pages (viewed old image put) at fault refused)
-
-  rows_of_there : (old new : Pool D FireLinks) (batch : Changed) (rows : List Row) (fault : SpaceFault)
-      → IsGeometry old.geometry → RefusesRowsOf m old new image catalog t batch rows fault
-      → IsNotFull old.geometry (viewed old image batch) (4 * length rows) fault
-  rows_of_there old new batch [] fault lawful never = absurd never
-  rows_of_there old new batch (own ∷ columns) fault lawful (inl refused) =
-      more_there old.geometry (viewed old image batch) 4 (4 * length (own ∷ columns)) fault (omega arith)
-      (naming_there old new batch own fault lawful refused)
-  rows_of_there old new batch (own ∷ columns) fault lawful (inr later) =
-      more_there old.geometry (viewed old image batch) (4 * length columns + 4) (4 * length (own ∷ columns)) fault
-      (omega arith) (after_there old.geometry (viewed old image batch) (viewed old image later.named) 4
-      (4 * length columns) fault
-      (naming_taken keeps m laws old image lawful catalog t batch later.named own later.page later.puts)
-      (since_read m old later.ready image later.named (4 * length columns) fault later.keeps
-      (rows_there new fault columns later.ready later.named (still_lawful m old later.ready later.keeps lawful)
-      later.refused)))
-
-  pub table_there : (old new : Pool D FireLinks) (name : List ℕ) (shape : Shape) (batch : Changed) (fault : SpaceFault)
-      → ((page : ℕ) → length (rows_at name shape page) ≡ length (rows_at name shape 0)) → IsGeometry old.geometry
-      → RefusesTable m old new image catalog t name shape batch fault
-      → IsNotFull old.geometry (viewed old image batch) (4 * length (rows_at name shape 0) + 1) fault
-  table_there old new name shape batch fault same lawful (table_memory memory) = other_there old.geometry
-      (viewed old image batch) (4 * length (rows_at name shape 0) + 1) fault (memory_other fault memory)
-  table_there old new name shape batch fault same lawful (table_page refused) = take_there old.geometry
-      (viewed old image batch) fault refused (4 * length (rows_at name shape 0) + 1) (omega arith)
-  table_there old new name shape batch fault same lawful (table_rows page begun ready takes read refused) =
-      after_there old.geometry (viewed old image batch) (viewed old image begun) 1 (4 * length (rows_at name shape 0))
-      fault (first_taken keeps m laws old image lawful catalog t batch begun page takes)
-      (since_read m old ready image begun (4 * length (rows_at name shape 0)) fault read
-      (subst (λ (count : ℕ). IsNotFull ready.geometry (viewed ready image begun) (4 * count) fault) (same page)
-      (rows_of_there ready new begun (rows_at name shape page) fault (still_lawful m old ready read lawful) refused)))

@@ -1,28 +1,25 @@
 -- A new table takes its first page, four pages a row at most, and two for each time that the catalog grew before.
-use Rattle.std.proofs.Common.{◌+◌, ◌*◌, ℕ, List, [], ◌∷◌, length, refl, ap, arith}
-use Rattle.std.specs.Prelude.{unwrap_or}
+use Rattle.std.proofs.Common.{◌+◌, ◌*◌, ℕ, List, refl, arith}
 use Rattle.mg_base.specs.Disk.{Meaning}
 use Rattle.mg_base.specs.Image.{Image}
 use Rattle.mg_base.specs.declared.geometry.Geometry.{Geometry}
 use Rattle.mg_base.specs.declared.numbers.RecId.{RecId}
 use Rattle.mg_image.specs.Form.{Pages, Row}
 use Rattle.mg_model.specs.declared.table.Table.{Table}
-use Rattle.mg_pool.specs.Batch.{Changed, content_in}
-use Rattle.mg_pool.specs.Pool.{shown}
-use Rattle.mg_pool.specs.declared.batch.BatchPage.{BatchPage}
+use Rattle.mg_pool.specs.Batch.{Changed}
 use Rattle.mg_pool.specs.declared.pool.Pool.{Pool}
 use Rattle.mg_row_writes.specs.Changing.{nothing_yet}
 use Rattle.mg_space.specs.Taking.{IsGeometry}
 use Rattle.mg_space.specs.View.{viewed}
 use Rattle.mg_space.specs.ViewLaws.{viewed_else}
 use Rattle.mg_space.specs.declared.links.FireLinks.{FireLinks}
-use Rattle.mg_table_batch.specs.Filling.{FillsTable, PutsNaming, PutsRow, PutsRows, PutsTable, TakesFirst, puts_more, puts_none, rows_at}
+use Rattle.mg_table_batch.specs.Filling.{PutsRow, TakesFirst}
 use Rattle.mg_table_batch.specs.Making.{Grows, GrowsAsWanted, gets_one, has_enough}
 use Rattle.mg_value.specs.declared.shape.Shape.{Shape}
 use Rattle.mg_space.specs.FreePages.{TakingKeepsRegions}
 use Rattle.mg_free_pages.specs.BatchStages.{RoomTakes}
 use Rattle.mg_free_pages.specs.FreePages.{TakesAtMost}
-use Rattle.mg_free_pages.specs.FreeLaws.{both_taken, one_taken, same_taken, takes_more}
+use Rattle.mg_free_pages.specs.FreeLaws.{both_taken, one_taken}
 use Rattle.mg_free_pages.specs.KindLaws.{one_changed}
 use Rattle.mg_free_pages.specs.RowSpending.{BatchLaws}
 use Rattle.mg_free_pages.specs.Spending.{SpendsAtMost, ToldAreHeld}
@@ -49,38 +46,6 @@ module _ (keeps : TakingKeepsRegions) {D : Type 0} (m : Meaning D) (laws : Batch
   row_taken old new row at it = both_taken g (view old) (view it.given) (view new) 2 2
       (laws.spot_takes store image old it.given catalog.pointer.0 at it.spot lawful)
       (laws.making_takes store image it.given new catalog.pointer.0 at it.version it.makes lawful)
-
-  rows_taken : (rows : List Row) (old new : Changed) → PutsRows store image catalog t rows old new
-      → TakesAtMost g (view old) (view new) (4 * length rows)
-  rows_taken [] old new (puts_none b) = same_taken g (view old) (view old) (λ n. refl)
-  rows_taken (row ∷ rows) old new (puts_more _ _ _ mid _ at put more) = takes_more g (view old) (view new)
-      (4 + 4 * length rows) (4 * length (row ∷ rows)) (omega arith)
-      (both_taken g (view old) (view mid) (view new) 4 (4 * length rows) (row_taken old mid row at put)
-      (rows_taken rows mid new more))
-
-  pub naming_taken : (old new : Changed) (row : Row) (page : ℕ) → PutsNaming store image catalog t old new row page
-      → TakesAtMost g (view old) (view new) 4
-  naming_taken old new row page it = both_taken g (view old) (view it.put) (view new) 4 0
-      (row_taken old it.put row it.at it.puts)
-      (same_taken g (view it.put) (view new)
-      (λ n. ap (λ (pages : List BatchPage). unwrap_or (content_in pages n) (shown store.dirty image n))
-      it.ordered.same_pages))
-
-  table_taken : (rows : List Row) (page : ℕ) (old new : Changed) → PutsTable store image catalog t rows page old new
-      → TakesAtMost g (view old) (view new) (4 * length rows)
-  table_taken [] page old new same = same_taken g (view old) (view new)
-      (λ n. ap (λ (b : Changed). viewed store image b n) same)
-  table_taken (own ∷ columns) page old new (named, naming, rows) = takes_more g (view old) (view new)
-      (4 + 4 * length columns) (4 * length (own ∷ columns)) (omega arith)
-      (both_taken g (view old) (view named) (view new) 4 (4 * length columns)
-      (naming_taken old named own page naming) (rows_taken columns named new rows))
-
-  pub filling_taken : (name : List ℕ) (shape : Shape) (old new : Changed)
-      → (it : FillsTable store image catalog t name shape old new)
-      → TakesAtMost g (view old) (view new) (1 + 4 * length (rows_at name shape it.page))
-  filling_taken name shape old new it = both_taken g (view old) (view it.begun) (view new) 1
-      (4 * length (rows_at name shape it.page)) (first_taken old it.begun it.page it.takes)
-      (table_taken (rows_at name shape it.page) it.page it.begun new it.rows)
 
 -- the catalog has got pages, two each time at most
 module _ {D : Type 0} (m : Meaning D) (holds : ToldAreHeld m) (room : RoomTakes D) (catalog : Table) (t : ℕ)

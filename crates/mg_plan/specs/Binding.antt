@@ -1,5 +1,5 @@
 -- Trees of expressions with columns in place of names.
-use Rattle.std.specs.Prelude.{ℕ, ◌&&◌, Bool, true, false, List, Option, Some, None}
+use Rattle.std.specs.Prelude.{ℕ, ◌&&◌, Bool, true, List, Option, Some, None}
 use Rattle.mg_value.specs.declared.shape.Column.{Column as AnyColumn}
 use Rattle.mg_expr.specs.declared.expr.Expr.{Expr}
 use Rattle.mg_expr.specs.declared.expr.Part.{Part}

@@ -1,5 +1,5 @@
 -- What is said of expressions that hold lists, by the members of the lists.
-use Rattle.std.proofs.Common.{◌≡◌, ◌&&◌, Bool, true, List, [], ◌∷◌, map, refl, ap, ◌∙◌}
+use Rattle.std.proofs.Common.{◌≡◌, ◌&&◌, Bool, List, [], ◌∷◌, map, refl, ap, ◌∙◌}
 use Rattle.std.specs.List.{list_all}
 use Rattle.std.specs.declared.alloc.Global.{Global}
 use Rattle.std.specs.declared.boxed.Box.{Box}
@@ -10,7 +10,7 @@ use Rattle.mg_expr.specs.declared.expr.Expr.TheVariants as variants
 use Rattle.mg_expr.specs.declared.expr.Part.{Part}
 use Rattle.mg_expr.specs.Trees.{Tree, Trees, Parts, Or, And, Sum, Product, also, part, tree_of, part_tree, trees_of, parts_of}
 use Rattle.mg_expr.specs.TreeLaws.{tree_of_or, tree_of_and, tree_of_sum, tree_of_product}
-use Rattle.mg_expr.specs.Typing.{Sort, OfTruths, OfIntegers, fits_truth, fits_integer, provided, sort_of, sorts_of, part_sorts, sort_of_expr}
+use Rattle.mg_expr.specs.Typing.{OfTruths, OfIntegers, fits_truth, fits_integer, provided, sort_of, sorts_of, part_sorts, sort_of_expr}
 use Rattle.mg_plan.specs.Binding.{is_known, are_known, are_parts_known, bound, each_bound, parts_bound, knows, knows_part, bound_expr, bound_part}
 
 -- ---- names

@@ -4,9 +4,9 @@ use Rattle.std.specs.List.{list_all, list_any}
 use Rattle.mg_value.specs.declared.shape.Column.{Column}
 use Rattle.mg_value.specs.Rows.{row_len_of}
 use Rattle.mg_expr.specs.Trees.{Tree}
-use Rattle.mg_expr.specs.Typing.{Sort, fits_integer, fits_value, sort_of}
+use Rattle.mg_expr.specs.Typing.{fits_integer, fits_value, sort_of}
 use Rattle.mg_statements.specs.declared.statement.Sorted.{Sorted}
-use Rattle.mg_statements.specs.Plain.{Total, Count, SumOf, Plain, SetTransaction, Commit, Rollback, RollbackTo, Savepoint, Table, Insert, Update, Delete, Totals, Select}
+use Rattle.mg_statements.specs.Plain.{Total, Count, SumOf, Plain, Table, Insert, Update, Delete, Totals, Select}
 use Rattle.mg_plan.specs.Names.{place_of, place_or_0, is_column, places_from}
 use Rattle.mg_plan.specs.Binding.{is_known, bound, is_filter_known, bound_filter}
 use Rattle.mg_plan.specs.Types.{fit_places, is_filter_truth}

@@ -1,5 +1,5 @@
 -- What a text is: a statement, or a text with its first fault.
-use Rattle.std.specs.Prelude.{◌≡◌, ℕ, List, [], ◌∷◌, ◌++◌, Option, Some, None, Result, Ok, Err}
+use Rattle.std.specs.Prelude.{◌≡◌, ℕ, List, [], ◌∷◌, ◌++◌, Result, Ok, Err}
 use Rattle.mg_statements.specs.declared.fault.SqlFault.{SqlFault}
 use Rattle.mg_statements.specs.declared.fault.SqlFault.TheVariants as faults
 use Rattle.mg_statements.specs.declared.statement.Statement.{Statement as AnyStatement}

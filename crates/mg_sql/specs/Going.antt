@@ -10,7 +10,7 @@ use Rattle.mg_sql.specs.Lexing.{Lexes}
 use Rattle.mg_sql.specs.Grammar.{Limits}
 use Rattle.mg_sql.specs.Ends.{kind_in}
 use Rattle.mg_statements.specs.Plain.{Plain}
-use Rattle.mg_sql.specs.Statements.{Rest, finish, word, either, name, size, expression, list, Item, names, expressions, assignments, definitions, totals, Spells}
+use Rattle.mg_sql.specs.Statements.{Rest, finish, word, either, name, size, expression, list, Item, expressions, totals, Spells}
 use Rattle.mg_sql.specs.Reading.{the_limits, Allows, Keeps, Fails}
 
 -- the tokens that may stand behind a list, and behind an item of one

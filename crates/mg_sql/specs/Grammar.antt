@@ -1,10 +1,10 @@
 -- The grammar: which tokens spell which tree. `Expr most n t ts us` says: ts begins with tokens that
 -- spell t, and us are those behind them. n is how many levels of parentheses, NOT and minus may be
 -- opened.
-use Rattle.std.specs.Prelude.{◌≡◌, ℕ, zero, suc, ◌≤◌, ℤ, pos, Bool, true, false, List, [], ◌∷◌, length, Option, Some, None}
+use Rattle.std.specs.Prelude.{◌≡◌, ℕ, suc, ◌≤◌, pos, Bool, true, false, List, [], ◌∷◌, length, Option, Some, None}
 use Rattle.mg_expr.specs.declared.expr.Sign.{Sign}
 use Rattle.mg_expr.specs.declared.expr.Sign.TheVariants as signs
-use Rattle.mg_expr.specs.Trees.{Tree, Or, And, Not, Compare, IsNull, IsNotNull, Sum, Product, Minus, Integer, Text, Null, Name, Trees, end, also, Parts, done, part, trees_of, parts_of}
+use Rattle.mg_expr.specs.Trees.{Tree, Or, And, Not, Compare, IsNull, IsNotNull, Sum, Product, Minus, Integer, Text, Null, Name, Trees, also, Parts, part, trees_of, parts_of}
 use Rattle.mg_sql.specs.declared.token.Kind.{Kind}
 use Rattle.mg_sql.specs.declared.token.Kind.TheVariants as kinds
 use Rattle.mg_sql.specs.Spelling.{capitals, number, quoted}

@@ -1,5 +1,5 @@
 -- Bytes of one sort that stand one behind another.
-use Rattle.std.specs.Prelude.{◌≡◌, ℕ, ◌+◌, nat_lt, ◌<◌, ◌≤◌, Bool, false, true, List, [], ◌∷◌, length, IsTrue, slice_index, nat_eq, if◌then◌else◌, Option, Some, None}
+use Rattle.std.specs.Prelude.{◌≡◌, ℕ, ◌+◌, nat_lt, ◌<◌, ◌≤◌, Bool, false, true, List, [], ◌∷◌, length, slice_index, nat_eq, if◌then◌else◌, Option, Some, None}
 use Rattle.mg_sql.specs.Spelling.{is_letter, is_digit, IsSpelled}
 use Rattle.mg_sql.specs.Lexing.{between}
 use Rattle.mg_sql.specs.declared.token.Kind.{Kind}

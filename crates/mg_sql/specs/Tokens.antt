@@ -1,7 +1,6 @@
 -- Tokens as the grammar sees them.
-use Rattle.std.specs.Prelude.{◌≡◌, ℕ, ◌<◌, Bool, List, [], ◌∷◌}
+use Rattle.std.specs.Prelude.{◌≡◌, ℕ, List, ◌∷◌}
 use Rattle.mg_sql.specs.declared.token.Kind.{Kind}
-use Rattle.mg_sql.specs.declared.token.Kind.TheVariants as kinds
 
 -- a token: its kind, and the bytes that spell it
 pub record Token : Type 0 where

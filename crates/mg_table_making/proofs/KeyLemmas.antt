@@ -1,5 +1,5 @@
 -- Keys of rows, and records that speak for them, one after another.
-use Rattle.std.proofs.Common.{◌≡◌, ◌≢◌, ◌∙◌, ℕ, Bool, true, false, Option, None, Some, is_some, not, arith, List, [], ◌∷◌, ◌++◌, ◌+◌, Result, Ok, Err, ap, refl, subst, sym}
+use Rattle.std.proofs.Common.{◌≡◌, ◌≢◌, ◌∙◌, ℕ, Bool, true, false, Option, None, is_some, not, arith, List, [], ◌∷◌, ◌++◌, ◌+◌, Result, Ok, Err, ap, refl, subst, sym}
 use Rattle.std.specs.Prelude.{MatchResult, length, map}
 use Rattle.mg_base.specs.Disk.{Meaning}
 use Rattle.mg_base.specs.declared.numbers.RecId.{RecId}

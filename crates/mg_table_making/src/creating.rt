@@ -1,6 +1,6 @@
 //! A transaction makes a table.
 
-ghost use Rattle.std.specs.Prelude.{◌≡◌, ◌≤◌, MatchResult, length};
+ghost use Rattle.std.specs.Prelude.{◌≤◌, MatchResult, length};
 ghost use Rattle.mg_core.specs.Cores.{IsCore};
 ghost use Rattle.mg_table_making.specs.Creating.{CreatesTable, FailsCreation};
 

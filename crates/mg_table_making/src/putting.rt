@@ -1,6 +1,6 @@
 //! A new table is put on the pages, and its changes are kept.
 
-ghost use Rattle.std.specs.Prelude.{◌≡◌, ◌≤◌, MatchResult, length};
+ghost use Rattle.std.specs.Prelude.{◌≤◌, MatchResult, length};
 ghost use Rattle.mg_core.specs.Cores.{IsCore};
 ghost use Rattle.mg_table_making.specs.Creating.{FailsPut, PutsTable};
 
