@@ -6,6 +6,7 @@ pub mod DataLaws
 pub mod EmptyLaws
 pub mod FieldLaws
 pub mod FirstLaws
+pub mod FreeLaws
 pub mod HeaderLaws
 pub mod HeldLaws
 pub mod InventoryLaws
