@@ -11,10 +11,10 @@ use Rattle.mg_generations.specs.After.{generations_of}
 
 -- the history of a new database with these events, and the versions of the key 1 after it
 abbrev pub history : List Event → Entries
-history events = run (new_opening 100) [] events
+history events = run (new_opening 100 0) [] events
 
 abbrev pub versions_after : List Event → List Generation
-versions_after events = generations_of (new_opening 100) [] (history events) kv_name (Int (pos 1))
+versions_after events = generations_of (new_opening 100 0) [] (history events) kv_name (Int (pos 1))
 
 -- the transaction 1 inserts the value 10; 2 and 3 begin, and 2 writes it twice; the write of 3 is
 -- refused until 2 rolls back
@@ -52,7 +52,7 @@ EachSeesItsOwn =
     versions = versions_after events
 
     now : Told
-    now = told (new_opening 100) (history events)
+    now = told (new_opening 100 0) (history events)
 
 -- once 3 has committed, its deletion is shown to whoever begins then, and hinders 4 still
 abbrev pub CommittedIsShown : Type 0
@@ -70,7 +70,7 @@ CommittedIsShown =
     versions = versions_after events
 
     now : Told
-    now = told (new_opening 100) (history events)
+    now = told (new_opening 100 0) (history events)
 
 -- a mark that is taken back leaves the row from before it; a savepoint before the first write
 -- leaves the committed row alone

@@ -26,14 +26,14 @@ none_undrawn o t first above =
     at p q some undrawn = rw (some, undrawn) (refl, refl)
 
 -- a blank image holds what a new database begins with
-pub blank_holds : (form : Form) (size : ℕ) (pages : Pages) (limit k : ℕ) → IsBlank size pages
-    → HoldsDurable form size pages (new_opening limit) [] k
-blank_holds form size pages limit k blank = record {
+pub blank_holds : (form : Form) (size : ℕ) (pages : Pages) (limit free k : ℕ) → IsBlank size pages
+    → HoldsDurable form size pages (new_opening limit free) [] k
+blank_holds form size pages limit free k blank = record {
   opened = record {
     rows = new_row;
     limbo = λ t name key. None;
     next = 1;
-    state = opening_state (new_opening limit);
+    state = opening_state (new_opening limit free);
   };
   holds = blank_image blank (record {
     rows = λ name key. refl;
@@ -44,7 +44,7 @@ blank_holds form size pages limit k blank = record {
   rows = λ name key. refl;
   committed = λ t below. refl;
   limbo = λ t below. refl;
-  undrawn = λ t above. none_undrawn (new_opening limit) t (lit≤ tt) above;
+  undrawn = λ t above. none_undrawn (new_opening limit free) t (lit≤ tt) above;
   changes = λ t name key in_limbo. refl;
 }
 

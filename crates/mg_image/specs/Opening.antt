@@ -42,7 +42,7 @@ pub record IsUnmade (form : Form) (size : ℕ) (pages : Pages) : Type 0 where
 
 -- the row of a new database at a key of a table
 abbrev pub new_row : List ℕ → Value → Option Row
-new_row name key = row_at (opening_rows (new_opening 1)) name key
+new_row name key = row_at (opening_rows (new_opening 1 0)) name key
 
 -- What opening a blank image gives: a new database.
 pub record IsNew (opened : Opened) : Type 0 where

@@ -150,6 +150,7 @@ module _ (form : Form) (fitting : SpellsFitting form.coding) (size : ℕ) (pages
     states = states_from state 1 (next_of pages - 1);
     next = record { 0 = next_of pages };
     limit = record { 0 = MOST_TRANSACTIONS };
+    free = 0;
   }
 
   next_fits : (1 ≤ next_of pages) × (next_of pages ≤ MOST_TRANSACTIONS)

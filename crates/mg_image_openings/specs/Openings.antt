@@ -25,7 +25,7 @@ plain_fitting columns format body row later first is =
     subst (RowFits columns) (sym is.whole) (first_fits columns is.values later
     (subst (λ (n : ℕ). RowFits (columns_of columns n) is.values) first is.fits))
 
-new_begins : (opened : Opened) → IsNew opened → Begins opened (new_opening MOST_TRANSACTIONS)
+new_begins : (opened : Opened) → IsNew opened → Begins opened (new_opening MOST_TRANSACTIONS 0)
 new_begins opened new = record {
   rows = new.rows;
   limbo = new.limbo;
@@ -33,15 +33,15 @@ new_begins opened new = record {
   state = λ t below. at t (subst (λ (n : ℕ). t < n) new.next below);
 }
   where
-    at : (t : ℕ) → t < 1 → opened.state t ≡ opening_state (new_opening MOST_TRANSACTIONS) t
+    at : (t : ℕ) → t < 1 → opened.state t ≡ opening_state (new_opening MOST_TRANSACTIONS 0) t
     at zero below = new.state
     at (suc t) below = absurd (omega (arith, below))
 
 pub opened_begin : (form : Form) → SpellsFitting form.coding → OpenedBegin form
 opened_begin form fitting size pages opened (blank_image blank new) = (
-  new_opening MOST_TRANSACTIONS,
+  new_opening MOST_TRANSACTIONS 0,
   new_begins opened new,
-  new_is_opening MOST_TRANSACTIONS (lit≤ tt) (lit≤ tt),
+  new_is_opening MOST_TRANSACTIONS 0 (lit≤ tt) (lit≤ tt),
 )
 opened_begin form fitting size pages opened (sound_image is) = (
   begun form fitting size pages opened is,

@@ -92,7 +92,7 @@ OpeningsBegin = (o : Opening) → IsOpening o → MayBegin o
 
 -- a new database is an opening
 abbrev pub NewIsOpening : Type 0
-NewIsOpening = (limit : ℕ) → 1 ≤ limit → limit ≤ MOST_TRANSACTIONS → IsOpening (new_opening limit)
+NewIsOpening = (limit free : ℕ) → 1 ≤ limit → limit ≤ MOST_TRANSACTIONS → IsOpening (new_opening limit free)
 
 -- a legal history in which the machine goes on to answer stays legal
 abbrev pub GoesOnLegally : Type 0

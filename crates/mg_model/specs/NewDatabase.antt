@@ -22,14 +22,15 @@ new_catalog pointer =
 abbrev pub in_catalog : Cells → PlacedRow
 in_catalog row = record { table = catalog_name; row = row }
 
--- what a history of a new database begins with; in it page numbers read as 0
-abbrev pub new_opening : ℕ → Opening
-new_opening limit = record {
+-- what a history of a new database begins with, with so many free pages; in it page numbers read as 0
+abbrev pub new_opening : ℕ → ℕ → Opening
+new_opening limit free = record {
   rows = places (new_catalog 0);
   limbo = [];
   states = [];
   next = record { 0 = 1 };
   limit = record { 0 = limit };
+  free = free;
 }
   where
     places : List Cells → List PlacedRow

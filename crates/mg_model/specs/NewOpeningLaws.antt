@@ -17,8 +17,8 @@ use Rattle.mg_model.specs.NewDatabase.{kv_name, new_opening}
 use Rattle.mg_model.specs.NewCatalogLaws.{catalog_lawful, catalog_rows, first_key, key_row, second_key, table_row, third_key, value_row}
 use Rattle.mg_model.specs.Openings.{IsOpening, IsToldCatalog, catalog_with}
 
-module _ (limit : ℕ) where
-  nobody_is_active : (t : ℕ) → opening_state (new_opening limit) t ≢ Active
+module _ (limit free : ℕ) where
+  nobody_is_active : (t : ℕ) → opening_state (new_opening limit free) t ≢ Active
   nobody_is_active t = at (t == 0) (nat_lt t 1)
     where
       at : (a b : Bool) → cond a Committed (cond b Dead Dead) ≢ Active
@@ -27,7 +27,7 @@ module _ (limit : ℕ) where
       at false false is = absurd cc
 
   told : (chosen : ℕ → Bool) (key : Value)
-      → catalog_with (new_opening limit) chosen key ≡ told_if_there (catalog_rows key)
+      → catalog_with (new_opening limit free) chosen key ≡ told_if_there (catalog_rows key)
   told chosen key = at (same_key first_key key) (same_key second_key key) (same_key third_key key)
     where
       some : Cells → Option Cells
@@ -43,7 +43,7 @@ module _ (limit : ℕ) where
       at false false true = refl
       at false false false = refl
 
-  catalog_is_lawful : (chosen : ℕ → Bool) → IsToldCatalog (catalog_with (new_opening limit) chosen)
+  catalog_is_lawful : (chosen : ℕ → Bool) → IsToldCatalog (catalog_with (new_opening limit free) chosen)
   catalog_is_lawful chosen = record {
     stored = catalog_rows;
     lawful = catalog_lawful;
@@ -74,18 +74,18 @@ row_fits key name a b c d there first second = (
         → FitsColumn (catalog_column column kinds.Int false) (Int (pos n))
     number column n = record { kind = tt; allowed = λ not. absurd (false≢true not) }
 
-pub new_is_opening : (limit : ℕ) → 1 ≤ limit → limit ≤ MOST_TRANSACTIONS
-    → IsOpening (new_opening limit)
-new_is_opening limit some most = record {
+pub new_is_opening : (limit free : ℕ) → 1 ≤ limit → limit ≤ MOST_TRANSACTIONS
+    → IsOpening (new_opening limit free)
+new_is_opening limit free some most = record {
   first = omega arith;
   last = some;
   limit = most;
   states = refl;
-  ended = nobody_is_active limit;
+  ended = nobody_is_active limit free;
   in_limbo = tt;
   rows_apart = (refl, (refl, (refl, tt)));
   changes_apart = tt;
-  lawful = catalog_is_lawful limit;
+  lawful = catalog_is_lawful limit free;
   shapes = λ chosen table there. refl;
   rows_fit = (
     (

@@ -19,7 +19,7 @@ run o h (e ∷ es) = run o (entry e (answer o h e) ∷ h) es
 
 -- the answers to these events on a new database, the first one first, up to a last number
 abbrev pub answers_below : ℕ → List Event → List Answer
-answers_below limit events = reverse (map (λ e. e.answer) (run (new_opening limit) [] events))
+answers_below limit events = reverse (map (λ e. e.answer) (run (new_opening limit 0) [] events))
 
 abbrev pub answers : List Event → List Answer
 answers events = answers_below 100 events

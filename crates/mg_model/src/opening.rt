@@ -120,7 +120,8 @@ impl States {
 }
 
 /// Where a history begins: a database, the transactions in limbo with their changes, what has
-/// become of each transaction, the number that is drawn next, and the number that can't be drawn.
+/// become of each transaction, the number that is drawn next, the number that can't be drawn, and a
+/// number of pages that are free.
 #[derive(Debug, Drop)]
 pub struct Opening {
     /// The committed rows of all tables, the catalog's among them.
@@ -133,4 +134,7 @@ pub struct Opening {
     pub next: TxNo,
     /// A transaction is refused where this is the next number: a property of the program.
     pub limit: TxNo,
+    /// So many pages are free, at least. The machine counts no pages; a keeper of records that has
+    /// some is told by this how many it was promised.
+    pub free: u32,
 }

@@ -119,6 +119,7 @@ fn new_opening(rt: &impl Abort, alloc: Global, limit: u32) -> Result<Opening, Fa
         states: States::new(Vec::new(alloc)),
         next: TxNo(1),
         limit: TxNo(limit),
+        free: 0,
     })
 }
 
@@ -590,6 +591,7 @@ fn limbo_opening(rt: &impl Abort, alloc: Global) -> Result<Opening, Fail> {
         states,
         next: TxNo(3),
         limit: TxNo(100),
+        free: 0,
     })
 }
 
