@@ -34,7 +34,7 @@ use Rattle.mg_engine_meaning.specs.Frames.{GivesEvent, MayAnswer}
 use Rattle.mg_engine_meaning.specs.LawfulLaws.{memory_of}
 use Rattle.mg_engine_meaning.specs.Meaning.{Places, WorksFor}
 use Rattle.mg_engine_meaning.specs.Standings.{StandsFor}
-use Rattle.mg_engine_meaning.specs.Begins.{HasCounts}
+use Rattle.mg_engine_meaning.specs.Counts.{HasCounts}
 use Rattle.mg_engine_meaning.specs.BegunLaws.{KnownOfDraws, begun_gives, begun_works}
 use Rattle.mg_engine_meaning.specs.FailedDraws.{failed_gives}
 use Rattle.mg_engine_meaning.specs.CallsRefusedLaws.{refused_gives}

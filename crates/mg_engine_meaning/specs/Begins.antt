@@ -1,5 +1,5 @@
 -- A transaction begins, as a keeper of records owes it.
-use Rattle.std.specs.Prelude.{◌≡◌, ◌<◌, ◌^◌, ℕ, false, None, Result, IfOk}
+use Rattle.std.specs.Prelude.{◌≡◌, ◌<◌, ℕ, false, None, Result, IfOk}
 use Rattle.mg_base.specs.Disk.{Meaning}
 use Rattle.mg_base.specs.declared.numbers.TxNo.{TxNo}
 use Rattle.mg_model.specs.declared.event.Event.TheVariants.{Begin}
@@ -12,13 +12,9 @@ use Rattle.mg_works.specs.Works.{has_session}
 use Rattle.mg_core.specs.declared.parts.Core.{Core}
 use Rattle.mg_core.specs.Beginning.{BeginsFor}
 use Rattle.mg_core.specs.Cores.{IsCore}
+use Rattle.mg_engine_meaning.specs.Counts.{HasCounts}
 use Rattle.mg_engine_meaning.specs.Frames.{GivesEvent}
 use Rattle.mg_engine_meaning.specs.Meaning.{Places, WorksFor}
-
--- Damage and want of pages are counted in 64 bits.
-pub record HasCounts {D : Type 0} (core : Core D) : Type 0 where
-  pub damage : core.damage < 2 ^ 64
-  pub shortages : core.shortages < 2 ^ 64
 
 -- the entry comes to the history; where the transaction begins, it is its session's from then on, and what is known
 -- of tables and walks is that of the others

@@ -43,7 +43,7 @@ use Rattle.mg_engine_meaning.specs.Meaning.{Places, means}
 use Rattle.mg_engine_meaning.specs.Standings.{StandsFor, sessions_in}
 use Rattle.mg_engine_meaning.specs.ReadLaws.{reads_go, reads_quiet, reads_stand, reads_walks}
 use Rattle.mg_engine_meaning.specs.StepLaws.{fail_quiet, fail_stands, fail_walks, fails_goes, time_then, unmarked_run}
-use Rattle.mg_engine_meaning.specs.Begins.{HasCounts}
+use Rattle.mg_engine_meaning.specs.Counts.{HasCounts}
 use Rattle.mg_engine_meaning.specs.CallsRefusedLaws.{list_stands, list_walks, refused_gives}
 use Rattle.mg_engine_meaning.specs.StillLaws.{quiet_then}
 

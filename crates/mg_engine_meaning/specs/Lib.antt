@@ -10,6 +10,7 @@ pub mod CallsRefusedLaws
 pub mod ClosingLaws
 pub mod Closings
 pub mod CommitEnds
+pub mod Counts
 pub mod ComposeLaws
 pub mod DrawnStores
 pub mod Ends

@@ -15,6 +15,7 @@ use Rattle.mg_model.specs.Machine.{state_of}
 use Rattle.mg_pool.specs.Dirty.{is_marked}
 use Rattle.mg_pool.specs.Pool.{shown}
 use Rattle.mg_records.specs.Meaning.{Means}
+use Rattle.mg_records.specs.Needed.{with_room}
 use Rattle.mg_engine_steps.specs.Standing.{Standing}
 use Rattle.mg_works.specs.Works.{MayBeGiven, Working, given_to, has_session, work_of}
 use Rattle.mg_core.specs.declared.parts.Core.{Core}
@@ -104,3 +105,7 @@ means m places = record {
   down = λ core. core.store.offline;
   is_size = λ core size. core.store.geometry.size == size;
 }
+
+-- what it means with the room that the openings of its histories promise: so it is a keeper of records
+abbrev pub means_with_room : {D P : Type 0} → Meaning D → Places P → Means (Core D) P
+means_with_room m places = with_room (means m places)

@@ -30,15 +30,15 @@ use Rattle.mg_overlays.specs.Overlays.{left_by, left_state}
 use Rattle.mg_image_overlays.specs.Growing.{IsTableOf}
 use Rattle.mg_image_overlays.specs.OneLayout.{StandsOneWay}
 
-begins_by : (opened : Opened) → IsNew opened → Begins opened new_history
-begins_by opened new = record {
+begins_by : (free : ℕ) (opened : Opened) → IsNew opened → Begins opened (new_history free)
+begins_by free opened new = record {
   rows = new.rows;
   limbo = new.limbo;
   next = new.next;
   state = λ t below. at t (subst (λ (n : ℕ). t < n) new.next below);
 }
   where
-    at : (t : ℕ) → t < 1 → opened.state t ≡ opening_state new_history t
+    at : (t : ℕ) → t < 1 → opened.state t ≡ opening_state (new_history free) t
     at zero below = new.state
     at (suc t) below = absurd (omega (arith, below))
 
@@ -86,7 +86,7 @@ module _ (size : ℕ) (image : Image) (lawful : is_page_size size ≡ true) (mad
 -- ---- all together
 
 pub new_begin : NewAreSound → NewAreOpened → StandsOneWay packed_form → NewBegin
-new_begin sound opened once size image lawful made whole = by (opened size image lawful made whole)
+new_begin sound opened once free size image lawful made whole = by (opened size image lawful made whole)
   where
     plain : IsNewSound size image → HasPlainTables size (state_at size (page_at size image)) (page_at size image)
     plain is chosen layout r so its of = new_plain size image lawful made layout
@@ -95,12 +95,12 @@ new_begin sound opened once size image lawful made whole = by (opened size image
         (left_is size image lawful made chosen) so) is.sound).0 its of
 
     by : (opened : Opened) × IsOpened packed_form size (page_at size image) opened × IsNew opened
-        → BeginsWith size image new_history
+        → BeginsWith size image (new_history free)
     by (opened, is, new) = record {
       opened = opened;
       sound = is;
-      begins = begins_by opened new;
-      whole = new_is_opening GREATEST_NEXT (lit≤ tt) (lit≤ tt);
+      begins = begins_by free opened new;
+      whole = new_is_opening GREATEST_NEXT free (lit≤ tt) (lit≤ tt);
       limit = refl;
       grows = record { limbo = tt; entries = tt };
       plain_tables = plain (sound size image lawful made whole);

@@ -6,7 +6,7 @@ use Rattle.mg_engine_meaning.specs.Openings.{BeginsWith, new_history}
 use Rattle.mg_format.specs.Format.{IsMade}
 use Rattle.mg_new_databases.specs.Soundness.{HasWholePages}
 
--- a history may begin with what a new database holds
+-- a history may begin with what a new database holds, however many free pages it is promised
 abbrev pub NewBegin : Type 0
-NewBegin = (size : ℕ) (image : Image) → is_page_size size ≡ true → IsMade size image → HasWholePages size image
-    → BeginsWith size image new_history
+NewBegin = (free size : ℕ) (image : Image) → is_page_size size ≡ true → IsMade size image → HasWholePages size image
+    → BeginsWith size image (new_history free)

@@ -24,7 +24,7 @@ use Rattle.mg_survey.specs.Survey.{IsSameDisk}
 use Rattle.mg_txlist.specs.Laws.{LoadedSays}
 use Rattle.mg_works.specs.Works.{Working, has_session}
 use Rattle.mg_engine_meaning.specs.BlankLaws.{header_is_made}
-use Rattle.mg_engine_meaning.specs.OpeningLaws.{begins_standing, catalog_tested, header_read}
+use Rattle.mg_engine_meaning.specs.OpeningLaws.{as_shown, begins_standing, catalog_tested, header_read}
 use Rattle.mg_engine_meaning.specs.NewBegins.{NewBegin}
 use Rattle.mg_engine_meaning.specs.Openings.{IsOpenedOver, IsSettledOn, IsSoundImage, new_history}
 
@@ -130,13 +130,13 @@ module _ {D : Type 0} (m : Meaning D) (counts : CountsNow m) (stands_first : Sta
         (ready_made m counts disk opens.before.disk size ready image tells is)
 
     -- the disk holds the new database, and its history begins with that
-    new_stands : (now : Image) → HasNew m core.store.disk size → Tells m core.store.disk now → HasWholePages size now
-        → StandsFor m core new_history []
-    new_stands now has tells whole =
+    new_stands : (free : ℕ) (now : Image) → HasNew m core.store.disk size → Tells m core.store.disk now
+        → HasWholePages size now → StandsFor m core (new_history free) []
+    new_stands free now has tells whole =
         let same : has.image ≡ now = some_image has.image now (sym has.tells.held ∙ tells.held) in
-        begins_standing m disk limit core opens stands_first starts loaded begin now new_history
+        begins_standing m disk limit core opens stands_first starts loaded begin now (new_history free)
         (record { tells = tells; only = λ c may. has.settled c may ∙ same })
-        (new_begin size now lawful (subst (IsMade size) same has.made) whole)
+        (new_begin free size now lawful (subst (IsMade size) same has.made) whole)
       where
         lawful : is_page_size size ≡ true
         lawful = subst (λ (g : Geometry). is_page_size g.size ≡ true) (sym opens.keeps.geometry)
@@ -156,6 +156,7 @@ module _ {D : Type 0} (m : Meaning D) (counts : CountsNow m) (stands_first : Sta
       size_is = opens.idle.core_is.pool.size;
       limit_is = λ image held. ap (λ (g : Geometry). g.limit) opens.keeps.geometry
           ∙ opens.prepared.limit_is image held;
+      shows = λ image tells. sym (as_shown m disk limit core opens image tells);
       header_is = λ image tells. header_read m disk limit core opens image tells;
       stands = λ image o on it. begins_standing m disk limit core opens stands_first starts loaded begin image o on
           it;
@@ -165,7 +166,7 @@ module _ {D : Type 0} (m : Meaning D) (counts : CountsNow m) (stands_first : Sta
       tested = λ image tells. catalog_tested m disk limit core opens image tells;
       reads = opens.reads;
       made = new_on;
-      begins_new = λ image now tells is then_ whole. new_stands now (new_on image tells is) then_ whole;
+      begins_new = λ free image now tells is then_ whole. new_stands free now (new_on image tells is) then_ whole;
       crash = λ image tells. read_leaves m counts disk opens.before.disk size ready image core.store.disk tells
           opens.keeps.disk;
     }

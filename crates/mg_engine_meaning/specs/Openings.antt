@@ -29,7 +29,7 @@ use Rattle.mg_model.specs.declared.opening.Opening.{Opening}
 use Rattle.mg_model.specs.declared.refusal.Refusal.{Refusal}
 use Rattle.mg_model.specs.declared.refusal.Refusal.TheVariants.{Damaged, NotADatabase}
 use Rattle.mg_new_databases.specs.Soundness.{HasWholePages}
-use Rattle.mg_pool.specs.Pool.{KeepsContent}
+use Rattle.mg_pool.specs.Pool.{KeepsContent, shown}
 use Rattle.mg_space.specs.View.{Tells}
 use Rattle.mg_survey.specs.Survey.{limit_of, IsSameDisk}
 use Rattle.mg_works.specs.Works.{has_session}
@@ -61,9 +61,9 @@ pub record BeginsWith (size : ℕ) (image : Image) (o : Opening) : Type 0 where
   pub grows : CatalogGrows o []
   pub plain_tables : HasPlainTables size (state_at size (page_at size image)) (page_at size image)
 
--- a history of a new database begins with this
-abbrev pub new_history : Opening
-new_history = new_opening GREATEST_NEXT
+-- a history of a new database begins with this, where so many pages are free
+abbrev pub new_history : ℕ → Opening
+new_history free = new_opening GREATEST_NEXT free
 
 -- ---- an engine
 
@@ -84,6 +84,9 @@ pub record IsOpenedOver {D : Type 0} (m : Meaning D) (disk : D) (limit : ℕ) (c
   -- the page limit is the greater of the one that was asked for and the disk's number of pages
   pub limit_is : (image : Image) → m.held disk ≡ Some image
       → core.store.geometry.limit ≡ limit_of limit (length image)
+  -- no page is dirty: the cache shows the disk's pages
+  pub shows : (image : Image) → Tells m core.store.disk image
+      → shown core.store.dirty image ≡ page_at core.store.geometry.size image
   -- page 0 is a header
   pub header_is : (image : Image) → Tells m core.store.disk image → (header : Header)
       × (reading (page_at core.store.geometry.size image 0) core.store.geometry.size ≡ Ok header)
@@ -111,8 +114,9 @@ pub record IsOpenedOver {D : Type 0} (m : Meaning D) (disk : D) (limit : ℕ) (c
       → HasNew m core.store.disk core.store.geometry.size
   -- and the engine then stands for the history of a new database that has no entry. (No page past the greatest page
   -- limit is read or written, so of those it is the disk that has to have whole ones.)
-  pub begins_new : (image now : Image) → Tells m disk image → IsUnmadeImage core.store.geometry.size image
-      → Tells m core.store.disk now → HasWholePages core.store.geometry.size now → StandsFor m core new_history []
+  pub begins_new : (free : ℕ) (image now : Image) → Tells m disk image → IsUnmadeImage core.store.geometry.size image
+      → Tells m core.store.disk now → HasWholePages core.store.geometry.size now
+      → StandsFor m core (new_history free) []
   -- each image that a crash since the start might have left is one from before, one on which a database may be made,
   -- or the new one
   pub crash : (image : Image) → Tells m disk image

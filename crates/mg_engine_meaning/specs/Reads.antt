@@ -16,12 +16,8 @@ use Rattle.mg_core.specs.declared.scanning.Place.{Place}
 use Rattle.mg_core.specs.Cores.{IsCore}
 use Rattle.mg_core.specs.Scanning.{Scans, rank}
 use Rattle.mg_core.specs.Tables.{AnswersTable}
+use Rattle.mg_engine_meaning.specs.Counts.{HasCounts}
 use Rattle.mg_engine_meaning.specs.Meaning.{Places, means}
-
--- The counts of faults are numbers of eight bytes.
-pub record AreCounts {D : Type 0} (core : Core D) : Type 0 where
-  pub damage : core.damage < 2 ^ 64
-  pub shortages : core.shortages < 2 ^ 64
 
 -- ---- tables
 
@@ -37,7 +33,7 @@ pub record GivesTable {D P : Type 0} (m : Meaning D) (places : Places P) (old ne
 -- so does each call that asks for one
 abbrev pub TablesGoOn : (D P : Type 0) → Meaning D → Type 0
 TablesGoOn D P m = (places : Places P) (old new : Core D) (t : TxNo) (name : List ℕ)
-    (result : Result Table Refusal) → IsCore m old → AreCounts old
+    (result : Result Table Refusal) → IsCore m old → HasCounts old
     → AnswersTable m old new t name result → GivesTable m places old new t.0 name result
 
 -- ---- walks
@@ -70,5 +66,5 @@ pub record VisitsRecord {D : Type 0} (m : Meaning D) (places : Places Place) (ol
 abbrev pub VisitsGoOn : (D : Type 0) → Meaning D → Type 0
 VisitsGoOn D m = (places : Places Place) (old new : Core D) (t : TxNo) (table : Table)
     (after : Option Place) (result : Result (Option (Found Place)) Refusal) → AreRanked places
-    → AreCounts old → IsInRank result → Scans m old new t table after result
+    → HasCounts old → IsInRank result → Scans m old new t table after result
     → VisitsRecord m places old new t.0 table after result

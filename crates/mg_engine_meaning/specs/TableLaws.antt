@@ -39,7 +39,8 @@ use Rattle.mg_engine_meaning.specs.Steps.{AddsNone, ReadsGoOn}
 use Rattle.mg_engine_steps.specs.Found.{FoundTablesStand}
 use Rattle.mg_engine_meaning.specs.FaultLaws.{IsOuter, fault_outer}
 use Rattle.mg_engine_meaning.specs.KeepLaws.{catalog_shown, given_now, keep_commits, keep_stands, keep_walks, stay, tables_stay}
-use Rattle.mg_engine_meaning.specs.Reads.{AreCounts, GivesTable}
+use Rattle.mg_engine_meaning.specs.Counts.{HasCounts}
+use Rattle.mg_engine_meaning.specs.Reads.{GivesTable}
 
 -- a table that was given has the name under which it is found
 given_named : (works : List Working) (t : ℕ) (name : List ℕ) (table : Table)
@@ -65,7 +66,7 @@ given_named works t name table is = of (work_of works t) is
 module _ {D P : Type 0} (m : Meaning D) (places : Places P) (reads : ReadsGoOn D P m)
     (keeper : IsKeeper m places) (begin : OpeningsBegin) (tables_told : TablesAreTold)
     (found_stand : FoundTablesStand) (old : Core D) (t : TxNo) (name : List ℕ) (core : IsCore m old)
-    (counts : AreCounts old) where
+    (counts : HasCounts old) where
   active_of : (o : Opening) (h : Entries) → StandsFor m old o h → Continues old t.0
       → state_of o h t.0 ≡ Active
   active_of o h stands continues = sym ((memory_of m old o h stands).state t.0) ∙ continues.1

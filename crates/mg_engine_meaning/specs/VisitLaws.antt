@@ -35,7 +35,8 @@ use Rattle.mg_engine_meaning.specs.Standings.{standing_of}
 use Rattle.mg_engine_meaning.specs.StepLaws.{refused_none}
 use Rattle.mg_engine_meaning.specs.Steps.{AddsNone, ReadsGoOn}
 use Rattle.mg_engine_meaning.specs.FaultLaws.{IsOuter, fault_outer}
-use Rattle.mg_engine_meaning.specs.Reads.{AreCounts, AreRanked, IsInRank, VisitsRecord}
+use Rattle.mg_engine_meaning.specs.Counts.{HasCounts}
+use Rattle.mg_engine_meaning.specs.Reads.{AreRanked, IsInRank, VisitsRecord}
 
 -- the rows of a table that is not the catalog are told as they are stored
 told_plain : (table : Table) (row : Row) → same_name table.name catalog_name ≡ false → told_row table row ≡ row
@@ -52,7 +53,7 @@ found_row table (Some row) key rows apart is =
 
 module _ {D : Type 0} (m : Meaning D) (places : Places Place) (ranked : AreRanked places)
     (reads : ReadsGoOn D Place m) (keeper : IsKeeper m places) (go_on : WalksGoOn) (old : Core D) (t : TxNo) (table : Table)
-    (after : Option Place) (counts : AreCounts old) where
+    (after : Option Place) (counts : HasCounts old) where
   record_same : (place : Option Place) → rec_of (place_at places place) ≡ record_of place
   record_same None = refl
   record_same (Some place) = ap Some (ranked.rec place)
