@@ -8,3 +8,4 @@ pub mod TakingBack
 pub mod Sessions
 pub mod Committing
 pub mod Room
+pub mod Needed

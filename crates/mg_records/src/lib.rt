@@ -12,7 +12,8 @@
 //! (`specs/Crashing`). A session has one active transaction at most (`specs/Sessions`). A refusal from
 //! outside the machine comes only by its cause, a fault of the disk is told by one, and once a page
 //! write has failed every call is refused (`specs/Keeping`). A call takes no more of the free pages than
-//! its number says, and is refused for want of pages only where fewer are free (`specs/Room`).
+//! its number says, and is refused for want of pages only where fewer are free (`specs/Room`). So a keeper can
+//! account for the pages that the opening of its history promised (`specs/Needed`).
 //!
 //! Not every clause of a call holds of every history: where the machine speaks of an active
 //! transaction only, so does the clause. What a value stands for is known to proofs alone.
