@@ -17,7 +17,8 @@ use Rattle.mg_core.specs.declared.parts.Core.{Core}
 use Rattle.mg_core.specs.Beginning.{BeginsFor, FailsBegin}
 use Rattle.mg_core.specs.Committing.{WritesPage}
 use Rattle.mg_core.specs.Cores.{IsCore}
-use Rattle.mg_engine_meaning.specs.Begins.{BeginsGive, HasCounts}
+use Rattle.mg_engine_meaning.specs.Begins.{BeginsGive}
+use Rattle.mg_engine_meaning.specs.Counts.{HasCounts}
 use Rattle.mg_engine_meaning.specs.NewWorks.{next_none}
 use Rattle.mg_engine_meaning.specs.NextPages.{NextPagesGoOn, WritesPages}
 use Rattle.mg_engine_meaning.specs.Frames.{GivesEvent}

@@ -10,6 +10,7 @@ use Rattle.mg_model.specs.declared.event.Event.TheVariants.{Commit, Look, Mark, 
 use Rattle.mg_model.specs.declared.refusal.Refusal.{Refusal}
 use Rattle.mg_model.specs.Changes.{Cells}
 use Rattle.mg_records.specs.Adding.{fine_or}
+use Rattle.mg_records.specs.Committing.{WritesOne}
 use Rattle.mg_records.specs.Keeping.{refusal_in}
 use Rattle.mg_records.specs.Sessions.{ended_in}
 use Rattle.mg_core.specs.declared.parts.Core.{Core}
@@ -21,7 +22,7 @@ use Rattle.mg_engine_meaning.specs.Looks.{LooksGoOn}
 use Rattle.mg_engine_meaning.specs.Frames.{GivesEvent}
 use Rattle.mg_engine_meaning.specs.Laws.{FoundGoesOn, GoesOnOr, MarksGoOn, SavepointsGoOn, TellsFound}
 use Rattle.mg_engine_meaning.specs.Ends.{CommitsGo, GivesDurable, RollbacksGo}
-use Rattle.mg_engine_meaning.specs.Meaning.{HasWrittenAll, Places}
+use Rattle.mg_engine_meaning.specs.Meaning.{HasWrittenAll, Places, means}
 use Rattle.mg_engine_meaning.specs.Standings.{asked_in}
 use Rattle.mg_engine_meaning.specs.Steps.{AddsNone, AsksGoOn, StepsGoOn}
 use Rattle.mg_engine.specs.Engines.{IsEngine}
@@ -70,6 +71,12 @@ module _ {D P : Type 0} (m : Meaning D) (places : Places P) (inside old new : Co
   steps_as law t result asked steps = subst (λ (c : Core D). AddsNone m places c new t result None) same
       (law places inside new t result is.lawful (subst (λ (c : Core D). asked_in c.works t ≡ true) (sym same) asked)
       steps).0
+
+  pub steps_one : StepsGoOn D P m → (t : ℕ) (result : Result Bool Refusal) → asked_in old.works t ≡ true
+      → StepsCommit m inside new t result → WritesOne (means m places) old new t result
+  steps_one law t result asked steps = subst (λ (c : Core D). WritesOne (means m places) c new t result) same
+      (law places inside new t result is.lawful (subst (λ (c : Core D). asked_in c.works t ≡ true) (sym same) asked)
+      steps).1
 
   pub rollbacks_as : RollbacksGo D P m → (t : TxNo) (result : Result (Unit {0}) Refusal)
       → MatchResult result (λ _. RollsBack inside new t.0) (IsRefused inside new t.0)

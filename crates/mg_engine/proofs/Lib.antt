@@ -6,3 +6,4 @@ mod ReadLemmas
 mod WriteLemmas
 mod BackLemmas
 mod ToldLemmas
+mod RoomLemmas

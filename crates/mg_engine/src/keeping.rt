@@ -1,14 +1,14 @@
 //! The engine as a keeper of records.
 
-ghost use Rattle.mg_engine_meaning.specs.Meaning.{means};
+ghost use Rattle.mg_engine_meaning.specs.Meaning.{means, means_with_room};
 ghost use Rattle.mg_engine_meaning.specs.LawfulLaws.{crashes_hold, holds_on, pages_are_few, tables_are_seen};
+ghost use Rattle.mg_no_damage.specs.AlikeRoom.{crashes_with, lasts_with, one_with, seen_with, whole_with};
 ghost use Rattle.mg_engine.specs.Places.{places};
 ghost use Rattle.mg_engine.specs.KeeperLaws.{sessions_are_one, walks_come_to_all};
 
 use crate::engine::Engine;
 use crate::making::{note_columns, note_name};
-use crate::page_writes::tell_counts;
-use crate::sizes::{copy_place, counts_fit, in_rank, is_short};
+use crate::sizes::{copy_place, counts_fit, in_rank, is_short, tell_counts};
 use crate::taking::{take_to_mark, take_to_savepoint};
 use crate::writing::note_write;
 use mg_base::{Disk, Memory, TxNo};
@@ -40,7 +40,7 @@ use std::alloc::Global;
 impl<D: Disk> Records for Engine<D> {
     type Place = Place;
 
-    ghost meaning = { means D.meaning places };
+    ghost meaning = { means_with_room D.meaning places };
 
     fn copy_place(alloc: Global, place: &Place) -> Result<Place, Memory> {
         copy_place(alloc, place)
@@ -238,17 +238,17 @@ impl<D: Disk> Records for Engine<D> {
         self.core.rollback(t)
     }
 
-    ghost seen = { tables_are_seen D.meaning places };
+    ghost seen = { seen_with (means D.meaning places) (tables_are_seen D.meaning places) };
 
-    ghost whole = { walks_come_to_all D.meaning places };
+    ghost whole = { whole_with (means D.meaning places) (walks_come_to_all D.meaning places) };
 
     ghost few = { pages_are_few D.meaning places };
 
-    ghost crashes = { crashes_hold D.meaning places };
+    ghost crashes = { crashes_with (means D.meaning places) (crashes_hold D.meaning places) };
 
-    ghost lasts = { holds_on D.meaning places };
+    ghost lasts = { lasts_with (means D.meaning places) (holds_on D.meaning places) };
 
-    ghost one = { sessions_are_one D.meaning places };
+    ghost one = { one_with (means D.meaning places) (sessions_are_one D.meaning places) };
 }
 
 impl<D: Disk> PageWrites for Engine<D> {

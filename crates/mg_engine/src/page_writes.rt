@@ -1,19 +1,18 @@
 //! Page writes between calls.
 
-ghost use Rattle.std.specs.Prelude.{◌<◌, None};
+ghost use Rattle.std.specs.Prelude.{None};
 ghost use Rattle.mg_records.specs.Crashing.{LeavesQuietly};
 ghost use Rattle.mg_records.specs.Keeping.{FaultsAreTold, MeetsNoDamage, Reads, refusal_in};
 ghost use Rattle.mg_records.specs.Room.{TakesFew};
 ghost use Rattle.mg_records.specs.Sessions.{SessionsStay};
 ghost use Rattle.mg_core.specs.Committing.{WritesPage};
-ghost use Rattle.mg_engine_meaning.specs.Begins.{HasCounts};
 ghost use Rattle.mg_engine_meaning.specs.NextPages.{WritesNext};
-ghost use Rattle.mg_engine_meaning.specs.Meaning.{means};
+ghost use Rattle.mg_engine_meaning.specs.Meaning.{means, means_with_room};
 ghost use Rattle.mg_engine.specs.Places.{places};
 
 use crate::engine::Engine;
 use mg_base::{Disk, PageNo};
-use mg_core::{Core, Place};
+use mg_core::Place;
 use mg_engine_changes::page_writes_tell_faults;
 use mg_engine_meaning::next_pages_go_on;
 use mg_model::Refusal;
@@ -30,12 +29,12 @@ impl<D: Disk> Engine<D> {
     pub fn write_page(&mut self) -> Result<Option<PageNo>, Refusal>
         ensures next { WritesNext (means D.meaning places) self.old self.new result }
         ensures writes { WritesPage D.meaning self.old self.new result }
-        ensures reads { Reads (means D.meaning places) self.old self.new (refusal_in result) None }
-        ensures told { FaultsAreTold (means D.meaning places) self.old self.new (refusal_in result) }
-        ensures undamaged { MeetsNoDamage (means D.meaning places) self.old self.new }
-        ensures room { TakesFew (means D.meaning places) self.old self.new (refusal_in result) 0 }
-        ensures crash { LeavesQuietly (means D.meaning places) self.old self.new }
-        ensures sessions { SessionsStay (means D.meaning places) self.old self.new None None }
+        ensures reads { Reads (means_with_room D.meaning places) self.old self.new (refusal_in result) None }
+        ensures told { FaultsAreTold (means_with_room D.meaning places) self.old self.new (refusal_in result) }
+        ensures undamaged { MeetsNoDamage (means_with_room D.meaning places) self.old self.new }
+        ensures room { TakesFew (means_with_room D.meaning places) self.old self.new (refusal_in result) 0 }
+        ensures crash { LeavesQuietly (means_with_room D.meaning places) self.old self.new }
+        ensures sessions { SessionsStay (means_with_room D.meaning places) self.old self.new None None }
     {
         page_writes_tell_faults::<D>();
         commits_meet_no_damage::<D>();
@@ -43,12 +42,4 @@ impl<D: Disk> Engine<D> {
         next_pages_go_on::<D, Place>();
         self.core.write_page()
     }
-}
-
-/// Damage and want of pages are counted in 64 bits.
-pub(crate) fn tell_counts<D: Disk>(core: &Core<D>)
-    ensures { HasCounts core.now }
-{
-    let _damage = core.damage;
-    let _shortages = core.shortages;
 }

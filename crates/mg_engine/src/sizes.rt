@@ -2,12 +2,13 @@
 
 ghost use Rattle.std.specs.Prelude.{◌≡◌, ◌<◌, ◌^◌, Some, Ok};
 ghost use Rattle.std.specs.Option.{option_copied};
+ghost use Rattle.mg_engine_meaning.specs.Counts.{HasCounts};
 ghost use Rattle.mg_engine_meaning.specs.Reads.{IsInRank};
 ghost use Rattle.mg_no_damage.specs.Walks.{IsShortPlace};
 ghost use Rattle.mg_core.specs.Scanning.{rank};
 
-use mg_base::Memory;
-use mg_core::Place;
+use mg_base::{Disk, Memory};
+use mg_core::{Core, Place};
 use mg_model::Refusal;
 use mg_records::Found;
 use std::alloc::Global;
@@ -27,6 +28,14 @@ pub(crate) fn copy_place(_alloc: Global, place: &Place) -> Result<Place, Memory>
 pub(crate) fn counts_fit(damage: u64, shortages: u64)
     ensures { (damage < 2 ^ 64) × (shortages < 2 ^ 64) }
 {}
+
+/// Damage and want of pages are counted in 64 bits.
+pub(crate) fn tell_counts<D: Disk>(core: &Core<D>)
+    ensures { HasCounts core.now }
+{
+    let _damage = core.damage;
+    let _shortages = core.shortages;
+}
 
 /// The place that was found has a rank of six bytes.
 pub(crate) fn in_rank(visited: &Result<Option<Found<Place>>, Refusal>)

@@ -11,10 +11,11 @@ use Rattle.mg_header.specs.declared.header.Header.{Header}
 use Rattle.mg_image.specs.Inventory.{header_of}
 use Rattle.mg_image.specs.Sound.{HasHeader}
 use Rattle.mg_image_overlays.specs.DataPages.{byte_blank, kind_of}
-use Rattle.mg_no_damage.specs.Inventory.{PagesAreTaken, SoundRegionsAreLawful}
+use Rattle.mg_no_damage.specs.Inventory.{PagesAreTaken}
 use Rattle.mg_pool.specs.Dirty.{DirtyPages, content_of}
 use Rattle.mg_pool.specs.Pool.{shown}
 use Rattle.mg_pool.specs.declared.pool.Pool.{Pool}
+use Rattle.mg_space.specs.RegionLaws.{sound_regions}
 use Rattle.mg_space.specs.View.{IsMissing}
 use Rattle.mg_space.specs.ViewLaws.{tells_on}
 use Rattle.mg_space.specs.declared.fault.SpaceFault.TheVariants as faults
@@ -50,20 +51,19 @@ head_read m store size pages header there it (inr (fault, wrong, is)) =
     sym (reads (pages 0) size header.database header.fields) ∙ wrong in absurd cc
 
 pub numbers_are_drawn : {D : Type 0} (m : Meaning D) → ((disk : D) (image : Image) (n : ℕ)
-    → m.held disk ≡ Some image → m.count disk ≡ Some n → length image ≡ n) → SoundRegionsAreLawful
-    → PagesAreTaken → NumbersAreDrawn m
-numbers_are_drawn m counted lawful taken old new image state layout r sees t next it (inl head) =
+    → m.held disk ≡ Some image → m.count disk ≡ Some n → length image ≡ n) → PagesAreTaken → NumbersAreDrawn m
+numbers_are_drawn m counted taken old new image state layout r sees t next it (inl head) =
     head_read m new old.geometry.size (shown old.dirty image) sees.sound.header there it head
   where
     there : (count : ℕ) → IsMissing m new [] 0 count → shown old.dirty image 0 ≡ blank new.dirty.size
     there count missing = ap (λ (d : DirtyPages). shown d image 0) (sym sees.keeps.dirty)
         ∙ missing_blank m counted new image (tells_on m old new image sees.keeps sees.tells).held 0 count missing
-numbers_are_drawn m counted lawful taken old new image state layout r sees t next it (inr (inl other)) =
+numbers_are_drawn m counted taken old new image state layout r sees t next it (inr (inl other)) =
     let both : ◌≡◌ {A = Result Header HeadFault} (Ok (header_of (shown old.dirty image))) (Ok other.header) =
     sym (reads (shown old.dirty image 0) old.geometry.size sees.sound.header.database sees.sound.header.fields)
     ∙ other.reads in
     let same : header_of (shown old.dirty image) ≡ other.header = cc in
     other.other (ap (λ (h : Header). h.next.0) (sym same) ∙ next)
-numbers_are_drawn m counted lawful taken old new image state layout r sees t next it (inr (inr (first, take))) =
-    taken old.geometry (shown old.dirty image) (lawful old.geometry (shown old.dirty image) sees.geometry
+numbers_are_drawn m counted taken old new image state layout r sees t next it (inr (inr (first, take))) =
+    taken old.geometry (shown old.dirty image) (sound_regions old.geometry (shown old.dirty image) sees.geometry
     sees.sound.header.whole sees.sound.inventory) it take

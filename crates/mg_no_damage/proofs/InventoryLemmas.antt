@@ -1,27 +1,16 @@
 -- Lawful inventory pages are read, and are lawful after a page was taken.
-use Rattle.std.proofs.Common.{◌≡◌, ◌≢◌, ◌∙◌, ◌⊎◌, inl, inr, ℕ, length, Ok, Err, Result, sym, ap, subst, arith}
+use Rattle.std.proofs.Common.{◌≡◌, ◌≢◌, ◌∙◌, ◌⊎◌, inl, inr, ℕ, length, Ok, Err, Result, sym, ap, subst}
 use Rattle.std.proofs.lemmas.Bool.{cases_eq}
 use Rattle.mg_base.specs.CheckLaws.{verdict_from_passes}
-use Rattle.mg_base.specs.Image.{blank}
 use Rattle.mg_base.specs.declared.damage.Damaged.{Damaged}
-use Rattle.mg_image.specs.Form.{Pages}
 use Rattle.mg_image.specs.Inventory.{inventory_page}
 use Rattle.mg_image.specs.Sound.{HasRegion}
 use Rattle.mg_pip.specs.PipPage.{pip_checks}
 use Rattle.mg_space.specs.Taking.{IsLawfulRegion, region_of}
 use Rattle.mg_space.specs.TakingLaws.{takes_region}
 use Rattle.mg_space.specs.FreePages.{TakingKeepsRegions}
-use Rattle.mg_no_damage.specs.Inventory.{PagesAreTaken, SoundRegionsAreLawful}
-
-lawful_region : (size : ℕ) (pages : Pages) (at region : ℕ) → length (pages at) ≡ size
-    → HasRegion size pages at region → IsLawfulRegion at region (pages at)
-lawful_region size pages at region whole (inl empty) = inl (empty ∙ ap blank (sym whole))
-lawful_region size pages at region whole (inr wanted) = inr wanted.fields
-
-pub sound_regions : SoundRegionsAreLawful
-sound_regions g pages lawful whole has region below =
-    lawful_region g.size pages (inventory_page g.size region) region (whole (inventory_page g.size region))
-    (has region (let most = lawful.limit in omega (arith, below, most)))
+use Rattle.mg_space.specs.RegionLaws.{lawful_region}
+use Rattle.mg_no_damage.specs.Inventory.{PagesAreTaken}
 
 pub pages_taken : PagesAreTaken
 pages_taken g pages regions it refused = at (regions refused.region refused.below)

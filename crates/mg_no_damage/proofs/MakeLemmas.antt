@@ -14,6 +14,7 @@ use Rattle.mg_image.specs.Tables.{Has, Layout}
 use Rattle.mg_model.specs.Catalog.{catalog_shape}
 use Rattle.mg_model.specs.declared.table.Table.{Table}
 use Rattle.mg_space.specs.FreePages.{HasRegions}
+use Rattle.mg_space.specs.RegionLaws.{sound_regions}
 use Rattle.mg_no_damage.specs.Sees.{no_batch}
 use Rattle.mg_no_damage.specs.Batches.{ShowsSound}
 use Rattle.mg_no_damage.specs.CatalogGrowth.{HasGrown, StoresShort, rows_count}
@@ -135,7 +136,7 @@ module _ {D : Type 0} (m : Meaning D) (laws : Reads m)
     not_refused after keeps damage (table_page refused) = laws.taken old.geometry (view no_batch) regions damage refused
       where
         regions : HasRegions old.geometry (view no_batch)
-        regions = laws.lawful old.geometry (view no_batch) it.geometry it.midway.sound.header.whole
+        regions = sound_regions old.geometry (view no_batch) it.geometry it.midway.sound.header.whole
             it.midway.sound.inventory
     not_refused after keeps damage (table_rows page begun ready takes keeps_more refused) =
         table_put m laws after it.image (tells_on m old after it.image keeps it.tells) size state catalog shaped begins_some

@@ -40,7 +40,7 @@ no_want (Some refusal) wants limit is = wants limit (cc is)
 -- ---- by what the caches show before the call and after it
 
 -- where so many pages are free, fewer are
-has_fewer : {D : Type 0} (m : Meaning D) (core : Core D) (many few : ℕ) → few ≤ many → CoreHasFree m core many
+pub has_fewer : {D : Type 0} (m : Meaning D) (core : Core D) (many few : ℕ) → few ≤ many → CoreHasFree m core many
     → CoreHasFree m core few
 has_fewer m core many few less has image tells = record {
   regions = (has image tells).regions;

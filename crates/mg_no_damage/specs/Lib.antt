@@ -1,3 +1,4 @@
+pub mod AlikeRoom
 pub mod BackKeys
 pub mod BackOverRoom
 pub mod BackRoom
@@ -50,6 +51,7 @@ pub mod Stands
 pub mod Tables
 pub mod Views
 pub mod Walks
+pub mod WithRoom
 pub mod WriteRoom
 pub mod WriteStanding
 pub mod Writes

@@ -15,7 +15,7 @@ use Rattle.mg_image.specs.ReadingLaws.{RowsAreOne}
 use Rattle.mg_image.specs.Sound.{HasTablePages}
 use Rattle.mg_image.specs.Tables.{Has, Stand}
 use Rattle.mg_space.specs.FreePages.{TakingKeepsRegions}
-use Rattle.mg_no_damage.specs.Inventory.{PagesAreTaken, SoundRegionsAreLawful}
+use Rattle.mg_no_damage.specs.Inventory.{PagesAreTaken}
 use Rattle.mg_no_damage.specs.Standing.{LastsAreThere, SeesStand, StandsAreReached, StandsAreThere, StandsAreWalked}
 use Rattle.mg_pool.specs.Batch.{Changed, content_in}
 use Rattle.mg_pool.specs.Dirty.{DirtyPages}
@@ -35,7 +35,6 @@ pub record Reads {D : Type 0} (m : Meaning D) : Type 0 where
   pub walked : StandsAreWalked m
   pub reached : StandsAreReached m
   pub lasts : LastsAreThere m
-  pub lawful : SoundRegionsAreLawful
   pub taken : PagesAreTaken
   pub kept : TakingKeepsRegions
   pub one : RowsAreOne packed_coding

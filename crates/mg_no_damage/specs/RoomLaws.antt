@@ -26,6 +26,7 @@ use Rattle.mg_image.specs.Tables.{Has, Layout, stands_of, table_at}
 use Rattle.mg_image_overlays.specs.Trees.{trees_stay}
 use Rattle.mg_model.specs.declared.table.Table.{Table}
 use Rattle.mg_space.specs.FreePages.{HasRegions}
+use Rattle.mg_space.specs.RegionLaws.{sound_regions}
 use Rattle.mg_pool.specs.Batch.{Changed, content_in, lists}
 use Rattle.mg_pool.specs.declared.pool.Pool.{Pool}
 use Rattle.mg_slots.specs.DataPage.{IsNewPage, cell_of}
@@ -65,7 +66,7 @@ module _ {D : Type 0} (m : Meaning D) (laws : Reads m) (a n : Pool D FireLinks) 
   begins = ap (λ (t : Table). t.pointer.0) its.table_is
 
   regions : HasRegions a.geometry (view old)
-  regions = laws.lawful a.geometry (view old) geometry sound.header.whole sound.inventory
+  regions = sound_regions a.geometry (view old) geometry sound.header.whole sound.inventory
 
   -- ---- no damage is met on the way to a page with room
 

@@ -111,6 +111,10 @@
 //! `MarksOverTakeFew`, `SavepointsOverTakeFew`: 5 for each record that is taken back). Each other call takes none
 //! (`LooksTakeNone`, ..).
 //!
+//! So whoever stands for a history with the room that its opening promises (`StandsWithRoom` of mg_records) stands so for
+//! the longer one after a call: `specs/WithRoom` has it of each form of clause, over any keeper of records, and
+//! `specs/AlikeRoom` has what such a clause says of other things.
+//!
 //! There is no program here: each function does nothing, and its contract is a law.
 //!
 //! Invariant: none, it keeps no state.

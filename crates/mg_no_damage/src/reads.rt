@@ -1,7 +1,7 @@
 //! The laws.
 
 ghost use Rattle.mg_space.specs.FreePages.{TakingKeepsRegions};
-ghost use Rattle.mg_no_damage.specs.Inventory.{PagesAreTaken, SoundRegionsAreLawful};
+ghost use Rattle.mg_no_damage.specs.Inventory.{PagesAreTaken};
 ghost use Rattle.mg_no_damage.specs.Keyed.{RowsAreKeyed, TablesAreKeyed};
 ghost use Rattle.mg_no_damage.specs.Keys.{KeysAreRead, ObstaclesAreRead, SpeakersAreRead, WaysAreRead};
 ghost use Rattle.mg_no_damage.specs.Order.{WalksAscend};
@@ -95,7 +95,6 @@ pub fn sound_images_are_lawful()
 
 /// A page is taken from lawful inventory pages, or none is free; and they are lawful then.
 pub fn pages_are_taken()
-    ensures lawful { SoundRegionsAreLawful }
     ensures taken { PagesAreTaken }
     ensures kept { TakingKeepsRegions }
 {}

@@ -1,8 +1,5 @@
-use Rattle.mg_no_damage.proofs.InventoryLemmas.{pages_taken, regions_kept, sound_regions}
+use Rattle.mg_no_damage.proofs.InventoryLemmas.{pages_taken, regions_kept}
 use Rattle.mg_no_damage.proofs.reads.pages_are_taken.Goals as goal
-
-pub returns-clause-lawful : goal.returns-clause-lawful
-returns-clause-lawful c = sound_regions
 
 pub returns-clause-taken : goal.returns-clause-taken
 returns-clause-taken c = pages_taken

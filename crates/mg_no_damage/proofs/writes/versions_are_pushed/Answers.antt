@@ -7,7 +7,6 @@ returns g c = pushes_are_filled g.D.Disk.meaning (record {
   walked = c.stands_are_read.ensures.walked;
   reached = c.stands_are_read.ensures.reached;
   lasts = c.stands_are_read.ensures.lasts;
-  lawful = c.pages_are_taken.ensures.lawful;
   taken = c.pages_are_taken.ensures.taken;
   kept = c.pages_are_taken.ensures.kept;
   one = c.one_reading.ensures.packed_rows;

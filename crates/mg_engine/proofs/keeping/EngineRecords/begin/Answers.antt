@@ -1,4 +1,4 @@
-use Rattle.std.proofs.Common.{ap, false, subst, sym, ◌≡◌}
+use Rattle.std.proofs.Common.{ap, arith, false, subst, sym, ◌≡◌}
 use Rattle.mg_core.specs.declared.parts.Core.{Core}
 use Rattle.mg_works.specs.Works.{has_session}
 use Rattle.mg_engine.specs.Places.{places}
@@ -6,6 +6,10 @@ use Rattle.mg_records.specs.Keeping.{refusal_in}
 use Rattle.mg_records.specs.Room.{pages_of_begin}
 use Rattle.mg_engine.proofs.BeginLemmas.{begins_apart, begins_as}
 use Rattle.mg_engine.proofs.ToldLemmas.{room_as, told_as, undamaged_as}
+use Rattle.mg_engine.proofs.RoomLemmas.{numbers_room}
+use Rattle.mg_engine_meaning.specs.Meaning.{means}
+use Rattle.mg_no_damage.specs.AlikeRoom.{leaves_with, quietly_with, room_with, sessions_with, undamaged_with}
+use Rattle.mg_model.specs.declared.event.Event.TheVariants.{Begin}
 use Rattle.mg_engine.proofs.keeping.EngineRecords.begin.Goals as goal
 
 pub begin-requires-clause-free : goal.begin-requires-clause-free
@@ -22,24 +26,33 @@ invariant_of-self g c = record {
 }
 
 pub returns-clause-adds : goal.returns-clause-adds
-returns-clause-adds g c = (begins_as g.D.Disk.meaning places c.self.inside.core c.args.self.now c.begin.new.self
+returns-clause-adds g c = numbers_room g.D.Disk.meaning places c.args.self.now c.begin.new.self (Begin c.args.session c.args.mode) c.begin.result pages_of_begin
+    (λ o h. omega arith)
+    (room_as g.D.Disk.meaning places c.self.inside.core c.args.self.now
+    c.begin.new.self c.self.view_is (refusal_in c.begin.result) pages_of_begin
+    (c.begins_take_few.ensures c.self.inside.core c.begin.new.self c.args.session c.args.mode c.begin.result
+    c.self.invariant.lawful c.begin.ensures.begins))
+    ((begins_as g.D.Disk.meaning places c.self.inside.core c.args.self.now c.begin.new.self
     c.self.view_is c.self.invariant c.begins_give.ensures c.args.session c.args.mode c.begin.result c.begin.ensures.core
-    c.tell_counts.ensures c.requires.session c.requires.free c.begin.ensures.begins).0.adds
+    c.tell_counts.ensures c.requires.session c.requires.free c.begin.ensures.begins).0.adds)
 
 pub returns-clause-leaves : goal.returns-clause-leaves
-returns-clause-leaves g c = (begins_as g.D.Disk.meaning places c.self.inside.core c.args.self.now c.begin.new.self
+returns-clause-leaves g c = leaves_with (means g.D.Disk.meaning places) c.args.self.now c.begin.new.self _ _ _
+    ((begins_as g.D.Disk.meaning places c.self.inside.core c.args.self.now c.begin.new.self
     c.self.view_is c.self.invariant c.begins_give.ensures c.args.session c.args.mode c.begin.result c.begin.ensures.core
-    c.tell_counts.ensures c.requires.session c.requires.free c.begin.ensures.begins).0.leaves
+    c.tell_counts.ensures c.requires.session c.requires.free c.begin.ensures.begins).0.leaves)
 
 pub returns-clause-crash : goal.returns-clause-crash
-returns-clause-crash g c = (begins_as g.D.Disk.meaning places c.self.inside.core c.args.self.now c.begin.new.self
+returns-clause-crash g c = quietly_with (means g.D.Disk.meaning places) c.args.self.now c.begin.new.self
+    ((begins_as g.D.Disk.meaning places c.self.inside.core c.args.self.now c.begin.new.self
     c.self.view_is c.self.invariant c.begins_give.ensures c.args.session c.args.mode c.begin.result c.begin.ensures.core
-    c.tell_counts.ensures c.requires.session c.requires.free c.begin.ensures.begins).0.crash
+    c.tell_counts.ensures c.requires.session c.requires.free c.begin.ensures.begins).0.crash)
 
 pub returns-clause-sessions : goal.returns-clause-sessions
-returns-clause-sessions g c = (begins_as g.D.Disk.meaning places c.self.inside.core c.args.self.now c.begin.new.self
+returns-clause-sessions g c = sessions_with (means g.D.Disk.meaning places) c.args.self.now c.begin.new.self _ _
+    ((begins_as g.D.Disk.meaning places c.self.inside.core c.args.self.now c.begin.new.self
     c.self.view_is c.self.invariant c.begins_give.ensures c.args.session c.args.mode c.begin.result c.begin.ensures.core
-    c.tell_counts.ensures c.requires.session c.requires.free c.begin.ensures.begins).0.sessions
+    c.tell_counts.ensures c.requires.session c.requires.free c.begin.ensures.begins).0.sessions)
 
 pub returns-clause-works : goal.returns-clause-works
 returns-clause-works g c = (begins_as g.D.Disk.meaning places c.self.inside.core c.args.self.now c.begin.new.self
@@ -53,13 +66,15 @@ returns-clause-told g c = told_as g.D.Disk.meaning places c.self.inside.core c.a
     c.begin.ensures.begins)
 
 pub returns-clause-undamaged : goal.returns-clause-undamaged
-returns-clause-undamaged g c = undamaged_as g.D.Disk.meaning places c.self.inside.core c.args.self.now
+returns-clause-undamaged g c = undamaged_with (means g.D.Disk.meaning places) c.args.self.now c.begin.new.self
+    (undamaged_as g.D.Disk.meaning places c.self.inside.core c.args.self.now
     c.begin.new.self c.self.view_is
     (c.begins_meet_no_damage.ensures c.self.inside.core c.begin.new.self c.args.session c.args.mode c.begin.result
-    c.self.invariant.lawful c.begin.ensures.begins)
+    c.self.invariant.lawful c.begin.ensures.begins))
 
 pub returns-clause-room : goal.returns-clause-room
-returns-clause-room g c = room_as g.D.Disk.meaning places c.self.inside.core c.args.self.now
+returns-clause-room g c = room_with (means g.D.Disk.meaning places) c.args.self.now c.begin.new.self _ _
+    (room_as g.D.Disk.meaning places c.self.inside.core c.args.self.now
     c.begin.new.self c.self.view_is (refusal_in c.begin.result) pages_of_begin
     (c.begins_take_few.ensures c.self.inside.core c.begin.new.self c.args.session c.args.mode c.begin.result
-    c.self.invariant.lawful c.begin.ensures.begins)
+    c.self.invariant.lawful c.begin.ensures.begins))

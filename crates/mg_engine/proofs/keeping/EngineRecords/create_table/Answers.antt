@@ -4,6 +4,9 @@ use Rattle.mg_records.specs.Keeping.{refusal_in}
 use Rattle.mg_engine.proofs.MakingLemmas.{makes_apart, makes_as, makes_room, makes_undamaged}
 use Rattle.mg_engine_changes.specs.MakingSteps.{AreNamed}
 use Rattle.mg_engine.proofs.ToldLemmas.{told_as}
+use Rattle.mg_engine.proofs.RoomLemmas.{makes_table_room}
+use Rattle.mg_engine_meaning.specs.Meaning.{means}
+use Rattle.mg_no_damage.specs.AlikeRoom.{leaves_with, quietly_with, room_with, sessions_with, undamaged_with}
 use Rattle.mg_engine.proofs.keeping.EngineRecords.create_table.Goals as goal
 
 pub invariant_of-self : goal.invariant_of-self
@@ -17,32 +20,42 @@ invariant_of-self g c = record {
 }
 
 pub returns-clause-adds : goal.returns-clause-adds
-returns-clause-adds g c = (makes_as g.D.Disk.meaning places c.self.inside.core c.args.self.now c.create_table.new.core
+returns-clause-adds g c = makes_table_room g.D.Disk.meaning places c.args.self.now c.create_table.new.core c.args.t c.args.name.now c.args.shape.now (refusal_in c.create_table.result)
+    c.requires.shape.most
+    (makes_room g.D.Disk.meaning places c.self.inside.core c.args.self.now
+    c.create_table.new.core c.self.view_is c.self.invariant c.counts_fit.ensures.0 c.counts_fit.ensures.1 c.args.t
+    c.args.name.now c.args.shape.now c.requires.other c.requires.shape c.requires.pages c.note_name.ensures
+    (subst AreNamed c.as_slice.ensures c.note_columns.ensures) c.creations_take_few.ensures
+    c.create_table.result c.create_table.ensures.creates)
+    ((makes_as g.D.Disk.meaning places c.self.inside.core c.args.self.now c.create_table.new.core
     c.self.view_is c.self.invariant c.counts_fit.ensures.0 c.counts_fit.ensures.1 c.args.t c.args.name.now
     c.args.shape.now c.requires.other c.requires.shape c.requires.pages c.note_name.ensures
     (subst AreNamed c.as_slice.ensures c.note_columns.ensures) c.tables_are_made.ensures.made c.tables_are_made.ensures.refused c.create_table.result
-    c.create_table.ensures.creates).makes
+    c.create_table.ensures.creates).makes)
 
 pub returns-clause-leaves : goal.returns-clause-leaves
-returns-clause-leaves g c = (makes_as g.D.Disk.meaning places c.self.inside.core c.args.self.now c.create_table.new.core
+returns-clause-leaves g c = leaves_with (means g.D.Disk.meaning places) c.args.self.now c.create_table.new.core _ _ _
+    ((makes_as g.D.Disk.meaning places c.self.inside.core c.args.self.now c.create_table.new.core
     c.self.view_is c.self.invariant c.counts_fit.ensures.0 c.counts_fit.ensures.1 c.args.t c.args.name.now
     c.args.shape.now c.requires.other c.requires.shape c.requires.pages c.note_name.ensures
     (subst AreNamed c.as_slice.ensures c.note_columns.ensures) c.tables_are_made.ensures.made c.tables_are_made.ensures.refused c.create_table.result
-    c.create_table.ensures.creates).leaves
+    c.create_table.ensures.creates).leaves)
 
 pub returns-clause-crash : goal.returns-clause-crash
-returns-clause-crash g c = (makes_as g.D.Disk.meaning places c.self.inside.core c.args.self.now c.create_table.new.core
+returns-clause-crash g c = quietly_with (means g.D.Disk.meaning places) c.args.self.now c.create_table.new.core
+    ((makes_as g.D.Disk.meaning places c.self.inside.core c.args.self.now c.create_table.new.core
     c.self.view_is c.self.invariant c.counts_fit.ensures.0 c.counts_fit.ensures.1 c.args.t c.args.name.now
     c.args.shape.now c.requires.other c.requires.shape c.requires.pages c.note_name.ensures
     (subst AreNamed c.as_slice.ensures c.note_columns.ensures) c.tables_are_made.ensures.made c.tables_are_made.ensures.refused c.create_table.result
-    c.create_table.ensures.creates).crash
+    c.create_table.ensures.creates).crash)
 
 pub returns-clause-sessions : goal.returns-clause-sessions
-returns-clause-sessions g c = (makes_as g.D.Disk.meaning places c.self.inside.core c.args.self.now c.create_table.new.core
+returns-clause-sessions g c = sessions_with (means g.D.Disk.meaning places) c.args.self.now c.create_table.new.core _ _
+    ((makes_as g.D.Disk.meaning places c.self.inside.core c.args.self.now c.create_table.new.core
     c.self.view_is c.self.invariant c.counts_fit.ensures.0 c.counts_fit.ensures.1 c.args.t c.args.name.now
     c.args.shape.now c.requires.other c.requires.shape c.requires.pages c.note_name.ensures
     (subst AreNamed c.as_slice.ensures c.note_columns.ensures) c.tables_are_made.ensures.made c.tables_are_made.ensures.refused c.create_table.result
-    c.create_table.ensures.creates).sessions
+    c.create_table.ensures.creates).sessions)
 
 pub returns-clause-told : goal.returns-clause-told
 returns-clause-told g c = told_as g.D.Disk.meaning places c.self.inside.core c.args.self.now
@@ -51,15 +64,17 @@ returns-clause-told g c = told_as g.D.Disk.meaning places c.self.inside.core c.a
     c.args.shape.now c.create_table.result c.create_table.ensures.creates)
 
 pub returns-clause-undamaged : goal.returns-clause-undamaged
-returns-clause-undamaged g c = makes_undamaged g.D.Disk.meaning places c.self.inside.core c.args.self.now
+returns-clause-undamaged g c = undamaged_with (means g.D.Disk.meaning places) c.args.self.now c.create_table.new.core
+    (makes_undamaged g.D.Disk.meaning places c.self.inside.core c.args.self.now
     c.create_table.new.core c.self.view_is c.self.invariant c.counts_fit.ensures.0 c.counts_fit.ensures.1 c.args.t
     c.args.name.now c.args.shape.now c.requires.other c.requires.shape c.requires.pages c.note_name.ensures
     (subst AreNamed c.as_slice.ensures c.note_columns.ensures) c.creations_meet_no_damage.ensures
-    c.create_table.result c.create_table.ensures.creates
+    c.create_table.result c.create_table.ensures.creates)
 
 pub returns-clause-room : goal.returns-clause-room
-returns-clause-room g c = makes_room g.D.Disk.meaning places c.self.inside.core c.args.self.now
+returns-clause-room g c = room_with (means g.D.Disk.meaning places) c.args.self.now c.create_table.new.core _ _
+    (makes_room g.D.Disk.meaning places c.self.inside.core c.args.self.now
     c.create_table.new.core c.self.view_is c.self.invariant c.counts_fit.ensures.0 c.counts_fit.ensures.1 c.args.t
     c.args.name.now c.args.shape.now c.requires.other c.requires.shape c.requires.pages c.note_name.ensures
     (subst AreNamed c.as_slice.ensures c.note_columns.ensures) c.creations_take_few.ensures
-    c.create_table.result c.create_table.ensures.creates
+    c.create_table.result c.create_table.ensures.creates)

@@ -3,6 +3,9 @@ use Rattle.mg_engine.proofs.BackLemmas.{counted, undone_as}
 use Rattle.mg_engine.proofs.ToldLemmas.{room_back_as, told_as, undamaged_as}
 use Rattle.mg_model.specs.declared.change.Point.TheVariants.{LastMark}
 use Rattle.mg_records.specs.Keeping.{refusal_in}
+use Rattle.mg_engine.proofs.RoomLemmas.{undoes_room}
+use Rattle.mg_engine_meaning.specs.Meaning.{means}
+use Rattle.mg_no_damage.specs.AlikeRoom.{back_with, leaves_with, quietly_with, sessions_with, undamaged_with}
 use Rattle.mg_engine.proofs.keeping.EngineRecords.undo_mark.Goals as goal
 
 pub take_to_mark-requires-clause-engine : goal.take_to_mark-requires-clause-engine
@@ -12,20 +15,27 @@ pub take_to_mark-requires-clause-counts : goal.take_to_mark-requires-clause-coun
 take_to_mark-requires-clause-counts g c = counted c.self.inside.core c.counts_fit.ensures.0 c.counts_fit.ensures.1
 
 pub returns-clause-undoes : goal.returns-clause-undoes
-returns-clause-undoes g c = (undone_as g.D.Disk.meaning places c.self.inside.core c.args.self.now c.take_to_mark.new.core c.self.view_is
-    c.args.t c.take_to_mark.result c.take_to_mark.ensures.undone).undoes
+returns-clause-undoes g c = undoes_room g.D.Disk.meaning places c.args.self.now c.take_to_mark.new.core c.args.t c.take_to_mark.result
+    (room_back_as g.D.Disk.meaning places c.self.inside.core c.args.self.now
+    c.take_to_mark.new.core c.self.view_is (refusal_in c.take_to_mark.result) c.args.t.0 LastMark
+    c.take_to_mark.ensures.room)
+    ((undone_as g.D.Disk.meaning places c.self.inside.core c.args.self.now c.take_to_mark.new.core c.self.view_is
+    c.args.t c.take_to_mark.result c.take_to_mark.ensures.undone).undoes)
 
 pub returns-clause-leaves : goal.returns-clause-leaves
-returns-clause-leaves g c = (undone_as g.D.Disk.meaning places c.self.inside.core c.args.self.now c.take_to_mark.new.core c.self.view_is
-    c.args.t c.take_to_mark.result c.take_to_mark.ensures.undone).leaves
+returns-clause-leaves g c = leaves_with (means g.D.Disk.meaning places) c.args.self.now c.take_to_mark.new.core _ _ _
+    ((undone_as g.D.Disk.meaning places c.self.inside.core c.args.self.now c.take_to_mark.new.core c.self.view_is
+    c.args.t c.take_to_mark.result c.take_to_mark.ensures.undone).leaves)
 
 pub returns-clause-crash : goal.returns-clause-crash
-returns-clause-crash g c = (undone_as g.D.Disk.meaning places c.self.inside.core c.args.self.now c.take_to_mark.new.core c.self.view_is
-    c.args.t c.take_to_mark.result c.take_to_mark.ensures.undone).crash
+returns-clause-crash g c = quietly_with (means g.D.Disk.meaning places) c.args.self.now c.take_to_mark.new.core
+    ((undone_as g.D.Disk.meaning places c.self.inside.core c.args.self.now c.take_to_mark.new.core c.self.view_is
+    c.args.t c.take_to_mark.result c.take_to_mark.ensures.undone).crash)
 
 pub returns-clause-sessions : goal.returns-clause-sessions
-returns-clause-sessions g c = (undone_as g.D.Disk.meaning places c.self.inside.core c.args.self.now c.take_to_mark.new.core c.self.view_is
-    c.args.t c.take_to_mark.result c.take_to_mark.ensures.undone).sessions
+returns-clause-sessions g c = sessions_with (means g.D.Disk.meaning places) c.args.self.now c.take_to_mark.new.core _ _
+    ((undone_as g.D.Disk.meaning places c.self.inside.core c.args.self.now c.take_to_mark.new.core c.self.view_is
+    c.args.t c.take_to_mark.result c.take_to_mark.ensures.undone).sessions)
 
 pub invariant_of-self : goal.invariant_of-self
 invariant_of-self g c = record {
@@ -39,11 +49,14 @@ returns-clause-told g c = told_as g.D.Disk.meaning places c.self.inside.core c.a
     c.self.view_is (refusal_in c.take_to_mark.result) c.take_to_mark.ensures.told
 
 pub returns-clause-undamaged : goal.returns-clause-undamaged
-returns-clause-undamaged g c = undamaged_as g.D.Disk.meaning places c.self.inside.core c.args.self.now
+returns-clause-undamaged g c = undamaged_with (means g.D.Disk.meaning places) c.args.self.now c.take_to_mark.new.core
+    (undamaged_as g.D.Disk.meaning places c.self.inside.core c.args.self.now
     c.take_to_mark.new.core c.self.view_is
-    c.take_to_mark.ensures.undamaged
+    c.take_to_mark.ensures.undamaged)
 
 pub returns-clause-room : goal.returns-clause-room
-returns-clause-room g c = room_back_as g.D.Disk.meaning places c.self.inside.core c.args.self.now
+returns-clause-room g c = back_with (means g.D.Disk.meaning places) c.args.self.now c.take_to_mark.new.core
+    (refusal_in c.take_to_mark.result) c.args.t.0 LastMark
+    (room_back_as g.D.Disk.meaning places c.self.inside.core c.args.self.now
     c.take_to_mark.new.core c.self.view_is (refusal_in c.take_to_mark.result) c.args.t.0 LastMark
-    c.take_to_mark.ensures.room
+    c.take_to_mark.ensures.room)

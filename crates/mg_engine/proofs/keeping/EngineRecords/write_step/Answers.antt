@@ -4,6 +4,12 @@ use Rattle.mg_records.specs.Room.{pages_of_row}
 use Rattle.mg_engine.proofs.ReadLemmas.{may_scan}
 use Rattle.mg_engine.proofs.WriteLemmas.{writes_apart, writes_as, writes_undamaged}
 use Rattle.mg_engine.proofs.ToldLemmas.{room_as, told_as}
+use Rattle.mg_engine.proofs.RoomLemmas.{gives_room}
+use Rattle.mg_engine_meaning.specs.Meaning.{means}
+use Rattle.mg_no_damage.specs.AlikeRoom.{leaves_with, quietly_with, room_with, sessions_with, undamaged_with}
+use Rattle.mg_records.specs.Adding.{fine_or}
+use Rattle.mg_no_damage.specs.WithRoom.{write_least}
+use Rattle.mg_records.specs.Writing.{event_of}
 use Rattle.mg_engine.proofs.keeping.EngineRecords.write_step.Goals as goal
 
 pub note_write-requires-clause-columns : goal.note_write-requires-clause-columns
@@ -26,28 +32,37 @@ invariant_of-self g c = record {
 }
 
 pub returns-clause-adds : goal.returns-clause-adds
-returns-clause-adds g c = (writes_as g.D.Disk.meaning places c.self.inside.core c.args.self.now c.write_noted.new.core
+returns-clause-adds g c = gives_room g.D.Disk.meaning places c.args.self.now c.write_noted.new.core (event_of c.args.t c.args.table.now.name c.args.write.now) c.write_noted.result pages_of_row
+    (λ o h. write_least o h c.args.t c.args.table.now.name c.args.write.now (fine_or c.write_noted.result))
+    (room_as g.D.Disk.meaning places c.self.inside.core c.args.self.now
+    c.write_noted.new.core c.self.view_is (refusal_in c.write_noted.result) pages_of_row
+    (c.writes_take_few.ensures c.self.inside.core c.write_noted.new.core c.args.t c.args.table.now c.args.write.now
+    c.write_noted.result c.self.invariant.lawful c.write_noted.ensures.writes))
+    ((writes_as g.D.Disk.meaning places c.self.inside.core c.args.self.now c.write_noted.new.core
     c.self.view_is c.self.invariant c.counts_fit.ensures.0 c.counts_fit.ensures.1 c.args.t c.args.table.now
     c.args.write.now c.requires.table c.requires.fits c.note_write.ensures c.noted_writes_give.ensures.writes
-    c.noted_writes_give.ensures.fails c.write_noted.result c.write_noted.ensures.writes).adds
+    c.noted_writes_give.ensures.fails c.write_noted.result c.write_noted.ensures.writes).adds)
 
 pub returns-clause-leaves : goal.returns-clause-leaves
-returns-clause-leaves g c = (writes_as g.D.Disk.meaning places c.self.inside.core c.args.self.now c.write_noted.new.core
+returns-clause-leaves g c = leaves_with (means g.D.Disk.meaning places) c.args.self.now c.write_noted.new.core _ _ _
+    ((writes_as g.D.Disk.meaning places c.self.inside.core c.args.self.now c.write_noted.new.core
     c.self.view_is c.self.invariant c.counts_fit.ensures.0 c.counts_fit.ensures.1 c.args.t c.args.table.now
     c.args.write.now c.requires.table c.requires.fits c.note_write.ensures c.noted_writes_give.ensures.writes
-    c.noted_writes_give.ensures.fails c.write_noted.result c.write_noted.ensures.writes).leaves
+    c.noted_writes_give.ensures.fails c.write_noted.result c.write_noted.ensures.writes).leaves)
 
 pub returns-clause-crash : goal.returns-clause-crash
-returns-clause-crash g c = (writes_as g.D.Disk.meaning places c.self.inside.core c.args.self.now c.write_noted.new.core
+returns-clause-crash g c = quietly_with (means g.D.Disk.meaning places) c.args.self.now c.write_noted.new.core
+    ((writes_as g.D.Disk.meaning places c.self.inside.core c.args.self.now c.write_noted.new.core
     c.self.view_is c.self.invariant c.counts_fit.ensures.0 c.counts_fit.ensures.1 c.args.t c.args.table.now
     c.args.write.now c.requires.table c.requires.fits c.note_write.ensures c.noted_writes_give.ensures.writes
-    c.noted_writes_give.ensures.fails c.write_noted.result c.write_noted.ensures.writes).crash
+    c.noted_writes_give.ensures.fails c.write_noted.result c.write_noted.ensures.writes).crash)
 
 pub returns-clause-sessions : goal.returns-clause-sessions
-returns-clause-sessions g c = (writes_as g.D.Disk.meaning places c.self.inside.core c.args.self.now c.write_noted.new.core
+returns-clause-sessions g c = sessions_with (means g.D.Disk.meaning places) c.args.self.now c.write_noted.new.core _ _
+    ((writes_as g.D.Disk.meaning places c.self.inside.core c.args.self.now c.write_noted.new.core
     c.self.view_is c.self.invariant c.counts_fit.ensures.0 c.counts_fit.ensures.1 c.args.t c.args.table.now
     c.args.write.now c.requires.table c.requires.fits c.note_write.ensures c.noted_writes_give.ensures.writes
-    c.noted_writes_give.ensures.fails c.write_noted.result c.write_noted.ensures.writes).sessions
+    c.noted_writes_give.ensures.fails c.write_noted.result c.write_noted.ensures.writes).sessions)
 
 pub returns-clause-told : goal.returns-clause-told
 returns-clause-told g c = told_as g.D.Disk.meaning places c.self.inside.core c.args.self.now
@@ -56,13 +71,15 @@ returns-clause-told g c = told_as g.D.Disk.meaning places c.self.inside.core c.a
     c.args.write.now c.write_noted.result c.write_noted.ensures.writes)
 
 pub returns-clause-undamaged : goal.returns-clause-undamaged
-returns-clause-undamaged g c = writes_undamaged g.D.Disk.meaning places c.self.inside.core c.args.self.now
+returns-clause-undamaged g c = undamaged_with (means g.D.Disk.meaning places) c.args.self.now c.write_noted.new.core
+    (writes_undamaged g.D.Disk.meaning places c.self.inside.core c.args.self.now
     c.write_noted.new.core c.self.view_is c.self.invariant c.counts_fit.ensures.0 c.counts_fit.ensures.1 c.args.t
     c.args.table.now c.args.write.now c.requires.table c.requires.fits c.note_write.ensures
-    c.writes_meet_no_damage.ensures c.write_noted.result c.write_noted.ensures.writes
+    c.writes_meet_no_damage.ensures c.write_noted.result c.write_noted.ensures.writes)
 
 pub returns-clause-room : goal.returns-clause-room
-returns-clause-room g c = room_as g.D.Disk.meaning places c.self.inside.core c.args.self.now
+returns-clause-room g c = room_with (means g.D.Disk.meaning places) c.args.self.now c.write_noted.new.core _ _
+    (room_as g.D.Disk.meaning places c.self.inside.core c.args.self.now
     c.write_noted.new.core c.self.view_is (refusal_in c.write_noted.result) pages_of_row
     (c.writes_take_few.ensures c.self.inside.core c.write_noted.new.core c.args.t c.args.table.now c.args.write.now
-    c.write_noted.result c.self.invariant.lawful c.write_noted.ensures.writes)
+    c.write_noted.result c.self.invariant.lawful c.write_noted.ensures.writes))
