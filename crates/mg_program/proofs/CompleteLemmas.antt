@@ -46,24 +46,24 @@ promised_unjudged m n size o script old new before after end (inl unread) = unre
 promised_unjudged m n size o script old new before after end (inr (lines, is, line)) = line.unjudged
 
 pub complete : {D S K : Type 0} (m : Meaning D) (s : SourceMeaning S) (n : SinkMeaning K) → RunsAreComplete m s n
-complete m s n counts_to source source' old new sink sink' (Whole true) size image o script runs entry left short disk_ok source_ok
+complete m s n counts_to limit source source' old new sink sink' (Whole true) size image o script runs entry left short disk_ok source_ok
     sink_ok = inl refl
-complete m s n counts_to source source' old new sink sink' (Whole false) size image o script runs entry left short disk_ok source_ok
+complete m s n counts_to limit source source' old new sink sink' (Whole false) size image o script runs entry left short disk_ok source_ok
     sink_ok = inr (inl refl)
-complete m s n counts_to source source' old new sink sink' (InLine refusal) size image o script runs entry left short disk_ok
+complete m s n counts_to limit source source' old new sink sink' (InLine refusal) size image o script runs entry left short disk_ok
     source_ok sink_ok = by_refusal m old new refusal runs.disk disk_ok
     (promised_unjudged m n size o script old new sink sink' (InLine refusal)
     (runs.headline size image o script entry left))
-complete m s n counts_to source source' old new sink sink' (Outside refusal) size image o script runs entry left short disk_ok
+complete m s n counts_to limit source source' old new sink sink' (Outside refusal) size image o script runs entry left short disk_ok
     source_ok sink_ok = by_refusal m old new refusal runs.disk disk_ok
     (promised_unjudged m n size o script old new sink sink' (Outside refusal)
     (runs.headline size image o script entry left))
-complete m s n counts_to source source' old new sink sink' Stream size image o script runs entry left short disk_ok source_ok
+complete m s n counts_to limit source source' old new sink sink' Stream size image o script runs entry left short disk_ok source_ok
     sink_ok = at (runs.streams.failed refl)
   where
     at : Rose (s.faults source) (s.faults source') ⊎ Rose (n.faults sink) (n.faults sink')
         → IsComplete Stream
     at (inl rose) = absurd (source_ok rose)
     at (inr rose) = absurd (sink_ok rose)
-complete m s n counts_to source source' old new sink sink' ScriptTooLong size image o script runs entry left short disk_ok source_ok
+complete m s n counts_to limit source source' old new sink sink' ScriptTooLong size image o script runs entry left short disk_ok source_ok
     sink_ok = let long = runs.script.too_long refl script left in absurd (omega (arith, long, short))

@@ -20,9 +20,9 @@ use Rattle.mg_program.specs.Serving.{Serves}
 
 -- ---- a script that was read
 
-module _ {D S K : Type 0} (m : Meaning D) (s : SourceMeaning S) (n : SinkMeaning K) (source source' : S)
+module _ {D S K : Type 0} (m : Meaning D) (s : SourceMeaning S) (n : SinkMeaning K) (source source' : S) (limit : ℕ)
     (lines : List Line) (old new : D) (before after : K) (end : RunEnd) (whole : IsWholeScript s source lines)
-    (steady : s.faults source' ≡ s.faults source) (serves : Serves m n lines old new before after end) where
+    (steady : s.faults source' ≡ s.faults source) (serves : Serves m n limit lines old new before after end) where
   pub served_streams : StreamCauses s n source source' before after end
   served_streams = record {
     failed = λ is. inr (serves.stream is);
@@ -38,7 +38,7 @@ module _ {D S K : Type 0} (m : Meaning D) (s : SourceMeaning S) (n : SinkMeaning
         (sym (whole.whole script left)) whole.short;
   }
 
-  pub served_promise : (size : ℕ) (image : Image) (o : Opening) (script : List ℕ) → IsEntry m old size image o
+  pub served_promise : (size : ℕ) (image : Image) (o : Opening) (script : List ℕ) → IsEntry m old limit size image o
       → s.left source ≡ Some script → Promise m n size o script old new before after end
   served_promise size image o script entry left = inr (
     lines,

@@ -1,5 +1,5 @@
 -- A run on a disk of which a number of page writes pass is one on the disk itself.
-use Rattle.std.proofs.Common.{◌≡◌, ◌≢◌, ◌<◌, ◌≤◌, ◌+◌, ◌∙◌, inl, inr, ℕ, Bool, true, false, List, Some, refl, sym, ap, subst, arith}
+use Rattle.std.proofs.Common.{◌≡◌, ◌≢◌, ◌<◌, ◌≤◌, ◌+◌, ◌∙◌, inl, inr, ℕ, Bool, true, false, List, Option, Some, sym, ap, subst, arith}
 use Rattle.std.specs.Prelude.{◌⊎◌}
 use Rattle.std.proofs.lemmas.Bool.{cases_eq}
 use Rattle.mg_base.specs.Disk.{Meaning, Rose}
@@ -55,12 +55,23 @@ range_of end status is = subst (λ (s : Status). s.0 < 8) (sym is) (status_below
 pub never_usage : (end : RunEnd) (status : Status) → status ≡ status_of end → status.0 ≡ 2 → ⊥
 never_usage end status is two = (status_below end).1 (ap (λ (s : Status). s.0) (sym is) ∙ two)
 
+-- ---- the words
+
+-- a run has the page limit and the stop that the words ask for
+pub runs_asked : {D S K : Type 0} (m : Meaning D) (counts_to : ℕ) (s : SourceMeaning S) (n : SinkMeaning K)
+    (limit limit' : ℕ) (stop stop' : Option ℕ) (source source' : S) (old new : D) (sink sink' : K) (end : RunEnd)
+    → limit ≡ limit' → stop' ≡ stop → Runs m counts_to s n limit stop source source' old new sink sink' end
+    → Runs m counts_to s n limit' stop' source source' old new sink sink' end
+runs_asked m counts_to s n limit limit' stop stop' source source' old new sink sink' end same is runs =
+    subst (λ (pages : ℕ). Runs m counts_to s n pages stop' source source' old new sink sink' end) same
+    (subst (λ (most : Option ℕ). Runs m counts_to s n limit most source source' old new sink sink' end) (sym is) runs)
+
 -- ---- a fuse
 
 module _ {D : Type 0} (m : Meaning D) (counts_to : ℕ) where
-  entered : (old : Stopped D) (size : ℕ) (image : Image) (o : Opening) → IsEntry m (inner_of old) size image o
-      → IsEntry (stopped_meaning m counts_to) old size image o
-  entered old size image o entry = record {
+  entered : (old : Stopped D) (limit size : ℕ) (image : Image) (o : Opening)
+      → IsEntry m (inner_of old) limit size image o → IsEntry (stopped_meaning m counts_to) old limit size image o
+  entered old limit size image o entry = record {
     sized = entry.sized;
     lawful = entry.lawful;
     whole = record {
@@ -99,12 +110,12 @@ module _ {D : Type 0} (m : Meaning D) (counts_to : ℕ) where
     };
     later = ended.later;
     goes_on = ended.goes_on;
-    entry = record {
-      sized = ended.entry.sized;
-      lawful = ended.entry.lawful;
+    entry = λ limit. record {
+      sized = (ended.entry limit).sized;
+      lawful = (ended.entry limit).lawful;
       whole = whole;
-      settled = settled_on new ended.left.image ended.entry.settled;
-      opening = ended.entry.opening;
+      settled = settled_on new ended.left.image (ended.entry limit).settled;
+      opening = (ended.entry limit).opening;
     };
   }
   settled_at new size o h (InLine refusal) whole ended = tt
@@ -157,6 +168,7 @@ module _ {D : Type 0} (m : Meaning D) (counts_to : ℕ) where
       served = line.served;
       unjudged = line.unjudged;
       legal = line.legal;
+      room = line.room;
       crash = leaves old new (HoldsFrom packed_form size o (asked line.entries) 0) line.crash;
       exit = line.exit;
       settled = settled_at new size o line.entries end whole line.settled;
@@ -177,25 +189,27 @@ module _ {D : Type 0} (m : Meaning D) (counts_to : ℕ) where
 
     module _ {S : Type 0} (s : SourceMeaning S) where
       -- with `--stop`, of a disk of which so many page writes pass
-      pub runs_of_stopped : (most : ℕ) (source source' : S) (first result : D) (old new : Stopped D) (sink sink' : K)
-          (end : RunEnd) → IsNewlyStopped first most old → result ≡ inner_of new
+      pub runs_of_stopped : (limit most : ℕ) (source source' : S) (first result : D) (old new : Stopped D)
+          (sink sink' : K) (end : RunEnd) → IsNewlyStopped first most old → result ≡ inner_of new
           → StoppedDisksAreAskedForNoMore m counts_to
           → (stopped_meaning m counts_to).most_writes new ≡ (stopped_meaning m counts_to).most_writes old
           → EndsWith (stopped_meaning m counts_to) old new end
           → StreamCauses s n source source' sink sink' end → ScriptCauses s source old new end
-          → ((size : ℕ) (image : Image) (o : Opening) (script : List ℕ) → IsEntry (stopped_meaning m counts_to) old size image o
-          → s.left source ≡ Some script → Promise (stopped_meaning m counts_to) n size o script old new sink sink' end)
-          → Runs m counts_to s n (Some most) source source' first result sink sink' end
-      runs_of_stopped most source source' first result old new sink sink' end newly is law limit ends streams script
-          headline = subst (λ (d : D). Runs m counts_to s n (Some most) source source' first d sink sink' end) (sym is)
-          (subst (λ (d : D). Runs m counts_to s n (Some most) source source' d (inner_of new) sink sink' end)
+          → ((size : ℕ) (image : Image) (o : Opening) (script : List ℕ)
+          → IsEntry (stopped_meaning m counts_to) old limit size image o → s.left source ≡ Some script
+          → Promise (stopped_meaning m counts_to) n size o script old new sink sink' end)
+          → Runs m counts_to s n limit (Some most) source source' first result sink sink' end
+      runs_of_stopped limit most source source' first result old new sink sink' end newly is law same ends streams script
+          headline = subst (λ (d : D). Runs m counts_to s n limit (Some most) source source' first d sink sink' end)
+          (sym is) (subst
+          (λ (d : D). Runs m counts_to s n limit (Some most) source source' d (inner_of new) sink sink' end)
           newly.its_inner its_run)
         where
           within : StopsWithin m counts_to most (inner_of old) new
           within = subst (λ (d : D). StopsWithin m counts_to most d new) (sym newly.its_inner)
-              (law first most old new newly limit)
+              (law first most old new newly same)
 
-          its_run : Runs m counts_to s n (Some most) source source' (inner_of old) (inner_of new) sink sink' end
+          its_run : Runs m counts_to s n limit (Some most) source source' (inner_of old) (inner_of new) sink sink' end
           its_run = record {
             disk = record {
               at_most = within.at_most;
@@ -208,5 +222,5 @@ module _ {D : Type 0} (m : Meaning D) (counts_to : ℕ) where
               short = script.short;
             };
             headline = λ size image o bytes entry left. promise_of size o bytes old new sink sink' end entry.whole
-                (headline size image o bytes (entered old size image o entry) left);
+                (headline size image o bytes (entered old limit size image o entry) left);
           }

@@ -15,10 +15,12 @@ abbrev pub IsComplete : RunEnd → Type 0
 IsComplete end = (status_of end ≡ status 0) ⊎ ((status_of end ≡ status 1) ⊎ (status_of end ≡ status 6))
 
 -- So ends a run without `--stop` on a disk on which a history can begin, where the script has at most 1,048,576 bytes, and
--- no count of faults rose, of the disk, of the source or of the sink.
+-- no count of faults rose, of the disk, of the source or of the sink. (Where its entries need no more pages than its
+-- opening promises, none of them is answered DATABASE FULL: that is `room` of its headline, and holds whatever fails.)
 abbrev pub RunsAreComplete : {D S K : Type 0} → Meaning D → SourceMeaning S → SinkMeaning K → Type 0
-RunsAreComplete {D} {S} {K} m s n = (counts_to : ℕ) (source source' : S) (old new : D) (sink sink' : K) (end : RunEnd) (size : ℕ)
-    (image : Image) (o : Opening) (script : List ℕ) → Runs m counts_to s n None source source' old new sink sink' end
-    → IsEntry m old size image o → s.left source ≡ Some script → length script ≤ SCRIPT_MOST
+RunsAreComplete {D} {S} {K} m s n = (counts_to limit : ℕ) (source source' : S) (old new : D) (sink sink' : K)
+    (end : RunEnd) (size : ℕ) (image : Image) (o : Opening) (script : List ℕ)
+    → Runs m counts_to s n limit None source source' old new sink sink' end → IsEntry m old limit size image o
+    → s.left source ≡ Some script → length script ≤ SCRIPT_MOST
     → (Rose (m.faults old) (m.faults new) → ⊥) → (Rose (s.faults source) (s.faults source') → ⊥)
     → (Rose (n.faults sink) (n.faults sink') → ⊥) → IsComplete end

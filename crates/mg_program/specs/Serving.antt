@@ -1,11 +1,11 @@
 -- What a run whose script was read promises.
-use Rattle.std.specs.Prelude.{◌≡◌, ◌≢◌, ℕ, Bool, List, [], ◌∷◌, Option, None, Some}
+use Rattle.std.specs.Prelude.{◌≡◌, ◌≢◌, ℕ, Bool, List, Option, None, Some}
 use Rattle.mg_base.specs.Disk.{Meaning, Rose}
 use Rattle.mg_base.specs.Image.{Image}
 use Rattle.mg_base.specs.Streams.{SinkMeaning}
 use Rattle.mg_core.specs.declared.parts.Core.{Core}
 use Rattle.mg_engine_meaning.specs.Openings.{IsOpenedOver}
-use Rattle.mg_engine_meaning.specs.Meaning.{Places, means}
+use Rattle.mg_engine_meaning.specs.Meaning.{Places, means_with_room}
 use Rattle.mg_model.specs.declared.opening.Opening.{Opening}
 use Rattle.mg_model.specs.declared.refusal.Refusal.{Refusal}
 use Rattle.mg_model.specs.declared.refusal.Refusal.TheVariants.{Memory}
@@ -22,32 +22,31 @@ use Rattle.mg_run_ends.specs.Ends.{EndsWith}
 use Rattle.mg_runs.specs.Entry.{IsEntry}
 use Rattle.mg_runs.specs.Headline.{Headline}
 
--- A run whose script was read has ended: where the disk's count of faults has risen, where the sink's has, that as many
--- page writes pass in all as did, and the history of the lines.
-pub record Serves {D K : Type 0} (m : Meaning D) (n : SinkMeaning K) (lines : List Line) (old new : D) (before after : K)
-    (end : RunEnd) : Type 0 where
+-- A run whose script was read has ended, over a disk that was opened with a page limit: where the disk's count of faults
+-- has risen, where the sink's has, that as many page writes pass in all as did, and the history of the lines.
+pub record Serves {D K : Type 0} (m : Meaning D) (n : SinkMeaning K) (limit : ℕ) (lines : List Line) (old new : D)
+    (before after : K) (end : RunEnd) : Type 0 where
   pub read : end ≢ ScriptTooLong
   pub disk : EndsWith m old new end
-  pub limit : m.most_writes new ≡ m.most_writes old
+  pub most_writes : m.most_writes new ≡ m.most_writes old
   pub stream : end ≡ Stream → Rose (n.faults before) (n.faults after)
   pub sink_steady : (fine : Bool) → end ≡ Whole fine → n.faults after ≡ n.faults before
-  pub headline : (size : ℕ) (image : Image) (o : Opening) → IsEntry m old size image o
+  pub headline : (size : ℕ) (image : Image) (o : Opening) → IsEntry m old limit size image o
       → Headline m n size o lines old new before after end
 
 -- ---- lines on an engine
 
--- An engine was opened over a disk, and the lines of a script were obeyed on it, or as many of them as its end lets:
--- what came of them.
-pub record HasObeyed {D P K : Type 0} (m : Meaning D) (places : Places P) (n : SinkMeaning K) (lines : List Line)
-    (disk : D) (now : Core D) (before mid : K) (refusals : List Refusal) (lines_end : LinesEnd) (fine : Bool) : Type 0
-  where
-    pub limit : ℕ
-    pub core : Core D
-    pub opened : IsOpenedOver m disk limit core
-    pub accounts : Accounts (means m places) core now (reason_at lines_end refusals)
-    pub sinks : SinkSays n before mid lines_end
-    pub done : (size : ℕ) (image : Image) (o : Opening) → IsEntry m disk size image o
-        → ScriptDone (means m places) n core now before mid o size lines refusals lines_end fine
+-- An engine was opened over a disk with a page limit, and the lines of a script were obeyed on it, or as many of them as
+-- its end lets: what came of them.
+pub record HasObeyed {D P K : Type 0} (m : Meaning D) (places : Places P) (n : SinkMeaning K) (limit : ℕ)
+    (lines : List Line) (disk : D) (now : Core D) (before mid : K) (refusals : List Refusal) (lines_end : LinesEnd)
+    (fine : Bool) : Type 0 where
+  pub core : Core D
+  pub opened : IsOpenedOver m disk limit core
+  pub accounts : Accounts (means_with_room m places) core now (reason_at lines_end refusals)
+  pub sinks : SinkSays n before mid lines_end
+  pub done : (size : ℕ) (image : Image) (o : Opening) → IsEntry m disk limit size image o
+      → ScriptDone (means_with_room m places) n core now before mid o size lines refusals lines_end fine
 
 -- a run ends by what is told of the rollings back that were refused, if one was
 abbrev pub told_end : Option Refusal → Option RunEnd

@@ -1,8 +1,9 @@
 -- What the program promises of a command line.
-use Rattle.std.specs.Prelude.{◌≡◌, ◌≤◌, ◌⊎◌, ℕ, List, [], ◌∷◌, ◌++◌, Option, None, Some, codes}
+use Rattle.std.specs.Prelude.{◌≡◌, ◌≤◌, ◌⊎◌, ℕ, List, [], ◌∷◌, ◌++◌, Option, None, Some, codes, unwrap_or}
 use Rattle.mg_base.specs.Disk.{Meaning, Rose}
 use Rattle.mg_base.specs.Image.{Image}
 use Rattle.mg_base.specs.Streams.{SinkMeaning, SourceMeaning}
+use Rattle.mg_base.specs.declared.geometry.TheConstants.{GREATEST_LIMIT}
 use Rattle.mg_fuse.specs.Counting.{AsksAtMost, AsksExactly}
 use Rattle.mg_model.specs.declared.opening.Opening.{Opening}
 use Rattle.mg_model.specs.declared.refusal.Refusal.{Refusal}
@@ -53,14 +54,18 @@ abbrev pub EndsOn : {D : Type 0} → Meaning D → ℕ → Option ℕ → D → 
 EndsOn m counts_to None old new end = EndsWith m old new end
 EndsOn m counts_to (Some most) old new end = EndsStopped m counts_to most old new end
 
--- A run has ended so on a disk, of which `--stop` lets so many page writes through, if it is given. The disk counts page
--- writes up to an end.
+-- the page limit that a command line asks for: the one of `--limit`, or else the greatest
+abbrev pub limit_asked : Asked → ℕ
+limit_asked asked = unwrap_or asked.limit GREATEST_LIMIT
+
+-- A run has ended so on a disk that is opened with a page limit, and of which `--stop` lets so many page writes through,
+-- if it is given. The disk counts page writes up to an end.
 pub record Runs {D S K : Type 0} (m : Meaning D) (counts_to : ℕ) (s : SourceMeaning S) (n : SinkMeaning K)
-    (stop : Option ℕ) (source source' : S) (old new : D) (sink sink' : K) (end : RunEnd) : Type 0 where
+    (limit : ℕ) (stop : Option ℕ) (source source' : S) (old new : D) (sink sink' : K) (end : RunEnd) : Type 0 where
   pub disk : EndsOn m counts_to stop old new end
   pub streams : StreamCauses s n source source' sink sink' end
   pub script : ScriptCauses s source old new end
-  pub headline : (size : ℕ) (image : Image) (o : Opening) (script : List ℕ) → IsEntry m old size image o
+  pub headline : (size : ℕ) (image : Image) (o : Opening) (script : List ℕ) → IsEntry m old limit size image o
       → s.left source ≡ Some script → Promise m n size o script old new sink sink' end
 
 -- The words are a command line; its run has ended, and the status tells how.
@@ -70,4 +75,4 @@ pub record HasRun {D S K : Type 0} (m : Meaning D) (counts_to : ℕ) (s : Source
   pub is_run : IsRun words asked
   pub end : RunEnd
   pub status_is : status ≡ status_of end
-  pub runs : Runs m counts_to s n asked.stop source source' old new sink sink' end
+  pub runs : Runs m counts_to s n (limit_asked asked) asked.stop source source' old new sink sink' end

@@ -20,7 +20,8 @@ use std::alloc::Global;
 /// settled. Where nothing stops the run, what is live at the end of the script is rolled back, every dirty page is
 /// written and the disk settled; where something does, nothing is written any more.
 ///
-/// `limit` is the greatest number of pages that the database may have.
+/// `limit` is the greatest number of pages that the database may have. Where as many pages are free by it at the start
+/// as the lines may take, none of them is answered DATABASE FULL (`room` of `Headline`).
 pub fn run<D: Disk, S: Source, K: Sink>(
     alloc: Global,
     disk: D,
@@ -29,11 +30,11 @@ pub fn run<D: Disk, S: Source, K: Sink>(
     sink: &mut K,
 ) -> (RunEnd, D)
     ensures disk { EndsWith D.meaning disk result.1 result.0 }
-    ensures limit { D.meaning.most_writes result.1 ≡ D.meaning.most_writes disk }
+    ensures most_writes { D.meaning.most_writes result.1 ≡ D.meaning.most_writes disk }
     ensures streams { StreamCauses S.meaning K.meaning source.old source.new sink.old sink.new result.0 }
     ensures script { ScriptCauses S.meaning source.old disk result.1 result.0 }
     ensures headline { (size : ℕ) (image : Image) (o : Opening) (script : List ℕ)
-        → IsEntry D.meaning disk size image o → S.meaning.left source.old ≡ Some script
+        → IsEntry D.meaning disk limit size image o → S.meaning.left source.old ≡ Some script
         → Promise D.meaning K.meaning size o script disk result.1 sink.old sink.new result.0 }
 {
     lines_of_scripts_can_be_obeyed();

@@ -26,6 +26,8 @@ use mg_scripts::{LinesEnd, Ran, run_script};
 use std::alloc::Global;
 
 /// Opens a disk, obeys lines on it, and puts behind what they print the line that says why the run has ended.
+///
+/// `limit` is the page limit that is asked for.
 pub(crate) fn serve<D: Disk, K: Sink>(
     alloc: Global,
     disk: D,
@@ -34,7 +36,7 @@ pub(crate) fn serve<D: Disk, K: Sink>(
     sink: &mut K,
 ) -> (RunEnd, D)
     requires { All CanBeObeyed lines.now }
-    ensures { Serves D.meaning K.meaning lines.now disk result.1 sink.old sink.new result.0 }
+    ensures { Serves D.meaning K.meaning limit lines.now disk result.1 sink.old sink.new result.0 }
 {
     openings_are_judged::<D, K>();
     openings_fail::<D>();
@@ -54,7 +56,7 @@ fn obey<D: Disk, K: Sink>(
     requires obeyable { All CanBeObeyed lines.now }
     requires free { (session : ℕ) → has_session engine.works session ≡ false }
     ensures { (disk : D) (limit : ℕ) → IsOpenedOver D.meaning disk limit engine
-        → Serves D.meaning K.meaning lines.now disk result.1 sink.old sink.new result.0 }
+        → Serves D.meaning K.meaning limit lines.now disk result.1 sink.old sink.new result.0 }
 {
     runs_begin::<D>();
     let mut engine = engine;
@@ -79,9 +81,9 @@ fn end_run<D: Disk, K: Sink>(
     refusals: &[Refusal],
     sink: &mut K,
 ) -> (RunEnd, D)
-    ensures { (disk : D) (before : K) (lines : List AnyLine)
-        → HasObeyed D.meaning places K.meaning lines disk engine before sink.old refusals.now ran.end ran.fine
-        → Serves D.meaning K.meaning lines disk result.1 before sink.new result.0 }
+    ensures { (disk : D) (limit : ℕ) (before : K) (lines : List AnyLine)
+        → HasObeyed D.meaning places K.meaning limit lines disk engine before sink.old refusals.now ran.end
+        ran.fine → Serves D.meaning K.meaning limit lines disk result.1 before sink.new result.0 }
 {
     runs_stop::<D, Place, K>();
     runs_close::<D, Place, K>();

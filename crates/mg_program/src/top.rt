@@ -3,7 +3,7 @@
 ghost use Rattle.std.specs.Prelude.{◌≡◌, ◌≢◌, ◌↔◌, ◌<◌, Some};
 ghost use Rattle.mg_words.specs.declared.asked.Asked.{Asked as AnyAsked};
 ghost use Rattle.mg_words.specs.Words.{IsRun, texts};
-ghost use Rattle.mg_program.specs.Top.{HasRun, IsUsage, Runs};
+ghost use Rattle.mg_program.specs.Top.{HasRun, IsUsage, Runs, limit_asked};
 
 use crate::running::run;
 use mg_base::{GREATEST_LIMIT, Sink, Source};
@@ -24,7 +24,8 @@ pub struct Shelf<D> {
 ///
 /// `words` begin with the program's name. Where they are no command line it prints USAGE, and neither reads nor writes
 /// anything else. `--stop N` lets the first N page writes through and fails each later one; `--limit N` is the greatest
-/// number of pages, and 131,072 without it. `--page` is for who makes the disk (`wanted_page`).
+/// number of pages, and 131,072 without it, by which pages are free for what the lines write. `--page` is for who makes
+/// the disk (`wanted_page`).
 pub fn mgdb<R: AllocGlobal + Drop, D: CountsWrites + Send + 'static, S: Source, K: Sink>(
     rt: R,
     words: &[String],
@@ -58,8 +59,8 @@ fn run_asked<D: CountsWrites + Send + 'static, S: Source, K: Sink>(
     source: &mut S,
     sink: &mut K,
 ) -> (RunEnd, D)
-    ensures { Runs D.meaning D.counts_to S.meaning K.meaning asked.stop source.old source.new disk result.1
-        sink.old sink.new result.0 }
+    ensures { Runs D.meaning D.counts_to S.meaning K.meaning (limit_asked asked) asked.stop source.old source.new
+        disk result.1 sink.old sink.new result.0 }
 {
     let limit = asked.limit.unwrap_or(GREATEST_LIMIT);
     match asked.stop {
@@ -77,8 +78,8 @@ fn run_stopped<D: CountsWrites + Send + 'static, S: Source, K: Sink>(
     source: &mut S,
     sink: &mut K,
 ) -> (RunEnd, D)
-    ensures { Runs D.meaning D.counts_to S.meaning K.meaning (Some most) source.old source.new disk result.1
-        sink.old sink.new result.0 }
+    ensures { Runs D.meaning D.counts_to S.meaning K.meaning limit (Some most) source.old source.new disk
+        result.1 sink.old sink.new result.0 }
 {
     stopped_disks_are_asked_for_no_more::<D>();
     let (end, stopped) = run(alloc, Stopped::new(disk, most), limit, source, sink);

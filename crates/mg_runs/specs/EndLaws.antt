@@ -11,7 +11,7 @@ use Rattle.mg_engine_meaning.specs.Closings.{ClosesEngine, HasLeft, RefusesClose
 use Rattle.mg_engine_meaning.specs.NewBegins.{NewBegin}
 use Rattle.mg_engine_meaning.specs.Openings.{IsOpenedOver}
 use Rattle.mg_engine_meaning.specs.LawfulLaws.{left_of, opening_of}
-use Rattle.mg_engine_meaning.specs.Meaning.{Places, means}
+use Rattle.mg_engine_meaning.specs.Meaning.{Places, means_with_room}
 use Rattle.mg_engine_meaning.specs.Standings.{StandsFor}
 use Rattle.mg_grown_catalogs.specs.Grown.{OwnRowsAreNew}
 use Rattle.mg_image.specs.Form.{packed_form}
@@ -32,11 +32,12 @@ use Rattle.mg_space.specs.ViewLaws.{CountsNow}
 use Rattle.mg_run_ends.specs.declared.ending.RunEnd.{RunEnd}
 use Rattle.mg_run_ends.specs.declared.ending.RunEnd.TheVariants.{Outside, Whole}
 use Rattle.mg_run_ends.specs.Ends.{last_line}
+use Rattle.mg_runs.specs.BegunLaws.{stands_over}
 use Rattle.mg_runs.specs.Entry.{IsEntry}
 use Rattle.mg_runs.specs.EntryLaws.{has_ended}
 use Rattle.mg_runs.specs.Headline.{AreServed, EndsBehind, HasEnded, Headline, IsClosingRefusal, IsSettledAt, IsUnjudged}
 use Rattle.mg_runs.specs.Laws.{IsCutOff, RunsClose, RunsStop, closed_end}
-use Rattle.mg_runs.specs.OpeningLaws.{crash_over, kept_over, nothing_settled, opening_leaves, size_over, sized_over, stands_over}
+use Rattle.mg_runs.specs.OpeningLaws.{crash_over, kept_over, nothing_settled, opening_leaves, size_over, sized_over}
 use Rattle.mg_run_ends.specs.Printing.{IsPrinted}
 use Rattle.mg_runs.specs.UnjudgedLaws.{unjudged}
 
@@ -63,12 +64,12 @@ some_held size o entries c holds = record {
 module _ {D P K : Type 0} (m : Meaning D) (places : Places P) (n : SinkMeaning K) (counts : CountsNow m)
     (new_begin : NewBegin) (disk : D) (limit : ℕ) (core now : Core D) (size : ℕ) (image : Image) (o : Opening)
     (lines : List Line) (lines_refusals : List Refusal) (lines_end : LinesEnd) (fine : Bool) (before mid : K)
-    (entry : IsEntry m disk size image o) (opened : IsOpenedOver m disk limit core) where
+    (entry : IsEntry m disk limit size image o) (opened : IsOpenedOver m disk limit core) where
   opening_crash : LeavesOnly m disk core.store.disk (HoldsFrom packed_form size o [] 0)
   opening_crash = opening_leaves new_begin m counts disk core.store.disk size image entry.whole entry.lawful
       (sized_over m disk limit core size image opened entry.sized) entry.settled
       (kept_over m disk limit core size image opened entry.sized entry.settled)
-      (crash_over m disk limit core size image opened entry.sized entry.settled) o entry.opening
+      (crash_over m disk limit core size image opened entry.sized entry.settled) limit o entry.opening
 
   size_is : core.store.geometry.size ≡ size
   size_is = size_over m disk limit core size image opened entry.sized
@@ -93,6 +94,7 @@ module _ {D P K : Type 0} (m : Meaning D) (places : Places P) (n : SinkMeaning K
       last = subst (λ (k : K). IsPrinted n k after (last_line end)) none.sink last;
     });
     legal = tt;
+    room = λ within. tt;
     crash = subst (λ (c : Core D). LeavesOnly m disk c.store.disk (HoldsFrom packed_form size o [] 0)) (sym none.keeper)
         opening_crash;
     exit = λ c may. subst (λ (s : ℕ). HoldsAcknowledged packed_form s o [] c) core_size
@@ -107,9 +109,9 @@ module _ {D P K : Type 0} (m : Meaning D) (places : Places P) (n : SinkMeaning K
       end_is : end ≡ Outside refusals.Memory
       end_is = subst (λ (e : LinesEnd). EndsBehind e lines_refusals fine end) none.short ends
 
-  module _ (ran : ScriptRan (means m places) n core now before mid o size lines lines_refusals lines_end fine)
+  module _ (ran : ScriptRan (means_with_room m places) n core now before mid o size lines lines_refusals lines_end fine)
       (now_is : IsCore m now)
-      (accounts : Accounts (means m places) core now (reason_at lines_end lines_refusals)) where
+      (accounts : Accounts (means_with_room m places) core now (reason_at lines_end lines_refusals)) where
     geometry_now : now.store.geometry.size ≡ size
     geometry_now = alike now.store.geometry.size core.store.geometry.size accounts.sizes ∙ size_is
 
@@ -149,7 +151,7 @@ module _ {D P K : Type 0} (m : Meaning D) (places : Places P) (n : SinkMeaning K
 
     left_now : (c : Image) → MayLeave m now.store.disk c → HoldsAcknowledged packed_form size o ran.entries c
     left_now c may = subst (λ (s : ℕ). HoldsAcknowledged packed_form s o ran.entries c) now_size
-        (left_of m now o ran.entries ran.stands c may)
+        (left_of m now o ran.entries ran.stands.stands c may)
 
     are_served : (after : K) (end : RunEnd) → EndsBehind lines_end lines_refusals fine end
         → IsPrinted n mid after (last_line end) → AreServed n before after size o lines end ran.entries
@@ -175,6 +177,7 @@ module _ {D P K : Type 0} (m : Meaning D) (places : Places P) (n : SinkMeaning K
       entries = ran.entries;
       served = inl (are_served after end ends last);
       legal = ran.legal;
+      room = ran.stands.never;
       crash = so_far;
       exit = left_now;
       settled = settled;
@@ -187,7 +190,7 @@ module _ {D P K : Type 0} (m : Meaning D) (places : Places P) (n : SinkMeaning K
     module _ (new : D) (result : Result (Unit {0}) Refusal) (closes : ClosesEngine m now new result) where
       its_crash : LeavesSince m now.store.disk new (HoldsAcknowledged packed_form size o ran.entries)
       its_crash = subst (λ (s : ℕ). LeavesSince m now.store.disk new (HoldsAcknowledged packed_form s o ran.entries))
-          geometry_now (closes.crash o ran.entries ran.stands)
+          geometry_now (closes.crash o ran.entries ran.stands.stands)
 
       all_crash : LeavesOnly m disk new (HoldsFrom packed_form size o (asked ran.entries) 0)
       all_crash = joined m disk now.store.disk new (HoldsFrom packed_form size o (asked ran.entries) 0) so_far
@@ -202,6 +205,7 @@ module _ {D P K : Type 0} (m : Meaning D) (places : Places P) (n : SinkMeaning K
         entries = ran.entries;
         served = inl (are_served after end ends last);
         legal = ran.legal;
+        room = ran.stands.never;
         crash = all_crash;
         exit = its_crash.left;
         settled = settled;
@@ -213,10 +217,10 @@ module _ {D P K : Type 0} (m : Meaning D) (places : Places P) (n : SinkMeaning K
       pub ended : OpeningsBegin → OwnRowsAreNew → (x : Unit {0}) → ClosesEngine m now new (Ok x)
           → HasEnded m new size o ran.entries
       ended begin own_new x closed_so = has_ended begin own_new m new size o ran.entries
-          (begin o (opening_of m now o ran.entries ran.stands)) ran.legal ran.stands.grows
+          (begin o (opening_of m now o ran.entries ran.stands.stands)) ran.legal ran.stands.stands.grows
           (closes.same.size size sized_now) entry.lawful entry.whole
           (subst (λ (s : ℕ). HasLeft m new s o ran.entries (durable_count ran.entries)) geometry_now
-          (closed_so.ended.2 o ran.entries ran.stands))
+          (closed_so.ended.2 o ran.entries ran.stands.stands))
 
 -- ---- a run that is cut off
 
@@ -240,7 +244,7 @@ pub runs_stop : {D P K : Type 0} (m : Meaning D) (places : Places P) (n : SinkMe
 runs_stop {D} {P} {K} m places n counts new_begin disk limit core now size image o lines lines_refusals lines_end
     fine end before mid after entry opened now_is accounts done cut ends last = at done
   where
-    at : ScriptDone (means m places) n core now before mid o size lines lines_refusals lines_end fine
+    at : ScriptDone (means_with_room m places) n core now before mid o size lines lines_refusals lines_end fine
         → Headline m n size o lines disk now.store.disk before after end
     at (inl ran) = stopped m places n counts new_begin disk limit core now size image o lines lines_refusals
         lines_end fine before mid entry opened ran now_is accounts after end ends last
@@ -279,7 +283,7 @@ pub runs_close : {D P K : Type 0} (m : Meaning D) (places : Places P) (n : SinkM
 runs_close {D} {P} {K} m places n counts new_begin begin own_new disk new limit core now size image o lines fine
     result before mid after entry opened now_is accounts done closes last = at done
   where
-    with_ran : (ran : ScriptRan (means m places) n core now before mid o size lines [] lines_ends.Whole fine)
+    with_ran : (ran : ScriptRan (means_with_room m places) n core now before mid o size lines [] lines_ends.Whole fine)
         → (it : Result (Unit {0}) Refusal) → ClosesEngine m now new it
         → IsPrinted n mid after (last_line (closed_end fine it))
         → Headline m n size o lines disk new before after (closed_end fine it)
@@ -291,7 +295,7 @@ runs_close {D} {P} {K} m places n counts new_begin begin own_new disk new limit 
         [] lines_ends.Whole fine before mid entry opened ran now_is accounts new (Err refusal) ends after (Outside refusal)
         (closing_refusal m now new refusal ends.ended) printed tt
 
-    at : ScriptDone (means m places) n core now before mid o size lines [] lines_ends.Whole fine
+    at : ScriptDone (means_with_room m places) n core now before mid o size lines [] lines_ends.Whole fine
         → Headline m n size o lines disk new before after (closed_end fine result)
     at (inl ran) = with_ran ran result closes last
     at (inr none) = let short = none.short in absurd cc

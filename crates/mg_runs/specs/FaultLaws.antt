@@ -7,7 +7,7 @@ use Rattle.mg_database.specs.Preparing.{FailsToPrepare, no_memory, unasked, unma
 use Rattle.mg_database.specs.declared.fault.OpenFault.{OpenFault}
 use Rattle.mg_database.specs.declared.fault.OpenFault.TheVariants.{NotADatabase, Space}
 use Rattle.mg_engine_meaning.specs.Closings.{RefusesClose}
-use Rattle.mg_engine_meaning.specs.Meaning.{Places, means}
+use Rattle.mg_engine_meaning.specs.Meaning.{Places, means_with_room}
 use Rattle.mg_model.specs.declared.refusal.Refusal.{Refusal}
 use Rattle.mg_model.specs.declared.refusal.Refusal.TheVariants as refusals
 use Rattle.mg_pool.specs.Fault.{StaysOnline}
@@ -76,7 +76,7 @@ openings_fail m disk new limit refusal refused = opening_fails m disk new limit 
 -- what is blamed on the disk has risen since the start; else the count stands
 blamed : {D P : Type 0} (m : Meaning D) (places : Places P) (disk : D) (core now : Core D) (refusal : Refusal)
     → m.faults core.store.disk ≡ m.faults disk → core.store.offline ≡ None
-    → Accounts (means m places) core now (Some refusal) → FailsWith m disk now.store.disk refusal
+    → Accounts (means_with_room m places) core now (Some refusal) → FailsWith m disk now.store.disk refusal
 blamed m places disk core now (refusals.DiskRead count) steady online accounts =
     subst (λ (n : ℕ). Rose n (m.faults now.store.disk)) steady accounts.cause
 blamed m places disk core now (refusals.DiskWrite count) steady online accounts =

@@ -13,6 +13,7 @@ use Rattle.mg_model.specs.declared.refusal.Refusal.{Refusal}
 use Rattle.mg_model.specs.declared.refusal.Refusal.TheVariants.{DiskWrite, Memory, Offline}
 use Rattle.mg_model.specs.History.{Entries}
 use Rattle.mg_model.specs.Legal.{IsLegal, durable_count}
+use Rattle.mg_records.specs.Needed.{IsNeverShort}
 use Rattle.mg_script.specs.declared.line.Line.{Line}
 use Rattle.mg_script_ends.specs.Ends.{told_first}
 use Rattle.mg_scripts.specs.declared.lines.LinesEnd.{LinesEnd}
@@ -90,13 +91,14 @@ pub record AreUnserved {K : Type 0} (n : SinkMeaning K) (before after : K) (end 
 -- ---- what is left
 
 -- A disk has what a run left whose database was closed: nothing is pending, and its image holds the history with all
--- its durable events. A history can begin with it that goes on from there, so a second run has its premises.
+-- its durable events. A history can begin with it that goes on from there, so a second run has its premises, whatever
+-- page limit it asks for.
 pub record HasEnded {D : Type 0} (m : Meaning D) (disk : D) (size : ℕ) (o : Opening) (entries : Entries) : Type 0
   where
     pub left : HasLeft m disk size o entries (durable_count entries)
     pub later : Opening
     pub goes_on : GoesOnFrom o entries (durable_count entries) later
-    pub entry : IsEntry m disk size left.image later
+    pub entry : (limit : ℕ) → IsEntry m disk limit size left.image later
 
 -- where the database was closed, it is settled
 abbrev pub IsSettledAt : {D : Type 0} → Meaning D → D → ℕ → Opening → Entries → RunEnd → Type 0
@@ -108,12 +110,14 @@ IsSettledAt m new size o entries end = Unit {0}
 -- A run over a disk on which a history can begin: there is one legal history of its lines. The sink took its
 -- transcript, and the line that says why the run has ended; every image that a crash since the start might have left
 -- holds what the history has after some durable event, and each that a crash may leave at the end has all that were
--- acknowledged.
+-- acknowledged. With enough free pages no entry is answered DATABASE FULL.
 pub record Headline {D K : Type 0} (m : Meaning D) (n : SinkMeaning K) (size : ℕ) (o : Opening)
     (lines : List Line) (old new : D) (before after : K) (end : RunEnd) : Type 0 where
   pub entries : Entries
   pub served : AreServed n before after size o lines end entries ⊎ AreUnserved n before after end entries
   pub legal : IsLegal o entries
+  -- where the entries need no more pages than were promised, none of them is answered DATABASE FULL
+  pub room : IsNeverShort o entries
   pub crash : LeavesOnly m old new (HoldsFrom packed_form size o (asked entries) 0)
   pub exit : (c : Image) → MayLeave m new c → HoldsAcknowledged packed_form size o entries c
   pub settled : IsSettledAt m new size o entries end

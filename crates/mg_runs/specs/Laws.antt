@@ -1,5 +1,5 @@
 -- What the steps of a run give of its promise.
-use Rattle.std.specs.Prelude.{◌≡◌, ℕ, Bool, false, List, [], ◌∷◌, Option, Some, Result, Ok, Err}
+use Rattle.std.specs.Prelude.{◌≡◌, ◌≤◌, ◌+◌, ℕ, Bool, false, List, [], ◌∷◌, Option, Result, Ok, Err}
 use Rattle.mg_base.specs.Disk.{Meaning}
 use Rattle.mg_base.specs.Image.{Image}
 use Rattle.mg_base.specs.MemDisk.{acts_in, mem_meaning}
@@ -8,13 +8,15 @@ use Rattle.mg_base.specs.declared.mem_disk.MemDisk.{MemDisk}
 use Rattle.mg_core.specs.Cores.{IsCore}
 use Rattle.mg_core.specs.declared.parts.Core.{Core}
 use Rattle.mg_engine_meaning.specs.Closings.{ClosesEngine}
-use Rattle.mg_engine_meaning.specs.Openings.{IsOpenedOver, RefusesOpening, new_history}
-use Rattle.mg_engine_meaning.specs.Meaning.{Places, means}
+use Rattle.mg_engine_meaning.specs.FreePages.{CoreHasFree}
+use Rattle.mg_engine_meaning.specs.Openings.{BeginsWith, IsOpenedOver, RefusesOpening, new_history}
+use Rattle.mg_engine_meaning.specs.Meaning.{Places, means_with_room}
 use Rattle.mg_engine_meaning.specs.Standings.{StandsFor}
 use Rattle.mg_model.specs.Answers.{is_active}
 use Rattle.mg_model.specs.Machine.{state_of}
 use Rattle.mg_model.specs.declared.opening.Opening.{Opening}
 use Rattle.mg_model.specs.declared.refusal.Refusal.{Refusal}
+use Rattle.mg_pip.specs.PipPage.{bits}
 use Rattle.mg_records.specs.Keeping.{refusal_in}
 use Rattle.mg_script.specs.declared.line.Line.{Line}
 use Rattle.mg_scripts.specs.declared.lines.LinesEnd.{LinesEnd}
@@ -22,10 +24,11 @@ use Rattle.mg_scripts.specs.declared.lines.LinesEnd.TheVariants as lines_ends
 use Rattle.mg_scripts.specs.Ending.{ScriptDone, reason_at}
 use Rattle.mg_scripts.specs.Steps.{reason}
 use Rattle.mg_sessions.specs.Accounts.{Accounts}
+use Rattle.mg_survey.specs.Survey.{limit_of}
 use Rattle.mg_run_ends.specs.declared.ending.RunEnd.{RunEnd}
 use Rattle.mg_run_ends.specs.declared.ending.RunEnd.TheVariants.{Whole, Outside}
 use Rattle.mg_run_ends.specs.Ends.{FailsBy, FailsWith, IsOutside, last_line}
-use Rattle.mg_runs.specs.Entry.{IsEntry}
+use Rattle.mg_runs.specs.Entry.{IsEntry, promising}
 use Rattle.mg_runs.specs.Headline.{EndsBehind, Headline}
 use Rattle.mg_run_ends.specs.Printing.{IsPrinted}
 
@@ -34,19 +37,21 @@ use Rattle.mg_run_ends.specs.Printing.{IsPrinted}
 -- A disk that was not opened: its history has no entry.
 abbrev pub OpeningsAreJudged : {D K : Type 0} → Meaning D → SinkMeaning K → Type 0
 OpeningsAreJudged {D} {K} m n = (disk new : D) (limit : ℕ) (refusal : Refusal) (size : ℕ) (image : Image) (o : Opening)
-    (lines : List Line) (end : RunEnd) (before after : K) → IsEntry m disk size image o
+    (lines : List Line) (end : RunEnd) (before after : K) → IsEntry m disk limit size image o
     → RefusesOpening m disk new limit refusal → IsOutside refusal end → IsPrinted n before after (last_line end)
     → Headline m n size o lines disk new before after end
 
--- An engine that was opened stands for the history that begins with what its disk held.
+-- An engine that was opened stands for the history that begins with what its disk held, and has the pages free that are
+-- promised.
 pub record BeginsRun {D : Type 0} (m : Meaning D) (core : Core D) (size : ℕ) (o : Opening) : Type 0 where
   pub size_is : core.store.geometry.size ≡ size
   pub stands : StandsFor m core o []
+  pub room : (count : ℕ) → count ≤ o.free → CoreHasFree m core count
   pub idle : (t : ℕ) → is_active (state_of o [] t) ≡ false
 
 abbrev pub RunsBegin : {D : Type 0} → Meaning D → Type 0
 RunsBegin {D} m = (disk : D) (limit : ℕ) (core : Core D) (size : ℕ) (image : Image) (o : Opening)
-    → IsOpenedOver m disk limit core → IsEntry m disk size image o → BeginsRun m core size o
+    → IsOpenedOver m disk limit core → IsEntry m disk limit size image o → BeginsRun m core size o
 
 -- ---- the end
 
@@ -60,9 +65,9 @@ IsCutOff lines_end refusals = Unit {0}
 abbrev pub RunsStop : {D P K : Type 0} → Meaning D → Places P → SinkMeaning K → Type 0
 RunsStop {D} {P} {K} m places n = (disk : D) (limit : ℕ) (core now : Core D) (size : ℕ) (image : Image) (o : Opening)
     (lines : List Line) (refusals : List Refusal) (lines_end : LinesEnd) (fine : Bool) (end : RunEnd)
-    (before mid after : K) → IsEntry m disk size image o → IsOpenedOver m disk limit core → IsCore m now
-    → Accounts (means m places) core now (reason_at lines_end refusals)
-    → ScriptDone (means m places) n core now before mid o size lines refusals lines_end fine
+    (before mid after : K) → IsEntry m disk limit size image o → IsOpenedOver m disk limit core → IsCore m now
+    → Accounts (means_with_room m places) core now (reason_at lines_end refusals)
+    → ScriptDone (means_with_room m places) n core now before mid o size lines refusals lines_end fine
     → IsCutOff lines_end refusals → EndsBehind lines_end refusals fine end → IsPrinted n mid after (last_line end)
     → Headline m n size o lines disk now.store.disk before after end
 
@@ -75,9 +80,9 @@ closed_end fine (Err refusal) = Outside refusal
 abbrev pub RunsClose : {D P K : Type 0} → Meaning D → Places P → SinkMeaning K → Type 0
 RunsClose {D} {P} {K} m places n = (disk new : D) (limit : ℕ) (core now : Core D) (size : ℕ) (image : Image)
     (o : Opening) (lines : List Line) (fine : Bool) (result : Result (Unit {0}) Refusal) (before mid after : K)
-    → IsEntry m disk size image o → IsOpenedOver m disk limit core → IsCore m now
-    → Accounts (means m places) core now (reason lines_ends.Whole)
-    → ScriptDone (means m places) n core now before mid o size lines [] lines_ends.Whole fine
+    → IsEntry m disk limit size image o → IsOpenedOver m disk limit core → IsCore m now
+    → Accounts (means_with_room m places) core now (reason lines_ends.Whole)
+    → ScriptDone (means_with_room m places) n core now before mid o size lines [] lines_ends.Whole fine
     → ClosesEngine m now new result → IsPrinted n mid after (last_line (closed_end fine result))
     → Headline m n size o lines disk new before after (closed_end fine result)
 
@@ -92,17 +97,24 @@ OpeningsFail {D} m = (disk new : D) (limit : ℕ) (refusal : Refusal) → Refuse
 -- within the lines and as what is live is rolled back,
 abbrev pub LinesFail : {D P : Type 0} → Meaning D → Places P → Type 0
 LinesFail {D} {P} m places = (disk : D) (limit : ℕ) (core now : Core D) (told : Option Refusal)
-    → IsOpenedOver m disk limit core → Accounts (means m places) core now told
+    → IsOpenedOver m disk limit core → Accounts (means_with_room m places) core now told
     → FailsBy m disk now.store.disk told
 
 -- and as the database is closed, behind lines that were all obeyed
 abbrev pub ClosingsFail : {D P : Type 0} → Meaning D → Places P → Type 0
 ClosingsFail {D} {P} m places = (disk new : D) (limit : ℕ) (core now : Core D) (result : Result (Unit {0}) Refusal)
-    → IsOpenedOver m disk limit core → Accounts (means m places) core now (reason lines_ends.Whole)
+    → IsOpenedOver m disk limit core → Accounts (means_with_room m places) core now (reason lines_ends.Whole)
     → ClosesEngine m now new result → FailsBy m disk new (refusal_in result)
 
 -- ---- the premise
 
--- a disk in memory of which nothing was asked yet is one on which a run has its history, that of a new database
+-- A disk in memory of which nothing was asked yet is one on which a run has its history, that of a new database. It may
+-- promise the pages of the first region behind the seventh, up to the page limit.
 abbrev pub BlankIsEntry : Type 0
-BlankIsEntry = (disk : MemDisk) → acts_in disk ≡ [] → IsEntry mem_meaning disk disk.size [] new_history
+BlankIsEntry = (disk : MemDisk) (limit free : ℕ) → acts_in disk ≡ [] → 7 + free ≤ limit_of limit 0
+    → 7 + free ≤ bits disk.size → IsEntry mem_meaning disk limit disk.size [] (new_history free)
+
+-- what a history may begin with promises any number of pages that are free
+abbrev pub AnyFreeBegins : Type 0
+AnyFreeBegins = (size : ℕ) (image : Image) (o : Opening) (free : ℕ) → BeginsWith size image o
+    → BeginsWith size image (promising free o)

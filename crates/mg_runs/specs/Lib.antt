@@ -1,3 +1,4 @@
+pub mod BegunLaws
 pub mod EndLaws
 pub mod Entry
 pub mod EntryLaws
@@ -7,4 +8,5 @@ pub mod Laws
 pub mod MemLaws
 pub mod OpeningLaws
 pub mod Promise
+pub mod PromisingLaws
 pub mod UnjudgedLaws

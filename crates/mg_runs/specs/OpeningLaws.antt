@@ -1,21 +1,17 @@
 -- What an opening gives of a run's promise.
-use Rattle.std.proofs.Common.{◌≡◌, ◌≢◌, ◌⊎◌, inl, inr, ◌≤◌, ◌+◌, ◌*◌, ℕ, zero, suc, true, false, List, [], Some, refl, sym, ◌∙◌, subst, arith}
+use Rattle.std.proofs.Common.{◌≡◌, ◌⊎◌, inl, inr, ◌≤◌, ◌+◌, ◌*◌, ℕ, zero, suc, true, List, [], Some, refl, sym, ◌∙◌, subst, arith}
 use Rattle.std.proofs.Math.Nat.{suc-mul}
 use Rattle.mg_base.specs.Disk.{Meaning}
 use Rattle.mg_base.specs.Geometry.{is_page_size}
 use Rattle.mg_base.specs.Image.{Image, blank, page_at}
 use Rattle.mg_base.specs.Moments.{LeavesOnly}
 use Rattle.mg_base.specs.Streams.{SinkMeaning}
-use Rattle.mg_base.specs.declared.transaction.TxState.{TxState}
-use Rattle.mg_base.specs.declared.transaction.TxState.TheVariants.{Active, Committed, Dead, Limbo}
 use Rattle.mg_core.specs.declared.parts.Core.{Core}
 use Rattle.mg_engine_meaning.specs.BlankLaws.{header_is_made}
 use Rattle.mg_engine_meaning.specs.NewBegins.{NewBegin}
-use Rattle.mg_engine_meaning.specs.OpenedLaws.{content_leaves, settled_on_opened}
+use Rattle.mg_engine_meaning.specs.OpenedLaws.{content_leaves}
 use Rattle.mg_engine_meaning.specs.Openings.{BeginsWith, IsNoJudgement, IsOpenedOver, IsSettledOn, IsSoundImage, RefusesOpening, new_history}
-use Rattle.mg_engine_meaning.specs.LawfulLaws.{opening_of}
-use Rattle.mg_engine_meaning.specs.Standings.{StandsFor}
-use Rattle.mg_format.specs.Format.{HasNew, IsUnmadeImage, LeavesNew}
+use Rattle.mg_format.specs.Format.{IsUnmadeImage, LeavesNew}
 use Rattle.mg_header.specs.declared.header.TheConstants.{GREATEST_NEXT}
 use Rattle.mg_image.specs.Form.{Pages, packed_coding, packed_form}
 use Rattle.mg_image.specs.HistoryLaws.{blank_holds, opened_holds}
@@ -23,13 +19,10 @@ use Rattle.mg_image.specs.Inventory.{inventory_page}
 use Rattle.mg_image.specs.NewDatabase.{IsNewPage}
 use Rattle.mg_image.specs.Opening.{IsBlank, IsUnmade, sound_image}
 use Rattle.mg_lasting.specs.Crashes.{HoldsFrom}
-use Rattle.mg_model.specs.Answers.{is_active}
 use Rattle.mg_model.specs.History.{Entries}
-use Rattle.mg_model.specs.Machine.{opening_state}
 use Rattle.mg_model.specs.declared.opening.Opening.{Opening}
 use Rattle.mg_model.specs.declared.refusal.Refusal.{Refusal}
 use Rattle.mg_model.specs.declared.refusal.Refusal.TheVariants as refusals
-use Rattle.mg_new_databases.specs.Soundness.{HasWholePages}
 use Rattle.mg_pip.specs.PipPage.{bits}
 use Rattle.mg_pool.specs.Pool.{KeepsContent}
 use Rattle.mg_space.specs.TakingLaws.{bits_some}
@@ -40,7 +33,7 @@ use Rattle.mg_run_ends.specs.Ends.{IsOutside, last_line}
 use Rattle.mg_runs.specs.Entry.{IsOpeningOf, TellsWholePages, of_new, of_sound}
 use Rattle.mg_runs.specs.Headline.{AreUnserved, IsSettledAt}
 use Rattle.mg_runs.specs.UnjudgedLaws.{outside_unjudged}
-use Rattle.mg_runs.specs.Laws.{BeginsRun, OpeningsAreJudged, RunsBegin}
+use Rattle.mg_runs.specs.Laws.{OpeningsAreJudged}
 use Rattle.mg_run_ends.specs.Printing.{IsPrinted}
 
 -- ---- images
@@ -56,7 +49,7 @@ begins_hold size image o it = record {
       it.whole.first;
 }
 
-is_sound : (size : ℕ) (image : Image) (o : Opening) → BeginsWith size image o → IsSoundImage size image
+pub is_sound : (size : ℕ) (image : Image) (o : Opening) → BeginsWith size image o → IsSoundImage size image
 is_sound size image o it = record {
   layout = it.sound.layout;
   records = it.sound.reading;
@@ -95,14 +88,14 @@ unmade_is_blank size pages lawful unmade = record {
         let more : suc region * bits size ≡ region * bits size + bits size = suc-mul region (bits size) in
         let least = bits_some size lawful in omega (arith, more, least)
 
--- so it holds a new database
-unmade_holds : (size : ℕ) (image : Image) → is_page_size size ≡ true → IsUnmadeImage size image
-    → HoldsFrom packed_form size new_history [] 0 image
-unmade_holds size image lawful unmade = record {
+-- so it holds a new database, however many free pages that is promised
+unmade_holds : (size free : ℕ) (image : Image) → is_page_size size ≡ true → IsUnmadeImage size image
+    → HoldsFrom packed_form size (new_history free) [] 0 image
+unmade_holds size free image lawful unmade = record {
   k = 0;
   at_least = omega arith;
   at_most = omega arith;
-  holds = blank_holds packed_form size (page_at size image) GREATEST_NEXT 0
+  holds = blank_holds packed_form size (page_at size image) GREATEST_NEXT free 0
       (unmade_is_blank size (page_at size image) lawful unmade);
 }
 
@@ -131,22 +124,23 @@ module _ (new_begin : NewBegin) {D : Type 0} (m : Meaning D) (counts : CountsNow
       (unwritten (not_unmade size image o it)) (λ c may. subst (HoldsFrom packed_form size o [] 0)
       (sym (on.only c may)) (begins_hold size image o it))
 
-  new_leaves : IsUnmadeImage size image → LeavesOnly m disk new (HoldsFrom packed_form size new_history [] 0)
-  new_leaves unmade = leaves_with m disk new (LeavesNew m disk size) (HoldsFrom packed_form size new_history [] 0)
-      turn crash
+  new_leaves : (free : ℕ) → IsUnmadeImage size image
+      → LeavesOnly m disk new (HoldsFrom packed_form size (new_history free) [] 0)
+  new_leaves free unmade = leaves_with m disk new (LeavesNew m disk size)
+      (HoldsFrom packed_form size (new_history free) [] 0) turn crash
     where
       turn : (t : ℕ) (c : Image) → m.left new t c → LeavesNew m disk size c
-          → HoldsFrom packed_form size new_history [] 0 c
-      turn t c left (inl may) = subst (HoldsFrom packed_form size new_history [] 0) (sym (on.only c may))
-          (unmade_holds size image lawful unmade)
-      turn t c left (inr (inl is)) = unmade_holds size c lawful is
-      turn t c left (inr (inr made)) = begins_hold size c new_history
-          (new_begin size c lawful made (entry_whole.left new t c sized left))
+          → HoldsFrom packed_form size (new_history free) [] 0 c
+      turn t c left (inl may) = subst (HoldsFrom packed_form size (new_history free) [] 0) (sym (on.only c may))
+          (unmade_holds size free image lawful unmade)
+      turn t c left (inr (inl is)) = unmade_holds size free c lawful is
+      turn t c left (inr (inr made)) = begins_hold size c (new_history free)
+          (new_begin free size c lawful made (entry_whole.left new t c sized left))
 
-  pub opening_leaves : (o : Opening) → IsOpeningOf size image o
+  pub opening_leaves : (limit : ℕ) (o : Opening) → IsOpeningOf size limit image o
       → LeavesOnly m disk new (HoldsFrom packed_form size o [] 0)
-  opening_leaves _ (of_new unmade) = new_leaves unmade
-  opening_leaves _ (of_sound o it) = sound_leaves o it
+  opening_leaves limit _ (of_new free unmade below inside) = new_leaves free unmade
+  opening_leaves limit _ (of_sound o it has) = sound_leaves o it
 
 -- ---- a disk that was not opened
 
@@ -169,9 +163,9 @@ module _ {D : Type 0} (m : Meaning D) (disk new : D) (limit : ℕ) (refusal : Re
     held = keeps.held ∙ on.tells.held;
   }
 
-  pub not_judged : (o : Opening) → IsOpeningOf size image o → IsNoJudgement refusal
-  not_judged _ (of_new unmade) = refused.lawful_new size image its_size on.tells unmade
-  not_judged _ (of_sound o it) = refused.lawful size image its_size
+  pub not_judged : (o : Opening) → IsOpeningOf size limit image o → IsNoJudgement refusal
+  not_judged _ (of_new free unmade below inside) = refused.lawful_new size image its_size on.tells unmade
+  not_judged _ (of_sound o it has) = refused.lawful size image its_size
       (still_told (kept_by_size (not_unmade size image o it))) (inl (is_sound size image o it))
 
 -- the refusal by which the run has ended then
@@ -204,6 +198,7 @@ openings_are_judged m n counts new_begin disk new limit refusal size image o lin
       entries = [];
       served = inr (unserved n before after refusal end ends last);
       legal = tt;
+      room = λ within. tt;
       crash = leaves;
       exit = λ c may. leaves.each c (counts new (m.moment disk) c
           (refused.same.tells ∙ entry.settled.tells.told) leaves.later may);
@@ -218,7 +213,7 @@ openings_are_judged m n counts new_begin disk new limit refusal size image o lin
     leaves = opening_leaves new_begin m counts disk new size image entry.whole entry.lawful
         (refused.same.size size entry.sized) entry.settled
         (kept_by_size m disk new limit refusal size image refused entry.sized entry.settled)
-        (refused.crash size (refused.same.size size entry.sized) image entry.settled.tells) o entry.opening
+        (refused.crash size (refused.same.size size entry.sized) image entry.settled.tells) limit o entry.opening
 
 -- ---- an engine that was opened
 
@@ -237,48 +232,3 @@ module _ {D : Type 0} (m : Meaning D) (disk : D) (limit : ℕ) (core : Core D) (
   pub crash_over : IsSettledOn m disk image → LeavesOnly m disk core.store.disk (LeavesNew m disk size)
   crash_over on = subst (λ (n : ℕ). LeavesOnly m disk core.store.disk (LeavesNew m disk n)) size_over
       (opened.crash image on.tells)
-
-  -- the engine stands for the history of a new database
-  stands_new : IsSettledOn m disk image → TellsWholePages m size → IsUnmadeImage size image
-      → StandsFor m core new_history []
-  stands_new on whole unmade = opened.begins_new image has.image on.tells its has.tells whole_pages
-    where
-      its : IsUnmadeImage core.store.geometry.size image
-      its = subst (λ (n : ℕ). IsUnmadeImage n image) (sym size_over) unmade
-
-      has : HasNew m core.store.disk core.store.geometry.size
-      has = opened.made image on.tells its
-
-      whole_pages : HasWholePages core.store.geometry.size has.image
-      whole_pages = subst (λ (n : ℕ). HasWholePages n has.image) (sym size_over)
-          (whole.held core.store.disk has.image sized_over has.tells)
-
-  -- or for the one that begins with a sound image
-  stands_sound : CountsNow m → IsSettledOn m disk image → (o : Opening) → BeginsWith size image o
-      → StandsFor m core o []
-  stands_sound counts on o it = opened.stands image o
-      (settled_on_opened m counts disk limit core image opened on
-      (subst (λ (n : ℕ). IsSoundImage n image) (sym size_over) (is_sound size image o it)))
-      (subst (λ (n : ℕ). BeginsWith n image o) (sym size_over) it)
-
-  pub stands_over : CountsNow m → IsSettledOn m disk image → TellsWholePages m size → (o : Opening)
-      → IsOpeningOf size image o → StandsFor m core o []
-  stands_over counts on whole _ (of_new unmade) = stands_new on whole unmade
-  stands_over counts on whole _ (of_sound o it) = stands_sound counts on o it
-
-not_active : (s : TxState) → s ≢ Active → is_active s ≡ false
-not_active Active not_ = absurd (not_ refl)
-not_active Limbo not_ = refl
-not_active Dead not_ = refl
-not_active Committed not_ = refl
-
-pub runs_begin : {D : Type 0} (m : Meaning D) → CountsNow m → RunsBegin m
-runs_begin {D} m counts disk limit core size image o opened entry = by
-    (stands_over m disk limit core size image opened entry.sized counts entry.settled entry.whole o entry.opening)
-  where
-    by : StandsFor m core o [] → BeginsRun m core size o
-    by stands = record {
-      size_is = size_over m disk limit core size image opened entry.sized;
-      stands = stands;
-      idle = λ t. not_active (opening_state o t) ((opening_of m core o [] stands).ended t);
-    }

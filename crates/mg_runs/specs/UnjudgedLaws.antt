@@ -9,7 +9,7 @@ use Rattle.mg_base.specs.declared.transaction.TxState.TheVariants.{Active, Commi
 use Rattle.mg_calls.specs.Frames.{Blames}
 use Rattle.mg_core.specs.declared.parts.Core.{Core}
 use Rattle.mg_engine_meaning.specs.Openings.{IsNoJudgement}
-use Rattle.mg_engine_meaning.specs.Meaning.{Places, means}
+use Rattle.mg_engine_meaning.specs.Meaning.{Places, means_with_room}
 use Rattle.mg_faults.specs.Faults.{tells_fault}
 use Rattle.mg_model.specs.declared.answer.Answer.TheVariants as answers
 use Rattle.mg_model.specs.declared.event.Event.TheVariants as events
@@ -93,7 +93,7 @@ whole_unjudged fine ScriptTooLong ends = tt
 module _ {D P : Type 0} (m : Meaning D) (places : Places P) (core now : Core D) (none : core.damage ≡ 0)
     (same : now.damage ≡ core.damage) where
   -- the refusal by which a line stops the run
-  line_fair : (refusal : Refusal) → stops_run refusal ≡ true → Blames (means m places) core now (Some refusal)
+  line_fair : (refusal : Refusal) → stops_run refusal ≡ true → Blames (means_with_room m places) core now (Some refusal)
       → IsNoJudgement refusal
   line_fair (refusals.NotADatabase field found) stops cause = absurd cc
   line_fair (refusals.Damaged page field found wanted) stops cause =
@@ -103,7 +103,7 @@ module _ {D P : Type 0} (m : Meaning D) (places : Places P) (core now : Core D) 
   -- the refusal of a rolling back
   back_fair : (o : Opening) (h : Entries) (t : TxNo) (refusal : Refusal)
       → IsLawful o h (entry (events.Rollback t) (answers.No refusal))
-      → Blames (means m places) core now (Some refusal) → IsNoJudgement refusal
+      → Blames (means_with_room m places) core now (Some refusal) → IsNoJudgement refusal
   back_fair o h t (refusals.NotADatabase field found) (inl is) cause = absurd (not_answered (state_of o h t.0) field found is)
   back_fair o h t (refusals.NotADatabase field found) (inr outer) cause = absurd cc
   back_fair o h t (refusals.Damaged page field found wanted) lawful cause =
@@ -113,7 +113,7 @@ module _ {D P : Type 0} (m : Meaning D) (places : Places P) (core now : Core D) 
   -- the first of some refusals, if it is the one that is told
   abbrev FirstIsFair : List Refusal → Type 0
   FirstIsFair [] = Unit {0}
-  FirstIsFair (first ∷ more) = Blames (means m places) core now (Some first) → IsNoJudgement first
+  FirstIsFair (first ∷ more) = Blames (means_with_room m places) core now (Some first) → IsNoJudgement first
 
   first_fair : (o : Opening) (h after : Entries) (these : List ℕ) (given : List Refusal)
       → AreRolledBack o h these after given → FirstIsFair given
@@ -127,11 +127,11 @@ module _ {D P : Type 0} (m : Meaning D) (places : Places P) (core now : Core D) 
       back_fair o h t refusal lawful cause
 
   told_fair : (first : Refusal) (more : List Refusal) → FirstIsFair (first ∷ more)
-      → Blames (means m places) core now (Some (told_first first more)) → IsNoJudgement (told_first first more)
+      → Blames (means_with_room m places) core now (Some (told_first first more)) → IsNoJudgement (told_first first more)
   told_fair first more fair cause = at (tells_fault (Some (last_of first more))) refl cause
     where
       at : (b : Bool) → tells_fault (Some (last_of first more)) ≡ b
-          → Blames (means m places) core now (Some (if b then last_of first more else first))
+          → Blames (means_with_room m places) core now (Some (if b then last_of first more else first))
           → IsNoJudgement (if b then last_of first more else first)
       at true tells cause_ = fault_fair (last_of first more) tells
       at false tells cause_ = fair cause_
@@ -140,7 +140,7 @@ module _ {D P : Type 0} (m : Meaning D) (places : Places P) (core now : Core D) 
   pub unjudged : (o : Opening) (size : ℕ) (fine : Bool) (turns : List Obeyed) (obeyed_to entries : Entries)
       (us : List Unfinished) (lines_end : LinesEnd) (given : List Refusal) (end : RunEnd)
       → AreRun o size lines_end turns obeyed_to us → EndsSo o lines_end obeyed_to entries given
-      → Accounts (means m places) core now (reason_at lines_end given) → EndsBehind lines_end given fine end
+      → Accounts (means_with_room m places) core now (reason_at lines_end given) → EndsBehind lines_end given fine end
       → IsUnjudged end
   unjudged o size fine turns obeyed_to entries us lines_ends.Whole [] end run ended accounts ends =
       whole_unjudged fine end ends

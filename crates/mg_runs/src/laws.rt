@@ -1,7 +1,7 @@
 //! What the steps of a run give of its promise. Each function does nothing: its contract is the law.
 
 ghost use Rattle.mg_engine_meaning.specs.Meaning.{Places};
-ghost use Rattle.mg_runs.specs.Laws.{BlankIsEntry, ClosingsFail, LinesFail, OpeningsAreJudged, OpeningsFail, RunsBegin, RunsClose, RunsStop};
+ghost use Rattle.mg_runs.specs.Laws.{AnyFreeBegins, BlankIsEntry, ClosingsFail, LinesFail, OpeningsAreJudged, OpeningsFail, RunsBegin, RunsClose, RunsStop};
 
 use mg_base::{Disk, Sink};
 use mg_engine_meaning::new_databases_begin;
@@ -16,10 +16,13 @@ pub fn openings_are_judged<D: Disk, K: Sink>()
     new_databases_begin();
 }
 
-/// An engine that was opened stands for the history that begins with what its disk held.
+/// An engine that was opened stands for the history that begins with what its disk held, and has the pages free that are
+/// promised.
 pub fn runs_begin<D: Disk>()
     ensures { RunsBegin D.meaning }
-{}
+{
+    new_databases_begin();
+}
 
 /// A run ends without that its database is closed.
 pub fn runs_stop<D: Disk, P, K: Sink>()
@@ -53,9 +56,11 @@ pub fn closings_fail<D: Disk, P>()
     ensures { (places : Places P) → ClosingsFail D.meaning places }
 {}
 
-/// A disk in memory of which nothing was asked yet is one on which a run has its history.
+/// A disk in memory of which nothing was asked yet is one on which a run has its history; and what any history may begin
+/// with promises any number of pages that are free.
 pub fn blank_disks_are_entries()
-    ensures { BlankIsEntry }
+    ensures blank { BlankIsEntry }
+    ensures any_free { AnyFreeBegins }
 {
     disks_in_memory_are_whole();
 }

@@ -1,9 +1,11 @@
 //! What a run of the program promises, in the terms of one history.
 //!
-//! Owns: the definitions by which a run is judged. In `specs/`: `Entry` (the disks on which a history can begin),
-//! `Headline` (one legal history of the lines, its transcript, that each image a crash leaves holds it, and that the
-//! disk is not said to be damaged), `Promise` (the script, and the causes that hold over any disk). `Laws` has what the
-//! steps of a run give of it; `OpeningLaws`, `EndLaws`, `UnjudgedLaws`, `FaultLaws`, `EntryLaws` and `MemLaws` prove that.
+//! Owns: the definitions by which a run is judged. In `specs/`: `Entry` (the disks on which a history can begin, and how
+//! many free pages it is promised), `Headline` (one legal history of the lines, its transcript, that none of them is
+//! answered DATABASE FULL where they need no more pages than were promised, that each image a crash leaves holds it, and
+//! that the disk is not said to be damaged), `Promise` (the script, and the causes that hold over any disk). `Laws` has
+//! what the steps of a run give of it; `OpeningLaws`, `BegunLaws`, `EndLaws`, `UnjudgedLaws`, `FaultLaws`, `EntryLaws`,
+//! `PromisingLaws` and `MemLaws` prove that.
 //!
 //! Invariant: none, it keeps no state.
 //! Below: `mg_scripts`, the lines of a script; `mg_engine_meaning`, the opening and closing of an engine; `mg_transcript`,

@@ -19,15 +19,15 @@ serve-requires g c =
 pub returns-in-Ok-clause-disk : goal.returns-in-Ok-clause-disk
 returns-in-Ok-clause-disk g c = c.serve.ensures.disk
 
-pub returns-in-Ok-clause-limit : goal.returns-in-Ok-clause-limit
-returns-in-Ok-clause-limit g c = c.serve.ensures.limit
+pub returns-in-Ok-clause-most_writes : goal.returns-in-Ok-clause-most_writes
+returns-in-Ok-clause-most_writes g c = c.serve.ensures.most_writes
 
 pub returns-in-Ok-clause-streams : goal.returns-in-Ok-clause-streams
 returns-in-Ok-clause-streams g c =
     let whole = lines_read g.S.Source.meaning c.args.source.now c.as_slice.result.now c.in-Ok.script c.as_slice.ensures
     c.in-Ok.ensures.0 in
     served_streams g.D.Disk.meaning g.S.Source.meaning g.K.Sink.meaning c.args.source.now c.read_lines.new.source
-    c.as_slice.result.now c.args.disk c.serve.result.1 c.args.sink.now c.serve.new.sink c.serve.result.0 whole
+    c.args.limit c.as_slice.result.now c.args.disk c.serve.result.1 c.args.sink.now c.serve.new.sink c.serve.result.0 whole
     c.in-Ok.ensures.1 c.serve.ensures
 
 pub returns-in-Ok-clause-script : goal.returns-in-Ok-clause-script
@@ -35,7 +35,7 @@ returns-in-Ok-clause-script g c =
     let whole = lines_read g.S.Source.meaning c.args.source.now c.as_slice.result.now c.in-Ok.script c.as_slice.ensures
     c.in-Ok.ensures.0 in
     served_script g.D.Disk.meaning g.S.Source.meaning g.K.Sink.meaning c.args.source.now c.read_lines.new.source
-    c.as_slice.result.now c.args.disk c.serve.result.1 c.args.sink.now c.serve.new.sink c.serve.result.0 whole
+    c.args.limit c.as_slice.result.now c.args.disk c.serve.result.1 c.args.sink.now c.serve.new.sink c.serve.result.0 whole
     c.in-Ok.ensures.1 c.serve.ensures
 
 pub returns-in-Ok-clause-headline : goal.returns-in-Ok-clause-headline
@@ -43,7 +43,7 @@ returns-in-Ok-clause-headline g c = λ size image o script entry left.
     let whole = lines_read g.S.Source.meaning c.args.source.now c.as_slice.result.now c.in-Ok.script c.as_slice.ensures
     c.in-Ok.ensures.0 in
     served_promise g.D.Disk.meaning g.S.Source.meaning g.K.Sink.meaning c.args.source.now c.read_lines.new.source
-    c.as_slice.result.now c.args.disk c.serve.result.1 c.args.sink.now c.serve.new.sink c.serve.result.0 whole
+    c.args.limit c.as_slice.result.now c.args.disk c.serve.result.1 c.args.sink.now c.serve.new.sink c.serve.result.0 whole
     c.in-Ok.ensures.1 c.serve.ensures size image o script entry left
 
 pub returns-in-Err-clause-disk : goal.returns-in-Err-clause-disk

@@ -19,11 +19,11 @@ pub run_script-ran-requires-clause-none : goal.run_script-ran-requires-clause-no
 run_script-ran-requires-clause-none g c = c.in-Ok.ensures.items
 
 pub returns-in_default : goal.returns-in_default
-returns-in_default g c = λ disk limit opened. c.end_run.ensures disk c.args.sink.now c.args.lines.now
+returns-in_default g c = λ disk limit opened. c.end_run.ensures disk limit c.args.sink.now c.args.lines.now
     (unbegun g.D.Disk.meaning places g.K.Sink.meaning c.args.lines.now disk limit c.args.engine c.args.sink.now opened)
 
 pub returns : goal.returns
-returns g c = λ disk limit opened. c.end_run-2.ensures disk c.args.sink.now c.args.lines.now
+returns g c = λ disk limit opened. c.end_run-2.ensures disk limit c.args.sink.now c.args.lines.now
     (obeyed g.D.Disk.meaning places g.K.Sink.meaning c.args.lines.now disk limit c.args.engine c.run_script-ran.new.r
     c.args.sink.now c.run_script-ran.new.sink c.as_slice.result.now c.run_script-ran.new.refusals.items
     c.run_script-ran.result.end c.run_script-ran.result.fine c.page_size-size.result c.as_slice.ensures.value
