@@ -1,6 +1,8 @@
 -- An index page with its content, its two halves, and what an entry more on it is.
 use Rattle.std.specs.Prelude.{◌≡◌, ◌≤◌, ◌==◌, ◌⊎◌, ℕ, List, [], ◌∷◌, ◌++◌, length, map, Some, IfSome, if◌then◌else◌}
 use Rattle.mg_base.specs.Checks.{PassesAll}
+use Rattle.mg_base.specs.declared.damage.Damaged.{Damaged}
+use Rattle.mg_base.specs.declared.damage.Field.TheVariants.{Entry as EntryField}
 use Rattle.mg_base.specs.declared.numbers.PageNo.{PageNo}
 use Rattle.mg_node.specs.declared.entry.Entry.{Entry}
 use Rattle.mg_node.specs.NodePage.{IsAtLeast, IsBelow, IsNodePage, SamePlace, count_in, entries_of, high_of, is_inner, level_in, low_of, node_checks, right_in}
@@ -80,8 +82,12 @@ pub record NamesMore (old new : List ℕ) (e : Entry) : Type 0 where
   pub lawful : IsNodePage new
   pub inserts : InsertsBehindFirst old new e
 
+-- the damage that is told of a page with an entry that it should not have
+abbrev pub is_entry_there : PageNo → Damaged
+is_entry_there at = record { page = at; field = EntryField; found = 1; wanted = 0 }
+
 -- an entry is not put into a page for want of memory, or where the page has one of its place
-abbrev pub RefusesName : List ℕ → Entry → SpaceFault → Type 0
-RefusesName page e (Full limit) = ⊥
-RefusesName page e (OfPage damage) = HasPlace (entries_of page) e
-RefusesName page e (OfPool fault) = fault ≡ pool_faults.Memory
+abbrev pub RefusesName : PageNo → List ℕ → Entry → SpaceFault → Type 0
+RefusesName at page e (Full limit) = ⊥
+RefusesName at page e (OfPage damage) = HasPlace (entries_of page) e × (damage ≡ is_entry_there at)
+RefusesName at page e (OfPool fault) = fault ≡ pool_faults.Memory

@@ -59,7 +59,7 @@ pub record SplitsPage (size : ℕ) (old new : Changed) (halves : Halves) (above 
 abbrev pub SplitsIn : ℕ → Changed → Changed → Halves → PageBytes → Entry → Result PageBytes SpaceFault
     → Type 0
 SplitsIn size old new halves above e (Ok half) = SplitsPage size old new halves above e half
-SplitsIn size old new halves above e (Err fault) = RefusesName above.bytes halves.fence fault
+SplitsIn size old new halves above e (Err fault) = RefusesName above.page above.bytes halves.fence fault
 
 -- The pages of a root that splits were put, its halves first, with their orders.
 pub record PutsRoot (size : ℕ) (old new : Changed) (growth : Growth) : Type 0 where

@@ -228,13 +228,13 @@ module _ {D L : Type 0} (old : Pool D L) (image : Image) (lawful : IsGeometry ol
     split_put (Err (Full limit)) none = absurd none
     split_put (Err (OfPage damage)) has = absurd (place_is_free old.geometry lawful owner root level levels
         (viewed old image start) (viewed old image first) late first second full e split.halves above stands
-        place below takes.0.takes halves_are roomy made has)
+        place below takes.0.takes halves_are roomy made has.0)
     split_put (Err (OfPool fault)) is = tt
 
 -- the page above does not take the right half
 pub named_err : (size : ℕ) (old new : Changed) (halves : Halves) (above : PageBytes) (e : Entry)
     (fault : SpaceFault) (result : Result PageBytes SpaceFault) → IsErrAnd result (λ f. f ≡ fault)
-    → RefusesName above.bytes halves.fence fault → SplitsIn size old new halves above e result
+    → RefusesName above.page above.bytes halves.fence fault → SplitsIn size old new halves above e result
 named_err size old new halves above e fault (Ok half) none refused = absurd none
 named_err size old new halves above e fault (Err f) same refused =
-    subst (RefusesName above.bytes halves.fence) (sym same) refused
+    subst (RefusesName above.page above.bytes halves.fence) (sym same) refused

@@ -240,7 +240,7 @@ fn check_free(alloc: Global, page: PageNo, b: &[u8], e: &Entry) -> Result<(), Sp
     requires sized { IsSized b.now }
     requires lawful { IsNodePage b.now }
     ensures { MatchResult result (λ _. HasPlace (entries_of b.now) e.now → ⊥)
-        (RefusesName b.now e.now) }
+        (RefusesName page b.now e.now) }
 {
     if is_taken(alloc, b, e)? {
         return Err(SpaceFault::Damaged(Damaged {
@@ -291,7 +291,7 @@ pub(crate) fn name_half(
     requires room { HasRoom above.bytes fence.now }
     ensures page { IfOk result (λ named. named.page ≡ above.page) }
     ensures names { MatchResult result (λ named. NamesMore above.bytes named.bytes fence.now)
-        (RefusesName above.bytes fence.now) }
+        (RefusesName above.page above.bytes fence.now) }
 {
     check_free(alloc, above.page, above.bytes.as_slice(), fence)?;
     let PageBytes { page, bytes } = above;
