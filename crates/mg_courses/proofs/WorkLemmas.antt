@@ -7,7 +7,7 @@ use Rattle.mg_base.specs.declared.transaction.TxState.{TxState}
 use Rattle.mg_base.specs.declared.transaction.TxState.TheVariants.{Active, Limbo, Dead, Committed}
 use Rattle.mg_model.specs.declared.opening.Opening.{Opening}
 use Rattle.mg_model.specs.declared.refusal.Refusal.{Refusal}
-use Rattle.mg_model.specs.declared.refusal.Refusal.TheVariants.{NotActive}
+use Rattle.mg_model.specs.declared.refusal.Refusal.TheVariants.{DatabaseFull, NotActive}
 use Rattle.mg_model.specs.Answers.{is_active}
 use Rattle.mg_model.specs.History.{Entries}
 use Rattle.mg_model.specs.Machine.{state_of}
@@ -39,6 +39,7 @@ refused_outside o h t (NotActive state) active is = absurd (both state (sym is.0
   where
     both : (state : TxState) → state ≡ Active → is_active state ≡ false → ⊥
     both state same closed = absurd (cc (ap is_active same, closed))
+refused_outside o h t (DatabaseFull limit) active never = absurd never
 refused_outside o h t refusal active is = is
 
 pub commit_course : {R Run : Type 0} (runs : RunMeans R Run) (r : R) (o : Opening) (h : Entries)

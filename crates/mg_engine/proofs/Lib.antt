@@ -1,4 +1,5 @@
 mod ApartLemmas
+mod AskedLemmas
 mod EngineLemmas
 mod BeginLemmas
 mod MakingLemmas

@@ -13,8 +13,9 @@ use Rattle.mg_model.specs.declared.refusal.Refusal.{Refusal}
 use Rattle.mg_model.specs.Changes.{Cells}
 use Rattle.mg_model.specs.History.{Entries}
 use Rattle.mg_no_damage.specs.FewPagesLaws.{has_fewer}
-use Rattle.mg_no_damage.specs.WithRoom.{adds_with, fine_full, finds_with, goes_with, makes_with, number_full, reads_with, undoes_with}
+use Rattle.mg_no_damage.specs.WithRoom.{TakesPages, adds_with, fine_full, finds_with, goes_with, makes_with, number_full, reads_with, undoes_with}
 use Rattle.mg_records.specs.Adding.{Adds, fine_or, number_or}
+use Rattle.mg_records.specs.Asking.{TakesNoPage}
 use Rattle.mg_records.specs.Keeping.{Reads, refusal_in}
 use Rattle.mg_records.specs.Needed.{pages_of}
 use Rattle.mg_records.specs.Reading.{FindAdds}
@@ -37,19 +38,21 @@ module _ {D P : Type 0} (m : Meaning D) (places : Places P) where
   module _ (old new : Core D) where
     pub gives_room : (event : Event) (result : Result (Unit {0}) Refusal) (most : ℕ)
         → ((o : Opening) (h : Entries) → most ≤ pages_of o h event (fine_or result))
+        → TakesPages event (refusal_in result)
         → TakesFew (means m places) old new (refusal_in result) most
         → Adds (means m places) old new event (fine_or result)
         → Adds (means_with_room m places) old new event (fine_or result)
-    gives_room event result most least takes adds = adds_with (means m places) stands_tell fewer_free old new event
-        (fine_or result) (refusal_in result) most least (fine_full result) takes adds
+    gives_room event result most least kind takes adds = adds_with (means m places) stands_tell fewer_free old new event
+        (fine_or result) (refusal_in result) most least (fine_full result) kind takes adds
 
     pub numbers_room : (event : Event) (result : Result TxNo Refusal) (most : ℕ)
         → ((o : Opening) (h : Entries) → most ≤ pages_of o h event (number_or result))
+        → TakesPages event (refusal_in result)
         → TakesFew (means m places) old new (refusal_in result) most
         → Adds (means m places) old new event (number_or result)
         → Adds (means_with_room m places) old new event (number_or result)
-    numbers_room event result most least takes adds = adds_with (means m places) stands_tell fewer_free old new event
-        (number_or result) (refusal_in result) most least (number_full result) takes adds
+    numbers_room event result most least kind takes adds = adds_with (means m places) stands_tell fewer_free old new event
+        (number_or result) (refusal_in result) most least (number_full result) kind takes adds
 
     pub reads_room : (refusal : Option Refusal) (walks : Option ℕ) → TakesFew (means m places) old new refusal 0
         → Reads (means m places) old new refusal walks → Reads (means_with_room m places) old new refusal walks
@@ -57,11 +60,11 @@ module _ {D P : Type 0} (m : Meaning D) (places : Places P) where
         takes reads
 
     pub finds_room : (t : TxNo) (name : List ℕ) (filter : Option Expr) (rows : List Cells)
-        (result : Result (Unit {0}) Refusal) → TakesFew (means m places) old new (refusal_in result) 0
-        → FindAdds (means m places) old new t name filter rows result
+        (result : Result (Unit {0}) Refusal) → TakesNoPage (refusal_in result)
+        → TakesFew (means m places) old new (refusal_in result) 0 → FindAdds (means m places) old new t name filter rows result
         → FindAdds (means_with_room m places) old new t name filter rows result
-    finds_room t name filter rows result takes adds = finds_with (means m places) stands_tell fewer_free old new t name
-        filter rows result takes adds
+    finds_room t name filter rows result none takes adds = finds_with (means m places) stands_tell fewer_free old new t name
+        filter rows result none takes adds
 
     pub undoes_room : (t : TxNo) (result : Result (Unit {0}) Refusal)
         → TakesFewBack (means m places) old new (refusal_in result) t.0 LastMark

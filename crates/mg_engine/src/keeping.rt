@@ -14,9 +14,10 @@ use crate::writing::note_write;
 use mg_base::{Disk, Memory, TxNo};
 use mg_core::Place;
 use mg_engine_changes::{
-    begins_tell_faults, changes_tell_faults, commits_tell_faults, creations_keep_apart,
-    events_tell_faults, noted_writes_give, noted_writes_keep_apart, page_writes_tell_faults,
-    readings_tell_faults, tables_are_made,
+    begins_tell_faults, changes_tell_faults, commits_tell_faults, commits_want_nothing,
+    creations_keep_apart, events_take_no_page, events_tell_faults, events_write_none,
+    noted_writes_give, noted_writes_keep_apart, page_writes_ask_one, page_writes_tell_faults,
+    readings_tell_faults, readings_write_none, tables_are_made,
 };
 use mg_engine_meaning::{
     begins_give, commits_go, looks_go_on, points_go_on, rollbacks_go, steps_go_on, tables_go_on,
@@ -66,6 +67,8 @@ impl<D: Disk> Records for Engine<D> {
     /// Begins a statement: under READ COMMITTED the transaction takes a new base.
     fn look(&mut self, t: TxNo) -> Result<(), Refusal> {
         events_tell_faults::<D>();
+        events_write_none::<D>();
+        events_take_no_page::<D>();
         events_meet_no_damage::<D>();
         events_take_none::<D>();
         looks_go_on::<D, Place>();
@@ -79,6 +82,7 @@ impl<D: Disk> Records for Engine<D> {
     /// As `Core::table`: `NoTable` exactly where the catalog that it sees names no such table.
     fn table(&mut self, t: TxNo, name: &Name) -> Result<Table, Refusal> {
         readings_tell_faults::<D>();
+        readings_write_none::<D>();
         tables_meet_no_damage::<D>();
         readings_take_none::<D>();
         tables_go_on::<D, Place>();
@@ -99,6 +103,7 @@ impl<D: Disk> Records for Engine<D> {
         after: Option<&Place>,
     ) -> Result<Option<Found<Place>>, Refusal> {
         readings_tell_faults::<D>();
+        readings_write_none::<D>();
         visits_go_on::<D>();
         visits_meet_no_damage::<D>();
         readings_take_none::<D>();
@@ -118,6 +123,8 @@ impl<D: Disk> Records for Engine<D> {
         rows: &Rows,
     ) -> Result<(), Refusal> {
         events_tell_faults::<D>();
+        events_write_none::<D>();
+        events_take_no_page::<D>();
         events_meet_no_damage::<D>();
         events_take_none::<D>();
         points_go_on::<D, Place>();
@@ -164,6 +171,8 @@ impl<D: Disk> Records for Engine<D> {
     /// Sets a mark, to which one statement can be taken back.
     fn mark(&mut self, t: TxNo) -> Result<(), Refusal> {
         events_tell_faults::<D>();
+        events_write_none::<D>();
+        events_take_no_page::<D>();
         events_meet_no_damage::<D>();
         events_take_none::<D>();
         points_go_on::<D, Place>();
@@ -184,6 +193,8 @@ impl<D: Disk> Records for Engine<D> {
     /// Sets a savepoint.
     fn savepoint(&mut self, t: TxNo, name: &Name) -> Result<(), Refusal> {
         events_tell_faults::<D>();
+        events_write_none::<D>();
+        events_take_no_page::<D>();
         events_meet_no_damage::<D>();
         events_take_none::<D>();
         points_go_on::<D, Place>();
@@ -204,6 +215,8 @@ impl<D: Disk> Records for Engine<D> {
     /// Asks for a commit: what the transaction's commit has to write first is noted.
     fn commit_ask(&mut self, t: TxNo) -> Result<(), Refusal> {
         page_writes_tell_faults::<D>();
+        page_writes_ask_one::<D>();
+        commits_want_nothing::<D>();
         commits_meet_no_damage::<D>();
         commits_take_none::<D>();
         steps_go_on::<D, Place>();
@@ -214,6 +227,8 @@ impl<D: Disk> Records for Engine<D> {
     /// before it. It answers true exactly where all that was noted is written, and then it writes none.
     fn commit_step(&mut self, t: TxNo) -> Result<bool, Refusal> {
         page_writes_tell_faults::<D>();
+        page_writes_ask_one::<D>();
+        commits_want_nothing::<D>();
         commits_meet_no_damage::<D>();
         commits_take_none::<D>();
         steps_go_on::<D, Place>();
@@ -223,6 +238,7 @@ impl<D: Disk> Records for Engine<D> {
     /// Commits a transaction, once all that was noted is written.
     fn commit_end(&mut self, t: TxNo) -> Result<(), Refusal> {
         commits_tell_faults::<D>();
+        commits_want_nothing::<D>();
         commits_meet_no_damage::<D>();
         commits_take_none::<D>();
         commits_go::<D, Place>();
@@ -232,6 +248,8 @@ impl<D: Disk> Records for Engine<D> {
     /// Rolls a transaction back.
     fn rollback(&mut self, t: TxNo) -> Result<(), Refusal> {
         events_tell_faults::<D>();
+        events_write_none::<D>();
+        commits_want_nothing::<D>();
         events_meet_no_damage::<D>();
         events_take_none::<D>();
         rollbacks_go::<D, Place>();

@@ -1,6 +1,7 @@
 //! Page writes between calls.
 
-ghost use Rattle.std.specs.Prelude.{None};
+ghost use Rattle.std.specs.Prelude.{None, OnOk};
+ghost use Rattle.mg_records.specs.Asking.{TakesNothing, WritesOnePage};
 ghost use Rattle.mg_records.specs.Crashing.{LeavesQuietly};
 ghost use Rattle.mg_records.specs.Keeping.{FaultsAreTold, MeetsNoDamage, Reads, refusal_in};
 ghost use Rattle.mg_records.specs.Room.{TakesFew};
@@ -13,7 +14,7 @@ ghost use Rattle.mg_engine.specs.Places.{places};
 use crate::engine::Engine;
 use mg_base::{Disk, PageNo};
 use mg_core::Place;
-use mg_engine_changes::page_writes_tell_faults;
+use mg_engine_changes::{commits_want_nothing, page_writes_ask_one, page_writes_tell_faults};
 use mg_engine_meaning::next_pages_go_on;
 use mg_model::Refusal;
 use mg_no_damage::{commits_meet_no_damage, commits_take_none};
@@ -33,10 +34,14 @@ impl<D: Disk> Engine<D> {
         ensures told { FaultsAreTold (means_with_room D.meaning places) self.old self.new (refusal_in result) }
         ensures undamaged { MeetsNoDamage (means_with_room D.meaning places) self.old self.new }
         ensures room { TakesFew (means_with_room D.meaning places) self.old self.new (refusal_in result) 0 }
+        ensures written { OnOk result (WritesOnePage (means_with_room D.meaning places) self.old self.new) }
+        ensures takes { TakesNothing (refusal_in result) }
         ensures crash { LeavesQuietly (means_with_room D.meaning places) self.old self.new }
         ensures sessions { SessionsStay (means_with_room D.meaning places) self.old self.new None None }
     {
         page_writes_tell_faults::<D>();
+        page_writes_ask_one::<D>();
+        commits_want_nothing::<D>();
         commits_meet_no_damage::<D>();
         commits_take_none::<D>();
         next_pages_go_on::<D, Place>();

@@ -1,5 +1,7 @@
 pub mod Answered
 pub mod ApartLaws
+pub mod Asked
+pub mod AskedLaws
 pub mod BackBegun
 pub mod BackFinds
 pub mod BackFindsLaws

@@ -20,6 +20,11 @@
 //! of readings and of who is in the way, `FaultWriteLaws`, `FaultBackLaws`, `FaultTableBackLaws` and `FaultMakingLaws` of changes, stage by
 //! stage; `FaultCallLaws` has the calls.
 //!
+//! # What is asked of the disk
+//!
+//! What reads, marks or asks for a commit asks for no page write; a commit or a rolling back takes no memory
+//! (`specs/Asked`).
+//!
 //! There is no program here: each function does nothing, and its contract is a law.
 //!
 //! Invariant: none, it keeps no state.
@@ -27,12 +32,17 @@
 //! Not here: beginnings, endings and reading (`mg_engine_meaning`).
 #![tactic(auto)]
 
+mod asked;
 mod faults;
 mod makings;
 mod over_tables;
 mod row_writes;
 mod takings;
 
+pub use asked::{
+    commits_want_nothing, events_take_no_page, events_write_none, page_writes_ask_one,
+    readings_write_none,
+};
 pub use faults::{
     backs_tell_faults, begins_tell_faults, changes_tell_faults, commits_tell_faults,
     events_tell_faults, page_writes_tell_faults, readings_tell_faults,

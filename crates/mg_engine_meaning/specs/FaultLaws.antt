@@ -4,6 +4,7 @@ use Rattle.std.specs.Prelude.{min}
 use Rattle.std.proofs.lemmas.Bool.{cases_lt}
 use Rattle.std.proofs.Math.Nat.{min-eq_left, min-eq_right}
 use Rattle.mg_base.specs.Disk.{Meaning, Rose}
+use Rattle.mg_heap.specs.Reading.{ReadsData}
 use Rattle.mg_model.specs.declared.opening.Opening.{Opening}
 use Rattle.mg_model.specs.declared.refusal.Refusal.{Refusal}
 use Rattle.mg_model.specs.declared.refusal.Refusal.TheVariants as refusals
@@ -58,22 +59,12 @@ module _ {D P : Type 0} (m : Meaning D) (places : Places P) (old : Core D) (stor
     (damage shortages : ℕ) (online : old.store.offline ≡ None) (keeps : KeepsStore m old.store store)
     (damaged : old.damage < 2 ^ 64) (short : old.shortages < 2 ^ 64) where
   pub fault_outer : (fault : SpaceFault) (refusal : Refusal) → IsRefusal fault refusal
+      → ReadsData {T = Unit {0}} (Err fault)
       → TellsFault m old.store store (pool_answer {T = Unit {0}} (Err fault))
       → CountsFault fault old.damage damage old.shortages shortages
       → IsOuter m places old (record old { store = store; damage = damage; shortages = shortages }) refusal
-  fault_outer (space.Full limit) refusal is told counts = subst (λ (r : Refusal). IsOuter m places old
-      (record old { store = store; damage = damage; shortages = shortages }) r) (sym is) (record {
-        may = record {
-          cause = rose_one old.shortages shortages counts.1;
-          offline = rw online tt;
-          down = keeps.offline;
-        };
-        refused = λ o h t. refl;
-        told = λ t name o h stands. refl;
-        damage = let same = counts.0 in omega (arith, same);
-        shortages = never_less old.shortages shortages short counts.1;
-      })
-  fault_outer (space.Damaged it) refusal is told counts = subst (λ (r : Refusal). IsOuter m places old
+  fault_outer (space.Full limit) refusal is own told counts = absurd own
+  fault_outer (space.Damaged it) refusal is own told counts = subst (λ (r : Refusal). IsOuter m places old
       (record old { store = store; damage = damage; shortages = shortages }) r) (sym is) (record {
         may = record {
           cause = rose_one old.damage damage counts.0;
@@ -85,7 +76,7 @@ module _ {D P : Type 0} (m : Meaning D) (places : Places P) (old : Core D) (stor
         damage = never_less old.damage damage damaged counts.0;
         shortages = let same = counts.1 in omega (arith, same);
       })
-  fault_outer (space.Pool (faults.Absent n)) refusal is told counts = subst (λ (r : Refusal).
+  fault_outer (space.Pool (faults.Absent n)) refusal is own told counts = subst (λ (r : Refusal).
       IsOuter m places old (record old { store = store; damage = damage; shortages = shortages }) r) (sym is)
       (record {
         may = record {
@@ -98,7 +89,7 @@ module _ {D P : Type 0} (m : Meaning D) (places : Places P) (old : Core D) (stor
         damage = never_less old.damage damage damaged counts.0;
         shortages = let same = counts.1 in omega (arith, same);
       })
-  fault_outer (space.Pool (faults.DiskRead n)) refusal is told counts = subst (λ (r : Refusal).
+  fault_outer (space.Pool (faults.DiskRead n)) refusal is own told counts = subst (λ (r : Refusal).
       IsOuter m places old (record old { store = store; damage = damage; shortages = shortages }) r) (sym is)
       (record {
         may = record { cause = told.2.2; offline = rw online tt; down = keeps.offline };
@@ -107,7 +98,7 @@ module _ {D P : Type 0} (m : Meaning D) (places : Places P) (old : Core D) (stor
         damage = let same = counts.0 in omega (arith, same);
         shortages = let same = counts.1 in omega (arith, same);
       })
-  fault_outer (space.Pool faults.Memory) refusal is told counts = subst (λ (r : Refusal).
+  fault_outer (space.Pool faults.Memory) refusal is own told counts = subst (λ (r : Refusal).
       IsOuter m places old (record old { store = store; damage = damage; shortages = shortages }) r) (sym is)
       (record {
         may = record { cause = tt; offline = rw online tt; down = keeps.offline };
@@ -116,7 +107,7 @@ module _ {D P : Type 0} (m : Meaning D) (places : Places P) (old : Core D) (stor
         damage = let same = counts.0 in omega (arith, same);
         shortages = let same = counts.1 in omega (arith, same);
       })
-  fault_outer (space.Pool (faults.DiskWrite n)) refusal is told counts =
+  fault_outer (space.Pool (faults.DiskWrite n)) refusal is own told counts =
       let both : None ≡ Some n = sym (keeps.offline ∙ online) ∙ told.1 in absurd cc
-  fault_outer (space.Pool (faults.Offline n)) refusal is told counts =
+  fault_outer (space.Pool (faults.Offline n)) refusal is own told counts =
       let both : None ≡ Some n = sym online ∙ told.0 in absurd cc

@@ -101,6 +101,8 @@ means m places = record {
   damage = λ core. core.damage;
   shortages = λ core. core.shortages;
   has_free = λ core count. CoreHasFree m core count;
+  reserves_ends = true;
+  asked = λ core. m.asked core.store.disk;
   most_writes = λ core. m.most_writes core.store.disk;
   down = λ core. core.store.offline;
   is_size = λ core size. core.store.geometry.size == size;

@@ -276,7 +276,7 @@ module _ {D P : Type 0} (m : Meaning D) (places : Places P) (reads : ReadsGoOn D
       outer : IsOuter m places old
           (record old { store = new.store; damage = new.damage; shortages = new.shortages }) refusal
       outer = fault_outer m places old new.store new.damage new.shortages is.continues.0 is.keeps counts.damage
-          counts.shortages is.fault refusal is.is is.told is.counts
+          counts.shortages is.fault refusal is.is is.own is.told is.counts
 
       both : Reads (means m places) old
           (record old { store = new.store; damage = new.damage; shortages = new.shortages }) (Some refusal) None

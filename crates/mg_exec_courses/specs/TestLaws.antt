@@ -44,6 +44,7 @@ pub outside_of : (o : Opening) (h : Entries) (t : ℕ) (refusal : Refusal) → s
     → IsRefused o h t refusal → is_outside refusal ≡ true
 outside_of o h t (refusals.NotActive state) active refused =
     absurd (false≢true (sym refused.1 ∙ ap is_active (sym refused.0 ∙ active)))
+outside_of o h t (refusals.DatabaseFull limit) active never = absurd never
 outside_of o h t refusal active refused = refused
 
 from_outside : (refusal : Refusal) → is_outside refusal ≡ true → IsOutsideFault (Engine refusal)

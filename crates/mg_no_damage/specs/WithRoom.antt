@@ -1,7 +1,8 @@
 -- A keeper whose calls take few pages stands for its histories with the room that their openings promise.
-use Rattle.std.proofs.Common.{◌≡◌, ◌∙◌, inl, inr, ◌≤◌, ◌+◌, ◌*◌, ◌&&◌, ℕ, Bool, true, false, List, [], ◌∷◌, Option, Some, None, Result, Ok, Err, arith, cond, refl}
+use Rattle.std.proofs.Common.{◌≡◌, ◌∙◌, inl, inr, ◌⊎◌, ◌<◌, ◌≤◌, ◌+◌, ◌*◌, ◌&&◌, ℕ, Bool, true, false, List, [], ◌∷◌, Option, Some, None, Result, Ok, Err, arith, cond, refl}
 use Rattle.std.specs.Prelude.{length, if◌then◌else◌}
 use Rattle.std.proofs.Math.Nat.{min-eq_left}
+use Rattle.std.proofs.lemmas.Bool.{cases_lt}
 use Rattle.mg_base.specs.declared.numbers.TxNo.{TxNo}
 use Rattle.mg_expr.specs.declared.expr.Expr.{Expr}
 use Rattle.mg_value.specs.declared.shape.Column.{Column}
@@ -26,9 +27,10 @@ use Rattle.mg_model.specs.Machine.{deeds_by, has_point, state_of, steps}
 use Rattle.mg_catalog.specs.RowsSaid.{column_rows, table_row}
 use Rattle.mg_no_damage.specs.AlikeRoom.{commits_with, keeps_with}
 use Rattle.mg_records.specs.Adding.{Adds, fine_or, number_or}
+use Rattle.mg_records.specs.Asking.{TakesNoPage}
 use Rattle.mg_records.specs.Keeping.{Reads, refusal_in}
 use Rattle.mg_records.specs.Meaning.{Means}
-use Rattle.mg_records.specs.Needed.{IsNeverShort, IsNotFull, NeverFull, StandsWithRoom, is_table_row, pages_needed, pages_of, pages_of_catalog, with_room}
+use Rattle.mg_records.specs.Needed.{AreFullForCause, IsFullForCause, StandsWithRoom, is_table_row, pages_needed, pages_of, pages_of_catalog, takes_pages, with_room}
 use Rattle.mg_records.specs.Reading.{FindAdds}
 use Rattle.mg_records.specs.Room.{TakesAtMost, TakesFew, TakesFewBack, pages_of_row, pages_of_table, records_back}
 use Rattle.mg_records.specs.TakingBack.{GivesUp, GoesBack, Undoes, is_given_up}
@@ -54,6 +56,10 @@ refused_full : (refusal : Refusal) (limit : ℕ) → No refusal ≡ No (Database
     → Some refusal ≡ Some (DatabaseFull limit)
 refused_full refusal limit is = let same : refusal ≡ DatabaseFull limit = cc is in cc same
 
+-- an event may take pages, or its call was not refused for want of them
+abbrev pub TakesPages : Event → Option Refusal → Type 0
+TakesPages event refusal = (takes_pages event ≡ true) ⊎ TakesNoPage refusal
+
 -- ---- rows that are written
 
 -- the event of a write may take as much as a row
@@ -78,6 +84,11 @@ write_least o h t table (writes.Insert row) answer = at (same_name table catalog
     at false = omega arith
 write_least o h t table (writes.Change key row) answer = omega arith
 write_least o h t table (writes.Erase key) answer = omega arith
+
+pub write_takes : (t : TxNo) (table : List ℕ) (write : Write) → takes_pages (event_of t table write) ≡ true
+write_takes t table (writes.Insert row) = refl
+write_takes t table (writes.Change key row) = refl
+write_takes t table (writes.Erase key) = refl
 
 -- ---- the rows of a table that is made
 
@@ -137,53 +148,67 @@ module _ {R P : Type 0} (m : Means R P) (told : (r : R) (o : Opening) (h : Entri
       stands = stands;
       left = λ count within. takes.left count (fewer old count (count + most) (omega (arith, none))
           (has.left count within));
-      never = has.never;
+      full = has.full;
     }
 
     -- it adds one, and takes no more than that may
     room_grows : (event : Event) (answer : Answer) (refusal : Option Refusal) (most : ℕ)
         → TakesAtMost m old new refusal most → most ≤ pages_of o h event answer
         → ((limit : ℕ) → answer ≡ No (DatabaseFull limit) → refusal ≡ Some (DatabaseFull limit))
+        → TakesPages event refusal
         → m.stands new o (entry event answer ∷ h) → StandsWithRoom m new o (entry event answer ∷ h)
-    room_grows event answer refusal most takes least full stands = record { stands = stands; left = left; never = never }
+    room_grows event answer refusal most takes least full kind stands = record {
+      stands = stands;
+      left = left;
+      full = (for_cause kind, has.full);
+    }
       where
         left : (count : ℕ) → pages_of o h event answer + pages_needed o h + count ≤ o.free → m.has_free new count
         left count within = takes.left count (fewer old (count + pages_of o h event answer) (count + most)
             (omega (arith, least)) (has.left (count + pages_of o h event answer) (omega (arith, within))))
 
-        never : pages_of o h event answer + pages_needed o h ≤ o.free → IsNotFull answer × NeverFull h
-        never within = (
-          λ limit is. takes.enough (fewer old (pages_of o h event answer) most least
-              (has.left (pages_of o h event answer) (omega (arith, within)))) limit (full limit is),
-          has.never (omega (arith, within)),
-        )
+        needs_more : (limit : ℕ) → answer ≡ No (DatabaseFull limit)
+            → (o.free < pages_of o h event answer + pages_needed o h) ⊎ (pages_of o h event answer + pages_needed o h ≤ o.free)
+            → o.free < pages_of o h event answer + pages_needed o h
+        needs_more limit is (inl more) = more
+        needs_more limit is (inr within) = absurd (takes.enough (fewer old (pages_of o h event answer) most least
+            (has.left (pages_of o h event answer) (omega (arith, within)))) limit (full limit is))
+
+        for_cause : TakesPages event refusal → IsFullForCause o h event answer
+        for_cause (inl may) limit is =
+            (may, needs_more limit is (cases_lt o.free (pages_of o h event answer + pages_needed o h)))
+        for_cause (inr none) limit is = absurd (none limit (full limit is))
 
     -- a transaction that was to be taken back, and was refused, may have been rolled back
-    room_given_up : (b : Bool) (t : TxNo) (event : Event) (refusal : Refusal) (most : ℕ)
+    room_given_up : (b : Bool) (t : TxNo) (event : Event) (refusal : Refusal) (most : ℕ) → takes_pages event ≡ true
         → TakesAtMost m old new (Some refusal) most → most ≤ pages_of o h event (No refusal)
         → m.stands new o (cond b (entry (Rollback t) Fine ∷ entry event (No refusal) ∷ h) (entry event (No refusal) ∷ h))
         → StandsWithRoom m new o
         (cond b (entry (Rollback t) Fine ∷ entry event (No refusal) ∷ h) (entry event (No refusal) ∷ h))
-    room_given_up false t event refusal most takes least stands =
-        room_grows event (No refusal) (Some refusal) most takes least (refused_full refusal) stands
-    room_given_up true t event refusal most takes least stands = record { stands = stands; left = left; never = never }
+    room_given_up false t event refusal most may takes least stands =
+        room_grows event (No refusal) (Some refusal) most takes least (refused_full refusal) (inl may) stands
+    room_given_up true t event refusal most may takes least stands = record {
+      stands = stands;
+      left = left;
+      full = (λ limit is. absurd cc, (for_cause, has.full));
+    }
       where
         left : (count : ℕ) → 0 + (pages_of o h event (No refusal) + pages_needed o h) + count ≤ o.free
             → m.has_free new count
         left count within = takes.left count (fewer old (count + pages_of o h event (No refusal)) (count + most)
             (omega (arith, least)) (has.left (count + pages_of o h event (No refusal)) (omega (arith, within))))
 
-        never : 0 + (pages_of o h event (No refusal) + pages_needed o h) ≤ o.free
-            → IsNotFull Fine × (IsNotFull (No refusal) × NeverFull h)
-        never within = (
-          λ limit is. absurd cc,
-          (
-            λ limit is. takes.enough (fewer old (pages_of o h event (No refusal)) most least
-                (has.left (pages_of o h event (No refusal)) (omega (arith, within)))) limit
-                (refused_full refusal limit is),
-            has.never (omega (arith, within)),
-          ),
-        )
+        needs_more : (limit : ℕ) → No refusal ≡ No (DatabaseFull limit)
+            → (o.free < pages_of o h event (No refusal) + pages_needed o h)
+            ⊎ (pages_of o h event (No refusal) + pages_needed o h ≤ o.free)
+            → o.free < pages_of o h event (No refusal) + pages_needed o h
+        needs_more limit is (inl more) = more
+        needs_more limit is (inr within) = absurd (takes.enough (fewer old (pages_of o h event (No refusal)) most least
+            (has.left (pages_of o h event (No refusal)) (omega (arith, within)))) limit (refused_full refusal limit is))
+
+        for_cause : IsFullForCause o h event (No refusal)
+        for_cause limit is =
+            (may, needs_more limit is (cases_lt o.free (pages_of o h event (No refusal) + pages_needed o h)))
 
   -- ---- calls
 
@@ -192,11 +217,12 @@ module _ {R P : Type 0} (m : Means R P) (told : (r : R) (o : Opening) (h : Entri
     pub adds_with : (event : Event) (answer : Answer) (refusal : Option Refusal) (most : ℕ)
         → ((o : Opening) (h : Entries) → most ≤ pages_of o h event answer)
         → ((limit : ℕ) → answer ≡ No (DatabaseFull limit) → refusal ≡ Some (DatabaseFull limit))
-        → TakesFew m old new refusal most → Adds m old new event answer → Adds (with_room m) old new event answer
-    adds_with event answer refusal most least full takes adds o h has =
+        → TakesPages event refusal → TakesFew m old new refusal most → Adds m old new event answer
+        → Adds (with_room m) old new event answer
+    adds_with event answer refusal most least full kind takes adds o h has =
         let it = adds o h has.stands in (
           it.0,
-          room_grows old new o h has event answer refusal most (takes o h has.stands (told old o h has.stands)) (least o h) full
+          room_grows old new o h has event answer refusal most (takes o h has.stands (told old o h has.stands)) (least o h) full kind
               it.1,
         )
 
@@ -214,27 +240,28 @@ module _ {R P : Type 0} (m : Means R P) (told : (r : R) (o : Opening) (h : Entri
 
     -- a statement tells what it found
     pub finds_with : (t : TxNo) (name : List ℕ) (filter : Option Expr) (rows : List Cells)
-        (result : Result (Unit {0}) Refusal) → TakesFew m old new (refusal_in result) 0
+        (result : Result (Unit {0}) Refusal) → TakesNoPage (refusal_in result) → TakesFew m old new (refusal_in result) 0
         → FindAdds m old new t name filter rows result → FindAdds (with_room m) old new t name filter rows result
-    finds_with t name filter rows (Ok x) takes adds = λ o h has is.
+    finds_with t name filter rows (Ok x) none takes adds = λ o h has is.
         room_grows old new o h has (Find t name filter) (Rows rows) (refusal_in {T = Unit {0}} (Ok x)) 0
-        (takes o h has.stands (told old o h has.stands)) (omega arith) (λ limit never. absurd cc) (adds o h has.stands is)
-    finds_with t name filter rows (Err refusal) takes adds = λ o h has.
+        (takes o h has.stands (told old o h has.stands)) (omega arith) (λ limit never. absurd cc) (inr none)
+        (adds o h has.stands is)
+    finds_with t name filter rows (Err refusal) none takes adds = λ o h has.
         let it = adds o h has.stands in (
           it.0,
           room_grows old new o h has (Find t name filter) (No refusal) (Some refusal) 0
-              (takes o h has.stands (told old o h has.stands)) (omega arith) (refused_full refusal) it.1,
+              (takes o h has.stands (told old o h has.stands)) (omega arith) (refused_full refusal) (inr none) it.1,
         )
 
     -- a transaction was to be taken back, and that was refused
-    gives_up_with : (t : TxNo) (event : Event) (refusal : Refusal)
+    gives_up_with : (t : TxNo) (event : Event) (refusal : Refusal) → takes_pages event ≡ true
         → ((o : Opening) (h : Entries) → m.stands old o h → TakesAtMost m old new (Some refusal) (pages_of o h event (No refusal)))
         → GivesUp m old new t event refusal → GivesUp (with_room m) old new t event refusal
-    gives_up_with t event refusal takes gives o h has =
+    gives_up_with t event refusal may takes gives o h has =
         let it = gives o h has.stands in (
           it.0,
           room_given_up old new o h has (is_given_up refusal && is_active (state_of o h t.0)) t event refusal
-              (pages_of o h event (No refusal)) (takes o h has.stands) (omega arith) it.1,
+              (pages_of o h event (No refusal)) may (takes o h has.stands) (omega arith) it.1,
         )
 
     pub undoes_with : (t : TxNo) (result : Result (Unit {0}) Refusal)
@@ -245,9 +272,9 @@ module _ {R P : Type 0} (m : Means R P) (told : (r : R) (o : Opening) (h : Entri
           it.0,
           room_grows old new o h has (UndoMark t) Fine (refusal_in {T = Unit {0}} (Ok x))
               (pages_of_row * records_back t.0 LastMark (steps o h)) (takes o h has.stands (told old o h has.stands))
-              (omega arith) (λ limit never. absurd cc) it.1,
+              (omega arith) (λ limit never. absurd cc) (inl refl) it.1,
         )
-    undoes_with t (Err refusal) takes gives = gives_up_with t (UndoMark t) refusal
+    undoes_with t (Err refusal) takes gives = gives_up_with t (UndoMark t) refusal refl
         (λ o h stands. takes o h stands (told old o h stands)) gives
 
     pub goes_with : (t : TxNo) (name : List ℕ) (result : Result Bool Refusal)
@@ -259,7 +286,7 @@ module _ {R P : Type 0} (m : Means R P) (told : (r : R) (o : Opening) (h : Entri
           it.1,
           room_grows old new o h has (BackTo t name) Fine (refusal_in {T = Bool} (Ok true))
               (pages_of_row * records_back t.0 (SavepointNamed name) (steps o h))
-              (takes o h has.stands (told old o h has.stands)) (omega arith) (λ limit never. absurd cc) it.2,
+              (takes o h has.stands (told old o h has.stands)) (omega arith) (λ limit never. absurd cc) (inl refl) it.2,
         )
     goes_with t name (Ok false) takes goes = λ o h has.
         let it = goes o h has.stands in (
@@ -270,7 +297,7 @@ module _ {R P : Type 0} (m : Means R P) (told : (r : R) (o : Opening) (h : Entri
               (takes o h has.stands (told old o h has.stands))
               (none_back t.0 (SavepointNamed name) (steps o h) it.1) it.2,
         )
-    goes_with t name (Err refusal) takes gives = gives_up_with t (BackTo t name) refusal
+    goes_with t name (Err refusal) takes gives = gives_up_with t (BackTo t name) refusal refl
         (λ o h stands. takes o h stands (told old o h stands)) gives
 
   -- ---- a table is made
@@ -278,56 +305,59 @@ module _ {R P : Type 0} (m : Means R P) (told : (r : R) (o : Opening) (h : Entri
   module _ (old new : R) (o : Opening) (t : TxNo) (start : Entries) (has : StandsWithRoom m old o start) (most : ℕ)
       (refusal : Option Refusal) (takes : TakesAtMost m old new refusal most) where
     -- behind entries that need as much as the call may take
-    behind : (h : Entries) → pages_needed o start + most ≤ pages_needed o h → IsNeverShort o h → m.stands new o h
+    behind : (h : Entries) → pages_needed o start + most ≤ pages_needed o h → AreFullForCause o h → m.stands new o h
         → StandsWithRoom m new o h
-    behind h needs never stands = record {
+    behind h needs full stands = record {
       stands = stands;
       left = λ count within. takes.left count (has.left (count + most) (omega (arith, within, needs)));
-      never = never;
+      full = full;
     }
 
     -- a row came
-    came : (row : Cells) (h : Entries) → IsNeverShort o h → IsNeverShort o (entry (Insert t catalog_name row) Fine ∷ h)
-    came row h never within = (λ limit is. absurd cc, never (over within))
-      where
-        over : pages_of o h (Insert t catalog_name row) Fine + pages_needed o h ≤ o.free → pages_needed o h ≤ o.free
-        over all = omega (arith, all)
+    came : (row : Cells) (h : Entries) → AreFullForCause o h
+        → AreFullForCause o (entry (Insert t catalog_name row) Fine ∷ h)
+    came row h full = (λ limit is. absurd cc, full)
 
     -- a row was refused
     refused : (row : Cells) (h : Entries) (r : Refusal) → refusal ≡ Some r
         → pages_needed o start + most ≤ pages_of o h (Insert t catalog_name row) (No r) + pages_needed o h
-        → IsNeverShort o h → IsNeverShort o (entry (Insert t catalog_name row) (No r) ∷ h)
-    refused row h r is needs never within = (
-      λ limit full. takes.enough (has.left most (enough within)) limit (is ∙ refused_full r limit full),
-      never (over within),
+        → AreFullForCause o h → AreFullForCause o (entry (Insert t catalog_name row) (No r) ∷ h)
+    refused row h r is needs full = (
+      λ limit told. (
+        refl,
+        needs_more limit told
+            (cases_lt o.free (pages_of o h (Insert t catalog_name row) (No r) + pages_needed o h)),
+      ),
+      full,
     )
       where
-        enough : pages_of o h (Insert t catalog_name row) (No r) + pages_needed o h ≤ o.free
-            → pages_needed o start + most ≤ o.free
-        enough all = omega (arith, all, needs)
-
-        over : pages_of o h (Insert t catalog_name row) (No r) + pages_needed o h ≤ o.free → pages_needed o h ≤ o.free
-        over all = omega (arith, all)
+        needs_more : (limit : ℕ) → No r ≡ No (DatabaseFull limit)
+            → (o.free < pages_of o h (Insert t catalog_name row) (No r) + pages_needed o h)
+            ⊎ (pages_of o h (Insert t catalog_name row) (No r) + pages_needed o h ≤ o.free)
+            → o.free < pages_of o h (Insert t catalog_name row) (No r) + pages_needed o h
+        needs_more limit told (inl more) = more
+        needs_more limit told (inr within) = absurd (takes.enough (has.left most (omega (arith, within, needs))) limit
+            (is ∙ refused_full r limit told))
 
   -- its columns
   columns_with : (old new : R) (o : Opening) (t : TxNo) (start : Entries) (has : StandsWithRoom m old o start) (most : ℕ)
       (refusal : Option Refusal) (takes : TakesAtMost m old new refusal most) (rows : List Cells) (h : Entries)
       → AreOther rows → pages_needed o start + most ≤ pages_needed o h + 5 * length rows
-      → pages_needed o start + most ≤ pages_needed o h + pages_of_table MOST_COLUMNS → IsNeverShort o h
+      → pages_needed o start + most ≤ pages_needed o h + pages_of_table MOST_COLUMNS → AreFullForCause o h
       → InsertsEach m new o t rows h refusal → InsertsEach (with_room m) new o t rows h refusal
-  columns_with old new o t start has most None takes [] h others all some never stands =
-      behind old new o t start has most None takes h (omega (arith, all)) never stands
-  columns_with old new o t start has most (Some r) takes [] h others all some never none = none
-  columns_with old new o t start has most refusal takes (row ∷ rows) h others all some never (inl (lawful, more)) =
+  columns_with old new o t start has most None takes [] h others all some full stands =
+      behind old new o t start has most None takes h (omega (arith, all)) full stands
+  columns_with old new o t start has most (Some r) takes [] h others all some full none = none
+  columns_with old new o t start has most refusal takes (row ∷ rows) h others all some full (inl (lawful, more)) =
       let least : pages_of_row ≤ pages_of o h (Insert t catalog_name row) Fine =
       write_least o h t catalog_name (writes.Insert row) Fine in
       inl (
         lawful,
         columns_with old new o t start has most refusal takes rows (entry (Insert t catalog_name row) Fine ∷ h) others.1
             (omega (arith, all, least)) (omega (arith, some))
-            (came old new o t start has most refusal takes row h never) more,
+            (came old new o t start has most refusal takes row h full) more,
       )
-  columns_with old new o t start has most refusal takes (row ∷ rows) h others all some never
+  columns_with old new o t start has most refusal takes (row ∷ rows) h others all some full
       (inr (r, is, lawful, stands)) =
       let least : pages_of_table MOST_COLUMNS ≤ pages_of o h (Insert t catalog_name row) (No r) =
       refused_other o h t row r others.0 in
@@ -337,7 +367,7 @@ module _ {R P : Type 0} (m : Means R P) (told : (r : R) (o : Opening) (h : Entri
         lawful,
         behind old new o t start has most refusal takes (entry (Insert t catalog_name row) (No r) ∷ h)
             (omega (arith, some, least))
-            (refused old new o t start has most refusal takes row h r is (omega (arith, some, least)) never) stands,
+            (refused old new o t start has most refusal takes row h r is (omega (arith, some, least)) full) stands,
       )
 
   pub makes_with : (old new : R) (t : TxNo) (name : List ℕ) (shape : Shape) (refusal : Option Refusal)
@@ -368,7 +398,7 @@ module _ {R P : Type 0} (m : Means R P) (told : (r : R) (o : Opening) (h : Entri
             (entry (Insert t catalog_name (table_row (new_table name shape))) Fine ∷ h)
             (columns_other name shape.key 0 shape.columns) (omega (arith, own, many)) (omega (arith, own, few))
             (came old new o t h has (pages_of_table (length shape.columns)) refusal it (table_row (new_table name shape)) h
-            has.never) more,
+            has.full) more,
       )
       made (inr (r, is, lawful, stands)) =
           let least = all r in inr (
@@ -378,5 +408,5 @@ module _ {R P : Type 0} (m : Means R P) (told : (r : R) (o : Opening) (h : Entri
             behind old new o t h has (pages_of_table (length shape.columns)) refusal it
                 (entry (Insert t catalog_name (table_row (new_table name shape))) (No r) ∷ h) (omega (arith, least))
                 (refused old new o t h has (pages_of_table (length shape.columns)) refusal it
-                (table_row (new_table name shape)) h r is (omega (arith, least)) has.never) stands,
+                (table_row (new_table name shape)) h r is (omega (arith, least)) has.full) stands,
           )

@@ -7,7 +7,7 @@ use Rattle.mg_model.specs.declared.answer.Answer.TheVariants.{Fine, Tx, No}
 use Rattle.mg_model.specs.declared.event.Event.{Event}
 use Rattle.mg_model.specs.declared.opening.Opening.{Opening}
 use Rattle.mg_model.specs.declared.refusal.Refusal.{Refusal}
-use Rattle.mg_model.specs.declared.refusal.Refusal.TheVariants.{NotActive}
+use Rattle.mg_model.specs.declared.refusal.Refusal.TheVariants.{DatabaseFull, NotActive}
 use Rattle.mg_model.specs.History.{Entries, entry}
 use Rattle.mg_model.specs.Machine.{state_of}
 use Rattle.mg_model.specs.Answers.{is_active}
@@ -33,9 +33,11 @@ abbrev pub drawn_in : Result TxNo Refusal → Option ℕ
 drawn_in (Ok t) = Some t.0
 drawn_in (Err r) = None
 
--- a call that gives no event is refused: its transaction isn't active, or from outside
+-- a call that gives no event is refused: its transaction isn't active, or from outside; it takes no page, so never for
+-- want of pages
 abbrev pub IsRefused : Opening → Entries → ℕ → Refusal → Type 0
 IsRefused o h t (NotActive state) = (state_of o h t ≡ state) × (is_active state ≡ false)
+IsRefused o h t (DatabaseFull limit) = ⊥
 IsRefused o h t refusal = is_outer (No refusal) ≡ true
 
 -- a call that gives no event is answered: its transaction is active, or it is refused

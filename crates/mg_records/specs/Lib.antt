@@ -2,6 +2,7 @@ pub mod Meaning
 pub mod Crashing
 pub mod Keeping
 pub mod Adding
+pub mod Asking
 pub mod Reading
 pub mod Writing
 pub mod TakingBack
@@ -9,3 +10,5 @@ pub mod Sessions
 pub mod Committing
 pub mod Room
 pub mod Needed
+pub mod Answered
+pub mod AnsweredLaws

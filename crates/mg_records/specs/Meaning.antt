@@ -42,6 +42,10 @@ pub record Means (R P : Type 0) : Type 1 where
   pub shortages : R → ℕ
   -- so many pages are free at least
   pub has_free : R → ℕ → Type 0
+  -- whether the room that the end of a transaction needs is taken when it begins
+  pub reserves_ends : Bool
+  -- how many page writes the disk was asked for
+  pub asked : R → ℕ
   -- how many page writes pass in all, where there is such a limit
   pub most_writes : R → Option ℕ
   -- the count with which a page write failed, once one has

@@ -1,5 +1,5 @@
 -- How many of the free pages the entries of a history may take, and what a keeper owes that was promised so many.
-use Rattle.std.specs.Prelude.{◌≡◌, ◌≤◌, ℕ, ◌+◌, ◌*◌, ◌==◌, Bool, true, false, [], ◌∷◌, slice_index_or, if◌then◌else◌}
+use Rattle.std.specs.Prelude.{◌≡◌, ◌≤◌, ◌<◌, ℕ, ◌+◌, ◌*◌, ◌==◌, Bool, true, false, [], ◌∷◌, slice_index_or, if◌then◌else◌}
 use Rattle.mg_base.specs.Fields.{byte}
 use Rattle.mg_value.specs.declared.shape.TheConstants.{MOST_COLUMNS}
 use Rattle.mg_value.specs.declared.value.Value.TheVariants.{Null}
@@ -54,28 +54,37 @@ abbrev pub pages_needed : Opening → Entries → ℕ
 pages_needed o [] = 0
 pages_needed o (e ∷ h) = pages_of o h e.event e.answer + pages_needed o h
 
--- ---- that a history is not refused for want of pages
+-- ---- why a history is refused for want of pages
 
-abbrev pub IsNotFull : Answer → Type 0
-IsNotFull answer = (limit : ℕ) → answer ≡ No (DatabaseFull limit) → ⊥
+-- an event that may take pages
+abbrev pub takes_pages : Event → Bool
+takes_pages (events.Begin session mode) = true
+takes_pages (events.Insert t table row) = true
+takes_pages (events.Change t table key row) = true
+takes_pages (events.Erase t table key) = true
+takes_pages (events.UndoMark t) = true
+takes_pages (events.BackTo t name) = true
+takes_pages event = false
 
--- no entry is answered DATABASE FULL
-abbrev pub NeverFull : Entries → Type 0
-NeverFull [] = Unit {0}
-NeverFull (e ∷ h) = IsNotFull e.answer × NeverFull h
+-- An entry behind a history is answered DATABASE FULL only where its event may take pages, and it needs more, with the
+-- entries before it, than the opening promises to be free.
+abbrev pub IsFullForCause : Opening → Entries → Event → Answer → Type 0
+IsFullForCause o h event answer = (limit : ℕ) → answer ≡ No (DatabaseFull limit)
+    → (takes_pages event ≡ true) × (o.free < pages_of o h event answer + pages_needed o h)
 
--- where its entries need no more pages than its opening promises, none of them is
-abbrev pub IsNeverShort : Opening → Entries → Type 0
-IsNeverShort o h = pages_needed o h ≤ o.free → NeverFull h
+-- each entry of a history is, if one is
+abbrev pub AreFullForCause : Opening → Entries → Type 0
+AreFullForCause o [] = Unit {0}
+AreFullForCause o (e ∷ h) = IsFullForCause o h e.event e.answer × AreFullForCause o h
 
 -- ---- keepers that were promised pages
 
 -- A keeper stands for a history whose opening promises that so many pages are free: those that its entries do not need
--- are free still, and where they need no more none of them is answered DATABASE FULL.
+-- are free still, and an entry is answered DATABASE FULL only where those up to it may need more.
 pub record StandsWithRoom {R P : Type 0} (m : Means R P) (r : R) (o : Opening) (h : Entries) : Type 0 where
   pub stands : m.stands r o h
   pub left : (count : ℕ) → pages_needed o h + count ≤ o.free → m.has_free r count
-  pub never : IsNeverShort o h
+  pub full : AreFullForCause o h
 
 -- what a keeper means that stands so for each of its histories
 abbrev pub with_room : {R P : Type 0} → Means R P → Means R P
@@ -99,6 +108,8 @@ with_room m = record {
   damage = m.damage;
   shortages = m.shortages;
   has_free = m.has_free;
+  reserves_ends = m.reserves_ends;
+  asked = m.asked;
   most_writes = m.most_writes;
   down = m.down;
   is_size = m.is_size;

@@ -13,7 +13,9 @@
 //! outside the machine comes only by its cause, a fault of the disk is told by one, and once a page
 //! write has failed every call is refused (`specs/Keeping`). A call takes no more of the free pages than
 //! its number says, and is refused for want of pages only where fewer are free (`specs/Room`). So a keeper can
-//! account for the pages that the opening of its history promised (`specs/Needed`).
+//! account for the pages that the opening of its history promised (`specs/Needed`). What reads, marks or asks for a
+//! commit asks the disk for no page write, and a commit or a rolling back takes no memory (`specs/Asking`): it is
+//! answered Ok unless a page write fails (`commits_are_answered`).
 //!
 //! Not every clause of a call holds of every history: where the machine speaks of an active
 //! transaction only, so does the clause. What a value stands for is known to proofs alone.
@@ -25,10 +27,12 @@
 
 mod found;
 mod giving_up;
+mod laws;
 mod records;
 mod write;
 
 pub use found::Found;
 pub use giving_up::gives_up;
+pub use laws::commits_are_answered;
 pub use records::Records;
 pub use write::Write;

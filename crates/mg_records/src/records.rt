@@ -9,6 +9,7 @@ ghost use Rattle.mg_records.specs.Meaning.{Means};
 ghost use Rattle.mg_records.specs.Keeping.{FaultsAreTold, Leaves, MeetsNoDamage, Reads, refusal_in};
 ghost use Rattle.mg_records.specs.Crashing.{CrashesHold, HoldsOn, LeavesQuietly, LeavesWith};
 ghost use Rattle.mg_records.specs.Sessions.{SessionsAreOne, SessionsStay, begun_in, ended_in, given_up_in};
+ghost use Rattle.mg_records.specs.Asking.{EndsInItsRoom, TakesNoPage, TakesNothing, WritesNoPage, WritesOnePage};
 ghost use Rattle.mg_records.specs.Adding.{Adds, AnswersAll, fine_or, number_or, drawn_in};
 ghost use Rattle.mg_records.specs.Reading.{TellsTable, IsTableGiven, TablesAreSeen, IsPlace, Nears, Visits, WalksAreWhole, FindAdds};
 ghost use Rattle.mg_records.specs.Writing.{FitsShape, FitsPages, IsNewShape, MakesTable, event_of};
@@ -61,6 +62,8 @@ pub trait Records {
         ensures told { FaultsAreTold meaning self.old self.new (refusal_in result) }
         ensures undamaged { MeetsNoDamage meaning self.old self.new }
         ensures room { TakesFew meaning self.old self.new (refusal_in result) 0 }
+        ensures unpaged { TakesNoPage (refusal_in result) }
+        ensures unwritten { WritesNoPage meaning self.old self.new }
         ensures crash { LeavesQuietly meaning self.old self.new }
         ensures sessions { SessionsStay meaning self.old self.new None None };
 
@@ -77,6 +80,7 @@ pub trait Records {
         ensures told { FaultsAreTold meaning self.old self.new (refusal_in result) }
         ensures undamaged { MeetsNoDamage meaning self.old self.new }
         ensures room { TakesFew meaning self.old self.new (refusal_in result) 0 }
+        ensures unwritten { WritesNoPage meaning self.old self.new }
         ensures crash { LeavesQuietly meaning self.old self.new }
         ensures sessions { SessionsStay meaning self.old self.new None None };
 
@@ -101,6 +105,7 @@ pub trait Records {
             → meaning.to_come self.old t.0 table.now (option_copied after.entry) rows
             → MeetsNoDamage meaning self.old self.new }
         ensures room { TakesFew meaning self.old self.new (refusal_in result) 0 }
+        ensures unwritten { WritesNoPage meaning self.old self.new }
         ensures crash { LeavesQuietly meaning self.old self.new }
         ensures sessions { SessionsStay meaning self.old self.new None None };
 
@@ -117,6 +122,8 @@ pub trait Records {
         ensures told { FaultsAreTold meaning self.old self.new (refusal_in result) }
         ensures undamaged { MeetsNoDamage meaning self.old self.new }
         ensures room { TakesFew meaning self.old self.new (refusal_in result) 0 }
+        ensures unpaged { TakesNoPage (refusal_in result) }
+        ensures unwritten { WritesNoPage meaning self.old self.new }
         ensures crash { LeavesQuietly meaning self.old self.new }
         ensures sessions { SessionsStay meaning self.old self.new None None };
 
@@ -154,6 +161,8 @@ pub trait Records {
         ensures told { FaultsAreTold meaning self.old self.new (refusal_in result) }
         ensures undamaged { MeetsNoDamage meaning self.old self.new }
         ensures room { TakesFew meaning self.old self.new (refusal_in result) 0 }
+        ensures unpaged { TakesNoPage (refusal_in result) }
+        ensures unwritten { WritesNoPage meaning self.old self.new }
         ensures crash { LeavesQuietly meaning self.old self.new }
         ensures sessions { SessionsStay meaning self.old self.new None None };
 
@@ -179,6 +188,8 @@ pub trait Records {
         ensures told { FaultsAreTold meaning self.old self.new (refusal_in result) }
         ensures undamaged { MeetsNoDamage meaning self.old self.new }
         ensures room { TakesFew meaning self.old self.new (refusal_in result) 0 }
+        ensures unpaged { TakesNoPage (refusal_in result) }
+        ensures unwritten { WritesNoPage meaning self.old self.new }
         ensures crash { LeavesQuietly meaning self.old self.new }
         ensures sessions { SessionsStay meaning self.old self.new None None };
 
@@ -206,6 +217,8 @@ pub trait Records {
         ensures told { FaultsAreTold meaning self.old self.new (refusal_in result) }
         ensures undamaged { MeetsNoDamage meaning self.old self.new }
         ensures room { TakesFew meaning self.old self.new (refusal_in result) 0 }
+        ensures unwritten { WritesNoPage meaning self.old self.new }
+        ensures takes { TakesNothing (refusal_in result) }
         ensures crash { LeavesQuietly meaning self.old self.new }
         ensures sessions { SessionsStay meaning self.old self.new None None };
 
@@ -220,6 +233,8 @@ pub trait Records {
         ensures told { FaultsAreTold meaning self.old self.new (refusal_in result) }
         ensures undamaged { MeetsNoDamage meaning self.old self.new }
         ensures room { TakesFew meaning self.old self.new (refusal_in result) 0 }
+        ensures written { OnOk result (WritesOnePage meaning self.old self.new) }
+        ensures takes { TakesNothing (refusal_in result) }
         ensures crash { LeavesQuietly meaning self.old self.new }
         ensures sessions { SessionsStay meaning self.old self.new None None };
 
@@ -231,6 +246,7 @@ pub trait Records {
         ensures told { FaultsAreTold meaning self.old self.new (refusal_in result) }
         ensures undamaged { MeetsNoDamage meaning self.old self.new }
         ensures room { TakesFew meaning self.old self.new (refusal_in result) 0 }
+        ensures takes { EndsInItsRoom meaning (refusal_in result) }
         ensures crash { LeavesWith meaning self.old self.new (Event.Commit t) (fine_or result) }
         ensures sessions { SessionsStay meaning self.old self.new None (ended_in t.0 result) };
 
@@ -241,6 +257,8 @@ pub trait Records {
         ensures told { FaultsAreTold meaning self.old self.new (refusal_in result) }
         ensures undamaged { MeetsNoDamage meaning self.old self.new }
         ensures room { TakesFew meaning self.old self.new (refusal_in result) 0 }
+        ensures unwritten { WritesNoPage meaning self.old self.new }
+        ensures takes { EndsInItsRoom meaning (refusal_in result) }
         ensures crash { LeavesQuietly meaning self.old self.new }
         ensures sessions { SessionsStay meaning self.old self.new None (ended_in t.0 result) };
 

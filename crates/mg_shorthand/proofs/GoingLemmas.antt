@@ -11,7 +11,7 @@ use Rattle.mg_model.specs.declared.event.Event.{Event}
 use Rattle.mg_model.specs.declared.event.Event.TheVariants as events
 use Rattle.mg_model.specs.declared.opening.Opening.{Opening}
 use Rattle.mg_model.specs.declared.refusal.Refusal.{Refusal}
-use Rattle.mg_model.specs.declared.refusal.Refusal.TheVariants.{NotActive}
+use Rattle.mg_model.specs.declared.refusal.Refusal.TheVariants.{DatabaseFull, NotActive}
 use Rattle.mg_model.specs.Answers.{is_active}
 use Rattle.mg_model.specs.History.{Entries, entry, transaction_of}
 use Rattle.mg_model.specs.Legal.{is_lasting}
@@ -56,6 +56,7 @@ refused_outside o h t (NotActive state) active is = absurd (both state (sym is.0
   where
     both : (state : TxState) → state ≡ Active → is_active state ≡ false → ⊥
     both state same closed = absurd (cc (ap is_active same, closed))
+refused_outside o h t (DatabaseFull limit) active never = absurd never
 refused_outside o h t refusal active is = is
 
 -- ---- what is left of others

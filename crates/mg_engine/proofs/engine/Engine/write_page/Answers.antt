@@ -4,6 +4,7 @@ use Rattle.mg_core.specs.Committing.{WritesPage}
 use Rattle.mg_engine.specs.Places.{places}
 use Rattle.mg_records.specs.Keeping.{refusal_in}
 use Rattle.mg_engine.proofs.BeginLemmas.{pages_apart, pages_as}
+use Rattle.mg_engine.proofs.AskedLemmas.{written_as}
 use Rattle.mg_engine.proofs.ToldLemmas.{room_as, told_as, undamaged_as}
 use Rattle.mg_engine.proofs.RoomLemmas.{reads_room}
 use Rattle.mg_engine_meaning.specs.Meaning.{means}
@@ -63,3 +64,13 @@ returns-clause-room g c = room_with (means g.D.Disk.meaning places) c.args.self.
     c.write_page.new.self c.self.view_is (refusal_in c.write_page.result) 0
     (c.commits_take_none.ensures.pages c.self.inside.core c.write_page.new.self c.write_page.result
     c.self.invariant.lawful c.write_page.ensures.writes))
+
+pub returns-clause-written : goal.returns-clause-written
+returns-clause-written g c = written_as g.D.Disk.meaning places c.self.inside.core c.args.self.now
+    c.write_page.new.self c.self.view_is c.write_page.result
+    (c.page_writes_ask_one.ensures.pages c.self.inside.core c.write_page.new.self c.write_page.result
+    c.write_page.ensures.writes)
+
+pub returns-clause-takes : goal.returns-clause-takes
+returns-clause-takes g c = c.commits_want_nothing.ensures.pages c.self.inside.core c.write_page.new.self
+    c.write_page.result c.write_page.ensures.writes

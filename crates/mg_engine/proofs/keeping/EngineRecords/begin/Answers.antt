@@ -1,4 +1,4 @@
-use Rattle.std.proofs.Common.{ap, arith, false, subst, sym, ◌≡◌}
+use Rattle.std.proofs.Common.{ap, arith, false, subst, sym, ◌≡◌, inl, refl}
 use Rattle.mg_core.specs.declared.parts.Core.{Core}
 use Rattle.mg_works.specs.Works.{has_session}
 use Rattle.mg_engine.specs.Places.{places}
@@ -27,7 +27,7 @@ invariant_of-self g c = record {
 
 pub returns-clause-adds : goal.returns-clause-adds
 returns-clause-adds g c = numbers_room g.D.Disk.meaning places c.args.self.now c.begin.new.self (Begin c.args.session c.args.mode) c.begin.result pages_of_begin
-    (λ o h. omega arith)
+    (λ o h. omega arith) (inl refl)
     (room_as g.D.Disk.meaning places c.self.inside.core c.args.self.now
     c.begin.new.self c.self.view_is (refusal_in c.begin.result) pages_of_begin
     (c.begins_take_few.ensures c.self.inside.core c.begin.new.self c.args.session c.args.mode c.begin.result

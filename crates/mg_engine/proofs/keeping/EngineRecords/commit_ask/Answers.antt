@@ -2,6 +2,7 @@ use Rattle.mg_engine.specs.Places.{places}
 use Rattle.mg_records.specs.Keeping.{refusal_in}
 use Rattle.mg_engine.proofs.ApartLemmas.{asks_apart}
 use Rattle.mg_engine.proofs.EngineLemmas.{asks_as}
+use Rattle.mg_engine.proofs.AskedLemmas.{unwritten_as}
 use Rattle.mg_engine.proofs.ToldLemmas.{room_as, told_as, undamaged_as}
 use Rattle.mg_engine.proofs.RoomLemmas.{reads_room}
 use Rattle.mg_engine_meaning.specs.Meaning.{means}
@@ -62,3 +63,13 @@ pub returns-clause-answers : goal.returns-clause-answers
 returns-clause-answers g c = answers_with (means g.D.Disk.meaning places) c.args.self.now c.args.t.0 c.commit_ask.result
     ((asks_as g.D.Disk.meaning places c.self.inside.core c.args.self.now c.commit_ask.new.self
     c.self.view_is c.self.invariant c.steps_go_on.ensures.asks c.args.t.0 c.commit_ask.result c.commit_ask.ensures.asks).0.answers)
+
+pub returns-clause-unwritten : goal.returns-clause-unwritten
+returns-clause-unwritten g c = unwritten_as g.D.Disk.meaning places c.self.inside.core c.args.self.now
+    c.commit_ask.new.self c.self.view_is
+    (c.page_writes_ask_one.ensures.asking c.self.inside.core c.commit_ask.new.self c.args.t.0 c.commit_ask.result
+    c.commit_ask.ensures.asks)
+
+pub returns-clause-takes : goal.returns-clause-takes
+returns-clause-takes g c = c.commits_want_nothing.ensures.asking c.self.inside.core c.commit_ask.new.self c.args.t.0
+    c.commit_ask.result c.commit_ask.ensures.asks

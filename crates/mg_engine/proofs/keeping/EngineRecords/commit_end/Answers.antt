@@ -1,8 +1,9 @@
-use Rattle.std.proofs.Common.{arith}
+use Rattle.std.proofs.Common.{arith, inr}
 use Rattle.mg_engine.specs.Places.{places}
 use Rattle.mg_records.specs.Keeping.{refusal_in}
 use Rattle.mg_engine.proofs.ApartLemmas.{commits_apart}
 use Rattle.mg_engine.proofs.EngineLemmas.{commits_as}
+use Rattle.mg_engine.proofs.AskedLemmas.{nothing_no_page}
 use Rattle.mg_engine.proofs.ToldLemmas.{room_as, told_as, undamaged_as}
 use Rattle.mg_engine.proofs.RoomLemmas.{gives_room}
 use Rattle.mg_engine_meaning.specs.Meaning.{means}
@@ -20,6 +21,8 @@ invariant_of-self g c = record {
 
 pub returns-clause-adds : goal.returns-clause-adds
 returns-clause-adds g c = gives_room g.D.Disk.meaning places c.args.self.now c.commit_end.new.self (Commit c.args.t) c.commit_end.result 0 (λ o h. omega arith)
+    (inr (nothing_no_page (refusal_in c.commit_end.result) (c.commits_want_nothing.ensures.ends c.self.inside.core c.commit_end.new.self
+    c.args.t.0 c.commit_end.result c.commit_end.ensures.commits)))
     (room_as g.D.Disk.meaning places c.self.inside.core c.args.self.now
     c.commit_end.new.self c.self.view_is (refusal_in c.commit_end.result) 0
     (c.commits_take_none.ensures.ends c.self.inside.core c.commit_end.new.self c.args.t.0 c.commit_end.result
@@ -61,3 +64,7 @@ returns-clause-room g c = room_with (means g.D.Disk.meaning places) c.args.self.
     c.commit_end.new.self c.self.view_is (refusal_in c.commit_end.result) 0
     (c.commits_take_none.ensures.ends c.self.inside.core c.commit_end.new.self c.args.t.0 c.commit_end.result
     c.self.invariant.lawful c.commit_end.ensures.commits))
+
+pub returns-clause-takes : goal.returns-clause-takes
+returns-clause-takes g c = λ reserves. c.commits_want_nothing.ensures.ends c.self.inside.core c.commit_end.new.self c.args.t.0
+    c.commit_end.result c.commit_end.ensures.commits

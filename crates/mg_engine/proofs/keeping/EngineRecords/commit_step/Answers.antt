@@ -1,6 +1,7 @@
 use Rattle.mg_engine.specs.Places.{places}
 use Rattle.mg_records.specs.Keeping.{refusal_in}
 use Rattle.mg_engine.proofs.EngineLemmas.{steps_as, steps_one}
+use Rattle.mg_engine.proofs.AskedLemmas.{written_as}
 use Rattle.mg_engine.proofs.ToldLemmas.{room_as, told_as, undamaged_as}
 use Rattle.mg_engine.proofs.RoomLemmas.{reads_room}
 use Rattle.mg_engine_meaning.specs.Meaning.{means}
@@ -60,3 +61,13 @@ returns-clause-one g c = written_with (means g.D.Disk.meaning places) c.args.sel
     (steps_one g.D.Disk.meaning places c.self.inside.core c.args.self.now c.commit_step.new.self
     c.self.view_is c.self.invariant c.steps_go_on.ensures.steps c.args.t.0 c.commit_step.result c.requires.asked
     c.commit_step.ensures.steps)
+
+pub returns-clause-written : goal.returns-clause-written
+returns-clause-written g c = written_as g.D.Disk.meaning places c.self.inside.core c.args.self.now
+    c.commit_step.new.self c.self.view_is c.commit_step.result
+    (c.page_writes_ask_one.ensures.steps c.self.inside.core c.commit_step.new.self c.args.t.0 c.commit_step.result
+    c.commit_step.ensures.steps)
+
+pub returns-clause-takes : goal.returns-clause-takes
+returns-clause-takes g c = c.commits_want_nothing.ensures.steps c.self.inside.core c.commit_step.new.self c.args.t.0
+    c.commit_step.result c.commit_step.ensures.steps

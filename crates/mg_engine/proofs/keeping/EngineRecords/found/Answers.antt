@@ -1,6 +1,7 @@
 use Rattle.mg_engine.specs.Places.{places}
 use Rattle.mg_records.specs.Keeping.{refusal_in}
 use Rattle.mg_engine.proofs.EngineLemmas.{found_as}
+use Rattle.mg_engine.proofs.AskedLemmas.{unwritten_as}
 use Rattle.mg_engine.proofs.ToldLemmas.{room_as, told_as, undamaged_as}
 use Rattle.mg_engine.proofs.RoomLemmas.{finds_room}
 use Rattle.mg_engine_meaning.specs.Meaning.{means}
@@ -34,6 +35,7 @@ returns-clause-room g c = room_with (means g.D.Disk.meaning places) c.args.self.
 
 pub returns-clause-adds : goal.returns-clause-adds
 returns-clause-adds g c = finds_room g.D.Disk.meaning places c.args.self.now c.found.new.self c.args.t c.args.name.now c.args.filter.now c.args.rows.now c.found.result
+    (c.events_take_no_page.ensures.founds c.self.inside.core c.args.t.0 c.found.result c.found.ensures.begins)
     (room_as g.D.Disk.meaning places c.self.inside.core c.args.self.now
     c.found.new.self c.self.view_is (refusal_in c.found.result) 0
     (c.events_take_none.ensures.founds c.self.inside.core c.found.new.self c.args.t.0 c.found.result
@@ -53,3 +55,12 @@ returns-clause-sessions g c = sessions_with (means g.D.Disk.meaning places) c.ar
     ((found_as g.D.Disk.meaning places c.self.inside.core c.args.self.now c.found.new.self
     c.self.view_is c.self.invariant c.points_go_on.ensures.found c.args.t c.args.name.now c.args.filter.now c.args.rows.now
     c.found.result c.found.ensures.wait c.found.ensures.begins).sessions)
+
+pub returns-clause-unwritten : goal.returns-clause-unwritten
+returns-clause-unwritten g c = unwritten_as g.D.Disk.meaning places c.self.inside.core c.args.self.now
+    c.found.new.self c.self.view_is
+    (c.events_write_none.ensures.waits c.self.inside.core c.found.new.self c.args.t.0
+    c.found.ensures.wait)
+
+pub returns-clause-unpaged : goal.returns-clause-unpaged
+returns-clause-unpaged g c = c.events_take_no_page.ensures.founds c.self.inside.core c.args.t.0 c.found.result c.found.ensures.begins

@@ -1,8 +1,9 @@
-use Rattle.std.proofs.Common.{arith}
+use Rattle.std.proofs.Common.{arith, inr}
 use Rattle.mg_engine.specs.Places.{places}
 use Rattle.mg_records.specs.Keeping.{refusal_in}
 use Rattle.mg_engine.proofs.ApartLemmas.{rollbacks_apart}
 use Rattle.mg_engine.proofs.EngineLemmas.{rollbacks_as}
+use Rattle.mg_engine.proofs.AskedLemmas.{nothing_no_page, unwritten_as}
 use Rattle.mg_engine.proofs.ToldLemmas.{room_as, told_as, undamaged_as}
 use Rattle.mg_engine.proofs.RoomLemmas.{gives_room}
 use Rattle.mg_engine_meaning.specs.Meaning.{means}
@@ -19,6 +20,8 @@ invariant_of-self g c = record {
 
 pub returns-clause-adds : goal.returns-clause-adds
 returns-clause-adds g c = gives_room g.D.Disk.meaning places c.args.self.now c.rollback.new.self (Rollback c.args.t) c.rollback.result 0 (λ o h. omega arith)
+    (inr (nothing_no_page (refusal_in c.rollback.result) (c.commits_want_nothing.ensures.rollbacks c.self.inside.core c.rollback.new.self
+    c.args.t.0 c.rollback.result c.rollback.ensures.rolls)))
     (room_as g.D.Disk.meaning places c.self.inside.core c.args.self.now
     c.rollback.new.self c.self.view_is (refusal_in c.rollback.result) 0
     (c.events_take_none.ensures.rollbacks c.self.inside.core c.rollback.new.self c.args.t.0 c.rollback.result
@@ -60,3 +63,13 @@ returns-clause-room g c = room_with (means g.D.Disk.meaning places) c.args.self.
     c.rollback.new.self c.self.view_is (refusal_in c.rollback.result) 0
     (c.events_take_none.ensures.rollbacks c.self.inside.core c.rollback.new.self c.args.t.0 c.rollback.result
     c.rollback.ensures.rolls))
+
+pub returns-clause-unwritten : goal.returns-clause-unwritten
+returns-clause-unwritten g c = unwritten_as g.D.Disk.meaning places c.self.inside.core c.args.self.now
+    c.rollback.new.self c.self.view_is
+    (c.events_write_none.ensures.rollbacks c.self.inside.core c.rollback.new.self c.args.t.0 c.rollback.result
+    c.rollback.ensures.rolls)
+
+pub returns-clause-takes : goal.returns-clause-takes
+returns-clause-takes g c = λ reserves. c.commits_want_nothing.ensures.rollbacks c.self.inside.core c.rollback.new.self c.args.t.0
+    c.rollback.result c.rollback.ensures.rolls

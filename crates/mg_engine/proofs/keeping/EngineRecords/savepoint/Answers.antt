@@ -1,8 +1,9 @@
-use Rattle.std.proofs.Common.{Some, arith}
+use Rattle.std.proofs.Common.{Some, arith, inr}
 use Rattle.mg_engine.specs.Places.{places}
 use Rattle.mg_records.specs.Keeping.{refusal_in}
 use Rattle.mg_engine.proofs.ApartLemmas.{points_apart}
 use Rattle.mg_engine.proofs.EngineLemmas.{savepoints_as}
+use Rattle.mg_engine.proofs.AskedLemmas.{unwritten_as}
 use Rattle.mg_engine.proofs.ToldLemmas.{room_as, told_as, undamaged_as}
 use Rattle.mg_engine.proofs.RoomLemmas.{gives_room}
 use Rattle.mg_engine_meaning.specs.Meaning.{means}
@@ -18,6 +19,8 @@ invariant_of-self g c = record {
 
 pub returns-clause-adds : goal.returns-clause-adds
 returns-clause-adds g c = gives_room g.D.Disk.meaning places c.args.self.now c.savepoint.new.self (Savepoint c.args.t c.args.name.now) c.savepoint.result 0 (λ o h. omega arith)
+    (inr (c.events_take_no_page.ensures.points c.self.inside.core c.savepoint.new.self c.args.t.0
+    (Some c.args.name.now) c.savepoint.result c.savepoint.ensures.sets))
     (room_as g.D.Disk.meaning places c.self.inside.core c.args.self.now
     c.savepoint.new.self c.self.view_is (refusal_in c.savepoint.result) 0
     (c.events_take_none.ensures.points c.self.inside.core c.savepoint.new.self c.args.t.0 (Some c.args.name.now)
@@ -59,3 +62,13 @@ returns-clause-room g c = room_with (means g.D.Disk.meaning places) c.args.self.
     c.savepoint.new.self c.self.view_is (refusal_in c.savepoint.result) 0
     (c.events_take_none.ensures.points c.self.inside.core c.savepoint.new.self c.args.t.0 (Some c.args.name.now)
     c.savepoint.result c.savepoint.ensures.sets))
+
+pub returns-clause-unwritten : goal.returns-clause-unwritten
+returns-clause-unwritten g c = unwritten_as g.D.Disk.meaning places c.self.inside.core c.args.self.now
+    c.savepoint.new.self c.self.view_is
+    (c.events_write_none.ensures.points c.self.inside.core c.savepoint.new.self c.args.t.0 (Some c.args.name.now)
+    c.savepoint.result c.savepoint.ensures.sets)
+
+pub returns-clause-unpaged : goal.returns-clause-unpaged
+returns-clause-unpaged g c = c.events_take_no_page.ensures.points c.self.inside.core c.savepoint.new.self c.args.t.0
+    (Some c.args.name.now) c.savepoint.result c.savepoint.ensures.sets

@@ -2,6 +2,7 @@ use Rattle.std.specs.Option.{option_copied}
 use Rattle.mg_records.specs.Keeping.{refusal_in}
 use Rattle.mg_engine.specs.Places.{places}
 use Rattle.mg_engine.proofs.ReadLemmas.{may_scan, scans_apart, visits_as, visits_undamaged}
+use Rattle.mg_engine.proofs.AskedLemmas.{unwritten_as}
 use Rattle.mg_engine.proofs.ToldLemmas.{room_as, told_as}
 use Rattle.mg_engine.proofs.RoomLemmas.{reads_room}
 use Rattle.mg_engine_meaning.specs.Meaning.{means}
@@ -84,3 +85,9 @@ returns-clause-room g c = room_with (means g.D.Disk.meaning places) c.args.self.
     c.scan_step-visited.new.self c.self.view_is (refusal_in c.scan_step-visited.result) 0
     (c.readings_take_none.ensures.visits c.self.inside.core c.scan_step-visited.new.self c.args.t c.args.table.now
     c.copied.result c.scan_step-visited.result c.scan_step-visited.ensures.scans))
+
+pub returns-clause-unwritten : goal.returns-clause-unwritten
+returns-clause-unwritten g c = unwritten_as g.D.Disk.meaning places c.self.inside.core c.args.self.now
+    c.scan_step-visited.new.self c.self.view_is
+    (c.readings_write_none.ensures.walks c.self.inside.core c.scan_step-visited.new.self c.args.t
+    c.args.table.now c.copied.result c.scan_step-visited.result c.scan_step-visited.ensures.scans)

@@ -1,6 +1,7 @@
 use Rattle.mg_records.specs.Keeping.{refusal_in}
 use Rattle.mg_engine.specs.Places.{places}
 use Rattle.mg_engine.proofs.ReadLemmas.{table_apart, tables_as}
+use Rattle.mg_engine.proofs.AskedLemmas.{unwritten_as}
 use Rattle.mg_engine.proofs.ToldLemmas.{room_as, told_as, undamaged_as}
 use Rattle.mg_engine.proofs.RoomLemmas.{reads_room}
 use Rattle.mg_engine_meaning.specs.Meaning.{means}
@@ -67,3 +68,9 @@ returns-clause-room g c = room_with (means g.D.Disk.meaning places) c.args.self.
     c.table.new.self c.self.view_is (refusal_in c.table.result) 0
     (c.readings_take_none.ensures.tables c.self.inside.core c.table.new.self c.args.t c.args.name.now c.table.result
     c.table.ensures.table))
+
+pub returns-clause-unwritten : goal.returns-clause-unwritten
+returns-clause-unwritten g c = unwritten_as g.D.Disk.meaning places c.self.inside.core c.args.self.now
+    c.table.new.self c.self.view_is
+    (c.readings_write_none.ensures.tables c.self.inside.core c.table.new.self c.args.t c.args.name.now c.table.result
+    c.table.ensures.table)

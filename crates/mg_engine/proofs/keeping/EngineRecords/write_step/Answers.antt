@@ -1,3 +1,4 @@
+use Rattle.std.proofs.Common.{inl}
 use Rattle.mg_engine.specs.Places.{places}
 use Rattle.mg_records.specs.Keeping.{refusal_in}
 use Rattle.mg_records.specs.Room.{pages_of_row}
@@ -8,7 +9,7 @@ use Rattle.mg_engine.proofs.RoomLemmas.{gives_room}
 use Rattle.mg_engine_meaning.specs.Meaning.{means}
 use Rattle.mg_no_damage.specs.AlikeRoom.{leaves_with, quietly_with, room_with, sessions_with, undamaged_with}
 use Rattle.mg_records.specs.Adding.{fine_or}
-use Rattle.mg_no_damage.specs.WithRoom.{write_least}
+use Rattle.mg_no_damage.specs.WithRoom.{write_least, write_takes}
 use Rattle.mg_records.specs.Writing.{event_of}
 use Rattle.mg_engine.proofs.keeping.EngineRecords.write_step.Goals as goal
 
@@ -34,6 +35,7 @@ invariant_of-self g c = record {
 pub returns-clause-adds : goal.returns-clause-adds
 returns-clause-adds g c = gives_room g.D.Disk.meaning places c.args.self.now c.write_noted.new.core (event_of c.args.t c.args.table.now.name c.args.write.now) c.write_noted.result pages_of_row
     (λ o h. write_least o h c.args.t c.args.table.now.name c.args.write.now (fine_or c.write_noted.result))
+    (inl (write_takes c.args.t c.args.table.now.name c.args.write.now))
     (room_as g.D.Disk.meaning places c.self.inside.core c.args.self.now
     c.write_noted.new.core c.self.view_is (refusal_in c.write_noted.result) pages_of_row
     (c.writes_take_few.ensures c.self.inside.core c.write_noted.new.core c.args.t c.args.table.now c.args.write.now

@@ -1,0 +1,5 @@
+use Rattle.std.proofs.lemmas.Bool.{false≢true}
+use Rattle.mg_plain.proofs.plain.records.PlainRecords.commit_end.Goals as goal
+
+pub returns-clause-takes : goal.returns-clause-takes
+returns-clause-takes c = λ reserves. absurd (false≢true reserves)
