@@ -2,3 +2,4 @@ mod ServingLemmas
 mod RunLemmas
 mod TopLemmas
 mod CompleteLemmas
+mod AcknowledgedLemmas

@@ -13,7 +13,8 @@ use Rattle.mg_run_ends.specs.declared.ending.RunEnd.TheVariants.{Outside, Script
 use Rattle.mg_run_ends.specs.declared.ending.TheConstants.{SCRIPT_MOST}
 use Rattle.mg_run_ends.specs.Ends.{EndsWith}
 use Rattle.mg_runs.specs.Entry.{IsEntry}
-use Rattle.mg_runs.specs.Promise.{IsReadingEnd, Promise, ScriptCauses, StreamCauses}
+use Rattle.mg_runs.specs.OtherFiles.{HoldsNoDatabase}
+use Rattle.mg_runs.specs.Promise.{IsReadingEnd, LeavesFile, Promise, ScriptCauses, StreamCauses}
 use Rattle.mg_run_ends.specs.Reading.{FailsToRead, IsWholeScript}
 use Rattle.mg_run_ends.specs.Saying.{IsTold, SaysEnd}
 use Rattle.mg_program.specs.Serving.{Serves}
@@ -45,6 +46,10 @@ module _ {D S K : Type 0} (m : Meaning D) (s : SourceMeaning S) (n : SinkMeaning
     subst (λ (bytes : List ℕ). IsScript bytes lines) (sym (whole.whole script left)) whole.is_script,
     serves.headline size image o entry,
   )
+
+  pub served_files : (size : ℕ) (image : Image) → HoldsNoDatabase m old size image
+      → LeavesFile m n size image old new before after end
+  served_files size image other = inr (serves.other_files size image other)
 
 -- ---- a script that was not read to its end
 
@@ -131,3 +136,6 @@ module _ {D S K : Type 0} (m : Meaning D) (s : SourceMeaning S) (n : SinkMeaning
   pub unread_promise : (size : ℕ) (o : Opening) (script : List ℕ)
       → Promise m n size o script disk disk before after told
   unread_promise size o script = inl (record { ends = still.ends; disk = refl; last = says.printed })
+
+  pub unread_files : (size : ℕ) (image : Image) → LeavesFile m n size image disk disk before after told
+  unread_files size image = inl (record { ends = still.ends; disk = refl; last = says.printed })

@@ -26,7 +26,7 @@ use Rattle.mg_run_ends.specs.declared.ending.RunEnd.{RunEnd}
 use Rattle.mg_run_ends.specs.declared.ending.RunEnd.TheVariants.{InLine, Outside, ScriptTooLong, Stream, Whole}
 use Rattle.mg_run_ends.specs.Ends.{EndsWith, FailsWith, IsOutside, has_fixed_line, last_line}
 use Rattle.mg_runs.specs.Headline.{EndsBehind, Headline}
-use Rattle.mg_runs.specs.Laws.{BeginsRun, ClosingsFail, IsCutOff, LinesFail, OpeningsAreJudged, OpeningsFail, RunsBegin, RunsClose, RunsStop, closed_end}
+use Rattle.mg_runs.specs.Laws.{BeginsRun, ClosingsFail, IsCutOff, LinesFail, OpeningsAreJudged, OpeningsFail, OtherFilesAreRefused, OtherFilesAreUnopened, RunsBegin, RunsClose, RunsStop, closed_end}
 use Rattle.mg_run_ends.specs.Printing.{IsPrinted}
 use Rattle.mg_run_ends.specs.Saying.{IsTold, SaysEnd}
 use Rattle.mg_program.specs.Serving.{HasObeyed, Serves, cut_end}
@@ -62,10 +62,10 @@ outside_fails m old new refusal told (inr both) fails = subst (EndsWith m old ne
 -- ---- a disk that was not opened
 
 pub refused : {D K : Type 0} (m : Meaning D) (n : SinkMeaning K) (lines : List Line) (disk new : D) (limit : ℕ)
-    (refusal : Refusal) (told : RunEnd) (before after : K) → OpeningsAreJudged m n → OpeningsFail m
-    → RefusesOpening m disk new limit refusal → SaysEnd n before after (Outside refusal) told
+    (refusal : Refusal) (told : RunEnd) (before after : K) → OpeningsAreJudged m n → OtherFilesAreRefused m n
+    → OpeningsFail m → RefusesOpening m disk new limit refusal → SaysEnd n before after (Outside refusal) told
     → Serves m n limit lines disk new before after told
-refused m n lines disk new limit refusal told before after judged fails refuses says = record {
+refused m n lines disk new limit refusal told before after judged others fails refuses says = record {
   read = λ is. outside_read refusal told says.is_told is;
   disk = outside_fails m disk new refusal told says.is_told (fails disk new limit refusal refuses);
   most_writes = refuses.same.most_writes;
@@ -73,6 +73,8 @@ refused m n lines disk new limit refusal told before after judged fails refuses 
   sink_steady = λ fine is. absurd (outside_whole refusal told says.is_told fine is);
   headline = λ size image o entry. judged disk new limit refusal size image o lines told before after entry refuses
       says.is_told says.printed;
+  other_files = λ size image other. others disk new limit refusal size image told before after other refuses says.is_told
+      says.printed;
 }
 
 -- ---- a database that is not closed
@@ -164,10 +166,10 @@ module _ {D P K : Type 0} (m : Meaning D) (places : Places P) (n : SinkMeaning K
       (subst (λ (e : RunEnd). IsTold e told) (sym same) says.is_told)
 
   left_there : (refused_at : List Refusal) (lines_end : LinesEnd) (fine : Bool) (end told : RunEnd)
-      → HasObeyed m places n limit lines disk now before mid refused_at lines_end fine → LinesFail m places
-      → RunsStop m places n → IsCore m now → cut_end lines_end refused_at ≡ Some end → SaysEnd n mid after end told
+      → HasObeyed m places n limit lines disk now before mid refused_at lines_end fine → OtherFilesAreUnopened m
+      → LinesFail m places → RunsStop m places n → IsCore m now → cut_end lines_end refused_at ≡ Some end → SaysEnd n mid after end told
       → Serves m n limit lines disk now.store.disk before after told
-  left_there refused_at lines_end fine end told did fails stops core is says =
+  left_there refused_at lines_end fine end told did unopened fails stops core is says =
       let cut = is_cut refused_at lines_end fine end told did fails is says in record {
         read = cut.read;
         disk = cut.disk_fails;
@@ -177,15 +179,17 @@ module _ {D P K : Type 0} (m : Meaning D) (places : Places P) (n : SinkMeaning K
         headline = λ size image o entry. stops disk limit did.core now size image o lines refused_at lines_end fine
             told before mid after entry did.opened core did.accounts (did.done size image o entry) cut.cut cut.behind
             says.printed;
+        other_files = λ size image other. absurd (unopened disk limit did.core size image other did.opened);
       }
 
   pub left : (new : D) (refused_at : List Refusal) (lines_end : LinesEnd) (fine : Bool) (end told : RunEnd)
       → new ≡ now.store.disk → HasObeyed m places n limit lines disk now before mid refused_at lines_end fine
-      → LinesFail m places → RunsStop m places n → IsCore m now → cut_end lines_end refused_at ≡ Some end
-      → SaysEnd n mid after end told → Serves m n limit lines disk new before after told
-  left new refused_at lines_end fine end told same did fails stops core is says =
+      → OtherFilesAreUnopened m → LinesFail m places → RunsStop m places n → IsCore m now
+      → cut_end lines_end refused_at ≡ Some end → SaysEnd n mid after end told
+      → Serves m n limit lines disk new before after told
+  left new refused_at lines_end fine end told same did unopened fails stops core is says =
       subst (λ (d : D). Serves m n limit lines disk d before after told) (sym same)
-      (left_there refused_at lines_end fine end told did fails stops core is says)
+      (left_there refused_at lines_end fine end told did unopened fails stops core is says)
 
   -- ---- a database that is closed
 
@@ -205,10 +209,10 @@ module _ {D P K : Type 0} (m : Meaning D) (places : Places P) (n : SinkMeaning K
   closing_told new refusal told refuses (inr both) = absurd refuses
 
   closed_as : (new : D) (fine : Bool) (closed : Result (Unit {0}) Refusal) (told : RunEnd)
-      → HasObeyed m places n limit lines disk now before mid [] lines_ends.Whole fine → ClosingsFail m places
-      → RunsClose m places n → IsCore m now → ClosesEngine m now new closed
+      → HasObeyed m places n limit lines disk now before mid [] lines_ends.Whole fine → OtherFilesAreUnopened m
+      → ClosingsFail m places → RunsClose m places n → IsCore m now → ClosesEngine m now new closed
       → SaysEnd n mid after (closed_end fine closed) told → Serves m n limit lines disk new before after told
-  closed_as new fine (Ok x) told did fails closes core closing says =
+  closed_as new fine (Ok x) told did unopened fails closes core closing says =
       let is : told ≡ Whole fine = says.is_told in
       let same : after ≡ mid = says.silent refl in record {
         read = λ long. absurd cc;
@@ -221,8 +225,9 @@ module _ {D P K : Type 0} (m : Meaning D) (places : Places P) (n : SinkMeaning K
             (closes disk new limit did.core now size image o lines fine (Ok x) before mid after entry did.opened
             core did.accounts (did.done size image o entry) closing
             (subst (λ (e : RunEnd). IsPrinted n mid after (last_line e)) is says.printed));
+        other_files = λ size image other. absurd (unopened disk limit did.core size image other did.opened);
       }
-  closed_as new fine (Err refusal) told did fails closes core closing says =
+  closed_as new fine (Err refusal) told did unopened fails closes core closing says =
       let is : told ≡ Outside refusal = closing_told new refusal told closing.ended says.is_told in record {
         read = λ long. absurd cc;
         disk = subst (EndsWith m disk new) (sym is)
@@ -234,19 +239,20 @@ module _ {D P K : Type 0} (m : Meaning D) (places : Places P) (n : SinkMeaning K
             (closes disk new limit did.core now size image o lines fine (Err refusal) before mid after entry did.opened
             core did.accounts (did.done size image o entry) closing
             (subst (λ (e : RunEnd). IsPrinted n mid after (last_line e)) is says.printed));
+        other_files = λ size image other. absurd (unopened disk limit did.core size image other did.opened);
       }
 
   pub closed : (new : D) (refused_at : List Refusal) (lines_end : LinesEnd) (fine : Bool)
       (result : Result (Unit {0}) Refusal) (end told : RunEnd)
-      → HasObeyed m places n limit lines disk now before mid refused_at lines_end fine → ClosingsFail m places
-      → RunsClose m places n → IsCore m now → ClosesEngine m now new result → cut_end lines_end refused_at ≡ None
+      → HasObeyed m places n limit lines disk now before mid refused_at lines_end fine → OtherFilesAreUnopened m
+      → ClosingsFail m places → RunsClose m places n → IsCore m now → ClosesEngine m now new result → cut_end lines_end refused_at ≡ None
       → end ≡ closed_end fine result → SaysEnd n mid after end told → Serves m n limit lines disk new before after told
-  closed new refused_at lines_end fine result end told did fails closes core closing none is says =
+  closed new refused_at lines_end fine result end told did unopened fails closes core closing none is says =
       let both = none_cut refused_at lines_end none in
       closed_as new fine result told
       (subst (λ (e : LinesEnd). HasObeyed m places n limit lines disk now before mid [] e fine) both.1
       (subst (λ (xs : List Refusal). HasObeyed m places n limit lines disk now before mid xs lines_end fine) both.0
-      did)) fails closes core closing (subst (λ (e : RunEnd). SaysEnd n mid after e told) is says)
+      did)) unopened fails closes core closing (subst (λ (e : RunEnd). SaysEnd n mid after e told) is says)
 
 -- ---- what was obeyed
 
@@ -268,7 +274,7 @@ with_promise : {D P : Type 0} (m : Meaning D) (places : Places P) (core : Core D
 with_promise m places core size o begun = record {
   stands = begun.stands;
   left = λ count within. let fits : 0 + count ≤ o.free = within in begun.room count (omega (arith, fits));
-  never = λ within. tt;
+  full = tt;
 }
 
 -- the page size that the engine tells is the one of the history

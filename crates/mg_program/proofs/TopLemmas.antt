@@ -2,7 +2,7 @@
 use Rattle.std.proofs.Common.{◌≡◌, ◌≢◌, ◌<◌, ◌≤◌, ◌+◌, ◌∙◌, inl, inr, ℕ, Bool, true, false, List, Option, Some, sym, ap, subst, arith}
 use Rattle.std.specs.Prelude.{◌⊎◌}
 use Rattle.std.proofs.lemmas.Bool.{cases_eq}
-use Rattle.mg_base.specs.Disk.{Meaning, Rose}
+use Rattle.mg_base.specs.Disk.{MayLeave, Meaning, Rose}
 use Rattle.mg_base.specs.Image.{Image}
 use Rattle.mg_base.specs.Moments.{LeavesOnly}
 use Rattle.mg_base.specs.Streams.{SinkMeaning, SourceMeaning}
@@ -23,7 +23,8 @@ use Rattle.mg_run_ends.specs.declared.status.Status.{Status}
 use Rattle.mg_run_ends.specs.Ends.{EndsWith, FailsWith, refused_status, status_of}
 use Rattle.mg_runs.specs.Entry.{IsEntry, TellsWholePages}
 use Rattle.mg_runs.specs.Headline.{Headline, IsSettledAt}
-use Rattle.mg_runs.specs.Promise.{Promise, ScriptCauses, StreamCauses}
+use Rattle.mg_runs.specs.OtherFiles.{HoldsNoDatabase}
+use Rattle.mg_runs.specs.Promise.{LeavesFile, Promise, ScriptCauses, StreamCauses}
 use Rattle.mg_program.specs.Top.{EndsOrStops, FailsOrStops, Runs}
 
 -- ---- statuses
@@ -187,6 +188,34 @@ module _ {D : Type 0} (m : Meaning D) (counts_to : ℕ) where
     promise_of size o script old new before after end whole (inr (lines, is, line)) =
         inr (lines, is, headline_of size o lines old new before after end whole line)
 
+    other_file : (old : Stopped D) (size : ℕ) (image : Image) → HoldsNoDatabase m (inner_of old) size image
+        → HoldsNoDatabase (stopped_meaning m counts_to) old size image
+    other_file old size image other = record {
+      sized = other.sized;
+      tells = record { told = other.tells.told; held = other.tells.held };
+      unpassed = other.unpassed;
+      unmakeable = other.unmakeable;
+    }
+
+    file_of : (size : ℕ) (image : Image) (old new : Stopped D) (before after : K) (end : RunEnd)
+        → LeavesFile (stopped_meaning m counts_to) n size image old new before after end
+        → LeavesFile m n size image (inner_of old) (inner_of new) before after end
+    file_of size image old new before after end (inl unread) = inl (record {
+      ends = unread.ends;
+      disk = ap inner_of unread.disk;
+      last = unread.last;
+    })
+    file_of size image old new before after end (inr refused) = inr (record {
+      unwritten = record {
+        held = refused.unwritten.held;
+        crash = leaves old new (MayLeave m (inner_of old)) refused.unwritten.crash;
+      };
+      refusal = refused.refusal;
+      opening = refused.opening;
+      ends = refused.ends;
+      last = refused.last;
+    })
+
     module _ {S : Type 0} (s : SourceMeaning S) where
       -- with `--stop`, of a disk of which so many page writes pass
       pub runs_of_stopped : (limit most : ℕ) (source source' : S) (first result : D) (old new : Stopped D)
@@ -198,9 +227,11 @@ module _ {D : Type 0} (m : Meaning D) (counts_to : ℕ) where
           → ((size : ℕ) (image : Image) (o : Opening) (script : List ℕ)
           → IsEntry (stopped_meaning m counts_to) old limit size image o → s.left source ≡ Some script
           → Promise (stopped_meaning m counts_to) n size o script old new sink sink' end)
+          → ((size : ℕ) (image : Image) → HoldsNoDatabase (stopped_meaning m counts_to) old size image
+          → LeavesFile (stopped_meaning m counts_to) n size image old new sink sink' end)
           → Runs m counts_to s n limit (Some most) source source' first result sink sink' end
       runs_of_stopped limit most source source' first result old new sink sink' end newly is law same ends streams script
-          headline = subst (λ (d : D). Runs m counts_to s n limit (Some most) source source' first d sink sink' end)
+          headline files = subst (λ (d : D). Runs m counts_to s n limit (Some most) source source' first d sink sink' end)
           (sym is) (subst
           (λ (d : D). Runs m counts_to s n limit (Some most) source source' d (inner_of new) sink sink' end)
           newly.its_inner its_run)
@@ -223,4 +254,6 @@ module _ {D : Type 0} (m : Meaning D) (counts_to : ℕ) where
             };
             headline = λ size image o bytes entry left. promise_of size o bytes old new sink sink' end entry.whole
                 (headline size image o bytes (entered old limit size image o entry) left);
+            other_files = λ size image other. file_of size image old new sink sink' end
+                (files size image (other_file old size image other));
           }

@@ -1,3 +1,4 @@
 pub mod Serving
 pub mod Top
 pub mod Complete
+pub mod Acknowledged

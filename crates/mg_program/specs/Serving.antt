@@ -21,9 +21,11 @@ use Rattle.mg_run_ends.specs.declared.ending.RunEnd.TheVariants.{InLine, Outside
 use Rattle.mg_run_ends.specs.Ends.{EndsWith}
 use Rattle.mg_runs.specs.Entry.{IsEntry}
 use Rattle.mg_runs.specs.Headline.{Headline}
+use Rattle.mg_runs.specs.OtherFiles.{HoldsNoDatabase, RefusesFile}
 
 -- A run whose script was read has ended, over a disk that was opened with a page limit: where the disk's count of faults
--- has risen, where the sink's has, that as many page writes pass in all as did, and the history of the lines.
+-- has risen, where the sink's has, that as many page writes pass in all as did, and the history of the lines; a file that
+-- holds no database is refused.
 pub record Serves {D K : Type 0} (m : Meaning D) (n : SinkMeaning K) (limit : ℕ) (lines : List Line) (old new : D)
     (before after : K) (end : RunEnd) : Type 0 where
   pub read : end ≢ ScriptTooLong
@@ -33,6 +35,8 @@ pub record Serves {D K : Type 0} (m : Meaning D) (n : SinkMeaning K) (limit : �
   pub sink_steady : (fine : Bool) → end ≡ Whole fine → n.faults after ≡ n.faults before
   pub headline : (size : ℕ) (image : Image) (o : Opening) → IsEntry m old limit size image o
       → Headline m n size o lines old new before after end
+  pub other_files : (size : ℕ) (image : Image) → HoldsNoDatabase m old size image
+      → RefusesFile m n size image old new before after end
 
 -- ---- lines on an engine
 

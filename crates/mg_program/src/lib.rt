@@ -20,7 +20,7 @@ mod running;
 mod serving;
 mod top;
 
-pub use laws::runs_are_complete;
+pub use laws::{acknowledged_commits_are_held, runs_are_complete};
 pub use mg_run_ends::{RunEnd, SCRIPT_MOST, Status};
 pub use mg_words::wanted_page;
 pub use running::run;

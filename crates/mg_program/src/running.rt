@@ -5,7 +5,8 @@ ghost use Rattle.mg_base.specs.Image.{Image};
 ghost use Rattle.mg_model.specs.declared.opening.Opening.{Opening};
 ghost use Rattle.mg_run_ends.specs.Ends.{EndsWith};
 ghost use Rattle.mg_runs.specs.Entry.{IsEntry};
-ghost use Rattle.mg_runs.specs.Promise.{Promise, ScriptCauses, StreamCauses};
+ghost use Rattle.mg_runs.specs.OtherFiles.{HoldsNoDatabase};
+ghost use Rattle.mg_runs.specs.Promise.{LeavesFile, Promise, ScriptCauses, StreamCauses};
 
 use crate::serving::serve;
 use mg_base::{Disk, Sink, Source};
@@ -36,6 +37,8 @@ pub fn run<D: Disk, S: Source, K: Sink>(
     ensures headline { (size : ℕ) (image : Image) (o : Opening) (script : List ℕ)
         → IsEntry D.meaning disk limit size image o → S.meaning.left source.old ≡ Some script
         → Promise D.meaning K.meaning size o script disk result.1 sink.old sink.new result.0 }
+    ensures other_files { (size : ℕ) (image : Image) → HoldsNoDatabase D.meaning disk size image
+        → LeavesFile D.meaning K.meaning size image disk result.1 sink.old sink.new result.0 }
 {
     lines_of_scripts_can_be_obeyed();
     match read_lines(alloc, source) {

@@ -17,8 +17,8 @@ use mg_model::Refusal;
 use mg_pending::PLACES;
 use mg_run_ends::{RunEnd, say_end};
 use mg_runs::{
-    closings_fail, lines_fail, openings_are_judged, openings_fail, runs_begin, runs_close,
-    runs_stop,
+    closings_fail, lines_fail, openings_are_judged, openings_fail, other_files_are_refused,
+    runs_begin, runs_close, runs_stop,
 };
 use mg_script::Line;
 use mg_script_ends::told;
@@ -39,6 +39,7 @@ pub(crate) fn serve<D: Disk, K: Sink>(
     ensures { Serves D.meaning K.meaning limit lines.now disk result.1 sink.old sink.new result.0 }
 {
     openings_are_judged::<D, K>();
+    other_files_are_refused::<D, K>();
     openings_fail::<D>();
     match Engine::open(alloc, disk, limit) {
         Ok(engine) => obey(alloc, engine, lines, sink),
@@ -85,6 +86,7 @@ fn end_run<D: Disk, K: Sink>(
         → HasObeyed D.meaning places K.meaning limit lines disk engine before sink.old refusals.now ran.end
         ran.fine → Serves D.meaning K.meaning limit lines disk result.1 before sink.new result.0 }
 {
+    other_files_are_refused::<D, K>();
     runs_stop::<D, Place, K>();
     runs_close::<D, Place, K>();
     lines_fail::<D, Place>();

@@ -5,8 +5,8 @@
 //! an end is put into the sink (`SaysEnd`), of which it is known what it takes (`IsPrinted`).
 //!
 //! Invariant: none, it keeps no state.
-//! Below: `mg_script`, the lines of a script and the texts of refusals. Above: `mg_runs`, what a run promises, and
-//! `mg_program`, which runs it.
+//! Below: `mg_script`, the lines of a script and the texts of refusals. Above: `mg_scripts`, which prints the fixed texts
+//! of faults within lines; `mg_runs`, what a run promises; and `mg_program`, which runs it.
 //! Not here: what a run does between the two.
 #![tactic(auto)]
 
@@ -16,6 +16,6 @@ mod script_source;
 mod status;
 
 pub use ending::{RunEnd, SCRIPT_MOST};
-pub use printing::{put_line, say_end};
+pub use printing::{fixed_line, has_fixed_line, put_line, say_end};
 pub use script_source::read_lines;
 pub use status::Status;

@@ -50,8 +50,8 @@ fn say_refusal<K: Sink>(alloc: Global, refusal: Refusal, sink: &mut K) -> RunEnd
     }
 }
 
-// Whether a refusal has a line without numbers.
-fn has_fixed_line(refusal: Refusal) -> bool
+/// Whether a refusal has a line without numbers.
+pub fn has_fixed_line(refusal: Refusal) -> bool
     ensures { result ≡ has_fixed_line_of refusal }
 {
     match refusal {
@@ -63,8 +63,8 @@ fn has_fixed_line(refusal: Refusal) -> bool
     }
 }
 
-// The line of such a refusal.
-fn fixed_line(refusal: Refusal) -> &'static [u8]
+/// The line of such a refusal, which takes no memory.
+pub fn fixed_line(refusal: Refusal) -> &'static [u8]
     requires { has_fixed_line_of refusal ≡ true }
     ensures { result.now ≡ outside_text refusal }
 {

@@ -89,12 +89,13 @@ module _ {D P K : Type 0} (m : Meaning D) (places : Places P) (n : SinkMeaning K
     entries = [];
     served = inr (record {
       refusal = refusals.Memory;
+      cause = tt;
       ends = end_is;
       none = refl;
       last = subst (λ (k : K). IsPrinted n k after (last_line end)) none.sink last;
     });
     legal = tt;
-    room = λ within. tt;
+    room = tt;
     crash = subst (λ (c : Core D). LeavesOnly m disk c.store.disk (HoldsFrom packed_form size o [] 0)) (sym none.keeper)
         opening_crash;
     exit = λ c may. subst (λ (s : ℕ). HoldsAcknowledged packed_form s o [] c) core_size
@@ -165,6 +166,7 @@ module _ {D P K : Type 0} (m : Meaning D) (places : Places P) (n : SinkMeaning K
       refusals = lines_refusals;
       ended = ran.ended;
       ends = subst (λ (b : Bool). EndsBehind lines_end lines_refusals b end) ran.are_fine ends;
+      durable = ran.durable;
       mid = mid;
       transcript = ran.printed;
       last = last;
@@ -177,7 +179,7 @@ module _ {D P K : Type 0} (m : Meaning D) (places : Places P) (n : SinkMeaning K
       entries = ran.entries;
       served = inl (are_served after end ends last);
       legal = ran.legal;
-      room = ran.stands.never;
+      room = ran.stands.full;
       crash = so_far;
       exit = left_now;
       settled = settled;
@@ -205,7 +207,7 @@ module _ {D P K : Type 0} (m : Meaning D) (places : Places P) (n : SinkMeaning K
         entries = ran.entries;
         served = inl (are_served after end ends last);
         legal = ran.legal;
-        room = ran.stands.never;
+        room = ran.stands.full;
         crash = all_crash;
         exit = its_crash.left;
         settled = settled;

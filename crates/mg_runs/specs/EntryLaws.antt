@@ -1,10 +1,12 @@
 -- Disks on which a history can begin: those in memory without pages, and those that a run has left.
-use Rattle.std.proofs.Common.{◌≡◌, inl, ℕ, true, List, [], Option, Some, refl, ap, subst, length, arith}
-use Rattle.mg_base.specs.Acts.{Act, Leaves, Left, image_of, leaves_left}
+use Rattle.std.proofs.Common.{◌≡◌, ◌∙◌, inl, ℕ, Bool, true, false, List, [], Option, Some, refl, ap, subst, length, arith}
+use Rattle.mg_base.specs.Acts.{Act, Leaves, Left, acts_of, image_of, leaves_left}
 use Rattle.mg_base.specs.Disk.{Meaning}
 use Rattle.mg_base.specs.Geometry.{is_page_size}
 use Rattle.mg_base.specs.Image.{Image, page_at}
-use Rattle.mg_base.specs.MemDisk.{acts_in}
+use Rattle.mg_base.specs.FaultyDisk.{disk_of}
+use Rattle.mg_base.specs.MemDisk.{acts_in, mem_meaning, writes_of}
+use Rattle.mg_base.specs.declared.obeyed.Obeyed.{Obeyed}
 use Rattle.mg_base.specs.declared.geometry.Geometry.{Geometry}
 use Rattle.mg_engine_meaning.specs.Closings.{HasLeft}
 use Rattle.mg_engine_meaning.specs.ComposeLaws.{begins_with, goes_on_from}
@@ -20,7 +22,7 @@ use Rattle.mg_new_databases.specs.Soundness.{HasWholePages, MemDisksAreWhole}
 use Rattle.mg_space.specs.FreePages.{HasFree}
 use Rattle.mg_runs.specs.Entry.{TellsWholePages, geometry_at, of_new, of_sound}
 use Rattle.mg_runs.specs.Headline.{HasEnded}
-use Rattle.mg_runs.specs.Laws.{BlankIsEntry}
+use Rattle.mg_runs.specs.Laws.{BlankIsEntry, FaultyIsEntry, SettledIsEntry}
 use Rattle.mg_runs.specs.MemLaws.{crashes_whole}
 
 -- ---- disks in memory
@@ -32,24 +34,63 @@ none_left size acts c none left = subst (λ (others : List Act). Leaves size oth
 abbrev some_image : Image → Option Image
 some_image image = Some image
 
-whole_of : (size other : ℕ) (image : Image) → Some other ≡ Some size → HasWholePages other image
+pub whole_of : (size other : ℕ) (image : Image) → Some other ≡ Some size → HasWholePages other image
     → HasWholePages size image
 whole_of size other image told whole = let same : other ≡ size = cc in
     subst (λ (n : ℕ). HasWholePages n image) same whole
+
+mem_whole : MemDisksAreWhole → (size : ℕ) → TellsWholePages mem_meaning size
+mem_whole are_whole size = record {
+  held = λ other image sized tells. whole_of size other.size image sized (are_whole other image tells.held);
+  left = λ other t c sized left. whole_of size other.size c sized (crashes_whole other t c left);
+}
 
 pub blank_is_entry : MemDisksAreWhole → BlankIsEntry
 blank_is_entry are_whole disk limit free none within inside = record {
   sized = refl;
   lawful = disk.kept.lawful;
-  whole = record {
-    held = λ other image sized tells. whole_of disk.size other.size image sized (are_whole other image tells.held);
-    left = λ other t c sized left. whole_of disk.size other.size c sized (crashes_whole other t c left);
-  };
+  whole = mem_whole are_whole disk.size;
   settled = record {
     tells = record { told = refl; held = ap (λ (acts : List Act). some_image (image_of disk.size acts)) none };
     only = λ c may. none_left disk.size (acts_in disk) c none may;
   };
   opening = of_new free (record { header = refl; others = λ n some below. inl refl }) within inside;
+}
+
+-- where it was settled last, a crash leaves what it holds
+only_settled : (size : ℕ) (es : List Obeyed) (settled : Bool) (c image : Image) → settled ≡ true
+    → Some (image_of size (acts_of es settled)) ≡ Some image
+    → Left size (acts_of es settled) (length (acts_of es settled)) c → c ≡ image
+only_settled size es true c image is held left =
+    let same : image_of size (acts_of es true) ≡ image = cc in leaves_left size (acts_of es true) c left ∙ same
+only_settled size es false c image is held left = absurd cc
+
+pub settled_is_entry : MemDisksAreWhole → SettledIsEntry
+settled_is_entry are_whole disk limit image o settled held begins = record {
+  sized = refl;
+  lawful = disk.kept.lawful;
+  whole = mem_whole are_whole disk.size;
+  settled = record {
+    tells = record { told = refl; held = held };
+    only = λ c may. only_settled disk.size (writes_of disk) disk.settled c image settled held may;
+  };
+  opening = begins;
+}
+
+pub faulty_is_entry : FaultyIsEntry
+faulty_is_entry disk limit size image o entry = record {
+  sized = entry.sized;
+  lawful = entry.lawful;
+  whole = record {
+    held = λ other held sized tells. entry.whole.held (disk_of other) held sized
+        (record { told = tells.told; held = tells.held });
+    left = λ other t c sized left. entry.whole.left (disk_of other) t c sized left;
+  };
+  settled = record {
+    tells = record { told = entry.settled.tells.told; held = entry.settled.tells.held };
+    only = entry.settled.only;
+  };
+  opening = entry.opening;
 }
 
 -- ---- disks that a run has left

@@ -1,20 +1,33 @@
 -- What the disk refuses comes only where its count of faults rose, and what is refused otherwise only where it stands.
-use Rattle.std.proofs.Common.{◌≡◌, ◌⊎◌, inl, inr, ◌≤◌, ℕ, Option, None, Some, Ok, Err, refl, sym, ap, ◌∙◌, subst, arith}
+use Rattle.std.specs.Prelude.{false, is_some, unwrap_or}
+use Rattle.std.proofs.Common.{◌≡◌, ◌⊎◌, inl, inr, ◌≤◌, ℕ, List, Option, None, Some, Ok, Err, refl, sym, ap, ◌∙◌, subst, arith}
 use Rattle.mg_base.specs.Disk.{Meaning, Rose}
+use Rattle.mg_base.specs.Image.{Image, page_at}
 use Rattle.mg_core.specs.Opening.{FailsToRead, IsOpenRefusal, RefusesOpen, unprepared, unread}
 use Rattle.mg_core.specs.declared.parts.Core.{Core}
-use Rattle.mg_database.specs.Preparing.{FailsToPrepare, no_memory, unasked, unmade}
+use Rattle.mg_database.specs.Preparing.{BecomesReady, FailsToPrepare, IsPrepared, made, no_memory, there, unasked, unmade}
 use Rattle.mg_database.specs.declared.fault.OpenFault.{OpenFault}
 use Rattle.mg_database.specs.declared.fault.OpenFault.TheVariants.{NotADatabase, Space}
 use Rattle.mg_engine_meaning.specs.Closings.{RefusesClose}
+use Rattle.mg_format.specs.Format.{IsUnmadeImage}
+use Rattle.mg_header.specs.HeaderPage.{reading}
+use Rattle.mg_header.specs.declared.header.HeadFault.TheVariants as heads
+use Rattle.mg_engine_meaning.specs.Openings.{IsNoJudgement}
 use Rattle.mg_engine_meaning.specs.Meaning.{Places, means_with_room}
 use Rattle.mg_model.specs.declared.refusal.Refusal.{Refusal}
 use Rattle.mg_model.specs.declared.refusal.Refusal.TheVariants as refusals
+use Rattle.mg_pool.specs.Dirty.{DirtyPages, content_of, is_dirty}
 use Rattle.mg_pool.specs.Fault.{StaysOnline}
+use Rattle.mg_pool.specs.Pool.{shown}
+use Rattle.mg_pool.specs.declared.pool.Pool.{Pool}
 use Rattle.mg_pool.specs.declared.fault.PoolFault.TheVariants as faults
+use Rattle.mg_space.specs.View.{Tells}
 use Rattle.mg_space.specs.declared.fault.SpaceFault.TheVariants as space
+use Rattle.mg_space.specs.declared.links.FireLinks.{FireLinks}
 use Rattle.mg_sessions.specs.Accounts.{Accounts}
 use Rattle.mg_run_ends.specs.Ends.{FailsWith}
+use Rattle.mg_runs.specs.Headline.{IsOpeningFault}
+use Rattle.mg_runs.specs.OtherFiles.{HoldsNoDatabase, IsOpeningRefusal}
 use Rattle.mg_runs.specs.Laws.{ClosingsFail, LinesFail, OpeningsFail}
 
 -- a count that has risen has risen since any earlier moment
@@ -26,6 +39,15 @@ no_count : (x : Option ℕ) (count : ℕ) → x ≡ None → x ≡ Some count �
 no_count x count none some = let both : None ≡ Some count = sym none ∙ some in absurd cc
 
 -- ---- the opening
+
+clean_shown : (dirty : DirtyPages) (image : Image) (p : ℕ) → is_dirty dirty p ≡ false
+    → shown dirty image p ≡ page_at dirty.size image p
+clean_shown dirty image p clean = at (content_of dirty p) clean
+  where
+    at : (x : Option (List ℕ)) → is_some x ≡ false
+        → unwrap_or x (page_at dirty.size image p) ≡ page_at dirty.size image p
+    at None none = refl
+    at (Some bytes) none = absurd cc
 
 module _ {D : Type 0} (m : Meaning D) (disk new : D) (limit : ℕ) (refusal : Refusal) where
   unprepared_fails : (fault : OpenFault) → FailsToPrepare m disk new fault → IsOpenRefusal fault refusal
@@ -67,6 +89,97 @@ module _ {D : Type 0} (m : Meaning D) (disk new : D) (limit : ℕ) (refusal : Re
   opening_fails : RefusesOpen m disk new limit refusal → FailsWith m disk new refusal
   opening_fails (unprepared fault is fails) = unprepared_fails fault fails is
   opening_fails (unread fault is fails) = unread_fails fault fails is
+
+  -- ---- an opening is refused by a fault of the disk, for want of memory, or by a judgement of what the disk holds
+
+  unprepared_fault : (fault : OpenFault) → FailsToPrepare m disk new fault → IsOpenRefusal fault refusal
+      → IsOpeningFault refusal
+  unprepared_fault _ (unasked count keeps same rose) is = subst IsOpeningFault (sym is) tt
+  unprepared_fault _ (no_memory keeps same steady) is = subst IsOpeningFault (sym is) tt
+  unprepared_fault _ (unmade count fails) is = subst IsOpeningFault (sym is) tt
+
+  -- a disk that tells its image tells one once it is prepared
+  prepared_tells : (image : Image) → Tells m disk image → (now : D) (size : ℕ) → BecomesReady m disk now size
+      → (other : Image) × Tells m now other
+  prepared_tells image tells now size (there keeps none) = (
+    image,
+    record {
+      told = keeps.tells ∙ tells.told;
+      held = keeps.held ∙ tells.held;
+    },
+  )
+  prepared_tells image tells now size (made was done) = ((done image tells).made.image, (done image tells).made.tells)
+
+  unread_fault : (image : Image) → Tells m disk image → (fault : OpenFault) → FailsToRead m disk new limit fault
+      → IsOpenRefusal fault refusal → IsNoJudgement refusal → IsOpeningFault refusal
+  unread_fault image tells (NotADatabase field found) fails is fair = absurd (subst IsNoJudgement is fair)
+  unread_fault image tells (Space (space.Full most)) fails is fair =
+      let before = prepared_tells image tells fails.before.disk fails.before.geometry.size fails.prepared.disk_is in
+      absurd (fails.why before.0 before.1)
+  unread_fault image tells (Space (space.Damaged damage)) fails is fair = absurd (subst IsNoJudgement is fair)
+  unread_fault image tells (Space (space.Pool (faults.DiskRead count))) fails is fair = subst IsOpeningFault (sym is) tt
+  unread_fault image tells (Space (space.Pool (faults.DiskWrite count))) fails is fair = absurd fails.own
+  unread_fault image tells (Space (space.Pool (faults.Offline count))) fails is fair =
+      absurd (no_count fails.before.offline count fails.prepared.online fails.told.0)
+  unread_fault image tells (Space (space.Pool (faults.Absent pages))) fails is fair =
+      absurd (subst IsNoJudgement is fair)
+  unread_fault image tells (Space (space.Pool faults.Memory)) fails is fair = subst IsOpeningFault (sym is) tt
+
+  pub opening_fault : (image : Image) → Tells m disk image → RefusesOpen m disk new limit refusal
+      → IsNoJudgement refusal → IsOpeningFault refusal
+  opening_fault image tells (unprepared fault is fails) fair = unprepared_fault fault fails is
+  opening_fault image tells (unread fault is fails) fair = unread_fault image tells fault fails is fair
+
+  -- ---- a file that holds no database
+
+  module _ (size : ℕ) (image : Image) (other : HoldsNoDatabase m disk size image) where
+    module _ (before : Pool D FireLinks) (prepared : IsPrepared m disk limit before) where
+      same_size : before.geometry.size ≡ size
+      same_size = let both : Some before.geometry.size ≡ Some size =
+          sym prepared.pool.size ∙ prepared.same.size size other.sized in cc
+
+      still_tells : (size' : ℕ) → size' ≡ size → BecomesReady m disk before.disk size' → Tells m before.disk image
+      still_tells size' same (there keeps none) = record {
+        told = keeps.tells ∙ other.tells.told;
+        held = keeps.held ∙ other.tells.held;
+      }
+      still_tells size' same (made was done) = absurd (other.unmakeable
+          (subst (λ (n : ℕ). IsUnmadeImage n image) same (was image other.tells.held)))
+
+      -- no page is dirty: the cache shows the image's pages
+      shows : (p : ℕ) → shown before.dirty image p ≡ page_at size image p
+      shows p = clean_shown before.dirty image p (prepared.clean p)
+          ∙ ap (λ (n : ℕ). page_at n image p) (prepared.pool.page_size ∙ same_size)
+
+    unread_file : (fault : OpenFault) → FailsToRead m disk new limit fault → IsOpenRefusal fault refusal
+        → IsOpeningRefusal size image refusal
+    unread_file (NotADatabase field found) fails is = subst (IsOpeningRefusal size image) (sym is)
+        (subst (λ (bytes : List ℕ). reading bytes size ≡ Err (heads.NotADatabase field found))
+        (shows fails.before fails.prepared 0)
+        (subst (λ (n : ℕ). reading (shown fails.before.dirty image 0) n ≡ Err (heads.NotADatabase field found))
+        (same_size fails.before fails.prepared)
+        (fails.why image (still_tells fails.before fails.prepared fails.before.geometry.size
+        (same_size fails.before fails.prepared) fails.prepared.disk_is))))
+    unread_file (Space (space.Full most)) fails is =
+        absurd (fails.why image (still_tells fails.before fails.prepared fails.before.geometry.size
+        (same_size fails.before fails.prepared) fails.prepared.disk_is))
+    unread_file (Space (space.Damaged damage)) fails is = subst (IsOpeningRefusal size image) (sym is) tt
+    unread_file (Space (space.Pool (faults.DiskRead count))) fails is = subst (IsOpeningRefusal size image) (sym is) tt
+    unread_file (Space (space.Pool (faults.DiskWrite count))) fails is = absurd fails.own
+    unread_file (Space (space.Pool (faults.Offline count))) fails is =
+        absurd (no_count fails.before.offline count fails.prepared.online fails.told.0)
+    unread_file (Space (space.Pool (faults.Absent pages))) fails is = subst (IsOpeningRefusal size image) (sym is) tt
+    unread_file (Space (space.Pool faults.Memory)) fails is = subst (IsOpeningRefusal size image) (sym is) tt
+
+    unprepared_file : (fault : OpenFault) → FailsToPrepare m disk new fault → IsOpenRefusal fault refusal
+        → IsOpeningRefusal size image refusal
+    unprepared_file _ (unasked count keeps same rose) is = subst (IsOpeningRefusal size image) (sym is) tt
+    unprepared_file _ (no_memory keeps same steady) is = subst (IsOpeningRefusal size image) (sym is) tt
+    unprepared_file _ (unmade count fails) is = subst (IsOpeningRefusal size image) (sym is) tt
+
+    pub refusal_of_file : RefusesOpen m disk new limit refusal → IsOpeningRefusal size image refusal
+    refusal_of_file (unprepared fault is fails) = unprepared_file fault fails is
+    refusal_of_file (unread fault is fails) = unread_file fault fails is
 
 pub openings_fail : {D : Type 0} (m : Meaning D) → OpeningsFail m
 openings_fail m disk new limit refusal refused = opening_fails m disk new limit refusal refused.cause

@@ -10,16 +10,16 @@ use Rattle.mg_image.specs.Form.{packed_form}
 use Rattle.mg_lasting.specs.Crashes.{HoldsAcknowledged, HoldsFrom, asked}
 use Rattle.mg_model.specs.declared.opening.Opening.{Opening}
 use Rattle.mg_model.specs.declared.refusal.Refusal.{Refusal}
-use Rattle.mg_model.specs.declared.refusal.Refusal.TheVariants.{DiskWrite, Memory, Offline}
+use Rattle.mg_model.specs.declared.refusal.Refusal.TheVariants.{DiskRead, DiskWrite, Memory, Offline}
 use Rattle.mg_model.specs.History.{Entries}
 use Rattle.mg_model.specs.Legal.{IsLegal, durable_count}
-use Rattle.mg_records.specs.Needed.{IsNeverShort}
+use Rattle.mg_records.specs.Needed.{AreFullForCause}
 use Rattle.mg_script.specs.declared.line.Line.{Line}
 use Rattle.mg_script_ends.specs.Ends.{told_first}
 use Rattle.mg_scripts.specs.declared.lines.LinesEnd.{LinesEnd}
 use Rattle.mg_scripts.specs.declared.lines.LinesEnd.TheVariants as lines_ends
 use Rattle.mg_scripts.specs.Ending.{EndsSo, fine_at}
-use Rattle.mg_scripts.specs.Runs.{AreLinesOf, AreRun, PrintsSo}
+use Rattle.mg_scripts.specs.Runs.{AreDurable, AreLinesOf, AreRun, PrintsSo}
 use Rattle.mg_transcript.specs.Scripts.{Obeyed}
 use Rattle.mg_transcript.specs.Sessions.{Unfinished}
 use Rattle.mg_run_ends.specs.declared.ending.RunEnd.{RunEnd}
@@ -56,7 +56,7 @@ EndsBehind lines_ends.SinkFailed refusals fine end = end ≡ Stream
 -- ---- the lines
 
 -- Lines were obeyed one after another from an opening on, and what is live was rolled back: the history with its
--- entries, and what was printed.
+-- entries, and what was printed. No later entry takes back what was durable behind a line.
 pub record AreServed {K : Type 0} (n : SinkMeaning K) (before after : K) (size : ℕ) (o : Opening) (lines : List Line)
     (end : RunEnd) (entries : Entries) : Type 0 where
   pub turns : List Obeyed
@@ -68,6 +68,7 @@ pub record AreServed {K : Type 0} (n : SinkMeaning K) (before after : K) (size :
   pub refusals : List Refusal
   pub ended : EndsSo o lines_end obeyed_to entries refusals
   pub ends : EndsBehind lines_end refusals (fine_at lines_end turns unfinished) end
+  pub durable : AreDurable turns (durable_count entries)
   -- the transcript, and behind it why the run ended
   pub mid : K
   pub transcript : PrintsSo n before mid lines_end turns
@@ -79,11 +80,19 @@ IsUnjudged (InLine refusal) = IsNoJudgement refusal
 IsUnjudged (Outside refusal) = IsNoJudgement refusal
 IsUnjudged end = Unit {0}
 
+-- a disk on which a history can begin is not opened only where it fails, or memory is short
+abbrev pub IsOpeningFault : Refusal → Type 0
+IsOpeningFault (DiskRead count) = Unit {0}
+IsOpeningFault (DiskWrite count) = Unit {0}
+IsOpeningFault Memory = Unit {0}
+IsOpeningFault refusal = ⊥
+
 -- No line was obeyed, and nothing has come to the history: the disk was not opened, or memory was short before the
 -- first line.
 pub record AreUnserved {K : Type 0} (n : SinkMeaning K) (before after : K) (end : RunEnd) (entries : Entries)
     : Type 0 where
   pub refusal : Refusal
+  pub cause : IsOpeningFault refusal
   pub ends : end ≡ Outside refusal
   pub none : entries ≡ []
   pub last : IsPrinted n before after (last_line end)
@@ -110,14 +119,15 @@ IsSettledAt m new size o entries end = Unit {0}
 -- A run over a disk on which a history can begin: there is one legal history of its lines. The sink took its
 -- transcript, and the line that says why the run has ended; every image that a crash since the start might have left
 -- holds what the history has after some durable event, and each that a crash may leave at the end has all that were
--- acknowledged. With enough free pages no entry is answered DATABASE FULL.
+-- acknowledged. With enough free pages for it and for those before it no entry is answered DATABASE FULL.
 pub record Headline {D K : Type 0} (m : Meaning D) (n : SinkMeaning K) (size : ℕ) (o : Opening)
     (lines : List Line) (old new : D) (before after : K) (end : RunEnd) : Type 0 where
   pub entries : Entries
   pub served : AreServed n before after size o lines end entries ⊎ AreUnserved n before after end entries
   pub legal : IsLegal o entries
-  -- where the entries need no more pages than were promised, none of them is answered DATABASE FULL
-  pub room : IsNeverShort o entries
+  -- an entry is answered DATABASE FULL only where its event may take pages, and it needs more, with those before it, than
+  -- were promised
+  pub room : AreFullForCause o entries
   pub crash : LeavesOnly m old new (HoldsFrom packed_form size o (asked entries) 0)
   pub exit : (c : Image) → MayLeave m new c → HoldsAcknowledged packed_form size o entries c
   pub settled : IsSettledAt m new size o entries end

@@ -1,11 +1,17 @@
 -- What the steps of a run give of its promise.
-use Rattle.std.specs.Prelude.{◌≡◌, ◌≤◌, ◌+◌, ℕ, Bool, false, List, [], ◌∷◌, Option, Result, Ok, Err}
+use Rattle.std.specs.Prelude.{◌≡◌, ◌≤◌, ◌+◌, ℕ, Bool, true, false, List, [], ◌∷◌, Option, Some, Result, Ok, Err}
 use Rattle.mg_base.specs.Disk.{Meaning}
 use Rattle.mg_base.specs.Image.{Image}
+use Rattle.mg_base.specs.FaultyDisk.{disk_of, faulty_meaning}
 use Rattle.mg_base.specs.MemDisk.{acts_in, mem_meaning}
+use Rattle.mg_base.specs.declared.faulty_disk.FaultyDisk.{FaultyDisk}
 use Rattle.mg_base.specs.Streams.{SinkMeaning}
 use Rattle.mg_base.specs.declared.mem_disk.MemDisk.{MemDisk}
 use Rattle.mg_core.specs.Cores.{IsCore}
+use Rattle.mg_device.specs.Forced.{forced_meaning}
+use Rattle.mg_device.specs.MemDevice.{mem_device_meaning}
+use Rattle.mg_device.specs.declared.forced.ForcedWrites.{ForcedWrites}
+use Rattle.mg_device.specs.declared.mem_device.MemDevice.{MemDevice}
 use Rattle.mg_core.specs.declared.parts.Core.{Core}
 use Rattle.mg_engine_meaning.specs.Closings.{ClosesEngine}
 use Rattle.mg_engine_meaning.specs.FreePages.{CoreHasFree}
@@ -28,8 +34,9 @@ use Rattle.mg_survey.specs.Survey.{limit_of}
 use Rattle.mg_run_ends.specs.declared.ending.RunEnd.{RunEnd}
 use Rattle.mg_run_ends.specs.declared.ending.RunEnd.TheVariants.{Whole, Outside}
 use Rattle.mg_run_ends.specs.Ends.{FailsBy, FailsWith, IsOutside, last_line}
-use Rattle.mg_runs.specs.Entry.{IsEntry, promising}
+use Rattle.mg_runs.specs.Entry.{IsEntry, IsOpeningOf, promising}
 use Rattle.mg_runs.specs.Headline.{EndsBehind, Headline}
+use Rattle.mg_runs.specs.OtherFiles.{HoldsNoDatabase, RefusesFile}
 use Rattle.mg_run_ends.specs.Printing.{IsPrinted}
 
 -- ---- the opening
@@ -40,6 +47,18 @@ OpeningsAreJudged {D} {K} m n = (disk new : D) (limit : ℕ) (refusal : Refusal)
     (lines : List Line) (end : RunEnd) (before after : K) → IsEntry m disk limit size image o
     → RefusesOpening m disk new limit refusal → IsOutside refusal end → IsPrinted n before after (last_line end)
     → Headline m n size o lines disk new before after end
+
+-- a file that holds no database is refused at the opening, and not written,
+abbrev pub OtherFilesAreRefused : {D K : Type 0} → Meaning D → SinkMeaning K → Type 0
+OtherFilesAreRefused {D} {K} m n = (disk new : D) (limit : ℕ) (refusal : Refusal) (size : ℕ) (image : Image)
+    (end : RunEnd) (before after : K) → HoldsNoDatabase m disk size image → RefusesOpening m disk new limit refusal
+    → IsOutside refusal end → IsPrinted n before after (last_line end)
+    → RefusesFile m n size image disk new before after end
+
+-- and never opened
+abbrev pub OtherFilesAreUnopened : {D : Type 0} → Meaning D → Type 0
+OtherFilesAreUnopened {D} m = (disk : D) (limit : ℕ) (core : Core D) (size : ℕ) (image : Image)
+    → HoldsNoDatabase m disk size image → IsOpenedOver m disk limit core → ⊥
 
 -- An engine that was opened stands for the history that begins with what its disk held, and has the pages free that are
 -- promised.
@@ -113,6 +132,25 @@ ClosingsFail {D} {P} m places = (disk new : D) (limit : ℕ) (core now : Core D)
 abbrev pub BlankIsEntry : Type 0
 BlankIsEntry = (disk : MemDisk) (limit free : ℕ) → acts_in disk ≡ [] → 7 + free ≤ limit_of limit 0
     → 7 + free ≤ bits disk.size → IsEntry mem_meaning disk limit disk.size [] (new_history free)
+
+-- One that was settled last, as one that is made of an image, is one on which a run has any history that the image may
+-- begin with.
+abbrev pub SettledIsEntry : Type 0
+SettledIsEntry = (disk : MemDisk) (limit : ℕ) (image : Image) (o : Opening) → disk.settled ≡ true
+    → mem_meaning.held disk ≡ Some image → IsOpeningOf disk.size limit image o
+    → IsEntry mem_meaning disk limit disk.size image o
+
+-- and so is one whose calls fail where a list says so, over such a disk
+abbrev pub FaultyIsEntry : Type 0
+FaultyIsEntry = (disk : FaultyDisk) (limit size : ℕ) (image : Image) (o : Opening)
+    → IsEntry mem_meaning (disk_of disk) limit size image o → IsEntry faulty_meaning disk limit size image o
+
+-- A device in memory of which nothing was asked yet, with each page write forced, is one on which a run has the history
+-- of a new database.
+abbrev pub ForcedIsEntry : Type 0
+ForcedIsEntry = (disk : ForcedWrites MemDevice) (limit free : ℕ) → acts_in disk.device.disk ≡ []
+    → 7 + free ≤ limit_of limit 0 → 7 + free ≤ bits disk.device.disk.size
+    → IsEntry (forced_meaning mem_device_meaning) disk limit disk.device.disk.size [] (new_history free)
 
 -- what a history may begin with promises any number of pages that are free
 abbrev pub AnyFreeBegins : Type 0

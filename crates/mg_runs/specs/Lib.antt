@@ -1,4 +1,7 @@
+pub mod Acknowledged
+pub mod AcknowledgedLaws
 pub mod BegunLaws
+pub mod DeviceLaws
 pub mod EndLaws
 pub mod Entry
 pub mod EntryLaws
@@ -7,6 +10,8 @@ pub mod Headline
 pub mod Laws
 pub mod MemLaws
 pub mod OpeningLaws
+pub mod OtherFileLaws
+pub mod OtherFiles
 pub mod Promise
 pub mod PromisingLaws
 pub mod UnjudgedLaws

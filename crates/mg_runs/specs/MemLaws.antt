@@ -13,12 +13,12 @@ use Rattle.mg_new_databases.specs.Soundness.{HasWholePages}
 -- ---- acts
 
 -- each page write is of a whole page
-abbrev AreWhole : ℕ → List Act → Type 0
+abbrev pub AreWhole : ℕ → List Act → Type 0
 AreWhole size [] = Unit {0}
 AreWhole size (Write n bytes ∷ acts) = (length bytes ≡ size) × AreWhole size acts
 AreWhole size (Settle ∷ acts) = AreWhole size acts
 
-written_whole : (size : ℕ) (image : Image) (n : ℕ) (bytes : List ℕ) → length bytes ≡ size → HasWholePages size image
+pub written_whole : (size : ℕ) (image : Image) (n : ℕ) (bytes : List ℕ) → length bytes ≡ size → HasWholePages size image
     → HasWholePages size (written size image n bytes)
 written_whole size image n bytes whole all k = at (cases_eq k n)
   where
@@ -88,8 +88,10 @@ acts_whole size es false each = folded size es [] each tt
 
 -- ---- the disk
 
+pub acts_are_whole : (disk : MemDisk) → AreWhole disk.size (acts_in disk)
+acts_are_whole disk = acts_whole disk.size (writes_of disk) disk.settled
+    (each_taken disk.size disk.obeyed.items disk.writes disk.kept.whole_entries)
+
 pub crashes_whole : (disk : MemDisk) (t : ℕ) (c : Image) → Left disk.size (acts_in disk) t c
     → HasWholePages disk.size c
-crashes_whole disk t c left = left_whole disk.size (acts_in disk) t c
-    (acts_whole disk.size (writes_of disk) disk.settled
-    (each_taken disk.size disk.obeyed.items disk.writes disk.kept.whole_entries)) left
+crashes_whole disk t c left = left_whole disk.size (acts_in disk) t c (acts_are_whole disk) left

@@ -31,7 +31,8 @@ use Rattle.mg_space.specs.ViewLaws.{CountsNow}
 use Rattle.mg_run_ends.specs.declared.ending.RunEnd.{RunEnd}
 use Rattle.mg_run_ends.specs.Ends.{IsOutside, last_line}
 use Rattle.mg_runs.specs.Entry.{IsOpeningOf, TellsWholePages, of_new, of_sound}
-use Rattle.mg_runs.specs.Headline.{AreUnserved, IsSettledAt}
+use Rattle.mg_runs.specs.FaultLaws.{opening_fault}
+use Rattle.mg_runs.specs.Headline.{AreUnserved, IsOpeningFault, IsSettledAt}
 use Rattle.mg_runs.specs.UnjudgedLaws.{outside_unjudged}
 use Rattle.mg_runs.specs.Laws.{OpeningsAreJudged}
 use Rattle.mg_run_ends.specs.Printing.{IsPrinted}
@@ -170,15 +171,18 @@ module _ {D : Type 0} (m : Meaning D) (disk new : D) (limit : ℕ) (refusal : Re
 
 -- the refusal by which the run has ended then
 unserved : {K : Type 0} (n : SinkMeaning K) (before after : K) (refusal : Refusal) (end : RunEnd)
-    → IsOutside refusal end → IsPrinted n before after (last_line end) → AreUnserved n before after end []
-unserved n before after refusal end (inl is) last = record {
+    → IsOpeningFault refusal → IsOutside refusal end → IsPrinted n before after (last_line end)
+    → AreUnserved n before after end []
+unserved n before after refusal end cause (inl is) last = record {
   refusal = refusal;
+  cause = cause;
   ends = is;
   none = refl;
   last = last;
 }
-unserved n before after refusal end (inr (other, is)) last = record {
+unserved n before after refusal end cause (inr (other, is)) last = record {
   refusal = refusals.Memory;
+  cause = tt;
   ends = is;
   none = refl;
   last = last;
@@ -196,9 +200,11 @@ pub openings_are_judged : {D K : Type 0} (m : Meaning D) (n : SinkMeaning K) →
 openings_are_judged m n counts new_begin disk new limit refusal size image o lines end before after entry refused ends last =
     record {
       entries = [];
-      served = inr (unserved n before after refusal end ends last);
+      served = inr (unserved n before after refusal end (opening_fault m disk new limit refusal image
+          entry.settled.tells refused.cause
+          (not_judged m disk new limit refusal size image refused entry.sized entry.settled o entry.opening)) ends last);
       legal = tt;
-      room = λ within. tt;
+      room = tt;
       crash = leaves;
       exit = λ c may. leaves.each c (counts new (m.moment disk) c
           (refused.same.tells ∙ entry.settled.tells.told) leaves.later may);

@@ -1,6 +1,7 @@
 -- What the program promises of the words `run DB`.
 use Rattle.std.specs.Prelude.{◌≡◌, ◌≢◌, ◌⊎◌, ◌≤◌, ◌<◌, ℕ, Bool, List, length, Some}
 use Rattle.mg_base.specs.Disk.{Meaning, Rose}
+use Rattle.mg_base.specs.Image.{Image}
 use Rattle.mg_base.specs.Streams.{SinkMeaning, SourceMeaning}
 use Rattle.mg_model.specs.declared.opening.Opening.{Opening}
 use Rattle.mg_model.specs.declared.refusal.Refusal.TheVariants.{Memory}
@@ -11,6 +12,7 @@ use Rattle.mg_run_ends.specs.declared.ending.RunEnd.TheVariants.{Whole, Outside,
 use Rattle.mg_run_ends.specs.declared.ending.TheConstants.{SCRIPT_MOST}
 use Rattle.mg_run_ends.specs.Ends.{last_line}
 use Rattle.mg_runs.specs.Headline.{Headline}
+use Rattle.mg_runs.specs.OtherFiles.{RefusesFile}
 use Rattle.mg_run_ends.specs.Printing.{IsPrinted}
 
 -- ---- the script
@@ -31,6 +33,11 @@ abbrev pub Promise : {D K : Type 0} → Meaning D → SinkMeaning K → ℕ → 
     → RunEnd → Type 0
 Promise m n size o script old new before after end = IsUnread n old new before after end
     ⊎ ((lines : List Line) × IsScript script lines × Headline m n size o lines old new before after end)
+
+-- Over a file that holds no database the script was not read to its end; or it was, and the file is refused.
+abbrev pub LeavesFile : {D K : Type 0} → Meaning D → SinkMeaning K → ℕ → Image → D → D → K → K → RunEnd → Type 0
+LeavesFile m n size image old new before after end = IsUnread n old new before after end
+    ⊎ RefusesFile m n size image old new before after end
 
 -- ---- causes, over any disk and any streams
 

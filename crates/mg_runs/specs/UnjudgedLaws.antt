@@ -66,7 +66,7 @@ not_answered Dead field found is = absurd cc
 not_answered Committed field found is = absurd cc
 
 -- a run stops by a refusal of the engine alone
-stops_so : (reply : Reply) (refusal : Refusal) → flow reply ≡ Stops refusal → stops_run refusal ≡ true
+pub stops_so : (reply : Reply) (refusal : Refusal) → flow reply ≡ Stops refusal → stops_run refusal ≡ true
 stops_so (replies.No (Engine given)) refusal is = at (stops_run given) refl is
   where
     at : (b : Bool) → stops_run given ≡ b → (if b then Stops given else GoesOn) ≡ Stops refusal

@@ -1,7 +1,8 @@
 //! What the steps of a run give of its promise. Each function does nothing: its contract is the law.
 
 ghost use Rattle.mg_engine_meaning.specs.Meaning.{Places};
-ghost use Rattle.mg_runs.specs.Laws.{AnyFreeBegins, BlankIsEntry, ClosingsFail, LinesFail, OpeningsAreJudged, OpeningsFail, RunsBegin, RunsClose, RunsStop};
+ghost use Rattle.mg_runs.specs.Acknowledged.{LinesAreHeld};
+ghost use Rattle.mg_runs.specs.Laws.{AnyFreeBegins, BlankIsEntry, ClosingsFail, LinesFail, OpeningsAreJudged, OpeningsFail, OtherFilesAreRefused, OtherFilesAreUnopened, FaultyIsEntry, ForcedIsEntry, RunsBegin, RunsClose, RunsStop, SettledIsEntry};
 
 use mg_base::{Disk, Sink};
 use mg_engine_meaning::new_databases_begin;
@@ -15,6 +16,17 @@ pub fn openings_are_judged<D: Disk, K: Sink>()
 {
     new_databases_begin();
 }
+
+/// A file that holds no database is refused at the opening, and not written; no engine is opened over it.
+pub fn other_files_are_refused<D: Disk, K: Sink>()
+    ensures refused { OtherFilesAreRefused D.meaning K.meaning }
+    ensures unopened { OtherFilesAreUnopened D.meaning }
+{}
+
+/// Whatever a crash may leave at the end of a run holds what was durable behind each of its lines.
+pub fn lines_are_held<D: Disk, K: Sink>()
+    ensures { LinesAreHeld D.meaning K.meaning }
+{}
 
 /// An engine that was opened stands for the history that begins with what its disk held, and has the pages free that are
 /// promised.
@@ -56,10 +68,15 @@ pub fn closings_fail<D: Disk, P>()
     ensures { (places : Places P) → ClosingsFail D.meaning places }
 {}
 
-/// A disk in memory of which nothing was asked yet is one on which a run has its history; and what any history may begin
-/// with promises any number of pages that are free.
-pub fn blank_disks_are_entries()
+/// A disk in memory of which nothing was asked yet is one on which a run has its history, and so is one that was settled
+/// last, over what any history may begin with; so is one whose calls fail where a list says so, over such a disk, and a
+/// device in memory with each page write forced, of which nothing was asked yet. What a
+/// history may begin with promises any number of pages that are free.
+pub fn disks_in_memory_are_entries()
     ensures blank { BlankIsEntry }
+    ensures settled { SettledIsEntry }
+    ensures faulty { FaultyIsEntry }
+    ensures forced { ForcedIsEntry }
     ensures any_free { AnyFreeBegins }
 {
     disks_in_memory_are_whole();

@@ -16,6 +16,6 @@
 mod laws;
 
 pub use laws::{
-    blank_disks_are_entries, closings_fail, lines_fail, openings_are_judged, openings_fail,
-    runs_begin, runs_close, runs_stop,
+    closings_fail, disks_in_memory_are_entries, lines_are_held, lines_fail, openings_are_judged,
+    openings_fail, other_files_are_refused, runs_begin, runs_close, runs_stop,
 };

@@ -1,5 +1,5 @@
 -- The beginning of a script, and its end.
-use Rattle.std.proofs.Common.{◌≡◌, ◌<◌, ◌≤◌, ◌==◌, ◌&&◌, ℕ, suc, zero, Bool, true, false, List, [], ◌∷◌, length, Option, None, Some, inl, inr, refl, sym, ap, ◌∙◌, subst, arith}
+use Rattle.std.proofs.Common.{◌≡◌, ◌==◌, ◌&&◌, ℕ, suc, zero, Bool, true, false, List, [], ◌∷◌, length, Option, None, refl, sym, ap, ◌∙◌, arith}
 use Rattle.std.specs.Prelude.{replicate, get_or}
 use Rattle.std.specs.List.{list_all}
 use Rattle.std.proofs.lemmas.Bool.{eq-eqb, ne_eqb}
@@ -8,6 +8,7 @@ use Rattle.mg_model.specs.declared.opening.Opening.{Opening}
 use Rattle.mg_model.specs.declared.refusal.Refusal.{Refusal}
 use Rattle.mg_model.specs.Answers.{is_active}
 use Rattle.mg_model.specs.History.{Entries}
+use Rattle.mg_model.specs.Legal.{durable_count}
 use Rattle.mg_model.specs.Machine.{state_of}
 use Rattle.mg_records.specs.Crashing.{HoldsOn}
 use Rattle.mg_records.specs.Meaning.{Means}
@@ -25,6 +26,7 @@ use Rattle.mg_script_ends.specs.Ends.{EndsWith}
 use Rattle.mg_scripts.specs.declared.lines.LinesEnd.{LinesEnd}
 use Rattle.mg_scripts.specs.declared.lines.LinesEnd.TheVariants.{Whole, Stopped, NoMemory, SinkFailed}
 use Rattle.mg_scripts.specs.Ending.{EndsLive, EndsSo, ScriptRan, fine_at, is_cut, is_none, reason_at}
+use Rattle.mg_scripts.proofs.RunLemmas.{durable_up}
 use Rattle.mg_scripts.specs.Runs.{LinesDone}
 use Rattle.mg_scripts.specs.Steps.{reason}
 
@@ -147,6 +149,8 @@ ran_whole m runs lasts n old mid new before after o size lines all ps fine whole
       are_fine = end.are_fine ∙ ap (λ (b : Bool). b && is_none done.unfinished) done.are_fine
           ∙ fine_so done.turns done.unfinished;
       ended = end.rolled_back;
+      durable = durable_up done.turns (durable_count done.entries) (durable_count end.after) end.carries.count
+          done.durable;
       stands = end.stands;
       legal = end.legal;
       carries = carries_then m lasts old mid new o [] done.entries end.after done.carries end.carries;
@@ -181,6 +185,7 @@ ran_short m runs n old new before after o size lines all ps end fine refusals cu
   printed = done.printed;
   are_fine = done.are_fine ∙ sym (fine_cut end cut);
   ended = ended_cut end cut;
+  durable = done.durable;
   stands = done.stand.stands;
   legal = done.stand.legal;
   carries = done.carries;

@@ -2,3 +2,4 @@ mod RunLemmas
 mod TurnLemmas
 mod EndLemmas
 mod SinkLemmas
+mod FaultLemmas

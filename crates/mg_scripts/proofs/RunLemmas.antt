@@ -1,5 +1,5 @@
 -- Lines are obeyed one after another.
-use Rattle.std.proofs.Common.{◌≡◌, ◌∙◌, ◌&&◌, ◌++◌, ℕ, Bool, true, false, List, [], ◌∷◌, Option, None, Some, map, refl, sym, ap, subst}
+use Rattle.std.proofs.Common.{◌≡◌, ◌∙◌, ◌&&◌, ◌++◌, ◌≤◌, ℕ, Bool, true, false, List, [], ◌∷◌, Option, None, Some, map, refl, sym, ap, subst, arith}
 use Rattle.std.specs.List.{All, list_all}
 use Rattle.std.proofs.lemmas.List.Elements.{All-tail}
 use Rattle.std.proofs.lemmas.Grind.{flat_map-append}
@@ -8,6 +8,7 @@ use Rattle.std.proofs.lemmas.List.Folds.{list_all-append}
 use Rattle.mg_base.specs.Streams.{SinkMeaning}
 use Rattle.mg_model.specs.declared.opening.Opening.{Opening}
 use Rattle.mg_model.specs.History.{Entries}
+use Rattle.mg_model.specs.Legal.{durable_count}
 use Rattle.mg_records.specs.Crashing.{CrashesHold, HoldsOn}
 use Rattle.mg_records.specs.Meaning.{Means}
 use Rattle.mg_script.specs.declared.line.Line.{Line}
@@ -20,8 +21,9 @@ use Rattle.mg_courses.specs.Running.{RunMeans}
 use Rattle.mg_pending.specs.declared.pending.Pending.{Pending}
 use Rattle.mg_pending.specs.declared.transactions.Transaction.{Transaction}
 use Rattle.mg_pending.specs.Standing.{StandAt}
+use Rattle.mg_scripts.specs.FaultLines.{fault_said}
 use Rattle.mg_scripts.specs.Printing.{PrintsLine, Writes}
-use Rattle.mg_scripts.specs.Runs.{AreLinesOf, AreRun, CanBeObeyed, LinesDone, PrintsSo, PrintsUpTo, lines_of, read_as}
+use Rattle.mg_scripts.specs.Runs.{AreDurable, AreLinesOf, AreRun, CanBeObeyed, LinesDone, PrintsSo, PrintsUpTo, lines_of, read_as}
 use Rattle.mg_scripts.specs.Steps.{GoesOnOr, LineDone}
 use Rattle.mg_scripts.specs.declared.lines.LinesEnd.{LinesEnd}
 use Rattle.mg_scripts.specs.declared.lines.LinesEnd.TheVariants.{Whole, Stopped, NoMemory, SinkFailed}
@@ -39,6 +41,7 @@ pub record SoFar {R P Run K : Type 0} (m : Means R P) (runs : RunMeans R Run) (n
   pub are_lines : lines_of turns ≡ map read_as before
   pub printed : Writes n sink now (transcript turns)
   pub are_fine : fine ≡ list_all turn_fine turns
+  pub durable : AreDurable turns (durable_count entries)
   pub stand : StandAt m runs new o entries all ps unfinished
   pub carries : Carries m old new o [] entries
 
@@ -62,6 +65,18 @@ writes_then n sink mid now a b first second = record {
 pub obeyable_rest : (rest : List Line) (line : Line) (later : List Line) → rest ≡ line ∷ later
     → All CanBeObeyed rest → All CanBeObeyed later
 obeyable_rest rest line later same all = All-tail CanBeObeyed line later (subst (All CanBeObeyed) same all)
+
+-- ---- durable events
+
+pub durable_up : (turns : List Obeyed) (few many : ℕ) → few ≤ many → AreDurable turns few → AreDurable turns many
+durable_up [] few many less are = tt
+durable_up (turn ∷ more) few many less are =
+    let within = are.0 in (omega (arith, within, less), durable_up more few many less are.1)
+
+durable_more : (turns : List Obeyed) (x : Obeyed) (count : ℕ) → AreDurable turns count
+    → durable_count x.after ≤ count → AreDurable (turns ++ x ∷ []) count
+durable_more [] x count are within = (within, tt)
+durable_more (turn ∷ more) x count are within = (are.0, durable_more more x count are.1 within)
 
 -- ---- one turn more
 
@@ -106,6 +121,7 @@ module _ {R P Run K : Type 0} (m : Means R P) (runs : RunMeans R Run) (n : SinkM
       are_lines = refl;
       printed = writes_none n sink;
       are_fine = refl;
+      durable = tt;
       stand = stand;
       carries = carries_none m crashes r o [] stand.stands;
     }
@@ -135,12 +151,16 @@ module _ {R P Run K : Type 0} (m : Means R P) (runs : RunMeans R Run) (n : SinkM
             (turn_of (read_as line) done.reply done.released) so_far.printed
             (wrote done.failed done.goes.1 done.prints));
         are_fine = fine_then fine more so_far.turns (turn_with None done) so_far.are_fine done.fine_is;
+        durable = durable_more so_far.turns (turn_with None done) (durable_count done.after)
+            (durable_up so_far.turns (durable_count so_far.entries) (durable_count done.after) done.carries.count
+            so_far.durable) (omega arith);
         stand = done.stand;
         carries = carries_then m lasts old mid new o [] so_far.entries done.after so_far.carries done.carries;
       }
         where
           wrote : (failed : Option LinesEnd) → failed ≡ None
-              → PrintsLine n between now (turn_of (read_as line) done.reply done.released) failed
+              → PrintsLine n between now (turn_of (read_as line) done.reply done.released)
+              (fault_said (read_as line) done.reply done.released) failed
               → Writes n between now (turn_of (read_as line) done.reply done.released)
           wrote None is prints = prints
           wrote (Some e) is prints = absurd cc
@@ -157,6 +177,9 @@ module _ {R P Run K : Type 0} (m : Means R P) (runs : RunMeans R Run) (n : SinkM
         are_lines = are_lines end done.goes;
         printed = printed end done.goes;
         are_fine = fine_then fine more so_far.turns (turn_with (Some end) done) so_far.are_fine done.fine_is;
+        durable = durable_more so_far.turns (turn_with (Some end) done) (durable_count done.after)
+            (durable_up so_far.turns (durable_count so_far.entries) (durable_count done.after) done.carries.count
+            so_far.durable) (omega arith);
         stand = done.stand;
         carries = carries_then m lasts old mid new o [] so_far.entries done.after so_far.carries done.carries;
       }
@@ -251,6 +274,7 @@ module _ {R P Run K : Type 0} (m : Means R P) (runs : RunMeans R Run) (n : SinkM
           ∙ ap (λ (ls : List Line). so_far.before ++ ls) (sym none) ∙ so_far.split);
       printed = so_far.printed;
       are_fine = so_far.are_fine;
+      durable = so_far.durable;
       stand = so_far.stand;
       carries = so_far.carries;
     }

@@ -1,5 +1,5 @@
 -- What a sink says of its faults.
-use Rattle.std.proofs.Common.{◌≡◌, ◌≤◌, ◌∙◌, ℕ, List, Option, None, Some, ap, sym, subst, arith}
+use Rattle.std.proofs.Common.{◌≡◌, inl, inr, ◌≤◌, ◌∙◌, ℕ, List, Option, None, Some, sym, subst, arith}
 use Rattle.mg_base.specs.Disk.{Rose}
 use Rattle.mg_base.specs.Streams.{SinkMeaning}
 use Rattle.mg_transcript.specs.declared.turn.Flow.{Flow}
@@ -17,36 +17,37 @@ module _ {K : Type 0} (n : SinkMeaning K) where
 
   -- ---- a line
 
-  printed_says : (mid now : K) (bytes : List ℕ) (failed : Option LinesEnd) → PrintsLine n mid now bytes failed
+  printed_says : (mid now : K) (bytes least : List ℕ) (failed : Option LinesEnd) → PrintsLine n mid now bytes least failed
       → LineSays n mid now failed
-  printed_says mid now bytes None prints = prints.steady
-  printed_says mid now bytes (Some Whole) prints = prints
-  printed_says mid now bytes (Some (Stopped refusal)) prints = absurd prints
-  printed_says mid now bytes (Some NoMemory) prints = same_least mid now (ap n.faults prints)
-  printed_says mid now bytes (Some SinkFailed) prints = (prints.never_falls, prints.failed)
+  printed_says mid now bytes least None prints = prints.steady
+  printed_says mid now bytes least (Some Whole) prints = prints
+  printed_says mid now bytes least (Some (Stopped refusal)) prints = absurd prints
+  printed_says mid now bytes least (Some NoMemory) prints = same_least mid now prints.steady
+  printed_says mid now bytes least (Some SinkFailed) (inl prints) = (prints.never_falls, prints.failed)
+  printed_says mid now bytes least (Some SinkFailed) (inr prints) = (prints.never_falls, prints.failed)
 
-  least : (mid now : K) (end : Option LinesEnd) → LineSays n mid now end → n.faults mid ≤ n.faults now
-  least mid now None says = same_least mid now says
-  least mid now (Some Whole) says = absurd says
-  least mid now (Some (Stopped refusal)) says = says
-  least mid now (Some NoMemory) says = says
-  least mid now (Some SinkFailed) says = says.0
+  rises : (mid now : K) (end : Option LinesEnd) → LineSays n mid now end → n.faults mid ≤ n.faults now
+  rises mid now None says = same_least mid now says
+  rises mid now (Some Whole) says = absurd says
+  rises mid now (Some (Stopped refusal)) says = says
+  rises mid now (Some NoMemory) says = says
+  rises mid now (Some SinkFailed) says = says.0
 
-  line_says_by : (mid now : K) (bytes : List ℕ) (e : TurnEnd) (failed : Option LinesEnd) (f : Flow)
-      → PrintsLine n mid now bytes failed → LineSays n mid now (end_or (end_of_turn e f) failed)
-  line_says_by mid now bytes turn_ends.Whole failed f prints = printed_says mid now bytes failed prints
-  line_says_by mid now bytes turn_ends.InVain failed f prints = printed_says mid now bytes failed prints
-  line_says_by mid now bytes turn_ends.NoRoom failed f prints =
-      least mid now failed (printed_says mid now bytes failed prints)
-  line_says_by mid now bytes turn_ends.Stopped failed (Stops refusal) prints =
-      least mid now failed (printed_says mid now bytes failed prints)
-  line_says_by mid now bytes turn_ends.Stopped failed GoesOn prints = printed_says mid now bytes failed prints
+  line_says_by : (mid now : K) (bytes least : List ℕ) (e : TurnEnd) (failed : Option LinesEnd) (f : Flow)
+      → PrintsLine n mid now bytes least failed → LineSays n mid now (end_or (end_of_turn e f) failed)
+  line_says_by mid now bytes least turn_ends.Whole failed f prints = printed_says mid now bytes least failed prints
+  line_says_by mid now bytes least turn_ends.InVain failed f prints = printed_says mid now bytes least failed prints
+  line_says_by mid now bytes least turn_ends.NoRoom failed f prints =
+      rises mid now failed (printed_says mid now bytes least failed prints)
+  line_says_by mid now bytes least turn_ends.Stopped failed (Stops refusal) prints =
+      rises mid now failed (printed_says mid now bytes least failed prints)
+  line_says_by mid now bytes least turn_ends.Stopped failed GoesOn prints = printed_says mid now bytes least failed prints
 
   -- by what was printed, and how the turn ended
-  pub line_says : (mid now : K) (bytes : List ℕ) (e : TurnEnd) (failed end : Option LinesEnd) (f : Flow)
-      → end ≡ end_or (end_of_turn e f) failed → PrintsLine n mid now bytes failed → LineSays n mid now end
-  line_says mid now bytes e failed end f is prints =
-      subst (LineSays n mid now) (sym is) (line_says_by mid now bytes e failed f prints)
+  pub line_says : (mid now : K) (bytes least : List ℕ) (e : TurnEnd) (failed end : Option LinesEnd) (f : Flow)
+      → end ≡ end_or (end_of_turn e f) failed → PrintsLine n mid now bytes least failed → LineSays n mid now end
+  line_says mid now bytes least e failed end f is prints =
+      subst (LineSays n mid now) (sym is) (line_says_by mid now bytes least e failed f prints)
 
   -- ---- lines
 

@@ -30,6 +30,7 @@ use Rattle.mg_sessions.specs.Lines.{IsObeyable}
 use Rattle.mg_turns.specs.Turns.{EndsAs, StopsSo, Turned}
 use Rattle.mg_turns.specs.declared.turn.TurnEnd.{TurnEnd}
 use Rattle.mg_turns.specs.declared.turn.TurnEnd.TheVariants as turn_ends
+use Rattle.mg_scripts.specs.FaultLines.{fault_said}
 use Rattle.mg_scripts.specs.Printing.{PrintsLine}
 use Rattle.mg_scripts.specs.Runs.{bad_line, is_known, read_as}
 use Rattle.mg_scripts.specs.Steps.{GoesOnOr, LineDone, are_fine, end_of_turn, end_or, reason_in}
@@ -58,35 +59,35 @@ stops_or reply does goes = absurd cc
 
 -- ---- how a run goes on
 
-goes_by : {K : Type 0} (n : SinkMeaning K) (mid now : K) (bytes : List ℕ) (o : Opening) (after : Entries)
+goes_by : {K : Type 0} (n : SinkMeaning K) (mid now : K) (bytes least : List ℕ) (o : Opening) (after : Entries)
     (then_ : List Unfinished) (reply : Reply) (released : List Spoken) (e : TurnEnd) (failed : Option LinesEnd)
     (f : Flow) → f ≡ flow (last_reply reply released) → EndsAs o (Some e) reply released after then_
-    → PrintsLine n mid now bytes failed
+    → PrintsLine n mid now bytes least failed
     → GoesOnOr o after then_ reply released failed (end_or (end_of_turn e f) failed)
-goes_by n mid now bytes o after then_ reply released turn_ends.Whole None f is ends prints = (ends, refl)
-goes_by n mid now bytes o after then_ reply released turn_ends.Whole (Some Whole) f is ends prints = prints
-goes_by n mid now bytes o after then_ reply released turn_ends.Whole (Some (Stopped r)) f is ends prints = absurd prints
-goes_by n mid now bytes o after then_ reply released turn_ends.Whole (Some NoMemory) f is ends prints = tt
-goes_by n mid now bytes o after then_ reply released turn_ends.Whole (Some SinkFailed) f is ends prints = refl
-goes_by n mid now bytes o after then_ reply released turn_ends.InVain failed f is ends prints = absurd ends
-goes_by n mid now bytes o after then_ reply released turn_ends.NoRoom failed f is ends prints = tt
-goes_by n mid now bytes o after then_ reply released turn_ends.Stopped failed (Stops r) is ends prints = sym is
-goes_by n mid now bytes o after then_ reply released turn_ends.Stopped failed GoesOn is ends prints =
+goes_by n mid now bytes least o after then_ reply released turn_ends.Whole None f is ends prints = (ends, refl)
+goes_by n mid now bytes least o after then_ reply released turn_ends.Whole (Some Whole) f is ends prints = prints
+goes_by n mid now bytes least o after then_ reply released turn_ends.Whole (Some (Stopped r)) f is ends prints = absurd prints
+goes_by n mid now bytes least o after then_ reply released turn_ends.Whole (Some NoMemory) f is ends prints = tt
+goes_by n mid now bytes least o after then_ reply released turn_ends.Whole (Some SinkFailed) f is ends prints = refl
+goes_by n mid now bytes least o after then_ reply released turn_ends.InVain failed f is ends prints = absurd ends
+goes_by n mid now bytes least o after then_ reply released turn_ends.NoRoom failed f is ends prints = tt
+goes_by n mid now bytes least o after then_ reply released turn_ends.Stopped failed (Stops r) is ends prints = sym is
+goes_by n mid now bytes least o after then_ reply released turn_ends.Stopped failed GoesOn is ends prints =
     absurd (stops_or (last_reply reply released) ends (sym is))
 
 -- The answer that came last at a line is told on as the reason of the run's end, if it ends by it; else it is none by
 -- which a run stops, and tells no fault.
-account_by : {R P K : Type 0} (m : Means R P) (n : SinkMeaning K) (mid now : K) (bytes : List ℕ) (old new : R)
+account_by : {R P K : Type 0} (m : Means R P) (n : SinkMeaning K) (mid now : K) (bytes least : List ℕ) (old new : R)
     (reply : Reply) (e : TurnEnd) (failed : Option LinesEnd) (f : Flow) → f ≡ flow reply → StopsSo reply (Some e)
-    → PrintsLine n mid now bytes failed → Accounts m old new (refusal_answered reply)
+    → PrintsLine n mid now bytes least failed → Accounts m old new (refusal_answered reply)
     → Accounts m old new (reason_in (end_or (end_of_turn e f) failed))
-account_by m n mid now bytes old new reply e failed f is so prints a = by e f is so
+account_by m n mid now bytes least old new reply e failed f is so prints a = by e f is so
   where
     -- no refusal is told
     untold : stops reply ≡ false → Accounts m old new None
     untold goes = untold_account m old new (refusal_answered reply) (goes_on_behind reply goes) a
 
-    printed : stops reply ≡ false → (failed : Option LinesEnd) → PrintsLine n mid now bytes failed
+    printed : stops reply ≡ false → (failed : Option LinesEnd) → PrintsLine n mid now bytes least failed
         → Accounts m old new (reason_in failed)
     printed goes None prints_ = untold goes
     printed goes (Some Whole) prints_ = absurd prints_
@@ -106,7 +107,7 @@ account_by m n mid now bytes old new reply e failed f is so prints a = by e f is
 
 module _ {R P Run K : Type 0} (m : Means R P) (runs : RunMeans R Run) (n : SinkMeaning K) (old new : R)
     (mid now : K) (line : Line) (reply : Reply) (released : List Spoken) (e : TurnEnd) (failed : Option LinesEnd)
-    (prints : PrintsLine n mid now (turn_of line reply released) failed) (end : Option LinesEnd)
+    (prints : PrintsLine n mid now (turn_of line reply released) (fault_said line reply released) failed) (end : Option LinesEnd)
     (is : end ≡ end_or (end_of_turn e (flow (last_reply reply released))) failed) where
   pub taken_line : (o : Opening) (size : ℕ) (h : Entries) (us : List Unfinished) (all : List (Option Transaction))
       (ps : List (Pending Run)) (fine : Bool) → fine ≡ are_fine reply released
@@ -121,7 +122,7 @@ module _ {R P Run K : Type 0} (m : Means R P) (runs : RunMeans R Run) (n : SinkM
     failed = failed;
     prints = prints;
     goes = subst (GoesOnOr o comes.after comes.then_ reply released failed) (sym is)
-        (goes_by n mid now (turn_of line reply released) o comes.after comes.then_ reply released e failed
+        (goes_by n mid now (turn_of line reply released) (fault_said line reply released) o comes.after comes.then_ reply released e failed
         (flow (last_reply reply released)) refl comes.does.ends prints);
     fine_is = fine_is;
     stand = comes.stand;
@@ -131,7 +132,7 @@ module _ {R P Run K : Type 0} (m : Means R P) (runs : RunMeans R Run) (n : SinkM
   pub taken_account : StopsSo (last_reply reply released) (Some e)
       → Accounts m old new (refusal_answered (last_reply reply released)) → Accounts m old new (reason_in end)
   taken_account so a = subst (λ (x : Option LinesEnd). Accounts m old new (reason_in x)) (sym is)
-      (account_by m n mid now (turn_of line reply released) old new (last_reply reply released) e failed
+      (account_by m n mid now (turn_of line reply released) (fault_said line reply released) old new (last_reply reply released) e failed
       (flow (last_reply reply released)) refl so prints a)
 
 -- a line that is obeyed has a letter where it needs one

@@ -5,7 +5,7 @@ use Rattle.mg_base.specs.Streams.{SinkMeaning}
 use Rattle.mg_model.specs.declared.opening.Opening.{Opening}
 use Rattle.mg_model.specs.declared.refusal.Refusal.{Refusal}
 use Rattle.mg_model.specs.History.{Entries}
-use Rattle.mg_model.specs.Legal.{IsLegal}
+use Rattle.mg_model.specs.Legal.{IsLegal, durable_count}
 use Rattle.mg_records.specs.Meaning.{Means}
 use Rattle.mg_script.specs.declared.line.Line.{Line}
 use Rattle.mg_transcript.specs.Scripts.{AreRolledBack, Obeyed, sessions}
@@ -15,7 +15,7 @@ use Rattle.mg_courses.specs.Carrying.{Carries}
 use Rattle.mg_script_ends.specs.Ends.{told_of}
 use Rattle.mg_scripts.specs.declared.lines.LinesEnd.{LinesEnd}
 use Rattle.mg_scripts.specs.declared.lines.LinesEnd.TheVariants.{Whole, Stopped, NoMemory, SinkFailed}
-use Rattle.mg_scripts.specs.Runs.{AreLinesOf, AreRun, PrintsSo}
+use Rattle.mg_scripts.specs.Runs.{AreDurable, AreLinesOf, AreRun, PrintsSo}
 use Rattle.mg_scripts.specs.Steps.{reason}
 
 -- nothing is in a list
@@ -70,6 +70,7 @@ pub record ScriptRan {R P K : Type 0} (m : Means R P) (n : SinkMeaning K) (old n
     pub printed : PrintsSo n before after end turns
     pub are_fine : fine ≡ fine_at end turns unfinished
     pub ended : EndsSo o end obeyed_to entries refusals
+    pub durable : AreDurable turns (durable_count entries)
     pub stands : m.stands new o entries
     pub legal : IsLegal o entries
     pub carries : Carries m old new o [] entries

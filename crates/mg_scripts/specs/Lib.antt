@@ -1,3 +1,4 @@
+pub mod FaultLines
 pub mod Printing
 pub mod Runs
 pub mod Steps

@@ -1,5 +1,5 @@
 -- What a sink takes of what is printed.
-use Rattle.std.specs.Prelude.{◌≡◌, ◌≤◌, ◌++◌, ℕ, List, take, Option, None, Some}
+use Rattle.std.specs.Prelude.{◌≡◌, ◌⊎◌, ◌≤◌, ◌++◌, ℕ, List, take, Option, None, Some}
 use Rattle.mg_base.specs.Disk.{Rose}
 use Rattle.mg_base.specs.Streams.{SinkMeaning}
 use Rattle.mg_scripts.specs.declared.lines.LinesEnd.{LinesEnd}
@@ -17,13 +17,20 @@ pub record WritesFirst {K : Type 0} (n : SinkMeaning K) (old new : K) (bytes : L
   pub never_falls : n.faults old ≤ n.faults new
   pub failed : Rose (n.faults old) (n.faults new)
 
--- what a line came to was printed; or nothing of it, since memory was short; or the sink failed
-abbrev pub PrintsLine : {K : Type 0} → SinkMeaning K → K → K → List ℕ → Option LinesEnd → Type 0
-PrintsLine n old new bytes None = Writes n old new bytes
-PrintsLine n old new bytes (Some Whole) = ⊥
-PrintsLine n old new bytes (Some (Stopped refusal)) = ⊥
-PrintsLine n old new bytes (Some NoMemory) = new ≡ old
-PrintsLine n old new bytes (Some SinkFailed) = WritesFirst n old new bytes
+-- what a line came to was printed; or these bytes of it alone, since memory was short; or the sink failed
+abbrev pub PrintsLine : {K : Type 0} → SinkMeaning K → K → K → List ℕ → List ℕ → Option LinesEnd → Type 0
+PrintsLine n old new bytes least None = Writes n old new bytes
+PrintsLine n old new bytes least (Some Whole) = ⊥
+PrintsLine n old new bytes least (Some (Stopped refusal)) = ⊥
+PrintsLine n old new bytes least (Some NoMemory) = Writes n old new least
+PrintsLine n old new bytes least (Some SinkFailed) = WritesFirst n old new bytes ⊎ WritesFirst n old new least
+
+-- memory was short, and these bytes were printed; or the sink failed
+abbrev pub PrintsShort : {K : Type 0} → SinkMeaning K → K → K → List ℕ → LinesEnd → Type 0
+PrintsShort n old new least Whole = ⊥
+PrintsShort n old new least (Stopped refusal) = ⊥
+PrintsShort n old new least NoMemory = Writes n old new least
+PrintsShort n old new least SinkFailed = WritesFirst n old new least
 
 -- ---- faults of the sink, whatever the history
 

@@ -1,10 +1,11 @@
 -- What comes of the lines of a script.
-use Rattle.std.specs.Prelude.{◌≡◌, ℕ, Bool, true, false, List, [], ◌∷◌, ◌++◌, map, Option, Some, if◌then◌else◌}
+use Rattle.std.specs.Prelude.{◌≡◌, ◌≤◌, ℕ, Bool, true, false, List, [], ◌∷◌, ◌++◌, map, Option, Some, if◌then◌else◌}
 use Rattle.std.specs.List.{list_all}
 use Rattle.mg_base.specs.Streams.{SinkMeaning}
 use Rattle.mg_model.specs.declared.opening.Opening.{Opening}
 use Rattle.mg_model.specs.declared.refusal.Refusal.{Refusal}
 use Rattle.mg_model.specs.History.{Entries}
+use Rattle.mg_model.specs.Legal.{durable_count}
 use Rattle.mg_records.specs.Meaning.{Means}
 use Rattle.mg_script.specs.declared.line.Line.{Line}
 use Rattle.mg_script.specs.declared.line.LineKind.{LineKind}
@@ -20,6 +21,7 @@ use Rattle.mg_pending.specs.declared.pending.Pending.{Pending}
 use Rattle.mg_pending.specs.declared.transactions.Transaction.{Transaction}
 use Rattle.mg_pending.specs.Standing.{StandAt}
 use Rattle.mg_sessions.specs.Lines.{IsObeyable}
+use Rattle.mg_scripts.specs.FaultLines.{fault_said}
 use Rattle.mg_scripts.specs.Printing.{PrintsLine, Writes}
 use Rattle.mg_scripts.specs.declared.lines.LinesEnd.{LinesEnd}
 use Rattle.mg_scripts.specs.declared.lines.LinesEnd.TheVariants.{Whole, Stopped, NoMemory, SinkFailed}
@@ -48,6 +50,11 @@ CanBeObeyed line = IsObeyable (read_as line).kind
 abbrev pub lines_of : List Obeyed → List Line
 lines_of turns = map (λ turn. turn.line) turns
 
+-- none of these lines left more durable events behind it than so many
+abbrev pub AreDurable : List Obeyed → ℕ → Type 0
+AreDurable [] count = Unit {0}
+AreDurable (turn ∷ more) count = (durable_count turn.after ≤ count) × AreDurable more count
+
 -- ---- how they end
 
 -- the last line's last answer is a refusal by which the run stops
@@ -72,7 +79,8 @@ AreLinesOf end lines turns = (rest : List Line) × (lines_of turns ++ rest ≡ m
 -- ---- what is printed
 
 -- Of the lines up to the one at which the run is cut short, the transcript of all but that one was printed; then that of
--- the last, or nothing of it where memory was short, or a part of it where the sink failed.
+-- the last. Where memory was short for it, the line of the fault by which the run stops was printed alone, if it needs
+-- no memory; where the sink failed, a part was.
 pub record PrintsUpTo {K : Type 0} (n : SinkMeaning K) (old new : K) (end : LinesEnd) (turns : List Obeyed) : Type 0
   where
     pub before : List Obeyed
@@ -81,7 +89,8 @@ pub record PrintsUpTo {K : Type 0} (n : SinkMeaning K) (old new : K) (end : Line
     pub mid : K
     pub writes : Writes n old mid (transcript before)
     pub failed : Option LinesEnd
-    pub prints : PrintsLine n mid new (turn_of last.line last.reply last.released) failed
+    pub prints : PrintsLine n mid new (turn_of last.line last.reply last.released)
+        (fault_said last.line last.reply last.released) failed
     pub by_sink : end ≡ SinkFailed → failed ≡ Some SinkFailed
 
 -- the transcript of the lines was printed
@@ -102,5 +111,7 @@ pub record LinesDone {R P Run K : Type 0} (m : Means R P) (runs : RunMeans R Run
   pub are_lines : AreLinesOf end lines turns
   pub printed : PrintsSo n before after end turns
   pub are_fine : fine ≡ list_all turn_fine turns
+  -- no later line takes back what was durable
+  pub durable : AreDurable turns (durable_count entries)
   pub stand : StandAt m runs new o entries all ps unfinished
   pub carries : Carries m old new o [] entries

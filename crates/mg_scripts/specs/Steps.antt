@@ -21,6 +21,7 @@ use Rattle.mg_pending.specs.declared.transactions.Transaction.{Transaction}
 use Rattle.mg_pending.specs.Standing.{StandAt}
 use Rattle.mg_turns.specs.declared.turn.TurnEnd.{TurnEnd}
 use Rattle.mg_turns.specs.declared.turn.TurnEnd.TheVariants as turn_ends
+use Rattle.mg_scripts.specs.FaultLines.{fault_said}
 use Rattle.mg_scripts.specs.Printing.{PrintsLine}
 use Rattle.mg_scripts.specs.declared.lines.LinesEnd.{LinesEnd}
 use Rattle.mg_scripts.specs.declared.lines.LinesEnd.TheVariants.{Whole, Stopped, NoMemory, SinkFailed}
@@ -76,7 +77,7 @@ pub record LineDone {R P Run K : Type 0} (m : Means R P) (runs : RunMeans R Run)
   pub then_ : List Unfinished
   pub acts : Acts o h size us line.kind reply released after then_
   pub failed : Option LinesEnd
-  pub prints : PrintsLine n before now (turn_of line reply released) failed
+  pub prints : PrintsLine n before now (turn_of line reply released) (fault_said line reply released) failed
   pub goes : GoesOnOr o after then_ reply released failed end
   pub fine_is : is_fine ≡ are_fine reply released
   pub stand : StandAt m runs new o after all ps then_

@@ -2,7 +2,7 @@ use Rattle.std.proofs.Common.{◌≡◌, List, sym, subst}
 use Rattle.mg_base.specs.Streams.{SourceMeaning}
 use Rattle.mg_script.specs.declared.line.Line.{Line}
 use Rattle.mg_run_ends.specs.Reading.{IsWholeScript}
-use Rattle.mg_program.proofs.RunLemmas.{served_promise, served_script, served_streams, unread_disk, unread_promise, unread_script, unread_streams}
+use Rattle.mg_program.proofs.RunLemmas.{served_files, served_promise, served_script, served_streams, unread_disk, unread_files, unread_promise, unread_script, unread_streams}
 use Rattle.mg_program.proofs.running.run.Goals as goal
 
 -- the lines that are obeyed are those that were read
@@ -46,6 +46,14 @@ returns-in-Ok-clause-headline g c = λ size image o script entry left.
     c.args.limit c.as_slice.result.now c.args.disk c.serve.result.1 c.args.sink.now c.serve.new.sink c.serve.result.0 whole
     c.in-Ok.ensures.1 c.serve.ensures size image o script entry left
 
+pub returns-in-Ok-clause-other_files : goal.returns-in-Ok-clause-other_files
+returns-in-Ok-clause-other_files g c =
+    let whole = lines_read g.S.Source.meaning c.args.source.now c.as_slice.result.now c.in-Ok.script c.as_slice.ensures
+    c.in-Ok.ensures.0 in
+    served_files g.D.Disk.meaning g.S.Source.meaning g.K.Sink.meaning c.args.source.now c.read_lines.new.source
+    c.args.limit c.as_slice.result.now c.args.disk c.serve.result.1 c.args.sink.now c.serve.new.sink c.serve.result.0 whole
+    c.in-Ok.ensures.1 c.serve.ensures
+
 pub returns-in-Err-clause-disk : goal.returns-in-Err-clause-disk
 returns-in-Err-clause-disk g c = unread_disk g.D.Disk.meaning g.S.Source.meaning g.K.Sink.meaning c.args.source.now
     c.read_lines.new.source c.args.disk c.args.sink.now c.say_end.new.sink c.in-Err.end c.say_end.result
@@ -65,3 +73,8 @@ pub returns-in-Err-clause-headline : goal.returns-in-Err-clause-headline
 returns-in-Err-clause-headline g c = λ size image o script entry left. unread_promise g.D.Disk.meaning
     g.S.Source.meaning g.K.Sink.meaning c.args.source.now c.read_lines.new.source c.args.disk c.args.sink.now
     c.say_end.new.sink c.in-Err.end c.say_end.result c.in-Err.ensures c.say_end.ensures size o script
+
+pub returns-in-Err-clause-other_files : goal.returns-in-Err-clause-other_files
+returns-in-Err-clause-other_files g c = λ size image other. unread_files g.D.Disk.meaning g.S.Source.meaning
+    g.K.Sink.meaning c.args.source.now c.read_lines.new.source c.args.disk c.args.sink.now c.say_end.new.sink
+    c.in-Err.end c.say_end.result c.in-Err.ensures c.say_end.ensures size image

@@ -10,4 +10,4 @@ returns-in-Ok g c = c.obey.ensures c.args.disk c.args.limit c.in-Ok.ensures
 pub returns-in-Err : goal.returns-in-Err
 returns-in-Err g c = refused g.D.Disk.meaning g.K.Sink.meaning c.args.lines.now c.args.disk c.in-Err.disk c.args.limit
     c.in-Err.refusal c.say_end.result c.args.sink.now c.say_end.new.sink c.openings_are_judged.ensures
-    c.openings_fail.ensures c.in-Err.ensures c.say_end.ensures
+    c.other_files_are_refused.ensures.refused c.openings_fail.ensures c.in-Err.ensures c.say_end.ensures

@@ -12,6 +12,7 @@ returns-in-None g c = runs_asked g.D.Disk.meaning g.D.CountsWrites.counts_to g.S
       streams = c.run.ensures.streams;
       script = c.run.ensures.script;
       headline = c.run.ensures.headline;
+      other_files = c.run.ensures.other_files;
     })
 
 pub returns-in-Some : goal.returns-in-Some

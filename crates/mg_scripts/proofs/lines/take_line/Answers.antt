@@ -1,5 +1,6 @@
 use Rattle.mg_transcript.specs.Lines.{last_reply}
 use Rattle.mg_transcript.specs.Transcript.{flow, turn_of}
+use Rattle.mg_scripts.specs.FaultLines.{fault_said}
 use Rattle.mg_scripts.proofs.SinkLemmas.{line_says}
 use Rattle.mg_scripts.proofs.TurnLemmas.{obeyable_lettered, taken_account, taken_line}
 use Rattle.mg_scripts.proofs.lines.take_line.Goals as goal
@@ -25,6 +26,7 @@ returns-clause-accounts g c = taken_account g.R.Records.meaning g.R.Statements.r
 pub returns-clause-sinks : goal.returns-clause-sinks
 returns-clause-sinks g c = line_says g.K.Sink.meaning c.args.sink.now c.print_turn-failed.new.sink
     (turn_of c.args.line.now c.take_turn-taken.result.turn.reply c.take_turn-taken.result.turn.released.items)
+    (fault_said c.args.line.now c.take_turn-taken.result.turn.reply c.take_turn-taken.result.turn.released.items)
     c.take_turn-taken.result.end c.print_turn-failed.result c.end_with.result
     (flow (last_reply c.take_turn-taken.result.turn.reply c.take_turn-taken.result.turn.released.items))
     c.end_with.ensures c.print_turn-failed.ensures

@@ -1,4 +1,4 @@
-use Rattle.std.proofs.Common.{◌≡◌, inl, refl, sym, ap, ◌∙◌, subst}
+use Rattle.std.proofs.Common.{inl, refl, sym, ◌∙◌, subst}
 use Rattle.mg_model.specs.declared.refusal.Refusal.{Refusal}
 use Rattle.std.specs.Prelude.{List, Option}
 use Rattle.mg_sessions.specs.Accounts.{Accounts}
