@@ -1,0 +1,9 @@
+pub mod Behind
+pub mod Calls
+pub mod Ends
+pub mod Jobs
+pub mod Kept
+pub mod Mirror
+pub mod Origin
+pub mod Origins
+pub mod Worker

@@ -1,0 +1,5 @@
+//! Whole runs over a disk behind a writer thread.
+
+mod beside;
+mod runs;
+mod starts;
