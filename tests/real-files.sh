@@ -5,44 +5,8 @@
 #
 # usage: tests/real-files.sh [PROGRAM]
 #
-# .ci/run calls it with the program that rt ci has built. Without a word it takes ./mgdb, which builds what is missing.
-# A check that fails is printed. At the end it tells how many there were; where one failed it ends with 1, and its last
-# line is 'N passed, M failed', which the gate's reader takes in place of that of rt ci.
-here=$(cd "$(dirname "$(readlink -f "$0")")/.." && pwd)
-mgdb=$(readlink -f "${1:-$here/mgdb}")
-[ -x "$mgdb" ] || { echo "real files: no program at $mgdb"; echo '0 passed, 1 failed'; exit 1; }
-work=$(mktemp -d)
-trap 'rm -rf "$work"' EXIT
-cd "$work" || exit 1
-passed=0
-failed=0
-
-# check NAME WANTED GIVEN
-check() {
-    if [ "$2" == "$3" ]; then
-        passed=$((passed + 1))
-    else
-        failed=$((failed + 1))
-        printf 'FAILED: %s\nwanted: %s\ngiven: %s\n' "$1" "$2" "$3"
-    fi
-}
-
-# run FILE SCRIPT [OPTION..]: what a run printed, and its status behind it.
-run() {
-    local file=$1 script=$2
-    shift 2
-    printf '%b' "$script" | "$mgdb" run "$file" "$@"
-    echo "status $?"
-}
-
-sum() { cksum < "$1"; }
-size() { stat -c %s "$1"; }
-
-# A database with one row, to begin from.
-fresh() {
-    rm -rf "$1"
-    run "$1" '@put 1 10\n' > /dev/null
-}
+# .ci/run calls it with the program that rt ci has built.
+. "$(dirname "$(readlink -f "$0")")/checks.sh"
 
 # ---- words, page size and limit
 
@@ -110,6 +74,27 @@ statuses() {
     check 'status 7 asks no disk' 'no' "$([ -e s7 ] && echo yes || echo no)"
     check 'a script of the greatest length' 'status 0' "$(head -c 1048576 long | "$mgdb" run s7; echo "status $?")"
     check 'status 6, no memory for the script' $'mgdb: OUT OF MEMORY\nstatus 6' "$(short_of_memory)"
+    check 'which is told before the file is made' 'no' "$([ -e s6 ] && echo yes || echo no)"
+}
+
+# want_of_memory: a run with less and less memory, until it can't be begun, ends as one that has enough, or tells the want of
+# it. (Where there is none for the words of the command line the status alone tells it.)
+want_of_memory() {
+    local kilobytes given status wants=0
+    echo '@put 1 1' > lean.script
+    for kilobytes in $(seq 6000 -50 1500); do
+        rm -f lean
+        given=$(ulimit -v "$kilobytes"; exec "$mgdb" run lean < lean.script 2> /dev/null)
+        status=$?
+        [ "$status" -gt 100 ] && break
+        case "$given status $status" in
+            '@put: OK TX 1 status 0') ;;
+            'mgdb: OUT OF MEMORY status 6') wants=$((wants + 1)) ;;
+            ' status 6') check "a run with $kilobytes KB of memory makes no file" no "$([ -e lean ] && echo yes || echo no)" ;;
+            *) check "a run with $kilobytes KB of memory" 'OK or OUT OF MEMORY' "$given status $status" ;;
+        esac
+    done
+    check 'some runs told want of memory' 'yes' "$([ "$wants" -gt 10 ] && echo yes)"
 }
 
 # Statuses 3 and 4: what is no regular file is neither read nor written, and what is none of the program's stays.
@@ -159,20 +144,33 @@ closed_streams() {
     check 'closed error output changes nothing' $'@get: 30\nstatus 0' "$(run made '@get 1\n')"
 }
 
-# The file can't grow: a limit of 16 blocks of 1024 bytes, past which each write fails.
+# The file can't grow: a limit in blocks of 1024 bytes, past which each write fails. One that lies within a page cuts its
+# write in the middle.
 no_room() {
-    (
-        trap '' XFSZ
-        ulimit -f 16
-        run small '@put 1 1\n' > small.out
-    )
-    check 'a file that cannot grow' $'mgdb: DISK WRITE FAULT\nstatus 3' "$(cat small.out)"
-    check 'its length is whole pages' 0 "$(($(size small) % 4096))"
-    check 'and a database is made on it later' $'@put: OK TX 1\nstatus 0' "$(run small '@put 1 1\n')"
+    local blocks script='A: SET TRANSACTION\nA: CREATE TABLE T (ID BIGINT PRIMARY KEY)\nA: COMMIT\n'
+    trap '' XFSZ
+    for blocks in 16 17 18 19; do
+        check "a file that cannot grow past $blocks KB" $'mgdb: DISK WRITE FAULT\nstatus 3' "$(ulimit -f $blocks; run "small$blocks" '@put 1 1\n')"
+        check 'nothing stays of a page that is written in part' 16384 "$(size "small$blocks")"
+        check 'and a database is made on it later' $'@put: OK TX 1\nstatus 0' "$(run "small$blocks" '@put 1 1\n')"
+    done
+    fresh filled
+    check 'a database that cannot grow' $'A: DISK WRITE FAULT\nstatus 3' \
+        "$(ulimit -f 30; run filled "$script" | tail -n 2)"
+    check 'keeps its pages alone' 28672 "$(size filled)"
+    check 'and what was committed' $'@get: 10\nA: OK TX 4\nA: NO TABLE\nstatus 1' "$(run filled '@get 1\nA: SET TRANSACTION\nA: SELECT * FROM T\n')"
+    trap - XFSZ
+    # (without that trap a signal ends the process, and the part that fits stays)
+    fresh torn
+    check 'a run that ends within a page write' 'status 153' "$(ulimit -f 30; run torn "$script" 2> /dev/null | tail -n 1)"
+    check 'leaves a part of the page' 30720 "$(size torn)"
+    check 'with which the next run begins' $'@get: 10\nA: OK TX 4\nA: OK\nA: OK\nstatus 0' "$(run torn "@get 1\n$script")"
 }
 
-# Two processes: the script is read whole before the file is opened, and locked.
+# Two processes: the script is read whole before the file is opened, and locked. A file that another process has locked is
+# refused, and stays as it is.
 two_processes() {
+    local before how
     fresh locked
     mkfifo lines
     "$mgdb" run locked < lines > first.out &
@@ -182,6 +180,20 @@ two_processes() {
     exec 9>&-
     wait "$first"
     check 'an empty script' '' "$(cat first.out)"
+    before=$(sum locked)
+    : > empty
+    for how in --exclusive --shared; do
+        exec 9< locked 8< empty
+        flock "$how" 9
+        flock "$how" 8
+        check "a file that is locked, $how" $'mgdb: DISK READ FAULT\nstatus 3' "$(run locked '@put 1 20\n' 8<&- 9<&-)"
+        check "stays as it is, $how" "$before" "$(sum locked)"
+        check "an empty file that is locked, $how" $'mgdb: DISK READ FAULT\nstatus 3' "$(run empty '@put 1 20\n' 8<&- 9<&-)"
+        check "stays empty, $how" 0 "$(size empty)"
+        exec 9<&- 8<&-
+    done
+    check 'it is free again' $'@put: OK TX 3\nstatus 0' "$(run locked '@put 1 20\n')"
+    check 'and so is the other' $'@put: OK TX 1\nstatus 0' "$(run empty '@put 1 20\n')"
 }
 
 # ---- scripts
@@ -216,6 +228,42 @@ many_tables() {
     done
     check 'forty tables' "${wanted}status 0" "$(run tables "$script" --page 1024)"
     check 'forty tables in the next run' "${found}status 0" "$(run tables "$later")"
+}
+
+# A table of so many columns, with a row, is taken back and made anew with other columns, by which its rows are then read.
+taken_back() {
+    local columns n table row script
+    for columns in 1 2 3 4 9; do
+        table='ID BIGINT PRIMARY KEY' row=1
+        for n in $(seq 2 "$columns"); do
+            table+=", C$n VARCHAR($n)" row+=", '$((n % 10))'"
+        done
+        script="A: SET TRANSACTION\nA: SAVEPOINT S\nA: CREATE TABLE T ($table)\nA: INSERT INTO T VALUES ($row)\n"
+        script+='A: ROLLBACK TO S\nA: SELECT * FROM T\nA: CREATE TABLE T (NOTE VARCHAR(30), ID BIGINT PRIMARY KEY, N BIGINT)\n'
+        script+="A: INSERT INTO T VALUES ('new', 7, 70)\nA: COMMIT\n"
+        check "a table of $columns columns is taken back" \
+            $'A: OK TX 1\nA: OK\nA: OK\nA: OK 1\nA: OK\nA: NO TABLE\nA: OK\nA: OK 1\nA: OK\nstatus 1' "$(run "back$columns" "$script")"
+        check 'and another one stands in its place' $'A: OK TX 2\nA| \'new\', 7, 70\nA: OK 1\nstatus 0' \
+            "$(run "back$columns" 'A: SET TRANSACTION\nA: SELECT * FROM T\n')"
+    done
+}
+
+# The catalog has a row for each table and one for each of its columns, three of them for KV. With so many rows in all each
+# table is there in the next run; one more is taken back, and stays away.
+catalogs() {
+    local rows columns table n
+    for rows in 31 32 33 34; do
+        table='ID BIGINT PRIMARY KEY'
+        columns=$((rows - 4))
+        for n in $(seq 2 "$columns"); do table+=", C$n BIGINT"; done
+        check "a catalog of $rows rows" $'A: OK TX 1\nA: OK\nA: OK\nstatus 0' \
+            "$(run "catalog$rows" "A: SET TRANSACTION\nA: CREATE TABLE T ($table)\nA: COMMIT\n")"
+        check 'is read in the next run, and one more table is taken back' \
+            $'A: OK TX 2\nA: OK\nA: OK\nA: OK\nA: OK 1\nA: OK 0\nA: OK\nstatus 0' \
+            "$(run "catalog$rows" 'A: SET TRANSACTION\nA: SAVEPOINT S\nA: CREATE TABLE U (ID BIGINT PRIMARY KEY, A BIGINT, B BIGINT)\nA: ROLLBACK TO S\nA: INSERT INTO KV VALUES (1, 1)\nA: SELECT * FROM T\nA: COMMIT\n')"
+        check 'and stays away' $'A: OK TX 3\nA: NO TABLE\nA: OK 0\nstatus 1' \
+            "$(run "catalog$rows" 'A: SET TRANSACTION\nA: SELECT * FROM U\nA: SELECT * FROM T\n')"
+    done
 }
 
 # Many rows in one transaction, which take many pages, and are all there in the next run.
@@ -297,18 +345,17 @@ words
 page_sizes
 limits
 statuses
+want_of_memory
 other_files
 closed_streams
 no_room
 two_processes
 examples
 many_tables
+taken_back
+catalogs
 many_rows
 many_waits
 stopped_runs
 kills
-if [ "$failed" -gt 0 ]; then
-    echo "$passed passed, $failed failed"
-    exit 1
-fi
-echo "real files: each of $passed checks is as it has to be"
+finish 'real files'
