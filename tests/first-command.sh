@@ -3,21 +3,7 @@
 # meanwhile. Nothing is proved here: where it builds, a stand-in for rt does, on a small repository made here.
 #
 # .ci/run calls it. A check that fails is printed; its last line is then 'N passed, M failed'.
-here=$(cd "$(dirname "$(readlink -f "$0")")/.." && pwd)
-work=$(mktemp -d)
-trap 'rm -rf "$work"' EXIT
-passed=0
-failed=0
-
-# check NAME WANTED GIVEN
-check() {
-    if [ "$2" == "$3" ]; then
-        passed=$((passed + 1))
-    else
-        failed=$((failed + 1))
-        printf 'FAILED: %s\nwanted: %s\ngiven: %s\n' "$1" "$2" "$3"
-    fi
-}
+. "$(dirname "$(readlink -f "$0")")/checks.sh"
 
 # The functions of ./mgdb, over this repository.
 . "$here/mgdb"
@@ -158,8 +144,4 @@ copies
 estimates
 builds
 tells_each_minute
-if [ "$failed" -gt 0 ]; then
-    echo "$passed passed, $failed failed"
-    exit 1
-fi
-echo "first command: each of $passed checks is as it has to be"
+finish 'first command'

@@ -6,7 +6,7 @@
 # usage: tests/real-files.sh [PROGRAM]
 #
 # .ci/run calls it with the program that rt ci has built.
-. "$(dirname "$(readlink -f "$0")")/checks.sh"
+. "$(dirname "$(readlink -f "$0")")/program.sh"
 
 # ---- words, page size and limit
 

@@ -10,7 +10,7 @@
 #
 # Its files are in memory where there is a file system for that: how long a sync takes is no matter here.
 [ -w /dev/shm ] && export TMPDIR=/dev/shm
-. "$(dirname "$(readlink -f "$0")")/checks.sh"
+. "$(dirname "$(readlink -f "$0")")/program.sh"
 
 # The tracer is there, or is installed, and may trace.
 has_tracer() {

@@ -1,6 +1,6 @@
 //! The order of findings.
 
-ghost use Rattle.std.specs.Prelude.{◌≡◌, OnOk};
+ghost use Rattle.std.specs.Prelude.{◌≡◌, IsErr, OnOk};
 ghost use Rattle.std.specs.Ordering.{eq_by_cmp};
 ghost use Rattle.mg_findings.specs.Findings.{Adds, Has, IsListOf, Tells, field_place as place_of_field, finding_cmp, rule_place as place_of_rule};
 
@@ -89,9 +89,11 @@ pub fn in_order(findings: &mut Vec<Finding>)
 ///
 /// # Errors
 ///
-/// `Memory` only.
+/// `Memory` only, where a damage was told. Then nothing was added.
 pub fn note(findings: &mut Vec<Finding>, test: Result<(), Damaged>) -> Result<(), Memory>
-    ensures { OnOk result (Adds findings.old.items findings.new.items (Tells test)) }
+    ensures adds { OnOk result (Adds findings.old.items findings.new.items (Tells test)) }
+    ensures cause { IsErr result → IsErr test }
+    ensures left { IsErr result → findings.new.items ≡ findings.old.items }
 {
     if let Err(damage) = test {
         findings.push(Finding::of(damage))?;
