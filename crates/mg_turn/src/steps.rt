@@ -1,8 +1,6 @@
 //! Single steps of a seat, of which `serve` is made.
 
 ghost use Rattle.std.specs.Prelude.{◌≡◌, ◌<◌, ◌+◌, ◌≤◌, ◌^◌, [], ◌∷◌, Some, IsTrue, IsFalse, MatchOption, MatchBool};
-ghost use Rattle.mg_turn.specs.Histories.{};
-ghost use Rattle.mg_turn.specs.Keeping.{};
 ghost use Rattle.mg_turn.specs.Tells.{Taken, Made, MayPass};
 ghost use Rattle.mg_turn.specs.Views.{named, waiting, served_one};
 ghost use Rattle.mg_turn.specs.declared.rule.Deed.{Deed};
