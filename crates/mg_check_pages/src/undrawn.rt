@@ -3,23 +3,11 @@
 ghost use Rattle.std.specs.Prelude.{◌≡◌, ◌↔◌, ◌≤◌, ◌<◌, ◌^◌, length};
 ghost use Rattle.mg_findings.specs.Findings.{IsFirst, Tells};
 ghost use Rattle.mg_findings.specs.declared.finding.Finding.{Finding as AFinding};
-ghost use Rattle.mg_tip.specs.TipPage.{bits_of as bits_number, places as places_of};
+ghost use Rattle.mg_tip.specs.TipPage.{places as places_of};
 ghost use Rattle.mg_check_pages.specs.PageTests.{lawful_bits as lawful_number, undrawn_test};
 
 use mg_base::{Damaged, Field, PageNo, TxState, check_field};
-use mg_tip::{STATES_AT, state_at};
-
-/// The bits of a state.
-fn bits_of(state: TxState) -> u32
-    ensures { result ≡ bits_number state }
-{
-    match state {
-        TxState::Active => 0,
-        TxState::Limbo => 1,
-        TxState::Dead => 2,
-        TxState::Committed => 3,
-    }
-}
+use mg_tip::{STATES_AT, bits_of, state_at};
 
 /// The lawful bits of a number that is not drawn which are nearest to those of a state.
 fn lawful_bits(state: TxState) -> u32
@@ -43,7 +31,12 @@ fn check_place(b: &[u8], page: PageNo, from: u32, place: u32) -> Result<(), Dama
         return Ok(());
     }
     let state = state_at(b, place);
-    check_field(page, Field::State, bits_of(state), lawful_bits(state))
+    check_field(
+        page,
+        Field::State,
+        u32::from(bits_of(state)),
+        lawful_bits(state),
+    )
 }
 
 /// Tests the numbers on a transaction inventory page that are not drawn: those from a place on.

@@ -17,7 +17,7 @@ use Rattle.mg_engine_meaning.specs.Standings.{ShowsIt, StandsFor, StandsWhile, a
 use Rattle.mg_image.specs.Form.{Pages, packed_form}
 use Rattle.mg_image.specs.Histories.{HoldsDurable}
 use Rattle.mg_image.specs.Inventory.{state_at}
-use Rattle.mg_image.specs.Opening.{Holds, IsOpened, Opened, blank_image, sound_image}
+use Rattle.mg_image.specs.Opening.{Holds, IsOpened, Opened, sound_image, unmade_image}
 use Rattle.mg_image.specs.Sound.{IsSoundBy}
 use Rattle.mg_lasting.specs.CrashStatements.{PoolLeaves, RunsLast}
 use Rattle.mg_lasting.specs.Crashes.{HoldsAcknowledged, HoldsFrom, LeavesSince, asked}
@@ -148,7 +148,7 @@ module _ {D : Type 0} (m : Meaning D) (counts : CountsNow m) (runs : RunsLast D 
 
 not_blank : (size : ℕ) (pages : Pages) (opened : Opened) → Holds packed_form size pages opened
     → (pages 0 ≡ blank size → ⊥) → IsOpened packed_form size pages opened
-not_blank size pages opened (blank_image none new) not_ = absurd (not_ none.header)
+not_blank size pages opened (unmade_image none new) not_ = absurd (not_ none.header)
 not_blank size pages opened (sound_image is) not_ = is
 
 -- who counted as dead, where nobody was active, is dead for all

@@ -1,4 +1,4 @@
--- A blank image holds a new database, and any image what a history begins with.
+-- An image on which a database may be made holds a new one, and any image what a history begins with.
 use Rattle.std.specs.Prelude.{◌≡◌, ◌≤◌, ◌==◌, ◌-◌, ℕ, nat_lt, Bool, false, [], None, refl, slice_index_or, if◌then◌else◌}
 use Rattle.std.proofs.Common.{ap, subst, le-ltb, lit≤, arith}
 use Rattle.std.proofs.lemmas.Bool.{ne_eqb}
@@ -10,7 +10,7 @@ use Rattle.mg_model.specs.Machine.{opening_state}
 use Rattle.mg_model.specs.NewDatabase.{new_opening}
 use Rattle.mg_image.specs.Form.{Form, Pages}
 use Rattle.mg_image.specs.Histories.{Begins, HoldsDurable}
-use Rattle.mg_image.specs.Opening.{Holds, IsBlank, Opened, blank_image, new_row}
+use Rattle.mg_image.specs.Opening.{Holds, IsUnmade, Opened, new_row, unmade_image}
 
 -- a number that was not drawn is neither committed nor in limbo
 none_undrawn : (o : Opening) (t : ℕ) → 1 ≤ o.next.0 → o.next.0 ≤ t
@@ -25,17 +25,17 @@ none_undrawn o t first above =
         else (if q then slice_index_or o.states (t - 1) Dead else Dead)) ≡ false)
     at p q some undrawn = rw (some, undrawn) (refl, refl)
 
--- a blank image holds what a new database begins with
-pub blank_holds : (form : Form) (size : ℕ) (pages : Pages) (limit free k : ℕ) → IsBlank size pages
+-- an image on which a database may be made holds what a new database begins with
+pub unmade_holds : (form : Form) (size : ℕ) (pages : Pages) (limit free k : ℕ) → IsUnmade form size pages
     → HoldsDurable form size pages (new_opening limit free) [] k
-blank_holds form size pages limit free k blank = record {
+unmade_holds form size pages limit free k unmade = record {
   opened = record {
     rows = new_row;
     limbo = λ t name key. None;
     next = 1;
     state = opening_state (new_opening limit free);
   };
-  holds = blank_image blank (record {
+  holds = unmade_image unmade (record {
     rows = λ name key. refl;
     limbo = λ t name key. refl;
     next = refl;

@@ -10,7 +10,7 @@ use Rattle.mg_model.specs.Machine.{opening_rows}
 use Rattle.mg_model.specs.NewDatabase.{new_opening}
 use Rattle.mg_image.specs.Form.{Form, Pages, Row}
 use Rattle.mg_image.specs.Held.{AreChanges, Changes, Database, IsHeld}
-use Rattle.mg_image.specs.Inventory.{inventory_page, next_of, state_at}
+use Rattle.mg_image.specs.Inventory.{next_of, state_at}
 use Rattle.mg_image.specs.NewDatabase.{IsNewPage}
 use Rattle.mg_image.specs.RecordRules.{committed_in}
 use Rattle.mg_image.specs.Records.{Reading}
@@ -25,13 +25,6 @@ pub record Opened : Type 0 where
   pub next : ℕ
   pub state : ℕ → TxState
 
--- An image is blank: page 0 is all zero, and so is the page inventory page of each later region.
--- Nothing stands on it.
-pub record IsBlank (size : ℕ) (pages : Pages) : Type 0 where
-  pub header : pages 0 ≡ blank size
-  pub inventory : (region : ℕ) → 1 ≤ region → inventory_page size region < GREATEST_LIMIT
-      → pages (inventory_page size region) ≡ blank size
-
 -- A database may be made on an image: page 0 is all zero, and each other page is too, or it is that
 -- page of a new database. A crash while a database is made leaves such an image; one whose header
 -- was damaged is not.
@@ -44,7 +37,7 @@ pub record IsUnmade (form : Form) (size : ℕ) (pages : Pages) : Type 0 where
 abbrev pub new_row : List ℕ → Value → Option Row
 new_row name key = row_at (opening_rows (new_opening 1 0)) name key
 
--- What opening a blank image gives: a new database.
+-- What opening an image gives on which a database is made: a new database.
 pub record IsNew (opened : Opened) : Type 0 where
   pub rows : (name : List ℕ) (key : Value) → opened.rows name key ≡ new_row name key
   pub limbo : (t : ℕ) (name : List ℕ) (key : Value) → opened.limbo t name key ≡ None
@@ -62,7 +55,7 @@ pub record IsOpened (form : Form) (size : ℕ) (pages : Pages) (opened : Opened)
   pub next : opened.next ≡ next_of pages
   pub state : (t : ℕ) → t < opened.next → opened.state t ≡ state_at size pages t
 
--- an image is blank and holds a new database, or it is sound and holds what its records show
+-- a database may be made on an image, which holds a new one so, or it is sound and holds what its records show
 pub data Holds (form : Form) (size : ℕ) (pages : Pages) (opened : Opened) : Type 0 where
-  blank_image : IsBlank size pages → IsNew opened → Holds form size pages opened
+  unmade_image : IsUnmade form size pages → IsNew opened → Holds form size pages opened
   sound_image : IsOpened form size pages opened → Holds form size pages opened

@@ -9,7 +9,7 @@ use Rattle.mg_model.specs.declared.opening.TheConstants.{MOST_TRANSACTIONS}
 use Rattle.mg_value.specs.Rows.{RowFits, columns_of}
 use Rattle.mg_image.specs.Form.{Form, packed_coding, plain_coding}
 use Rattle.mg_image.specs.Histories.{Begins, GivesOpening}
-use Rattle.mg_image.specs.Opening.{Holds, IsNew, Opened, blank_image, sound_image}
+use Rattle.mg_image.specs.Opening.{Holds, IsNew, Opened, sound_image, unmade_image}
 use Rattle.mg_image_overlays.specs.HeldSome.{sound_opens}
 use Rattle.mg_image_openings.specs.Begun.{begins, begun, whole}
 use Rattle.mg_image_openings.specs.Fits.{SpellsFitting, first_fits}
@@ -38,7 +38,7 @@ new_begins opened new = record {
     at (suc t) below = absurd (omega (arith, below))
 
 pub opened_begin : (form : Form) → SpellsFitting form.coding → OpenedBegin form
-opened_begin form fitting size pages opened (blank_image blank new) = (
+opened_begin form fitting size pages opened (unmade_image unmade new) = (
   new_opening MOST_TRANSACTIONS 0,
   new_begins opened new,
   new_is_opening MOST_TRANSACTIONS 0 (lit≤ tt) (lit≤ tt),

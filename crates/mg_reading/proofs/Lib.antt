@@ -20,4 +20,3 @@ pub mod TipLemmas
 pub mod EachLemmas
 pub mod EntryLemmas
 pub mod PairLemmas
-pub mod BlankLemmas

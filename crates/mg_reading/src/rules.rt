@@ -10,7 +10,6 @@ ghost use Rattle.mg_tip.specs.TipPage.{tip_checks};
 ghost use Rattle.mg_reading.specs.ImageView.{pages_in};
 ghost use Rattle.mg_reading.specs.Readable.{HasSlots};
 ghost use Rattle.mg_image.specs.Inventory.{is_used as used_in, state_at};
-ghost use Rattle.mg_image.specs.Opening.{IsBlank};
 ghost use Rattle.mg_image.specs.Reached.{IsAsWanted};
 ghost use Rattle.mg_image.specs.Sound.{HasHeader, HasInventory, HasNoOldLimbo, HasNoneUndrawn, HasRegion, HasTips, HasTransactions, IsTablePointer, IsUndrawn};
 
@@ -174,22 +173,6 @@ impl Image {
         let bits = 8 * (self.size() - 16);
         for region in 0..(GREATEST_LIMIT - 2) / bits + 1 {
             if !self.has_region(region * bits + 1, region) {
-                return false;
-            }
-        }
-        true
-    }
-
-    /// Whether the image is blank: nothing stands on it.
-    pub fn is_blank(&self) -> bool
-        ensures { IsTrue result ↔ IsBlank self.now.size (pages_in self.now) }
-    {
-        let bits = 8 * (self.size() - 16);
-        if !is_zero(self.page(0)) {
-            return false;
-        }
-        for region in 1..(GREATEST_LIMIT - 2) / bits + 1 {
-            if !is_zero(self.page(region * bits + 1)) {
                 return false;
             }
         }

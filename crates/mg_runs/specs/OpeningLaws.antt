@@ -1,6 +1,5 @@
 -- What an opening gives of a run's promise.
-use Rattle.std.proofs.Common.{◌≡◌, ◌⊎◌, inl, inr, ◌≤◌, ◌+◌, ◌*◌, ℕ, zero, suc, true, List, [], Some, refl, sym, ◌∙◌, subst, arith}
-use Rattle.std.proofs.Math.Nat.{suc-mul}
+use Rattle.std.proofs.Common.{◌≡◌, ◌⊎◌, inl, inr, ◌≤◌, ◌+◌, ◌*◌, ℕ, true, List, [], Some, refl, sym, ◌∙◌, subst, arith}
 use Rattle.mg_base.specs.Disk.{Meaning}
 use Rattle.mg_base.specs.Geometry.{is_page_size}
 use Rattle.mg_base.specs.Image.{Image, blank, page_at}
@@ -13,19 +12,15 @@ use Rattle.mg_engine_meaning.specs.OpenedLaws.{content_leaves}
 use Rattle.mg_engine_meaning.specs.Openings.{BeginsWith, IsNoJudgement, IsOpenedOver, IsSettledOn, IsSoundImage, RefusesOpening, new_history}
 use Rattle.mg_format.specs.Format.{IsUnmadeImage, LeavesNew}
 use Rattle.mg_header.specs.declared.header.TheConstants.{GREATEST_NEXT}
-use Rattle.mg_image.specs.Form.{Pages, packed_coding, packed_form}
-use Rattle.mg_image.specs.HistoryLaws.{blank_holds, opened_holds}
-use Rattle.mg_image.specs.Inventory.{inventory_page}
-use Rattle.mg_image.specs.NewDatabase.{IsNewPage}
-use Rattle.mg_image.specs.Opening.{IsBlank, IsUnmade, sound_image}
+use Rattle.mg_image.specs.Form.{packed_coding, packed_form}
+use Rattle.mg_image.specs.HistoryLaws.{opened_holds, unmade_holds}
+use Rattle.mg_image.specs.Opening.{sound_image}
 use Rattle.mg_lasting.specs.Crashes.{HoldsFrom}
 use Rattle.mg_model.specs.History.{Entries}
 use Rattle.mg_model.specs.declared.opening.Opening.{Opening}
 use Rattle.mg_model.specs.declared.refusal.Refusal.{Refusal}
 use Rattle.mg_model.specs.declared.refusal.Refusal.TheVariants as refusals
-use Rattle.mg_pip.specs.PipPage.{bits}
 use Rattle.mg_pool.specs.Pool.{KeepsContent}
-use Rattle.mg_space.specs.TakingLaws.{bits_some}
 use Rattle.mg_space.specs.View.{Tells}
 use Rattle.mg_space.specs.ViewLaws.{CountsNow}
 use Rattle.mg_run_ends.specs.declared.ending.RunEnd.{RunEnd}
@@ -61,43 +56,14 @@ is_sound size image o it = record {
 not_unmade : (size : ℕ) (image : Image) (o : Opening) → BeginsWith size image o → IsUnmadeImage size image → ⊥
 not_unmade size image o it = header_is_made size size image it.sound.sound.header refl
 
--- on an image where a database may be made nothing stands: behind the seven pages each is zero
-zero_behind : (size n : ℕ) (page : List ℕ) → 7 ≤ n → (page ≡ blank size) ⊎ IsNewPage packed_coding size n page
-    → page ≡ blank size
-zero_behind size n page far (inl zero_) = zero_
-zero_behind size zero page far (inr new) = absurd (omega (arith, far))
-zero_behind size (suc zero) page far (inr new) = absurd (omega (arith, far))
-zero_behind size (suc (suc zero)) page far (inr new) = absurd (omega (arith, far))
-zero_behind size (suc (suc (suc zero))) page far (inr new) = absurd (omega (arith, far))
-zero_behind size (suc (suc (suc (suc zero)))) page far (inr new) = absurd (omega (arith, far))
-zero_behind size (suc (suc (suc (suc (suc zero))))) page far (inr new) = absurd (omega (arith, far))
-zero_behind size (suc (suc (suc (suc (suc (suc zero)))))) page far (inr new) = absurd (omega (arith, far))
-zero_behind size (suc (suc (suc (suc (suc (suc (suc n))))))) page far (inr new) = new
-
-unmade_is_blank : (size : ℕ) (pages : Pages) → is_page_size size ≡ true → IsUnmade packed_form size pages
-    → IsBlank size pages
-unmade_is_blank size pages lawful unmade = record {
-  header = unmade.header;
-  inventory = λ region some inside. zero_behind size (inventory_page size region) (pages (inventory_page size region))
-      (far region some) (unmade.others (inventory_page size region)
-      (let behind = far region some in omega (arith, behind)) inside);
-}
-  where
-    far : (region : ℕ) → 1 ≤ region → 7 ≤ inventory_page size region
-    far zero some = absurd (omega (arith, some))
-    far (suc region) some =
-        let more : suc region * bits size ≡ region * bits size + bits size = suc-mul region (bits size) in
-        let least = bits_some size lawful in omega (arith, more, least)
-
--- so it holds a new database, however many free pages that is promised
-unmade_holds : (size free : ℕ) (image : Image) → is_page_size size ≡ true → IsUnmadeImage size image
+-- an image where a database may be made holds a new one, however many free pages that is promised
+unmade_holds_from : (size free : ℕ) (image : Image) → IsUnmadeImage size image
     → HoldsFrom packed_form size (new_history free) [] 0 image
-unmade_holds size free image lawful unmade = record {
+unmade_holds_from size free image unmade = record {
   k = 0;
   at_least = omega arith;
   at_most = omega arith;
-  holds = blank_holds packed_form size (page_at size image) GREATEST_NEXT free 0
-      (unmade_is_blank size (page_at size image) lawful unmade);
+  holds = unmade_holds packed_form size (page_at size image) GREATEST_NEXT free 0 unmade;
 }
 
 -- ---- what a crash leaves since an opening
@@ -133,8 +99,8 @@ module _ (new_begin : NewBegin) {D : Type 0} (m : Meaning D) (counts : CountsNow
       turn : (t : ℕ) (c : Image) → m.left new t c → LeavesNew m disk size c
           → HoldsFrom packed_form size (new_history free) [] 0 c
       turn t c left (inl may) = subst (HoldsFrom packed_form size (new_history free) [] 0) (sym (on.only c may))
-          (unmade_holds size free image lawful unmade)
-      turn t c left (inr (inl is)) = unmade_holds size free c lawful is
+          (unmade_holds_from size free image unmade)
+      turn t c left (inr (inl is)) = unmade_holds_from size free c is
       turn t c left (inr (inr made)) = begins_hold size c (new_history free)
           (new_begin free size c lawful made (entry_whole.left new t c sized left))
 

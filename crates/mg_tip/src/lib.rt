@@ -20,4 +20,4 @@ mod page;
 mod states;
 
 pub use page::{PREV_AT, STATES_AT, TIP_KIND, check_tip, new_tip, prev_of};
-pub use states::{set_state, state_at};
+pub use states::{bits_of, set_state, state_at};

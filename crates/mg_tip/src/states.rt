@@ -8,7 +8,7 @@ use crate::STATES_AT;
 use mg_base::TxState;
 
 /// The two bits of a state (Firebird ODS, transaction inventory page).
-fn bits_of(s: TxState) -> u8
+pub fn bits_of(s: TxState) -> u8
     ensures { result ≡ bits s }
 {
     match s {

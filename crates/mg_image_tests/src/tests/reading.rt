@@ -271,22 +271,6 @@ fn an_image_is_read_or_breaks_the_rule_that_is_told(rt: HostRuntime) -> Result<(
     hold_each(&rt, rt.alloc(), READ)
 }
 
-// Pages of a file, and whether it is blank: none of it was made yet.
-struct Blank(&'static [Sheet], bool);
-
-impl Case for Blank {
-    fn holds(&self, alloc: Global) -> Result<bool, Fail> {
-        Ok(image_of(alloc, self.0, &[EMPTIED])?.is_blank() == self.1)
-    }
-}
-
-const FILES: &[Blank] = &[Blank(&[], true), Blank(SOUND, false)];
-
-#[test]
-fn a_file_that_was_not_made_yet_is_blank(rt: HostRuntime) -> Result<(), Fail> {
-    hold_each(&rt, rt.alloc(), FILES)
-}
-
 // A new database.
 const NEW: &[Change] = &[
     (0, Sheet::Header(1, 1, 1, 3)),
