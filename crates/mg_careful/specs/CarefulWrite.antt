@@ -21,6 +21,10 @@ Demands = List ℕ → Demand → List Demand
 abbrev pub Meets : Type 0
 Meets = List ℕ → Demand → Bool
 
+-- what the bytes of the page of a number have to be
+abbrev pub Lawful : Type 1
+Lawful = ℕ → List ℕ → Type 0
+
 -- a demand is in a list
 abbrev pub Has : List Demand → Demand → Type 0
 Has [] d = ⊥

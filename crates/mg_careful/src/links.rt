@@ -1,7 +1,8 @@
 //! What one page demands of others, and the law by which ordered page writes keep it.
 
+ghost use Rattle.std.specs.Bool.{OnTrue};
 ghost use Rattle.std.specs.Prelude.{◌≡◌, ◌++◌, OnOk, OnErr};
-ghost use Rattle.mg_careful.specs.CarefulWrite.{Demands, Meets, CarefulWrite, ListsAreSets};
+ghost use Rattle.mg_careful.specs.CarefulWrite.{Demands, Meets, Lawful, CarefulWrite, ListsAreSets};
 ghost use Rattle.mg_careful.specs.CarefulSteps.{StaysCareful, BatchStaysCareful};
 
 use mg_base::Memory;
@@ -24,6 +25,8 @@ pub trait Links {
 
     ghost meets_of: { Meets };
 
+    ghost lawful_of: { Lawful };
+
     /// Appends to `out` what the wanted thing demands in turn, by the one definition `demands_of`.
     ///
     /// # Errors
@@ -36,6 +39,11 @@ pub trait Links {
     /// Tells whether the page has what is wanted, by the one definition `meets_of`.
     fn meets(b: &[u8], want: &Demand) -> bool
         ensures { result ≡ meets_of b.now want.now };
+
+    /// Tells that a page of this number with these bytes is the page that it says it is, by the one
+    /// definition `lawful_of`. It may be so where the answer is no.
+    fn is_lawful(page: u32, b: &[u8]) -> bool
+        ensures { OnTrue result (lawful_of page b.now) };
 }
 
 /// The careful-write law, for the links of every file format: the overlay of every closed set is

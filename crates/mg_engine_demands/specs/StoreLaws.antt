@@ -18,7 +18,7 @@ use Rattle.mg_pool.specs.declared.batch.BatchPage.{BatchPage}
 use Rattle.mg_pool.specs.Dirty.{DirtyPages, bytes_of, content_of, entry_in, is_dirty, is_marked, marked_by}
 use Rattle.mg_pool.specs.Pool.{cache_of, shown, taken_out}
 use Rattle.mg_pool.specs.Run.{HasWritten}
-use Rattle.mg_pool.specs.declared.dirty_page.DirtyPage.{DirtyPage}
+use Rattle.mg_pool.specs.DirtyPage.{DirtyPage}
 use Rattle.mg_pool.specs.declared.pool.Pool.{Pool}
 use Rattle.mg_row_writes.specs.Changing.{ChangesOwn}
 use Rattle.mg_space.specs.View.{KeepsStore, Tells, viewed}

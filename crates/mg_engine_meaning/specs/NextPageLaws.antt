@@ -11,7 +11,7 @@ use Rattle.mg_engine_steps.specs.PageWrites.{PageWritesFail, PageWritesGoOn}
 use Rattle.mg_image.specs.Form.{packed_form}
 use Rattle.mg_lasting.specs.PoolLaws.{HoldsOne}
 use Rattle.mg_pool.specs.Dirty.{DirtyPages, IsLeastPage, bytes_of, content_of, entry_in, is_dirty}
-use Rattle.mg_pool.specs.declared.dirty_page.DirtyPage.{DirtyPage}
+use Rattle.mg_pool.specs.DirtyPage.{DirtyPage}
 use Rattle.mg_pool.specs.declared.fault.PoolFault.TheVariants as faults
 use Rattle.mg_pool.specs.declared.pool.Pool.{Pool}
 use Rattle.mg_space.specs.declared.links.FireLinks.{FireLinks}

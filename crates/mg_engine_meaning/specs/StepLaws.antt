@@ -28,7 +28,7 @@ use Rattle.mg_pool.specs.Dirty.{DirtyPages, IsLeastPage, bytes_of, content_of, e
 use Rattle.mg_pool.specs.Pool.{shown, taken_out}
 use Rattle.mg_pool.specs.Refusal.{FailsWrites}
 use Rattle.mg_pool.specs.Run.{HasWritten, TimeGoesOn}
-use Rattle.mg_pool.specs.declared.dirty_page.DirtyPage.{DirtyPage}
+use Rattle.mg_pool.specs.DirtyPage.{DirtyPage}
 use Rattle.mg_pool.specs.declared.fault.PoolFault.{PoolFault}
 use Rattle.mg_pool.specs.declared.fault.PoolFault.TheVariants as faults
 use Rattle.mg_pool.specs.declared.pool.Pool.{Pool}

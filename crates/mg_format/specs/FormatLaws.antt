@@ -2,7 +2,7 @@
 use Rattle.std.specs.Prelude.{◌≡◌, [], List}
 use Rattle.std.proofs.Common.{ap}
 use Rattle.mg_pool.specs.Dirty.{bytes_of, content_of, entry_in}
-use Rattle.mg_pool.specs.declared.dirty_page.DirtyPage.{DirtyPage}
+use Rattle.mg_pool.specs.DirtyPage.{DirtyPage}
 use Rattle.mg_pool.specs.declared.pool.Pool.{Pool}
 use Rattle.std.specs.Prelude.{is_some}
 use Rattle.mg_format.specs.Format.{IsClean}

@@ -5,7 +5,7 @@ use Rattle.std.proofs.lemmas.Bool.{cases_Bool, cases_eq, both_ways, eq-eqb, ne_e
 use Rattle.std.proofs.lemmas.List.Sums.{sum_by-cons}
 use Rattle.std.proofs.lemmas.List.{take_more, drop_more, length_push, length-set}
 use Rattle.mg_pool.specs.declared.batch.BatchPage.{BatchPage}
-use Rattle.mg_pool.specs.declared.dirty_page.DirtyPage.{DirtyPage}
+use Rattle.mg_pool.specs.DirtyPage.{DirtyPage}
 use Rattle.mg_pool.specs.Batch.{content_in, is_in, IsOnce, dirty_with, Changed, PutsPage}
 use Rattle.mg_pool.specs.Dirty.{entry_in, bytes_of, content_of, is_dirty}
 

@@ -1,5 +1,5 @@
 -- What a buffer has that was lent as a slice, and lists of buffers.
-use Rattle.std.proofs.Common.{◌≡◌, ℕ, List, ◌++◌, length, take, drop, Result, ap, sym, ◌∙◌}
+use Rattle.std.proofs.Common.{◌≡◌, ℕ, List, ◌++◌, length, take, drop, Result, ap, ◌∙◌}
 use Rattle.std.specs.Prelude.{OnOk}
 use Rattle.std.proofs.lemmas.List.{take_at}
 use Rattle.mg_base.specs.Image.{Image, page_at}

@@ -4,7 +4,7 @@ use Rattle.std.specs.Prelude.{remove, not, is_some}
 use Rattle.std.specs.List.{filter}
 use Rattle.std.proofs.lemmas.Bool.{cases_eq, cases_lt, both_ways, eq-eqb, ne_eqb}
 use Rattle.std.proofs.lemmas.List.{get_or_past, get_or-set_same, length-set, get_or-replicate, length_push, get_or_push, get_or_append_left}
-use Rattle.mg_pool.specs.declared.dirty_page.DirtyPage.{DirtyPage}
+use Rattle.mg_pool.specs.DirtyPage.{DirtyPage}
 use Rattle.mg_pool.specs.Dirty.{DirtyPages, entry_in, bytes_of, marked_by, content_of, is_marked, PutsContent, TakesOut, IsTable, IsSpare}
 
 -- no entry has the page

@@ -1,20 +1,19 @@
 -- What a call leaves that reads of the disk and writes no page.
-use Rattle.std.proofs.Common.{◌≡◌, ◌≢◌, ◌≤◌, ◌<◌, ℕ, ◌+◌, ◌-◌, ◌⊎◌, Bool, true, false, inl, inr, List, Option, Some, None, is_some, nat_cmp, cond, Bor, sym, ◌∙◌, ap, refl, subst, arith}
+use Rattle.std.proofs.Common.{◌≡◌, ◌≢◌, ◌≤◌, ℕ, ◌+◌, ◌-◌, ◌⊎◌, Bool, true, false, inl, inr, List, Option, Some, None, is_some, cond, Bor, sym, ◌∙◌, ap, refl, subst, arith}
 use Rattle.std.specs.Prelude.{Result, Ok, Err, OnOk, IsErrAnd, IsSome, min, ◌^◌}
-use Rattle.std.specs.BTreeMap.{get}
 use Rattle.std.specs.Option.{option_copied}
-use Rattle.std.specs.Ordering.{is_eq}
 use Rattle.std.proofs.lemmas.Bool.{cases_eq}
-use Rattle.std.proofs.lemmas.Grind.{common_steps}
 use Rattle.mg_base.specs.Disk.{Calm, Elapses, KeepsReads, Meaning, ReadsPage, Rose}
 use Rattle.mg_pool.specs.declared.fault.PoolFault.{PoolFault}
 use Rattle.mg_pool.specs.declared.fault.PoolFault.TheVariants.{DiskRead, DiskWrite, Offline, Absent, Memory}
 use Rattle.mg_pool.specs.declared.pool.Pool.{Pool}
+use Rattle.mg_pool.specs.Clean.{CleanPages, IsFull, KeepsClean, PutsClean, kept_in}
 use Rattle.mg_pool.specs.Dirty.{DirtyPages, content_of, is_dirty}
 use Rattle.mg_pool.specs.Fault.{OnlyRefuses, StaysOnline, TellsFault}
-use Rattle.mg_pool.specs.Pool.{IsOnDisk, IsPool, KeepsContent, resident}
-use Rattle.mg_pool.specs.Reading.{Fetches}
-use Rattle.mg_pool.proofs.PoolLemmas.{on_disk_calm, size_stays, some_copied}
+use Rattle.mg_pool.specs.Pool.{IsCounted, IsOnDisk, IsPool, KeepsContent, resident}
+use Rattle.mg_pool.specs.Reading.{Fetches, Stay}
+use Rattle.mg_pool.specs.ReadingLaws.{stay_still}
+use Rattle.mg_pool.proofs.PoolLemmas.{counted_calm, on_disk_calm, size_stays, some_copied}
 use Rattle.mg_pool.proofs.RunLemmas.{CountsNow}
 
 -- the disk's content is as it was, after one call of it or several
@@ -22,6 +21,7 @@ pub record Quiet {D : Type 0} (m : Meaning D) (old new : D) : Type 0 where
   pub size : (n : ℕ) → m.size old ≡ Some n → m.size new ≡ Some n
   pub content : KeepsContent m old new
   pub on_disk : (p : ℕ) → IsOnDisk m old p → IsOnDisk m new p
+  pub counted : IsCounted m old → IsCounted m new
 
 pub quiet_none : {D : Type 0} (m : Meaning D) (disk : D) → Quiet m disk disk
 quiet_none m disk = record {
@@ -40,6 +40,7 @@ quiet_none m disk = record {
     asked = refl;
   };
   on_disk = λ p there. there;
+  counted = λ there. there;
 }
 
 pub quiet_call : {D T E : Type 0} (m : Meaning D) (old new : D) (result : Result T E) → Calm m old new result → Quiet m old new
@@ -55,6 +56,7 @@ quiet_call m old new result calm = record {
     asked = calm.asked;
   };
   on_disk = λ p there. on_disk_calm m old new result calm p there;
+  counted = λ there. counted_calm m old new result calm there;
 }
 
 elapses_then : {D : Type 0} (m : Meaning D) → CountsNow m → (a b c : D) → m.tells a ≡ true → KeepsContent m a b → KeepsContent m b c → Elapses m a c
@@ -89,6 +91,7 @@ quiet_then m counts a b c first second =
         asked = two.asked ∙ one.asked;
       };
       on_disk = λ p there. second.on_disk p (first.on_disk p there);
+      counted = λ there. second.counted (first.counted there);
     }
 
 -- What was read.
@@ -134,6 +137,7 @@ pool_quiet m old disk faults pool quiet = record {
   apart = pool.apart;
   whole = pool.whole;
   on_disk = λ online page bytes there. quiet.on_disk page (pool.on_disk online page bytes there);
+  counted = λ online told. quiet.counted (pool.counted online told);
   clean = λ told image held. pool.clean (sym quiet.content.tells ∙ told) image (sym quiet.content.held ∙ held);
 }
 
@@ -146,7 +150,7 @@ leaves_pages {D} {L} m old disk faults new page is pool quiet once none = subst 
   graph = refl;
   same = λ p. refl;
   disk = quiet.content;
-  reads = record { once = once; none = none; stay = λ p there. there };
+  reads = record { once = once; none = none; stay = record { there = λ p is. inl is; full = λ full. full } };
 })
 
 pub leaves_all : {D L : Type 0} (m : Meaning D) (old : Pool D L) (page : ℕ) → IsPool m old → LeavesPages m old old page
@@ -160,7 +164,7 @@ leaves_all m old page pool = record {
   reads = record {
     once = reads_at_most m old.disk old.disk page (reads_none m old.disk);
     none = λ there. reads_none m old.disk;
-    stay = λ p there. there;
+    stay = stay_still old;
   };
 }
 
@@ -168,9 +172,14 @@ leaves_all m old page pool = record {
 pub shown_so : {D L : Type 0} (pool : Pool D L) (page : ℕ) (r : Option (Bor (List ℕ))) (b v : Bool) → option_copied r ≡ resident pool page → b ≡ is_some r → b ≡ v → is_some (resident pool page) ≡ v
 shown_so pool page r b v copied is told = ap is_some (sym copied) ∙ (some_copied r ∙ (sym is ∙ told))
 
--- the same as before, with a map of the same clean pages
-pub leaves_cleaned : {D L : Type 0} (m : Meaning D) (old middle new : Pool D L) (page : ℕ) → new ≡ record middle { clean = new.clean } → ((p : ℕ) → get nat_cmp new.clean p ≡ get nat_cmp middle.clean p) → LeavesPages m old middle page → LeavesPages m old new page
-leaves_cleaned {D} {L} m old middle new page is same left =
+-- the same clean pages are kept where the table is as before
+pub keeps_same : (old new : CleanPages) → new ≡ old → KeepsClean old new
+keeps_same old new is = subst (λ (c : CleanPages). KeepsClean old c) (sym is) (record { same = λ p. refl; full = λ full. full; room = refl })
+
+-- the same as before, with a table of the same clean pages
+pub leaves_cleaned : {D L : Type 0} (m : Meaning D) (old middle new : Pool D L) (page : ℕ) → new ≡ record middle { clean = new.clean } → KeepsClean middle.clean new.clean → LeavesPages m old middle page → LeavesPages m old new page
+leaves_cleaned {D} {L} m old middle new page is keeps left =
+    let same = keeps.same in
     let found : (p : ℕ) → resident (record middle { clean = new.clean }) p ≡ resident middle p = λ p. ap (cond (is_dirty middle.dirty p) (content_of middle.dirty p)) (same p) in
     let pool = left.pool in
     subst (λ (p : Pool D L). LeavesPages m old p page) (sym is) (record {
@@ -184,6 +193,7 @@ leaves_cleaned {D} {L} m old middle new page is same left =
         apart = λ p dirty. same p ∙ pool.apart p dirty;
         whole = λ p bytes there. pool.whole p bytes (sym (same p) ∙ there);
         on_disk = λ online p bytes there. pool.on_disk online p bytes (sym (same p) ∙ there);
+        counted = pool.counted;
         clean = λ told image held p bytes there. pool.clean told image held p bytes (sym (same p) ∙ there);
       };
       geometry = left.geometry;
@@ -194,33 +204,42 @@ leaves_cleaned {D} {L} m old middle new page is same left =
       reads = record {
         once = left.reads.once;
         none = left.reads.none;
-        stay = λ p there. ap is_some (found p) ∙ left.reads.stay p there;
+        stay = record {
+          there = λ p is. elim (left.reads.stay.there p is) [
+            | inl still ↦ inl (ap is_some (found p) ∙ still)
+            | inr full ↦ inr (keeps.full full)
+          ];
+          full = λ full. keeps.full (left.reads.stay.full full);
+        };
       };
     })
 
--- a page that is put beside the clean ones, and all others
-pub put_gets : (was now : ℕ → Option (List ℕ)) (page : ℕ) (content : List ℕ) → ((q : ℕ) → now q ≡ cond (is_eq (nat_cmp page q)) (Some content) (was q)) → (now page ≡ Some content) × ((q : ℕ) → q ≢ page → now q ≡ was q)
-put_gets was now page content each = (each page ∙ here, λ q apart. each q ∙ other q apart)
-  where
-    here : cond (is_eq (nat_cmp page page)) (Some content) (was page) ≡ Some content
-    here = grind (arith, common_steps)
+dirty_or_kept : (b : Bool) (c was now : Option (List ℕ)) (P : Type 0) → (is_some was ≡ true → (is_some now ≡ true) ⊎ P) → is_some (cond b c was) ≡ true → (is_some (cond b c now) ≡ true) ⊎ P
+dirty_or_kept true c was now P stays is = inl is
+dirty_or_kept false c was now P stays is = stays is
 
-    other : (q : ℕ) → q ≢ page → cond (is_eq (nat_cmp page q)) (Some content) (was q) ≡ was q
-    other q apart = grind (arith, common_steps)
-
--- then it is in memory, and so are those that were
-pub put_stays : {D L : Type 0} (old new : Pool D L) (page : ℕ) (content : List ℕ) → new.dirty ≡ old.dirty → is_dirty old.dirty page ≡ false → get nat_cmp new.clean page ≡ Some content → ((q : ℕ) → q ≢ page → get nat_cmp new.clean q ≡ get nat_cmp old.clean q)
-    → IsSome (resident new page) × ((p : ℕ) → IsSome (resident old p) → IsSome (resident new p))
-put_stays old new page content same out here others = (
+-- a page that is put beside the clean ones is in memory, and so are those that were, until there is no room
+pub put_stays : {D L : Type 0} (old new : Pool D L) (page : ℕ) (content : List ℕ) → new.dirty ≡ old.dirty → is_dirty old.dirty page ≡ false → PutsClean old.clean new.clean page content
+    → IsSome (resident new page) × Stay old new
+put_stays old new page content same out puts = (
   there,
-  λ p was. elim (cases_eq p page) [
-    | inl e ↦ subst (λ (q : ℕ). IsSome (resident new q)) (sym e) there
-    | inr apart ↦ subst (λ (d : DirtyPages). is_some (cond (is_dirty d p) (content_of d p) (get nat_cmp new.clean p)) ≡ true) (sym same) (ap (λ (o : Option (List ℕ)). is_some (cond (is_dirty old.dirty p) (content_of old.dirty p) o)) (others p apart) ∙ was)
-  ],
+  record {
+    there = λ p was. elim (cases_eq p page) [
+      | inl e ↦ inl (subst (λ (q : ℕ). IsSome (resident new q)) (sym e) there)
+      | inr apart ↦ subst (λ (d : DirtyPages). (is_some (cond (is_dirty d p) (content_of d p) (kept_in new.clean p)) ≡ true) ⊎ IsFull new.clean) (sym same) (dirty_or_kept (is_dirty old.dirty p) (content_of old.dirty p) (kept_in old.clean p) (kept_in new.clean p) (IsFull new.clean) (λ is. still p apart is) was)
+    ];
+    full = puts.full;
+  },
 )
   where
-    there : is_some (cond (is_dirty new.dirty page) (content_of new.dirty page) (get nat_cmp new.clean page)) ≡ true
-    there = rw (same, out, here) refl
+    there : is_some (cond (is_dirty new.dirty page) (content_of new.dirty page) (kept_in new.clean page)) ≡ true
+    there = rw (same, out, puts.here) refl
+
+    still : (p : ℕ) → p ≢ page → is_some (kept_in old.clean p) ≡ true → (is_some (kept_in new.clean p) ≡ true) ⊎ IsFull new.clean
+    still p apart is = elim (puts.stays p apart is) [
+      | inl kept ↦ inl kept
+      | inr full ↦ inr (puts.full full)
+    ]
 
 is_there : {X : Type 0} (o : Option X) → is_some o ≡ true → (x : X) × (o ≡ Some x)
 is_there None some = absurd cc
@@ -237,7 +256,7 @@ present m pool page is_pool online there = at (is_dirty pool.dirty page) refl
     at : (b : Bool) → is_dirty pool.dirty page ≡ b → (is_dirty pool.dirty page ≡ true) ⊎ IsOnDisk m pool.disk page
     at true is = inl is
     at false is =
-        let clean = is_there (get nat_cmp pool.clean page) (clean_there (is_dirty pool.dirty page) (content_of pool.dirty page) (get nat_cmp pool.clean page) is there) in
+        let clean = is_there (kept_in pool.clean page) (clean_there (is_dirty pool.dirty page) (content_of pool.dirty page) (kept_in pool.clean page) is there) in
         inr (is_pool.on_disk online page clean.0 clean.1)
 
 -- What the answer tells.

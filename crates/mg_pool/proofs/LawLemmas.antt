@@ -11,7 +11,7 @@ use Rattle.mg_careful.specs.Graph.{PageGraph, is_ordered}
 use Rattle.mg_careful.specs.GraphLaws.{ordered_entered}
 use Rattle.mg_careful.specs.CarefulWrite.{Pages, PageSet, Cache, Demands, Meets, DemandSet, IsClosed, BearsDemands, CarefulWrite, IsCareful, three_parts}
 use Rattle.mg_careful.specs.CarefulSteps.{written_out, StaysCareful, BatchStaysCareful, LaysBatch}
-use Rattle.mg_pool.specs.declared.dirty_page.DirtyPage.{DirtyPage}
+use Rattle.mg_pool.specs.DirtyPage.{DirtyPage}
 use Rattle.mg_pool.specs.declared.pool.Pool.{Pool}
 use Rattle.mg_pool.specs.Batch.{lists}
 use Rattle.mg_pool.specs.Change.{ChangesPages}

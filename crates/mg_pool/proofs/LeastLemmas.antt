@@ -5,7 +5,7 @@ use Rattle.std.specs.Option.{option_map}
 use Rattle.std.specs.Prelude.{IsSome}
 use Rattle.std.proofs.lemmas.List.{length-set, get_or-set_same, get_or-set_other, length-map}
 use Rattle.mg_careful.specs.Rows.{IsLeast, lesser_of}
-use Rattle.mg_pool.specs.declared.dirty_page.DirtyPage.{DirtyPage}
+use Rattle.mg_pool.specs.DirtyPage.{DirtyPage}
 use Rattle.mg_pool.specs.Dirty.{entry_in, bytes_of, marked_by, IsTable, IsLeastPage, content_of, is_dirty, is_marked, DirtyPages, with_mark, MarksAll}
 use Rattle.mg_pool.proofs.DirtyLemmas.{entry_at, table}
 

@@ -14,4 +14,6 @@ mod OutsideLemmas
 mod LawfulLemmas
 mod FetchLemmas
 pub mod BufferLemmas
+mod PassLemmas
 mod PlaceLemmas
+mod CleanLemmas

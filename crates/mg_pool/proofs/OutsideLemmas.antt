@@ -3,7 +3,7 @@ use Rattle.std.proofs.Common.{◌≡◌, ◌<◌, ◌==◌, ℕ, Bool, true, fal
 use Rattle.std.specs.Prelude.{IsSome}
 use Rattle.std.proofs.lemmas.Bool.{eqb-true, and_from, not_from_false}
 use Rattle.mg_pool.specs.declared.batch.BatchPage.{BatchPage}
-use Rattle.mg_pool.specs.declared.dirty_page.DirtyPage.{DirtyPage}
+use Rattle.mg_pool.specs.DirtyPage.{DirtyPage}
 use Rattle.mg_pool.specs.Batch.{is_in, outside_in, dirty_with}
 use Rattle.mg_pool.specs.Dirty.{entry_in, bytes_of, content_of, is_dirty, IsTable, IsLeastPage}
 use Rattle.mg_pool.proofs.DirtyLemmas.{table}

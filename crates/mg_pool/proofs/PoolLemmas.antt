@@ -4,14 +4,14 @@ use Rattle.std.proofs.lemmas.Bool.{cases_eq, cases_lt, both_ways, eqb-true, eq-e
 use Rattle.mg_base.specs.Image.{Image, page_at, written, length-written, page_at-written_same, page_at-written_other}
 use Rattle.mg_base.specs.Disk.{Meaning, MayLeave, Elapses, Writes, Calm, Keeps, Stays}
 use Rattle.mg_base.specs.Moments.{LeavesOnly}
-use Rattle.std.specs.Prelude.{Result, Ok, Err, max}
+use Rattle.std.specs.Prelude.{Result, Ok, Err, IfSome, max}
 use Rattle.std.specs.Option.{option_copied}
 use Rattle.std.proofs.Common.{Bor}
 use Rattle.mg_careful.specs.Precedence.{Precedes, directly, through}
 use Rattle.mg_careful.specs.Graph.{PageGraph, is_entered, is_ordered, entered_count, ClearsPage}
 use Rattle.mg_careful.specs.CarefulWrite.{PageSet, IsClosed, overlay}
 use Rattle.mg_pool.specs.Dirty.{DirtyPages, content_of, is_dirty, TakesOut}
-use Rattle.mg_pool.specs.Pool.{shown, cache_of, IsTied, IsOverlay, IsClosedOverlay, with_page, WritesOut, WritesSet, LeavesClosed, IsOnDisk}
+use Rattle.mg_pool.specs.Pool.{shown, cache_of, IsTied, IsOverlay, IsClosedOverlay, with_page, WritesOut, WritesSet, LeavesClosed, IsOnDisk, IsCounted}
 
 -- the image with one dirty page written is the overlay of that page alone
 pub overlay_one : (dirty : DirtyPages) (graph : PageGraph) (image : Image) (page : ℕ) (bytes : List ℕ) → content_of dirty page ≡ Some bytes → IsOverlay dirty graph image (λ p. p == page) (written dirty.size image page bytes)
@@ -239,15 +239,23 @@ absent_is_clean dirty clean page out = at (is_dirty dirty page) refl out
     at false is none = is
 
 -- a page is put beside the clean ones: what holds of each clean page
-pub put_clean : (was now : ℕ → Option (List ℕ)) (page : ℕ) (content : List ℕ) → now page ≡ Some content → ((p : ℕ) → p ≢ page → now p ≡ was p) → (P : ℕ → List ℕ → Type 0) → P page content → ((p : ℕ) (bytes : List ℕ) → was p ≡ Some bytes → P p bytes) → (p : ℕ) (bytes : List ℕ) → now p ≡ Some bytes → P p bytes
+pub put_clean : (was now : ℕ → Option (List ℕ)) (page : ℕ) (content : List ℕ) → now page ≡ Some content → ((p : ℕ) (b : List ℕ) → p ≢ page → now p ≡ Some b → was p ≡ Some b) → (P : ℕ → List ℕ → Type 0) → P page content → ((p : ℕ) (bytes : List ℕ) → was p ≡ Some bytes → P p bytes) → (p : ℕ) (bytes : List ℕ) → now p ≡ Some bytes → P p bytes
 put_clean was now page content here others P fresh old p bytes there =
     elim (cases_eq p page) [
       | inl e ↦
           let f : Some content ≡ Some bytes = sym here ∙ (ap now (sym e) ∙ there) in
           let h : content ≡ bytes = cc in
           subst (λ (q : ℕ). P q bytes) (sym e) (subst (λ (b : List ℕ). P page b) h fresh)
-      | inr apart ↦ old p bytes (sym (others p apart) ∙ there)
+      | inr apart ↦ old p bytes (others p bytes apart there)
     ]
+
+-- another one that was not there is not there
+pub put_none : (was now : ℕ → Option (List ℕ)) (page p : ℕ) → ((q : ℕ) (b : List ℕ) → q ≢ page → now q ≡ Some b → was q ≡ Some b) → p ≢ page → was p ≡ None → now p ≡ None
+put_none was now page p others apart none = at (now p) refl
+  where
+    at : (o : Option (List ℕ)) → now p ≡ o → now p ≡ None
+    at None is = is
+    at (Some b) is = (let e : None ≡ Some b = sym none ∙ others p b apart is in absurd cc)
 
 pub some_copied : {X : Type 0} (o : Option (Bor X)) → is_some (option_copied o) ≡ is_some o
 some_copied None = refl
@@ -370,6 +378,52 @@ on_disk_after m old new page bytes x writes p there = (max there.0 (page + 1), w
 -- and after a call that changes nothing of the content
 pub on_disk_calm : {D T E : Type 0} (m : Meaning D) (old new : D) (result : Result T E) → Calm m old new result → (p : ℕ) → IsOnDisk m old p → IsOnDisk m new p
 on_disk_calm m old new result calm p there = (there.0, stays_some (m.count old) (m.count new) there.0 there.1 calm.count, there.2)
+
+-- the number of pages stays known
+pub counted_calm : {D T E : Type 0} (m : Meaning D) (old new : D) (result : Result T E) → Calm m old new result → IsCounted m old → IsCounted m new
+counted_calm m old new result calm there = (there.0, stays_some (m.count old) (m.count new) there.0 there.1 calm.count)
+
+-- it stays known over a page write, and the page that was written is one of them
+pub counted_after : {D T E : Type 0} (m : Meaning D) (old new : D) (page : ℕ) (bytes : List ℕ) (x : T) → Writes {T = T} {E = E} m old new page bytes (Ok x) → IsCounted m old → IsCounted m new
+counted_after m old new page bytes x writes there = (max there.0 (page + 1), writes.count there.0 there.1)
+
+pub on_disk_written : {D T E : Type 0} (m : Meaning D) (old new : D) (page : ℕ) (bytes : List ℕ) (x : T) → Writes {T = T} {E = E} m old new page bytes (Ok x) → IsCounted m old → IsOnDisk m new page
+on_disk_written m old new page bytes x writes there = (max there.0 (page + 1), writes.count there.0 there.1, omega arith)
+
+-- and the disk has it as it was written
+pub stored_now : {D T E : Type 0} (m : Meaning D) (holds : Holds m) (old new : D) (page size : ℕ) (bytes : List ℕ) (x : T) → length bytes ≡ size → Writes {T = T} {E = E} m old new page bytes (Ok x) → m.tells new ≡ true → (image : Image) → m.held new ≡ Some image → bytes ≡ page_at size image page
+stored_now m holds old new page size bytes x whole writes told image now =
+    let before = holds old (sym writes.keeps.tells ∙ told) in
+    let e = held_after m old new page bytes x writes before.0 image before.1 now in
+    let f : image ≡ written size before.0 page bytes = e ∙ ap (λ (n : ℕ). written n before.0 page bytes) whole in
+    sym (ap (λ (i : Image). page_at size i page) f ∙ page_at-written_same size before.0 page bytes)
+
+-- What is kept of a page that was written.
+
+of_some : (o : Option (List ℕ)) (b : List ℕ) (P : List ℕ → Type 0) → o ≡ Some b → IfSome o P → P b
+of_some None b P is holds = let e : None ≡ Some b = is in absurd cc
+of_some (Some a) b P is holds = let e : Some a ≡ Some b = is in let f : a ≡ b = cc in subst P f holds
+
+pub kept_then : (C : Type 0) (was now : ℕ → Option (List ℕ)) (page : ℕ) (bytes : List ℕ) (copy content : Option (List ℕ)) → ((p : ℕ) (b : List ℕ) → now p ≡ Some b → (was p ≡ Some b) ⊎ ((p ≡ page) × (copy ≡ Some b))) → content ≡ Some bytes → IfSome copy (λ b. content ≡ Some b) → IfSome copy (λ b. C) → (P : ℕ → List ℕ → Type 0) → (C → P page bytes) → ((p : ℕ) (b : List ℕ) → was p ≡ Some b → P p b) → (p : ℕ) (b : List ℕ) → now p ≡ Some b → P p b
+kept_then C was now page bytes copy content kept is same told P fresh stays p b there =
+    elim (kept p b there) [
+      | inl before ↦ stays p b before
+      | inr put ↦
+          let c : C = of_some copy b (λ x. C) put.1 told in
+          let e : Some bytes ≡ Some b = sym is ∙ of_some copy b (λ x. content ≡ Some x) put.1 same in
+          let f : bytes ≡ b = cc in
+          subst (λ (q : ℕ). P q b) (sym put.0) (subst (λ (y : List ℕ). P page y) f (fresh c))
+    ]
+
+pub kept_none : (was now : ℕ → Option (List ℕ)) (page p : ℕ) (copy : Option (List ℕ)) → ((q : ℕ) (b : List ℕ) → now q ≡ Some b → (was q ≡ Some b) ⊎ ((q ≡ page) × (copy ≡ Some b))) → p ≢ page → was p ≡ None → now p ≡ None
+kept_none was now page p copy kept apart none = at (now p) refl
+  where
+    at : (o : Option (List ℕ)) → now p ≡ o → now p ≡ None
+    at None is = is
+    at (Some b) is = elim (kept p b is) [
+      | inl before ↦ (let e : None ≡ Some b = sym none ∙ before in absurd cc)
+      | inr put ↦ absurd (apart put.0)
+    ]
 
 -- a page write that failed leaves each page as it is shown
 pub shown_failed : {D T E : Type 0} (m : Meaning D) (old new : D) (dirty : DirtyPages) (page : ℕ) (bytes : List ℕ) (x : E) → content_of dirty page ≡ Some bytes → length bytes ≡ dirty.size → Writes {T = T} {E = E} m old new page bytes (Err x) → (i j : Image) → m.held old ≡ Some i → m.held new ≡ Some j → (p : ℕ) → shown dirty j p ≡ shown dirty i p

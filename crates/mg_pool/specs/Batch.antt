@@ -9,7 +9,7 @@ use Rattle.mg_careful.specs.Graph.{PageGraph, is_ordered}
 use Rattle.mg_careful.specs.CarefulWrite.{PageSet}
 use Rattle.mg_pool.specs.declared.batch.BatchPage.{BatchPage}
 use Rattle.mg_pool.specs.declared.batch.TheConstants.{BATCH_PAGES}
-use Rattle.mg_pool.specs.declared.dirty_page.DirtyPage.{DirtyPage}
+use Rattle.mg_pool.specs.DirtyPage.{DirtyPage}
 use Rattle.mg_pool.specs.Dirty.{DirtyPages, is_dirty}
 
 -- the pages that are to change, and which of them has to be written before which page

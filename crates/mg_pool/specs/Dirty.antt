@@ -1,7 +1,7 @@
 -- The dirty pages of a cache, and what a change of the table leaves.
 use Rattle.std.specs.Prelude.{◌≡◌, ◌≢◌, ℕ, ◌+◌, ◌<◌, ◌≤◌, Bool, true, false, ◌==◌, List, [], ◌∷◌, length, Option, Some, None, is_some, slice_index_or, slice_set, if◌then◌else◌, not}
 use Rattle.std.specs.List.{filter}
-use Rattle.mg_pool.specs.declared.dirty_page.DirtyPage.{DirtyPage}
+use Rattle.mg_pool.specs.DirtyPage.{DirtyPage}
 
 -- a table of dirty pages: the size of a page, how many pages it has room for, and its pages
 pub record DirtyPages : Type 0 where

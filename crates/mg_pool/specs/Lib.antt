@@ -1,10 +1,13 @@
 pub mod Batch
 pub mod Change
+pub mod Clean
 pub mod Dirty
+pub mod DirtyPage
 pub mod Fault
 pub mod Law
 pub mod Lawful
 pub mod Pool
 pub mod Reading
+pub mod ReadingLaws
 pub mod Refusal
 pub mod Run

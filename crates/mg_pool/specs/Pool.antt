@@ -3,12 +3,11 @@ use Rattle.std.specs.Prelude.{◌≡◌, ℕ, ◌<◌, ◌≤◌, true, false, �
 use Rattle.mg_base.specs.Image.{Image, page_at}
 use Rattle.mg_base.specs.Disk.{Meaning, MayLeave, Elapses}
 use Rattle.mg_base.specs.Moments.{LeavesOnly}
-use Rattle.std.specs.Ordering.{nat_cmp}
-use Rattle.std.specs.BTreeMap.{get}
 use Rattle.mg_base.specs.declared.numbers.PageNo.{PageNo}
 use Rattle.mg_pool.specs.declared.pool.Pool.{Pool}
 use Rattle.mg_careful.specs.Graph.{PageGraph, is_entered, is_ordered, entered_count, room_of}
 use Rattle.mg_careful.specs.CarefulWrite.{Pages, PageSet, Cache, IsClosed, overlay}
+use Rattle.mg_pool.specs.Clean.{kept_in}
 use Rattle.mg_pool.specs.Dirty.{DirtyPages, content_of, is_dirty}
 
 -- the content of a page as the cache shows it over an image: a dirty page's own, else the image's
@@ -74,6 +73,10 @@ LeavesClosed m old new dirty graph image =
 abbrev pub IsOnDisk : {D : Type 0} → Meaning D → D → ℕ → Type 0
 IsOnDisk m disk page = (n : ℕ) × (m.count disk ≡ Some n) × (page < n)
 
+-- the disk tells how many pages it has
+abbrev pub IsCounted : {D : Type 0} → Meaning D → D → Type 0
+IsCounted m disk = (n : ℕ) × (m.count disk ≡ Some n)
+
 -- A crash at any moment since a call's start leaves what it might have left then, or the overlay of
 -- a set that was closed then, where the disk tells its images.
 abbrev pub LeavesOverlays : {D L : Type 0} → Meaning D → Pool D L → Pool D L → Type 0
@@ -89,19 +92,20 @@ pub record IsPool {D L : Type 0} (m : Meaning D) (pool : Pool D L) : Type 0 wher
   pub few : length pool.dirty.pages ≤ 512
   pub graph_room : room_of pool.graph ≡ 512
   pub tied : IsTied pool.dirty pool.graph
-  pub apart : (page : ℕ) → is_dirty pool.dirty page ≡ true → get nat_cmp pool.clean page ≡ None
-  pub whole : (page : ℕ) (bytes : List ℕ) → get nat_cmp pool.clean page ≡ Some bytes
+  pub apart : (page : ℕ) → is_dirty pool.dirty page ≡ true → kept_in pool.clean page ≡ None
+  pub whole : (page : ℕ) (bytes : List ℕ) → kept_in pool.clean page ≡ Some bytes
       → length bytes ≡ pool.geometry.size
   pub on_disk : pool.offline ≡ None → (page : ℕ) (bytes : List ℕ)
-      → get nat_cmp pool.clean page ≡ Some bytes → IsOnDisk m pool.disk page
+      → kept_in pool.clean page ≡ Some bytes → IsOnDisk m pool.disk page
+  pub counted : pool.offline ≡ None → pool.counted ≡ true → IsCounted m pool.disk
   pub clean : m.tells pool.disk ≡ true → (image : Image) → m.held pool.disk ≡ Some image
-      → (page : ℕ) (bytes : List ℕ) → get nat_cmp pool.clean page ≡ Some bytes
+      → (page : ℕ) (bytes : List ℕ) → kept_in pool.clean page ≡ Some bytes
       → bytes ≡ page_at pool.geometry.size image page
 
 -- the content of a page that the pool can show without the disk
 abbrev pub resident : {D L : Type 0} → Pool D L → ℕ → Option (List ℕ)
 resident pool page =
-    if is_dirty pool.dirty page then content_of pool.dirty page else get nat_cmp pool.clean page
+    if is_dirty pool.dirty page then content_of pool.dirty page else kept_in pool.clean page
 
 -- a call that writes no page: the disk holds what it held, a crash leaves nothing new, and no page
 -- write was asked for; its count of faults doesn't fall, and as many page writes pass in all

@@ -1,13 +1,15 @@
 -- What is asked of the disk where a page is read.
-use Rattle.std.specs.Prelude.{◌≡◌, ℕ, Bool, IsSome}
+use Rattle.std.specs.Prelude.{◌⊎◌, ℕ, Bool, IsSome}
 use Rattle.mg_base.specs.Asking.{AsksReads}
 use Rattle.mg_base.specs.Disk.{KeepsReads, Meaning, ReadsPage}
+use Rattle.mg_pool.specs.Clean.{IsFull}
 use Rattle.mg_pool.specs.Pool.{resident}
 use Rattle.mg_pool.specs.declared.pool.Pool.{Pool}
 
--- the pages that were in memory are there still
-abbrev pub Stay : {D L : Type 0} → Pool D L → Pool D L → Type 0
-Stay old new = (p : ℕ) → IsSome (resident old p) → IsSome (resident new p)
+-- The pages that were in memory are there still, until there is no room for more clean pages.
+pub record Stay {D L : Type 0} (old new : Pool D L) : Type 0 where
+  pub there : (p : ℕ) → IsSome (resident old p) → IsSome (resident new p) ⊎ IsFull new.clean
+  pub full : IsFull old.clean → IsFull new.clean
 
 -- A page was looked for: where it was in memory no page was read, and else it alone, once at most.
 pub record Fetches {D L : Type 0} (m : Meaning D) (old new : Pool D L) (page : ℕ) : Type 0 where

@@ -1,29 +1,31 @@
 //! The table of dirty pages. All its memory is taken when it is made.
 
 ghost use Rattle.std.specs.Prelude.{◌≡◌, ◌≢◌, ◌<◌, ◌↔◌, ℕ, IsTrue, IfOk, IsSome, IfSome, IfNone, Some, None, length, [], map, slice_index_or, vec_capacity, ◌≤◌, true, not, ◌&&◌};
+ghost use Rattle.std.specs.Bool.{OnTrue};
 ghost use Rattle.std.specs.Option.{option_copied};
 ghost use Rattle.mg_pool.specs.Dirty.{content_of, is_dirty as dirty_test, PutsContent, TakesOut, IsSpare, IsLeastPage, MarksAll, is_marked, marked_in, with_mark};
 ghost use Rattle.mg_pool.specs.Batch.{is_in, outside_in, dirty_with};
 ghost use Rattle.mg_careful.specs.Rows.{lesser_of};
-ghost use Rattle.mg_pool.specs.declared.dirty_page.DirtyPage.{DirtyPage};
+ghost use Rattle.mg_pool.specs.DirtyPage.{DirtyPage as Entry};
 
 use crate::batch::{BatchPage, has_page};
 use crate::dirty_page::{DirtyPage, MARKERS};
 use crate::reserved::append;
 use mg_base::{Bytes, Memory};
+use mg_careful::Links;
 use std::alloc::Global;
 use std::marker::Model;
 
 /// The dirty pages, each with its content, and buffers for as many more as there is room for.
 #[derive(Drop)]
-pub struct DirtyTable {
+pub struct DirtyTable<L: Links> {
     size: usize,
     room: usize,
-    pages: Vec<DirtyPage>,
+    pages: Vec<DirtyPage<L>>,
     spare: Vec<Bytes>,
 }
 
-impl Model for DirtyTable {
+impl<L: Links> Model for DirtyTable<L> {
     ghost use Rattle.std.specs.Prelude.{◌≡◌, ◌+◌, ◌≤◌, length, vec_capacity};
     ghost use Rattle.mg_pool.specs.Dirty.{DirtyPages, IsTable, IsSpare};
 
@@ -36,13 +38,13 @@ impl Model for DirtyTable {
         × (t.room ≤ vec_capacity t.pages) × (t.room ≤ vec_capacity t.spare) };
 }
 
-impl DirtyTable {
+impl<L: Links> DirtyTable<L> {
     /// A table without pages, with room for this many.
     ///
     /// # Errors
     ///
     /// `Memory` only.
-    pub fn new(alloc: Global, size: usize, room: usize) -> Result<DirtyTable, Memory>
+    pub fn new(alloc: Global, size: usize, room: usize) -> Result<DirtyTable<L>, Memory>
         ensures size { IfOk result (λ t. t.size ≡ size) }
         ensures room { IfOk result (λ t. t.room ≡ room) }
         ensures pages { IfOk result (λ t. t.pages ≡ []) }
@@ -75,7 +77,17 @@ impl DirtyTable {
         ensures whole { IfSome result (λ b. length b.now ≡ self.now.size) }
     {
         let place = find(&self.pages, page)?;
-        Some(self.pages[place].bytes.as_slice())
+        Some(self.pages[place].as_slice())
+    }
+
+    /// Tells that a dirty page is the page that it says it is, without a look at its content.
+    pub fn passes(&self, page: u32) -> bool
+        ensures { OnTrue result (IfSome (content_of self.now page) (λ b. L.lawful_of page b)) }
+    {
+        match find(&self.pages, page) {
+            Some(place) => self.pages[place].passes(),
+            None => false,
+        }
     }
 
     /// Puts a content, one page long, into a page's place, without memory. A page that wasn't dirty
@@ -87,7 +99,7 @@ impl DirtyTable {
     {
         if let Some(place) = find(&self.pages, page) {
             let entry = &mut self.pages[place];
-            entry.bytes.overwrite(bytes);
+            entry.overwrite(bytes);
             return;
         }
         if let Some(mut buffer) = self.spare.pop() {
@@ -104,19 +116,19 @@ impl DirtyTable {
     {
         if let Some(place) = find(&self.pages, page) {
             let entry = self.pages.remove(place);
-            append(&mut self.spare, entry.bytes);
+            append(&mut self.spare, entry.into_bytes());
         }
     }
 }
 
-impl DirtyTable {
+impl<L: Links> DirtyTable<L> {
     /// The dirty page of least number, none where no page is dirty.
     pub fn least(&self) -> Option<u32>
         ensures { IsLeastPage (dirty_test self.now) result }
     {
         let mut least = None;
         for i in 0..self.pages.len() {
-            least = lesser(least, Some(self.pages[i].page));
+            least = lesser(least, Some(self.pages[i].number()));
         }
         least
     }
@@ -157,24 +169,28 @@ impl DirtyTable {
 }
 
 /// Gives every entry the mark of `who`.
-fn mark_all(pages: &mut Vec<DirtyPage>, who: usize)
+fn mark_all<L: Links>(pages: &mut Vec<DirtyPage<L>>, who: usize)
     requires { who < MARKERS }
     ensures items { pages.new.items ≡ map (with_mark who) pages.old.items }
     ensures capacity { vec_capacity pages.new ≡ vec_capacity pages.old }
 {
     for i in 0..pages.len() {
         let entry = &mut pages[i];
-        entry.marks[who] = true;
+        entry.mark(who);
     }
 }
 
 /// The page at a place, if it isn't in a batch.
-fn page_outside(pages: &Vec<DirtyPage>, place: usize, batch: &Vec<BatchPage>) -> Option<u32>
+fn page_outside<L: Links>(
+    pages: &Vec<DirtyPage<L>>,
+    place: usize,
+    batch: &Vec<BatchPage>,
+) -> Option<u32>
     requires place { place < length pages.now.items }
-    ensures { (d : DirtyPage) → result ≡ outside_in batch.now.items
+    ensures { (d : Entry) → result ≡ outside_in batch.now.items
         (slice_index_or pages.now.items place d) }
 {
-    let page = pages[place].page;
+    let page = pages[place].number();
     if has_page(batch, page) {
         None
     } else {
@@ -183,13 +199,13 @@ fn page_outside(pages: &Vec<DirtyPage>, place: usize, batch: &Vec<BatchPage>) ->
 }
 
 /// The page at a place, if `who` has marked it.
-fn marked_page(pages: &Vec<DirtyPage>, place: usize, who: usize) -> Option<u32>
+fn marked_page<L: Links>(pages: &Vec<DirtyPage<L>>, place: usize, who: usize) -> Option<u32>
     requires place { place < length pages.now.items }
     requires who { who < MARKERS }
-    ensures { (d : DirtyPage) → result ≡ marked_in who (slice_index_or pages.now.items place d) }
+    ensures { (d : Entry) → result ≡ marked_in who (slice_index_or pages.now.items place d) }
 {
-    if pages[place].marks[who] {
-        Some(pages[place].page)
+    if pages[place].has_mark(who) {
+        Some(pages[place].number())
     } else {
         None
     }
@@ -220,14 +236,14 @@ fn buffers(alloc: Global, size: usize, room: usize) -> Result<Vec<Bytes>, Memory
 }
 
 /// The place of a page in the table.
-fn find(pages: &Vec<DirtyPage>, page: u32) -> Option<usize>
+fn find<L: Links>(pages: &Vec<DirtyPage<L>>, page: u32) -> Option<usize>
     ensures found { IfSome result (λ i. (i < length pages.now.items)
-        × ((d : DirtyPage) → (slice_index_or pages.now.items i d).page ≡ page)) }
-    ensures absent { IfNone result ((i : ℕ) (d : DirtyPage) → i < length pages.now.items
+        × ((d : Entry) → (slice_index_or pages.now.items i d).page ≡ page)) }
+    ensures absent { IfNone result ((i : ℕ) (d : Entry) → i < length pages.now.items
         → (slice_index_or pages.now.items i d).page ≢ page) }
 {
     for (i, d) in pages.iter().enumerate() {
-        if d.page == page {
+        if d.number() == page {
             return Some(i);
         }
     }

@@ -7,10 +7,15 @@
 //!
 //! A page is dirty from its change to its next page write. At most 512 pages are dirty: their
 //! buffers and the graph of their orders are taken at once, so a change of one page, a page write
-//! and a settle take no memory. Where one more page would be dirty, or an order would close a
-//! cycle, the change first writes pages with their old content, and in no other case. Clean pages
-//! are kept in an ordered map without a bound. A call that is refused leaves everything as it was,
-//! but for the page writes that were made before one failed.
+//! and a settle are refused for no want of memory. Where one more page would be dirty, or an order
+//! would close a cycle, the change first writes pages with their old content, and in no other case.
+//! As many clean pages are kept as the pool was made for (`CLEAN_PAGES`), those that were used last;
+//! a page that was written is kept as one, where there is memory for it. A call that is refused
+//! leaves everything as it was, but for the page writes that were made before one failed.
+//!
+//! A content is tested when it comes to the cache, as the page of its number and by the test of the
+//! file's format (`Links::is_lawful`); the answer stays beside it (`Tested`), and `passes` tells it
+//! without a look at the bytes.
 //!
 //! Invariant: exactly the dirty pages stand in the graph of orders, orders have no cycle, each
 //! content is one page long, and a clean page is as on the disk. After a page write or a settle has
@@ -21,15 +26,18 @@
 #![tactic(auto)]
 
 mod batch;
+mod clean;
 mod dirty;
 mod dirty_page;
 mod fault;
 mod law;
 mod pool;
 mod reserved;
+mod tested;
 
 pub use batch::{BATCH_PAGES, Batch, BatchPage};
 pub use dirty_page::MARKERS;
 pub use fault::PoolFault;
 pub use law::stays_careful;
-pub use pool::{DIRTY_PAGES, Pool};
+pub use pool::{CLEAN_PAGES, DIRTY_PAGES, Pool};
+pub use tested::Tested;

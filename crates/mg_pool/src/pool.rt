@@ -1,6 +1,7 @@
 //! The cache of pages over a disk.
 
 ghost use Rattle.std.specs.Option.{option_copied};
+ghost use Rattle.std.specs.Bool.{OnTrue};
 ghost use Rattle.std.specs.Prelude.{◌≡◌, ◌≢◌, ◌⊎◌, ◌<◌, ◌≤◌, ◌+◌, ◌-◌, ◌^◌, min, Err, None, [], ℕ, length, unwrap_or, IfOk, IfSome, IsSome, true, false, Some, OnOk, OnErr, IfErr};
 ghost use Rattle.mg_base.specs.Image.{Image, page_at};
 ghost use Rattle.mg_base.specs.Disk.{MayLeave, Calm, ReadsPage};
@@ -12,23 +13,26 @@ ghost use Rattle.mg_pool.specs.Reading.{Fetches};
 ghost use Rattle.mg_pool.specs.Run.{HasWritten, WritesPage};
 ghost use Rattle.mg_pool.specs.Pool.{IsPool, IsOnDisk, resident, KeepsContent, KeepsPages, number_of, shown, LeavesOverlays};
 
+use crate::clean::CleanTable;
 use crate::dirty::DirtyTable;
 use crate::dirty_page::MARKERS;
 use crate::fault::PoolFault;
+use crate::tested::Tested;
 use mg_base::{Bytes, Disk, DiskFault, Geometry, PageNo};
 use mg_careful::{Graph, Links};
 use std::alloc::Global;
-use std::collections::BTreeMap;
 use std::marker::PhantomData;
+use std::num::NonZeroUsize;
 
 /// The cache of pages over a disk.
 #[derive(Drop)]
-pub struct Pool<D, L> {
+pub struct Pool<D, L: Links> {
     disk: D,
     geometry: Geometry,
-    dirty: DirtyTable,
+    dirty: DirtyTable<L>,
     graph: Graph,
-    clean: BTreeMap<u32, Bytes>,
+    clean: CleanTable<L>,
+    counted: bool,
     alloc: Global,
     faults: u64,
     offline: Option<u64>,
@@ -38,15 +42,16 @@ pub struct Pool<D, L> {
 /// How many pages may be dirty at a time.
 pub const DIRTY_PAGES: u32 = 512;
 
+/// How many clean pages a pool keeps that was made by `Pool::new`.
+pub const CLEAN_PAGES: u32 = 1024;
+
 mod change;
 mod change_one;
 pub(crate) mod orders;
 mod write;
 
 impl<D: Disk, L: Links> Pool<D, L> {
-    /// A pool over a disk, without a dirty page. It takes the room for all dirty pages here.
-    ///
-    /// The size of `geometry` is the one that the disk's `page_size` gave.
+    /// As `with_cache`, with room for `CLEAN_PAGES` clean pages.
     ///
     /// # Errors
     ///
@@ -57,6 +62,34 @@ impl<D: Disk, L: Links> Pool<D, L> {
         ensures disk { IfOk result (λ pool. pool.disk ≡ disk) }
         ensures geometry { IfOk result (λ pool. pool.geometry ≡ geometry) }
         ensures dirty { IfOk result (λ pool. pool.dirty.pages ≡ []) }
+        ensures room { IfOk result (λ pool. pool.clean.room ≡ 1024) }
+        ensures online { IfOk result (λ pool. pool.offline ≡ None) }
+        ensures err { IfErr result (λ both. (both.0 ≡ disk) × (both.1 ≡ PoolFault.Memory)) }
+    {
+        Pool::with_cache(alloc, disk, geometry, CLEAN_PAGES)
+    }
+
+    /// A pool over a disk, without a dirty page, that keeps at most `clean` clean pages. It takes
+    /// the room for all dirty pages here.
+    ///
+    /// The size of `geometry` is the one that the disk's `page_size` gave.
+    ///
+    /// # Errors
+    ///
+    /// `Memory` only. The disk comes back.
+    pub fn with_cache(
+        alloc: Global,
+        disk: D,
+        geometry: Geometry,
+        clean: u32,
+    ) -> Result<Pool<D, L>, (D, PoolFault)>
+        requires size { D.meaning.size disk ≡ Some geometry.size }
+        requires some { 1 ≤ clean }
+        ensures pool { IfOk result (λ pool. IsPool D.meaning pool) }
+        ensures disk { IfOk result (λ pool. pool.disk ≡ disk) }
+        ensures geometry { IfOk result (λ pool. pool.geometry ≡ geometry) }
+        ensures dirty { IfOk result (λ pool. pool.dirty.pages ≡ []) }
+        ensures room { IfOk result (λ pool. pool.clean.room ≡ clean) }
         ensures online { IfOk result (λ pool. pool.offline ≡ None) }
         ensures err { IfErr result (λ both. (both.0 ≡ disk) × (both.1 ≡ PoolFault.Memory)) }
     {
@@ -68,12 +101,18 @@ impl<D: Disk, L: Links> Pool<D, L> {
             Ok(graph) => graph,
             Err(_) => return Err((disk, PoolFault::Memory)),
         };
+        let room = NonZeroUsize::new(clean as usize).unwrap();
+        let clean = match CleanTable::new(alloc, room) {
+            Ok(clean) => clean,
+            Err(_) => return Err((disk, PoolFault::Memory)),
+        };
         Ok(Pool {
             disk,
             geometry,
             dirty,
             graph,
-            clean: BTreeMap::new(alloc),
+            clean,
+            counted: false,
             alloc,
             faults: 0,
             offline: None,
@@ -144,7 +183,8 @@ impl<D: Disk, L: Links> Pool<D, L> {
         }
     }
 
-    /// The content of a resident page. Every dirty page is resident.
+    /// The content of a resident page. Every dirty page is resident. A clean page is used no later
+    /// by this.
     pub fn bytes(&self, page: PageNo) -> Option<&[u8]>
         requires { IsPool D.meaning self.now }
         ensures resident { option_copied result ≡ resident self.now page.0 }
@@ -153,17 +193,29 @@ impl<D: Disk, L: Links> Pool<D, L> {
             → D.meaning.held self.now.disk ≡ Some image
             → IfSome result (λ b. b.now ≡ shown self.now.dirty image page.0) }
     {
-        match self.dirty.content(page.0) {
-            Some(bytes) => Some(bytes),
-            None => match self.clean.get(&page.0) {
-                Some(bytes) => Some(bytes.as_slice()),
-                None => None,
-            },
+        // A clean page is found at once, a dirty one by a search.
+        match self.clean.get(page.0) {
+            Some(tested) => Some(tested.as_slice()),
+            None => self.dirty.content(page.0),
         }
     }
 
-    /// Writes one dirty page, without memory: of the goal and the pages that precede it, the one of
-    /// least number that no page precedes. The answer is its number.
+    /// Tells that a resident page passes the test of its kind, as the page that it says it is,
+    /// without a look at its bytes. It may pass where the answer is no.
+    pub fn passes(&self, page: PageNo) -> bool
+        requires { IsPool D.meaning self.now }
+        ensures { OnTrue result (IfSome (resident self.now page.0)
+            (λ b. L.lawful_of page.0 b)) }
+    {
+        match self.clean.get(page.0) {
+            Some(tested) => tested.passes(page.0),
+            None => self.dirty.passes(page.0),
+        }
+    }
+
+    /// Writes one dirty page: of the goal and the pages that precede it, the one of least number that
+    /// no page precedes. The answer is its number. The page stays as a clean one, where there is
+    /// memory for it; it is written also where there is none.
     ///
     /// # Errors
     ///
@@ -230,8 +282,9 @@ impl<D: Disk, L: Links> Pool<D, L> {
         }
     }
 
-    /// Makes a page resident: `bytes` gives its content then. No dirty page leaves; nothing is
-    /// promised of other clean pages.
+    /// Makes a page resident, as the one that was used last: `bytes` gives its content then. No
+    /// dirty page leaves, and no clean page as long as there is room; else the clean page that was
+    /// used least recently.
     ///
     /// # Errors
     ///
@@ -261,6 +314,7 @@ impl<D: Disk, L: Links> Pool<D, L> {
     {
         self.online()?;
         if self.bytes(page).is_some() {
+            self.clean.touch(page.0);
             return Ok(());
         }
         let pages = match self.disk.pages() {
@@ -278,8 +332,14 @@ impl<D: Disk, L: Links> Pool<D, L> {
             Ok(()) => {}
             Err(_) => return Err(self.read_fault()),
         }
-        match self.clean.insert(page.0, Bytes::new(buffer)) {
-            Ok(_) => Ok(()),
+        match self
+            .clean
+            .put(page.0, Tested::new(page.0, Bytes::new(buffer)))
+        {
+            Ok(()) => {
+                self.counted = true;
+                Ok(())
+            }
             Err(_) => Err(PoolFault::Memory),
         }
     }

@@ -3,4 +3,5 @@ mod HandedLemmas
 mod InventoryLemmas
 mod ReadingLemmas
 mod RegionLemmas
+mod StackedLemmas
 mod TakingLemmas

@@ -10,6 +10,7 @@ use Rattle.mg_pool.specs.Dirty.{DirtyPages}
 use Rattle.mg_pool.specs.Fault.{TellsFault}
 use Rattle.mg_pool.specs.Pool.{IsPool, KeepsContent, shown}
 use Rattle.mg_pool.specs.Reading.{Fetches}
+use Rattle.mg_pool.specs.ReadingLaws.{stay_still}
 use Rattle.mg_pool.specs.declared.fault.PoolFault.{PoolFault}
 use Rattle.mg_pool.specs.declared.fault.PoolFault.TheVariants as pool_faults
 use Rattle.mg_pool.specs.declared.pool.Pool.{Pool}
@@ -22,7 +23,7 @@ pub fetches_nothing : {D L : Type 0} (m : Meaning D) (store : Pool D L) (page : 
 fetches_nothing m store page = record {
   once = record { reads = omega arith; alone = λ n was. inl was };
   none = λ there. record { reads = refl; was_read = λ n. refl };
-  stay = λ p there. there;
+  stay = stay_still store;
 }
 
 -- the cache is as much online as before, where no page was written

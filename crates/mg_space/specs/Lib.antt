@@ -1,7 +1,9 @@
 pub mod Demands
 pub mod FreePages
 pub mod HandedLaws
+pub mod Lawful
 pub mod RegionLaws
+pub mod Stacked
 pub mod Taking
 pub mod TakingLaws
 pub mod View

@@ -7,6 +7,8 @@
 //! A call that changes pages fills a batch that its caller lends. It sees a page as the batch has
 //! it, and where the batch has none, as the cache shows it (`viewed`). It leaves the cache as it
 //! was but for what it read (`KeepsStore`): its contract says what it does to the pages as viewed.
+//! A page is read in two steps: `hold` makes it readable, and `lent` lends its bytes, so who reads
+//! copies what he keeps and nothing else. `passes` tells that the cache has tested a page already.
 //! After a fault the batch may have a part of the changes; the caller drops it.
 //!
 //! Invariant: none of its own; it keeps that of the cache (`IsPool`), and each content of a batch
@@ -20,14 +22,18 @@ mod cells;
 mod demands;
 mod fault;
 mod fields;
+mod lending;
 mod links;
 mod reading;
+mod stacked;
 mod taking;
 
 pub use demands::places_of;
 pub use fault::SpaceFault;
+pub use lending::{hold, lent, passes};
 pub use links::{
     BIT, DATA, FireLinks, HEADER, NEXT, NODE, POINTER, Store, TRANSACTIONS, TREE, VERSION,
 };
 pub use reading::{Found, find_page, page_of};
+pub use stacked::check_page;
 pub use taking::{inventory_page_of, region_len, take_page};

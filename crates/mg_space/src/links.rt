@@ -1,24 +1,27 @@
 //! The links of the file's format: which things on one page lead to which things on others.
 
+ghost use Rattle.std.specs.Bool.{OnTrue};
 ghost use Rattle.std.specs.Prelude.{◌≡◌, ◌≤◌, ◌&&◌, ◌==◌, true, length};
 ghost use Rattle.mg_base.specs.Geometry.{is_page_size};
 ghost use Rattle.mg_image.specs.Records.{slot_cell};
 ghost use Rattle.mg_pip.specs.PipPage.{bits as bits_of_size};
 ghost use Rattle.mg_slots.specs.DataPage.{cell_of};
 ghost use Rattle.mg_space.specs.Demands.{is_header as header_test, is_version_of as version_test, meets_by as meets_test, meets_bit, meets_tree};
+ghost use Rattle.mg_space.specs.Lawful.{IsLawfulData};
 
 use crate::cells::{cell_at, is_version_of};
 use crate::demands::put_demands;
 use crate::fields::page_size_of;
+use crate::stacked::check_page;
 use crate::taking::region_len;
-use mg_base::{Memory, PageNo, check_common, get_u32};
+use mg_base::{Memory, OWNER_AT, PageNo, SEQUENCE_AT, check_common, get_u32};
 use mg_careful::{Demand, Links};
 use mg_header::{NEXT_AT, open_header};
 use mg_node::{check_node_common, level_of};
 use mg_pip::{check_pip, is_used};
 use mg_pointer::check_pointer;
 use mg_pool::Pool;
-use mg_slots::DATA_KIND;
+use mg_slots::{DATA_KIND, GREATEST_SIZE, LEAST_SIZE};
 use mg_tip::check_tip;
 
 /// A header page with lawful fields.
@@ -61,10 +64,13 @@ pub type Store<D> = Pool<D, FireLinks>;
 
 impl Links for FireLinks {
     ghost use Rattle.mg_space.specs.Demands.{demands_of as demands_of_page, meets_of as meets_of_page};
+    ghost use Rattle.mg_space.specs.Lawful.{IsLawfulPage};
 
     ghost demands_of = { demands_of_page };
 
     ghost meets_of = { meets_of_page };
+
+    ghost lawful_of = { IsLawfulPage };
 
     #[tactic(auto, unfolding(crate::specs::Demands::demands_of))]
     fn demands(b: &[u8], want: &Demand, out: &mut Vec<Demand>) -> Result<(), Memory> {
@@ -87,6 +93,24 @@ impl Links for FireLinks {
             return false;
         };
         has_wanted(b, size, want)
+    }
+
+    /// A data page alone is tested: the tests of other pages are as short as a look at the mark.
+    fn is_lawful(page: u32, b: &[u8]) -> bool {
+        is_data(PageNo(page), b)
+    }
+}
+
+/// Tells that a page is a data page, of the owner and of the place that it names.
+fn is_data(page: PageNo, b: &[u8]) -> bool
+    ensures { OnTrue result (IsLawfulData page b.now) }
+{
+    if b.len() < LEAST_SIZE || GREATEST_SIZE < b.len() {
+        return false;
+    }
+    match check_page(b, page, get_u32(b, OWNER_AT), get_u32(b, SEQUENCE_AT)) {
+        Ok(()) => true,
+        Err(_) => false,
     }
 }
 

@@ -49,10 +49,6 @@ pub fn find_page<D: Disk>(
     if let Some(bytes) = batch.bytes(page) {
         return Ok(Found::Page(copy_of(store.alloc(), bytes)?));
     }
-    // A resident page is looked up once, and not twice as by the reading of another.
-    if let Some(bytes) = store.bytes(page) {
-        return Ok(Found::Page(copy_of(store.alloc(), bytes)?));
-    }
     match store.fetch(page) {
         Ok(()) => {}
         Err(PoolFault::Absent { pages }) => return Ok(Found::Absent { pages }),
@@ -93,7 +89,7 @@ pub fn page_of<D: Disk>(
 }
 
 /// Names a page that is not there, by the number of pages that are.
-fn absence_of(page: PageNo, pages: u32) -> Damaged
+pub(crate) fn absence_of(page: PageNo, pages: u32) -> Damaged
     ensures { result ≡ absence page pages }
 {
     Damaged {

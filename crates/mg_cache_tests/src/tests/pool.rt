@@ -22,11 +22,17 @@ impl Links for Unlinked {
 
     ghost meets_of = { λ b want. true };
 
+    ghost lawful_of = { λ page b. Unit {0} };
+
     fn demands(_b: &[u8], _want: &Demand, _out: &mut Vec<Demand>) -> Result<(), Memory> {
         Ok(())
     }
 
     fn meets(_b: &[u8], _want: &Demand) -> bool {
+        true
+    }
+
+    fn is_lawful(_page: u32, _b: &[u8]) -> bool {
         true
     }
 }
@@ -364,8 +370,38 @@ const FAILED: &[Call] = &[
     Call::Dirty(6, true),
 ];
 
+/// The disk is called for the write, for its pages and for the read. The next call fails.
+const TWICE: &[Call] = &[
+    Call::Change(6, 1, None),
+    Call::WriteEach(Ok(())),
+    Call::Fetch(6, Ok(1024)),
+    Call::Fetch(6, Ok(1024)),
+    Call::Fetch(5, Err(PoolFault::DiskRead { faults: 1 })),
+];
+
+/// The same, with one write more.
+const KEPT: &[Call] = &[
+    Call::Change(6, 1, None),
+    Call::WriteEach(Ok(())),
+    Call::Fetch(6, Ok(1024)),
+    Call::Change(6, 2, None),
+    Call::WriteEach(Ok(())),
+    Call::Fetch(6, Ok(1024)),
+    Call::Fetch(5, Err(PoolFault::DiskRead { faults: 1 })),
+];
+
 const RUNS: &[(&str, (u32, &[u32]), &[Call])] = &[
     ("a page past the end is absent", (16, &[]), PAST_THE_END),
+    (
+        "a page that is fetched twice is read once",
+        (16, &[4]),
+        TWICE,
+    ),
+    (
+        "a page that was written is not read again",
+        (16, &[5]),
+        KEPT,
+    ),
     (
         "a page write that fails refuses every later call",
         (16, &[1]),

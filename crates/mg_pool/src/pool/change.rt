@@ -126,7 +126,7 @@ impl<D: Disk, L: Links> Pool<D, L> {
           clean = self.new.clean;
         } }
     {
-        self.clean.remove(&page);
+        self.clean.take_out(page);
         self.dirty.put(page, bytes);
         self.graph.enter(page);
     }

@@ -1,4 +1,4 @@
-//! The change of one page, which takes no memory.
+//! The change of one page, which is refused for no want of memory.
 
 ghost use Rattle.std.specs.Prelude.{◌≡◌, ◌≢◌, ◌≤◌, ℕ, List, true, Some, None, OnOk, OnErr, MatchResult, length};
 ghost use Rattle.std.specs.Option.{ForSome};
@@ -19,7 +19,7 @@ use mg_careful::Links;
 
 impl<D: Disk, L: Links> Pool<D, L> {
     /// Changes one page, as `change` does a batch of this page alone and, where `first` is given,
-    /// the order of `first` before it. It takes no memory.
+    /// the order of `first` before it. It is refused for no want of memory.
     ///
     /// # Errors
     ///

@@ -18,6 +18,8 @@ impl Links for Chain {
 
     ghost meets_of = { λ b want. byte b 0 == want.target };
 
+    ghost lawful_of = { λ page b. Unit {0} };
+
     fn demands(b: &[u8], _want: &Demand, out: &mut Vec<Demand>) -> Result<(), Memory> {
         let next = b.get(1).copied().unwrap_or(0);
         if next != 0 {
@@ -28,6 +30,10 @@ impl Links for Chain {
 
     fn meets(b: &[u8], want: &Demand) -> bool {
         u32::from(b.first().copied().unwrap_or(0)) == want.target
+    }
+
+    fn is_lawful(_page: u32, _b: &[u8]) -> bool {
+        true
     }
 }
 

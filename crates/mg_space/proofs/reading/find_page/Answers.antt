@@ -1,4 +1,4 @@
-use Rattle.std.proofs.Common.{◌≡◌, ◌∙◌, List, None, Some, ap, length, refl, sym, ℕ}
+use Rattle.std.proofs.Common.{◌≡◌, ◌∙◌, None, Some, ap, sym}
 use Rattle.mg_pool.specs.Batch.{content_in}
 use Rattle.mg_pool.specs.Pool.{resident, shown}
 use Rattle.mg_space.specs.HandedLaws.{out_of_memory, told_as}
@@ -43,22 +43,6 @@ returns-in_err-copy_of g c =
       reads = fetches_nothing m c.args.store.now c.args.page.0;
     }
 
-pub returns-in_err-copy_of-2 : goal.returns-in_err-copy_of-2
-returns-in_err-copy_of-2 g c =
-    let m = g.D.Disk.meaning in
-    let r = c.from_residual-in_err-copy_of-2.result in
-    let is = c.from_residual-in_err-copy_of-2.ensures.1 in
-    record {
-      keeps = keeps_itself m c.args.store.now c.requires.pool;
-      fault = told_online m c.args.store.now c.args.store.now r out_of_memory is
-          c.in_ok-online.ensures.fault;
-      refusal = reads_as r out_of_memory is tt;
-      found = no_ok r _ _ is;
-      read = no_ok r _ _ is;
-      seen = no_ok r _ _ is;
-      reads = fetches_nothing m c.args.store.now c.args.page.0;
-    }
-
 pub returns-in-Some : goal.returns-in-Some
 returns-in-Some g c =
     let m = g.D.Disk.meaning in
@@ -74,26 +58,6 @@ returns-in-Some g c =
           (resident c.args.store.now c.args.page.0) copy there;
       seen = λ image tells.
           batch_seen c.args.store.now image c.args.batch.now c.args.page.0 copy there;
-      reads = fetches_nothing m c.args.store.now c.args.page.0;
-    }
-
-pub returns-in-Some-bytes : goal.returns-in-Some-bytes
-returns-in-Some-bytes g c =
-    let m = g.D.Disk.meaning in
-    let copy = c.in_ok-copy_of-2.field-0 in
-    let none : content_in c.args.batch.now.pages c.args.page.0 ≡ None = sym c.in_default.ensures in
-    let there : resident c.args.store.now c.args.page.0 ≡ Some copy =
-    sym c.in-Some-bytes.ensures.resident ∙ ap Some (sym c.in_ok-copy_of-2.ensures) in
-    record {
-      keeps = keeps_itself m c.args.store.now c.requires.pool;
-      fault = c.in_ok-online.ensures.fault;
-      refusal = tt;
-      found = ap (λ (b : List ℕ). length b) c.in_ok-copy_of-2.ensures ∙ c.in-Some-bytes.ensures.whole;
-      read = cache_read (content_in c.args.batch.now.pages c.args.page.0)
-          (resident c.args.store.now c.args.page.0) copy none there;
-      seen = λ image tells. cache_seen c.args.store.now c.args.store.now image c.args.batch.now
-          c.args.page.0 copy none refl (c.in_ok-copy_of-2.ensures
-          ∙ c.in-Some-bytes.ensures.last tells.told image tells.held);
       reads = fetches_nothing m c.args.store.now c.args.page.0;
     }
 
@@ -118,11 +82,11 @@ returns-in-Err-clause-reads g c = c.fetch.ensures.reads
 pub returns-in-Err-clause-fault : goal.returns-in-Err-clause-fault
 returns-in-Err-clause-fault g c = c.in-Err.ensures.fault
 
-pub returns-in_err-copy_of-3 : goal.returns-in_err-copy_of-3
-returns-in_err-copy_of-3 g c =
+pub returns-in_err-copy_of-2 : goal.returns-in_err-copy_of-2
+returns-in_err-copy_of-2 g c =
     let m = g.D.Disk.meaning in
-    let r = c.from_residual-in_err-copy_of-3.result in
-    let is = c.from_residual-in_err-copy_of-3.ensures.1 in
+    let r = c.from_residual-in_err-copy_of-2.result in
+    let is = c.from_residual-in_err-copy_of-2.ensures.1 in
     record {
       keeps = fetch_keeps m c.args.store.now c.fetch.new.self c.fetch.result c.fetch.ensures.pool
           c.fetch.ensures.geometry c.fetch.ensures.dirty c.fetch.ensures.graph c.fetch.ensures.fault
@@ -138,26 +102,26 @@ returns-in_err-copy_of-3 g c =
 pub returns : goal.returns
 returns g c =
     let m = g.D.Disk.meaning in
-    let copy = c.in_ok-copy_of-3.field-0 in
+    let copy = c.in_ok-copy_of-2.field-0 in
     let none : content_in c.args.batch.now.pages c.args.page.0 ≡ None = sym c.in_default.ensures in
-    let is : c.bytes-3.result ≡ Some c.unwrap-bytes.result = c.unwrap-bytes.ensures in
+    let is : c.bytes-2.result ≡ Some c.unwrap-bytes.result = c.unwrap-bytes.ensures in
     record {
       keeps = fetch_keeps m c.args.store.now c.fetch.new.self c.fetch.result c.fetch.ensures.pool
           c.fetch.ensures.geometry c.fetch.ensures.dirty c.fetch.ensures.graph c.fetch.ensures.fault
           c.fetch.ensures.never_written c.fetch.ensures.disk;
       fault = c.in-Ok.ensures.fault;
       refusal = tt;
-      found = copied_len c.bytes-3.result c.unwrap-bytes.result copy is c.in_ok-copy_of-3.ensures
-          c.fetch.new.self.geometry.size c.bytes-3.ensures.whole;
+      found = copied_len c.bytes-2.result c.unwrap-bytes.result copy is c.in_ok-copy_of-2.ensures
+          c.fetch.new.self.geometry.size c.bytes-2.ensures.whole;
       read = cache_read (content_in c.args.batch.now.pages c.args.page.0)
           (resident c.fetch.new.self c.args.page.0) copy none
-          (copied_read c.bytes-3.result c.unwrap-bytes.result copy is c.in_ok-copy_of-3.ensures
-          (resident c.fetch.new.self c.args.page.0) c.bytes-3.ensures.resident);
+          (copied_read c.bytes-2.result c.unwrap-bytes.result copy is c.in_ok-copy_of-2.ensures
+          (resident c.fetch.new.self c.args.page.0) c.bytes-2.ensures.resident);
       seen = λ image tells. cache_seen c.args.store.now c.fetch.new.self image c.args.batch.now
           c.args.page.0 copy none c.fetch.ensures.dirty
-          (copied_seen c.bytes-3.result c.unwrap-bytes.result copy is c.in_ok-copy_of-3.ensures
+          (copied_seen c.bytes-2.result c.unwrap-bytes.result copy is c.in_ok-copy_of-2.ensures
           (shown c.fetch.new.self.dirty image c.args.page.0)
-          (c.bytes-3.ensures.last (c.fetch.ensures.disk.tells ∙ tells.told) image
+          (c.bytes-2.ensures.last (c.fetch.ensures.disk.tells ∙ tells.told) image
           (c.fetch.ensures.disk.held ∙ tells.held)));
       reads = c.fetch.ensures.reads;
     }

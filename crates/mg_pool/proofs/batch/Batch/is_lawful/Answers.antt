@@ -1,7 +1,7 @@
-use Rattle.std.proofs.Common.{rules, arith, ◌≡◌, ◌<◌, ◌≤◌, ℕ, true, false, length}
+use Rattle.std.proofs.Common.{rules, arith, ◌<◌, ◌≤◌, false, length}
 use Rattle.mg_pool.specs.declared.batch.TheConstants.{BATCH_PAGES}
 use Rattle.mg_pool.specs.Batch.{IsLawful}
-use Rattle.mg_pool.specs.Lawful.{AreLong, HasLater, HasNoCycle}
+use Rattle.mg_pool.specs.Lawful.{AreLong, HasLater}
 use Rattle.mg_pool.proofs.LawfulLemmas.{lawful_from, lawful_view, long_from, not_lawful}
 use Rattle.mg_pool.proofs.batch.Batch.is_lawful.Goals.{then-len-gt-BATCH_PAGES-via-then-len-gt-BATCH_PAGES, then-len-gt-BATCH_PAGES-via-else-len-gt-BATCH_PAGES+then-not-are_long}
 use Rattle.mg_pool.proofs.batch.Batch.is_lawful.Goals as goal

@@ -1,5 +1,3 @@
-use Rattle.std.proofs.Common.{rules, ◌≡◌, ◌<◌, ℕ, true, false}
-use Rattle.std.proofs.lemmas.Bool.{cases_Bool}
 use Rattle.mg_pool.proofs.LawfulLemmas.{all_marked, blank_marks, one_left}
 use Rattle.mg_pool.proofs.batch.lawful.has_no_cycle.Goals as goal
 

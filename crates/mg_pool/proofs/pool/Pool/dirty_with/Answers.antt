@@ -1,4 +1,4 @@
-use Rattle.std.proofs.Common.{◌∙◌, ap, sym, Bool, not, length}
+use Rattle.std.proofs.Common.{◌∙◌, ap, sym, not, length}
 use Rattle.mg_pool.specs.declared.batch.BatchPage.{BatchPage}
 use Rattle.mg_pool.specs.Dirty.{is_dirty}
 use Rattle.mg_pool.proofs.PlaceLemmas.{counted_all, counted_more, counted_same, inside, outside}

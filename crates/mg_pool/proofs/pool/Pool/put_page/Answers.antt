@@ -1,16 +1,14 @@
-use Rattle.std.proofs.Common.{◌≡◌, ◌≢◌, ◌∙◌, None, ℕ, nat_cmp, arith}
-use Rattle.std.proofs.lemmas.Grind.{common_steps}
-use Rattle.std.specs.BTreeMap.{get}
+use Rattle.std.proofs.Common.{◌∙◌}
+use Rattle.mg_pool.specs.Clean.{kept_in}
 use Rattle.mg_pool.proofs.PutLemmas.{tied_put, few_put, apart_put, without_get}
 use Rattle.mg_pool.proofs.pool.Pool.put_page.Goals as goal
 
 pub returns-clause-pool : goal.returns-clause-pool
 returns-clause-pool g c =
     let pool = c.requires.pool in
-    let updates = c.remove.ensures.updates in
-    let here : get nat_cmp c.remove.new.self c.args.page ≡ None = grind (arith, common_steps) in
-    let others : (p : ℕ) → p ≢ c.args.page → get nat_cmp c.remove.new.self p ≡ get nat_cmp c.args.self.now.clean p = λ p apart. grind (arith, common_steps) in
-    let was = without_get (get nat_cmp c.args.self.now.clean) (get nat_cmp c.remove.new.self) c.args.page here others in
+    let here = c.take_out.ensures.here in
+    let others = c.take_out.ensures.others in
+    let was = without_get (kept_in c.args.self.now.clean) (kept_in c.take_out.new.self) c.args.page here others in
     record {
       size = pool.size;
       page_size = c.put.ensures.size ∙ pool.page_size;
@@ -18,8 +16,9 @@ returns-clause-pool g c =
       few = few_put c.args.self.now.dirty c.put.new.self c.args.page c.args.bytes.now c.put.ensures pool.few c.requires.room;
       graph_room = c.enter.ensures.room ∙ pool.graph_room;
       tied = tied_put c.args.self.now.dirty c.put.new.self c.args.page c.args.bytes.now c.put.ensures c.args.self.now.graph c.enter.new.self c.enter.ensures pool.tied;
-      apart = apart_put c.args.self.now.dirty c.put.new.self c.args.page c.args.bytes.now c.put.ensures (get nat_cmp c.args.self.now.clean) (get nat_cmp c.remove.new.self) here others pool.apart;
+      apart = apart_put c.args.self.now.dirty c.put.new.self c.args.page c.args.bytes.now c.put.ensures (kept_in c.args.self.now.clean) (kept_in c.take_out.new.self) here others pool.apart;
       whole = λ p bytes there. pool.whole p bytes (was p bytes there).1;
       on_disk = λ online p bytes there. pool.on_disk online p bytes (was p bytes there).1;
+      counted = pool.counted;
       clean = λ told image held p bytes there. pool.clean told image held p bytes (was p bytes there).1;
     }

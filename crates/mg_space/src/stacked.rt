@@ -5,7 +5,7 @@ ghost use Rattle.std.specs.Bool.{OnTrue};
 ghost use Rattle.mg_slots.specs.Damage.{IsFirstDamage};
 ghost use Rattle.mg_slots.specs.DataPage.{IsDataPage};
 ghost use Rattle.mg_slots.specs.Verdict.{common_verdict};
-ghost use Rattle.mg_heap.specs.Stacked.{EndsInUse, IsStacked, StacksCell};
+ghost use Rattle.mg_space.specs.Stacked.{EndsInUse, IsStacked, StacksCell};
 
 use mg_base::{Damaged, PageNo, check_common, get_u16};
 use mg_slots::{
@@ -21,7 +21,7 @@ use mg_slots::{
 /// # Errors
 ///
 /// As `check_data`.
-pub(crate) fn check_page(b: &[u8], page: PageNo, owner: u32, seq: u32) -> Result<(), Damaged>
+pub fn check_page(b: &[u8], page: PageNo, owner: u32, seq: u32) -> Result<(), Damaged>
     requires least { LEAST_SIZE ≤ length b.now }
     requires greatest { length b.now ≤ GREATEST_SIZE }
     ensures when { IsOk result

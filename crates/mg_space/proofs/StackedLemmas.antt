@@ -3,7 +3,7 @@ use Rattle.std.proofs.Common.{◌≡◌, ◌≢◌, ◌≤◌, ◌<◌, ◌⊎�
 use Rattle.std.proofs.lemmas.Bool.{cases_eq, ne_eqb}
 use Rattle.mg_slots.specs.DataPage.{IsDataPage, least_offset, length_at, low_of, offset_at, slot_count, taken}
 use Rattle.mg_slots.specs.declared.page.TheConstants.{GREATEST_SIZE, LEAST_SIZE, SLOTS_AT, SLOT_LEN}
-use Rattle.mg_heap.specs.Stacked.{EndsInUse, IsStacked, StacksCell}
+use Rattle.mg_space.specs.Stacked.{EndsInUse, IsStacked, StacksCell}
 
 -- no slot
 pub none_stacked : (b : List ℕ) → IsStacked b 0 (length b)

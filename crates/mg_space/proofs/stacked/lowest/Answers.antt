@@ -1,5 +1,5 @@
-use Rattle.mg_heap.proofs.StackedLemmas.{none_stacked, stacked_on}
-use Rattle.mg_heap.proofs.stacked.lowest.Goals as goal
+use Rattle.mg_space.proofs.StackedLemmas.{none_stacked, stacked_on}
+use Rattle.mg_space.proofs.stacked.lowest.Goals as goal
 
 pub loop-slot-init : goal.loop-slot-init
 loop-slot-init c = none_stacked c.args.b.now
