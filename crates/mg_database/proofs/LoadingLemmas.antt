@@ -21,7 +21,6 @@ use Rattle.mg_image.specs.Form.{Pages}
 use Rattle.mg_image.specs.Inventory.{settled}
 use Rattle.mg_heap.specs.Reading.{ReadsData}
 use Rattle.mg_model.specs.Answers.{is_open}
-use Rattle.mg_model.specs.Legal.{is_limbo}
 use Rattle.mg_model.specs.Openings.{Each}
 use Rattle.mg_model.specs.declared.table.Table.{Table}
 use Rattle.mg_pool.specs.Batch.{Changed, content_in}
@@ -198,6 +197,30 @@ module _ (list : TxList) (n : ℕ) (live : Bases) (so_far : AreUndecidedBelow li
   pub not_entered : is_among (unended_in live) n ≡ false
   not_entered = so_far.unended n ∙ rw (le-ltb n n (omega arith)) refl
 
+-- nobody from a number up to another one is in limbo, so the next one who enters stands there
+skip_more : (list : TxList) (live : Bases) (n k : ℕ) → list.own.items ≡ []
+    → ((t : ℕ) → n ≤ t → t < n + k → said list t ≢ Limbo) → AreUndecidedBelow list n live
+    → AreUndecidedBelow list (n + k) live
+skip_more list live n zero none others so_far =
+    subst (λ (m : ℕ). AreUndecidedBelow list m live) (omega arith) so_far
+skip_more list live n (suc k) none others so_far =
+    subst (λ (m : ℕ). AreUndecidedBelow list m live) (let e : n + k + 1 ≡ n + suc k = omega arith in e)
+    (undecided_other list (n + k) live (skip_more list live n k none
+    (λ t least below. others t least (omega (arith, below))) so_far) none
+    (others (n + k) (omega arith) (omega arith)))
+
+pub undecided_to : (list : TxList) (live : Bases) (n m : ℕ) → list.own.items ≡ [] → n ≤ m
+    → ((t : ℕ) → n ≤ t → t < m → said list t ≢ Limbo) → AreUndecidedBelow list n live
+    → AreUndecidedBelow list m live
+undecided_to list live n m none later others so_far =
+    subst (λ (k : ℕ). AreUndecidedBelow list k live) (let e : n + (m - n) ≡ m = omega (arith, later) in e)
+    (skip_more list live n (m - n) none (λ t least below. others t least (omega (arith, below, later))) so_far)
+
+-- in a list of a run that has drawn no number the next one is the first of the run
+pub first_is_next : (list : TxList) → list.own.items ≡ [] → next_said list ≡ list.first
+first_is_next list none =
+    let len : length list.own.items ≡ 0 = ap (λ (xs : List TxState). length xs) none in omega (arith, len)
+
 -- all that were drawn
 pub undecided_all : (list : TxList) (n : ℕ) (live : Bases) → list.own.items ≡ [] → 1 ≤ n
     → next_said list ≤ n → AreUndecidedBelow list n live → AreUndecided list live
@@ -369,19 +392,6 @@ seen_alone store image batch n page none seen = seen ∙ ap (λ (pages : List Ba
 pub at_ok : {T E P : Type 0} (result : Result T E) → P → OnOk result P
 at_ok (Ok x) holds = holds
 at_ok (Err fault) holds = tt
-
--- what the test of a state tells
-pub in_limbo : (x : TxState) (b : Bool) → b ≡ true → b ≡ is_limbo x → x ≡ Limbo
-in_limbo Active b yes_ is = absurd (let no : true ≡ false = sym yes_ ∙ is in cc)
-in_limbo Limbo b yes_ is = refl
-in_limbo Dead b yes_ is = absurd (let no : true ≡ false = sym yes_ ∙ is in cc)
-in_limbo Committed b yes_ is = absurd (let no : true ≡ false = sym yes_ ∙ is in cc)
-
-pub not_in_limbo : (x : TxState) (b : Bool) → b ≡ false → b ≡ is_limbo x → x ≢ Limbo
-not_in_limbo Limbo b no_ is same = absurd (let no : false ≡ true = sym no_ ∙ is in cc)
-not_in_limbo Active b no_ is same = absurd cc
-not_in_limbo Dead b no_ is same = absurd cc
-not_in_limbo Committed b no_ is same = absurd cc
 
 -- the table of the catalog, as it was made
 pub catalog_lawful : (catalog : Table) (page : ℕ) → catalog ≡ catalog_table page → page < GREATEST_LIMIT

@@ -1,5 +1,5 @@
 -- What an engine has in memory of the pages is read, when a database is opened.
-use Rattle.std.specs.Prelude.{◌≡◌, ◌≢◌, ◌<◌, ◌≤◌, ◌+◌, ◌&&◌, ◌||◌, ℕ, Bool, nat_lt, List, [], None, Result, Ok, Err, length}
+use Rattle.std.specs.Prelude.{◌≡◌, ◌-◌, ◌≢◌, ◌<◌, ◌≤◌, ◌+◌, ◌&&◌, ◌||◌, ℕ, Bool, nat_lt, List, [], None, Result, Ok, Err, length}
 use Rattle.mg_base.specs.Disk.{Meaning}
 use Rattle.mg_base.specs.declared.damage.Damaged.{Damaged}
 use Rattle.mg_base.specs.declared.damage.Field.TheVariants.{Link}
@@ -73,7 +73,7 @@ pub record SaysPages (size : ℕ) (pages : Pages) (list : TxList) (catalog : Pag
 -- the damage of a header whose catalog stands on a page that is no part of a database
 abbrev pub catalog_damage : Header → Damaged
 catalog_damage header =
-    record { page = record { 0 = 0 }; field = Link; found = header.catalog.0; wanted = GREATEST_LIMIT }
+    record { page = record { 0 = 0 }; field = Link; found = header.catalog.0; wanted = GREATEST_LIMIT - 1 }
 
 -- The damage of a database that is not read: that of its header or of a transaction inventory page; or the
 -- catalog stands on a page that is no part of a database; or, where the header and those pages are as wanted, that

@@ -1,10 +1,9 @@
 //! What an engine has in memory of the pages is read, when a database is opened.
 
-ghost use Rattle.std.specs.Prelude.{◌≡◌, ◌<◌, ◌+◌, [], None, Ok, IfErr, IfOk, IsSome, OnOk};
+ghost use Rattle.std.specs.Prelude.{◌≡◌, ◌<◌, ◌≤◌, [], None, Ok, IfErr, IfOk, IsSome, OnOk};
 ghost use Rattle.mg_base.specs.Image.{Image};
 ghost use Rattle.mg_base.specs.declared.geometry.TheConstants.{GREATEST_LIMIT as MOST_LIMIT};
 ghost use Rattle.mg_header.specs.HeaderPage.{reading};
-ghost use Rattle.mg_model.specs.Legal.{is_limbo};
 ghost use Rattle.mg_pool.specs.Fault.{TellsFault};
 ghost use Rattle.mg_pool.specs.Pool.{IsPool, resident, shown};
 ghost use Rattle.mg_pool.specs.Reading.{Fetches};
@@ -16,7 +15,7 @@ ghost use Rattle.mg_database.specs.Loading.{AreUndecided, AreUndecidedBelow, Che
 use crate::catalog::catalog_table;
 use crate::fault::OpenFault;
 use crate::tested::check_table;
-use mg_base::{Damaged, Disk, Field, GREATEST_LIMIT, Markers, Memory, PageNo, TxNo, TxState};
+use mg_base::{Damaged, Disk, Field, GREATEST_LIMIT, Markers, Memory, PageNo, TxNo};
 use mg_header::{HeadFault, Header, open_header};
 use mg_heap::TablePages;
 use mg_model::Table;
@@ -147,7 +146,7 @@ fn check_catalog(header: Header) -> Result<Header, OpenFault>
         page: PageNo(0),
         field: Field::Link,
         found: u64::from(header.catalog.0),
-        wanted: u64::from(GREATEST_LIMIT),
+        wanted: u64::from(GREATEST_LIMIT - 1),
     })))
 }
 
@@ -192,41 +191,40 @@ fn undecided(alloc: Global, list: &TxList) -> Result<Live, Memory>
 {
     let next = list.next();
     let mut live = Live::new(alloc, next);
-    for t in 1..next.0 {
-        match enter_if(&mut live, list, TxNo(t)) {
-            Ok(()) => {}
+    let mut from = TxNo(1);
+    while from.0 < next.0 {
+        match enter_next(&mut live, list, from) {
+            Ok(behind) => from = behind,
             Err(memory) => return Err(memory),
         }
     }
     Ok(live)
 }
 
-/// A transaction enters where it is in limbo, and has no base.
+/// The next transaction in limbo enters, from a number on, and has no base. The answer is the number
+/// behind it; where there is none, the next number.
 ///
 /// # Errors
 ///
 /// `Memory` only.
-fn enter_if(live: &mut Live, list: &TxList, t: TxNo) -> Result<(), Memory>
+fn enter_next(live: &mut Live, list: &TxList, from: TxNo) -> Result<TxNo, Memory>
     requires list { IsTxList list.now }
     requires undrawn { list.now.own.items ≡ [] }
-    requires below { t.0 < next_said list.now }
-    requires so_far { AreUndecidedBelow list.now t.0 live.old }
-    ensures { OnOk result (AreUndecidedBelow list.now (t.0 + 1) live.new) }
+    requires some { 1 ≤ from.0 }
+    requires below { from.0 < next_said list.now }
+    requires so_far { AreUndecidedBelow list.now from.0 live.old }
+    ensures so_far { IfOk result (λ behind. AreUndecidedBelow list.now behind.0 live.new) }
+    ensures later { IfOk result (λ behind. from.0 < behind.0) }
+    ensures most { IfOk result (λ behind. behind.0 ≤ next_said list.now) }
 {
-    if !is_in_limbo(list.state(t)) {
-        return Ok(());
+    let found = list.next_limbo(from);
+    if found.0 == list.next().0 {
+        return Ok(found);
     }
-    match live.enter(t) {
+    match live.enter(found) {
         Ok(()) => {}
         Err(memory) => return Err(memory),
     }
-    live.limbo(t);
-    Ok(())
-}
-
-/// Tells whether this is the state of a transaction in limbo.
-fn is_in_limbo(state: TxState) -> bool
-    ensures { result ≡ is_limbo state }
-{
-    matches!(state, TxState::Limbo)
+    live.limbo(found);
+    Ok(TxNo(found.0 + 1))
 }

@@ -5,6 +5,7 @@ use Rattle.mg_base.specs.declared.geometry.Geometry.{Geometry}
 use Rattle.mg_base.specs.Disk.{Meaning}
 use Rattle.mg_base.specs.declared.numbers.PageNo.{PageNo}
 use Rattle.mg_pool.specs.Reading.{Fetches}
+use Rattle.mg_pool.specs.ReadingLaws.{stay_still}
 use Rattle.mg_pool.specs.declared.batch.BatchPage.{BatchPage}
 use Rattle.mg_pool.specs.Fault.{MeetsNoFault, OnlyRefuses, StaysOnline, TellsFault}
 use Rattle.mg_pool.specs.declared.fault.PoolFault.{PoolFault}
@@ -73,5 +74,5 @@ pub fetches_none : {D L : Type 0} (m : Meaning D) (store : Pool D L) (page : ℕ
 fetches_none m store page = record {
   once = record { reads = omega arith; alone = λ n was. inl was };
   none = λ held. record { reads = refl; was_read = λ n. refl };
-  stay = λ p there. there;
+  stay = stay_still store;
 }

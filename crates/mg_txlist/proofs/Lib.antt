@@ -10,3 +10,4 @@ mod RefusalLemmas
 mod WritingLemmas
 mod HandedLemmas
 mod TipLemmas
+mod SeekingLemmas

@@ -13,7 +13,7 @@ use Rattle.mg_txlist.proofs.ListLemmas.{page_there}
 
 module _ (list : TxList) (t k : ℕ) (is : IsTxList list) (below : t < next_said list)
     (k_is : k ≡ places list.size) where
-  some_places : 0 < k
+  pub some_places : 0 < k
   some_places = let sizes = page_sizes list.size is.lawful in
       let least = sizes.0 in omega (arith, least, k_is)
 

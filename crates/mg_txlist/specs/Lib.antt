@@ -5,4 +5,5 @@ pub mod Laws
 pub mod Reading
 pub mod ReadingLaws
 pub mod Refusals
+pub mod Seeking
 pub mod TxList

@@ -7,6 +7,7 @@ use Rattle.mg_pool.specs.Batch.{content_in}
 use Rattle.mg_pool.specs.Change.{or_else}
 use Rattle.mg_pool.specs.Pool.{resident}
 use Rattle.mg_pool.specs.Reading.{Fetches, ReadsPages}
+use Rattle.mg_pool.specs.ReadingLaws.{stay_more, stay_still}
 use Rattle.mg_pool.specs.declared.batch.BatchPage.{BatchPage}
 use Rattle.mg_pool.specs.declared.pool.Pool.{Pool}
 
@@ -26,7 +27,7 @@ of_more m old new most few many within run = record {
 
 module _ {D L : Type 0} (m : Meaning D) where
   pub none_yet : (store : Pool D L) (pages : ℕ → Bool) → ReadsPages m store store 0 pages
-  none_yet store pages = record { asks = no_reads m store.disk pages; stay = λ p there. there }
+  none_yet store pages = record { asks = no_reads m store.disk pages; stay = stay_still store }
 
   -- one page more is looked for
   pub one_more : (old mid new : Pool D L) (page most : ℕ) (pages : ℕ → Bool)
@@ -34,7 +35,7 @@ module _ {D L : Type 0} (m : Meaning D) where
       → ReadsPages m old new (most + 1) pages
   one_more old mid new page most pages run one within = record {
     asks = one_read m old.disk mid.disk new.disk page most pages run.asks one.once within;
-    stay = λ p there. one.stay p (run.stay p there);
+    stay = stay_more old mid new run.stay one.stay;
   }
 
   -- one that is in memory
@@ -43,7 +44,7 @@ module _ {D L : Type 0} (m : Meaning D) where
       → ReadsPages m old new most pages
   held_more old mid new page most pages run one held = record {
     asks = kept_reads m old.disk mid.disk new.disk most pages run.asks (one.none held);
-    stay = λ p there. one.stay p (run.stay p there);
+    stay = stay_more old mid new run.stay one.stay;
   }
 
   -- two runs are one
@@ -53,7 +54,7 @@ module _ {D L : Type 0} (m : Meaning D) where
   all_more old mid new first then_ few pages run next within = record {
     asks = more_reads m old.disk mid.disk new.disk first then_ pages run.asks
         (of_more m mid.disk new.disk then_ few pages within next.asks);
-    stay = λ p there. next.stay p (run.stay p there);
+    stay = stay_more old mid new run.stay next.stay;
   }
 
   -- page 0 first, and then the others

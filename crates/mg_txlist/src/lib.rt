@@ -21,6 +21,7 @@ mod ending;
 mod laws;
 mod list;
 mod loading;
+mod seeking;
 
 pub use laws::loaded_lists_say_what_images_say;
 pub use list::{TipPage, TxList};
