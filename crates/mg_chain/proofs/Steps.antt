@@ -48,7 +48,7 @@ met_on m a b c image batch holder l result kept tells gives =
 
 module _ {D L : Type 0} (m : Meaning D) (store : Pool D L) (pages : List BatchPage) (view : Pages)
     (holder : ℕ) (l : Link) where
-  pub past_refuses : (it : Damaged) → it ≡ damage holder fields.Link l.rec.page.0 GREATEST_LIMIT
+  pub past_refuses : (it : Damaged) → it ≡ damage holder fields.Link l.rec.page.0 (GREATEST_LIMIT - 1)
       → GREATEST_LIMIT ≤ l.rec.page.0 → RefusesVersion m store pages view holder l (faults.Damaged it)
   past_refuses it is long =
       let P : Damaged → Type 0 = λ d. IsLinkDamage view holder l d in inr (subst P (sym is) (past long))

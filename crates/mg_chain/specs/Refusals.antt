@@ -1,5 +1,5 @@
 -- Why a chain of versions is not followed.
-use Rattle.std.specs.Prelude.{◌≡◌, ◌≢◌, ◌⊎◌, ◌<◌, ◌≤◌, ◌-◌, ◌^◌, ℕ, List, length, Option, None, Some}
+use Rattle.std.specs.Prelude.{◌≡◌, ◌≢◌, ◌⊎◌, ◌<◌, ◌≤◌, ◌+◌, ◌-◌, ◌^◌, ◌==◌, ℕ, List, length, Option, None, Some, if◌then◌else◌}
 use Rattle.mg_base.specs.Disk.{Meaning}
 use Rattle.mg_base.specs.declared.damage.Damaged.{Damaged}
 use Rattle.mg_base.specs.declared.damage.Field.{Field}
@@ -26,11 +26,16 @@ abbrev pub damage : ℕ → Field → ℕ → ℕ → Damaged
 damage page field found wanted =
     record { page = record { 0 = page }; field = field; found = found; wanted = wanted }
 
+-- The length that is wanted of bytes of which so many are well formed: their whole length, or, where all of them are
+-- and they only end too early, one byte more. So what is found differs from it.
+abbrev pub length_wanted : ℕ → ℕ → ℕ
+length_wanted at len = if at == len then at + 1 else len
+
 -- the bytes of a cell spell none: the damage says how far they begin one
 pub record IsCellDamage (page : ℕ) (bytes : List ℕ) (it : Damaged) : Type 0 where
   pub at : ℕ
   pub refuses : RefusesCell bytes at
-  pub is : it ≡ damage page fields.Cell at (length bytes)
+  pub is : it ≡ damage page fields.Cell at (length_wanted at (length bytes))
 
 -- why bytes are not read as a cell: they spell none, or memory is wanting
 abbrev pub RefusesBytes : ℕ → List ℕ → SpaceFault → Type 0
@@ -70,7 +75,7 @@ IsOfOther t (Some (cells.Version v)) = v.tx.0 ≢ t
 -- has, or meets no version of its transaction.
 pub data IsLinkDamage (view : Pages) (holder : ℕ) (l : Link) : Damaged → Type 0 where
   past : GREATEST_LIMIT ≤ l.rec.page.0
-      → IsLinkDamage view holder l (damage holder fields.Link l.rec.page.0 GREATEST_LIMIT)
+      → IsLinkDamage view holder l (damage holder fields.Link l.rec.page.0 (GREATEST_LIMIT - 1))
   target : IsOfOther l.tx.0 (cells_of view l.rec)
       → IsLinkDamage view holder l
       (damage l.rec.page.0 fields.Target (writer_in (cells_of view l.rec)) l.tx.0)

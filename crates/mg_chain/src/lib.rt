@@ -32,6 +32,7 @@ mod taking_out;
 mod turning;
 
 pub use cells::{newest_link, version_at};
+pub use damage::length_wanted;
 pub use laws::{
     a_transaction_sees_its_view, bases_follow_the_machine, cells_are_changed,
     newest_versions_are_changed, versions_are_added,

@@ -1,5 +1,5 @@
 -- The table of a name that a transaction sees.
-use Rattle.std.specs.Prelude.{◌≡◌, ◌≢◌, ◌⊎◌, ℕ, List, [], Option, None, Some, Result, Ok, Err}
+use Rattle.std.specs.Prelude.{◌≡◌, ◌-◌, ◌≢◌, ◌⊎◌, ℕ, List, [], Option, None, Some, Result, Ok, Err}
 use Rattle.mg_base.specs.Disk.{Meaning}
 use Rattle.mg_base.specs.Image.{Image}
 use Rattle.mg_base.specs.declared.damage.Damaged.{Damaged}
@@ -70,7 +70,7 @@ pub record LacksTable {D : Type 0} (m : Meaning D) (old new : Core D) (t : TxNo)
 
 -- the damage of a table that begins at a page which is no part of a database
 abbrev pub stray_damage : ℕ → Table → Damaged
-stray_damage catalog table = damage catalog Link table.pointer.0 GREATEST_LIMIT
+stray_damage catalog table = damage catalog Link table.pointer.0 (GREATEST_LIMIT - 1)
 
 -- The catalog names a table that may not be given, since its first page is no part of a database.
 pub record NamesStray {D : Type 0} (m : Meaning D) (old : Core D) (t : TxNo) (name : List ℕ)

@@ -143,7 +143,7 @@ fn lawful(catalog: PageNo, table: Table) -> Result<Table, SpaceFault>
         page: catalog,
         field: Field::Link,
         found: u64::from(table.pointer.0),
-        wanted: u64::from(GREATEST_LIMIT),
+        wanted: u64::from(GREATEST_LIMIT - 1),
     }))
 }
 

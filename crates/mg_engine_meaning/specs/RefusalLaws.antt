@@ -185,10 +185,10 @@ module _ {D : Type 0} (m : Meaning D) (counted : AreCounted m) (walks : WalksMee
         → RefusesTested m store [] pages header.catalog.0 (faults.Damaged it) → ⊥
     catalog_there header it is refused = walks store image catalog.in_primary g.size catalog.stand None it tells
         (subst (λ (ps : Pages). HasTablePages catalog.in_primary g.size ps catalog.stand) (sym as_shown) catalog.has) tt
-        (subst (λ (ps : Pages). RefusesWalk m store [] ps catalog.stand.table.pointer.0 (faults.Damaged it))
-        (sym as_shown)
+        (inr (subst (λ (ps : Pages). RefusesWalk m store [] ps catalog.stand.table.pointer.0
+        (faults.Damaged it)) (sym as_shown)
         (subst (λ (owner : ℕ). RefusesWalk m store [] pages owner (faults.Damaged it)) (sym begins)
-        (walk_refused m store [] pages header.catalog.0 it refused)))
+        (walk_refused m store [] pages header.catalog.0 it refused))))
       where
         begins : catalog.stand.table.pointer.0 ≡ header.catalog.0
         begins = catalog.at ∙ ap (λ (h : Header). h.catalog.0) (its_header header is)

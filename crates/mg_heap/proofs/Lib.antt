@@ -1,4 +1,5 @@
 pub mod ChangingLemmas
+pub mod LookupLemmas
 pub mod ReachLemmas
 pub mod ReadingLemmas
 pub mod TableLemmas
@@ -7,7 +8,6 @@ pub mod GrowthLemmas
 pub mod RoomLemmas
 pub mod AddingLemmas
 pub mod StandLemmas
-pub mod StackedLemmas
 pub mod ChainLemmas
 pub mod ApartLemmas
 pub mod HandedLemmas

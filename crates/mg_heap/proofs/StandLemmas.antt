@@ -27,10 +27,13 @@ use Rattle.mg_space.specs.View.{IsMissing, Tells}
 use Rattle.mg_space.specs.declared.fault.SpaceFault.TheVariants as faults
 use Rattle.mg_space.specs.declared.links.FireLinks.{FireLinks}
 use Rattle.mg_heap.specs.Reading.{IsAbsence, RefusesData, owner_in, sequence_in}
-use Rattle.mg_heap.specs.Stands.{StandsIn, TablesAreWalked, WalksMeetNoDamage}
-use Rattle.mg_heap.specs.Table.{IsBrokenChain, IsLinkDamage, IsPointerAt, IsPointerDamage, back, misled, past, unlike}
+use Rattle.mg_heap.specs.Places.{FindsPlace, RefusesPlace}
+use Rattle.mg_heap.specs.PlacesLaws.{none_there, place_there}
+use Rattle.mg_heap.specs.Stands.{RefusesWalking, StandsIn, TablesAreWalked, WalksMeetNoDamage}
+use Rattle.mg_heap.specs.StandsLaws.{stands_at_its_place}
+use Rattle.mg_heap.specs.Table.{IsBrokenChain, IsLinkDamage, IsPointerAt, IsPointerDamage, IsTable, LeadsTo, RefusesPointer, back, misled, past, unlike}
 use Rattle.mg_heap.specs.TableLaws.{table_once}
-use Rattle.mg_heap.specs.Walk.{IsBrokenTable, RefusesNext, RefusesWalk}
+use Rattle.mg_heap.specs.Walk.{IsBrokenPlace, IsBrokenTable, IsMisplaced, RefusesBehind, RefusesFrom, RefusesNext, RefusesTableData, RefusesWalk}
 use Rattle.mg_heap.proofs.ChainLemmas.{each_at, each_behind, each_has, leads_on_only, run_in_chain}
 
 fields_pass : (size : ℕ) (pages : Pages) (owner at : ℕ) (ns : List ℕ)
@@ -169,32 +172,95 @@ module _ {D : Type 0} (m : Meaning D)
   pointer_sound ps later n damage is on (inr (misled e tested link)) =
       link_sound ps later n e is on link
 
+  led_sound : (ps : List ℕ) (n : PageNo) (damage : Damaged) → LeadsTo pages owner ps n.0 → n.0 ≢ 0
+      → RefusesPointer m store [] pages owner ps n (faults.Damaged damage) → ⊥
+  led_sound ps n damage leads some refused =
+      let found = run_in_chain (λ k. next_in (pages k)) owner ps stand.pointers n.0 leads.run some
+      stands.chain in
+      pointer_sound ps found.0 n damage found.1 found.2 refused
+
   chain_sound : (damage : Damaged) → IsBrokenChain m store [] pages owner (faults.Damaged damage) → ⊥
-  chain_sound damage it =
-      let found = run_in_chain (λ k. next_in (pages k)) owner it.pointers stand.pointers it.page.0
-      it.leads.run it.some stands.chain in
-      pointer_sound it.pointers found.0 it.page damage found.1 found.2 it.refused
+  chain_sound damage it = led_sound it.pointers it.page damage it.leads it.some it.refused
+
+  listed_sound : (place : ℕ) (page : PageNo) (damage : Damaged) → place < length stand.data_pages
+      → get_or stand.data_pages place 0 ≡ page.0
+      → RefusesTableData m store [] (pages page.0) owner place page (faults.Damaged damage) → ⊥
+  listed_sound place page damage inside listed refused =
+      no_damage place (get_or stand.data_pages place 0) page damage (sym listed)
+      (subst (λ (k : ℕ). IsTableData in_primary size pages owner k (get_or stand.data_pages place 0))
+      (first place)
+      (each_at (IsTableData in_primary size pages owner) 0 stand.data_pages place stands.data_pages inside))
+      refused
+    where
+      first : (k : ℕ) → 0 + k ≡ k
+      first k = omega arith
 
   table_sound : (damage : Damaged) → IsBrokenTable m store [] pages owner (faults.Damaged damage) → ⊥
   table_sound damage it =
       let same : it.data_pages ≡ stand.data_pages = table_once pages owner it.pointers it.data_pages
       stand.pointers stand.data_pages it.table (stands_are_tables in_primary size pages stand stands) in
       let broken = it.broken in
-      let inside : broken.place < length stand.data_pages =
-      subst (λ (ns : List ℕ). broken.place < length ns) same broken.inside in
-      no_damage broken.place (get_or stand.data_pages broken.place 0) broken.page damage
-      (sym broken.listed ∙ ap (λ (ns : List ℕ). get_or ns broken.place 0) same)
-      (subst (λ (k : ℕ). IsTableData in_primary size pages owner k
-      (get_or stand.data_pages broken.place 0)) (first broken.place)
-      (each_at (IsTableData in_primary size pages owner) 0 stand.data_pages broken.place
-      stands.data_pages inside)) broken.refused
-    where
-      first : (k : ℕ) → 0 + k ≡ k
-      first k = omega arith
+      listed_sound broken.place broken.page damage
+      (subst (λ (ns : List ℕ). broken.place < length ns) same broken.inside)
+      (sym (ap (λ (ns : List ℕ). get_or ns broken.place 0) same) ∙ broken.listed) broken.refused
 
   walk_sound : (damage : Damaged) → RefusesWalk m store [] pages owner (faults.Damaged damage) → ⊥
   walk_sound damage (inl chain) = chain_sound damage chain
   walk_sound damage (inr table) = table_sound damage table
+
+  -- ---- from a record to the next one
+
+  is_table : IsTable pages owner stand.pointers stand.data_pages
+  is_table = stands_are_tables in_primary size pages stand stands
+
+  place_sound : (place : ℕ) (damage : Damaged)
+      → RefusesPlace m store [] pages owner place (faults.Damaged damage) → ⊥
+  place_sound place damage it = led_sound it.pointers it.page damage it.leads it.some it.refused
+
+  broken_sound : (place : ℕ) (damage : Damaged)
+      → IsBrokenPlace m store [] pages owner place (faults.Damaged damage) → ⊥
+  broken_sound place damage it =
+      let there = place_there pages owner stand.pointers stand.data_pages is_table place it.page it.found in
+      listed_sound place it.page damage there.0 there.1 it.refused
+
+  from_sound : (start : ℕ) (damage : Damaged)
+      → RefusesFrom m store [] pages owner start (faults.Damaged damage) → ⊥
+  from_sound start damage it = at it.refused
+    where
+      at : RefusesPlace m store [] pages owner it.place (faults.Damaged damage)
+          ⊎ IsBrokenPlace m store [] pages owner it.place (faults.Damaged damage) → ⊥
+      at (inl place) = place_sound it.place damage place
+      at (inr broken) = broken_sound it.place damage broken
+
+  -- a page of the table stands at the place that it names
+  misplaced_sound : (page : PageNo) (damage : Damaged) → Has stand.data_pages page.0
+      → IsMisplaced pages owner page (sequence_in (pages page.0)) damage → ⊥
+  misplaced_sound page damage within it = at it.there it.found it.other
+    where
+      place : ℕ
+      place = sequence_in (pages page.0)
+
+      there : (place < length stand.data_pages) × (get_or stand.data_pages place 0 ≡ page.0)
+      there = stands_at_its_place in_primary size pages owner stand.data_pages page.0 stands.data_pages within
+
+      numbered : ℕ → PageNo
+      numbered k = record { 0 = k }
+
+      at : (found : Option PageNo) → FindsPlace pages owner place found → (found ≡ Some page → ⊥) → ⊥
+      at None found other =
+          let few = none_there pages owner stand.pointers stand.data_pages is_table place found in
+          let inside = there.0 in omega (arith, few, inside)
+      at (Some n) found other =
+          let its = place_there pages owner stand.pointers stand.data_pages is_table place n found in
+          other (ap (λ (k : ℕ). Some (numbered k)) (sym its.1 ∙ there.1))
+
+  behind_sound : (page : PageNo) (damage : Damaged) → Has stand.data_pages page.0
+      → RefusesBehind m store [] pages owner page (sequence_in (pages page.0)) (faults.Damaged damage)
+      → ⊥
+  behind_sound page damage within (inl place) = place_sound (sequence_in (pages page.0)) damage place
+  behind_sound page damage within (inr (inl misplaced)) = misplaced_sound page damage within misplaced
+  behind_sound page damage within (inr (inr later)) =
+      from_sound (sequence_in (pages page.0) + 1) damage later
 
   own_page_sound : (x : RecId) (damage : Damaged)
       → (at : ℕ) × IsTableData in_primary size pages owner at x.page.0
@@ -208,17 +274,22 @@ module _ {D : Type 0} (m : Meaning D)
       (subst (λ (k : ℕ). IsFirstDamage (pages x.page.0) x.page k (sequence_in (pages x.page.0)) damage)
       own.0 damaged)))
 
-  pub next_sound : (after : Option RecId) (damage : Damaged) → StandsIn stand.data_pages after
+  next_sound : (after : Option RecId) (damage : Damaged) → StandsIn stand.data_pages after
       → RefusesNext m store [] pages owner after (faults.Damaged damage) → ⊥
-  next_sound None damage within refused = walk_sound damage refused
+  next_sound None damage within refused = from_sound 0 damage refused
   next_sound (Some x) damage within (inl own) = own_page_sound x damage
       (each_has (IsTableData in_primary size pages owner)
       (λ n. (at : ℕ) × IsTableData in_primary size pages owner at n) 0 stand.data_pages x.page.0
       (λ k n it. (k, it)) stands.data_pages within) own
-  next_sound (Some x) damage within (inr walk) = walk_sound damage walk
+  next_sound (Some x) damage within (inr (last, behind)) = behind_sound x.page damage within behind
+
+  pub walking_sound : (after : Option RecId) (damage : Damaged) → StandsIn stand.data_pages after
+      → RefusesWalking m store [] pages owner after (faults.Damaged damage) → ⊥
+  walking_sound after damage within (inl next) = next_sound after damage within next
+  walking_sound after damage within (inr walk) = walk_sound damage walk
 
 pub meets_no_damage : {D : Type 0} (m : Meaning D)
     → ((disk : D) (image : Image) (n : ℕ) → m.held disk ≡ Some image → m.count disk ≡ Some n
     → length image ≡ n) → WalksMeetNoDamage m
 meets_no_damage m counted store image in_primary size stand after damage tells stands within =
-    next_sound m counted store image in_primary size stand tells stands after damage within
+    walking_sound m counted store image in_primary size stand tells stands after damage within

@@ -48,7 +48,7 @@ unlike_seen m store batch read b owner at n damage seen is =
     inr (subst (λ (x : List ℕ). verdict n (pointer_checks x n.0 owner at) ≡ Err damage) seen (sym is))
 
 pub past_is : (n : PageNo) (b pointers : List ℕ) (next wanted : ℕ) (made : Damaged)
-    → next ≡ next_in b → wanted ≡ GREATEST_LIMIT → GREATEST_LIMIT ≤ next
+    → next ≡ next_in b → wanted ≡ GREATEST_LIMIT - 1 → GREATEST_LIMIT ≤ next
     → made ≡ link_damage n next wanted → IsLinkDamage n b pointers made
 past_is n b pointers next wanted made is limit le made_is =
     subst (IsLinkDamage n b pointers) (sym (made_is ∙ ap (λ (x : ℕ). link_damage n x wanted) is

@@ -1,5 +1,5 @@
 -- The table that a data page belongs to, and the pointer pages by which it is reached.
-use Rattle.std.specs.Prelude.{◌≡◌, ◌≢◌, ◌<◌, ◌⊎◌, ◌++◌, ◌∷◌, ℕ, List, [], length}
+use Rattle.std.specs.Prelude.{◌≡◌, ◌-◌, ◌≢◌, ◌<◌, ◌⊎◌, ◌++◌, ◌∷◌, ℕ, List, [], length}
 use Rattle.mg_base.specs.Disk.{Meaning}
 use Rattle.mg_base.specs.declared.damage.Damaged.{Damaged}
 use Rattle.mg_base.specs.declared.damage.Field.TheVariants.{Owner}
@@ -25,10 +25,10 @@ pub record OwnsPage (n : PageNo) (b : List ℕ) (owner : ℕ) : Type 0 where
   pub data_page : IsSomeData n b
   pub is : owner ≡ owner_in b
 
--- a data page names an owner that no table has: found is the owner, wanted the limit of all pages
+-- a data page names an owner that no table has: found is the owner, wanted the greatest page number
 abbrev pub owner_damage : PageNo → ℕ → Damaged
 owner_damage n found =
-    record { page = n; field = Owner; found = found; wanted = GREATEST_LIMIT }
+    record { page = n; field = Owner; found = found; wanted = GREATEST_LIMIT - 1 }
 
 -- a data page names an owner that no table has
 pub record IsOwnerDamage (n : PageNo) (b : List ℕ) (damage : Damaged) : Type 0 where

@@ -1,5 +1,5 @@
 -- A data page is read by its number alone: whose it is it says itself.
-use Rattle.std.specs.Prelude.{◌≡◌, ◌⊎◌, ℕ, List, Option, Result, Ok, Err}
+use Rattle.std.specs.Prelude.{◌≡◌, ◌⊎◌, ℕ, List, Option, Some, Result, Ok, Err}
 use Rattle.mg_base.specs.Disk.{Meaning}
 use Rattle.mg_base.specs.Fields.{u32_at}
 use Rattle.mg_base.specs.declared.damage.Damaged.{Damaged}
@@ -10,8 +10,7 @@ use Rattle.mg_pool.specs.declared.batch.BatchPage.{BatchPage}
 use Rattle.mg_pool.specs.declared.pool.Pool.{Pool}
 use Rattle.mg_slots.specs.Damage.{IsFirstDamage}
 use Rattle.mg_slots.specs.DataPage.{IsDataPage, cell_of}
-use Rattle.mg_slots.specs.Verdict.{common_verdict}
-use Rattle.mg_slots.specs.declared.page.TheConstants.{DATA_KIND}
+use Rattle.mg_space.specs.Lawful.{IsLawfulData, readable}
 use Rattle.mg_space.specs.View.{IsMissing, OnlyReads, absence}
 use Rattle.mg_space.specs.declared.fault.SpaceFault.{SpaceFault}
 use Rattle.mg_space.specs.declared.fault.SpaceFault.TheVariants as faults
@@ -24,10 +23,9 @@ owner_in b = u32_at b OWNER_AT
 abbrev pub sequence_in : List ℕ → ℕ
 sequence_in b = u32_at b SEQUENCE_AT
 
--- A page is the data page of some owner at some place: those that it names.
-pub record IsSomeData (page : PageNo) (b : List ℕ) : Type 0 where
-  pub common : common_verdict b page DATA_KIND (owner_in b) (sequence_in b) ≡ Ok tt
-  pub lawful : IsDataPage b
+-- a page is the data page of some owner at some place: those that it names
+abbrev pub IsSomeData : PageNo → List ℕ → Type 0
+IsSomeData page b = IsLawfulData page b
 
 -- a page is no data page of any owner: the first field that shows it
 abbrev pub IsNoData : PageNo → List ℕ → Damaged → Type 0
@@ -54,6 +52,13 @@ RefusesData m store pages page b (faults.Full limit) = ⊥
 RefusesData m store pages page b (faults.Damaged damage) =
     IsAbsence m store pages page damage ⊎ IsNoData page b damage
 RefusesData m store pages page b (faults.Pool fault) = Unit {0}
+
+-- a page is readable, and is a data page
+pub record HoldsData {D L : Type 0} (store : Pool D L) (pages : List BatchPage) (page : PageNo) : Type 0
+  where
+    pub bytes : List ℕ
+    pub read : readable store pages page.0 ≡ Some bytes
+    pub data_page : IsSomeData page bytes
 
 -- the cell of a slot of a data page has been found, or that there is none
 pub record GivesCell (at : RecId) (b : List ℕ) (found : Option (List ℕ)) : Type 0 where

@@ -5,6 +5,7 @@ use Rattle.std.proofs.lemmas.Bool.{eq-eqb}
 use Rattle.mg_base.specs.Asking.{AsksReads, no_reads, one_read}
 use Rattle.mg_base.specs.Disk.{Meaning}
 use Rattle.mg_pool.specs.Reading.{Fetches}
+use Rattle.mg_pool.specs.ReadingLaws.{stay_more, stay_still}
 use Rattle.mg_pool.specs.declared.pool.Pool.{Pool}
 use Rattle.mg_heap.specs.Reads.{ReadsListed, is_listed}
 
@@ -33,7 +34,7 @@ module _ {D L : Type 0} (m : Meaning D) where
   pub none_listed : (store : Pool D L) → ReadsListed m store store []
   none_listed store = record {
     asks = no_reads m store.disk (is_listed []);
-    stay = λ p there. there;
+    stay = stay_still store;
   }
 
   -- one page more was looked for, which stands behind the others
@@ -43,7 +44,7 @@ module _ {D L : Type 0} (m : Meaning D) where
     asks = subst (λ (most : ℕ). AsksReads m old.disk new.disk most (is_listed (ns ++ n ∷ []))) count
         (one_read m old.disk mid.disk new.disk n (length ns) (is_listed (ns ++ n ∷ [])) wide one.once
         (listed_last ns n));
-    stay = λ p there. one.stay p (run.stay p there);
+    stay = stay_more old mid new run.stay one.stay;
   })
     where
       count : length ns + 1 ≡ length (ns ++ n ∷ [])

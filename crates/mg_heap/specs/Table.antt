@@ -1,5 +1,5 @@
 -- The pages of a table: the chain of its pointer pages, and the data pages that they list.
-use Rattle.std.specs.Prelude.{◌≡◌, ◌≢◌, ◌<◌, ◌≤◌, ◌⊎◌, ℕ, List, [], ◌∷◌, ◌++◌, length, Err}
+use Rattle.std.specs.Prelude.{◌≡◌, ◌-◌, ◌≢◌, ◌<◌, ◌≤◌, ◌⊎◌, ℕ, List, [], ◌∷◌, ◌++◌, length, Err}
 use Rattle.mg_base.specs.Checks.{PassesAll, verdict}
 use Rattle.mg_base.specs.Disk.{Meaning}
 use Rattle.mg_base.specs.declared.damage.Damaged.{Damaged}
@@ -51,7 +51,7 @@ pub record LinksTo (b : List ℕ) (pointers : List ℕ) (next : ℕ) : Type 0 wh
 -- a pointer page leads past the last page that a database may have, or back to one of the chain
 pub data IsLinkDamage (n : PageNo) (b : List ℕ) (pointers : List ℕ) : Damaged → Type 0 where
   past : GREATEST_LIMIT ≤ next_in b
-      → IsLinkDamage n b pointers (link_damage n (next_in b) GREATEST_LIMIT)
+      → IsLinkDamage n b pointers (link_damage n (next_in b) (GREATEST_LIMIT - 1))
   back : next_in b ≢ 0 → Has pointers (next_in b)
       → IsLinkDamage n b pointers (link_damage n (next_in b) 0)
 

@@ -118,12 +118,12 @@ table_ends pages owner pointers data_pages n leads zero_ entries = record {
 
 -- ---- a table has its pages once
 
-chain_opens : (next : ℕ → ℕ) (n : ℕ) (ns : List ℕ) → LinkChain next n ns
+pub chain_opens : (next : ℕ → ℕ) (n : ℕ) (ns : List ℕ) → LinkChain next n ns
     → ((n ≡ 0) × (ns ≡ [])) ⊎ ((later : List ℕ) × (ns ≡ n ∷ later) × LinkChain next (next n) later)
 chain_opens next n ns ended = inl (refl, refl)
 chain_opens next n ns (goes m ms some more_) = inr (ms, refl, more_)
 
-chain_none : (next : ℕ → ℕ) (n : ℕ) (ns : List ℕ) → LinkChain next n ns → n ≡ 0 → ns ≡ []
+pub chain_none : (next : ℕ → ℕ) (n : ℕ) (ns : List ℕ) → LinkChain next n ns → n ≡ 0 → ns ≡ []
 chain_none next n ns ended zero_ = refl
 chain_none next n ns (goes m ms some more_) zero_ = absurd (some zero_)
 

@@ -1,5 +1,5 @@
 -- The walk over the records of a table, in the order of its data pages and their slots.
-use Rattle.std.specs.Prelude.{◌≡◌, ◌<◌, ◌≤◌, ◌⊎◌, ◌+◌, ◌==◌, ◌||◌, ℕ, Bool, true, false, List, [], ◌∷◌, Option, None, Some, length, slice_index, if◌then◌else◌}
+use Rattle.std.specs.Prelude.{◌≡◌, ◌≢◌, ◌<◌, ◌≤◌, ◌⊎◌, ◌+◌, ◌==◌, ◌||◌, ℕ, Bool, true, false, List, [], ◌∷◌, Option, None, Some, length, slice_index, if◌then◌else◌}
 use Rattle.mg_base.specs.Disk.{Meaning}
 use Rattle.mg_base.specs.Fields.{byte}
 use Rattle.mg_base.specs.declared.numbers.PageNo.{PageNo}
@@ -13,8 +13,10 @@ use Rattle.mg_slots.specs.DataPage.{cell_of}
 use Rattle.mg_version.specs.declared.cell.TheConstants.{ANCHOR}
 use Rattle.mg_space.specs.declared.fault.SpaceFault.{SpaceFault}
 use Rattle.mg_space.specs.declared.fault.SpaceFault.TheVariants as faults
-use Rattle.mg_heap.specs.Reading.{IsAbsence, RefusesData}
-use Rattle.mg_heap.specs.Table.{IsBrokenChain, IsTable}
+use Rattle.mg_base.specs.declared.damage.Damaged.{Damaged}
+use Rattle.mg_heap.specs.Places.{FindsPlace, RefusesPlace}
+use Rattle.mg_heap.specs.Reading.{IsAbsence, RefusesData, sequence_in}
+use Rattle.mg_heap.specs.Table.{IsBrokenChain, IsTable, link_damage}
 
 -- whether a slot is the primary slot of a record: its cell is an anchor, or a version that stands in
 -- its primary slot
@@ -49,27 +51,52 @@ abbrev pub behind : List ℕ → ℕ → List ℕ
 behind [] n = []
 behind (m ∷ ms) n = if m == n then ms else behind ms n
 
--- the pages of a list behind one, or all of them
-abbrev pub behind_page : List ℕ → Option PageNo → List ℕ
-behind_page data_pages None = data_pages
-behind_page data_pages (Some n) = behind data_pages n.0
-
--- the record behind another, or the first one, in the order of a table's data pages and their slots
+-- the record behind another, or the first one, in the order of a list of data pages and their slots
 abbrev pub IsNext : Pages → List ℕ → Option RecId → Option RecId → Type 0
 IsNext pages data_pages None found = IsNextIn pages data_pages 0 found
 IsNext pages data_pages (Some x) found =
     IsNextIn pages (x.page.0 ∷ behind data_pages x.page.0) (x.slot + 1) found
 
--- the record behind another, in each table that begins with a pointer page: there is one at most
-abbrev pub GivesNext : Pages → ℕ → Option RecId → Option RecId → Type 0
-GivesNext pages owner after found = (pointers data_pages : List ℕ)
-    → IsTable pages owner pointers data_pages → IsNext pages data_pages after found
+-- No record stands on the data page at a place of a table.
+pub record IsEmptyPlace (pages : Pages) (owner place : ℕ) : Type 0 where
+  pub page : PageNo
+  pub found : FindsPlace pages owner place (Some page)
+  pub none : HasNoRecord (pages page.0) 0
 
--- the first record behind a page, in each such table
-abbrev pub GivesBehind : Pages → ℕ → Option PageNo → Option RecId → Type 0
-GivesBehind pages owner page found = (pointers data_pages : List ℕ)
-    → IsTable pages owner pointers data_pages
-    → IsNextIn pages (behind_page data_pages page) 0 found
+-- no record stands on the data pages of a table from a place on, up to another
+abbrev pub AreEmpty : Pages → ℕ → ℕ → ℕ → Type 0
+AreEmpty pages owner start end =
+    (place : ℕ) → start ≤ place → place < end → IsEmptyPlace pages owner place
+
+-- the first record on the data page at a place of a table, or that there is no page
+abbrev pub GivesAt : Pages → ℕ → ℕ → Option RecId → Type 0
+GivesAt pages owner place None = FindsPlace pages owner place None
+GivesAt pages owner place (Some x) =
+    (page : PageNo) × FindsPlace pages owner place (Some page) × IsFirstRecord (pages page.0) page.0 0 x
+
+-- The first record on the data pages of a table from a place on, in the order of their places, or that
+-- there is none: it stands on the first of them that is not empty.
+pub record GivesFrom (pages : Pages) (owner start : ℕ) (found : Option RecId) : Type 0 where
+  pub place : ℕ
+  pub from : start ≤ place
+  pub empty : AreEmpty pages owner start place
+  pub gives : GivesAt pages owner place found
+
+-- The first record of a table behind a page which names a place: the table has the page there.
+pub record GivesBehind (pages : Pages) (owner : ℕ) (page : PageNo) (place : ℕ) (found : Option RecId)
+    : Type 0 where
+  pub listed : FindsPlace pages owner place (Some page)
+  pub gives : GivesFrom pages owner (place + 1) found
+
+-- The record behind another, or the first one, in the order of the places of a table's data pages and of
+-- their slots: there is one at most. It stands on the page of the other, or, where that is the last one
+-- there, behind its page.
+abbrev pub GivesNext : Pages → ℕ → Option RecId → Option RecId → Type 0
+GivesNext pages owner None found = GivesFrom pages owner 0 found
+GivesNext pages owner (Some x) found =
+    ((y : RecId) × (found ≡ Some y) × IsFirstRecord (pages x.page.0) x.page.0 (x.slot + 1) y)
+    ⊎ (HasNoRecord (pages x.page.0) (x.slot + 1)
+    × GivesBehind pages owner x.page (sequence_in (pages x.page.0)) found)
 
 -- why a page with these bytes is not read as the data page of an owner at a place, but for faults of
 -- the cache
@@ -114,10 +141,55 @@ RefusesWalk m store batch pages owner (faults.Damaged damage) =
     ⊎ IsBrokenTable m store batch pages owner (faults.Damaged damage)
 RefusesWalk m store batch pages owner (faults.Pool fault) = Unit {0}
 
--- why the record behind another is not found: its own page is none, or the table is not walked
+-- The data page at a place of a table is not as wanted there.
+pub record IsBrokenPlace {D L : Type 0} (m : Meaning D) (store : Pool D L) (batch : List BatchPage)
+    (pages : Pages) (owner place : ℕ) (fault : SpaceFault) : Type 0 where
+  pub page : PageNo
+  pub found : FindsPlace pages owner place (Some page)
+  pub refused : RefusesTableData m store batch (pages page.0) owner place page fault
+
+-- Behind empty data pages of a table, from a place on, the next one is not found, or not as wanted.
+pub record StopsAt {D L : Type 0} (m : Meaning D) (store : Pool D L) (batch : List BatchPage)
+    (pages : Pages) (owner start : ℕ) (fault : SpaceFault) : Type 0 where
+  pub place : ℕ
+  pub from : start ≤ place
+  pub empty : AreEmpty pages owner start place
+  pub refused : RefusesPlace m store batch pages owner place fault
+      ⊎ IsBrokenPlace m store batch pages owner place fault
+
+-- why the first record from a place on is not found, but for faults of the cache
+abbrev pub RefusesFrom : {D L : Type 0} → Meaning D → Pool D L → List BatchPage → Pages → ℕ → ℕ
+    → SpaceFault → Type 0
+RefusesFrom m store batch pages owner start (faults.Full limit) = ⊥
+RefusesFrom m store batch pages owner start (faults.Damaged damage) =
+    StopsAt m store batch pages owner start (faults.Damaged damage)
+RefusesFrom m store batch pages owner start (faults.Pool fault) = Unit {0}
+
+-- A page is not the one that a table has at a place.
+pub record IsMisplaced (pages : Pages) (owner : ℕ) (page : PageNo) (place : ℕ) (damage : Damaged)
+    : Type 0 where
+  pub there : Option PageNo
+  pub found : FindsPlace pages owner place there
+  pub other : there ≢ Some page
+  pub is : damage ≡ link_damage page page.0 0
+
+-- why no record behind a page which names a place is found, but for faults of the cache: the page of that
+-- place is not found, or is another one, or the pages behind it are not walked
+abbrev pub RefusesBehind : {D L : Type 0} → Meaning D → Pool D L → List BatchPage → Pages → ℕ → PageNo
+    → ℕ → SpaceFault → Type 0
+RefusesBehind m store batch pages owner page place (faults.Full limit) = ⊥
+RefusesBehind m store batch pages owner page place (faults.Damaged damage) =
+    RefusesPlace m store batch pages owner place (faults.Damaged damage)
+    ⊎ (IsMisplaced pages owner page place damage
+    ⊎ RefusesFrom m store batch pages owner (place + 1) (faults.Damaged damage))
+RefusesBehind m store batch pages owner page place (faults.Pool fault) = Unit {0}
+
+-- why the record behind another is not found: its own page is none, or it is the last one there, and
+-- none is found behind its page
 abbrev pub RefusesNext : {D L : Type 0} → Meaning D → Pool D L → List BatchPage → Pages → ℕ
     → Option RecId → SpaceFault → Type 0
-RefusesNext m store batch pages owner None fault = RefusesWalk m store batch pages owner fault
+RefusesNext m store batch pages owner None fault = RefusesFrom m store batch pages owner 0 fault
 RefusesNext m store batch pages owner (Some x) fault =
     RefusesData m store batch x.page (pages x.page.0) fault
-    ⊎ RefusesWalk m store batch pages owner fault
+    ⊎ (HasNoRecord (pages x.page.0) (x.slot + 1)
+    × RefusesBehind m store batch pages owner x.page (sequence_in (pages x.page.0)) fault)

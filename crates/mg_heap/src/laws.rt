@@ -10,8 +10,9 @@ pub fn tables_of_layouts_are_walked()
     ensures { TablesAreWalked }
 {}
 
-/// The walk of a table that stands in the layout of a sound image meets no damage: `next` answers
-/// for it with a record, with none, or with a fault of the cache.
+/// The walk of a table that stands in the layout of a sound image meets no damage, from a record to the
+/// next one or over all its pages: `next` answers for it with a record, with none, or with a fault of
+/// the cache.
 pub fn walks_of_layouts_meet_no_damage<D: Disk>()
     ensures { WalksMeetNoDamage D.meaning }
 {}

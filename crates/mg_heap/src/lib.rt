@@ -28,10 +28,10 @@ mod apart;
 mod changing;
 mod growth;
 mod laws;
+mod lookup;
 mod reach;
 mod reading;
 mod room;
-mod stacked;
 mod table;
 mod walk;
 

@@ -65,7 +65,7 @@ fn wrong_owner(page: PageNo, owner: u32) -> Damaged
         page,
         field: Field::Owner,
         found: u64::from(owner),
-        wanted: u64::from(GREATEST_LIMIT),
+        wanted: u64::from(GREATEST_LIMIT - 1),
     }
 }
 
@@ -111,7 +111,7 @@ pub fn pointers_to<D: Disk>(
 }
 
 /// Names a page that its table does not list.
-fn unlisted(page: PageNo) -> Damaged
+pub(crate) fn unlisted(page: PageNo) -> Damaged
     ensures { result ≡ link_damage page page.0 0 }
 {
     Damaged {

@@ -1,6 +1,6 @@
 //! A data page is read, and a cell of it.
 
-ghost use Rattle.std.specs.Prelude.{◌≡◌, ◌≤◌, ◌↔◌, IfErr, IfOk, IfSome, IsOk, MatchResult, length};
+ghost use Rattle.std.specs.Prelude.{◌≡◌, ◌≤◌, ◌↔◌, IfErr, IfOk, IfSome, IsOk, MatchResult, OnOk, length};
 ghost use Rattle.std.specs.Option.{option_copied};
 ghost use Rattle.mg_base.specs.Image.{Image};
 ghost use Rattle.mg_pool.specs.Fault.{TellsFault};
@@ -8,13 +8,12 @@ ghost use Rattle.mg_pool.specs.Pool.{IsPool};
 ghost use Rattle.mg_slots.specs.DataPage.{IsDataPage, cell_of};
 ghost use Rattle.mg_space.specs.Taking.{IsGeometry};
 ghost use Rattle.mg_space.specs.View.{AreWhole, KeepsStore, Tells, pool_answer, viewed};
-ghost use Rattle.mg_heap.specs.Reading.{GivesCell, IsNoData, IsSomeData, ReadsData, RefusesData};
+ghost use Rattle.mg_heap.specs.Reading.{GivesCell, HoldsData, IsNoData, IsSomeData, ReadsData, RefusesData};
 
-use crate::stacked::check_page;
 use mg_base::{Bytes, Damaged, Disk, Memory, OWNER_AT, PageNo, RecId, SEQUENCE_AT, get_u32};
 use mg_pool::Batch;
 use mg_slots::{GREATEST_SIZE, LEAST_SIZE};
-use mg_space::{SpaceFault, Store, page_of};
+use mg_space::{SpaceFault, Store, check_page, hold, lent, passes};
 use std::alloc::Global;
 
 /// The cell of a slot, as one sees it who fills a batch: `None` exactly where the slot is free or
@@ -46,8 +45,40 @@ pub fn cell<D: Disk>(
         (RefusesData D.meaning store.new batch.now.pages at.page
         (viewed store.old image batch.now at.page.0)) }
 {
-    let page = data_page(store, batch, at.page)?;
-    Ok(cell_copy(store.alloc(), page.as_slice(), at.slot)?)
+    hold_data(store, batch, at.page)?;
+    let page = lent(store, batch, at.page);
+    Ok(cell_copy(store.alloc(), page, at.slot)?)
+}
+
+/// Makes a data page readable: `lent` lends its bytes then. Where the cache's mark says that it is
+/// one, its bytes are not looked at.
+///
+/// # Errors
+///
+/// As `cell`.
+pub(crate) fn hold_data<D: Disk>(
+    store: &mut Store<D>,
+    batch: &Batch,
+    page: PageNo,
+) -> Result<(), SpaceFault>
+    requires pool { IsPool D.meaning store.old }
+    requires geometry { IsGeometry store.old.geometry }
+    requires whole { AreWhole store.old.geometry.size batch.now.pages }
+
+    ensures keeps { KeepsStore D.meaning store.old store.new }
+    ensures fault { TellsFault D.meaning store.old store.new (pool_answer result) }
+    ensures own { ReadsData result }
+    ensures held { OnOk result (HoldsData store.new batch.now.pages page) }
+    ensures seen { (image : Image) → Tells D.meaning store.old.disk image → IfErr result
+        (RefusesData D.meaning store.new batch.now.pages page
+        (viewed store.old image batch.now page.0)) }
+{
+    hold(store, batch, page)?;
+    if passes(store, batch, page) {
+        return Ok(());
+    }
+    check_some_data(lent(store, batch, page), page)?;
+    Ok(())
 }
 
 /// The content of a data page, as one sees it who fills a batch.
@@ -74,9 +105,9 @@ pub(crate) fn data_page<D: Disk>(
         (RefusesData D.meaning store.new batch.now.pages page
         (viewed store.old image batch.now page.0)) }
 {
-    let bytes = page_of(store, batch, page)?;
-    check_some_data(bytes.as_slice(), page)?;
-    Ok(bytes)
+    hold_data(store, batch, page)?;
+    let bytes = lent(store, batch, page);
+    Ok(Bytes::new(Vec::from_slice(store.alloc(), bytes)?))
 }
 
 /// Tests whether this is the data page of the owner and of the place that it names.

@@ -166,14 +166,14 @@ fn add_entries(page: &[u8], data_pages: &mut Vec<u32>) -> Result<(), Memory>
 }
 
 /// The next page of a chain whose last page is `n`, page 0 where there is none.
-fn linked(b: &[u8], n: PageNo, pointers: &Vec<u32>) -> Result<PageNo, Damaged>
+pub(crate) fn linked(b: &[u8], n: PageNo, pointers: &Vec<u32>) -> Result<PageNo, Damaged>
     requires { IsPointerPage b.now }
     ensures { MatchResult result (λ next. LinksTo b.now pointers.now.items next.0)
         (IsLinkDamage n b.now pointers.now.items) }
 {
     let next = next_of(b);
     if next.0 >= GREATEST_LIMIT {
-        return Err(wrong_link(n, next, GREATEST_LIMIT));
+        return Err(wrong_link(n, next, GREATEST_LIMIT - 1));
     }
     if next.0 == 0 {
         return Ok(next);

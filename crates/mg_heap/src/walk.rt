@@ -11,17 +11,17 @@ ghost use Rattle.mg_slots.specs.DataPage.{IsDataPage, cell_of};
 ghost use Rattle.mg_slots.specs.Verdict.{common_verdict};
 ghost use Rattle.mg_space.specs.Taking.{IsGeometry};
 ghost use Rattle.mg_space.specs.View.{AreWhole, KeepsStore, Tells, pool_answer, viewed};
-ghost use Rattle.mg_heap.specs.Reading.{ReadsData};
-ghost use Rattle.mg_heap.specs.Walk.{FindsRecord, GivesBehind, GivesNext, IsNextIn, RefusesNext, RefusesTableData, RefusesWalk, RefusesWalkOf, behind, behind_page, is_primary as is_primary_of};
+ghost use Rattle.mg_heap.specs.Reading.{ReadsData, sequence_in};
+ghost use Rattle.mg_heap.specs.Walk.{FindsRecord, GivesBehind, GivesFrom, GivesNext, RefusesBehind, RefusesFrom, RefusesNext, RefusesTableData, is_primary as is_primary_of};
 
+use crate::lookup::data_page_at;
+use crate::reach::unlisted;
 use crate::reading::data_page;
-use crate::stacked::check_page;
-use crate::table::table_pages;
-use mg_base::{Bytes, Damaged, Disk, GREATEST_LIMIT, PageNo, RecId};
+use mg_base::{Bytes, Damaged, Disk, GREATEST_LIMIT, PageNo, RecId, SEQUENCE_AT, get_u32};
 use mg_image::PRIMARY_VERSION;
 use mg_pool::Batch;
 use mg_slots::{DATA_KIND, GREATEST_SIZE, LEAST_SIZE, cell, slots};
-use mg_space::{SpaceFault, Store, page_of};
+use mg_space::{SpaceFault, Store, check_page, page_of};
 use mg_version::ANCHOR;
 
 /// The record behind another in the order of the table's data pages and their slots, or the first
@@ -29,14 +29,16 @@ use mg_version::ANCHOR;
 /// `None` exactly where there is no other.
 ///
 /// `owner` is the table's first pointer page, and `after` stands in a data page of the table. One
-/// page is read where another record stands behind `after` in its page; else the table's pointer
-/// pages and the data pages up to the next record.
+/// page is read where another record stands behind `after` in its page. Else the next data page is
+/// found by the place that this page names: of the table's pointer pages those are read that lead to
+/// the one which lists it, and of the data pages those up to the next record.
 ///
 /// # Errors
 ///
-/// `Damaged`: at the page of `after`, as `cell`; or at the first pointer page that is not as
-/// wanted; or at the first of the data pages in question that is not the owner's at its place.
-/// `Pool` with `DiskRead`, `Offline` or `Memory`.
+/// `Damaged`: at the page of `after`, as `cell`; or at the first of these pointer pages that is not as
+/// wanted; or at the page of `after`, at `Link` with 0 wanted, where the table has another page, or
+/// none, at the place that it names; or at the first of these data pages that is not the owner's at its
+/// place. `Pool` with `DiskRead`, `Offline` or `Memory`.
 pub fn next<D: Disk>(
     store: &mut Store<D>,
     owner: PageNo,
@@ -78,7 +80,7 @@ fn next_in<D: Disk>(
         after) }
 {
     match after {
-        None => behind_in(store, batch, owner, None),
+        None => first_from(store, batch, owner, 0),
         Some(at) => next_after(store, batch, owner, at),
     }
 }
@@ -107,15 +109,24 @@ fn next_after<D: Disk>(
     if let Some(found) = first_record(page.as_slice(), at.page, u32::from(at.slot) + 1) {
         return Ok(Some(found));
     }
-    behind_in(store, batch, owner, Some(at.page))
+    first_behind(store, batch, owner, at.page, place_of(page.as_slice()))
 }
 
-/// The first record on the data pages behind one of a table, or on all of them.
-fn behind_in<D: Disk>(
+/// The place that a page names, among those of its owner.
+fn place_of(b: &[u8]) -> u32
+    requires { 16 ≤ length b.now }
+    ensures { result ≡ sequence_in b.now }
+{
+    get_u32(b, SEQUENCE_AT)
+}
+
+/// The first record on the data pages of a table behind one which names this place.
+fn first_behind<D: Disk>(
     store: &mut Store<D>,
     batch: &Batch,
     owner: PageNo,
-    page: Option<PageNo>,
+    page: PageNo,
+    place: u32,
 ) -> Result<Option<RecId>, SpaceFault>
     requires pool { IsPool D.meaning store.old }
     requires geometry { IsGeometry store.old.geometry }
@@ -126,65 +137,49 @@ fn behind_in<D: Disk>(
     ensures fault { TellsFault D.meaning store.old store.new (pool_answer result) }
     ensures own { ReadsData result }
     ensures gives { (image : Image) → Tells D.meaning store.old.disk image → MatchResult result
-        (GivesBehind (viewed store.old image batch.now) owner.0 page)
-        (RefusesWalk D.meaning store.new batch.now.pages (viewed store.old image batch.now)
-        owner.0) }
+        (GivesBehind (viewed store.old image batch.now) owner.0 page place)
+        (RefusesBehind D.meaning store.new batch.now.pages (viewed store.old image batch.now)
+        owner.0 page place) }
 {
-    let table = table_pages(store, batch, owner)?;
-    let start = start_behind(&table.data_pages, page);
-    first_from(store, batch, owner, &table.data_pages, start)
-}
-
-/// Where the pages behind one begin in a list, or all of them.
-fn start_behind(numbers: &[u32], page: Option<PageNo>) -> usize
-    ensures { drop result numbers.now ≡ behind_page numbers.now page }
-{
-    match page {
-        None => 0,
-        Some(n) => place_behind(numbers, n.0),
+    let listed = data_page_at(store, batch, owner, place)?;
+    let Some(n) = listed else {
+        return Err(SpaceFault::Damaged(unlisted(page)));
+    };
+    if n.0 != page.0 {
+        return Err(SpaceFault::Damaged(unlisted(page)));
     }
+    first_from(store, batch, owner, place + 1)
 }
 
-/// Where the numbers behind the first place of one begin.
-fn place_behind(numbers: &[u32], n: u32) -> usize
-    ensures { drop result numbers.now ≡ behind numbers.now n }
-{
-    for (i, m) in numbers.iter().enumerate() {
-        if *m == n {
-            return i + 1;
-        }
-    }
-    numbers.len()
-}
-
-/// The first record on some data pages of a table, those from a place of their list on.
+/// The first record on the data pages of a table from a place on.
 fn first_from<D: Disk>(
     store: &mut Store<D>,
     batch: &Batch,
     owner: PageNo,
-    data_pages: &[u32],
-    start: usize,
+    start: u32,
 ) -> Result<Option<RecId>, SpaceFault>
     requires pool { IsPool D.meaning store.old }
     requires geometry { IsGeometry store.old.geometry }
     requires whole { AreWhole store.old.geometry.size batch.now.pages }
-    requires online { store.old.offline ≡ None }
-    requires few { length data_pages.now < 2 ^ 32 }
+    requires owner { owner.0 < GREATEST_LIMIT }
 
     ensures keeps { KeepsStore D.meaning store.old store.new }
     ensures fault { TellsFault D.meaning store.old store.new (pool_answer result) }
     ensures own { ReadsData result }
     ensures gives { (image : Image) → Tells D.meaning store.old.disk image → MatchResult result
-        (IsNextIn (viewed store.old image batch.now) (drop start data_pages.now) 0)
-        (RefusesWalkOf D.meaning store.new batch.now.pages (viewed store.old image batch.now) owner.0
-        data_pages.now) }
+        (GivesFrom (viewed store.old image batch.now) owner.0 start)
+        (RefusesFrom D.meaning store.new batch.now.pages (viewed store.old image batch.now) owner.0
+        start) }
 {
-    for place in start..data_pages.len() {
-        let n = PageNo(data_pages[place]);
-        let page = table_data_page(store, batch, owner, n, place as u32)?;
+    let mut place = start;
+    let mut next = data_page_at(store, batch, owner, place)?;
+    while let Some(n) = next {
+        let page = table_data_page(store, batch, owner, n, place)?;
         if let Some(found) = first_record(page.as_slice(), n, 0) {
             return Ok(Some(found));
         }
+        place += 1;
+        next = data_page_at(store, batch, owner, place)?;
     }
     Ok(None)
 }

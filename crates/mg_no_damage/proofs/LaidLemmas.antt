@@ -17,7 +17,7 @@ use Rattle.mg_pool.specs.Change.{or_else}
 use Rattle.mg_pool.specs.Dirty.{DirtyPages, bytes_of, content_of, entry_in}
 use Rattle.mg_pool.specs.Pool.{shown}
 use Rattle.mg_pool.specs.declared.batch.BatchPage.{BatchPage}
-use Rattle.mg_pool.specs.declared.dirty_page.DirtyPage.{DirtyPage}
+use Rattle.mg_pool.specs.DirtyPage.{DirtyPage}
 use Rattle.mg_pool.specs.declared.pool.Pool.{Pool}
 use Rattle.mg_space.specs.View.{IsMissing, Tells, viewed}
 use Rattle.mg_space.specs.declared.fault.SpaceFault.TheVariants as faults
@@ -144,13 +144,13 @@ module _ {D : Type 0} (m : Meaning D) (store : Pool D FireLinks) (image : Image)
         → RefusesWalk m store batch.pages (viewed store image batch) stand.table.pointer.0 (faults.Damaged it)
         → ⊥
     walk_whole it refused = walks with_batch image false size stand None it tells has_there tt
-        (subst (λ (pages : Pages). RefusesWalk m with_batch [] pages stand.table.pointer.0 (faults.Damaged it))
-        (sym shows_viewed)
-        (walk_refused (viewed store image batch) stand.table.pointer.0 it refused))
+        (inr (subst (λ (pages : Pages). RefusesWalk m with_batch [] pages stand.table.pointer.0
+        (faults.Damaged it)) (sym shows_viewed)
+        (walk_refused (viewed store image batch) stand.table.pointer.0 it refused)))
 
     pub listed_there : (n : PageNo) → Has stand.data_pages n.0 → (it : Damaged)
         → RefusesData m store batch.pages n (viewed store image batch n.0) (faults.Damaged it) → ⊥
     listed_there n listed it refused = walks with_batch image false size stand
         (Some (record { page = n; slot = 0 })) it tells has_there listed
-        (inl (subst (λ (pages : Pages). RefusesData m with_batch [] n (pages n.0) (faults.Damaged it))
-        (sym shows_viewed) (data_refused n (viewed store image batch n.0) it refused)))
+        (inl (inl (subst (λ (pages : Pages). RefusesData m with_batch [] n (pages n.0) (faults.Damaged it))
+        (sym shows_viewed) (data_refused n (viewed store image batch n.0) it refused))))

@@ -6,7 +6,9 @@ use Rattle.mg_base.specs.Fields.{u32_at}
 use Rattle.mg_base.specs.declared.fields.TheConstants.{SEQUENCE_AT}
 use Rattle.mg_base.specs.declared.numbers.RecId.{RecId}
 use Rattle.mg_heap.specs.Stands.{TablesAreWalked}
+use Rattle.mg_heap.specs.StandsLaws.{data_pages_once}
 use Rattle.mg_heap.specs.Walk.{IsNextIn, behind}
+use Rattle.mg_heap.specs.WalkLaws.{gives_in_table}
 use Rattle.mg_image.specs.Sound.{IsTableData}
 use Rattle.mg_image.specs.Tables.{EachFrom, Has}
 use Rattle.mg_slots.specs.declared.page.TheConstants.{DATA_KIND}
@@ -44,7 +46,8 @@ names_place b n owner at passes = passes.1.1.1.1.1.0
 
 pub walks_ascend : TablesAreWalked → WalksAscend
 walks_ascend walked size pages stand has x y listed small gives =
-    at (gives stand.pointers stand.data_pages (walked false size pages stand has))
+    at (gives_in_table pages stand.table.pointer.0 stand.pointers stand.data_pages
+    (walked false size pages stand has) (Some x) (Some y) (data_pages_once false size pages stand has) gives)
   where
     owner : ℕ
     owner = stand.table.pointer.0

@@ -6,9 +6,11 @@ use Rattle.mg_base.specs.declared.damage.Damaged.{Damaged}
 use Rattle.mg_base.specs.declared.numbers.PageNo.{PageNo}
 use Rattle.mg_base.specs.declared.numbers.RecId.{RecId}
 use Rattle.mg_heap.specs.Stands.{StandsIn, TablesAreWalked, WalksMeetNoDamage}
+use Rattle.mg_heap.specs.StandsLaws.{data_pages_once}
 use Rattle.mg_heap.specs.Table.{IsTable}
 use Rattle.mg_heap.specs.TableLaws.{table_once}
-use Rattle.mg_heap.specs.Walk.{IsNext, IsNextIn, RefusesWalk, behind}
+use Rattle.mg_heap.specs.Walk.{IsNext, IsNextIn, RefusesNext, RefusesWalk, behind}
+use Rattle.mg_heap.specs.WalkLaws.{gives_in_table}
 use Rattle.mg_image.specs.Form.{Pages}
 use Rattle.mg_image.specs.RecordRules.{Facts}
 use Rattle.mg_image.specs.Records.{Reading}
@@ -27,7 +29,7 @@ use Rattle.mg_space.specs.declared.fault.SpaceFault.TheVariants as faults
 use Rattle.mg_space.specs.declared.links.FireLinks.{FireLinks}
 use Rattle.mg_no_damage.specs.Sees.{no_batch}
 use Rattle.mg_no_damage.specs.Tables.{PlacesAreKnown, SeesTable, TablesAreRead, VisitsAreMade, WalksAreWhole}
-use Rattle.mg_no_damage.proofs.LaidLemmas.{listed_there, walk_whole}
+use Rattle.mg_no_damage.proofs.LaidLemmas.{walk_whole}
 use Rattle.mg_no_damage.proofs.RowLemmas.{row_read}
 
 -- ---- what comes next stands on a page of the table
@@ -126,18 +128,17 @@ module _ {D : Type 0} (m : Meaning D) (walks : WalksMeetNoDamage m) where
           it.stands.same.shape damage broken.damaged
 
       pub visits_are_made : VisitsAreMade m
-      visits_are_made store image f r stand table it takes None within _ (no_next damage refused) =
-          walked store image no_batch f r stand table it damage refused
-      visits_are_made store image f r stand table it takes (Some x) within _ (no_next damage (inl refused)) =
-          listed_there m store image no_batch walks it.sees.tells store.geometry.size stand
-          it.stands.has x.page within damage refused
-      visits_are_made store image f r stand table it takes (Some x) within _ (no_next damage (inr refused)) =
-          walked store image no_batch f r stand table it damage refused
+      visits_are_made store image f r stand table it takes after within _ (no_next damage refused) =
+          walks store image false store.geometry.size stand after damage it.sees.tells it.stands.has within
+          (inl (subst (λ (owner : ℕ). RefusesNext m store [] (viewed store image no_batch) owner after
+          (faults.Damaged damage)) (sym (begins store image no_batch f r stand table it)) refused))
       visits_are_made store image f r stand table it takes after within _ (bad_record rec damage gives broken) =
           row_read one_plain accepted m walks places store image no_batch f r it.sees takes rec
           stand.table table (it.stands.its rec.page.0 listed) it.stands.same.shape damage broken
         where
           listed : Has stand.data_pages rec.page.0
           listed = visit_page (viewed store image no_batch) stand.data_pages after rec within
-              (gives stand.pointers stand.data_pages
-              (is_table store image no_batch f r stand table it))
+              (gives_in_table (viewed store image no_batch) table.pointer.0 stand.pointers stand.data_pages
+              (is_table store image no_batch f r stand table it) after (Some rec)
+              (data_pages_once false store.geometry.size (viewed store image no_batch) stand it.stands.has)
+              gives)

@@ -4,7 +4,7 @@ use Rattle.std.specs.List.{prefix_len}
 use Rattle.std.specs.Prelude.{All, IfErr, IfOk, IsErr, IsErrAnd, MatchResult, nat_le}
 use Rattle.mg_base.specs.declared.damage.Damaged.{Damaged}
 use Rattle.mg_base.specs.declared.damage.Field.TheVariants as fields
-use Rattle.mg_chain.specs.Refusals.{damage}
+use Rattle.mg_chain.specs.Refusals.{damage, length_wanted}
 use Rattle.mg_image.specs.Form.{Row}
 use Rattle.mg_image.specs.RecordRules.{columns_for}
 use Rattle.mg_model.specs.declared.table.Table.{Table}
@@ -99,21 +99,21 @@ pub run_told : (columns : List Column) (p : Placed) (result : Result Row RowFaul
     (at len : ℕ) (it : Damaged)
     → IfErr result (Refuses (columns_of columns p.version.format) p.version.body)
     → result ≡ Err fault → fault ≡ row_faults.BadRun at
-    → it ≡ damage p.at.page.0 fields.Run at len → len ≡ length p.version.body
+    → it ≡ damage p.at.page.0 fields.Run at (length_wanted at len) → len ≡ length p.version.body
     → IsBodyDamage columns p it
 run_told columns p result fault at len it refuses is same told long =
     let why : Refuses (columns_of columns p.version.format) p.version.body (row_faults.BadRun at) =
     rw (is ∙ ap (λ (f : RowFault). Err f) same) at refuses in
-    subst (IsBodyDamage columns p) (sym (told ∙ ap (damage p.at.page.0 fields.Run at) long)) (bad_run at why)
+    subst (IsBodyDamage columns p) (sym (told ∙ ap (λ (n : ℕ). damage p.at.page.0 fields.Run at (length_wanted at n)) long)) (bad_run at why)
 
 -- a body that is no row, as it is told
 pub row_told : (columns : List Column) (p : Placed) (result : Result Row RowFault) (fault : RowFault)
     (at len : ℕ) (it : Damaged)
     → IfErr result (Refuses (columns_of columns p.version.format) p.version.body)
     → result ≡ Err fault → fault ≡ row_faults.BadRow at
-    → it ≡ damage p.at.page.0 fields.Row at len → len ≡ row_len_of (columns_of columns p.version.format)
+    → it ≡ damage p.at.page.0 fields.Row at (length_wanted at len) → len ≡ row_len_of (columns_of columns p.version.format)
     → IsBodyDamage columns p it
 row_told columns p result fault at len it refuses is same told long =
     let why : Refuses (columns_of columns p.version.format) p.version.body (row_faults.BadRow at) =
     rw (is ∙ ap (λ (f : RowFault). Err f) same) at refuses in
-    subst (IsBodyDamage columns p) (sym (told ∙ ap (damage p.at.page.0 fields.Row at) long)) (bad_row at why)
+    subst (IsBodyDamage columns p) (sym (told ∙ ap (λ (n : ℕ). damage p.at.page.0 fields.Row at (length_wanted at n)) long)) (bad_row at why)

@@ -25,7 +25,7 @@ module _ {D L : Type 0} (m : Meaning D) (store : Pool D L) (view : Pages)
       → RefusesNext m store [] view table.pointer.0 after (faults.Full most) → ⊥
   next_full None most refused = refused
   next_full (Some x) most (inl refused) = refused
-  next_full (Some x) most (inr refused) = refused
+  next_full (Some x) most (inr refused) = refused.1
 
   pub next_refuses : (fault : SpaceFault) → RefusesNext m store [] view table.pointer.0 after fault
       → RefusesVisit m store view takes table after fault

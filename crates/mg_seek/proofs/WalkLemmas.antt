@@ -4,6 +4,7 @@ use Rattle.std.specs.Prelude.{◌≢◌, filter, nat_le}
 use Rattle.std.proofs.lemmas.Bool.{cases_eq, cases_lt, eq-eqb, false≢true, le-leb, lt-leb, ne_eqb}
 use Rattle.mg_base.specs.declared.numbers.RecId.{RecId}
 use Rattle.mg_heap.specs.Walk.{HasNoRecord, IsFirstRecord, IsNextIn, behind, is_primary}
+use Rattle.mg_heap.specs.WalkLaws.{gives_in_table}
 use Rattle.mg_image.specs.Form.{Pages}
 use Rattle.mg_image.specs.Tables.{Has, IsOnce}
 use Rattle.mg_slots.specs.DataPage.{cell_of, slot_count}
@@ -190,7 +191,9 @@ next_in view ds (n ∷ ns) from found rest (inr (none, later)) =
 pub walks_in_order : WalksInOrder
 walks_in_order view owner pointers ds None found table once stands gives =
     subst (λ (rs : List RecId). ComesTo view ds found rs) (next_pages view ds)
-    (next_in view ds ds 0 found (once_rest ds once) (gives pointers ds table))
+    (next_in view ds ds 0 found (once_rest ds once)
+    (gives_in_table view owner pointers ds table None found once gives))
 walks_in_order view owner pointers ds (Some x) found table once stands gives =
     next_in view ds (x.page.0 ∷ behind ds x.page.0) (x.slot + 1) found
-    (refl, stands, once_behind ds x.page.0 once stands) (gives pointers ds table)
+    (refl, stands, once_behind ds x.page.0 once stands)
+    (gives_in_table view owner pointers ds table (Some x) found once gives)

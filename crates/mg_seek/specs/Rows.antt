@@ -2,7 +2,7 @@
 use Rattle.std.specs.Prelude.{◌≡◌, ◌<◌, ◌^◌, ℕ, List, [], ◌∷◌, length, true, false, Bool, Option, None, Some}
 use Rattle.mg_base.specs.declared.damage.Damaged.{Damaged}
 use Rattle.mg_base.specs.declared.damage.Field.TheVariants as fields
-use Rattle.mg_chain.specs.Refusals.{damage}
+use Rattle.mg_chain.specs.Refusals.{damage, length_wanted}
 use Rattle.mg_image.specs.Form.{Row}
 use Rattle.mg_image.specs.RecordRules.{columns_for}
 use Rattle.mg_image.specs.Records.{key_of}
@@ -31,10 +31,10 @@ pub record GivesRow (table : Table) (v : Version) (row : Row) : Type 0 where
 -- and so many of its bytes begin one, where a row has so many.
 pub data IsBodyDamage (columns : List Column) (p : Placed) : Damaged → Type 0 where
   bad_run : (at : ℕ) → BreaksAt p.version.body at
-      → IsBodyDamage columns p (damage p.at.page.0 fields.Run at (length p.version.body))
+      → IsBodyDamage columns p (damage p.at.page.0 fields.Run at (length_wanted at (length p.version.body)))
   bad_row : (at : ℕ) → RefusesRow (columns_of columns p.version.format) p.version.body at
       → IsBodyDamage columns p
-      (damage p.at.page.0 fields.Row at (row_len_of (columns_of columns p.version.format)))
+      (damage p.at.page.0 fields.Row at (length_wanted at (row_len_of (columns_of columns p.version.format))))
 
 -- why the body of a version is not read: it is damaged, or memory is wanting
 abbrev pub RefusesBody : List Column → Placed → SpaceFault → Type 0

@@ -1,7 +1,7 @@
 //! The row of a version, and its key.
 
 ghost use Rattle.std.specs.Prelude.{◌≡◌, ◌≤◌, ◌↔◌, IfErr, IfOk, IsTrue, MatchResult, length};
-ghost use Rattle.mg_chain.specs.Refusals.{damage};
+ghost use Rattle.mg_chain.specs.Refusals.{damage, length_wanted as length_wanted_of};
 ghost use Rattle.mg_image.specs.Records.{key_of};
 ghost use Rattle.mg_image.specs.RecordRules.{columns_for};
 ghost use Rattle.mg_rowcode.specs.Faults.{DecodesTo};
@@ -13,6 +13,7 @@ ghost use Rattle.mg_seek.specs.Rows.{GivesRow, HasShortTexts, IsBodyDamage, IsSh
 use crate::erased::erased_shape;
 use crate::walk::Placed;
 use mg_base::{Damaged, Field, Memory};
+use mg_chain::length_wanted;
 use mg_model::Table;
 use mg_pool::PoolFault;
 use mg_rowcode::{RowFault, decode_row};
@@ -82,13 +83,13 @@ fn decoded_row(alloc: Global, shape: &Shape, placed: &Placed) -> Result<Row, Spa
 
 /// The damage of a body at the page where its version stands.
 fn body_damage(placed: &Placed, field: Field, at: u32, len: usize) -> Damaged
-    ensures { result ≡ damage placed.now.at.page.0 field at len }
+    ensures { result ≡ damage placed.now.at.page.0 field at (length_wanted_of at len) }
 {
     Damaged {
         page: placed.at.page,
         field,
         found: u64::from(at),
-        wanted: len as u64,
+        wanted: length_wanted(at, len),
     }
 }
 

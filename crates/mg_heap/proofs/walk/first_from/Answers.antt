@@ -1,93 +1,226 @@
-use Rattle.std.proofs.Common.{◌≡◌, ◌∙◌, Some, refl, get_or, ℕ, List, arith}
+use Rattle.std.proofs.Common.{◌≡◌, ◌∙◌, ◌+◌, Option, Some, refl, List, ℕ, arith, subst, sym}
+use Rattle.mg_base.specs.declared.numbers.PageNo.{PageNo}
 use Rattle.mg_image.specs.Form.{Pages}
-use Rattle.mg_space.specs.HandedLaws.{fault_up}
+use Rattle.mg_space.specs.HandedLaws.{fault_same, fault_up}
 use Rattle.mg_space.specs.View.{viewed}
 use Rattle.mg_space.specs.ViewLaws.{keeps_on}
-use Rattle.mg_heap.specs.Walk.{RefusesTableData, RefusesWalkOf}
+use Rattle.mg_heap.specs.HandedLaws.{reads_same}
+use Rattle.mg_heap.specs.Places.{FindsPlace, RefusesPlace}
+use Rattle.mg_heap.specs.Walk.{AreEmpty, RefusesFrom, RefusesTableData}
 use Rattle.mg_heap.proofs.TableLemmas.{as_started, handed_on, geometry_later, whole_later}
-use Rattle.mg_heap.proofs.WalkLemmas.{found_here, none_here, page_broken}
+use Rattle.mg_heap.proofs.WalkLemmas.{empty_here, first_empty, further, gives_end, gives_here, less_left, next_few, one_empty, place_broken, place_unlike}
 use Rattle.mg_heap.proofs.walk.first_from.Goals as goal
 
-pub overflow_cast-place : goal.overflow_cast-place
-overflow_cast-place g c = omega (arith, c.requires.few)
+-- ---- the first place
 
-pub returns-in_err-page-clause-gives : goal.returns-in_err-page-clause-gives
-returns-in_err-page-clause-gives g c = λ image tells. handed_on c.from_residual.result
-    c.in_err-page.field-0.0 _
-    (RefusesWalkOf g.D.Disk.meaning c.table_data_page.new.store c.args.batch.now.pages
-    (viewed c.args.store.now image c.args.batch.now) c.args.owner.0 c.args.data_pages.now)
+pub returns-in_err-next-clause-keeps : goal.returns-in_err-next-clause-keeps
+returns-in_err-next-clause-keeps g c = c.in_err-next.ensures.keeps
+
+pub returns-in_err-next-clause-fault : goal.returns-in_err-next-clause-fault
+returns-in_err-next-clause-fault g c = fault_same (Option PageNo) g.D.Disk.meaning c.args.store.now
+    c.data_page_at.new.store c.from_residual.result c.in_err-next.field-0.0 c.from_residual.ensures.0
+    c.from_residual.ensures.1 c.in_err-next.ensures.fault
+
+pub returns-in_err-next-clause-own : goal.returns-in_err-next-clause-own
+returns-in_err-next-clause-own g c = reads_same (Option PageNo) c.from_residual.result
+    c.in_err-next.field-0.0 c.from_residual.ensures.0 c.from_residual.ensures.1 c.in_err-next.ensures.own
+
+pub returns-in_err-next-clause-gives : goal.returns-in_err-next-clause-gives
+returns-in_err-next-clause-gives g c = λ image tells. handed_on c.from_residual.result
+    c.in_err-next.field-0.0 _
+    (RefusesFrom g.D.Disk.meaning c.data_page_at.new.store c.args.batch.now.pages
+    (viewed c.args.store.now image c.args.batch.now) c.args.owner.0 c.args.start)
     c.from_residual.ensures.0 c.from_residual.ensures.1
-    (page_broken g.D.Disk.meaning c.table_data_page.new.store c.args.batch.now.pages
-    (viewed c.args.store.now image c.args.batch.now) c.args.owner.0 c.loop-place.place
-    c.loop-place.place c.args.data_pages.now
-    (record { 0 = get_or c.args.data_pages.now c.loop-place.place 0 }) c.in_err-page.field-0.0
-    c.loop-place-test.true refl refl
-    (as_started g.D.Disk.meaning c.args.store.now c.loop-place.store image c.args.batch.now
-    c.loop-place.invariant.keeps tells (λ (pages : Pages). RefusesTableData g.D.Disk.meaning
-    c.table_data_page.new.store c.args.batch.now.pages
-    (pages (get_or c.args.data_pages.now c.loop-place.place 0)) c.args.owner.0 c.loop-place.place
-    (record { 0 = get_or c.args.data_pages.now c.loop-place.place 0 }) c.in_err-page.field-0.0)
-    (c.in_err-page.ensures.seen image)))
+    (place_broken g.D.Disk.meaning c.data_page_at.new.store c.args.batch.now.pages
+    (viewed c.args.store.now image c.args.batch.now) c.args.owner.0 c.args.start c.args.start
+    c.in_err-next.field-0.0 (omega arith)
+    (first_empty (viewed c.args.store.now image c.args.batch.now) c.args.owner.0 c.args.start)
+    (c.in_err-next.ensures.finds image tells))
 
-pub returns-in-Some-clause-keeps : goal.returns-in-Some-clause-keeps
-returns-in-Some-clause-keeps g c = keeps_on g.D.Disk.meaning g.met.D.Disk.counts_now c.args.store.now
-    c.loop-place.store c.table_data_page.new.store c.loop-place.invariant.keeps c.in_ok-page.ensures.keeps
-
-pub returns-in-Some-clause-gives : goal.returns-in-Some-clause-gives
-returns-in-Some-clause-gives g c = λ image tells. c.loop-place.invariant.further image tells
-    (Some c.in-Some.found) (found_here (viewed c.args.store.now image c.args.batch.now)
-    c.args.data_pages.now c.loop-place.place (get_or c.args.data_pages.now c.loop-place.place 0)
-    c.in_ok-page.page c.in-Some.found c.loop-place-test.true refl
-    (as_started g.D.Disk.meaning c.args.store.now c.loop-place.store image c.args.batch.now
-    c.loop-place.invariant.keeps tells (λ (pages : Pages). c.in_ok-page.page
-    ≡ pages (get_or c.args.data_pages.now c.loop-place.place 0)) (c.in_ok-page.ensures.seen image))
-    (rw c.as_slice.ensures at c.in-Some.ensures))
-
-pub loop-place-preserved : goal.loop-place-preserved
-loop-place-preserved g c = record {
-  keeps = keeps_on g.D.Disk.meaning g.met.D.Disk.counts_now c.args.store.now
-      c.loop-place.store c.table_data_page.new.store c.loop-place.invariant.keeps
-      c.in_ok-page.ensures.keeps;
-  faults = c.in_ok-page.ensures.fault.2 ∙ c.loop-place.invariant.faults;
-  further = λ image tells found later. c.loop-place.invariant.further image tells found
-      (none_here (viewed c.args.store.now image c.args.batch.now)
-      c.args.data_pages.now c.loop-place.place (get_or c.args.data_pages.now c.loop-place.place 0)
-      c.in_ok-page.page found c.loop-place-test.true refl
-      (as_started g.D.Disk.meaning c.args.store.now c.loop-place.store image c.args.batch.now
-      c.loop-place.invariant.keeps tells (λ (pages : Pages). c.in_ok-page.page
-      ≡ pages (get_or c.args.data_pages.now c.loop-place.place 0)) (c.in_ok-page.ensures.seen image))
-      (rw c.as_slice.ensures at c.in_default.ensures) later);
+pub loop-next-init : goal.loop-next-init
+loop-next-init g c = record {
+  keeps = c.in_ok-next.ensures.keeps;
+  faults = c.in_ok-next.ensures.fault.2;
+  from = omega arith;
+  few = c.in_ok-next.ensures.few;
+  empty = λ image tells. first_empty (viewed c.args.store.now image c.args.batch.now) c.args.owner.0
+      c.args.start;
+  found = λ image tells. c.in_ok-next.ensures.finds image tells;
 }
+
+-- ---- one page
 
 pub table_data_page-requires-clause-geometry : goal.table_data_page-requires-clause-geometry
 table_data_page-requires-clause-geometry g c = geometry_later g.D.Disk.meaning c.args.store.now
-    c.loop-place.store c.loop-place.invariant.keeps c.requires.geometry
+    c.loop-next.store c.loop-next.invariant.keeps c.requires.geometry
 
 pub table_data_page-requires-clause-whole : goal.table_data_page-requires-clause-whole
 table_data_page-requires-clause-whole g c = whole_later g.D.Disk.meaning c.args.store.now
-    c.loop-place.store c.loop-place.invariant.keeps c.args.batch.now.pages c.requires.whole
+    c.loop-next.store c.loop-next.invariant.keeps c.args.batch.now.pages c.requires.whole
 
 pub returns-in_err-page-clause-keeps : goal.returns-in_err-page-clause-keeps
 returns-in_err-page-clause-keeps g c = keeps_on g.D.Disk.meaning g.met.D.Disk.counts_now
-    c.args.store.now c.loop-place.store c.table_data_page.new.store c.loop-place.invariant.keeps
+    c.args.store.now c.loop-next.store c.table_data_page.new.store c.loop-next.invariant.keeps
     c.in_err-page.ensures.keeps
 
 pub returns-in_err-page-clause-fault : goal.returns-in_err-page-clause-fault
 returns-in_err-page-clause-fault g c = fault_up (List ℕ) g.D.Disk.meaning c.args.store.now
-    c.loop-place.store c.table_data_page.new.store c.from_residual.result c.in_err-page.field-0.0
-    c.loop-place.invariant.keeps c.loop-place.invariant.faults c.from_residual.ensures.0
-    c.from_residual.ensures.1 c.in_err-page.ensures.fault
+    c.loop-next.store c.table_data_page.new.store c.from_residual-in_err-page.result
+    c.in_err-page.field-0.0 c.loop-next.invariant.keeps c.loop-next.invariant.faults
+    c.from_residual-in_err-page.ensures.0 c.from_residual-in_err-page.ensures.1
+    c.in_err-page.ensures.fault
 
-pub returns-in-Some-clause-fault : goal.returns-in-Some-clause-fault
-returns-in-Some-clause-fault g c = (
-  c.requires.online,
+pub returns-in_err-page-clause-gives : goal.returns-in_err-page-clause-gives
+returns-in_err-page-clause-gives g c = λ image tells. handed_on c.from_residual-in_err-page.result
+    c.in_err-page.field-0.0 _
+    (RefusesFrom g.D.Disk.meaning c.table_data_page.new.store c.args.batch.now.pages
+    (viewed c.args.store.now image c.args.batch.now) c.args.owner.0 c.args.start)
+    c.from_residual-in_err-page.ensures.0 c.from_residual-in_err-page.ensures.1
+    (place_unlike g.D.Disk.meaning c.table_data_page.new.store c.args.batch.now.pages
+    (viewed c.args.store.now image c.args.batch.now) c.args.owner.0 c.args.start c.loop-next.place
+    c.in-Some.n c.in_err-page.field-0.0 c.loop-next.invariant.from (c.loop-next.invariant.empty image tells)
+    (subst (FindsPlace (viewed c.args.store.now image c.args.batch.now) c.args.owner.0 c.loop-next.place)
+    c.in-Some.is (c.loop-next.invariant.found image tells))
+    (as_started g.D.Disk.meaning c.args.store.now c.loop-next.store image c.args.batch.now
+    c.loop-next.invariant.keeps tells (λ (pages : Pages). RefusesTableData g.D.Disk.meaning
+    c.table_data_page.new.store c.args.batch.now.pages (pages c.in-Some.n.0) c.args.owner.0
+    c.loop-next.place c.in-Some.n c.in_err-page.field-0.0) (c.in_err-page.ensures.seen image)))
+
+pub returns-in-Some-first_record-clause-keeps : goal.returns-in-Some-first_record-clause-keeps
+returns-in-Some-first_record-clause-keeps g c = keeps_on g.D.Disk.meaning g.met.D.Disk.counts_now
+    c.args.store.now c.loop-next.store c.table_data_page.new.store c.loop-next.invariant.keeps
+    c.in_ok-page.ensures.keeps
+
+pub returns-in-Some-first_record-clause-fault : goal.returns-in-Some-first_record-clause-fault
+returns-in-Some-first_record-clause-fault g c = (
+  c.in_ok-next.ensures.fault.0,
   c.in_ok-page.ensures.fault.1,
-  c.in_ok-page.ensures.fault.2 ∙ c.loop-place.invariant.faults,
+  c.in_ok-page.ensures.fault.2 ∙ c.loop-next.invariant.faults,
 )
+
+pub returns-in-Some-first_record-clause-gives : goal.returns-in-Some-first_record-clause-gives
+returns-in-Some-first_record-clause-gives g c = λ image tells. gives_here
+    (viewed c.args.store.now image c.args.batch.now) c.args.owner.0 c.args.start c.loop-next.place
+    c.in-Some.n c.in_ok-page.page c.in-Some-first_record.found c.loop-next.invariant.from
+    (c.loop-next.invariant.empty image tells)
+    (subst (FindsPlace (viewed c.args.store.now image c.args.batch.now) c.args.owner.0 c.loop-next.place)
+    c.in-Some.is (c.loop-next.invariant.found image tells))
+    (as_started g.D.Disk.meaning c.args.store.now c.loop-next.store image c.args.batch.now
+    c.loop-next.invariant.keeps tells (λ (pages : Pages). c.in_ok-page.page ≡ pages c.in-Some.n.0)
+    (c.in_ok-page.ensures.seen image))
+    (rw c.as_slice.ensures at c.in-Some-first_record.ensures)
+
+-- ---- the next place
+
+pub overflow_add-place : goal.overflow_add-place
+overflow_add-place g c = omega (
+  arith,
+  next_few c.loop-next.next c.in-Some.n c.loop-next.place c.in-Some.is
+      c.loop-next.invariant.few,
+)
+
+pub data_page_at-requires-in-Some-clause-geometry : goal.data_page_at-requires-in-Some-clause-geometry
+data_page_at-requires-in-Some-clause-geometry g c = geometry_later g.D.Disk.meaning c.loop-next.store
+    c.table_data_page.new.store c.in_ok-page.ensures.keeps (geometry_later g.D.Disk.meaning
+    c.args.store.now c.loop-next.store c.loop-next.invariant.keeps c.requires.geometry)
+
+pub data_page_at-requires-in-Some-clause-whole : goal.data_page_at-requires-in-Some-clause-whole
+data_page_at-requires-in-Some-clause-whole g c = whole_later g.D.Disk.meaning c.loop-next.store
+    c.table_data_page.new.store c.in_ok-page.ensures.keeps c.args.batch.now.pages
+    (whole_later g.D.Disk.meaning c.args.store.now c.loop-next.store c.loop-next.invariant.keeps
+    c.args.batch.now.pages c.requires.whole)
+
+pub returns-in_err-next-2-clause-keeps : goal.returns-in_err-next-2-clause-keeps
+returns-in_err-next-2-clause-keeps g c = keeps_on g.D.Disk.meaning g.met.D.Disk.counts_now
+    c.args.store.now c.table_data_page.new.store c.data_page_at-in-Some.new.store
+    (keeps_on g.D.Disk.meaning g.met.D.Disk.counts_now c.args.store.now c.loop-next.store
+    c.table_data_page.new.store c.loop-next.invariant.keeps c.in_ok-page.ensures.keeps)
+    c.in_err-next-2.ensures.keeps
+
+pub returns-in_err-next-2-clause-fault : goal.returns-in_err-next-2-clause-fault
+returns-in_err-next-2-clause-fault g c = fault_up (Option PageNo) g.D.Disk.meaning c.args.store.now
+    c.table_data_page.new.store c.data_page_at-in-Some.new.store c.from_residual-in_err-next-2.result
+    c.in_err-next-2.field-0.0 (keeps_on g.D.Disk.meaning g.met.D.Disk.counts_now c.args.store.now
+    c.loop-next.store c.table_data_page.new.store c.loop-next.invariant.keeps
+    c.in_ok-page.ensures.keeps) (c.in_ok-page.ensures.fault.2 ∙ c.loop-next.invariant.faults)
+    c.from_residual-in_err-next-2.ensures.0 c.from_residual-in_err-next-2.ensures.1
+    c.in_err-next-2.ensures.fault
+
+pub returns-in_err-next-2-clause-own : goal.returns-in_err-next-2-clause-own
+returns-in_err-next-2-clause-own g c = reads_same (Option PageNo) c.from_residual-in_err-next-2.result
+    c.in_err-next-2.field-0.0 c.from_residual-in_err-next-2.ensures.0
+    c.from_residual-in_err-next-2.ensures.1 c.in_err-next-2.ensures.own
+
+pub returns-in_err-next-2-clause-gives : goal.returns-in_err-next-2-clause-gives
+returns-in_err-next-2-clause-gives g c = λ image tells. handed_on c.from_residual-in_err-next-2.result
+    c.in_err-next-2.field-0.0 _
+    (RefusesFrom g.D.Disk.meaning c.data_page_at-in-Some.new.store c.args.batch.now.pages
+    (viewed c.args.store.now image c.args.batch.now) c.args.owner.0 c.args.start)
+    c.from_residual-in_err-next-2.ensures.0 c.from_residual-in_err-next-2.ensures.1
+    (place_broken g.D.Disk.meaning c.data_page_at-in-Some.new.store c.args.batch.now.pages
+    (viewed c.args.store.now image c.args.batch.now) c.args.owner.0 c.args.start (c.loop-next.place + 1)
+    c.in_err-next-2.field-0.0 (further c.args.start c.loop-next.place c.loop-next.invariant.from)
+    (one_empty (viewed c.args.store.now image c.args.batch.now) c.args.owner.0 c.args.start
+    c.loop-next.place (c.loop-next.invariant.empty image tells)
+    (empty_here (viewed c.args.store.now image c.args.batch.now) c.args.owner.0 c.loop-next.place
+    c.in-Some.n c.in_ok-page.page
+    (subst (FindsPlace (viewed c.args.store.now image c.args.batch.now) c.args.owner.0 c.loop-next.place)
+    c.in-Some.is (c.loop-next.invariant.found image tells))
+    (as_started g.D.Disk.meaning c.args.store.now c.loop-next.store image c.args.batch.now
+    c.loop-next.invariant.keeps tells (λ (pages : Pages). c.in_ok-page.page ≡ pages c.in-Some.n.0)
+    (c.in_ok-page.ensures.seen image))
+    (rw c.as_slice.ensures at c.in_default-first_record.ensures)))
+    (as_started g.D.Disk.meaning c.args.store.now c.table_data_page.new.store image c.args.batch.now
+    (keeps_on g.D.Disk.meaning g.met.D.Disk.counts_now c.args.store.now c.loop-next.store
+    c.table_data_page.new.store c.loop-next.invariant.keeps c.in_ok-page.ensures.keeps) tells
+    (λ (pages : Pages). RefusesPlace g.D.Disk.meaning c.data_page_at-in-Some.new.store c.args.batch.now.pages
+    pages c.args.owner.0 (c.loop-next.place + 1) c.in_err-next-2.field-0.0)
+    (c.in_err-next-2.ensures.finds image)))
+
+pub loop-next-preserved : goal.loop-next-preserved
+loop-next-preserved g c = record {
+  keeps = keeps_on g.D.Disk.meaning g.met.D.Disk.counts_now c.args.store.now
+      c.table_data_page.new.store c.data_page_at-in-Some.new.store
+      (keeps_on g.D.Disk.meaning g.met.D.Disk.counts_now c.args.store.now c.loop-next.store
+      c.table_data_page.new.store c.loop-next.invariant.keeps c.in_ok-page.ensures.keeps)
+      c.in_ok-next-2.ensures.keeps;
+  faults = c.in_ok-next-2.ensures.fault.2 ∙ (c.in_ok-page.ensures.fault.2 ∙ c.loop-next.invariant.faults);
+  from = further c.args.start c.loop-next.place c.loop-next.invariant.from;
+  few = c.in_ok-next-2.ensures.few;
+  empty = λ image tells. one_empty (viewed c.args.store.now image c.args.batch.now) c.args.owner.0
+      c.args.start c.loop-next.place (c.loop-next.invariant.empty image tells)
+      (empty_here (viewed c.args.store.now image c.args.batch.now) c.args.owner.0 c.loop-next.place
+      c.in-Some.n c.in_ok-page.page
+      (subst (FindsPlace (viewed c.args.store.now image c.args.batch.now) c.args.owner.0
+      c.loop-next.place) c.in-Some.is (c.loop-next.invariant.found image tells))
+      (as_started g.D.Disk.meaning c.args.store.now c.loop-next.store image c.args.batch.now
+      c.loop-next.invariant.keeps tells (λ (pages : Pages). c.in_ok-page.page ≡ pages c.in-Some.n.0)
+      (c.in_ok-page.ensures.seen image))
+      (rw c.as_slice.ensures at c.in_default-first_record.ensures));
+  found = λ image tells. as_started g.D.Disk.meaning c.args.store.now c.table_data_page.new.store image
+      c.args.batch.now
+      (keeps_on g.D.Disk.meaning g.met.D.Disk.counts_now c.args.store.now c.loop-next.store
+      c.table_data_page.new.store c.loop-next.invariant.keeps c.in_ok-page.ensures.keeps) tells
+      (λ (pages : Pages). FindsPlace pages c.args.owner.0 (c.loop-next.place + 1) c.in_ok-next-2.next)
+      (c.in_ok-next-2.ensures.finds image);
+}
+
+pub loop-next-smaller : goal.loop-next-smaller
+loop-next-smaller g c = less_left c.loop-next.place (next_few c.loop-next.next c.in-Some.n
+    c.loop-next.place c.in-Some.is c.loop-next.invariant.few)
+
+pub returns-clause-keeps : goal.returns-clause-keeps
+returns-clause-keeps g c = c.loop-next.invariant.keeps
 
 pub returns-clause-fault : goal.returns-clause-fault
 returns-clause-fault g c = (
-  c.requires.online,
-  c.loop-place.invariant.keeps.offline ∙ c.requires.online,
-  c.loop-place.invariant.faults,
+  c.in_ok-next.ensures.fault.0,
+  c.loop-next.invariant.keeps.offline ∙ c.in_ok-next.ensures.fault.0,
+  c.loop-next.invariant.faults,
 )
+
+pub returns-clause-gives : goal.returns-clause-gives
+returns-clause-gives g c = λ image tells. gives_end
+    (viewed c.args.store.now image c.args.batch.now) c.args.owner.0 c.args.start c.loop-next.place
+    c.loop-next.next c.in_default.not-Some c.loop-next.invariant.from
+    (c.loop-next.invariant.empty image tells) (c.loop-next.invariant.found image tells)

@@ -5,7 +5,7 @@ use Rattle.mg_space.specs.HandedLaws.{fault_same}
 use Rattle.mg_space.specs.View.{viewed, pool_answer}
 use Rattle.mg_space.specs.ViewLaws.{keeps_on, fault_on}
 use Rattle.mg_heap.specs.HandedLaws.{reads_same}
-use Rattle.mg_heap.specs.Walk.{GivesBehind, RefusesNext, RefusesWalk}
+use Rattle.mg_heap.specs.Walk.{GivesBehind, RefusesBehind, RefusesNext}
 use Rattle.mg_heap.proofs.TableLemmas.{as_started, handed_on, geometry_later, whole_later}
 use Rattle.mg_heap.proofs.WalkLemmas.{none_behind}
 use Rattle.mg_slots.specs.DataPage.{IsDataPage}
@@ -13,24 +13,25 @@ use Rattle.mg_heap.proofs.walk.next_after.Goals as goal
 
 pub returns-clause-keeps : goal.returns-clause-keeps
 returns-clause-keeps g c = keeps_on g.D.Disk.meaning g.met.D.Disk.counts_now c.args.store.now
-    c.data_page.new.store c.behind_in.new.store c.in_ok-page.ensures.keeps c.behind_in.ensures.keeps
+    c.data_page.new.store c.first_behind.new.store c.in_ok-page.ensures.keeps c.first_behind.ensures.keeps
 
 pub returns-clause-gives : goal.returns-clause-gives
-returns-clause-gives g c = λ image tells. none_behind g.D.Disk.meaning c.behind_in.new.store
+returns-clause-gives g c = λ image tells. none_behind g.D.Disk.meaning c.first_behind.new.store
     c.args.batch.now.pages (viewed c.args.store.now image c.args.batch.now) c.args.owner.0
-    (c.from.result + 1) c.args.at c.in_ok-page.page c.as_slice.result.now c.behind_in.result
-    (c.in_ok-page.ensures.seen image tells) c.as_slice.ensures (ap (λ (n : ℕ). n + 1) c.from.ensures)
-    c.in_default.ensures
+    (c.from.result + 1) c.args.at c.place_of.result c.in_ok-page.page c.as_slice.result.now
+    c.first_behind.result (c.in_ok-page.ensures.seen image tells) c.as_slice.ensures
+    (ap (λ (n : ℕ). n + 1) c.from.ensures) c.in_default.ensures
+    (rw c.as_slice-2.ensures at c.place_of.ensures)
     (as_started g.D.Disk.meaning c.args.store.now c.data_page.new.store image c.args.batch.now
-    c.in_ok-page.ensures.keeps tells (λ (pages : Pages). MatchResult c.behind_in.result
-    (GivesBehind pages c.args.owner.0 (Some c.args.at.page))
-    (RefusesWalk g.D.Disk.meaning c.behind_in.new.store c.args.batch.now.pages pages c.args.owner.0))
-    (c.behind_in.ensures.gives image))
+    c.in_ok-page.ensures.keeps tells (λ (pages : Pages). MatchResult c.first_behind.result
+    (GivesBehind pages c.args.owner.0 c.args.at.page c.place_of.result)
+    (RefusesBehind g.D.Disk.meaning c.first_behind.new.store c.args.batch.now.pages pages c.args.owner.0
+    c.args.at.page c.place_of.result)) (c.first_behind.ensures.gives image))
 
 pub returns-clause-fault : goal.returns-clause-fault
 returns-clause-fault g c = fault_on g.D.Disk.meaning c.args.store.now c.data_page.new.store
-    c.behind_in.new.store (pool_answer c.behind_in.result) c.in_ok-page.ensures.keeps
-    c.in_ok-page.ensures.fault.2 c.behind_in.ensures.fault
+    c.first_behind.new.store (pool_answer c.first_behind.result) c.in_ok-page.ensures.keeps
+    c.in_ok-page.ensures.fault.2 c.first_behind.ensures.fault
 
 pub returns-in_err-page-clause-gives : goal.returns-in_err-page-clause-gives
 returns-in_err-page-clause-gives g c = λ image tells. handed_on c.from_residual.result
@@ -53,18 +54,18 @@ returns-in_err-page-clause-own g c = reads_same (List ℕ) c.from_residual.resul
     c.from_residual.ensures.0 c.from_residual.ensures.1 c.in_err-page.ensures.own
 
 pub returns-clause-own : goal.returns-clause-own
-returns-clause-own g c = c.behind_in.ensures.own
+returns-clause-own g c = c.first_behind.ensures.own
 
 pub first_record-requires : goal.first_record-requires
 first_record-requires g c = subst IsDataPage (sym c.as_slice.ensures) c.in_ok-page.ensures.data_page.lawful
 
-pub behind_in-requires-clause-pool : goal.behind_in-requires-clause-pool
-behind_in-requires-clause-pool g c = c.in_ok-page.ensures.keeps.pool
+pub first_behind-requires-clause-pool : goal.first_behind-requires-clause-pool
+first_behind-requires-clause-pool g c = c.in_ok-page.ensures.keeps.pool
 
-pub behind_in-requires-clause-geometry : goal.behind_in-requires-clause-geometry
-behind_in-requires-clause-geometry g c = geometry_later g.D.Disk.meaning c.args.store.now
+pub first_behind-requires-clause-geometry : goal.first_behind-requires-clause-geometry
+first_behind-requires-clause-geometry g c = geometry_later g.D.Disk.meaning c.args.store.now
     c.data_page.new.store c.in_ok-page.ensures.keeps c.requires.geometry
 
-pub behind_in-requires-clause-whole : goal.behind_in-requires-clause-whole
-behind_in-requires-clause-whole g c = whole_later g.D.Disk.meaning c.args.store.now c.data_page.new.store
+pub first_behind-requires-clause-whole : goal.first_behind-requires-clause-whole
+first_behind-requires-clause-whole g c = whole_later g.D.Disk.meaning c.args.store.now c.data_page.new.store
     c.in_ok-page.ensures.keeps c.args.batch.now.pages c.requires.whole
