@@ -9,25 +9,27 @@ program=$(readlink -f "${1:?the program}")
 folder=$(mktemp -d -p "${2:-/dev/shm}")
 trap 'rm -rf "$folder"' EXIT
 
-# The seconds that a command takes; its output goes away. One that fails is told.
+# The seconds that a command takes by the clock and of a processor; its output goes away. One that fails is told.
 seconds() {
-    local TIMEFORMAT='%R'
-    { time "$@" > "$folder/printed" 2> "$folder/told" || echo failed; } 2>&1 | paste -sd' '
+    local TIMEFORMAT='%R %U %S'
+    { time "$@" > "$folder/printed" 2> "$folder/told" || echo failed; } 2>&1 | paste -sd' ' \
+        | awk '{ if ($1 == "failed") print "failed", "failed"; else printf "%.2f %.2f\n", $1, $2 + $3 }'
 }
 
-ours() { "$program" run "$folder/db" --limit 131072 < "$folder/script"; }
+ours() { "$program" run "$folder/db" --limit 131072 --page "$page" < "$folder/script"; }
 theirs() { sqlite3 -bail "$folder/lite" < "$folder/sql"; }
 
-# One load: its name, and the names of the functions that write our script and that for sqlite3, given a size.
+# One load: its name, and the names of the functions that write our script and that for sqlite3, given a size. Pages have
+# `page` bytes.
+page=4096
 load() {
-    local name=$1 make=$2 size=$3 lite='-'
+    local name=$1 make=$2 size=$3 own lite='- -'
     rm -f "$folder"/db "$folder"/lite*
     "$make" ours "$size" > "$folder/script"
-    { echo 'PRAGMA journal_mode=WAL; PRAGMA synchronous=FULL;'; "$make" theirs "$size"; } > "$folder/sql"
-    local own
+    { echo "PRAGMA page_size=$page; PRAGMA journal_mode=WAL; PRAGMA synchronous=FULL;"; "$make" theirs "$size"; } > "$folder/sql"
     own=$(seconds ours)
     command -v sqlite3 > /dev/null && lite=$(seconds theirs)
-    printf '%-52s %8d %10s %10s\n' "$name" "$size" "$own" "$lite"
+    printf '%-52s %6d %8d %8s %8s %8s %8s\n' "$name" "$page" "$size" ${own} ${lite}
 }
 
 # Single rows, each committed by itself, over 100 keys.
@@ -88,11 +90,64 @@ updates() {
     fi
 }
 
-printf '%-52s %8s %10s %10s\n' load size mgdb sqlite3
+# A statement over all rows of a table of so many rows, after they were put in: UPDATE, or DELETE.
+updated() {
+    inserts "$1" "$2"
+    of_all "$1" 'UPDATE KV SET V = V + 1'
+}
+deleted() {
+    inserts "$1" "$2"
+    of_all "$1" 'DELETE FROM KV'
+}
+of_all() {
+    if [ "$1" = ours ]; then
+        printf 'A: SET TRANSACTION\nA: %s\nA: COMMIT\n' "$2"
+    else
+        printf 'BEGIN;\n%s;\nCOMMIT;\n' "$2"
+    fi
+}
+
+# New rows of a table of 64 columns, in one transaction, and a scan of it.
+wide() {
+    local who= begin='BEGIN;' commit='COMMIT;' end=';'
+    [ "$1" = ours ] && who='A: ' begin='SET TRANSACTION' commit=COMMIT end=
+    awk -v n="$2" -v who="$who" -v begin="$begin" -v commit="$commit" -v end="$end" '
+        BEGIN {
+            columns = "ID BIGINT PRIMARY KEY"
+            for (c = 1; c < 64; c++) { columns = columns ", C" c " BIGINT"; values = values ", " c }
+            print who begin
+            print who "CREATE TABLE WIDE (" columns ")" end
+            for (i = 0; i < n; i++) print who "INSERT INTO WIDE VALUES (" i values ")" end
+            print who "SELECT * FROM WIDE WHERE C1 < 0" end
+            print who commit
+        }'
+}
+
+# A row of so many versions, read by who began before them, and so often by who begins behind them all.
+both_ends() {
+    updates "$1" "$2"
+    if [ "$1" = ours ]; then
+        awk -v n="$2" 'BEGIN { for (i = 1; i <= n; i++) print "@get 1" }'
+    else
+        awk -v n="$2" 'BEGIN { for (i = 1; i <= n; i++) print "SELECT * FROM KV WHERE K = 0;" }'
+    fi
+}
+
+# By the clock, and of a processor.
+printf '%-52s %6s %8s %8s %8s %8s %8s\n' load page size mgdb cpu sqlite3 cpu
 for twice in 1 2; do
     load 'rows put one by one, over 100 keys' puts $((10000 * twice))
     load 'reads by key, a table of 100 rows' gets $((10000 * twice))
     load 'new rows, 1,000 a transaction' inserts $((1000 * twice))
     load 'ten scans (with the rows put in)' scans $((1000 * twice))
+    load 'an UPDATE of all rows (with the rows put in)' updated $((1000 * twice))
+    load 'a DELETE of all rows (with the rows put in)' deleted $((1000 * twice))
+    load 'rows of 64 columns put in, and a scan' wide $((500 * twice))
     load 'updates of one row under a held snapshot' updates $((2500 * twice))
+    load 'the same, and reads of the newest version' both_ends $((2500 * twice))
+    for page in 1024 16384; do
+        load 'ten scans (with the rows put in)' scans $((1000 * twice))
+        load 'rows put one by one, over 100 keys' puts $((5000 * twice))
+    done
+    page=4096
 done

@@ -78,7 +78,7 @@ statuses() {
 }
 
 # want_of_memory: a run with less and less memory, until it can't be begun, ends as one that has enough, or tells the want of
-# it. (Where there is none for the words of the command line the status alone tells it.)
+# it.
 want_of_memory() {
     local kilobytes given status wants=0
     echo '@put 1 1' > lean.script
@@ -90,7 +90,6 @@ want_of_memory() {
         case "$given status $status" in
             '@put: OK TX 1 status 0') ;;
             'mgdb: OUT OF MEMORY status 6') wants=$((wants + 1)) ;;
-            ' status 6') check "a run with $kilobytes KB of memory makes no file" no "$([ -e lean ] && echo yes || echo no)" ;;
             *) check "a run with $kilobytes KB of memory" 'OK or OUT OF MEMORY' "$given status $status" ;;
         esac
     done

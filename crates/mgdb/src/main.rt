@@ -5,13 +5,15 @@
 //!
 //! Invariant: none, it keeps no state.
 //! Below: `mg_program`, the top call, with all that is promised of a run; `mg_words` for the page size
-//! of a new file; `mg_device` for the file; `mg_base` for the streams.
+//! of a new file; `mg_device` for the file; `mg_base` for the streams; `mg_run_ends` for the line of want of memory.
 //! Not here: everything else.
 #![tactic(auto)]
 
 use mg_base::{StdSink, StdSource};
 use mg_device::FileDisk;
+use mg_model::Refusal;
 use mg_program::{Shelf, Status, mgdb};
+use mg_run_ends::{fixed_line, put_line};
 use mg_words::wanted_page;
 use std::alloc::AllocError;
 use std::env;
@@ -28,8 +30,8 @@ fn given_words(rt: &HostRuntime) -> Result<Vec<String>, AllocError> {
 }
 
 // Runs the program over the real file and the real streams.
-fn program(rt: HostRuntime) -> Result<Status, AllocError> {
-    let words = given_words(&rt)?;
+fn program(rt: &HostRuntime) -> Result<Status, AllocError> {
+    let words = given_words(rt)?;
     let path = match words.get(2) {
         Some(path) => path.clone()?,
         None => String::new(rt.alloc()),
@@ -40,11 +42,20 @@ fn program(rt: HostRuntime) -> Result<Status, AllocError> {
     };
     let mut source = StdSource::new(rt.clone()?);
     let mut sink = StdSink::new(rt.clone()?);
-    let (status, _) = mgdb(rt, &words, shelf, &mut source, &mut sink);
+    let (status, _) = mgdb(rt.clone()?, &words, shelf, &mut source, &mut sink);
     Ok(status)
 }
 
+// Tells that there is no memory for the words of the command line, by a line that takes none.
+fn without_memory(rt: HostRuntime) -> Status {
+    put_line(fixed_line(Refusal::Memory), &mut StdSink::new(rt));
+    Status::MEMORY
+}
+
 fn main(rt: HostRuntime) -> ExitCode {
-    let status = program(rt).unwrap_or(Status::MEMORY);
+    let status = match program(&rt) {
+        Ok(status) => status,
+        Err(_) => without_memory(rt),
+    };
     ExitCode::from(status.0)
 }
