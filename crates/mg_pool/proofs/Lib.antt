@@ -14,6 +14,5 @@ mod OutsideLemmas
 mod LawfulLemmas
 mod FetchLemmas
 pub mod BufferLemmas
-mod PassLemmas
 mod PlaceLemmas
 mod CleanLemmas

@@ -1,7 +1,6 @@
 //! The table of dirty pages. All its memory is taken when it is made.
 
 ghost use Rattle.std.specs.Prelude.{◌≡◌, ◌≢◌, ◌<◌, ◌↔◌, ℕ, IsTrue, IfOk, IsSome, IfSome, IfNone, Some, None, length, [], map, slice_index_or, vec_capacity, ◌≤◌, true, not, ◌&&◌};
-ghost use Rattle.std.specs.Bool.{OnTrue};
 ghost use Rattle.std.specs.Option.{option_copied};
 ghost use Rattle.mg_pool.specs.Dirty.{content_of, is_dirty as dirty_test, PutsContent, TakesOut, IsSpare, IsLeastPage, MarksAll, is_marked, marked_in, with_mark};
 ghost use Rattle.mg_pool.specs.Batch.{is_in, outside_in, dirty_with};
@@ -11,6 +10,7 @@ ghost use Rattle.mg_pool.specs.DirtyPage.{DirtyPage as Entry};
 use crate::batch::{BatchPage, has_page};
 use crate::dirty_page::{DirtyPage, MARKERS};
 use crate::reserved::append;
+use crate::tested::Tested;
 use mg_base::{Bytes, Memory};
 use mg_careful::Links;
 use std::alloc::Global;
@@ -23,7 +23,12 @@ pub struct DirtyTable<L: Links> {
     room: usize,
     pages: Vec<DirtyPage<L>>,
     spare: Vec<Bytes>,
+    hints: Vec<u16>,
 }
+
+/// For how many numbers of pages the table notes a place: twice as many as pages may be dirty, so
+/// that pages that follow each other seldom share one.
+const HINTS: usize = 1024;
 
 impl<L: Links> Model for DirtyTable<L> {
     ghost use Rattle.std.specs.Prelude.{◌≡◌, ◌+◌, ◌≤◌, length, vec_capacity};
@@ -54,6 +59,7 @@ impl<L: Links> DirtyTable<L> {
             room,
             pages: Vec::with_capacity(alloc, room)?,
             spare: buffers(alloc, size, room)?,
+            hints: vec![in alloc; 0u16; HINTS]?,
         })
     }
 
@@ -76,18 +82,19 @@ impl<L: Links> DirtyTable<L> {
         ensures content { option_copied result ≡ content_of self.now page }
         ensures whole { IfSome result (λ b. length b.now ≡ self.now.size) }
     {
-        let place = find(&self.pages, page)?;
-        Some(self.pages[place].as_slice())
+        match self.tested(page) {
+            Some(tested) => Some(tested.as_slice()),
+            None => None,
+        }
     }
 
-    /// Tells that a dirty page is the page that it says it is, without a look at its content.
-    pub fn passes(&self, page: u32) -> bool
-        ensures { OnTrue result (IfSome (content_of self.now page) (λ b. L.lawful_of page b)) }
+    /// The content of a dirty page, with what is known of it.
+    pub fn tested(&self, page: u32) -> Option<&Tested<L>>
+        ensures content { option_copied result ≡ content_of self.now page }
+        ensures whole { IfSome result (λ b. length b.now ≡ self.now.size) }
     {
-        match find(&self.pages, page) {
-            Some(place) => self.pages[place].passes(),
-            None => false,
-        }
+        let place = find(&self.pages, &self.hints, page)?;
+        Some(self.pages[place].tested())
     }
 
     /// Puts a content, one page long, into a page's place, without memory. A page that wasn't dirty
@@ -97,13 +104,14 @@ impl<L: Links> DirtyTable<L> {
         requires room { content_of self.old page ≡ None → length self.old.pages < self.old.room }
         ensures { PutsContent self.old self.new page bytes.now }
     {
-        if let Some(place) = find(&self.pages, page) {
+        if let Some(place) = find(&self.pages, &self.hints, page) {
             let entry = &mut self.pages[place];
             entry.overwrite(bytes);
             return;
         }
         if let Some(mut buffer) = self.spare.pop() {
             buffer.overwrite(bytes);
+            note(&mut self.hints, page, self.pages.len());
             append(&mut self.pages, DirtyPage::new(page, buffer));
         }
     }
@@ -114,8 +122,9 @@ impl<L: Links> DirtyTable<L> {
         ensures taken { TakesOut self.old self.new page }
         ensures room { length self.new.pages < self.new.room }
     {
-        if let Some(place) = find(&self.pages, page) {
+        if let Some(place) = find(&self.pages, &self.hints, page) {
             let entry = self.pages.remove(place);
+            note_all(&mut self.hints, &self.pages, place);
             append(&mut self.spare, entry.into_bytes());
         }
     }
@@ -235,8 +244,55 @@ fn buffers(alloc: Global, size: usize, room: usize) -> Result<Vec<Bytes>, Memory
     Ok(spare)
 }
 
-/// The place of a page in the table.
-fn find<L: Links>(pages: &Vec<DirtyPage<L>>, page: u32) -> Option<usize>
+/// The place of a page in the table: the one that is noted for it, where the page is there, else
+/// the one that a search finds.
+fn find<L: Links>(pages: &Vec<DirtyPage<L>>, hints: &Vec<u16>, page: u32) -> Option<usize>
+    ensures found { IfSome result (λ i. (i < length pages.now.items)
+        × ((d : Entry) → (slice_index_or pages.now.items i d).page ≡ page)) }
+    ensures absent { IfNone result ((i : ℕ) (d : Entry) → i < length pages.now.items
+        → (slice_index_or pages.now.items i d).page ≢ page) }
+{
+    match hinted(pages, hints, page) {
+        Some(place) => Some(place),
+        None => search(pages, page),
+    }
+}
+
+/// The place that is noted for a page, if the page is there. A place that was noted for another
+/// page, or before pages left the table, is not believed: it costs a search, and no more.
+fn hinted<L: Links>(pages: &Vec<DirtyPage<L>>, hints: &Vec<u16>, page: u32) -> Option<usize>
+    ensures { IfSome result (λ i. (i < length pages.now.items)
+        × ((d : Entry) → (slice_index_or pages.now.items i d).page ≡ page)) }
+{
+    let place = *hints.get(page as usize % HINTS)? as usize;
+    if place < pages.len() && pages[place].number() == page {
+        Some(place)
+    } else {
+        None
+    }
+}
+
+/// Notes the place of a page.
+fn note(hints: &mut Vec<u16>, page: u32, place: usize)
+    ensures { length hints.new.items ≡ length hints.old.items }
+{
+    if let Some(hint) = hints.get_mut(page as usize % HINTS) {
+        // No table has so many pages; a place that is cut off would not be believed.
+        *hint = place.min(u16::MAX as usize) as u16;
+    }
+}
+
+/// Notes the places of all pages from a place on.
+fn note_all<L: Links>(hints: &mut Vec<u16>, pages: &Vec<DirtyPage<L>>, from: usize)
+    ensures { length hints.new.items ≡ length hints.old.items }
+{
+    for place in from..pages.len() {
+        note(hints, pages[place].number(), place);
+    }
+}
+
+/// The place of a page in the table, by a look at each.
+fn search<L: Links>(pages: &Vec<DirtyPage<L>>, page: u32) -> Option<usize>
     ensures found { IfSome result (λ i. (i < length pages.now.items)
         × ((d : Entry) → (slice_index_or pages.now.items i d).page ≡ page)) }
     ensures absent { IfNone result ((i : ℕ) (d : Entry) → i < length pages.now.items

@@ -1,7 +1,6 @@
 //! A dirty page.
 
 ghost use Rattle.std.specs.Prelude.{◌≡◌, ◌<◌, length, replicate, false, slice_index_or};
-ghost use Rattle.std.specs.Bool.{OnTrue};
 ghost use Rattle.mg_pool.specs.Dirty.{with_mark};
 
 use crate::tested::Tested;
@@ -63,18 +62,11 @@ impl<L: Links> DirtyPage<L> {
         self.marks[who] = true;
     }
 
-    /// Its content.
-    pub fn as_slice(&self) -> &[u8]
+    /// Its content, with what is known of it.
+    pub fn tested(&self) -> &Tested<L>
         ensures { result.now ≡ self.now.bytes }
     {
-        self.bytes.as_slice()
-    }
-
-    /// Tells that its content is lawful, without a look at it.
-    pub fn passes(&self) -> bool
-        ensures { OnTrue result (L.lawful_of self.now.page self.now.bytes) }
-    {
-        self.bytes.passes(self.page)
+        &self.bytes
     }
 
     /// Puts another content of the same length in the place of its own, and tests it.

@@ -193,10 +193,25 @@ impl<D: Disk, L: Links> Pool<D, L> {
             → D.meaning.held self.now.disk ≡ Some image
             → IfSome result (λ b. b.now ≡ shown self.now.dirty image page.0) }
     {
-        // A clean page is found at once, a dirty one by a search.
-        match self.clean.get(page.0) {
+        match self.look(page) {
             Some(tested) => Some(tested.as_slice()),
-            None => self.dirty.content(page.0),
+            None => None,
+        }
+    }
+
+    /// The content of a resident page, as `bytes` gives it, with what is known of it: `passes` of
+    /// the answer tells whether it passes the test of its kind. So who wants both looks once.
+    pub fn look(&self, page: PageNo) -> Option<&Tested<L>>
+        requires { IsPool D.meaning self.now }
+        ensures resident { option_copied result ≡ resident self.now page.0 }
+        ensures whole { IfSome result (λ b. length b.now ≡ self.now.geometry.size) }
+        ensures last { D.meaning.tells self.now.disk ≡ true → (image : Image)
+            → D.meaning.held self.now.disk ≡ Some image
+            → IfSome result (λ b. b.now ≡ shown self.now.dirty image page.0) }
+    {
+        match self.clean.get(page.0) {
+            Some(tested) => Some(tested),
+            None => self.dirty.tested(page.0),
         }
     }
 
@@ -207,9 +222,9 @@ impl<D: Disk, L: Links> Pool<D, L> {
         ensures { OnTrue result (IfSome (resident self.now page.0)
             (λ b. L.lawful_of page.0 b)) }
     {
-        match self.clean.get(page.0) {
+        match self.look(page) {
             Some(tested) => tested.passes(page.0),
-            None => self.dirty.passes(page.0),
+            None => false,
         }
     }
 

@@ -1,10 +1,11 @@
 //! The content of a page that was tested once: the mark is tied to the bytes by the type.
 
-ghost use Rattle.std.specs.Prelude.{◌≡◌, length};
+ghost use Rattle.std.specs.Prelude.{◌≡◌, length, IfOk};
 ghost use Rattle.std.specs.Bool.{OnTrue};
 
-use mg_base::Bytes;
+use mg_base::{Bytes, Memory};
 use mg_careful::Links;
+use std::alloc::Global;
 use std::marker::{Model, PhantomData};
 
 /// The content of a page, which was tested when it was put here. A contract sees the bytes alone.
@@ -64,6 +65,23 @@ impl<L: Links> Tested<L> {
     {
         self.bytes.overwrite(other);
         self.is_lawful = L::is_lawful(self.page, self.bytes.as_slice());
+    }
+
+    /// A copy, with what is known of the bytes. They are not tested again.
+    ///
+    /// # Errors
+    ///
+    /// `Memory` only.
+    pub fn copy(&self, alloc: Global) -> Result<Tested<L>, Memory>
+        ensures { IfOk result (λ t. t ≡ self.now) }
+    {
+        let items = Vec::from_slice(alloc, self.bytes.as_slice())?;
+        Ok(Tested {
+            page: self.page,
+            is_lawful: self.is_lawful,
+            bytes: Bytes::new(items),
+            links: PhantomData,
+        })
     }
 
     /// The buffer of the bytes.

@@ -12,7 +12,7 @@ use crate::clean::CleanTable;
 use crate::fault::PoolFault;
 use crate::pool::{Pool, count_fault};
 use crate::tested::Tested;
-use mg_base::{Bytes, Disk, PageNo};
+use mg_base::{Disk, PageNo};
 use mg_careful::Links;
 
 impl<D: Disk, L: Links> Pool<D, L> {
@@ -87,9 +87,8 @@ impl<D: Disk, L: Links> Pool<D, L> {
         if !self.counted {
             return None;
         }
-        let bytes = self.dirty.content(page)?;
-        match Vec::from_slice(self.alloc, bytes) {
-            Ok(items) => Some(Tested::new(page, Bytes::new(items))),
+        match self.dirty.tested(page)?.copy(self.alloc) {
+            Ok(copy) => Some(copy),
             Err(_) => None,
         }
     }

@@ -1,6 +1,6 @@
 use Rattle.std.proofs.Common.{◌≢◌, ◌<◌, ℕ, slice_index_or}
 use Rattle.mg_pool.specs.DirtyPage.{DirtyPage}
-use Rattle.mg_pool.proofs.dirty.find.Given as goal
+use Rattle.mg_pool.proofs.dirty.search.Given as goal
 
 -- no place before the index has the page
 abbrev pub invariant-loop-i : goal.invariant-loop-i
